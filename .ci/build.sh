@@ -88,6 +88,10 @@ program 'a source changed' unproved
 LINK_FAILS=1 ./build uritool > "$work/err" 2>&1
 must 'the status where the link fails' 1 $?
 program 'the link failed after the proof' unproved
+other="rattle-kit-0 ${kit#* }"
+KIT=$other LINK_FAILS=1 ./build uritool > "$work/err" 2>&1
+must 'a failed build names a kit of the same logic' 1 \
+    "$(grep -cF "build: the kit here is '$other'; this tree was proved with '$kit'" "$work/err")"
 MADE=second ./build uritool 2> "$work/err"
 program 'it is built again' second
 
@@ -117,9 +121,11 @@ must 'nothing of it is left' 'build.log uritool uritool.stamp' "$(cd out && echo
 
 KIT='rattle-kit-0 logic 0' ./build uritool 2> "$work/err"
 must 'the status with another kit' 0 $?
-must 'the line of another kit' \
+must 'the line of a kit with another logic' \
     "build: the kit here is 'rattle-kit-0 logic 0'; this tree was proved with '$kit'" \
     "$(head -n 1 "$work/err")"
+KIT=$other ./build uritool 2> "$work/err"
+must 'no line of a kit with the same logic' 0 "$(grep -c 'the kit here' "$work/err")"
 no_rt='rt is not on the PATH: add the folder bin of the Rattle kit (README.md, "How to run it")'
 PATH=$work/tools ./build uritool 2> "$work/err"
 must 'the status of ./build without rt' 1 $?

@@ -1,13 +1,14 @@
 #!/bin/sh
 # Tries the C library over the proved archive: with gcc and clang, by the static and the shared
-# library, with sanitizers, under valgrind, by libFuzzer for FUZZ_SECONDS (10), and as it is
-# installed. A tool that is missing is skipped with a word. It writes nothing into the tree but what
-# rt keeps in out/.
+# library, with sanitizers, under valgrind, as it is installed, and by libFuzzer for FUZZ_SECONDS
+# (60), beside a second build where `tools/archive fluent_uri_c` made one. A tool that is missing is
+# skipped with a word. It writes nothing into the tree but what rt keeps in out/.
 set -u
 root=$(cd "$(dirname "$0")/.." && pwd)
 crate=$root/crates/fluent_uri_c
 archive=$crate/out/libfluent_uri_c.a
-seconds=${FUZZ_SECONDS:-10}
+second=$crate/out/libfluent_uri_c.by-rattle.a
+seconds=${FUZZ_SECONDS:-60}
 work=$(mktemp -d) || exit 2
 trap 'rm -rf "$work"' EXIT
 trap 'exit 1' HUP INT TERM
@@ -55,6 +56,20 @@ if has pkg-config 'try what is installed'; then
     does 'it cannot be linked as it is installed' cc -std=c99 "$root/c/tests/calls.c" $flags \
         -Wl,-rpath,"$work/stage/usr/lib" -o "$work/installed"
     does 'what is installed fails' "$work/installed"
+    # The programs of docs/C.md.
+    for it in h hpp; do
+        sed -n "/^    #include <fluent_uri.$it>/,/^    }\$/s/^    //p" "$root/docs/C.md" \
+            > "$work/example.$it.cc"
+        [ $it = h ] && compiler='cc -std=c99 -x c' || compiler='c++ -std=c++17'
+        # shellcheck disable=SC2086 # (words)
+        does "the program of docs/C.md over fluent_uri.$it" $compiler -Wall -Wextra -Werror \
+            "$work/example.$it.cc" -x none $flags -Wl,-rpath,"$work/stage/usr/lib" \
+            -o "$work/example.$it"
+        "$work/example.$it" >> "$work/printed" || fail "the program over fluent_uri.$it fails"
+    done
+    printf 'http://%s\n' 'example.com/a/b/~foo' > "$work/wanted"
+    printf '%s\n' 'example.com /a/b' 'http://example.com/d' >> "$work/wanted"
+    does 'the programs of docs/C.md print other words' cmp "$work/wanted" "$work/printed"
 fi
 
 if has valgrind 'watch memory'; then
@@ -73,15 +88,34 @@ if has clang 'try a second compiler and the sanitizers'; then
         does "sanitizers: $it" "$work/$it" "$root"/crates/vectors/data/*.txt \
             "$root/crates/relative_rows/stdin"
     done
-    if clang -std=c99 -O1 -g -DLIBFUZZER -fsanitize=fuzzer,address,undefined \
-        -fno-sanitize-recover=all -I"$root/c/include" "$root/c/tests/fuzz.c" \
-        "$work/gcc/libfluent_uri_c.a" -o "$work/fuzz" > "$work/log" 2>&1; then
+    if echo 'int LLVMFuzzerTestOneInput(void); int LLVMFuzzerTestOneInput(void) { return 0; }' |
+        clang -fsanitize=fuzzer,address -x c - -o "$work/none" 2> "$work/log"; then
+        fuzzed="$root/c/tests/fuzz.c $work/gcc/libfluent_uri_c.a"
+        builds='one build'
+        if [ -f "$second" ] && [ -z "$(find "$archive" -newer "$second")" ]; then
+            # Both are linked into one program, so the names of the second are others.
+            does 'the second build cannot be linked' make -s -C "$root/c" OUT="$work/second" \
+                ARCHIVE="$second" "$work/second/fluent_uri_c.o"
+            nm --defined-only -g "$work/second/fluent_uri_c.o" |
+                sed -n 's/.* \(fluent_uri_.*\)/\1 second_\1/p' > "$work/names"
+            does 'the second build cannot be renamed' objcopy --redefine-syms="$work/names" \
+                "$work/second/fluent_uri_c.o" "$work/second.o"
+            fuzzed="-DSECOND_BUILD $fuzzed $work/second.o"
+            builds='two builds'
+        else
+            echo 'c: skipped: no second build is as new as the archive (tools/archive makes both)'
+        fi
+        # shellcheck disable=SC2086 # (words)
+        does 'the fuzz target cannot be built' clang -std=c99 -O1 -g -DLIBFUZZER \
+            -fsanitize=fuzzer,address,undefined -fno-sanitize-recover=all -I"$root/c/include" \
+            $fuzzed -o "$work/fuzz"
         mkdir "$work/corpus"
-        printf '\0\11HTTP://u@A:80/%%7e/../b?q#f' > "$work/corpus/uri"
-        printf '\3\5//[::1]/\303\251' > "$work/corpus/iri"
+        printf '\0\11\100HTTP://u@A:80/%%7e/../b?q#f' > "$work/corpus/uri"
+        printf '\203\5\100//[::1]/\303\251' > "$work/corpus/iri"
         does 'fuzzing' "$work/fuzz" -max_total_time="$seconds" -max_len=256 -print_final_stats=1 \
-            -artifact_prefix="$work/" "$work/corpus"
-        echo "c: $(sed -n 's/^stat::number_of_executed_units: */fuzzed with /p' "$work/log") texts"
+            -dict="$root/c/tests/fuzz.dict" -artifact_prefix="$work/" "$work/corpus"
+        count=$(sed -n 's/^stat::number_of_executed_units: *//p' "$work/log")
+        echo "c: fuzzed $builds with $count texts in $seconds s"
     else
         echo 'c: skipped: clang has no libFuzzer'
     fi

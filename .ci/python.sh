@@ -32,8 +32,8 @@ fi
 export PYTHONDONTWRITEBYTECODE=1
 unset FLUENT_URI_LIBRARY FLUENT_URI_CTYPES
 
-# tests FOLDER WANTED: runs the tests with the package in the folder; WANTED says whether it is the
-# compiled module that must answer.
+# tests FOLDER WANTED: runs the tests with the package in the folder; WANTED says whether the compiled
+# module must make the calls.
 tests() {
     export PYTHONPATH="$1"
     "$python" -c "import fluent_uri, sys; sys.exit(fluent_uri.is_compiled is not $2)" \

@@ -55,9 +55,23 @@ is too-long-return 1 'x:3456\r\nx:345\r\n' 'error: line over 5 bytes\r\nx:345\r\
 is null 1 'HTTP://h\0x:a\nb' 'http://h\0error: unexpected character at index 3\0' normalize uri -0
 is resolve 0 '../g\n?y' 'http://a/b/g\nhttp://a/b/c/d;p?y\n' resolve uri 'http://a/b/c/d;p?q'
 is resolve-iri 1 'é\na b\n' 'http://a/é\nerror: reference: unexpected character at index 1\n' resolve iri http://a
+is relativize 1 'http://a/b/x\nhttp://a/b/c/../d:e#f\nhttps://a\na\n' 'x\n./d:e#f\nhttps://a\nerror: target: unexpected character at index 1\n' relativize uri http://a/b/c
+is relativize-iri 0 'http://é/a/é?ü\nhttp://é/b\n' 'é?ü\n/b\n' relativize iri 'http://é/a/c#d'
 is check 0 'x:\na\ny:\n' 'x:\ny:\n' check uri
 is invert 0 'x:\na\ny:\n' 'a\n' check --invert uri
 is parse 0 'x://h/p\n' '{"scheme":"x","authority":"h","host":"h","host_kind":"reg-name","path":"/p"}\n' parse uri
+is query 1 'x:?a=%%26&b\nx:\nx:?\na b\n' '[["a","&"],["b",""]]\n[]\n[]\nerror: unexpected character at index 1\n' query uri
+is query-escapes 0 '?%%22=%%5c%%0a&%%ff=+\r\n' '[["\\"","\\\\\\u000a"],["\357\277\275","+"]]\r\n' query uri-ref
+is query-iri 0 '?é=é&&=\n' '[["é","é"],["",""]]\n' query iri-ref
+is field 1 'a\tHTTP://h\tb\r\nc\na b\ta b\t\377\n' 'a\thttp://h\tb\r\nerror: no field 2\na b\terror: unexpected character at index 1\t\377\n' normalize uri --field 2
+is field-drop 1 'x:,1\na b,2\n' 'x:,1\n' --errors=drop --field=1 --delimiter=, normalize uri
+is field-unique 0 'x:A|1\nX:A|2\ny:|3\n' 'x:A|1\ny:|3\n' unique uri --field 1 --delimiter '|'
+is field-null 0 'a b\0x\0' 'a b\0x\0' -0 --field 1 --delimiter ' ' check uri-ref
+is field-0 2 '' '' normalize uri --field 0
+tells field-0 'error: field: the first is 1'
+is delimiter 2 '' '' normalize uri --field 1 --delimiter é
+tells delimiter 'error: delimiter: not an ASCII character'
+is delimiter-alone 2 '' '' normalize uri --delimiter ,
 is unique 1 'HTTP://h\nx:\nhttp://h:80\na b\nX:\n' 'http://h\nx:\nerror: unexpected character at index 1\n' unique uri
 is unique-null 0 'x:%%41\0x:A\0x:a' 'x:A\0x:a\0' unique -0 uri-ref
 is links 1 'c\nd\n./%%63\na b\n' 'new 0 http://a/c\nnew 1 http://a/d\nknown 0 http://a/c\nerror: reference: unexpected character at index 1\n' links http://a/b
@@ -86,7 +100,7 @@ holds folder "$? $(cat "$work/err")" '1 error: input failed'
 "$URILINES" normalize uri <&- > "$work/out" 2> "$work/err"
 holds closed-input "$? $(cat "$work/err")" '1 error: input failed'
 
-# An answer does not wait for the line after it.
+# The output of a line does not wait for the line after it.
 mkfifo "$work/fifo"
 { echo HTTP://h; sleep 2; echo "$(cat "$work/out")" > "$work/early"; } > "$work/fifo" &
 "$URILINES" normalize uri < "$work/fifo" > "$work/out"
@@ -121,17 +135,17 @@ with concurrent.futures.ThreadPoolExecutor() as pool:
     for words in FORMS:
         texts = [varied(draw.choice(urls)) for _ in range(1250)]
         ran = subprocess.run([lines, *words], input="".join(it + "\n" for it in texts).encode(), capture_output=True)
-        answers = ran.stdout.decode().split("\n")[:-1]
+        outputs = ran.stdout.decode().split("\n")[:-1]
         wanted = list(pool.map(lambda it: by_tool(words, it), texts))
-        for text, answer, want in zip(texts, answers, wanted, strict=True):
-            if words[0] == "parse" and answer.startswith("{"):
-                parts = json.loads(answer)
+        for text, output, want in zip(texts, outputs, wanted, strict=True):
+            if words[0] == "parse" and output.startswith("{"):
+                parts = json.loads(output)
                 names = ("scheme", "authority", "path", "query", "fragment")
-                answer = "\n".join(f"{it}={parts[it]}" for it in names if it in parts)
-            if answer + "\n" != want:
+                output = "\n".join(f"{it}={parts[it]}" for it in names if it in parts)
+            if output + "\n" != want:
                 differ += 1
                 if differ <= 5:
-                    print(f"urilines {' '.join(words)}: {text!r}: {answer!r}, and uritool {want!r}", file=sys.stderr)
+                    print(f"urilines {' '.join(words)}: {text!r}: {output!r}, and uritool {want!r}", file=sys.stderr)
 # What was met counts through a run: `links` is that of one `uritool`, and `unique` the normal forms
 # without those that came before.
 texts = [it for it in (varied(draw.choice(urls)) for _ in range(400)) if "\n" not in it]
@@ -150,6 +164,41 @@ for kind in ("uri", "iri-ref"):
         differ += 1
 if differ:
     print(f"urilines: {differ} of 10,000 lines differ from uritool", file=sys.stderr)
+sys.exit(differ > 0)
+P
+
+# `relativize` has the rows of `relative_rows`, and `resolve` undoes it.
+python3 - "$root/crates/relative_rows/stdin" "$root/tools/bench/urls.txt" <<'P' || failures=$((failures + 1))
+import collections, os, subprocess, sys
+
+rows, urls = (open(it, encoding="utf-8").read().split("\n") for it in sys.argv[1:])
+
+
+def written(words, texts):
+    ran = subprocess.run([os.environ["URILINES"], *words], input="".join(it + "\n" for it in texts).encode(), capture_output=True)
+    return ran.stdout.decode().split("\n")[:-1]
+
+
+by_base = collections.defaultdict(list)
+for row in rows:
+    if row.startswith("relativize "):
+        asked, wanted = row.split(" -> ")
+        _, kind, base, target = asked.split(" ")
+        by_base[kind, base].append((target, wanted.replace('""', "")))
+differ = 0
+for (kind, base), pairs in by_base.items():
+    if written(["relativize", kind, base], [it for it, _ in pairs]) != [it for _, it in pairs]:
+        print(f"urilines: relativize {kind} {base} differs from the rows", file=sys.stderr)
+        differ += 1
+targets = written(["check", "uri"], urls)
+for base in [it for it in targets if "#" not in it][:20]:
+    references = written(["relativize", "uri", base], targets)
+    if written(["resolve", "uri", base], references) != written(["resolve", "uri", base], targets):
+        print(f"urilines: resolve uri {base} does not undo relativize", file=sys.stderr)
+        differ += 1
+if not by_base or not targets:
+    print("urilines: there are no rows or no URLs to relativize", file=sys.stderr)
+    differ += 1
 sys.exit(differ > 0)
 P
 [ $failures = 0 ]

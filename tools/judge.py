@@ -69,7 +69,7 @@ class Room:
     def begin_with(self, seed):
         """Takes what a check by `rt ci` keeps in a folder for as long as it needs it; answers whether it was there."""
         try:
-            self.rt.linked(seed, self.kept)
+            shutil.copytree(seed, self.kept)
         except (OSError, shutil.Error):
             shutil.rmtree(self.kept, ignore_errors=True)
         return self.kept.exists()
@@ -81,7 +81,7 @@ class Room:
             yield self.kept
             return
         with tempfile.TemporaryDirectory(dir=self.sources.parent) as folder:
-            self.rt.linked(self.kept, f"{folder}/kept")
+            shutil.copytree(self.kept, f"{folder}/kept")
             yield f"{folder}/kept"
 
     def check(self, functions, texts):

@@ -16,6 +16,28 @@ def sum_of(*parts):
     return hashlib.sha256(repr(parts).encode()).hexdigest()
 
 
+def kit_of(rattle):
+    """The folder of the kit that has this prover."""
+    return pathlib.Path(rattle).parent.parent
+
+
+@functools.lru_cache(maxsize=None)
+def prover_of(rattle):
+    """The sum of the prover itself, and the id of the logic that it proves in.
+
+    The name of the kit is no part of it: kits with one prover and one logic reject the same.
+    """
+    said = (kit_of(rattle) / "KIT-ID").read_text(encoding="utf-8")
+    return re.findall(r"logic \w+", said), hashlib.sha256(pathlib.Path(rattle).read_bytes()).hexdigest()
+
+
+@functools.lru_cache(maxsize=None)
+def library_of(kit, name):
+    """The sum of what the kit tells of a library: its `format` sums up its statements and proofs,
+    and names those of the libraries that it uses."""
+    return sum_of((kit / "rlibs" / f"{name}.rlib" / "format").read_bytes())
+
+
 class Token(NamedTuple):
     line: int
     start: int
@@ -188,6 +210,7 @@ class Shape:
 
     def __init__(self, rattle, crate):
         self.crate, self.folder = crate, pathlib.Path(crate.folder)
+        self.kit = kit_of(rattle)
         files = [it for part in FOLDERS for it in sorted(self.folder.glob(f"{part}/**/*"))]
         self.files = [it for it in files if it.is_file()]
         # The whole text of each file, and of a source file what is left without bodies.
@@ -219,10 +242,11 @@ class Shape:
 
     @functools.cached_property
     def kind(self):
-        """The crate's line of crates.txt."""
+        """The crate's line of crates.txt, with what the kit's libraries there are."""
         crate = self.crate
         deps = [it.name for it in crate.deps]
-        return crate.name, sorted(map(repr, crate.said.items())), deps, list(crate.of_kit)
+        of_kit = [(it, library_of(self.kit, it)) for it in crate.of_kit]
+        return crate.name, sorted(map(repr, crate.said.items())), deps, of_kit
 
     @functools.cached_property
     def names(self):
@@ -305,9 +329,8 @@ class Digests:
         self.shapes = {
             it.name: known.get(it.name) or Shape(rt.rtlib.RATTLE, it) for it in crates
         }
-        said = subprocess.run(["rt", "version"], check=True, capture_output=True, text=True)
         judge = pathlib.Path(__file__).with_name("judge.py")
-        self.judge = said.stdout.strip(), judge.read_text(encoding="utf-8")
+        self.judge = prover_of(rt.rtlib.RATTLE), judge.read_text(encoding="utf-8")
         opened = {it: shape.opened(self.shapes.values()) for it, shape in self.shapes.items()}
         self.below, self.own = {}, {}
         for name, shape in self.shapes.items():

@@ -18,7 +18,7 @@ import subprocess
 import tempfile
 import threading
 
-from mutant_digest import Digests
+from mutant_digest import FOLDERS, Digests
 
 REJECTED, UNSHOWN = "rejected", "-"
 # One of so many mutants with a line that is not stale is tried all the same.
@@ -37,6 +37,13 @@ def head_of(root):
         return subprocess.run(command, capture_output=True, text=True).stdout.strip()
     except OSError:
         return ""
+
+
+def touched(crate):
+    """When each file that a check of the crate reads was last changed."""
+    folder = pathlib.Path(crate.folder)
+    files = [it for part in FOLDERS for it in folder.glob(f"{part}/**/*")]
+    return {str(it): it.stat().st_mtime_ns for it in files if it.is_file()}
 
 
 class Lock:
@@ -84,9 +91,9 @@ class Verdicts:
     """The digest of each mutant, and the files that keep what was found of them."""
 
     def __init__(self, rt, crates, is_written):
-        self.rt, self.is_written, self.lock = rt, is_written, threading.Lock()
+        self.is_written, self.lock = is_written, threading.Lock()
         self.files = {it.name: Lock(it) for it in crates}
-        self.stand = {it.name: rt.touched(it) for it in crates}
+        self.stand = {it.name: touched(it) for it in crates}
         self.digests, self.of_mutant = Digests(rt, crates), {}
 
     def digest(self, mutant):
@@ -125,7 +132,7 @@ class Verdicts:
             return
         with self.lock:
             read = [*crate.below(), crate]
-            if any(self.rt.touched(it) != self.stand[it.name] for it in read):
+            if any(touched(it) != self.stand[it.name] for it in read):
                 said = f"files changed meanwhile, so {len(changes)} verdicts are not kept"
                 print(f"mutants: {crate.name}: {said}", flush=True)
             else:

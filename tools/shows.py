@@ -12,7 +12,15 @@ The words are a command of `uritool` (parse, normalize, resolve, links), or one 
     value, set, text, decode, decode-by, table, address, build
                                     what the calls of a reference, a normaliser or a resolver, a
                                     percent-encoded text, a table, an authority or a builder return
-    relativize, relativize-path     the reference that leads from a URI to another
+    relativize, relativize-path, relativize-query
+                                    the reference that leads from a URI to another, or its query
+    lines OPTION.. WORD.. INPUT     what `urilines` makes of an input: how many lines and errors,
+                                    and both outputs (`shows/lines.txt` has the options)
+    recipe NAME WORD..              what a program of `cookbook` returns or writes
+    owed NAME WORD..                what a caller in `obligations` gets
+    rows ROW.., rows-failing ROW..  the status of a run of rows, and what it writes, or no output
+    equal GOT WANTED                what `test_support` says of two words
+    c CALL ..                       what an export for C returns and writes
     run WORD.., run-failing WORD..  the status of `uritool`, and what its outputs get, or its error
                                     output where the output fails
 
@@ -37,7 +45,20 @@ from typing import NamedTuple
 from chosen import LIBRARY, Chosen
 
 PROGRAM = "shows"
-DEPS = ("uri_commands", "test_vectors", "uri_relative", "fluent_uri", "uri_parts", "uri_pct")
+DEPS = (
+    "cookbook",
+    "obligations",
+    "test_support",
+    "uri_streams",
+    "uri_commands",
+    "test_vectors",
+    "uri_relative",
+    "fluent_uri",
+    "uri_parts",
+    "uri_pct",
+)
+# The exports for C. The program calls them as a library, whose modules are public.
+EXPORTS = "fluent_uri_c"
 MARK = "\n= shown\n"
 NOTHING = "nothing"
 LIMITS = ("--steps", "1000", "--seconds", "5")
@@ -101,7 +122,7 @@ class Runner:
 
     def __init__(self, rt, root, crates, folder):
         self.rt, self.root, self.folder, self.stopping = rt, pathlib.Path(root), folder, set()
-        named = [it for it in crates if it.name in DEPS]
+        named = [it for it in crates if it.name in (*DEPS, EXPORTS)]
         self.crates = {below.name: below for it in named for below in [*it.below(), it]}
 
     def outputs(self, files, runs):
@@ -111,6 +132,8 @@ class Runner:
             self.copy(room)
             for (crate, path), data in files.items():
                 (room / "crates" / crate / path).write_bytes(data)
+            root = room / "crates" / EXPORTS / "src" / "lib.rt"
+            root.write_bytes(re.sub(rb"(?m)^mod ", b"pub mod ", root.read_bytes()))
             return self.run(room / "crates" / PROGRAM, list(dict.fromkeys(runs)))
 
     def copy(self, room):
@@ -124,7 +147,8 @@ class Runner:
             shutil.copyfile(it, room / "crates" / PROGRAM / "src" / f"{it.stem}.rt")
         lines = (self.root / "crates.txt").read_text(encoding="utf-8").splitlines()
         kept = [f"{it} {LIBRARY}" for it in lines if re.split(r"[\s:]", it)[0] in self.crates]
-        kept.append(f"{PROGRAM}: {' '.join(DEPS)} {LIBRARY}")
+        kept = [it.replace(" staticlib:", ":", 1) for it in kept]
+        kept.append(f"{PROGRAM}: {' '.join(DEPS)} {EXPORTS} {LIBRARY}")
         (room / "crates.txt").write_text("\n".join(kept) + "\n", encoding="utf-8")
         shutil.copyfile(self.root / "HANDLES", room / "HANDLES")
 

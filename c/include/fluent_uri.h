@@ -5,9 +5,9 @@
  * TEXTS are a pointer and a length in bytes of UTF-8, and need no NUL at their end.
  *
  * RESULTS are written into the caller's buffer OUT of OUT_LEN bytes, with no NUL after them, as
- * snprintf does it: outcome->length is the length of the whole result. If it is at most OUT_LEN, OUT
- * begins with the result, and no byte after it has changed. Else OUT is as it was, and the caller
- * calls again with a buffer of outcome->length bytes. So nothing is freed across the border.
+ * snprintf does it: outcome->length is the length of the whole result. If that is at most OUT_LEN,
+ * OUT begins with the result, and no byte after it has changed. Else OUT is as it was, and the
+ * caller calls again with a buffer of outcome->length bytes. So nothing is freed across the border.
  *
  * ERRORS. Each call returns 0, or the number of an error, which is in the outcome too. OUT is then
  * as it was.

@@ -13,7 +13,7 @@ static int rejects(uint32_t error, uint32_t wanted, uint32_t which, size_t index
            outcome.index == index && outcome.length == 0;
 }
 
-static int lies(const char *text, fluent_uri_span at, const char *wanted) {
+static int is_at(const char *text, fluent_uri_span at, const char *wanted) {
     if (!wanted) return at.start == SIZE_MAX && at.end == SIZE_MAX;
     return at.end - at.start == strlen(wanted) && !memcmp(text + at.start, wanted, strlen(wanted));
 }
@@ -22,24 +22,24 @@ static void parses(void) {
     fluent_uri_parts p;
     const char *text = "foo://u@example.com:8042/over/there?name=ferret#nose";
     CHECK(fluent_uri_parse(FLUENT_URI_URI, TEXT(text), &p) == 0 && p.error == 0);
-    CHECK(lies(text, p.scheme, "foo") && lies(text, p.authority, "u@example.com:8042"));
-    CHECK(lies(text, p.userinfo, "u") && lies(text, p.host, "example.com"));
-    CHECK(lies(text, p.port, "8042") && lies(text, p.path, "/over/there"));
-    CHECK(lies(text, p.query, "name=ferret") && lies(text, p.fragment, "nose"));
+    CHECK(is_at(text, p.scheme, "foo") && is_at(text, p.authority, "u@example.com:8042"));
+    CHECK(is_at(text, p.userinfo, "u") && is_at(text, p.host, "example.com"));
+    CHECK(is_at(text, p.port, "8042") && is_at(text, p.path, "/over/there"));
+    CHECK(is_at(text, p.query, "name=ferret") && is_at(text, p.fragment, "nose"));
     CHECK(p.host_kind == FLUENT_URI_REG_NAME);
     text = "//[::1]";
     CHECK(fluent_uri_parse(FLUENT_URI_URI_REF, TEXT(text), &p) == 0);
-    CHECK(p.host_kind == FLUENT_URI_IPV6 && lies(text, p.host, "[::1]"));
-    CHECK(lies(text, p.scheme, 0) && lies(text, p.userinfo, 0) && lies(text, p.port, 0));
+    CHECK(p.host_kind == FLUENT_URI_IPV6 && is_at(text, p.host, "[::1]"));
+    CHECK(is_at(text, p.scheme, 0) && is_at(text, p.userinfo, 0) && is_at(text, p.port, 0));
     text = "//@127.0.0.1:";
     CHECK(fluent_uri_parse(FLUENT_URI_URI_REF, TEXT(text), &p) == 0);
-    CHECK(p.host_kind == FLUENT_URI_IPV4 && lies(text, p.userinfo, "") && lies(text, p.port, ""));
+    CHECK(p.host_kind == FLUENT_URI_IPV4 && is_at(text, p.userinfo, "") && is_at(text, p.port, ""));
     CHECK(fluent_uri_parse(FLUENT_URI_URI_REF, TEXT("//[v1.a]"), &p) == 0);
     CHECK(p.host_kind == FLUENT_URI_IPV_FUTURE);
     CHECK(fluent_uri_parse(FLUENT_URI_URI_REF, TEXT("a"), &p) == 0);
-    CHECK(p.host_kind == FLUENT_URI_NO_HOST && lies("a", p.host, 0));
+    CHECK(p.host_kind == FLUENT_URI_NO_HOST && is_at("a", p.host, 0));
     CHECK(fluent_uri_parse(FLUENT_URI_URI, TEXT("http://a b/"), &p) == FLUENT_URI_UNEXPECTED_CHAR);
-    CHECK(p.error == FLUENT_URI_UNEXPECTED_CHAR && p.index == 8 && lies("", p.path, 0));
+    CHECK(p.error == FLUENT_URI_UNEXPECTED_CHAR && p.index == 8 && is_at("", p.path, 0));
     CHECK(fluent_uri_parse(FLUENT_URI_URI, TEXT("a:%2"), &p) ==
               FLUENT_URI_INVALID_PCT_ENCODED_OCTET && p.index == 2);
     CHECK(fluent_uri_parse(FLUENT_URI_URI, TEXT("a://[::1::]"), &p) ==
@@ -53,7 +53,7 @@ static void parses(void) {
 static void normalizes(void) {
     const char *text = "HTTP://Example.com:80/a/./b/%7Efoo", *normal = "http://example.com/a/b/~foo";
     CHECK(gives(fluent_uri_normalize(0, TEXT(text), out, sizeof out, &outcome), normal));
-    /* Where the buffer is too short the length is told, and nothing is written. */
+    /* If the buffer is too short, the length is reported, and nothing is written. */
     memset(out, '#', sizeof out);
     CHECK(fluent_uri_normalize(0, TEXT(text), out, 26, &outcome) == 0 && outcome.length == 27);
     CHECK(out[0] == '#' && out[25] == '#');

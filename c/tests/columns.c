@@ -130,12 +130,12 @@ static void goes_on(void) {
             if (failed) return;
             for (size_t i = 0; i < outcome.index; i++) {
                 uint8_t single[64];
-                fluent_uri_outcome told;
+                fluent_uri_outcome one;
                 const uint8_t *text = texts + starts[done + i];
                 size_t length = starts[done + i + 1] - starts[done + i];
-                uint32_t why = fluent_uri_normalize(0, text, length, single, sizeof single, &told);
-                CHECK((why == 0) == (valid[i / 8] >> i % 8 & 1) && ends[i + 1] - ends[i] == told.length);
-                CHECK(!memcmp(out + ends[i], single, told.length));
+                uint32_t why = fluent_uri_normalize(0, text, length, single, sizeof single, &one);
+                CHECK((why == 0) == (valid[i / 8] >> i % 8 & 1) && ends[i + 1] - ends[i] == one.length);
+                CHECK(!memcmp(out + ends[i], single, one.length));
             }
             done += outcome.index;
         }

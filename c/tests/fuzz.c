@@ -1,75 +1,313 @@
-/* libFuzzer on the border: what a call says of any bytes holds together, and it writes nothing
- * beyond the length that it tells. Without libFuzzer, `fuzz FILE..` runs files. */
+/* libFuzzer on the border. Of any bytes, each call stays within what it is given: a text is beside
+ * a page that cannot be read, and a call changes only what the header lets it write, of buffers
+ * with canaries between them. What the calls return agrees. With SECOND_BUILD a second build of the
+ * library, whose names begin with second_, makes every call too, and writes the same bytes. Without
+ * libFuzzer, `fuzz FILE..` runs files. */
+#define _DEFAULT_SOURCE
 #include "test.h"
+#include <sys/mman.h>
 
-enum { ROOM = 4096, CANARY = 32 };
-static uint8_t whole[CANARY + ROOM + CANARY], again[ROOM], *const out = whole + CANARY;
+enum { PAGE = 4096, CANARY = 32, ROOM = 4096, TEXTS = 4, LINES = 8 };
 
-#define HOLDS(it) ((it) ? (void)0 : (printf("%s:%d: %s\n", __FILE__, __LINE__, #it), abort()))
+#define HOLDS(it) \
+    ((it) ? (void)0 \
+          : (fprintf(stderr, "%s:%d: call %d: %s\n", __FILE__, __LINE__, call, #it), abort()))
 
-static void is_kept(size_t length) {
-    for (size_t i = 0; i < CANARY; i++) HOLDS(whole[i] == '#');
-    for (size_t i = CANARY + length; i < sizeof whole; i++) HOLDS(whole[i] == '#');
+#define EACH_CALL(IT) \
+    IT(parse) IT(normalize) IT(to_uri) IT(decode) IT(encode) IT(resolve) IT(resolve_normalized) \
+    IT(relativize) IT(normalize_batch) IT(to_uri_batch) IT(component_batch) IT(resolve_batch) \
+    IT(resolve_normalized_batch) IT(normalize_batch64) IT(to_uri_batch64) IT(resolve_batch64) \
+    IT(resolve_normalized_batch64) IT(parse_batch) IT(normalize_lines)
+
+enum {
+#define NUMBERED(NAME) call_##NAME,
+    EACH_CALL(NUMBERED) CALLS,
+    FIRST_BATCH = call_normalize_batch,
+    FIRST_BATCH64 = call_normalize_batch64
+};
+
+/* The calls of one build. */
+typedef struct {
+#define FIELD(NAME) __typeof__(fluent_uri_##NAME) *NAME;
+    EACH_CALL(FIELD)
+} build;
+
+static const build first = {
+#define FIRST(NAME) fluent_uri_##NAME,
+    EACH_CALL(FIRST)
+};
+
+#ifdef SECOND_BUILD
+#define DECLARED(NAME) extern __typeof__(fluent_uri_##NAME) second_fluent_uri_##NAME;
+EACH_CALL(DECLARED)
+static const build second = {
+#define SECOND(NAME) second_fluent_uri_##NAME,
+    EACH_CALL(SECOND)
+};
+#endif
+
+typedef struct {
+    uint32_t kind, component;
+    /* Of the outputs: bytes, and offsets. */
+    size_t room, places;
+    /* The text, and the same as two. */
+    const uint8_t *text, *one, *other;
+    size_t size, one_size, other_size;
+    const uint32_t *offsets;
+    const uint64_t *offsets64;
+} input;
+
+/* What a call returns and writes. All is '#' before. */
+typedef struct {
+    uint8_t before_out[CANARY], out[ROOM], after_out[CANARY];
+    uint32_t ends[TEXTS + 1];
+    uint8_t after_ends[CANARY];
+    uint64_t ends64[TEXTS + 1];
+    uint8_t after_ends64[CANARY], valid[1], errors[LINES], after_errors[CANARY];
+    fluent_uri_parts parts[TEXTS];
+    uint8_t after_parts[CANARY];
+    fluent_uri_outcome outcome;
+    uint8_t after_outcome[CANARY];
+    uint32_t error;
+} written;
+
+static uint32_t made(const build *by, int call, const input *in, written *to) {
+#define ONE in->text, in->size
+#define TWO in->one, in->one_size, in->other, in->other_size
+#define OUT to->out, in->room, &to->outcome
+#define COLUMN in->offsets, TEXTS + 1, to->out, in->room, to->ends, in->places, to->valid, 1, \
+    &to->outcome
+#define COLUMN64 in->offsets64, TEXTS + 1, to->out, in->room, to->ends64, in->places, to->valid, \
+    1, &to->outcome
+    switch (call) {
+    case call_parse: return by->parse(in->kind, ONE, to->parts);
+    case call_normalize: return by->normalize(in->kind, ONE, OUT);
+    case call_to_uri: return by->to_uri(in->kind, ONE, OUT);
+    case call_decode: return by->decode(in->component, ONE, OUT);
+    case call_encode: return by->encode(in->component, ONE, OUT);
+    case call_resolve: return by->resolve(in->kind, TWO, OUT);
+    case call_resolve_normalized: return by->resolve_normalized(in->kind, TWO, OUT);
+    case call_relativize: return by->relativize(in->kind, TWO, OUT);
+    case call_normalize_batch: return by->normalize_batch(in->kind, ONE, COLUMN);
+    case call_to_uri_batch: return by->to_uri_batch(in->kind, ONE, COLUMN);
+    case call_component_batch: return by->component_batch(in->kind, in->component, ONE, COLUMN);
+    case call_resolve_batch: return by->resolve_batch(in->kind, TWO, COLUMN);
+    case call_resolve_normalized_batch:
+        return by->resolve_normalized_batch(in->kind, TWO, COLUMN);
+    case call_normalize_batch64: return by->normalize_batch64(in->kind, ONE, COLUMN64);
+    case call_to_uri_batch64: return by->to_uri_batch64(in->kind, ONE, COLUMN64);
+    case call_resolve_batch64: return by->resolve_batch64(in->kind, TWO, COLUMN64);
+    case call_resolve_normalized_batch64:
+        return by->resolve_normalized_batch64(in->kind, TWO, COLUMN64);
+    case call_parse_batch:
+        return by->parse_batch(in->kind, ONE, in->offsets, TEXTS + 1, to->parts, in->places - 1,
+                               &to->outcome);
+    default:
+        return by->normalize_lines(in->kind, ONE, to->out, in->room, to->errors, LINES,
+                                   &to->outcome);
+    }
 }
 
-static void lies(fluent_uri_span at, size_t size) {
+/* Nothing has changed but what the header lets the call write. */
+static void stays_within(int call, const input *in, const written *it) {
+    static written allowed;
+    memset(&allowed, '#', sizeof allowed);
+#define MAY_WRITE(FIELD, SIZE) memcpy(allowed.FIELD, it->FIELD, SIZE)
+    allowed.error = it->error;
+    if (call == call_parse) {
+        MAY_WRITE(parts, sizeof *it->parts);
+    } else {
+        size_t done = it->outcome.index, length = it->outcome.length;
+        allowed.outcome = it->outcome;
+        HOLDS(it->outcome.error == it->error);
+        if (call < FIRST_BATCH) {
+            HOLDS(done <= in->size && it->outcome.which <= 1);
+            if (it->error == 0 && length <= in->room) MAY_WRITE(out, length);
+        } else if (call == call_parse_batch) {
+            HOLDS(done < in->places);
+            MAY_WRITE(parts, done * sizeof *it->parts);
+        } else if (call == call_normalize_lines) {
+            HOLDS(done <= LINES && length <= in->room);
+            MAY_WRITE(out, length), MAY_WRITE(errors, done);
+        } else {
+            HOLDS(done <= TEXTS && length <= in->room);
+            MAY_WRITE(out, length);
+            if (in->kind < 4 && in->places > TEXTS) {
+                size_t places = done + 1;
+                if (call < FIRST_BATCH64) MAY_WRITE(ends, places * sizeof *it->ends);
+                else MAY_WRITE(ends64, places * sizeof *it->ends64);
+            }
+            uint8_t bits = (uint8_t)((1u << done) - 1);
+            allowed.valid[0] = (uint8_t)((it->valid[0] & bits) | ('#' & ~bits));
+        }
+    }
+    HOLDS(!memcmp(&allowed, it, sizeof allowed));
+}
+
+/* What each call returns of the input, which each build returns alike. */
+static written results[CALLS];
+
+static void makes_all_calls(const input *in) {
+    for (int call = 0; call < CALLS; call++) {
+        written *it = &results[call];
+        memset(it, '#', sizeof *it);
+        it->error = made(&first, call, in, it);
+        stays_within(call, in, it);
+#ifdef SECOND_BUILD
+        static written another;
+        memset(&another, '#', sizeof another);
+        another.error = made(&second, call, in, &another);
+        HOLDS(!memcmp(&another, it, sizeof another));
+#endif
+    }
+}
+
+static void is_span(int call, fluent_uri_span at, size_t size) {
     HOLDS((at.start == SIZE_MAX && at.end == SIZE_MAX) || (at.start <= at.end && at.end <= size));
+}
+
+static void parse_returns_spans(const input *in) {
+    int call = call_parse;
+    const fluent_uri_parts *it = results[call].parts;
+    HOLDS(it->error == results[call].error && it->index <= in->size);
+    const fluent_uri_span spans[] = {it->scheme, it->authority, it->userinfo, it->host,
+                                     it->port,   it->path,      it->query,    it->fragment};
+    for (size_t i = 0; i < sizeof spans / sizeof *spans; i++) is_span(call, spans[i], in->size);
+}
+
+static uint8_t again[3 * ROOM];
+static fluent_uri_outcome outcome;
+
+/* Whether the call has made a text, which is in its buffer. */
+static int is_there(int call, const input *in) {
+    return results[call].error == 0 && results[call].outcome.length <= in->room;
+}
+
+/* The single call AGAIN made the text of CALL. */
+static void is_same(int call, uint32_t error) {
+    HOLDS(error == 0 && outcome.length == results[call].outcome.length);
+    HOLDS(!memcmp(again, results[call].out, outcome.length));
+}
+
+static void single_calls_agree(const input *in) {
+    int call = call_normalize;
+    const written *it = &results[call];
+    HOLDS(it->error == results[call_parse].error);
+    if (is_there(call, in))
+        is_same(call, fluent_uri_normalize(in->kind, it->out, it->outcome.length, again,
+                                           sizeof again, &outcome));
+    call = call_encode, it = &results[call];
+    if (is_there(call, in) && in->component < FLUENT_URI_DATA) {
+        HOLDS(fluent_uri_decode(in->component, it->out, it->outcome.length, again, sizeof again,
+                                &outcome) == 0);
+        HOLDS(outcome.length == in->size && !memcmp(again, in->text, in->size));
+    }
+    call = call_resolve_normalized, it = &results[call];
+    HOLDS(it->error == results[call_resolve].error);
+    if (is_there(call, in) && is_there(call_resolve, in))
+        is_same(call, fluent_uri_normalize(in->kind, results[call_resolve].out,
+                                           results[call_resolve].outcome.length, again,
+                                           sizeof again, &outcome));
+    /* A reference that leads to a target: resolved, it is that target as it is resolved. */
+    call = call_resolve, it = &results[call_relativize];
+    if (is_there(call_relativize, in) && is_there(call, in))
+        is_same(call, fluent_uri_resolve(in->kind, in->one, in->one_size, it->out,
+                                         it->outcome.length, again, sizeof again, &outcome));
+}
+
+/* Of the texts that are done, a column holds what the single calls make. */
+static void columns_agree(const input *in) {
+    int call = call_normalize_batch;
+    const written *it = &results[call], *wide = &results[call_normalize_batch64];
+    const written *parsed = &results[call_parse_batch];
+    HOLDS(wide->error == it->error && !memcmp(&wide->outcome, &it->outcome, sizeof outcome));
+    HOLDS(!memcmp(wide->out, it->out, ROOM) && wide->valid[0] == it->valid[0]);
+    for (size_t i = 0; i < it->outcome.index; i++) {
+        size_t start = in->offsets[i], size = in->offsets[i + 1] - start;
+        uint32_t error = fluent_uri_normalize(in->kind, in->text + start, size, again, sizeof again,
+                                              &outcome);
+        HOLDS((error == 0) == (it->valid[0] >> i & 1));
+        HOLDS(it->ends[i + 1] - it->ends[i] == (error ? 0 : outcome.length));
+        HOLDS(error || !memcmp(again, it->out + it->ends[i], outcome.length));
+        HOLDS(wide->ends64[i] == it->ends[i] && wide->ends64[i + 1] == it->ends[i + 1]);
+        if (i < parsed->outcome.index) HOLDS(parsed->parts[i].error == error);
+    }
+    call = call_normalize_lines, it = &results[call];
+    size_t at = 0, from = 0;
+    for (size_t i = 0; i < it->outcome.index; i++) {
+        size_t to = from;
+        while (to < in->size && in->text[to] != '\n') to++;
+        uint32_t error = fluent_uri_normalize(in->kind, in->text + from, to - from, again,
+                                              sizeof again, &outcome);
+        size_t length = error ? 0 : outcome.length;
+        HOLDS(it->errors[i] == error && !memcmp(it->out + at, again, length));
+        HOLDS(it->out[at + length] == '\n');
+        at += length + 1, from = to + 1;
+    }
+    HOLDS(at == it->outcome.length);
+}
+
+#ifdef LIBFUZZER
+/* The library is not instrumented: what it returns tells libFuzzer which inputs are new. */
+__attribute__((section("__libfuzzer_extra_counters"))) static uint8_t seen[1 << 13];
+
+static void tells_what_is_new(void) {
+    for (int call = 0; call < CALLS; call++) {
+        size_t index = call ? results[call].outcome.index : results[call].parts->index;
+        seen[((size_t)call * 11 + results[call].error) * 32 + (index < 31 ? index : 31)] = 1;
+    }
+    const fluent_uri_parts *it = results[call_parse].parts;
+    const fluent_uri_span spans[] = {it->scheme, it->authority, it->userinfo, it->port,
+                                     it->path,   it->query,     it->fragment};
+    unsigned shape = it->host_kind;
+    for (size_t i = 0; i < sizeof spans / sizeof *spans; i++)
+        shape = shape * 2 + (spans[i].start < spans[i].end);
+    seen[CALLS * 11 * 32 + shape] = 1;
+}
+#endif
+
+/* A copy that begins or ends beside a page that cannot be read. */
+static const void *beside(int page, int at_end, const void *data, size_t size) {
+    static uint8_t *pages;
+    enum { PAGES = 5 };
+    if (!pages) {
+        pages = mmap(NULL, (2 * PAGES + 1) * PAGE, PROT_NONE, MAP_PRIVATE | MAP_ANONYMOUS, -1, 0);
+        if (pages == MAP_FAILED) abort();
+        for (int i = 0; i < PAGES; i++)
+            if (mprotect(pages + (2 * i + 1) * PAGE, PAGE, PROT_READ | PROT_WRITE)) abort();
+    }
+    uint8_t *to = pages + (2 * page + 1) * PAGE + (at_end ? PAGE - size : 0);
+    return size ? memcpy(to, data, size) : to;
 }
 
 int LLVMFuzzerTestOneInput(const uint8_t *data, size_t size);
 int LLVMFuzzerTestOneInput(const uint8_t *data, size_t size) {
-    if (size < 2 || size > 1000) return 0;
-    uint32_t kind = data[0] % 5, room = data[1];
-    size_t half = (size_t)data[1] % (size - 1);
-    data += 2, size -= 2;
-    if (half > size) half = size;
-    fluent_uri_parts parts;
-    fluent_uri_outcome told, other;
-    uint32_t error = fluent_uri_parse(kind, data, size, &parts);
-    HOLDS(parts.error == error && (error == 0 || parts.index <= size));
-    lies(parts.scheme, size), lies(parts.authority, size), lies(parts.userinfo, size);
-    lies(parts.host, size), lies(parts.port, size), lies(parts.path, size);
-    lies(parts.query, size), lies(parts.fragment, size);
-    /* The normal form is normalised to itself; a text that parses has one. */
-    memset(whole, '#', sizeof whole);
-    uint32_t normal = fluent_uri_normalize(kind, data, size, out, ROOM, &told);
-    HOLDS(normal == error && told.error == normal);
-    is_kept(normal ? 0 : told.length);
-    if (!normal && told.length <= ROOM) {
-        HOLDS(fluent_uri_normalize(kind, out, told.length, again, ROOM, &other) == 0);
-        HOLDS(other.length == told.length && !memcmp(out, again, told.length));
+    if (size < 3 || size > 1000) return 0;
+    int at_end = data[0] >> 7, is_wild = data[0] >> 6 & 1, lacks_a_place = data[0] >> 5 & 1;
+    size_t half = (size_t)data[1] % (size - 2);
+    input in = {.kind = data[0] % 5, .component = data[1] % 10};
+    in.room = (size_t)data[2] * 16, in.places = (size_t)TEXTS + 1 - (size_t)lacks_a_place;
+    data += 3, size -= 3;
+    in.size = size, in.one_size = half, in.other_size = size - half;
+    in.text = beside(0, at_end, data, size);
+    in.one = beside(1, at_end, data, half);
+    in.other = beside(2, at_end, data + half, size - half);
+    uint32_t offsets[] = {0, (uint32_t)(half / 2), (uint32_t)half,
+                          (uint32_t)(half + (size - half) / 2), (uint32_t)size};
+    uint64_t offsets64[TEXTS + 1];
+    for (size_t i = 0; i <= TEXTS; i++) {
+        if (is_wild && i < size) offsets[i] = data[i];
+        offsets64[i] = offsets[i];
     }
-    /* A short buffer is left as it is. */
-    memset(whole, '#', sizeof whole);
-    fluent_uri_normalize(kind, data, size, out, room, &other);
-    HOLDS(other.length == told.length && other.error == normal);
-    is_kept(!normal && told.length <= room ? told.length : 0);
-    /* Of two texts the batch makes the single calls' results. */
-    uint32_t offsets[3] = {0, (uint32_t)half, (uint32_t)size}, ends[3];
-    uint8_t valid = 0;
-    memset(whole, '#', sizeof whole);
-    uint32_t batch = fluent_uri_normalize_batch(kind, data, size, offsets, 3, out, ROOM, ends, 3,
-                                                &valid, 1, &told);
-    HOLDS(kind < 4 ? batch == 0 : batch == FLUENT_URI_INVALID_ARGUMENT);
-    is_kept(told.length);
-    for (size_t i = 0; i < told.index; i++) {
-        uint32_t single = fluent_uri_normalize(kind, data + offsets[i], offsets[i + 1] - offsets[i],
-                                               again, ROOM, &other);
-        HOLDS((single == 0) == (valid >> i & 1) && ends[i + 1] - ends[i] == other.length);
-        HOLDS(!memcmp(out + ends[i], again, other.length));
-    }
-    memset(whole, '#', sizeof whole);
-    error = fluent_uri_resolve(kind, data, half, data + half, size - half, out, ROOM, &told);
-    is_kept(error ? 0 : told.length);
-    HOLDS(error == 0 || told.index <= size);
-    for (uint32_t component = 0; component < 9; component++) {
-        memset(whole, '#', sizeof whole);
-        if (fluent_uri_encode(component, data, size, out, ROOM, &told)) continue;
-        is_kept(told.length);
-        if (component == FLUENT_URI_DATA) continue;
-        HOLDS(fluent_uri_decode(component, out, told.length, again, ROOM, &other) == 0);
-        HOLDS(other.length == size && !memcmp(again, data, size));
-    }
+    in.offsets = beside(3, at_end, offsets, sizeof offsets);
+    in.offsets64 = beside(4, at_end, offsets64, sizeof offsets64);
+    makes_all_calls(&in);
+    parse_returns_spans(&in);
+    single_calls_agree(&in);
+    columns_agree(&in);
+#ifdef LIBFUZZER
+    tells_what_is_new();
+#endif
     return 0;
 }
 

@@ -1,4 +1,4 @@
-/* Each request for memory is refused in turn; and canaries around every buffer. Where a test is
+/* Each request for memory is denied in turn; and canaries around every buffer. Where a test is
  * linked with the static library, malloc and realloc of this file are the library's own. */
 #define _GNU_SOURCE
 #include "test.h"
@@ -10,15 +10,15 @@ extern void __libc_free(void *);
 static long left = -1;
 static size_t asked;
 
-static int is_refused(void) {
+static int is_denied(void) {
     asked++;
     if (left < 0) return 0;
     return left-- == 0;
 }
 
-void *malloc(size_t size) { return is_refused() ? (errno = ENOMEM, NULL) : __libc_malloc(size); }
+void *malloc(size_t size) { return is_denied() ? (errno = ENOMEM, NULL) : __libc_malloc(size); }
 void *realloc(void *old, size_t size) {
-    return is_refused() ? (errno = ENOMEM, NULL) : __libc_realloc(old, size);
+    return is_denied() ? (errno = ENOMEM, NULL) : __libc_realloc(old, size);
 }
 void free(void *old) { __libc_free(old); }
 

@@ -6,7 +6,7 @@ enum { MOST = 1 << 20, FIELDS = 8 };
 static char line[MOST], made[MOST], words[FIELDS][MOST / 4];
 static uint8_t out[MOST];
 static size_t lengths[FIELDS], tried;
-static fluent_uri_outcome told;
+static fluent_uri_outcome outcome;
 
 static const char *const kinds[] = {"uri", "uri-ref", "iri", "iri-ref"};
 static const char *const messages[] = {"", "invalid percent-encoded octet", "unexpected character",
@@ -73,8 +73,8 @@ static long written(uint32_t error) {
     if (error == FLUENT_URI_INVALID_REFERENCE_AGAINST_OPAQUE_BASE)
         return sprintf(made, "error InvalidReferenceAgainstOpaqueBase");
     if (error) return sprintf(made, "error %u", error);
-    memcpy(made, out, told.length);
-    return (long)told.length;
+    memcpy(made, out, outcome.length);
+    return (long)outcome.length;
 }
 
 /* What the row's call gives, or a negative number where the header has no such call. */
@@ -103,22 +103,22 @@ static long run(const char *op, int count) {
         return (long)put(sprintf(made, "name") > 0 ? 4 : 0, "", text + p.host.start,
                          p.host.end - p.host.start);
     if (!strcmp(op, "normalize"))
-        return written(fluent_uri_normalize((uint32_t)kind, bytes(1), lengths[1], out, MOST, &told));
+        return written(fluent_uri_normalize((uint32_t)kind, bytes(1), lengths[1], out, MOST, &outcome));
     if (!strcmp(op, "resolve"))
         return written(fluent_uri_resolve((uint32_t)kind, bytes(1), lengths[1], bytes(2), lengths[2],
-                                          out, MOST, &told));
+                                          out, MOST, &outcome));
     if (!strcmp(op, "resolve-normalized"))
         return written(fluent_uri_resolve_normalized((uint32_t)kind, bytes(1), lengths[1], bytes(2),
-                                                     lengths[2], out, MOST, &told));
+                                                     lengths[2], out, MOST, &outcome));
     if (!strcmp(op, "relativize"))
         return written(fluent_uri_relativize((uint32_t)kind, bytes(1), lengths[1], bytes(2),
-                                             lengths[2], out, MOST, &told));
+                                             lengths[2], out, MOST, &outcome));
     if (!strcmp(op, "encode-as-uri"))
-        return written(fluent_uri_to_uri((uint32_t)kind, bytes(1), lengths[1], out, MOST, &told));
+        return written(fluent_uri_to_uri((uint32_t)kind, bytes(1), lengths[1], out, MOST, &outcome));
     if (!strcmp(op, "encode") && lengths[0] == 4 && !memcmp(words[0], "path", 4))
-        return written(fluent_uri_encode(FLUENT_URI_PATH, bytes(1), lengths[1], out, MOST, &told));
+        return written(fluent_uri_encode(FLUENT_URI_PATH, bytes(1), lengths[1], out, MOST, &outcome));
     if (!strcmp(op, "encode") && lengths[0] == 4 && !memcmp(words[0], "data", 4))
-        return written(fluent_uri_encode(FLUENT_URI_DATA, bytes(1), lengths[1], out, MOST, &told));
+        return written(fluent_uri_encode(FLUENT_URI_DATA, bytes(1), lengths[1], out, MOST, &outcome));
     return -1;
 }
 

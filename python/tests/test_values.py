@@ -2,7 +2,9 @@
 
 import copy
 import importlib.util
+import inspect
 import os
+import pathlib
 import pickle
 import subprocess
 import sys
@@ -20,10 +22,16 @@ from fluent_uri import (
     ResolveErrorKind,
     Uri,
     UriRef,
+    _native,
     decode,
     encode,
 )
 
+MATCHED = """
+match value:
+    case Uri(scheme, authority, path, query, fragment, host=host):
+        found = scheme, authority, path, query, fragment, host
+"""
 NAMES = ["scheme", "authority", "userinfo", "host", "port", "path", "query", "fragment"]
 KINDS = [Uri, UriRef, Iri, IriRef]
 
@@ -83,6 +91,13 @@ class Values(unittest.TestCase):
         self.assertEqual(repr(value), "Iri('http://é/')")
         self.assertEqual(bytes(value), "http://é/".encode())
         self.assertEqual(eval(repr(value)), value)
+        self.assertEqual(f"{value}|{value:>12}", "http://é/|   http://é/")
+
+    @unittest.skipIf(sys.version_info < (3, 10), "match is of Python 3.10")
+    def test_matched(self):
+        names = {"Uri": Uri, "value": Uri.parse("http://u@h:80/a?b")}
+        exec(MATCHED, names)
+        self.assertEqual(names["found"], ("http", "u@h:80", "/a", "b", None, "h"))
 
     def test_equal_hashed_and_ordered_by_text_within_a_kind(self):
         a, b = Uri.parse("a:a"), Uri.parse("a:b")
@@ -220,6 +235,12 @@ class Loading(unittest.TestCase):
             self.assertEqual(ran.returncode, 1)
             self.assertRegex(ran.stderr.splitlines()[-1], "^ImportError: .*libfluent_uri_c.so.0")
 
+    def test_an_older_processor_is_found(self):
+        names = "fpu sse2 ssse3 cx16 sse4_1 popcnt lahf_lm"
+        self.assertFalse(_native._lacks(f"processor : 0\nflags\t\t: {names} sse4_2 avx\n"))
+        self.assertTrue(_native._lacks(f"flags\t\t: {names} avx\nflags\t\t: {names} sse4_2\n"))
+        self.assertFalse(_native._lacks("Features : asimd"))
+
 
 class Errors(unittest.TestCase):
     def raised(self, call, *words):
@@ -279,19 +300,24 @@ class Errors(unittest.TestCase):
 
     def test_other_types(self):
         for given in [None, 5, b"a:b", ["a:b"]]:
-            with self.assertRaises(TypeError):
-                Uri.parse(given)
-            with self.assertRaises(TypeError):
-                Uri.parse("a:b").resolve(given)
-        with self.assertRaises(TypeError):
-            decode(b"a")
+            for call in [Uri.parse, Uri.parse("a:b").resolve, Uri.parse("a:b").relativize, decode]:
+                with self.assertRaisesRegex(TypeError, "str, not "):
+                    call(given)
         with self.assertRaises(TypeError):
             Uri()
 
     def test_names(self):
         self.assertEqual(ParseError.__module__, "fluent_uri")
+        project = pathlib.Path(__file__).resolve().parents[1] / "pyproject.toml"
+        version = f'version = "{fluent_uri.__version__}"'
+        self.assertIn(version, project.read_text(encoding="utf-8").splitlines())
         for name in fluent_uri.__all__:
             self.assertTrue(hasattr(fluent_uri, name))
+
+    @unittest.skipIf(sys.version_info < (3, 10), "an older Python shows none of a compiled class")
+    def test_signatures(self):
+        for call in [Uri, Uri.parse]:
+            self.assertEqual(list(inspect.signature(call).parameters), ["text"])
 
 
 if __name__ == "__main__":

@@ -1,5 +1,5 @@
 //! Builders: a step whose allocation fails marks the builder, which keeps its mark until `build`.
-use crate::requests::{answers, end, tell};
+use crate::requests::{end, report, succeeds};
 use fluent_uri::build::state::FragmentEnd;
 use fluent_uri::build::{BuildError, Builder};
 use fluent_uri::component::Scheme;
@@ -32,19 +32,19 @@ fn is_built<R: Abort + Print, V: RiMaybeRef + Drop>(
     built: &Result<V, BuildError>,
     wanted: &str,
 ) {
-    if answers(rt, wanted, built) {
+    if succeeds(rt, wanted, built) {
         equal(built.as_ref().map(V::as_str).ok(), Some(wanted)).expect(rt, wanted);
     }
 }
 
 /// Checks that `build` returns this error, or `OutOfMemory`.
-fn is_refused<R: Abort + Print, V: RiMaybeRef + Drop>(
+fn is_rejected<R: Abort + Print, V: RiMaybeRef + Drop>(
     rt: &R,
     built: Result<V, BuildError>,
     wanted: BuildError,
 ) {
     match built.err() {
-        Some(BuildError::OutOfMemory) => tell(rt, "build of what would be refused"),
+        Some(BuildError::OutOfMemory) => report(rt, "build of what would be refused"),
         other => equal(other, Some(wanted)).expect(rt, "a refusal"),
     }
 }
@@ -133,19 +133,19 @@ fn international_parts(rt: HostRuntime) {
 
 /// `build` of a marked builder returns `OutOfMemory`, whatever else it would reject.
 #[test]
-fn mark_before_another_refusal(rt: HostRuntime) {
+fn mark_before_another_error(rt: HostRuntime) {
     let built = UriRef::<String>::builder(rt.alloc())
         .path(part(&rt, "a:b"))
         .query(part(&rt, QUERY))
         .advance::<FragmentEnd>()
         .build();
-    is_refused(&rt, built, BuildError::FirstPathSegmentContainsColon);
+    is_rejected(&rt, built, BuildError::FirstPathSegmentContainsColon);
     let built = UriRef::<String>::builder(rt.alloc())
         .path(part(&rt, "//"))
         .optional(Builder::query, Some(part(&rt, QUERY)))
         .optional(Builder::fragment, None)
         .build();
-    is_refused(&rt, built, BuildError::PathStartsWithDoubleSlash);
+    is_rejected(&rt, built, BuildError::PathStartsWithDoubleSlash);
     end(&rt, rt.alloc());
 }
 
@@ -158,6 +158,6 @@ fn mark_through_an_authority(rt: HostRuntime) {
         .path(part(&rt, "rootless"))
         .advance::<FragmentEnd>()
         .build();
-    is_refused(&rt, built, BuildError::NonemptyRootlessPath);
+    is_rejected(&rt, built, BuildError::NonemptyRootlessPath);
     end(&rt, rt.alloc());
 }

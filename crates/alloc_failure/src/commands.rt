@@ -1,48 +1,14 @@
 //! `run` of `uritool`: if an allocation fails it says so and prints nothing; else it prints what it
 //! always does.
-use crate::requests::{end, tell, tried};
+use crate::awaits::ExpectedOutput;
+use crate::requests::{end, report, tried};
+use crate::values::holds;
 use std::alloc::Global;
-use std::io::{self, Write};
 use std::process::Abort;
 use test_support::equal;
 use uri_commands::run::run;
 
 const OUT_OF_MEMORY: &str = "error: out of memory\n";
-
-/// Compares what it takes with the expected text, and does not allocate.
-#[derive(Drop)]
-struct Awaits<'a> {
-    rest: &'a [u8],
-    is_other: bool,
-}
-
-impl<'a> Awaits<'a> {
-    fn new(text: &'a str) -> Awaits<'a> {
-        Awaits {
-            rest: text.as_bytes(),
-            is_other: false,
-        }
-    }
-
-    /// Whether it got all of the text, or nothing where that is asked for.
-    fn got(&self, text: &str) -> bool {
-        !self.is_other && self.rest.len() == text.len()
-    }
-}
-
-impl Write for Awaits<'_> {
-    fn write(&mut self, buf: &[u8]) -> io::Result<usize> {
-        match self.rest.strip_prefix(buf) {
-            Some(rest) => self.rest = rest,
-            None => self.is_other = true,
-        }
-        Ok(buf.len())
-    }
-
-    fn flush(&mut self) -> io::Result<()> {
-        Ok(())
-    }
-}
 
 fn word<R: Abort + Print>(rt: &R, alloc: Global, text: &str) -> String {
     tried!(rt; "a word", String::from_str(alloc, text))
@@ -51,23 +17,34 @@ fn word<R: Abort + Print>(rt: &R, alloc: Global, text: &str) -> String {
 /// Returns whether the words print this text. If not, checks that `run` reports the failed
 /// allocation and prints nothing.
 fn prints<R: Abort + Print>(rt: &R, alloc: Global, words: &[String], text: &str) -> bool {
-    let (mut out, mut err) = (Awaits::new(text), Awaits::new(OUT_OF_MEMORY));
-    let status = run(alloc, words, &mut out, &mut err);
+    let (mut out, mut err) = (
+        ExpectedOutput::new(text),
+        ExpectedOutput::new(OUT_OF_MEMORY),
+    );
+    let status = run(alloc, words, &mut out, &mut err).status;
     if status == 1 {
-        tell(rt, "run");
-        equal(out.got(text), true).expect(rt, "an output that got nothing");
-        equal(err.got(""), true).expect(rt, "an error output that was told");
+        report(rt, "run");
+        holds(rt, out.lacks(text), "an output that got nothing");
+        holds(rt, err.lacks(""), "an error output that was told");
         return false;
     }
     equal(status, 0).expect(rt, "status");
-    equal(out.got(""), true).expect(rt, text);
-    equal(err.got(OUT_OF_MEMORY), true).expect(rt, "an error output that was told nothing");
+    holds(rt, out.lacks(""), text);
+    holds(
+        rt,
+        err.lacks(OUT_OF_MEMORY),
+        "an error output that was told nothing",
+    );
     true
 }
 
 fn answered<R: Abort + Print>(rt: &R, alloc: Global, words: &[String], text: &str) {
     if !prints(rt, alloc, words, text) {
-        equal(prints(rt, alloc, words, text), true).expect(rt, "the answer, with memory");
+        holds(
+            rt,
+            prints(rt, alloc, words, text),
+            "the answer, with memory",
+        );
     }
     end(rt, alloc);
 }

@@ -1,170 +1,137 @@
 //! The four kinds: copies, fragments, normal forms and conversions, and where to connect.
-use crate::requests::{end, tell, tried};
+use crate::requests::{end, report, tried};
+use crate::values::{encoded, is_encoded, is_text, parsed};
 use fluent_uri::component::SocketTarget;
 use fluent_uri::normalize::Normalizer;
-use fluent_uri::pct_enc::EStr;
-use fluent_uri::pct_enc::encoder::{Encoder, Fragment, IFragment};
-use fluent_uri::{Iri, IriRef, Uri, UriRef};
-use std::alloc::AllocError;
+use fluent_uri::{Iri, IriRef, Reference, UriRef};
+use std::alloc::{AllocError, Global};
+use std::convert::AsStr;
 use std::process::Abort;
 use test_support::equal;
+use uri_parts::kind::{IriKind, IriRefKind, Kind, UriKind, UriRefKind};
 
 /// Longer than what any text here has room for.
 const FRAGMENT: &str = "0123456789012345678901234567890123456789";
 
-fn fragment<'a, R: Abort, E: Encoder>(rt: &R) -> Option<EStr<'a, E>> {
-    Some(EStr::new(FRAGMENT).expect(rt, "a fragment"))
+fn copied<R: Abort + Print, K: Kind>(
+    rt: &R,
+    alloc: Global,
+    value: Reference<K, &str>,
+) -> Reference<K, String> {
+    tried!(rt; "to_owned", value.to_owned(alloc))
+}
+
+/// Checks the text of a copy that has the fragment.
+fn is_given_fragment<R: Abort + Print, K: Kind, T: AsStr>(
+    rt: &R,
+    alloc: Global,
+    value: &Reference<K, T>,
+    wanted: &str,
+) {
+    let given = Some(encoded(rt, FRAGMENT));
+    let made = tried!(rt; "with_fragment", value.with_fragment(alloc, given));
+    is_text(rt, made.as_str(), wanted);
+}
+
+/// Replaces the fragment `f`. If the allocation fails, the text is unchanged.
+fn replaces_fragment<R: Abort + Print, K: Kind>(
+    rt: &R,
+    value: &mut Reference<K, String>,
+    text: &str,
+    wanted: &str,
+) {
+    let given = Some(encoded(rt, FRAGMENT));
+    if let Err(AllocError) = value.set_fragment(given) {
+        report(rt, "set_fragment");
+        is_text(rt, value.as_str(), text);
+        is_encoded(rt, value.fragment(), "f");
+        value.set_fragment(given).expect(rt, "memory");
+    }
+    is_text(rt, value.as_str(), wanted);
+}
+
+/// Gives the fragment to a value and its copy, and then replaces that of the copy.
+fn has_fragments<R: Abort + Print, K: Kind>(rt: &R, alloc: Global, text: &str, wanted: &str) {
+    let value = parsed::<_, K>(rt, text);
+    is_given_fragment(rt, alloc, &value, wanted);
+    let mut owned = copied(rt, alloc, value);
+    is_text(rt, owned.as_str(), text);
+    is_given_fragment(rt, alloc, &owned, wanted);
+    replaces_fragment(rt, &mut owned, text, wanted);
+    end(rt, alloc);
 }
 
 #[test]
 fn fragments_of_uris(rt: HostRuntime) {
-    let alloc = rt.alloc();
-    let uri = Uri::<&str>::parse("s:a#f").expect(&rt, "a URI");
-    let given = fragment::<_, Fragment>(&rt);
     let wanted = "s:a#0123456789012345678901234567890123456789";
-    let made = tried!(&rt; "Uri::with_fragment", uri.with_fragment(alloc, given));
-    equal(made.as_str(), wanted).expect(&rt, "with_fragment");
-    let mut owned = tried!(&rt; "Uri::to_owned", uri.to_owned(alloc));
-    equal(owned.as_str(), "s:a#f").expect(&rt, "to_owned");
-    let made =
-        tried!(&rt; "Uri::with_fragment of one that is owned", owned.with_fragment(alloc, given));
-    equal(made.as_str(), wanted).expect(&rt, "with_fragment");
-    if let Err(AllocError) = owned.set_fragment(given) {
-        tell(&rt, "Uri::set_fragment");
-        equal(owned.as_str(), "s:a#f").expect(&rt, "the same text");
-        equal(owned.fragment().map(EStr::as_str), Some("f")).expect(&rt, "the same fragment");
-        owned.set_fragment(given).expect(&rt, "memory");
-    }
-    equal(owned.as_str(), wanted).expect(&rt, "set_fragment");
-    end(&rt, alloc);
+    has_fragments::<_, UriKind>(&rt, rt.alloc(), "s:a#f", wanted);
 }
 
 #[test]
 fn fragments_of_uri_references(rt: HostRuntime) {
-    let alloc = rt.alloc();
-    let reference = UriRef::<&str>::parse("a#f").expect(&rt, "a reference");
-    let given = fragment::<_, Fragment>(&rt);
     let wanted = "a#0123456789012345678901234567890123456789";
-    let made = tried!(&rt; "UriRef::with_fragment", reference.with_fragment(alloc, given));
-    equal(made.as_str(), wanted).expect(&rt, "with_fragment");
-    let mut owned = tried!(&rt; "UriRef::to_owned", reference.to_owned(alloc));
-    equal(owned.as_str(), "a#f").expect(&rt, "to_owned");
-    let made = tried!(
-        &rt; "UriRef::with_fragment of one that is owned",
-        owned.with_fragment(alloc, given)
-    );
-    equal(made.as_str(), wanted).expect(&rt, "with_fragment");
-    if let Err(AllocError) = owned.set_fragment(given) {
-        tell(&rt, "UriRef::set_fragment");
-        equal(owned.as_str(), "a#f").expect(&rt, "the same text");
-        equal(owned.fragment().map(EStr::as_str), Some("f")).expect(&rt, "the same fragment");
-        owned.set_fragment(given).expect(&rt, "memory");
-    }
-    equal(owned.as_str(), wanted).expect(&rt, "set_fragment");
-    end(&rt, alloc);
+    has_fragments::<_, UriRefKind>(&rt, rt.alloc(), "a#f", wanted);
 }
 
 #[test]
 fn fragments_of_iris(rt: HostRuntime) {
-    let alloc = rt.alloc();
-    let iri = Iri::<&str>::parse("s:é#f").expect(&rt, "an IRI");
-    let given = fragment::<_, IFragment>(&rt);
     let wanted = "s:é#0123456789012345678901234567890123456789";
-    let made = tried!(&rt; "Iri::with_fragment", iri.with_fragment(alloc, given));
-    equal(made.as_str(), wanted).expect(&rt, "with_fragment");
-    let mut owned = tried!(&rt; "Iri::to_owned", iri.to_owned(alloc));
-    equal(owned.as_str(), "s:é#f").expect(&rt, "to_owned");
-    let made =
-        tried!(&rt; "Iri::with_fragment of one that is owned", owned.with_fragment(alloc, given));
-    equal(made.as_str(), wanted).expect(&rt, "with_fragment");
-    if let Err(AllocError) = owned.set_fragment(given) {
-        tell(&rt, "Iri::set_fragment");
-        equal(owned.as_str(), "s:é#f").expect(&rt, "the same text");
-        equal(owned.fragment().map(EStr::as_str), Some("f")).expect(&rt, "the same fragment");
-        owned.set_fragment(given).expect(&rt, "memory");
-    }
-    equal(owned.as_str(), wanted).expect(&rt, "set_fragment");
-    end(&rt, alloc);
+    has_fragments::<_, IriKind>(&rt, rt.alloc(), "s:é#f", wanted);
 }
 
 #[test]
 fn fragments_of_iri_references(rt: HostRuntime) {
-    let alloc = rt.alloc();
-    let reference = IriRef::<&str>::parse("é#f").expect(&rt, "a reference");
-    let given = fragment::<_, IFragment>(&rt);
     let wanted = "é#0123456789012345678901234567890123456789";
-    let made = tried!(&rt; "IriRef::with_fragment", reference.with_fragment(alloc, given));
-    equal(made.as_str(), wanted).expect(&rt, "with_fragment");
-    let mut owned = tried!(&rt; "IriRef::to_owned", reference.to_owned(alloc));
-    equal(owned.as_str(), "é#f").expect(&rt, "to_owned");
-    let made = tried!(
-        &rt; "IriRef::with_fragment of one that is owned",
-        owned.with_fragment(alloc, given)
-    );
-    equal(made.as_str(), wanted).expect(&rt, "with_fragment");
-    if let Err(AllocError) = owned.set_fragment(given) {
-        tell(&rt, "IriRef::set_fragment");
-        equal(owned.as_str(), "é#f").expect(&rt, "the same text");
-        equal(owned.fragment().map(EStr::as_str), Some("f")).expect(&rt, "the same fragment");
-        owned.set_fragment(given).expect(&rt, "memory");
-    }
-    equal(owned.as_str(), wanted).expect(&rt, "set_fragment");
-    end(&rt, alloc);
+    has_fragments::<_, IriRefKind>(&rt, rt.alloc(), "é#f", wanted);
+}
+
+/// Checks the text of the normal form.
+fn is_normalized<R: Abort + Print, K: Kind, T: AsStr>(
+    rt: &R,
+    alloc: Global,
+    value: &Reference<K, T>,
+    wanted: &str,
+) {
+    let normal = tried!(rt; "normalize", value.normalize(alloc));
+    is_text(rt, normal.as_str(), wanted);
+}
+
+/// Normalises a value and its copy.
+fn has_normal_form<R: Abort + Print, K: Kind>(rt: &R, alloc: Global, text: &str, wanted: &str) {
+    let value = parsed::<_, K>(rt, text);
+    is_normalized(rt, alloc, &value, wanted);
+    is_normalized(rt, alloc, &copied(rt, alloc, value), wanted);
+    end(rt, alloc);
 }
 
 #[test]
 fn normal_uris(rt: HostRuntime) {
-    let alloc = rt.alloc();
-    let uri = Uri::<&str>::parse("HTTP://H/a/../%7e").expect(&rt, "a URI");
-    let normal = tried!(&rt; "Uri::normalize", uri.normalize(alloc));
-    equal(normal.as_str(), "http://h/~").expect(&rt, "normalize");
-    end(&rt, alloc);
+    let uri = parsed::<_, UriKind>(&rt, "HTTP://H/a/../%7e");
+    is_normalized(&rt, rt.alloc(), &uri, "http://h/~");
+    end(&rt, rt.alloc());
 }
 
 #[test]
 fn normal_forms_of_owned_uris(rt: HostRuntime) {
     let alloc = rt.alloc();
-    let uri = Uri::<&str>::parse("S:%7e").expect(&rt, "a URI");
-    let owned = tried!(&rt; "Uri::to_owned", uri.to_owned(alloc));
-    let normal = tried!(&rt; "Uri::normalize of one that is owned", owned.normalize(alloc));
-    equal(normal.as_str(), "s:~").expect(&rt, "normalize");
+    let owned = copied(&rt, alloc, parsed::<_, UriKind>(&rt, "S:%7e"));
+    is_normalized(&rt, alloc, &owned, "s:~");
     end(&rt, alloc);
 }
 
 #[test]
 fn normal_uri_references(rt: HostRuntime) {
-    let alloc = rt.alloc();
-    let reference = UriRef::<&str>::parse("%7e").expect(&rt, "a reference");
-    let normal = tried!(&rt; "UriRef::normalize", reference.normalize(alloc));
-    equal(normal.as_str(), "~").expect(&rt, "normalize");
-    let owned = tried!(&rt; "UriRef::to_owned", reference.to_owned(alloc));
-    let normal = tried!(&rt; "UriRef::normalize of one that is owned", owned.normalize(alloc));
-    equal(normal.as_str(), "~").expect(&rt, "normalize");
-    end(&rt, alloc);
+    has_normal_form::<_, UriRefKind>(&rt, rt.alloc(), "%7e", "~");
 }
 
 #[test]
 fn normal_iris(rt: HostRuntime) {
-    let alloc = rt.alloc();
-    let iri = Iri::<&str>::parse("S:%c3%a9").expect(&rt, "an IRI");
-    let normal = tried!(&rt; "Iri::normalize", iri.normalize(alloc));
-    equal(normal.as_str(), "s:é").expect(&rt, "normalize");
-    let owned = tried!(&rt; "Iri::to_owned", iri.to_owned(alloc));
-    let normal = tried!(&rt; "Iri::normalize of one that is owned", owned.normalize(alloc));
-    equal(normal.as_str(), "s:é").expect(&rt, "normalize");
-    end(&rt, alloc);
+    has_normal_form::<_, IriKind>(&rt, rt.alloc(), "S:%c3%a9", "s:é");
 }
 
 #[test]
 fn normal_iri_references(rt: HostRuntime) {
-    let alloc = rt.alloc();
-    let reference = IriRef::<&str>::parse("%c3%a9").expect(&rt, "a reference");
-    let normal = tried!(&rt; "IriRef::normalize", reference.normalize(alloc));
-    equal(normal.as_str(), "é").expect(&rt, "normalize");
-    let owned = tried!(&rt; "IriRef::to_owned", reference.to_owned(alloc));
-    let normal = tried!(&rt; "IriRef::normalize of one that is owned", owned.normalize(alloc));
-    equal(normal.as_str(), "é").expect(&rt, "normalize");
-    end(&rt, alloc);
+    has_normal_form::<_, IriRefKind>(&rt, rt.alloc(), "%c3%a9", "é");
 }
 
 /// Formatting characters of bidirectional text are searched for in the decoded text.
@@ -174,7 +141,7 @@ fn normal_forms_by_a_normalizer(rt: HostRuntime) {
     let normalizer = Normalizer::new().allow_path_underflow(false);
     let iri = Iri::<&str>::parse("s:\u{200E}").expect(&rt, "an IRI");
     let normal = tried!(&rt; "Normalizer::normalize", normalizer.normalize(alloc, &iri));
-    equal(normal.as_str(), "s:%E2%80%8E").expect(&rt, "normalize");
+    is_text(&rt, normal.as_str(), "s:%E2%80%8E");
     end(&rt, alloc);
 }
 
@@ -183,10 +150,10 @@ fn uris_of_iris(rt: HostRuntime) {
     let alloc = rt.alloc();
     let iri = Iri::<&str>::parse("s:é").expect(&rt, "an IRI");
     let uri = tried!(&rt; "Iri::to_uri", iri.to_uri(alloc));
-    equal(uri.as_str(), "s:%C3%A9").expect(&rt, "to_uri");
+    is_text(&rt, uri.as_str(), "s:%C3%A9");
     let reference = IriRef::<&str>::parse("é").expect(&rt, "a reference");
     let encoded = tried!(&rt; "IriRef::to_uri_ref", reference.to_uri_ref(alloc));
-    equal(encoded.as_str(), "%C3%A9").expect(&rt, "to_uri_ref");
+    is_text(&rt, encoded.as_str(), "%C3%A9");
     end(&rt, alloc);
 }
 

@@ -3,6 +3,8 @@
 #![tactic(auto)]
 
 #[cfg(test)]
+mod awaits;
+#[cfg(test)]
 mod building;
 #[cfg(test)]
 mod commands;
@@ -15,9 +17,13 @@ mod relatives;
 #[cfg(test)]
 mod requests;
 #[cfg(test)]
+mod streams;
+#[cfg(test)]
 mod targets;
 #[cfg(test)]
 mod texts;
+#[cfg(test)]
+mod values;
 #[cfg(test)]
 mod without_memory;
 #[cfg(test)]

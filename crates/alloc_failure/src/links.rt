@@ -1,5 +1,6 @@
 //! A register of links, which a failed allocation leaves as it was.
-use crate::requests::{end, tell};
+use crate::requests::{end, report};
+use crate::values::is_text;
 use fluent_uri::normalize::{DefaultPort, Normalizer};
 use fluent_uri::{Uri, UriRef};
 use std::alloc::AllocError;
@@ -11,7 +12,7 @@ fn has_targets<R: Abort, P: DefaultPort>(rt: &R, register: &Register<P>, targets
     equal(register.len(), targets.len()).expect(rt, "how many targets");
     for (id, &wanted) in targets.iter().enumerate() {
         let target = register.target(id).expect(rt, wanted);
-        equal(target.as_str(), wanted).expect(rt, wanted);
+        is_text(rt, target.as_str(), wanted);
     }
 }
 
@@ -36,7 +37,7 @@ fn notes<R: Abort + Print, P: DefaultPort>(
     let outcome = match register.note(&base, &reference) {
         Ok(outcome) => outcome,
         Err(AllocError) => {
-            tell(rt, "note");
+            report(rt, "note");
             has_targets(rt, register, held);
             register.note(&base, &reference).expect(rt, text)
         }
@@ -83,7 +84,7 @@ fn links_together(rt: HostRuntime) {
             has_targets(&rt, &register, &["s:/b"]);
         }
         Err(AllocError) => {
-            tell(&rt, "note_all");
+            report(&rt, "note_all");
             has_targets(
                 &rt,
                 &register,

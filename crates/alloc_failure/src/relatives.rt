@@ -1,7 +1,7 @@
 //! References that lead from a base to a target.
 use crate::requests::{end, tried};
+use crate::values::is_text;
 use fluent_uri::{Iri, Uri};
-use test_support::equal;
 use uri_relative::{Relativize, Relativizer};
 
 #[test]
@@ -17,9 +17,9 @@ fn references_between_uris(rt: HostRuntime) {
     ] {
         let target = Uri::<&str>::parse(text).expect(&rt, text);
         let made = tried!(&rt; "Uri::relativize", base.relativize(alloc, &target));
-        equal(made.as_str(), wanted).expect(&rt, text);
+        is_text(&rt, made.as_str(), wanted);
     }
-    equal(base.as_str(), "http://a/b/c/d?p#q").expect(&rt, "the base");
+    is_text(&rt, base.as_str(), "http://a/b/c/d?p#q");
     end(&rt, alloc);
 }
 
@@ -29,8 +29,8 @@ fn references_between_iris(rt: HostRuntime) {
     let base = Iri::<&str>::parse("s:/é/b/").expect(&rt, "a base");
     let target = Iri::<&str>::parse("s:/é/../é/b//c").expect(&rt, "a target");
     let made = tried!(&rt; "Iri::relativize", base.relativize(alloc, &target));
-    equal(made.as_str(), ".//c").expect(&rt, "relativize");
-    equal(target.as_str(), "s:/é/../é/b//c").expect(&rt, "the target");
+    is_text(&rt, made.as_str(), ".//c");
+    is_text(&rt, target.as_str(), "s:/é/../é/b//c");
     end(&rt, alloc);
 }
 
@@ -42,6 +42,6 @@ fn references_longer_than_their_targets(rt: HostRuntime) {
     let relativizer = Relativizer::with_base(base).prefer_relative_path(true);
     let made = tried!(&rt; "Relativizer::relativize", relativizer.relativize(alloc, &target));
     let wanted = "../../../../../../../../../../../z";
-    equal(made.as_str(), wanted).expect(&rt, "relativize");
+    is_text(&rt, made.as_str(), wanted);
     end(&rt, alloc);
 }

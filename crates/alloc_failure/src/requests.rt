@@ -9,79 +9,79 @@ use std::alloc::{AllocError, Global};
 use std::process::Abort;
 
 /// An error that may say that an allocation failed.
-pub trait Refusal {
+pub trait MayBeOutOfMemory {
     fn is_out_of_memory(&self) -> bool;
 }
 
-impl Refusal for AllocError {
+impl MayBeOutOfMemory for AllocError {
     fn is_out_of_memory(&self) -> bool {
         true
     }
 }
 
-impl Refusal for BuildError {
+impl MayBeOutOfMemory for BuildError {
     fn is_out_of_memory(&self) -> bool {
         matches!(*self, BuildError::OutOfMemory)
     }
 }
 
-impl Refusal for DecodeError {
+impl MayBeOutOfMemory for DecodeError {
     fn is_out_of_memory(&self) -> bool {
         matches!(self, DecodeError::OutOfMemory)
     }
 }
 
-impl Refusal for NormalizeError {
+impl MayBeOutOfMemory for NormalizeError {
     fn is_out_of_memory(&self) -> bool {
         matches!(*self, NormalizeError::OutOfMemory)
     }
 }
 
-impl Refusal for ResolveError {
+impl MayBeOutOfMemory for ResolveError {
     fn is_out_of_memory(&self) -> bool {
         matches!(*self, ResolveError::OutOfMemory)
     }
 }
 
-impl Refusal for SocketError {
+impl MayBeOutOfMemory for SocketError {
     fn is_out_of_memory(&self) -> bool {
         matches!(*self, SocketError::OutOfMemory)
     }
 }
 
 /// Prints that an allocation failed in a call.
-pub fn tell<R: Print>(rt: &R, call: &str) {
+pub fn report<R: Print>(rt: &R, call: &str) {
     let _ = println!(rt; "refused: {call}");
 }
 
 /// Makes the allocation after those of a test's calls, with which each test ends. If it is the one
 /// that fails, the calls met no failure, and the test prints so.
 pub fn end<R: Print>(rt: &R, alloc: Global) {
-    if String::from_str(alloc, "behind the calls").is_err() {
+    if String::from_str(alloc, "after the calls").is_err() {
         let _ = println!(rt; "refused none");
     }
 }
 
 /// Returns whether a call succeeded. If not, checks that its error is "out of memory", and prints
 /// so.
-pub fn answers<R: Abort + Print, T: Drop, E: Refusal>(
+pub fn succeeds<R: Abort + Print, T: Drop, E: MayBeOutOfMemory>(
     rt: &R,
     call: &str,
-    answer: &Result<T, E>,
+    called: &Result<T, E>,
 ) -> bool {
-    match answer {
+    match called {
         Ok(_) => true,
         Err(error) => {
-            told(rt, call, error);
+            assert_out_of_memory(rt, call, error);
             false
         }
     }
 }
 
 /// Checks that the error of a call is "out of memory", and prints so.
-pub fn told<R: Abort + Print, E: Refusal>(rt: &R, call: &str, error: &E) {
-    assert!(rt; error.is_out_of_memory(), "{call} answers another error");
-    tell(rt, call);
+pub fn assert_out_of_memory<R: Abort + Print, E: MayBeOutOfMemory>(rt: &R, call: &str, error: &E) {
+    assert!(rt; error.is_out_of_memory(), "{call} returns another error");
+    report(rt, call);
 }
 
 /// The value of a call, or, if an allocation fails, the value of a second call. It is a macro,
@@ -91,7 +91,7 @@ macro_rules! tried {
         match $make {
             Ok(made) => made,
             Err(error) => {
-                $crate::requests::told($rt, $call, &error);
+                $crate::requests::assert_out_of_memory($rt, $call, &error);
                 $make.expect($rt, $call)
             }
         }

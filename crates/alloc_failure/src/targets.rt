@@ -1,36 +1,45 @@
 //! Targets of references against a base.
 use crate::requests::{end, tried};
+use crate::values::is_text;
 use fluent_uri::normalize::Normalizer;
 use fluent_uri::resolve::Resolver;
-use fluent_uri::{Iri, IriRef, Uri, UriRef};
-use test_support::equal;
+use fluent_uri::roles::RefKind;
+use fluent_uri::{Reference, Uri, UriRef};
+use std::alloc::Global;
+use std::convert::AsStr;
+use std::process::Abort;
+use uri_parts::kind::{IriRefKind, UriRefKind};
+
+/// Checks the text of the target.
+fn is_resolved<R: Abort + Print, K: RefKind, T: AsStr>(
+    rt: &R,
+    alloc: Global,
+    base: &Reference<K::Base, &str>,
+    reference: &Reference<K, T>,
+    wanted: &str,
+) {
+    let target = tried!(rt; "resolve_against", reference.resolve_against(alloc, base));
+    is_text(rt, target.as_str(), wanted);
+}
+
+/// Resolves a reference and its copy.
+fn has_target<R: Abort + Print, K: RefKind>(rt: &R, alloc: Global, text: &str, wanted: &str) {
+    let base = Reference::<K::Base, &str>::parse("s://h/a/b").expect(rt, "a base");
+    let reference = Reference::<K, &str>::parse(text).expect(rt, text);
+    is_resolved(rt, alloc, &base, &reference, wanted);
+    let owned = tried!(rt; "to_owned", reference.to_owned(alloc));
+    is_resolved(rt, alloc, &base, &owned, wanted);
+    end(rt, alloc);
+}
 
 #[test]
 fn targets_of_uri_references(rt: HostRuntime) {
-    let alloc = rt.alloc();
-    let base = Uri::<&str>::parse("s://h/a/b").expect(&rt, "a base");
-    let reference = UriRef::<&str>::parse("../c?q").expect(&rt, "a reference");
-    let target = tried!(&rt; "UriRef::resolve_against", reference.resolve_against(alloc, &base));
-    equal(target.as_str(), "s://h/c?q").expect(&rt, "resolve_against");
-    let owned = tried!(&rt; "UriRef::to_owned", reference.to_owned(alloc));
-    let target =
-        tried!(&rt; "resolve_against of an owned UriRef", owned.resolve_against(alloc, &base));
-    equal(target.as_str(), "s://h/c?q").expect(&rt, "resolve_against");
-    end(&rt, alloc);
+    has_target::<_, UriRefKind>(&rt, rt.alloc(), "../c?q", "s://h/c?q");
 }
 
 #[test]
 fn targets_of_iri_references(rt: HostRuntime) {
-    let alloc = rt.alloc();
-    let base = Iri::<&str>::parse("s://h/a/b").expect(&rt, "a base");
-    let reference = IriRef::<&str>::parse("../é?q").expect(&rt, "a reference");
-    let target = tried!(&rt; "IriRef::resolve_against", reference.resolve_against(alloc, &base));
-    equal(target.as_str(), "s://h/é?q").expect(&rt, "resolve_against");
-    let owned = tried!(&rt; "IriRef::to_owned", reference.to_owned(alloc));
-    let target =
-        tried!(&rt; "resolve_against of an owned IriRef", owned.resolve_against(alloc, &base));
-    equal(target.as_str(), "s://h/é?q").expect(&rt, "resolve_against");
-    end(&rt, alloc);
+    has_target::<_, IriRefKind>(&rt, rt.alloc(), "../é?q", "s://h/é?q");
 }
 
 #[test]
@@ -40,7 +49,7 @@ fn targets_by_a_resolver(rt: HostRuntime) {
     let reference = UriRef::<&str>::parse("../c").expect(&rt, "a reference");
     let resolver = Resolver::with_base(base).allow_path_underflow(false);
     let target = tried!(&rt; "Resolver::resolve", resolver.resolve(alloc, &reference));
-    equal(target.as_str(), "s://h/c").expect(&rt, "resolve");
+    is_text(&rt, target.as_str(), "s://h/c");
     end(&rt, alloc);
 }
 
@@ -55,6 +64,6 @@ fn normal_targets(rt: HostRuntime) {
         &rt; "resolve_normalized",
         resolver.resolve_normalized(alloc, &reference, &normalizer)
     );
-    equal(target.as_str(), "s:/~").expect(&rt, "resolve_normalized");
+    is_text(&rt, target.as_str(), "s:/~");
     end(&rt, alloc);
 }

@@ -1,5 +1,6 @@
 //! Texts that are percent-encoded: what grows one, and what decodes it.
-use crate::requests::{answers, end, tell, tried};
+use crate::requests::{end, report, succeeds, tried};
+use crate::values::{holds, is_text};
 use fluent_uri::pct_enc::encoder::{Data, Path};
 use fluent_uri::pct_enc::{CowSlice, CowStr, DecodeError, EStr, EString};
 use std::alloc::AllocError;
@@ -11,31 +12,31 @@ fn path<'a, R: Abort>(rt: &R, text: &'a str) -> EStr<'a, Path> {
 }
 
 /// Checks that a failed growth left the text as it was.
-fn is_left<R: Abort + Print>(rt: &R, call: &str, text: &EString<Path>, left: &str) {
-    tell(rt, call);
-    equal(text.as_str(), left).expect(rt, call);
+fn assert_unchanged<R: Abort + Print>(rt: &R, call: &str, text: &EString<Path>, left: &str) {
+    report(rt, call);
+    is_text(rt, text.as_str(), left);
 }
 
 #[test]
-fn made_and_pushed(rt: HostRuntime) {
+fn new_and_pushed_texts(rt: HostRuntime) {
     let alloc = rt.alloc();
     let made = tried!(&rt; "with_capacity", EString::<Path>::with_capacity(alloc, 9));
-    equal(made.as_str(), "").expect(&rt, "no text");
-    equal(made.capacity() >= 9, true).expect(&rt, "capacity");
+    is_text(&rt, made.as_str(), "");
+    holds(&rt, made.capacity() >= 9, "capacity");
     let owned = tried!(&rt; "to_owned", path(&rt, "a%20b").to_owned(alloc));
-    equal(owned.as_str(), "a%20b").expect(&rt, "a copy");
+    is_text(&rt, owned.as_str(), "a%20b");
     let mut text = EString::<Path>::new(alloc);
     if let Err(AllocError) = text.push('a') {
-        is_left(&rt, "push", &text, "");
+        assert_unchanged(&rt, "push", &text, "");
         text.push('a').expect(&rt, "memory");
     }
-    equal(text.as_str(), "a").expect(&rt, "push");
+    is_text(&rt, text.as_str(), "a");
     let more = path(&rt, "/01234567890123456789");
     if let Err(AllocError) = text.push_estr(more) {
-        is_left(&rt, "push_estr", &text, "a");
+        assert_unchanged(&rt, "push_estr", &text, "a");
         text.push_estr(more).expect(&rt, "memory");
     }
-    equal(text.as_str(), "a/01234567890123456789").expect(&rt, "push_estr");
+    is_text(&rt, text.as_str(), "a/01234567890123456789");
     end(&rt, alloc);
 }
 
@@ -45,11 +46,11 @@ fn encoded_texts(rt: HostRuntime) {
     let mut text = EString::<Path>::new(rt.alloc());
     let more = "é/é/é/é/é";
     if let Err(AllocError) = text.encode_str::<Data>(more) {
-        is_left(&rt, "encode_str", &text, "");
+        assert_unchanged(&rt, "encode_str", &text, "");
         text.encode_str::<Data>(more).expect(&rt, "memory");
     }
     let wanted = "%C3%A9%2F%C3%A9%2F%C3%A9%2F%C3%A9%2F%C3%A9";
-    equal(text.as_str(), wanted).expect(&rt, "encode_str");
+    is_text(&rt, text.as_str(), wanted);
     end(&rt, rt.alloc());
 }
 
@@ -58,10 +59,10 @@ fn encoded_bytes(rt: HostRuntime) {
     let mut text = EString::<Path>::new(rt.alloc());
     let more = b"a\xFF\xC3\xA9 \xC3 b";
     if let Err(AllocError) = text.encode_bytes::<Data>(more) {
-        is_left(&rt, "encode_bytes", &text, "");
+        assert_unchanged(&rt, "encode_bytes", &text, "");
         text.encode_bytes::<Data>(more).expect(&rt, "memory");
     }
-    equal(text.as_str(), "a%FF%C3%A9%20%C3%20b").expect(&rt, "encode_bytes");
+    is_text(&rt, text.as_str(), "a%FF%C3%A9%20%C3%20b");
     end(&rt, rt.alloc());
 }
 
@@ -82,9 +83,9 @@ fn decoded_texts(rt: HostRuntime) {
     let alloc = rt.alloc();
     let text = path(&rt, "0123456%C3%A989");
     let decoded = tried!(&rt; "to_string", text.decode().to_string(alloc));
-    equal(decoded.as_str(), "0123456é89").expect(&rt, "to_string");
+    is_text(&rt, decoded.as_str(), "0123456é89");
     let copied = tried!(&rt; "CowStr::into_owned", CowStr::Borrowed("é").into_owned(alloc));
-    equal(copied.as_str(), "é").expect(&rt, "CowStr::into_owned");
+    is_text(&rt, copied.as_str(), "é");
     end(&rt, alloc);
 }
 
@@ -93,22 +94,22 @@ fn lossy_texts(rt: HostRuntime) {
     let alloc = rt.alloc();
     let text = path(&rt, "0123456%C3%A9%FF89");
     let decoded = tried!(&rt; "to_string_lossy", text.decode().to_string_lossy(alloc));
-    equal(decoded.as_str(), "0123456é\u{FFFD}89").expect(&rt, "to_string_lossy");
+    is_text(&rt, decoded.as_str(), "0123456é\u{FFFD}89");
     end(&rt, alloc);
 }
 
 /// A text that is not UTF-8 gives an error with all of its bytes, or `OutOfMemory`.
 #[test]
-fn bytes_of_no_text(rt: HostRuntime) {
+fn bytes_that_are_not_utf8(rt: HostRuntime) {
     let text = path(&rt, "0123456%FF8%C3%A9%FF");
     match text.decode().to_string(rt.alloc()) {
         Err(DecodeError::NotUtf8(bytes)) => {
             let wanted = b"0123456\xFF8\xC3\xA9\xFF".as_slice();
             equal(bytes.as_slice(), wanted).expect(&rt, "to_string");
         }
-        answer => {
-            let is_answered = answers(&rt, "to_string of no text", &answer);
-            equal(is_answered, false).expect(&rt, "to_string");
+        other => {
+            let has_succeeded = succeeds(&rt, "to_string of no text", &other);
+            equal(has_succeeded, false).expect(&rt, "to_string");
         }
     }
     end(&rt, rt.alloc());

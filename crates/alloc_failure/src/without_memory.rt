@@ -1,36 +1,41 @@
 //! Calls that do not allocate, so that none of them meets a failed allocation.
 use crate::requests::end;
+use crate::values::{encoded, holds, is_encoded, is_text, parsed};
 use fluent_uri::build::Builder;
 use fluent_uri::build::state::FragmentEnd;
-use fluent_uri::component::{Authority, Scheme, SocketError, SocketTarget};
+use fluent_uri::component::{Scheme, SocketError, SocketTarget};
 use fluent_uri::normalize::Normalizer;
 use fluent_uri::pct_enc::encoder::{Fragment, Path};
 use fluent_uri::pct_enc::{CowStr, EStr, EString};
 use fluent_uri::resolve::{ResolveError, Resolver};
-use fluent_uri::{ConvertError, Iri, IriRef, Uri, UriRef};
-use std::process::Abort;
+use fluent_uri::{ConvertError, Iri, IriRef, Reference, Uri, UriRef};
+use std::alloc::Global;
 use test_support::equal;
 use uri_links::links::{Outcome, Register};
+use uri_parts::kind::{IriKind, IriRefKind, Kind, UriKind, UriRefKind};
 
 const TEXT: &str = "s://u@h:1/a/b?q#f";
 
 #[test]
 fn parsed_texts(rt: HostRuntime) {
-    let uri = Uri::<&str>::parse(TEXT).expect(&rt, TEXT);
-    let iri = Iri::<&str>::parse(TEXT).expect(&rt, TEXT);
-    let reference = UriRef::<&str>::parse(TEXT).expect(&rt, TEXT);
-    let wide = IriRef::<&str>::parse(TEXT).expect(&rt, TEXT);
-    equal(uri.scheme().as_str(), "s").expect(&rt, "scheme");
+    let uri = parsed::<_, UriKind>(&rt, TEXT);
+    is_text(&rt, uri.scheme().as_str(), "s");
     let authority = uri.authority().expect(&rt, "authority");
-    equal(authority.userinfo().map(EStr::as_str), Some("u")).expect(&rt, "userinfo");
-    equal(authority.host(), "h").expect(&rt, "host");
-    equal(authority.port().map(EStr::as_str), Some("1")).expect(&rt, "port");
-    equal(iri.path().as_str(), "/a/b").expect(&rt, "path");
-    equal(reference.query().map(EStr::as_str), Some("q")).expect(&rt, "query");
-    equal(wide.fragment().map(EStr::as_str), Some("f")).expect(&rt, "fragment");
-    equal(wide.strip_fragment().as_str(), "s://u@h:1/a/b?q").expect(&rt, "strip_fragment");
-    equal(Uri::<&str>::parse("a b").is_err(), true).expect(&rt, "no URI");
+    is_encoded(&rt, authority.userinfo(), "u");
+    is_text(&rt, authority.host(), "h");
+    is_encoded(&rt, authority.port(), "1");
+    is_text(&rt, parsed::<_, IriKind>(&rt, TEXT).path().as_str(), "/a/b");
+    is_encoded(&rt, parsed::<_, UriRefKind>(&rt, TEXT).query(), "q");
+    let wide = parsed::<_, IriRefKind>(&rt, TEXT);
+    is_encoded(&rt, wide.fragment(), "f");
+    is_text(&rt, wide.strip_fragment().as_str(), "s://u@h:1/a/b?q");
+    holds(&rt, Uri::<&str>::parse("a b").is_err(), "no URI");
     end(&rt, rt.alloc());
+}
+
+/// Returns whether the empty text is of the kind.
+fn is_empty_of_kind<K: Kind>(alloc: Global) -> bool {
+    Reference::<K, String>::parse(String::new(alloc)).is_ok()
 }
 
 #[test]
@@ -38,105 +43,128 @@ fn owned_texts(rt: HostRuntime) {
     let alloc = rt.alloc();
     let mut owned = UriRef::<String>::parse(String::new(alloc)).expect(&rt, "a reference");
     owned.set_fragment(None).expect(&rt, "no fragment");
-    equal(owned.borrow().as_str(), "").expect(&rt, "a reference");
-    let wide = IriRef::from(owned);
-    equal(Iri::try_from(wide).is_err(), true).expect(&rt, "no scheme");
-    equal(IriRef::<String>::parse(String::new(alloc)).is_ok(), true).expect(&rt, "a reference");
-    equal(Uri::<String>::parse(String::new(alloc)).is_err(), true).expect(&rt, "no URI");
-    equal(Iri::<String>::parse(String::new(alloc)).is_err(), true).expect(&rt, "no IRI");
+    is_text(&rt, owned.borrow().as_str(), "");
+    holds(
+        &rt,
+        Iri::try_from(IriRef::from(owned)).is_err(),
+        "no scheme",
+    );
+    holds(&rt, is_empty_of_kind::<IriRefKind>(alloc), "a reference");
+    holds(&rt, !is_empty_of_kind::<UriKind>(alloc), "no URI");
+    holds(&rt, !is_empty_of_kind::<IriKind>(alloc), "no IRI");
     end(&rt, alloc);
 }
 
 #[test]
 fn conversions(rt: HostRuntime) {
-    let iri = Iri::<&str>::parse("s:é").expect(&rt, "an IRI");
-    let refused = Uri::try_from(iri).err();
+    let refused = Uri::try_from(parsed::<_, IriKind>(&rt, "s:é")).err();
     equal(refused, Some(ConvertError::NotAscii { index: 2 })).expect(&rt, "not ASCII");
-    let reference = UriRef::<&str>::parse("/a").expect(&rt, "a reference");
-    equal(Uri::try_from(reference).err(), Some(ConvertError::NoScheme)).expect(&rt, "no scheme");
+    let refused = Uri::try_from(parsed::<_, UriRefKind>(&rt, "/a")).err();
+    equal(refused, Some(ConvertError::NoScheme)).expect(&rt, "no scheme");
     end(&rt, rt.alloc());
 }
 
 #[test]
 fn texts_without_octets(rt: HostRuntime) {
     let alloc = rt.alloc();
-    let path = EStr::<Path>::new("a/b").expect(&rt, "a path");
-    let bytes = path.decode().to_bytes(alloc).expect(&rt, "to_bytes");
-    equal(bytes.as_slice(), b"a/b".as_slice()).expect(&rt, "to_bytes");
+    let path = encoded::<_, Path>(&rt, "a/b");
     let text = path.decode().to_string(alloc).expect(&rt, "to_string");
-    equal(text.as_str(), "a/b").expect(&rt, "to_string");
-    let text = path
-        .decode()
-        .to_string_lossy(alloc)
-        .expect(&rt, "to_string_lossy");
-    equal(text.as_str(), "a/b").expect(&rt, "to_string_lossy");
-    equal(path.split('/').next().map(EStr::as_str), Some("a")).expect(&rt, "split");
-    equal(EStr::<Path>::encode_byte(255).as_str(), "%FF").expect(&rt, "encode_byte");
-    let mut grown = EString::<Path>::new(alloc);
-    grown.clear();
-    equal((grown.capacity(), grown.as_str()), (0, "")).expect(&rt, "EString::new");
-    let octets = EStr::<Path>::new("%C3").expect(&rt, "a path");
-    equal(octets.decode().count(), 1).expect(&rt, "decode");
+    is_text(&rt, text.as_str(), "a/b");
+    let text = path.decode().to_string_lossy(alloc);
+    is_text(&rt, text.expect(&rt, "to_string_lossy").as_str(), "a/b");
+    is_encoded(&rt, path.split('/').next(), "a");
     end(&rt, alloc);
 }
 
-fn authority<'a, R: Abort>(
-    rt: &R,
-    text: &'a str,
-) -> Option<
-    Authority<'a, fluent_uri::pct_enc::encoder::Userinfo, fluent_uri::pct_enc::encoder::RegName>,
-> {
-    UriRef::<&str>::parse(text).expect(rt, text).authority()
+#[test]
+fn bytes_without_octets(rt: HostRuntime) {
+    let alloc = rt.alloc();
+    let bytes = encoded::<_, Path>(&rt, "a/b").decode().to_bytes(alloc);
+    equal(bytes.expect(&rt, "to_bytes").as_slice(), b"a/b".as_slice()).expect(&rt, "to_bytes");
+    end(&rt, alloc);
+}
+
+#[test]
+fn octets(rt: HostRuntime) {
+    is_text(&rt, EStr::<Path>::encode_byte(255).as_str(), "%FF");
+    equal(encoded::<_, Path>(&rt, "%C3").decode().count(), 1).expect(&rt, "decode");
+    let mut grown = EString::<Path>::new(rt.alloc());
+    grown.clear();
+    equal((grown.capacity(), grown.as_str()), (0, "")).expect(&rt, "EString::new");
+    end(&rt, rt.alloc());
 }
 
 #[test]
 fn where_to_connect(rt: HostRuntime) {
     let alloc = rt.alloc();
-    let named = authority(&rt, "//h").expect(&rt, "an authority");
-    match named.socket_target(alloc, 1).expect(&rt, "a name") {
+    let named = parsed::<_, UriRefKind>(&rt, "//h").authority();
+    match named
+        .expect(&rt, "//h")
+        .socket_target(alloc, 1)
+        .expect(&rt, "a name")
+    {
         SocketTarget::Name(CowStr::Borrowed(name), port) => {
             equal((name, port), ("h", 1)).expect(&rt, "a name");
         }
         _ => assert!(rt; false, "another target"),
     }
-    let far = authority(&rt, "//%41:65536").expect(&rt, "an authority");
-    let refused = far.socket_target(alloc, 1).err();
-    equal(refused, Some(SocketError::InvalidPort)).expect(&rt, "a port");
-    equal(
-        Scheme::new("http").expect(&rt, "a scheme").default_port(),
-        Some(80),
-    )
-    .expect(&rt, "a port");
     end(&rt, alloc);
 }
 
 #[test]
+fn ports(rt: HostRuntime) {
+    let far = parsed::<_, UriRefKind>(&rt, "//%41:65536").authority();
+    let refused = far.expect(&rt, "an authority").socket_target(rt.alloc(), 1);
+    equal(refused.err(), Some(SocketError::InvalidPort)).expect(&rt, "a port");
+    let scheme = Scheme::new("http").expect(&rt, "a scheme");
+    equal(scheme.default_port(), Some(80)).expect(&rt, "a port");
+    end(&rt, rt.alloc());
+}
+
+/// Bases against which `//g` has no target, each with the error.
+const REFUSED: &[(&str, ResolveError)] = &[
+    ("foo:bar", ResolveError::InvalidReferenceAgainstOpaqueBase),
+    ("s:/a#f", ResolveError::BaseWithFragment),
+];
+
+#[test]
 fn references_without_a_target(rt: HostRuntime) {
     let alloc = rt.alloc();
-    let normalizer = Normalizer::new();
-    let reference = UriRef::<&str>::parse("//g").expect(&rt, "a reference");
-    let mut register = Register::new(alloc, Normalizer::new());
-    for (text, error) in [
-        ("foo:bar", ResolveError::InvalidReferenceAgainstOpaqueBase),
-        ("s:/a#f", ResolveError::BaseWithFragment),
-    ] {
-        let base = Uri::<&str>::parse(text).expect(&rt, text);
+    let reference = parsed::<_, UriRefKind>(&rt, "//g");
+    for &(text, error) in REFUSED {
+        let base = parsed::<_, UriKind>(&rt, text);
         equal(reference.resolve_against(alloc, &base).err(), Some(error)).expect(&rt, text);
-        let resolver = Resolver::with_base(base);
+    }
+    let wide = parsed::<_, IriRefKind>(&rt, "//g");
+    let base = parsed::<_, IriKind>(&rt, "foo:bar");
+    let error = ResolveError::InvalidReferenceAgainstOpaqueBase;
+    equal(wide.resolve_against(alloc, &base).err(), Some(error)).expect(&rt, "an IRI");
+    end(&rt, alloc);
+}
+
+#[test]
+fn resolvers_without_a_target(rt: HostRuntime) {
+    let alloc = rt.alloc();
+    let reference = parsed::<_, UriRefKind>(&rt, "//g");
+    for &(text, error) in REFUSED {
+        let resolver = Resolver::with_base(parsed::<_, UriKind>(&rt, text));
         equal(resolver.resolve(alloc, &reference).err(), Some(error)).expect(&rt, text);
-        let refused = resolver
-            .resolve_normalized(alloc, &reference, &normalizer)
-            .err();
-        equal(refused, Some(error)).expect(&rt, text);
+        let refused = resolver.resolve_normalized(alloc, &reference, &Normalizer::new());
+        equal(refused.err(), Some(error)).expect(&rt, text);
+    }
+    end(&rt, alloc);
+}
+
+#[test]
+fn links_without_a_target(rt: HostRuntime) {
+    let reference = parsed::<_, UriRefKind>(&rt, "//g");
+    let mut register = Register::new(rt.alloc(), Normalizer::new());
+    for &(text, error) in REFUSED {
+        let base = parsed::<_, UriKind>(&rt, text);
         let outcome = register.note(&base, &reference).expect(&rt, text);
         equal(outcome, Outcome::Refused(error)).expect(&rt, text);
     }
-    let wide = IriRef::<&str>::parse("//g").expect(&rt, "a reference");
-    let base = Iri::<&str>::parse("foo:bar").expect(&rt, "an IRI");
-    let refused = wide.resolve_against(alloc, &base).err();
-    let error = ResolveError::InvalidReferenceAgainstOpaqueBase;
-    equal(refused, Some(error)).expect(&rt, "an IRI");
-    end(&rt, alloc);
+    end(&rt, rt.alloc());
 }
 
 #[test]
@@ -147,12 +175,12 @@ fn builders_of_nothing(rt: HostRuntime) {
         .optional(Builder::query, None)
         .advance::<FragmentEnd>()
         .build();
-    equal(built.expect(&rt, "a reference").as_str(), "").expect(&rt, "a reference");
+    is_text(&rt, built.expect(&rt, "a reference").as_str(), "");
     let none: Option<EStr<'_, Fragment>> = None;
     let built = UriRef::<String>::builder(alloc)
         .path(EStr::EMPTY)
         .optional(Builder::fragment, none)
         .build();
-    equal(built.is_ok(), true).expect(&rt, "a reference");
+    holds(&rt, built.is_ok(), "a reference");
     end(&rt, alloc);
 }

@@ -1,52 +1,62 @@
 //! More calls that make no request for memory: tests of presence, hosts and ports, texts of an
 //! encoder, tables, addresses, and the setters.
 use crate::requests::end;
-use fluent_uri::component::{HostOf, Scheme};
+use crate::values::{encoded, holds, is_text, parsed};
+use fluent_uri::component::{Authority, HostOf, Scheme};
 use fluent_uri::net::{IpAddr, Ipv4Addr, Ipv6Addr};
 use fluent_uri::normalize::{DefaultPort, Normalizer, SchemeDefaults};
 use fluent_uri::pct_enc::encoder::{Encoder, Path, Query};
 use fluent_uri::pct_enc::{EStr, EString, Table, table};
 use fluent_uri::resolve::Resolver;
-use fluent_uri::{Iri, IriRef, Uri, UriRef};
+use fluent_uri::{IriRef, Uri, UriRef};
+use std::process::Abort;
 use test_support::equal;
+use uri_parts::kind::{IriKind, IriRefKind, Kind, UriKind, UriRefKind};
 
 const TEXT: &str = "s://u@h:1/a/b?q#f";
 
+/// Returns whether a value of each kind has an authority, a query and a fragment.
+fn has_components<R: Abort, K: Kind>(rt: &R) -> bool {
+    let value = parsed::<_, K>(rt, TEXT);
+    value.has_authority() && value.has_query() && value.has_fragment()
+}
+
 #[test]
 fn presence_of_components(rt: HostRuntime) {
-    let uri = Uri::<&str>::parse(TEXT).expect(&rt, TEXT);
-    let has = [uri.has_authority(), uri.has_query(), uri.has_fragment()];
-    equal(has, [true; 3]).expect(&rt, "Uri");
-    let iri = Iri::<&str>::parse(TEXT).expect(&rt, TEXT);
-    let has = [iri.has_authority(), iri.has_query(), iri.has_fragment()];
-    equal(has, [true; 3]).expect(&rt, "Iri");
-    let reference = UriRef::<&str>::parse(TEXT).expect(&rt, TEXT);
-    let has = [reference.has_scheme(), reference.has_authority()];
-    equal(has, [true; 2]).expect(&rt, "UriRef");
-    let has = [reference.has_query(), reference.has_fragment()];
-    equal(has, [true; 2]).expect(&rt, "UriRef");
-    let wide = IriRef::<&str>::parse(TEXT).expect(&rt, TEXT);
-    let has = [wide.has_scheme(), wide.has_authority()];
-    equal(has, [true; 2]).expect(&rt, "IriRef");
-    let has = [wide.has_query(), wide.has_fragment()];
-    equal(has, [true; 2]).expect(&rt, "IriRef");
+    holds(&rt, has_components::<_, UriKind>(&rt), "Uri");
+    holds(&rt, has_components::<_, IriKind>(&rt), "Iri");
+    holds(&rt, has_components::<_, UriRefKind>(&rt), "UriRef");
+    holds(&rt, has_components::<_, IriRefKind>(&rt), "IriRef");
+    holds(
+        &rt,
+        parsed::<_, UriRefKind>(&rt, TEXT).has_scheme(),
+        "UriRef",
+    );
+    holds(
+        &rt,
+        parsed::<_, IriRefKind>(&rt, TEXT).has_scheme(),
+        "IriRef",
+    );
     end(&rt, rt.alloc());
+}
+
+/// Returns the version of the address in brackets or of the IPv4 address, or 0.
+fn version_of<U: Encoder, N: Encoder>(authority: Authority<'_, U, N>) -> u8 {
+    match authority.host_parsed() {
+        HostOf::Ipv4(_) => 4,
+        HostOf::Ipv6(_) => 6,
+        HostOf::IpvFuture => 7,
+        HostOf::RegName(_) => 0,
+    }
 }
 
 #[test]
 fn hosts_and_ports(rt: HostRuntime) {
     for (text, wanted) in [("//127.0.0.1:80", 4), ("//[::1]:80", 6), ("//[v1.a]:80", 7)] {
-        let reference = UriRef::<&str>::parse(text).expect(&rt, text);
-        let authority = reference.authority().expect(&rt, text);
-        let has = [authority.has_userinfo(), authority.has_port()];
-        equal(has, [false, true]).expect(&rt, text);
-        let host = match authority.host_parsed() {
-            HostOf::Ipv4(_) => 4,
-            HostOf::Ipv6(_) => 6,
-            HostOf::IpvFuture => 7,
-            HostOf::RegName(_) => 0,
-        };
-        equal(host, wanted).expect(&rt, text);
+        let authority = parsed::<_, UriRefKind>(&rt, text).authority();
+        let authority = authority.expect(&rt, text);
+        holds(&rt, !authority.has_userinfo() && authority.has_port(), text);
+        equal(version_of(authority), wanted).expect(&rt, text);
         equal(authority.port_to_u16().ok(), Some(Some(80))).expect(&rt, text);
     }
     end(&rt, rt.alloc());
@@ -54,22 +64,27 @@ fn hosts_and_ports(rt: HostRuntime) {
 
 #[test]
 fn texts_of_encoders(rt: HostRuntime) {
-    let alloc = rt.alloc();
-    let path = EStr::<Path>::new("a/b").expect(&rt, "a path");
+    let path = encoded::<_, Path>(&rt, "a/b");
     assert!(rt; Path::table().is_subset(&Query::table()));
-    equal(path.upcast::<Query>().as_str(), "a/b").expect(&rt, "upcast");
+    is_text(&rt, path.upcast::<Query>().as_str(), "a/b");
     let (before, after) = path.split_once('/').expect(&rt, "split_once");
-    equal((before.as_str(), after.as_str()), ("a", "b")).expect(&rt, "split_once");
-    equal(path.rsplit_once('/').is_some(), true).expect(&rt, "rsplit_once");
-    equal(EStr::<Path>::default().as_str(), "").expect(&rt, "Default");
-    let empty = EString::<Path>::new(alloc);
-    equal(empty.as_estr().as_str(), "").expect(&rt, "as_estr");
-    equal(empty.into_string().as_str(), "").expect(&rt, "into_string");
-    let reference = UriRef::<String>::parse(String::new(alloc)).expect(&rt, "a reference");
-    equal(reference.into_string().as_str(), "").expect(&rt, "into_string");
-    equal(UriRef::<&str>::default().as_str(), "").expect(&rt, "Default");
-    equal(IriRef::<&str>::default().as_str(), "").expect(&rt, "Default");
-    end(&rt, alloc);
+    is_text(&rt, before.as_str(), "a");
+    is_text(&rt, after.as_str(), "b");
+    holds(&rt, path.rsplit_once('/').is_some(), "rsplit_once");
+    is_text(&rt, EStr::<Path>::default().as_str(), "");
+    end(&rt, rt.alloc());
+}
+
+#[test]
+fn empty_texts(rt: HostRuntime) {
+    let empty = EString::<Path>::new(rt.alloc());
+    is_text(&rt, empty.as_estr().as_str(), "");
+    is_text(&rt, empty.into_string().as_str(), "");
+    let reference = UriRef::<String>::parse(String::new(rt.alloc())).expect(&rt, "a reference");
+    is_text(&rt, reference.into_string().as_str(), "");
+    is_text(&rt, UriRef::<&str>::default().as_str(), "");
+    is_text(&rt, IriRef::<&str>::default().as_str(), "");
+    end(&rt, rt.alloc());
 }
 
 #[test]
@@ -80,9 +95,9 @@ fn tables(rt: HostRuntime) {
     let allows = ['a', 'b', 'c'].map(|ch| letters.allows(ch));
     equal(allows, [true, false, true]).expect(&rt, "letters");
     let wider = letters.or_pct_encoded().or_ucschar().or_iprivate();
-    equal(wider.allows_pct_encoded(), true).expect(&rt, "octets");
-    equal(letters.is_subset(&wider), true).expect(&rt, "a subset");
-    equal(table::ALPHA.is_subset(&table::UNRESERVED), true).expect(&rt, "letters");
+    holds(&rt, wider.allows_pct_encoded(), "octets");
+    holds(&rt, letters.is_subset(&wider), "a subset");
+    holds(&rt, table::ALPHA.is_subset(&table::UNRESERVED), "letters");
     end(&rt, rt.alloc());
 }
 
@@ -95,8 +110,8 @@ fn addresses(rt: HostRuntime) {
     equal(v4.octets(), [127, 0, 0, 1]).expect(&rt, "octets");
     equal(v6.segments(), [0, 0, 0, 0, 0, 0, 0, 1]).expect(&rt, "segments");
     let (first, second) = (IpAddr::V4(v4), IpAddr::V6(v6));
-    equal(first < second, true).expect(&rt, "order");
-    equal(IpAddr::from(second.to_std()) == second, true).expect(&rt, "std");
+    holds(&rt, first < second, "order");
+    holds(&rt, IpAddr::from(second.to_std()) == second, "std");
     end(&rt, rt.alloc());
 }
 

@@ -1,12 +1,12 @@
 //! What `uritool` prints for given words, and the status that it ends with.
-use crate::writers::{Slow, Takes};
+use crate::writers::{FailsAfter, Slow};
 use fluent_uri::UriRef;
 use fluent_uri::resolve::ResolveError;
 use std::alloc::{AllocError, Global};
 use std::io::Write;
 use std::process::Abort;
 use test_support::{equal, prints};
-use uri_commands::refusal::Refusal;
+use uri_commands::refusal::CommandError;
 use uri_commands::run::run;
 
 const USAGE: &str =
@@ -28,7 +28,7 @@ fn run_words<O: Write, E: Write>(
     for word in words {
         owned.push(String::from_str(alloc, word)?)?;
     }
-    Ok(run(alloc, owned.as_slice(), out, err))
+    Ok(run(alloc, owned.as_slice(), out, err).status)
 }
 
 fn ends_with<R: Abort>(rt: &R, alloc: Global, words: &[&str], status: u8, out: &str, err: &str) {
@@ -40,7 +40,7 @@ fn ends_with<R: Abort>(rt: &R, alloc: Global, words: &[&str], status: u8, out: &
 }
 
 /// Words, and what they have printed.
-const ANSWERED: &[(&[&str], &str)] = &[
+const SUCCESSES: &[(&[&str], &str)] = &[
     // Components of a URI reference.
     (&["parse", "uri-ref", ""], "path=\n"),
     (&["parse", "uri-ref", "a/b"], "path=a/b\n"),
@@ -122,14 +122,14 @@ const ANSWERED: &[(&[&str], &str)] = &[
 ];
 
 #[test]
-fn prints_answers(rt: HostRuntime) {
-    for &(words, out) in ANSWERED {
+fn prints_outputs(rt: HostRuntime) {
+    for &(words, out) in SUCCESSES {
         ends_with(&rt, rt.alloc(), words, 0, out, "");
     }
 }
 
 /// Words, and the line that says why they are rejected.
-const REFUSED: &[(&[&str], &str)] = &[
+const REJECTIONS: &[(&[&str], &str)] = &[
     // A text to parse.
     (
         &["parse", "uri", "foo"],
@@ -221,8 +221,8 @@ const REFUSED: &[(&[&str], &str)] = &[
 ];
 
 #[test]
-fn says_why_words_are_refused(rt: HostRuntime) {
-    for &(words, err) in REFUSED {
+fn prints_why_words_are_rejected(rt: HostRuntime) {
+    for &(words, err) in REJECTIONS {
         ends_with(&rt, rt.alloc(), words, 1, "", err);
     }
 }
@@ -243,15 +243,15 @@ fn says_what_the_errors_say(rt: HostRuntime) {
     for &text in FAULTS {
         let error = UriRef::<&str>::parse(text).err().expect(&rt, text);
         let said = format!(in alloc; "{error}").expect(&rt, "memory");
-        prints(alloc, &Refusal::Text(error), said.as_str()).expect(&rt, text);
+        prints(alloc, &CommandError::Text(error), said.as_str()).expect(&rt, text);
         let said = format!(in alloc; "base: {error}").expect(&rt, "memory");
-        prints(alloc, &Refusal::Base(error), said.as_str()).expect(&rt, text);
+        prints(alloc, &CommandError::Base(error), said.as_str()).expect(&rt, text);
         let said = format!(in alloc; "reference: {error}").expect(&rt, "memory");
-        prints(alloc, &Refusal::Reference(error), said.as_str()).expect(&rt, text);
+        prints(alloc, &CommandError::Reference(error), said.as_str()).expect(&rt, text);
     }
     for &error in RESOLVE_ERRORS {
         let said = format!(in alloc; "{error}").expect(&rt, "memory");
-        prints(alloc, &Refusal::Target(error), said.as_str()).expect(&rt, "target");
+        prints(alloc, &CommandError::Target(error), said.as_str()).expect(&rt, "target");
     }
 }
 
@@ -284,7 +284,7 @@ fn shows_usage(rt: HostRuntime) {
 /// That the output fails after so many writes, and that this is said.
 fn output_fails<R: Abort>(rt: &R, alloc: Global, words: &[&str], writes: usize) {
     let mut err = Vec::new(alloc);
-    let status = run_words(alloc, words, &mut Takes(writes), &mut err).expect(rt, "memory");
+    let status = run_words(alloc, words, &mut FailsAfter(writes), &mut err).expect(rt, "memory");
     equal((words, writes, status), (words, writes, 1)).expect(rt, "status");
     equal(err.as_slice(), b"error: output failed\n".as_slice()).expect(rt, "error output");
 }
@@ -300,15 +300,15 @@ fn says_that_the_output_failed(rt: HostRuntime) {
     for writes in 0..3 {
         output_fails(&rt, alloc, &["links", "foo:bar", "//g", "foo:x"], writes);
     }
-    let status = run_words(alloc, WHOLE, &mut Takes(100), &mut Vec::new(alloc));
+    let status = run_words(alloc, WHOLE, &mut FailsAfter(100), &mut Vec::new(alloc));
     equal(status.expect(&rt, "memory"), 0).expect(&rt, "status");
 }
 
 /// Returns whether the words succeed if the output takes this many writes. If not, the error line
 /// says that the output failed.
-fn is_answered<R: Abort>(rt: &R, alloc: Global, words: &[&str], writes: usize) -> bool {
+fn succeeds_with_writes<R: Abort>(rt: &R, alloc: Global, words: &[&str], writes: usize) -> bool {
     let mut err = Vec::new(alloc);
-    let status = run_words(alloc, words, &mut Takes(writes), &mut err).expect(rt, "memory");
+    let status = run_words(alloc, words, &mut FailsAfter(writes), &mut err).expect(rt, "memory");
     let line = if status == 0 {
         ""
     } else {
@@ -323,22 +323,22 @@ fn is_answered<R: Abort>(rt: &R, alloc: Global, words: &[&str], writes: usize) -
 #[test]
 fn each_write_fails(rt: HostRuntime) {
     let alloc = rt.alloc();
-    for &(words, _) in ANSWERED {
+    for &(words, _) in SUCCESSES {
         let mut is_done = false;
         for writes in 0..100 {
-            is_done = is_done || is_answered(&rt, alloc, words, writes);
+            is_done = is_done || succeeds_with_writes(&rt, alloc, words, writes);
         }
         equal((words, is_done), (words, true)).expect(&rt, "an answer at last");
     }
-    for &(words, _) in REFUSED {
+    for &(words, _) in REJECTIONS {
         for writes in 0..2 {
-            let status = run_words(alloc, words, &mut Vec::new(alloc), &mut Takes(writes));
+            let status = run_words(alloc, words, &mut Vec::new(alloc), &mut FailsAfter(writes));
             equal(status.expect(&rt, "memory"), 1).expect(&rt, "status");
         }
     }
     for &words in OTHERS {
         for writes in 0..2 {
-            let status = run_words(alloc, words, &mut Vec::new(alloc), &mut Takes(writes));
+            let status = run_words(alloc, words, &mut Vec::new(alloc), &mut FailsAfter(writes));
             equal(status.expect(&rt, "memory"), 2).expect(&rt, "status");
         }
     }
@@ -356,14 +356,14 @@ const WITHOUT_ERRORS: &[(&[&str], u8)] = &[
 ];
 
 #[test]
-fn ends_alike_without_errors_shown(rt: HostRuntime) {
+fn status_is_the_same_if_error_output_fails(rt: HostRuntime) {
     let alloc = rt.alloc();
     for &(words, wanted) in WITHOUT_ERRORS {
-        let status = run_words(alloc, words, &mut Vec::new(alloc), &mut Takes(0));
+        let status = run_words(alloc, words, &mut Vec::new(alloc), &mut FailsAfter(0));
         let status = status.expect(&rt, "memory");
         equal((words, status), (words, wanted)).expect(&rt, "status");
     }
-    let status = run_words(alloc, WHOLE, &mut Takes(0), &mut Takes(0));
+    let status = run_words(alloc, WHOLE, &mut FailsAfter(0), &mut FailsAfter(0));
     equal(status.expect(&rt, "memory"), 1).expect(&rt, "status");
 }
 

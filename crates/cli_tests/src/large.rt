@@ -8,9 +8,9 @@ const LENGTH: usize = 10_000_000;
 /// A prefix, and the unit that is repeated after it.
 type Large = (&'static str, &'static str);
 
-fn repeated(alloc: Global, (front, unit): Large, times: usize) -> Result<String, AllocError> {
+fn repeated(alloc: Global, (prefix, unit): Large, times: usize) -> Result<String, AllocError> {
     let units = unit.repeat(alloc, times)?;
-    format!(in alloc; "{front}{units}")
+    format!(in alloc; "{prefix}{units}")
 }
 
 /// What the words and then a text of so many units end with, and what they have printed.
@@ -26,12 +26,12 @@ fn run_on(
     }
     owned.push(repeated(alloc, text, times)?)?;
     let (mut out, mut err) = (Vec::new(alloc), Vec::new(alloc));
-    let status = run(alloc, owned.as_slice(), &mut out, &mut err);
+    let status = run(alloc, owned.as_slice(), &mut out, &mut err).status;
     Ok((status, out, err))
 }
 
 /// Words, the text after them, and the line that they print, which has as many units.
-const ANSWERED: &[(&[&str], Large, Large)] = &[
+const SUCCESSES: &[(&[&str], Large, Large)] = &[
     (&["parse", "uri-ref"], ("", "/a"), ("path=", "/a")),
     (&["parse", "iri-ref"], ("?", "é"), ("path=\nquery=", "é")),
     (&["normalize", "uri-ref"], ("", "%41"), ("", "A")),
@@ -46,9 +46,9 @@ const ANSWERED: &[(&[&str], Large, Large)] = &[
 ];
 
 #[test]
-fn prints_answers(rt: HostRuntime) {
+fn prints_outputs(rt: HostRuntime) {
     let alloc = rt.alloc();
-    for &(words, text, line) in ANSWERED {
+    for &(words, text, line) in SUCCESSES {
         let times = LENGTH / text.1.len().max(1);
         let (status, out, err) = run_on(alloc, words, text, times).expect(&rt, text.1);
         let mut wanted = repeated(alloc, line, times).expect(&rt, text.1);
@@ -60,7 +60,7 @@ fn prints_answers(rt: HostRuntime) {
 }
 
 /// Words, the text after them, and the line that says why it is rejected.
-const REFUSED: &[(&[&str], Large, &str)] = &[
+const REJECTIONS: &[(&[&str], Large, &str)] = &[
     (
         &["parse", "uri-ref"],
         ("", "["),
@@ -84,8 +84,8 @@ const REFUSED: &[(&[&str], Large, &str)] = &[
 ];
 
 #[test]
-fn says_why_texts_are_refused(rt: HostRuntime) {
-    for &(words, text, line) in REFUSED {
+fn prints_why_texts_are_rejected(rt: HostRuntime) {
+    for &(words, text, line) in REJECTIONS {
         let (status, out, err) = run_on(rt.alloc(), words, text, LENGTH).expect(&rt, text.1);
         equal((words, text, status), (words, text, 1)).expect(&rt, "status");
         equal(out.as_slice(), b"".as_slice()).expect(&rt, "output");

@@ -1,11 +1,12 @@
 //! What the programs of the calling guide print for stored lines, and what its functions return.
-use cookbook::pairs::{Pair, query_of};
+use cookbook::frontier::Frontier;
+use cookbook::links::print_page;
+use cookbook::pairs::{Pair, print_pairs, query_of};
 use cookbook::parts::parts_of;
 use cookbook::reach::reach;
-use cookbook::refusal::Refusal;
+use cookbook::refusal::Failure;
 use cookbook::segments::{PathError, path_of};
 use cookbook::service::resource;
-use cookbook::task::Task;
 use cookbook::visits::count_visit;
 use fluent_uri::Uri;
 use fluent_uri::component::SocketTarget;
@@ -22,24 +23,46 @@ fn owned(alloc: Global, words: &[&str]) -> Result<Vec<String>, AllocError> {
     Ok(owned)
 }
 
-/// Returns what is printed for the lines, and how many are rejected.
-fn run(alloc: Global, words: &[&str], lines: &[&str]) -> Result<(Vec<u8>, usize), Refusal> {
-    let mut task = Task::from_words(alloc, owned(alloc, words)?.as_slice())?.unwrap_or(Task::Query);
-    let mut out = Vec::new(alloc);
-    let mut refused: usize = 0;
-    for &line in lines {
-        if task.print_line(alloc, line, &mut out).is_err() {
-            refused = refused.saturating_add(1);
-        }
-    }
-    Ok((out, refused))
+/// What is printed for a line, and what else it comes to.
+enum Printing<'a> {
+    /// By `Frontier::print_new`.
+    New,
+    /// By `print_page`, with this base.
+    Page(&'a str),
+    /// By `print_pairs`.
+    Pairs,
 }
 
-/// Words, lines, what they print, and how many lines are rejected.
-const RUNS: &[(&[&str], &[&str], &str, usize)] = &[
+/// Returns what is printed for the lines, and how many are rejected.
+fn run(
+    alloc: Global,
+    printing: &Printing<'_>,
+    lines: &[&str],
+) -> Result<(Vec<u8>, usize), Failure> {
+    let mut frontier = Frontier::new(alloc);
+    let mut out = Vec::new(alloc);
+    let mut rejected: usize = 0;
+    for &line in lines {
+        let printed = match printing {
+            Printing::New => frontier.print_new(alloc, line, &mut out),
+            Printing::Page(base) => {
+                let base = Uri::<&str>::parse(base)?.to_owned(alloc)?;
+                print_page(alloc, &base, line, &mut out)
+            }
+            Printing::Pairs => print_pairs(alloc, line, &mut out),
+        };
+        if printed.is_err() {
+            rejected = rejected.saturating_add(1);
+        }
+    }
+    Ok((out, rejected))
+}
+
+/// What is printed, lines, the output, and how many lines are rejected.
+const RUNS: &[(Printing<'static>, &[&str], &str, usize)] = &[
     // RFC 3986, section 6.2.2: case, octets, dot segments and the default port.
     (
-        &["frontier"],
+        Printing::New,
         &[
             "http://a/b",
             "HTTP://A:80/c/../%62",
@@ -53,16 +76,16 @@ const RUNS: &[(&[&str], &[&str], &str, usize)] = &[
     ),
     // RFC 3986, section 5.4, without the fragments.
     (
-        &["links", "http://a/b/c/d;p?q"],
+        Printing::Page("http://a/b/c/d;p?q"),
         &["g:h", "g?y#s", "#s", "//g", "../../../g", "g;x=1/../y", "%"],
         "g:h\nhttp://a/b/c/g?y\nhttp://a/b/c/d;p?q\nhttp://g\nhttp://a/g\nhttp://a/b/c/y\n",
         1,
     ),
     // RFC 3986, section 5.1: a base has no fragment when it is used.
-    (&["links", "http://a/b#c"], &["d"], "", 1),
+    (Printing::Page("http://a/b#c"), &["d"], "", 1),
     // RFC 3986, sections 2.1 and 2.4: `&` and `=` as data are octets, and so is `é` by its UTF-8.
     (
-        &["query"],
+        Printing::Pairs,
         &["name=ferret&page=2%263", "a=b=c&&caf%C3%A9", "#"],
         "name is ferret\npage is 2&3\nname=ferret&page=2%263\n\
          a is b=c\ncafé is \na=b%3Dc&caf%C3%A9=\n",
@@ -72,10 +95,10 @@ const RUNS: &[(&[&str], &[&str], &str, usize)] = &[
 
 #[test]
 fn prints_what_stored_lines_come_to(rt: HostRuntime) {
-    for &(words, lines, out, refused) in RUNS {
-        let got = run(rt.alloc(), words, lines).expect(&rt, out);
+    for (printing, lines, out, rejected) in RUNS {
+        let got = run(rt.alloc(), printing, lines).expect(&rt, out);
         equal(got.0.as_slice(), out.as_bytes()).expect(&rt, out);
-        equal(got.1, refused).expect(&rt, out);
+        equal(got.1, *rejected).expect(&rt, out);
     }
 }
 

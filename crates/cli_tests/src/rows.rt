@@ -1,6 +1,6 @@
 //! What `vectors` prints for rows that hold, for rows that differ and for malformed rows, and the
 //! status that it ends with.
-use crate::writers::Takes;
+use crate::writers::FailsAfter;
 use std::alloc::Global;
 use std::process::Abort;
 use test_support::equal;
@@ -102,7 +102,7 @@ fn failing_write_is_status_one(rt: HostRuntime) {
     let mut rows: Vec<Row<'_>> = Vec::new(alloc);
     push_rows(alloc, "f", row.as_bytes(), &mut rows).expect(&rt, row);
     for writes in 0..2 {
-        let status = run(alloc, rows.as_slice(), &mut Takes(writes));
+        let status = run(alloc, rows.as_slice(), &mut FailsAfter(writes));
         equal((writes, status), (writes, 1)).expect(&rt, "status");
     }
 }

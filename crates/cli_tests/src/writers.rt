@@ -1,11 +1,11 @@
 //! Writers that fail.
 use std::io::{self, ErrorKind, Write};
 
-/// Takes so many writes, and fails after them.
+/// A writer that fails after so many writes.
 #[derive(Drop)]
-pub struct Takes(pub usize);
+pub struct FailsAfter(pub usize);
 
-impl Write for Takes {
+impl Write for FailsAfter {
     fn write(&mut self, buf: &[u8]) -> io::Result<usize> {
         if self.0 == 0 {
             return Err(io::Error::from(ErrorKind::BrokenPipe));
@@ -19,7 +19,7 @@ impl Write for Takes {
     }
 }
 
-/// Takes one byte a write, and is interrupted before each.
+/// A writer that gets one byte a write, and is interrupted before each.
 #[derive(Drop)]
 pub struct Slow {
     pub taken: Vec<u8>,

@@ -3,6 +3,7 @@ use fluent_uri::UriRef;
 use fluent_uri::component::HostOf;
 use fluent_uri::net::{IpAddr, Ipv4Addr, Ipv6Addr};
 use std::net;
+use std::process::Abort;
 use test_support::{equal, prints};
 
 #[test]
@@ -19,7 +20,7 @@ fn addresses_are_ordered_by_their_numbers(rt: HostRuntime) {
 }
 
 #[test]
-fn authorities_print_as_they_stand(rt: HostRuntime) {
+fn authorities_print_unchanged(rt: HostRuntime) {
     let alloc = rt.alloc();
     let text = "//u%40@[::FFFF:1.2.3.4]:080/x";
     let reference = UriRef::<&str>::parse(text).expect(&rt, text);
@@ -35,27 +36,24 @@ fn authorities_print_as_they_stand(rt: HostRuntime) {
     }
 }
 
+/// Checks that an address is this one of std.
+fn is_address<R: Abort>(rt: &R, ours: IpAddr, theirs: net::IpAddr) {
+    equal(ours.to_std(), theirs).expect(rt, "to_std");
+    equal(IpAddr::from(theirs), ours).expect(rt, "from");
+}
+
 #[test]
-fn addresses_are_those_of_std(rt: HostRuntime) {
-    for (ours, theirs) in [
-        (
-            IpAddr::V4(Ipv4Addr::LOCALHOST),
-            net::IpAddr::V4(net::Ipv4Addr::new(127, 0, 0, 1)),
-        ),
-        (
-            IpAddr::V4(Ipv4Addr::UNSPECIFIED),
-            net::IpAddr::V4(net::Ipv4Addr::new(0, 0, 0, 0)),
-        ),
-        (
-            IpAddr::V6(Ipv6Addr::LOCALHOST),
-            net::IpAddr::V6(net::Ipv6Addr::new(0, 0, 0, 0, 0, 0, 0, 1)),
-        ),
-        (
-            IpAddr::V6(Ipv6Addr::UNSPECIFIED),
-            net::IpAddr::V6(net::Ipv6Addr::new(0, 0, 0, 0, 0, 0, 0, 0)),
-        ),
-    ] {
-        assert_eq!(rt; ours.to_std(), theirs);
-        assert_eq!(rt; IpAddr::from(theirs), ours);
-    }
+fn ipv4_addresses_of_std(rt: HostRuntime) {
+    let localhost = net::IpAddr::V4(net::Ipv4Addr::new(127, 0, 0, 1));
+    is_address(&rt, IpAddr::V4(Ipv4Addr::LOCALHOST), localhost);
+    let unspecified = net::IpAddr::V4(net::Ipv4Addr::new(0, 0, 0, 0));
+    is_address(&rt, IpAddr::V4(Ipv4Addr::UNSPECIFIED), unspecified);
+}
+
+#[test]
+fn ipv6_addresses_of_std(rt: HostRuntime) {
+    let localhost = net::IpAddr::V6(net::Ipv6Addr::new(0, 0, 0, 0, 0, 0, 0, 1));
+    is_address(&rt, IpAddr::V6(Ipv6Addr::LOCALHOST), localhost);
+    let unspecified = net::IpAddr::V6(net::Ipv6Addr::new(0, 0, 0, 0, 0, 0, 0, 0));
+    is_address(&rt, IpAddr::V6(Ipv6Addr::UNSPECIFIED), unspecified);
 }

@@ -21,7 +21,7 @@ fn is_built<A: Abort, R: RiMaybeRef + Drop>(rt: &A, built: Result<R, BuildError>
     equal(built.expect(rt, wanted).as_str(), wanted).expect(rt, wanted);
 }
 
-fn is_refused<R: Abort>(rt: &R, built: Result<UriRef<String>, BuildError>, wanted: BuildError) {
+fn is_rejected<R: Abort>(rt: &R, built: Result<UriRef<String>, BuildError>, wanted: BuildError) {
     equal(built.err(), Some(wanted)).expect(rt, "a refusal");
 }
 
@@ -31,7 +31,7 @@ fn path_with_two_slashes(rt: HostRuntime) {
     let built = UriRef::<String>::builder(rt.alloc())
         .path(part(&rt, "//x"))
         .build();
-    is_refused(&rt, built, BuildError::PathStartsWithDoubleSlash);
+    is_rejected(&rt, built, BuildError::PathStartsWithDoubleSlash);
 }
 
 /// RFC 3986, section 4.2: a relative path has no `:` in its first segment.
@@ -40,7 +40,7 @@ fn colon_in_the_first_segment(rt: HostRuntime) {
     let built = UriRef::<String>::builder(rt.alloc())
         .path(part(&rt, "a:b"))
         .build();
-    is_refused(&rt, built, BuildError::FirstPathSegmentContainsColon);
+    is_rejected(&rt, built, BuildError::FirstPathSegmentContainsColon);
     let dotted = UriRef::<String>::builder(rt.alloc())
         .path(part(&rt, "./a:b"))
         .build();
@@ -48,7 +48,7 @@ fn colon_in_the_first_segment(rt: HostRuntime) {
 }
 
 #[test]
-fn colon_behind_a_scheme(rt: HostRuntime) {
+fn colon_after_a_scheme(rt: HostRuntime) {
     let built = Uri::<String>::builder(rt.alloc())
         .scheme(scheme(&rt, "foo"))
         .path(part(&rt, "a:b"))
@@ -122,7 +122,7 @@ fn authority_of_another_uri(rt: HostRuntime) {
 /// A name with the form of an IPv4 address is one (RFC 3986, section 3.2.2), and the default port
 /// is left out.
 #[test]
-fn address_that_a_name_spells(rt: HostRuntime) {
+fn address_from_a_registered_name(rt: HostRuntime) {
     let name: EStr<'_, RegName> = part(&rt, "127.0.0.1");
     let uri = Uri::<String>::builder(rt.alloc())
         .scheme(scheme(&rt, "http"))
@@ -216,12 +216,12 @@ fn address_of_either_version(rt: HostRuntime) {
 
 /// RFC 3986, section 3.3: after an authority a path is empty or begins with `/`.
 #[test]
-fn rootless_path_behind_an_authority(rt: HostRuntime) {
+fn rootless_path_after_an_authority(rt: HostRuntime) {
     let built = UriRef::<String>::builder(rt.alloc())
         .authority(Authority::EMPTY)
         .path(part(&rt, "a"))
         .build();
-    is_refused(&rt, built, BuildError::NonemptyRootlessPath);
+    is_rejected(&rt, built, BuildError::NonemptyRootlessPath);
 }
 
 /// `authority_with` returns the builder that its closure returns.

@@ -63,7 +63,7 @@ fn chunks(rt: HostRuntime) {
 
 /// What is left after a part was taken.
 #[test]
-fn rest_that_is_decoded(rt: HostRuntime) {
+fn remaining_text_is_decoded(rt: HostRuntime) {
     let mut chunks = valid::<_, Path>(&rt, "%FFab").decode();
     equal(chunks.next(), Some(PctDecoded(0xFF))).expect(&rt, "chunk");
     let string = chunks.to_string(rt.alloc()).expect(&rt, "the rest");
@@ -71,14 +71,14 @@ fn rest_that_is_decoded(rt: HostRuntime) {
 }
 
 #[test]
-fn pieces_from_both_ends(rt: HostRuntime) {
+fn substrings_from_both_ends(rt: HostRuntime) {
     let mut pieces = valid::<_, Path>(&rt, "a/b/c").split('/');
     let (first, last) = (pieces.next(), pieces.next_back());
     equal(first.map(EStr::as_str), Some("a")).expect(&rt, "first");
     equal(last.map(EStr::as_str), Some("c")).expect(&rt, "last");
     equal(pieces.next().map(EStr::as_str), Some("b")).expect(&rt, "middle");
-    let (front, back) = (pieces.next(), pieces.next_back());
-    equal(front.is_none() && back.is_none(), true).expect(&rt, "no piece");
+    let (prefix, back) = (pieces.next(), pieces.next_back());
+    equal(prefix.is_none() && back.is_none(), true).expect(&rt, "no piece");
 }
 
 /// Checks that a substring decodes to the name, `=` and the value.

@@ -1,6 +1,6 @@
 //! What texts and bytes are encoded as, at the encoders of the components and at a caller's own.
 ghost use Rattle.std.specs.Prelude.{◌≡◌, ◌∷◌, [], refl, true};
-ghost use Rattle.fluent_uri.specs.Sets.{plain, difference, is_one_of, path_set};
+ghost use Rattle.fluent_uri.specs.Sets.{characters_only, difference, is_one_of, path_set};
 
 use fluent_uri::pct_enc::encoder::{Data, Encoder, IData, Path, Query};
 use fluent_uri::pct_enc::{EStr, EString, Table, table};
@@ -12,7 +12,7 @@ use test_support::{equal, prints};
 pub(crate) struct Nothing;
 
 impl Encoder for Nothing {
-    ghost set = { plain (is_one_of []) };
+    ghost set = { characters_only (is_one_of []) };
 
     fn table() -> Table {
         Table::new(b"")
@@ -25,7 +25,7 @@ impl Encoder for Nothing {
 pub(crate) struct Octets;
 
 impl Encoder for Octets {
-    ghost set = { record (plain (is_one_of [])) { pct_encoded = true } };
+    ghost set = { record (characters_only (is_one_of [])) { pct_encoded = true } };
 
     fn table() -> Table {
         Nothing::table().or_pct_encoded()
@@ -38,7 +38,7 @@ impl Encoder for Octets {
 pub(crate) struct Private;
 
 impl Encoder for Private {
-    ghost set = { record (plain (is_one_of [])) { iprivate = true } };
+    ghost set = { record (characters_only (is_one_of [])) { iprivate = true } };
 
     fn table() -> Table {
         Nothing::table().or_iprivate()
@@ -51,7 +51,7 @@ impl Encoder for Private {
 struct Segment;
 
 impl Encoder for Segment {
-    ghost set = { difference path_set (plain (is_one_of (47 ∷ []))) };
+    ghost set = { difference path_set (characters_only (is_one_of (47 ∷ []))) };
 
     fn table() -> Table {
         Path::table().sub(&Table::new(b"/"))
@@ -154,7 +154,7 @@ fn own_encoders(rt: HostRuntime) {
 }
 
 #[test]
-fn what_own_encoders_refuse(rt: HostRuntime) {
+fn texts_that_own_encoders_reject(rt: HostRuntime) {
     let refused = [
         EStr::<Private>::new("a").is_none(),
         EStr::<Private>::new("é").is_none(),
@@ -198,7 +198,7 @@ fn owned_texts_compare_by_bytes(rt: HostRuntime) {
 }
 
 #[test]
-fn room_that_is_refused(rt: HostRuntime) {
+fn capacity_that_cannot_be_allocated(rt: HostRuntime) {
     let text = EString::<Path>::with_capacity(rt.alloc(), usize::MAX);
     equal(text.is_err(), true).expect(&rt, "capacity");
 }

@@ -1,59 +1,78 @@
 //! What is printed where a format asks for a width, an alignment, a fill or a precision. The
 //! expected texts are those of Rust's `str`.
+use crate::owned_encoding::valid;
 use fluent_uri::component::Scheme;
 use fluent_uri::net::{IpAddr, Ipv4Addr, Ipv6Addr};
+use fluent_uri::pct_enc::CowStr;
 use fluent_uri::pct_enc::encoder::Path;
-use fluent_uri::pct_enc::{CowStr, EStr, Encoder};
 use fluent_uri::{Iri, IriRef, Uri, UriRef};
 use std::alloc::Global;
 use std::fmt::Display;
 use std::process::Abort;
-use std::test::Fail;
+use test_support::equal;
 
 /// The value on the right, on the left and in the middle of eight characters, and cut to three.
-fn prints<R: Abort, D: Display + Drop>(
-    rt: &R,
-    alloc: Global,
-    value: D,
-    wanted: &str,
-) -> Result<(), Fail> {
-    let value = &value;
-    let printed = format!(in alloc; "[{value:>8}] [{value:8}] [{value:*^8}] [{value:.3}]")?;
-    assert_eq!(rt; printed.as_str(), wanted);
-    Ok(())
-}
-
-fn estr<E: Encoder>(text: &str) -> Result<EStr<'_, E>, Fail> {
-    Ok(EStr::new(text).ok_or("not of the encoder")?)
+fn prints<R: Abort, D: Display>(rt: &R, alloc: Global, value: &D, wanted: &str) {
+    let printed = format!(in alloc; "[{value:>8}] [{value:8}] [{value:*^8}] [{value:.3}]");
+    equal(printed.expect(rt, wanted).as_str(), wanted).expect(rt, wanted);
 }
 
 #[test]
-fn texts_and_addresses_are_padded_and_cut(rt: HostRuntime) -> Result<(), Fail> {
-    let (rt, alloc) = (&rt, rt.alloc());
-    let path = estr::<Path>("ab")?;
+fn encoded_and_decoded_texts(rt: HostRuntime) {
+    let alloc = rt.alloc();
     let wanted = "[      ab] [ab      ] [***ab***] [ab]";
-    prints(rt, alloc, path, wanted)?;
-    prints(rt, alloc, path.to_owned(alloc)?, wanted)?;
-    prints(rt, alloc, CowStr::Borrowed("ab"), wanted)?;
-    let wanted = "[    http] [http    ] [**http**] [htt]";
-    prints(rt, alloc, Scheme::new("http").ok_or("no scheme")?, wanted)?;
-    let uri = Uri::<&str>::parse("a://b:1")?;
-    let wanted = "[ a://b:1] [a://b:1 ] [a://b:1*] [a:/]";
-    prints(rt, alloc, uri, wanted)?;
+    let path = valid::<_, Path>(&rt, "ab");
+    prints(&rt, alloc, &path, wanted);
     prints(
-        rt,
+        &rt,
         alloc,
-        UriRef::<&str>::parse("a://b:1")?.to_owned(alloc)?,
+        &path.to_owned(alloc).expect(&rt, "memory"),
         wanted,
-    )?;
+    );
+    prints(&rt, alloc, &CowStr::Borrowed("ab"), wanted);
+}
+
+#[test]
+fn schemes_and_authorities(rt: HostRuntime) {
+    let scheme = Scheme::new("http").expect(&rt, "a scheme");
+    let wanted = "[    http] [http    ] [**http**] [htt]";
+    prints(&rt, rt.alloc(), &scheme, wanted);
+    let uri = Uri::<&str>::parse("a://b:1").expect(&rt, "a URI");
+    let authority = uri.authority().expect(&rt, "an authority");
     let wanted = "[     b:1] [b:1     ] [**b:1***] [b:1]";
-    prints(rt, alloc, uri.authority().ok_or("no authority")?, wanted)?;
+    prints(&rt, rt.alloc(), &authority, wanted);
+}
+
+#[test]
+fn uris_and_their_references(rt: HostRuntime) {
+    let alloc = rt.alloc();
+    let wanted = "[ a://b:1] [a://b:1 ] [a://b:1*] [a:/]";
+    let uri = Uri::<&str>::parse("a://b:1").expect(&rt, "a URI");
+    prints(&rt, alloc, &uri, wanted);
+    let reference = UriRef::<&str>::parse("a://b:1").expect(&rt, "a URI reference");
+    prints(
+        &rt,
+        alloc,
+        &reference.to_owned(alloc).expect(&rt, "memory"),
+        wanted,
+    );
+}
+
+#[test]
+fn iris_and_their_references(rt: HostRuntime) {
     let wanted = "[   e:été] [e:été   ] [*e:été**] [e:é]";
-    prints(rt, alloc, Iri::<&str>::parse("e:été")?, wanted)?;
-    prints(rt, alloc, IriRef::<&str>::parse("e:été")?, wanted)?;
+    let iri = Iri::<&str>::parse("e:été").expect(&rt, "an IRI");
+    prints(&rt, rt.alloc(), &iri, wanted);
+    let reference = IriRef::<&str>::parse("e:été").expect(&rt, "an IRI reference");
+    prints(&rt, rt.alloc(), &reference, wanted);
+}
+
+#[test]
+fn addresses(rt: HostRuntime) {
     let wanted = "[ 1.2.3.4] [1.2.3.4 ] [1.2.3.4*] [1.2]";
-    prints(rt, alloc, Ipv4Addr::new(1, 2, 3, 4), wanted)?;
-    prints(rt, alloc, IpAddr::V4(Ipv4Addr::new(1, 2, 3, 4)), wanted)?;
+    let address = Ipv4Addr::new(1, 2, 3, 4);
+    prints(&rt, rt.alloc(), &address, wanted);
+    prints(&rt, rt.alloc(), &IpAddr::V4(address), wanted);
     let wanted = "[     ::1] [::1     ] [**::1***] [::1]";
-    prints(rt, alloc, Ipv6Addr::LOCALHOST, wanted)
+    prints(&rt, rt.alloc(), &Ipv6Addr::LOCALHOST, wanted);
 }

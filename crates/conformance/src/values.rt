@@ -4,9 +4,11 @@ use fluent_uri::component::Scheme;
 use fluent_uri::pct_enc::EStr;
 use fluent_uri::pct_enc::encoder::{Encoder, Fragment};
 use fluent_uri::resolve::ResolveError;
-use fluent_uri::{Iri, IriRef, RiMaybeRef, Uri, UriRef};
+use fluent_uri::{Iri, IriRef, Reference, RiMaybeRef, UriRef};
+use std::alloc::Global;
 use std::process::Abort;
 use test_support::{equal, prints};
+use uri_parts::kind::{IriKind, IriRefKind, Kind, UriKind, UriRefKind};
 
 #[test]
 fn converts_from_text(rt: HostRuntime) {
@@ -25,33 +27,41 @@ fn path_outlives_its_reference(rt: HostRuntime) {
     equal(path.as_str(), "/a").expect(&rt, "/a?b");
 }
 
-/// The components that are present, as the calls of each kind say.
+/// Checks which components are present, as the calls of a kind say.
+fn has_components<R: Abort, K: Kind>(rt: &R, text: &str, wanted: bool) {
+    let value = Reference::<K, &str>::parse(text).expect(rt, text);
+    let has = [
+        value.has_authority(),
+        value.has_query(),
+        value.has_fragment(),
+    ];
+    equal(has, [wanted; 3]).expect(rt, text);
+}
+
 #[test]
 fn presence_of_components(rt: HostRuntime) {
     for (text, wanted) in [("s://h?q#f", true), ("s:/p", false)] {
-        let uri = Uri::<&str>::parse(text).expect(&rt, text);
-        let has = (uri.has_authority(), uri.has_query(), uri.has_fragment());
-        equal(has, (wanted, wanted, wanted)).expect(&rt, text);
-        let iri = Iri::<&str>::parse(text).expect(&rt, text);
-        let has = (iri.has_authority(), iri.has_query(), iri.has_fragment());
-        equal(has, (wanted, wanted, wanted)).expect(&rt, text);
+        has_components::<_, UriKind>(&rt, text, wanted);
+        has_components::<_, IriKind>(&rt, text, wanted);
     }
     for (text, wanted) in [("s://h?q#f", true), ("/p", false)] {
-        let reference = UriRef::<&str>::parse(text).expect(&rt, text);
-        let has = (reference.has_scheme(), reference.has_authority());
-        equal(has, (wanted, wanted)).expect(&rt, text);
-        let has = (reference.has_query(), reference.has_fragment());
-        equal(has, (wanted, wanted)).expect(&rt, text);
-        let reference = IriRef::<&str>::parse(text).expect(&rt, text);
-        let has = (reference.has_scheme(), reference.has_authority());
-        equal(has, (wanted, wanted)).expect(&rt, text);
-        let has = (reference.has_query(), reference.has_fragment());
-        equal(has, (wanted, wanted)).expect(&rt, text);
+        has_components::<_, UriRefKind>(&rt, text, wanted);
+        has_components::<_, IriRefKind>(&rt, text, wanted);
     }
 }
 
 #[test]
-fn schemes_stand_as_they_are(rt: HostRuntime) {
+fn presence_of_schemes(rt: HostRuntime) {
+    for (text, wanted) in [("s://h?q#f", true), ("/p", false)] {
+        let reference = UriRef::<&str>::parse(text).expect(&rt, text);
+        equal(reference.has_scheme(), wanted).expect(&rt, text);
+        let reference = IriRef::<&str>::parse(text).expect(&rt, text);
+        equal(reference.has_scheme(), wanted).expect(&rt, text);
+    }
+}
+
+#[test]
+fn schemes_keep_their_case(rt: HostRuntime) {
     let text = "HtTp";
     equal(Scheme::new("1a").is_none(), true).expect(&rt, "1a");
     assert!(rt; Scheme::new(text).is_some());
@@ -68,19 +78,27 @@ fn is_target<A: Abort, R: RiMaybeRef + Drop>(
     equal(target.expect(rt, wanted).as_str(), wanted).expect(rt, wanted);
 }
 
-/// RFC 3987, sections 3.1 and 6.5.
+/// RFC 3987, section 6.5.
 #[test]
-fn iris_and_their_uris(rt: HostRuntime) {
+fn targets_of_iri_references(rt: HostRuntime) {
     let alloc = rt.alloc();
     let base = Iri::<&str>::parse("http://é/a/b").expect(&rt, "a base");
     let reference = IriRef::<&str>::parse("../ü").expect(&rt, "a reference");
     is_target(&rt, reference.resolve_against(alloc, &base), "http://é/ü");
-    let owned_base = base.to_owned(alloc).expect(&rt, "memory");
-    let owned = reference.to_owned(alloc).expect(&rt, "memory");
-    is_target(&rt, owned.resolve_against(alloc, &owned_base), "http://é/ü");
-    let encoded_base = base.to_uri(alloc).expect(&rt, "memory");
-    let encoded = reference.to_uri_ref(alloc).expect(&rt, "memory");
-    let target = encoded.resolve_against(alloc, &encoded_base);
+    let base = base.to_owned(alloc).expect(&rt, "memory");
+    let reference = reference.to_owned(alloc).expect(&rt, "memory");
+    is_target(&rt, reference.resolve_against(alloc, &base), "http://é/ü");
+}
+
+/// RFC 3987, section 3.1.
+#[test]
+fn targets_of_encoded_references(rt: HostRuntime) {
+    let alloc = rt.alloc();
+    let base = Iri::<&str>::parse("http://é/a/b").expect(&rt, "a base");
+    let base = base.to_uri(alloc).expect(&rt, "memory");
+    let reference = IriRef::<&str>::parse("../ü").expect(&rt, "a reference");
+    let reference = reference.to_uri_ref(alloc).expect(&rt, "memory");
+    let target = reference.resolve_against(alloc, &base);
     is_target(&rt, target, "http://%C3%A9/%C3%BC");
 }
 
@@ -111,26 +129,17 @@ fn one_fragment_after_another(rt: HostRuntime) {
     }
 }
 
+/// Checks the text that an owned value is turned into.
+fn has_text<R: Abort, K: Kind>(rt: &R, alloc: Global, text: &str) {
+    let value = Reference::<K, &str>::parse(text).expect(rt, text);
+    let owned = value.to_owned(alloc).expect(rt, text);
+    equal(String::from(owned).as_str(), text).expect(rt, text);
+}
+
 #[test]
 fn texts_of_each_kind(rt: HostRuntime) {
-    let text = "http://example.com/?q#f";
-    let uri = Uri::<&str>::parse(text)
-        .expect(&rt, text)
-        .to_owned(rt.alloc());
-    equal(String::from(uri.expect(&rt, text)).as_str(), text).expect(&rt, "a URI");
-    let text = "../a?q";
-    let reference = UriRef::<&str>::parse(text)
-        .expect(&rt, text)
-        .to_owned(rt.alloc());
-    equal(String::from(reference.expect(&rt, text)).as_str(), text).expect(&rt, "a URI reference");
-    let text = "http://résumé.example.org/";
-    let iri = Iri::<&str>::parse(text)
-        .expect(&rt, text)
-        .to_owned(rt.alloc());
-    equal(String::from(iri.expect(&rt, text)).as_str(), text).expect(&rt, "an IRI");
-    let text = "../é?q";
-    let reference = IriRef::<&str>::parse(text)
-        .expect(&rt, text)
-        .to_owned(rt.alloc());
-    equal(String::from(reference.expect(&rt, text)).as_str(), text).expect(&rt, "an IRI reference");
+    has_text::<_, UriKind>(&rt, rt.alloc(), "http://example.com/?q#f");
+    has_text::<_, UriRefKind>(&rt, rt.alloc(), "../a?q");
+    has_text::<_, IriKind>(&rt, rt.alloc(), "http://résumé.example.org/");
+    has_text::<_, IriRefKind>(&rt, rt.alloc(), "../é?q");
 }

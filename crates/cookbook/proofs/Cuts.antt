@@ -1,47 +1,74 @@
 -- A substring that is cut at its first `=`.
 use Rattle.std.proofs.Common.{◌≡◌, ℕ, true, List, [], ◌∷◌, ◌++◌, refl, ap, arith, sym, ◌∙◌}
-use Rattle.fluent_uri.specs.Texts.{IsFirstCut, lacks}
-use Rattle.cookbook.specs.Pairs.{name_part, read_pair, read_text, value_part}
+use Rattle.fluent_uri.specs.Texts.{IsCutAtFirst, lacks}
+use Rattle.cookbook.specs.Pairs.{text_before_equals, decode_pair, decode_text, text_after_equals}
 
-name_before : (before after : List ℕ) → lacks 61 before ≡ true
-    → name_part (before ++ 61 ∷ after) ≡ before
-unfolding name_part
-name_before [] after e = refl
-name_before (b ∷ bs) after e = grind (arith, e, name_before bs after)
+-- pairs of a query: what is before the first `=` (61) of two
+-- texts joined by one is the first text, the name
+text_before_equals-append : (before after : List ℕ) → lacks 61 before ≡ true
+    → text_before_equals (before ++ 61 ∷ after) ≡ before
+unfolding text_before_equals
+text_before_equals-append [] after e = refl
+text_before_equals-append (b ∷ bs) after e = grind (arith, e, text_before_equals-append bs after)
 
-value_behind : (before after : List ℕ) → lacks 61 before ≡ true
-    → value_part (before ++ 61 ∷ after) ≡ after
-unfolding value_part
-value_behind [] after e = refl
-value_behind (b ∷ bs) after e = grind (arith, e, value_behind bs after)
+-- pairs of a query: what is after the first `=` (61) of two
+-- texts joined by one is the second text, the value
+text_after_equals-append : (before after : List ℕ) → lacks 61 before ≡ true
+    → text_after_equals (before ++ 61 ∷ after) ≡ after
+unfolding text_after_equals
+text_after_equals-append [] after e = refl
+text_after_equals-append (b ∷ bs) after e = grind (arith, e, text_after_equals-append bs after)
 
-name_whole : (text : List ℕ) → lacks 61 text ≡ true → name_part text ≡ text
-unfolding name_part
-name_whole [] e = refl
-name_whole (b ∷ bs) e = grind (arith, e, name_whole bs)
+-- pairs of a query: a piece without `=` (61) is all before it
+text_before_equals-without-equals : (text : List ℕ) → lacks 61 text ≡ true → text_before_equals text
+    ≡ text
+unfolding text_before_equals
+text_before_equals-without-equals [] e = refl
+text_before_equals-without-equals (b ∷ bs) e = grind
+    (arith, e, text_before_equals-without-equals bs)
 
-value_none : (text : List ℕ) → lacks 61 text ≡ true → value_part text ≡ []
-unfolding value_part
-value_none [] e = refl
-value_none (b ∷ bs) e = grind (arith, e, value_none bs)
+-- pairs of a query: a piece without `=` (61) has nothing after it
+text_after_equals-without-equals : (text : List ℕ) → lacks 61 text ≡ true → text_after_equals text
+    ≡ []
+unfolding text_after_equals
+text_after_equals-without-equals [] e = refl
+text_after_equals-without-equals (b ∷ bs) e = grind (arith, e, text_after_equals-without-equals bs)
 
-pub name_of_cut : (text before after : List ℕ) → IsFirstCut 61 text before after
-    → before ≡ name_part text
-name_of_cut text before after cut = sym (ap name_part cut.0 ∙ name_before before after cut.1)
+-- pairs of a query: where a piece is cut at its first `=` (61),
+-- `text_before_equals` gives what is before it, the name
+pub text_before_equals-of-cut : (text before after : List ℕ) → IsCutAtFirst 61 text before after
+    → before ≡ text_before_equals text
+text_before_equals-of-cut text before after cut = sym (ap text_before_equals cut.0
+    ∙ text_before_equals-append before after cut.1)
 
-pub value_of_cut : (text before after : List ℕ) → IsFirstCut 61 text before after
-    → after ≡ value_part text
-value_of_cut text before after cut = sym (ap value_part cut.0 ∙ value_behind before after cut.1)
+-- pairs of a query: where a piece is cut at its first `=` (61),
+-- `text_after_equals` gives what is after it, the value
+pub text_after_equals-of-cut : (text before after : List ℕ) → IsCutAtFirst 61 text before after
+    → after ≡ text_after_equals text
+text_after_equals-of-cut text before after cut = sym (ap text_after_equals cut.0
+    ∙ text_after_equals-append before after cut.1)
 
-pub name_of_whole : (text : List ℕ) → lacks 61 text ≡ true → text ≡ name_part text
-name_of_whole text e = sym (name_whole text e)
+-- pairs of a query: a piece without `=` (61) is its own name
+pub text_before_equals-of-whole : (text : List ℕ) → lacks 61 text ≡ true → text
+    ≡ text_before_equals text
+text_before_equals-of-whole text e = sym (text_before_equals-without-equals text e)
 
-pub value_of_whole : (text : List ℕ) → lacks 61 text ≡ true → [] ≡ value_part text
-value_of_whole text e = sym (value_none text e)
+-- pairs of a query: a piece without `=` (61) has an empty value
+pub text_after_equals-of-whole : (text : List ℕ) → lacks 61 text ≡ true → []
+    ≡ text_after_equals text
+text_after_equals-of-whole text e = sym (text_after_equals-without-equals text e)
 
-pub ruleset cuts = (name_of_cut, value_of_cut, name_of_whole, value_of_whole)
+pub ruleset cuts = (
+  text_before_equals-of-cut,
+  text_after_equals-of-cut,
+  text_before_equals-of-whole,
+  text_after_equals-of-whole,
+)
 
-pub pair_is : (a b name value piece : List ℕ) → a ≡ read_text name → b ≡ read_text value
-    → name ≡ name_part piece → value ≡ value_part piece → (a, b) ≡ read_pair piece
-pair_is a b name value piece p q n v =
-    λ i. ((p ∙ ap read_text n) i, (q ∙ ap read_text v) i)
+-- pairs of a query: a piece is decoded to the pair of its decoded halves;
+-- a, b: the name and the value, decoded
+pub decode_pair-of-halves : (a b name value piece : List ℕ) → a ≡ decode_text name → b
+    ≡ decode_text value
+    → name ≡ text_before_equals piece → value ≡ text_after_equals piece → (a, b) ≡ decode_pair piece
+decode_pair-of-halves a b name value piece p q n v =
+    λ i. ((p ∙ ap decode_text n) i, (q ∙ ap decode_text v) i)

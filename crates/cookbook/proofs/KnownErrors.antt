@@ -6,9 +6,10 @@ use Rattle.fluent_uri.specs.Grammar.{Kind}
 use Rattle.fluent_uri.specs.Refusals.{refusal}
 use Rattle.fluent_uri.specs.declared.ParseError.{ParseError}
 
-pub error_is : {A : Type 0} (kind : Kind) (text : List ℕ) (e : ParseError)
+-- where the refusal of a text computes to e, as of a literal, the error of a call can only be e
+pub returned-error-is-this : {A : Type 0} (kind : Kind) (text : List ℕ) (e : ParseError)
     (result : Result A ParseError)
     → IfErr result (λ x. refusal kind text ≡ Some x) → refusal kind text ≡ Some e
     → IfErr result (λ x. x ≡ e)
-error_is kind text e (Ok value) given is = tt
-error_is kind text e (Err x) given is = same_Some x e (sym given ∙ is)
+returned-error-is-this kind text e (Ok value) given is = tt
+returned-error-is-this kind text e (Err x) given is = same_Some x e (sym given ∙ is)

@@ -5,9 +5,10 @@ use Rattle.fluent_uri.specs.Fragments.{IsWithFragment}
 use Rattle.fluent_uri.specs.Target.{resolution_of_texts}
 use Rattle.cookbook.specs.Pages.{IsPage}
 
-pub page_of_target : (base link reference target page : List ℕ) → reference ≡ link
+-- cookbook, links: the target of a link, without its fragment, is the page to fetch
+pub target-without-fragment-is-page : (base link reference target page : List ℕ) → reference ≡ link
     → resolution_of_texts base reference ≡ Ok target → IsWithFragment target None page
     → IsPage base link page
-page_of_target base link reference target page e r made =
+target-without-fragment-is-page base link reference target page e r made =
     subst (λ answer. IsOkAnd answer (λ target. IsWithFragment target None page))
     (sym r ∙ ap (resolution_of_texts base) e) made

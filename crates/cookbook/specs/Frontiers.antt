@@ -7,10 +7,10 @@ use Rattle.fluent_uri.specs.Normal.{normal_text}
 use Rattle.fluent_uri.specs.SchemePorts.{default_port}
 use Rattle.cookbook.specs.declared.frontier.Frontier.{Frontier}
 
--- the text is among the normal forms that were met
+-- whether a frontier, which has the URIs that were met, has this normal form
 abbrev pub has_met : Frontier → List ℕ → Bool
 has_met f text = contains_text f.seen text
 
--- the normal form of a URI
+-- the normal form of a URI, under the default ports of the schemes (section 6.2.2)
 abbrev pub normal_of : List ℕ → List ℕ
 normal_of text = normal_text (meaning_of uri default_port text)

@@ -3,7 +3,8 @@ use Rattle.std.specs.Prelude.{ℕ, List, None, IsOkAnd}
 use Rattle.fluent_uri.specs.Fragments.{IsWithFragment}
 use Rattle.fluent_uri.specs.Target.{resolution_of_texts}
 
--- the link has a target against the base, and this is the target without its fragment
+-- the page of a link against a base, in this order: the link has a target, and the page, the last
+-- text, is the target without its fragment
 abbrev pub IsPage : List ℕ → List ℕ → List ℕ → Type 0
 IsPage base link page =
     IsOkAnd (resolution_of_texts base link) (λ target. IsWithFragment target None page)

@@ -6,71 +6,79 @@ use Rattle.fluent_uri.specs.Dots.{is_empty}
 use Rattle.fluent_uri.specs.Encoding.{encode_text}
 use Rattle.fluent_uri.specs.Pieces.{lossy_text}
 use Rattle.fluent_uri.specs.Sets.{data_set}
-use Rattle.fluent_uri.specs.Tokens.{print, token_bytes, tokens}
+use Rattle.fluent_uri.specs.Tokens.{print, bytes_decoded_from, tokens}
 use Rattle.cookbook.specs.declared.pairs.Pair.{Pair}
 
+-- the byte `&`, which separates the pairs of a query
 abbrev pub ampersand : ℕ
 ampersand = 38
 
+-- the byte `=`, which separates the name of a pair in a query from its value
 abbrev pub equals_sign : ℕ
 equals_sign = 61
 
--- a name and a value
-abbrev pub Texts : Type 0
-Texts = List ℕ × List ℕ
+-- a decoded pair of a query: its name and its value
+abbrev pub NameAndValue : Type 0
+NameAndValue = List ℕ × List ℕ
 
-abbrev pub pair_texts : Pair → Texts
+-- the name and the value of a pair that was read from a query, as bytes
+abbrev pub pair_texts : Pair → NameAndValue
 pair_texts pair = (string_bytes pair.name, string_bytes pair.value)
 
--- the text that a substring decodes to
-abbrev pub read_text : List ℕ → List ℕ
-read_text piece = lossy_text (token_bytes (tokens piece))
+-- the text that a substring of a query is decoded to: what is not UTF-8 becomes U+FFFD
+abbrev pub decode_text : List ℕ → List ℕ
+decode_text piece = lossy_text (bytes_decoded_from (tokens piece))
 
--- what is before the first `=` of a substring, and what is after it
-unfoldable pub name_part : List ℕ → List ℕ
-name_part [] = []
-name_part (b ∷ bs) = if b == equals_sign then [] else b ∷ name_part bs
+-- the name of a pair in a query: what is before its first `=`, or the whole text if it has none
+unfoldable pub text_before_equals : List ℕ → List ℕ
+text_before_equals [] = []
+text_before_equals (b ∷ bs) = if b == equals_sign then [] else b ∷ text_before_equals bs
 
-unfoldable pub value_part : List ℕ → List ℕ
-value_part [] = []
-value_part (b ∷ bs) = if b == equals_sign then bs else value_part bs
+-- the value of a pair in a query: what is after its first `=`, or nothing if it has none
+unfoldable pub text_after_equals : List ℕ → List ℕ
+text_after_equals [] = []
+text_after_equals (b ∷ bs) = if b == equals_sign then bs else text_after_equals bs
 
-abbrev pub read_pair : List ℕ → Texts
-read_pair piece = (read_text (name_part piece), read_text (value_part piece))
+-- the decoded name and value of a substring of a query, cut at its first `=`
+abbrev pub decode_pair : List ℕ → NameAndValue
+decode_pair piece = (decode_text (text_before_equals piece), decode_text (text_after_equals piece))
 
--- the pairs of a query: each nonempty substring between its `&` is one
-abbrev pub read_pieces : List (List ℕ) → List Texts
-read_pieces pieces = map read_pair (filter (λ piece. not (is_empty piece)) pieces)
+-- the decoded pairs of those substrings of a query that are not empty
+abbrev pub decode_nonempty_substrings : List (List ℕ) → List NameAndValue
+decode_nonempty_substrings pieces = map decode_pair (filter (λ piece. not (is_empty piece)) pieces)
 
-abbrev pub read_pairs : List ℕ → List Texts
-read_pairs query = read_pieces (slice_split (λ b. b == ampersand) query)
+-- the decoded pairs of a query: one for each substring between its `&` that is not empty
+abbrev pub decode_pairs : List ℕ → List NameAndValue
+decode_pairs query = decode_nonempty_substrings (slice_split (λ b. b == ampersand) query)
 
--- a text as data
+-- a name or a value as a query has it: percent-encoded as data
 abbrev pub data_text : List ℕ → List ℕ
 data_text text = print (encode_text data_set text)
 
--- `name=value`
-abbrev pub pair_text : Texts → List ℕ
+-- the text of a pair in a query: `name=value`, both percent-encoded as data
+abbrev pub pair_text : NameAndValue → List ℕ
 pair_text pair = data_text pair.0 ++ codes "=" ++ data_text pair.1
 
--- a pair after those before it
-abbrev pub behind : List ℕ → Texts → List ℕ
-behind [] pair = pair_text pair
-behind (c ∷ cs) pair = (c ∷ cs) ++ codes "&" ++ pair_text pair
+-- a query with one more pair at its end, after a `&` if the query is not empty
+abbrev pub append_pair : List ℕ → NameAndValue → List ℕ
+append_pair [] pair = pair_text pair
+append_pair (c ∷ cs) pair = (c ∷ cs) ++ codes "&" ++ pair_text pair
 
--- the pairs after a text, joined by `&`
-abbrev pub query_from : List ℕ → List Texts → List ℕ
+-- a query with more pairs at its end, separated by `&`
+abbrev pub query_from : List ℕ → List NameAndValue → List ℕ
 query_from text [] = text
-query_from text (pair ∷ pairs) = query_from (behind text pair) pairs
+query_from text (pair ∷ pairs) = query_from (append_pair text pair) pairs
 
-abbrev pub query_text : List Texts → List ℕ
+-- the query of pairs, separated by `&`
+abbrev pub query_text : List NameAndValue → List ℕ
 query_text pairs = query_from [] pairs
 
--- the pairs after a text, `name is value`, a line each
-abbrev pub lines_from : List ℕ → List Texts → List ℕ
+-- a text with a line `name is value` for each pair at its end
+abbrev pub lines_from : List ℕ → List NameAndValue → List ℕ
 lines_from text [] = text
 lines_from text (pair ∷ pairs) =
     lines_from ((((text ++ pair.0) ++ codes " is ") ++ pair.1) ++ codes "\n") pairs
 
-abbrev pub lines_text : List Texts → List ℕ
+-- the lines that are printed for pairs of a query, each `name is value`
+abbrev pub lines_text : List NameAndValue → List ℕ
 lines_text pairs = lines_from [] pairs

@@ -4,8 +4,9 @@ use Rattle.fluent_uri.specs.Authority.{authority_parts}
 use Rattle.fluent_uri.specs.Components.{Components}
 use Rattle.cookbook.specs.declared.parts.Parts.{Parts}
 
--- these are the scheme, the authority's host and the path
-pub record IsOf (p : Components) (parts : Parts) : Type 0 where
+-- the parts that a program asks for are the scheme, the authority's host and the path of these
+-- components
+pub record AreComponentsOf (p : Components) (parts : Parts) : Type 0 where
   pub scheme : option_map (λ s. s.now) parts.scheme ≡ p.scheme
   pub host : option_map (λ s. s.now) parts.host
       ≡ option_map (λ a. (authority_parts a).host) p.authority

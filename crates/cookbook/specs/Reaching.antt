@@ -5,7 +5,7 @@ use Rattle.std.specs.Str.{str_to_ascii_lowercase}
 use Rattle.fluent_uri.specs.Components.{Components}
 use Rattle.fluent_uri.specs.SchemePorts.{default_port}
 
--- at the default port of its scheme, and where that has none at another
-abbrev pub port_without : Components → ℕ → ℕ
-port_without p other =
+-- the default port of the components' scheme, or another port, the number, if it has none
+abbrev pub default_port_or : Components → ℕ → ℕ
+default_port_or p other =
     unwrap_or (option_and_then (λ s. default_port (str_to_ascii_lowercase s)) p.scheme) other

@@ -2,22 +2,25 @@
 use Rattle.std.specs.Prelude.{ℕ, List, ⊤}
 use Rattle.fluent_uri.specs.Components.{components}
 use Rattle.fluent_uri.specs.Grammar.{IsOfKind, Kind, uri_ref}
-use Rattle.fluent_uri.specs.Resolving.{IsRefusalFor}
-use Rattle.cookbook.specs.declared.refusal.Refusal.{Refusal}
-use Rattle.cookbook.specs.declared.refusal.Refusal.TheVariants as Of
+use Rattle.fluent_uri.specs.Resolving.{IsErrorWithUnderflowAllowed}
+use Rattle.cookbook.specs.declared.refusal.Failure.{Failure}
+use Rattle.cookbook.specs.declared.refusal.Failure.TheVariants as Of
 
--- a text that is to be of a kind
-abbrev pub IsRefusedText : Kind → List ℕ → Refusal → Type 0
-IsRefusedText kind text (Of.Text error) = ¬ (IsOfKind kind text)
-IsRefusedText kind text (Of.Target error) = ⊥
-IsRefusedText kind text Of.Query = ⊥
-IsRefusedText kind text Of.OutOfMemory = ⊤
-IsRefusedText kind text Of.OutputFailed = ⊥
+-- the failure is one of a program that parses the text as the kind: the text is not of it, or
+-- memory is denied
+abbrev pub IsErrorOfText : Kind → List ℕ → Failure → Type 0
+IsErrorOfText kind text (Of.Text error) = ¬ (IsOfKind kind text)
+IsErrorOfText kind text (Of.Target error) = ⊥
+IsErrorOfText kind text Of.Query = ⊥
+IsErrorOfText kind text Of.OutOfMemory = ⊤
+IsErrorOfText kind text Of.OutputFailed = ⊥
 
--- a reference that is to have a target against a base
-abbrev pub IsRefusedLink : List ℕ → List ℕ → Refusal → Type 0
-IsRefusedLink base href (Of.Text error) = ¬ (IsOfKind uri_ref href)
-IsRefusedLink base href (Of.Target error) = IsRefusalFor (components base) (components href) error
-IsRefusedLink base href Of.Query = ⊥
-IsRefusedLink base href Of.OutOfMemory = ⊤
-IsRefusedLink base href Of.OutputFailed = ⊥
+-- the failure is one of a program that resolves a link, the second text, against the base: the link
+-- is no URI reference or has no target, or memory is denied
+abbrev pub IsErrorOfLink : List ℕ → List ℕ → Failure → Type 0
+IsErrorOfLink base href (Of.Text error) = ¬ (IsOfKind uri_ref href)
+IsErrorOfLink base href (Of.Target error) = IsErrorWithUnderflowAllowed (components base)
+    (components href) error
+IsErrorOfLink base href Of.Query = ⊥
+IsErrorOfLink base href Of.OutOfMemory = ⊤
+IsErrorOfLink base href Of.OutputFailed = ⊥

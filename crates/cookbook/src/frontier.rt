@@ -8,10 +8,10 @@ ghost use Rattle.fluent_uri.specs.Grammar.{IsTextOf};
 ghost use Rattle.fluent_uri.specs.SchemePorts.{default_port};
 ghost use Rattle.fluent_uri.specs.Uris.{uri_text};
 ghost use Rattle.cookbook.specs.Frontiers.{has_met, normal_of};
-ghost use Rattle.cookbook.specs.Refusals.{IsRefusedText};
+ghost use Rattle.cookbook.specs.Refusals.{IsErrorOfText};
 
 use crate::normal::normal_form;
-use crate::refusal::Refusal;
+use crate::refusal::Failure;
 use fluent_uri::Uri;
 use std::alloc::Global;
 use std::collections::BTreeSet;
@@ -24,7 +24,7 @@ pub struct Frontier {
 }
 
 impl Frontier {
-    /// A frontier that has met nothing.
+    /// Returns a frontier that has met nothing.
     pub fn new(alloc: Global) -> Frontier
         ensures { (text : List ℕ) → has_met result text ≡ false }
     {
@@ -38,8 +38,8 @@ impl Frontier {
     /// # Errors
     ///
     /// `Text` exactly if the text is not a URI; `OutOfMemory` if allocation fails.
-    #[tactic(auto, using(crate::proofs::Keys::met_after))]
-    pub fn note(&mut self, alloc: Global, text: &str) -> Result<Option<Uri<String>>, Refusal>
+    #[tactic(auto, using(crate::proofs::Keys::contains_text_after_insertion))]
+    pub fn note(&mut self, alloc: Global, text: &str) -> Result<Option<Uri<String>>, Failure>
         ensures new { IfOk result (λ answer.
             is_some answer ≡ not (has_met self.old (normal_of text.now))) }
         ensures normal { IfOk result (λ answer.
@@ -51,7 +51,7 @@ impl Frontier {
             ↔ meaning_of uri default_port text.now ≡ meaning_of uri default_port other)) }
         ensures kept { OnErr result ((other : List ℕ) →
             has_met self.new other ≡ has_met self.old other) }
-        ensures refused { IfErr result (IsRefusedText uri text.now) }
+        ensures refused { IfErr result (IsErrorOfText uri text.now) }
     {
         let normal = normal_form(alloc, text)?;
         let key = String::from_str(alloc, normal.as_str())?;
@@ -72,7 +72,7 @@ impl Frontier {
         alloc: Global,
         text: &str,
         out: &mut O,
-    ) -> Result<(), Refusal>
+    ) -> Result<(), Failure>
         ensures printed { OnOk result (Appends (O.contents out.old) (O.contents out.new)
             (if has_met self.old (normal_of text.now) then []
             else normal_of text.now ++ codes "\n")) }

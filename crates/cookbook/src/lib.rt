@@ -13,5 +13,4 @@ pub mod refusal;
 pub mod relative;
 pub mod segments;
 pub mod service;
-pub mod task;
 pub mod visits;

@@ -4,21 +4,21 @@ ghost use Rattle.fluent_uri.specs.Grammar.{uri};
 ghost use Rattle.fluent_uri.specs.Normalizers.{IsNormalForm};
 ghost use Rattle.fluent_uri.specs.SchemePorts.{default_port};
 ghost use Rattle.fluent_uri.specs.Uris.{uri_text};
-ghost use Rattle.cookbook.specs.Refusals.{IsRefusedText};
+ghost use Rattle.cookbook.specs.Refusals.{IsErrorOfText};
 
-use crate::refusal::Refusal;
+use crate::refusal::Failure;
 use fluent_uri::Uri;
 use std::alloc::Global;
 
-/// The normal form of a URI (RFC 3986, section 6.2.2).
+/// Returns the normal form of a URI (RFC 3986, section 6.2.2).
 ///
 /// # Errors
 ///
 /// `Text` exactly if the text is not a URI; `OutOfMemory` if allocation fails.
-pub fn normal_form(alloc: Global, text: &str) -> Result<Uri<String>, Refusal>
+pub fn normal_form(alloc: Global, text: &str) -> Result<Uri<String>, Failure>
     ensures normal { IfOk result (λ made.
         IsNormalForm uri default_port text.now (uri_text made)) }
-    ensures refused { IfErr result (IsRefusedText uri text.now) }
+    ensures refused { IfErr result (IsErrorOfText uri text.now) }
 {
     Ok(Uri::<&str>::parse(text)?.normalize(alloc)?)
 }

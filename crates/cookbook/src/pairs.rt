@@ -1,14 +1,14 @@
 //! The pairs of a query, as `name=value&name=value`.
-ghost use Rattle.std.specs.Prelude.{◌≡◌, ◌++◌, codes, map, string_bytes, IfOk, OnOk};
+ghost use Rattle.std.specs.Prelude.{◌≡◌, ◌++◌, codes, map, string_bytes, IfOk, IsTrue, OnOk};
 ghost use Rattle.std.specs.Io.KnownBytes.{Appends};
 ghost use Rattle.fluent_uri.specs.EncodedTexts.{text_of};
 ghost use Rattle.fluent_uri.specs.EStrings.{owned_text};
-ghost use Rattle.cookbook.specs.Pairs.{lines_text, name_part, pair_texts, query_text};
-ghost use Rattle.cookbook.specs.Pairs.{read_pair, read_pairs, read_text, value_part};
+ghost use Rattle.cookbook.specs.Pairs.{lines_text, text_before_equals, pair_texts, query_text};
+ghost use Rattle.cookbook.specs.Pairs.{decode_pair, decode_pairs, decode_text, text_after_equals};
 
-use crate::refusal::Refusal;
+use crate::refusal::Failure;
 use fluent_uri::pct_enc::encoder::{Data, Query};
-use fluent_uri::pct_enc::{EStr, EString};
+use fluent_uri::pct_enc::{EStr, EString, Encoder};
 use std::alloc::{AllocError, Global};
 use std::io::Write;
 
@@ -23,6 +23,10 @@ pub struct Pair {
 /// and both halves are decoded. Without `=` the value is empty. Bytes that are not UTF-8 become
 /// U+FFFD, and `+` is not a space.
 ///
+/// # Conditions
+///
+/// The encoder allows percent-encoded octets, as `Query` and `IQuery` do.
+///
 /// # Errors
 ///
 /// Only if allocation fails.
@@ -30,9 +34,10 @@ pub struct Pair {
 /// # Examples
 ///
 /// Of `name=ferret&page=2%263` they are `name` with `ferret` and `page` with `2&3`.
-pub fn pairs_of(alloc: Global, query: EStr<'_, Query>) -> Result<Vec<Pair>, AllocError>
+pub fn pairs_of<E: Encoder>(alloc: Global, query: EStr<'_, E>) -> Result<Vec<Pair>, AllocError>
+    requires { IsTrue (E.set).pct_encoded }
     ensures { IfOk result (λ pairs.
-        map pair_texts pairs.items ≡ read_pairs (text_of query.entry)) }
+        map pair_texts pairs.items ≡ decode_pairs (text_of query.entry)) }
 {
     let mut pairs = Vec::new(alloc);
     for piece in query.split('&') {
@@ -43,9 +48,10 @@ pub fn pairs_of(alloc: Global, query: EStr<'_, Query>) -> Result<Vec<Pair>, Allo
     Ok(pairs)
 }
 
-/// Returns the pair of a substring.
-fn pair_of(alloc: Global, piece: EStr<'_, Query>) -> Result<Pair, AllocError>
-    ensures { IfOk result (λ pair. pair_texts pair ≡ read_pair (text_of piece.entry)) }
+/// Returns the pair of name and value of a substring of a query, both decoded.
+fn pair_of<E: Encoder>(alloc: Global, piece: EStr<'_, E>) -> Result<Pair, AllocError>
+    requires { IsTrue (E.set).pct_encoded }
+    ensures { IfOk result (λ pair. pair_texts pair ≡ decode_pair (text_of piece.entry)) }
 {
     let (name, value) = name_and_value(piece);
     Ok(Pair {
@@ -56,19 +62,20 @@ fn pair_of(alloc: Global, piece: EStr<'_, Query>) -> Result<Pair, AllocError>
 
 /// Returns what is before the first `=` of a substring, and what is after it.
 #[tactic(auto, using(fluent_uri::proofs::Calling::calling, crate::proofs::Cuts::cuts))]
-fn name_and_value(piece: EStr<'_, Query>) -> (EStr<'_, Query>, EStr<'_, Query>)
-    ensures name { text_of result.0 ≡ name_part (text_of piece.entry) }
-    ensures value { text_of result.1 ≡ value_part (text_of piece.entry) }
+fn name_and_value<E: Encoder>(piece: EStr<'_, E>) -> (EStr<'_, E>, EStr<'_, E>)
+    ensures name { text_of result.0 ≡ text_before_equals (text_of piece.entry) }
+    ensures value { text_of result.1 ≡ text_after_equals (text_of piece.entry) }
 {
     match piece.split_once('=') {
         Some(pair) => pair,
-        None => (piece, EStr::new_or_panic("")),
+        None => (piece, EStr::default()),
     }
 }
 
 /// Returns the text that a substring decodes to.
-fn decoded(alloc: Global, piece: EStr<'_, Query>) -> Result<String, AllocError>
-    ensures { IfOk result (λ text. string_bytes text ≡ read_text (text_of piece.entry)) }
+fn decoded<E: Encoder>(alloc: Global, piece: EStr<'_, E>) -> Result<String, AllocError>
+    requires { IsTrue (E.set).pct_encoded }
+    ensures { IfOk result (λ text. string_bytes text ≡ decode_text (text_of piece.entry)) }
 {
     piece.decode().to_string_lossy(alloc)?.into_owned(alloc)
 }
@@ -99,18 +106,19 @@ pub fn query_of(alloc: Global, pairs: &[Pair]) -> Result<EString<Query>, AllocEr
     Ok(query)
 }
 
-/// Writes the decoded pairs of a query, one a line, and then the query that `query_of` makes of
-/// them.
+/// Parses a text as a query. Writes each of its decoded pairs as a line `name is value`, and then
+/// the query that `query_of` makes of them.
 ///
 /// # Errors
 ///
 /// `Query` exactly if the text is not a query; `OutOfMemory` if allocation fails, and
 /// `OutputFailed` if the writer fails.
-pub fn print_pairs<O: Write>(alloc: Global, text: &str, out: &mut O) -> Result<(), Refusal>
+pub fn print_pairs<O: Write>(alloc: Global, text: &str, out: &mut O) -> Result<(), Failure>
     ensures { OnOk result (Appends (O.contents out.old) (O.contents out.new)
-        (lines_text (read_pairs text.now) ++ (query_text (read_pairs text.now) ++ codes "\n"))) }
+        (lines_text (decode_pairs text.now)
+        ++ (query_text (decode_pairs text.now) ++ codes "\n"))) }
 {
-    let query = EStr::<Query>::new(text).ok_or(Refusal::Query)?;
+    let query = EStr::<Query>::new(text).ok_or(Failure::Query)?;
     let pairs = pairs_of(alloc, query)?;
     let lines = lines_of(alloc, pairs.as_slice())?;
     let again = query_of(alloc, pairs.as_slice())?;
@@ -118,7 +126,7 @@ pub fn print_pairs<O: Write>(alloc: Global, text: &str, out: &mut O) -> Result<(
     Ok(())
 }
 
-/// A line for each pair, `name is value`.
+/// Returns a line for each pair, `name is value`.
 fn lines_of(alloc: Global, pairs: &[Pair]) -> Result<String, AllocError>
     ensures { IfOk result (λ lines. string_bytes lines ≡ lines_text (map pair_texts pairs.now)) }
 {

@@ -3,7 +3,7 @@ ghost use Rattle.std.specs.Prelude.{◌≡◌, ◌↔◌, option_map, IfOk, IsOk
 ghost use Rattle.fluent_uri.specs.Authority.{authority_parts};
 ghost use Rattle.fluent_uri.specs.Components.{components};
 ghost use Rattle.fluent_uri.specs.Grammar.{IsOfKind, uri_ref};
-ghost use Rattle.cookbook.specs.Parts.{IsOf};
+ghost use Rattle.cookbook.specs.Parts.{AreComponentsOf};
 
 use fluent_uri::component::{Authority, Scheme};
 use fluent_uri::{ParseError, UriRef};
@@ -16,7 +16,7 @@ pub struct Parts<'a> {
     pub path: &'a str,
 }
 
-/// The parts of a reference.
+/// Returns the parts of a reference.
 ///
 /// # Errors
 ///
@@ -28,7 +28,7 @@ pub struct Parts<'a> {
 /// `/over/there`.
 pub fn parts_of(text: &str) -> Result<Parts<'_>, ParseError>
     ensures accepts { IsOk result ↔ IsOfKind uri_ref text.now }
-    ensures parts { IfOk result (IsOf (components text.now)) }
+    ensures parts { IfOk result (AreComponentsOf (components text.now)) }
 {
     let reference = UriRef::<&str>::parse(text)?;
     Ok(Parts {

@@ -2,19 +2,19 @@
 ghost use Rattle.std.specs.Prelude.{◌≡◌, is_some, unwrap_or, IfSome};
 ghost use Rattle.fluent_uri.specs.Authority.{authority_parts};
 ghost use Rattle.fluent_uri.specs.Components.{components};
-ghost use Rattle.fluent_uri.specs.Connecting.{IsAnswerFor};
+ghost use Rattle.fluent_uri.specs.Connecting.{IsTargetResultFor};
 ghost use Rattle.fluent_uri.specs.Hosts.{host_kind};
 ghost use Rattle.fluent_uri.specs.Ports.{FitsPort, port_number};
 ghost use Rattle.fluent_uri.specs.Uris.{uri_text};
-ghost use Rattle.cookbook.specs.Reaching.{port_without};
+ghost use Rattle.cookbook.specs.Reaching.{default_port_or};
 
 use fluent_uri::Uri;
 use fluent_uri::component::{SocketError, SocketTarget};
 use std::alloc::Global;
 
-/// Where to connect to for a URI (RFC 3986, sections 3.2.2 and 3.2.3), if it has an authority:
-/// at its port, else at the default port of its scheme, and at the given one where the scheme
-/// has none. No name is looked up.
+/// Returns where to connect to for a URI (RFC 3986, sections 3.2.2 and 3.2.3), if it has an
+/// authority: at its port, else at the default port of its scheme, and at the given one where the
+/// scheme has none. No name is looked up.
 ///
 /// # Errors
 ///
@@ -32,8 +32,8 @@ pub fn reach<'a>(
     ensures target { let p = components (uri_text uri.entry) in
         IfSome result (λ answer. IfSome p.authority (λ authority.
         let a = authority_parts authority in FitsPort (port_number a.port)
-        → IsAnswerFor a.host (host_kind a.host)
-        (unwrap_or (port_number a.port) (port_without p port)) answer)) }
+        → IsTargetResultFor a.host (host_kind a.host)
+        (unwrap_or (port_number a.port) (default_port_or p port)) answer)) }
 {
     let authority = uri.authority()?;
     let port = uri.scheme().default_port().unwrap_or(port);

@@ -1,7 +1,7 @@
 //! The errors of a line.
 ghost use Rattle.std.specs.Prelude.{◌≡◌};
-ghost use Rattle.cookbook.specs.declared.refusal.Refusal.TheVariants.{OutOfMemory, OutputFailed};
-ghost use Rattle.cookbook.specs.declared.refusal.Refusal.TheVariants.{Target, Text};
+ghost use Rattle.cookbook.specs.declared.refusal.Failure.TheVariants.{OutOfMemory, OutputFailed};
+ghost use Rattle.cookbook.specs.declared.refusal.Failure.TheVariants.{Target, Text};
 
 use fluent_uri::ParseError;
 use fluent_uri::resolve::ResolveError;
@@ -11,7 +11,7 @@ use thiserror::Error;
 
 /// The error of a line.
 #[derive(Clone, Copy, Debug, PartialEq, Eq, Error)]
-pub enum Refusal {
+pub enum Failure {
     /// The text is not of the kind that was asked for.
     #[error("{0}")]
     Text(ParseError),
@@ -29,42 +29,47 @@ pub enum Refusal {
     OutputFailed,
 }
 
-impl From<ParseError> for Refusal {
+impl From<ParseError> for Failure {
     ghost from_gives = { λ error refusal. refusal ≡ Text error };
 
-    fn from(error: ParseError) -> Refusal {
-        Refusal::Text(error)
+    /// Returns the failure of a line for a parse error.
+    fn from(error: ParseError) -> Failure {
+        Failure::Text(error)
     }
 }
 
-impl From<ResolveError> for Refusal {
+impl From<ResolveError> for Failure {
     ghost from_gives = { λ error refusal. refusal ≡ Target error };
 
-    fn from(error: ResolveError) -> Refusal {
-        Refusal::Target(error)
+    /// Returns the failure of a line for an error of resolving.
+    fn from(error: ResolveError) -> Failure {
+        Failure::Target(error)
     }
 }
 
-impl From<AllocError> for Refusal {
+impl From<AllocError> for Failure {
     ghost from_gives = { λ _ refusal. refusal ≡ OutOfMemory };
 
-    fn from(_: AllocError) -> Refusal {
-        Refusal::OutOfMemory
+    /// Returns the failure of a line for a failed allocation.
+    fn from(_: AllocError) -> Failure {
+        Failure::OutOfMemory
     }
 }
 
-impl<T: Drop> From<AllocFailed<T>> for Refusal {
+impl<T: Drop> From<AllocFailed<T>> for Failure {
     ghost from_gives = { λ _ refusal. refusal ≡ OutOfMemory };
 
-    fn from(_: AllocFailed<T>) -> Refusal {
-        Refusal::OutOfMemory
+    /// Returns the failure of a line for a failed allocation that gave a value back.
+    fn from(_: AllocFailed<T>) -> Failure {
+        Failure::OutOfMemory
     }
 }
 
-impl From<io::Error> for Refusal {
+impl From<io::Error> for Failure {
     ghost from_gives = { λ _ refusal. refusal ≡ OutputFailed };
 
-    fn from(_: io::Error) -> Refusal {
-        Refusal::OutputFailed
+    /// Returns the failure of a line for an error of the writer.
+    fn from(_: io::Error) -> Failure {
+        Failure::OutputFailed
     }
 }

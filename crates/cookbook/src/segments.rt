@@ -2,7 +2,7 @@
 ghost use Rattle.std.specs.Prelude.{◌≡◌, false, string_bytes, IfErr, IfOk, IsOk, []};
 ghost use Rattle.std.specs.List.{list_any};
 ghost use Rattle.fluent_uri.specs.EStrings.{owned_text};
-ghost use Rattle.cookbook.specs.Segments.{is_dots, path_from};
+ghost use Rattle.cookbook.specs.Segments.{is_dot_segment, path_from};
 
 use fluent_uri::pct_enc::EString;
 use fluent_uri::pct_enc::encoder::{Data, Path};
@@ -22,6 +22,7 @@ pub enum PathError {
 }
 
 impl From<AllocError> for PathError {
+    /// Returns the error `OutOfMemory` of building a path for a failed allocation.
     fn from(_: AllocError) -> PathError {
         PathError::OutOfMemory
     }
@@ -39,21 +40,22 @@ impl From<AllocError> for PathError {
 /// Of `a b` and `c/d` it is `/a%20b/c%2Fd`.
 pub fn path_of(alloc: Global, segments: &[String]) -> Result<EString<Path>, PathError>
     ensures path { IfOk result (λ path. owned_text path ≡ path_from [] segments.now) }
-    ensures no_dots { IsOk result → list_any is_dots segments.now ≡ false }
+    ensures no_dots { IsOk result → list_any is_dot_segment segments.now ≡ false }
 {
-    if has_dots(segments) {
+    if has_dot_segment(segments) {
         return Err(PathError::DotSegment);
     }
     Ok(joined(alloc, segments)?)
 }
 
-/// Whether a segment is `.` or `..`.
-fn has_dots(segments: &[String]) -> bool
-    ensures { result ≡ list_any is_dots segments.now }
+/// Returns whether one of the segments is `.` or `..`.
+fn has_dot_segment(segments: &[String]) -> bool
+    ensures { result ≡ list_any is_dot_segment segments.now }
 {
     segments.iter().any(|segment| segment.as_str() == "." || segment.as_str() == "..")
 }
 
+/// Returns the path of the segments, each percent-encoded as data after a `/`.
 fn joined(alloc: Global, segments: &[String]) -> Result<EString<Path>, AllocError>
     ensures { IfOk result (λ path. owned_text path ≡ path_from [] segments.now) }
 {

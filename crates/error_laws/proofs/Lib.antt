@@ -3,7 +3,9 @@ pub mod Places
 pub mod KindFacts
 pub mod Tails
 pub mod PathErrors
+pub mod BracketedHosts
 pub mod LiteralHosts
 pub mod NextMarks
 pub mod AuthorityErrors
+pub mod BuiltPaths
 pub mod Whole

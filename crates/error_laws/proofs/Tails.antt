@@ -7,144 +7,162 @@ use Rattle.std.proofs.lemmas.Bool.{and_from}
 use Rattle.std.proofs.lemmas.Str.{IsUtf8-append, IsUtf8-nil, is_utf8-from_IsUtf8}
 use Rattle.uri_pct.specs.Sets.{TableSet, digit_set}
 use Rattle.uri_pct.specs.Tokens.{IsValidFor}
-use Rattle.uri_pct.proofs.ValidTexts.EStrs.{valid_empty}
+use Rattle.uri_pct.proofs.ValidTexts.EStrs.{empty_text_is_valid}
 use Rattle.uri_parts.specs.Authority.{AuthorityParts, recompose_authority}
 use Rattle.uri_parts.specs.Components.{marked}
-use Rattle.uri_parts.specs.Grammar.{Kind, IsOfKind, if_some}
+use Rattle.uri_parts.specs.Grammar.{Kind, IsOfKind, absent_or_passes}
 use Rattle.uri_parts.proofs.Authorities.Authority.{is_authority_for-complete}
 use Rattle.uri_ops.specs.BuilderParts.{is_text_for, is_scheme_text, is_authority_text}
-use Rattle.uri_ops.specs.Built.{refusal_of}
+use Rattle.uri_ops.specs.Built.{build_error_of_path}
 use Rattle.uri_ops.specs.ComponentSets.{HasComponentSets}
 use Rattle.uri_ops.specs.HostParts.{IsHostText}
-use Rattle.uri_ops.proofs.Builders.BuilderAuthorities.{authority_from}
-use Rattle.uri_ops.proofs.Builders.BuilderHosts.{name_host}
-use Rattle.uri_ops.proofs.Builders.Built.{is_text_of_parts}
-use Rattle.uri_ops.proofs.Meanings.AuthorityMeanings.{keeps_apart}
-use Rattle.uri_ops.proofs.Meanings.PlainTexts.{utf8_ascii}
+use Rattle.uri_ops.proofs.Builders.BuilderAuthorities.{authority-text-from-rule}
+use Rattle.uri_ops.proofs.Builders.BuilderHosts.{valid-name-is-host}
+use Rattle.uri_ops.proofs.Builders.Built.{accepted-parts-have-their-text}
+use Rattle.uri_ops.proofs.Meanings.AuthorityMeanings.{kind-sets-lack-authority-delimiters}
+use Rattle.uri_ops.proofs.Meanings.AsciiCharacters.{ascii-bytes-are-utf8}
 use Rattle.error_laws.proofs.KindFacts.{Facts}
 
-pub text_for : (set : TableSet) (text : List ℕ) → IsUtf8 text → IsValidFor set text
+-- error law: a text in UTF-8 that is valid for a set passes the test of the set
+pub valid-utf8-is-text-for-set : (set : TableSet) (text : List ℕ) → IsUtf8 text
+    → IsValidFor set text
     → is_text_for set text ≡ true
 unfolding is_text_for
-text_for set text u v = and_from _ _ (is_utf8-from_IsUtf8 text u) v
+valid-utf8-is-text-for-set set text u v = and_from _ _ (is_utf8-from_IsUtf8 text u) v
 
+-- what may follow where a fragment may begin
 pub record IsFragmentTail (kind : Kind) (tail : List ℕ) : Type 0 where
   pub fragment : Option (List ℕ)
-  pub spelt : marked (codes "#") fragment [] ≡ tail
-  pub valid : if_some fragment (is_text_for kind.fragment) ≡ true
+  pub joined : marked (codes "#") fragment [] ≡ tail
+  pub valid : absent_or_passes fragment (is_text_for kind.fragment) ≡ true
 
+-- what may follow where a query may begin
 pub record IsQueryTail (kind : Kind) (tail : List ℕ) : Type 0 where
   pub query : Option (List ℕ)
-  pub behind : List ℕ
-  pub spelt : marked (codes "?") query [] ++ behind ≡ tail
-  pub valid : if_some query (is_text_for kind.query) ≡ true
-  pub more : IsFragmentTail kind behind
+  pub suffix : List ℕ
+  pub joined : marked (codes "?") query [] ++ suffix ≡ tail
+  pub valid : absent_or_passes query (is_text_for kind.query) ≡ true
+  pub more : IsFragmentTail kind suffix
 
--- after a scheme, or an authority, or neither
+-- what may follow where a path begins: after a scheme, an authority, or neither
 pub record IsPathTail (kind : Kind) (scheme authority : Bool) (tail : List ℕ) : Type 0 where
   pub path : List ℕ
-  pub behind : List ℕ
-  pub spelt : path ++ behind ≡ tail
+  pub suffix : List ℕ
+  pub joined : path ++ suffix ≡ tail
   pub valid : is_text_for kind.path path ≡ true
-  pub allowed : refusal_of scheme authority path ≡ None
-  pub more : IsQueryTail kind behind
+  pub allowed : build_error_of_path scheme authority path ≡ None
+  pub more : IsQueryTail kind suffix
 
+-- what may follow where a port may begin
 pub record IsPortTail (kind : Kind) (scheme : Bool) (tail : List ℕ) : Type 0 where
   pub port : Option (List ℕ)
-  pub behind : List ℕ
-  pub spelt : marked (codes ":") port [] ++ behind ≡ tail
+  pub suffix : List ℕ
+  pub joined : marked (codes ":") port [] ++ suffix ≡ tail
   pub utf8 : IfSome port IsUtf8
   pub valid : IfSome port (IsValidFor digit_set)
-  pub more : IsPathTail kind scheme true behind
+  pub more : IsPathTail kind scheme true suffix
 
+-- what may follow where a host begins
 pub record IsHostTail (kind : Kind) (scheme : Bool) (tail : List ℕ) : Type 0 where
   pub host : List ℕ
-  pub behind : List ℕ
-  pub spelt : host ++ behind ≡ tail
+  pub suffix : List ℕ
+  pub joined : host ++ suffix ≡ tail
   pub is : IsHostText kind.reg_name host
-  pub more : IsPortTail kind scheme behind
+  pub more : IsPortTail kind scheme suffix
 
+-- what may follow where an authority begins, after its `//`
 pub record IsAuthorityTail (kind : Kind) (scheme : Bool) (tail : List ℕ) : Type 0 where
   pub userinfo : Option (List ℕ)
-  pub behind : List ℕ
-  pub spelt : marked [] userinfo (codes "@") ++ behind ≡ tail
+  pub suffix : List ℕ
+  pub joined : marked [] userinfo (codes "@") ++ suffix ≡ tail
   pub utf8 : IfSome userinfo IsUtf8
   pub valid : IfSome userinfo (IsValidFor kind.userinfo)
-  pub more : IsHostTail kind scheme behind
+  pub more : IsHostTail kind scheme suffix
 
--- nothing may follow at each
-pub no_fragment : (kind : Kind) → IsFragmentTail kind []
-no_fragment kind = record { fragment = None; spelt = refl; valid = refl }
+-- error law: nothing has to follow where a fragment may begin, for the whole to be of the kind
+pub empty-text-is-fragment-tail : (kind : Kind) → IsFragmentTail kind []
+empty-text-is-fragment-tail kind = record { fragment = None; joined = refl; valid = refl }
 
-pub no_query : (kind : Kind) → IsQueryTail kind []
-no_query kind = record {
+-- error law: nothing has to follow where a query may begin, for the whole to be of the kind
+pub empty-text-is-query-tail : (kind : Kind) → IsQueryTail kind []
+empty-text-is-query-tail kind = record {
   query = None;
-  behind = [];
-  spelt = refl;
+  suffix = [];
+  joined = refl;
   valid = refl;
-  more = no_fragment kind;
+  more = empty-text-is-fragment-tail kind;
 }
 
-pub no_path : (kind : Kind) (scheme : Bool) → IsPathTail kind scheme true []
-unfolding refusal_of
-no_path kind scheme = record {
+-- error law: nothing has to follow where the path after an authority begins
+pub empty-text-is-path-tail : (kind : Kind) (scheme : Bool) → IsPathTail kind scheme true []
+unfolding build_error_of_path
+empty-text-is-path-tail kind scheme = record {
   path = [];
-  behind = [];
-  spelt = refl;
-  valid = text_for kind.path [] IsUtf8-nil (valid_empty kind.path);
+  suffix = [];
+  joined = refl;
+  valid = valid-utf8-is-text-for-set kind.path [] IsUtf8-nil (empty_text_is_valid kind.path);
   allowed = refl;
-  more = no_query kind;
+  more = empty-text-is-query-tail kind;
 }
 
--- no port
-pub portless : (kind : Kind) (scheme : Bool) (tail : List ℕ) → IsPathTail kind scheme true tail
+-- error law: what may follow where a path begins may do so where a port may: there is none
+pub path-tail-is-port-tail : (kind : Kind) (scheme : Bool) (tail : List ℕ)
+    → IsPathTail kind scheme true tail
     → IsPortTail kind scheme tail
-portless kind scheme tail more = record {
+path-tail-is-port-tail kind scheme tail more = record {
   port = None;
-  behind = tail;
-  spelt = refl;
+  suffix = tail;
+  joined = refl;
   utf8 = tt;
   valid = tt;
   more = more;
 }
 
-pub no_port : (kind : Kind) (scheme : Bool) → IsPortTail kind scheme []
-no_port kind scheme = portless kind scheme [] (no_path kind scheme)
+-- error law: nothing has to follow where a port may begin, for the whole to be of the kind
+pub empty-text-is-port-tail : (kind : Kind) (scheme : Bool) → IsPortTail kind scheme []
+empty-text-is-port-tail kind scheme = path-tail-is-port-tail kind scheme []
+    (empty-text-is-path-tail kind scheme)
 
-utf8_user : (userinfo : Option (List ℕ)) → IfSome userinfo IsUtf8
+-- error law: userinfo in UTF-8 with its `@`, if there is one, is UTF-8
+userinfo-with-at-sign-is-utf8 : (userinfo : Option (List ℕ)) → IfSome userinfo IsUtf8
     → IsUtf8 (marked [] userinfo (codes "@"))
-utf8_user None u = IsUtf8-nil
-utf8_user (Some x) u = IsUtf8-append x (codes "@") u (utf8_ascii (codes "@") refl)
+userinfo-with-at-sign-is-utf8 None u = IsUtf8-nil
+userinfo-with-at-sign-is-utf8 (Some x) u = IsUtf8-append x (codes "@") u
+    (ascii-bytes-are-utf8 (codes "@") refl)
 
-utf8_port : (port : Option (List ℕ)) → IfSome port IsUtf8 → IsUtf8 (marked (codes ":") port [])
-utf8_port None u = IsUtf8-nil
-utf8_port (Some x) u = IsUtf8-append (codes ":") (x ++ []) (utf8_ascii (codes ":") refl)
+-- error law: a port in UTF-8 with its `:`, if there is one, is UTF-8
+port-with-colon-is-utf8 : (port : Option (List ℕ)) → IfSome port IsUtf8
+    → IsUtf8 (marked (codes ":") port [])
+port-with-colon-is-utf8 None u = IsUtf8-nil
+port-with-colon-is-utf8 (Some x) u = IsUtf8-append (codes ":") (x ++ [])
+    (ascii-bytes-are-utf8 (codes ":") refl)
     (IsUtf8-append x [] u IsUtf8-nil)
 
--- a name is a host
-pub named : (kind : Kind) (f : Facts kind) (text : List ℕ) → IsUtf8 text
+-- error law: a text in UTF-8 that is valid for registered names is a host
+pub valid-name-is-host-text : (kind : Kind) (f : Facts kind) (text : List ℕ) → IsUtf8 text
     → IsValidFor kind.reg_name text → IsHostText kind.reg_name text
-named kind f text u v =
-    name_host kind.reg_name f.sets.reg_name.percent f.name_bracket text u v
+valid-name-is-host-text kind f text u v =
+    valid-name-is-host kind.reg_name f.sets.reg_name.percent f.name_bracket text u v
 
 module _ (kind : Kind) (sets : HasComponentSets kind) where
   -- a text of these components is of the kind
-  pub path_closed : (scheme authority : Option (List ℕ)) (tail : List ℕ)
-      → if_some scheme is_scheme_text ≡ true → if_some authority (is_authority_text kind) ≡ true
+  pub text-with-path-tail-is-of-kind : (scheme authority : Option (List ℕ)) (tail : List ℕ)
+      → absent_or_passes scheme is_scheme_text ≡ true
+      → absent_or_passes authority (is_authority_text kind) ≡ true
       → (is_some scheme || not kind.needs_scheme) ≡ true
       → IsPathTail kind (is_some scheme) (is_some authority) tail
       → IsOfKind kind
       (marked [] scheme (codes ":") ++ (marked (codes "//") authority [] ++ tail))
-  path_closed scheme authority tail s a needs t =
+  text-with-path-tail-is-of-kind scheme authority tail s a needs t =
       let q = t.more in
       let f = q.more in
       let same : t.path ++ (marked (codes "?") q.query [] ++ marked (codes "#") f.fragment [])
       ≡ tail =
-      ap (λ x. t.path ++ (marked (codes "?") q.query [] ++ x)) f.spelt
-      ∙ ap (λ x. t.path ++ x) q.spelt ∙ t.spelt in
+      ap (λ x. t.path ++ (marked (codes "?") q.query [] ++ x)) f.joined
+      ∙ ap (λ x. t.path ++ x) q.joined ∙ t.joined in
       subst (λ x. IsOfKind kind
       (marked [] scheme (codes ":") ++ (marked (codes "//") authority [] ++ x))) same
-      (is_text_of_parts kind sets (record {
+      (accepted-parts-have-their-text kind sets (record {
         scheme = scheme;
         authority = authority;
         path = Some t.path;
@@ -154,11 +172,12 @@ module _ (kind : Kind) (sets : HasComponentSets kind) where
       }) (and_from _ _ s (and_from _ _ a (and_from _ _ t.valid (and_from _ _ q.valid f.valid))))
       needs t.allowed).of_kind
 
-  pub authority_closed : (scheme : Option (List ℕ)) (tail : List ℕ)
-      → if_some scheme is_scheme_text ≡ true → (is_some scheme || not kind.needs_scheme) ≡ true
+  pub text-with-authority-tail-is-of-kind : (scheme : Option (List ℕ)) (tail : List ℕ)
+      → absent_or_passes scheme is_scheme_text ≡ true → (is_some scheme || not kind.needs_scheme)
+      ≡ true
       → IsAuthorityTail kind (is_some scheme) tail
       → IsOfKind kind (marked [] scheme (codes ":") ++ (47 ∷ 47 ∷ tail))
-  authority_closed scheme tail s needs t =
+  text-with-authority-tail-is-of-kind scheme tail s needs t =
       let h = t.more in
       let p = h.more in
       let parts : AuthorityParts =
@@ -166,14 +185,18 @@ module _ (kind : Kind) (sets : HasComponentSets kind) where
       let U : List ℕ = marked [] t.userinfo (codes "@") in
       let P : List ℕ = marked (codes ":") p.port [] in
       let a : List ℕ = recompose_authority parts in
-      let utf8 : IsUtf8 a = IsUtf8-append U (h.host ++ P) (utf8_user t.userinfo t.utf8)
-      (IsUtf8-append h.host P h.is.utf8 (utf8_port p.port p.utf8)) in
-      let rule : is_authority_text kind a ≡ true = authority_from kind a utf8
-      (is_authority_for-complete kind.userinfo kind.reg_name (keeps_apart kind sets) a parts utf8
+      let utf8 : IsUtf8 a = IsUtf8-append U (h.host ++ P)
+      (userinfo-with-at-sign-is-utf8 t.userinfo t.utf8)
+      (IsUtf8-append h.host P h.is.utf8 (port-with-colon-is-utf8 p.port p.utf8)) in
+      let rule : is_authority_text kind a ≡ true = authority-text-from-rule kind a utf8
+      (is_authority_for-complete kind.userinfo kind.reg_name
+      (kind-sets-lack-authority-delimiters kind sets)
+      a parts utf8
       (record { whole = refl; userinfo = t.valid; host = h.is.host; port = p.valid })) in
-      let same : (a ++ []) ++ p.behind ≡ tail =
-      ap (λ x. x ++ p.behind) (append-nil a) ∙ append_assoc U (h.host ++ P) p.behind
-      ∙ ap (λ x. U ++ x) (append_assoc h.host P p.behind ∙ ap (λ x. h.host ++ x) p.spelt ∙ h.spelt)
-      ∙ t.spelt in
+      let same : (a ++ []) ++ p.suffix ≡ tail =
+      ap (λ x. x ++ p.suffix) (append-nil a) ∙ append_assoc U (h.host ++ P) p.suffix
+      ∙ ap (λ x. U ++ x) (append_assoc h.host P p.suffix ∙ ap (λ x. h.host ++ x) p.joined
+      ∙ h.joined)
+      ∙ t.joined in
       subst (λ x. IsOfKind kind (marked [] scheme (codes ":") ++ (47 ∷ 47 ∷ x))) same
-      (path_closed scheme (Some a) p.behind s rule needs p.more)
+      (text-with-path-tail-is-of-kind scheme (Some a) p.suffix s rule needs p.more)

@@ -2,8 +2,10 @@
 use Rattle.std.specs.Prelude.{ℕ, Bool, true, false, List, [], ◌∷◌, codes}
 use Rattle.uri_parts.specs.Grammar.{Kind, uri, uri_ref}
 
-abbrev pub late_rows : List (Kind × List ℕ × Bool)
-late_rows =
+-- texts of a kind, and whether the error of each is an exception to the law of viable prefixes: it
+-- is late
+abbrev pub late_error_rows : List (Kind × List ℕ × Bool)
+late_error_rows =
     (uri, codes "3ab", true) ∷
     (uri, codes "ab", false) ∷
     (uri, codes "://", false) ∷

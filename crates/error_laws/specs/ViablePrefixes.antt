@@ -10,62 +10,74 @@ use Rattle.uri_pct.specs.Sets.{digit_set, scheme_set}
 use Rattle.uri_parts.specs.Components.{has_authority}
 use Rattle.uri_parts.specs.Grammar.{Kind, IsTextOf}
 use Rattle.uri_parts.specs.LiteralErrors.{ipv6_end, literal}
-use Rattle.uri_parts.specs.Scanning.{End, is_next, is_at_end, scan_end}
+use Rattle.uri_parts.specs.Scanning.{ScanResult, is_next, is_at_end, scan_end}
 
--- a text of the kind begins so
-abbrev pub IsViable : Kind → List ℕ → Type 0
-IsViable kind prefix = (more : List ℕ) × IsTextOf kind (prefix ++ more)
+-- the prefix begins some text of the kind: it is one with something appended
+abbrev pub IsViablePrefix : Kind → List ℕ → Type 0
+IsViablePrefix kind prefix = (more : List ℕ) × IsTextOf kind (prefix ++ more)
 
--- what is parsed ends somewhere, and a test holds there
-abbrev pub ends_where : (ℕ → Bool) → End → Bool
-ends_where test (Ok end) = test end
-ends_where test (Err e) = false
+-- a scan succeeded, and the test holds for the index where it ended
+abbrev pub holds_at_end : (ℕ → Bool) → ScanResult → Bool
+holds_at_end test (Ok end) = test end
+holds_at_end test (Err e) = false
 
 module _ (text : List ℕ) where
-  -- 1. A scheme is needed, and what might be one begins with no letter. The error is at its end:
-  -- `3ab` at 3.
-  abbrev pub lacks_letter : ℕ → Bool
-  lacks_letter scheme = nat_lt 0 scheme && not (is_ascii_alphabetic (slice_index text 0))
+  -- exception 1 to the law of viable prefixes: a scheme is needed, and the text begins with so many
+  -- characters of one, but with no letter.
+  -- The error is at their end: `3ab` at 3.
+  abbrev pub begins_without_letter : ℕ → Bool
+  begins_without_letter scheme = nat_lt 0 scheme && not (is_ascii_alphabetic (slice_index text 0))
 
-  -- 2. An IPv6 address is parsed up to the end of the text, but not if `]` follows: the digits at
-  -- the end of the text are not counted. The error is there: `//[:::1` at 7.
-  abbrev pub is_uncounted : ℕ → Bool
-  is_uncounted i =
+  -- exception 2 to the law of viable prefixes: the IPv6 address that begins at index i is parsed up
+  -- to the end of the text, but not if `]` follows.
+  -- The digits at the end of the text are not counted. The error is there: `//[:::1` at 7.
+  abbrev pub is_ipv6_end_uncounted : ℕ → Bool
+  is_ipv6_end_uncounted i =
       option_map_or (is_at_end text) (ipv6_end text i) false
       && not (option_map_or (λ end. end == length text) (ipv6_end (text ++ codes "]") i) false)
 
 module _ (kind : Kind) (text : List ℕ) where
-  -- 3. A stray `%` is in a path that should begin with `/`, since a host and a port are before it.
+  -- exception 3 to the law of viable prefixes: the path that begins at index i has a stray `%`, and
+  -- should begin with `/`, since a host and a port are before it.
   -- The error is at the `%`: `//[::1]a%zz` at 8.
   abbrev pub is_unrooted : ℕ → Bool
   is_unrooted i =
       let end = scan_end text kind.path i in
       nat_lt i end && not (is_next text slash i) && is_next text percent_sign end
 
+  -- the text's error is later than it might be, if a port may begin at index i: the path after it
+  -- has a stray `%`, and should begin with `/` (exception 3)
   unfoldable pub is_late_from_port : ℕ → Bool
   is_late_from_port i =
       is_unrooted (if is_next text colon i then scan_end text digit_set (i + 1) else i)
 
+  -- the text's error is later than it might be, if a host begins at index i: at the end of an IPv6
+  -- address (exception 2), or in the path (exception 3)
   unfoldable pub is_late_from_host : ℕ → Bool
   is_late_from_host i =
       if is_next text left_bracket i
-      then is_uncounted text (i + 1) || ends_where is_late_from_port (literal text (i + 1))
+      then is_ipv6_end_uncounted text (i + 1) || holds_at_end is_late_from_port
+      (literal text (i + 1))
       else is_late_from_port (scan_end text kind.reg_name i)
 
-  -- a host after userinfo, or one in brackets
+  -- the text's error is later than it might be, if an authority begins at index i: only in
+  -- brackets, or after userinfo (exceptions 2 and 3)
   unfoldable pub is_late_from_authority : ℕ → Bool
   is_late_from_authority i =
       let end = scan_end text kind.userinfo i in
       if is_next text at_sign end then is_late_from_host (end + 1)
       else is_next text left_bracket i && is_late_from_host i
 
+  -- the text's error is later than it might be, if what is after a scheme begins at index i
+  -- (exceptions 2 and 3)
   abbrev pub is_late_from_hier : ℕ → Bool
   is_late_from_hier i = has_authority (drop i text) && is_late_from_authority (i + 2)
 
-  -- the text is one of the three exceptions
+  -- the text's error as one of the kind is later than it might be: it is one of the three
+  -- exceptions to the law of viable prefixes
   unfoldable pub has_late_error : Bool
   has_late_error =
       let scheme = scan_end text scheme_set 0 in
       if is_next text colon scheme
       then is_ascii_alphabetic (slice_index text 0) && is_late_from_hier (scheme + 1)
-      else (if kind.needs_scheme then lacks_letter text scheme else is_late_from_hier 0)
+      else (if kind.needs_scheme then begins_without_letter text scheme else is_late_from_hier 0)

@@ -4,11 +4,11 @@
 ghost use Rattle.std.specs.Prelude.{◌≡◌, ℕ, List, false, map, take, Some};
 ghost use Rattle.std.specs.Str.{IsUtf8};
 ghost use Rattle.uri_parts.specs.declared.error.ParseError.{ParseError};
-ghost use Rattle.uri_parts.specs.Errors.{index_of};
+ghost use Rattle.uri_parts.specs.Errors.{error_index};
 ghost use Rattle.uri_parts.specs.Grammar.{uri, uri_ref, iri, iri_ref};
 ghost use Rattle.uri_parts.specs.Refusals.{refusal};
-ghost use Rattle.error_laws.specs.ViablePrefixes.{IsViable, has_late_error};
-ghost use Rattle.error_laws.specs.ViablePrefixRows.{late_rows};
+ghost use Rattle.error_laws.specs.ViablePrefixes.{IsViablePrefix, has_late_error};
+ghost use Rattle.error_laws.specs.ViablePrefixRows.{late_error_rows};
 
 /// What is before the index of an error begins some text of the kind, but for three exceptions, in
 /// which the error is returned later: `has_late_error` says which texts these are.
@@ -18,19 +18,20 @@ ghost use Rattle.error_laws.specs.ViablePrefixRows.{late_rows};
 /// `http://[vG.addr]` has its error at index 9, and `http://[v` begins `http://[v1.a]`.
 pub fn what_is_before_an_error_begins_a_text()
     ensures uri { (text : List ℕ) (e : ParseError) → IsUtf8 text → refusal uri text ≡ Some e
-        → has_late_error uri text ≡ false → IsViable uri (take (index_of e) text) }
+        → has_late_error uri text ≡ false → IsViablePrefix uri (take (error_index e) text) }
     ensures uri_ref { (text : List ℕ) (e : ParseError) → IsUtf8 text
         → refusal uri_ref text ≡ Some e → has_late_error uri_ref text ≡ false
-        → IsViable uri_ref (take (index_of e) text) }
+        → IsViablePrefix uri_ref (take (error_index e) text) }
     ensures iri { (text : List ℕ) (e : ParseError) → IsUtf8 text → refusal iri text ≡ Some e
-        → has_late_error iri text ≡ false → IsViable iri (take (index_of e) text) }
+        → has_late_error iri text ≡ false → IsViablePrefix iri (take (error_index e) text) }
     ensures iri_ref { (text : List ℕ) (e : ParseError) → IsUtf8 text
         → refusal iri_ref text ≡ Some e → has_late_error iri_ref text ≡ false
-        → IsViable iri_ref (take (index_of e) text) }
+        → IsViablePrefix iri_ref (take (error_index e) text) }
 {}
 
-/// Which of some texts are the exceptions.
+/// Some example texts are, and some are not, the exceptions whose errors are returned late.
 #[doc(hidden)]
 pub fn some_texts_have_late_errors()
-    ensures { map (λ row. has_late_error row.0 row.1) late_rows ≡ map (λ row. row.2) late_rows }
+    ensures { map (λ row. has_late_error row.0 row.1) late_error_rows
+        ≡ map (λ row. row.2) late_error_rows }
 {}

@@ -7,9 +7,9 @@ pub use Rattle.uri_pct.specs.EncodedTexts
 pub use Rattle.uri_pct.specs.Masks
 pub use Rattle.uri_pct.specs.Pieces
 pub use Rattle.uri_pct.specs.Prefixes
-pub use Rattle.uri_pct.specs.Reading
+pub use Rattle.uri_pct.specs.DecodeUnreserved
 pub use Rattle.uri_pct.specs.Sets
-pub use Rattle.uri_pct.specs.Spelling
+pub use Rattle.uri_pct.specs.Representation
 pub use Rattle.uri_pct.specs.Tables
 pub use Rattle.uri_pct.specs.Texts
 pub use Rattle.uri_pct.specs.Tokens

@@ -3,7 +3,8 @@ use Rattle.std.specs.Prelude.{ℕ, List}
 use Rattle.uri_parts.specs.CoreTexts.{core_text}
 use Rattle.fluent_uri.specs.declared.reference.Reference.{Reference}
 
--- the text of a value, whose type has the encoders of its kind as parameters, and facts about them
+-- The text of a `Uri`, `UriRef`, `Iri` or `IriRef`, which are one type at four kinds.
+-- The type of a `Reference` has the encoders of its kind as parameters, and facts about them.
 abbrev pub reference_text : {K T U N P Q F : _} {k u n p q f t : _}
     → Reference K T U N P Q F k u n p q f t → List ℕ
 reference_text value = core_text value.core

@@ -1,7 +1,7 @@
 //! Builders of the four kinds, and the empty reference (RFC 3986, sections 4.4 and 5.3).
 ghost use Rattle.std.specs.Prelude.{◌≡◌};
 ghost use Rattle.uri_ops.specs.BuilderParts.{no_parts};
-ghost use Rattle.uri_ops.specs.BuilderStates.{held_of, parts_at};
+ghost use Rattle.uri_ops.specs.BuilderStates.{contents_of, parts_in_state};
 
 use crate::reference::Reference;
 use crate::roles::RefKind;
@@ -28,7 +28,7 @@ impl Reference<UriKind, String> {
     /// Ok(made)
     /// ```
     pub fn builder(alloc: Global) -> Builder<Reference<UriKind, String>, NonRefStart>
-        ensures { parts_at (held_of result) ≡ no_parts }
+        ensures { parts_in_state (contents_of result) ≡ no_parts }
     {
         Builder::with_needed_scheme(alloc)
     }
@@ -48,7 +48,7 @@ impl Reference<IriKind, String> {
     ///     .build()
     /// ```
     pub fn builder(alloc: Global) -> Builder<Reference<IriKind, String>, NonRefStart>
-        ensures { parts_at (held_of result) ≡ no_parts }
+        ensures { parts_in_state (contents_of result) ≡ no_parts }
     {
         Builder::with_needed_scheme(alloc)
     }
@@ -68,7 +68,7 @@ impl Reference<UriRefKind, String> {
     ///     .build()
     /// ```
     pub fn builder(alloc: Global) -> Builder<Reference<UriRefKind, String>, Start>
-        ensures { parts_at (held_of result) ≡ no_parts }
+        ensures { parts_in_state (contents_of result) ≡ no_parts }
     {
         Builder::of_reference(alloc)
     }
@@ -81,7 +81,7 @@ impl Reference<IriRefKind, String> {
     ///
     /// The path `é` alone makes `é`.
     pub fn builder(alloc: Global) -> Builder<Reference<IriRefKind, String>, Start>
-        ensures { parts_at (held_of result) ≡ no_parts }
+        ensures { parts_in_state (contents_of result) ≡ no_parts }
     {
         Builder::of_reference(alloc)
     }

@@ -1,9 +1,10 @@
 //! Conversions between the kinds (RFC 3986, sections 3 and 4.1; RFC 3987, section 3.1).
 ghost use Rattle.std.specs.Prelude.{◌≡◌, IfOk};
 ghost use Rattle.uri_parts.specs.Grammar.{iri, iri_ref, uri, uri_ref};
-ghost use Rattle.uri_ops.specs.Conversions.{Converts, ConvertsOwned, scheme_refusal, ascii_refusal};
-ghost use Rattle.uri_ops.specs.Conversions.{uri_refusal};
-ghost use Rattle.uri_ops.specs.Encoded.{encoded_text, MeanTheSame};
+ghost use Rattle.uri_ops.specs.Conversions.{Converts, ConvertsOwned, missing_scheme_error};
+ghost use Rattle.uri_ops.specs.Conversions.{not_ascii_error};
+ghost use Rattle.uri_ops.specs.Conversions.{uri_conversion_error};
+ghost use Rattle.uri_ops.specs.Encoded.{encode_past_ascii, AreEquivalent};
 ghost use Rattle.uri_ops.specs.Meaning.{meaning_of};
 ghost use Rattle.uri_parts.specs.Ports.{PortFunction};
 ghost use Rattle.fluent_uri.specs.References.{reference_text};
@@ -21,21 +22,21 @@ use uri_parts::core_text::Core;
 impl<T: AsStr> From<Uri<T>> for UriRef<T> {
     ghost from_gives = { λ value reference. reference_text reference ≡ reference_text value };
 
-    /// Returns the same text, as a URI reference.
+    /// Converts a URI to a URI reference over the same text.
     fn from(value: Uri<T>) -> UriRef<T> {
         Reference::of_core(value.into_core().into_kind())
     }
 }
 
-#[tactic(auto, using(uri_ops::proofs::TextKinds::Conversions::uri_with_scheme))]
+#[tactic(auto, using(uri_ops::proofs::TextKinds::Conversions::uri_ref_with_scheme_is_uri))]
 impl<'a> TryFrom<UriRef<&'a str>> for Uri<&'a str> {
     type Error = ConvertError;
 
     ghost try_from_gives = { λ value result.
         Converts uri reference_text (reference_text value)
-        (scheme_refusal (reference_text value)) result };
+        (missing_scheme_error (reference_text value)) result };
 
-    /// Returns the same text, as a URI.
+    /// Converts a URI reference to a URI over the same text, or returns an error.
     ///
     /// # Errors
     ///
@@ -46,15 +47,15 @@ impl<'a> TryFrom<UriRef<&'a str>> for Uri<&'a str> {
     }
 }
 
-#[tactic(auto, using(uri_ops::proofs::TextKinds::Conversions::uri_with_scheme))]
+#[tactic(auto, using(uri_ops::proofs::TextKinds::Conversions::uri_ref_with_scheme_is_uri))]
 impl TryFrom<UriRef<String>> for Uri<String> {
     type Error = (ConvertError, UriRef<String>);
 
     ghost try_from_gives = { λ value result.
         ConvertsOwned uri reference_text (reference_text value)
-        (scheme_refusal (reference_text value)) value result };
+        (missing_scheme_error (reference_text value)) value result };
 
-    /// Returns the same text, as a URI.
+    /// Converts a URI reference to a URI over the same text, or returns an error.
     ///
     /// # Errors
     ///
@@ -72,7 +73,7 @@ impl TryFrom<UriRef<String>> for Uri<String> {
 impl<T: AsStr> From<Uri<T>> for Iri<T> {
     ghost from_gives = { λ value wider. reference_text wider ≡ reference_text value };
 
-    /// Returns the same text, as an IRI.
+    /// Converts a URI to an IRI over the same text.
     fn from(value: Uri<T>) -> Iri<T> {
         Reference::of_core(value.into_core().into_kind())
     }
@@ -82,7 +83,7 @@ impl<T: AsStr> From<Uri<T>> for Iri<T> {
 impl<T: AsStr> From<Uri<T>> for IriRef<T> {
     ghost from_gives = { λ value wider. reference_text wider ≡ reference_text value };
 
-    /// Returns the same text, as an IRI reference.
+    /// Converts a URI to an IRI reference over the same text.
     fn from(value: Uri<T>) -> IriRef<T> {
         Reference::of_core(value.into_core().into_kind())
     }
@@ -92,7 +93,7 @@ impl<T: AsStr> From<Uri<T>> for IriRef<T> {
 impl<T: AsStr> From<UriRef<T>> for IriRef<T> {
     ghost from_gives = { λ value wider. reference_text wider ≡ reference_text value };
 
-    /// Returns the same text, as an IRI reference.
+    /// Converts a URI reference to an IRI reference over the same text.
     fn from(value: UriRef<T>) -> IriRef<T> {
         Reference::of_core(value.into_core().into_kind())
     }
@@ -102,21 +103,21 @@ impl<T: AsStr> From<UriRef<T>> for IriRef<T> {
 impl<T: AsStr> From<Iri<T>> for IriRef<T> {
     ghost from_gives = { λ value wider. reference_text wider ≡ reference_text value };
 
-    /// Returns the same text, as an IRI reference.
+    /// Converts an IRI to an IRI reference over the same text.
     fn from(value: Iri<T>) -> IriRef<T> {
         Reference::of_core(value.into_core().into_kind())
     }
 }
 
-#[tactic(auto, using(uri_ops::proofs::TextKinds::Conversions::iri_with_scheme))]
+#[tactic(auto, using(uri_ops::proofs::TextKinds::Conversions::iri_ref_with_scheme_is_iri))]
 impl<'a> TryFrom<IriRef<&'a str>> for Iri<&'a str> {
     type Error = ConvertError;
 
     ghost try_from_gives = { λ value result.
         Converts iri reference_text (reference_text value)
-        (scheme_refusal (reference_text value)) result };
+        (missing_scheme_error (reference_text value)) result };
 
-    /// Returns the same text, as an IRI.
+    /// Converts an IRI reference to an IRI over the same text, or returns an error.
     ///
     /// # Errors
     ///
@@ -127,15 +128,15 @@ impl<'a> TryFrom<IriRef<&'a str>> for Iri<&'a str> {
     }
 }
 
-#[tactic(auto, using(uri_ops::proofs::TextKinds::Conversions::iri_with_scheme))]
+#[tactic(auto, using(uri_ops::proofs::TextKinds::Conversions::iri_ref_with_scheme_is_iri))]
 impl TryFrom<IriRef<String>> for Iri<String> {
     type Error = (ConvertError, IriRef<String>);
 
     ghost try_from_gives = { λ value result.
         ConvertsOwned iri reference_text (reference_text value)
-        (scheme_refusal (reference_text value)) value result };
+        (missing_scheme_error (reference_text value)) value result };
 
-    /// Returns the same text, as an IRI.
+    /// Converts an IRI reference to an IRI over the same text, or returns an error.
     ///
     /// # Errors
     ///
@@ -149,124 +150,124 @@ impl TryFrom<IriRef<String>> for Iri<String> {
     }
 }
 
-#[tactic(auto, using(uri_ops::proofs::TextKinds::Conversions::iri_of_ascii))]
+#[tactic(auto, using(uri_ops::proofs::TextKinds::Conversions::ascii_iri_is_uri))]
 impl<'a> TryFrom<Iri<&'a str>> for Uri<&'a str> {
     type Error = ConvertError;
 
     ghost try_from_gives = { λ value result.
         Converts uri reference_text (reference_text value)
-        (ascii_refusal (reference_text value)) result };
+        (not_ascii_error (reference_text value)) result };
 
-    /// Returns the same text, as a URI.
+    /// Converts an IRI to a URI over the same text, or returns an error.
     ///
     /// # Errors
     ///
     /// Returns `NotAscii` exactly if the IRI has a character past ASCII.
     fn try_from(value: Iri<&'a str>) -> Result<Uri<&'a str>, ConvertError> {
-        convert::needs_ascii(value.as_str())?;
+        convert::check_is_ascii(value.as_str())?;
         Ok(Reference::of_core(value.into_core().into_kind()))
     }
 }
 
-#[tactic(auto, using(uri_ops::proofs::TextKinds::Conversions::iri_of_ascii))]
+#[tactic(auto, using(uri_ops::proofs::TextKinds::Conversions::ascii_iri_is_uri))]
 impl TryFrom<Iri<String>> for Uri<String> {
     type Error = (ConvertError, Iri<String>);
 
     ghost try_from_gives = { λ value result.
         ConvertsOwned uri reference_text (reference_text value)
-        (ascii_refusal (reference_text value)) value result };
+        (not_ascii_error (reference_text value)) value result };
 
-    /// Returns the same text, as a URI.
+    /// Converts an IRI to a URI over the same text, or returns an error.
     ///
     /// # Errors
     ///
     /// Returns `NotAscii` exactly if the IRI has a character past ASCII. The IRI is returned with
     /// the error.
     fn try_from(value: Iri<String>) -> Result<Uri<String>, (ConvertError, Iri<String>)> {
-        if let Err(error) = convert::needs_ascii(value.as_str()) {
+        if let Err(error) = convert::check_is_ascii(value.as_str()) {
             return Err((error, value));
         }
         Ok(Reference::of_core(value.into_core().into_kind()))
     }
 }
 
-#[tactic(auto, using(uri_ops::proofs::TextKinds::Conversions::iri_ref_of_ascii))]
+#[tactic(auto, using(uri_ops::proofs::TextKinds::Conversions::ascii_iri_ref_is_uri_ref))]
 impl<'a> TryFrom<IriRef<&'a str>> for UriRef<&'a str> {
     type Error = ConvertError;
 
     ghost try_from_gives = { λ value result.
         Converts uri_ref reference_text (reference_text value)
-        (ascii_refusal (reference_text value)) result };
+        (not_ascii_error (reference_text value)) result };
 
-    /// Returns the same text, as a URI reference.
+    /// Converts an IRI reference to a URI reference over the same text, or returns an error.
     ///
     /// # Errors
     ///
     /// Returns `NotAscii` exactly if the reference has a character past ASCII.
     fn try_from(value: IriRef<&'a str>) -> Result<UriRef<&'a str>, ConvertError> {
-        convert::needs_ascii(value.as_str())?;
+        convert::check_is_ascii(value.as_str())?;
         Ok(Reference::of_core(value.into_core().into_kind()))
     }
 }
 
-#[tactic(auto, using(uri_ops::proofs::TextKinds::Conversions::iri_ref_of_ascii))]
+#[tactic(auto, using(uri_ops::proofs::TextKinds::Conversions::ascii_iri_ref_is_uri_ref))]
 impl TryFrom<IriRef<String>> for UriRef<String> {
     type Error = (ConvertError, IriRef<String>);
 
     ghost try_from_gives = { λ value result.
         ConvertsOwned uri_ref reference_text (reference_text value)
-        (ascii_refusal (reference_text value)) value result };
+        (not_ascii_error (reference_text value)) value result };
 
-    /// Returns the same text, as a URI reference.
+    /// Converts an IRI reference to a URI reference over the same text, or returns an error.
     ///
     /// # Errors
     ///
     /// Returns `NotAscii` exactly if the reference has a character past ASCII. The reference is
     /// returned with the error.
     fn try_from(value: IriRef<String>) -> Result<UriRef<String>, (ConvertError, IriRef<String>)> {
-        if let Err(error) = convert::needs_ascii(value.as_str()) {
+        if let Err(error) = convert::check_is_ascii(value.as_str()) {
             return Err((error, value));
         }
         Ok(Reference::of_core(value.into_core().into_kind()))
     }
 }
 
-#[tactic(auto, using(uri_ops::proofs::TextKinds::Conversions::uri_of_ascii))]
+#[tactic(auto, using(uri_ops::proofs::TextKinds::Conversions::ascii_iri_ref_with_scheme_is_uri))]
 impl<'a> TryFrom<IriRef<&'a str>> for Uri<&'a str> {
     type Error = ConvertError;
 
     ghost try_from_gives = { λ value result.
         Converts uri reference_text (reference_text value)
-        (uri_refusal (reference_text value)) result };
+        (uri_conversion_error (reference_text value)) result };
 
-    /// Returns the same text, as a URI.
+    /// Converts an IRI reference to a URI over the same text, or returns an error.
     ///
     /// # Errors
     ///
     /// Returns `NoScheme` exactly if the reference has no scheme, and otherwise `NotAscii` exactly
     /// if it has a character past ASCII.
     fn try_from(value: IriRef<&'a str>) -> Result<Uri<&'a str>, ConvertError> {
-        convert::needs_uri(value.as_str(), value.has_scheme())?;
+        convert::check_is_uri(value.as_str(), value.has_scheme())?;
         Ok(Reference::of_core(value.into_core().into_kind()))
     }
 }
 
-#[tactic(auto, using(uri_ops::proofs::TextKinds::Conversions::uri_of_ascii))]
+#[tactic(auto, using(uri_ops::proofs::TextKinds::Conversions::ascii_iri_ref_with_scheme_is_uri))]
 impl TryFrom<IriRef<String>> for Uri<String> {
     type Error = (ConvertError, IriRef<String>);
 
     ghost try_from_gives = { λ value result.
         ConvertsOwned uri reference_text (reference_text value)
-        (uri_refusal (reference_text value)) value result };
+        (uri_conversion_error (reference_text value)) value result };
 
-    /// Returns the same text, as a URI.
+    /// Converts an IRI reference to a URI over the same text, or returns an error.
     ///
     /// # Errors
     ///
     /// Returns `NoScheme` exactly if the reference has no scheme, and otherwise `NotAscii` exactly
     /// if it has a character past ASCII. The reference is returned with the error.
     fn try_from(value: IriRef<String>) -> Result<Uri<String>, (ConvertError, IriRef<String>)> {
-        if let Err(error) = convert::needs_uri(value.as_str(), value.has_scheme()) {
+        if let Err(error) = convert::check_is_uri(value.as_str(), value.has_scheme()) {
             return Err((error, value));
         }
         Ok(Reference::of_core(value.into_core().into_kind()))
@@ -298,9 +299,9 @@ impl<T: AsStr> Iri<T> {
     /// ```
     pub fn to_uri(&self, alloc: Global) -> Result<Uri<String>, AllocError>
         ensures text { IfOk result (λ encoded.
-            reference_text encoded ≡ encoded_text (reference_text self.now)) }
+            reference_text encoded ≡ encode_past_ascii (reference_text self.now)) }
         ensures meaning { IfOk result (λ encoded.
-            MeanTheSame iri (reference_text encoded) (reference_text self.now)) }
+            AreEquivalent iri (reference_text encoded) (reference_text self.now)) }
         ensures under { (ports : PortFunction) → IfOk result (λ encoded.
             meaning_of iri ports (reference_text encoded)
             ≡ meaning_of iri ports (reference_text self.now)) }
@@ -329,9 +330,9 @@ impl<T: AsStr> IriRef<T> {
     /// `é?q` becomes `%C3%A9?q`.
     pub fn to_uri_ref(&self, alloc: Global) -> Result<UriRef<String>, AllocError>
         ensures text { IfOk result (λ encoded.
-            reference_text encoded ≡ encoded_text (reference_text self.now)) }
+            reference_text encoded ≡ encode_past_ascii (reference_text self.now)) }
         ensures meaning { IfOk result (λ encoded.
-            MeanTheSame iri_ref (reference_text encoded) (reference_text self.now)) }
+            AreEquivalent iri_ref (reference_text encoded) (reference_text self.now)) }
         ensures under { (ports : PortFunction) → IfOk result (λ encoded.
             meaning_of iri_ref ports (reference_text encoded)
             ≡ meaning_of iri_ref ports (reference_text self.now)) }

@@ -80,31 +80,35 @@ pub mod component {
 pub mod laws {
     pub use error_laws::what_is_before_an_error_begins_a_text;
     pub use uri_ops::laws::iri_uri::{
-        encoded_texts_mean_the_same, encoded_texts_resolve_alike, texts_of_wider_kinds,
+        encoding_past_ascii_and_resolving_swap, encoding_past_ascii_keeps_meaning,
+        texts_are_of_wider_kinds_too,
     };
     pub use uri_ops::laws::normal_form::{
-        four_kinds_have_component_sets, meaning_under_ports, meanings_are_equal_if_their_parts_are,
-        normal_texts_are_canonical,
+        bare_meanings_determine_meanings, four_kinds_have_component_sets,
+        meanings_are_equal_if_their_parts_are, normal_texts_are_canonical,
     };
-    pub use uri_ops::laws::resolve_normalize::{resolving_and_normalising_swap, targets_are_texts};
+    pub use uri_ops::laws::resolve_normalize::{
+        resolving_and_normalising_swap, targets_are_of_the_kind_of_their_base,
+    };
     pub use uri_ops::laws::{
-        authorities_have_one_cut, bases_may_be_removed_before_merging,
-        directories_are_taken_before_or_after_removing, front_pieces_may_be_removed_first,
-        kinds_are_their_grammar, no_dot_segment_is_left, nothing_is_left_to_read,
-        paths_without_dot_segments_are_left_as_they_are, removing_and_reading_swap,
-        removing_twice_is_removing_once,
+        authorities_split_in_one_way, base_dots_may_be_removed_before_merging,
+        kinds_match_the_rfc_grammars, leading_dots_may_be_removed_first, no_dot_segment_is_left,
+        paths_without_dot_segments_are_left_as_they_are, removing_dot_segments_is_idempotent,
+        removing_dot_segments_reads_the_whole_path, removing_dots_and_decoding_swap,
+        taking_directories_and_removing_dots_swap,
     };
     pub use uri_parts::laws::{
         accepted_exactly_if_no_error, components_are_a_split, components_are_the_only_split,
-        components_recompose, ipv4_addresses_compare_alike, ipv4_addresses_compare_by_octets,
-        ipv4_is_less_than_ipv6, ipv4_text_is_read_back, ipv6_addresses_compare_alike,
-        ipv6_addresses_compare_by_segments, ipv6_text_is_read_back,
+        components_recompose, ipv4_addresses_compare_by_octets,
+        ipv4_as_ip_addresses_compare_by_octets, ipv4_is_less_than_ipv6,
+        ipv4_text_parses_to_its_octets, ipv6_addresses_compare_by_segments,
+        ipv6_as_ip_addresses_compare_by_segments, ipv6_text_parses_to_its_segments,
     };
     pub use uri_pct::laws::{
-        lossy_texts_are_those_of_std, octets_are_read_in_either_case,
-        pieces_are_together_the_bytes, spelt_texts_are_read_back, uris_are_read_octet_by_octet,
-        valid_prefixes_are_longest, what_is_encoded_decodes_to_what_was_given,
-        what_is_printed_is_read_back,
+        decoding_inverts_encoding, lossy_texts_are_those_of_std, octets_decode_in_either_case,
+        printed_tokens_are_parsed_back, texts_represent_only_their_tokens,
+        uri_octets_are_decoded_one_by_one, utf8_pieces_join_to_the_bytes,
+        valid_prefixes_are_longest,
     };
 }
 

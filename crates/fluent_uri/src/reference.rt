@@ -44,7 +44,7 @@ impl<K: Kind, T: AsStr + Copy> Copy for Reference<K, T> {}
 
 impl<K: Kind, T: AsStr> RiMaybeRef for Reference<K, T> {
     ghost use Rattle.std.specs.Prelude.{refl};
-    ghost use Rattle.uri_ops.proofs.TextKinds.FourKinds.{known_sets};
+    ghost use Rattle.uri_ops.proofs.TextKinds.FourKinds.{one-of-four-kinds-has-sets};
     ghost use Rattle.fluent_uri.specs.References.{reference_text};
 
     type Owned = Reference<K, String>;
@@ -67,14 +67,17 @@ impl<K: Kind, T: AsStr> RiMaybeRef for Reference<K, T> {
 
     ghost owned_text = { reference_text };
 
+    /// Returns the text of the reference.
     fn as_str(&self) -> &str {
         self.core.borrow().as_str()
     }
 
+    /// Returns the positions of the components of the reference.
     fn positions(&self) -> Positions {
         self.core.borrow().positions()
     }
 
+    /// Returns the reference whose text this is, with the positions of its own components.
     fn make_owned(owned: String, positions: Positions) -> Reference<K, String> {
         Reference {
             core: Core::new(owned, positions),
@@ -83,7 +86,7 @@ impl<K: Kind, T: AsStr> RiMaybeRef for Reference<K, T> {
 
     ghost kind_is_its_own = { refl };
 
-    ghost component_sets = { known_sets K.kind K.known };
+    ghost component_sets = { one-of-four-kinds-has-sets K.kind K.known };
 }
 
 impl<K: Kind, T: AsStr> WithOwned for Reference<K, T> {
@@ -126,7 +129,7 @@ impl<'a, K: Kind> TryFrom<&'a str> for Reference<K, &'a str> {
 
     ghost try_from_gives = { λ text result. Parses K.kind reference_text text.now result };
 
-    /// Parses the text, as `parse` does.
+    /// Parses a text as a reference of this kind.
     fn try_from(text: &'a str) -> Result<Self, ParseError> {
         Reference::<K, &'a str>::parse(text)
     }
@@ -141,7 +144,7 @@ impl<K: Kind> TryFrom<String> for Reference<K, String> {
     ghost try_from_gives = { λ text result.
         ParsesOwned K.kind reference_text (string_bytes text) result };
 
-    /// Parses the text, as `parse` does.
+    /// Parses a text as a reference of this kind.
     fn try_from(text: String) -> Result<Self, (ParseError, String)> {
         Reference::<K, String>::parse(text)
     }
@@ -152,7 +155,7 @@ impl<K: Kind> From<Reference<K, String>> for String {
 
     ghost from_gives = { λ value text. string_bytes text ≡ reference_text value };
 
-    /// Returns the text, as `into_string` does.
+    /// Returns the text of the reference as a `String`, without a copy.
     fn from(value: Reference<K, String>) -> String {
         value.into_string()
     }

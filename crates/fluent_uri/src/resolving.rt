@@ -2,7 +2,8 @@
 ghost use Rattle.std.specs.Prelude.{◌≡◌, IfErr, IfOk, Ok, true};
 ghost use Rattle.uri_parts.specs.Components.{components};
 ghost use Rattle.uri_ops.specs.NormalTargets.{IsErrorOfMeanings, IsTargetOfMeanings};
-ghost use Rattle.uri_ops.specs.Resolving.{IsErrorForEncoded, IsRefusalFor, IsTargetOfEncoded};
+ghost use Rattle.uri_ops.specs.Resolving.{IsErrorForEncoded, IsErrorWithUnderflowAllowed};
+ghost use Rattle.uri_ops.specs.Resolving.{IsTargetOfEncoded};
 ghost use Rattle.uri_ops.specs.Target.{resolution_of_texts};
 ghost use Rattle.fluent_uri.specs.References.{reference_text};
 
@@ -46,7 +47,7 @@ impl<K: RefKind, T: AsStr> Reference<K, T> {
             resolution_of_texts (reference_text base.now) (reference_text self.now)
             ≡ Ok (reference_text target)) }
         ensures refusal { IfErr result
-            (IsRefusalFor (components (reference_text base.now))
+            (IsErrorWithUnderflowAllowed (components (reference_text base.now))
             (components (reference_text self.now))) }
         ensures encoded { IfOk result (λ target. IsTargetOfEncoded true
             (reference_text base.now) (reference_text self.now) (reference_text target)) }
@@ -57,6 +58,6 @@ impl<K: RefKind, T: AsStr> Reference<K, T> {
         ensures alike_error { IfErr result (IsErrorOfMeanings K.Base.kind K.kind
             (reference_text base.now) (reference_text self.now)) }
     {
-        resolve::resolved_against(alloc, base, self)
+        resolve::resolve_with_underflow(alloc, base, self)
     }
 }

@@ -6,15 +6,17 @@ use Rattle.std.proofs.lemmas.List.{get_or-set_same, get_or-set_other}
 use Rattle.std.specs.Int.{bit_at}
 use Rattle.fluent_uri_c.specs.Columns.{bit_of}
 
+-- columns for C: after a byte of validity bits was written, the bit of index i is the one written
 pub bit_of-same : (bytes : List ℕ) (i value : ℕ) → i / 8 < length bytes
     → bit_of (set bytes (i / 8) value) i ≡ bit_at value (i % 8)
 bit_of-same bytes i value inside =
     ap (λ byte. bit_at byte (i % 8)) (get_or-set_same bytes (i / 8) value 0 inside)
 
--- two indexes have the same byte and bit only if they are one
+-- columns for C: two indexes have the same byte and bit only if they are one
 same_index : (i j : ℕ) → j / 8 ≡ i / 8 → j % 8 ≡ i % 8 → j ≡ i
 same_index i j e m = omega arith
 
+-- columns for C: a byte written for index i leaves the bit of every other index j
 pub bit_of-other : (bytes : List ℕ) (i value j : ℕ) → i / 8 < length bytes → j ≢ i
     → ((bit : ℕ) → bit < 8 → bit ≢ i % 8
     → bit_at value bit ≡ bit_at (get_or bytes (i / 8) 0) bit)

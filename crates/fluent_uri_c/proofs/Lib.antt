@@ -1,5 +1,7 @@
+mod AsciiBlocks
 mod Batches
 mod Bits
+mod HostNames
 mod LinesOf
 mod PartColumns
 mod Places

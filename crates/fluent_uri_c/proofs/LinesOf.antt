@@ -11,10 +11,10 @@ use Rattle.std.proofs.lemmas.List.Sums.{fails_before_first, prefix_len-le-length
 use Rattle.std.proofs.lemmas.Option.{slice_get_read}
 use Rattle.fluent_uri_c.specs.Lines.{is_newline, lines_of}
 
--- what is left of a list from an item on
-left_at : {A : Type 0} (items more : List A) (n : ℕ) (item : A) → drop n items ≡ item ∷ more
+-- general fact on lists, for lines of an input: what is left of a list from an item on
+drop-at-item : {A : Type 0} (items more : List A) (n : ℕ) (item : A) → drop n items ≡ item ∷ more
     → (n < length items) × (slice_get items n ≡ Some item) × (drop (n + 1) items ≡ more)
-left_at items more n item e =
+drop-at-item items more n item e =
     let l : length (drop n items) ≡ length (item ∷ more) = ap length e in
     let inside : n < length items = omega (arith, l, length-drop n items) in (
       inside,
@@ -27,17 +27,18 @@ left_at items more n item e =
 abbrev pub line_length : List ℕ → ℕ
 line_length rest = position_or_len is_newline rest
 
+-- lines for C: a line is no longer than the text that is left
 pub line_length-le : (rest : List ℕ) → line_length rest ≤ length rest
 line_length-le rest = prefix_len-le-length (λ byte. not (is_newline byte)) rest
 
--- the slice of an input from a position on
-pub from_position : (input : List ℕ) (start : ℕ)
+-- general fact on slices, for lines of an input: the slice from a position on is what is left there
+pub slice-from-position : (input : List ℕ) (start : ℕ)
     → take (length input - start) (drop start input) ≡ drop start input
-from_position input start =
+slice-from-position input start =
     ap (λ k. take k (drop start input)) (sym (length-drop start input))
     ∙ take-length (drop start input)
 
--- the last line has no newline
+-- lines for C: what is left of an input, if it has no newline, is its last line
 last_line : (rest : List ℕ) → length rest ≤ line_length rest → lines_of rest ≡ rest ∷ []
 last_line rest past =
     slice_split_none is_newline rest
@@ -52,14 +53,15 @@ pub record IsLine (input : List ℕ) (n start end : ℕ) : Type 0 where
   pub next : end < length input → drop (n + 1) (lines_of input) ≡ lines_of (drop (end + 1) input)
   pub last : length input ≤ end → length (lines_of input) ≡ n + 1
 
-inner_is : (input : List ℕ) (n start end : ℕ) → start ≤ length input
+-- lines for C: line n of the input, if a newline ends it
+IsLine-before-newline : (input : List ℕ) (n start end : ℕ) → start ≤ length input
     → drop n (lines_of input) ≡ lines_of (drop start input)
     → end ≡ start + line_length (drop start input)
     → line_length (drop start input) < length (drop start input) → IsLine input n start end
-inner_is input n start end inside before is less =
+IsLine-before-newline input n start end inside before is less =
     let rest : List ℕ = drop start input in
     let k : ℕ = line_length rest in
-    let left = left_at (lines_of input) (lines_of (drop (k + 1) rest)) n (take k rest)
+    let left = drop-at-item (lines_of input) (lines_of (drop (k + 1) rest)) n (take k rest)
     (before ∙ slice_split_first is_newline rest 0 less) in
     let long : length rest ≡ length input - start = length-drop start input in
     let same : k ≡ end - start = omega arith in
@@ -73,14 +75,15 @@ inner_is input n start end inside before is less =
       last = λ past. absurd (omega arith);
     }
 
-last_is : (input : List ℕ) (n start end : ℕ) → start ≤ length input
+-- lines for C: line n of the input, if it is the last and no newline ends it
+IsLine-at-end : (input : List ℕ) (n start end : ℕ) → start ≤ length input
     → drop n (lines_of input) ≡ lines_of (drop start input)
     → end ≡ start + line_length (drop start input)
     → length (drop start input) ≤ line_length (drop start input) → IsLine input n start end
-last_is input n start end inside before is past =
+IsLine-at-end input n start end inside before is past =
     let rest : List ℕ = drop start input in
     let k : ℕ = line_length rest in
-    let left = left_at (lines_of input) [] n rest (before ∙ last_line rest past) in
+    let left = drop-at-item (lines_of input) [] n rest (before ∙ last_line rest past) in
     let long : length rest ≡ length input - start = length-drop start input in
     let short : k ≤ length rest = line_length-le rest in
     let same : length rest ≡ end - start = omega arith in
@@ -93,10 +96,12 @@ last_is input n start end inside before is past =
       last = λ past. omega (arith, left.0, none, length-drop (n + 1) (lines_of input));
     }
 
-pub line_is : (input : List ℕ) (n start end : ℕ) → start ≤ length input
+-- lines for C: line n of the input begins where the lines before it end,
+-- and has the length of the first line that is left
+pub IsLine-from-position : (input : List ℕ) (n start end : ℕ) → start ≤ length input
     → drop n (lines_of input) ≡ lines_of (drop start input)
     → end ≡ start + line_length (drop start input) → IsLine input n start end
-line_is input n start end inside before is = ⊎_elim
-    (inner_is input n start end inside before is)
-    (last_is input n start end inside before is)
+IsLine-from-position input n start end inside before is = ⊎_elim
+    (IsLine-before-newline input n start end inside before is)
+    (IsLine-at-end input n start end inside before is)
     (cases_lt (line_length (drop start input)) (length (drop start input)))

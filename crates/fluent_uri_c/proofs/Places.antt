@@ -11,26 +11,28 @@ use Rattle.uri_parts.specs.declared.positions.AuthorityPositions.{AuthorityPosit
 use Rattle.uri_parts.specs.Authority.{AuthorityParts, authority_parts, recompose_authority}
 use Rattle.uri_parts.specs.Components.{components, marked}
 use Rattle.uri_parts.specs.Grammar.{Kind, IsOfKind}
-use Rattle.uri_parts.specs.Positions.{AreAt, authority_at, marked_length, host_start_of}
+use Rattle.uri_parts.specs.Positions.{ArePositionsOf, authority_at, delimited_length, host_start_of}
 use Rattle.uri_parts.specs.Positions.{host_end_of}
 use Rattle.uri_parts.proofs.Authorities.AuthorityPlaces.{holds}
-use Rattle.uri_parts.proofs.Splitting.Places.{LiesAt, range-between}
-use Rattle.uri_parts.proofs.TextKinds.ComponentRules.{authority_valid}
+use Rattle.uri_parts.proofs.Splitting.Places.{IsComponentAt, slice-between-prefix-and-suffix}
+use Rattle.uri_parts.proofs.TextKinds.ComponentRules.{authority-of-text-of-kind-is-valid}
 use Rattle.fluent_uri_c.specs.declared.parts.Span.{Span}
 use Rattle.fluent_uri_c.specs.Spans.{IsSpan, absent, userinfo_of, host_of, port_of}
 
-pub span_at : (text : List ℕ) (start end : ℕ) (part : Option (List ℕ))
-    → LiesAt text start end part → IsSpan text part (record { start = start; end = end })
-span_at text start end None place = absurd (none-some _ (sym place.holds))
-span_at text start end (Some part) place =
+-- parts for C: a component at its positions is the span from start to end
+pub IsSpan-of-positions : (text : List ℕ) (start end : ℕ) (part : Option (List ℕ))
+    → IsComponentAt text start end part → IsSpan text part (record { start = start; end = end })
+IsSpan-of-positions text start end None place = absurd (none-some _ (sym place.holds))
+IsSpan-of-positions text start end (Some part) place =
     (place.ordered, place.ends.0, same_Some _ _ place.holds)
 
-pub span_absent : (text : List ℕ) (part : Option (List ℕ)) → part ≡ None
+-- parts for C: a component that a text doesn't have is the absent span
+pub IsSpan-of-absent : (text : List ℕ) (part : Option (List ℕ)) → part ≡ None
     → IsSpan text part absent
-span_absent text None e = refl
-span_absent text (Some part) e = absurd (none-some _ (sym e))
+IsSpan-of-absent text None e = refl
+IsSpan-of-absent text (Some part) e = absurd (none-some _ (sym e))
 
--- what is between two offsets of a part is in the text at that distance from its start
+-- parts for C: what is between two offsets of a part is in the text at that distance from its start
 within : (text part : List ℕ) (start end : ℕ) → slice_range text start end ≡ part
     → end ≡ start + length part → (i j : ℕ) → j ≤ length part
     → slice_range text (start + i) (start + j) ≡ slice_range part i j
@@ -52,31 +54,36 @@ user_text userinfo = marked [] userinfo (codes "@")
 abbrev port_text : Option (List ℕ) → List ℕ
 port_text port = marked (codes ":") port []
 
+-- parts for C: a userinfo with its `@` is one byte longer, or nothing
 length-user_text : (userinfo : Option (List ℕ))
-    → length (user_text userinfo) ≡ marked_length 1 userinfo
+    → length (user_text userinfo) ≡ delimited_length 1 userinfo
 length-user_text None = refl
 length-user_text (Some user) = omega (arith, length-append user (codes "@"))
 
--- the parts of an authority at their offsets in it
+-- parts for C: the userinfo of an authority is from 0 to its length
 user_range : (user rest authority : List ℕ) → user_text (Some user) ++ rest ≡ authority
     → slice_range authority 0 (length user) ≡ user
 user_range user rest authority whole =
     let e : authority ≡ user ++ (64 ∷ rest) = sym whole ∙ append_assoc user (codes "@") rest in
     ap (λ a. slice_range a 0 (length user)) e
     ∙ ap (slice_range (user ++ (64 ∷ rest)) 0) (sym (zero-add (length user)))
-    ∙ range-between [] user (64 ∷ rest)
+    ∙ slice-between-prefix-and-suffix [] user (64 ∷ rest)
 
+-- parts for C: the host is between the end of the userinfo and its own length further on
 host_range : (userinfo : Option (List ℕ)) (host rest authority : List ℕ)
     → user_text userinfo ++ (host ++ rest) ≡ authority
-    → slice_range authority (marked_length 1 userinfo) (marked_length 1 userinfo + length host)
+    → slice_range authority (delimited_length 1 userinfo)
+    (delimited_length 1 userinfo + length host)
     ≡ host
 host_range userinfo host rest authority whole =
-    ap (λ a. slice_range a (marked_length 1 userinfo) (marked_length 1 userinfo + length host))
+    ap (λ a. slice_range a (delimited_length 1 userinfo)
+    (delimited_length 1 userinfo + length host))
     (sym whole)
     ∙ ap (λ k. slice_range (user_text userinfo ++ (host ++ rest)) k (k + length host))
     (sym (length-user_text userinfo))
-    ∙ range-between (user_text userinfo) host rest
+    ∙ slice-between-prefix-and-suffix (user_text userinfo) host rest
 
+-- parts for C: the digits of a port are after its `:`
 port_range : (prefix digits authority : List ℕ) → prefix ++ port_text (Some digits) ≡ authority
     → slice_range authority (length prefix + 1) (length prefix + 1 + length digits) ≡ digits
 port_range prefix digits authority whole =
@@ -86,7 +93,7 @@ port_range prefix digits authority whole =
     sym whole ∙ sym (append_assoc prefix (codes ":") (digits ++ [])) in
     ap (λ a. slice_range a (length prefix + 1) (length prefix + 1 + length digits)) e
     ∙ ap (λ k. slice_range ((prefix ++ codes ":") ++ (digits ++ [])) k (k + length digits)) (sym n)
-    ∙ range-between (prefix ++ codes ":") digits []
+    ∙ slice-between-prefix-and-suffix (prefix ++ codes ":") digits []
 
 -- of an authority at an offset, by its parts
 module _ (text authority : List ℕ) (start end : ℕ) (at : slice_range text start end ≡ authority)
@@ -103,8 +110,8 @@ module _ (text authority : List ℕ) (start end : ℕ) (at : slice_range text st
   )
 
   user_span : (userinfo : Option (List ℕ)) (rest : List ℕ) (to : ℕ)
-      → user_text userinfo ++ rest ≡ authority → to + 1 ≡ start + marked_length 1 userinfo
-      → 0 < marked_length 1 userinfo → IsSpan text userinfo (record { start = start; end = to })
+      → user_text userinfo ++ rest ≡ authority → to + 1 ≡ start + delimited_length 1 userinfo
+      → 0 < delimited_length 1 userinfo → IsSpan text userinfo (record { start = start; end = to })
   user_span None rest to whole e some = absurd (omega arith)
   user_span (Some user) rest to whole e some =
       let m : length authority ≡ length user + 1 + length rest =
@@ -117,18 +124,18 @@ module _ (text authority : List ℕ) (start end : ℕ) (at : slice_range text st
       part_span 0 (length user) start to user (omega arith) (omega arith) (omega arith)
       (omega arith) (user_range user rest authority whole)
 
-  no_user : (userinfo : Option (List ℕ)) → marked_length 1 userinfo ≡ 0
+  no_user : (userinfo : Option (List ℕ)) → delimited_length 1 userinfo ≡ 0
       → IsSpan text userinfo absent
   no_user None e = refl
   no_user (Some user) e = absurd (omega arith)
 
   host_span : (userinfo : Option (List ℕ)) (host rest : List ℕ) (from to : ℕ)
       → user_text userinfo ++ (host ++ rest) ≡ authority
-      → from ≡ start + marked_length 1 userinfo
-      → to ≡ start + (marked_length 1 userinfo + length host)
+      → from ≡ start + delimited_length 1 userinfo
+      → to ≡ start + (delimited_length 1 userinfo + length host)
       → IsSpan text (Some host) (record { start = from; end = to })
   host_span userinfo host rest from to whole e f =
-      let m : length authority ≡ marked_length 1 userinfo + (length host + length rest) =
+      let m : length authority ≡ delimited_length 1 userinfo + (length host + length rest) =
       omega (
         arith,
         ap length whole,
@@ -136,7 +143,8 @@ module _ (text authority : List ℕ) (start end : ℕ) (at : slice_range text st
         length-append host rest,
         length-user_text userinfo,
       ) in
-      part_span (marked_length 1 userinfo) (marked_length 1 userinfo + length host) from to host e f
+      part_span (delimited_length 1 userinfo) (delimited_length 1 userinfo + length host) from
+      to host e f
       (omega arith) (omega arith) (host_range userinfo host rest authority whole)
 
   port_span : (prefix : List ℕ) (port : Option (List ℕ)) (host_end : ℕ)
@@ -179,13 +187,17 @@ record Inside (text : List ℕ) (a : AuthorityPositions) : Type 0 where
   inside : a.end ≤ length text
   whole : recompose_authority (authority_parts authority) ≡ authority
 
+-- parts for C: the positions of an authority's components are
+-- inside the authority; n: where it begins
 inside_of : (kind : Kind) (text : List ℕ) (a : AuthorityPositions) (part : Option (List ℕ)) (n : ℕ)
     → (components text).authority ≡ part → IsOfKind kind text
-    → option_map (authority_at n) part ≡ Some a → LiesAt text a.start a.end part → Inside text a
+    → option_map (authority_at n) part ≡ Some a → IsComponentAt text a.start a.end part
+    → Inside text a
 inside_of kind text a None n e h found place = absurd (none-some _ found)
 inside_of kind text a (Some authority) n e h found place =
     let same : authority_at n authority ≡ a = same_Some _ _ found in
-    let valid = authority_valid kind kind.userinfo kind.reg_name text authority h refl refl e in
+    let valid = authority-of-text-of-kind-is-valid kind kind.userinfo kind.reg_name text authority h
+    refl refl e in
     record {
       authority = authority;
       is = e;
@@ -200,41 +212,41 @@ inside_of kind text a (Some authority) n e h found place =
     }
 
 module _ (kind : Kind) (text : List ℕ) (p : Positions) (a : AuthorityPositions)
-    (at : AreAt text p) (of_kind : IsOfKind kind text) (here : p.authority ≡ Some a)
-    (place : LiesAt text a.start a.end (components text).authority) where
+    (at : ArePositionsOf text p) (of_kind : IsOfKind kind text) (here : p.authority ≡ Some a)
+    (place : IsComponentAt text a.start a.end (components text).authority) where
   inside : Inside text a
   inside =
       inside_of kind text a (components text).authority
-      (marked_length 1 (components text).scheme + 2) refl of_kind
+      (delimited_length 1 (components text).scheme + 2) refl of_kind
       (sym (ap (λ (q : Positions). q.authority) at) ∙ here) place
 
   -- before the host
-  pub userinfo_there : a.start < a.host_start
+  pub userinfo-span-if-present : a.start < a.host_start
       → IsSpan text (userinfo_of (components text).authority)
       (record { start = a.start; end = a.host_start - 1 })
-  userinfo_there less =
+  userinfo-span-if-present less =
       let i = inside in
       let parts = authority_parts i.authority in
-      let some : 0 < marked_length 1 parts.userinfo = omega (arith, i.host_start) in
-      let to : a.host_start - 1 + 1 ≡ a.start + marked_length 1 parts.userinfo =
+      let some : 0 < delimited_length 1 parts.userinfo = omega (arith, i.host_start) in
+      let to : a.host_start - 1 + 1 ≡ a.start + delimited_length 1 parts.userinfo =
       omega (arith, i.host_start) in
       subst (λ (o : Option (List ℕ)). IsSpan text (userinfo_of o)
       (record { start = a.start; end = a.host_start - 1 })) (sym i.is)
       (user_span text i.authority a.start a.end i.at i.ends i.inside parts.userinfo
       (parts.host ++ port_text parts.port) (a.host_start - 1) i.whole to some)
 
-  pub userinfo_absent : a.host_start ≤ a.start
+  pub userinfo-span-if-absent : a.host_start ≤ a.start
       → IsSpan text (userinfo_of (components text).authority) absent
-  userinfo_absent more =
+  userinfo-span-if-absent more =
       let i = inside in
       let parts = authority_parts i.authority in
       subst (λ (o : Option (List ℕ)). IsSpan text (userinfo_of o) absent) (sym i.is)
       (no_user text i.authority a.start a.end i.at i.ends i.inside parts.userinfo
       (omega (arith, i.host_start)))
 
-  pub host_there : IsSpan text (host_of (components text).authority)
+  pub host-span-if-present : IsSpan text (host_of (components text).authority)
       (record { start = a.host_start; end = a.host_end })
-  host_there =
+  host-span-if-present =
       let i = inside in
       let parts = authority_parts i.authority in
       subst (λ (o : Option (List ℕ)). IsSpan text (host_of o)
@@ -247,16 +259,16 @@ module _ (kind : Kind) (text : List ℕ) (p : Positions) (a : AuthorityPositions
   before_port parts = user_text parts.userinfo ++ parts.host
 
   length-before_port : (parts : AuthorityParts)
-      → length (before_port parts) ≡ marked_length 1 parts.userinfo + length parts.host
+      → length (before_port parts) ≡ delimited_length 1 parts.userinfo + length parts.host
   length-before_port parts = omega (
     arith,
     length-append (user_text parts.userinfo) parts.host,
     length-user_text parts.userinfo,
   )
 
-  pub port_there : a.host_end < a.end → IsSpan text (port_of (components text).authority)
+  pub port-span-if-present : a.host_end < a.end → IsSpan text (port_of (components text).authority)
       (record { start = a.host_end + 1; end = a.end })
-  port_there less =
+  port-span-if-present less =
       let i = inside in
       let parts = authority_parts i.authority in
       subst (λ (o : Option (List ℕ)). IsSpan text (port_of o)
@@ -265,8 +277,9 @@ module _ (kind : Kind) (text : List ℕ) (p : Positions) (a : AuthorityPositions
       a.host_end (append_assoc (user_text parts.userinfo) parts.host (port_text parts.port)
       ∙ i.whole) (i.host_end ∙ ap (λ n. a.start + n) (sym (length-before_port parts))) less)
 
-  pub port_absent : a.end ≤ a.host_end → IsSpan text (port_of (components text).authority) absent
-  port_absent more =
+  pub port-span-if-absent : a.end ≤ a.host_end
+      → IsSpan text (port_of (components text).authority) absent
+  port-span-if-absent more =
       let i = inside in
       let parts = authority_parts i.authority in
       subst (λ (o : Option (List ℕ)). IsSpan text (port_of o) absent) (sym i.is)
@@ -274,7 +287,7 @@ module _ (kind : Kind) (text : List ℕ) (p : Positions) (a : AuthorityPositions
       a.host_end (append_assoc (user_text parts.userinfo) parts.host (port_text parts.port)
       ∙ i.whole) (i.host_end ∙ ap (λ n. a.start + n) (sym (length-before_port parts))) more)
 
--- a span that is that of what is absent
-pub absent_is : (text : List ℕ) (part : Option (List ℕ)) (span : Span) → span ≡ absent
+-- parts for C: a span that equals that of an absent component is right for it
+pub IsSpan-of-equal-span : (text : List ℕ) (part : Option (List ℕ)) (span : Span) → span ≡ absent
     → IsSpan text part absent → IsSpan text part span
-absent_is text part span e h = subst (λ (s : Span). IsSpan text part s) (sym e) h
+IsSpan-of-equal-span text part span e h = subst (λ (s : Span). IsSpan text part s) (sym e) h

@@ -5,19 +5,24 @@ use Rattle.uri_parts.specs.Components.{components}
 use Rattle.uri_parts.specs.Grammar.{Kind}
 use Rattle.uri_relative.specs.Leading.{IsNoLonger, IsRelativeTo, LeadsTo, settled}
 use Rattle.fluent_uri_c.specs.Errors.{in_reference}
-use Rattle.fluent_uri_c.specs.Relatives.{IsReference}
-use Rattle.fluent_uri_c.specs.Results.{first_of_two, text_error}
+use Rattle.fluent_uri_c.specs.Relatives.{IsReferenceToTarget}
+use Rattle.fluent_uri_c.specs.Results.{first_rejection, text_error}
 
-pub reference_is : (base target reference given wanted made : List ℕ) → base ≡ given
+-- exports for C: a relative reference has its contract for the given texts, if these equal the
+-- parsed ones (given, wanted: base and target)
+pub IsReferenceToTarget-of-equal-texts : (base target reference given wanted made : List ℕ)
+    → base ≡ given
     → target ≡ wanted → made ≡ reference → LeadsTo base target reference
     → IsNoLonger target reference
     → IsRelativeTo (components base) (settled target) (components reference)
-    → IsReference given wanted made
-reference_is base target reference given wanted made b t m leads short relative =
+    → IsReferenceToTarget given wanted made
+IsReferenceToTarget-of-equal-texts base target reference given wanted made b t m leads
+    short relative =
     rw (m, sym b, sym t) (record { leads = leads; short = short; relative = relative })
 
--- both are texts of the kind
-pub both_are : (kind : Kind) (base target : List ℕ) → None ≡ text_error kind base
+-- exports for C: two texts of the kind, base and target, have no rejection
+pub both-texts-have-no-error : (kind : Kind) (base target : List ℕ) → None ≡ text_error kind base
     → None ≡ text_error kind target
-    → first_of_two (text_error kind base) (option_map in_reference (text_error kind target)) ≡ None
-both_are kind base target one other = rw (sym one, sym other) refl
+    → first_rejection (text_error kind base) (option_map in_reference (text_error kind target))
+    ≡ None
+both-texts-have-no-error kind base target one other = rw (sym one, sym other) refl

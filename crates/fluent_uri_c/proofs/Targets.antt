@@ -5,75 +5,86 @@ use Rattle.std.specs.Result.{result_map_both}
 use Rattle.uri_parts.specs.Components.{components}
 use Rattle.uri_parts.specs.Grammar.{Kind}
 use Rattle.uri_parts.specs.SchemePorts.{default_port}
-use Rattle.uri_ops.specs.declared.resolve.ResolveError.{ResolveError}
-use Rattle.uri_ops.specs.declared.resolve.ResolveError.TheVariants as Of
+use Rattle.uri_ops.specs.declared.resolve.error.ResolveError.{ResolveError}
+use Rattle.uri_ops.specs.declared.resolve.error.ResolveError.TheVariants as Of
 use Rattle.uri_ops.specs.NormalTargets.{IsNormalTarget}
 use Rattle.uri_ops.specs.Normalizers.{IsNormalForm}
-use Rattle.uri_ops.specs.Resolving.{IsRefusalFor}
+use Rattle.uri_ops.specs.Resolving.{IsErrorWithUnderflowAllowed}
 use Rattle.uri_ops.specs.Target as Target
 use Rattle.fluent_uri_c.specs.declared.errors.Error.TheVariants.{OutOfMemory}
 use Rattle.fluent_uri_c.specs.Errors.{rejected, resolve_rejection}
 use Rattle.fluent_uri_c.specs.Results.{Returned, error_of_target, normal_form_of, text_error}
-use Rattle.fluent_uri_c.specs.Results.{normal_resolution, normal_result, resolution, unless}
+use Rattle.fluent_uri_c.specs.Results.{normal_resolution, normal_result, resolution}
+use Rattle.fluent_uri_c.specs.Results.{rejection_or_result}
 
-returned_of : Result (List ℕ) Target.Refusal → Returned
+-- exports for C: the result of resolving: a target, or the rejection
+returned_of : Result (List ℕ) Target.TargetError → Returned
 returned_of r = result_map_both (λ target. target) error_of_target r
 
-pub resolved_is : (base reference target : List ℕ)
+-- exports for C: what resolving returns is the target that the export's contract defines
+pub resolution-of-target : (base reference target : List ℕ)
     → Target.resolution_of_texts base reference ≡ Ok target
     → resolution base reference ≡ Ok target
 unfolding resolution returned_of
-resolved_is base reference target e = ap returned_of e
+resolution-of-target base reference target e = ap returned_of e
 
--- an allocation failed, or the error is the one that is defined
-pub error_is : (base reference : List ℕ) (error : ResolveError)
-    → IsRefusalFor (components base) (components reference) error
+-- exports for C: if resolving fails, memory is out or the error is the one that is defined
+pub resolution-of-error : (base reference : List ℕ) (error : ResolveError)
+    → IsErrorWithUnderflowAllowed (components base) (components reference) error
     → (resolve_rejection error ≡ rejected OutOfMemory)
     ⊎ (resolution base reference ≡ Err (resolve_rejection error))
 unfolding resolution returned_of
-error_is base reference Of.BaseWithFragment h = inr (ap returned_of h)
-error_is base reference Of.InvalidReferenceAgainstOpaqueBase h = inr (ap returned_of h)
-error_is base reference Of.PathUnderflow h = absurd h
-error_is base reference Of.OutOfMemory h = inl refl
+resolution-of-error base reference Of.BaseWithFragment h = inr (ap returned_of h)
+resolution-of-error base reference Of.InvalidReferenceAgainstOpaqueBase h = inr (ap returned_of h)
+resolution-of-error base reference Of.PathUnderflow h = absurd h
+resolution-of-error base reference Of.OutOfMemory h = inl refl
 
+-- exports for C: the result of resolving, normalised; or the rejection
 normal_of : Kind → Returned → Returned
 normal_of kind r = result_map_both (normal_form_of kind) (λ why. why) r
 
-pub normal_resolved_is : (kind of_reference : Kind) (base reference normal : List ℕ)
+-- exports for C: what resolving and normalising return is the
+-- normal target that the contract defines
+pub normal_resolution-of-target : (kind of_reference : Kind) (base reference normal : List ℕ)
     → IsNormalTarget kind of_reference default_port base reference normal
     → normal_resolution kind base reference ≡ Ok normal
 unfolding normal_resolution normal_of normal_form_of
-normal_resolved_is kind of_reference base reference normal is =
+normal_resolution-of-target kind of_reference base reference normal is =
     let found = is.target in
-    ap (normal_of kind) (resolved_is base reference found.0 found.1.0)
+    ap (normal_of kind) (resolution-of-target base reference found.0 found.1.0)
     ∙ ap Ok (sym found.1.1.text.text)
 
-pub normal_error_is : (kind : Kind) (base reference : List ℕ) (error : ResolveError)
-    → IsRefusalFor (components base) (components reference) error
+-- exports for C: an error of resolving is the one that the contract defines, or that memory is out
+pub normal_resolution-of-error : (kind : Kind) (base reference : List ℕ) (error : ResolveError)
+    → IsErrorWithUnderflowAllowed (components base) (components reference) error
     → (resolve_rejection error ≡ rejected OutOfMemory)
     ⊎ (normal_resolution kind base reference ≡ Err (resolve_rejection error))
 unfolding normal_resolution normal_of
-normal_error_is kind base reference error h = elim (error_is base reference error h) [
-  | inl e ↦ inl e
-  | inr e ↦ inr (ap (normal_of kind) e)
-]
+normal_resolution-of-error kind base reference error h = elim
+    (resolution-of-error base reference error h) [
+      | inl e ↦ inl e
+      | inr e ↦ inr (ap (normal_of kind) e)
+    ]
 
--- the same of a rejection that is made of the error
-pub error_as : (returned : Returned) (why : _) (error : ResolveError)
+-- exports for C: if a returned rejection is that of an error,
+-- memory is out or the rejection is the one defined
+pub returned-rejection-is-of-error : (returned : Returned) (why : _) (error : ResolveError)
     → why ≡ resolve_rejection error
     → (resolve_rejection error ≡ rejected OutOfMemory)
     ⊎ (returned ≡ Err (resolve_rejection error))
     → (why ≡ rejected OutOfMemory) ⊎ (returned ≡ Err why)
-error_as returned why error e h = elim h [
+returned-rejection-is-of-error returned why error e h = elim h [
   | inl m ↦ inl (e ∙ m)
   | inr r ↦ inr (r ∙ ap Err (sym e))
 ]
 
-pub normal_is : (kind : Kind) (bytes text normal made : List ℕ) → None ≡ text_error kind bytes
+-- exports for C: what normalising returns is the normal form that the contract defines
+pub normal_result-of-normal-form : (kind : Kind) (bytes text normal made : List ℕ) → None
+    ≡ text_error kind bytes
     → text ≡ bytes → IsNormalForm kind default_port text normal → made ≡ normal
     → normal_result kind bytes ≡ Ok made
 unfolding normal_form_of
-normal_is kind bytes text normal made none same is e =
-    ap (λ o. unless o (Ok (normal_form_of kind bytes))) (sym none)
+normal_result-of-normal-form kind bytes text normal made none same is e =
+    ap (λ o. rejection_or_result o (Ok (normal_form_of kind bytes))) (sym none)
     ∙ ap (λ t. Ok (normal_form_of kind t)) (sym same)
     ∙ ap Ok (sym (e ∙ is.text.text))

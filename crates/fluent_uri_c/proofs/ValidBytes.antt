@@ -7,7 +7,8 @@ use Rattle.std.proofs.lemmas.Bool.{cond-false, le-ltb}
 use Rattle.std.proofs.lemmas.Str.{utf8_valid_len-IsUtf8}
 use Rattle.fluent_uri_c.specs.Results.{utf8_error}
 
-pub valid_bytes : (bytes : List ℕ) → IsUtf8 bytes → None ≡ utf8_error bytes
-valid_bytes bytes utf8 =
+-- exports for C: UTF-8 has no index of ill-formed bytes
+pub utf8_error-of-utf8 : (bytes : List ℕ) → IsUtf8 bytes → None ≡ utf8_error bytes
+utf8_error-of-utf8 bytes utf8 =
     let n = utf8_valid_len-IsUtf8 bytes utf8 in
     sym (cond-false _ _ _ (le-ltb (utf8_valid_len bytes) (length bytes) (omega (arith, n))))

@@ -1,6 +1,7 @@
 -- What is written of lines, and what a batch of them leaves.
-use Rattle.std.proofs.Common.{◌≡◌, ℕ, zero, suc, ◌+◌, ◌<◌, ◌≤◌, List, [], ◌∷◌, ◌++◌, length, take, drop}
-use Rattle.std.proofs.Common.{refl, sym, ap, ◌∙◌, arith, append_assoc, length-append, true, false, Bool}
+use Rattle.std.proofs.Common.{◌≡◌, ℕ, zero, suc, ◌+◌, ◌<◌, ◌≤◌, List, [], ◌∷◌, ◌++◌, length, take}
+use Rattle.std.proofs.Common.{drop, refl, sym, ap, ◌∙◌, arith, append_assoc, length-append, true}
+use Rattle.std.proofs.Common.{false, Bool}
 use Rattle.std.specs.Prelude.{Some, None, IsSome, cond, slice_get, nat_lt}
 use Rattle.std.specs.List.{position, position_or_len}
 use Rattle.std.specs.Result.{result_ok}
@@ -8,39 +9,45 @@ use Rattle.std.proofs.Math.Seq.{drop-append_seam, take-append_seam}
 use Rattle.std.proofs.lemmas.Bool.{false≢true, ltb-false}
 use Rattle.std.proofs.lemmas.List.{drop-drop, length-take-le}
 use Rattle.std.proofs.lemmas.Option.{none-some, same_Some}
-use Rattle.fluent_uri_c.specs.Columns.{bytes_of, joined}
+use Rattle.fluent_uri_c.specs.Columns.{bytes_of, joined_results}
 use Rattle.fluent_uri_c.specs.declared.outcome.Outcome.{Outcome}
 use Rattle.fluent_uri_c.specs.Endings.{EndsAt}
 use Rattle.fluent_uri_c.specs.Kinds.{kind_numbered}
+use Rattle.fluent_uri_c.specs.Lines.{LineBuffers}
 use Rattle.fluent_uri_c.specs.Lines.{LeavesLines, IsFullAt, is_newline, lines_of, newline}
-use Rattle.fluent_uri_c.specs.Lines.{number_at, number_returned, written_at}
+use Rattle.fluent_uri_c.specs.Lines.{error_number_at, number_returned, written_at}
 use Rattle.fluent_uri_c.specs.Results.{normalize_result}
 
+-- lines for C: a value that is there only if b is true is that value
 cond_some : (b : Bool) (n k : ℕ) → Some k ≡ cond b (Some n) None → k ≡ n
 cond_some true n k e = same_Some k n e
 cond_some false n k e = absurd (none-some k (sym e))
 
+-- lines for C: without a value the test b is false
 cond_none : (b : Bool) (n : ℕ) → None ≡ cond b (Some n) None → b ≡ false
 cond_none true n e = absurd (none-some n e)
 cond_none false n e = refl
 
--- where the first newline is
-pub found_at : (rest : List ℕ) (k : ℕ) → Some k ≡ position is_newline rest
+-- lines for C: the position of the first newline that is found is that of the first newline
+pub first-newline-found : (rest : List ℕ) (k : ℕ) → Some k ≡ position is_newline rest
     → k ≡ position_or_len is_newline rest
-found_at rest k e = cond_some (nat_lt (position_or_len is_newline rest) (length rest)) _ k e
+first-newline-found rest k e = cond_some (nat_lt (position_or_len is_newline rest) (length rest)) _
+    k e
 
-pub not_found : (rest : List ℕ) → None ≡ position is_newline rest
+-- lines for C: if no newline is found, the last line is all that is left
+pub no-newline-found : (rest : List ℕ) → None ≡ position is_newline rest
     → length rest ≤ position_or_len is_newline rest
-not_found rest e =
+no-newline-found rest e =
     let n = position_or_len is_newline rest in
     ltb-false n (length rest) (cond_none (nat_lt n (length rest)) n e)
 
--- bytes and a byte after them, written one after the other
-pub two_writes : (out one two bytes : List ℕ) (at end byte : ℕ) → end ≡ at + length bytes
+-- lines for C: bytes that are written at a position and a byte
+-- after them are one text that is written there
+pub two-writes-are-one : (out one two bytes : List ℕ) (at end byte : ℕ) → end ≡ at + length bytes
     → at ≤ length out → one ≡ take at out ++ (bytes ++ drop (at + length bytes) out)
     → two ≡ take end one ++ ((byte ∷ []) ++ drop (end + 1) one)
     → two ≡ take at out ++ ((bytes ++ byte ∷ []) ++ drop (at + length (bytes ++ byte ∷ [])) out)
-two_writes out one two bytes at end byte ends inside first second =
+two-writes-are-one out one two bytes at end byte ends inside first second =
     let P : List ℕ = take at out ++ bytes in
     let R : List ℕ = drop (at + length bytes) out in
     let whole : one ≡ P ++ R = first ∙ sym (append_assoc (take at out) bytes R) in
@@ -63,20 +70,21 @@ two_writes out one two bytes at end byte ends inside first second =
     ∙ append_assoc (take at out) bytes _
     ∙ ap (λ l. take at out ++ l) (sym (append_assoc bytes (byte ∷ []) _))
 
--- what is written for a line
-pub line_written : (kind : ℕ) (input line bytes : List ℕ) (n : ℕ)
+-- lines for C: what is written for line n is its normal form and a newline
+pub written_at-of-line : (kind : ℕ) (input line bytes : List ℕ) (n : ℕ)
     → bytes ≡ bytes_of (result_ok (normalize_result kind line))
     → slice_get (lines_of input) n ≡ Some line
     → bytes ++ newline ∷ [] ≡ bytes_of (written_at kind input n)
-line_written kind input line bytes n made here =
+written_at-of-line kind input line bytes n made here =
     rw here (ap (λ b. b ++ newline ∷ []) made)
 
--- the number of its error
-pub line_number : (kind : ℕ) (input line : List ℕ) (n number : ℕ)
+-- lines for C: the number of the error of line n is the one that normalising it returns
+pub error_number_at-of-line : (kind : ℕ) (input line : List ℕ) (n number : ℕ)
     → number ≡ number_returned (normalize_result kind line)
-    → slice_get (lines_of input) n ≡ Some line → Some number ≡ number_at kind input n
-line_number kind input line n number made here = rw here (ap Some made)
+    → slice_get (lines_of input) n ≡ Some line → Some number ≡ error_number_at kind input n
+error_number_at-of-line kind input line n number made here = rw here (ap Some made)
 
+-- lines for C: a number up to 3 is of one of the four kinds
 valid_kind : (kind : ℕ) → kind ≤ 3 → IsSome (kind_numbered kind)
 valid_kind zero h = refl
 valid_kind (suc zero) h = refl
@@ -84,19 +92,21 @@ valid_kind (suc (suc zero)) h = refl
 valid_kind (suc (suc (suc zero))) h = refl
 valid_kind (suc (suc (suc (suc n)))) h = absurd (omega arith)
 
-pub leaves_lines : (kind : ℕ) (input old new old_errors new_errors : List ℕ) (outcome : Outcome)
+-- lines for C: normalising a batch of lines leaves the buffers that its contract defines;
+-- done: how many were processed
+pub leaves_lines : (kind : ℕ) (input : List ℕ) (old new : LineBuffers) (outcome : Outcome)
     (number done at returned : ℕ) → kind ≤ 3 → returned ≡ number
     → outcome ≡ record { error = number; which = 0; index = done; length = at }
-    → new ≡ joined (written_at kind input) done
-    ++ drop (length (joined (written_at kind input) done)) old
-    → at ≡ length (joined (written_at kind input) done)
-    → ((i : ℕ) → i < done → slice_get new_errors i ≡ number_at kind input i)
-    → drop done new_errors ≡ drop done old_errors
+    → new.bytes ≡ joined_results (written_at kind input) done
+    ++ drop (length (joined_results (written_at kind input) done)) old.bytes
+    → at ≡ length (joined_results (written_at kind input) done)
+    → ((i : ℕ) → i < done → slice_get new.errors i ≡ error_number_at kind input i)
+    → drop done new.errors ≡ drop done old.errors
     → EndsAt (length (lines_of input)) (slice_get (lines_of input)) true
-    (IsFullAt kind input old old_errors) done number
-    → LeavesLines kind input old new old_errors new_errors outcome returned
-leaves_lines kind input old new old_errors new_errors outcome number done at returned valid same is
-    bytes total errors others end =
+    (IsFullAt kind input old.bytes old.errors) done number
+    → LeavesLines kind input old new outcome returned
+leaves_lines kind input old new outcome number done at returned valid same is bytes total errors
+    others end =
     rw (same, is) (record {
       error = refl;
       which = refl;

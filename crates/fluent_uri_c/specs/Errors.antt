@@ -5,12 +5,13 @@ use Rattle.uri_parts.specs.declared.error.ParseErrorKind.{ParseErrorKind}
 use Rattle.uri_parts.specs.declared.error.ParseErrorKind.TheVariants.{InvalidPctEncodedOctet}
 use Rattle.uri_parts.specs.declared.error.ParseErrorKind.TheVariants.{UnexpectedChar}
 use Rattle.uri_parts.specs.declared.error.ParseErrorKind.TheVariants.{InvalidIpv6Addr}
-use Rattle.uri_ops.specs.declared.resolve.ResolveError.{ResolveError}
-use Rattle.uri_ops.specs.declared.resolve.ResolveError.TheVariants as Resolve
+use Rattle.uri_ops.specs.declared.resolve.error.ResolveError.{ResolveError}
+use Rattle.uri_ops.specs.declared.resolve.error.ResolveError.TheVariants as Resolve
 use Rattle.fluent_uri_c.specs.declared.errors.Error.{Error}
 use Rattle.fluent_uri_c.specs.declared.errors.Error.TheVariants as Of
 use Rattle.fluent_uri_c.specs.declared.errors.Rejection.{Rejection}
 
+-- the number of an error in the C header
 abbrev pub number_of : Error → ℕ
 number_of Of.InvalidPctEncodedOctet = 1
 number_of Of.UnexpectedChar = 2
@@ -23,26 +24,29 @@ number_of Of.OutOfMemory = 8
 number_of Of.InvalidArgument = 9
 number_of Of.Full = 10
 
--- an error at an index of the first text, which of a call with one text is the only one
+-- the rejection of a call for an error at an index of its first text
 abbrev pub rejected_at : Error → ℕ → Rejection
 rejected_at error index = record { error = error; which = 0; index = index }
 
--- an error that is at no index
+-- the rejection of a call for an error that is at no index
 abbrev pub rejected : Error → Rejection
 rejected error = rejected_at error 0
 
--- the same in the second text, which is the reference
+-- the rejection of a call, moved to its second text, which is the reference
 abbrev pub in_reference : Rejection → Rejection
 in_reference why = record why { which = 1 }
 
+-- the error of the C header for a kind of parse error
 abbrev pub error_of_kind : ParseErrorKind → Error
 error_of_kind InvalidPctEncodedOctet = Of.InvalidPctEncodedOctet
 error_of_kind UnexpectedChar = Of.UnexpectedChar
 error_of_kind InvalidIpv6Addr = Of.InvalidIpv6Addr
 
+-- the rejection of a call for a parse error of its first text
 abbrev pub parse_rejection : ParseError → Rejection
 parse_rejection e = rejected_at (error_of_kind e.kind) e.index
 
+-- the error of the C header for an error of resolving
 abbrev pub error_of_resolving : ResolveError → Error
 error_of_resolving Resolve.BaseWithFragment = Of.BaseWithFragment
 error_of_resolving Resolve.InvalidReferenceAgainstOpaqueBase =
@@ -50,5 +54,6 @@ error_of_resolving Resolve.InvalidReferenceAgainstOpaqueBase =
 error_of_resolving Resolve.PathUnderflow = Of.PathUnderflow
 error_of_resolving Resolve.OutOfMemory = Of.OutOfMemory
 
+-- the rejection of a call for an error of resolving
 abbrev pub resolve_rejection : ResolveError → Rejection
 resolve_rejection e = rejected (error_of_resolving e)

@@ -7,12 +7,14 @@ use Rattle.fluent_uri_c.specs.declared.outcome.Outcome.{Outcome}
 use Rattle.fluent_uri_c.specs.Errors.{number_of, rejected}
 use Rattle.fluent_uri_c.specs.Results.{Returned}
 
--- the buffer with the text at its beginning, if it is long enough, and nothing else changed
+-- a caller's buffer after a call for C: it begins with the text, if it is long enough, and nothing
+-- else changed
 abbrev pub written : List ℕ → List ℕ → List ℕ
 written text buffer =
     if nat_lt (length buffer) (length text) then buffer else text ++ drop (length text) buffer
 
--- what is reported of an error
+-- the outcome of a call for C that reports an error: its number, which text it is in, and at which
+-- index
 abbrev pub outcome_of : Rejection → Outcome
 outcome_of why = record {
   error = number_of why.error;
@@ -21,7 +23,7 @@ outcome_of why = record {
   length = 0;
 }
 
--- what is reported of a text: its length
+-- the outcome of a call for C that reports a text, the argument: its length
 abbrev pub outcome_of_text : List ℕ → Outcome
 outcome_of_text text = record {
   error = 0;
@@ -30,15 +32,17 @@ outcome_of_text text = record {
   length = length text;
 }
 
--- the outcome reports the error, or that an allocation failed
+-- the outcome of a call for C reports the error that it returns, or that an allocation failed
 abbrev pub IsRejected : Returned → Outcome → Type 0
 IsRejected returned outcome =
     (outcome ≡ outcome_of (rejected OutOfMemory))
     ⊎ ((why : Rejection) × ((returned ≡ Err why) × (outcome ≡ outcome_of why)))
 
--- The call returns a number and leaves a buffer and an outcome. Where there is a text, its length is
--- reported, and the buffer begins with it if it is long enough; else the buffer is as it was.
-pub record Leaves (returned : Returned) (old new : List ℕ) (outcome : Outcome)
+-- What a call for C whose result is a text writes to its buffer, reports in its outcome and returns
+-- as a number.
+-- If there is a text, its length is reported, and the buffer begins with it if it is long enough.
+-- If not, the buffer is as it was.
+pub record LeavesText (returned : Returned) (old new : List ℕ) (outcome : Outcome)
     (number : ℕ) : Type 0 where
   pub error : outcome.error ≡ number
   pub text : number ≡ 0 → IsOkAnd returned (λ text.

@@ -1,41 +1,41 @@
 -- What a batch leaves that parses each text of a column.
-use Rattle.std.specs.Prelude.{◌≡◌, ℕ, ◌-◌, ◌<◌, ◌≤◌, List, length, drop, Option, IsNone, IsSome}
+use Rattle.std.specs.Prelude.{◌≡◌, ℕ, ◌<◌, ◌≤◌, List, length, drop, Option, IsNone, IsSome}
 use Rattle.std.specs.Prelude.{IsSomeAnd, false, slice_get}
 use Rattle.fluent_uri.specs.Grammar.{Kind}
 use Rattle.fluent_uri_c.specs.declared.outcome.Outcome.{Outcome}
 use Rattle.fluent_uri_c.specs.declared.parts.Parts.{Parts}
-use Rattle.fluent_uri_c.specs.Columns.{text_at}
+use Rattle.fluent_uri_c.specs.Columns.{TextColumn, count_of, text_in}
 use Rattle.fluent_uri_c.specs.Endings.{EndsAt}
 use Rattle.fluent_uri_c.specs.Spans.{ArePartsOf}
 
--- the text at an index is within the data, and its parts are at the index
-abbrev pub HasPartsAt : {O : Type 0} → (O → ℕ) → Option Kind → List ℕ → List O → List Parts → ℕ
-    → Type 0
-HasPartsAt value kind texts offsets parts i =
-    IsSomeAnd (text_at value texts offsets i)
-    (λ text. IsSomeAnd (slice_get parts i) (ArePartsOf kind text))
+-- the text at an index of the column is within the data, and the list has its parts at that index
+abbrev pub HasPartsAt : {O : Type 0} → Option Kind → TextColumn O → List Parts → ℕ → Type 0
+HasPartsAt kind column parts i =
+    IsSomeAnd (text_in column i) (λ text. IsSomeAnd (slice_get parts i) (ArePartsOf kind text))
 
--- What the batch leaves where there is such a kind, and room for the parts of all texts: the parts
--- of the texts that are done. The other parts are as they were.
-pub record HasParsed {O : Type 0} (value : O → ℕ) (kind : Option Kind) (texts : List ℕ)
-    (offsets : List O) (old new : List Parts) (done number : ℕ) : Type 0 where
-  pub parts : (i : ℕ) → i < done → HasPartsAt value kind texts offsets new i
+-- What a batch that parses a column leaves if there is such a kind and room for all parts: the
+-- parts of the texts that are done.
+-- The other parts are as they were.
+pub record HasParsed {O : Type 0} (kind : Option Kind) (column : TextColumn O)
+    (old new : List Parts) (done number : ℕ) : Type 0 where
+  pub parts : (i : ℕ) → i < done → HasPartsAt kind column new i
   pub others : drop done new ≡ drop done old
-  pub end : EndsAt (length offsets - 1) (text_at value texts offsets) false (λ _. ⊥) done number
+  pub end : EndsAt (count_of column) (text_in column) false (λ _. ⊥) done number
 
--- nothing is done: the number is the one that is given, and no parts have changed
-abbrev pub ParsesNone : ℕ → List Parts → List Parts → Outcome → ℕ → Type 0
-ParsesNone wanted old new outcome number =
+-- a batch parses nothing: it returns the number `wanted`, and no parts have changed; the lists are
+-- the parts before and after
+abbrev pub ParsesNothing : ℕ → List Parts → List Parts → Outcome → ℕ → Type 0
+ParsesNothing wanted old new outcome number =
     (number ≡ wanted) × (outcome.index ≡ 0) × (new ≡ old)
 
--- What the batch leaves and returns.
-pub record LeavesParts {O : Type 0} (value : O → ℕ) (kind : Option Kind) (texts : List ℕ)
-    (offsets : List O) (old new : List Parts) (outcome : Outcome) (number : ℕ) : Type 0 where
+-- what the batch that parses each text of a column writes, reports in its outcome and returns as a
+-- number
+pub record LeavesParts {O : Type 0} (kind : Option Kind) (column : TextColumn O)
+    (old new : List Parts) (outcome : Outcome) (number : ℕ) : Type 0 where
   pub error : outcome.error ≡ number
   pub which : outcome.which ≡ 0
   pub total : outcome.length ≡ 0
-  pub invalid : IsNone kind → ParsesNone 9 old new outcome number
-  pub no_room : IsSome kind → length old < length offsets - 1
-      → ParsesNone 10 old new outcome number
-  pub done : IsSome kind → length offsets - 1 ≤ length old
-      → HasParsed value kind texts offsets old new outcome.index number
+  pub invalid : IsNone kind → ParsesNothing 9 old new outcome number
+  pub no_room : IsSome kind → length old < count_of column → ParsesNothing 10 old new outcome number
+  pub done : IsSome kind → count_of column ≤ length old
+      → HasParsed kind column old new outcome.index number

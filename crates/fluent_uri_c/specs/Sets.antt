@@ -5,7 +5,7 @@ use Rattle.fluent_uri.specs.Sets.{TableSet, userinfo_set, reg_name_set, path_set
 use Rattle.fluent_uri.specs.Sets.{fragment_set, data_set, iuserinfo_set, ireg_name_set, ipath_set}
 use Rattle.fluent_uri.specs.Sets.{iquery_set, ifragment_set}
 
--- what a component of a URI is encoded by, if the number has one
+-- the set by which the component with a number of the C header is encoded, if there is one
 abbrev pub encoding_set : ℕ → Option TableSet
 encoding_set n =
     if n == 0 then Some userinfo_set
@@ -14,7 +14,8 @@ encoding_set n =
     else (if n == 3 then Some query_set
     else (if n == 4 then Some fragment_set else (if n == 8 then Some data_set else None)))))
 
--- what a component of an IRI consists of that is decoded, if the number has one
+-- the set for which a component with a number of the C header is valid when it is decoded, if there
+-- is one
 abbrev pub decoding_set : ℕ → Option TableSet
 decoding_set n =
     if n == 0 then Some iuserinfo_set

@@ -6,13 +6,15 @@ use Rattle.fluent_uri_c.specs.Components.{component_result}
 use Rattle.fluent_uri_c.specs.Results.{normalize_result, to_uri_result, resolve_result}
 use Rattle.fluent_uri_c.specs.Results.{resolve_normalized_result}
 
--- whether the numbers that it is given name something, whether it takes memory, and the result of a
--- text, if that has one
+-- A call on one text, which a batch makes for each text of a column.
+-- It says whether its arguments are valid numbers, whether it takes memory, and the result of a
+-- text, if that has one.
 pub record SingleCall : Type 0 where
   pub is_valid : Bool
   pub takes_memory : Bool
   pub result : List ℕ → Option (List ℕ)
 
+-- the call of a batch that normalises texts of the kind with a number of the C header
 abbrev pub normalizing : ℕ → SingleCall
 normalizing kind = record {
   is_valid = is_some (kind_numbered kind);
@@ -20,6 +22,7 @@ normalizing kind = record {
   result = λ text. result_ok (normalize_result kind text);
 }
 
+-- the call of a batch that converts texts of the kind of IRIs with a number of the C header to URIs
 abbrev pub converting : ℕ → SingleCall
 converting kind = record {
   is_valid = is_some (iri_numbered kind);
@@ -27,6 +30,8 @@ converting kind = record {
   result = λ text. result_ok (to_uri_result kind text);
 }
 
+-- the call of a batch that resolves references against a base; the number is that of the base's
+-- kind in the C header
 abbrev pub resolving : ℕ → List ℕ → SingleCall
 resolving kind base = record {
   is_valid = is_some (base_numbered kind);
@@ -34,6 +39,8 @@ resolving kind base = record {
   result = λ text. result_ok (resolve_result kind base text);
 }
 
+-- the call of a batch that resolves references against a base, and normalises the targets; the
+-- number is that of the base's kind
 abbrev pub resolving_normalized : ℕ → List ℕ → SingleCall
 resolving_normalized kind base = record {
   is_valid = is_some (base_numbered kind);
@@ -41,7 +48,8 @@ resolving_normalized kind base = record {
   result = λ text. result_ok (resolve_normalized_result kind base text);
 }
 
--- the components of the numbers 0 to 7
+-- the call of a batch that takes a component of texts of a kind; the numbers are the kind's and the
+-- component's, from 0 to 7
 abbrev pub taking_component : ℕ → ℕ → SingleCall
 taking_component kind component = record {
   is_valid = is_some (kind_numbered kind) && nat_lt component 8;

@@ -1,6 +1,6 @@
 -- Where the components of a text are, as the caller learns it: RFC 3986, section 3.
-use Rattle.std.specs.Prelude.{◌≡◌, ◌≢◌, ◌↔◌, ℕ, ◌≤◌, ◌-◌, ◌^◌, List, Option, Some, None, slice_range}
-use Rattle.std.specs.Prelude.{option_and_then, option_map, IsSomeAnd, length}
+use Rattle.std.specs.Prelude.{◌≡◌, ◌≢◌, ◌↔◌, ℕ, ◌≤◌, ◌-◌, ◌^◌, List, Option, Some, None, length}
+use Rattle.std.specs.Prelude.{slice_range, option_and_then, option_map, IsSomeAnd}
 use Rattle.fluent_uri.specs.Authority.{authority_parts}
 use Rattle.fluent_uri.specs.Components.{components}
 use Rattle.fluent_uri.specs.Grammar.{Kind, IsTextOf}
@@ -12,39 +12,45 @@ use Rattle.fluent_uri_c.specs.declared.parts.Parts.{Parts}
 use Rattle.fluent_uri_c.specs.Errors.{number_of, rejected}
 use Rattle.fluent_uri_c.specs.Results.{text_error}
 
--- the span of what is absent
+-- the span, for C, of a component that is absent
 abbrev pub absent : Span
 absent = record { start = 2 ^ 64 - 1; end = 2 ^ 64 - 1 }
 
--- the component is what is between the two offsets, or it is absent and so are they
+-- a component of a text, if it is present, is between the offsets of the span; if it is absent, so
+-- is the span
 abbrev pub IsSpan : List ℕ → Option (List ℕ) → Span → Type 0
 IsSpan text None span = span ≡ absent
 IsSpan text (Some part) span =
     (span.start ≤ span.end) × (span.end ≤ length text)
     × (slice_range text span.start span.end ≡ part)
 
+-- the number of a kind of host in the C header (section 3.2.2)
 abbrev pub host_number : Hosts.HostKind → ℕ
 host_number Hosts.RegName = 1
 host_number (Hosts.Ipv4 octets) = 2
 host_number (Hosts.Ipv6 segments) = 3
 host_number Hosts.IpvFuture = 4
 
--- the number of the kind of host of an authority, if there is one
-abbrev pub authority_host : Option (List ℕ) → ℕ
-authority_host None = 0
-authority_host (Some authority) = host_number (Hosts.host_kind (authority_parts authority).host)
+-- the number, in the C header, of the kind of host of an authority, or 0 if there is no authority
+abbrev pub authority_host_number : Option (List ℕ) → ℕ
+authority_host_number None = 0
+authority_host_number (Some authority) = host_number
+    (Hosts.host_kind (authority_parts authority).host)
 
--- sections 3.2.1 to 3.2.3: the parts of an authority, if there is one
+-- the userinfo of an authority, if there is an authority and it has one (section 3.2.1)
 abbrev pub userinfo_of : Option (List ℕ) → Option (List ℕ)
 userinfo_of authority = option_and_then (λ a. (authority_parts a).userinfo) authority
 
+-- the host of an authority, if there is an authority (section 3.2.2)
 abbrev pub host_of : Option (List ℕ) → Option (List ℕ)
 host_of authority = option_map (λ a. (authority_parts a).host) authority
 
+-- the port of an authority, if there is an authority and it has one (section 3.2.3)
 abbrev pub port_of : Option (List ℕ) → Option (List ℕ)
 port_of authority = option_and_then (λ a. (authority_parts a).port) authority
 
--- each span is that of its component, and no error has an index
+-- each span of the parts that C gets is that of its component in the text, and there is no index of
+-- an error
 pub record AreSpansOf (text : List ℕ) (parts : Parts) : Type 0 where
   pub index : parts.index ≡ 0
   pub scheme : IsSpan text (components text).scheme parts.scheme
@@ -55,9 +61,9 @@ pub record AreSpansOf (text : List ℕ) (parts : Parts) : Type 0 where
   pub path : IsSpan text (Some (components text).path) parts.path
   pub query : IsSpan text (components text).query parts.query
   pub fragment : IsSpan text (components text).fragment parts.fragment
-  pub host_kind : parts.host_kind ≡ authority_host (components text).authority
+  pub host_kind : parts.host_kind ≡ authority_host_number (components text).authority
 
--- of a text that is rejected each component is absent
+-- the parts that C gets of a text that is rejected: the error and its index, and no component
 abbrev pub rejected_parts : Rejection → Parts
 rejected_parts why = record {
   error = number_of why.error;
@@ -73,12 +79,13 @@ rejected_parts why = record {
   fragment = absent;
 }
 
--- why bytes are not a text of the kind, or that there is no such kind
+-- why bytes are rejected as a text of the kind, if they are, or that there is no such kind
 abbrev pub parse_error : Option Kind → List ℕ → Option Rejection
 parse_error None bytes = Some (rejected InvalidArgument)
 parse_error (Some kind) bytes = text_error kind bytes
 
--- the parts of bytes that are parsed as a text of the kind
+-- the parts that C gets of bytes that are parsed as a text of the kind: the spans of its
+-- components, or the error
 pub record ArePartsOf (kind : Option Kind) (bytes : List ℕ) (parts : Parts) : Type 0 where
   pub accepts : parts.error ≡ 0 ↔ IsSomeAnd kind (λ k. IsTextOf k bytes)
   pub spans : parts.error ≡ 0 → AreSpansOf bytes parts

@@ -1,16 +1,17 @@
 //! What a batch does with the texts of a column.
 ghost use Rattle.std.specs.Prelude.{◌≡◌, ◌⊎◌, ◌+◌, ◌-◌, ◌<◌, ◌≤◌, ◌++◌, ◌↔◌, length, drop, take};
 ghost use Rattle.std.specs.Prelude.{IfNone, IfSome, IsTrue, OnSome, option_map, slice_set};
-ghost use Rattle.fluent_uri_c.specs.Columns.{HasDone, HasRoom, LeavesColumn, bytes_of};
-ghost use Rattle.fluent_uri_c.specs.Columns.{made_bytes};
+ghost use Rattle.fluent_uri_c.specs.Columns.{HasDoneTexts, EndsAndBitsFit, LeavesColumn, buffers};
+ghost use Rattle.fluent_uri_c.specs.Columns.{bytes_of};
+ghost use Rattle.fluent_uri_c.specs.Columns.{column_of, call_result_bytes};
 
 use crate::columns::{Offset, mark, text_at};
 use crate::outcome::Outcome;
 use std::alloc::{AllocError, Global};
 
-/// The result of a call on a text: a part of that text, or a text of its own.
+/// The result of a call on a text: a slice of that text, or a new text.
 #[derive(Drop)]
-pub enum Made<'a> {
+pub enum CallResult<'a> {
     Part(&'a [u8]),
     Text(String),
 }
@@ -18,29 +19,29 @@ pub enum Made<'a> {
 /// A call on one text, which a batch makes for each text of a column.
 pub trait Call {
     ghost use Rattle.std.specs.Prelude.{◌≡◌, IfErr, IfOk, IsTrue, option_map};
-    ghost use Rattle.fluent_uri_c.specs.Columns.{made_bytes};
+    ghost use Rattle.fluent_uri_c.specs.Columns.{call_result_bytes};
     ghost use Rattle.fluent_uri_c.specs.SingleCalls.{SingleCall};
 
     ghost definition: { Self → SingleCall };
 
-    /// Returns whether the numbers that it was given name something.
+    /// Returns whether the numbers among the arguments of a call are valid.
     fn is_valid(&self) -> bool
         ensures { result ≡ (definition self.now).is_valid };
 
     /// Returns the result of a text, if that has one.
-    fn call<'a>(&self, alloc: Global, text: &'a [u8]) -> Result<Option<Made<'a>>, AllocError>
+    fn call<'a>(&self, alloc: Global, text: &'a [u8]) -> Result<Option<CallResult<'a>>, AllocError>
         ensures made { IfOk result (λ made.
-            option_map made_bytes made ≡ (definition self.now).result text.now) }
+            option_map call_result_bytes made ≡ (definition self.now).result text.now) }
         ensures memory { IfErr result (λ _. IsTrue (definition self.now).takes_memory) };
 }
 
-/// Returns the bytes of a result: none where there is none.
-fn bytes_of<'a>(made: &'a Option<Made<'a>>) -> &'a [u8]
-    ensures { result.now ≡ bytes_of (option_map made_bytes made.now) }
+/// Returns the bytes of a result, or no bytes if there is none.
+fn bytes_of<'a>(made: &'a Option<CallResult<'a>>) -> &'a [u8]
+    ensures { result.now ≡ bytes_of (option_map call_result_bytes made.now) }
 {
     match made {
-        Some(Made::Part(bytes)) => bytes,
-        Some(Made::Text(text)) => text.as_bytes(),
+        Some(CallResult::Part(bytes)) => bytes,
+        Some(CallResult::Text(text)) => text.as_bytes(),
         None => &[],
     }
 }
@@ -76,8 +77,8 @@ fn append<O: Offset>(
     Some(end)
 }
 
-/// Reports how many texts are done, and how long their results are, and returns the error.
-pub fn ended(error: u32, done: usize, length: usize, outcome: &mut Outcome) -> u32
+/// Reports an error, how many texts are done, and how long their results are. Returns the error.
+pub fn report_progress(error: u32, done: usize, length: usize, outcome: &mut Outcome) -> u32
     ensures number { result ≡ error }
     ensures outcome { outcome.new
         ≡ record { error = error; which = 0; index = done; length = length } }
@@ -89,15 +90,17 @@ pub fn ended(error: u32, done: usize, length: usize, outcome: &mut Outcome) -> u
     error
 }
 
-/// Returns whether there is room for the ends of so many results, and for a bit of each.
-fn has_room<O: Offset>(count: usize, ends: &[O], valid: &[u8]) -> bool
-    ensures { IsTrue result ↔ HasRoom count ends.now valid.now }
+/// Returns whether the ends of count results (one more than count) and a bit for each fit into
+/// their buffers.
+fn ends_and_bits_fit<O: Offset>(count: usize, ends: &[O], valid: &[u8]) -> bool
+    ensures { IsTrue result ↔ EndsAndBitsFit count ends.now valid.now }
 {
     let bytes = count / 8 + usize::from(count % 8 != 0);
     count < ends.len() && bytes <= valid.len()
 }
 
-/// Makes the call for each text of a column, where there is room for the ends and the bits.
+/// Makes the call for each text of a column, and writes its results, their ends and their bits, for
+/// which there is room.
 fn fill<O: Offset, C: Call>(
     alloc: Global,
     call: &C,
@@ -108,33 +111,35 @@ fn fill<O: Offset, C: Call>(
     valid: &mut [u8],
     outcome: &mut Outcome,
 ) -> u32
-    requires { HasRoom (length offsets.now - 1) ends.old valid.old }
+    requires { EndsAndBitsFit (length offsets.now - 1) ends.old valid.old }
     ensures error { outcome.new.error ≡ result }
     ensures which { outcome.new.which ≡ 0 }
-    ensures done { HasDone O.value O.limit (C.definition call.now) texts.now offsets.now
-        out.old out.new ends.old ends.new valid.old valid.new outcome.new result }
+    ensures done { HasDoneTexts (C.definition call.now)
+        (column_of O.value O.limit texts.now offsets.now) (buffers out.old ends.old valid.old)
+        (buffers out.new ends.new valid.new) outcome.new result }
 {
     let count = offsets.len().saturating_sub(1);
     let mut at = 0;
     ends[0] = O::zero();
     for index in 0..count {
         let Some(text) = text_at(texts, offsets, index) else {
-            return ended(9, index, at, outcome);
+            return report_progress(9, index, at, outcome);
         };
         let made = match call.call(alloc, text) {
             Ok(made) => made,
-            Err(_) => return ended(8, index, at, outcome),
+            Err(_) => return report_progress(8, index, at, outcome),
         };
         let Some(end) = append(bytes_of(&made), index, at, out, ends) else {
-            return ended(10, index, at, outcome);
+            return report_progress(10, index, at, outcome);
         };
         mark(valid, index, made.is_some());
         at = end;
     }
-    ended(0, count, at, outcome)
+    report_progress(0, count, at, outcome)
 }
 
-/// Makes the call for each text of a column.
+/// Makes the call for each text of a column, if there is room for the ends and the bits, and writes
+/// what it returns.
 pub fn column<O: Offset, C: Call>(
     alloc: Global,
     call: &C,
@@ -145,16 +150,17 @@ pub fn column<O: Offset, C: Call>(
     valid: &mut [u8],
     outcome: &mut Outcome,
 ) -> u32
-    ensures { LeavesColumn O.value O.limit (C.definition call.now) texts.now offsets.now
-        out.old out.new ends.old ends.new valid.old valid.new outcome.new result }
+    ensures { LeavesColumn (C.definition call.now)
+        (column_of O.value O.limit texts.now offsets.now) (buffers out.old ends.old valid.old)
+        (buffers out.new ends.new valid.new) outcome.new result }
 {
     if !call.is_valid() {
-        return ended(9, 0, 0, outcome);
+        return report_progress(9, 0, 0, outcome);
     }
     let count = offsets.len().saturating_sub(1);
-    if has_room(count, ends, valid) {
+    if ends_and_bits_fit(count, ends, valid) {
         fill(alloc, call, texts, offsets, out, ends, valid, outcome)
     } else {
-        ended(10, 0, 0, outcome)
+        report_progress(10, 0, 0, outcome)
     }
 }

@@ -1,25 +1,28 @@
 //! The batches: a call for each text of a column.
-ghost use Rattle.std.specs.Prelude.{◌≡◌, IfErr, IfOk, option_map};
+ghost use Rattle.std.specs.Prelude.{◌≡◌, IfOk, option_map};
 ghost use Rattle.std.specs.Result.{result_ok};
-ghost use Rattle.fluent_uri_c.specs.Columns.{LeavesColumn, made_bytes};
+ghost use Rattle.fluent_uri_c.specs.Columns.{LeavesColumn, buffers, column32, column64};
+ghost use Rattle.fluent_uri_c.specs.Columns.{call_result_bytes};
 ghost use Rattle.fluent_uri_c.specs.Results.{IsReturned, Returned};
 ghost use Rattle.fluent_uri_c.specs.SingleCalls.{converting, normalizing, resolving};
 ghost use Rattle.fluent_uri_c.specs.SingleCalls.{resolving_normalized};
 
-use crate::batch::{Call, Made, column};
-use crate::columns::Offset;
+use crate::batch::{Call, CallResult, column};
 use crate::errors::{Error, Rejection};
 use crate::numbered;
 use crate::outcome::Outcome;
 use std::alloc::{AllocError, Global};
 
-/// Returns what a batch takes of what a call returns.
-fn made<'a>(returned: Result<String, Rejection>) -> Result<Option<Made<'a>>, AllocError>
-    ensures { (defined : Returned) → IsReturned defined returned → IfOk result (λ made.
-        option_map made_bytes made ≡ result_ok defined) }
+/// Returns the result of a call as one of a batch: none for a rejection, and an error only if an
+/// allocation failed.
+fn batch_result<'a>(
+    returned: Result<String, Rejection>,
+) -> Result<Option<CallResult<'a>>, AllocError>
+    ensures { (defined : Returned) → IsReturned defined returned → IfOk result (λ batch_result.
+        option_map call_result_bytes batch_result ≡ result_ok defined) }
 {
     match returned {
-        Ok(text) => Ok(Some(Made::Text(text))),
+        Ok(text) => Ok(Some(CallResult::Text(text))),
         Err(why) => match why.error {
             Error::OutOfMemory => Err(AllocError),
             _ => Ok(None),
@@ -36,12 +39,18 @@ struct Normalize {
 impl Call for Normalize {
     ghost definition = { λ call. normalizing call.kind };
 
+    /// Returns whether the number is one of the four kinds.
     fn is_valid(&self) -> bool {
         self.kind <= 3
     }
 
-    fn call<'a>(&self, alloc: Global, text: &'a [u8]) -> Result<Option<Made<'a>>, AllocError> {
-        made(numbered::normal_form(alloc, self.kind, text))
+    /// Returns the normal form of a text, if it is of the kind.
+    fn call<'a>(
+        &self,
+        alloc: Global,
+        text: &'a [u8],
+    ) -> Result<Option<CallResult<'a>>, AllocError> {
+        batch_result(numbered::normalize_text(alloc, self.kind, text))
     }
 }
 
@@ -54,12 +63,18 @@ struct ToUri {
 impl Call for ToUri {
     ghost definition = { λ call. converting call.kind };
 
+    /// Returns whether the number is one of the kinds of IRIs.
     fn is_valid(&self) -> bool {
         self.kind == 2 || self.kind == 3
     }
 
-    fn call<'a>(&self, alloc: Global, text: &'a [u8]) -> Result<Option<Made<'a>>, AllocError> {
-        made(numbered::uri_text(alloc, self.kind, text))
+    /// Returns an IRI, or an IRI reference, as a URI or a URI reference, if the text is one.
+    fn call<'a>(
+        &self,
+        alloc: Global,
+        text: &'a [u8],
+    ) -> Result<Option<CallResult<'a>>, AllocError> {
+        batch_result(numbered::uri_text(alloc, self.kind, text))
     }
 }
 
@@ -73,12 +88,18 @@ struct Resolve<'a> {
 impl<'b> Call for Resolve<'b> {
     ghost definition = { λ call. resolving call.kind call.base.now };
 
+    /// Returns whether the number is a base's kind: a URI or an IRI.
     fn is_valid(&self) -> bool {
         self.kind == 0 || self.kind == 2
     }
 
-    fn call<'a>(&self, alloc: Global, text: &'a [u8]) -> Result<Option<Made<'a>>, AllocError> {
-        made(numbered::target(alloc, self.kind, self.base, text))
+    /// Returns the target of a reference against the base, if it has one.
+    fn call<'a>(
+        &self,
+        alloc: Global,
+        text: &'a [u8],
+    ) -> Result<Option<CallResult<'a>>, AllocError> {
+        batch_result(numbered::target(alloc, self.kind, self.base, text))
     }
 }
 
@@ -92,12 +113,18 @@ struct ResolveNormalized<'a> {
 impl<'b> Call for ResolveNormalized<'b> {
     ghost definition = { λ call. resolving_normalized call.kind call.base.now };
 
+    /// Returns whether the number is a base's kind: a URI or an IRI.
     fn is_valid(&self) -> bool {
         self.kind == 0 || self.kind == 2
     }
 
-    fn call<'a>(&self, alloc: Global, text: &'a [u8]) -> Result<Option<Made<'a>>, AllocError> {
-        made(numbered::normal_target(alloc, self.kind, self.base, text))
+    /// Returns the normal form of the target of a reference against the base, if it has one.
+    fn call<'a>(
+        &self,
+        alloc: Global,
+        text: &'a [u8],
+    ) -> Result<Option<CallResult<'a>>, AllocError> {
+        batch_result(numbered::normal_target(alloc, self.kind, self.base, text))
     }
 }
 
@@ -113,8 +140,8 @@ pub extern "C" fn fluent_uri_normalize_batch(
     valid: &mut [u8],
     outcome: &mut Outcome,
 ) -> u32
-    ensures { LeavesColumn ⟦<u32 as Offset>⟧.value ⟦<u32 as Offset>⟧.limit (normalizing kind)
-        texts.now offsets.now out.old out.new ends.old ends.new valid.old valid.new
+    ensures { LeavesColumn (normalizing kind) (column32 texts.now offsets.now)
+        (buffers out.old ends.old valid.old) (buffers out.new ends.new valid.new)
         outcome.new result }
 {
     let call = Normalize { kind };
@@ -133,8 +160,8 @@ pub extern "C" fn fluent_uri_to_uri_batch(
     valid: &mut [u8],
     outcome: &mut Outcome,
 ) -> u32
-    ensures { LeavesColumn ⟦<u32 as Offset>⟧.value ⟦<u32 as Offset>⟧.limit (converting kind)
-        texts.now offsets.now out.old out.new ends.old ends.new valid.old valid.new
+    ensures { LeavesColumn (converting kind) (column32 texts.now offsets.now)
+        (buffers out.old ends.old valid.old) (buffers out.new ends.new valid.new)
         outcome.new result }
 {
     let call = ToUri { kind };
@@ -154,8 +181,8 @@ pub extern "C" fn fluent_uri_resolve_batch(
     valid: &mut [u8],
     outcome: &mut Outcome,
 ) -> u32
-    ensures { LeavesColumn ⟦<u32 as Offset>⟧.value ⟦<u32 as Offset>⟧.limit (resolving kind base.now)
-        texts.now offsets.now out.old out.new ends.old ends.new valid.old valid.new
+    ensures { LeavesColumn (resolving kind base.now) (column32 texts.now offsets.now)
+        (buffers out.old ends.old valid.old) (buffers out.new ends.new valid.new)
         outcome.new result }
 {
     let call = Resolve { kind, base };
@@ -175,8 +202,8 @@ pub extern "C" fn fluent_uri_resolve_normalized_batch(
     valid: &mut [u8],
     outcome: &mut Outcome,
 ) -> u32
-    ensures { LeavesColumn ⟦<u32 as Offset>⟧.value ⟦<u32 as Offset>⟧.limit (resolving_normalized kind base.now)
-        texts.now offsets.now out.old out.new ends.old ends.new valid.old valid.new
+    ensures { LeavesColumn (resolving_normalized kind base.now) (column32 texts.now offsets.now)
+        (buffers out.old ends.old valid.old) (buffers out.new ends.new valid.new)
         outcome.new result }
 {
     let call = ResolveNormalized { kind, base };
@@ -195,8 +222,8 @@ pub extern "C" fn fluent_uri_normalize_batch64(
     valid: &mut [u8],
     outcome: &mut Outcome,
 ) -> u32
-    ensures { LeavesColumn ⟦<u64 as Offset>⟧.value ⟦<u64 as Offset>⟧.limit (normalizing kind)
-        texts.now offsets.now out.old out.new ends.old ends.new valid.old valid.new
+    ensures { LeavesColumn (normalizing kind) (column64 texts.now offsets.now)
+        (buffers out.old ends.old valid.old) (buffers out.new ends.new valid.new)
         outcome.new result }
 {
     let call = Normalize { kind };
@@ -215,8 +242,8 @@ pub extern "C" fn fluent_uri_to_uri_batch64(
     valid: &mut [u8],
     outcome: &mut Outcome,
 ) -> u32
-    ensures { LeavesColumn ⟦<u64 as Offset>⟧.value ⟦<u64 as Offset>⟧.limit (converting kind)
-        texts.now offsets.now out.old out.new ends.old ends.new valid.old valid.new
+    ensures { LeavesColumn (converting kind) (column64 texts.now offsets.now)
+        (buffers out.old ends.old valid.old) (buffers out.new ends.new valid.new)
         outcome.new result }
 {
     let call = ToUri { kind };
@@ -236,8 +263,8 @@ pub extern "C" fn fluent_uri_resolve_batch64(
     valid: &mut [u8],
     outcome: &mut Outcome,
 ) -> u32
-    ensures { LeavesColumn ⟦<u64 as Offset>⟧.value ⟦<u64 as Offset>⟧.limit (resolving kind base.now)
-        texts.now offsets.now out.old out.new ends.old ends.new valid.old valid.new
+    ensures { LeavesColumn (resolving kind base.now) (column64 texts.now offsets.now)
+        (buffers out.old ends.old valid.old) (buffers out.new ends.new valid.new)
         outcome.new result }
 {
     let call = Resolve { kind, base };
@@ -257,8 +284,8 @@ pub extern "C" fn fluent_uri_resolve_normalized_batch64(
     valid: &mut [u8],
     outcome: &mut Outcome,
 ) -> u32
-    ensures { LeavesColumn ⟦<u64 as Offset>⟧.value ⟦<u64 as Offset>⟧.limit (resolving_normalized kind base.now)
-        texts.now offsets.now out.old out.new ends.old ends.new valid.old valid.new
+    ensures { LeavesColumn (resolving_normalized kind base.now) (column64 texts.now offsets.now)
+        (buffers out.old ends.old valid.old) (buffers out.new ends.new valid.new)
         outcome.new result }
 {
     let call = ResolveNormalized { kind, base };

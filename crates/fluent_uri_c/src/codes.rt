@@ -7,7 +7,7 @@ ghost use Rattle.fluent_uri_c.specs.Results.{IsReturned, IsReturnedAs, decode_re
 ghost use Rattle.fluent_uri_c.specs.Results.{decoded_result, encode_result};
 
 use crate::errors::{Error, Rejection};
-use crate::texts::text_of;
+use crate::texts::utf8_text;
 use fluent_uri::pct_enc::encoder::{
     Data, Encoder, Fragment, IFragment, IPath, IQuery, IRegName, IUserinfo, Path, Query, RegName,
     Userinfo,
@@ -15,18 +15,18 @@ use fluent_uri::pct_enc::encoder::{
 use fluent_uri::pct_enc::{CowSlice, EStr, EString};
 use std::alloc::Global;
 
-/// Returns the bytes that a component of the encoder's set stands for.
+/// Decodes a component that is valid for the encoder's set.
 fn decoded_as<'a, E: Encoder>(alloc: Global, bytes: &'a [u8]) -> Result<CowSlice<'a, u8>, Rejection>
     requires { IsTrue (E.set).pct_encoded }
     ensures { IsReturnedAs cow_items (decoded_result E.set bytes.now) result }
 {
-    match EStr::<E>::new(text_of(bytes)?) {
+    match EStr::<E>::new(utf8_text(bytes)?) {
         Some(text) => Ok(text.decode().to_bytes(alloc)?),
         None => Err(Rejection::of(Error::UnexpectedChar)),
     }
 }
 
-/// Returns the bytes that the component of a number stands for.
+/// Decodes the component with this number.
 pub fn decoded<'a>(
     alloc: Global,
     component: u32,
@@ -44,7 +44,7 @@ pub fn decoded<'a>(
     }
 }
 
-/// Returns the bytes, encoded by the encoder's set.
+/// Percent-encodes bytes by the encoder's set.
 fn encoded_as<E: Encoder>(alloc: Global, bytes: &[u8]) -> Result<String, Rejection>
     requires { IsTrue (E.set).pct_encoded }
     ensures { IsReturned (Ok (print (encode_bytes E.set bytes.now))) result }
@@ -54,7 +54,7 @@ fn encoded_as<E: Encoder>(alloc: Global, bytes: &[u8]) -> Result<String, Rejecti
     Ok(text.into_string())
 }
 
-/// Returns the bytes, encoded as data of the component of a number.
+/// Percent-encodes bytes as data of the component with this number.
 pub fn encoded(alloc: Global, component: u32, bytes: &[u8]) -> Result<String, Rejection>
     ensures { IsReturned (encode_result component bytes.now) result }
 {

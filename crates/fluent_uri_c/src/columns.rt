@@ -12,11 +12,11 @@ pub trait Offset: Copy {
 
     ghost limit: { ℕ };
 
-    /// Returns the position that it is.
+    /// Returns the offset as a position, a `usize`.
     fn position(self) -> usize
         ensures { result ≡ value self };
 
-    /// Returns the offset of the beginning.
+    /// Returns the offset 0.
     fn zero() -> Self
         ensures { value result ≡ 0 };
 
@@ -33,14 +33,17 @@ impl Offset for u32 {
 
     ghost limit = { 2 ^ 32 };
 
+    /// Returns an offset of 32 bits as a position, a `usize`.
     fn position(self) -> usize {
         self as usize
     }
 
+    /// Returns the offset 0, of 32 bits.
     fn zero() -> u32 {
         0
     }
 
+    /// Returns a position as an offset of 32 bits, if it fits.
     fn of(position: usize) -> Option<u32> {
         u32::try_from(position).ok()
     }
@@ -53,14 +56,17 @@ impl Offset for u64 {
 
     ghost limit = { 2 ^ 64 };
 
+    /// Returns an offset of 64 bits as a position, a `usize`.
     fn position(self) -> usize {
         self as usize
     }
 
+    /// Returns the offset 0, of 64 bits.
     fn zero() -> u64 {
         0
     }
 
+    /// Returns a position as an offset of 64 bits.
     fn of(position: usize) -> Option<u64> {
         Some(position as u64)
     }
@@ -79,7 +85,7 @@ pub fn text_at<'a, O: Offset>(texts: &'a [u8], offsets: &[O], index: usize) -> O
     }
 }
 
-/// Writes whether the text at an index has a result.
+/// Writes the bit that says whether the text at an index has a result.
 pub fn mark(valid: &mut [u8], index: usize, is_valid: bool)
     requires { index / 8 < length valid.old }
     ensures marked { bit_of valid.new index ≡ number_of_bool is_valid }

@@ -2,14 +2,13 @@
 ghost use Rattle.std.specs.Prelude.{◌≡◌, Some, option_copied};
 ghost use Rattle.fluent_uri.specs.AuthorityTexts.{authority_text};
 ghost use Rattle.fluent_uri.specs.References.{reference_text};
-ghost use Rattle.fluent_uri_c.specs.Columns.{LeavesColumn};
-ghost use Rattle.fluent_uri_c.specs.Components.{authority_part, component_numbered};
+ghost use Rattle.fluent_uri_c.specs.Columns.{LeavesColumn, buffers, column32};
+ghost use Rattle.fluent_uri_c.specs.Components.{authority_component, component_numbered};
 ghost use Rattle.fluent_uri_c.specs.Components.{component_result};
 ghost use Rattle.fluent_uri_c.specs.Kinds.{kind_numbered};
 ghost use Rattle.fluent_uri_c.specs.SingleCalls.{taking_component};
 
-use crate::batch::{Call, Made, column};
-use crate::columns::Offset;
+use crate::batch::{Call, CallResult, column};
 use crate::outcome::Outcome;
 use crate::texts::parsed;
 use fluent_uri::Reference;
@@ -18,13 +17,13 @@ use fluent_uri::pct_enc::Encoder;
 use std::alloc::{AllocError, Global};
 use uri_parts::kind::{IriKind, IriRefKind, Kind, UriKind, UriRefKind};
 
-/// Returns a part of an authority, or the whole of it.
-fn part_of<'a, U: Encoder, R: Encoder>(
+/// Returns the component of an authority with this number, or the whole authority.
+fn authority_component<'a, U: Encoder, R: Encoder>(
     authority: Authority<'a, U, R>,
     component: u32,
 ) -> Option<&'a str>
     ensures { option_copied result
-        ≡ authority_part component (authority_text authority.entry) }
+        ≡ authority_component component (authority_text authority.entry) }
 {
     match component {
         0 => match authority.userinfo() {
@@ -41,8 +40,8 @@ fn part_of<'a, U: Encoder, R: Encoder>(
     }
 }
 
-/// Returns the component of a number of a value, if there is one.
-fn part_in<'a, K: Kind>(value: Reference<K, &'a str>, component: u32) -> Option<&'a str>
+/// Returns the component of a value with this number, if there is one.
+fn component_in<'a, K: Kind>(value: Reference<K, &'a str>, component: u32) -> Option<&'a str>
     ensures { option_copied result
         ≡ component_numbered component (reference_text value.entry) }
 {
@@ -61,18 +60,18 @@ fn part_in<'a, K: Kind>(value: Reference<K, &'a str>, component: u32) -> Option<
             None => None,
         },
         _ => match value.authority() {
-            Some(authority) => part_of(authority, component),
+            Some(authority) => authority_component(authority, component),
             None => None,
         },
     }
 }
 
-/// Returns the component of a number of bytes that are a text of the kind, if there is one.
+/// Returns the component with this number of bytes that are a text of the kind, if there is one.
 fn component_as<'a, K: Kind>(bytes: &'a [u8], component: u32) -> Option<&'a [u8]>
     ensures { option_copied result ≡ component_result (Some K.kind) component bytes.now }
 {
     match parsed::<K>(bytes) {
-        Ok(value) => match part_in(value, component) {
+        Ok(value) => match component_in(value, component) {
             Some(part) => Some(part.as_bytes()),
             None => None,
         },
@@ -80,7 +79,7 @@ fn component_as<'a, K: Kind>(bytes: &'a [u8], component: u32) -> Option<&'a [u8]
     }
 }
 
-/// Returns the component of a number of a text of the kind of a number, if there is one.
+/// Returns the component with this number of a text of the kind with that number, if there is one.
 fn component_of<'a>(kind: u32, component: u32, bytes: &'a [u8]) -> Option<&'a [u8]>
     ensures { option_copied result ≡ component_result (kind_numbered kind) component bytes.now }
 {
@@ -93,7 +92,7 @@ fn component_of<'a>(kind: u32, component: u32, bytes: &'a [u8]) -> Option<&'a [u
     }
 }
 
-/// Takes a component of texts of a kind.
+/// The call that takes a component of texts of a kind.
 #[derive(Clone, Copy)]
 struct Component {
     kind: u32,
@@ -103,13 +102,19 @@ struct Component {
 impl Call for Component {
     ghost definition = { λ call. taking_component call.kind call.component };
 
+    /// Returns whether the numbers are those of a kind and a component.
     fn is_valid(&self) -> bool {
         self.kind <= 3 && self.component < 8
     }
 
-    fn call<'a>(&self, _alloc: Global, text: &'a [u8]) -> Result<Option<Made<'a>>, AllocError> {
+    /// Returns the component of a text, if the text is of the kind and has it.
+    fn call<'a>(
+        &self,
+        _alloc: Global,
+        text: &'a [u8],
+    ) -> Result<Option<CallResult<'a>>, AllocError> {
         match component_of(self.kind, self.component, text) {
-            Some(part) => Ok(Some(Made::Part(part))),
+            Some(part) => Ok(Some(CallResult::Part(part))),
             None => Ok(None),
         }
     }
@@ -128,9 +133,9 @@ pub extern "C" fn fluent_uri_component_batch(
     valid: &mut [u8],
     outcome: &mut Outcome,
 ) -> u32
-    ensures { LeavesColumn ⟦<u32 as Offset>⟧.value ⟦<u32 as Offset>⟧.limit
-        (taking_component kind component) texts.now offsets.now out.old out.new
-        ends.old ends.new valid.old valid.new outcome.new result }
+    ensures { LeavesColumn (taking_component kind component) (column32 texts.now offsets.now)
+        (buffers out.old ends.old valid.old) (buffers out.new ends.new valid.new)
+        outcome.new result }
 {
     let call = Component { kind, component };
     column(alloc, &call, texts, offsets, out, ends, valid, outcome)

@@ -22,7 +22,7 @@ pub enum Error {
 }
 
 impl Error {
-    /// Returns its number in the header, from 1 to 10.
+    /// Returns the number of the error in the header, from 1 to 10.
     pub fn number(self) -> u32
         ensures number { result ≡ number_of self }
         ensures error { result ≢ 0 }
@@ -63,7 +63,7 @@ impl Rejection {
         }
     }
 
-    /// Returns the same in the reference, which is the second text.
+    /// Returns the rejection, said of the reference, which is the second text of its call.
     pub fn in_reference(self) -> Rejection
         ensures { result ≡ in_reference self }
     {
@@ -80,6 +80,7 @@ impl From<ParseError> for Rejection {
 
     ghost from_gives = { λ error why. why ≡ parse_rejection error };
 
+    /// Returns the rejection, by a number of the header, for a parse error.
     fn from(error: ParseError) -> Rejection {
         let number = match error.kind() {
             ParseErrorKind::InvalidPctEncodedOctet => Error::InvalidPctEncodedOctet,
@@ -99,6 +100,7 @@ impl From<ResolveError> for Rejection {
 
     ghost from_gives = { λ error why. why ≡ resolve_rejection error };
 
+    /// Returns the rejection, by a number of the header, for an error of resolving.
     fn from(error: ResolveError) -> Rejection {
         Rejection::of(match error {
             ResolveError::BaseWithFragment => Error::BaseWithFragment,
@@ -116,6 +118,7 @@ impl From<AllocError> for Rejection {
 
     ghost from_gives = { λ _ why. why ≡ rejected OutOfMemory };
 
+    /// Returns the rejection, by a number of the header, for a failed allocation.
     fn from(_: AllocError) -> Rejection {
         Rejection::of(Error::OutOfMemory)
     }

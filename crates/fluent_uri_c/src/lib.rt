@@ -2,6 +2,7 @@
 //! `#[repr(C)]` structs; `c/include/fluent_uri.h` is the other side.
 #![tactic(auto)]
 
+mod ascii;
 mod batch;
 mod calls;
 mod codes;

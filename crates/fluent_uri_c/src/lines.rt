@@ -4,10 +4,11 @@ ghost use Rattle.std.specs.Prelude.{IfNone, IfOk, IfSome, OnSome, string_bytes};
 ghost use Rattle.std.specs.List.{position, position_or_len};
 ghost use Rattle.std.specs.Result.{result_ok};
 ghost use Rattle.fluent_uri_c.specs.Columns.{bytes_of};
-ghost use Rattle.fluent_uri_c.specs.Lines.{LeavesLines, is_newline, newline, number_returned};
+ghost use Rattle.fluent_uri_c.specs.Lines.{LeavesLines, is_newline, line_buffers, newline};
+ghost use Rattle.fluent_uri_c.specs.Lines.{number_returned};
 ghost use Rattle.fluent_uri_c.specs.Results.{normalize_result};
 
-use crate::batch::ended;
+use crate::batch::report_progress;
 use crate::errors::Error;
 use crate::numbered;
 use crate::outcome::Outcome;
@@ -33,7 +34,7 @@ fn line_end(lines: &[u8], start: usize) -> usize
     }
 }
 
-/// Writes bytes at a position.
+/// Writes bytes to a buffer, from a position on.
 fn write_at(bytes: &[u8], at: usize, out: &mut [u8])
     requires { at + length bytes.now ≤ length out.old }
     ensures { out.new ≡ take at out.old ++ (bytes.now ++ drop (at + length bytes.now) out.old) }
@@ -67,14 +68,15 @@ struct Line {
     number: u8,
 }
 
-/// Normalises a line.
+/// Returns the normal form of a line that is a text of the kind, or an empty text and the number of
+/// the error.
 fn normal_line(alloc: Global, kind: u32, text: &[u8]) -> Result<Line, AllocError>
     ensures text { IfOk result (λ line. string_bytes line.text
         ≡ bytes_of (result_ok (normalize_result kind text.now))) }
     ensures number { IfOk result (λ line. line.number
         ≡ number_returned (normalize_result kind text.now)) }
 {
-    match numbered::normal_form(alloc, kind, text) {
+    match numbered::normalize_text(alloc, kind, text) {
         Ok(text) => Ok(Line { text, number: 0 }),
         Err(why) => match why.error {
             Error::OutOfMemory => Err(AllocError),
@@ -97,28 +99,28 @@ pub extern "C" fn fluent_uri_normalize_lines(
     errors: &mut [u8],
     outcome: &mut Outcome,
 ) -> u32
-    ensures { LeavesLines kind lines.now out.old out.new errors.old errors.new
-        outcome.new result }
+    ensures { LeavesLines kind lines.now (line_buffers out.old errors.old)
+        (line_buffers out.new errors.new) outcome.new result }
 {
     if kind > 3 {
-        return ended(9, 0, 0, outcome);
+        return report_progress(9, 0, 0, outcome);
     }
     let mut at = 0usize;
     let mut start = 0usize;
     for index in 0..errors.len() {
         let end = line_end(lines, start);
         let Ok(line) = normal_line(alloc, kind, &lines[start..end]) else {
-            return ended(8, index, at, outcome);
+            return report_progress(8, index, at, outcome);
         };
         let Some(next) = push_line(line.text.as_bytes(), at, out) else {
-            return ended(10, index, at, outcome);
+            return report_progress(10, index, at, outcome);
         };
         errors[index] = line.number;
         at = next;
         if end == lines.len() {
-            return ended(0, index + 1, at, outcome);
+            return report_progress(0, index + 1, at, outcome);
         }
         start = end + 1;
     }
-    ended(10, errors.len(), at, outcome)
+    report_progress(10, errors.len(), at, outcome)
 }

@@ -11,14 +11,14 @@ use std::alloc::Global;
 use uri_parts::kind::{IriKind, IriRefKind, UriKind, UriRefKind};
 
 /// Returns the normal form of a text of the kind.
-pub fn normal_form(alloc: Global, kind: u32, text: &[u8]) -> Result<String, Rejection>
+pub fn normalize_text(alloc: Global, kind: u32, text: &[u8]) -> Result<String, Rejection>
     ensures { IsReturned (normalize_result kind text.now) result }
 {
     match kind {
-        0 => texts::normal_form::<UriKind>(alloc, text),
-        1 => texts::normal_form::<UriRefKind>(alloc, text),
-        2 => texts::normal_form::<IriKind>(alloc, text),
-        3 => texts::normal_form::<IriRefKind>(alloc, text),
+        0 => texts::normalize_text::<UriKind>(alloc, text),
+        1 => texts::normalize_text::<UriRefKind>(alloc, text),
+        2 => texts::normalize_text::<IriKind>(alloc, text),
+        3 => texts::normalize_text::<IriRefKind>(alloc, text),
         _ => Err(Rejection::of(Error::InvalidArgument)),
     }
 }

@@ -1,6 +1,6 @@
 //! What a call leaves in its caller's memory.
 ghost use Rattle.std.specs.Prelude.{◌≡◌};
-ghost use Rattle.fluent_uri_c.specs.Outcomes.{Leaves, outcome_of, outcome_of_text, written};
+ghost use Rattle.fluent_uri_c.specs.Outcomes.{LeavesText, outcome_of, outcome_of_text, written};
 ghost use Rattle.fluent_uri_c.specs.Errors.{number_of};
 ghost use Rattle.fluent_uri_c.specs.Results.{IsReturned, Returned};
 
@@ -9,6 +9,7 @@ use crate::errors::Rejection;
 /// What a call reports: an error, or 0; which of two texts is rejected; where in it; and the length
 /// of the text that it returns.
 #[repr(C)]
+#[derive(Drop)]
 pub struct Outcome {
     pub error: u32,
     pub which: u32,
@@ -42,10 +43,11 @@ pub fn put(text: &[u8], out: &mut [u8], outcome: &mut Outcome)
     }
 }
 
-/// Writes the text, or reports why there is none.
-pub fn leave(made: Result<String, Rejection>, out: &mut [u8], outcome: &mut Outcome) -> u32
+/// Writes a text that a call made, or reports why there is none. Returns the number of the error,
+/// or 0.
+pub fn put_or_report(made: Result<String, Rejection>, out: &mut [u8], outcome: &mut Outcome) -> u32
     ensures { (returned : Returned) → IsReturned returned made
-        → Leaves returned out.old out.new outcome.new result }
+        → LeavesText returned out.old out.new outcome.new result }
 {
     match made {
         Ok(text) => {

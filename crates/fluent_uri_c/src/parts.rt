@@ -1,17 +1,21 @@
 //! Where the components of a text are.
-ghost use Rattle.std.specs.Prelude.{◌≡◌, Some};
+ghost use Rattle.std.specs.Prelude.{◌≡◌, IsTrue, Some};
+ghost use Rattle.fluent_uri.specs.Authority.{authority_parts};
+ghost use Rattle.fluent_uri.specs.AuthorityTexts.{authority_text};
 ghost use Rattle.fluent_uri.specs.Components.{components};
 ghost use Rattle.fluent_uri.specs.Grammar.{IsOfKind};
+ghost use Rattle.fluent_uri.specs.Hosts.{RegName, host_kind};
 ghost use Rattle.fluent_uri.specs.References.{reference_text};
-ghost use Rattle.uri_parts.specs.Positions.{AreAt};
+ghost use Rattle.uri_parts.specs.Positions.{ArePositionsOf};
 ghost use Rattle.fluent_uri_c.specs.Kinds.{kind_numbered};
 ghost use Rattle.fluent_uri_c.specs.Spans.{ArePartsOf, AreSpansOf, IsSpan, absent};
-ghost use Rattle.fluent_uri_c.specs.Spans.{authority_host, rejected_parts};
+ghost use Rattle.fluent_uri_c.specs.Spans.{authority_host_number, host_number, rejected_parts};
 ghost use Rattle.fluent_uri_c.specs.Spans.{host_of, port_of, userinfo_of};
 
 use crate::errors::{Error, Rejection};
 use crate::texts::parsed;
-use fluent_uri::component::Host;
+use fluent_uri::component::{Authority, Host};
+use fluent_uri::pct_enc::Encoder;
 use fluent_uri::{Reference, RiMaybeRef};
 use uri_parts::kind::{IriKind, IriRefKind, Kind, UriKind, UriRefKind};
 use uri_parts::positions::Positions;
@@ -51,11 +55,11 @@ pub fn absent() -> Span
     }
 }
 
-/// Returns the parts of a text that is rejected.
-fn rejected(why: Rejection) -> Parts
-    ensures { result ≡ rejected_parts why }
+/// Writes the parts of a text that is rejected: the error, and no component.
+fn write_rejected_parts(why: Rejection, parts: &mut Parts)
+    ensures { parts.new ≡ rejected_parts why }
 {
-    Parts {
+    *parts = Parts {
         error: why.error.number(),
         host_kind: 0,
         index: why.index,
@@ -67,25 +71,50 @@ fn rejected(why: Rejection) -> Parts
         path: absent(),
         query: absent(),
         fragment: absent(),
+    };
+}
+
+/// Returns whether the first byte of a host shows that it is a registered name.
+#[inline(always)]
+fn begins_as_a_name(host: &str) -> bool
+    ensures { IsTrue result → host_kind host.now ≡ RegName }
+{
+    match host.as_bytes() {
+        [] => true,
+        [first, ..] => !first.is_ascii_digit() && *first != b'[',
     }
 }
 
+/// Returns the number of the kind of an authority's host. Most hosts are names by their first byte.
+#[inline(always)]
+fn host_number<'a, U: Encoder, R: Encoder>(authority: Authority<'a, U, R>) -> u32
+    ensures { result
+        ≡ host_number (host_kind (authority_parts (authority_text authority.entry)).host) }
+{
+    if begins_as_a_name(authority.host()) {
+        return 1;
+    }
+    match authority.host_parsed() {
+        Host::RegName(_) => 1,
+        Host::Ipv4(_) => 2,
+        Host::Ipv6(_) => 3,
+        Host::IpvFuture => 4,
+    }
+}
+
+/// Returns the number of the kind of a value's host, or 0 if it has no authority.
 fn host_kind<K: Kind>(value: &Reference<K, &str>) -> u32
-    ensures { result ≡ authority_host (components (reference_text value.now)).authority }
+    ensures { result ≡ authority_host_number (components (reference_text value.now)).authority }
 {
     match value.authority() {
         None => 0,
-        Some(authority) => match authority.host_parsed() {
-            Host::RegName(_) => 1,
-            Host::Ipv4(_) => 2,
-            Host::Ipv6(_) => 3,
-            Host::IpvFuture => 4,
-        },
+        Some(authority) => host_number(authority),
     }
 }
 
+/// Returns the span of the scheme of a text with these positions.
 fn scheme(text: &str, at: Positions) -> Span
-    requires { AreAt text.now at }
+    requires { ArePositionsOf text.now at }
     ensures { IsSpan text.now (components text.now).scheme result }
 {
     match at.scheme_end {
@@ -94,8 +123,9 @@ fn scheme(text: &str, at: Positions) -> Span
     }
 }
 
+/// Returns the span of the authority of a text with these positions.
 fn authority(text: &str, at: Positions) -> Span
-    requires { AreAt text.now at }
+    requires { ArePositionsOf text.now at }
     ensures { IsSpan text.now (components text.now).authority result }
 {
     match at.authority {
@@ -107,8 +137,9 @@ fn authority(text: &str, at: Positions) -> Span
     }
 }
 
+/// Returns the span of the userinfo of a text with these positions.
 fn userinfo<K: Kind>(text: &str, at: Positions) -> Span
-    requires at { AreAt text.now at }
+    requires at { ArePositionsOf text.now at }
     requires of_kind { IsOfKind K.kind text.now }
     ensures { IsSpan text.now (userinfo_of (components text.now).authority) result }
 {
@@ -127,8 +158,9 @@ fn userinfo<K: Kind>(text: &str, at: Positions) -> Span
     }
 }
 
+/// Returns the span of the host of a text with these positions.
 fn host<K: Kind>(text: &str, at: Positions) -> Span
-    requires at { AreAt text.now at }
+    requires at { ArePositionsOf text.now at }
     requires of_kind { IsOfKind K.kind text.now }
     ensures { IsSpan text.now (host_of (components text.now).authority) result }
 {
@@ -141,8 +173,9 @@ fn host<K: Kind>(text: &str, at: Positions) -> Span
     }
 }
 
+/// Returns the span of the port of a text with these positions.
 fn port<K: Kind>(text: &str, at: Positions) -> Span
-    requires at { AreAt text.now at }
+    requires at { ArePositionsOf text.now at }
     requires of_kind { IsOfKind K.kind text.now }
     ensures { IsSpan text.now (port_of (components text.now).authority) result }
 {
@@ -161,8 +194,9 @@ fn port<K: Kind>(text: &str, at: Positions) -> Span
     }
 }
 
+/// Returns the span of the path of a text with these positions.
 fn path(text: &str, at: Positions) -> Span
-    requires { AreAt text.now at }
+    requires { ArePositionsOf text.now at }
     ensures { IsSpan text.now (Some (components text.now).path) result }
 {
     Span {
@@ -171,8 +205,9 @@ fn path(text: &str, at: Positions) -> Span
     }
 }
 
+/// Returns the span of the query of a text with these positions.
 fn query(text: &str, at: Positions) -> Span
-    requires { AreAt text.now at }
+    requires { ArePositionsOf text.now at }
     ensures { IsSpan text.now (components text.now).query result }
 {
     match at.query_end {
@@ -184,8 +219,9 @@ fn query(text: &str, at: Positions) -> Span
     }
 }
 
+/// Returns the span of the fragment of a text with these positions.
 fn fragment(text: &str, at: Positions) -> Span
-    requires { AreAt text.now at }
+    requires { ArePositionsOf text.now at }
     ensures { IsSpan text.now (components text.now).fragment result }
 {
     let mark = at.before_fragment();
@@ -199,14 +235,15 @@ fn fragment(text: &str, at: Positions) -> Span
     }
 }
 
-/// Returns the parts of a value.
-fn parts_of<K: Kind>(value: &Reference<K, &str>) -> Parts
-    ensures error { result.error ≡ 0 }
-    ensures spans { AreSpansOf (reference_text value.now) result }
+/// Writes the spans of a parsed value's components.
+#[inline(always)]
+fn write_parts<K: Kind>(value: &Reference<K, &str>, parts: &mut Parts)
+    ensures error { parts.new.error ≡ 0 }
+    ensures spans { AreSpansOf (reference_text value.now) parts.new }
 {
     let at = value.positions();
     let text = value.as_str();
-    Parts {
+    *parts = Parts {
         error: 0,
         host_kind: host_kind(value),
         index: 0,
@@ -218,28 +255,29 @@ fn parts_of<K: Kind>(value: &Reference<K, &str>) -> Parts
         path: path(text, at),
         query: query(text, at),
         fragment: fragment(text, at),
-    }
+    };
 }
 
-/// Returns the parts of bytes that are parsed as a text of the kind.
-fn parts_as<K: Kind>(bytes: &[u8]) -> Parts
-    ensures { ArePartsOf (Some K.kind) bytes.now result }
+/// Parses the bytes as a text of the kind, and writes its parts, or the error and its index.
+fn parse_as<K: Kind>(bytes: &[u8], parts: &mut Parts)
+    ensures { ArePartsOf (Some K.kind) bytes.now parts.new }
 {
     match parsed::<K>(bytes) {
-        Ok(value) => parts_of(&value),
-        Err(why) => rejected(why),
+        Ok(value) => write_parts(&value, parts),
+        Err(why) => write_rejected_parts(why, parts),
     }
 }
 
-/// Returns the parts of bytes that are parsed as a text of the kind of a number.
-pub fn parts_of_bytes(kind: u32, bytes: &[u8]) -> Parts
-    ensures { ArePartsOf (kind_numbered kind) bytes.now result }
+/// Parses the bytes as a text of the kind with this number, and writes its parts, or the error and
+/// its index.
+pub fn parse(kind: u32, bytes: &[u8], parts: &mut Parts)
+    ensures { ArePartsOf (kind_numbered kind) bytes.now parts.new }
 {
     match kind {
-        0 => parts_as::<UriKind>(bytes),
-        1 => parts_as::<UriRefKind>(bytes),
-        2 => parts_as::<IriKind>(bytes),
-        3 => parts_as::<IriRefKind>(bytes),
-        _ => rejected(Rejection::of(Error::InvalidArgument)),
+        0 => parse_as::<UriKind>(bytes, parts),
+        1 => parse_as::<UriRefKind>(bytes, parts),
+        2 => parse_as::<IriKind>(bytes, parts),
+        3 => parse_as::<IriRefKind>(bytes, parts),
+        _ => write_rejected_parts(Rejection::of(Error::InvalidArgument), parts),
     }
 }

@@ -1,14 +1,14 @@
 //! The calls on one text.
 ghost use Rattle.std.specs.Prelude.{◌≡◌};
 ghost use Rattle.fluent_uri_c.specs.Kinds.{kind_numbered};
-ghost use Rattle.fluent_uri_c.specs.Outcomes.{Leaves};
+ghost use Rattle.fluent_uri_c.specs.Outcomes.{LeavesText};
 ghost use Rattle.fluent_uri_c.specs.Results.{decode_result, encode_result, normalize_result};
 ghost use Rattle.fluent_uri_c.specs.Results.{resolve_normalized_result, resolve_result};
 ghost use Rattle.fluent_uri_c.specs.Results.{to_uri_result};
 ghost use Rattle.fluent_uri_c.specs.Spans.{ArePartsOf};
 
-use crate::outcome::{Outcome, leave, put, report};
-use crate::parts::{Parts, parts_of_bytes};
+use crate::outcome::{Outcome, put, put_or_report, report};
+use crate::parts::{Parts, parse};
 use crate::{codes, numbered};
 use std::alloc::Global;
 
@@ -18,7 +18,7 @@ pub extern "C" fn fluent_uri_parse(kind: u32, text: &[u8], parts: &mut Parts) ->
     ensures error { parts.new.error ≡ result }
     ensures parts { ArePartsOf (kind_numbered kind) text.now parts.new }
 {
-    *parts = parts_of_bytes(kind, text);
+    parse(kind, text, parts);
     parts.error
 }
 
@@ -31,9 +31,9 @@ pub extern "C" fn fluent_uri_normalize(
     out: &mut [u8],
     outcome: &mut Outcome,
 ) -> u32
-    ensures { Leaves (normalize_result kind text.now) out.old out.new outcome.new result }
+    ensures { LeavesText (normalize_result kind text.now) out.old out.new outcome.new result }
 {
-    leave(numbered::normal_form(alloc, kind, text), out, outcome)
+    put_or_report(numbered::normalize_text(alloc, kind, text), out, outcome)
 }
 
 /// Writes the target of a reference against a base of the kind.
@@ -46,10 +46,10 @@ pub extern "C" fn fluent_uri_resolve(
     out: &mut [u8],
     outcome: &mut Outcome,
 ) -> u32
-    ensures { Leaves (resolve_result kind base.now reference.now)
+    ensures { LeavesText (resolve_result kind base.now reference.now)
         out.old out.new outcome.new result }
 {
-    leave(numbered::target(alloc, kind, base, reference), out, outcome)
+    put_or_report(numbered::target(alloc, kind, base, reference), out, outcome)
 }
 
 /// Writes the normal form of the target of a reference against a base of the kind.
@@ -62,10 +62,10 @@ pub extern "C" fn fluent_uri_resolve_normalized(
     out: &mut [u8],
     outcome: &mut Outcome,
 ) -> u32
-    ensures { Leaves (resolve_normalized_result kind base.now reference.now)
+    ensures { LeavesText (resolve_normalized_result kind base.now reference.now)
         out.old out.new outcome.new result }
 {
-    leave(
+    put_or_report(
         numbered::normal_target(alloc, kind, base, reference),
         out,
         outcome,
@@ -81,9 +81,9 @@ pub extern "C" fn fluent_uri_to_uri(
     out: &mut [u8],
     outcome: &mut Outcome,
 ) -> u32
-    ensures { Leaves (to_uri_result kind text.now) out.old out.new outcome.new result }
+    ensures { LeavesText (to_uri_result kind text.now) out.old out.new outcome.new result }
 {
-    leave(numbered::uri_text(alloc, kind, text), out, outcome)
+    put_or_report(numbered::uri_text(alloc, kind, text), out, outcome)
 }
 
 /// Writes the bytes that a component stands for.
@@ -95,7 +95,7 @@ pub extern "C" fn fluent_uri_decode(
     out: &mut [u8],
     outcome: &mut Outcome,
 ) -> u32
-    ensures { Leaves (decode_result component text.now) out.old out.new outcome.new result }
+    ensures { LeavesText (decode_result component text.now) out.old out.new outcome.new result }
 {
     match codes::decoded(alloc, component, text) {
         Ok(bytes) => {
@@ -115,7 +115,7 @@ pub extern "C" fn fluent_uri_encode(
     out: &mut [u8],
     outcome: &mut Outcome,
 ) -> u32
-    ensures { Leaves (encode_result component bytes.now) out.old out.new outcome.new result }
+    ensures { LeavesText (encode_result component bytes.now) out.old out.new outcome.new result }
 {
-    leave(codes::encoded(alloc, component, bytes), out, outcome)
+    put_or_report(codes::encoded(alloc, component, bytes), out, outcome)
 }

@@ -9,6 +9,7 @@ ghost use Rattle.fluent_uri_c.specs.Results.{IsReturned, encoded_result, normal_
 ghost use Rattle.fluent_uri_c.specs.Results.{normal_target_result, target_result, text_error};
 ghost use Rattle.fluent_uri_c.specs.Results.{normal_resolution, resolution, utf8_error};
 
+use crate::ascii::is_ascii;
 use crate::errors::{Error, Rejection};
 use fluent_uri::normalize::Normalizer;
 use fluent_uri::resolve::Resolver;
@@ -21,12 +22,15 @@ use uri_parts::parse::parse;
 use uri_relative::Relativizer;
 use uri_relative::relative::RelativeKind;
 
-/// Reads bytes as UTF-8.
-pub fn text_of(bytes: &[u8]) -> Result<&str, Rejection>
+/// Returns bytes as a text, if they are UTF-8. Most are ASCII, which is tested in blocks.
+pub fn utf8_text(bytes: &[u8]) -> Result<&str, Rejection>
     ensures accepts { IsOk result ↔ IsUtf8 bytes.now }
     ensures text { IfOk result (λ text. text.now ≡ bytes.now) }
     ensures rejected { result_err result ≡ utf8_error bytes.now }
 {
+    if is_ascii(bytes) {
+        return Ok(unsafe { std::str::from_utf8_unchecked(bytes) });
+    }
     match std::str::from_utf8(bytes) {
         Ok(text) => Ok(text),
         Err(error) => Err(Rejection {
@@ -44,7 +48,7 @@ pub fn parsed<'a, K: Kind>(bytes: &'a [u8]) -> Result<Reference<K, &'a str>, Rej
     ensures text { IfOk result (λ value. reference_text value ≡ bytes.now) }
     ensures rejected { result_err result ≡ text_error K.kind bytes.now }
 {
-    let text = text_of(bytes)?;
+    let text = utf8_text(bytes)?;
     match parse::<K>(text) {
         Ok(positions) => Ok(Reference::of_core(Core::new(text, positions))),
         Err(error) => Err(Rejection::from(error)),
@@ -52,7 +56,7 @@ pub fn parsed<'a, K: Kind>(bytes: &'a [u8]) -> Result<Reference<K, &'a str>, Rej
 }
 
 /// Returns the normal form of a text of the kind.
-pub fn normal_form<K: Kind>(alloc: Global, bytes: &[u8]) -> Result<String, Rejection>
+pub fn normalize_text<K: Kind>(alloc: Global, bytes: &[u8]) -> Result<String, Rejection>
     ensures { IsReturned (normal_result K.kind bytes.now) result }
 {
     Ok(parsed::<K>(bytes)?.normalize(alloc)?.into_string())
@@ -75,7 +79,7 @@ pub fn uri_ref_of_iri_ref(alloc: Global, bytes: &[u8]) -> Result<String, Rejecti
 }
 
 /// Returns the target of a reference against a base, both parsed.
-fn resolved<K: RefKind>(
+fn resolve_text<K: RefKind>(
     alloc: Global,
     base: &Reference<K::Base, &str>,
     reference: &Reference<K, &str>,
@@ -90,7 +94,7 @@ fn resolved<K: RefKind>(
 }
 
 /// Returns the normal form of the target of a reference against a base, both parsed.
-fn resolved_normalized<K: RefKind>(
+fn resolve_normalized_text<K: RefKind>(
     alloc: Global,
     base: Reference<K::Base, &str>,
     reference: &Reference<K, &str>,
@@ -111,7 +115,7 @@ pub fn target<K: RefKind>(alloc: Global, base: &[u8], reference: &[u8]) -> Resul
 {
     let base = parsed::<K::Base>(base)?;
     match parsed::<K>(reference) {
-        Ok(reference) => resolved(alloc, &base, &reference),
+        Ok(reference) => resolve_text(alloc, &base, &reference),
         Err(why) => Err(why.in_reference()),
     }
 }
@@ -126,7 +130,7 @@ pub fn normal_target<K: RefKind>(
 {
     let base = parsed::<K::Base>(base)?;
     match parsed::<K>(reference) {
-        Ok(reference) => resolved_normalized(alloc, base, &reference),
+        Ok(reference) => resolve_normalized_text(alloc, base, &reference),
         Err(why) => Err(why.in_reference()),
     }
 }

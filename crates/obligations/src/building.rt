@@ -1,8 +1,8 @@
 //! Builders that are handed a closure.
 #![tactic(auto)]
 
-ghost use Rattle.fluent_uri.specs.BuilderParts.{Adds, with_host};
-ghost use Rattle.fluent_uri.specs.BuilderStates.{held_of, parts_at};
+ghost use Rattle.fluent_uri.specs.BuilderParts.{AddsOrFails, with_host};
+ghost use Rattle.fluent_uri.specs.BuilderStates.{contents_of, parts_in_state};
 ghost use Rattle.fluent_uri.specs.HostParts.{ip_host};
 
 use fluent_uri::UriRef;
@@ -13,7 +13,8 @@ use fluent_uri::pct_enc::EStr;
 use fluent_uri::pct_enc::encoder::{Path, Query, RegName};
 use std::alloc::Global;
 
-/// `optional` is handed a step of the builder.
+/// Builds a reference of a path, and of a query if there is one, which `optional` hands to its
+/// step.
 pub fn with_the_query_if_any(
     alloc: Global,
     path: EStr<'_, Path>,
@@ -25,7 +26,8 @@ pub fn with_the_query_if_any(
         .build()
 }
 
-/// Calls `authority_with` with a closure that returns another builder.
+/// Builds a reference of a path without an authority: `authority_with` gets a closure that returns
+/// another builder.
 pub fn with_no_authority(
     alloc: Global,
     path: EStr<'_, Path>,
@@ -36,18 +38,18 @@ pub fn with_no_authority(
         .build()
 }
 
-/// A host that is an address: the text of the address, an IPv6 address in brackets.
+/// Gives a builder a host that is an address: the text of the address, an IPv6 address in brackets.
 pub fn with_address(
     begun: Builder<UriRef<String>, AuthorityStart>,
     address: IpAddr,
 ) -> Builder<UriRef<String>, HostEnd>
-    ensures { Adds (with_host (ip_host address)) (parts_at (held_of begun))
-        (parts_at (held_of result)) }
+    ensures { AddsOrFails (with_host (ip_host address)) (parts_in_state (contents_of begun))
+        (parts_in_state (contents_of result)) }
 {
     begun.host(address)
 }
 
-/// A host and a port of any type that a builder takes.
+/// Gives a builder a host and a port of any type that a builder takes.
 pub fn with_host_and_port<H: AsHost + WithEncoder<RegName>, P: AsPort>(
     alloc: Global,
     host: H,

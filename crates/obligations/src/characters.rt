@@ -5,27 +5,27 @@ use fluent_uri::pct_enc::EString;
 use fluent_uri::pct_enc::encoder::{Encoder, IPath, Path, Query, Userinfo};
 use std::alloc::AllocError;
 
-/// Appends `/`.
+/// Appends `/` to the path of a URI.
 pub fn begin_a_segment(path: &mut EString<Path>) -> Result<(), AllocError> {
     path.push('/')
 }
 
-/// Appends `/`, in an IRI.
+/// Appends `/` to the path of an IRI.
 pub fn begin_a_segment_of_an_iri(path: &mut EString<IPath>) -> Result<(), AllocError> {
     path.push('/')
 }
 
-/// Appends `&`.
+/// Appends `&` to a query.
 pub fn begin_a_pair(query: &mut EString<Query>) -> Result<(), AllocError> {
     query.push('&')
 }
 
-/// Appends `=`.
+/// Appends `=` to a query.
 pub fn begin_a_value(query: &mut EString<Query>) -> Result<(), AllocError> {
     query.push('=')
 }
 
-/// Appends `:`.
+/// Appends `:` to userinfo.
 pub fn begin_a_password(userinfo: &mut EString<Userinfo>) -> Result<(), AllocError> {
     userinfo.push(':')
 }

@@ -16,7 +16,7 @@ pub fn pair_count(query: EStr<'_, Query>) -> usize
     query.split('&').count()
 }
 
-/// How many segments an absolute path has.
+/// Returns how many segments an absolute path has.
 pub fn segment_count(path: EStr<'_, Path>) -> usize {
     match path.segments_if_absolute() {
         Some(segments) => segments.count(),
@@ -24,8 +24,8 @@ pub fn segment_count(path: EStr<'_, Path>) -> usize {
     }
 }
 
-/// How many parts a path decodes to.
-pub fn part_count(path: EStr<'_, Path>) -> usize
+/// Returns how many parts a path decodes to.
+pub fn decoded_chunk_count(path: EStr<'_, Path>) -> usize
     ensures { result ≡ length (chunks (text_of path.entry)) }
 {
     path.decode().count()

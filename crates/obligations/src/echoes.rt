@@ -7,7 +7,7 @@ use fluent_uri::pct_enc::encoder::{Data, IData, IQuery, Path, Query};
 use fluent_uri::pct_enc::{CowSlice, CowStr, DecodeError, EStr, EString};
 use std::alloc::{AllocError, Global};
 
-/// The text, encoded for a query and decoded again.
+/// Percent-encodes a text as data of the query of a URI, and decodes it again: it is the same text.
 pub fn echoed(alloc: Global, text: &str) -> Result<String, DecodeError>
     ensures { IfOk result (λ s. string_bytes s ≡ text.now) }
 {
@@ -19,7 +19,8 @@ pub fn echoed(alloc: Global, text: &str) -> Result<String, DecodeError>
     }
 }
 
-/// The text, encoded for the query of an IRI and decoded again.
+/// Percent-encodes a text as data of the query of an IRI, and decodes it again: it is the same
+/// text.
 pub fn echoed_in_an_iri(alloc: Global, text: &str) -> Result<String, DecodeError>
     ensures { IfOk result (λ s. string_bytes s ≡ text.now) }
 {
@@ -31,12 +32,13 @@ pub fn echoed_in_an_iri(alloc: Global, text: &str) -> Result<String, DecodeError
     }
 }
 
-/// The same, by the law alone.
+/// Percent-encodes a text as data of a query, and decodes it again: by the law alone it is the same
+/// text.
 #[tactic(auto)]
 pub fn echoed_by_the_law(alloc: Global, text: &str) -> Result<String, DecodeError>
     ensures { IfOk result (λ s. string_bytes s ≡ text.now) }
 {
-    laws::what_is_encoded_decodes_to_what_was_given();
+    laws::decoding_inverts_encoding();
     let mut encoded = EString::<Query>::new(alloc);
     encoded.encode_str::<Data>(text)?;
     match encoded.as_estr().decode().to_string(alloc)? {

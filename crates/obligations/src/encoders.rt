@@ -13,91 +13,91 @@ use fluent_uri::pct_enc::encoder::{
     PathEncoder, Port, Query, RegName, Userinfo,
 };
 
-/// The table of `Userinfo`.
+/// Returns the table of the encoder `Userinfo`.
 pub fn userinfo() -> Table
     ensures { set_of result ≡ userinfo_set }
 {
     Userinfo::table()
 }
 
-/// The table of `RegName`.
+/// Returns the table of the encoder `RegName`.
 pub fn reg_name() -> Table
     ensures { set_of result ≡ reg_name_set }
 {
     RegName::table()
 }
 
-/// The table of `Port`.
+/// Returns the table of the encoder `Port`.
 pub fn port() -> Table
     ensures { set_of result ≡ digit_set }
 {
     Port::table()
 }
 
-/// The table of `Path`.
+/// Returns the table of the encoder `Path`.
 pub fn path() -> Table
     ensures { set_of result ≡ path_set }
 {
     Path::table()
 }
 
-/// The table of `Query`.
+/// Returns the table of the encoder `Query`.
 pub fn query() -> Table
     ensures { set_of result ≡ query_set }
 {
     Query::table()
 }
 
-/// The table of `Fragment`.
+/// Returns the table of the encoder `Fragment`.
 pub fn fragment() -> Table
     ensures { set_of result ≡ fragment_set }
 {
     Fragment::table()
 }
 
-/// The table of `IUserinfo`.
+/// Returns the table of the encoder `IUserinfo`.
 pub fn iuserinfo() -> Table
     ensures { set_of result ≡ iuserinfo_set }
 {
     IUserinfo::table()
 }
 
-/// The table of `IRegName`.
+/// Returns the table of the encoder `IRegName`.
 pub fn ireg_name() -> Table
     ensures { set_of result ≡ ireg_name_set }
 {
     IRegName::table()
 }
 
-/// The table of `IPath`.
+/// Returns the table of the encoder `IPath`.
 pub fn ipath() -> Table
     ensures { set_of result ≡ ipath_set }
 {
     IPath::table()
 }
 
-/// The table of `IQuery`.
+/// Returns the table of the encoder `IQuery`.
 pub fn iquery() -> Table
     ensures { set_of result ≡ iquery_set }
 {
     IQuery::table()
 }
 
-/// The table of `IFragment`.
+/// Returns the table of the encoder `IFragment`.
 pub fn ifragment() -> Table
     ensures { set_of result ≡ ifragment_set }
 {
     IFragment::table()
 }
 
-/// The table of `Data`.
+/// Returns the table of the encoder `Data`.
 pub fn data() -> Table
     ensures { set_of result ≡ data_set }
 {
     Data::table()
 }
 
-/// The table of `IData`.
+/// Returns the table of the encoder `IData`.
 pub fn idata() -> Table
     ensures { set_of result ≡ idata_set }
 {

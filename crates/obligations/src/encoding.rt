@@ -7,32 +7,32 @@ use fluent_uri::pct_enc::encoder::{
 use fluent_uri::pct_enc::{Decode, EStr, EString};
 use std::alloc::AllocError;
 
-/// Appends data to a path.
+/// Appends data to a path, percent-encoded.
 pub fn encode_for_a_path(path: &mut EString<Path>, text: &str) -> Result<(), AllocError> {
     path.encode_str::<Data>(text)
 }
 
-/// Appends data to a query.
+/// Appends data to a query, percent-encoded.
 pub fn encode_for_a_query(query: &mut EString<Query>, text: &str) -> Result<(), AllocError> {
     query.encode_str::<Data>(text)
 }
 
-/// Appends data to a registered name.
+/// Appends data to a registered name, percent-encoded.
 pub fn encode_for_a_name(name: &mut EString<RegName>, text: &str) -> Result<(), AllocError> {
     name.encode_str::<Data>(text)
 }
 
-/// Appends data to the query of an IRI.
+/// Appends data to the query of an IRI, percent-encoded.
 pub fn encode_for_an_iri(query: &mut EString<IQuery>, text: &str) -> Result<(), AllocError> {
     query.encode_str::<IData>(text)
 }
 
-/// Appends what may keep its delimiters.
+/// Appends a text to a path, percent-encoded but for what a path allows: it keeps its delimiters.
 pub fn encode_a_path(path: &mut EString<Path>, text: &str) -> Result<(), AllocError> {
     path.encode_str::<Path>(text)
 }
 
-/// Appends bytes to a query.
+/// Appends bytes to a query, percent-encoded.
 pub fn encode_bytes_for_a_query(
     query: &mut EString<Query>,
     bytes: &[u8],
@@ -40,7 +40,7 @@ pub fn encode_bytes_for_a_query(
     query.encode_bytes::<Data>(bytes)
 }
 
-/// Appends a text, for encoders whose tables pass the tests.
+/// Appends a text, percent-encoded, for any encoders whose tables pass the tests.
 pub fn encode_if_allowed<E: Encoder, SubE: Encoder>(
     text: &mut EString<E>,
     given: &str,
@@ -51,7 +51,7 @@ pub fn encode_if_allowed<E: Encoder, SubE: Encoder>(
     Ok(())
 }
 
-/// Appends bytes, for encoders whose tables pass the tests.
+/// Appends bytes, percent-encoded, for any encoders whose tables pass the tests.
 pub fn encode_bytes_if_allowed<E: Encoder, SubE: Encoder>(
     text: &mut EString<E>,
     given: &[u8],
@@ -77,7 +77,7 @@ pub fn query_as_fragment(query: EStr<'_, Query>) -> EStr<'_, Fragment> {
     query.upcast()
 }
 
-/// The text, for an encoder whose table passes the test.
+/// Returns the text for another encoder, whose table passes the test.
 pub fn widened_if_allowed<E: Encoder, SuperE: Encoder>(
     text: EStr<'_, E>,
 ) -> Option<EStr<'_, SuperE>> {
@@ -88,12 +88,12 @@ pub fn widened_if_allowed<E: Encoder, SuperE: Encoder>(
     }
 }
 
-/// The octet of `/`.
+/// Returns the percent-encoded octet of `/`.
 pub fn slash() -> EStr<'static, Userinfo> {
     EStr::encode_byte(b'/')
 }
 
-/// The octet, for an encoder whose table passes the test.
+/// Returns a byte as a percent-encoded octet, for any encoder whose table passes the test.
 pub fn octet_if_allowed<E: Encoder>(byte: u8) -> Option<EStr<'static, E>> {
     if E::table().allows_pct_encoded() {
         Some(EStr::encode_byte(byte))
@@ -102,12 +102,12 @@ pub fn octet_if_allowed<E: Encoder>(byte: u8) -> Option<EStr<'static, E>> {
     }
 }
 
-/// What a path decodes to.
+/// Returns the parts that a path decodes to.
 pub fn decode_a_path(path: EStr<'_, Path>) -> Decode<'_> {
     path.decode()
 }
 
-/// What a text decodes to, for an encoder whose table passes the test.
+/// Returns the parts that a text decodes to, for any encoder whose table passes the test.
 pub fn decode_if_allowed<E: Encoder>(text: EStr<'_, E>) -> Option<Decode<'_>> {
     if E::table().allows_pct_encoded() {
         Some(text.decode())

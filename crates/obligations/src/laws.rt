@@ -5,9 +5,9 @@
 pub mod converting;
 pub mod decoding;
 pub mod empty;
+pub mod grammar;
 pub mod normalising;
 pub mod parsing;
-pub mod reading;
 pub mod removing;
-pub mod spelling;
 pub mod swapping;
+pub mod unreserved;

@@ -18,6 +18,7 @@ pub mod kinds;
 pub mod laws;
 pub mod literals;
 pub mod rules;
+pub mod settings;
 pub mod tables;
 pub mod tested_by_rules;
 pub mod texts;

@@ -10,97 +10,97 @@ use fluent_uri::pct_enc::encoder::{
 use fluent_uri::pct_enc::{EStr, EString};
 use std::alloc::{AllocError, Global};
 
-/// A text for `Userinfo`.
+/// Returns a literal text for the encoder `Userinfo`.
 pub fn userinfo() -> EStr<'static, Userinfo> {
     EStr::new_or_panic("user:password")
 }
 
-/// A text for `RegName`.
+/// Returns a literal text for the encoder `RegName`.
 pub fn reg_name() -> EStr<'static, RegName> {
     EStr::new_or_panic("example.com")
 }
 
-/// A text for `Port`.
+/// Returns a literal text for the encoder `Port`.
 pub fn port() -> EStr<'static, Port> {
     EStr::new_or_panic("8080")
 }
 
-/// A text for `Path`.
+/// Returns a literal text for the encoder `Path`.
 pub fn path() -> EStr<'static, Path> {
     EStr::new_or_panic("/a")
 }
 
-/// A text for `Query`.
+/// Returns a literal text for the encoder `Query`.
 pub fn query() -> EStr<'static, Query> {
     EStr::new_or_panic("name=ferret&page=2")
 }
 
-/// A text for `Fragment`.
+/// Returns a literal text for the encoder `Fragment`.
 pub fn fragment() -> EStr<'static, Fragment> {
     EStr::new_or_panic("nose")
 }
 
-/// A text for `IUserinfo`.
+/// Returns a literal text for the encoder `IUserinfo`.
 pub fn iuserinfo() -> EStr<'static, IUserinfo> {
     EStr::new_or_panic("user")
 }
 
-/// A text for `IRegName`.
+/// Returns a literal text for the encoder `IRegName`.
 pub fn ireg_name() -> EStr<'static, IRegName> {
     EStr::new_or_panic("example.com")
 }
 
-/// A text for `IPath`.
+/// Returns a literal text for the encoder `IPath`.
 pub fn ipath() -> EStr<'static, IPath> {
     EStr::new_or_panic("/over/there")
 }
 
-/// A text for `IQuery`.
+/// Returns a literal text for the encoder `IQuery`.
 pub fn iquery() -> EStr<'static, IQuery> {
     EStr::new_or_panic("a?b/c")
 }
 
-/// A text for `IFragment`.
+/// Returns a literal text for the encoder `IFragment`.
 pub fn ifragment() -> EStr<'static, IFragment> {
     EStr::new_or_panic("section-2.1")
 }
 
-/// A text for `Data`.
+/// Returns a literal text for the encoder `Data`.
 pub fn data() -> EStr<'static, Data> {
     EStr::new_or_panic("A-Z_0.9~")
 }
 
-/// A text for `IData`.
+/// Returns a literal text for the encoder `IData`.
 pub fn idata() -> EStr<'static, IData> {
     EStr::new_or_panic("data")
 }
 
-/// A scheme.
+/// Returns the scheme `http`.
 pub fn http() -> Scheme<'static> {
     Scheme::new_or_panic("http")
 }
 
-/// A scheme with `+`.
-pub fn scheme_with_marks() -> Scheme<'static> {
+/// Returns a literal scheme that has a `+`.
+pub fn scheme_with_plus() -> Scheme<'static> {
     Scheme::new_or_panic("coap+tcp")
 }
 
-/// A text with octets.
+/// Returns a literal path that has percent-encoded octets.
 pub fn path_with_octets() -> EStr<'static, Path> {
     EStr::new_or_panic("/a%20b/%C3%A9")
 }
 
-/// A text with letters past ASCII.
+/// Returns a literal path of an IRI that has characters past ASCII.
 pub fn ipath_with_letters() -> EStr<'static, IPath> {
     EStr::new_or_panic("/rosé/张三")
 }
 
-/// A character past ASCII.
+/// Appends a literal character past ASCII to the query of an IRI.
 pub fn push_a_letter(query: &mut EString<IQuery>) -> Result<(), AllocError> {
     query.push('é')
 }
 
-/// A URI, built of each part.
+/// Builds a URI of literals: a scheme, userinfo, a host, a port, a path, a query and a fragment.
 pub fn built(alloc: Global) -> Result<Uri<String>, BuildError> {
     Uri::<String>::builder(alloc)
         .scheme(Scheme::new_or_panic("foo"))

@@ -4,7 +4,7 @@ use fluent_uri::pct_enc::encoder::{Path, Query};
 use fluent_uri::pct_enc::{EStr, EString, Split, table};
 use std::alloc::AllocError;
 
-/// Cut at each place of a character that `RESERVED` allows.
+/// Cuts a query at each occurrence of a character, if `RESERVED` allows it.
 pub fn pieces(query: EStr<'_, Query>, delimiter: char) -> Option<Split<'_, Query>> {
     if table::RESERVED.allows(delimiter) {
         Some(query.split(delimiter))
@@ -13,7 +13,7 @@ pub fn pieces(query: EStr<'_, Query>, delimiter: char) -> Option<Split<'_, Query
     }
 }
 
-/// Cut at the first place of a character that `RESERVED` allows.
+/// Cuts a query at the first occurrence of a character, if `RESERVED` allows it.
 pub fn cut_at_the_first(
     query: EStr<'_, Query>,
     delimiter: char,
@@ -25,7 +25,7 @@ pub fn cut_at_the_first(
     }
 }
 
-/// Cut at the last place of a character that `RESERVED` allows.
+/// Cuts a path at the last occurrence of a character, if `RESERVED` allows it.
 pub fn cut_at_the_last(
     path: EStr<'_, Path>,
     delimiter: char,

@@ -9,7 +9,7 @@ use fluent_uri::component::{Authority, Scheme};
 use fluent_uri::pct_enc::EStr;
 use fluent_uri::pct_enc::encoder::{Encoder, Path};
 
-/// The text, if it is valid for any encoder.
+/// Returns the text if it is valid for the encoder, which may be any, and else the empty one.
 pub fn valid_or_empty<E: Encoder>(text: &str) -> EStr<'_, E> {
     if EStr::<E>::new(text).is_some() {
         EStr::new_or_panic(text)
@@ -18,21 +18,21 @@ pub fn valid_or_empty<E: Encoder>(text: &str) -> EStr<'_, E> {
     }
 }
 
-/// The empty text, of any encoder.
+/// Returns the empty text, of any encoder.
 pub fn empty<E: Encoder>() -> EStr<'static, E>
     ensures { text_of result ≡ [] }
 {
     EStr::default()
 }
 
-/// The empty authority.
+/// Returns the empty authority.
 pub fn empty_authority() -> Authority<'static>
     ensures { authority_text result ≡ [] }
 {
     Authority::new_empty()
 }
 
-/// The text, if it is valid for `Path`.
+/// Returns the text if it is valid for `Path`, and else the empty one.
 pub fn path_or_empty(text: &str) -> EStr<'_, Path> {
     if EStr::<Path>::new(text).is_some() {
         EStr::new_or_panic(text)
@@ -41,7 +41,7 @@ pub fn path_or_empty(text: &str) -> EStr<'_, Path> {
     }
 }
 
-/// The text, if it is a scheme.
+/// Returns the text as a scheme, if it is one.
 pub fn scheme_if_one(text: &str) -> Option<Scheme<'_>> {
     if Scheme::new(text).is_some() {
         Some(Scheme::new_or_panic(text))

@@ -11,8 +11,8 @@ use std::alloc::{AllocError, Global};
 use std::io::{self, BufRead, BufReader, BufWriter, Write};
 use uri_relative::Relativizer;
 
-/// The reference that leads from a URI to another, or none if a text is no URI.
-fn of_uris(
+/// Returns a reference that leads from a URI to another, or `None` if a text is not a URI.
+fn relativize_uris(
     alloc: Global,
     prefers: bool,
     base: &str,
@@ -26,8 +26,8 @@ fn of_uris(
     Ok(Some(reference.into_string()))
 }
 
-/// The reference that leads from an IRI to another, or none if a text is no IRI.
-fn of_iris(
+/// Returns a reference that leads from an IRI to another, or `None` if a text is not an IRI.
+fn relativize_iris(
     alloc: Global,
     prefers: bool,
     base: &str,
@@ -41,8 +41,8 @@ fn of_iris(
     Ok(Some(reference.into_string()))
 }
 
-/// Whether a row has what is returned; a malformed one has not.
-fn is_met(alloc: Global, row: &str) -> Result<bool, AllocError> {
+/// Returns whether a row has the reference that is returned. A malformed row has not.
+fn row_holds(alloc: Global, row: &str) -> Result<bool, AllocError> {
     let Some((asked, expected)) = row.split_once(" -> ") else {
         return Ok(false);
     };
@@ -53,9 +53,9 @@ fn is_met(alloc: Global, row: &str) -> Result<bool, AllocError> {
     };
     let prefers = way == Some("relativize-path");
     let returned = if kind == Some("iri") {
-        of_iris(alloc, prefers, base, target)?
+        relativize_iris(alloc, prefers, base, target)?
     } else {
-        of_uris(alloc, prefers, base, target)?
+        relativize_uris(alloc, prefers, base, target)?
     };
     let expected = if expected == "\"\"" { "" } else { expected };
     match returned {
@@ -64,7 +64,8 @@ fn is_met(alloc: Global, row: &str) -> Result<bool, AllocError> {
     }
 }
 
-/// Whether the URI at `http://a/` with this path leads to that with the other by the reference.
+/// Returns whether the URI at `http://a/` with the path `base` leads to that with the path `target`
+/// by the expected reference.
 fn leads(
     alloc: Global,
     prefers: bool,
@@ -74,13 +75,13 @@ fn leads(
 ) -> Result<bool, AllocError> {
     let base = format!(in alloc; "http://a/{base}")?;
     let target = format!(in alloc; "http://a/{target}")?;
-    match of_uris(alloc, prefers, base.as_str(), target.as_str())? {
+    match relativize_uris(alloc, prefers, base.as_str(), target.as_str())? {
         Some(text) => Ok(text.as_str() == expected),
         None => Ok(false),
     }
 }
 
-/// How many of five long rows differ.
+/// Returns how many of the five long rows do not have the reference that is returned.
 fn long_rows(alloc: Global) -> Result<u64, AllocError> {
     let segments = "x/".repeat(alloc, 50_000)?;
     let ups = "../".repeat(alloc, 50_000)?;
@@ -97,14 +98,16 @@ fn long_rows(alloc: Global) -> Result<u64, AllocError> {
         leads(alloc, false, "y", dotted.as_str(), "z")?,
     ];
     let mut failed = 0u64;
-    for is_met in met {
-        if !is_met {
+    for row_holds in met {
+        if !row_holds {
             failed = failed.saturating_add(1);
         }
     }
     Ok(failed)
 }
 
+/// Tests the rows of the standard input and the five long ones, and prints each that fails and
+/// their counts.
 fn main(rt: HostRuntime) -> io::Result<()> {
     let alloc = rt.alloc();
     let mut out = BufWriter::new(alloc, io::writer(&rt))?;
@@ -117,7 +120,7 @@ fn main(rt: HostRuntime) -> io::Result<()> {
             continue;
         }
         rows = rows.saturating_add(1);
-        if !is_met(alloc, row)? {
+        if !row_holds(alloc, row)? {
             failed = failed.saturating_add(1);
             writeln!(out, "fail {row}")?;
         }

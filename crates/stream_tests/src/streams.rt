@@ -7,7 +7,7 @@ use std::process::Abort;
 use test_support::equal;
 use uri_streams::command::{Base, Command, KindName, LineCommand};
 use uri_streams::failure::Failure;
-use uri_streams::job::{Job, OnError};
+use uri_streams::job::{Field, Job, OnError};
 use uri_streams::run::{Tally, Unwatched, run};
 use uri_streams::sink::Sink;
 use uri_streams::source::Source;
@@ -15,9 +15,10 @@ use uri_streams::source::Source;
 const CAPACITY: usize = 64;
 
 /// The command, with the options that are there where none is given.
-fn plain(command: LineCommand<'_>) -> Job<'_> {
+fn with_defaults(command: LineCommand<'_>) -> Job<'_> {
     Job {
         command: Command::Each(command),
+        field: None,
         is_null: false,
         max_line: 40,
         errors: OnError::Line,
@@ -45,7 +46,7 @@ fn written<R: Read + Drop>(
 }
 
 /// The same, with the error output.
-fn told(alloc: Global, job: &Job<'_>, input: &[u8]) -> Result<(Vec<u8>, Vec<u8>), Failure> {
+fn both_outputs(alloc: Global, job: &Job<'_>, input: &[u8]) -> Result<(Vec<u8>, Vec<u8>), Failure> {
     let reader = BufReader::with_capacity(alloc, CAPACITY, input).map_err(Failure::Input)?;
     let mut out = Sink::new(Vec::new(alloc));
     let mut err = Sink::new(Vec::new(alloc));
@@ -83,7 +84,7 @@ fn input(alloc: Global, number: usize) -> Result<Vec<u8>, AllocError> {
 #[test]
 fn reads_may_end_anywhere(rt: HostRuntime) {
     let alloc = rt.alloc();
-    let job = plain(LineCommand::Normalize(KindName::Uri));
+    let job = with_defaults(LineCommand::Normalize(KindName::Uri));
     for number in 0..216 {
         let input = input(alloc, number).expect(&rt, "memory");
         let bytes = input.as_slice();
@@ -120,7 +121,7 @@ const NORMALIZED: &[(&[u8], &[u8])] = &[
 #[test]
 fn writes_a_line_for_each(rt: HostRuntime) {
     let alloc = rt.alloc();
-    let job = plain(LineCommand::Normalize(KindName::Uri));
+    let job = with_defaults(LineCommand::Normalize(KindName::Uri));
     for &(input, output) in NORMALIZED {
         let got = written(alloc, &job, input).ok().expect(&rt, "run");
         equal(got.1.as_slice(), output).expect(&rt, "output");
@@ -131,8 +132,8 @@ fn writes_a_line_for_each(rt: HostRuntime) {
 fn each_command_and_option_has_its_output(rt: HostRuntime) {
     let alloc = rt.alloc();
     let base = Uri::<&str>::parse("http://a/b/c/d;p?q").expect(&rt, "base");
-    let resolve = plain(LineCommand::Resolve(Base::Uri(base)));
-    let got = told(alloc, &resolve, b"../g\r\na b\n")
+    let resolve = with_defaults(LineCommand::Resolve(Base::Uri(base)));
+    let got = both_outputs(alloc, &resolve, b"../g\r\na b\n")
         .ok()
         .expect(&rt, "run");
     equal(
@@ -140,13 +141,15 @@ fn each_command_and_option_has_its_output(rt: HostRuntime) {
         b"http://a/b/g\r\nerror: reference: unexpected character at index 1\n".as_slice(),
     )
     .expect(&rt, "resolve");
-    let mut check = plain(LineCommand::Check(KindName::UriRef, true));
+    let mut check = with_defaults(LineCommand::Check(KindName::UriRef, true));
     check.is_null = true;
-    let got = told(alloc, &check, b"a\0a b\0c").ok().expect(&rt, "run");
+    let got = both_outputs(alloc, &check, b"a\0a b\0c")
+        .ok()
+        .expect(&rt, "run");
     equal(got.0.as_slice(), b"a b\0".as_slice()).expect(&rt, "check");
-    let mut parse = plain(LineCommand::Parse(KindName::Iri));
+    let mut parse = with_defaults(LineCommand::Parse(KindName::Iri));
     parse.errors = OnError::Stop;
-    let got = told(alloc, &parse, "x://u@[::1]:8/é?q#f\na b\ny:\n".as_bytes());
+    let got = both_outputs(alloc, &parse, "x://u@[::1]:8/é?q#f\na b\ny:\n".as_bytes());
     let got = got.ok().expect(&rt, "run");
     equal(
         got.0.as_slice(),
@@ -160,13 +163,80 @@ fn each_command_and_option_has_its_output(rt: HostRuntime) {
     .expect(&rt, "message");
 }
 
+/// A kind, an input and the output of `query`.
+const QUERIES: &[(KindName, &str, &str)] = &[
+    // RFC 3986, section 2.1: `%26` is data. RFC 8259, section 7: what JSON escapes.
+    (
+        KindName::Uri,
+        "x:?name=ferret&page=2%263\nx:?a=b=c&&caf%C3%A9\nx:\nx:?\na b\n",
+        "[[\"name\",\"ferret\"],[\"page\",\"2&3\"]]\n[[\"a\",\"b=c\"],[\"café\",\"\"]]\n[]\n[]\nerror: unexpected character at index 1\n",
+    ),
+    (
+        KindName::UriRef,
+        "?%22%5C=%0A%1f+%7f&%FF",
+        "[[\"\\\"\\\\\",\"\\u000a\\u001f+\u{7f}\"],[\"\u{fffd}\",\"\"]]\n",
+    ),
+    (
+        KindName::IriRef,
+        "?é=\u{10ffff}",
+        "error: unexpected character at index 4\n",
+    ),
+    (
+        KindName::Iri,
+        "x:?é=\u{e000}&%F0%9F%98%80\n",
+        "[[\"é\",\"\u{e000}\"],[\"😀\",\"\"]]\n",
+    ),
+];
+
 #[test]
-fn what_was_met_counts(rt: HostRuntime) {
+fn queries_are_pairs_of_json(rt: HostRuntime) {
+    let alloc = rt.alloc();
+    for &(kind, input, output) in QUERIES {
+        let mut job = with_defaults(LineCommand::Query(kind));
+        job.max_line = 80;
+        let got = written(alloc, &job, input.as_bytes());
+        let got = got.ok().expect(&rt, "run");
+        equal(got.1.as_slice(), output.as_bytes()).expect(&rt, "output");
+    }
+}
+
+/// What happens to errors, an input whose fields are between `|`, and the output of `normalize uri`
+/// on the second field.
+const FIELDS: &[(OnError, &[u8], &[u8])] = &[
+    (
+        OnError::Line,
+        b"1|HTTP://h|x|\r\n2|a b|\xff\n3\n|x:\n5|\xff\n\xff|X:",
+        b"1|http://h|x|\r\n2|error: unexpected character at index 1|\xff\nerror: no field 2\n|x:\n5|error: not UTF-8 at index 0\n\xff|x:\n",
+    ),
+    (
+        OnError::Drop,
+        b"1|HTTP://h\n2|a b\n3\n||\n5|x:|",
+        b"1|http://h\n5|x:|\n",
+    ),
+];
+
+#[test]
+fn a_field_is_worked_on_alone(rt: HostRuntime) {
+    let alloc = rt.alloc();
+    let mut job = with_defaults(LineCommand::Normalize(KindName::Uri));
+    job.field = Some(Field {
+        before: 1,
+        delimiter: b'|',
+    });
+    for &(errors, input, output) in FIELDS {
+        job.errors = errors;
+        let got = written(alloc, &job, input).ok().expect(&rt, "run");
+        equal(got.1.as_slice(), output).expect(&rt, "output");
+    }
+}
+
+#[test]
+fn repeated_lines_are_known(rt: HostRuntime) {
     let alloc = rt.alloc();
     let hasher = RandomState::new(&rt).expect(&rt, "random numbers");
-    let mut job = plain(LineCommand::Parse(KindName::Uri));
+    let mut job = with_defaults(LineCommand::Parse(KindName::Uri));
     job.command = Command::Unique(KindName::Uri, hasher);
-    let got = told(alloc, &job, b"HTTP://h\r\nx:\nhttp://h:80\na b\nX:\n");
+    let got = both_outputs(alloc, &job, b"HTTP://h\r\nx:\nhttp://h:80\na b\nX:\n");
     let got = got.ok().expect(&rt, "run");
     equal(
         got.0.as_slice(),
@@ -175,7 +245,7 @@ fn what_was_met_counts(rt: HostRuntime) {
     .expect(&rt, "unique");
     let base = Uri::<&str>::parse("http://a/b").expect(&rt, "base");
     job.command = Command::Links(base);
-    let got = told(alloc, &job, b"c\nd\n./%63\na b\n")
+    let got = both_outputs(alloc, &job, b"c\nd\n./%63\na b\n")
         .ok()
         .expect(&rt, "run");
     equal(
@@ -190,7 +260,7 @@ fn what_was_met_counts(rt: HostRuntime) {
 fn denied_memory_leaves_a_prefix(rt: HostRuntime) {
     let alloc = rt.alloc();
     let hasher = RandomState::new(&rt).expect(&rt, "random numbers");
-    let mut job = plain(LineCommand::Parse(KindName::Uri));
+    let mut job = with_defaults(LineCommand::Parse(KindName::Uri));
     job.command = Command::Unique(KindName::Uri, hasher);
     let input: &[u8] = b"HTTP://h\nx:\na b\nhttp://h:80\ny:\n";
     let output: &[u8] = b"http://h\nx:\nerror: unexpected character at index 1\ny:\n";
@@ -221,11 +291,11 @@ fn denied_memory_leaves_a_prefix(rt: HostRuntime) {
     }
 }
 
-/// Takes so many writes, and rejects those after them.
+/// A writer that fails after so many writes.
 #[derive(Drop)]
-struct Takes(usize);
+struct FailsAfter(usize);
 
-impl Write for Takes {
+impl Write for FailsAfter {
     fn write(&mut self, buf: &[u8]) -> io::Result<usize> {
         if self.0 == 0 {
             return Err(io::Error::from(ErrorKind::BrokenPipe));
@@ -252,7 +322,7 @@ impl Read for Fails {
 #[test]
 fn a_failed_read_and_a_failed_write_end_the_run(rt: HostRuntime) {
     let alloc = rt.alloc();
-    let job = plain(LineCommand::Normalize(KindName::Uri));
+    let job = with_defaults(LineCommand::Normalize(KindName::Uri));
     let input: &[u8] = b"HTTP://a/\nHTTP://b/\nx";
     for at in 0..input.len() {
         let reader = BufReader::with_capacity(alloc, CAPACITY, input[..at].chain(Fails));
@@ -266,7 +336,7 @@ fn a_failed_read_and_a_failed_write_end_the_run(rt: HostRuntime) {
     }
     for takes in 0..4 {
         let reader = BufReader::with_capacity(alloc, CAPACITY, input).expect(&rt, "memory");
-        let (mut out, mut err) = (Sink::new(Takes(takes)), Sink::new(Vec::new(alloc)));
+        let (mut out, mut err) = (Sink::new(FailsAfter(takes)), Sink::new(Vec::new(alloc)));
         let got = run(
             alloc,
             &job,

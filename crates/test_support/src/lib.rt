@@ -7,12 +7,12 @@ ghost use Rattle.std.specs.Prelude.{◌≡◌, ◌↔◌, IsOk, true};
 use std::alloc::{AllocError, Global};
 use std::fmt::Display;
 
-/// Two values that were to be equal.
+/// Two values that differ, and were expected to be equal.
 #[derive(Debug, Drop)]
 pub struct Differ<T> {
-    /// The value that is there.
+    /// The actual value.
     pub got: T,
-    /// The value that was to be there.
+    /// The expected value.
     pub wanted: T,
 }
 
@@ -31,12 +31,12 @@ pub fn equal<T: PartialEq + Drop>(got: T, wanted: T) -> Result<(), Differ<T>>
     }
 }
 
-/// Why a value was not found to print as it was to.
+/// Why a value does not print as expected.
 #[derive(Debug, Drop)]
 pub enum Misprint {
     /// It prints as this text.
     As(String),
-    /// Memory was refused.
+    /// Allocation failed.
     OutOfMemory,
 }
 
@@ -55,7 +55,7 @@ impl From<AllocError> for Misprint {
 ///
 /// # Errors
 ///
-/// `As` with what it gives, if that is another text; `OutOfMemory` if memory is refused.
+/// `As` with what it prints, if that is another text; `OutOfMemory` if allocation fails.
 pub fn prints<D: Display>(alloc: Global, value: &D, wanted: &str) -> Result<(), Misprint> {
     let printed = format!(in alloc; "{value}")?;
     if printed.as_str() == wanted {

@@ -1,12 +1,13 @@
 //! What is asked of values of the four kinds as others, and with other fragments.
 
-use crate::fields::{Fault, Words};
+use crate::fields::{RowError, Words};
 use crate::operation::Kind;
 use crate::references::{parsed, say_error};
 use fluent_uri::pct_enc::EStr;
 use fluent_uri::pct_enc::encoder::Encoder;
-use fluent_uri::{ConvertError, Iri, IriRef, RiMaybeRef, Uri, UriRef};
-use std::alloc::Global;
+use fluent_uri::{ConvertError, Iri, IriRef, Reference, Uri, UriRef};
+use std::alloc::{AllocError, Global};
+use uri_parts::kind::{self, IriKind, IriRefKind};
 
 /// Says the text as another kind, borrowed and, where it differs, owned.
 pub(crate) fn convert(
@@ -15,139 +16,141 @@ pub(crate) fn convert(
     to: Kind,
     text: &str,
     words: &mut Words,
-) -> Result<(), Fault> {
-    match (from, to) {
-        (Kind::Uri, Kind::UriRef) => {
-            let value = parsed::<Uri<&str>>(text)?;
-            kept(
-                UriRef::from(value),
-                UriRef::from(value.to_owned(alloc)?),
-                words,
-            )
-        }
-        (Kind::Uri, Kind::Iri) => {
-            let value = parsed::<Uri<&str>>(text)?;
-            kept(Iri::from(value), Iri::from(value.to_owned(alloc)?), words)
-        }
-        (Kind::Uri, Kind::IriRef) => {
-            let value = parsed::<Uri<&str>>(text)?;
-            kept(
-                IriRef::from(value),
-                IriRef::from(value.to_owned(alloc)?),
-                words,
-            )
-        }
-        (Kind::UriRef, Kind::IriRef) => {
-            let value = parsed::<UriRef<&str>>(text)?;
-            kept(
-                IriRef::from(value),
-                IriRef::from(value.to_owned(alloc)?),
-                words,
-            )
-        }
-        (Kind::Iri, Kind::IriRef) => {
-            let value = parsed::<Iri<&str>>(text)?;
-            kept(
-                IriRef::from(value),
-                IriRef::from(value.to_owned(alloc)?),
-                words,
-            )
-        }
-        (Kind::UriRef, Kind::Uri) => {
-            let value = parsed::<UriRef<&str>>(text)?;
-            let owned = value.to_owned(alloc)?;
-            tried(
+) -> Result<(), RowError> {
+    match from {
+        Kind::Uri => convert_uri(alloc, parsed(text)?, to, words),
+        Kind::UriRef => convert_uri_ref(alloc, parsed(text)?, to, words),
+        Kind::Iri => convert_iri(alloc, parsed(text)?, to, words),
+        Kind::IriRef => convert_iri_ref(alloc, parsed(text)?, to, words),
+    }
+}
+
+fn convert_uri(
+    alloc: Global,
+    value: Uri<&str>,
+    to: Kind,
+    words: &mut Words,
+) -> Result<(), RowError> {
+    let owned = value.to_owned(alloc)?;
+    match to {
+        Kind::UriRef => widened(UriRef::from(value), UriRef::from(owned), words),
+        Kind::Iri => widened(Iri::from(value), Iri::from(owned), words),
+        Kind::IriRef => widened(IriRef::from(value), IriRef::from(owned), words),
+        Kind::Uri => Err(RowError::NoConversion),
+    }
+}
+
+fn convert_uri_ref(
+    alloc: Global,
+    value: UriRef<&str>,
+    to: Kind,
+    words: &mut Words,
+) -> Result<(), RowError> {
+    let owned = value.to_owned(alloc)?;
+    match to {
+        Kind::Uri => narrowed(
+            alloc,
+            value,
+            Uri::try_from(value),
+            Uri::try_from(owned),
+            words,
+        ),
+        Kind::IriRef => widened(IriRef::from(value), IriRef::from(owned), words),
+        _ => Err(RowError::NoConversion),
+    }
+}
+
+fn convert_iri(
+    alloc: Global,
+    value: Iri<&str>,
+    to: Kind,
+    words: &mut Words,
+) -> Result<(), RowError> {
+    let owned = value.to_owned(alloc)?;
+    match to {
+        Kind::Uri => narrowed(
+            alloc,
+            value,
+            Uri::try_from(value),
+            Uri::try_from(owned),
+            words,
+        ),
+        Kind::IriRef => widened(IriRef::from(value), IriRef::from(owned), words),
+        _ => Err(RowError::NoConversion),
+    }
+}
+
+fn convert_iri_ref(
+    alloc: Global,
+    value: IriRef<&str>,
+    to: Kind,
+    words: &mut Words,
+) -> Result<(), RowError> {
+    let owned = value.to_owned(alloc)?;
+    match to {
+        Kind::Uri => narrowed(
+            alloc,
+            value,
+            Uri::try_from(value),
+            Uri::try_from(owned),
+            words,
+        ),
+        Kind::UriRef => {
+            narrowed(
                 alloc,
-                text,
-                Uri::try_from(value),
-                Uri::try_from(owned),
-                words,
-            )
-        }
-        (Kind::Iri, Kind::Uri) => {
-            let value = parsed::<Iri<&str>>(text)?;
-            let owned = value.to_owned(alloc)?;
-            tried(
-                alloc,
-                text,
-                Uri::try_from(value),
-                Uri::try_from(owned),
-                words,
-            )
-        }
-        (Kind::IriRef, Kind::Uri) => {
-            let value = parsed::<IriRef<&str>>(text)?;
-            let owned = value.to_owned(alloc)?;
-            tried(
-                alloc,
-                text,
-                Uri::try_from(value),
-                Uri::try_from(owned),
-                words,
-            )
-        }
-        (Kind::IriRef, Kind::UriRef) => {
-            let value = parsed::<IriRef<&str>>(text)?;
-            let owned = value.to_owned(alloc)?;
-            tried(
-                alloc,
-                text,
+                value,
                 UriRef::try_from(value),
                 UriRef::try_from(owned),
                 words,
             )
         }
-        (Kind::IriRef, Kind::Iri) => {
-            let value = parsed::<IriRef<&str>>(text)?;
-            let owned = value.to_owned(alloc)?;
-            tried(
-                alloc,
-                text,
-                Iri::try_from(value),
-                Iri::try_from(owned),
-                words,
-            )
-        }
-        _ => Err(Fault::NoConversion),
+        Kind::Iri => narrowed(
+            alloc,
+            value,
+            Iri::try_from(value),
+            Iri::try_from(owned),
+            words,
+        ),
+        Kind::IriRef => Err(RowError::NoConversion),
     }
 }
 
-fn kept<R: RiMaybeRef + Drop, O: RiMaybeRef + Drop>(
-    value: R,
-    owned: O,
+/// Says the text of a conversion that never fails.
+fn widened<K: kind::Kind>(
+    value: Reference<K, &str>,
+    owned: Reference<K, String>,
     words: &mut Words,
-) -> Result<(), Fault> {
+) -> Result<(), RowError> {
     words.text(value.as_str())?;
-    if owned.as_str() != value.as_str() {
-        words.named("owned", Some(owned.as_str()))?;
-    }
-    Ok(())
+    Ok(words.unless_said("owned", owned.as_str())?)
 }
 
 /// Says the text of a conversion or its error, and what differs where the value is owned.
-fn tried<R, O, S>(
+fn narrowed<S: kind::Kind, K: kind::Kind>(
     alloc: Global,
-    text: &str,
-    value: Result<R, ConvertError>,
-    owned: Result<O, (ConvertError, S)>,
+    value: Reference<S, &str>,
+    narrower: Result<Reference<K, &str>, ConvertError>,
+    owned: Result<Reference<K, String>, (ConvertError, Reference<S, String>)>,
     words: &mut Words,
-) -> Result<(), Fault>
-where
-    R: RiMaybeRef + Drop,
-    O: RiMaybeRef + Drop,
-    S: RiMaybeRef + Drop,
-{
-    match (value, owned) {
-        (Ok(value), Ok(owned)) => kept(value, owned, words),
+) -> Result<(), RowError> {
+    match (narrower, owned) {
+        (Ok(narrower), Ok(owned)) => widened(narrower, owned, words),
         (Err(error), Err((of_owned, returned))) => {
-            say_error(alloc, &error, words)?;
-            if of_owned != error || returned.as_str() != text {
-                words.verbatim("but not of an owned value")?;
-            }
-            Ok(())
+            let is_same = of_owned == error && returned.as_str() == value.as_str();
+            refused(alloc, error, is_same, words)
         }
         _ => Ok(words.verbatim("otherwise of an owned value")?),
     }
+}
+
+fn refused(
+    alloc: Global,
+    error: ConvertError,
+    is_same: bool,
+    words: &mut Words,
+) -> Result<(), RowError> {
+    say_error(alloc, &error, words)?;
+    Ok(words.unless(is_same, "but not of an owned value")?)
 }
 
 /// Says the URI, or the URI reference, of an IRI or an IRI reference, borrowed and owned.
@@ -156,98 +159,85 @@ pub(crate) fn to_uri(
     kind: Kind,
     text: &str,
     words: &mut Words,
-) -> Result<(), Fault> {
+) -> Result<(), RowError> {
     match kind {
         Kind::Iri => {
-            let value = parsed::<Iri<&str>>(text)?;
-            kept(
-                value.to_uri(alloc)?,
-                value.to_owned(alloc)?.to_uri(alloc)?,
-                words,
-            )
+            let value = parsed::<IriKind>(text)?;
+            words.text(value.to_uri(alloc)?.as_str())?;
+            let encoded = uri_of_owned(alloc, value)?;
+            Ok(words.unless_said("owned", encoded.as_str())?)
         }
         Kind::IriRef => {
-            let value = parsed::<IriRef<&str>>(text)?;
-            kept(
-                value.to_uri_ref(alloc)?,
-                value.to_owned(alloc)?.to_uri_ref(alloc)?,
-                words,
-            )
+            let value = parsed::<IriRefKind>(text)?;
+            words.text(value.to_uri_ref(alloc)?.as_str())?;
+            let encoded = uri_ref_of_owned(alloc, value)?;
+            Ok(words.unless_said("owned", encoded.as_str())?)
         }
-        _ => Err(Fault::NotAnIri),
+        _ => Err(RowError::NotAnIri),
     }
 }
 
-macro_rules! stripped {
-    ($alloc:expr, $value:expr, $words:expr) => {{
-        let value = $value;
-        let owned = value.to_owned($alloc)?;
-        kept(value.strip_fragment(), owned.strip_fragment(), $words)
-    }};
+fn uri_of_owned(alloc: Global, value: Iri<&str>) -> Result<Uri<String>, AllocError> {
+    value.to_owned(alloc)?.to_uri(alloc)
 }
 
-/// Says the text without a fragment, borrowed and owned.
-pub(crate) fn strip_fragment(
+fn uri_ref_of_owned(alloc: Global, value: IriRef<&str>) -> Result<UriRef<String>, AllocError> {
+    value.to_owned(alloc)?.to_uri_ref(alloc)
+}
+
+/// Says the text without a fragment.
+pub(crate) fn strip_fragment<K: kind::Kind>(
     alloc: Global,
-    kind: Kind,
     text: &str,
     words: &mut Words,
-) -> Result<(), Fault> {
-    match kind {
-        Kind::Uri => stripped!(alloc, parsed::<Uri<&str>>(text)?, words),
-        Kind::UriRef => stripped!(alloc, parsed::<UriRef<&str>>(text)?, words),
-        Kind::Iri => stripped!(alloc, parsed::<Iri<&str>>(text)?, words),
-        Kind::IriRef => stripped!(alloc, parsed::<IriRef<&str>>(text)?, words),
-    }
-}
-
-macro_rules! given {
-    ($alloc:expr, $value:expr, $fragment:expr, $words:expr) => {{
-        let (value, fragment) = ($value, $fragment);
-        let mut owned = value.to_owned($alloc)?;
-        let made = value.with_fragment($alloc, fragment)?;
-        kept(made, owned.with_fragment($alloc, fragment)?, $words)?;
-        let wanted = value.with_fragment($alloc, fragment)?;
-        owned.set_fragment(fragment)?;
-        if owned.as_str() != wanted.as_str() || owned.fragment() != wanted.fragment() {
-            $words.named("set", Some(owned.as_str()))?;
-        }
-        if owned.path().as_str() != value.path().as_str() || owned.fragment() != fragment {
-            $words.verbatim("but not its components")?;
-        }
-        Ok(())
-    }};
+) -> Result<(), RowError> {
+    let value = parsed::<K>(text)?;
+    words.text(value.strip_fragment().as_str())?;
+    let owned = value.to_owned(alloc)?;
+    Ok(words.unless_said("owned", owned.strip_fragment().as_str())?)
 }
 
 /// Says the text with another fragment, given as `#` and its text, or with `none`.
-pub(crate) fn with_fragment(
+pub(crate) fn with_fragment<K: kind::Kind>(
     alloc: Global,
-    kind: Kind,
     text: &str,
     given: &str,
     words: &mut Words,
-) -> Result<(), Fault> {
-    match kind {
-        Kind::Uri => given!(alloc, parsed::<Uri<&str>>(text)?, fragment(given)?, words),
-        Kind::UriRef => given!(
-            alloc,
-            parsed::<UriRef<&str>>(text)?,
-            fragment(given)?,
-            words
-        ),
-        Kind::Iri => given!(alloc, parsed::<Iri<&str>>(text)?, fragment(given)?, words),
-        Kind::IriRef => given!(
-            alloc,
-            parsed::<IriRef<&str>>(text)?,
-            fragment(given)?,
-            words
-        ),
-    }
+) -> Result<(), RowError> {
+    let value = parsed::<K>(text)?;
+    let fragment = fragment(given)?;
+    words.text(value.with_fragment(alloc, fragment)?.as_str())?;
+    let made = copied(alloc, value, fragment)?;
+    words.unless_said("owned", made.as_str())?;
+    replace_fragment(alloc, value, fragment, words)
 }
 
-fn fragment<E: Encoder>(given: &str) -> Result<Option<EStr<'_, E>>, Fault> {
+/// A copy of the owned value with another fragment.
+fn copied<K: kind::Kind>(
+    alloc: Global,
+    value: Reference<K, &str>,
+    fragment: Option<EStr<'_, K::FragmentE>>,
+) -> Result<Reference<K, String>, AllocError> {
+    value.to_owned(alloc)?.with_fragment(alloc, fragment)
+}
+
+/// Says what differs where the fragment of an owned value is replaced.
+fn replace_fragment<K: kind::Kind>(
+    alloc: Global,
+    value: Reference<K, &str>,
+    fragment: Option<EStr<'_, K::FragmentE>>,
+    words: &mut Words,
+) -> Result<(), RowError> {
+    let mut owned = value.to_owned(alloc)?;
+    owned.set_fragment(fragment)?;
+    let has_both = owned.path() == value.path() && owned.fragment() == fragment;
+    words.unless_said("set", owned.as_str())?;
+    Ok(words.unless(has_both, "but not its components")?)
+}
+
+fn fragment<E: Encoder>(given: &str) -> Result<Option<EStr<'_, E>>, RowError> {
     match given.strip_prefix('#') {
-        Some(text) => Ok(Some(EStr::new(text).ok_or(Fault::NotAFragment)?)),
+        Some(text) => Ok(Some(EStr::new(text).ok_or(RowError::NotAFragment)?)),
         None => Ok(None),
     }
 }

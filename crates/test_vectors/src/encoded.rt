@@ -1,17 +1,18 @@
 //! What is asked of percent-encoded texts.
 
-use crate::fields::{Fault, Words};
-use crate::operation::{OfPath, OfPieces};
+use crate::fields::{RowError, Words};
+use crate::operation::{PathOperation, SubstringOperation};
 use crate::parsed::say_cow;
-use fluent_uri::IriRef;
+use crate::references::parsed;
 use fluent_uri::pct_enc::encoder::{
     Data, Encoder, Fragment, IData, IPath, Path, Port, Query, RegName, Userinfo,
 };
-use fluent_uri::pct_enc::{CowSlice, DecodeError, EStr, EString, Table, table};
+use fluent_uri::pct_enc::{CowSlice, CowStr, DecodeError, EStr, EString, Table, table};
 use std::alloc::{AllocError, Global};
+use uri_parts::kind::IriRefKind;
 
-fn path(text: &str) -> Result<EStr<'_, IPath>, Fault> {
-    EStr::new(text).ok_or(Fault::NotAPath)
+fn path(text: &str) -> Result<EStr<'_, IPath>, RowError> {
+    EStr::new(text).ok_or(RowError::NotAPath)
 }
 
 /// Says the bytes as hexadecimal numbers.
@@ -23,98 +24,117 @@ fn say_bytes(alloc: Global, bytes: &[u8], words: &mut Words) -> Result<(), Alloc
 }
 
 /// Says what a path decodes to.
-pub(crate) fn of_path(
+pub(crate) fn say_decoded_path(
     alloc: Global,
-    ask: OfPath,
+    ask: PathOperation,
     text: &str,
     words: &mut Words,
-) -> Result<(), Fault> {
+) -> Result<(), RowError> {
     let path = path(text)?;
     match ask {
-        OfPath::Bytes => match path.decode().to_bytes(alloc)? {
-            CowSlice::Borrowed(bytes) => {
-                words.verbatim("borrowed")?;
-                Ok(say_bytes(alloc, bytes, words)?)
-            }
-            CowSlice::Owned(bytes) => {
-                words.verbatim("owned")?;
-                Ok(say_bytes(alloc, bytes.as_slice(), words)?)
-            }
-        },
-        OfPath::Text => match path.decode().to_string(alloc) {
+        PathOperation::Bytes => Ok(say_decoded(alloc, &path.decode().to_bytes(alloc)?, words)?),
+        PathOperation::Text => match path.decode().to_string(alloc) {
             Ok(text) => Ok(say_cow(&text, words)?),
-            Err(DecodeError::NotUtf8(bytes)) => {
-                words.verbatim("not-utf8")?;
-                Ok(say_bytes(alloc, bytes.as_slice(), words)?)
-            }
-            Err(DecodeError::OutOfMemory) => Err(Fault::OutOfMemory),
+            Err(error) => say_undecoded(alloc, error, words),
         },
-        OfPath::Lossy => Ok(say_cow(&path.decode().to_string_lossy(alloc)?, words)?),
-        OfPath::Read => read(alloc, text, words),
-        OfPath::Segments => {
-            let Some(segments) = path.segments_if_absolute() else {
-                return Ok(words.verbatim("none")?);
-            };
-            for segment in segments {
-                words.text(segment.as_str())?;
-            }
-            Ok(())
+        PathOperation::Lossy => Ok(say_cow(&path.decode().to_string_lossy(alloc)?, words)?),
+        PathOperation::Read => say_decodings(alloc, text, words),
+        PathOperation::Segments => Ok(say_segments(path, words)?),
+    }
+}
+
+/// Says the bytes, and whether they are borrowed.
+fn say_decoded(
+    alloc: Global,
+    bytes: &CowSlice<'_, u8>,
+    words: &mut Words,
+) -> Result<(), AllocError> {
+    match bytes {
+        CowSlice::Borrowed(bytes) => {
+            words.verbatim("borrowed")?;
+            say_bytes(alloc, bytes, words)
+        }
+        CowSlice::Owned(bytes) => {
+            words.verbatim("owned")?;
+            say_bytes(alloc, bytes.as_slice(), words)
         }
     }
+}
+
+fn say_undecoded(alloc: Global, error: DecodeError, words: &mut Words) -> Result<(), RowError> {
+    match error {
+        DecodeError::NotUtf8(bytes) => {
+            words.verbatim("not-utf8")?;
+            Ok(say_bytes(alloc, bytes.as_slice(), words)?)
+        }
+        DecodeError::OutOfMemory => Err(RowError::OutOfMemory),
+    }
+}
+
+fn say_segments(path: EStr<'_, IPath>, words: &mut Words) -> Result<(), AllocError> {
+    let Some(segments) = path.segments_if_absolute() else {
+        return words.verbatim("none");
+    };
+    for segment in segments {
+        words.text(segment.as_str())?;
+    }
+    Ok(())
 }
 
 /// Says the normal form of a path as an IRI reference, whether its bytes are a text, and the text
 /// that it decodes to, with U+FFFD for what is ill-formed.
-fn read(alloc: Global, text: &str, words: &mut Words) -> Result<(), Fault> {
+fn say_decodings(alloc: Global, text: &str, words: &mut Words) -> Result<(), RowError> {
     let path = path(text)?;
-    let Ok(reference) = IriRef::<&str>::parse(text) else {
-        return Err(Fault::NotOfKind);
-    };
-    match reference.normalize(alloc) {
-        Ok(normal) => words.text(normal.as_str())?,
-        Err(_) => return Err(Fault::OutOfMemory),
-    }
+    words.text(parsed::<IriRefKind>(text)?.normalize(alloc)?.as_str())?;
     let lossy = path.decode().to_string_lossy(alloc)?;
-    let is_whole = match path.decode().to_string(alloc) {
-        Ok(text) => {
-            words.verbatim("text")?;
-            text.as_str() == lossy.as_str()
-        }
-        Err(DecodeError::NotUtf8(bytes)) => {
-            words.verbatim("bytes")?;
-            String::from_utf8_lossy(alloc, bytes.as_slice())?.as_str() == lossy.as_str()
-        }
-        Err(DecodeError::OutOfMemory) => return Err(Fault::OutOfMemory),
-    };
-    if !is_whole {
-        words.verbatim("of another text")?;
-    }
+    compare_decoded(alloc, path.decode().to_string(alloc), lossy.as_str(), words)?;
     Ok(words.text(lossy.as_str())?)
 }
 
+/// Says whether a path decodes to a text or to bytes, and what differs from the lossy text.
+fn compare_decoded(
+    alloc: Global,
+    decoded: Result<CowStr<'_>, DecodeError>,
+    lossy: &str,
+    words: &mut Words,
+) -> Result<(), RowError> {
+    match decoded {
+        Ok(text) => {
+            words.verbatim("text")?;
+            Ok(words.unless(text.as_str() == lossy, "of another text")?)
+        }
+        Err(DecodeError::NotUtf8(bytes)) => {
+            words.verbatim("bytes")?;
+            let text = String::from_utf8_lossy(alloc, bytes.as_slice())?;
+            Ok(words.unless(text.as_str() == lossy, "of another text")?)
+        }
+        Err(DecodeError::OutOfMemory) => Err(RowError::OutOfMemory),
+    }
+}
+
 /// Appends the substrings of a path that a row asks for.
-pub(crate) fn of_pieces(
-    ask: OfPieces,
+pub(crate) fn say_substrings(
+    ask: SubstringOperation,
     text: &str,
     delimiter: &str,
     words: &mut Words,
-) -> Result<(), Fault> {
+) -> Result<(), RowError> {
     let path = path(text)?;
     let delimiter = match delimiter {
         "/" => '/',
         ";" => ';',
         "," => ',',
-        _ => return Err(Fault::NoDelimiter),
+        _ => return Err(RowError::NoDelimiter),
     };
     let cut = match ask {
-        OfPieces::Split => {
+        SubstringOperation::Split => {
             for piece in path.split(delimiter) {
                 words.text(piece.as_str())?;
             }
             return Ok(());
         }
-        OfPieces::First => path.split_once(delimiter),
-        OfPieces::Last => path.rsplit_once(delimiter),
+        SubstringOperation::First => path.split_once(delimiter),
+        SubstringOperation::Last => path.rsplit_once(delimiter),
     };
     match cut {
         Some((before, after)) => {
@@ -126,7 +146,7 @@ pub(crate) fn of_pieces(
 }
 
 /// Whether an encoder allows a text.
-pub(crate) fn is_valid(encoder: &str, text: &str) -> Result<bool, Fault> {
+pub(crate) fn is_valid(encoder: &str, text: &str) -> Result<bool, RowError> {
     Ok(match encoder {
         "userinfo" => keeps::<Userinfo>(text),
         "reg-name" => keeps::<RegName>(text),
@@ -135,7 +155,7 @@ pub(crate) fn is_valid(encoder: &str, text: &str) -> Result<bool, Fault> {
         "query" => keeps::<Query>(text),
         "fragment" => keeps::<Fragment>(text),
         "ipath" => keeps::<IPath>(text),
-        _ => return Err(Fault::NoEncoder),
+        _ => return Err(RowError::NoEncoder),
     })
 }
 
@@ -154,13 +174,13 @@ pub(crate) fn encode(
     bytes: &[u8],
     is_text: bool,
     words: &mut Words,
-) -> Result<(), Fault> {
+) -> Result<(), RowError> {
     match encoder {
         "path" => say_encoded::<Path>(alloc, bytes, is_text, words),
         "query" => say_encoded::<Query>(alloc, bytes, is_text, words),
         "data" => say_encoded::<Data>(alloc, bytes, is_text, words),
         "idata" => say_encoded::<IData>(alloc, bytes, is_text, words),
-        _ => Err(Fault::NoEncoder),
+        _ => Err(RowError::NoEncoder),
     }
 }
 
@@ -169,9 +189,9 @@ fn say_encoded<E: Encoder>(
     bytes: &[u8],
     is_text: bool,
     words: &mut Words,
-) -> Result<(), Fault> {
+) -> Result<(), RowError> {
     if !E::table().is_subset(&E::table()) || !E::table().allows_pct_encoded() {
-        return Err(Fault::NoEncoder);
+        return Err(RowError::NoEncoder);
     }
     let mut text = EString::<E>::new(alloc);
     match std::str::from_utf8(bytes) {
@@ -181,7 +201,7 @@ fn say_encoded<E: Encoder>(
     Ok(words.text(text.as_str())?)
 }
 
-fn named_table(name: &str) -> Result<Table, Fault> {
+fn named_table(name: &str) -> Result<Table, RowError> {
     Ok(match name {
         "alpha" => table::ALPHA,
         "digit" => table::DIGIT,
@@ -199,12 +219,12 @@ fn named_table(name: &str) -> Result<Table, Fault> {
         "path" => table::PATH,
         "query" => table::QUERY,
         "fragment" => table::FRAGMENT,
-        _ => return Err(Fault::NoTable),
+        _ => return Err(RowError::NoTable),
     })
 }
 
 /// Says the ASCII characters of a table, and whether it has percent-encoded octets.
-pub(crate) fn table(alloc: Global, name: &str, words: &mut Words) -> Result<(), Fault> {
+pub(crate) fn table(alloc: Global, name: &str, words: &mut Words) -> Result<(), RowError> {
     let table = named_table(name)?;
     let mut characters = String::new(alloc);
     for code in 0..128u8 {

@@ -1,11 +1,12 @@
 //! The fields of a row, and how their texts are written.
 
+use fluent_uri::resolve::ResolveError;
 use std::alloc::{AllocError, Global};
 use std::fmt;
 
 /// Why a row has no result; all but the first are malformed rows.
-#[derive(Clone, Copy, Debug)]
-pub(crate) enum Fault {
+#[derive(Clone, Copy)]
+pub(crate) enum RowError {
     OutOfMemory,
     FieldMissing,
     FieldLeft,
@@ -33,40 +34,46 @@ pub(crate) enum Fault {
     NotOfAValue,
 }
 
-impl From<AllocError> for Fault {
-    fn from(_: AllocError) -> Fault {
-        Fault::OutOfMemory
+impl From<AllocError> for RowError {
+    fn from(_: AllocError) -> RowError {
+        RowError::OutOfMemory
     }
 }
 
-impl fmt::Display for Fault {
+impl From<ResolveError> for RowError {
+    fn from(_: ResolveError) -> RowError {
+        RowError::NoTarget
+    }
+}
+
+impl fmt::Display for RowError {
     fn fmt<W: fmt::Write>(&self, f: &mut fmt::Formatter<W>) -> fmt::Result {
         f.write_str(match *self {
-            Fault::OutOfMemory => "out of memory",
-            Fault::FieldMissing => "a field is missing",
-            Fault::FieldLeft => "a field too many",
-            Fault::NotANumber => "a field is not a number",
-            Fault::OverAnOctet => "a number is over 255",
-            Fault::NotAByte => "a byte is malformed",
-            Fault::MalformedEscape => "an escape is malformed",
-            Fault::EscapeNotClosed => "an escape has no `}`",
-            Fault::NoCharacter => "no such character",
-            Fault::NoKind => "no such kind",
-            Fault::NoOperation => "no such operation",
-            Fault::NoEncoder => "no such encoder",
-            Fault::NoTable => "no such table",
-            Fault::NoDelimiter => "no such delimiter",
-            Fault::NoConversion => "no such conversion",
-            Fault::NoArrow => "no ` -> `",
-            Fault::NoAuthority => "no authority",
-            Fault::NotOfKind => "a text is not of its kind",
-            Fault::NotAScheme => "not a scheme",
-            Fault::NotAFragment => "not a fragment",
-            Fault::NotAPath => "not a path",
-            Fault::NotAnIri => "not an IRI",
-            Fault::NoTarget => "no target",
-            Fault::NotABase => "a base is a `uri` or an `iri`",
-            Fault::NotOfAValue => "not asked of this value",
+            RowError::OutOfMemory => "out of memory",
+            RowError::FieldMissing => "a field is missing",
+            RowError::FieldLeft => "a field too many",
+            RowError::NotANumber => "a field is not a number",
+            RowError::OverAnOctet => "a number is over 255",
+            RowError::NotAByte => "a byte is malformed",
+            RowError::MalformedEscape => "an escape is malformed",
+            RowError::EscapeNotClosed => "an escape has no `}`",
+            RowError::NoCharacter => "no such character",
+            RowError::NoKind => "no such kind",
+            RowError::NoOperation => "no such operation",
+            RowError::NoEncoder => "no such encoder",
+            RowError::NoTable => "no such table",
+            RowError::NoDelimiter => "no such delimiter",
+            RowError::NoConversion => "no such conversion",
+            RowError::NoArrow => "no ` -> `",
+            RowError::NoAuthority => "no authority",
+            RowError::NotOfKind => "a text is not of its kind",
+            RowError::NotAScheme => "not a scheme",
+            RowError::NotAFragment => "not a fragment",
+            RowError::NotAPath => "not a path",
+            RowError::NotAnIri => "not an IRI",
+            RowError::NoTarget => "no target",
+            RowError::NotABase => "a base is a `uri` or an `iri`",
+            RowError::NotOfAValue => "not asked of this value",
         })
     }
 }
@@ -87,9 +94,9 @@ impl<'a> Fields<'a> {
     }
 
     /// Takes the next field as it is written.
-    pub(crate) fn word(&mut self) -> Result<&'a str, Fault> {
+    pub(crate) fn word(&mut self) -> Result<&'a str, RowError> {
         if self.rest.is_empty() {
-            return Err(Fault::FieldMissing);
+            return Err(RowError::FieldMissing);
         }
         match self.rest.split_once(' ') {
             Some((word, rest)) => {
@@ -105,34 +112,34 @@ impl<'a> Fields<'a> {
     }
 
     /// Takes the next field and unescapes its text.
-    pub(crate) fn text(&mut self) -> Result<String, Fault> {
+    pub(crate) fn text(&mut self) -> Result<String, RowError> {
         let word = self.word()?;
         unescaped(self.alloc, word)
     }
 
     /// Takes the next field as a decimal number.
-    pub(crate) fn number(&mut self) -> Result<u16, Fault> {
+    pub(crate) fn number(&mut self) -> Result<u16, RowError> {
         match self.word()?.parse::<u16>() {
             Ok(number) => Ok(number),
-            Err(_) => Err(Fault::NotANumber),
+            Err(_) => Err(RowError::NotANumber),
         }
     }
 
     /// Takes the next field as a hexadecimal number.
-    pub(crate) fn hexadecimal(&mut self) -> Result<u16, Fault> {
+    pub(crate) fn hexadecimal(&mut self) -> Result<u16, RowError> {
         match u16::from_str_radix(self.word()?, 16) {
             Ok(number) => Ok(number),
-            Err(_) => Err(Fault::NotANumber),
+            Err(_) => Err(RowError::NotANumber),
         }
     }
 
     /// Takes the bytes of the next field: hexadecimal numbers with a comma between two.
-    pub(crate) fn bytes(&mut self) -> Result<Vec<u8>, Fault> {
+    pub(crate) fn bytes(&mut self) -> Result<Vec<u8>, RowError> {
         let mut bytes = Vec::new(self.alloc);
         for pair in self.word()?.split(',') {
             match u8::from_str_radix(pair, 16) {
                 Ok(byte) => bytes.extend_from_slice(&[byte])?,
-                Err(_) => return Err(Fault::NotAByte),
+                Err(_) => return Err(RowError::NotAByte),
             }
         }
         Ok(bytes)
@@ -145,7 +152,7 @@ impl<'a> Fields<'a> {
 }
 
 /// The text that a field writes.
-pub(crate) fn unescaped(alloc: Global, word: &str) -> Result<String, Fault> {
+pub(crate) fn unescaped(alloc: Global, word: &str) -> Result<String, RowError> {
     let mut text = String::new(alloc);
     if word == "\"\"" {
         return Ok(text);
@@ -163,24 +170,24 @@ pub(crate) fn unescaped(alloc: Global, word: &str) -> Result<String, Fault> {
 }
 
 /// Appends what an escape, given without its `\`, writes, and the text that follows it.
-fn push_escaped(alloc: Global, piece: &str, text: &mut String) -> Result<(), Fault> {
+fn push_escaped(alloc: Global, piece: &str, text: &mut String) -> Result<(), RowError> {
     if let Some(rest) = piece.strip_prefix('s') {
         text.push(' ')?;
         text.push_str(rest)?;
         return Ok(());
     }
     let Some((head, tail)) = piece.split_once('{') else {
-        return Err(Fault::MalformedEscape);
+        return Err(RowError::MalformedEscape);
     };
     let Some((body, rest)) = tail.split_once('}') else {
-        return Err(Fault::EscapeNotClosed);
+        return Err(RowError::EscapeNotClosed);
     };
     if head == "u" {
         text.push(character(body)?)?;
     } else {
         match head.parse::<usize>() {
             Ok(times) => text.push_str(body.repeat(alloc, times)?.as_str())?,
-            Err(_) => return Err(Fault::MalformedEscape),
+            Err(_) => return Err(RowError::MalformedEscape),
         }
     }
     text.push_str(rest)?;
@@ -188,10 +195,10 @@ fn push_escaped(alloc: Global, piece: &str, text: &mut String) -> Result<(), Fau
 }
 
 /// The character with this number, in hexadecimal digits.
-fn character(digits: &str) -> Result<char, Fault> {
+fn character(digits: &str) -> Result<char, RowError> {
     match u32::from_str_radix(digits, 16) {
-        Ok(number) => char::from_u32(number).ok_or(Fault::NoCharacter),
-        Err(_) => Err(Fault::MalformedEscape),
+        Ok(number) => char::from_u32(number).ok_or(RowError::NoCharacter),
+        Err(_) => Err(RowError::MalformedEscape),
     }
 }
 
@@ -245,6 +252,32 @@ impl Words {
         self.text.push_str(name)?;
         self.text.push('=')?;
         self.escaped(text)
+    }
+
+    /// Appends a name and a text as one word, unless the text is all that was said.
+    pub(crate) fn unless_said(&mut self, name: &str, text: &str) -> Result<(), AllocError> {
+        let mut alone = Words::new(self.alloc);
+        alone.text(text)?;
+        if alone.as_str() == self.as_str() {
+            return Ok(());
+        }
+        self.named(name, Some(text))
+    }
+
+    /// Appends a text as one word if nothing was said, and otherwise does as `unless_said`.
+    pub(crate) fn or_same(&mut self, name: &str, text: &str) -> Result<(), AllocError> {
+        if self.text.is_empty() {
+            return self.text(text);
+        }
+        self.unless_said(name, text)
+    }
+
+    /// Appends a message unless something holds.
+    pub(crate) fn unless(&mut self, holds: bool, message: &str) -> Result<(), AllocError> {
+        if holds {
+            return Ok(());
+        }
+        self.verbatim(message)
     }
 
     fn escaped(&mut self, text: &str) -> Result<(), AllocError> {

@@ -2,9 +2,9 @@
 //! writer. `crates/vectors/data/README.txt` says how a row is written.
 #![tactic(auto)]
 
-mod answer;
 mod conversions;
 mod encoded;
+mod evaluate;
 mod fields;
 mod operation;
 mod parsed;

@@ -1,6 +1,6 @@
 //! What a row asks.
 
-use crate::fields::Fault;
+use crate::fields::RowError;
 
 /// A kind that a text is parsed as.
 #[derive(Clone, Copy)]
@@ -12,20 +12,20 @@ pub(crate) enum Kind {
 }
 
 impl Kind {
-    pub(crate) fn named(word: &str) -> Result<Kind, Fault> {
+    pub(crate) fn named(word: &str) -> Result<Kind, RowError> {
         match word {
             "uri" => Ok(Kind::Uri),
             "uri-ref" => Ok(Kind::UriRef),
             "iri" => Ok(Kind::Iri),
             "iri-ref" => Ok(Kind::IriRef),
-            _ => Err(Fault::NoKind),
+            _ => Err(RowError::NoKind),
         }
     }
 }
 
 /// What is asked of a value of a kind.
 #[derive(Clone, Copy)]
-pub(crate) enum OfValue {
+pub(crate) enum ValueOperation {
     /// Its components, or the message of the error.
     Parse,
     /// The kind and the index of the error, borrowed and owned.
@@ -56,7 +56,7 @@ pub(crate) enum OfValue {
 #[derive(Clone, Copy)]
 pub(crate) enum Setting {
     /// Dot segments may underflow.
-    Plain,
+    Defaults,
     /// Dot segments may not underflow.
     Strict,
     /// A normaliser has other default ports; a resolver normalises.
@@ -65,7 +65,7 @@ pub(crate) enum Setting {
 
 /// What is asked of a base and a reference.
 #[derive(Clone, Copy)]
-pub(crate) enum OfPair {
+pub(crate) enum PairOperation {
     /// The target.
     Resolve(Setting),
     /// The normal form of the target, by each order of resolving and normalising.
@@ -76,7 +76,7 @@ pub(crate) enum OfPair {
 
 /// What is asked of a percent-encoded path.
 #[derive(Clone, Copy)]
-pub(crate) enum OfPath {
+pub(crate) enum PathOperation {
     /// The bytes that it decodes to.
     Bytes,
     /// The text that it decodes to, or the bytes.
@@ -91,7 +91,7 @@ pub(crate) enum OfPath {
 
 /// What is asked of a text and a delimiter.
 #[derive(Clone, Copy)]
-pub(crate) enum OfPieces {
+pub(crate) enum SubstringOperation {
     /// All substrings.
     Split,
     /// What is before the first delimiter, and what is after it.
@@ -103,10 +103,10 @@ pub(crate) enum OfPieces {
 /// What a row asks.
 #[derive(Clone, Copy)]
 pub(crate) enum Operation {
-    OfValue(OfValue),
-    OfPair(OfPair),
-    OfPath(OfPath),
-    OfPieces(OfPieces),
+    ValueOperation(ValueOperation),
+    PairOperation(PairOperation),
+    PathOperation(PathOperation),
+    SubstringOperation(SubstringOperation),
     /// Whether an encoder allows a text.
     IsValid,
     /// A text encoded.
@@ -127,49 +127,116 @@ pub(crate) enum Operation {
     PrintIpv6,
 }
 
+/// The operations, by the word that a row begins with.
+const OPERATIONS: &[(&str, Operation)] = &[
+    ("parse", Operation::ValueOperation(ValueOperation::Parse)),
+    ("error", Operation::ValueOperation(ValueOperation::Error)),
+    (
+        "authority",
+        Operation::ValueOperation(ValueOperation::Authority),
+    ),
+    ("host", Operation::ValueOperation(ValueOperation::Host)),
+    ("ipv6", Operation::ValueOperation(ValueOperation::Ipv6)),
+    ("port", Operation::ValueOperation(ValueOperation::Port)),
+    ("socket", Operation::ValueOperation(ValueOperation::Socket)),
+    (
+        "normalize",
+        Operation::ValueOperation(ValueOperation::Normalize(Setting::Defaults)),
+    ),
+    (
+        "normalize-strict",
+        Operation::ValueOperation(ValueOperation::Normalize(Setting::Strict)),
+    ),
+    (
+        "normalize-under",
+        Operation::ValueOperation(ValueOperation::Normalize(Setting::Other)),
+    ),
+    (
+        "to-uri",
+        Operation::ValueOperation(ValueOperation::Convert(Kind::Uri)),
+    ),
+    (
+        "to-uri-ref",
+        Operation::ValueOperation(ValueOperation::Convert(Kind::UriRef)),
+    ),
+    (
+        "to-iri",
+        Operation::ValueOperation(ValueOperation::Convert(Kind::Iri)),
+    ),
+    (
+        "to-iri-ref",
+        Operation::ValueOperation(ValueOperation::Convert(Kind::IriRef)),
+    ),
+    (
+        "encode-as-uri",
+        Operation::ValueOperation(ValueOperation::ToUri),
+    ),
+    (
+        "with-fragment",
+        Operation::ValueOperation(ValueOperation::WithFragment),
+    ),
+    (
+        "strip-fragment",
+        Operation::ValueOperation(ValueOperation::StripFragment),
+    ),
+    (
+        "resolve",
+        Operation::PairOperation(PairOperation::Resolve(Setting::Defaults)),
+    ),
+    (
+        "resolve-strict",
+        Operation::PairOperation(PairOperation::Resolve(Setting::Strict)),
+    ),
+    (
+        "resolve-normalized",
+        Operation::PairOperation(PairOperation::Resolve(Setting::Other)),
+    ),
+    ("swap", Operation::PairOperation(PairOperation::Swap)),
+    (
+        "swap-as-uris",
+        Operation::PairOperation(PairOperation::SwapAsUris),
+    ),
+    ("to-bytes", Operation::PathOperation(PathOperation::Bytes)),
+    ("to-string", Operation::PathOperation(PathOperation::Text)),
+    (
+        "to-string-lossy",
+        Operation::PathOperation(PathOperation::Lossy),
+    ),
+    ("read", Operation::PathOperation(PathOperation::Read)),
+    (
+        "segments",
+        Operation::PathOperation(PathOperation::Segments),
+    ),
+    (
+        "split",
+        Operation::SubstringOperation(SubstringOperation::Split),
+    ),
+    (
+        "split-once",
+        Operation::SubstringOperation(SubstringOperation::First),
+    ),
+    (
+        "rsplit-once",
+        Operation::SubstringOperation(SubstringOperation::Last),
+    ),
+    ("is-valid", Operation::IsValid),
+    ("encode", Operation::Encode),
+    ("encode-bytes", Operation::EncodeBytes),
+    ("scheme", Operation::Scheme),
+    ("same-scheme", Operation::SameScheme),
+    ("default-port", Operation::DefaultPort),
+    ("table", Operation::Table),
+    ("print-ipv4", Operation::PrintIpv4),
+    ("print-ipv6", Operation::PrintIpv6),
+];
+
 impl Operation {
-    pub(crate) fn named(word: &str) -> Result<Operation, Fault> {
-        Ok(match word {
-            "parse" => Operation::OfValue(OfValue::Parse),
-            "error" => Operation::OfValue(OfValue::Error),
-            "authority" => Operation::OfValue(OfValue::Authority),
-            "host" => Operation::OfValue(OfValue::Host),
-            "ipv6" => Operation::OfValue(OfValue::Ipv6),
-            "port" => Operation::OfValue(OfValue::Port),
-            "socket" => Operation::OfValue(OfValue::Socket),
-            "normalize" => Operation::OfValue(OfValue::Normalize(Setting::Plain)),
-            "normalize-strict" => Operation::OfValue(OfValue::Normalize(Setting::Strict)),
-            "normalize-under" => Operation::OfValue(OfValue::Normalize(Setting::Other)),
-            "to-uri" => Operation::OfValue(OfValue::Convert(Kind::Uri)),
-            "to-uri-ref" => Operation::OfValue(OfValue::Convert(Kind::UriRef)),
-            "to-iri" => Operation::OfValue(OfValue::Convert(Kind::Iri)),
-            "to-iri-ref" => Operation::OfValue(OfValue::Convert(Kind::IriRef)),
-            "encode-as-uri" => Operation::OfValue(OfValue::ToUri),
-            "with-fragment" => Operation::OfValue(OfValue::WithFragment),
-            "strip-fragment" => Operation::OfValue(OfValue::StripFragment),
-            "resolve" => Operation::OfPair(OfPair::Resolve(Setting::Plain)),
-            "resolve-strict" => Operation::OfPair(OfPair::Resolve(Setting::Strict)),
-            "resolve-normalized" => Operation::OfPair(OfPair::Resolve(Setting::Other)),
-            "swap" => Operation::OfPair(OfPair::Swap),
-            "swap-as-uris" => Operation::OfPair(OfPair::SwapAsUris),
-            "to-bytes" => Operation::OfPath(OfPath::Bytes),
-            "to-string" => Operation::OfPath(OfPath::Text),
-            "to-string-lossy" => Operation::OfPath(OfPath::Lossy),
-            "read" => Operation::OfPath(OfPath::Read),
-            "segments" => Operation::OfPath(OfPath::Segments),
-            "split" => Operation::OfPieces(OfPieces::Split),
-            "split-once" => Operation::OfPieces(OfPieces::First),
-            "rsplit-once" => Operation::OfPieces(OfPieces::Last),
-            "is-valid" => Operation::IsValid,
-            "encode" => Operation::Encode,
-            "encode-bytes" => Operation::EncodeBytes,
-            "scheme" => Operation::Scheme,
-            "same-scheme" => Operation::SameScheme,
-            "default-port" => Operation::DefaultPort,
-            "table" => Operation::Table,
-            "print-ipv4" => Operation::PrintIpv4,
-            "print-ipv6" => Operation::PrintIpv6,
-            _ => return Err(Fault::NoOperation),
-        })
+    pub(crate) fn named(word: &str) -> Result<Operation, RowError> {
+        for &(name, operation) in OPERATIONS {
+            if name == word {
+                return Ok(operation);
+            }
+        }
+        Err(RowError::NoOperation)
     }
 }

@@ -1,11 +1,12 @@
 //! What the accessors of a value return, as words.
 
-use crate::fields::{Fault, Words};
+use crate::fields::{RowError, Words};
 use fluent_uri::component::{Authority, HostOf, Scheme, SocketTarget};
 use fluent_uri::pct_enc::encoder::Encoder;
 use fluent_uri::pct_enc::{CowStr, EStr};
-use fluent_uri::{ParseErrorKind, RiMaybeRef};
+use fluent_uri::{ParseErrorKind, Reference, RiMaybeRef};
 use std::alloc::{AllocError, Global};
+use uri_parts::kind::Kind;
 
 /// Says the components that are present (RFC 3986, section 3).
 pub(crate) fn say_components<R: RiMaybeRef>(
@@ -27,13 +28,10 @@ pub(crate) fn say_authority<U: Encoder, R: Encoder>(
     words.named("userinfo", authority.userinfo().map(EStr::as_str))?;
     words.named("host", Some(authority.host()))?;
     words.named("port", authority.port().map(EStr::as_str))?;
-    if authority.has_userinfo() != authority.userinfo().is_some() {
-        words.verbatim("has_userinfo")?;
-    }
-    if authority.has_port() != authority.port().is_some() {
-        words.verbatim("has_port")?;
-    }
-    Ok(())
+    let has_userinfo = authority.userinfo().is_some();
+    words.unless(authority.has_userinfo() == has_userinfo, "has_userinfo")?;
+    let has_port = authority.port().is_some();
+    words.unless(authority.has_port() == has_port, "has_port")
 }
 
 /// Says what the host of an authority is (RFC 3986, section 3.2.2).
@@ -123,8 +121,8 @@ pub(crate) fn name_of(kind: ParseErrorKind) -> &'static str {
 }
 
 /// The authority of a value that has one.
-pub(crate) fn authority_of<R: RiMaybeRef>(
-    value: &R,
-) -> Result<Authority<'_, R::UserinfoE, R::RegNameE>, Fault> {
-    value.authority().ok_or(Fault::NoAuthority)
+pub(crate) fn authority_of<K: Kind>(
+    value: Reference<K, &str>,
+) -> Result<Authority<'_, K::UserinfoE, K::RegNameE>, RowError> {
+    value.authority().ok_or(RowError::NoAuthority)
 }

@@ -1,7 +1,7 @@
 //! Rows as they are in a file.
 
-use crate::answer::answer;
-use crate::fields::{Fault, Words, unescaped};
+use crate::evaluate::evaluate;
+use crate::fields::{RowError, Words, unescaped};
 use std::alloc::Global;
 use std::io::{self, BufRead};
 
@@ -44,14 +44,14 @@ pub fn push_rows<'f, R: BufRead + Drop>(
 #[derive(Drop)]
 pub(crate) enum Difference {
     /// The row has no result.
-    Fault(Fault),
+    RowError(RowError),
     /// The result is another one.
     Answer { expected: Words, got: Words },
 }
 
-impl From<Fault> for Difference {
-    fn from(fault: Fault) -> Difference {
-        Difference::Fault(fault)
+impl From<RowError> for Difference {
+    fn from(fault: RowError) -> Difference {
+        Difference::RowError(fault)
     }
 }
 
@@ -59,10 +59,10 @@ impl Row<'_> {
     /// Compares the result with the expected one.
     pub(crate) fn check(&self, alloc: Global) -> Result<(), Difference> {
         let Some((asked, wanted)) = self.text.split_once(" -> ") else {
-            return Err(Difference::Fault(Fault::NoArrow));
+            return Err(Difference::RowError(RowError::NoArrow));
         };
         let expected = canonical(alloc, wanted)?;
-        let got = answer(alloc, asked)?;
+        let got = evaluate(alloc, asked)?;
         if got.as_str() == expected.as_str() {
             Ok(())
         } else {
@@ -72,7 +72,7 @@ impl Row<'_> {
 }
 
 /// Returns the words with one space between two of them, each escaped as results are.
-fn canonical(alloc: Global, wanted: &str) -> Result<Words, Fault> {
+fn canonical(alloc: Global, wanted: &str) -> Result<Words, RowError> {
     let mut words = Words::new(alloc);
     for word in wanted.split(' ') {
         if !word.is_empty() {

@@ -51,7 +51,7 @@ fn report_failures<O: Write>(alloc: Global, rows: &[Row<'_>], out: &mut O) -> io
 fn print_failure<O: Write>(row: &Row<'_>, difference: &Difference, out: &mut O) -> io::Result<()> {
     let (file, line) = (row.file, row.line);
     match difference {
-        Difference::Fault(fault) => writeln!(out, "fail {file}:{line}: {fault}"),
+        Difference::RowError(fault) => writeln!(out, "fail {file}:{line}: {fault}"),
         Difference::Answer { expected, got } => {
             let (expected, got) = (expected.as_str(), got.as_str());
             writeln!(out, "fail {file}:{line}: expected {expected}, got {got}")

@@ -1,4 +1,4 @@
-//! The calls that are counted: none is inlined, and each returns its whole answer.
+//! The calls that are counted: none is inlined, and each returns its whole result.
 use fluent_uri::normalize::{Normalizer, SchemeDefaults};
 use fluent_uri::pct_enc::encoder::{Data, IPath, Path};
 use fluent_uri::pct_enc::{CowStr, EStr, EString};
@@ -7,46 +7,56 @@ use fluent_uri::{Iri, IriRef, ParseError, Uri, UriRef};
 use std::alloc::Global;
 use uri_links::links::{Outcome, Register};
 
+/// A counted call: parses a text as a URI.
 #[inline(never)]
 pub fn parse_uri(text: &str) -> Result<Uri<&str>, ParseError> {
     Uri::<&str>::parse(text)
 }
 
+/// A counted call: parses a text as a URI reference.
 #[inline(never)]
 pub fn parse_uri_ref(text: &str) -> Result<UriRef<&str>, ParseError> {
     UriRef::<&str>::parse(text)
 }
 
+/// A counted call: parses a text as an IRI.
 #[inline(never)]
 pub fn parse_iri(text: &str) -> Result<Iri<&str>, ParseError> {
     Iri::<&str>::parse(text)
 }
 
+/// A counted call: parses a text as an IRI reference.
 #[inline(never)]
 pub fn parse_iri_ref(text: &str) -> Result<IriRef<&str>, ParseError> {
     IriRef::<&str>::parse(text)
 }
 
+/// A counted call: parses a text as a URI and normalises it. `None` if either fails.
 #[inline(never)]
 pub fn normalize_uri(alloc: Global, text: &str) -> Option<Uri<String>> {
     Uri::<&str>::parse(text).ok()?.normalize(alloc).ok()
 }
 
+/// A counted call: parses a text as a URI reference and normalises it. `None` if either fails.
 #[inline(never)]
 pub fn normalize_uri_ref(alloc: Global, text: &str) -> Option<UriRef<String>> {
     UriRef::<&str>::parse(text).ok()?.normalize(alloc).ok()
 }
 
+/// A counted call: parses a text as an IRI and normalises it. `None` if either fails.
 #[inline(never)]
 pub fn normalize_iri(alloc: Global, text: &str) -> Option<Iri<String>> {
     Iri::<&str>::parse(text).ok()?.normalize(alloc).ok()
 }
 
+/// A counted call: parses a text as an IRI reference and normalises it. `None` if either fails.
 #[inline(never)]
 pub fn normalize_iri_ref(alloc: Global, text: &str) -> Option<IriRef<String>> {
     IriRef::<&str>::parse(text).ok()?.normalize(alloc).ok()
 }
 
+/// A counted call: parses a URI and a URI reference, and resolves the second against the first.
+/// `None` if one of these fails.
 #[inline(never)]
 pub fn resolve_uri(alloc: Global, base: &str, reference: &str) -> Option<Uri<String>> {
     let base = Uri::<&str>::parse(base).ok()?;
@@ -54,6 +64,8 @@ pub fn resolve_uri(alloc: Global, base: &str, reference: &str) -> Option<Uri<Str
     reference.resolve_against(alloc, &base).ok()
 }
 
+/// A counted call: parses an IRI and an IRI reference, and resolves the second against the first.
+/// `None` if one of these fails.
 #[inline(never)]
 pub fn resolve_iri(alloc: Global, base: &str, reference: &str) -> Option<Iri<String>> {
     let base = Iri::<&str>::parse(base).ok()?;
@@ -61,6 +73,7 @@ pub fn resolve_iri(alloc: Global, base: &str, reference: &str) -> Option<Iri<Str
     reference.resolve_against(alloc, &base).ok()
 }
 
+/// A counted call: resolves a URI reference against a URI, both parsed. `None` if that fails.
 #[inline(never)]
 pub fn resolve_values(
     alloc: Global,
@@ -70,6 +83,8 @@ pub fn resolve_values(
     reference.resolve_against(alloc, &base).ok()
 }
 
+/// A counted call: parses a URI and a URI reference, and returns the normal form of the target.
+/// `None` if one of them fails.
 #[inline(never)]
 pub fn resolve_normalized(alloc: Global, base: &str, reference: &str) -> Option<Uri<String>> {
     let base = Uri::<&str>::parse(base).ok()?;
@@ -80,11 +95,14 @@ pub fn resolve_normalized(alloc: Global, base: &str, reference: &str) -> Option<
         .ok()
 }
 
+/// A counted call: decodes the path of an IRI to a text. `None` if its bytes are not UTF-8 or an
+/// allocation fails.
 #[inline(never)]
 pub fn decode<'a>(alloc: Global, path: EStr<'a, IPath>) -> Option<CowStr<'a>> {
     path.decode().to_string(alloc).ok()
 }
 
+/// Percent-encodes a text as data of a path. `None` if an allocation fails.
 #[inline(never)]
 pub fn encode(alloc: Global, text: &str) -> Option<EString<Path>> {
     let mut path = EString::<Path>::new(alloc);
@@ -92,12 +110,14 @@ pub fn encode(alloc: Global, text: &str) -> Option<EString<Path>> {
     Some(path)
 }
 
+/// A counted call: parses a text as an IRI and converts it to a URI. `None` if either fails.
 #[inline(never)]
 pub fn to_uri(alloc: Global, text: &str) -> Option<Uri<String>> {
     Iri::<&str>::parse(text).ok()?.to_uri(alloc).ok()
 }
 
-/// The URI put together from its own components, each of which it has.
+/// A counted call: builds a URI of the components of another. `None` if that lacks an authority, a
+/// query or a fragment.
 #[inline(never)]
 pub fn build(alloc: Global, parts: Uri<&str>) -> Option<Uri<String>> {
     Uri::<String>::builder(alloc)
@@ -110,6 +130,8 @@ pub fn build(alloc: Global, parts: Uri<&str>) -> Option<Uri<String>> {
         .ok()
 }
 
+/// A counted call: parses a URI reference, and notes it against the base in a register of links.
+/// `None` if either fails.
 #[inline(never)]
 pub fn note(
     register: &mut Register<SchemeDefaults>,

@@ -10,32 +10,32 @@ use fluent_uri::{Iri, Uri, UriRef};
 use std::alloc::Global;
 use uri_links::links::Register;
 
-/// What a refused text answers, in place of the length of the answer.
-const REFUSED: u64 = u64::MAX;
+/// What is returned for a text that is rejected, in place of the length of a result.
+const REJECTED: u64 = u64::MAX;
 
-/// Makes a call so many times, and answers how long the last answer was.
+/// Makes a call so many times, and returns the length of its last result.
 macro_rules! length_of {
     ($rounds:expr, $call:expr) => {{
-        let mut length = REFUSED;
+        let mut length = REJECTED;
         for _ in 0..$rounds {
             length = match $call {
                 Some(answer) => answer.as_str().len() as u64,
-                None => REFUSED,
+                None => REJECTED,
             };
         }
         length
     }};
 }
 
-/// Does the work so many times with the text, and with the base where it needs one: the numbers of
-/// the works stand in `tools/bench/run`.
+/// Makes a call so many times with the text, and with the base if it needs one. `tools/bench/run`
+/// has the numbers of the calls.
 #[unsafe(no_mangle)]
 pub extern "C" fn bench(alloc: Global, work: u32, text: &[u8], base: &[u8], rounds: u64) -> u64 {
     let Ok(text) = std::str::from_utf8(text) else {
-        return REFUSED;
+        return REJECTED;
     };
     let Ok(base) = std::str::from_utf8(base) else {
-        return REFUSED;
+        return REJECTED;
     };
     match work {
         0 => length_of!(rounds, call::parse_uri(text).ok()),
@@ -55,45 +55,50 @@ pub extern "C" fn bench(alloc: Global, work: u32, text: &[u8], base: &[u8], roun
         14 => length_of!(rounds, call::to_uri(alloc, text)),
         15 => build(alloc, text, rounds),
         16 => links(alloc, base, text, rounds),
-        _ => REFUSED,
+        _ => REJECTED,
     }
 }
 
+/// Resolves a URI reference against a URI in so many rounds, and returns the length of the target,
+/// or `REJECTED`.
 fn resolve_values(alloc: Global, base: &str, reference: &str, rounds: u64) -> u64 {
     let Ok(base) = Uri::<&str>::parse(base) else {
-        return REFUSED;
+        return REJECTED;
     };
     let Ok(reference) = UriRef::<&str>::parse(reference) else {
-        return REFUSED;
+        return REJECTED;
     };
     length_of!(rounds, call::resolve_values(alloc, base, reference))
 }
 
+/// Decodes the path of an IRI in so many rounds, and returns the length of the text, or `REJECTED`.
 fn decode(alloc: Global, text: &str, rounds: u64) -> u64 {
     let Ok(value) = Iri::<&str>::parse(text) else {
-        return REFUSED;
+        return REJECTED;
     };
     length_of!(rounds, call::decode(alloc, value.path()))
 }
 
+/// Builds a URI of the components of another in so many rounds, and returns its length, or
+/// `REJECTED`.
 fn build(alloc: Global, text: &str, rounds: u64) -> u64 {
     let Ok(value) = Uri::<&str>::parse(text) else {
-        return REFUSED;
+        return REJECTED;
     };
     length_of!(rounds, call::build(alloc, value))
 }
 
-/// Notes each line in a new register, and answers how many targets that has then.
+/// Notes each line in a new register, and returns how many targets that has then.
 fn links(alloc: Global, base: &str, lines: &str, rounds: u64) -> u64 {
     let Ok(base) = Uri::<&str>::parse(base) else {
-        return REFUSED;
+        return REJECTED;
     };
-    let mut targets = REFUSED;
+    let mut targets = REJECTED;
     for _ in 0..rounds {
         let mut register = Register::new(alloc, Normalizer::new());
         for line in lines.split('\n') {
             if call::note(&mut register, &base, line).is_none() {
-                return REFUSED;
+                return REJECTED;
             }
         }
         targets = register.len() as u64;

@@ -1,7 +1,7 @@
 pub mod Commands
 pub mod NormalForms
 pub mod Targets
-pub mod Fronts
+pub mod Prefixes
 pub mod Refusals
 pub mod Outputs
 pub mod LinkLines

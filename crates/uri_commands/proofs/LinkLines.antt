@@ -11,25 +11,27 @@ use Rattle.uri_links.specs.Outcomes.{outcomes_of}
 use Rattle.uri_links.specs.declared.links.Outcome.{Outcome}
 use Rattle.uri_commands.specs.Links.{link_lines, outcome_line, outcome_lines}
 
--- the lines of the outcomes are `link_lines` of the references
-pub lines_noted : (ports : PortFunction) (base word : List ℕ)
+-- commands: the lines that `links` prints of the outcomes are those that the references define
+pub outcome_lines-are-link_lines : (ports : PortFunction) (base word : List ℕ)
     (none references words : List (List ℕ)) (outcomes : List Outcome) (registered : List (List ℕ))
     → ports ≡ default_port → base ≡ word → none ≡ [] → references ≡ words
     → outcomes_of ports base none references ≡ (outcomes, registered)
     → outcome_lines registered outcomes ≡ link_lines word words
 unfolding link_lines
-lines_noted ports base word none references words outcomes registered p b n r noted =
+outcome_lines-are-link_lines ports base word none references words outcomes registered p b
+    n r noted =
     let same : outcomes_of default_port word [] words ≡ (outcomes, registered) = cc in
     sym (ap (λ (all : List Outcome × List (List ℕ)). outcome_lines all.1 all.0) same)
 
--- one more line was written
-pub line_written : (registered : List (List ℕ)) (outcomes : List Outcome) (n : ℕ)
+-- commands: after one more line of `links` is written, the lines up to n + 1 are;
+-- a, b, c: what the writer holds
+pub outcome_lines-of-one-more : (registered : List (List ℕ)) (outcomes : List Outcome) (n : ℕ)
     (outcome : Outcome) (a b c : Option (List ℕ))
     → n < length outcomes → outcome ≡ get_or outcomes n outcome
     → Appends a b (outcome_lines registered (take n outcomes))
     → Appends b c (outcome_line registered outcome)
     → Appends a c (outcome_lines registered (take (n + 1) outcomes))
-line_written registered outcomes n outcome a b c h e before now =
+outcome_lines-of-one-more registered outcomes n outcome a b c h e before now =
     let more : outcome_lines registered (take (n + 1) outcomes)
     ≡ outcome_lines registered (take n outcomes) ++ outcome_line registered outcome =
     ap (outcome_lines registered) (take_more outcomes n outcome h)

@@ -20,16 +20,18 @@ module _ {Z : Type 0} (kind : Kind) (first : List ℕ) (others : List (String Z)
       ∙ ap (λ l. first ∷ l) (map-append string_bytes (take n others) (get_or others n word ∷ []))
       ∙ ap (λ t. (first ∷ texts (take n others)) ++ t ∷ []) (ap string_bytes (sym is) ∙ sym same)
 
-  pub read_next : are_of_kind kind (first ∷ texts (take n others)) ≡ true → IsOfKind kind text
+  pub one-more-reference-is-of-kind : are_of_kind kind (first ∷ texts (take n others)) ≡ true
+      → IsOfKind kind text
       → are_of_kind kind (first ∷ texts (take (n + 1) others)) ≡ true
-  read_next before now =
+  one-more-reference-is-of-kind before now =
       ap (are_of_kind kind) next
       ∙ list_all-append (is_of_kind kind) (first ∷ texts (take n others)) (text ∷ [])
       ∙ cc (before, now)
 
-  pub refused_next : (e : ParseError) → are_of_kind kind (first ∷ texts (take n others)) ≡ true
+  pub first-error-is-of-this-word : (e : ParseError)
+      → are_of_kind kind (first ∷ texts (take n others)) ≡ true
       → IsErrorOf kind text e → IsErrorOfFirst kind (first ∷ texts others) e
-  refused_next e before now =
+  first-error-is-of-this-word e before now =
       let at : slice_get (texts others) n ≡ Some text =
       slice_get-map string_bytes others n
       ∙ ap (option_map string_bytes) (slice_get-get_or others n word below ∙ ap Some (sym is))
@@ -42,10 +44,11 @@ module _ {Z : Type 0} (kind : Kind) (first : List ℕ) (others : List (String Z)
         now,
       )
 
-  pub kept_next : {A : Type 0} (text_of : A → List ℕ) (reference : A) (before after : List A)
+  pub one-more-reference-is-kept : {A : Type 0} (text_of : A → List ℕ) (reference : A)
+      (before after : List A)
       → map text_of before ≡ first ∷ texts (take n others) → text_of reference ≡ text
       → after ≡ before ++ reference ∷ [] → map text_of after ≡ first ∷ texts (take (n + 1) others)
-  kept_next text_of reference before after kept t e =
+  one-more-reference-is-kept text_of reference before after kept t e =
       ap (map text_of) e ∙ map-append text_of before (reference ∷ [])
       ∙ ap (λ l. l ++ text_of reference ∷ []) kept
       ∙ ap (λ t. (first ∷ texts (take n others)) ++ t ∷ []) t ∙ sym next

@@ -9,47 +9,61 @@ use Rattle.uri_commands.specs.Commands.{kind_of_base, kind_of_references, normal
 use Rattle.uri_commands.specs.Commands.{target_text}
 use Rattle.uri_commands.specs.Lines.{component_lines}
 use Rattle.uri_commands.specs.Links.{link_lines}
-use Rattle.uri_commands.specs.Refusals.{IsRefusalOf}
+use Rattle.uri_commands.specs.Refusals.{IsErrorOfCommand}
 use Rattle.uri_commands.specs.declared.command.BaseName.{BaseName}
 use Rattle.uri_commands.specs.declared.command.KindName.{KindName}
-use Rattle.uri_commands.specs.declared.refusal.Refusal.{Refusal}
-use Rattle.uri_commands.specs.declared.refusal.Refusal.TheVariants.{OutputFailed}
-use Rattle.uri_commands.proofs.Refusals.{refused_as}
-use Rattle.fluent_uri.proofs.Outcomes.{refused_with}
+use Rattle.uri_commands.specs.declared.refusal.CommandError.{CommandError}
+use Rattle.uri_commands.specs.declared.refusal.CommandError.TheVariants.{OutputFailed}
+use Rattle.uri_commands.proofs.Refusals.{if_err-of-equal-error}
+use Rattle.fluent_uri.proofs.Outcomes.{IfErr-of-only-error}
 
-pub parse_failed : {A : Type 0} (name : KindName) (text : List ℕ) (result : Result A Refusal)
+-- commands: if the output of `parse` cannot be written, that failure is its error,
+-- as the text is of its kind
+pub failed-output-is-error-of-parse : {A : Type 0} (name : KindName) (text : List ℕ)
+    (result : Result A CommandError)
     → IsOfKind (kind_named name) text
-    → IsErrAnd result (λ why. why ≡ OutputFailed) → IfErr result (IsRefusalOf (Parse name text))
-parse_failed name text result is given =
-    refused_with (IsRefusalOf (Parse name text)) result OutputFailed given (
+    → IsErrAnd result (λ why. why ≡ OutputFailed)
+    → IfErr result (IsErrorOfCommand (Parse name text))
+failed-output-is-error-of-parse name text result is given =
+    IfErr-of-only-error (IsErrorOfCommand (Parse name text)) result OutputFailed given (
       component_lines (components text),
       ap
           (λ b. if b then Some (component_lines (components text)) else None) is,
     )
 
-pub normalize_failed : {A : Type 0} (name : KindName) (text : List ℕ) (result : Result A Refusal)
+-- commands: if the output of `normalize` cannot be written, that failure is its error,
+-- as the text is of its kind
+pub failed-output-is-error-of-normalize : {A : Type 0} (name : KindName) (text : List ℕ)
+    (result : Result A CommandError)
     → IsOfKind (kind_named name) text
-    → IfErr result (λ why. why ≡ OutputFailed) → IfErr result (IsRefusalOf (Normalize name text))
-normalize_failed name text result is given =
+    → IfErr result (λ why. why ≡ OutputFailed)
+    → IfErr result (IsErrorOfCommand (Normalize name text))
+failed-output-is-error-of-normalize name text result is given =
     let lines = normal_form_of (kind_named name) text ++ codes "\n" in
-    refused_as (IsRefusalOf (Normalize name text)) result OutputFailed given
+    if_err-of-equal-error (IsErrorOfCommand (Normalize name text)) result OutputFailed given
     (lines, ap (λ b. if b then Some lines else None) is)
 
-pub resolve_failed : {A : Type 0} (name : BaseName) (base reference target : List ℕ)
-    (result : Result A Refusal)
+-- commands: if the output of `resolve` cannot be written, that failure is its error, as the texts
+-- are of their kinds and have a target
+pub failed-output-is-error-of-resolve : {A : Type 0} (name : BaseName)
+    (base reference target : List ℕ)
+    (result : Result A CommandError)
     → IsOfKind (kind_of_base name) base → IsOfKind (kind_of_references name) reference
     → target_text base reference ≡ Some target
     → IfErr result (λ why. why ≡ OutputFailed)
-    → IfErr result (IsRefusalOf (Resolve name base reference))
-resolve_failed name base reference target result b r t given =
-    refused_as (IsRefusalOf (Resolve name base reference)) result OutputFailed given
+    → IfErr result (IsErrorOfCommand (Resolve name base reference))
+failed-output-is-error-of-resolve name base reference target result b r t given =
+    if_err-of-equal-error (IsErrorOfCommand (Resolve name base reference)) result OutputFailed given
     (target ++ codes "\n", cc (b, r, t))
 
-pub links_failed : {A : Type 0} (base reference : List ℕ) (others : List (List ℕ))
-    (result : Result A Refusal)
+-- commands: if the output of `links` cannot be written, that failure is its error,
+-- as the texts are of their kinds
+pub failed-output-is-error-of-links : {A : Type 0} (base reference : List ℕ)
+    (others : List (List ℕ))
+    (result : Result A CommandError)
     → IsOfKind uri base → are_of_kind uri_ref (reference ∷ others) ≡ true
     → IsErrAnd result (λ why. why ≡ OutputFailed)
-    → IfErr result (IsRefusalOf (Links base reference others))
-links_failed base reference others result b r given =
-    refused_with (IsRefusalOf (Links base reference others)) result OutputFailed given
+    → IfErr result (IsErrorOfCommand (Links base reference others))
+failed-output-is-error-of-links base reference others result b r given =
+    IfErr-of-only-error (IsErrorOfCommand (Links base reference others)) result OutputFailed given
     (link_lines base (reference ∷ others), cc (b, r))

@@ -6,43 +6,46 @@ use Rattle.fluent_uri.specs.Grammar.{Kind, IsOfKind}
 use Rattle.fluent_uri.specs.Refusals.{refusal}
 use Rattle.fluent_uri.specs.declared.ParseError.{ParseError}
 use Rattle.uri_commands.specs.Refusals.{IsErrorOf}
-use Rattle.fluent_uri.proofs.Outcomes.{refused_with}
+use Rattle.fluent_uri.proofs.Outcomes.{IfErr-of-only-error}
 
-pub refused_as : {A B : Type 0} (P : B → Type 0) (result : Result A B) (e : B)
+-- general fact on errors: what holds of e holds of an error that can only be e;
+-- used for the errors of commands
+pub if_err-of-equal-error : {A B : Type 0} (P : B → Type 0) (result : Result A B) (e : B)
     → IfErr result (λ x. x ≡ e) → P e → IfErr result P
-refused_as P (Ok a) e is p = tt
-refused_as P (Err x) e is p = subst P (sym is) p
+if_err-of-equal-error P (Ok a) e is p = tt
+if_err-of-equal-error P (Err x) e is p = subst P (sym is) p
 
--- the error of a text, as it is returned; `kind` is how the text was parsed and `named` what the
--- words name, and an equation relates the two
-pub text_refused : {A B : Type 0} (P : B → Type 0) (told : ParseError → B)
+-- commands: the error of a text, as it is returned;
+-- `kind` is how the text was parsed and `named` what the words name
+pub parse-error-is-of-text : {A B : Type 0} (P : B → Type 0) (shown : ParseError → B)
     (named kind : Kind) (text : List ℕ) (result : Result A B) (e : ParseError)
-    → ((x : ParseError) → IsErrorOf named text x → P (told x))
+    → ((x : ParseError) → IsErrorOf named text x → P (shown x))
     → named ≡ kind → refusal kind text ≡ Some e
-    → IsErrAnd result (λ x. x ≡ told e) → IfErr result P
-text_refused P told named kind text result e is same error given =
-    refused_with P result (told e) given
+    → IsErrAnd result (λ x. x ≡ shown e) → IfErr result P
+parse-error-is-of-text P shown named kind text result e is same error given =
+    IfErr-of-only-error P result (shown e) given
     (is e (subst (λ k. IsErrorOf k text e) (sym same) error))
 
--- the same for an error that `map_err` made
-pub mapped_refused : {A B C : Type 0} (P : B → Type 0) (told : ParseError → B) (kind : Kind)
+-- commands: the error of a text that map_err made of a parse error is the one that is returned
+pub mapped-parse-error-is-of-text : {A B C : Type 0} (P : B → Type 0) (shown : ParseError → B)
+    (kind : Kind)
     (text : List ℕ) (parsed : Result A ParseError) (mapped : Result A B) (result : Result C B)
     (why : B)
-    → ((e : ParseError) → IsErrorOf kind text e → P (told e))
+    → ((e : ParseError) → IsErrorOf kind text e → P (shown e))
     → IfErr parsed (λ e. refusal kind text ≡ Some e)
-    → MatchResult parsed (λ x. mapped ≡ Ok x) (λ e. IsErrAnd mapped (λ y. y ≡ told e))
+    → MatchResult parsed (λ x. mapped ≡ Ok x) (λ e. IsErrAnd mapped (λ y. y ≡ shown e))
     → mapped ≡ Err why → IsErrAnd result (λ y. y ≡ why) → IfErr result P
-mapped_refused P told kind text (Ok x) mapped result why is error cases was given =
+mapped-parse-error-is-of-text P shown kind text (Ok x) mapped result why is error cases was given =
     cc (sym cases ∙ was)
-mapped_refused P told kind text (Err e) mapped result why is error cases was given =
-    let same : why ≡ told e = subst (λ m. IsErrAnd m (λ y. y ≡ told e)) was cases in
-    refused_with P result why given
+mapped-parse-error-is-of-text P shown kind text (Err e) mapped result why is error cases was given =
+    let same : why ≡ shown e = subst (λ m. IsErrAnd m (λ y. y ≡ shown e)) was cases in
+    IfErr-of-only-error P result why given
     (subst P (sym same) (is e error))
 
--- a text that was parsed is of its kind
-pub mapped_parsed : {A B E : Type 0} (kind : Kind) (text : List ℕ) (parsed : Result A E)
+-- commands: a text that was parsed, and its value mapped, is of its kind
+pub mapped-ok-is-of-kind : {A B E : Type 0} (kind : Kind) (text : List ℕ) (parsed : Result A E)
     (mapped : Result A B) (value : A)
     → (IsOk parsed ↔ IsOfKind kind text) → is_ok mapped ≡ is_ok parsed → mapped ≡ Ok value
     → IsOfKind kind text
-mapped_parsed kind text parsed mapped value accepts variant was =
+mapped-ok-is-of-kind kind text parsed mapped value accepts variant was =
     accepts.0 (sym variant ∙ ap is_ok was)

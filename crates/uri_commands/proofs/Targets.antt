@@ -6,16 +6,20 @@ use Rattle.fluent_uri.specs.Components.{components}
 use Rattle.fluent_uri.specs.Target.{resolution_of}
 use Rattle.uri_commands.specs.Commands.{target_text}
 
-target_is : (base reference target : List ℕ)
+-- commands: a text that is the target is the one that `resolve` prints
+target_text-of-resolution : (base reference target : List ℕ)
     → resolution_of (components base) (components reference) ≡ Ok target
     → target_text base reference ≡ Some target
 unfolding target_text
-target_is base reference target is = ap result_ok is
+target_text-of-resolution base reference target is = ap result_ok is
 
-pub target_answered : {A B : Type 0} (text_of : A → List ℕ) (base reference : List ℕ)
+-- commands: a returned target is the text that `resolve` prints
+pub target_text-of-resolved : {A B : Type 0} (text_of : A → List ℕ) (base reference : List ℕ)
     (result : Result A B)
     → IfOk result (λ target. resolution_of (components base) (components reference)
     ≡ Ok (text_of target))
     → IfOk result (λ target. target_text base reference ≡ Some (text_of target))
-target_answered text_of base reference (Ok target) is = target_is base reference (text_of target) is
-target_answered text_of base reference (Err error) is = is
+target_text-of-resolved text_of base reference (Ok target) is = target_text-of-resolution base
+    reference (text_of target)
+    is
+target_text-of-resolved text_of base reference (Err error) is = is

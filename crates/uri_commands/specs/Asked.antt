@@ -3,9 +3,10 @@ use Rattle.uri_commands.specs.Commands.{Command, Parse, Normalize, Resolve, Link
 use Rattle.uri_commands.specs.declared.command.Command.{Command as Words}
 use Rattle.uri_commands.specs.declared.command.Command.TheVariants as words
 
--- a command of the program, as the `Command` of contracts
-abbrev pub asked : Words → Command
-asked (words.Parse name text) = Parse name text.now
-asked (words.Normalize name text) = Normalize name text.now
-asked (words.Resolve name base reference) = Resolve name base.now reference.now
-asked (words.Links base reference others) = Links base.now reference.now (texts others.now)
+-- the command as contracts name it, with its texts as bytes, for one that `uritool` parsed
+abbrev pub contract_command : Words → Command
+contract_command (words.Parse name text) = Parse name text.now
+contract_command (words.Normalize name text) = Normalize name text.now
+contract_command (words.Resolve name base reference) = Resolve name base.now reference.now
+contract_command (words.Links base reference others) = Links base.now reference.now
+    (texts others.now)

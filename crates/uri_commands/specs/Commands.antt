@@ -17,51 +17,56 @@ use Rattle.uri_commands.specs.declared.command.BaseName.TheVariants as bases
 use Rattle.uri_commands.specs.declared.command.KindName.{KindName}
 use Rattle.uri_commands.specs.declared.command.KindName.TheVariants.{Uri, UriRef, Iri, IriRef}
 
+-- the kind that a name on the command line of `uritool` stands for
 abbrev pub kind_named : KindName → Kind
 kind_named Uri = uri
 kind_named UriRef = uri_ref
 kind_named Iri = iri
 kind_named IriRef = iri_ref
 
+-- the word for a kind on the command line of `uritool`
 abbrev pub word_of_kind : KindName → List ℕ
 word_of_kind Uri = codes "uri"
 word_of_kind UriRef = codes "uri-ref"
 word_of_kind Iri = codes "iri"
 word_of_kind IriRef = codes "iri-ref"
 
+-- the kind of a base, by its name on the command line of `uritool`
 abbrev pub kind_of_base : BaseName → Kind
 kind_of_base bases.Uri = uri
 kind_of_base bases.Iri = iri
 
--- the kind of its references
+-- the kind of the references to a base, by the base's name on the command line of `uritool`
 abbrev pub kind_of_references : BaseName → Kind
 kind_of_references bases.Uri = uri_ref
 kind_of_references bases.Iri = iri_ref
 
+-- the word for a kind of base on the command line of `uritool`
 abbrev pub word_of_base : BaseName → List ℕ
 word_of_base bases.Uri = codes "uri"
 word_of_base bases.Iri = codes "iri"
 
--- `parse KIND TEXT`, `normalize KIND TEXT`, `resolve uri|iri BASE REF`, and `links BASE REF...`
--- with its first reference and the others
+-- A command of `uritool`, with its kind and its texts in the order of the command line.
+-- They are `parse KIND TEXT`, `normalize KIND TEXT`, `resolve uri|iri BASE REF`, and `links BASE
+-- REF...` with its first reference and the others.
 pub data Command : Type 0 where
   Parse : KindName → List ℕ → Command
   Normalize : KindName → List ℕ → Command
   Resolve : BaseName → List ℕ → List ℕ → Command
   Links : List ℕ → List ℕ → List (List ℕ) → Command
 
--- the words of a command
+-- the words of the command line of `uritool` for a command
 abbrev pub words_of : Command → List (List ℕ)
 words_of (Parse name text) = codes "parse" ∷ word_of_kind name ∷ text ∷ []
 words_of (Normalize name text) = codes "normalize" ∷ word_of_kind name ∷ text ∷ []
 words_of (Resolve name base reference) = codes "resolve" ∷ word_of_base name ∷ base ∷ reference ∷ []
 words_of (Links base reference others) = codes "links" ∷ base ∷ reference ∷ others
 
--- the normal form of a text of the kind, under the default ports of the schemes
+-- the normal form of a text of the kind, under the default ports of the schemes (section 6.2.2)
 unfoldable pub normal_form_of : Kind → List ℕ → List ℕ
 normal_form_of kind text = normal_text (meaning_of kind default_port text)
 
--- the target of a reference against a base, if it has one
+-- the target of a base and a reference, in this order, if there is one (section 5.2)
 unfoldable pub target_text : List ℕ → List ℕ → Option (List ℕ)
 target_text base reference = result_ok (resolution_of (components base) (components reference))
 
@@ -69,7 +74,7 @@ target_text base reference = result_ok (resolution_of (components base) (compone
 abbrev pub are_of_kind : Kind → List (List ℕ) → Bool
 are_of_kind kind texts = list_all (is_of_kind kind) texts
 
--- the output of a command, or `None` if it fails
+-- what `uritool` prints for a command, or `None` if it fails
 abbrev pub output_of : Command → Option (List ℕ)
 output_of (Parse name text) =
     if is_of_kind (kind_named name) text then Some (component_lines (components text)) else None
@@ -84,19 +89,21 @@ output_of (Links base reference others) =
     if is_of_kind uri base && are_of_kind uri_ref (reference ∷ others)
     then Some (link_lines base (reference ∷ others)) else None
 
--- the bytes of the words
+-- the bytes of the words of a command line
 abbrev pub texts : {Z : Type 0} → List (String Z) → List (List ℕ)
 texts words = map string_bytes words
 
+-- the words of a command line are those of a command of `uritool`
 abbrev pub IsCommand : List (List ℕ) → Type 0
 IsCommand words = (command : Command) × (words ≡ words_of command)
 
--- the words are those of `links`
-abbrev pub AreLinks : List (List ℕ) → Type 0
-AreLinks words =
+-- the words of a command line are those of the command `links` of `uritool`
+abbrev pub AreWordsOfLinks : List (List ℕ) → Type 0
+AreWordsOfLinks words =
     (base : List ℕ) × (reference : List ℕ) × (others : List (List ℕ))
     × (words ≡ words_of (Links base reference others))
 
--- known bytes grow by the output of the command
+-- the bytes of a writer, before and after, grow by the output of the command of `uritool`, which
+-- has one
 abbrev pub Prints : Option (List ℕ) → Option (List ℕ) → Command → Type 0
 Prints old new command = (lines : List ℕ) × (output_of command ≡ Some lines) × Appends old new lines

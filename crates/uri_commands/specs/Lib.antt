@@ -6,7 +6,7 @@ pub mod Commands
 pub mod Asked
 pub mod Refusals
 pub mod Ends
-pub mod Fronts
+pub mod Prefixes
 pub mod NotedLinks
 pub use Rattle.fluent_uri.specs.Components
 pub use Rattle.fluent_uri.specs.Errors

@@ -6,25 +6,28 @@ use Rattle.uri_links.specs.declared.links.Outcome.{Outcome}
 use Rattle.uri_links.specs.declared.links.Outcome.TheVariants.{New, Known, Refused}
 use Rattle.uri_commands.specs.Messages.{resolve_error_text}
 
--- the line of a target: a word, its id, its text and a newline
+-- the line that `uritool links` prints for a target: a word, its id, its text and a newline
 abbrev pub target_line : List ℕ → ℕ → List ℕ → List ℕ
 target_line word id text = word ++ codes " " ++ decimal id ++ codes " " ++ text ++ codes "\n"
 
--- the registered text with this id
+-- the text with this id in a register of links
 abbrev pub text_at : List (List ℕ) → ℕ → List ℕ
 text_at registered id = unwrap_or (slice_get registered id) []
 
--- the line of an outcome, whose id is an index into the registered texts
+-- the line that `uritool links` prints for an outcome, whose id is an index into the registered
+-- texts
 abbrev pub outcome_line : List (List ℕ) → Outcome → List ℕ
 outcome_line registered (New id) = target_line (codes "new") id (text_at registered id)
 outcome_line registered (Known id) = target_line (codes "known") id (text_at registered id)
 outcome_line registered (Refused error) = codes "refused " ++ resolve_error_text error ++ codes "\n"
 
+-- the lines that `uritool links` prints for outcomes, whose ids are indices into the registered
+-- texts
 abbrev pub outcome_lines : List (List ℕ) → List Outcome → List ℕ
 outcome_lines registered outcomes = flat_map (outcome_line registered) outcomes
 
--- the lines of the references, which are noted in an empty register under the default ports of the
--- schemes
+-- The lines that `uritool links` prints for references to a base, the first argument.
+-- They are noted in an empty register under the default ports of the schemes.
 unfoldable pub link_lines : List ℕ → List (List ℕ) → List ℕ
 link_lines base references =
     let noted = outcomes_of default_port base [] references in outcome_lines noted.1 noted.0

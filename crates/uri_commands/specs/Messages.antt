@@ -1,6 +1,6 @@
 -- The messages for a text that is not of its kind, and for a reference that has no target.
 use Rattle.std.specs.Prelude.{ℕ, List, ◌++◌, codes, decimal}
-use Rattle.fluent_uri.specs.Errors.{index_of, fault_of}
+use Rattle.fluent_uri.specs.Errors.{error_index, error_kind_of}
 use Rattle.fluent_uri.specs.declared.ParseError.{ParseError}
 use Rattle.fluent_uri.specs.declared.ParseErrorKind.{ParseErrorKind}
 use Rattle.fluent_uri.specs.declared.ParseErrorKind.TheVariants.{InvalidPctEncodedOctet}
@@ -8,14 +8,17 @@ use Rattle.fluent_uri.specs.declared.ParseErrorKind.TheVariants.{UnexpectedChar,
 use Rattle.fluent_uri.specs.declared.resolve.ResolveError.{ResolveError}
 use Rattle.fluent_uri.specs.declared.resolve.ResolveError.TheVariants as resolve_errors
 
-abbrev pub fault_text : ParseErrorKind → List ℕ
-fault_text InvalidPctEncodedOctet = codes "invalid percent-encoded octet"
-fault_text UnexpectedChar = codes "unexpected character"
-fault_text InvalidIpv6Addr = codes "invalid IPv6 address"
+-- what a kind of parse error prints, without its index
+abbrev pub error_kind_text : ParseErrorKind → List ℕ
+error_kind_text InvalidPctEncodedOctet = codes "invalid percent-encoded octet"
+error_kind_text UnexpectedChar = codes "unexpected character"
+error_kind_text InvalidIpv6Addr = codes "invalid IPv6 address"
 
+-- what a parse error prints: its kind and its index
 abbrev pub error_text : ParseError → List ℕ
-error_text e = fault_text (fault_of e) ++ codes " at index " ++ decimal (index_of e)
+error_text e = error_kind_text (error_kind_of e) ++ codes " at index " ++ decimal (error_index e)
 
+-- what an error of resolving prints: why a reference has no target
 abbrev pub resolve_error_text : ResolveError → List ℕ
 resolve_error_text resolve_errors.BaseWithFragment = codes "base should not have fragment"
 resolve_error_text resolve_errors.InvalidReferenceAgainstOpaqueBase =

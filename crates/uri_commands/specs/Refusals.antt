@@ -3,57 +3,61 @@ use Rattle.std.specs.Prelude.{◌≡◌, ℕ, List, ◌∷◌, ◌++◌, codes, 
 use Rattle.fluent_uri.specs.Components.{components}
 use Rattle.fluent_uri.specs.Grammar.{Kind, IsOfKind, uri, uri_ref}
 use Rattle.fluent_uri.specs.Refusals.{refusal}
-use Rattle.fluent_uri.specs.Resolving.{IsRefusalFor}
+use Rattle.fluent_uri.specs.Resolving.{IsErrorWithUnderflowAllowed}
 use Rattle.uri_commands.specs.Commands.{Command, Parse, Normalize, Resolve, Links, are_of_kind}
 use Rattle.uri_commands.specs.Commands.{kind_named, kind_of_base, kind_of_references, output_of}
 use Rattle.uri_commands.specs.Messages.{error_text, resolve_error_text}
-use Rattle.uri_commands.specs.declared.refusal.Refusal.{Refusal}
-use Rattle.uri_commands.specs.declared.refusal.Refusal.TheVariants.{Text, Base, Reference, Target}
-use Rattle.uri_commands.specs.declared.refusal.Refusal.TheVariants.{OutOfMemory, OutputFailed}
+use Rattle.uri_commands.specs.declared.refusal.CommandError.{CommandError}
+use Rattle.uri_commands.specs.declared.refusal.CommandError.TheVariants.{Text, Base, Reference}
+use Rattle.uri_commands.specs.declared.refusal.CommandError.TheVariants.{Target}
+use Rattle.uri_commands.specs.declared.refusal.CommandError.TheVariants.{OutOfMemory, OutputFailed}
 use Rattle.fluent_uri.specs.declared.ParseError.{ParseError}
 
-abbrev pub message : Refusal → List ℕ
-message (Text e) = error_text e
-message (Base e) = codes "base: " ++ error_text e
-message (Reference e) = codes "reference: " ++ error_text e
-message (Target e) = resolve_error_text e
-message OutOfMemory = codes "out of memory"
-message OutputFailed = codes "output failed"
+-- the text of an error of a command of `uritool`, without `error: ` before it
+abbrev pub command_error_text : CommandError → List ℕ
+command_error_text (Text e) = error_text e
+command_error_text (Base e) = codes "base: " ++ error_text e
+command_error_text (Reference e) = codes "reference: " ++ error_text e
+command_error_text (Target e) = resolve_error_text e
+command_error_text OutOfMemory = codes "out of memory"
+command_error_text OutputFailed = codes "output failed"
 
-abbrev pub error_line : Refusal → List ℕ
-error_line why = codes "error: " ++ message why ++ codes "\n"
+-- the line on the error output of `uritool` that reports a command's error
+abbrev pub error_line : CommandError → List ℕ
+error_line why = codes "error: " ++ command_error_text why ++ codes "\n"
 
--- the line for words that make no command
+-- the line on the error output of `uritool` for words that make no command
 abbrev pub usage_line : List ℕ
 usage_line = codes "usage: uritool parse KIND TEXT | normalize KIND TEXT | resolve uri|iri BASE REF | links BASE REF...\n"
 
--- this is the error of the text, which is not of the kind
+-- the text is not of the kind, and this is its parse error
 abbrev pub IsErrorOf : Kind → List ℕ → ParseError → Type 0
 IsErrorOf kind text e = refusal kind text ≡ Some e
 
--- this is the error of the first text that is not of the kind
+-- one of the texts is not of the kind, and this is the parse error of the first such text
 abbrev pub IsErrorOfFirst : Kind → List (List ℕ) → ParseError → Type 0
 IsErrorOfFirst kind texts e = (n : ℕ) × (text : List ℕ)
     × (slice_get texts n ≡ Some text) × (are_of_kind kind (take n texts) ≡ true)
     × IsErrorOf kind text e
 
--- this is why the command fails: a base is parsed before its references, and all references are
--- parsed before any is resolved or noted
-abbrev pub IsRefusalOf : Command → Refusal → Type 0
-IsRefusalOf (Parse name text) (Text e) = IsErrorOf (kind_named name) text e
-IsRefusalOf (Normalize name text) (Text e) = IsErrorOf (kind_named name) text e
-IsRefusalOf (Normalize name text) OutOfMemory = IsOfKind (kind_named name) text
-IsRefusalOf (Resolve name base reference) (Base e) = IsErrorOf (kind_of_base name) base e
-IsRefusalOf (Resolve name base reference) (Reference e) =
+-- The command of `uritool` fails with this error.
+-- A base is parsed before its references, and all references are parsed before any is resolved or
+-- noted.
+abbrev pub IsErrorOfCommand : Command → CommandError → Type 0
+IsErrorOfCommand (Parse name text) (Text e) = IsErrorOf (kind_named name) text e
+IsErrorOfCommand (Normalize name text) (Text e) = IsErrorOf (kind_named name) text e
+IsErrorOfCommand (Normalize name text) OutOfMemory = IsOfKind (kind_named name) text
+IsErrorOfCommand (Resolve name base reference) (Base e) = IsErrorOf (kind_of_base name) base e
+IsErrorOfCommand (Resolve name base reference) (Reference e) =
     IsOfKind (kind_of_base name) base × IsErrorOf (kind_of_references name) reference e
-IsRefusalOf (Resolve name base reference) (Target e) =
+IsErrorOfCommand (Resolve name base reference) (Target e) =
     IsOfKind (kind_of_base name) base × IsOfKind (kind_of_references name) reference
-    × IsRefusalFor (components base) (components reference) e
-IsRefusalOf (Links base reference others) (Base e) = IsErrorOf uri base e
-IsRefusalOf (Links base reference others) (Reference e) =
+    × IsErrorWithUnderflowAllowed (components base) (components reference) e
+IsErrorOfCommand (Links base reference others) (Base e) = IsErrorOf uri base e
+IsErrorOfCommand (Links base reference others) (Reference e) =
     IsOfKind uri base × IsErrorOfFirst uri_ref (reference ∷ others) e
-IsRefusalOf (Links base reference others) OutOfMemory =
+IsErrorOfCommand (Links base reference others) OutOfMemory =
     IsOfKind uri base × (are_of_kind uri_ref (reference ∷ others) ≡ true)
 -- the command has an output, and writing it failed
-IsRefusalOf command OutputFailed = (lines : List ℕ) × (output_of command ≡ Some lines)
-IsRefusalOf command why = ⊥
+IsErrorOfCommand command OutputFailed = (lines : List ℕ) × (output_of command ≡ Some lines)
+IsErrorOfCommand command why = ⊥

@@ -1,8 +1,9 @@
 //! The command that the words of a command line make.
 ghost use Rattle.std.specs.Prelude.{◌≡◌, ◌≢◌, MatchOption};
-ghost use Rattle.uri_commands.specs.Commands.{AreLinks, IsCommand, word_of_base, word_of_kind};
+ghost use Rattle.uri_commands.specs.Commands.{AreWordsOfLinks, IsCommand, word_of_base};
+ghost use Rattle.uri_commands.specs.Commands.{word_of_kind};
 ghost use Rattle.uri_commands.specs.Commands.{words_of, texts};
-ghost use Rattle.uri_commands.specs.Asked.{asked};
+ghost use Rattle.uri_commands.specs.Asked.{contract_command};
 
 /// A kind, by its name on the command line.
 #[derive(Clone, Copy)]
@@ -43,7 +44,7 @@ impl<'a> Command<'a> {
     /// Returns the command that the words make, or `None` exactly if they make none.
     pub fn from_words(words: &'a [String]) -> Option<Command<'a>>
         ensures { MatchOption result (¬ IsCommand (texts words.now))
-            (λ c. texts words.now ≡ words_of (asked c)) }
+            (λ c. texts words.now ≡ words_of (contract_command c)) }
     {
         match words {
             [command, kind, text] if command.as_str() == "parse" => {
@@ -61,9 +62,10 @@ impl<'a> Command<'a> {
     }
 }
 
+/// Returns the command `links` of the words, if they make it.
 fn links_from_words(words: &[String]) -> Option<Command<'_>>
-    ensures { MatchOption result (¬ AreLinks (texts words.now))
-        (λ c. texts words.now ≡ words_of (asked c)) }
+    ensures { MatchOption result (¬ AreWordsOfLinks (texts words.now))
+        (λ c. texts words.now ≡ words_of (contract_command c)) }
 {
     match words {
         [command, base, reference, others @ ..] if command.as_str() == "links" => {
@@ -73,6 +75,7 @@ fn links_from_words(words: &[String]) -> Option<Command<'_>>
     }
 }
 
+/// Returns the kind with this name, if there is one.
 fn kind_named(word: &str) -> Option<KindName>
     ensures { MatchOption result ((k : _) → word.now ≢ word_of_kind k)
         (λ k. word.now ≡ word_of_kind k) }
@@ -86,6 +89,7 @@ fn kind_named(word: &str) -> Option<KindName>
     }
 }
 
+/// Returns the kind of base with this name, if there is one.
 fn base_named(word: &str) -> Option<BaseName>
     ensures { MatchOption result ((k : _) → word.now ≢ word_of_base k)
         (λ k. word.now ≡ word_of_base k) }

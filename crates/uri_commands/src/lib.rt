@@ -8,4 +8,4 @@ mod normal;
 pub mod refusal;
 pub mod run;
 mod target;
-mod told;
+mod write_text;

@@ -28,6 +28,7 @@ impl<'a> From<IriRef<&'a str>> for Texts<'a> {
     ghost from_gives = { λ reference texts.
         components_in texts ≡ components (iri_ref_text reference) };
 
+    /// Returns the texts of the components of an IRI reference.
     fn from(iri_ref: IriRef<&'a str>) -> Texts<'a> {
         Texts {
             scheme: iri_ref.scheme().map(Scheme::as_str),
@@ -54,6 +55,7 @@ impl Texts<'_> {
     }
 }
 
+/// Writes the line of a component: its name, `=` and its text.
 fn write_line<O: Write>(out: &mut O, name: &str, text: &str) -> io::Result<()>
     ensures { OnOk result (Appends (O.contents out.old) (O.contents out.new)
         (line name.now text.now)) }
@@ -61,6 +63,7 @@ fn write_line<O: Write>(out: &mut O, name: &str, text: &str) -> io::Result<()>
     writeln!(out, "{name}={text}")
 }
 
+/// Writes the line of a component, if it is present.
 fn write_optional<O: Write>(out: &mut O, name: &str, text: Option<&str>) -> io::Result<()>
     ensures { OnOk result (Appends (O.contents out.old) (O.contents out.new)
         (optional_line name.now (option_map (λ t. t.now) text.entry))) }

@@ -5,16 +5,16 @@ ghost use Rattle.std.specs.Prelude.{length, map, true, codes};
 ghost use Rattle.std.specs.Io.KnownBytes.{Appends};
 ghost use Rattle.fluent_uri.specs.Grammar.{IsOfKind, uri, uri_ref};
 ghost use Rattle.fluent_uri.specs.Uris.{uri_ref_text};
-ghost use Rattle.uri_links.specs.OutcomesInWords.{HasText};
+ghost use Rattle.uri_links.specs.OutcomesInWords.{IdIsInRange};
 ghost use Rattle.uri_links.specs.Registers.{texts_of};
 ghost use Rattle.uri_commands.specs.Commands.{Links, are_of_kind, texts};
 ghost use Rattle.uri_commands.specs.Links.{link_lines, outcome_line, target_line, text_at};
-ghost use Rattle.uri_commands.specs.NotedLinks.{HaveTargets, lines_in};
-ghost use Rattle.uri_commands.specs.Refusals.{IsErrorOf, IsRefusalOf};
-ghost use Rattle.uri_commands.specs.declared.refusal.Refusal.TheVariants.{Reference};
+ghost use Rattle.uri_commands.specs.NotedLinks.{EachIdHasTarget, lines_in};
+ghost use Rattle.uri_commands.specs.Refusals.{IsErrorOf, IsErrorOfCommand};
+ghost use Rattle.uri_commands.specs.declared.refusal.CommandError.TheVariants.{Reference};
 ghost use Rattle.fluent_uri.specs.declared.ParseError.{ParseError};
 
-use crate::refusal::{Refusal, resolve_message};
+use crate::refusal::{CommandError, resolve_message};
 use fluent_uri::normalize::{Normalizer, SchemeDefaults};
 use fluent_uri::{Uri, UriRef};
 use std::alloc::Global;
@@ -28,7 +28,7 @@ pub struct NotedLinks {
     outcomes: Vec<Outcome>,
 }
 
-/// Notes the first reference and the others against the base, in order.
+/// Notes the first reference and the others against the base, in order, in a new register.
 ///
 /// # Errors
 ///
@@ -40,17 +40,17 @@ pub fn noted(
     base: &str,
     reference: &str,
     others: &[String],
-) -> Result<NotedLinks, Refusal>
+) -> Result<NotedLinks, CommandError>
     ensures base { IfOk result (λ _. IsOfKind uri base.now) }
     ensures references { IfOk result (λ _.
         are_of_kind uri_ref (reference.now ∷ texts others.now) ≡ true) }
     ensures refused { IfErr result
-        (IsRefusalOf (Links base.now reference.now (texts others.now))) }
-    ensures targets { IfOk result HaveTargets }
+        (IsErrorOfCommand (Links base.now reference.now (texts others.now))) }
+    ensures targets { IfOk result EachIdHasTarget }
     ensures lines { IfOk result (λ noted.
         lines_in noted ≡ link_lines base.now (reference.now ∷ texts others.now)) }
 {
-    let base = Uri::<&str>::parse(base).map_err(Refusal::Base)?;
+    let base = Uri::<&str>::parse(base).map_err(CommandError::Base)?;
     let references = parse_references(alloc, reference, others)?;
     let mut register = Register::new(alloc, Normalizer::new());
     let outcomes = register.note_all(&base, references.as_slice())?;
@@ -67,13 +67,13 @@ fn parse_references<'a>(
     alloc: Global,
     reference: &'a str,
     others: &'a [String],
-) -> Result<Vec<UriRef<&'a str>>, Refusal>
+) -> Result<Vec<UriRef<&'a str>>, CommandError>
     ensures references { IfOk result (λ references.
         map uri_ref_text references.items ≡ reference.now ∷ texts others.now) }
     ensures of_kind { IfOk result (λ _.
         are_of_kind uri_ref (reference.now ∷ texts others.now) ≡ true) }
     ensures refused { (base : List ℕ) → IsOfKind uri base
-        → IfErr result (IsRefusalOf (Links base reference.now (texts others.now))) }
+        → IfErr result (IsErrorOfCommand (Links base reference.now (texts others.now))) }
 {
     let mut references = Vec::new(alloc);
     let mut is_refused = references.push(parse_reference(reference)?).is_err();
@@ -82,24 +82,25 @@ fn parse_references<'a>(
         is_refused = is_refused || references.push(reference).is_err();
     }
     if is_refused {
-        return Err(Refusal::OutOfMemory);
+        return Err(CommandError::OutOfMemory);
     }
     Ok(references)
 }
 
-fn parse_reference(word: &str) -> Result<UriRef<&str>, Refusal>
+/// Parses a word as a URI reference.
+fn parse_reference(word: &str) -> Result<UriRef<&str>, CommandError>
     ensures of_kind { IfOk result (λ _. IsOfKind uri_ref word.now) }
     ensures text { IfOk result (λ reference. uri_ref_text reference ≡ word.now) }
     ensures refused { IfErr result (λ why.
         (e : ParseError) × (why ≡ Reference e) × IsErrorOf uri_ref word.now e) }
 {
-    UriRef::<&str>::parse(word).map_err(Refusal::Reference)
+    UriRef::<&str>::parse(word).map_err(CommandError::Reference)
 }
 
 impl NotedLinks {
-    /// Writes a line for each reference.
+    /// Writes a line for each reference that was noted.
     pub fn write_lines<O: Write>(&self, out: &mut O) -> io::Result<()>
-        requires { HaveTargets self.now }
+        requires { EachIdHasTarget self.now }
         ensures { OnOk result
             (Appends (O.contents out.old) (O.contents out.new) (lines_in self.now)) }
     {
@@ -110,12 +111,13 @@ impl NotedLinks {
     }
 }
 
+/// Writes the line of an outcome of noting a reference.
 fn write_outcome<O: Write>(
     out: &mut O,
     register: &Register<SchemeDefaults>,
     outcome: Outcome,
 ) -> io::Result<()>
-    requires { HasText (texts_of register.now) outcome }
+    requires { IdIsInRange (texts_of register.now) outcome }
     ensures { OnOk result (Appends (O.contents out.old) (O.contents out.new)
         (outcome_line (texts_of register.now) outcome)) }
 {
@@ -126,6 +128,7 @@ fn write_outcome<O: Write>(
     }
 }
 
+/// Writes the line of a target: a word, its id and its text.
 fn write_target<O: Write>(
     out: &mut O,
     word: &str,

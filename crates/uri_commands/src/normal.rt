@@ -2,10 +2,10 @@
 ghost use Rattle.std.specs.Prelude.{◌≡◌, IfOk, IfErr, string_bytes};
 ghost use Rattle.fluent_uri.specs.Grammar.{IsOfKind};
 ghost use Rattle.uri_commands.specs.Commands.{Normalize, kind_named, normal_form_of};
-ghost use Rattle.uri_commands.specs.Refusals.{IsRefusalOf};
+ghost use Rattle.uri_commands.specs.Refusals.{IsErrorOfCommand};
 
 use crate::command::KindName;
-use crate::refusal::Refusal;
+use crate::refusal::CommandError;
 use fluent_uri::{Iri, IriRef, Uri, UriRef};
 use std::alloc::Global;
 
@@ -15,9 +15,9 @@ use std::alloc::Global;
 ///
 /// Returns `Text` if the text is not of the kind, and `OutOfMemory` if allocation fails.
 #[tactic(auto, using(crate::proofs::NormalForms::normal_form_is))]
-pub fn normal_form(alloc: Global, kind: KindName, text: &str) -> Result<String, Refusal>
+pub fn normalize_text(alloc: Global, kind: KindName, text: &str) -> Result<String, CommandError>
     ensures of_kind { IfOk result (λ _. IsOfKind (kind_named kind) text.now) }
-    ensures refused { IfErr result (IsRefusalOf (Normalize kind text.now)) }
+    ensures refused { IfErr result (IsErrorOfCommand (Normalize kind text.now)) }
     ensures normal { IfOk result (λ normal. string_bytes normal
         ≡ normal_form_of (kind_named kind) text.now) }
 {

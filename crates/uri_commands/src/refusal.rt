@@ -1,11 +1,11 @@
 //! Why a command fails, and the line that says so.
 ghost use Rattle.std.specs.Prelude.{◌≡◌, IfOk, OnOk};
 ghost use Rattle.std.specs.Io.KnownBytes.{Appends};
-ghost use Rattle.uri_commands.specs.Fronts.{AppendsFront};
-ghost use Rattle.uri_commands.specs.Messages.{fault_text, resolve_error_text};
+ghost use Rattle.uri_commands.specs.Prefixes.{AppendsPrefix};
+ghost use Rattle.uri_commands.specs.Messages.{error_kind_text, resolve_error_text};
 ghost use Rattle.uri_commands.specs.Refusals.{error_line};
 
-use crate::told::put;
+use crate::write_text::put;
 use arrayvec::ArrayString;
 use fluent_uri::resolve::ResolveError;
 use fluent_uri::{ParseError, ParseErrorKind};
@@ -18,7 +18,7 @@ const LINE_CAPACITY: usize = 128;
 
 /// Why a command fails.
 #[derive(Clone, Copy)]
-pub enum Refusal {
+pub enum CommandError {
     /// The text is not of the kind.
     Text(ParseError),
     /// The base is not of its kind.
@@ -33,12 +33,13 @@ pub enum Refusal {
     OutputFailed,
 }
 
-impl Refusal {
-    /// Writes the line of this error. If the writer fails, it got a prefix of the line.
-    pub fn tell<E: io::Write>(self, err: &mut E) -> io::Result<()>
+impl CommandError {
+    /// Writes the line of an error: `error: `, its text and a newline. If the writer fails, it got
+    /// a prefix of the line.
+    pub fn show<E: io::Write>(self, err: &mut E) -> io::Result<()>
         ensures whole { OnOk result
             (Appends (E.contents err.old) (E.contents err.new) (error_line self)) }
-        ensures front { AppendsFront (E.contents err.old) (E.contents err.new) (error_line self) }
+        ensures prefix { AppendsPrefix (E.contents err.old) (E.contents err.new) (error_line self) }
     {
         match self.line() {
             Ok(line) => put(err, line.as_str()),
@@ -46,6 +47,7 @@ impl Refusal {
         }
     }
 
+    /// Returns the line of the error: `error: `, its text and a newline.
     fn line(self) -> Result<ArrayString<LINE_CAPACITY>, fmt::Error>
         ensures { IfOk result (λ line. line.bytes ≡ error_line self) }
     {
@@ -55,47 +57,51 @@ impl Refusal {
     }
 }
 
-/// Prints the message, without the `error: ` before it.
-impl Display for Refusal {
+/// Prints the text of the error, without `error: ` before it.
+impl Display for CommandError {
     ghost use Rattle.std.specs.Prelude.{Some};
-    ghost use Rattle.uri_commands.specs.Refusals.{message};
+    ghost use Rattle.uri_commands.specs.Refusals.{command_error_text};
 
-    ghost output = { λ why. Some (message why) };
+    ghost output = { λ why. Some (command_error_text why) };
 
+    /// Prints the text of an error of a command, without `error: ` before it.
     fn fmt<W: fmt::Write>(&self, f: &mut fmt::Formatter<W>) -> fmt::Result {
         match *self {
-            Refusal::Text(error) => write!(f, "{}", Fault(error)),
-            Refusal::Base(error) => write!(f, "base: {}", Fault(error)),
-            Refusal::Reference(error) => write!(f, "reference: {}", Fault(error)),
-            Refusal::Target(error) => write!(f, "{}", resolve_message(error)),
-            Refusal::OutOfMemory => write!(f, "out of memory"),
-            Refusal::OutputFailed => write!(f, "output failed"),
+            CommandError::Text(error) => write!(f, "{}", PrintedParseError(error)),
+            CommandError::Base(error) => write!(f, "base: {}", PrintedParseError(error)),
+            CommandError::Reference(error) => write!(f, "reference: {}", PrintedParseError(error)),
+            CommandError::Target(error) => write!(f, "{}", resolve_message(error)),
+            CommandError::OutOfMemory => write!(f, "out of memory"),
+            CommandError::OutputFailed => write!(f, "output failed"),
         }
     }
 }
 
-/// A parse error, whose `Display` has a contract.
+/// A parse error, printed by a `Display` that has a contract.
 #[derive(Clone, Copy)]
-struct Fault(ParseError);
+struct PrintedParseError(ParseError);
 
-impl Display for Fault {
+impl Display for PrintedParseError {
     ghost use Rattle.std.specs.Prelude.{Some};
     ghost use Rattle.uri_commands.specs.Messages.{error_text};
 
     ghost output = { λ fault. Some (error_text fault.0) };
 
+    /// Prints a parse error: its kind and its index.
     fn fmt<W: fmt::Write>(&self, f: &mut fmt::Formatter<W>) -> fmt::Result {
         write!(
             f,
             "{} at index {}",
-            fault_message(self.0.kind()),
+            error_kind_message(self.0.kind()),
             self.0.index()
         )
     }
 }
 
-fn fault_message(kind: ParseErrorKind) -> &'static str
-    ensures { result.now ≡ fault_text kind }
+/// Returns what an error line of a command says of a kind of parse error, such as `unexpected
+/// character`.
+fn error_kind_message(kind: ParseErrorKind) -> &'static str
+    ensures { result.now ≡ error_kind_text kind }
 {
     match kind {
         ParseErrorKind::InvalidPctEncodedOctet => "invalid percent-encoded octet",
@@ -104,7 +110,7 @@ fn fault_message(kind: ParseErrorKind) -> &'static str
     }
 }
 
-/// Returns the message for a reference that has no target.
+/// Returns the text of an error of resolving.
 pub(crate) fn resolve_message(error: ResolveError) -> &'static str
     ensures { result.now ≡ resolve_error_text error }
 {
@@ -118,46 +124,50 @@ pub(crate) fn resolve_message(error: ResolveError) -> &'static str
     }
 }
 
-impl From<ParseError> for Refusal {
+impl From<ParseError> for CommandError {
     ghost use Rattle.std.specs.Prelude.{◌≡◌};
-    ghost use Rattle.uri_commands.specs.declared.refusal.Refusal.TheVariants.{Text};
+    ghost use Rattle.uri_commands.specs.declared.refusal.CommandError.TheVariants.{Text};
 
     ghost from_gives = { λ error refusal. refusal ≡ Text error };
 
-    fn from(error: ParseError) -> Refusal {
-        Refusal::Text(error)
+    /// Returns the error of a command for a parse error.
+    fn from(error: ParseError) -> CommandError {
+        CommandError::Text(error)
     }
 }
 
-impl From<AllocError> for Refusal {
+impl From<AllocError> for CommandError {
     ghost use Rattle.std.specs.Prelude.{◌≡◌};
-    ghost use Rattle.uri_commands.specs.declared.refusal.Refusal.TheVariants.{OutOfMemory};
+    ghost use Rattle.uri_commands.specs.declared.refusal.CommandError.TheVariants.{OutOfMemory};
 
     ghost from_gives = { λ _ refusal. refusal ≡ OutOfMemory };
 
-    fn from(_: AllocError) -> Refusal {
-        Refusal::OutOfMemory
+    /// Returns the error of a command for a failed allocation.
+    fn from(_: AllocError) -> CommandError {
+        CommandError::OutOfMemory
     }
 }
 
-impl From<ResolveError> for Refusal {
+impl From<ResolveError> for CommandError {
     ghost use Rattle.std.specs.Prelude.{◌≡◌};
-    ghost use Rattle.uri_commands.specs.declared.refusal.Refusal.TheVariants.{Target};
+    ghost use Rattle.uri_commands.specs.declared.refusal.CommandError.TheVariants.{Target};
 
     ghost from_gives = { λ error refusal. refusal ≡ Target error };
 
-    fn from(error: ResolveError) -> Refusal {
-        Refusal::Target(error)
+    /// Returns the error of a command for an error of resolving.
+    fn from(error: ResolveError) -> CommandError {
+        CommandError::Target(error)
     }
 }
 
-impl From<io::Error> for Refusal {
+impl From<io::Error> for CommandError {
     ghost use Rattle.std.specs.Prelude.{◌≡◌};
-    ghost use Rattle.uri_commands.specs.declared.refusal.Refusal.TheVariants.{OutputFailed};
+    ghost use Rattle.uri_commands.specs.declared.refusal.CommandError.TheVariants.{OutputFailed};
 
     ghost from_gives = { λ _ refusal. refusal ≡ OutputFailed };
 
-    fn from(_: io::Error) -> Refusal {
-        Refusal::OutputFailed
+    /// Returns the error of a command for an error of the writer.
+    fn from(_: io::Error) -> CommandError {
+        CommandError::OutputFailed
     }
 }

@@ -2,17 +2,17 @@
 ghost use Rattle.std.specs.Prelude.{◌≡◌, IfOk, IfErr, Some, string_bytes};
 ghost use Rattle.fluent_uri.specs.Components.{components};
 ghost use Rattle.fluent_uri.specs.Grammar.{IsOfKind};
-ghost use Rattle.fluent_uri.specs.Resolving.{IsRefusalFor};
+ghost use Rattle.fluent_uri.specs.Resolving.{IsErrorWithUnderflowAllowed};
 ghost use Rattle.fluent_uri.specs.Iris.{iri_ref_text};
 ghost use Rattle.fluent_uri.specs.Iris.{iri_text};
 ghost use Rattle.fluent_uri.specs.Uris.{uri_ref_text};
 ghost use Rattle.fluent_uri.specs.Uris.{uri_text};
 ghost use Rattle.uri_commands.specs.Commands.{Resolve, kind_of_base, kind_of_references};
 ghost use Rattle.uri_commands.specs.Commands.{target_text};
-ghost use Rattle.uri_commands.specs.Refusals.{IsRefusalOf};
+ghost use Rattle.uri_commands.specs.Refusals.{IsErrorOfCommand};
 
 use crate::command::BaseName;
-use crate::refusal::Refusal;
+use crate::refusal::CommandError;
 use fluent_uri::resolve::ResolveError;
 use fluent_uri::{Iri, IriRef, Uri, UriRef};
 use std::alloc::Global;
@@ -24,27 +24,33 @@ use std::alloc::Global;
 /// - `Base` if the base is not of its kind.
 /// - Otherwise `Reference` if the reference is not of its kind.
 /// - Otherwise `Target` if there is no target, or if allocation fails.
-pub fn target(alloc: Global, kind: BaseName, base: &str, reference: &str) -> Result<String, Refusal>
+pub fn target(
+    alloc: Global,
+    kind: BaseName,
+    base: &str,
+    reference: &str,
+) -> Result<String, CommandError>
     ensures base { IfOk result (λ _. IsOfKind (kind_of_base kind) base.now) }
     ensures reference { IfOk result (λ _. IsOfKind (kind_of_references kind) reference.now) }
-    ensures refused { IfErr result (IsRefusalOf (Resolve kind base.now reference.now)) }
+    ensures refused { IfErr result (IsErrorOfCommand (Resolve kind base.now reference.now)) }
     ensures target { IfOk result (λ target. target_text base.now reference.now
         ≡ Some (string_bytes target)) }
 {
     Ok(match kind {
         BaseName::Uri => {
-            let base = Uri::<&str>::parse(base).map_err(Refusal::Base)?;
-            let reference = UriRef::<&str>::parse(reference).map_err(Refusal::Reference)?;
+            let base = Uri::<&str>::parse(base).map_err(CommandError::Base)?;
+            let reference = UriRef::<&str>::parse(reference).map_err(CommandError::Reference)?;
             uri_target(alloc, base, reference)?.into_string()
         }
         BaseName::Iri => {
-            let base = Iri::<&str>::parse(base).map_err(Refusal::Base)?;
-            let reference = IriRef::<&str>::parse(reference).map_err(Refusal::Reference)?;
+            let base = Iri::<&str>::parse(base).map_err(CommandError::Base)?;
+            let reference = IriRef::<&str>::parse(reference).map_err(CommandError::Reference)?;
             iri_target(alloc, base, reference)?.into_string()
         }
     })
 }
 
+/// Returns the target of a URI reference against a URI.
 fn uri_target(
     alloc: Global,
     base: Uri<&str>,
@@ -52,12 +58,13 @@ fn uri_target(
 ) -> Result<Uri<String>, ResolveError>
     ensures target { IfOk result (λ target. target_text (uri_text base.entry)
         (uri_ref_text reference.entry) ≡ Some (uri_text target)) }
-    ensures refusal { IfErr result (IsRefusalFor
+    ensures refusal { IfErr result (IsErrorWithUnderflowAllowed
         (components (uri_text base.entry)) (components (uri_ref_text reference.entry))) }
 {
     reference.resolve_against(alloc, &base)
 }
 
+/// Returns the target of an IRI reference against an IRI.
 fn iri_target(
     alloc: Global,
     base: Iri<&str>,
@@ -65,7 +72,7 @@ fn iri_target(
 ) -> Result<Iri<String>, ResolveError>
     ensures target { IfOk result (λ target. target_text (iri_text base.entry)
         (iri_ref_text reference.entry) ≡ Some (iri_text target)) }
-    ensures refusal { IfErr result (IsRefusalFor
+    ensures refusal { IfErr result (IsErrorWithUnderflowAllowed
         (components (iri_text base.entry)) (components (iri_ref_text reference.entry))) }
 {
     reference.resolve_against(alloc, &base)

@@ -1,113 +1,134 @@
 -- A tree with one more node.
 use Rattle.std.proofs.Common.{◌≡◌, ◌≢◌, ◌+◌, ◌<◌, ◌⊎◌, inl, inr, ◌++◌, ◌∷◌, ℕ, Bool, true, false}
-use Rattle.std.proofs.Common.{List, [], length, nat_eq, ap, arith, refl, sym, ◌∙◌, length-append, length-set, subst}
+use Rattle.std.proofs.Common.{List, [], length, nat_eq, ap, arith, refl, sym, ◌∙◌, length-append}
+use Rattle.std.proofs.Common.{length-set, subst}
 use Rattle.std.proofs.Math.Seq.{map-set_same}
 use Rattle.std.proofs.lemmas.List.{map-append}
 use Rattle.std.proofs.Math.Seq.{get_or-append_seam}
 use Rattle.std.proofs.lemmas.Bool.Decides.{nat_tests}
 use Rattle.std.proofs.lemmas.List.{get_or-set_same, get_or-set_other, get_or_append_left}
-use Rattle.uri_links.specs.SearchTrees.{child, node_at, ChildrenFollow, grown, leaf}
+use Rattle.uri_links.specs.SearchTrees.{child, node_at, ChildrenFollow, with_node_added, leaf}
 use Rattle.uri_links.specs.SearchTrees.{with_child, HaveHashes, hash_of}
 use Rattle.uri_links.specs.declared.search_tree.Node.{Node}
 
-made : (node : Node) (side : Bool) (id : ℕ) → child (with_child node side id) side ≡ id
-made node true id = refl
-made node false id = refl
+-- register of links: a child that is put on a side is there
+child-of-with_child : (node : Node) (side : Bool) (id : ℕ) → child (with_child node side id) side
+    ≡ id
+child-of-with_child node true id = refl
+child-of-with_child node false id = refl
 
-other_side : (node : Node) (side right : Bool) (id : ℕ) → child node right ≡ 0
+-- register of links: putting a child on an empty side leaves the child on the other
+with_child-keeps-other-side : (node : Node) (side right : Bool) (id : ℕ) → child node right ≡ 0
     → child node side ≢ 0 → child (with_child node right id) side ≡ child node side
-other_side node true true id free some = absurd (some free)
-other_side node true false id free some = refl
-other_side node false true id free some = refl
-other_side node false false id free some = absurd (some free)
+with_child-keeps-other-side node true true id free some = absurd (some free)
+with_child-keeps-other-side node true false id free some = refl
+with_child-keeps-other-side node false true id free some = refl
+with_child-keeps-other-side node false false id free some = absurd (some free)
 
--- a child is the one that was made, or as it was
-made_or_old : (node : Node) (side right : Bool) (id : ℕ)
+-- register of links: a child of a tree's node to which a child
+-- was added is the new one, or was one before
+child-is-new-or-old : (node : Node) (side right : Bool) (id : ℕ)
     → (child (with_child node right id) side ≡ id)
     ⊎ (child (with_child node right id) side ≡ child node side)
-made_or_old node true true id = inl refl
-made_or_old node true false id = inr refl
-made_or_old node false true id = inr refl
-made_or_old node false false id = inl refl
+child-is-new-or-old node true true id = inl refl
+child-is-new-or-old node true false id = inr refl
+child-is-new-or-old node false true id = inr refl
+child-is-new-or-old node false false id = inl refl
 
-pub no_child : (hash : ℕ) (side : Bool) → child (leaf hash) side ≡ 0
-no_child hash true = refl
-no_child hash false = refl
+-- register of links: a new node of the search tree has no child
+pub leaf-has-no-child : (hash : ℕ) (side : Bool) → child (leaf hash) side ≡ 0
+leaf-has-no-child hash true = refl
+leaf-has-no-child hash false = refl
 
 -- the id of a child of the node with this id, which comes after it and before n
 abbrev IsChild : ℕ → ℕ → ℕ → Type 0
 IsChild n id at = at ≢ 0 → (id < at) × (at < n)
 
-wider : (n id old new : ℕ) → new ≡ old → IsChild n id old → IsChild (n + 1) id new
-wider n id old new e h some =
+-- register of links: a child is one too where a node more follows; n: the number of nodes
+is_child-of-longer-list : (n id old new : ℕ) → new ≡ old → IsChild n id old → IsChild (n + 1) id new
+is_child-of-longer-list n id old new e h some =
     let fits = h (λ none. some (e ∙ none)) in
     let after = fits.0 in
     let before = fits.1 in
     (omega (arith, e, after), omega (arith, e, before))
 
 module _ (nodes : List Node) (hash parent : ℕ) (right : Bool) where
-  pub length_grown : length (grown nodes hash parent right) ≡ length nodes + 1
-  length_grown = length-set (nodes ++ leaf hash ∷ []) parent _ ∙ length-append nodes (leaf hash ∷ [])
+  pub length_grown : length (with_node_added nodes hash parent right) ≡ length nodes + 1
+  length_grown = length-set (nodes ++ leaf hash ∷ []) parent _
+      ∙ length-append nodes (leaf hash ∷ [])
 
   module _ (in_range : parent < length nodes) where
-    at_parent : node_at (grown nodes hash parent right) parent ≡ with_child (node_at nodes parent) right (length nodes)
-    at_parent = get_or-set_same (nodes ++ leaf hash ∷ []) parent _ (leaf 0) (grind (arith, length-append nodes (leaf hash ∷ [])))
-        ∙ ap (λ node. with_child node right (length nodes)) (get_or_append_left nodes (leaf hash ∷ []) (leaf 0) parent in_range)
+    node_at-of-parent : node_at (with_node_added nodes hash parent right) parent
+        ≡ with_child (node_at nodes parent) right (length nodes)
+    node_at-of-parent = get_or-set_same (nodes ++ leaf hash ∷ []) parent _ (leaf 0)
+        (grind (arith, length-append nodes (leaf hash ∷ [])))
+        ∙ ap (λ node. with_child node right (length nodes))
+        (get_or_append_left nodes (leaf hash ∷ []) (leaf 0) parent in_range)
 
-    at_other : (id : ℕ) → id < length nodes → id ≢ parent → node_at (grown nodes hash parent right) id ≡ node_at nodes id
-    at_other id l n = get_or-set_other (nodes ++ leaf hash ∷ []) parent id _ (leaf 0) n
+    node_at-of-other : (id : ℕ) → id < length nodes → id ≢ parent
+        → node_at (with_node_added nodes hash parent right) id ≡ node_at nodes id
+    node_at-of-other id l n = get_or-set_other (nodes ++ leaf hash ∷ []) parent id _ (leaf 0) n
         ∙ get_or_append_left nodes (leaf hash ∷ []) (leaf 0) id l
 
-    at_end : node_at (grown nodes hash parent right) (length nodes) ≡ leaf hash
-    at_end = get_or-set_other (nodes ++ leaf hash ∷ []) parent (length nodes) _ (leaf 0) (λ e. absurd (omega (arith, e)))
+    node_at-of-new-node : node_at (with_node_added nodes hash parent right) (length nodes)
+        ≡ leaf hash
+    node_at-of-new-node = get_or-set_other (nodes ++ leaf hash ∷ []) parent (length nodes) _
+        (leaf 0) (λ e. absurd (omega (arith, e)))
         ∙ get_or-append_seam nodes (leaf hash) [] (leaf 0)
 
-    -- the child that was made
-    pub new_child : child (node_at (grown nodes hash parent right) parent) right ≡ length nodes
-    new_child = ap (λ node. child node right) at_parent
-        ∙ made (node_at nodes parent) right (length nodes)
+    -- the new node is the child of its parent
+    pub new-node-is-child-of-parent : child
+        (node_at (with_node_added nodes hash parent right) parent) right ≡ length nodes
+    new-node-is-child-of-parent = ap (λ node. child node right) node_at-of-parent
+        ∙ child-of-with_child (node_at nodes parent) right (length nodes)
 
-    -- no other child was changed
-    pub old_child : (id : ℕ) (side : Bool) → id < length nodes
+    -- no other child is changed
+    pub other-children-unchanged : (id : ℕ) (side : Bool) → id < length nodes
         → child (node_at nodes parent) right ≡ 0 → child (node_at nodes id) side ≢ 0
-        → child (node_at (grown nodes hash parent right) id) side ≡ child (node_at nodes id) side
-    old_child id side l free some =
+        → child (node_at (with_node_added nodes hash parent right) id) side
+        ≡ child (node_at nodes id) side
+    other-children-unchanged id side l free some =
         let Kept : Bool → Type 0 = λ b. nat_eq id parent ≡ b
-        → child (node_at (grown nodes hash parent right) id) side ≡ child (node_at nodes id) side in
+        → child (node_at (with_node_added nodes hash parent right) id) side
+        ≡ child (node_at nodes id) side in
         (elim (nat_eq id parent) as Kept [
           | true ↦ λ e.
               let same : id ≡ parent = grind (arith, nat_tests) in
-              ap (λ at. child (node_at (grown nodes hash parent right) at) side) same
-              ∙ ap (λ node. child node side) at_parent
-              ∙ other_side (node_at nodes parent) side right (length nodes) free
+              ap (λ at. child (node_at (with_node_added nodes hash parent right) at) side) same
+              ∙ ap (λ node. child node side) node_at-of-parent
+              ∙ with_child-keeps-other-side (node_at nodes parent) side right (length nodes) free
               (λ none. some (ap (λ at. child (node_at nodes at) side) same ∙ none))
               ∙ ap (λ at. child (node_at nodes at) side) (sym same)
-          | false ↦ λ e. ap (λ node. child node side) (at_other id l (grind (arith, nat_tests)))
+          | false ↦ λ e. ap (λ node. child node side)
+              (node_at-of-other id l (grind (arith, nat_tests)))
         ]) refl
 
-    -- a child of the node that has the new one
-    child_of_parent : ChildrenFollow nodes → (id : ℕ) (side : Bool) → id ≡ parent
+    -- a child of the new node's parent comes after it
+    child-of-parent-follows : ChildrenFollow nodes → (id : ℕ) (side : Bool) → id ≡ parent
         → (child (with_child (node_at nodes parent) right (length nodes)) side ≡ length nodes)
         ⊎ (child (with_child (node_at nodes parent) right (length nodes)) side
         ≡ child (node_at nodes parent) side)
-        → IsChild (length nodes + 1) id (child (node_at (grown nodes hash parent right) id) side)
-    child_of_parent follow id side same (inl e) some =
-        let at_is : child (node_at (grown nodes hash parent right) id) side ≡ length nodes =
-        ap (λ it. child (node_at (grown nodes hash parent right) it) side) same
-        ∙ ap (λ node. child node side) at_parent ∙ e in
+        → IsChild (length nodes + 1) id
+        (child (node_at (with_node_added nodes hash parent right) id) side)
+    child-of-parent-follows follow id side same (inl e) some =
+        let at_is : child (node_at (with_node_added nodes hash parent right) id) side
+        ≡ length nodes =
+        ap (λ it. child (node_at (with_node_added nodes hash parent right) it) side) same
+        ∙ ap (λ node. child node side) node_at-of-parent ∙ e in
         (omega (arith, at_is, same), omega (arith, at_is))
-    child_of_parent follow id side same (inr e) some =
-        wider (length nodes) id (child (node_at nodes parent) side)
-        (child (node_at (grown nodes hash parent right) id) side)
-        (ap (λ it. child (node_at (grown nodes hash parent right) it) side) same
-        ∙ ap (λ node. child node side) at_parent ∙ e)
+    child-of-parent-follows follow id side same (inr e) some =
+        is_child-of-longer-list (length nodes) id (child (node_at nodes parent) side)
+        (child (node_at (with_node_added nodes hash parent right) id) side)
+        (ap (λ it. child (node_at (with_node_added nodes hash parent right) it) side) same
+        ∙ ap (λ node. child node side) node_at-of-parent ∙ e)
         (subst (λ it. IsChild (length nodes) it (child (node_at nodes parent) side)) (sym same)
         (follow parent side in_range))
         some
 
-    pub children_follow : ChildrenFollow nodes → ChildrenFollow (grown nodes hash parent right)
+    pub children_follow : ChildrenFollow nodes
+        → ChildrenFollow (with_node_added nodes hash parent right)
     children_follow follow id side l =
-        let at : ℕ = child (node_at (grown nodes hash parent right) id) side in
+        let at : ℕ = child (node_at (with_node_added nodes hash parent right) id) side in
         let within : id < length nodes + 1 = subst (λ n. id < n) length_grown l in
         let Old : Bool → Type 0 = λ b. nat_eq id parent ≡ b → IsChild (length nodes + 1) id at in
         let Last : Bool → Type 0 = λ b. nat_eq id (length nodes) ≡ b
@@ -115,22 +136,24 @@ module _ (nodes : List Node) (hash parent : ℕ) (right : Bool) where
         subst (λ n. IsChild n id at) (sym length_grown)
         ((elim (nat_eq id (length nodes)) as Last [
           | true ↦ λ e some. absurd (some
-              (ap (λ it. child (node_at (grown nodes hash parent right) it) side)
+              (ap (λ it. child (node_at (with_node_added nodes hash parent right) it) side)
               (grind (arith, nat_tests))
-              ∙ ap (λ node. child node side) at_end ∙ no_child hash side))
+              ∙ ap (λ node. child node side) node_at-of-new-node ∙ leaf-has-no-child hash side))
           | false ↦ λ e.
               (elim (nat_eq id parent) as Old [
-                | true ↦ λ f. child_of_parent follow id side (grind (arith, nat_tests))
-                    (made_or_old (node_at nodes parent) side right (length nodes))
+                | true ↦ λ f. child-of-parent-follows follow id side (grind (arith, nat_tests))
+                    (child-is-new-or-old (node_at nodes parent) side right (length nodes))
                 | false ↦ λ f. let before : id < length nodes = grind (arith, nat_tests) in
-                    wider (length nodes) id (child (node_at nodes id) side) at
-                    (ap (λ node. child node side) (at_other id before (grind (arith, nat_tests))))
+                    is_child-of-longer-list (length nodes) id (child (node_at nodes id) side) at
+                    (ap (λ node. child node side)
+                    (node_at-of-other id before (grind (arith, nat_tests))))
                     (follow id side before)
               ]) refl
         ]) refl)
 
-  pub hashes_grown : (texts : List (List ℕ)) (text : List ℕ) → HaveHashes nodes texts → hash ≡ hash_of text
-      → HaveHashes (grown nodes hash parent right) (texts ++ text ∷ [])
+  pub hashes_grown : (texts : List (List ℕ)) (text : List ℕ) → HaveHashes nodes texts → hash
+      ≡ hash_of text
+      → HaveHashes (with_node_added nodes hash parent right) (texts ++ text ∷ [])
   hashes_grown texts text h e =
       map-set_same (λ (node : Node). node.hash) (nodes ++ leaf hash ∷ []) parent _ (leaf 0) refl
       ∙ map-append (λ (node : Node). node.hash) nodes (leaf hash ∷ [])

@@ -10,49 +10,57 @@ use Rattle.fluent_uri.specs.Meaning.{Meaning, meaning_of}
 use Rattle.fluent_uri.specs.Normal.{normal_text}
 use Rattle.fluent_uri.specs.Ports.{PortFunction}
 use Rattle.fluent_uri.specs.SameMeanings.{same_meaning}
-use Rattle.fluent_uri.specs.Target.{Refusal, resolution_of}
-use Rattle.uri_links.specs.Outcomes.{outcome_of, place_of_meaning, placed, registered}
-use Rattle.uri_links.specs.OutcomesInWords.{IsOutcome, Means}
+use Rattle.fluent_uri.specs.Target.{TargetError, resolution_of}
+use Rattle.uri_links.specs.Outcomes.{outcome_of, index_of_meaning, outcome_of_lookup}
+use Rattle.uri_links.specs.Outcomes.{outcome_of_resolution}
+use Rattle.uri_links.specs.OutcomesInWords.{IsOutcome, HasMeaningAt}
 use Rattle.uri_links.specs.declared.links.Outcome.{Outcome}
 use Rattle.uri_links.proofs.Noted.{ComparesMeanings}
-use Rattle.uri_links.proofs.Places.{none}
+use Rattle.uri_links.proofs.Places.{position-None-no-element-passes}
 
 module _ (same : ComparesMeanings) (ports : PortFunction) (base : List ℕ)
     (texts : List (List ℕ)) (reference : List ℕ) where
-  means : (meaning : Meaning) (place : ℕ) → place_of_meaning ports texts meaning ≡ Some place
-      → Means ports texts place meaning
-  means meaning place e =
+  found-index-has-meaning : (meaning : Meaning) (place : ℕ) → index_of_meaning ports texts meaning
+      ≡ Some place
+      → HasMeaningAt ports texts place meaning
+  found-index-has-meaning meaning place e =
       let at = position-Some (λ text. same_meaning (meaning_of uri ports text) meaning) texts place
       [] e in
       (_, (slice_get-get_or texts place [] at.0, (same _ _).0 at.1))
 
-  means_none : (meaning : Meaning) → place_of_meaning ports texts meaning ≡ None → (place : ℕ)
-      → ¬ (Means ports texts place meaning)
-  means_none meaning e place m =
+  meaning-at-no-index : (meaning : Meaning) → index_of_meaning ports texts meaning ≡ None
+      → (place : ℕ)
+      → ¬ (HasMeaningAt ports texts place meaning)
+  meaning-at-no-index meaning e place m =
       let passes = any_passes_from_place (λ text. same_meaning (meaning_of uri ports text) meaning)
       texts place m.0 m.1.0 ((same (meaning_of uri ports m.0) meaning).1 m.1.1) in
-      let fails = none (λ text. same_meaning (meaning_of uri ports text) meaning) texts e in
+      let fails = position-None-no-element-passes
+      (λ text. same_meaning (meaning_of uri ports text) meaning) texts e in
       cc
 
-  by_place : (target : List ℕ) (place : Option ℕ)
+  outcome_of_lookup-is-outcome : (target : List ℕ) (place : Option ℕ)
       → resolution_of (components base) (components reference) ≡ Ok target
-      → place_of_meaning ports texts (meaning_of uri ports target) ≡ place
+      → index_of_meaning ports texts (meaning_of uri ports target) ≡ place
       → IsOutcome ports base texts reference
-      (placed place texts (normal_text (meaning_of uri ports target))).0
-  by_place target (Some place) e p = (target, (e, means (meaning_of uri ports target) place p))
-  by_place target None e p = (target, (e, refl, means_none (meaning_of uri ports target) p))
+      (outcome_of_lookup place texts (normal_text (meaning_of uri ports target))).0
+  outcome_of_lookup-is-outcome target (Some place) e p =
+      (target, (e, found-index-has-meaning (meaning_of uri ports target) place p))
+  outcome_of_lookup-is-outcome target None e p =
+      (target, (e, refl, meaning-at-no-index (meaning_of uri ports target) p))
 
-  by_resolution : (resolution : Result (List ℕ) Refusal)
+  outcome_of_resolution-is-outcome : (resolution : Result (List ℕ) TargetError)
       → resolution_of (components base) (components reference) ≡ resolution
-      → IsOutcome ports base texts reference (registered ports texts resolution).0
-  by_resolution (Ok target) e =
-      by_place target (place_of_meaning ports texts (meaning_of uri ports target)) e refl
-  by_resolution (Err refusal) e = (refusal, (e, refl))
+      → IsOutcome ports base texts reference (outcome_of_resolution ports texts resolution).0
+  outcome_of_resolution-is-outcome (Ok target) e =
+      outcome_of_lookup-is-outcome target
+      (index_of_meaning ports texts (meaning_of uri ports target)) e refl
+  outcome_of_resolution-is-outcome (Err refusal) e = (refusal, (e, refl))
 
-  pub in_words : (outcome : Outcome) (after : List (List ℕ))
+  pub outcome_of-is-outcome : (outcome : Outcome) (after : List (List ℕ))
       → outcome_of ports base texts reference ≡ (outcome, after)
       → IsOutcome ports base texts reference outcome
   unfolding outcome_of
-  in_words outcome after e =
+  outcome_of-is-outcome outcome after e =
       subst (IsOutcome ports base texts reference) (ap (λ (o : Outcome × List (List ℕ)). o.0) e)
-      (by_resolution (resolution_of (components base) (components reference)) refl)
+      (outcome_of_resolution-is-outcome (resolution_of (components base) (components reference))
+      refl)

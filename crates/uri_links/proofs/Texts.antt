@@ -13,35 +13,43 @@ use Rattle.fluent_uri.specs.Meaning.{meaning_of}
 use Rattle.fluent_uri.specs.Normal.{normal_text}
 use Rattle.fluent_uri.specs.Ports.{PortFunction}
 use Rattle.uri_links.specs.Registered.{AreNormal, AreUris, is_uri_text}
-use Rattle.uri_links.proofs.Places.{none}
+use Rattle.uri_links.proofs.Places.{position-None-no-element-passes}
 
-pub none_distinct : (texts : List (List ℕ)) → texts ≡ [] → IsDistinct bytes_eq texts
+-- register of links: without texts, no text is there twice
+pub no-texts-are-distinct : (texts : List (List ℕ)) → texts ≡ [] → IsDistinct bytes_eq texts
 unfolding IsDistinct
-none_distinct texts e = rw e tt
+no-texts-are-distinct texts e = rw e tt
 
-normal_pushed : (ports : PortFunction) (texts : List (List ℕ)) (text : List ℕ)
+-- register of links: normal texts and one more are normal texts
+normal-append : (ports : PortFunction) (texts : List (List ℕ)) (text : List ℕ)
     → AreNormal ports texts → normal_text (meaning_of uri ports text) ≡ text
     → AreNormal ports (texts ++ text ∷ [])
-normal_pushed ports texts text h e = map-append _ texts (text ∷ []) ∙ (λ i. h i ++ e i ∷ [])
+normal-append ports texts text h e = map-append _ texts (text ∷ []) ∙ (λ i. h i ++ e i ∷ [])
 
-uri_pushed : (texts : List (List ℕ)) (text : List ℕ) → AreUris texts → IsTextOf uri text
+-- register of links: URIs and one more are URIs
+uris-append : (texts : List (List ℕ)) (text : List ℕ) → AreUris texts → IsTextOf uri text
     → AreUris (texts ++ text ∷ [])
-uri_pushed texts text h is = list_all-append is_uri_text texts (text ∷ [])
+uris-append texts text h is = list_all-append is_uri_text texts (text ∷ [])
     ∙ and_from _ _ h (and_from _ true (and_from _ _ (is_utf8-from_IsUtf8 text is.utf8) is.grammar)
     refl)
 
-pub uris_after : (texts after : List (List ℕ)) (text : List ℕ) → after ≡ texts ++ text ∷ []
+-- register of links: with one more URI, all its texts are URIs
+pub uris-after-adding : (texts after : List (List ℕ)) (text : List ℕ) → after ≡ texts ++ text ∷ []
     → AreUris texts → IsTextOf uri text → AreUris after
-uris_after texts after text a h is = subst AreUris (sym a) (uri_pushed texts text h is)
+uris-after-adding texts after text a h is = subst AreUris (sym a) (uris-append texts text h is)
 
-pub normal_after : (ports : PortFunction) (texts after : List (List ℕ)) (text : List ℕ)
+-- register of links: with one more normal text, all its texts are normal
+pub normal-after-adding : (ports : PortFunction) (texts after : List (List ℕ)) (text : List ℕ)
     → after ≡ texts ++ text ∷ [] → AreNormal ports texts
     → normal_text (meaning_of uri ports text) ≡ text → AreNormal ports after
-normal_after ports texts after text a h e =
-    subst (AreNormal ports) (sym a) (normal_pushed ports texts text h e)
+normal-after-adding ports texts after text a h e =
+    subst (AreNormal ports) (sym a) (normal-append ports texts text h e)
 
-pub distinct_after : (texts after : List (List ℕ)) (text : List ℕ) → after ≡ texts ++ text ∷ []
+-- register of links: with a text that it lacks, its texts are distinct
+pub distinct-after-adding : (texts after : List (List ℕ)) (text : List ℕ) → after
+    ≡ texts ++ text ∷ []
     → IsDistinct bytes_eq texts → position (bytes_eq text) texts ≡ None → IsDistinct bytes_eq after
-distinct_after texts after text a h e =
+distinct-after-adding texts after text a h e =
     subst (IsDistinct bytes_eq) (sym a)
-    (IsDistinct-push nat_list_eq_equiv texts text h (none (bytes_eq text) texts e))
+    (IsDistinct-push nat_list_eq_equiv texts text h
+    (position-None-no-element-passes (bytes_eq text) texts e))

@@ -7,18 +7,18 @@ use Rattle.fluent_uri.specs.Meaning.{meaning_of}
 use Rattle.fluent_uri.specs.Normal.{normal_text}
 use Rattle.fluent_uri.specs.Ports.{PortFunction}
 
--- whether a text is valid UTF-8 and a URI
+-- whether a text may be in a register of links: it is valid UTF-8 and a URI
 abbrev pub is_uri_text : List ℕ → Bool
 is_uri_text text = is_utf8 text && is_of_kind uri text
 
--- each text is a URI
+-- each text of a register of links is a URI
 abbrev pub AreUris : List (List ℕ) → Type 0
 AreUris texts = list_all is_uri_text texts ≡ true
 
--- each text is its own normal text
+-- each text of a register of links is its own normal text, under the port function
 abbrev pub AreNormal : PortFunction → List (List ℕ) → Type 0
 AreNormal ports texts = map (λ text. normal_text (meaning_of uri ports text)) texts ≡ texts
 
--- no two texts are equal
+-- no two texts of a register of links are equal
 abbrev pub AreDistinct : List (List ℕ) → Type 0
 AreDistinct texts = IsDistinct bytes_eq texts

@@ -10,17 +10,17 @@ ghost use Rattle.fluent_uri.specs.Meaning.{meaning_of};
 ghost use Rattle.fluent_uri.specs.Normal.{normal_text};
 ghost use Rattle.fluent_uri.specs.NormalTargets.{IsNormalTarget};
 ghost use Rattle.fluent_uri.specs.Normalizers.{ports_of};
-ghost use Rattle.fluent_uri.specs.Resolving.{IsRefusalFor};
+ghost use Rattle.fluent_uri.specs.Resolving.{IsErrorWithUnderflowAllowed};
 ghost use Rattle.fluent_uri.specs.Target.{resolution_of};
 ghost use Rattle.fluent_uri.specs.Uris.{uri_ref_text};
 ghost use Rattle.fluent_uri.specs.Uris.{uri_text};
-ghost use Rattle.uri_links.specs.Outcomes.{outcome_of, outcomes_of, placed};
-ghost use Rattle.uri_links.specs.OutcomesInWords.{HasText, IsOutcome};
+ghost use Rattle.uri_links.specs.Outcomes.{outcome_of, outcomes_of, outcome_of_lookup};
+ghost use Rattle.uri_links.specs.OutcomesInWords.{IdIsInRange, IsOutcome};
 ghost use Rattle.uri_links.specs.Registered.{AreDistinct, AreNormal, AreUris};
 ghost use Rattle.uri_links.specs.SearchTrees.{IsSearchTree, found_id, hash_of, search};
 ghost use Rattle.uri_links.specs.declared.search_tree.SearchEnd.TheVariants.{Missing};
 
-use crate::search_tree::{Node, SearchEnd, grow, hash_of, search};
+use crate::search_tree::{Node, SearchEnd, add_node, hash_of, search};
 use fluent_uri::normalize::{DefaultPort, Normalizer};
 use fluent_uri::resolve::{ResolveError, Resolver};
 use fluent_uri::{Uri, UriRef, laws};
@@ -77,7 +77,7 @@ pub struct Register<P: DefaultPort> {
     ghost tree: { IsSearchTree nodes.items (map uri_text targets.items) },
 }
 
-/// Returns the outcome of an error, or `AllocError` if it is that allocation failed.
+/// Returns the outcome `Refused` for an error, or `AllocError` if the error is `OutOfMemory`.
 fn refused(error: ResolveError) -> Result<Outcome, AllocError>
     ensures outcome { IfOk result (λ outcome.
         (outcome ≡ Outcome.Refused error) × (error ≢ ResolveError.OutOfMemory)) }
@@ -89,7 +89,7 @@ fn refused(error: ResolveError) -> Result<Outcome, AllocError>
     }
 }
 
-/// The text of a target, which is a URI.
+/// Returns the text of a target, which is a URI.
 fn text_of(target: &Uri<String>) -> &str
     ensures text { result.now ≡ uri_text target.now }
     ensures uri { IsTextOf uri (uri_text target.now) }
@@ -153,7 +153,7 @@ impl<P: DefaultPort> Register<P> {
             IsNormalTarget uri uri_ref (port_function_of self.now)
             (uri_text base.now) (uri_ref_text reference.now) (uri_text target)) }
         ensures refusal { IfErr result
-            (IsRefusalFor (components (uri_text base.now))
+            (IsErrorWithUnderflowAllowed (components (uri_text base.now))
             (components (uri_ref_text reference.now))) }
     {
         let resolver = Resolver::with_base(*base);
@@ -169,7 +169,7 @@ impl<P: DefaultPort> Register<P> {
         search(self.nodes.as_slice(), self.targets.as_slice(), text, hash)
     }
 
-    /// Registers a target where the search for its text ended, and returns its id.
+    /// Registers a target as the child at which the search for its text ended, and returns its id.
     fn add(
         &mut self,
         target: Uri<String>,
@@ -192,7 +192,7 @@ impl<P: DefaultPort> Register<P> {
     {
         let id = self.len();
         self.targets.push(target)?;
-        match grow(&mut self.nodes, hash, parent, right) {
+        match add_node(&mut self.nodes, hash, parent, right) {
             Ok(()) => Ok(id),
             Err(error) => {
                 let _taken_back = self.targets.pop();
@@ -201,12 +201,13 @@ impl<P: DefaultPort> Register<P> {
         }
     }
 
-    /// Notes a reference whose normal target is this one.
+    /// Returns the outcome for a normal target, and registers it if it is new.
     fn note_target(&mut self, target: Uri<String>) -> Result<Outcome, AllocError>
         requires { normal_text (meaning_of uri (port_function_of self.old) (uri_text target))
             ≡ uri_text target }
         ensures noted { IfOk result (λ outcome.
-            placed (position (bytes_eq (uri_text target)) (texts_of self.old)) (texts_of self.old)
+            outcome_of_lookup (position (bytes_eq (uri_text target)) (texts_of self.old))
+            (texts_of self.old)
             (uri_text target) ≡ (outcome, texts_of self.new)) }
         ensures kept { OnErr result (texts_of self.new ≡ texts_of self.old) }
         ensures ports { port_function_of self.new ≡ port_function_of self.old }
@@ -282,8 +283,8 @@ impl<P: DefaultPort> Register<P> {
             outcomes_of (port_function_of self.old) (uri_text base.now) (texts_of self.old)
             (map uri_ref_text references.now) ≡ (outcomes.items, texts_of self.new)) }
         // Each id that is returned has a registered target.
-        ensures ids { IfOk result (λ outcomes. All (HasText (texts_of self.new)) outcomes.items) }
-        ensures front { OnErr result ((n : ℕ) × (texts_of self.new ≡
+        ensures ids { IfOk result (λ outcomes. All (IdIsInRange (texts_of self.new)) outcomes.items) }
+        ensures prefix { OnErr result ((n : ℕ) × (texts_of self.new ≡
             (outcomes_of (port_function_of self.old) (uri_text base.now) (texts_of self.old)
             (map uri_ref_text (take n references.now))).1)) }
         ensures ports { port_function_of self.new ≡ port_function_of self.old }

@@ -1,11 +1,12 @@
 //! Finds a text in a list by a digital search tree. The node at an index is of the text at that
 //! index, and the bits of a text's hash lead from node to node, so the tree holds no second copy of
-//! a text. Whoever chooses the texts may choose equal hashes. Then the texts' own bits lead on, so a
-//! search takes at most some eight steps a byte, after 64.
+//! a text. Whoever chooses the texts may choose equal hashes. Then the texts' own bits lead on, so
+//! a search takes at most some eight steps a byte, after 64.
 ghost use Rattle.std.specs.Prelude.{◌≡◌, ◌≤◌, List, OnErr, OnOk, bytes_eq, length, map};
 ghost use Rattle.fluent_uri.specs.Uris.{uri_text};
-ghost use Rattle.uri_links.specs.SearchTrees.{ChildrenFollow, HaveHashes, child, grown, hash_of};
-ghost use Rattle.uri_links.specs.SearchTrees.{is_right, search};
+ghost use Rattle.uri_links.specs.SearchTrees.{ChildrenFollow, HaveHashes, child, with_node_added};
+ghost use Rattle.uri_links.specs.SearchTrees.{hash_of};
+ghost use Rattle.uri_links.specs.SearchTrees.{descends_right, search};
 
 use fluent_uri::Uri;
 use std::alloc::AllocError;
@@ -20,7 +21,7 @@ pub struct Node {
     right: usize,
 }
 
-/// Where a search ends.
+/// Where a search for a text ends.
 #[derive(Clone, Copy)]
 pub enum SearchEnd {
     /// At the index of the text.
@@ -37,11 +38,11 @@ pub fn hash_of(text: &str) -> u64
     BuildHasherDefault::<FoldHasher>::new().hash_one(text)
 }
 
-/// Returns whether a text is on the right of a node at this depth.
-#[tactic(auto, unfolding(crate::specs::SearchTrees::is_right))]
-fn is_right(text: &str, hash: u64, depth: usize) -> bool
+/// Returns whether a search for a text goes to the right of a node at this depth.
+#[tactic(auto, unfolding(crate::specs::SearchTrees::descends_right))]
+fn descends_right(text: &str, hash: u64, depth: usize) -> bool
     requires { hash ≡ hash_of text.now }
-    ensures { result ≡ is_right text.now depth }
+    ensures { result ≡ descends_right text.now depth }
 {
     if depth < 64 {
         return hash >> depth & 1 == 1;
@@ -54,14 +55,15 @@ fn is_right(text: &str, hash: u64, depth: usize) -> bool
 }
 
 impl Node {
+    /// Returns the index of the child on the right or on the left, or 0 if there is none.
     fn child(&self, right: bool) -> usize
         ensures { result ≡ child self.now right }
     {
         if right { self.right } else { self.left }
     }
 
-    /// Returns whether the node's text is this one.
-    fn is_of(&self, own: &Uri<String>, text: &str, hash: u64) -> bool
+    /// Returns whether the node's text, which is `own`, is `text`.
+    fn has_text(&self, own: &Uri<String>, text: &str, hash: u64) -> bool
         requires own { self.now.hash ≡ hash_of (uri_text own.now) }
         requires hash { hash ≡ hash_of text.now }
         ensures { result ≡ bytes_eq text.now (uri_text own.now) }
@@ -70,7 +72,7 @@ impl Node {
     }
 }
 
-/// Searches for a text with this hash among the targets.
+/// Searches for a text, whose hash is given, among the targets.
 pub fn search(nodes: &[Node], targets: &[Uri<String>], text: &str, hash: u64) -> SearchEnd
     requires hash { hash ≡ hash_of text.now }
     requires hashes { HaveHashes nodes.now (map uri_text targets.now) }
@@ -80,10 +82,10 @@ pub fn search(nodes: &[Node], targets: &[Uri<String>], text: &str, hash: u64) ->
     let mut id = 0;
     for depth in 0..nodes.len() {
         let node = nodes[id];
-        if node.is_of(&targets[id], text, hash) {
+        if node.has_text(&targets[id], text, hash) {
             return SearchEnd::Found(id);
         }
-        let right = is_right(text, hash, depth);
+        let right = descends_right(text, hash, depth);
         let child = node.child(right);
         if child == 0 {
             return SearchEnd::Missing(id, right);
@@ -93,14 +95,20 @@ pub fn search(nodes: &[Node], targets: &[Uri<String>], text: &str, hash: u64) ->
     SearchEnd::Missing(id, false)
 }
 
-/// Adds the node of a text with this hash, where the search for it ended.
+/// Adds the node of a text with this hash, as the child at which the search for it ended.
 ///
 /// # Errors
 ///
 /// Only if allocation fails. The nodes are then as they were.
-pub fn grow(nodes: &mut Vec<Node>, hash: u64, parent: usize, right: bool) -> Result<(), AllocError>
+pub fn add_node(
+    nodes: &mut Vec<Node>,
+    hash: u64,
+    parent: usize,
+    right: bool,
+) -> Result<(), AllocError>
     requires { parent ≤ length nodes.old.items }
-    ensures grown { OnOk result (nodes.new.items ≡ grown nodes.old.items hash parent right) }
+    ensures with_node_added { OnOk result (nodes.new.items
+        ≡ with_node_added nodes.old.items hash parent right) }
     ensures kept { OnErr result (nodes.new.items ≡ nodes.old.items) }
 {
     let id = nodes.len();

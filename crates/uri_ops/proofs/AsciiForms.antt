@@ -1,6 +1,6 @@
 -- Texts without characters past ASCII: the octets of each are in its place.
 pub mod EncodedTokens
-pub mod EncodedReadings
+pub mod EncodedDecodings
 pub mod EncodedPaths
 pub mod EncodedComponents
 pub mod EncodedTargets

@@ -4,19 +4,19 @@ pub mod Lacking
 mod MeaningRows
 pub mod PortMeanings
 pub mod SameMeanings
-pub mod PlainTexts
+pub mod AsciiCharacters
 pub mod TextParts
 pub mod ComponentEnds
 pub mod AddressNumbers
 pub mod HostMeanings
 pub mod AuthorityMeanings
-pub mod ReadParts
+pub mod DecodedParts
 pub mod Cased
 pub mod LowerRuns
-pub mod ReadFronts
+pub mod DecodedPrefixes
 pub mod UnreservedCodes
 pub mod WrittenFormatting
-pub mod TakenReadings
+pub mod TakenDecodings
 pub mod Decodable
 pub mod BracketedHosts
-pub mod ReadOctets
+pub mod DecodedOctets

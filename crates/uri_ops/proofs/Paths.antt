@@ -2,6 +2,7 @@
 pub mod DotRows
 pub mod PathCharacters
 pub mod Segments
+pub mod Underflows
 pub mod SlashedSegments
 pub mod DotLaws
 pub mod DotRuns
@@ -11,11 +12,11 @@ pub mod TakenSegments
 pub mod LastSlashes
 pub mod LeftPaths
 pub mod PushedPaths
-pub mod Seams
+pub mod ClimbedDirectories
 pub mod DotBytes
 pub mod SegmentMaps
-pub mod ReadPaths
-pub mod ReadStarts
+pub mod DecodedPaths
+pub mod DecodedStarts
 pub mod Piecewise
 pub mod WrittenPieces
 pub mod PathMeanings

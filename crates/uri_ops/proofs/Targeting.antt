@@ -8,5 +8,6 @@ pub mod TargetTexts
 pub mod ResolvedTexts
 pub mod NormalTargets
 pub mod JoinedPieces
-pub mod PlacedTexts
-pub mod PlainTargets
+pub mod TextViews
+pub mod PrefixedTargets
+pub mod CopiedTargets

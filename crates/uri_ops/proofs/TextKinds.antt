@@ -2,4 +2,4 @@
 pub mod FourKinds
 pub mod WiderKinds
 pub mod Conversions
-pub mod SpeltTexts
+pub mod GrammarTexts

@@ -10,35 +10,37 @@ use Rattle.uri_parts.specs.Grammar.{Kind, IsOfKind}
 use Rattle.uri_ops.specs.declared.convert.ConvertError.{ConvertError}
 use Rattle.uri_ops.specs.declared.convert.ConvertError.TheVariants.{NoScheme, NotAscii}
 
--- a byte of a character past ASCII
+-- whether a byte is one of a character past ASCII: it is at least 128
 abbrev pub is_past_ascii : ℕ → Bool
 is_past_ascii b = not (nat_lt b 128)
 
--- where the first character past ASCII begins
+-- the index of the first byte of a text that is past ASCII, if there is one
 unfoldable pub first_past_ascii : List ℕ → Option ℕ
 first_past_ascii text = position is_past_ascii text
 
--- RFC 3986, section 4.1: a reference is a URI only with a scheme
-unfoldable pub scheme_refusal : List ℕ → Option ConvertError
-scheme_refusal text = if is_some (components text).scheme then None else Some NoScheme
+-- the error of converting a reference to a URI or an IRI, if it has no scheme (section 4.1)
+unfoldable pub missing_scheme_error : List ℕ → Option ConvertError
+missing_scheme_error text = if is_some (components text).scheme then None else Some NoScheme
 
--- RFC 3987, section 3.1: an IRI is a URI only without characters past ASCII
-unfoldable pub ascii_refusal : List ℕ → Option ConvertError
-ascii_refusal text = option_map (λ index. NotAscii index) (first_past_ascii text)
+-- the error of converting an IRI or IRI reference to a URI or URI reference, if it has a character
+-- past ASCII (RFC 3987, section 3.1)
+unfoldable pub not_ascii_error : List ℕ → Option ConvertError
+not_ascii_error text = option_map (λ index. NotAscii index) (first_past_ascii text)
 
--- both, of which the scheme comes first
-unfoldable pub uri_refusal : List ℕ → Option ConvertError
-uri_refusal text = option_or (scheme_refusal text) (ascii_refusal text)
+-- the error of converting an IRI reference to a URI, if it is none: `NoScheme` comes before
+-- `NotAscii`
+unfoldable pub uri_conversion_error : List ℕ → Option ConvertError
+uri_conversion_error text = option_or (missing_scheme_error text) (not_ascii_error text)
 
--- a value is taken exactly if its text is of the kind, as it is, and else rejected for this
--- reason
+-- a conversion accepts a value exactly if its text is of the kind, keeps the text, and otherwise
+-- returns the error `refusal`
 pub record Converts {A : Type 0} (kind : Kind) (text_of : A → List ℕ) (text : List ℕ)
     (refusal : Option ConvertError) (result : Result A ConvertError) : Type 0 where
   pub accepts : IsOk result ↔ IsOfKind kind text
   pub same : IfOk result (λ value. text_of value ≡ text)
   pub refused : result_err result ≡ refusal
 
--- the same of a value that owns its text, which comes back where it is rejected
+-- a conversion of a value that owns its text: as `Converts`, and an error has the value beside it
 pub record ConvertsOwned {A B : Type 0} (kind : Kind) (text_of : A → List ℕ) (text : List ℕ)
     (refusal : Option ConvertError) (value : B)
     (result : Result A (ConvertError × B)) : Type 0 where

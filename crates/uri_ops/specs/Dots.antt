@@ -6,32 +6,37 @@ use Rattle.std.specs.List.{list_all, list_any, slice_split}
 use Rattle.uri_parts.specs.Components.{starts, before_any, from_any}
 use Rattle.uri_pct.specs.Delimiters.{slash}
 
--- the forms of a dot
+-- the forms of a dot in a dot segment: `.`, `%2E` and `%2e`
 abbrev pub dots : List (List ℕ)
 dots = codes "." ∷ codes "%2E" ∷ codes "%2e" ∷ []
 
--- section 3.3: the dot segments, of one dot and of two
+-- whether a segment is the dot segment of one dot, perhaps percent-encoded (section 3.3)
 abbrev pub is_single_dot : List ℕ → Bool
 is_single_dot segment = list_any (bytes_eq segment) dots
 
+-- whether a segment is the dot segment of two dots, each perhaps percent-encoded (section 3.3)
 abbrev pub is_double_dot : List ℕ → Bool
 is_double_dot segment =
     list_any (λ first. list_any (λ second. bytes_eq segment (first ++ second)) dots) dots
 
+-- whether a segment of a path is a dot segment, of one dot or two (section 3.3)
 abbrev pub is_dot_segment : List ℕ → Bool
 is_dot_segment segment = is_single_dot segment || is_double_dot segment
 
--- section 3.3: the segments of a path, the texts between its slashes
+-- the segments of a path: the texts between its slashes (section 3.3)
 abbrev pub segments : List ℕ → List (List ℕ)
 segments path = slice_split (λ c. c == slash) path
 
+-- whether no segment of the path is a dot segment: the path is dotless
 abbrev pub lacks_dot_segments : List ℕ → Bool
 lacks_dot_segments path = list_all (λ segment. not (is_dot_segment segment)) (segments path)
 
+-- whether a text has no bytes
 abbrev pub is_empty : List ℕ → Bool
 is_empty [] = true
 is_empty (c ∷ rest) = false
 
+-- whether a `/` is in the text
 abbrev pub has_slash : List ℕ → Bool
 has_slash text = list_any (λ c. c == slash) text
 
@@ -44,26 +49,27 @@ before_last_slash (c ∷ rest) = if has_slash rest then c ∷ before_last_slash 
 abbrev pub up_to_last_slash : List ℕ → List ℕ
 up_to_last_slash text = if has_slash text then before_last_slash text ++ codes "/" else []
 
--- the text after its last `/`, or all of it where it has none
+-- the last segment of a path: the text after its last `/`, or all of it if it has none
 abbrev pub last_segment : List ℕ → List ℕ
 last_segment [] = []
 last_segment (c ∷ rest) =
     if has_slash rest then last_segment rest else (if c == slash then rest else c ∷ rest)
 
--- section 5.2.4, step 1: the input buffer and the output buffer, and whether a double dot met an
--- empty output
+-- the buffers of removing dot segments: input and output, and whether a double dot met an empty
+-- output (section 5.2.4, step 1)
 pub record Buffers : Type 0 where
   pub input : List ℕ
   pub output : List ℕ
   pub underflowed : Bool
 
--- a whole input `/.` or `/..` leaves `/`
+-- the path, or `/` if it is empty: a whole input `/.` or `/..` leaves `/` (section 5.2.4)
 abbrev pub or_slash : List ℕ → List ℕ
 or_slash [] = codes "/"
 or_slash (c ∷ rest) = c ∷ rest
 
--- step 2, where the input begins with `/`: B drops a single dot, C drops a double dot and the
--- output's last segment with the `/` before it, and E moves the first segment to the output
+-- One step of removing dot segments, where the input begins with `/` (section 5.2.4, step 2).
+-- B drops a single dot, C drops a double dot and the output's last segment with the `/` before it,
+-- and E moves the first segment to the output.
 abbrev pub step : Buffers → Buffers
 step b =
     let segment = before_any (codes "/") (drop 1 b.input) in
@@ -78,25 +84,30 @@ step b =
     }
     else record { input = rest; output = b.output ++ slash ∷ segment; underflowed = b.underflowed })
 
--- the loop of step 2, at most so many times
+-- the loop of removing dot segments, run until the input is empty or this many times (section
+-- 5.2.4, step 2)
 unfoldable pub run : ℕ → Buffers → Buffers
 run zero b = b
 run (suc n) b = if is_empty b.input then b else run n (step b)
 
--- no path needs more steps
-abbrev pub run_whole : List ℕ → Buffers
-run_whole path = run (length path + 1) (record { input = path; output = []; underflowed = false })
+-- the buffers after the loop that removes a path's dot segments (section 5.2.4, step 2): no path
+-- needs more runs of it
+abbrev pub buffers_after_removal : List ℕ → Buffers
+buffers_after_removal path = run (length path + 1)
+    (record { input = path; output = []; underflowed = false })
 
--- step 3
+-- the path without its dot segments (section 5.2.4)
 unfoldable pub remove_dot_segments : List ℕ → List ℕ
-remove_dot_segments path = (run_whole path).output
+remove_dot_segments path = (buffers_after_removal path).output
 
--- a double dot has nothing left to remove
+-- whether removing the path's dot segments underflows: a double dot has no segment before it left
+-- to remove
 unfoldable pub underflows : List ℕ → Bool
-underflows path = (run_whole path).underflowed
+underflows path = (buffers_after_removal path).underflowed
 
--- section 5.2.3: what of the base's path is before a merged path. Other than in the RFC, a base
--- path that ends in a double dot is kept whole, so that its dots may be removed first or last.
+-- What of the base's path is before a merged path: the path up to its last `/` (section 5.2.3).
+-- Other than in the RFC, a base path that ends in a double dot is kept whole, so that its dots may
+-- be removed first or last.
 unfoldable pub directory : List ℕ → List ℕ
 directory path =
     if is_empty path then codes "/"
@@ -109,4 +120,4 @@ IsAbsolute path = IsTrue (starts slash path)
 
 -- the path ends in `/`
 abbrev pub EndsInSlash : List ℕ → Type 0
-EndsInSlash path = (front : List ℕ) × (path ≡ front ++ codes "/")
+EndsInSlash path = (prefix : List ℕ) × (path ≡ prefix ++ codes "/")

@@ -6,19 +6,22 @@ use Rattle.uri_pct.specs.Tokens.{Octet, text_of_token}
 use Rattle.uri_parts.specs.Grammar.{Kind}
 use Rattle.uri_ops.specs.Meaning.{bare_meaning_of}
 
--- a byte of a character past ASCII as an octet, with upper-case digits
-abbrev pub encoded_byte : ℕ → List ℕ
-encoded_byte b = if nat_lt b 128 then b ∷ [] else text_of_token (Octet b)
+-- a byte of an IRI in its URI: one past ASCII is percent-encoded with upper-case digits, any other
+-- stays as it is
+abbrev pub encode_byte_past_ascii : ℕ → List ℕ
+encode_byte_past_ascii b = if nat_lt b 128 then b ∷ [] else text_of_token (Octet b)
 
--- section 3.1, step 2: each character past ASCII as the octets of its UTF-8
-unfoldable pub encoded_text : List ℕ → List ℕ
-encoded_text text = flat_map encoded_byte text
+-- the text of an IRI with each character past ASCII percent-encoded, as the octets of its UTF-8
+-- (RFC 3987, section 3.1, step 2)
+unfoldable pub encode_past_ascii : List ℕ → List ℕ
+encode_past_ascii text = flat_map encode_byte_past_ascii text
 
--- the same characters, but for those past ASCII
+-- the set without the characters past ASCII: that of a URI's component for that of an IRI's
 abbrev pub ascii_set : TableSet → TableSet
 ascii_set set = record set { ucschar = false; iprivate = false }
 
--- the URIs that go with a kind of IRIs
+-- the kind of the URIs that the IRIs of a kind are converted to: its sets have no character past
+-- ASCII
 abbrev pub ascii_kind : Kind → Kind
 ascii_kind kind = record kind {
   userinfo = ascii_set kind.userinfo;
@@ -28,6 +31,7 @@ ascii_kind kind = record kind {
   fragment = ascii_set kind.fragment;
 }
 
--- as texts of the kind, both are equivalent for all default ports
-unfoldable pub MeanTheSame : Kind → List ℕ → List ℕ → Type 0
-MeanTheSame kind text other = bare_meaning_of kind text ≡ bare_meaning_of kind other
+-- two texts of the kind are equivalent whatever default ports schemes have: their bare meanings are
+-- equal
+unfoldable pub AreEquivalent : Kind → List ℕ → List ℕ → Type 0
+AreEquivalent kind text other = bare_meaning_of kind text ≡ bare_meaning_of kind other

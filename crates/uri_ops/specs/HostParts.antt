@@ -8,12 +8,13 @@ use Rattle.uri_parts.specs.Hosts.{HostKind, IsHost, bracketed}
 use Rattle.uri_parts.specs.declared.net.IpAddr.{IpAddr}
 use Rattle.uri_parts.specs.declared.net.IpAddr.TheVariants.{V4, V6}
 
--- UTF-8 that is a host of one kind, a name by these characters
+-- the text may be the host of a builder: UTF-8 that is a host of one kind, where `names` are the
+-- characters of a registered name
 pub record IsHostText (names : TableSet) (text : List ℕ) : Type 0 where
   pub utf8 : IsUtf8 text
   pub host : (kind : HostKind) × IsHost names text kind
 
--- the host that an address of either version is
+-- the text of an IP address as a host: an IPv6 address is in brackets (section 3.2.2)
 abbrev pub ip_host : IpAddr → List ℕ
 ip_host (V4 a) = ipv4_text (ipv4_octets a)
 ip_host (V6 a) = bracketed (ipv6_text (ipv6_segments a))

@@ -5,7 +5,7 @@ pub mod EncodedPlaces
 pub mod LeadingSegments
 pub mod SegmentModes
 pub mod Places
-pub mod PlainFronts
-pub mod Readings
+pub mod BasePrefixes
+pub mod Decodings
 pub mod Unchanged
 pub mod Written

@@ -4,44 +4,46 @@ use Rattle.std.specs.Result.{result_map_both}
 use Rattle.uri_parts.specs.Grammar.{Kind, IsTextOf}
 use Rattle.uri_parts.specs.Ports.{PortFunction}
 use Rattle.uri_parts.specs.Components.{Components, components}
-use Rattle.uri_ops.specs.Target.{Refusal, resolution_of_texts, BaseWithFragment}
+use Rattle.uri_ops.specs.Target.{TargetError, resolution_of_texts, BaseWithFragment}
 use Rattle.uri_ops.specs.Target.{InvalidReferenceAgainstOpaqueBase, resolution_of}
 use Rattle.uri_ops.specs.Meaning.{Meaning, meaning_of}
 use Rattle.uri_ops.specs.Normalizers.{IsNormalForm}
-use Rattle.uri_ops.specs.Resolving.{IsRefusalFor}
-use Rattle.uri_ops.specs.declared.resolve.ResolveError.{ResolveError}
-use Rattle.uri_ops.specs.declared.resolve.ResolveError.TheVariants as Of
+use Rattle.uri_ops.specs.Resolving.{IsErrorWithUnderflowAllowed}
+use Rattle.uri_ops.specs.declared.resolve.error.ResolveError.{ResolveError}
+use Rattle.uri_ops.specs.declared.resolve.error.ResolveError.TheVariants as Of
 
--- section 4.1: a reference of the kind needs no scheme
+-- the kind of the references against bases of a kind: they need no scheme (section 4.1)
 abbrev pub reference_kind : Kind → Kind
 reference_kind kind = record kind { needs_scheme = false }
 
--- section 5.2: the meaning of the target, or the error
-abbrev pub resolved_meaning : Kind → PortFunction → List ℕ → List ℕ → Result Meaning Refusal
+-- the meaning of the target of a base of the kind and a reference, in this order, or why there is
+-- none (section 5.2)
+abbrev pub resolved_meaning : Kind → PortFunction → List ℕ → List ℕ → Result Meaning TargetError
 resolved_meaning kind ports base reference =
     result_map_both (meaning_of kind ports) (λ refusal. refusal)
     (resolution_of_texts base reference)
 
--- another text of the kind with the same meaning, such as the normal text
+-- the text `other` is of the kind too, and equivalent to `text`, as its normal text is
 pub record HasMeaningOf (kind : Kind) (ports : PortFunction) (text other : List ℕ) : Type 0 where
   pub of_kind : IsTextOf kind other
   pub meaning : meaning_of kind ports other ≡ meaning_of kind ports text
 
--- there is a target, and it is equivalent to this text
+-- the base and the reference, in this order, have a target, and it is equivalent to the last text
 abbrev pub HasTargetMeaning : Kind → PortFunction → List ℕ → List ℕ → List ℕ → Type 0
 HasTargetMeaning kind ports base reference text =
     (target : List ℕ)
     × ((resolution_of_texts base reference ≡ Ok target)
     × (meaning_of kind ports target ≡ meaning_of kind ports text))
 
--- what an error implies for the target: if dot segments underflow, or memory runs out, a target
--- exists
-abbrev pub IsRefusedFor : Components → Components → ResolveError → Type 0
-IsRefusedFor base r Of.BaseWithFragment = resolution_of base r ≡ Err BaseWithFragment
-IsRefusedFor base r Of.InvalidReferenceAgainstOpaqueBase =
+-- The error of resolving is one that some setting returns for the components of a base and a
+-- reference.
+-- A reference has a target unless one of the first two errors is returned.
+abbrev pub IsErrorUnderSomeSetting : Components → Components → ResolveError → Type 0
+IsErrorUnderSomeSetting base r Of.BaseWithFragment = resolution_of base r ≡ Err BaseWithFragment
+IsErrorUnderSomeSetting base r Of.InvalidReferenceAgainstOpaqueBase =
     resolution_of base r ≡ Err InvalidReferenceAgainstOpaqueBase
-IsRefusedFor base r Of.PathUnderflow = is_ok (resolution_of base r) ≡ true
-IsRefusedFor base r Of.OutOfMemory = is_ok (resolution_of base r) ≡ true
+IsErrorUnderSomeSetting base r Of.PathUnderflow = is_ok (resolution_of base r) ≡ true
+IsErrorUnderSomeSetting base r Of.OutOfMemory = is_ok (resolution_of base r) ≡ true
 
 -- the target of a base of the first kind and a reference of the second: an equivalent base and
 -- reference have an equivalent target
@@ -50,21 +52,22 @@ pub record IsTargetOfMeanings (kind of_reference : Kind)
   pub alike : (ports : PortFunction) (b r : List ℕ) → HasMeaningOf kind ports base b
       → HasMeaningOf of_reference ports reference r → HasTargetMeaning kind ports b r target
 
--- the error for a base of the first kind and a reference of the second: an equivalent base and
--- reference have no target for the same reason, or have one if these do
+-- the error of resolving for a base of the first kind and a reference of the second: some setting
+-- returns it for an equivalent base and reference, too
 pub record IsErrorOfMeanings (kind of_reference : Kind) (base reference : List ℕ)
     (error : ResolveError) : Type 0 where
   pub alike : (ports : PortFunction) (b r : List ℕ) → HasMeaningOf kind ports base b
       → HasMeaningOf of_reference ports reference r
-      → IsRefusedFor (components b) (components r) error
+      → IsErrorUnderSomeSetting (components b) (components r) error
 
--- there is a target, and this is its normal form
+-- the base and the reference, in this order, have a target, and the last text is its normal form
 abbrev pub IsNormalFormOfTarget : Kind → PortFunction → List ℕ → List ℕ → List ℕ → Type 0
 IsNormalFormOfTarget kind ports base reference normal =
     (target : List ℕ)
     × ((resolution_of_texts base reference ≡ Ok target) × IsNormalForm kind ports target normal)
 
--- the result for a base of the first kind and a reference of the second
+-- the text `normal` is what resolving and normalising makes of a base of the first kind and a
+-- reference of the second (sections 5.2 and 6.2.2)
 pub record IsNormalTarget (kind of_reference : Kind) (ports : PortFunction)
     (base reference normal : List ℕ) : Type 0 where
   -- it is the normal form of the target
@@ -73,12 +76,13 @@ pub record IsNormalTarget (kind of_reference : Kind) (ports : PortFunction)
   pub swap : (b r : List ℕ) → HasMeaningOf kind ports base b
       → HasMeaningOf of_reference ports reference r → IsNormalFormOfTarget kind ports b r normal
 
--- the error for a base of the first kind and a reference of the second
-pub record IsRefusedAlike (kind of_reference : Kind) (ports : PortFunction)
+-- the error of resolving and normalising a base of the first kind and a reference of the second
+-- (sections 5.2 and 6.2.2)
+pub record IsNormalTargetError (kind of_reference : Kind) (ports : PortFunction)
     (base reference : List ℕ) (error : ResolveError) : Type 0 where
   -- it says why there is no target, or that none could be held
-  pub refusal : IsRefusalFor (components base) (components reference) error
+  pub refusal : IsErrorWithUnderflowAllowed (components base) (components reference) error
   -- it is the error for any equivalent base and reference, too
   pub swap : (b r : List ℕ) → HasMeaningOf kind ports base b
       → HasMeaningOf of_reference ports reference r
-      → IsRefusalFor (components b) (components r) error
+      → IsErrorWithUnderflowAllowed (components b) (components r) error

@@ -9,25 +9,26 @@ use Rattle.uri_parts.specs.Ports.{PortFunction}
 use Rattle.uri_parts.specs.Grammar.{IsTextOf}
 use Rattle.uri_ops.specs.declared.normalize.Normalizer.{Normalizer}
 
--- the setting: dot segments may underflow
+-- the setting of a normaliser: whether dot segments of a path may underflow
 abbrev pub normalizer_allows_underflow : {P : Type 0} → Normalizer P → Bool
 normalizer_allows_underflow n = n.allow_path_underflow
 
--- the setting: the default ports
+-- the setting of a normaliser: the default ports that it removes
 abbrev pub ports_of : {P : Type 0} → Normalizer P → P
 ports_of n = n.ports
 
--- under a scheme a double dot of the path has nothing left to remove
+-- whether normalising the text underflows: it has a scheme, and a double dot of its path has
+-- nothing left to remove
 unfoldable pub text_underflows : List ℕ → Bool
 text_underflows text = let p = components text in path_underflows p.scheme p.path
 
--- the normal text of a text
+-- the text `normal` is the normal text of `source`, a text of the kind, under the port function
 pub record HasNormalText (kind : Kind) (ports : PortFunction)
     (source normal : List ℕ) : Type 0 where
   pub text : normal ≡ normal_text (meaning_of kind ports source)
 
--- The normal text of a text of the kind is equivalent to it. It is the normal text of another text
--- exactly if the two are equivalent.
+-- the text `normal` is the normal form of `source`, a text of the kind: equivalent to it, and that
+-- of another text exactly if the two are equivalent
 pub record IsNormalForm (kind : Kind) (ports : PortFunction) (source normal : List ℕ) : Type 0 where
   pub text : HasNormalText kind ports source normal
   pub meaning : meaning_of kind ports normal ≡ meaning_of kind ports source

@@ -6,36 +6,41 @@ use Rattle.uri_parts.specs.Components.{Components, components, starts, has_autho
 use Rattle.uri_ops.specs.Dots.{is_empty, remove_dot_segments, underflows, directory}
 use Rattle.uri_pct.specs.Delimiters.{slash}
 
--- why a reference has no target against a base
-pub data Refusal : Type 0 where
-  BaseWithFragment : Refusal
-  InvalidReferenceAgainstOpaqueBase : Refusal
+-- why a reference has no target against a base (sections 5.1 and 5.2)
+pub data TargetError : Type 0 where
+  BaseWithFragment : TargetError
+  InvalidReferenceAgainstOpaqueBase : TargetError
 
--- the base has no authority, and its path does not begin with `/`
+-- whether a base is opaque: it has no authority, and its path does not begin with `/`
 abbrev pub is_opaque : Components → Bool
 is_opaque base = is_none base.authority && not (starts slash base.path)
 
--- the reference is the empty text, or begins with `#`
+-- whether a reference is the empty text, or begins with `#`: it has no other component than a
+-- fragment
 abbrev pub is_fragment_only : Components → Bool
 is_fragment_only r = is_none r.scheme && is_none r.authority && is_empty r.path && is_none r.query
 
--- Not in the RFC: an opaque base takes only a reference that has a scheme, is empty or begins with
--- `#`.
-abbrev pub is_refused_as_opaque : Components → Components → Bool
-is_refused_as_opaque base r = is_opaque base && not (is_some r.scheme || is_fragment_only r)
+-- Whether an opaque base rejects the reference: it takes only one that has a scheme, is empty or
+-- begins with `#`.
+-- Not in the RFC.
+abbrev pub is_opaque_rejection : Components → Components → Bool
+is_opaque_rejection base r = is_opaque base && not (is_some r.scheme || is_fragment_only r)
 
--- section 5.2.3: the reference's path after the base's directory (of which `directory` says what
--- is not in the RFC)
+-- The merged path of a base and a reference, by their paths: the reference's after the base's
+-- directory (section 5.2.3).
+-- `directory` says what is not in the RFC.
 abbrev pub merged : List ℕ → List ℕ → List ℕ
 merged base reference = directory base ++ reference
 
--- section 5.2.2: a reference with an empty path and no query takes the base's query
+-- the target's query, by the base's and the reference's, where the reference's path is empty: the
+-- base's if the reference has none (section 5.2.2)
 abbrev pub query_or : Option (List ℕ) → Option (List ℕ) → Option (List ℕ)
 query_or base query = if is_some query then query else base
 
--- section 5.2.2: the target's components before dot segments are removed
-abbrev pub joined : Components → Components → Components
-joined base r =
+-- the components of the target of a base and a reference, before dot segments are removed (section
+-- 5.2.2)
+abbrev pub dotted_target : Components → Components → Components
+dotted_target base r =
     if is_some r.scheme then r
     else (if is_some r.authority then record r { scheme = base.scheme }
     else (if is_empty r.path
@@ -44,42 +49,50 @@ joined base r =
     then record base { path = r.path; query = r.query; fragment = r.fragment }
     else record base { path = merged base.path r.path; query = r.query; fragment = r.fragment })))
 
--- section 5.2.2: the target's path without its dot segments
-abbrev pub cleaned_path : List ℕ → List ℕ
-cleaned_path path =
+-- the target's path without its dot segments, if it begins with `/` (section 5.2.2)
+abbrev pub dotless_if_absolute : List ℕ → List ℕ
+dotless_if_absolute path =
     if starts slash path
     -- Not in the RFC: they are removed from the base's path too, where the reference's is empty.
     then remove_dot_segments path
     -- Not in the RFC: a path that does not begin with `/` keeps them, such as that of `foo:a/../b`.
     else path
 
--- Not in the RFC: without an authority `/.` is before a path that begins with `//`, which would be
--- parsed as one.
+-- The path, with the guard `/.` before it if it begins with `//` and the authority, the Option, is
+-- absent.
+-- Not in the RFC: the path would be parsed as an authority.
 abbrev pub guarded : Option (List ℕ) → List ℕ → List ℕ
 guarded authority path =
     if is_none authority && has_authority path then codes "/." ++ path else path
 
--- the target's components
+-- the components of the target of a base and a reference, in this order (section 5.2.2)
 abbrev pub target_of : Components → Components → Components
 target_of base r =
-    let t = joined base r in record t { path = guarded t.authority (cleaned_path t.path) }
+    let t = dotted_target base r in record t {
+      path = guarded t.authority
+          (dotless_if_absolute t.path);
+    }
 
--- the dot segments of a path are removed, and underflow
-abbrev pub cleaning_underflows : List ℕ → Bool
-cleaning_underflows path = starts slash path && underflows path
+-- whether the dot segments of the path are removed from a target, since it begins with `/`, and
+-- underflow
+abbrev pub underflows_if_absolute : List ℕ → Bool
+underflows_if_absolute path = starts slash path && underflows path
 
--- removing its dot segments underflows
+-- whether resolving underflows for a base and a reference: removing the dot segments of the
+-- target's path does
 abbrev pub target_underflows : Components → Components → Bool
-target_underflows base r = cleaning_underflows (joined base r).path
+target_underflows base r = underflows_if_absolute (dotted_target base r).path
 
--- the target's text, or the error
-abbrev pub resolution_of : Components → Components → Result (List ℕ) Refusal
+-- the text of the target of a base and a reference, by their components, or why there is none
+-- (section 5.2)
+abbrev pub resolution_of : Components → Components → Result (List ℕ) TargetError
 resolution_of base r =
     -- section 5.1: a base is stripped of its fragment before it is used
     if is_some base.fragment then Err BaseWithFragment
-    else (if is_refused_as_opaque base r then Err InvalidReferenceAgainstOpaqueBase
+    else (if is_opaque_rejection base r then Err InvalidReferenceAgainstOpaqueBase
     else Ok (recompose (target_of base r)))
 
--- the same for the texts of a base and a reference
-abbrev pub resolution_of_texts : List ℕ → List ℕ → Result (List ℕ) Refusal
+-- the target's text for the texts of a base and a reference, in this order, or why there is none
+-- (section 5.2)
+abbrev pub resolution_of_texts : List ℕ → List ℕ → Result (List ℕ) TargetError
 resolution_of_texts base reference = resolution_of (components base) (components reference)

@@ -5,8 +5,9 @@ ghost use Rattle.std.specs.Str.{IsUtf8};
 ghost use Rattle.uri_parts.specs.Components.{components};
 ghost use Rattle.uri_parts.specs.CoreTexts.{core_text};
 ghost use Rattle.uri_parts.specs.Grammar.{IsOfKind, iri, iri_ref, uri, uri_ref};
-ghost use Rattle.uri_ops.specs.Conversions.{first_past_ascii, scheme_refusal, ascii_refusal};
-ghost use Rattle.uri_ops.specs.Conversions.{uri_refusal};
+ghost use Rattle.uri_ops.specs.Conversions.{first_past_ascii, missing_scheme_error};
+ghost use Rattle.uri_ops.specs.Conversions.{not_ascii_error};
+ghost use Rattle.uri_ops.specs.Conversions.{uri_conversion_error};
 
 #[doc(hidden)]
 pub mod encoded;
@@ -34,7 +35,7 @@ pub enum ConvertError {
     },
 }
 
-/// Where the first character past ASCII begins, if there is one.
+/// Returns where the first character past ASCII begins, if there is one.
 #[tactic(auto, unfolding(crate::specs::Conversions::first_past_ascii))]
 fn first_past_ascii(text: &str) -> Option<usize>
     ensures { result ≡ first_past_ascii text.now }
@@ -48,9 +49,9 @@ fn first_past_ascii(text: &str) -> Option<usize>
 ///
 /// `NoScheme`, exactly if there is none.
 #[doc(hidden)]
-#[tactic(auto, unfolding(crate::specs::Conversions::scheme_refusal))]
+#[tactic(auto, unfolding(crate::specs::Conversions::missing_scheme_error))]
 pub fn needs_scheme<K: Kind>(core: Core<K, &str>) -> Result<(), ConvertError>
-    ensures { result_err result ≡ scheme_refusal (core_text core.entry) }
+    ensures { result_err result ≡ missing_scheme_error (core_text core.entry) }
 {
     if core.has_scheme() {
         Ok(())
@@ -65,9 +66,9 @@ pub fn needs_scheme<K: Kind>(core: Core<K, &str>) -> Result<(), ConvertError>
 ///
 /// `NotAscii`, exactly if there is one, with the position of the first.
 #[doc(hidden)]
-#[tactic(auto, unfolding(crate::specs::Conversions::ascii_refusal))]
-pub fn needs_ascii(text: &str) -> Result<(), ConvertError>
-    ensures { result_err result ≡ ascii_refusal text.now }
+#[tactic(auto, unfolding(crate::specs::Conversions::not_ascii_error))]
+pub fn check_is_ascii(text: &str) -> Result<(), ConvertError>
+    ensures { result_err result ≡ not_ascii_error text.now }
 {
     match first_past_ascii(text) {
         Some(index) => Err(ConvertError::NotAscii { index }),
@@ -82,13 +83,13 @@ pub fn needs_ascii(text: &str) -> Result<(), ConvertError>
 /// `NoScheme`, exactly if there is no scheme, and else `NotAscii`, exactly if there is a character
 /// past ASCII.
 #[doc(hidden)]
-#[tactic(auto, unfolding(crate::specs::Conversions::uri_refusal, crate::specs::Conversions::scheme_refusal))]
-pub fn needs_uri(text: &str, has_scheme: bool) -> Result<(), ConvertError>
+#[tactic(auto, unfolding(crate::specs::Conversions::uri_conversion_error, crate::specs::Conversions::missing_scheme_error))]
+pub fn check_is_uri(text: &str, has_scheme: bool) -> Result<(), ConvertError>
     requires { has_scheme ≡ is_some (components text.now).scheme }
-    ensures { result_err result ≡ uri_refusal text.now }
+    ensures { result_err result ≡ uri_conversion_error text.now }
 {
     if has_scheme {
-        needs_ascii(text)
+        check_is_ascii(text)
     } else {
         Err(ConvertError::NoScheme)
     }
@@ -96,23 +97,23 @@ pub fn needs_uri(text: &str, has_scheme: bool) -> Result<(), ConvertError>
 
 /// A reference is a URI, or an IRI, exactly if it has a scheme (RFC 3986, sections 3 and 4.1).
 #[doc(hidden)]
-pub fn references_with_a_scheme()
+pub fn references_with_a_scheme_are_uris()
     ensures uri { (text : List ℕ) → IsOfKind uri_ref text
-        → (scheme_refusal text ≡ None ↔ IsOfKind uri text) }
+        → (missing_scheme_error text ≡ None ↔ IsOfKind uri text) }
     ensures iri { (text : List ℕ) → IsOfKind iri_ref text
-        → (scheme_refusal text ≡ None ↔ IsOfKind iri text) }
+        → (missing_scheme_error text ≡ None ↔ IsOfKind iri text) }
 {}
 
 /// An IRI is a URI, and an IRI reference a URI reference, exactly if it has no character past
 /// ASCII (RFC 3987, section 3.1).
 #[doc(hidden)]
-pub fn iris_of_ascii()
+pub fn ascii_iris_are_uris()
     ensures uri { (text : List ℕ) → IsUtf8 text → IsOfKind iri text
-        → (ascii_refusal text ≡ None ↔ IsOfKind uri text) }
+        → (not_ascii_error text ≡ None ↔ IsOfKind uri text) }
     ensures uri_ref { (text : List ℕ) → IsUtf8 text → IsOfKind iri_ref text
-        → (ascii_refusal text ≡ None ↔ IsOfKind uri_ref text) }
+        → (not_ascii_error text ≡ None ↔ IsOfKind uri_ref text) }
     ensures both { (text : List ℕ) → IsUtf8 text → IsOfKind iri_ref text
-        → (uri_refusal text ≡ None ↔ IsOfKind uri text) }
+        → (uri_conversion_error text ≡ None ↔ IsOfKind uri text) }
 {}
 
 /// A URI is an IRI, and a URI reference an IRI reference (RFC 3987, section 3.1).

@@ -13,7 +13,7 @@ pub trait DefaultPort: Drop {
 
     ghost port_of: { Self → PortFunction };
 
-    /// The default port of the scheme, if it has one.
+    /// Returns the default port of the scheme, if it has one.
     ///
     /// The returned port depends on this value and on the scheme's text in lower case alone. So
     /// equal schemes get equal ports.
@@ -34,6 +34,7 @@ impl DefaultPort for SchemeDefaults {
 
     ghost port_of = { λ _. default_port };
 
+    /// Returns the port that `Scheme::default_port` returns.
     fn default_port(&self, scheme: Scheme<'_>) -> Option<u16> {
         scheme.default_port()
     }

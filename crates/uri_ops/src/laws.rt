@@ -5,14 +5,16 @@ ghost use Rattle.std.specs.Str.{IsUtf8};
 ghost use Rattle.uri_pct.specs.Delimiters.{number_sign};
 ghost use Rattle.uri_pct.specs.Sets.{TableSet, LacksPercent, IsSubset, unreserved_set};
 ghost use Rattle.uri_pct.specs.Tokens.{print, IsValidFor};
-ghost use Rattle.uri_pct.specs.Reading.{read};
+ghost use Rattle.uri_pct.specs.DecodeUnreserved.{decode_unreserved};
 ghost use Rattle.uri_parts.specs.Authority.{AuthorityParts, IsAuthorityFor, authority_parts};
-ghost use Rattle.uri_parts.specs.Components.{IsRooted, IsSplitOf, starts, components, recompose};
+ghost use Rattle.uri_parts.specs.Components.{IsAbemptyPath, IsSplitOf, starts, components};
+ghost use Rattle.uri_parts.specs.Components.{recompose};
 ghost use Rattle.uri_parts.specs.Grammar.{IsOfKind, iri, iri_ref, uri, uri_ref};
 ghost use Rattle.uri_parts.specs.GrammarInWords.{IsInGrammar};
 ghost use Rattle.uri_parts.specs.Hosts.{HostKind, IsHost, host_kind};
 ghost use Rattle.uri_ops.specs.Dots.{is_empty, remove_dot_segments, underflows, directory};
-ghost use Rattle.uri_ops.specs.Dots.{lacks_dot_segments, run_whole, IsAbsolute, EndsInSlash};
+ghost use Rattle.uri_ops.specs.Dots.{lacks_dot_segments, buffers_after_removal, IsAbsolute};
+ghost use Rattle.uri_ops.specs.Dots.{EndsInSlash};
 ghost use Rattle.uri_ops.specs.Target.{is_fragment_only, target_of};
 
 #[doc(hidden)]
@@ -28,19 +30,19 @@ pub mod resolve_normalize;
 ///
 /// For `/a/./b` the input is empty after `/a`, `/.` and `/b`.
 #[tactic(auto, using(crate::proofs::Theorems::dot_runs))]
-pub fn nothing_is_left_to_read()
-    ensures { (path : List ℕ) → (run_whole path).input ≡ [] }
+pub fn removing_dot_segments_reads_the_whole_path()
+    ensures { (path : List ℕ) → (buffers_after_removal path).input ≡ [] }
 {}
 
-/// What is left has no dot segment, begins with `/` and is no longer than the path (RFC 3986,
-/// section 5.2.4).
+/// The path whose dot segments are removed has none, begins with `/` and is no longer than it was
+/// (RFC 3986, section 5.2.4).
 ///
 /// # Examples
 ///
 /// `/a/./b/../c` leaves `/a/c`.
 #[tactic(auto, using(crate::proofs::Theorems::removed_laws))]
 pub fn no_dot_segment_is_left()
-    ensures plain { (path : List ℕ) → IsAbsolute path
+    ensures dotless { (path : List ℕ) → IsAbsolute path
         → lacks_dot_segments (remove_dot_segments path) ≡ true }
     ensures absolute { (path : List ℕ) → IsAbsolute path → IsAbsolute (remove_dot_segments path) }
     ensures short { (path : List ℕ) → IsAbsolute path
@@ -52,7 +54,7 @@ pub fn no_dot_segment_is_left()
 /// # Examples
 ///
 /// `/a/b` leaves `/a/b`.
-#[tactic(auto, using(crate::proofs::Theorems::plain_laws))]
+#[tactic(auto, using(crate::proofs::Theorems::dotless_laws))]
 pub fn paths_without_dot_segments_are_left_as_they_are()
     ensures removed { (path : List ℕ) → IsAbsolute path → lacks_dot_segments path ≡ true
         → remove_dot_segments path ≡ path }
@@ -65,8 +67,8 @@ pub fn paths_without_dot_segments_are_left_as_they_are()
 /// # Examples
 ///
 /// `/a/../b` leaves `/b`, which leaves `/b`.
-#[tactic(auto, using(crate::proofs::Paths::DotLaws::removed_twice))]
-pub fn removing_twice_is_removing_once()
+#[tactic(auto, using(crate::proofs::Paths::DotLaws::removing_dots_is_idempotent))]
+pub fn removing_dot_segments_is_idempotent()
     ensures { (path : List ℕ) → IsAbsolute path
         → remove_dot_segments (remove_dot_segments path) ≡ remove_dot_segments path }
 {}
@@ -79,12 +81,12 @@ pub fn removing_twice_is_removing_once()
 /// The directory of `/a/./b` is `/a/./`, which leaves `/a/`; `/a/./b` leaves `/a/b`, whose
 /// directory is `/a/`.
 #[tactic(auto, using(crate::proofs::Theorems::directory_laws))]
-pub fn directories_are_taken_before_or_after_removing()
-    ensures absolute { (path : List ℕ) → IsRooted path → IsAbsolute (directory path) }
-    ensures closed { (path : List ℕ) → IsRooted path → EndsInSlash (directory path) }
-    ensures removed { (path : List ℕ) → IsRooted path
+pub fn taking_directories_and_removing_dots_swap()
+    ensures absolute { (path : List ℕ) → IsAbemptyPath path → IsAbsolute (directory path) }
+    ensures closed { (path : List ℕ) → IsAbemptyPath path → EndsInSlash (directory path) }
+    ensures removed { (path : List ℕ) → IsAbemptyPath path
         → remove_dot_segments (directory path) ≡ directory (remove_dot_segments path) }
-    ensures underflow { (path : List ℕ) → IsRooted path
+    ensures underflow { (path : List ℕ) → IsAbemptyPath path
         → underflows (directory path) ≡ underflows path }
 {}
 
@@ -96,27 +98,27 @@ pub fn directories_are_taken_before_or_after_removing()
 ///
 /// `/a/./` and `b` come to `/a/b`, as `/a/` and `b` do.
 #[tactic(auto, using(crate::proofs::Theorems::piece_laws))]
-pub fn front_pieces_may_be_removed_first()
-    ensures removed { (front back : List ℕ) → IsAbsolute front → EndsInSlash front
-        → remove_dot_segments (front ++ back)
-        ≡ remove_dot_segments (remove_dot_segments front ++ back) }
-    ensures underflow { (front back : List ℕ) → IsAbsolute front → EndsInSlash front
-        → underflows (front ++ back)
-        ≡ (underflows front || underflows (remove_dot_segments front ++ back)) }
+pub fn leading_dots_may_be_removed_first()
+    ensures removed { (prefix back : List ℕ) → IsAbsolute prefix → EndsInSlash prefix
+        → remove_dot_segments (prefix ++ back)
+        ≡ remove_dot_segments (remove_dot_segments prefix ++ back) }
+    ensures underflow { (prefix back : List ℕ) → IsAbsolute prefix → EndsInSlash prefix
+        → underflows (prefix ++ back)
+        ≡ (underflows prefix || underflows (remove_dot_segments prefix ++ back)) }
 {}
 
-/// The same of a path that is merged with a base's (RFC 3986, section 5.2.3): the base's dot
-/// segments may be removed first.
+/// Dot segments of a base's path may be removed before a reference's path is merged with it (RFC
+/// 3986, section 5.2.3).
 ///
 /// # Examples
 ///
 /// `/a/./b` and `c` come to `/a/c`, as `/a/b` and `c` do.
 #[tactic(auto, using(crate::proofs::Theorems::merging_laws))]
-pub fn bases_may_be_removed_before_merging()
-    ensures removed { (base reference : List ℕ) → IsRooted base
+pub fn base_dots_may_be_removed_before_merging()
+    ensures removed { (base reference : List ℕ) → IsAbemptyPath base
         → remove_dot_segments (directory base ++ reference)
         ≡ remove_dot_segments (directory (remove_dot_segments base) ++ reference) }
-    ensures underflow { (base reference : List ℕ) → IsRooted base
+    ensures underflow { (base reference : List ℕ) → IsAbemptyPath base
         → underflows (directory base ++ reference)
         ≡ (underflows base || underflows (directory (remove_dot_segments base) ++ reference)) }
 {}
@@ -128,14 +130,14 @@ pub fn bases_may_be_removed_before_merging()
 ///
 /// `/%2E/%41` without dot segments is `/%41`, which decodes to `/A`; it decodes to `/./A`, which
 /// without dot segments is `/A`.
-pub fn removing_and_reading_swap()
+pub fn removing_dots_and_decoding_swap()
     ensures removed { (set : TableSet) (path : List ℕ) → LacksPercent set
         → IsSubset unreserved_set set → IsAbsolute path → IsUtf8 path → IsValidFor set path
-        → remove_dot_segments (print (read set path))
-        ≡ print (read set (remove_dot_segments path)) }
+        → remove_dot_segments (print (decode_unreserved set path))
+        ≡ print (decode_unreserved set (remove_dot_segments path)) }
     ensures underflow { (set : TableSet) (path : List ℕ) → LacksPercent set
         → IsSubset unreserved_set set → IsAbsolute path → IsUtf8 path → IsValidFor set path
-        → underflows (print (read set path)) ≡ underflows path }
+        → underflows (print (decode_unreserved set path)) ≡ underflows path }
 {}
 
 /// The text of a target has the components that were put into it, where the base has a scheme
@@ -154,22 +156,22 @@ pub fn targets_have_the_components_put_into_them()
 /// The references without a scheme that an opaque base takes are the empty text and those that
 /// begin with `#`.
 #[doc(hidden)]
-#[tactic(auto, using(crate::proofs::Targeting::Targets::fragment_only))]
+#[tactic(auto, using(crate::proofs::Targeting::Targets::fragment_only_is_empty_or_leading_hash))]
 pub fn opaque_bases_take_fragments_alone()
     ensures { (reference : List ℕ)
         → is_fragment_only (components reference)
         ≡ (is_empty reference || starts number_sign reference) }
 {}
 
-/// The texts of the four kinds are those of the RFCs' grammars: a text has a split into components,
-/// each of which follows its rule, and the authority has a split too (RFC 3986, sections 3, 3.2 and
-/// 4.2, and appendix B; RFC 3987, section 2.2).
+/// The tests of the four kinds (`IsOfKind` of `uri_parts`) allow exactly the texts of the RFCs'
+/// grammars: a text has a split into components, each of which follows its rule, and the authority
+/// has a split too (RFC 3986, sections 3, 3.2 and 4.2, and appendix B; RFC 3987, section 2.2).
 ///
 /// # Examples
 ///
 /// `foo:a` is a URI: the scheme `foo`, no authority, and the path `a`.
 #[tactic(auto, using(crate::proofs::Theorems::grammar_laws))]
-pub fn kinds_are_their_grammar()
+pub fn kinds_match_the_rfc_grammars()
     ensures uri { (text : List ℕ) → IsUtf8 text → (IsOfKind uri text ↔ IsInGrammar uri text) }
     ensures uri_ref { (text : List ℕ) → IsUtf8 text
         → (IsOfKind uri_ref text ↔ IsInGrammar uri_ref text) }
@@ -185,7 +187,7 @@ pub fn kinds_are_their_grammar()
 ///
 /// `u@a:80` is cut into `u`, `a` and `80` alone.
 #[tactic(auto, using(crate::proofs::Theorems::cut_laws))]
-pub fn authorities_have_one_cut()
+pub fn authorities_split_in_one_way()
     ensures uri { (text : List ℕ) (p : AuthorityParts) → IsUtf8 text
         → IsAuthorityFor uri.userinfo uri.reg_name text p → authority_parts text ≡ p }
     ensures iri { (text : List ℕ) (p : AuthorityParts) → IsUtf8 text

@@ -4,7 +4,7 @@ ghost use Rattle.std.specs.Prelude.{◌≡◌, IfOk, IfErr, true, false, string_
 ghost use Rattle.std.specs.Str.{IsUtf8};
 ghost use Rattle.uri_parts.specs.CoreTexts.{core_text};
 ghost use Rattle.uri_parts.specs.Grammar.{IsOfKind};
-ghost use Rattle.uri_parts.specs.Positions.{AreAt};
+ghost use Rattle.uri_parts.specs.Positions.{ArePositionsOf};
 ghost use Rattle.uri_parts.specs.SchemePorts.{default_port};
 ghost use Rattle.uri_ops.specs.ComponentSets.{HasComponentSets};
 ghost use Rattle.uri_ops.specs.Normalizers.{HasNormalText, IsNormalForm};
@@ -16,15 +16,19 @@ pub(crate) mod decode_unreserved;
 pub(crate) mod decoded_paths;
 #[doc(hidden)]
 pub mod formatting;
+pub(crate) mod literal_runs;
 pub(crate) mod normal_authority;
 #[doc(hidden)]
 pub mod normal_text;
+pub(crate) mod normalized;
 pub(crate) mod octets;
+pub(crate) mod short_components;
 pub(crate) mod unchanged;
 
 use crate::default_port::{DefaultPort, SchemeDefaults};
-use crate::normalize::normal_text::push_normal;
-use crate::normalize::unchanged::{copied, is_unchanged};
+use crate::normalize::normal_text::push_normal_text;
+use crate::normalize::normalized::Normalized;
+use crate::normalize::unchanged::{copy_unchanged, is_unchanged};
 use crate::traits::RiMaybeRef;
 use std::alloc::{AllocError, Global};
 use thiserror::Error;
@@ -53,6 +57,7 @@ impl From<AllocError> for NormalizeError {
 
     ghost from_gives = { λ _ error. error ≡ OutOfMemory };
 
+    /// Returns the error `OutOfMemory` of normalising for a failed allocation.
     fn from(_: AllocError) -> NormalizeError {
         NormalizeError::OutOfMemory
     }
@@ -65,24 +70,20 @@ impl From<AllocError> for NormalizeError {
 ///
 /// `Normalizer::new().normalize(alloc, &uri)` returns `http://example.com/` for
 /// `HTTP://Example.com:80/`.
+///
+/// ```
+/// let normalizer = Normalizer::new();
+/// normalizer.normalize(alloc, uri)
+/// ```
 #[derive(Drop)]
 pub struct Normalizer<P> {
     allow_path_underflow: bool,
     pub(crate) ports: P,
 }
 
-/// A normal text with the positions of its components, and whether the removal of its dot segments
-/// underflows.
-#[derive(Drop)]
-pub(crate) struct Normalized {
-    pub(crate) text: String,
-    pub(crate) positions: Positions,
-    pub(crate) underflows: bool,
-}
-
 /// Returns the normal text of a text of a kind, written component by component.
 #[tactic(auto, unfolding(crate::specs::Normalizers::text_underflows))]
-fn written_form<K: Kind, P: DefaultPort>(
+fn normalize_components<K: Kind, P: DefaultPort>(
     alloc: Global,
     core: Core<K, &str>,
     ports: &P,
@@ -91,12 +92,12 @@ fn written_form<K: Kind, P: DefaultPort>(
     ensures text { IfOk result (λ made.
         HasNormalText K.kind (P.port_of ports.now) (core_text core.entry)
         (string_bytes made.text)) }
-    ensures at { IfOk result (λ made. AreAt (string_bytes made.text) made.positions) }
+    ensures at { IfOk result (λ made. ArePositionsOf (string_bytes made.text) made.positions) }
     ensures underflow { IfOk result (λ made.
         made.underflows ≡ text_underflows (core_text core.entry)) }
 {
     let mut text = String::with_capacity(alloc, core.as_str().len())?;
-    let (positions, underflows) = push_normal(core, ports, &mut text)?;
+    let (positions, underflows) = push_normal_text(core, ports, &mut text)?;
     Ok(Normalized {
         text,
         positions,
@@ -104,8 +105,9 @@ fn written_form<K: Kind, P: DefaultPort>(
     })
 }
 
-/// Returns the normal text of a text of a kind. If the text is found unchanged, it is copied.
-pub(crate) fn normal_form<K: Kind, P: DefaultPort>(
+/// Returns the normal text of a text of a kind. If that is the text itself, the result
+/// is a copy.
+pub(crate) fn normalize_core<K: Kind, P: DefaultPort>(
     alloc: Global,
     core: Core<K, &str>,
     ports: &P,
@@ -115,19 +117,19 @@ pub(crate) fn normal_form<K: Kind, P: DefaultPort>(
     ensures text { IfOk result (λ made.
         HasNormalText K.kind (P.port_of ports.now) (core_text core.entry)
         (string_bytes made.text)) }
-    ensures at { IfOk result (λ made. AreAt (string_bytes made.text) made.positions) }
+    ensures at { IfOk result (λ made. ArePositionsOf (string_bytes made.text) made.positions) }
     ensures underflow { IfOk result (λ made.
         made.underflows ≡ text_underflows (core_text core.entry)) }
 {
     if is_unchanged(core) {
-        return copied(alloc, core);
+        return copy_unchanged(alloc, core);
     }
-    written_form(alloc, core, ports)
+    normalize_components(alloc, core, ports)
 }
 
 /// Returns the normal text of a text of a kind whose components are at these positions. If the text
 /// is found unchanged, it is kept.
-pub(crate) fn normal_form_of<K: Kind, P: DefaultPort>(
+pub(crate) fn normalize_string<K: Kind, P: DefaultPort>(
     alloc: Global,
     text: String,
     positions: Positions,
@@ -135,12 +137,12 @@ pub(crate) fn normal_form_of<K: Kind, P: DefaultPort>(
 ) -> Result<Normalized, AllocError>
     requires sets { HasComponentSets K.kind }
     requires of_kind { IsOfKind K.kind (string_bytes text) }
-    requires at { AreAt (string_bytes text) positions }
+    requires at { ArePositionsOf (string_bytes text) positions }
     ensures utf8 { IsUtf8 (string_bytes text) }
     ensures text { IfOk result (λ made.
         HasNormalText K.kind (P.port_of ports.now) (string_bytes text)
         (string_bytes made.text)) }
-    ensures at { IfOk result (λ made. AreAt (string_bytes made.text) made.positions) }
+    ensures at { IfOk result (λ made. ArePositionsOf (string_bytes made.text) made.positions) }
 {
     let core = Core::<K, &str>::new(text.as_str(), positions);
     if is_unchanged(core) {
@@ -150,12 +152,12 @@ pub(crate) fn normal_form_of<K: Kind, P: DefaultPort>(
             underflows: false,
         });
     }
-    written_form(alloc, core, ports)
+    normalize_components(alloc, core, ports)
 }
 
 impl Normalizer<SchemeDefaults> {
-    /// A normaliser with the default ports of `Scheme::default_port`, where dot segments may
-    /// underflow.
+    /// Returns a normaliser with the default ports of `Scheme::default_port`, where dot segments
+    /// may underflow.
     ///
     /// # Examples
     ///
@@ -173,6 +175,7 @@ impl Normalizer<SchemeDefaults> {
 impl Default for Normalizer<SchemeDefaults> {
     ghost is_default = { λ normalizer. normalizer_allows_underflow normalizer ≡ true };
 
+    /// Returns the normaliser that `Normalizer::new` returns.
     fn default() -> Self {
         Normalizer::new()
     }
@@ -185,6 +188,11 @@ impl<P: DefaultPort> Normalizer<P> {
     /// # Examples
     ///
     /// `Normalizer::new().allow_path_underflow(false)` rejects `http://a/../b`.
+    ///
+    /// ```
+    /// let normalizer = Normalizer::new().allow_path_underflow(false);
+    /// normalizer.normalize(alloc, uri)
+    /// ```
     pub fn allow_path_underflow(self, value: bool) -> Normalizer<P>
         ensures allows { normalizer_allows_underflow result ≡ value }
         ensures ports { ports_of result ≡ ports_of self }
@@ -195,12 +203,17 @@ impl<P: DefaultPort> Normalizer<P> {
         }
     }
 
-    /// The same with other default ports (RFC 3986, section 6.2.3).
+    /// Returns the normaliser with other default ports (RFC 3986, section 6.2.3).
     ///
     /// # Examples
     ///
     /// If the ports return 4673 for every scheme, `foo://localhost:4673` is normalised to
     /// `foo://localhost`.
+    ///
+    /// ```
+    /// let normalizer = Normalizer::new().default_port_with(ports);
+    /// normalizer.normalize(alloc, uri)
+    /// ```
     pub fn default_port_with<Q: DefaultPort>(self, ports: Q) -> Normalizer<Q>
         ensures allows { normalizer_allows_underflow result ≡ normalizer_allows_underflow self }
         ensures ports { ports_of result ≡ ports }
@@ -212,7 +225,7 @@ impl<P: DefaultPort> Normalizer<P> {
     }
 
     /// Returns the normal form of a value (RFC 3986, sections 6.2.2 and 6.2.3). The scheme and the
-    /// host are in lower case. Each octet that encodes a readable character is decoded, and every
+    /// host are in lower case. Each octet that encodes a decodable character is decoded, and every
     /// other octet has upper-case digits. An empty or default port is left out. If there is a
     /// scheme, a path that begins with `/` loses its dot segments. In an IRI the formatting
     /// characters of bidirectional text, U+200E, U+200F and U+202A to U+202E, become octets,
@@ -227,6 +240,11 @@ impl<P: DefaultPort> Normalizer<P> {
     /// # Examples
     ///
     /// `eXAMPLE://a/./b/../b/%63/%7bfoo%7d` is normalised to `example://a/b/c/%7Bfoo%7D`.
+    ///
+    /// ```
+    /// let normalizer = Normalizer::new();
+    /// normalizer.normalize(alloc, uri)
+    /// ```
     pub fn normalize<R: RiMaybeRef>(
         &self,
         alloc: Global,
@@ -243,7 +261,7 @@ impl<P: DefaultPort> Normalizer<P> {
             → (normalizer_allows_underflow self.now ≡ false)
             × (text_underflows (R.text value.now) ≡ true)) }
     {
-        let made = normal_form(alloc, value.core(), &self.ports)?;
+        let made = normalize_core(alloc, value.core(), &self.ports)?;
         if made.underflows && !self.allow_path_underflow {
             return Err(NormalizeError::PathUnderflow);
         }
@@ -251,10 +269,13 @@ impl<P: DefaultPort> Normalizer<P> {
     }
 }
 
-/// The normal form of a value under the default ports of `Scheme::default_port`, where dot segments
-/// may underflow.
+/// Returns the normal form of a value under the default ports of `Scheme::default_port`, where dot
+/// segments may underflow.
 #[doc(hidden)]
-pub fn normal<R: RiMaybeRef>(alloc: Global, value: &R) -> Result<R::Owned, AllocError>
+pub fn normalize_with_defaults<R: RiMaybeRef>(
+    alloc: Global,
+    value: &R,
+) -> Result<R::Owned, AllocError>
     ensures { IfOk result (λ normal.
         IsNormalForm R.kind default_port (R.text value.now) (R.owned_text normal)) }
 {

@@ -1,5 +1,5 @@
-//! Paths: the segments that they begin with, and the removal of dot segments (RFC 3986, sections 3.3
-//! and 5.2.4).
+//! Paths: the segments that they begin with, and the removal of dot segments (RFC 3986, sections
+//! 3.3 and 5.2.4).
 
 #[doc(hidden)]
 pub mod dot_segments;

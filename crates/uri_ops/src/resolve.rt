@@ -2,61 +2,30 @@
 ghost use Rattle.std.specs.Prelude.{◌≡◌, IfOk, IfErr, true};
 ghost use Rattle.std.specs.Prelude.{string_bytes, Ok};
 ghost use Rattle.uri_parts.specs.Components.{components};
-ghost use Rattle.uri_parts.specs.Positions.{AreAt};
+ghost use Rattle.uri_parts.specs.Positions.{ArePositionsOf};
 ghost use Rattle.uri_ops.specs.Normalizers.{ports_of};
 ghost use Rattle.uri_ops.specs.Resolving.{IsErrorForEncoded, IsTargetOfEncoded};
 ghost use Rattle.uri_ops.specs.NormalTargets.{IsErrorOfMeanings, IsTargetOfMeanings};
-ghost use Rattle.uri_ops.specs.NormalTargets.{IsNormalTarget, IsRefusedAlike};
+ghost use Rattle.uri_ops.specs.NormalTargets.{IsNormalTarget, IsNormalTargetError};
 ghost use Rattle.uri_ops.specs.Resolving.{resolver_allows_underflow, base_of};
-ghost use Rattle.uri_ops.specs.Resolving.{IsErrorFor, IsRefusalFor, IsTarget};
+ghost use Rattle.uri_ops.specs.Resolving.{IsErrorFor, IsErrorWithUnderflowAllowed, IsTarget};
 ghost use Rattle.uri_ops.specs.Target.{resolution_of_texts};
 ghost use Rattle.uri_parts.specs.Grammar.{IsTextOf};
 
 pub(crate) mod base_prefix;
+pub(crate) mod error;
+pub(crate) mod room;
 #[doc(hidden)]
 pub mod target_text;
 pub(crate) mod text_view;
 
 use crate::default_port::DefaultPort;
-use crate::normalize::{Normalizer, normal_form_of};
+use crate::normalize::{Normalizer, normalize_string};
+pub use crate::resolve::error::ResolveError;
 use crate::resolve::target_text::{Target, target_text};
 use crate::resolve::text_view::TextView;
 use crate::traits::{RefOf, Ri, RiMaybeRef};
 use std::alloc::{AllocError, Global};
-use thiserror::Error;
-
-/// Why a reference was not resolved against a base.
-///
-/// # Examples
-///
-/// `//g` against `foo:bar` is rejected as `InvalidReferenceAgainstOpaqueBase`.
-#[derive(Clone, Copy, Debug, PartialEq, Eq, Error)]
-pub enum ResolveError {
-    /// The base has a fragment (RFC 3986, section 5.1).
-    #[error("base should not have fragment")]
-    BaseWithFragment,
-    /// The base has no authority and its path doesn't begin with `/`, and the reference has no
-    /// scheme, is not empty and doesn't begin with `#`.
-    #[error("when base has a rootless path and no authority, reference should either have scheme, be empty or start with '#'")]
-    InvalidReferenceAgainstOpaqueBase,
-    /// A double dot had no segment left to remove (RFC 3986, section 5.2.4), and this is not
-    /// allowed.
-    #[error("underflow occurred in path resolution")]
-    PathUnderflow,
-    /// Allocation failed.
-    #[error("out of memory")]
-    OutOfMemory,
-}
-
-impl From<AllocError> for ResolveError {
-    ghost use Rattle.uri_ops.specs.declared.resolve.ResolveError.TheVariants.{OutOfMemory};
-
-    ghost from_gives = { λ _ error. error ≡ OutOfMemory };
-
-    fn from(_: AllocError) -> ResolveError {
-        ResolveError::OutOfMemory
-    }
-}
 
 /// What resolves references against a base, by its setting: whether dot segments may underflow.
 ///
@@ -64,15 +33,23 @@ impl From<AllocError> for ResolveError {
 ///
 /// `Resolver::with_base(base).resolve(alloc, &reference)` returns `http://a/b/g` for
 /// `http://a/b/c/d;p?q` and `../g`.
+///
+/// ```
+/// let resolver = Resolver::with_base(base);
+/// Ok((
+///     resolver.resolve(alloc, first)?,
+///     resolver.resolve(alloc, second)?,
+/// ))
+/// ```
 #[derive(Drop)]
 pub struct Resolver<R> {
     base: R,
     allow_path_underflow: bool,
 }
 
-/// The text of the target of a reference against a base (RFC 3986, section 5.2), and where its
-/// components are.
-fn resolved_text<B: Ri, Q: RefOf<B>>(
+/// Returns the text of the target of a reference against a base (RFC 3986, section 5.2), and where
+/// its components are.
+fn resolve_to_text<B: Ri, Q: RefOf<B>>(
     alloc: Global,
     base: &B,
     reference: &Q,
@@ -81,7 +58,7 @@ fn resolved_text<B: Ri, Q: RefOf<B>>(
     ensures base { IsTextOf B.kind (B.text base.now) }
     ensures reference { IsTextOf Q.kind (Q.text reference.now) }
     ensures of_kind { IfOk result (λ target. IsTextOf B.kind (string_bytes target.text)) }
-    ensures at { IfOk result (λ target. AreAt (string_bytes target.text) target.positions) }
+    ensures at { IfOk result (λ target. ArePositionsOf (string_bytes target.text) target.positions) }
     ensures target { IfOk result (λ target.
         IsTarget allow_path_underflow (components (B.text base.now))
         (components (Q.text reference.now)) (string_bytes target.text)) }
@@ -108,8 +85,7 @@ fn resolved_text<B: Ri, Q: RefOf<B>>(
 
 /// Returns the target of a reference against a base (RFC 3986, section 5.2). An error that the two
 /// texts alone decide comes before any allocation.
-#[doc(hidden)]
-pub fn resolved<B: Ri, Q: RefOf<B>>(
+fn resolve_to_value<B: Ri, Q: RefOf<B>>(
     alloc: Global,
     base: &B,
     reference: &Q,
@@ -131,14 +107,14 @@ pub fn resolved<B: Ri, Q: RefOf<B>>(
     ensures alike_error { IfErr result
         (IsErrorOfMeanings B.kind Q.kind (B.text base.now) (Q.text reference.now)) }
 {
-    let target = resolved_text(alloc, base, reference, allow_path_underflow)?;
+    let target = resolve_to_text(alloc, base, reference, allow_path_underflow)?;
     Ok(B::make_owned(target.text, target.positions))
 }
 
 /// Returns the target of a reference against a base, with dot segments allowed to underflow (RFC
 /// 3986, section 5.2). An error that the two texts alone decide comes before any allocation.
 #[doc(hidden)]
-pub fn resolved_against<B: Ri, Q: RefOf<B>>(
+pub fn resolve_with_underflow<B: Ri, Q: RefOf<B>>(
     alloc: Global,
     base: &B,
     reference: &Q,
@@ -146,7 +122,8 @@ pub fn resolved_against<B: Ri, Q: RefOf<B>>(
     ensures target { IfOk result (λ target.
         resolution_of_texts (B.text base.now) (Q.text reference.now) ≡ Ok (B.owned_text target)) }
     ensures refusal { IfErr result
-        (IsRefusalFor (components (B.text base.now)) (components (Q.text reference.now))) }
+        (IsErrorWithUnderflowAllowed (components (B.text base.now))
+        (components (Q.text reference.now))) }
     ensures encoded { IfOk result (λ target.
         IsTargetOfEncoded true (B.text base.now) (Q.text reference.now) (B.owned_text target)) }
     ensures encoded_error { IfErr result
@@ -156,11 +133,11 @@ pub fn resolved_against<B: Ri, Q: RefOf<B>>(
     ensures alike_error { IfErr result
         (IsErrorOfMeanings B.kind Q.kind (B.text base.now) (Q.text reference.now)) }
 {
-    resolved(alloc, base, reference, true)
+    resolve_to_value(alloc, base, reference, true)
 }
 
 impl<R: Ri> Resolver<R> {
-    /// A resolver against this base, where dot segments may underflow.
+    /// Returns a resolver against this base, where dot segments may underflow.
     ///
     /// # Examples
     ///
@@ -182,6 +159,11 @@ impl<R: Ri> Resolver<R> {
     ///
     /// `Resolver::with_base(base).allow_path_underflow(false)` rejects `../../../g` against
     /// `http://a/b/c/d;p?q`.
+    ///
+    /// ```
+    /// let resolver = Resolver::with_base(base).allow_path_underflow(false);
+    /// resolver.resolve(alloc, reference)
+    /// ```
     pub fn allow_path_underflow(self, value: bool) -> Resolver<R>
         ensures base { base_of result ≡ base_of self }
         ensures allows { resolver_allows_underflow result ≡ value }
@@ -221,6 +203,14 @@ impl<R: Ri> Resolver<R> {
     /// # Examples
     ///
     /// `g;x?y#s` against `http://a/b/c/d;p?q` is `http://a/b/c/g;x?y#s`.
+    ///
+    /// ```
+    /// let resolver = Resolver::with_base(base);
+    /// Ok((
+    ///     resolver.resolve(alloc, first)?,
+    ///     resolver.resolve(alloc, second)?,
+    /// ))
+    /// ```
     pub fn resolve<Q: RefOf<R>>(
         &self,
         alloc: Global,
@@ -242,7 +232,7 @@ impl<R: Ri> Resolver<R> {
         ensures alike_error { IfErr result
             (IsErrorOfMeanings R.kind Q.kind (R.text (base_of self.now)) (Q.text reference.now)) }
     {
-        resolved(alloc, &self.base, reference, self.allow_path_underflow)
+        resolve_to_value(alloc, &self.base, reference, self.allow_path_underflow)
     }
 
     /// Returns the normal form of the target of a reference against the base: `resolve` with
@@ -258,6 +248,11 @@ impl<R: Ri> Resolver<R> {
     /// # Examples
     ///
     /// `//a:80` against `http://x/` is `http://a`.
+    ///
+    /// ```
+    /// let resolver = Resolver::with_base(base);
+    /// resolver.resolve_normalized(alloc, reference, &Normalizer::new())
+    /// ```
     pub fn resolve_normalized<Q: RefOf<R>, P: DefaultPort>(
         &self,
         alloc: Global,
@@ -268,11 +263,11 @@ impl<R: Ri> Resolver<R> {
             IsNormalTarget R.kind Q.kind (P.port_of (ports_of normalizer.now))
             (R.text (base_of self.now)) (Q.text reference.now) (R.owned_text normal)) }
         ensures refusal { IfErr result
-            (IsRefusedAlike R.kind Q.kind (P.port_of (ports_of normalizer.now))
+            (IsNormalTargetError R.kind Q.kind (P.port_of (ports_of normalizer.now))
             (R.text (base_of self.now)) (Q.text reference.now)) }
     {
-        let target = resolved_text(alloc, &self.base, reference, true)?;
-        let made = normal_form_of::<R::Kind, P>(
+        let target = resolve_to_text(alloc, &self.base, reference, true)?;
+        let made = normalize_string::<R::Kind, P>(
             alloc,
             target.text,
             target.positions,

@@ -2,7 +2,7 @@
 ghost use Rattle.std.specs.Prelude.{◌≡◌, false, option_map, string_bytes};
 ghost use Rattle.uri_parts.specs.CoreTexts.{core_text};
 ghost use Rattle.uri_parts.specs.Grammar.{IsOfKind};
-ghost use Rattle.uri_parts.specs.Positions.{AreAt};
+ghost use Rattle.uri_parts.specs.Positions.{ArePositionsOf};
 
 use uri_parts::component::{Authority, Scheme};
 use uri_parts::core_text::Core;
@@ -61,7 +61,7 @@ pub trait RiMaybeRef {
 
     ghost owned_text: { Self.Owned → List ℕ };
 
-    /// The text as it is.
+    /// Returns the text.
     ///
     /// # Examples
     ///
@@ -70,19 +70,19 @@ pub trait RiMaybeRef {
         ensures text { result.now ≡ text self.now }
         ensures of_kind { IsOfKind kind result.now };
 
-    /// Where the components of the text are.
+    /// Returns where the components of the text are.
     #[doc(hidden)]
     fn positions(&self) -> Positions
-        ensures { AreAt (text self.now) result };
+        ensures { ArePositionsOf (text self.now) result };
 
-    /// The value whose text this is, with the positions of its own components.
+    /// Returns the value whose text this is, with the positions of its own components.
     #[doc(hidden)]
     fn make_owned(owned: String, positions: Positions) -> Self::Owned
         requires of_kind { IsOfKind kind (string_bytes owned) }
-        requires at { AreAt (string_bytes owned) positions }
+        requires at { ArePositionsOf (string_bytes owned) positions }
         ensures { owned_text result ≡ string_bytes owned };
 
-    /// The text with the positions of its components.
+    /// Returns the text with the positions of its components.
     #[doc(hidden)]
     final fn core(&self) -> Core<Self::Kind, &str>
         ensures text { core_text result ≡ text self.now }
@@ -91,7 +91,7 @@ pub trait RiMaybeRef {
         core_of(self)
     }
 
-    /// The scheme without its `:`, if there is one (RFC 3986, section 3.1).
+    /// Returns the scheme without its `:`, if there is one (RFC 3986, section 3.1).
     ///
     /// # Examples
     ///
@@ -102,7 +102,7 @@ pub trait RiMaybeRef {
         self.core().scheme()
     }
 
-    /// The authority without its `//`, if there is one (RFC 3986, section 3.2).
+    /// Returns the authority without its `//`, if there is one (RFC 3986, section 3.2).
     ///
     /// # Examples
     ///
@@ -113,7 +113,7 @@ pub trait RiMaybeRef {
         self.core().authority()
     }
 
-    /// The path, which may be empty (RFC 3986, section 3.3).
+    /// Returns the path, which may be empty (RFC 3986, section 3.3).
     ///
     /// # Examples
     ///
@@ -124,7 +124,7 @@ pub trait RiMaybeRef {
         self.core().path()
     }
 
-    /// The query without its `?`, if there is one (RFC 3986, section 3.4).
+    /// Returns the query without its `?`, if there is one (RFC 3986, section 3.4).
     ///
     /// # Examples
     ///
@@ -135,7 +135,7 @@ pub trait RiMaybeRef {
         self.core().query()
     }
 
-    /// The fragment without its `#`, if there is one (RFC 3986, section 3.5).
+    /// Returns the fragment without its `#`, if there is one (RFC 3986, section 3.5).
     ///
     /// # Examples
     ///
@@ -191,7 +191,7 @@ pub trait RefOf<B: Ri>: RiMaybeRef {
     ghost same_tables: { Self.kind ≡ record B.kind { needs_scheme = false } };
 }
 
-/// The text of a value with the positions of its components.
+/// Returns the text of a value with the positions of its components.
 fn core_of<R: RiMaybeRef>(value: &R) -> Core<R::Kind, &str>
     ensures text { core_text result ≡ R.text value.now }
     ensures of_kind { IsOfKind R.kind (R.text value.now) }

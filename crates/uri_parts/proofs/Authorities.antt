@@ -7,8 +7,10 @@ pub mod AuthorityCuts
 pub mod AuthorityPlaces
 pub mod WholeAuthorities
 pub mod NamesAndPorts
+pub mod ClosedLiterals
 pub mod HostParsing
+pub mod UserinfoLengths
 pub mod FoundAuthorities
 pub mod Authority
 mod AuthorityRows
-pub mod PlacedHosts
+pub mod HostPositions

@@ -9,3 +9,6 @@ pub mod ParsedAddresses
 pub mod LiteralTexts
 pub mod FutureParsing
 pub mod Ipv6Literals
+pub mod HexDigits
+pub mod AddressTexts
+pub mod GroupReading

@@ -1,6 +1,7 @@
 -- The errors of a text that is rejected.
 pub mod Accepted
 pub mod Colons
+pub mod Ipv4Ends
 pub mod Complete
 pub mod Digits
 pub mod GroupTurns

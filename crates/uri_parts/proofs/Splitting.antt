@@ -8,4 +8,4 @@ pub mod Hierarchies
 pub mod Places
 pub mod Fragments
 mod ComponentRows
-pub mod PlacedComponents
+pub mod ComponentPositions

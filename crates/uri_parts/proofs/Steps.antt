@@ -1,72 +1,103 @@
 -- What the proofs of the parser's functions cite and unfold: their attributes name it.
 use Rattle.std.specs.Prelude.{⊤}
-use Rattle.uri_pct.proofs.TableSets.Constants.{digit_table, scheme_table}
-use Rattle.uri_parts.specs.Refusals.{from_end, from_fragment, from_query, from_path}
-use Rattle.uri_parts.specs.Refusals.{from_relative_path}
-use Rattle.uri_parts.specs.Models.AuthorityParsing.{port_length, name_length, finds_name}
-use Rattle.uri_parts.specs.Models.AuthorityParsing.{host_end, host_length, more_user, user_length}
-use Rattle.uri_parts.specs.Models.AuthorityParsing.{host_place, other_authority, other_length}
-use Rattle.uri_parts.specs.Models.AuthorityParsing.{found_length, found_authority}
-use Rattle.uri_parts.specs.Models.ParseErrors.{ended_error, port_error, host_error, userinfo_error}
-use Rattle.uri_parts.specs.Models.ParseErrors.{other_error, authority_error, hier_error}
+use Rattle.uri_pct.proofs.TableSets.Constants.{digit_masks_are_digit_set}
+use Rattle.uri_pct.proofs.TableSets.Constants.{scheme_masks_are_scheme_set}
+use Rattle.uri_parts.specs.Refusals.{error_from_end, error_from_fragment, error_from_query}
+use Rattle.uri_parts.specs.Refusals.{error_from_path}
+use Rattle.uri_parts.specs.Refusals.{error_from_relative_path}
+use Rattle.uri_parts.specs.Models.AuthorityParsing.{port_length, name_and_port_length}
+use Rattle.uri_parts.specs.Models.AuthorityParsing.{name_ends_authority}
+use Rattle.uri_parts.specs.Models.AuthorityParsing.{host_end, host_and_port_length}
+use Rattle.uri_parts.specs.Models.AuthorityParsing.{further_userinfo_length, userinfo_length}
+use Rattle.uri_parts.specs.Models.AuthorityParsing.{host_offset, other_authority}
+use Rattle.uri_parts.specs.Models.AuthorityParsing.{other_authority_length}
+use Rattle.uri_parts.specs.Models.AuthorityParsing.{found_authority_length, found_authority}
+use Rattle.uri_parts.specs.Models.ParseErrors.{error_after_port, port_error, host_error}
+use Rattle.uri_parts.specs.Models.ParseErrors.{userinfo_error}
+use Rattle.uri_parts.specs.Models.ParseErrors.{other_authority_error, authority_error}
+use Rattle.uri_parts.specs.Models.ParseErrors.{hier_part_error}
 use Rattle.uri_parts.specs.Models.ParseErrors.{schemeless_error, parsed_error}
 use Rattle.uri_parts.specs.Models.Parsing.{query_end_at, path_positions, authority_positions}
-use Rattle.uri_parts.specs.Models.Parsing.{hier_positions, relative_positions}
+use Rattle.uri_parts.specs.Models.Parsing.{hier_part_positions, relative_positions}
 use Rattle.uri_parts.specs.Models.Parsing.{schemeless_positions, parsed_positions}
-use Rattle.uri_parts.proofs.Authorities.AuthorityCuts.{behind, behind_mark}
-use Rattle.uri_parts.proofs.Parsing.NextBytes.{starts_at, stray_fault, ends_at, goes_on_at}
-use Rattle.uri_parts.proofs.Refusals.Colons.{last_is, last_was}
-use Rattle.uri_parts.proofs.Refusals.Digits.{no_digit, no_more, no_text}
-use Rattle.uri_parts.proofs.Refusals.Digits.{octets_none, octets_dotted, octets_undotted}
+use Rattle.uri_parts.proofs.Authorities.AuthorityCuts.{suffix, drop-after-drop-of-one}
+use Rattle.uri_parts.proofs.Parsing.NextBytes.{starts_at_position, stray_percent_ends_scan}
+use Rattle.uri_parts.proofs.Parsing.NextBytes.{authority_may_end_at_end, authority_may_end_at_byte}
+use Rattle.uri_parts.proofs.Refusals.Colons.{last_colon-at-colon, last_colon-stays-past-other-byte}
+use Rattle.uri_parts.proofs.Refusals.Digits.{digits_end-stays-at-other-byte}
+use Rattle.uri_parts.proofs.Refusals.Digits.{digits_end-stays-where-none-may-follow}
+use Rattle.uri_parts.proofs.Refusals.Digits.{digits_end-stays-past-text}
+use Rattle.uri_parts.proofs.Refusals.Digits.{octets_end-of-no-octets-stays}
+use Rattle.uri_parts.proofs.Refusals.Digits.{octets_end-goes-on-after-dot}
+use Rattle.uri_parts.proofs.Refusals.Digits.{octets_end-fails-without-dot}
 
 -- what is next
-pub ruleset marks = (ends_at, goes_on_at)
+pub ruleset marks = (authority_may_end_at_end, authority_may_end_at_byte)
 
-pub ruleset strays = (stray_fault, starts_at)
+pub ruleset strays = (stray_percent_ends_scan, starts_at_position)
 
 -- an address in brackets
-pub ruleset digits = (no_digit, no_more, no_text)
+pub ruleset digits = (
+  digits_end-stays-at-other-byte,
+  digits_end-stays-where-none-may-follow,
+  digits_end-stays-past-text,
+)
 
-pub ruleset octets = (octets_none, octets_dotted, octets_undotted)
+pub ruleset octets = (
+  octets_end-of-no-octets-stays,
+  octets_end-goes-on-after-dot,
+  octets_end-fails-without-dot,
+)
 
 -- an authority
-pub ruleset colons = (last_is, last_was)
+pub ruleset colons = (last_colon-at-colon, last_colon-stays-past-other-byte)
 
-pub ruleset ports = (digit_table, behind_mark)
+pub ruleset ports = (digit_masks_are_digit_set, drop-after-drop-of-one)
 
-pub ruleset cuts = (behind)
+pub ruleset cuts = (suffix)
 
+-- what a proof unfolds where a name and a port are parsed
 unfoldable pub name : ⊤
-unfolding port_length finds_name name_length
+unfolding port_length name_ends_authority name_and_port_length
 name = tt
 
+-- what a proof unfolds where a host and its error are parsed
 unfoldable pub host : ⊤
-unfolding host_length host_end host_error port_error ended_error
+unfolding host_and_port_length host_end host_error port_error error_after_port
 host = tt
 
+-- what a proof unfolds where userinfo is parsed
 unfoldable pub user : ⊤
-unfolding more_user userinfo_error
+unfolding further_userinfo_length userinfo_error
 user = tt
 
+-- what a proof unfolds where an authority that is no name alone is parsed
 unfoldable pub other : ⊤
-unfolding user_length host_place other_authority other_error
+unfolding userinfo_length host_offset other_authority other_authority_error
 other = tt
 
+-- what a proof unfolds where an authority is parsed
 unfoldable pub authority : ⊤
-unfolding found_length found_authority other_length other_authority authority_error
+unfolding found_authority_length found_authority other_authority_length other_authority
+    authority_error
 authority = tt
 
 -- a whole text
-pub ruleset schemes = (scheme_table)
+pub ruleset schemes = (scheme_masks_are_scheme_set)
 
+-- what a proof unfolds where a path, a query and a fragment are parsed
 unfoldable pub tail : ⊤
-unfolding from_end from_fragment query_end_at from_query path_positions from_path
+unfolding error_from_end error_from_fragment query_end_at error_from_query path_positions
+    error_from_path
 tail = tt
 
+-- what a proof unfolds where what comes before a path is parsed
 unfoldable pub before_path : ⊤
-unfolding authority_positions hier_positions hier_error relative_positions from_relative_path
+unfolding authority_positions hier_part_positions hier_part_error relative_positions
+    error_from_relative_path
 before_path = tt
 
+-- what a proof unfolds where a whole text is parsed
 unfoldable pub whole : ⊤
 unfolding schemeless_positions schemeless_error parsed_positions parsed_error
 whole = tt

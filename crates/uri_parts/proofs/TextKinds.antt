@@ -1,6 +1,6 @@
 -- What is known of the texts and of the sets of each kind.
-pub mod PlainSets
+pub mod AsciiSets
 pub mod Separations
 pub mod KindSets
 pub mod ComponentRules
-pub mod SpeltTexts
+pub mod GrammarTexts

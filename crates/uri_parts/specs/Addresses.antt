@@ -9,15 +9,15 @@ use Rattle.uri_parts.specs.declared.net.Ipv6Addr.{Ipv6Addr}
 use Rattle.uri_parts.specs.declared.net.IpAddr.{IpAddr}
 use Rattle.uri_parts.specs.declared.net.IpAddr.TheVariants.{V4, V6}
 
--- the four octets of an IPv4 address
+-- the four octets of an IPv4 address, first to last
 abbrev pub ipv4_octets : Ipv4Addr → List ℕ
 ipv4_octets a = Addr.ipv4_octets a.0
 
--- the eight segments of an IPv6 address
+-- the eight numbers below 65536 of an IPv6 address, first to last
 abbrev pub ipv6_segments : Ipv6Addr → List ℕ
 ipv6_segments a = Addr.ipv6_segments a.0
 
--- the text of either
+-- the canonical text of an IP address: of IPv4 four numbers with dots, of IPv6 as RFC 5952 has it
 abbrev pub ip_text : IpAddr → List ℕ
 ip_text (V4 a) = ipv4_text (ipv4_octets a)
 ip_text (V6 a) = ipv6_text (ipv6_segments a)

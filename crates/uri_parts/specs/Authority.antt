@@ -9,16 +9,20 @@ use Rattle.uri_parts.specs.Components.{marked, starts, before_any, from_any, whe
 use Rattle.uri_parts.specs.Hosts.{HostKind, IsHost, is_host}
 use Rattle.uri_pct.specs.Delimiters.{at_sign, colon, left_bracket}
 
+-- the components of an authority, without their delimiters; userinfo and port may be absent
+-- (RFC 3986, section 3.2)
 pub record AuthorityParts : Type 0 where
   pub userinfo : Option (List ℕ)
   pub host : List ℕ
   pub port : Option (List ℕ)
 
--- the text of three components
+-- the text of an authority's components, with `@` after userinfo and `:` before a port (RFC 3986,
+-- section 3.2)
 abbrev pub recompose_authority : AuthorityParts → List ℕ
 recompose_authority p = marked [] p.userinfo (codes "@") ++ (p.host ++ marked (codes ":") p.port [])
 
--- section 3.2 in its words, for the characters of userinfo and of registered names
+-- the text is an authority with the components p, in the words of RFC 3986, section 3.2; users and
+-- names are the sets of userinfo and of registered names
 pub record IsAuthorityFor (users names : TableSet) (text : List ℕ)
     (p : AuthorityParts) : Type 0 where
   pub whole : recompose_authority p ≡ text
@@ -26,40 +30,48 @@ pub record IsAuthorityFor (users names : TableSet) (text : List ℕ)
   pub host : (h : HostKind) × IsHost names p.host h
   pub port : IfSome p.port (IsValidFor digit_set)
 
--- no component contains a character that ends it
-pub record KeepsApart (users names : TableSet) : Type 0 where
+-- the set of userinfo (users) lacks `@`, and that of registered names (names) lacks `@`, `:` and
+-- `[`; neither has a literal `%`
+pub record LackAuthorityDelimiters (users names : TableSet) : Type 0 where
   pub users_percent : LacksPercent users
   pub names_percent : LacksPercent names
   pub users_marks : list_any users.ascii (codes "@") ≡ false
   pub names_marks : list_any names.ascii (codes "@:[") ≡ false
 
--- the cut as a function: the userinfo ends at the first `@`, a host in brackets after the first
--- `]`, and another at the first `:`
-abbrev pub behind_userinfo : List ℕ → List ℕ
-behind_userinfo text =
+-- of an authority, what follows its userinfo and first `@`, or all of it if it has no `@`
+-- (RFC 3986, section 3.2.1)
+abbrev pub after_userinfo : List ℕ → List ℕ
+after_userinfo text =
     if starts at_sign (from_any (codes "@") text) then drop 1 (from_any (codes "@") text) else text
 
-abbrev pub host_before : List ℕ → List ℕ
-host_before rest =
+-- the host that begins the text: up to the first `]` if it begins with `[`, and else up to the
+-- first `:` (RFC 3986, section 3.2.2)
+abbrev pub leading_host : List ℕ → List ℕ
+leading_host rest =
     if starts left_bracket rest then before_any (codes "]") rest ++ codes "]"
     else before_any (codes ":") rest
 
-abbrev pub behind_host : List ℕ → List ℕ
-behind_host rest =
+-- what follows the host that begins the text: after the first `]` if it begins with `[`, and else
+-- from the first `:` on (RFC 3986, section 3.2.2)
+abbrev pub after_host : List ℕ → List ℕ
+after_host rest =
     if starts left_bracket rest then drop 1 (from_any (codes "]") rest)
     else from_any (codes ":") rest
 
+-- the components of an authority: userinfo ends at the first `@`, a host in brackets after the
+-- first `]` and another at the first `:`, which begins a port (RFC 3986, section 3.2)
 abbrev pub authority_parts : List ℕ → AuthorityParts
 authority_parts text =
-    let rest = behind_userinfo text in
-    let behind = behind_host rest in
+    let rest = after_userinfo text in
+    let suffix = after_host rest in
     record {
       userinfo = when (starts at_sign (from_any (codes "@") text)) (before_any (codes "@") text);
-      host = host_before rest;
-      port = when (starts colon behind) (drop 1 behind);
+      host = leading_host rest;
+      port = when (starts colon suffix) (drop 1 suffix);
     }
 
--- each component of the cut meets its rule, and together they are the text
+-- the text is an authority: each component of its cut meets its rule, and together they are the
+-- text (RFC 3986, section 3.2). The sets are those of userinfo and of registered names.
 unfoldable pub is_authority_for : TableSet → TableSet → List ℕ → Bool
 is_authority_for users names text =
     let p = authority_parts text in

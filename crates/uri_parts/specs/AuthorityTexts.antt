@@ -8,20 +8,20 @@ use Rattle.uri_parts.specs.Addresses.{ipv4_octets, ipv6_segments}
 use Rattle.uri_parts.specs.declared.component.HostOf.TheVariants as Of
 use Rattle.uri_parts.specs.Hosts as Hosts
 
--- the text of an authority
+-- the text that an `Authority` holds, as its bytes, with the delimiters of its components
 abbrev pub authority_text : {U R : _} {g : _} {h : _} → Authority U R g h → List ℕ
 authority_text a = a.text.now
 
--- which host it is, an address with its numbers
+-- the kind of host that a `HostOf` is; an address has its numbers
 abbrev pub host_kind_of : {N : Type 0} → HostOf N → Hosts.HostKind
 host_kind_of (Of.Ipv4 a) = Hosts.Ipv4 (ipv4_octets a)
 host_kind_of (Of.Ipv6 a) = Hosts.Ipv6 (ipv6_segments a)
 host_kind_of Of.IpvFuture = Hosts.IpvFuture
 host_kind_of (Of.RegName name) = Hosts.RegName
 
--- a registered name has this text
-abbrev pub IsNamed : {R : _} {g : _} → HostOf (EStr R g) → List ℕ → Type 0
-IsNamed (Of.Ipv4 a) text = ⊤
-IsNamed (Of.Ipv6 a) text = ⊤
-IsNamed Of.IpvFuture text = ⊤
-IsNamed (Of.RegName name) text = text_of name ≡ text
+-- if the host is a registered name, this is its text; an address passes
+abbrev pub HasRegisteredName : {R : _} {g : _} → HostOf (EStr R g) → List ℕ → Type 0
+HasRegisteredName (Of.Ipv4 a) text = ⊤
+HasRegisteredName (Of.Ipv6 a) text = ⊤
+HasRegisteredName Of.IpvFuture text = ⊤
+HasRegisteredName (Of.RegName name) text = text_of name ≡ text

@@ -7,6 +7,8 @@ use Rattle.std.specs.List.{prefix_len}
 use Rattle.uri_pct.specs.Sets.{is_one_of}
 use Rattle.uri_pct.specs.Delimiters.{colon, number_sign, question_mark, slash}
 
+-- the five components of a text, without their delimiters; all but the path may be absent
+-- (RFC 3986, section 3)
 pub record Components : Type 0 where
   pub scheme : Option (List ℕ)
   pub authority : Option (List ℕ)
@@ -14,74 +16,84 @@ pub record Components : Type 0 where
   pub query : Option (List ℕ)
   pub fragment : Option (List ℕ)
 
--- a component with what is before and after it, where it is present
+-- the component, where it is present, between the text before it and that after it; or nothing if
+-- it is absent
 abbrev pub marked : List ℕ → Option (List ℕ) → List ℕ → List ℕ
-marked before None behind = []
-marked before (Some part) behind = before ++ part ++ behind
+marked before None suffix = []
+marked before (Some part) suffix = before ++ part ++ suffix
 
--- section 5.3: the text of five components
+-- the text of five components, with their delimiters (RFC 3986, section 5.3)
 abbrev pub recompose : Components → List ℕ
 recompose p =
     marked [] p.scheme (codes ":") ++ (marked (codes "//") p.authority [] ++ (p.path
     ++ (marked (codes "?") p.query [] ++ marked (codes "#") p.fragment [])))
 
--- the text begins with this character
+-- the text begins with the character mark
 abbrev pub starts : ℕ → List ℕ → Bool
 starts mark [] = false
 starts mark (c ∷ rest) = c == mark
 
--- nothing is left
+-- the text is empty
 unfoldable pub is_end : List ℕ → Bool
 is_end [] = true
 is_end (c ∷ rest) = false
 
--- the text before the first of these characters, and from it on
+-- the text before the first of the characters marks, or all of it if it has none of them
 abbrev pub before_any : List ℕ → List ℕ → List ℕ
 before_any marks text = take (prefix_len (λ c. not (is_one_of marks c)) text) text
 
+-- what is left of the text from the first of the characters marks on, or nothing if it has none of
+-- them
 abbrev pub from_any : List ℕ → List ℕ → List ℕ
 from_any marks text = drop (prefix_len (λ c. not (is_one_of marks c)) text) text
 
--- the text begins with one or more characters, none of them one of `:/?#`, and then `:`
+-- the text begins with one or more characters, none of them one of `:/?#`, and then `:`, so that it
+-- has a scheme (RFC 3986, appendix B)
 abbrev pub has_scheme : List ℕ → Bool
 has_scheme text = starts colon (from_any (codes ":/?#") text) && not (starts colon text)
 
--- the text begins with `//`
+-- the text begins with `//`, which an authority follows (RFC 3986, section 3.2)
 abbrev pub has_authority : List ℕ → Bool
 has_authority rest = slice_index rest 0 == slash && slice_index rest 1 == slash
 
--- none of these characters is in the text
+-- none of the characters marks is in the text
 abbrev pub Lacks : List ℕ → List ℕ → Type 0
 Lacks marks text = All (λ c. is_one_of marks c ≡ false) text
 
--- a path that may follow an authority is empty or begins with `/`
-abbrev pub IsRooted : List ℕ → Type 0
-IsRooted path = (path ≡ []) ⊎ IsTrue (starts slash path)
+-- the path may follow an authority: it is empty or begins with `/` (RFC 3986, section 3.3)
+abbrev pub IsAbemptyPath : List ℕ → Type 0
+IsAbemptyPath path = (path ≡ []) ⊎ IsTrue (starts slash path)
 
--- appendix B in its words: the components are together the text, each holds none of the characters
--- that end it, and one is absent only where the text has none
+-- the components p are those of the text, in the words of RFC 3986, appendix B: they are together
+-- the text, each holds nothing that ends it, and one is absent only where the text has none
 pub record IsSplitOf (text : List ℕ) (p : Components) : Type 0 where
   pub whole : recompose p ≡ text
   pub scheme : IfSome p.scheme (λ s. (0 < length s) × Lacks (codes ":/?#") s)
-  pub authority : IfSome p.authority (λ a. Lacks (codes "/?#") a × IsRooted p.path)
+  pub authority : IfSome p.authority (λ a. Lacks (codes "/?#") a × IsAbemptyPath p.path)
   pub path : Lacks (codes "?#") p.path
   pub query : IfSome p.query (λ q. Lacks (codes "#") q)
   pub no_scheme : IfNone p.scheme (has_scheme text ≡ false)
   pub no_authority : IfNone p.authority (has_authority p.path ≡ false)
 
--- appendix B as a function
+-- x if the test is true, and `None` if it is false
 abbrev pub when : {A : Type 0} → Bool → A → Option A
 when test x = if test then Some x else None
 
+-- the text after its scheme and the `:`, or all of it if it has no scheme (RFC 3986, appendix B)
 abbrev pub after_scheme : List ℕ → List ℕ
 after_scheme text = if has_scheme text then drop 1 (from_any (codes ":/?#") text) else text
 
+-- of a text after its scheme, what follows `//` and an authority, or all of it if it has none
+-- (RFC 3986, appendix B)
 abbrev pub after_authority : List ℕ → List ℕ
 after_authority rest = if has_authority rest then from_any (codes "/?#") (drop 2 rest) else rest
 
+-- of a text after its path, what follows `?` and a query, or all of it if it has none (RFC 3986,
+-- appendix B)
 abbrev pub after_query : List ℕ → List ℕ
 after_query rest = if starts question_mark rest then from_any (codes "#") (drop 1 rest) else rest
 
+-- the five components of any text, as RFC 3986, appendix B, cuts them
 abbrev pub components : List ℕ → Components
 components text =
     let rest = after_scheme text in

@@ -10,29 +10,36 @@ use Rattle.uri_parts.specs.declared.error.ParseErrorKind.TheVariants.{Unexpected
 use Rattle.uri_parts.specs.declared.error.ParseErrorKind.TheVariants.{InvalidIpv6Addr}
 use Rattle.uri_pct.specs.Delimiters.{left_bracket}
 
-abbrev pub index_of : ParseError → ℕ
-index_of e = e.index
+-- the index of a parse error: a byte offset in the text
+abbrev pub error_index : ParseError → ℕ
+error_index e = e.index
 
-abbrev pub fault_of : ParseError → ParseErrorKind
-fault_of e = e.kind
+-- the kind of a parse error: what is wrong at its index
+abbrev pub error_kind_of : ParseError → ParseErrorKind
+error_kind_of e = e.kind
 
--- what is wrong at the index: the error of an IPv6 address is just after its `[`
-abbrev pub IsFault : List ℕ → ParseErrorKind → ℕ → Type 0
-IsFault text InvalidPctEncodedOctet index = IsStrayPercent text index
-IsFault text UnexpectedChar index = ⊤
-IsFault text InvalidIpv6Addr index = (0 < index) × (slice_index text (index - 1) ≡ left_bracket)
+-- the kind of error is right for the text and the index: a stray `%` is there, or the `[` of an
+-- IPv6 address is just before; an unexpected character or end may be at any
+abbrev pub IsErrorKindAt : List ℕ → ParseErrorKind → ℕ → Type 0
+IsErrorKindAt text InvalidPctEncodedOctet index = IsStrayPercent text index
+IsErrorKindAt text UnexpectedChar index = ⊤
+IsErrorKindAt text InvalidIpv6Addr index = (0 < index)
+    × (slice_index text (index - 1) ≡ left_bracket)
 
--- the index is on a character boundary of the text, and the kind says what is wrong there
+-- the error is right for the text: its index is on a character boundary, and its kind says what is
+-- wrong there
 pub record IsErrorIn (text : List ℕ) (e : ParseError) : Type 0 where
   pub boundary : IsCharBoundary text e.index
-  pub fault : IsFault text e.kind e.index
+  pub fault : IsErrorKindAt text e.kind e.index
 
--- the three errors, at an index
+-- the error that the character at index i is unexpected, or the end of the text there
 abbrev pub unexpected : ℕ → ParseError
 unexpected i = record { index = i; kind = UnexpectedChar }
 
+-- the error that two hexadecimal digits do not follow the `%` at index i
 abbrev pub stray_percent : ℕ → ParseError
 stray_percent i = record { index = i; kind = InvalidPctEncodedOctet }
 
+-- the error that the IPv6 address that begins at index i, just after its `[`, is malformed
 abbrev pub malformed_ipv6 : ℕ → ParseError
 malformed_ipv6 i = record { index = i; kind = InvalidIpv6Addr }

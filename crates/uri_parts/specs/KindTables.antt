@@ -4,7 +4,7 @@ use Rattle.uri_pct.specs.Tables.{set_of}
 use Rattle.uri_parts.specs.Grammar.{Kind}
 use Rattle.uri_parts.specs.declared.kind_tables.KindTables.{KindTables}
 
--- the kind whose sets the tables represent
+-- the kind whose sets these tables of the code represent
 abbrev pub kind_of : KindTables → Kind
 kind_of g = record {
   userinfo = set_of g.userinfo;
@@ -15,6 +15,7 @@ kind_of g = record {
   needs_scheme = g.needs_scheme;
 }
 
--- the characters of a first segment that holds no colon: RFC 3986, section 3.3
+-- the set for a first segment without `:` that these tables of the code represent (RFC 3986,
+-- section 3.3)
 abbrev pub segment_nz_nc_of : KindTables → TableSet
 segment_nz_nc_of g = set_of g.segment_nz_nc

@@ -1,9 +1,10 @@
 -- Texts and their errors, which `docs/PARSE_ERRORS.md` shows.
 use Rattle.std.specs.Prelude.{ℕ, List, [], ◌∷◌, Some, None, codes}
 use Rattle.uri_parts.specs.Errors.{unexpected, stray_percent, malformed_ipv6}
-use Rattle.uri_parts.specs.Refusals.{Refusal}
+use Rattle.uri_parts.specs.Refusals.{OptionalParseError}
 
-abbrev pub uri_ref_rows : List (List ℕ × Refusal)
+-- texts that are parsed as URI references, each with its error or `None`
+abbrev pub uri_ref_rows : List (List ℕ × OptionalParseError)
 uri_ref_rows =
     (codes "foo%xxd", Some (stray_percent 3)) ∷
     (codes "?%4g", Some (stray_percent 1)) ∷
@@ -55,7 +56,8 @@ uri_ref_rows =
     (codes "http://u:p@[::1.2.3.4]:80/a/b?c#d", None) ∷
     []
 
-abbrev pub uri_rows : List (List ℕ × Refusal)
+-- texts that are parsed as URIs, each with its error or `None`
+abbrev pub uri_rows : List (List ℕ × OptionalParseError)
 uri_rows =
     (codes "exam=ple:foo", Some (unexpected 4)) ∷
     (codes "(:", Some (unexpected 0)) ∷

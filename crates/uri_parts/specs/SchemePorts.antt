@@ -3,7 +3,7 @@
 use Rattle.std.specs.Prelude.{ℕ, List, [], ◌∷◌, codes, bytes_eq, Option, option_map, find}
 use Rattle.std.specs.Str.{str_eq_ignore_ascii_case}
 
--- the schemes that have one, in lower case, each with its port
+-- the schemes that have a default port, in lower case, each with its port
 abbrev pub scheme_ports : List (List ℕ × ℕ)
 scheme_ports =
     (codes "aaa", 3868)
@@ -52,11 +52,13 @@ scheme_ports =
     ∷ (codes "z39.50s", 210)
     ∷ []
 
--- the default port of a scheme that is given in lower case
+-- the default port of a scheme that is given in lower case, or `None` if it has none (RFC 3986,
+-- section 3.2.3)
 unfoldable pub default_port : List ℕ → Option ℕ
 default_port scheme = option_map (λ row. row.1) (find (λ row. bytes_eq row.0 scheme) scheme_ports)
 
--- the port of the first row whose name is this one, ASCII case apart
+-- the port in the first of these rows whose scheme is this name, ASCII case apart, or `None` if
+-- there is no such row
 unfoldable pub port_ignoring_case : List ℕ → List (List ℕ × ℕ) → Option ℕ
 port_ignoring_case name rows =
     option_map (λ row. row.1) (find (λ row. str_eq_ignore_ascii_case row.0 name) rows)

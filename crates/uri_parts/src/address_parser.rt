@@ -1,10 +1,13 @@
 //! Where an IPv6 address ends, whose numbers nobody asks for: RFC 4291, section 2.2.
 ghost use Rattle.std.specs.Net.Reader as numbers;
+ghost use Rattle.std.specs.Char.{is_digit};
 ghost use Rattle.std.specs.Prelude.{◌≡◌, ◌≤◌, ◌<◌, IfSome, length, option_copied, option_map, true};
-ghost use Rattle.uri_parts.specs.Models.Literals.{AreHexDigits, AreCounted};
+ghost use Rattle.std.specs.Prelude.{slice_index};
+ghost use Rattle.uri_parts.specs.Models.Literals.{AreLeadingHexDigits, AreCountedGroups};
 
-/// What follows this byte, if it is next.
-fn after_byte(text: &[u8], byte: u8) -> Option<&[u8]>
+/// Returns what follows this byte, if the text begins with it.
+#[inline(always)]
+pub(crate) fn after_byte(text: &[u8], byte: u8) -> Option<&[u8]>
     ensures { option_copied result ≡ numbers.read_byte byte text.now }
 {
     match text {
@@ -13,8 +16,9 @@ fn after_byte(text: &[u8], byte: u8) -> Option<&[u8]>
     }
 }
 
-/// What follows the colon before each group but the first.
-fn after_separator(text: &[u8], is_first: bool) -> Option<&[u8]>
+/// Returns what follows the colon before a group of an IPv6 address, which the first group has not.
+#[inline(always)]
+pub(crate) fn after_separator(text: &[u8], is_first: bool) -> Option<&[u8]>
     ensures { option_copied result ≡ numbers.read_separator is_first text.now }
 {
     if is_first {
@@ -24,8 +28,9 @@ fn after_separator(text: &[u8], is_first: bool) -> Option<&[u8]>
     }
 }
 
-/// A decimal number of at most 255, and how many digits it has.
-fn small_number(text: &[u8]) -> Option<(u32, usize)>
+/// Returns the decimal number that the text begins with, and how many digits it has, leading zeros
+/// too. `None` exactly if there is no digit, or the number is above 255.
+fn decimal_up_to_255(text: &[u8]) -> Option<(u32, usize)>
     ensures value { result ≡ numbers.read_number 10 255 text.now }
     ensures fits { IfSome result (λ n. (n.0 ≤ 255) × (0 < n.1) × (n.1 ≤ length text.now)) }
 {
@@ -49,20 +54,22 @@ fn small_number(text: &[u8]) -> Option<(u32, usize)>
     }
 }
 
-/// Such a number that has no leading zero, and what follows.
+/// Parses a decimal number of at most 255 without leading zeros, and returns it and what follows
+/// it.
 #[tactic(auto, unfolding(std::specs::Net::Reader::read_octet))]
 fn parse_octet(text: &[u8]) -> Option<(u32, &[u8])>
     ensures { numbers.read_view (λ n. n) result ≡ numbers.read_octet text.now }
 {
-    let (value, count) = small_number(text)?;
+    let (value, count) = decimal_up_to_255(text)?;
     if count > 1 && text[0] == b'0' {
         return None;
     }
     Some((value, &text[count..]))
 }
 
-/// What follows an IPv4 address.
+/// Returns what follows the IPv4 address that a text begins with, if it begins with one.
 #[tactic(auto, unfolding(std::specs::Net::Reader::read_ipv4))]
+#[inline(never)]
 fn after_ipv4(text: &[u8]) -> Option<&[u8]>
     ensures { option_copied result ≡ option_map (λ n. n.1) (numbers.read_ipv4 text.now) }
 {
@@ -73,21 +80,64 @@ fn after_ipv4(text: &[u8]) -> Option<&[u8]>
     Some(text)
 }
 
-/// How many hexadecimal digits come first, of which five at most are counted.
-fn hex_digits(text: &[u8]) -> usize
-    ensures { AreHexDigits text.now result }
+/// The value of each byte that is a hexadecimal digit, and 16 for the others.
+pub(crate) const DIGIT_VALUES: &[u8; 256] = &[
+    16, 16, 16, 16, 16, 16, 16, 16, 16, 16, 16, 16, 16, 16, 16, 16, // 00
+    16, 16, 16, 16, 16, 16, 16, 16, 16, 16, 16, 16, 16, 16, 16, 16, // 10
+    16, 16, 16, 16, 16, 16, 16, 16, 16, 16, 16, 16, 16, 16, 16, 16, // 20
+    0, 1, 2, 3, 4, 5, 6, 7, 8, 9, 16, 16, 16, 16, 16, 16, // 30
+    16, 10, 11, 12, 13, 14, 15, 16, 16, 16, 16, 16, 16, 16, 16, 16, // 40
+    16, 16, 16, 16, 16, 16, 16, 16, 16, 16, 16, 16, 16, 16, 16, 16, // 50
+    16, 10, 11, 12, 13, 14, 15, 16, 16, 16, 16, 16, 16, 16, 16, 16, // 60
+    16, 16, 16, 16, 16, 16, 16, 16, 16, 16, 16, 16, 16, 16, 16, 16, // 70
+    16, 16, 16, 16, 16, 16, 16, 16, 16, 16, 16, 16, 16, 16, 16, 16, // 80
+    16, 16, 16, 16, 16, 16, 16, 16, 16, 16, 16, 16, 16, 16, 16, 16, // 90
+    16, 16, 16, 16, 16, 16, 16, 16, 16, 16, 16, 16, 16, 16, 16, 16, // A0
+    16, 16, 16, 16, 16, 16, 16, 16, 16, 16, 16, 16, 16, 16, 16, 16, // B0
+    16, 16, 16, 16, 16, 16, 16, 16, 16, 16, 16, 16, 16, 16, 16, 16, // C0
+    16, 16, 16, 16, 16, 16, 16, 16, 16, 16, 16, 16, 16, 16, 16, 16, // D0
+    16, 16, 16, 16, 16, 16, 16, 16, 16, 16, 16, 16, 16, 16, 16, 16, // E0
+    16, 16, 16, 16, 16, 16, 16, 16, 16, 16, 16, 16, 16, 16, 16, 16, // F0
+];
+
+/// Returns whether a hexadecimal digit is at `index`.
+#[inline(always)]
+fn is_digit_at(text: &[u8], index: usize) -> bool
+    ensures { result ≡ is_digit (slice_index text.now index) 16 }
 {
-    let mut count = 0;
-    while count < 5 && count < text.len() && char::from(text[count]).is_digit(16) {
-        count += 1;
-    }
-    count
+    index < text.len() && DIGIT_VALUES[usize::from(text[index])] < 16
 }
 
-/// What follows an IPv4 address at the end of an IPv6 address, where it fits. So many hexadecimal
-/// digits come first.
+/// Returns how many hexadecimal digits come first, of which five at most are counted.
+///
+/// There is no loop, since one takes more instructions.
+#[inline(always)]
+pub(crate) fn hex_digits(text: &[u8]) -> usize
+    ensures { AreLeadingHexDigits text.now result }
+{
+    if !is_digit_at(text, 0) {
+        return 0;
+    }
+    if !is_digit_at(text, 1) {
+        return 1;
+    }
+    if !is_digit_at(text, 2) {
+        return 2;
+    }
+    if !is_digit_at(text, 3) {
+        return 3;
+    }
+    if !is_digit_at(text, 4) {
+        return 4;
+    }
+    5
+}
+
+/// Returns what follows an IPv4 address at the end of an IPv6 address, where it fits. So many
+/// hexadecimal digits come first.
+#[inline(always)]
 fn after_ipv4_if(text: &[u8], digits: usize, fits: bool) -> Option<&[u8]>
-    requires { AreHexDigits text.now digits }
+    requires { AreLeadingHexDigits text.now digits }
     ensures { option_copied result
         ≡ option_map (λ n. n.1) (numbers.read_ipv4_if fits text.now) }
 {
@@ -98,9 +148,10 @@ fn after_ipv4_if(text: &[u8], digits: usize, fits: bool) -> Option<&[u8]>
     }
 }
 
-/// What follows a group of one to four hexadecimal digits, of which so many come first.
-fn after_group(text: &[u8], digits: usize) -> Option<&[u8]>
-    requires { AreHexDigits text.now digits }
+/// Returns what follows a group of one to four hexadecimal digits, of which so many come first.
+#[inline(always)]
+pub(crate) fn after_group(text: &[u8], digits: usize) -> Option<&[u8]>
+    requires { AreLeadingHexDigits text.now digits }
     ensures { option_copied result ≡ option_map (λ n. n.1) (numbers.read_segment text.now) }
 {
     if digits == 0 || digits == 5 {
@@ -118,9 +169,10 @@ struct Groups<'a> {
     rest: &'a [u8],
 }
 
-/// The groups that come first, so many at most.
+/// Parses the groups of an IPv6 address that come first, so many at most.
+#[inline(always)]
 fn parse_groups(text: &[u8], room: usize) -> Groups<'_>
-    ensures found { AreCounted (numbers.read_segments room true text.now) result.count
+    ensures found { AreCountedGroups (numbers.read_segments room true text.now) result.count
         result.has_ipv4 result.rest.now }
     ensures within { result.count ≤ room }
 {
@@ -134,21 +186,21 @@ fn parse_groups(text: &[u8], room: usize) -> Groups<'_>
             };
         };
         let digits = hex_digits(group);
-        if let Some(behind) = after_ipv4_if(group, digits, i + 1 < room) {
+        if let Some(suffix) = after_ipv4_if(group, digits, i + 1 < room) {
             return Groups {
                 count: i + 2,
                 has_ipv4: true,
-                rest: behind,
+                rest: suffix,
             };
         }
-        let Some(behind) = after_group(group, digits) else {
+        let Some(suffix) = after_group(group, digits) else {
             return Groups {
                 count: i,
                 has_ipv4: false,
                 rest,
             };
         };
-        rest = behind;
+        rest = suffix;
     }
     Groups {
         count: room,
@@ -157,7 +209,7 @@ fn parse_groups(text: &[u8], room: usize) -> Groups<'_>
     }
 }
 
-/// What follows an IPv6 address.
+/// Returns what follows the IPv6 address that a text begins with, if it begins with one.
 pub(crate) fn after_ipv6(text: &[u8]) -> Option<&[u8]>
     ensures { option_copied result ≡ option_map (λ n. n.1) (numbers.read_ipv6 text.now) }
 {

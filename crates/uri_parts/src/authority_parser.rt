@@ -8,21 +8,24 @@ ghost use Rattle.std.specs.Str.{IsCharBoundary};
 ghost use Rattle.uri_pct.specs.Delimiters.{left_bracket};
 ghost use Rattle.uri_pct.specs.Prefixes.{valid_prefix};
 ghost use Rattle.uri_pct.specs.Tables.{set_of};
-ghost use Rattle.uri_parts.specs.Models.AuthorityParsing.{port_length, name_length, finds_name};
-ghost use Rattle.uri_parts.specs.Models.AuthorityParsing.{host_end, host_length, more_user};
-ghost use Rattle.uri_parts.specs.Models.AuthorityParsing.{other_authority, found_length};
+ghost use Rattle.uri_parts.specs.Models.AuthorityParsing.{port_length, name_and_port_length};
+ghost use Rattle.uri_parts.specs.Models.AuthorityParsing.{name_ends_authority};
+ghost use Rattle.uri_parts.specs.Models.AuthorityParsing.{host_end, host_and_port_length};
+ghost use Rattle.uri_parts.specs.Models.AuthorityParsing.{further_userinfo_length};
+ghost use Rattle.uri_parts.specs.Models.AuthorityParsing.{other_authority, found_authority_length};
 ghost use Rattle.uri_parts.specs.Models.AuthorityParsing.{found_authority};
 ghost use Rattle.std.specs.Option.{option_or};
 ghost use Rattle.std.specs.Result.{result_err};
 ghost use Rattle.uri_parts.specs.Components.{starts};
 ghost use Rattle.uri_parts.specs.LiteralErrors.{literal};
-ghost use Rattle.uri_parts.specs.Refusals.{from_path, last_colon as last_colon_before};
+ghost use Rattle.uri_parts.specs.Refusals.{error_from_path, last_colon as last_colon_before};
 ghost use Rattle.uri_parts.specs.Models.ParseErrors.{left_over_error, name_error, host_error};
-ghost use Rattle.uri_parts.specs.Models.ParseErrors.{userinfo_error, other_error, authority_error};
+ghost use Rattle.uri_parts.specs.Models.ParseErrors.{userinfo_error, other_authority_error};
+ghost use Rattle.uri_parts.specs.Models.ParseErrors.{authority_error};
 ghost use Rattle.uri_parts.specs.Errors.{IsErrorIn};
 ghost use Rattle.uri_parts.specs.KindTables.{kind_of};
 ghost use Rattle.uri_parts.specs.Models.Literals.{literal_length};
-ghost use Rattle.uri_parts.specs.Models.Cursors.{rest_of, cursor_text, place_of};
+ghost use Rattle.uri_parts.specs.Models.Cursors.{text_after_cursor, cursor_text, cursor_position};
 
 use crate::cursor::Cursor;
 use crate::error::{ParseError, ParseErrorKind};
@@ -37,9 +40,10 @@ use uri_pct::table::DIGIT;
 #[inline(always)]
 fn pass_port(cursor: &mut Cursor<'_>)
     ensures text { cursor_text cursor.new ≡ cursor_text cursor.old }
-    ensures place { place_of cursor.new ≡ place_of cursor.old + port_length (rest_of cursor.old) }
-    ensures rest { rest_of cursor.new ≡ drop (port_length (rest_of cursor.old))
-        (rest_of cursor.old) }
+    ensures place { cursor_position cursor.new ≡ cursor_position cursor.old + port_length
+        (text_after_cursor cursor.old) }
+    ensures rest { text_after_cursor cursor.new ≡ drop (port_length (text_after_cursor cursor.old))
+        (text_after_cursor cursor.old) }
 {
     if cursor.skip(b':') {
         cursor.scan(&DIGIT);
@@ -51,14 +55,18 @@ fn pass_port(cursor: &mut Cursor<'_>)
 #[tactic(auto, using(crate::proofs::Steps::cuts), unfolding(crate::proofs::Steps::name))]
 #[inline(always)]
 fn find_name(cursor: &mut Cursor<'_>, tables: &KindTables) -> Option<usize>
-    ensures finds { is_some result ≡ finds_name (kind_of tables.now) (rest_of cursor.old) }
+    ensures finds { is_some result ≡ name_ends_authority (kind_of tables.now)
+        (text_after_cursor cursor.old) }
     ensures end { IfSome result (λ n.
-        n ≡ place_of cursor.old + valid_prefix (set_of tables.now.reg_name) (rest_of cursor.old)) }
+        n ≡ cursor_position cursor.old + valid_prefix (set_of tables.now.reg_name)
+        (text_after_cursor cursor.old)) }
     ensures text { cursor_text cursor.new ≡ cursor_text cursor.old }
-    ensures place { place_of cursor.new
-        ≡ place_of cursor.old + name_length (kind_of tables.now) (rest_of cursor.old) }
-    ensures rest { rest_of cursor.new
-        ≡ drop (name_length (kind_of tables.now) (rest_of cursor.old)) (rest_of cursor.old) }
+    ensures place { cursor_position cursor.new
+        ≡ cursor_position cursor.old + name_and_port_length (kind_of tables.now)
+        (text_after_cursor cursor.old) }
+    ensures rest { text_after_cursor cursor.new
+        ≡ drop (name_and_port_length (kind_of tables.now) (text_after_cursor cursor.old))
+        (text_after_cursor cursor.old) }
 {
     cursor.scan(&tables.reg_name);
     let name_end = cursor.position();
@@ -74,10 +82,11 @@ fn find_name(cursor: &mut Cursor<'_>, tables: &KindTables) -> Option<usize>
 /// percent-encoded octet of the path that is scanned there, or else what is next.
 #[tactic(auto, unfolding(crate::specs::Models::ParseErrors::left_over_error))]
 #[inline(always)]
-fn left_over(cursor: Cursor<'_>, tables: &KindTables) -> ParseError
+fn error_of_left_over(cursor: Cursor<'_>, tables: &KindTables) -> ParseError
     ensures error { IsErrorIn (cursor_text cursor.entry) result }
     ensures returned { Some result
-        ≡ left_over_error (kind_of tables.now) (cursor_text cursor.entry) (place_of cursor.entry) }
+        ≡ left_over_error (kind_of tables.now) (cursor_text cursor.entry)
+        (cursor_position cursor.entry) }
 {
     let mut path = cursor;
     match path.pass(&tables.path) {
@@ -111,18 +120,18 @@ fn last_colon(text: &str, start: usize, end: usize) -> Option<usize>
 /// Returns the error of what was scanned as userinfo up to `end`, where no `@` is next. A name and
 /// a port end at `start`. After them the error is at the last of several `:`, or at the port's
 /// first byte that is no digit.
-#[tactic(auto, using(crate::proofs::Refusals::Colons::last_below), unfolding(crate::specs::Models::ParseErrors::name_error))]
+#[tactic(auto, using(crate::proofs::Refusals::Colons::last_colon_is_below_position), unfolding(crate::specs::Models::ParseErrors::name_error))]
 #[inline(always)]
-fn name_fault(start: Cursor<'_>, end: Cursor<'_>, tables: &KindTables) -> ParseError
+fn error_after_name(start: Cursor<'_>, end: Cursor<'_>, tables: &KindTables) -> ParseError
     requires text { cursor_text end ≡ cursor_text start }
-    requires order { place_of start ≤ place_of end }
-    requires some { 0 < place_of start }
+    requires order { cursor_position start ≤ cursor_position end }
+    requires some { 0 < cursor_position start }
     ensures error { IsErrorIn (cursor_text start.entry) result }
     ensures returned { Some result ≡ name_error (kind_of tables.now) (cursor_text start.entry)
-        (place_of start.entry) (place_of end.entry) }
+        (cursor_position start.entry) (cursor_position end.entry) }
 {
     if start.position() == end.position() {
-        return left_over(end, tables);
+        return error_of_left_over(end, tables);
     }
     match last_colon(end.text(), start.position(), end.position()) {
         Some(colon) => ParseError::new(colon, ParseErrorKind::UnexpectedChar),
@@ -134,16 +143,18 @@ fn name_fault(start: Cursor<'_>, end: Cursor<'_>, tables: &KindTables) -> ParseE
 #[tactic(auto, using(crate::proofs::Refusals::LiteralEnds::literal_ends))]
 #[inline(always)]
 fn pass_literal(cursor: &mut Cursor<'_>) -> Result<(), ParseError>
-    requires { starts left_bracket (rest_of cursor.old) ≡ true }
+    requires { starts left_bracket (text_after_cursor cursor.old) ≡ true }
     ensures text { cursor_text cursor.new ≡ cursor_text cursor.old }
-    ensures place { OnOk result (place_of cursor.new
-        ≡ place_of cursor.old + (1 + literal_length (drop 1 (rest_of cursor.old)))) }
-    ensures rest { OnOk result (rest_of cursor.new
-        ≡ drop (1 + literal_length (drop 1 (rest_of cursor.old))) (rest_of cursor.old)) }
+    ensures place { OnOk result (cursor_position cursor.new
+        ≡ cursor_position cursor.old + (1 + literal_length (drop 1 (text_after_cursor cursor.old)))) }
+    ensures rest { OnOk result (text_after_cursor cursor.new
+        ≡ drop (1 + literal_length (drop 1 (text_after_cursor cursor.old)))
+        (text_after_cursor cursor.old)) }
     ensures refused { result_err result
-        ≡ result_err (literal (cursor_text cursor.old) (place_of cursor.old + 1)) }
+        ≡ result_err (literal (cursor_text cursor.old) (cursor_position cursor.old + 1)) }
     ensures found { OnOk result
-        (literal (cursor_text cursor.old) (place_of cursor.old + 1) ≡ Ok (place_of cursor.new)) }
+        (literal (cursor_text cursor.old) (cursor_position cursor.old + 1)
+        ≡ Ok (cursor_position cursor.new)) }
     ensures err { IfErr result (IsErrorIn (cursor_text cursor.old)) }
 {
     cursor.skip(b'[');
@@ -158,16 +169,18 @@ fn pass_literal(cursor: &mut Cursor<'_>) -> Result<(), ParseError>
 #[inline(always)]
 fn find_host(cursor: &mut Cursor<'_>, tables: &KindTables) -> Result<usize, ParseError>
     ensures end { IfOk result (λ n.
-        n ≡ place_of cursor.old + host_end (kind_of tables.now) (rest_of cursor.old)) }
+        n ≡ cursor_position cursor.old + host_end (kind_of tables.now)
+        (text_after_cursor cursor.old)) }
     ensures text { cursor_text cursor.new ≡ cursor_text cursor.old }
-    ensures place { OnOk result (place_of cursor.new
-        ≡ place_of cursor.old + host_length (kind_of tables.now) (rest_of cursor.old)) }
+    ensures place { OnOk result (cursor_position cursor.new
+        ≡ cursor_position cursor.old + host_and_port_length (kind_of tables.now)
+        (text_after_cursor cursor.old)) }
     ensures returned { let kind = kind_of tables.now in let text = cursor_text cursor.old in
-        host_error kind text (place_of cursor.old)
-        ≡ option_or (result_err result) (from_path kind text (place_of cursor.new)) }
+        host_error kind text (cursor_position cursor.old)
+        ≡ option_or (result_err result) (error_from_path kind text (cursor_position cursor.new)) }
     ensures err { IfErr result (IsErrorIn (cursor_text cursor.old)) }
 {
-    if cursor.sees(b'[') {
+    if cursor.next_is(b'[') {
         pass_literal(cursor)?;
     } else {
         cursor.scan(&tables.reg_name);
@@ -177,7 +190,7 @@ fn find_host(cursor: &mut Cursor<'_>, tables: &KindTables) -> Result<usize, Pars
     if cursor.ends_authority() {
         Ok(host_end)
     } else {
-        Err(left_over(*cursor, tables))
+        Err(error_of_left_over(*cursor, tables))
     }
 }
 
@@ -185,15 +198,17 @@ fn find_host(cursor: &mut Cursor<'_>, tables: &KindTables) -> Result<usize, Pars
 #[tactic(auto, using(crate::proofs::Steps::cuts), unfolding(crate::proofs::Steps::user))]
 #[inline(always)]
 fn pass_userinfo(cursor: &mut Cursor<'_>, tables: &KindTables) -> Result<(), ParseError>
-    requires { 0 < place_of cursor.old }
+    requires { 0 < cursor_position cursor.old }
     ensures text { cursor_text cursor.new ≡ cursor_text cursor.old }
-    ensures place { OnOk result (place_of cursor.new
-        ≡ place_of cursor.old + (more_user (kind_of tables.now) (rest_of cursor.old) + 1)) }
-    ensures rest { OnOk result (rest_of cursor.new
-        ≡ drop (more_user (kind_of tables.now) (rest_of cursor.old) + 1) (rest_of cursor.old)) }
+    ensures place { OnOk result (cursor_position cursor.new
+        ≡ cursor_position cursor.old
+        + (further_userinfo_length (kind_of tables.now) (text_after_cursor cursor.old) + 1)) }
+    ensures rest { OnOk result (text_after_cursor cursor.new
+        ≡ drop (further_userinfo_length (kind_of tables.now) (text_after_cursor cursor.old) + 1)
+        (text_after_cursor cursor.old)) }
     ensures returned { let kind = kind_of tables.now in let text = cursor_text cursor.old in
-        userinfo_error kind text (place_of cursor.old)
-        ≡ option_or (result_err result) (host_error kind text (place_of cursor.new)) }
+        userinfo_error kind text (cursor_position cursor.old)
+        ≡ option_or (result_err result) (host_error kind text (cursor_position cursor.new)) }
     ensures err { IfErr result (IsErrorIn (cursor_text cursor.old)) }
 {
     let start = *cursor;
@@ -204,7 +219,7 @@ fn pass_userinfo(cursor: &mut Cursor<'_>, tables: &KindTables) -> Result<(), Par
     if cursor.skip(b'@') {
         Ok(())
     } else {
-        Err(name_fault(start, *cursor, tables))
+        Err(error_after_name(start, *cursor, tables))
     }
 }
 
@@ -214,26 +229,28 @@ fn pass_userinfo(cursor: &mut Cursor<'_>, tables: &KindTables) -> Result<(), Par
 #[inline(always)]
 fn find_other_authority(
     start: Cursor<'_>,
-    behind_name: Cursor<'_>,
+    after_name: Cursor<'_>,
     tables: &KindTables,
 ) -> Result<AuthorityPositions, ParseError>
-    requires text { cursor_text behind_name ≡ cursor_text start }
-    requires some { 0 < place_of start }
-    requires place { place_of behind_name
-        ≡ place_of start + name_length (kind_of tables.now) (rest_of start) }
+    requires text { cursor_text after_name ≡ cursor_text start }
+    requires some { 0 < cursor_position start }
+    requires place { cursor_position after_name
+        ≡ cursor_position start + name_and_port_length (kind_of tables.now)
+        (text_after_cursor start) }
     ensures found { IfOk result (λ a.
-        a ≡ other_authority (kind_of tables.now) (place_of start.entry) (rest_of start.entry)) }
+        a ≡ other_authority (kind_of tables.now) (cursor_position start.entry)
+        (text_after_cursor start.entry)) }
     ensures boundary { IfOk result (λ a. IsCharBoundary (cursor_text start.entry) a.end) }
     ensures returned { let kind = kind_of tables.now in let text = cursor_text start.entry in
-        IfErr result (λ e. other_error kind text (place_of start.entry) ≡ Some e) }
+        IfErr result (λ e. other_authority_error kind text (cursor_position start.entry) ≡ Some e) }
     ensures goes_on { let kind = kind_of tables.now in let text = cursor_text start.entry in
-        IfOk result (λ a. other_error kind text (place_of start.entry)
-        ≡ from_path kind text a.end) }
+        IfOk result (λ a. other_authority_error kind text (cursor_position start.entry)
+        ≡ error_from_path kind text a.end) }
     ensures err { IfErr result (IsErrorIn (cursor_text start.entry)) }
 {
     let mut cursor = start;
-    if !start.sees(b'[') {
-        cursor = behind_name;
+    if !start.next_is(b'[') {
+        cursor = after_name;
         pass_userinfo(&mut cursor, tables)?;
     }
     let host_start = cursor.position();
@@ -246,27 +263,28 @@ fn find_other_authority(
     })
 }
 
-/// The same by the tables of the kind, which are constants here: handed on, they would be set out
-/// in memory, as cursors are.
+/// Returns the positions of an authority that is more than a name and a port, which were passed.
+/// The tables of the kind are constants here: handed on, they would be set out in memory, as
+/// cursors are.
 #[inline(never)]
-fn find_other_of_kind<K: Kind>(
+fn find_other_authority_of_kind<K: Kind>(
     text: &str,
     start: usize,
-    behind_name: usize,
+    after_name: usize,
 ) -> Result<AuthorityPositions, ParseError>
     requires start { IsCharBoundary text.now start }
-    requires behind_name { IsCharBoundary text.now behind_name }
+    requires after_name { IsCharBoundary text.now after_name }
     requires some { 0 < start }
-    requires place { behind_name ≡ start + name_length K.kind (drop start text.now) }
+    requires place { after_name ≡ start + name_and_port_length K.kind (drop start text.now) }
     ensures found { IfOk result (λ a. a ≡ other_authority K.kind start (drop start text.now)) }
     ensures boundary { IfOk result (λ a. IsCharBoundary text.now a.end) }
-    ensures returned { IfErr result (λ e. other_error K.kind text.now start ≡ Some e) }
+    ensures returned { IfErr result (λ e. other_authority_error K.kind text.now start ≡ Some e) }
     ensures goes_on { IfOk result (λ a.
-        other_error K.kind text.now start ≡ from_path K.kind text.now a.end) }
+        other_authority_error K.kind text.now start ≡ error_from_path K.kind text.now a.end) }
     ensures err { IfErr result (IsErrorIn text.now) }
 {
-    let behind_name = Cursor::at(text, behind_name);
-    find_other_authority(Cursor::at(text, start), behind_name, &K::tables())
+    let after_name = Cursor::at(text, after_name);
+    find_other_authority(Cursor::at(text, start), after_name, &K::tables())
 }
 
 /// Returns the positions of an authority and of its host.
@@ -277,17 +295,20 @@ pub(crate) fn find_authority<K: Kind>(
     tables: &KindTables,
 ) -> Result<AuthorityPositions, ParseError>
     requires kind { kind_of tables.now ≡ K.kind }
-    requires some { 0 < place_of cursor.old }
+    requires some { 0 < cursor_position cursor.old }
     ensures found { IfOk result (λ a.
-        a ≡ found_authority (kind_of tables.now) (place_of cursor.old) (rest_of cursor.old)) }
+        a ≡ found_authority (kind_of tables.now) (cursor_position cursor.old)
+        (text_after_cursor cursor.old)) }
     ensures text { cursor_text cursor.new ≡ cursor_text cursor.old }
-    ensures place { OnOk result (place_of cursor.new
-        ≡ place_of cursor.old + found_length (kind_of tables.now) (rest_of cursor.old)) }
-    ensures rest { OnOk result (rest_of cursor.new
-        ≡ drop (found_length (kind_of tables.now) (rest_of cursor.old)) (rest_of cursor.old)) }
+    ensures place { OnOk result (cursor_position cursor.new
+        ≡ cursor_position cursor.old + found_authority_length (kind_of tables.now)
+        (text_after_cursor cursor.old)) }
+    ensures rest { OnOk result (text_after_cursor cursor.new
+        ≡ drop (found_authority_length (kind_of tables.now) (text_after_cursor cursor.old))
+        (text_after_cursor cursor.old)) }
     ensures refused { let kind = kind_of tables.now in let text = cursor_text cursor.old in
-        authority_error kind text (place_of cursor.old)
-        ≡ option_or (result_err result) (from_path kind text (place_of cursor.new)) }
+        authority_error kind text (cursor_position cursor.old)
+        ≡ option_or (result_err result) (error_from_path kind text (cursor_position cursor.new)) }
     ensures err { IfErr result (IsErrorIn (cursor_text cursor.old)) }
 {
     let start = cursor.position();
@@ -300,7 +321,7 @@ pub(crate) fn find_authority<K: Kind>(
         });
     }
     let text = cursor.text();
-    let authority = find_other_of_kind::<K>(text, start, cursor.position())?;
+    let authority = find_other_authority_of_kind::<K>(text, start, cursor.position())?;
     *cursor = Cursor::at(text, authority.end);
     Ok(authority)
 }

@@ -47,8 +47,10 @@ impl<'a, U: Encoder, R: Encoder> Copy for Authority<'a, U, R> {}
 impl<'a, U: Encoder, R: Encoder> Authority<'a, U, R> {
     ghost use Rattle.uri_pct.specs.EncodedTexts.{text_of};
     ghost use Rattle.uri_parts.specs.AuthorityTexts.{authority_text};
-    ghost use Rattle.uri_parts.specs.AuthorityTexts.{host_kind_of, IsNamed};
+    ghost use Rattle.uri_parts.specs.AuthorityTexts.{host_kind_of, HasRegisteredName};
 
+    /// Returns the text as an authority whose host is at these positions, which the caller knows to
+    /// be its host's.
     pub(crate) fn new_unchecked(text: &'a str, host_start: usize, host_end: usize) -> Self
         requires valid { is_authority_for U.set R.set text.now ≡ true }
         requires starts { host_start ≡ host_start_of text.now }
@@ -70,7 +72,8 @@ impl<'a, U: Encoder, R: Encoder> Authority<'a, U, R> {
     /// It is the authority of `file:///etc/hosts`.
     pub const EMPTY: Authority<'static, U, R> = Self::new_empty();
 
-    /// The same, of which a caller knows the text: a constant has no contract.
+    /// Returns the empty authority. It is the constant `EMPTY` with a contract, which a constant
+    /// has not.
     ///
     /// # Examples
     ///
@@ -87,7 +90,7 @@ impl<'a, U: Encoder, R: Encoder> Authority<'a, U, R> {
         }
     }
 
-    /// The text, without the `//` before it, for as long as it was borrowed.
+    /// Returns the text, without the `//` before it, for as long as it was borrowed.
     ///
     /// # Examples
     ///
@@ -99,7 +102,7 @@ impl<'a, U: Encoder, R: Encoder> Authority<'a, U, R> {
         self.text
     }
 
-    /// The userinfo without its `@`, if there is one (RFC 3986, section 3.2.1).
+    /// Returns the userinfo without its `@`, if there is one (RFC 3986, section 3.2.1).
     ///
     /// # Examples
     ///
@@ -114,7 +117,8 @@ impl<'a, U: Encoder, R: Encoder> Authority<'a, U, R> {
         Some(EStr::new_or_panic(&self.text[..self.host_start - 1]))
     }
 
-    /// The host, with its brackets where it has some; it may be empty (RFC 3986, section 3.2.2).
+    /// Returns the host, with its brackets if it has some (RFC 3986, section 3.2.2). It may be
+    /// empty.
     ///
     /// # Examples
     ///
@@ -126,7 +130,8 @@ impl<'a, U: Encoder, R: Encoder> Authority<'a, U, R> {
         &text[self.host_start..self.host_end]
     }
 
-    /// The port without its `:`, if there is one, which may be empty (RFC 3986, section 3.2.3).
+    /// Returns the port without its `:`, if there is one (RFC 3986, section 3.2.3). It may be
+    /// empty.
     ///
     /// # Examples
     ///
@@ -141,19 +146,19 @@ impl<'a, U: Encoder, R: Encoder> Authority<'a, U, R> {
         Some(EStr::new_or_panic(&text[self.host_end + 1..]))
     }
 
-    /// Whether there is a userinfo.
+    /// Returns whether there is a userinfo.
     ///
     /// # Examples
     ///
     /// `@a` has one, which is empty, and `a` has none.
-    #[tactic(auto, using(crate::proofs::Authorities::AuthorityPlaces::some_user))]
+    #[tactic(auto, using(crate::proofs::Authorities::AuthorityPlaces::userinfo_where_host_starts_later))]
     pub fn has_userinfo(self) -> bool
         ensures { result ≡ is_some (authority_parts (authority_text self.entry)).userinfo }
     {
         self.host_start != 0
     }
 
-    /// Whether there is a port.
+    /// Returns whether there is a port.
     ///
     /// # Examples
     ///
@@ -165,7 +170,7 @@ impl<'a, U: Encoder, R: Encoder> Authority<'a, U, R> {
         self.host_end != text.len()
     }
 
-    /// The host by its kind: an address with its numbers, or a registered name.
+    /// Returns the host by its kind: an address with its numbers, or a registered name.
     ///
     /// # Examples
     ///
@@ -174,7 +179,7 @@ impl<'a, U: Encoder, R: Encoder> Authority<'a, U, R> {
     pub fn host_parsed(self) -> Host<'a, R>
         ensures kind { host_kind_of result
             ≡ host_kind (authority_parts (authority_text self.entry)).host }
-        ensures name { IsNamed result (authority_parts (authority_text self.entry)).host }
+        ensures name { HasRegisteredName result (authority_parts (authority_text self.entry)).host }
     {
         let host = self.host();
         match after_mark(host, b'[') {

@@ -4,7 +4,7 @@ ghost use Rattle.uri_pct.specs.Cows.{cow_text, IsBorrowedText};
 ghost use Rattle.uri_pct.specs.EncodedTexts.{text_of};
 ghost use Rattle.uri_pct.specs.Texts.{is_unencoded};
 ghost use Rattle.uri_parts.specs.Authority.{authority_parts};
-ghost use Rattle.uri_parts.specs.Connecting.{IsAnswerFor, IsBorrowedTarget, IsNameRefusal};
+ghost use Rattle.uri_parts.specs.Connecting.{IsTargetResultFor, IsBorrowedTarget, IsNameError};
 ghost use Rattle.uri_parts.specs.Connecting.{name_bytes};
 ghost use Rattle.uri_parts.specs.Hosts.{host_kind};
 ghost use Rattle.uri_parts.specs.Ports.{port_number, FitsPort};
@@ -58,8 +58,8 @@ pub enum SocketError {
 impl<'a, U: Encoder, R: Encoder> Authority<'a, U, R> {
     ghost use Rattle.uri_parts.specs.AuthorityTexts.{authority_text};
 
-    /// Where to connect to: the host's address or decoded name, and the port, which is the default
-    /// where it is absent or empty. No name is looked up.
+    /// Returns where to connect to: the host's address or decoded name, and the port. If the port
+    /// is absent or empty, it is the given one. No name is looked up.
     ///
     /// The port is tested first: the error is `InvalidPort` exactly if it is over 65535. Then it is
     /// `UnsupportedMechanism` for an address of a later version, `NameNotUtf8` for a name that does
@@ -76,6 +76,12 @@ impl<'a, U: Encoder, R: Encoder> Authority<'a, U, R> {
     ///
     /// With the default port 443, `example.com` is the name `example.com` and the port 443, and
     /// `127.0.0.1:80` the address and the port 80.
+    ///
+    /// ```
+    /// let authority = uri.authority()?;
+    /// let port = uri.scheme().default_port().unwrap_or(port);
+    /// Some(authority.socket_target(alloc, port))
+    /// ```
     pub fn socket_target(
         self,
         alloc: Global,
@@ -85,7 +91,7 @@ impl<'a, U: Encoder, R: Encoder> Authority<'a, U, R> {
             ¬ (FitsPort (port_number p.port)) → result ≡ Err InvalidPort }
         ensures answer { let p = authority_parts (authority_text self.entry) in
             FitsPort (port_number p.port)
-            → IsAnswerFor p.host (host_kind p.host)
+            → IsTargetResultFor p.host (host_kind p.host)
             (unwrap_or (port_number p.port) default_port) result }
         ensures borrows { let p = authority_parts (authority_text self.entry) in
             IsTrue (is_unencoded p.host) → IfOk result IsBorrowedTarget }
@@ -103,12 +109,12 @@ impl<'a, U: Encoder, R: Encoder> Authority<'a, U, R> {
     }
 }
 
-/// The text that a registered name decodes to.
+/// Returns the text that a registered name decodes to.
 fn decoded_name<'a, R: Encoder>(alloc: Global, name: EStr<'a, R>) -> Result<CowStr<'a>, SocketError>
     ensures text { IfOk result (λ text.
         (cow_text text ≡ name_bytes (text_of name.entry))
         × IsUtf8 (name_bytes (text_of name.entry))) }
-    ensures refused { IfErr result (IsNameRefusal (text_of name.entry)) }
+    ensures refused { IfErr result (IsNameError (text_of name.entry)) }
     ensures borrows { IsTrue (is_unencoded (text_of name.entry)) → IsOkAnd result IsBorrowedText }
 {
     match Decode::of_text(name.as_str()).to_string(alloc) {

@@ -7,7 +7,7 @@ ghost use Rattle.uri_parts.specs.Errors.{IsErrorIn};
 ghost use Rattle.uri_parts.specs.Refusals.{refusal};
 ghost use Rattle.uri_parts.specs.Fragments.{IsWithFragment};
 ghost use Rattle.uri_parts.specs.Grammar.{IsOfKind};
-ghost use Rattle.uri_parts.specs.Positions.{AreAt};
+ghost use Rattle.uri_parts.specs.Positions.{ArePositionsOf};
 
 mod comparing;
 mod owned;
@@ -26,7 +26,7 @@ use uri_pct::pct_enc::EStr;
 /// Returns the positions of the components of a text that is known to be of the kind.
 pub(crate) fn positions_in<K: Kind>(text: &str) -> Positions
     requires { IsOfKind K.kind text.now }
-    ensures { AreAt text.now result }
+    ensures { ArePositionsOf text.now result }
 {
     match parse::<K>(text) {
         Ok(positions) => positions,
@@ -42,7 +42,7 @@ pub struct Core<K: Kind, T: AsStr> {
     positions: Positions,
     kind: PhantomData<K>,
     pub ghost of_kind: { IsOfKind K.kind (T.text text) },
-    pub ghost at: { AreAt (T.text text) positions },
+    pub ghost at: { ArePositionsOf (T.text text) positions },
 }
 
 impl<K: Kind, T: AsStr + Copy> Clone for Core<K, T> {
@@ -66,11 +66,11 @@ impl<K: Kind, T: AsStr + Copy> Copy for Core<K, T> {}
 impl<K: Kind, T: AsStr> Core<K, T> {
     ghost use Rattle.uri_parts.specs.CoreTexts.{core_text};
 
-    /// The text with the positions of its own components.
+    /// Returns the text with the positions of its own components.
     #[inline(always)]
     pub fn new(text: T, positions: Positions) -> Self
         requires of_kind { IsOfKind K.kind (T.text text) }
-        requires at { AreAt (T.text text) positions }
+        requires at { ArePositionsOf (T.text text) positions }
         ensures { core_text result ≡ T.text text }
     {
         Core {
@@ -80,7 +80,7 @@ impl<K: Kind, T: AsStr> Core<K, T> {
         }
     }
 
-    /// Parses a text as one of the kind. It comes back where it is none.
+    /// Parses a text as one of the kind, or returns the error and the text.
     #[inline(always)]
     pub fn parse(text: T) -> Result<Core<K, T>, (ParseError, T)>
         ensures accepts { IsOk result ↔ IsOfKind K.kind (T.text text) }
@@ -105,7 +105,7 @@ impl<K: Kind, T: AsStr> Core<K, T> {
         Core::new(text, positions)
     }
 
-    /// The same text as one of another kind that it is of.
+    /// Returns the same text and positions as of another kind, of which the text is too.
     #[inline(always)]
     pub fn into_kind<L: Kind>(self) -> Core<L, T>
         requires { IsOfKind L.kind (core_text self) }
@@ -114,7 +114,7 @@ impl<K: Kind, T: AsStr> Core<K, T> {
         Core::new(self.text, self.positions)
     }
 
-    /// The same over the text, which is borrowed.
+    /// Returns the borrowed text with the same positions.
     #[inline(always)]
     pub fn borrow(&self) -> Core<K, &str>
         ensures text { core_text result ≡ core_text self.now }
@@ -132,7 +132,7 @@ impl<'a, K: Kind> Core<K, &'a str> {
     ghost use Rattle.uri_parts.specs.AuthorityTexts.{authority_text};
     ghost use Rattle.uri_parts.specs.CoreTexts.{core_text};
 
-    /// The text.
+    /// Returns the text.
     #[inline(always)]
     pub fn as_str(self) -> &'a str
         ensures text { result.now ≡ core_text self.entry }
@@ -141,7 +141,7 @@ impl<'a, K: Kind> Core<K, &'a str> {
         self.text
     }
 
-    /// The empty text.
+    /// Returns the empty text with its positions.
     pub fn empty() -> Core<K, &'a str>
         requires { IsOfKind K.kind [] }
         ensures { core_text result ≡ [] }
@@ -156,42 +156,42 @@ impl<'a, K: Kind> Core<K, &'a str> {
         Core::new("", positions)
     }
 
-    /// The positions of its components.
+    /// Returns the positions of the components of the text.
     pub fn positions(self) -> Positions
-        ensures { AreAt (core_text self.entry) result }
+        ensures { ArePositionsOf (core_text self.entry) result }
     {
         self.positions
     }
 
-    /// Whether there is a scheme.
+    /// Returns whether the text has a scheme.
     pub fn has_scheme(self) -> bool
         ensures { result ≡ is_some (components (core_text self.entry)).scheme }
     {
         self.positions.has_scheme(self.text)
     }
 
-    /// Whether there is an authority.
+    /// Returns whether the text has an authority.
     pub fn has_authority(self) -> bool
         ensures { result ≡ is_some (components (core_text self.entry)).authority }
     {
         self.positions.has_authority(self.text)
     }
 
-    /// Whether there is a query.
+    /// Returns whether the text has a query.
     pub fn has_query(self) -> bool
         ensures { result ≡ is_some (components (core_text self.entry)).query }
     {
         self.positions.has_query(self.text)
     }
 
-    /// Whether there is a fragment.
+    /// Returns whether the text has a fragment.
     pub fn has_fragment(self) -> bool
         ensures { result ≡ is_some (components (core_text self.entry)).fragment }
     {
         self.positions.has_fragment(self.text)
     }
 
-    /// The scheme, if there is one.
+    /// Returns the scheme without its `:`, if there is one.
     pub fn scheme(self) -> Option<Scheme<'a>>
         ensures { option_map scheme_text result ≡ (components (core_text self.entry)).scheme }
     {
@@ -201,7 +201,7 @@ impl<'a, K: Kind> Core<K, &'a str> {
         }
     }
 
-    /// The scheme, of which it is known that there is one.
+    /// Returns the scheme without its `:`, where it is known that there is one.
     pub fn needed_scheme(self) -> Scheme<'a>
         requires { is_some (components (core_text self)).scheme ≡ true }
         ensures { Some (scheme_text result) ≡ (components (core_text self.entry)).scheme }
@@ -212,7 +212,7 @@ impl<'a, K: Kind> Core<K, &'a str> {
         }
     }
 
-    /// The authority, if there is one.
+    /// Returns the authority without its `//`, if there is one.
     pub fn authority(self) -> Option<Authority<'a, K::UserinfoE, K::RegNameE>>
         ensures { option_map authority_text result ≡ (components (core_text self.entry)).authority }
     {
@@ -225,14 +225,14 @@ impl<'a, K: Kind> Core<K, &'a str> {
         ))
     }
 
-    /// The path.
+    /// Returns the path, which may be empty.
     pub fn path(self) -> EStr<'a, K::PathE>
         ensures { text_of result ≡ (components (core_text self.entry)).path }
     {
         EStr::new_or_panic(self.positions.path(self.text))
     }
 
-    /// The query, if there is one.
+    /// Returns the query without its `?`, if there is one.
     pub fn query(self) -> Option<EStr<'a, K::QueryE>>
         ensures { option_map text_of result ≡ (components (core_text self.entry)).query }
     {
@@ -242,7 +242,7 @@ impl<'a, K: Kind> Core<K, &'a str> {
         }
     }
 
-    /// The fragment, if there is one.
+    /// Returns the fragment without its `#`, if there is one.
     pub fn fragment(self) -> Option<EStr<'a, K::FragmentE>>
         ensures { option_map text_of result ≡ (components (core_text self.entry)).fragment }
     {
@@ -252,14 +252,14 @@ impl<'a, K: Kind> Core<K, &'a str> {
         }
     }
 
-    /// The same without its fragment: the text up to its `#`.
+    /// Returns the text up to its `#`, with the positions of what is left of it.
     pub fn strip_fragment(self) -> Core<K, &'a str>
         ensures { IsWithFragment (core_text self.entry) None (core_text result) }
     {
         Core::new(self.positions.without_fragment(self.text), self.positions)
     }
 
-    /// Returns a copy with this fragment instead of its own, or with none.
+    /// Returns a copy of the text with this fragment instead of its own, or with none.
     pub fn with_fragment(
         self,
         alloc: Global,
@@ -273,7 +273,7 @@ impl<'a, K: Kind> Core<K, &'a str> {
         Ok(Core::new(text, self.positions))
     }
 
-    /// The same over a copy of the text.
+    /// Returns the core of a copy of the text, with the same positions.
     pub fn to_owned(self, alloc: Global) -> Result<Core<K, String>, AllocError>
         ensures { IfOk result (λ copy. core_text copy ≡ core_text self.entry) }
     {

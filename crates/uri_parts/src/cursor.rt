@@ -32,19 +32,20 @@ impl<'a> Copy for Cursor<'a> {}
 impl<'a> Cursor<'a> {
     ghost use Rattle.uri_pct.specs.Tables.{set_of};
     ghost use Rattle.uri_pct.specs.Prefixes.{valid_prefix, after};
-    ghost use Rattle.uri_parts.specs.Models.AuthorityParsing.{begins_any};
+    ghost use Rattle.uri_parts.specs.Models.AuthorityParsing.{is_empty_or_begins_with_any};
     ghost use Rattle.uri_parts.specs.Components.{starts, has_authority, is_end};
     ghost use Rattle.uri_parts.specs.Errors.{unexpected};
     ghost use Rattle.uri_parts.specs.Scanning.{scan};
     ghost use Rattle.uri_parts.specs.Errors.{IsErrorIn};
-    ghost use Rattle.uri_parts.specs.Models.Cursors.{rest_of, cursor_text, place_of};
+    ghost use Rattle.uri_parts.specs.Models.Cursors.{text_after_cursor, cursor_text};
+    ghost use Rattle.uri_parts.specs.Models.Cursors.{cursor_position};
 
-    /// The text from its beginning.
+    /// Returns a cursor at the beginning of the text.
     #[inline]
     pub fn new(text: &'a str) -> Self
         ensures text { cursor_text result ≡ text.now }
-        ensures place { place_of result ≡ 0 }
-        ensures rest { rest_of result ≡ text.now }
+        ensures place { cursor_position result ≡ 0 }
+        ensures rest { text_after_cursor result ≡ text.now }
     {
         Cursor { text, position: 0 }
     }
@@ -54,13 +55,13 @@ impl<'a> Cursor<'a> {
     pub fn at(text: &'a str, position: usize) -> Self
         requires { IsCharBoundary text.now position }
         ensures text { cursor_text result ≡ text.now }
-        ensures place { place_of result ≡ position }
-        ensures rest { rest_of result ≡ drop position text.now }
+        ensures place { cursor_position result ≡ position }
+        ensures rest { text_after_cursor result ≡ drop position text.now }
     {
         Cursor { text, position }
     }
 
-    /// The whole text, what was passed of it too.
+    /// Returns the whole text of the cursor, what was passed of it too.
     #[inline]
     pub fn text(&self) -> &'a str
         ensures { result.now ≡ cursor_text self.now }
@@ -68,10 +69,10 @@ impl<'a> Cursor<'a> {
         self.text
     }
 
-    /// How many bytes were passed.
+    /// Returns how many bytes were passed.
     #[inline]
     pub fn position(&self) -> usize
-        ensures place { result ≡ place_of self.now }
+        ensures place { result ≡ cursor_position self.now }
         ensures boundary { IsCharBoundary (cursor_text self.now) result }
     {
         self.position
@@ -81,9 +82,11 @@ impl<'a> Cursor<'a> {
     #[inline(always)]
     pub fn scan(&mut self, table: &Table)
         ensures text { cursor_text self.new ≡ cursor_text self.old }
-        ensures place { place_of self.new
-            ≡ place_of self.old + valid_prefix (set_of table.now) (rest_of self.old) }
-        ensures rest { rest_of self.new ≡ after (set_of table.now) (rest_of self.old) }
+        ensures place { cursor_position self.new
+            ≡ cursor_position self.old + valid_prefix (set_of table.now)
+            (text_after_cursor self.old) }
+        ensures rest { text_after_cursor self.new
+            ≡ after (set_of table.now) (text_after_cursor self.old) }
     {
         self.position = table.scan(self.text, self.position);
     }
@@ -92,7 +95,7 @@ impl<'a> Cursor<'a> {
     #[tactic(auto, using(crate::proofs::Steps::marks))]
     #[inline]
     pub fn ends_authority(&self) -> bool
-        ensures { result ≡ begins_any (codes "/?#") (rest_of self.now) }
+        ensures { result ≡ is_empty_or_begins_with_any (codes "/?#") (text_after_cursor self.now) }
     {
         match self.text.as_bytes().get(self.position) {
             Some(byte) => matches!(byte, b'/' | b'?' | b'#'),
@@ -107,11 +110,12 @@ impl<'a> Cursor<'a> {
     pub fn pass(&mut self, table: &Table) -> Result<(), ParseError>
         ensures text { cursor_text self.new ≡ cursor_text self.old }
         ensures place { OnOk result
-            (place_of self.new ≡ place_of self.old + valid_prefix (set_of table.now) (rest_of self.old)) }
+            (cursor_position self.new ≡ cursor_position self.old + valid_prefix (set_of table.now)
+            (text_after_cursor self.old)) }
         ensures rest { OnOk result
-            (rest_of self.new ≡ after (set_of table.now) (rest_of self.old)) }
+            (text_after_cursor self.new ≡ after (set_of table.now) (text_after_cursor self.old)) }
         ensures refused { result_err result
-            ≡ result_err (scan (cursor_text self.old) (set_of table.now) (place_of self.old)) }
+            ≡ result_err (scan (cursor_text self.old) (set_of table.now) (cursor_position self.old)) }
         ensures err { IfErr result (IsErrorIn (cursor_text self.old)) }
     {
         let end = table.scan(self.text, self.position);
@@ -123,36 +127,36 @@ impl<'a> Cursor<'a> {
         Ok(())
     }
 
-    /// Nothing is left.
-    #[tactic(auto, using(crate::proofs::Parsing::NextBytes::is_end_at))]
+    /// Returns whether the whole text was passed.
+    #[tactic(auto, using(crate::proofs::Parsing::NextBytes::text_ends_where_position_is_length))]
     #[inline]
     pub fn is_at_end(&self) -> bool
-        ensures { result ≡ is_end (rest_of self.now) }
+        ensures { result ≡ is_end (text_after_cursor self.now) }
     {
         self.position == self.text.len()
     }
 
-    /// Whether this byte is next.
-    #[tactic(auto, using(crate::proofs::Parsing::NextBytes::starts_at))]
+    /// Returns whether this byte is next.
+    #[tactic(auto, using(crate::proofs::Parsing::NextBytes::starts_at_position))]
     #[inline]
-    pub fn sees(&self, byte: u8) -> bool
-        ensures { result ≡ starts byte (rest_of self.now) }
+    pub fn next_is(&self, byte: u8) -> bool
+        ensures { result ≡ starts byte (text_after_cursor self.now) }
     {
         let bytes = self.text.as_bytes();
         self.position < bytes.len() && bytes[self.position] == byte
     }
 
     /// Passes this ASCII character, if it is next.
-    #[tactic(auto, using(crate::proofs::Parsing::NextBytes::starts_at))]
+    #[tactic(auto, using(crate::proofs::Parsing::NextBytes::starts_at_position))]
     #[inline]
     pub fn skip(&mut self, byte: u8) -> bool
         requires { byte < 128 }
-        ensures value { result ≡ starts byte (rest_of self.old) }
+        ensures value { result ≡ starts byte (text_after_cursor self.old) }
         ensures text { cursor_text self.new ≡ cursor_text self.old }
-        ensures place { place_of self.new
-            ≡ (if result then place_of self.old + 1 else place_of self.old) }
-        ensures rest { rest_of self.new
-            ≡ (if result then drop 1 (rest_of self.old) else rest_of self.old) }
+        ensures place { cursor_position self.new
+            ≡ (if result then cursor_position self.old + 1 else cursor_position self.old) }
+        ensures rest { text_after_cursor self.new
+            ≡ (if result then drop 1 (text_after_cursor self.old) else text_after_cursor self.old) }
     {
         let bytes = self.text.as_bytes();
         let i = self.position;
@@ -167,12 +171,12 @@ impl<'a> Cursor<'a> {
     /// Passes `//`, if it is next.
     #[inline]
     pub fn skip_slashes(&mut self) -> bool
-        ensures value { result ≡ has_authority (rest_of self.old) }
+        ensures value { result ≡ has_authority (text_after_cursor self.old) }
         ensures text { cursor_text self.new ≡ cursor_text self.old }
-        ensures place { place_of self.new
-            ≡ (if result then place_of self.old + 2 else place_of self.old) }
-        ensures rest { rest_of self.new
-            ≡ (if result then drop 2 (rest_of self.old) else rest_of self.old) }
+        ensures place { cursor_position self.new
+            ≡ (if result then cursor_position self.old + 2 else cursor_position self.old) }
+        ensures rest { text_after_cursor self.new
+            ≡ (if result then drop 2 (text_after_cursor self.old) else text_after_cursor self.old) }
     {
         let bytes = self.text.as_bytes();
         let i = self.position;
@@ -188,7 +192,7 @@ impl<'a> Cursor<'a> {
     #[inline]
     pub fn unexpected(&self) -> ParseError
         ensures error { IsErrorIn (cursor_text self.now) result }
-        ensures returned { result ≡ unexpected (place_of self.now) }
+        ensures returned { result ≡ unexpected (cursor_position self.now) }
     {
         ParseError::new(self.position, ParseErrorKind::UnexpectedChar)
     }

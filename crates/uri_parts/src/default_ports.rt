@@ -59,7 +59,7 @@ const ROWS_BEFORE: &[u8; 27] = &[
     24, 26, 26, 27, 27, 30, 33, 38, 38, 40, 42, 42, 42, 44, //
 ];
 
-/// Returns the rows from one position to another.
+/// Returns the rows of default ports from one position to another.
 fn rows_between<'a>(
     rows: &'a [(&'static str, u16)],
     start: usize,
@@ -72,8 +72,8 @@ fn rows_between<'a>(
     &rows[start..end]
 }
 
-/// Of all rows those of the schemes that begin with the letter, which is the nth from `a` on.
-fn rows_of<'a>(rows: &'a [(&'static str, u16)], nth: usize) -> &'a [(&'static str, u16)]
+/// Returns the rows of the schemes that begin with a letter, which is the nth from `a` on.
+fn rows_of_letter<'a>(rows: &'a [(&'static str, u16)], nth: usize) -> &'a [(&'static str, u16)]
     requires all { length rows.now ≡ 44 }
     requires letter { nth < 26 }
     ensures { result.now ≡ slice_range rows.now (slice_index ROWS_BEFORE.now nth)
@@ -84,8 +84,8 @@ fn rows_of<'a>(rows: &'a [(&'static str, u16)], nth: usize) -> &'a [(&'static st
     rows_between(rows, start, end)
 }
 
-/// The default port of a scheme, if it has one: ASCII case makes no difference. Only the rows
-/// are looked at that begin with its letter.
+/// Returns the default port of a scheme, if it has one: ASCII case makes no difference. Only the
+/// rows are looked at that begin with its letter.
 pub(crate) fn of_scheme(scheme: &str) -> Option<u16>
     ensures { result ≡ default_port (str_to_ascii_lowercase scheme.now) }
 {
@@ -97,11 +97,14 @@ pub(crate) fn of_scheme(scheme: &str) -> Option<u16>
     if !letter.is_ascii_lowercase() {
         return None;
     }
-    port_in(rows_of(&DEFAULT_PORTS, usize::from(letter - b'a')), scheme)
+    port_of_named_row(
+        rows_of_letter(&DEFAULT_PORTS, usize::from(letter - b'a')),
+        scheme,
+    )
 }
 
-/// The port of the first row with this name, ASCII case apart.
-fn port_in(rows: &[(&str, u16)], name: &str) -> Option<u16>
+/// Returns the port of the first row with this name, ASCII case apart.
+fn port_of_named_row(rows: &[(&str, u16)], name: &str) -> Option<u16>
     ensures { result ≡ port_ignoring_case name.now
         (map (λ row. (row.0.now, row.1)) rows.entry.now) }
 {

@@ -25,7 +25,8 @@ pub enum ParseErrorKind {
     InvalidIpv6Addr,
 }
 
-/// Why a text is not a URI or IRI, and where. `docs/PARSE_ERRORS.md` says which of the three errors a
+/// Why a text is not a URI or IRI, and where. `docs/PARSE_ERRORS.md` says which of the three errors
+/// a
 /// text gets, and at which index.
 ///
 /// # Examples
@@ -38,6 +39,7 @@ pub struct ParseError {
     kind: ParseErrorKind,
 }
 
+/// Returns the message of a kind of parse error, such as `unexpected character`.
 fn kind_text(kind: &ParseErrorKind) -> &'static str {
     match kind {
         ParseErrorKind::InvalidPctEncodedOctet => "invalid percent-encoded octet",
@@ -47,13 +49,13 @@ fn kind_text(kind: &ParseErrorKind) -> &'static str {
 }
 
 impl ParseError {
-    ghost use Rattle.uri_parts.specs.Errors.{index_of, fault_of};
+    ghost use Rattle.uri_parts.specs.Errors.{error_index, error_kind_of};
 
     /// Returns the error of this kind at a byte offset.
     #[doc(hidden)]
     pub fn new(index: usize, kind: ParseErrorKind) -> Self
-        ensures index { index_of result ≡ index }
-        ensures kind { fault_of result ≡ kind }
+        ensures index { error_index result ≡ index }
+        ensures kind { error_kind_of result ≡ kind }
         ensures both { result ≡ record { index = index; kind = kind } }
     {
         ParseError { index, kind }
@@ -66,18 +68,18 @@ impl ParseError {
     ///
     /// For `http://a b` it is 8, where the space is.
     pub fn index(&self) -> usize
-        ensures { result ≡ index_of self.now }
+        ensures { result ≡ error_index self.now }
     {
         self.index
     }
 
-    /// What is wrong there.
+    /// Returns what is wrong at the index of the error.
     ///
     /// # Examples
     ///
     /// For `http://a b` it is `UnexpectedChar`.
     pub fn kind(&self) -> ParseErrorKind
-        ensures { result ≡ fault_of self.now }
+        ensures { result ≡ error_kind_of self.now }
     {
         self.kind
     }

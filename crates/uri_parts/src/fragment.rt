@@ -6,7 +6,7 @@ ghost use Rattle.std.specs.String.{string_capacity};
 ghost use Rattle.uri_pct.specs.Delimiters.{number_sign};
 ghost use Rattle.uri_pct.specs.Texts.{Pushes};
 ghost use Rattle.uri_parts.specs.Fragments.{IsWithFragment, StaysOfKind};
-ghost use Rattle.uri_parts.specs.Positions.{AreAt};
+ghost use Rattle.uri_parts.specs.Positions.{ArePositionsOf};
 ghost use Rattle.uri_pct.specs.EncodedTexts.{text_of};
 
 use crate::positions::Positions;
@@ -26,7 +26,7 @@ fn push_fragment(text: &mut String, fragment: &str) -> Result<(), AllocError>
 
 /// Makes room for a `#` and a fragment of this length after the text up to a position. The text is
 /// as it was.
-fn make_room(text: &mut String, place: usize, len: usize) -> Result<(), AllocError>
+fn reserve_for_fragment(text: &mut String, place: usize, len: usize) -> Result<(), AllocError>
     requires { IsCharBoundary (string_bytes text.old) place }
     ensures same { string_bytes text.new ≡ string_bytes text.old }
     ensures room { OnOk result (place + (len + 1) ≤ string_capacity text.new) }
@@ -38,7 +38,7 @@ fn make_room(text: &mut String, place: usize, len: usize) -> Result<(), AllocErr
 }
 
 /// Replaces what is after a position by a `#` and the fragment, for which there is room.
-fn replace_end(text: &mut String, place: usize, fragment: &str)
+fn replace_end_by_fragment(text: &mut String, place: usize, fragment: &str)
     requires boundary { IsCharBoundary (string_bytes text.old) place }
     requires room { place + (length fragment.now + 1) ≤ string_capacity text.old }
     ensures { string_bytes text.new
@@ -58,11 +58,11 @@ pub fn with_fragment<E: Encoder>(
     positions: &Positions,
     fragment: Option<EStr<'_, E>>,
 ) -> Result<String, AllocError>
-    requires { AreAt text.now positions.now }
+    requires { ArePositionsOf text.now positions.now }
     ensures fragment { IfOk result (λ made.
         IsWithFragment text.now (option_map text_of fragment.entry) (string_bytes made)) }
     ensures of_kind { IfOk result (λ made. StaysOfKind E.set text.now (string_bytes made)) }
-    ensures at { IfOk result (λ made. AreAt (string_bytes made) positions.now) }
+    ensures at { IfOk result (λ made. ArePositionsOf (string_bytes made) positions.now) }
 {
     let kept = positions.without_fragment(text);
     let mut made = String::new(alloc);
@@ -84,14 +84,14 @@ pub fn set_fragment<E: Encoder>(
     positions: &Positions,
     fragment: Option<EStr<'_, E>>,
 ) -> Result<(), AllocError>
-    requires { AreAt (string_bytes text.old) positions.now }
+    requires { ArePositionsOf (string_bytes text.old) positions.now }
     ensures fragment { OnOk result
         (IsWithFragment (string_bytes text.old) (option_map text_of fragment.entry)
         (string_bytes text.new)) }
     ensures kept { OnErr result (string_bytes text.new ≡ string_bytes text.old) }
     ensures none { fragment.entry ≡ None → IsOk result }
     ensures of_kind { StaysOfKind E.set (string_bytes text.old) (string_bytes text.new) }
-    ensures at { AreAt (string_bytes text.new) positions.now }
+    ensures at { ArePositionsOf (string_bytes text.new) positions.now }
 {
     let kept = positions.before_fragment();
     let Some(fragment) = fragment else {
@@ -99,7 +99,7 @@ pub fn set_fragment<E: Encoder>(
         return Ok(());
     };
     // Memory is asked for first: if that fails, the old fragment is still there.
-    make_room(text, kept, fragment.len())?;
-    replace_end(text, kept, fragment.as_str());
+    reserve_for_fragment(text, kept, fragment.len())?;
+    replace_end_by_fragment(text, kept, fragment.as_str());
     Ok(())
 }

@@ -1,19 +1,19 @@
 //! Addresses in brackets (RFC 3986, section 3.2.2).
 ghost use Rattle.std.specs.Prelude.{◌≡◌, ◌≤◌, ◌<◌, ◌+◌, length, IsTrue, IfSome, IfOk, IfErr, is_ok};
-ghost use Rattle.uri_parts.specs.Errors.{index_of};
+ghost use Rattle.uri_parts.specs.Errors.{error_index};
 ghost use Rattle.std.specs.Prelude.{drop, ◌||◌, ◌&&◌, not, nat_lt, Ok, Err, true, false};
 ghost use Rattle.uri_parts.specs.Components.{is_end, starts};
 ghost use Rattle.uri_parts.specs.LiteralErrors.{digits_end as digits_end_at};
 ghost use Rattle.uri_parts.specs.LiteralErrors.{octet_end as octet_end_at, ipv4_end as ipv4_end_at};
 ghost use Rattle.uri_parts.specs.LiteralErrors.{literal, groups_from, after_elision};
 ghost use Rattle.uri_parts.specs.LiteralErrors.{ipv6_end as ipv6_end_at};
-ghost use Rattle.uri_parts.specs.LiteralErrors.{is_no_ipv6 as is_no_ipv6_at};
+ghost use Rattle.uri_parts.specs.LiteralErrors.{cannot_begin_ipv6 as is_no_ipv6_at};
 ghost use Rattle.uri_parts.specs.Scanning.{scan_to_mark};
 ghost use Rattle.std.specs.Str.{IsCharBoundary};
 ghost use Rattle.uri_pct.specs.Tables.{set_of};
 ghost use Rattle.uri_pct.specs.Delimiters.{full_stop, right_bracket};
 ghost use Rattle.uri_pct.specs.Sets.{hexdig_set, ipv_future_set};
-ghost use Rattle.uri_parts.specs.Models.LiteralGroups.{groups_of, IsAtBoundary};
+ghost use Rattle.uri_parts.specs.Models.LiteralGroups.{groups_of_end, EndsAtBoundary};
 ghost use Rattle.std.specs.Prelude.{if◌then◌else◌};
 
 use crate::address_parser::after_ipv6;
@@ -21,11 +21,11 @@ use crate::error::{ParseError, ParseErrorKind};
 use uri_pct::table::{HEXDIG, IPV_FUTURE, Table};
 
 /// Returns whether this ASCII character is at `index`.
-#[tactic(auto, using(crate::proofs::Parsing::NextBytes::starts_at))]
-fn sees(text: &str, index: usize, byte: u8) -> bool
+#[tactic(auto, using(crate::proofs::Parsing::NextBytes::starts_at_position))]
+fn next_is(text: &str, index: usize, byte: u8) -> bool
     requires { byte < 128 }
     ensures value { result ≡ starts byte (drop index text.now) }
-    ensures behind { IsTrue result → IsCharBoundary text.now (index + 1) }
+    ensures suffix { IsTrue result → IsCharBoundary text.now (index + 1) }
 {
     let bytes = text.as_bytes();
     index < bytes.len() && bytes[index] == byte
@@ -34,9 +34,9 @@ fn sees(text: &str, index: usize, byte: u8) -> bool
 /// Returns whether `v` or `V` is at `index`.
 fn starts_ipvfuture(text: &str, index: usize) -> bool
     ensures value { result ≡ (starts 118 (drop index text.now) || starts 86 (drop index text.now)) }
-    ensures behind { IsTrue result → IsCharBoundary text.now (index + 1) }
+    ensures suffix { IsTrue result → IsCharBoundary text.now (index + 1) }
 {
-    sees(text, index, b'v') || sees(text, index, b'V')
+    next_is(text, index, b'v') || next_is(text, index, b'V')
 }
 
 /// Returns where the digits at `start` end. It passes `most` of them at most.
@@ -65,7 +65,7 @@ fn octet_end(text: &str, start: usize) -> Option<usize>
     ensures boundary { IfSome result (IsCharBoundary text.now) }
     ensures exact { result ≡ octet_end_at text.now start }
 {
-    if sees(text, start, b'0') {
+    if next_is(text, start, b'0') {
         return Some(start + 1);
     }
     let end = digits_end(text, start, 10, 3);
@@ -82,7 +82,7 @@ fn ipv4_end(text: &str, start: usize) -> Option<usize>
 {
     let mut end = octet_end(text, start)?;
     for dots in 0..3u32 {
-        if !sees(text, end, b'.') {
+        if !next_is(text, end, b'.') {
             return None;
         }
         end = octet_end(text, end + 1)?;
@@ -100,23 +100,23 @@ enum GroupsEnd {
     Malformed,
 }
 
-/// Passes a `:`, if it is next.
+/// Returns the position after the `:` at `start`, or `start` if none is there.
 #[inline]
-fn behind_colon(text: &str, start: usize) -> usize
+fn after_colon(text: &str, start: usize) -> usize
     requires { IsCharBoundary text.now start }
     ensures boundary { IsCharBoundary text.now result }
     ensures exact { result ≡ (if starts 58 (drop start text.now) then start + 1 else start) }
 {
-    if sees(text, start, b':') {
+    if next_is(text, start, b':') {
         start + 1
     } else {
         start
     }
 }
 
-/// Whether one to three digits were passed, at the end of the text.
-#[tactic(auto, using(crate::proofs::Parsing::NextBytes::is_end_at))]
-fn ends_text(text: &str, first: usize, last: usize) -> bool
+/// Returns whether one to three digits were passed, at the end of the text.
+#[tactic(auto, using(crate::proofs::Parsing::NextBytes::text_ends_where_position_is_length))]
+fn is_short_group_at_end(text: &str, first: usize, last: usize) -> bool
     requires order { first ≤ last }
     requires within { last ≤ length text.now }
     ensures { result ≡ (nat_lt last (first + 4) && is_end (drop last text.now)) }
@@ -124,16 +124,16 @@ fn ends_text(text: &str, first: usize, last: usize) -> bool
     last - first < 4 && last == text.len()
 }
 
-/// Whether one to three digits were passed, and `.` is next.
-fn is_dotted(text: &str, first: usize, last: usize) -> bool
+/// Returns whether one to three digits were passed, and `.` is next.
+fn is_short_group_before_dot(text: &str, first: usize, last: usize) -> bool
     requires { first ≤ last }
     ensures { result ≡ (nat_lt last (first + 4) && starts full_stop (drop last text.now)) }
 {
-    last - first < 4 && sees(text, last, b'.')
+    last - first < 4 && next_is(text, last, b'.')
 }
 
-/// Each group has a `:` before it but the first.
-fn is_malformed_turn(has_colon: bool, is_first: bool) -> bool
+/// Returns whether the first group has a `:` before it, or another group has none.
+fn has_misplaced_colon(has_colon: bool, is_first: bool) -> bool
     ensures { result ≡ (has_colon && is_first || not has_colon && not is_first) }
 {
     has_colon == is_first
@@ -144,30 +144,30 @@ fn is_malformed_turn(has_colon: bool, is_first: bool) -> bool
 /// text are passed and make no group.
 fn groups_end(text: &str, start: usize, room: usize) -> GroupsEnd
     requires { IsCharBoundary text.now start }
-    ensures boundary { IsAtBoundary text.now result }
-    ensures exact { groups_of result ≡ groups_from text.now room true start }
+    ensures boundary { EndsAtBoundary text.now result }
+    ensures exact { groups_of_end result ≡ groups_from text.now room true start }
 {
     let mut end = start;
     for counted in 0..room {
-        let has_colon = sees(text, end, b':');
-        let first = behind_colon(text, end);
+        let has_colon = next_is(text, end, b':');
+        let first = after_colon(text, end);
         let last = digits_end(text, first, 16, 4);
         if last == first {
             if !has_colon {
                 return GroupsEnd::End(room - counted, end);
             }
-            if sees(text, first, b':') {
+            if next_is(text, first, b':') {
                 return GroupsEnd::Elision(room - counted, first + 1);
             }
             return GroupsEnd::Malformed;
         }
-        if ends_text(text, first, last) {
+        if is_short_group_at_end(text, first, last) {
             return GroupsEnd::End(room - counted, last);
         }
-        if is_malformed_turn(has_colon, counted == 0) {
+        if has_misplaced_colon(has_colon, counted == 0) {
             return GroupsEnd::Malformed;
         }
-        if is_dotted(text, first, last) {
+        if is_short_group_before_dot(text, first, last) {
             if room - counted == 1 {
                 return GroupsEnd::Malformed;
             }
@@ -183,7 +183,7 @@ fn groups_end(text: &str, start: usize, room: usize) -> GroupsEnd
 
 /// Returns where the groups after the `::` of an IPv6 address end. Returns `None` if they are
 /// malformed or too many.
-fn elided_end(text: &str, start: usize, room: usize) -> Option<usize>
+fn end_after_elision(text: &str, start: usize, room: usize) -> Option<usize>
     requires { IsCharBoundary text.now start }
     ensures boundary { IfSome result (IsCharBoundary text.now) }
     ensures exact { result ≡ after_elision text.now (groups_from text.now room true start) }
@@ -204,34 +204,35 @@ fn ipv6_end(text: &str, start: usize) -> Option<usize>
 {
     match groups_end(text, start, 8) {
         GroupsEnd::End(0, end) => Some(end),
-        GroupsEnd::Elision(room, end) => elided_end(text, end, room),
+        GroupsEnd::Elision(room, end) => end_after_elision(text, end, room),
         _ => None,
     }
 }
 
-/// Neither `:` nor a group is next.
-#[tactic(auto, unfolding(crate::specs::LiteralErrors::is_no_ipv6))]
-fn is_no_ipv6(text: &str, start: usize) -> bool
+/// Returns whether neither `:` nor a group is at `start`, so that no IPv6 address begins there.
+#[tactic(auto, unfolding(crate::specs::LiteralErrors::cannot_begin_ipv6))]
+fn cannot_begin_ipv6(text: &str, start: usize) -> bool
     requires { IsCharBoundary text.now start }
     ensures { result ≡ is_no_ipv6_at text.now start }
 {
-    if sees(text, start, b':') {
+    if next_is(text, start, b':') {
         return false;
     }
     let last = digits_end(text, start, 16, 4);
-    last == start || is_dotted(text, start, last)
+    last == start || is_short_group_before_dot(text, start, last)
 }
 
 /// Returns the error from `start` on, where neither a `v` nor an address with its `]` begins.
 fn refusal(text: &str, start: usize) -> ParseError
     requires boundary { IsCharBoundary text.now start }
     requires refused { is_ok (literal text.now start) ≡ false }
-    requires unlettered { (starts 118 (drop start text.now) || starts 86 (drop start text.now))
+    requires lacks_version_letter { (starts 118 (drop start text.now)
+        || starts 86 (drop start text.now))
         ≡ false }
-    ensures boundary { IsCharBoundary text.now (index_of result) }
+    ensures boundary { IsCharBoundary text.now (error_index result) }
     ensures exact { literal text.now start ≡ Err result }
 {
-    if is_no_ipv6(text, start) {
+    if cannot_begin_ipv6(text, start) {
         return ParseError::new(start, ParseErrorKind::UnexpectedChar);
     }
     match ipv6_end(text, start) {
@@ -242,15 +243,15 @@ fn refusal(text: &str, start: usize) -> ParseError
 
 /// Returns the position after one or more characters of the table at `start` and the `mark` after
 /// them. The error is where one of these is missing.
-fn marked_end(text: &str, start: usize, table: &Table, mark: u8) -> Result<usize, ParseError>
+fn end_after_mark(text: &str, start: usize, table: &Table, mark: u8) -> Result<usize, ParseError>
     requires boundary { IsCharBoundary text.now start }
     requires ascii { mark < 128 }
     ensures boundary { IfOk result (λ end. IsCharBoundary text.now end) }
-    ensures index { IfErr result (λ e. IsCharBoundary text.now (index_of e)) }
+    ensures index { IfErr result (λ e. IsCharBoundary text.now (error_index e)) }
     ensures exact { result ≡ scan_to_mark text.now (set_of table.now) mark (λ end. Ok end) start }
 {
     let end = table.scan(text, start);
-    if start < end && sees(text, end, mark) {
+    if start < end && next_is(text, end, mark) {
         Ok(end + 1)
     } else {
         Err(ParseError::new(end, ParseErrorKind::UnexpectedChar))
@@ -265,12 +266,12 @@ fn marked_end(text: &str, start: usize, table: &Table, mark: u8) -> Result<usize
 fn future_end(text: &str, start: usize) -> Result<usize, ParseError>
     requires { IsCharBoundary text.now start }
     ensures boundary { IfOk result (λ end. IsCharBoundary text.now end) }
-    ensures index { IfErr result (λ e. IsCharBoundary text.now (index_of e)) }
+    ensures index { IfErr result (λ e. IsCharBoundary text.now (error_index e)) }
     ensures exact { result ≡ scan_to_mark text.now hexdig_set full_stop
         (scan_to_mark text.now ipv_future_set right_bracket (λ end. Ok end)) start }
 {
-    let address = marked_end(text, start, &HEXDIG, b'.')?;
-    marked_end(text, address, &IPV_FUTURE, b']')
+    let address = end_after_mark(text, start, &HEXDIG, b'.')?;
+    end_after_mark(text, address, &IPV_FUTURE, b']')
 }
 
 /// Returns the position after the address at `start` and its `]`, or why there is none. A `[` is
@@ -278,7 +279,7 @@ fn future_end(text: &str, start: usize) -> Result<usize, ParseError>
 pub(crate) fn literal_end(text: &str, start: usize) -> Result<usize, ParseError>
     requires { IsCharBoundary text.now start }
     ensures boundary { IfOk result (λ end. IsCharBoundary text.now end) }
-    ensures index { IfErr result (λ e. IsCharBoundary text.now (index_of e)) }
+    ensures index { IfErr result (λ e. IsCharBoundary text.now (error_index e)) }
     ensures exact { result ≡ literal text.now start }
 {
     if starts_ipvfuture(text, start) {
@@ -287,7 +288,7 @@ pub(crate) fn literal_end(text: &str, start: usize) -> Result<usize, ParseError>
     let address = &text[start..];
     if let Some(rest) = after_ipv6(address.as_bytes()) {
         let end = text.len() - rest.len();
-        if sees(text, end, b']') {
+        if next_is(text, end, b']') {
             return Ok(end + 1);
         }
     }

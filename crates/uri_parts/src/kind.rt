@@ -13,7 +13,7 @@ use uri_pct::encoder::{
 #[doc(hidden)]
 pub trait Kind {
     ghost use Rattle.uri_parts.specs.Grammar as grammar;
-    ghost use Rattle.uri_parts.specs.Grammar.{first_segment_set, one_of_four};
+    ghost use Rattle.uri_parts.specs.Grammar.{first_segment_set, kind_by_flags};
 
     type UserinfoE: Encoder;
 
@@ -27,12 +27,12 @@ pub trait Kind {
 
     ghost kind: { grammar.Kind };
 
-    /// The tables of its components, and whether it needs a scheme.
+    /// Returns the tables of the kind's components, and whether it needs a scheme.
     fn tables() -> KindTables
         ensures kind { kind_of result ≡ kind }
         ensures first_segment { segment_nz_nc_of result ≡ first_segment_set kind };
 
-    ghost known: { kind ≡ one_of_four kind.path.ucschar kind.needs_scheme };
+    ghost known: { kind ≡ kind_by_flags kind.path.ucschar kind.needs_scheme };
 
     ghost userinfo_set: { Self.UserinfoE.set ≡ Self.kind.userinfo };
 
@@ -66,6 +66,7 @@ impl Kind for UriKind {
 
     ghost kind = { uri };
 
+    /// Returns the tables of URIs, which need a scheme.
     fn tables() -> KindTables {
         uri_tables(true)
     }
@@ -104,6 +105,7 @@ impl Kind for UriRefKind {
 
     ghost kind = { uri_ref };
 
+    /// Returns the tables of URI references.
     fn tables() -> KindTables {
         uri_tables(false)
     }
@@ -142,6 +144,7 @@ impl Kind for IriKind {
 
     ghost kind = { iri };
 
+    /// Returns the tables of IRIs, which need a scheme.
     fn tables() -> KindTables {
         iri_tables(true)
     }
@@ -180,6 +183,7 @@ impl Kind for IriRefKind {
 
     ghost kind = { iri_ref };
 
+    /// Returns the tables of IRI references.
     fn tables() -> KindTables {
         iri_tables(false)
     }

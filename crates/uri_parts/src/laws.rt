@@ -7,7 +7,8 @@ ghost use Rattle.std.specs.Str.{IsUtf8};
 ghost use Rattle.std.specs.Net.Text.{ipv4_text, ipv6_text};
 ghost use Rattle.uri_pct.specs.Sets.{TableSet, userinfo_set, reg_name_set};
 ghost use Rattle.uri_parts.specs.Addresses.{ipv4_octets, ipv6_segments};
-ghost use Rattle.uri_parts.specs.Authority.{AuthorityParts, IsAuthorityFor, KeepsApart};
+ghost use Rattle.uri_parts.specs.Authority.{AuthorityParts, IsAuthorityFor};
+ghost use Rattle.uri_parts.specs.Authority.{LackAuthorityDelimiters};
 ghost use Rattle.uri_parts.specs.Authority.{authority_parts, is_authority_for};
 ghost use Rattle.uri_parts.specs.Components.{Components, IsSplitOf, components, recompose};
 ghost use Rattle.uri_parts.specs.Hosts.{HostKind, IsHost, IsIpv4Text, IsIpv6Text, host_kind};
@@ -31,7 +32,7 @@ pub fn components_are_a_split()
     ensures { (text : List ℕ) → IsSplitOf text (components text) }
 {}
 
-/// A text has no other split.
+/// The components of a text are its only split by RFC 3986, appendix B.
 ///
 /// # Examples
 ///
@@ -54,7 +55,7 @@ pub fn components_recompose()
 /// # Examples
 ///
 /// `127.0.0.1` is parsed as 127, 0, 0 and 1.
-pub fn ipv4_text_is_read_back(address: &Ipv4Addr)
+pub fn ipv4_text_parses_to_its_octets(address: &Ipv4Addr)
     ensures { IsIpv4Text (ipv4_text (ipv4_octets address.now)) (ipv4_octets address.now) }
 {
     let _octets = address.octets();
@@ -65,7 +66,7 @@ pub fn ipv4_text_is_read_back(address: &Ipv4Addr)
 /// # Examples
 ///
 /// `::1` is parsed as seven times 0, and 1.
-pub fn ipv6_text_is_read_back(address: &Ipv6Addr)
+pub fn ipv6_text_parses_to_its_segments(address: &Ipv6Addr)
     ensures { IsIpv6Text (ipv6_text (ipv6_segments address.now)) (ipv6_segments address.now) }
 {
     let _segments = address.segments();
@@ -123,7 +124,7 @@ pub fn ipv4_is_less_than_ipv6(a: Ipv4Addr, b: Ipv6Addr) -> Ordering
 /// # Examples
 ///
 /// As IP addresses, too, `9.255.255.255` is less than `10.0.0.0`.
-pub fn ipv4_addresses_compare_alike(a: Ipv4Addr, b: Ipv4Addr) -> Ordering
+pub fn ipv4_as_ip_addresses_compare_by_octets(a: Ipv4Addr, b: Ipv4Addr) -> Ordering
     ensures { result ≡ slice_cmp nat_cmp (ipv4_octets a) (ipv4_octets b) }
 {
     IpAddr::V4(a).cmp(&IpAddr::V4(b))
@@ -134,7 +135,7 @@ pub fn ipv4_addresses_compare_alike(a: Ipv4Addr, b: Ipv4Addr) -> Ordering
 /// # Examples
 ///
 /// As IP addresses, too, `0:ffff::` is less than `1::`.
-pub fn ipv6_addresses_compare_alike(a: Ipv6Addr, b: Ipv6Addr) -> Ordering
+pub fn ipv6_as_ip_addresses_compare_by_segments(a: Ipv6Addr, b: Ipv6Addr) -> Ordering
     ensures { result ≡ slice_cmp nat_cmp (ipv6_segments a) (ipv6_segments b) }
 {
     IpAddr::V6(a).cmp(&IpAddr::V6(b))
@@ -143,23 +144,23 @@ pub fn ipv6_addresses_compare_alike(a: Ipv6Addr, b: Ipv6Addr) -> Ordering
 /// The characters of userinfo and of registered names keep the components of an authority apart.
 #[doc(hidden)]
 #[tactic(auto, unfolding(uri_pct::specs::Sets::is_userinfo_char, uri_pct::specs::Sets::is_reg_name_char, uri_pct::specs::Sets::is_unreserved, uri_pct::specs::Sets::is_sub_delim))]
-pub fn uri_sets_keep_apart()
-    ensures { KeepsApart userinfo_set reg_name_set }
+pub fn uri_sets_lack_authority_delimiters()
+    ensures { LackAuthorityDelimiters userinfo_set reg_name_set }
 {}
 
 /// A text is a host of one kind: RFC 3986, section 3.2.2.
 #[doc(hidden)]
 pub fn a_host_is_of_one_kind()
     ensures { (users names : TableSet) (text : List ℕ) (host : HostKind)
-        → KeepsApart users names → IsUtf8 text
+        → LackAuthorityDelimiters users names → IsUtf8 text
         → IsHost names text host → host_kind text ≡ host }
 {}
 
-/// The test of a host is its grammar.
+/// The test of a host allows exactly the texts of its grammar (RFC 3986, section 3.2.2).
 #[doc(hidden)]
 pub fn host_test_is_the_grammar()
     ensures { (users names : TableSet) (text : List ℕ)
-        → KeepsApart users names → IsUtf8 text
+        → LackAuthorityDelimiters users names → IsUtf8 text
         → (is_host names text ≡ true ↔ ((host : HostKind) × IsHost names text host)) }
 {}
 
@@ -167,22 +168,22 @@ pub fn host_test_is_the_grammar()
 #[doc(hidden)]
 pub fn an_authority_has_one_cut()
     ensures { (users names : TableSet) (text : List ℕ) (p : AuthorityParts)
-        → KeepsApart users names → IsUtf8 text
+        → LackAuthorityDelimiters users names → IsUtf8 text
         → IsAuthorityFor users names text p → authority_parts text ≡ p }
 {}
 
-/// The test of an authority is its grammar.
+/// The test of an authority allows exactly the texts of its grammar (RFC 3986, section 3.2).
 #[doc(hidden)]
 pub fn authority_test_is_the_grammar()
     ensures { (users names : TableSet) (text : List ℕ)
-        → KeepsApart users names → IsUtf8 text
+        → LackAuthorityDelimiters users names → IsUtf8 text
         → (is_authority_for users names text ≡ true
         ↔ IsAuthorityFor users names text (authority_parts text)) }
 {}
 
-/// The errors of some texts.
+/// Some example texts have the errors that their rows give.
 #[doc(hidden)]
-pub fn some_texts_have_errors()
+pub fn example_texts_have_their_errors()
     ensures references { map (λ row. refusal uri_ref row.0) uri_ref_rows
         ≡ map (λ row. row.1) uri_ref_rows }
     ensures uris { map (λ row. refusal uri row.0) uri_rows ≡ map (λ row. row.1) uri_rows }

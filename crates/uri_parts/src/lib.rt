@@ -2,6 +2,9 @@
 #![tactic(auto)]
 
 mod address_parser;
+mod address_reader;
+#[doc(hidden)]
+pub mod address_text;
 mod authority_parser;
 pub mod component;
 mod connect;

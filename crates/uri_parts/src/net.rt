@@ -3,6 +3,7 @@ ghost use Rattle.std.specs.Prelude.{◌≡◌, [], ◌∷◌, Some, option_map};
 ghost use Rattle.std.specs.Net.Text.{ipv4_text, ipv6_text};
 ghost use Rattle.uri_parts.specs.Hosts.{ipv4_value, ipv6_value};
 
+use crate::address_reader::ipv6_without_ipv4;
 use std::{fmt, net};
 
 /// An IPv4 address: four octets.
@@ -34,7 +35,7 @@ impl Ipv4Addr {
     /// It is `Ipv4Addr::new(0, 0, 0, 0)`.
     pub const UNSPECIFIED: Self = Ipv4Addr(net::Ipv4Addr::UNSPECIFIED);
 
-    /// The address with these four octets, which prints as `a.b.c.d`.
+    /// Returns the address with these four octets, which prints as `a.b.c.d`.
     ///
     /// # Examples
     ///
@@ -45,7 +46,7 @@ impl Ipv4Addr {
         Ipv4Addr(net::Ipv4Addr::new(a, b, c, d))
     }
 
-    /// The four octets, first to last.
+    /// Returns the four octets, first to last.
     ///
     /// # Examples
     ///
@@ -56,7 +57,7 @@ impl Ipv4Addr {
         self.0.octets()
     }
 
-    /// The same address, as std has it.
+    /// Returns the same address as a type of std.
     ///
     /// # Examples
     ///
@@ -67,9 +68,9 @@ impl Ipv4Addr {
         self.0
     }
 
-    /// The address that the whole text writes, or `None` if it writes none.
+    /// Returns the IPv4 address that the whole text writes, or `None` if it writes none.
     #[doc(hidden)]
-    #[tactic(auto, using(crate::proofs::HostForms::ParsedAddresses::ipv4_parsed))]
+    #[tactic(auto, using(crate::proofs::HostForms::ParsedAddresses::parsed_ipv4_has_value_of_text))]
     pub fn parse(text: &str) -> Option<Self>
         ensures { option_map ipv4_octets result ≡ ipv4_value text.now }
     {
@@ -85,6 +86,7 @@ impl fmt::Display for Ipv4Addr {
 
     ghost output = { λ a. Some (ipv4_text (ipv4_octets a)) };
 
+    /// Prints the four octets in decimal, as in `127.0.0.1`.
     fn fmt<W: fmt::Write>(&self, f: &mut fmt::Formatter<W>) -> fmt::Result {
         fmt::Display::fmt(&self.0, f)
     }
@@ -95,7 +97,7 @@ impl fmt::Debug for Ipv4Addr {
 
     ghost debug_output = { λ a. Some (ipv4_text (ipv4_octets a)) };
 
-    /// Prints what `Display` prints.
+    /// Prints the address as `Display` does.
     fn fmt<W: fmt::Write>(&self, f: &mut fmt::Formatter<W>) -> fmt::Result {
         fmt::Display::fmt(self, f)
     }
@@ -107,7 +109,7 @@ impl From<net::Ipv4Addr> for Ipv4Addr {
 
     ghost from_gives = { λ given made. ipv4_octets made ≡ std_addresses.ipv4_octets given };
 
-    /// The same address.
+    /// Returns the IPv4 address with the same four octets.
     fn from(address: net::Ipv4Addr) -> Self {
         Ipv4Addr(address)
     }
@@ -144,7 +146,7 @@ impl Ipv6Addr {
     /// It is `Ipv6Addr::new(0, 0, 0, 0, 0, 0, 0, 0)`.
     pub const UNSPECIFIED: Self = Ipv6Addr(net::Ipv6Addr::UNSPECIFIED);
 
-    /// The address with these eight segments.
+    /// Returns the address with these eight segments.
     ///
     /// # Examples
     ///
@@ -155,7 +157,7 @@ impl Ipv6Addr {
         Ipv6Addr(net::Ipv6Addr::new(a, b, c, d, e, f, g, h))
     }
 
-    /// The eight segments, first to last.
+    /// Returns the eight segments, first to last.
     ///
     /// # Examples
     ///
@@ -166,7 +168,7 @@ impl Ipv6Addr {
         self.0.segments()
     }
 
-    /// The same address, as std has it.
+    /// Returns the same address as a type of std.
     ///
     /// # Examples
     ///
@@ -177,13 +179,17 @@ impl Ipv6Addr {
         self.0
     }
 
-    /// The address that the whole text writes, or `None` if it writes none.
+    /// Returns the IPv6 address that the whole text writes, or `None` if it writes none.
     #[doc(hidden)]
-    #[tactic(auto, using(crate::proofs::HostForms::ParsedAddresses::ipv6_parsed))]
+    #[tactic(auto, using(crate::proofs::HostForms::ParsedAddresses::parsed_ipv6_has_value_of_text))]
     pub fn parse(text: &str) -> Option<Self>
         ensures { option_map ipv6_segments result ≡ ipv6_value text.now }
     {
-        match net::Ipv6Addr::parse_ascii(text.as_bytes()) {
+        let bytes = text.as_bytes();
+        if let Some(segments) = ipv6_without_ipv4(bytes) {
+            return Some(Ipv6Addr(net::Ipv6Addr::from_segments(segments)));
+        }
+        match net::Ipv6Addr::parse_ascii(bytes) {
             Ok(address) => Some(Ipv6Addr(address)),
             Err(_) => None,
         }
@@ -195,6 +201,7 @@ impl fmt::Display for Ipv6Addr {
 
     ghost output = { λ a. Some (ipv6_text (ipv6_segments a)) };
 
+    /// Prints the text of the IPv6 address, without brackets.
     fn fmt<W: fmt::Write>(&self, f: &mut fmt::Formatter<W>) -> fmt::Result {
         let Ipv6Addr(address) = self;
         fmt::Display::fmt(address, f)
@@ -206,7 +213,7 @@ impl fmt::Debug for Ipv6Addr {
 
     ghost debug_output = { λ a. Some (ipv6_text (ipv6_segments a)) };
 
-    /// Prints what `Display` prints.
+    /// Prints the address as `Display` does.
     fn fmt<W: fmt::Write>(&self, f: &mut fmt::Formatter<W>) -> fmt::Result {
         fmt::Display::fmt(self, f)
     }
@@ -218,7 +225,7 @@ impl From<net::Ipv6Addr> for Ipv6Addr {
 
     ghost from_gives = { λ given made. ipv6_segments made ≡ std_addresses.ipv6_segments given };
 
-    /// The same address.
+    /// Returns the IPv6 address with the same eight segments.
     fn from(address: net::Ipv6Addr) -> Self {
         Ipv6Addr(address)
     }
@@ -240,7 +247,7 @@ pub enum IpAddr {
 impl IpAddr {
     ghost use Rattle.uri_parts.specs.Addresses.{IsSameAddress};
 
-    /// The same address, of the same version, as std has it.
+    /// Returns the same address, of the same version, as a type of std.
     ///
     /// # Examples
     ///
@@ -260,6 +267,7 @@ impl fmt::Display for IpAddr {
 
     ghost output = { λ a. Some (ip_text a) };
 
+    /// Prints the address in it: an IPv4 address, or an IPv6 address without brackets.
     fn fmt<W: fmt::Write>(&self, f: &mut fmt::Formatter<W>) -> fmt::Result {
         match self {
             IpAddr::V4(address) => fmt::Display::fmt(address, f),
@@ -273,7 +281,7 @@ impl fmt::Debug for IpAddr {
 
     ghost debug_output = { λ a. Some (ip_text a) };
 
-    /// Prints what `Display` prints.
+    /// Prints the address as `Display` does.
     fn fmt<W: fmt::Write>(&self, f: &mut fmt::Formatter<W>) -> fmt::Result {
         fmt::Display::fmt(self, f)
     }
@@ -284,7 +292,7 @@ impl From<net::IpAddr> for IpAddr {
 
     ghost from_gives = { λ given made. IsSameAddress made given };
 
-    /// The same address, of the same version.
+    /// Returns the same address, of the same version.
     fn from(address: net::IpAddr) -> Self {
         match address {
             net::IpAddr::V4(address) => IpAddr::V4(address.into()),

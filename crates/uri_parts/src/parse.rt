@@ -4,17 +4,19 @@ ghost use Rattle.std.specs.Option.{option_or};
 ghost use Rattle.std.specs.Result.{result_err};
 ghost use Rattle.uri_parts.specs.Models.Parsing.{query_end_at};
 ghost use Rattle.uri_parts.specs.Models.Parsing.{authority_positions, relative_positions};
-ghost use Rattle.uri_parts.specs.Models.Parsing.{hier_positions, schemeless_positions};
+ghost use Rattle.uri_parts.specs.Models.Parsing.{hier_part_positions, schemeless_positions};
 ghost use Rattle.uri_parts.specs.Models.Parsing.{parsed_positions};
-ghost use Rattle.uri_parts.specs.Refusals.{from_fragment, from_query, from_path};
-ghost use Rattle.uri_parts.specs.Refusals.{from_relative_path, refusal};
-ghost use Rattle.uri_parts.specs.Models.ParseErrors.{authority_error, hier_error, schemeless_error};
+ghost use Rattle.uri_parts.specs.Refusals.{error_from_fragment, error_from_query, error_from_path};
+ghost use Rattle.uri_parts.specs.Refusals.{error_from_relative_path, refusal};
+ghost use Rattle.uri_parts.specs.Models.ParseErrors.{authority_error, hier_part_error};
+ghost use Rattle.uri_parts.specs.Models.ParseErrors.{schemeless_error};
 ghost use Rattle.uri_parts.specs.Models.ParseErrors.{parsed_error};
 ghost use Rattle.uri_parts.specs.Errors.{IsErrorIn};
 ghost use Rattle.uri_parts.specs.Grammar.{IsOfKind};
 ghost use Rattle.uri_parts.specs.KindTables.{kind_of, segment_nz_nc_of};
-ghost use Rattle.uri_parts.specs.Positions.{AreAt};
-ghost use Rattle.uri_parts.specs.Models.Cursors.{rest_of, cursor_text, place_of, positions_from};
+ghost use Rattle.uri_parts.specs.Positions.{ArePositionsOf};
+ghost use Rattle.uri_parts.specs.Models.Cursors.{text_after_cursor, cursor_text, cursor_position};
+ghost use Rattle.uri_parts.specs.Models.Cursors.{positions_if_parsed_from};
 
 use crate::authority_parser::find_authority;
 use crate::cursor::Cursor;
@@ -24,12 +26,13 @@ use crate::kind_tables::KindTables;
 use crate::positions::{AuthorityPositions, Positions};
 use uri_pct::table::SCHEME;
 
-/// A fragment if there is one, and then the end.
+/// Parses a fragment, if there is one, and then the end of the text.
 #[tactic(auto, unfolding(crate::proofs::Steps::tail))]
 #[inline(always)]
 fn parse_fragment(cursor: &mut Cursor<'_>, tables: &KindTables) -> Result<(), ParseError>
     ensures refused { result_err result
-        ≡ from_fragment (kind_of tables.now) (cursor_text cursor.old) (place_of cursor.old) }
+        ≡ error_from_fragment (kind_of tables.now) (cursor_text cursor.old)
+        (cursor_position cursor.old) }
     ensures err { IfErr result (IsErrorIn (cursor_text cursor.old)) }
 {
     if cursor.skip(b'#') {
@@ -44,11 +47,16 @@ fn parse_fragment(cursor: &mut Cursor<'_>, tables: &KindTables) -> Result<(), Pa
 /// Parses a query, if there is one, and what follows it. Returns where the query ends.
 #[tactic(auto, unfolding(crate::proofs::Steps::tail))]
 #[inline(always)]
-fn parse_end(cursor: &mut Cursor<'_>, tables: &KindTables) -> Result<Option<usize>, ParseError>
+fn parse_query_and_fragment(
+    cursor: &mut Cursor<'_>,
+    tables: &KindTables,
+) -> Result<Option<usize>, ParseError>
     ensures place { IfOk result (λ end.
-        end ≡ query_end_at (kind_of tables.now) (place_of cursor.old) (rest_of cursor.old)) }
+        end ≡ query_end_at (kind_of tables.now) (cursor_position cursor.old)
+        (text_after_cursor cursor.old)) }
     ensures refused { result_err result
-        ≡ from_query (kind_of tables.now) (cursor_text cursor.old) (place_of cursor.old) }
+        ≡ error_from_query (kind_of tables.now) (cursor_text cursor.old)
+        (cursor_position cursor.old) }
     ensures err { IfErr result (IsErrorIn (cursor_text cursor.old)) }
 {
     let mut query_end = None;
@@ -68,7 +76,7 @@ struct BeforePath {
     path_start: usize,
 }
 
-/// The rest of a path, and what follows it.
+/// Parses the rest of a path, and the query and the fragment after it.
 #[tactic(auto, unfolding(crate::proofs::Steps::tail))]
 #[inline(always)]
 fn parse_path(
@@ -76,14 +84,16 @@ fn parse_path(
     tables: &KindTables,
     before: BeforePath,
 ) -> Result<Positions, ParseError>
-    ensures places { IfOk result (λ p. p ≡ positions_from (kind_of tables.now) before cursor.old) }
+    ensures places { IfOk result
+        (λ p. p ≡ positions_if_parsed_from (kind_of tables.now) before cursor.old) }
     ensures refused { result_err result
-        ≡ from_path (kind_of tables.now) (cursor_text cursor.old) (place_of cursor.old) }
+        ≡ error_from_path (kind_of tables.now) (cursor_text cursor.old)
+        (cursor_position cursor.old) }
     ensures err { IfErr result (IsErrorIn (cursor_text cursor.old)) }
 {
     cursor.pass(&tables.path)?;
     let path_end = cursor.position();
-    let query_end = parse_end(cursor, tables)?;
+    let query_end = parse_query_and_fragment(cursor, tables)?;
     Ok(Positions {
         scheme_end: before.scheme_end,
         authority: before.authority,
@@ -102,14 +112,15 @@ fn pass_authority<K: Kind>(
     scheme_end: Option<usize>,
 ) -> Result<BeforePath, ParseError>
     requires kind { kind_of tables.now ≡ K.kind }
-    requires some { 0 < place_of cursor.old }
+    requires some { 0 < cursor_position cursor.old }
     ensures places { let kind = kind_of tables.now in IfOk result (λ b.
-        authority_positions kind scheme_end (place_of cursor.old) (rest_of cursor.old)
-        ≡ positions_from kind b cursor.new) }
+        authority_positions kind scheme_end (cursor_position cursor.old)
+        (text_after_cursor cursor.old)
+        ≡ positions_if_parsed_from kind b cursor.new) }
     ensures text { cursor_text cursor.new ≡ cursor_text cursor.old }
     ensures refused { let kind = kind_of tables.now in let text = cursor_text cursor.old in
-        authority_error kind text (place_of cursor.old)
-        ≡ option_or (result_err result) (from_path kind text (place_of cursor.new)) }
+        authority_error kind text (cursor_position cursor.old)
+        ≡ option_or (result_err result) (error_from_path kind text (cursor_position cursor.new)) }
     ensures err { IfErr result (IsErrorIn (cursor_text cursor.old)) }
 {
     let authority = find_authority::<K>(cursor, tables)?;
@@ -120,7 +131,7 @@ fn pass_authority<K: Kind>(
     })
 }
 
-/// What follows a scheme, before a path.
+/// Parses what follows a scheme, before a path.
 #[tactic(auto, unfolding(crate::proofs::Steps::before_path))]
 #[inline(always)]
 fn pass_hier_part<K: Kind>(
@@ -130,12 +141,13 @@ fn pass_hier_part<K: Kind>(
 ) -> Result<BeforePath, ParseError>
     requires { kind_of tables.now ≡ K.kind }
     ensures places { let kind = kind_of tables.now in IfOk result (λ b.
-        hier_positions kind (Some scheme_end) (place_of cursor.old) (rest_of cursor.old)
-        ≡ positions_from kind b cursor.new) }
+        hier_part_positions kind (Some scheme_end) (cursor_position cursor.old)
+        (text_after_cursor cursor.old)
+        ≡ positions_if_parsed_from kind b cursor.new) }
     ensures text { cursor_text cursor.new ≡ cursor_text cursor.old }
     ensures refused { let kind = kind_of tables.now in let text = cursor_text cursor.old in
-        hier_error kind text (place_of cursor.old)
-        ≡ option_or (result_err result) (from_path kind text (place_of cursor.new)) }
+        hier_part_error kind text (cursor_position cursor.old)
+        ≡ option_or (result_err result) (error_from_path kind text (cursor_position cursor.new)) }
     ensures err { IfErr result (IsErrorIn (cursor_text cursor.old)) }
 {
     if cursor.skip_slashes() {
@@ -149,21 +161,23 @@ fn pass_hier_part<K: Kind>(
     }
 }
 
-/// A path that begins the text, so far as its first segment is scanned with no colon.
+/// Passes the characters of a first segment without `:`. Returns an error if a `:` is next.
 #[tactic(auto, unfolding(crate::proofs::Steps::before_path))]
 #[inline(always)]
 fn pass_relative(cursor: &mut Cursor<'_>, tables: &KindTables) -> Result<BeforePath, ParseError>
     ensures places { let segment = segment_nz_nc_of tables.now in IfOk result (λ b.
-        relative_positions segment (kind_of tables.now) (place_of cursor.old) (rest_of cursor.old)
-        ≡ positions_from (kind_of tables.now) b cursor.new) }
+        relative_positions segment (kind_of tables.now) (cursor_position cursor.old)
+        (text_after_cursor cursor.old)
+        ≡ positions_if_parsed_from (kind_of tables.now) b cursor.new) }
     ensures text { cursor_text cursor.new ≡ cursor_text cursor.old }
     ensures refused { let kind = kind_of tables.now in let text = cursor_text cursor.old in
-        from_relative_path kind text (segment_nz_nc_of tables.now) (place_of cursor.old)
-        ≡ option_or (result_err result) (from_path kind text (place_of cursor.new)) }
+        error_from_relative_path kind text (segment_nz_nc_of tables.now)
+        (cursor_position cursor.old)
+        ≡ option_or (result_err result) (error_from_path kind text (cursor_position cursor.new)) }
     ensures err { IfErr result (IsErrorIn (cursor_text cursor.old)) }
 {
     cursor.pass(&tables.segment_nz_nc)?;
-    if cursor.sees(b':') {
+    if cursor.next_is(b':') {
         return Err(cursor.unexpected());
     }
     Ok(BeforePath {
@@ -184,12 +198,13 @@ fn pass_schemeless<K: Kind>(
     requires { kind_of tables.now ≡ K.kind }
     ensures places { let segment = segment_nz_nc_of tables.now in
         let kind = kind_of tables.now in IfOk result (λ b.
-        schemeless_positions segment kind (place_of cursor.old) (rest_of cursor.old)
-        ≡ positions_from kind b cursor.new) }
+        schemeless_positions segment kind (cursor_position cursor.old)
+        (text_after_cursor cursor.old)
+        ≡ positions_if_parsed_from kind b cursor.new) }
     ensures text { cursor_text cursor.new ≡ cursor_text cursor.old }
     ensures refused { let kind = kind_of tables.now in let text = cursor_text cursor.old in
-        schemeless_error (segment_nz_nc_of tables.now) kind text (place_of cursor.old)
-        ≡ option_or (result_err result) (from_path kind text (place_of cursor.new)) }
+        schemeless_error (segment_nz_nc_of tables.now) kind text (cursor_position cursor.old)
+        ≡ option_or (result_err result) (error_from_path kind text (cursor_position cursor.new)) }
     ensures err { IfErr result (IsErrorIn (cursor_text cursor.old)) }
 {
     if cursor.position() == 0 && cursor.skip_slashes() {
@@ -202,19 +217,19 @@ fn pass_schemeless<K: Kind>(
 /// Parses what comes before a path, from the beginning of the text on.
 #[tactic(auto, using(crate::proofs::Steps::schemes), unfolding(crate::proofs::Steps::whole))]
 #[inline(always)]
-fn pass_front<K: Kind>(
+fn pass_before_path<K: Kind>(
     cursor: &mut Cursor<'_>,
     tables: &KindTables,
 ) -> Result<BeforePath, ParseError>
     requires kind { kind_of tables.now ≡ K.kind }
-    requires start { place_of cursor.old ≡ 0 }
+    requires start { cursor_position cursor.old ≡ 0 }
     ensures places { let kind = kind_of tables.now in IfOk result (λ b.
         parsed_positions (segment_nz_nc_of tables.now) kind (cursor_text cursor.old)
-        ≡ positions_from kind b cursor.new) }
+        ≡ positions_if_parsed_from kind b cursor.new) }
     ensures text { cursor_text cursor.new ≡ cursor_text cursor.old }
     ensures refused { let kind = kind_of tables.now in let text = cursor_text cursor.old in
         parsed_error (segment_nz_nc_of tables.now) kind text
-        ≡ option_or (result_err result) (from_path kind text (place_of cursor.new)) }
+        ≡ option_or (result_err result) (error_from_path kind text (cursor_position cursor.new)) }
     ensures err { IfErr result (IsErrorIn (cursor_text cursor.old)) }
 {
     let not_a_letter = cursor.unexpected();
@@ -232,7 +247,7 @@ fn pass_front<K: Kind>(
     pass_schemeless::<K>(cursor, tables)
 }
 
-/// Parses a whole text.
+/// Parses a whole text by the tables of a kind, and returns the positions of its components.
 #[tactic(auto)]
 #[inline(always)]
 fn parse_text<K: Kind>(tables: &KindTables, text: &str) -> Result<Positions, ParseError>
@@ -244,7 +259,7 @@ fn parse_text<K: Kind>(tables: &KindTables, text: &str) -> Result<Positions, Par
     ensures err { IfErr result (IsErrorIn text.now) }
 {
     let mut cursor = Cursor::new(text);
-    let before = pass_front::<K>(&mut cursor, tables)?;
+    let before = pass_before_path::<K>(&mut cursor, tables)?;
     parse_path(&mut cursor, tables, before)
 }
 
@@ -253,7 +268,7 @@ fn parse_text<K: Kind>(tables: &KindTables, text: &str) -> Result<Positions, Par
 #[inline(always)]
 pub fn parse<K: Kind>(text: &str) -> Result<Positions, ParseError>
     ensures accepts { IsOk result ↔ IsOfKind K.kind text.now }
-    ensures positions { IfOk result (AreAt text.now) }
+    ensures positions { IfOk result (ArePositionsOf text.now) }
     ensures refused { result_err result ≡ refusal K.kind text.now }
     ensures err { IfErr result (IsErrorIn text.now) }
 {

@@ -13,7 +13,7 @@ use uri_pct::encoder::Encoder;
 impl<'a, U: Encoder, R: Encoder> Authority<'a, U, R> {
     ghost use Rattle.uri_parts.specs.AuthorityTexts.{authority_text};
 
-    /// The port as a number (RFC 3986, section 3.2.3), or `None` where it is absent or empty.
+    /// Returns the port as a number (RFC 3986, section 3.2.3), or `None` if it is absent or empty.
     /// Leading zeros make no difference.
     ///
     /// The error comes exactly if the number is over 65535, however long it is; its kind is

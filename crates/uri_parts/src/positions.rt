@@ -38,78 +38,78 @@ pub struct AuthorityPositions {
 }
 
 impl Positions {
-    ghost use Rattle.uri_parts.specs.Positions.{AreAt, before_fragment};
+    ghost use Rattle.uri_parts.specs.Positions.{ArePositionsOf, before_fragment};
 
-    /// Whether the text has a scheme.
+    /// Returns whether the text has a scheme.
     pub fn has_scheme(&self, text: &str) -> bool
-        requires { AreAt text.now self.now }
+        requires { ArePositionsOf text.now self.now }
         ensures { result ≡ is_some (components text.now).scheme }
     {
         self.scheme_end.is_some()
     }
 
-    /// Whether the text has an authority.
+    /// Returns whether the text has an authority.
     pub fn has_authority(&self, text: &str) -> bool
-        requires { AreAt text.now self.now }
+        requires { ArePositionsOf text.now self.now }
         ensures { result ≡ is_some (components text.now).authority }
     {
         self.authority.is_some()
     }
 
-    /// Whether the text has a query.
+    /// Returns whether the text has a query.
     pub fn has_query(&self, text: &str) -> bool
-        requires { AreAt text.now self.now }
+        requires { ArePositionsOf text.now self.now }
         ensures { result ≡ is_some (components text.now).query }
     {
         self.query_end.is_some()
     }
 
-    /// Whether the text has a fragment.
+    /// Returns whether the text has a fragment.
     pub fn has_fragment(&self, text: &str) -> bool
-        requires { AreAt text.now self.now }
+        requires { ArePositionsOf text.now self.now }
         ensures { result ≡ is_some (components text.now).fragment }
     {
         self.before_fragment() < text.len()
     }
 
-    /// The scheme of the text, without its `:`.
+    /// Returns the scheme of the text, without its `:`.
     pub fn scheme<'a>(&self, text: &'a str) -> Option<&'a str>
-        requires { AreAt text.now self.now }
+        requires { ArePositionsOf text.now self.now }
         ensures { option_map (λ s. s.now) result ≡ (components text.now).scheme }
     {
         let end = self.scheme_end?;
         Some(&text[..end])
     }
 
-    /// The authority of the text, without its `//`.
+    /// Returns the authority of the text, without its `//`.
     pub fn authority<'a>(&self, text: &'a str) -> Option<&'a str>
-        requires { AreAt text.now self.now }
+        requires { ArePositionsOf text.now self.now }
         ensures { option_map (λ s. s.now) result ≡ (components text.now).authority }
     {
         let authority = self.authority?;
         Some(&text[authority.start..authority.end])
     }
 
-    /// The path of the text.
+    /// Returns the path of the text.
     pub fn path<'a>(&self, text: &'a str) -> &'a str
-        requires { AreAt text.now self.now }
+        requires { ArePositionsOf text.now self.now }
         ensures { result.now ≡ (components text.now).path }
     {
         &text[self.path_start..self.path_end]
     }
 
-    /// The query of the text, without its `?`.
+    /// Returns the query of the text, without its `?`.
     pub fn query<'a>(&self, text: &'a str) -> Option<&'a str>
-        requires { AreAt text.now self.now }
+        requires { ArePositionsOf text.now self.now }
         ensures { option_map (λ s. s.now) result ≡ (components text.now).query }
     {
         let end = self.query_end?;
         Some(&text[self.path_end + 1..end])
     }
 
-    /// The fragment of the text, without its `#`.
+    /// Returns the fragment of the text, without its `#`.
     pub fn fragment<'a>(&self, text: &'a str) -> Option<&'a str>
-        requires { AreAt text.now self.now }
+        requires { ArePositionsOf text.now self.now }
         ensures { option_map (λ s. s.now) result ≡ (components text.now).fragment }
     {
         let mark = self.before_fragment();
@@ -120,12 +120,12 @@ impl Positions {
         }
     }
 
-    /// The text up to its fragment.
+    /// Returns the text up to its fragment.
     pub fn without_fragment<'a>(&self, text: &'a str) -> &'a str
-        requires { AreAt text.now self.now }
+        requires { ArePositionsOf text.now self.now }
         ensures fragment { IsWithFragment text.now None result.now }
         ensures of_kind { (kind : Kind) → IsOfKind kind text.now → IsOfKind kind result.now }
-        ensures at { AreAt result.now self.now }
+        ensures at { ArePositionsOf result.now self.now }
     {
         &text[..self.before_fragment()]
     }

@@ -25,13 +25,23 @@ pub struct Scheme<'a> {
 impl<'a> Scheme<'a> {
     ghost use Rattle.uri_parts.specs.Schemes.{lowered_scheme, scheme_text};
 
-    /// The text as a scheme, or `None` exactly if it is none: a letter, and then letters, digits,
-    /// `+`, `-` and `.`.
+    /// Returns the text as a scheme, or `None` exactly if it is not one. A scheme is a letter
+    /// followed by letters, digits, `+`, `-` and `.`.
     ///
     /// # Examples
     ///
     /// `Scheme::new("foo+bar")` is a scheme, and `Scheme::new("1a")` is `None`.
-    #[tactic(auto, using(uri_pct::proofs::TableSets::Constants::scheme_table))]
+    ///
+    /// ```
+    /// pub fn scheme_if_one(text: &str) -> Option<Scheme<'_>> {
+    ///     if Scheme::new(text).is_some() {
+    ///         Some(Scheme::new_or_panic(text))
+    ///     } else {
+    ///         None
+    ///     }
+    /// }
+    /// ```
+    #[tactic(auto, using(uri_pct::proofs::TableSets::Constants::scheme_masks_are_scheme_set))]
     pub fn new(text: &'a str) -> Option<Self>
         ensures valid { IsSome result ↔ (is_scheme text.now ≡ true) }
         ensures same { IfSome result (λ s. scheme_text s ≡ text.now) }
@@ -46,11 +56,21 @@ impl<'a> Scheme<'a> {
         }
     }
 
-    /// The text as a scheme, which it is: `new` tests it.
+    /// Returns the text as a scheme.
+    ///
+    /// # Conditions
+    ///
+    /// The text is a scheme; `new` tests it.
     ///
     /// # Examples
     ///
     /// `Scheme::new_or_panic("http")` is the scheme of `http://a`.
+    ///
+    /// ```
+    /// pub fn http() -> Scheme<'static> {
+    ///     Scheme::new_or_panic("http")
+    /// }
+    /// ```
     pub fn new_or_panic(text: &'a str) -> Self
         requires { is_scheme text.now ≡ true }
         ensures { scheme_text result ≡ text.now }
@@ -70,12 +90,18 @@ impl<'a> Scheme<'a> {
         self.text
     }
 
-    /// The default port of the scheme (RFC 3986, section 3.2.3), if it is one of the 44 that have
-    /// one here. ASCII case makes no difference.
+    /// Returns the default port of the scheme (RFC 3986, section 3.2.3), if it is one of the 44
+    /// that have one here. ASCII case makes no difference.
     ///
     /// # Examples
     ///
     /// Of `http` it is 80, of `HTTPS` 443, and of `foo` there is none.
+    ///
+    /// ```
+    /// let authority = uri.authority()?;
+    /// let port = uri.scheme().default_port().unwrap_or(port);
+    /// Some(authority.socket_target(alloc, port))
+    /// ```
     pub fn default_port(self) -> Option<u16>
         ensures { result ≡ default_port (lowered_scheme self.entry) }
     {

@@ -4,6 +4,7 @@ ghost use Rattle.std.specs.List.{list_all, prefix_len};
 ghost use Rattle.uri_pct.specs.Sets.{is_one_of};
 ghost use Rattle.uri_parts.specs.Components.{starts, before_any, from_any};
 
+/// Returns whether a byte is one of the marks.
 fn is_one_of(marks: &[u8], byte: u8) -> bool
     ensures { result ≡ is_one_of marks.now byte }
 {
@@ -21,7 +22,7 @@ fn length_before(bytes: &[u8], marks: &[u8]) -> usize
     i
 }
 
-/// The text before the first of these ASCII characters, and from it on.
+/// Returns the text before the first of these ASCII characters, and from it on.
 pub(crate) fn cut_before<'a>(text: &'a str, marks: &[u8]) -> (&'a str, &'a str)
     requires { IsTrue (list_all (λ b. nat_lt b 128) marks.now) }
     ensures before { result.0.now ≡ before_any marks.now text.now }
@@ -30,9 +31,8 @@ pub(crate) fn cut_before<'a>(text: &'a str, marks: &[u8]) -> (&'a str, &'a str)
     text.split_at(length_before(text.as_bytes(), marks))
 }
 
-/// What follows this ASCII character, if the text begins with it.
-#[doc(hidden)]
-pub fn after_mark(text: &str, mark: u8) -> Option<&str>
+/// Returns what follows this ASCII character, if the text begins with it.
+pub(crate) fn after_mark(text: &str, mark: u8) -> Option<&str>
     requires { mark < 128 }
     ensures begins { is_some result ≡ starts mark text.now }
     ensures rest { IfSome result (λ rest. rest.now ≡ drop 1 text.now) }

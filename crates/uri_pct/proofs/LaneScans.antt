@@ -3,6 +3,9 @@ pub mod LaneMasks
 pub mod LaneRuns
 pub mod FirstPlaces
 pub mod AsciiRuns
+pub mod CharRuns
 pub mod LaneBits
 pub mod OctetLanes
+pub mod LinkedLanes
+pub mod LinkedRuns
 pub mod DotLanes

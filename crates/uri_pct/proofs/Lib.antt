@@ -5,5 +5,5 @@ pub mod ValidTexts
 pub mod Unicode
 pub mod Decodings
 pub mod EncodedTexts
-pub mod Readings
+pub mod UnreservedDecoding
 pub mod Theorems

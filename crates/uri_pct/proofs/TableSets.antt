@@ -4,5 +4,5 @@ pub mod Ranges
 pub mod Tables
 pub mod Percent
 pub mod Constants
-pub mod Readable
+pub mod Decodable
 pub mod LeadBytes

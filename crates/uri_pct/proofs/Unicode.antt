@@ -3,6 +3,7 @@ pub mod Characters
 pub mod Pieces
 pub mod AsciiOctets
 pub mod CharacterPieces
+pub mod IllFormedLengths
 pub mod Lossy
 pub mod Runs
 pub mod Unfinished

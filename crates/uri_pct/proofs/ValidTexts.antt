@@ -1,7 +1,9 @@
 -- Texts that are valid for a set: how far a scan goes, where a text is cut, what is appended.
 pub mod Validity
+pub mod MarksInTexts
 pub mod Cuts
 pub mod Prefixes
+pub mod PrefixSteps
 pub mod EStrs
 pub mod TokenCuts
 pub mod Delimiters
@@ -12,4 +14,4 @@ pub mod KeptPrefixes
 pub mod LongestPrefixes
 pub mod RestoredTexts
 pub mod Growing
-pub mod SpeltRuns
+pub mod ScannedRuns

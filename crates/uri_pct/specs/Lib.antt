@@ -14,5 +14,5 @@ pub mod EStrings
 pub mod EncodedTexts
 pub mod Decodes
 pub mod Texts
-pub mod Reading
-pub mod Spelling
+pub mod DecodeUnreserved
+pub mod Representation

@@ -3,11 +3,12 @@ use Rattle.std.specs.Prelude.{ℕ, ◌-◌, Bool, not, ◌&&◌, ◌==◌, nat_l
 use Rattle.std.specs.Int.{bit_at}
 use Rattle.uri_pct.specs.Delimiters.{percent_sign}
 
--- bit n of `low` is character n, and bit n of `high` is character 64 + n
+-- the character c is in the set of two words: bit n of `low` is character n, and bit n of `high` is
+-- character 64 + n
 unfoldable pub has_bit : ℕ → ℕ → ℕ → Bool
 has_bit low high c =
     if nat_lt c 64 then bit_at low c == 1 else (nat_lt c 128 && bit_at high (c - 64) == 1)
 
--- an ASCII character other than `%`
-abbrev pub is_plain_ascii : ℕ → Bool
-is_plain_ascii c = nat_lt c 128 && not (c == percent_sign)
+-- the character is one of ASCII other than `%`
+abbrev pub is_unencoded_ascii : ℕ → Bool
+is_unencoded_ascii c = nat_lt c 128 && not (c == percent_sign)

@@ -10,32 +10,35 @@ use Rattle.uri_pct.specs.Delimiters.{percent_sign, slash}
 abbrev pub lacks : ℕ → List ℕ → Bool
 lacks byte text = list_all (λ b. not (b == byte)) text
 
--- no `%` is in the text
+-- no `%` is in the text, and so no percent-encoded octet (RFC 3986, section 2.1)
 abbrev pub is_unencoded : List ℕ → Bool
 is_unencoded text = lacks percent_sign text
 
--- the path begins with `/`
+-- the path begins with `/` (RFC 3986, section 3.3)
 abbrev pub is_absolute : List ℕ → Bool
 is_absolute text = slice_index text 0 == slash
 
--- the text is cut where the byte is first, or last
-abbrev pub IsFirstCut : ℕ → List ℕ → List ℕ → List ℕ → Type 0
-IsFirstCut byte text before after = (text ≡ before ++ byte ∷ after) × IsTrue (lacks byte before)
+-- the text is cut at the first such byte into what is before it and what is after it
+abbrev pub IsCutAtFirst : ℕ → List ℕ → List ℕ → List ℕ → Type 0
+IsCutAtFirst byte text before after = (text ≡ before ++ byte ∷ after) × IsTrue (lacks byte before)
 
-abbrev pub IsLastCut : ℕ → List ℕ → List ℕ → List ℕ → Type 0
-IsLastCut byte text before after = (text ≡ before ++ byte ∷ after) × IsTrue (lacks byte after)
+-- the text is cut at the last such byte into what is before it and what is after it
+abbrev pub IsCutAtLast : ℕ → List ℕ → List ℕ → List ℕ → Type 0
+IsCutAtLast byte text before after = (text ≡ before ++ byte ∷ after) × IsTrue (lacks byte after)
 
--- RFC 3986, section 2.1: two hexadecimal digits are after the place
-unfoldable pub has_digits : List ℕ → ℕ → Bool
-has_digits text i =
+-- two hexadecimal digits are in the text after the index i, as after the `%` of a percent-encoded
+-- octet (RFC 3986, section 2.1)
+unfoldable pub has_hex_digits_after : List ℕ → ℕ → Bool
+has_hex_digits_after text i =
     is_ascii_hexdigit (slice_index text (i + 1)) && is_ascii_hexdigit (slice_index text (i + 2))
 
--- a `%` that two hexadecimal digits do not follow is there
+-- at the index i of the text is a `%` that two hexadecimal digits do not follow (RFC 3986,
+-- section 2.1)
 pub record IsStrayPercent (text : List ℕ) (i : ℕ) : Type 0 where
   pub inside : i < length text
   pub percent : slice_index text i ≡ percent_sign
-  pub stray : has_digits text i ≡ false
+  pub stray : has_hex_digits_after text i ≡ false
 
--- the new text is what was there, and then this
+-- the new string is the old one with this text appended
 abbrev pub Pushes : {A : Type 0} → String A → String A → List ℕ → Type 0
 Pushes old new text = string_bytes new ≡ string_bytes old ++ text

@@ -34,7 +34,7 @@ pub enum CowSlice<'a, T> {
 impl<'a> CowStr<'a> {
     ghost use Rattle.uri_pct.specs.Cows.{cow_text, IsBorrowedText};
 
-    /// The text, for as long as the value is borrowed.
+    /// Returns the text, for as long as the value is borrowed.
     ///
     /// # Examples
     ///
@@ -87,7 +87,7 @@ impl<'a> fmt::Display for CowStr<'a> {
 impl<'a, T> CowSlice<'a, T> {
     ghost use Rattle.uri_pct.specs.Cows.{cow_items};
 
-    /// The items, for as long as the value is borrowed.
+    /// Returns the items, for as long as the value is borrowed.
     ///
     /// # Examples
     ///
@@ -105,7 +105,7 @@ impl<'a, T> CowSlice<'a, T> {
 impl<'a, T: Copy> CowSlice<'a, T> {
     ghost use Rattle.uri_pct.specs.Cows.{cow_items, AreBorrowedItems};
 
-    /// The items as ones of its own: a copy, where they are borrowed.
+    /// Returns the items as owned ones. If they are borrowed, they are copied.
     ///
     /// # Errors
     ///
@@ -146,6 +146,7 @@ impl From<AllocError> for DecodeError {
 
     ghost from_gives = { λ _ e. e ≡ OutOfMemory };
 
+    /// Returns the error `OutOfMemory` of decoding to a text for a failed allocation.
     fn from(_error: AllocError) -> DecodeError {
         DecodeError::OutOfMemory
     }

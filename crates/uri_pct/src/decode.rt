@@ -52,7 +52,7 @@ impl<'a> Decode<'a> {
     ghost use Rattle.uri_pct.specs.Cows.{cow_items, AreBorrowedItems};
     ghost use Rattle.uri_pct.specs.Decodes.{undecoded, decoded, bytes_left};
 
-    /// The text, of which nothing is decoded yet.
+    /// Returns a decoder of the text, of which nothing is decoded yet.
     #[doc(hidden)]
     pub fn of_text(text: &'a str) -> Decode<'a>
         requires { IsValidFor widest_set text.now }
@@ -61,7 +61,7 @@ impl<'a> Decode<'a> {
         Decode { rest: text }
     }
 
-    /// The text that is left.
+    /// Returns the text that is not decoded yet.
     #[doc(hidden)]
     pub fn as_str(&self) -> &'a str
         ensures { result.now ≡ undecoded self.now }
@@ -69,7 +69,7 @@ impl<'a> Decode<'a> {
         self.rest
     }
 
-    /// Whether no `%` is left.
+    /// Returns whether the text that is left has no `%`.
     #[doc(hidden)]
     pub fn is_unencoded(&self) -> bool
         ensures { result ≡ is_unencoded (undecoded self.now) }
@@ -97,6 +97,13 @@ impl<'a> Decode<'a> {
         if self.is_unencoded() {
             return Ok(CowSlice::Borrowed(self.rest.as_bytes()));
         }
+        Ok(CowSlice::Owned(self.decoded_bytes(alloc)?))
+    }
+
+    /// Returns the bytes of the remaining items in a vector, also if no `%` is left.
+    pub(crate) fn decoded_bytes(self, alloc: Global) -> Result<Vec<u8>, AllocError>
+        ensures { IfOk result (λ bytes. bytes.items ≡ decoded self.entry) }
+    {
         let mut bytes = Vec::with_capacity(alloc, self.rest.len())?;
         for chunk in self {
             match chunk {
@@ -104,7 +111,7 @@ impl<'a> Decode<'a> {
                 DecodedChunk::PctDecoded(byte) => bytes.push(byte)?,
             }
         }
-        Ok(CowSlice::Owned(bytes))
+        Ok(bytes)
     }
 }
 
@@ -132,6 +139,7 @@ impl<'a> Iterator for Decode<'a> {
 
     ghost remaining = { item_count chunks_left };
 
+    /// Returns the next part of the text, literal or an octet decoded, if any is left.
     fn next(&mut self) -> Option<DecodedChunk<'a>> {
         let rest = self.rest;
         let bytes = rest.as_bytes();
@@ -143,8 +151,8 @@ impl<'a> Iterator for Decode<'a> {
             self.rest = &rest[3..];
             return Some(DecodedChunk::PctDecoded(value));
         }
-        let (text, behind) = rest.split_at(unencoded_len(rest));
-        self.rest = behind;
+        let (text, suffix) = rest.split_at(unencoded_len(rest));
+        self.rest = suffix;
         Some(DecodedChunk::Unencoded(text))
     }
 }
@@ -155,13 +163,20 @@ impl<'a, E: Encoder> EStr<'a, E> {
     ghost use Rattle.uri_pct.specs.Decodes.{undecoded, chunks_left};
     ghost use Rattle.uri_pct.specs.EncodedTexts.{text_of};
 
-    /// The text to be decoded. The table of `E` allows percent-encoded octets:
-    /// `E::table().allows_pct_encoded` tests it. The number of its parts fits `usize`, so that
-    /// `count` may be called.
+    /// Returns the parts of the text, each decoded when it is asked for (RFC 3986, section 2.1).
+    /// Their number fits `usize`, so `count` may be called.
+    ///
+    /// # Conditions
+    ///
+    /// The table of `E` allows percent-encoded octets; `E::table().allows_pct_encoded` tests it.
     ///
     /// # Examples
     ///
     /// Of `%41b` the parts are the byte 41 and the text `b`.
+    ///
+    /// ```
+    /// piece.decode().to_string_lossy(alloc)?.into_owned(alloc)
+    /// ```
     pub fn decode(self) -> Decode<'a>
         requires { IsTrue (E.set).pct_encoded }
         ensures text { undecoded result ≡ text_of self.entry }

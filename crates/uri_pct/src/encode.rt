@@ -12,7 +12,7 @@ use crate::table::Table;
 use crate::utf8::char_at;
 use std::alloc::AllocError;
 
-/// Appends each byte as an octet.
+/// Appends each byte as a percent-encoded octet.
 #[doc(hidden)]
 pub fn push_octets(bytes: &[u8], out: &mut String) -> Result<(), AllocError>
     ensures ok { OnOk result
@@ -26,9 +26,9 @@ pub fn push_octets(bytes: &[u8], out: &mut String) -> Result<(), AllocError>
     Ok(())
 }
 
-/// Where the characters end, from `start` on, that the table allows.
+/// Returns where the characters end, from `start` on, that the table allows.
 #[inline(always)]
-fn kept_end(table: &Table, text: &str, start: usize) -> usize
+fn allowed_end(table: &Table, text: &str, start: usize) -> usize
     requires { IsCharBoundary text.now start }
     ensures from { start ≤ result }
     ensures boundary { IsCharBoundary text.now result }
@@ -39,9 +39,9 @@ fn kept_end(table: &Table, text: &str, start: usize) -> usize
     table.without_octets().scan(text, start)
 }
 
-/// Where the characters end, from `start` on, that the table does not allow.
+/// Returns where the characters end, from `start` on, that the table does not allow.
 #[inline(always)]
-fn refused_end(table: &Table, text: &str, start: usize) -> usize
+fn disallowed_end(table: &Table, text: &str, start: usize) -> usize
     requires { IsCharBoundary text.now start }
     ensures from { start ≤ result }
     ensures boundary { IsCharBoundary text.now result }
@@ -76,17 +76,17 @@ pub fn push_text(table: &Table, text: &str, out: &mut String) -> Result<(), Allo
 {
     let mut done = 0;
     while done < text.len() {
-        let end = kept_end(table, text, done);
+        let end = allowed_end(table, text, done);
         out.push_str(&text[done..end])?;
-        let next = refused_end(table, text, end);
+        let next = disallowed_end(table, text, end);
         push_octets(&text.as_bytes()[end..next], out)?;
         done = next;
     }
     Ok(())
 }
 
-/// Appends the bytes: each character as `push_text` does, and each byte of an ill-formed part as
-/// an octet.
+/// Appends the bytes: each character that the table allows as it is, and each other byte as an
+/// octet.
 ///
 /// After an error, part of it may have been appended.
 pub(crate) fn push_bytes(table: &Table, bytes: &[u8], out: &mut String) -> Result<(), AllocError>
@@ -103,7 +103,8 @@ pub(crate) fn push_bytes(table: &Table, bytes: &[u8], out: &mut String) -> Resul
     Ok(())
 }
 
-/// Appends what `push_text` does. After an error the text is as it was.
+/// Appends the text: each character that the table allows as it is, and each other one as octets.
+/// After an error `out` is as it was.
 pub(crate) fn append_text(table: &Table, text: &str, out: &mut String) -> Result<(), AllocError>
     ensures ok { OnOk result
         (string_bytes out.new ≡ string_bytes out.old
@@ -118,7 +119,8 @@ pub(crate) fn append_text(table: &Table, text: &str, out: &mut String) -> Result
     Ok(())
 }
 
-/// Appends what `push_bytes` does. After an error the text is as it was.
+/// Appends the bytes: each character that the table allows as it is, and each other byte as an
+/// octet. After an error `out` is as it was.
 pub(crate) fn append_bytes(table: &Table, bytes: &[u8], out: &mut String) -> Result<(), AllocError>
     ensures ok { OnOk result
         (string_bytes out.new ≡ string_bytes out.old

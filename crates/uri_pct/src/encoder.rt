@@ -18,7 +18,7 @@ pub trait Encoder {
 
     ghost set: { TableSet };
 
-    /// The table of the set.
+    /// Returns the table of the characters and octets that the encoder allows.
     fn table() -> Table
         ensures { set_of result ≡ set };
 
@@ -45,7 +45,8 @@ impl Encoder for Userinfo {
 
     ghost set = { userinfo_set };
 
-    #[tactic(auto, using(crate::proofs::TableSets::Constants::userinfo_table))]
+    /// Returns the table of the encoder `Userinfo`.
+    #[tactic(auto, using(crate::proofs::TableSets::Constants::userinfo_masks_are_userinfo_set))]
     fn table() -> Table {
         table::USERINFO
     }
@@ -66,7 +67,8 @@ impl Encoder for RegName {
 
     ghost set = { reg_name_set };
 
-    #[tactic(auto, using(crate::proofs::TableSets::Constants::reg_name_table))]
+    /// Returns the table of the encoder `RegName`.
+    #[tactic(auto, using(crate::proofs::TableSets::Constants::reg_name_masks_are_reg_name_set))]
     fn table() -> Table {
         table::REG_NAME
     }
@@ -87,7 +89,8 @@ impl Encoder for Port {
 
     ghost set = { digit_set };
 
-    #[tactic(auto, using(crate::proofs::TableSets::Constants::digit_table))]
+    /// Returns the table of the encoder `Port`.
+    #[tactic(auto, using(crate::proofs::TableSets::Constants::digit_masks_are_digit_set))]
     fn table() -> Table {
         table::DIGIT
     }
@@ -108,7 +111,8 @@ impl Encoder for Path {
 
     ghost set = { path_set };
 
-    #[tactic(auto, using(crate::proofs::TableSets::Constants::path_table))]
+    /// Returns the table of the encoder `Path`.
+    #[tactic(auto, using(crate::proofs::TableSets::Constants::path_masks_are_path_set))]
     fn table() -> Table {
         table::PATH
     }
@@ -131,7 +135,8 @@ impl Encoder for Query {
 
     ghost set = { query_set };
 
-    #[tactic(auto, using(crate::proofs::TableSets::Constants::query_table))]
+    /// Returns the table of the encoder `Query`.
+    #[tactic(auto, using(crate::proofs::TableSets::Constants::query_masks_are_query_set))]
     fn table() -> Table {
         table::QUERY
     }
@@ -152,7 +157,8 @@ impl Encoder for Fragment {
 
     ghost set = { fragment_set };
 
-    #[tactic(auto, using(crate::proofs::TableSets::Constants::fragment_table))]
+    /// Returns the table of the encoder `Fragment`.
+    #[tactic(auto, using(crate::proofs::TableSets::Constants::fragment_masks_are_fragment_set))]
     fn table() -> Table {
         table::FRAGMENT
     }
@@ -173,7 +179,8 @@ impl Encoder for IUserinfo {
 
     ghost set = { iuserinfo_set };
 
-    #[tactic(auto, using(crate::proofs::TableSets::Constants::iuserinfo_table))]
+    /// Returns the table of the encoder `IUserinfo`.
+    #[tactic(auto, using(crate::proofs::TableSets::Constants::iuserinfo_masks_are_iuserinfo_set))]
     fn table() -> Table {
         table::IUSERINFO
     }
@@ -194,7 +201,8 @@ impl Encoder for IRegName {
 
     ghost set = { ireg_name_set };
 
-    #[tactic(auto, using(crate::proofs::TableSets::Constants::ireg_name_table))]
+    /// Returns the table of the encoder `IRegName`.
+    #[tactic(auto, using(crate::proofs::TableSets::Constants::ireg_name_masks_are_ireg_name_set))]
     fn table() -> Table {
         table::IREG_NAME
     }
@@ -215,7 +223,8 @@ impl Encoder for IPath {
 
     ghost set = { ipath_set };
 
-    #[tactic(auto, using(crate::proofs::TableSets::Constants::ipath_table))]
+    /// Returns the table of the encoder `IPath`.
+    #[tactic(auto, using(crate::proofs::TableSets::Constants::ipath_masks_are_ipath_set))]
     fn table() -> Table {
         table::IPATH
     }
@@ -238,7 +247,8 @@ impl Encoder for IQuery {
 
     ghost set = { iquery_set };
 
-    #[tactic(auto, using(crate::proofs::TableSets::Constants::iquery_table))]
+    /// Returns the table of the encoder `IQuery`.
+    #[tactic(auto, using(crate::proofs::TableSets::Constants::iquery_masks_are_iquery_set))]
     fn table() -> Table {
         table::IQUERY
     }
@@ -259,7 +269,8 @@ impl Encoder for IFragment {
 
     ghost set = { ifragment_set };
 
-    #[tactic(auto, using(crate::proofs::TableSets::Constants::ifragment_table))]
+    /// Returns the table of the encoder `IFragment`.
+    #[tactic(auto, using(crate::proofs::TableSets::Constants::ifragment_masks_are_ifragment_set))]
     fn table() -> Table {
         table::IFRAGMENT
     }
@@ -281,7 +292,8 @@ impl Encoder for Data {
 
     ghost set = { data_set };
 
-    #[tactic(auto, using(crate::proofs::TableSets::Constants::unreserved_table))]
+    /// Returns the table of the encoder `Data`.
+    #[tactic(auto, using(crate::proofs::TableSets::Constants::unreserved_masks_are_unreserved_set))]
     fn table() -> Table {
         table::UNRESERVED.or_pct_encoded()
     }
@@ -303,6 +315,7 @@ impl Encoder for IData {
 
     ghost set = { idata_set };
 
+    /// Returns the table of the encoder `IData`.
     fn table() -> Table {
         Data::table().or_ucschar()
     }

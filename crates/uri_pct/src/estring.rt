@@ -1,6 +1,12 @@
 //! Owned texts that are percent-encoded over an encoder's set (RFC 3986, section 2.1).
 ghost use Rattle.std.specs.Prelude.{◌≡◌, ◌==◌, ◌<◌, ◌≤◌, ◌+◌, ◌++◌, ◌∷◌, [], OnOk, OnErr, IfOk};
-ghost use Rattle.std.specs.Prelude.{IsTrue, true, encode_utf8, length, string_bytes};
+ghost use Rattle.std.specs.Prelude.{IsTrue, Some, true, encode_utf8, length, string_bytes};
+ghost use Rattle.std.specs.Cmp.{partial_order_from_own_ties};
+ghost use Rattle.std.specs.Cmp.Lexicographic.{pointwise, slice_cmp};
+ghost use Rattle.std.specs.Cmp.Rules.{comparing, hashing};
+ghost use Rattle.std.specs.Fmt.{debug_str, styled_text};
+ghost use Rattle.std.specs.Hash as fed;
+ghost use Rattle.std.specs.Ordering.{as_partial_cmp, nat_cmp, on};
 ghost use Rattle.std.specs.String.{string_capacity};
 ghost use Rattle.uri_pct.specs.EncodedTexts.{text_of};
 ghost use Rattle.uri_pct.specs.Encoding.{encode_text, encode_bytes};
@@ -22,6 +28,15 @@ use std::marker::PhantomData;
 /// # Examples
 ///
 /// `a%26b` is built for a query from `EString::<Query>::new(alloc)` by `encode_str::<Data>("a&b")`.
+///
+/// ```
+/// let mut path = EString::new(alloc);
+/// for segment in segments {
+///     path.push('/')?;
+///     path.encode_str::<Data>(segment.as_str())?;
+/// }
+/// Ok(path)
+/// ```
 #[derive(Drop)]
 pub struct EString<E: Encoder> {
     text: String,
@@ -30,11 +45,11 @@ pub struct EString<E: Encoder> {
     pub ghost lacks_percent: { LacksPercent E.set },
 }
 
-#[tactic(auto, using(crate::proofs::ValidTexts::EStrs::valid_empty))]
+#[tactic(auto, using(crate::proofs::ValidTexts::EStrs::empty_text_is_valid))]
 impl<E: Encoder> EString<E> {
     ghost use Rattle.uri_pct.specs.EStrings.{owned_text, owned_capacity};
 
-    /// The text, which the table of `E` allows.
+    /// Returns the text as an `EString` of `E`, whose table allows it.
     fn of_text(text: String) -> EString<E>
         requires { IsValidFor E.set (string_bytes text) }
         ensures text { owned_text result ≡ string_bytes text }
@@ -46,7 +61,7 @@ impl<E: Encoder> EString<E> {
         }
     }
 
-    /// The empty text, which takes no memory yet.
+    /// Returns an empty text. It allocates nothing.
     ///
     /// # Examples
     ///
@@ -57,7 +72,7 @@ impl<E: Encoder> EString<E> {
         EString::of_text(String::new(alloc))
     }
 
-    /// The empty text, with room for `capacity` bytes.
+    /// Returns an empty text with room for `capacity` bytes.
     ///
     /// # Errors
     ///
@@ -73,7 +88,7 @@ impl<E: Encoder> EString<E> {
         Ok(EString::of_text(String::with_capacity(alloc, capacity)?))
     }
 
-    /// The text, for as long as the value is borrowed.
+    /// Returns the text as an `EStr`, for as long as the value is borrowed.
     ///
     /// # Examples
     ///
@@ -84,7 +99,7 @@ impl<E: Encoder> EString<E> {
         EStr::new_or_panic(self.text.as_str())
     }
 
-    /// The text as it is, for as long as the value is borrowed.
+    /// Returns the text, for as long as the value is borrowed.
     ///
     /// # Examples
     ///
@@ -96,7 +111,7 @@ impl<E: Encoder> EString<E> {
         self.as_estr().as_str()
     }
 
-    /// The length of the text in bytes.
+    /// Returns the length of the text in bytes.
     ///
     /// # Examples
     ///
@@ -107,7 +122,7 @@ impl<E: Encoder> EString<E> {
         self.text.len()
     }
 
-    /// Whether the text is empty.
+    /// Returns whether the text is empty.
     ///
     /// # Examples
     ///
@@ -118,7 +133,7 @@ impl<E: Encoder> EString<E> {
         self.text.is_empty()
     }
 
-    /// How many bytes the text may have before it takes more memory.
+    /// Returns how many bytes the text may have before it allocates again.
     ///
     /// # Examples
     ///
@@ -129,7 +144,7 @@ impl<E: Encoder> EString<E> {
         self.text.capacity()
     }
 
-    /// Leaves the empty text, and keeps the memory.
+    /// Makes the text empty, and keeps its memory.
     ///
     /// # Examples
     ///
@@ -141,7 +156,7 @@ impl<E: Encoder> EString<E> {
         self.text.clear();
     }
 
-    /// The text as it is.
+    /// Returns the text as a `String`.
     ///
     /// # Examples
     ///
@@ -155,17 +170,25 @@ impl<E: Encoder> EString<E> {
     /// Appends the text, encoded by `SubE`: each character that its table allows as it is, and
     /// each other as the octets of its UTF-8 (RFC 3986, section 2.1).
     ///
-    /// The table of `E` allows all that the table of `SubE` allows, and this one allows
-    /// percent-encoded octets: `SubE::table().is_subset` and `SubE::table().allows_pct_encoded`
-    /// test it.
+    /// # Conditions
+    ///
+    /// The table of `E` allows all that the table of `SubE` allows; `SubE::table().is_subset` tests
+    /// it. The table of `SubE` allows percent-encoded octets; `SubE::table().allows_pct_encoded`
+    /// tests it.
     ///
     /// # Errors
     ///
-    /// Only if allocation fails. The text is then as it was.
+    /// Returns an error only if allocation fails. The text is then unchanged.
     ///
     /// # Examples
     ///
     /// `encode_str::<Data>("a&é")` appends `a%26%C3%A9`.
+    ///
+    /// ```
+    /// query.encode_str::<Data>(pair.name.as_str())?;
+    /// query.push('=')?;
+    /// query.encode_str::<Data>(pair.value.as_str())?;
+    /// ```
     pub fn encode_str<SubE: Encoder>(&mut self, text: &str) -> Result<(), AllocError>
         requires subset { IsSubset SubE.set E.set }
         requires octets { IsTrue (SubE.set).pct_encoded }
@@ -179,20 +202,26 @@ impl<E: Encoder> EString<E> {
         Ok(())
     }
 
-    /// Appends the bytes, encoded by `SubE`: each character in UTF-8 as `encode_str` does, and each
-    /// byte of an ill-formed part as an octet (RFC 3986, section 2.1).
+    /// Appends the bytes, encoded by `SubE`: each character that its table allows as it is, and
+    /// each other byte as an octet (RFC 3986, section 2.1).
     ///
-    /// The table of `E` allows all that the table of `SubE` allows, and this one allows
-    /// percent-encoded octets: `SubE::table().is_subset` and `SubE::table().allows_pct_encoded`
-    /// test it.
+    /// # Conditions
+    ///
+    /// The table of `E` allows all that the table of `SubE` allows; `SubE::table().is_subset` tests
+    /// it. The table of `SubE` allows percent-encoded octets; `SubE::table().allows_pct_encoded`
+    /// tests it.
     ///
     /// # Errors
     ///
-    /// Only if allocation fails. The text is then as it was.
+    /// Returns an error only if allocation fails. The text is then unchanged.
     ///
     /// # Examples
     ///
     /// `encode_bytes::<Data>(b"a\xE9")` appends `a%E9`.
+    ///
+    /// ```
+    /// query.encode_bytes::<Data>(bytes)
+    /// ```
     pub fn encode_bytes<SubE: Encoder>(&mut self, bytes: &[u8]) -> Result<(), AllocError>
         requires subset { IsSubset SubE.set E.set }
         requires octets { IsTrue (SubE.set).pct_encoded }
@@ -206,15 +235,26 @@ impl<E: Encoder> EString<E> {
         Ok(())
     }
 
-    /// Appends a character that the table of `E` allows: `E::table().allows` tests it.
+    /// Appends a character that the table of `E` allows.
+    ///
+    /// # Conditions
+    ///
+    /// The table of `E` allows the character; `E::table().allows` tests it.
     ///
     /// # Errors
     ///
-    /// Only if allocation fails, never within the capacity. The text is then as it was.
+    /// Returns an error only if allocation fails, which it never does within the capacity. The text
+    /// is then unchanged.
     ///
     /// # Examples
     ///
     /// For a query, `push('&')` appends `&`.
+    ///
+    /// ```
+    /// if Query::table().allows(ch) {
+    ///     query.push(ch)?;
+    /// }
+    /// ```
     pub fn push(&mut self, ch: char) -> Result<(), AllocError>
         requires { IsTrue (allows E.set ch) }
         ensures text { OnOk result (owned_text self.new ≡ owned_text self.old ++ encode_utf8 ch) }
@@ -228,7 +268,7 @@ impl<E: Encoder> EString<E> {
         Ok(())
     }
 
-    /// Appends the text as it is.
+    /// Appends a text that is valid for `E`, as it is.
     ///
     /// # Errors
     ///
@@ -254,7 +294,7 @@ impl<E: Encoder> EString<E> {
 impl<'a, E: Encoder> EStr<'a, E> {
     ghost use Rattle.uri_pct.specs.EStrings.{owned_text};
 
-    /// The same text, of its own.
+    /// Returns a copy of the text in memory of its own.
     ///
     /// # Errors
     ///
@@ -271,8 +311,6 @@ impl<'a, E: Encoder> EStr<'a, E> {
 }
 
 impl<E: Encoder> fmt::Display for EString<E> {
-    ghost use Rattle.std.specs.Prelude.{Some};
-    ghost use Rattle.std.specs.Fmt.{styled_text};
     ghost use Rattle.uri_pct.specs.EStrings.{owned_text};
 
     ghost output = { λ e. Some (owned_text e) };
@@ -286,7 +324,6 @@ impl<E: Encoder> fmt::Display for EString<E> {
 }
 
 impl<E: Encoder> fmt::Debug for EString<E> {
-    ghost use Rattle.std.specs.Fmt.{debug_str};
     ghost use Rattle.uri_pct.specs.EStrings.{owned_text};
 
     ghost debug_output = { λ e. debug_str (owned_text e) };
@@ -299,10 +336,6 @@ impl<E: Encoder> fmt::Debug for EString<E> {
 
 impl<E: Encoder> PartialEq for EString<E> {
     ghost use Rattle.std.proofs.Common.{rules};
-    ghost use Rattle.std.specs.Prelude.{◌==◌};
-    ghost use Rattle.std.specs.Cmp.Rules.{comparing};
-    ghost use Rattle.std.specs.Ordering.{on};
-    ghost use Rattle.std.specs.Cmp.Lexicographic.{pointwise};
     ghost use Rattle.uri_pct.specs.EStrings.{owned_text};
 
     ghost eq = { on owned_text (pointwise ◌==◌) };
@@ -316,16 +349,12 @@ impl<E: Encoder> PartialEq for EString<E> {
 
 impl<E: Encoder> Eq for EString<E> {
     ghost use Rattle.std.proofs.Common.{rules};
-    ghost use Rattle.std.specs.Cmp.Rules.{comparing};
 
     ghost laws = { Prim.search (comparing, rules) };
 }
 
 impl<E: Encoder> Ord for EString<E> {
     ghost use Rattle.std.proofs.Common.{rules};
-    ghost use Rattle.std.specs.Cmp.Rules.{comparing};
-    ghost use Rattle.std.specs.Ordering.{on, nat_cmp};
-    ghost use Rattle.std.specs.Cmp.Lexicographic.{slice_cmp};
     ghost use Rattle.uri_pct.specs.EStrings.{owned_text};
 
     ghost cmp = { on owned_text (slice_cmp nat_cmp) };
@@ -343,10 +372,6 @@ impl<E: Encoder> Ord for EString<E> {
 
 impl<E: Encoder> PartialOrd for EString<E> {
     ghost use Rattle.std.proofs.Common.{rules};
-    ghost use Rattle.std.specs.Cmp.Rules.{comparing};
-    ghost use Rattle.std.specs.Cmp.{partial_order_from_own_ties};
-    ghost use Rattle.std.specs.Ordering.{on, nat_cmp, as_partial_cmp};
-    ghost use Rattle.std.specs.Cmp.Lexicographic.{slice_cmp};
     ghost use Rattle.uri_pct.specs.EStrings.{owned_text};
 
     ghost partial_cmp = { as_partial_cmp (on owned_text (slice_cmp nat_cmp)) };
@@ -361,8 +386,6 @@ impl<E: Encoder> PartialOrd for EString<E> {
 
 impl<E: Encoder> Hash for EString<E> {
     ghost use Rattle.std.proofs.Common.{rules};
-    ghost use Rattle.std.specs.Hash as fed;
-    ghost use Rattle.std.specs.Cmp.Rules.{comparing, hashing};
     ghost use Rattle.uri_pct.specs.EStrings.{owned_text};
 
     ghost hash_input = { λ e. fed.str (owned_text e) };

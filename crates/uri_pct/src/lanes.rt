@@ -1,21 +1,33 @@
 //! Sets of ASCII characters by their two masks, a byte at a time or sixteen.
-ghost use Rattle.std.specs.Prelude.{◌≡◌, ◌+◌, ◌≤◌, ◌<◌, ◌/◌, ◌%◌, ℕ, true, not, length, map};
-ghost use Rattle.std.specs.Prelude.{slice_index, nat_lt};
+ghost use Rattle.std.specs.Prelude.{◌≡◌, ◌+◌, ◌-◌, ◌≤◌, ◌<◌, ◌/◌, ◌%◌, ℕ, true, not, length, map};
+ghost use Rattle.std.specs.Prelude.{slice_index, nat_lt, nat_le, IsTrue, ◌^◌, ◌==◌};
 ghost use Rattle.std.specs.Simd.Lanes.{mask_l, chunk};
 ghost use Rattle.std.specs.Int.{bit_at};
 ghost use Rattle.uri_pct.specs.Delimiters.{percent_sign};
-ghost use Rattle.uri_pct.specs.Models.ByteRuns.{IsRun, AreSpelt};
-ghost use Rattle.uri_pct.specs.Texts.{has_digits};
-ghost use Rattle.uri_pct.specs.Models.LaneMasks.{bytes_of_masks, bit_of};
+ghost use Rattle.uri_pct.specs.Models.ByteRuns.{IsLongestRun, AreCharactersOrOctets};
+ghost use Rattle.uri_pct.specs.Models.ByteRuns.{IsByteOfEncodedText};
+ghost use Rattle.uri_pct.specs.Models.ByteRuns.{is_char_byte};
+ghost use Rattle.uri_pct.specs.Texts.{has_hex_digits_after};
+ghost use Rattle.uri_pct.specs.Models.LaneMasks.{bytes_of_masks, bit_in_mask_byte};
 ghost use Rattle.uri_pct.specs.Masks.{has_bit};
 
-use crate::search::places_of;
 use std::simd::prelude::*;
 
 /// How many bytes are scanned at once.
 pub const LANES: usize = 16;
 
-/// The bits of the codes below 64, of those from 64 on, and of those that are no ASCII.
+/// Returns which of the sixteen bytes from `at` on equal this one: bit k is for the byte at
+/// `at + k`.
+#[inline(always)]
+pub fn lanes_equal_to(byte: u8, bytes: &[u8], at: usize) -> u64
+    requires { at + LANES ≤ length bytes.now }
+    ensures { result ≡ mask_l (map (λ b. b == byte) (chunk at 16 bytes.now)) }
+{
+    let lanes = u8x16::from_slice(&bytes[at..]);
+    lanes.simd_eq(u8x16::splat(byte)).to_bitmask()
+}
+
+/// Returns the bits of the codes below 64, of those from 64 on, and of those that are not ASCII.
 #[inline]
 pub fn words(low: u64, high: u64) -> [u64; 4]
     ensures low { slice_index result 0 ≡ low }
@@ -26,7 +38,7 @@ pub fn words(low: u64, high: u64) -> [u64; 4]
     [low, high, 0, 0]
 }
 
-/// Whether the bit of the code `byte` is set in the words, of which the last two are empty.
+/// Returns whether the bit of the code `byte` is set in the words, of which the last two are empty.
 #[inline]
 pub fn holds(words: &[u64; 4], byte: u8) -> bool
     requires third { slice_index words.now 2 ≡ 0 }
@@ -36,7 +48,7 @@ pub fn holds(words: &[u64; 4], byte: u8) -> bool
     (words[(byte >> 6) as usize] >> (byte & 63)) & 1 == 1
 }
 
-/// Whether the bit of the code `byte` of ASCII is set.
+/// Returns whether the bit of the code `byte` of ASCII is set.
 #[inline(always)]
 pub fn has(low: u64, high: u64, byte: u8) -> bool
     requires { byte < 128 }
@@ -46,25 +58,26 @@ pub fn has(low: u64, high: u64, byte: u8) -> bool
     (mask >> (byte & 63)) & 1 == 1
 }
 
-/// For each lane the byte of the masks that has its bit; the masks begin again at 128.
+/// Returns for each lane the byte of the masks that has its bit; the masks begin again at 128.
 #[inline(always)]
-fn bytes_for(low: u64, high: u64, lanes: u8x16) -> u8x16
+fn mask_bytes_of_lanes(low: u64, high: u64, lanes: u8x16) -> u8x16
     ensures { result ≡ map (λ b. slice_index (bytes_of_masks low high) (b / 8 % 16)) lanes }
 {
     let bytes = u64x2::from_array([low, high]).to_le_bytes();
     bytes.swizzle_dyn_within::<16>((lanes >> u8x16::splat(3)) & u8x16::splat(15))
 }
 
-/// For each lane its bit in that byte, and none from 128 on.
+/// Returns for each lane the bit of its byte in the byte of the masks that has it, and none from
+/// 128 on.
 #[inline(always)]
-fn bits_for(lanes: u8x16) -> u8x16
-    ensures { result ≡ map bit_of lanes }
+fn bits_of_lanes(lanes: u8x16) -> u8x16
+    ensures { result ≡ map bit_in_mask_byte lanes }
 {
     let bits = u8x16::from_array([1, 2, 4, 8, 16, 32, 64, 128, 0, 0, 0, 0, 0, 0, 0, 0]);
     bits.swizzle_dyn_within::<16>(lanes & u8x16::splat(0x87))
 }
 
-/// Which of the sixteen bytes from `at` on are outside the set: bit k is of the byte at `at + k`.
+/// Returns which of the sixteen bytes from `at` on are outside the set: bit k is of `at + k`.
 // With `always` the parsers, which have many scans, would be too large to be inlined.
 #[inline]
 fn outside(low: u64, high: u64, bytes: &[u8], at: usize) -> u64
@@ -72,18 +85,18 @@ fn outside(low: u64, high: u64, bytes: &[u8], at: usize) -> u64
     ensures { result ≡ mask_l (map (λ b. not (has_bit low high b)) (chunk at 16 bytes.now)) }
 {
     let lanes = u8x16::from_slice(&bytes[at..]);
-    let held = bytes_for(low, high, lanes) & bits_for(lanes);
-    held.simd_eq(u8x16::splat(0)).to_bitmask()
+    let given = mask_bytes_of_lanes(low, high, lanes) & bits_of_lanes(lanes);
+    given.simd_eq(u8x16::splat(0)).to_bitmask()
 }
 
-/// Where the longest run of bytes of the set ends that begins at `start`.
+/// Returns where the longest run of bytes of the set ends that begins at `start`.
 ///
 /// At the end the last sixteen bytes are scanned again, and what was passed of them is shifted out.
 #[inline(always)]
 pub fn run_end(low: u64, high: u64, bytes: &[u8], start: usize) -> usize
     requires within { start ≤ length bytes.now }
     requires long { LANES ≤ length bytes.now }
-    ensures { IsRun (has_bit low high) bytes.now start result }
+    ensures { IsLongestRun (has_bit low high) bytes.now start result }
 {
     let len = bytes.len();
     let mut i = start;
@@ -103,36 +116,130 @@ pub fn run_end(low: u64, high: u64, bytes: &[u8], start: usize) -> usize
     i + mask.trailing_zeros() as usize
 }
 
-/// Where the longest run of ASCII characters ends that begins at `start`.
+/// Returns where the longest run of ASCII characters ends that begins at `start`.
 #[inline(always)]
 pub fn ascii_end(bytes: &[u8], start: usize) -> usize
     requires within { start ≤ length bytes.now }
     requires long { LANES ≤ length bytes.now }
-    ensures { IsRun (λ b. nat_lt b 128) bytes.now start result }
+    ensures { IsLongestRun (λ b. nat_lt b 128) bytes.now start result }
 {
     run_end(u64::MAX, u64::MAX, bytes, start)
 }
 
-/// At which of the sixteen bytes from `at` on octets begin that end among them.
+/// Returns which of the sixteen bytes from `at` on are at most this one.
+#[inline(always)]
+fn lanes_at_most(byte: u8, bytes: &[u8], at: usize) -> u64
+    requires { at + LANES ≤ length bytes.now }
+    ensures { result ≡ mask_l (map (λ b. nat_le b byte) (chunk at 16 bytes.now)) }
+{
+    let lanes = u8x16::from_slice(&bytes[at..]);
+    lanes.simd_le(u8x16::splat(byte)).to_bitmask()
+}
+
+/// Returns which of the sixteen bytes from `at` on are neither in the set nor, in a text, a part of
+/// one of the characters from U+00C0 to U+D7FF.
+#[inline(always)]
+fn outside_chars(low: u64, high: u64, bytes: &[u8], at: usize) -> u64
+    requires { at + LANES ≤ length bytes.now }
+    ensures below { result < 2 ^ 16 }
+    ensures lane { (k : ℕ) → k < 16 → (bit_at result k == 1)
+        ≡ not (is_char_byte (has_bit low high) (slice_index bytes.now (at + k))) }
+{
+    let low_bytes = lanes_at_most(0xED, bytes, at);
+    let ascii = lanes_at_most(0x7F, bytes, at);
+    let parts = low_bytes & !ascii & !lanes_equal_to(0xC2, bytes, at);
+    outside(low, high, bytes, at) & !parts
+}
+
+/// Returns whether the byte is in the set or, in a text, a part of one of the characters from
+/// U+00C0 to U+D7FF.
+#[inline(always)]
+fn is_char_byte(low: u64, high: u64, byte: u8) -> bool
+    ensures { result ≡ is_char_byte (has_bit low high) byte }
+{
+    if byte < 128 {
+        has(low, high, byte)
+    } else {
+        byte <= 0xED && byte != 0xC2
+    }
+}
+
+/// Returns where the longest run of bytes ends that begins at `start` and of which each is in the
+/// set or, in a text, a part of one of the characters from U+00C0 to U+D7FF. One byte is tested at
+/// a time.
+#[inline(always)]
+fn chars_end_by_byte(low: u64, high: u64, bytes: &[u8], start: usize) -> usize
+    requires { start ≤ length bytes.now }
+    ensures { IsLongestRun (is_char_byte (has_bit low high)) bytes.now start result }
+{
+    let mut i = start;
+    while i < bytes.len() && is_char_byte(low, high, bytes[i]) {
+        i += 1;
+    }
+    i
+}
+
+/// Returns where the longest run of bytes ends that begins at `start` and of which each is in the
+/// set or, in a text, a part of one of the characters from U+00C0 to U+D7FF. Sixteen bytes are
+/// tested at a time, if there are as many. As in `run_end` the last sixteen are scanned again.
+#[inline(always)]
+pub fn chars_end(low: u64, high: u64, bytes: &[u8], start: usize) -> usize
+    requires { start ≤ length bytes.now }
+    ensures { IsLongestRun (is_char_byte (has_bit low high)) bytes.now start result }
+{
+    let len = bytes.len();
+    if len < LANES {
+        return chars_end_by_byte(low, high, bytes, start);
+    }
+    let mut i = start;
+    while len - i > LANES {
+        let mask = outside_chars(low, high, bytes, i);
+        if mask != 0 {
+            return i + mask.trailing_zeros() as usize;
+        }
+        i += LANES;
+    }
+    let last = len - LANES;
+    let tail = outside_chars(low, high, bytes, last);
+    let mask = tail >> (i - last);
+    if mask == 0 {
+        return len;
+    }
+    i + mask.trailing_zeros() as usize
+}
+
+/// Returns which of the sixteen bytes from `at` on are no hexadecimal digits.
+#[inline(always)]
+fn lanes_without_hex_digit(bytes: &[u8], at: usize) -> u64
+    requires { at + LANES ≤ length bytes.now }
+    ensures { result ≡ mask_l (map (λ b. not (has_bit 0x03FF000000000000 0x0000007E0000007E b))
+        (chunk at 16 bytes.now)) }
+{
+    outside(0x03FF_0000_0000_0000, 0x0000_007E_0000_007E, bytes, at)
+}
+
+/// Returns a mask of the sixteen bytes from `at` on: those at which a `%XX` begins that also ends
+/// among them.
 #[inline(always)]
 fn octet_starts(bytes: &[u8], at: usize) -> u64
     requires { at + LANES ≤ length bytes.now }
     ensures { (k : ℕ) → bit_at result k ≡ 1 → (k + 3 ≤ 16)
-        × (slice_index bytes.now (at + k) ≡ percent_sign) × (has_digits bytes.now (at + k) ≡ true) }
+        × (slice_index bytes.now (at + k) ≡ percent_sign)
+        × (has_hex_digits_after bytes.now (at + k) ≡ true) }
 {
-    let percents = places_of(b'%', bytes, at);
-    // The masks of the hexadecimal digits, and the two lanes after the last, which have none.
-    let others = outside(0x03FF_0000_0000_0000, 0x0000_007E_0000_007E, bytes, at) | 0x3_0000;
+    let percents = lanes_equal_to(b'%', bytes, at);
+    // The two lanes after the last have no digits.
+    let others = lanes_without_hex_digit(bytes, at) | 0x3_0000;
     percents & !((others >> 1) | (others >> 2))
 }
 
-/// How many of the sixteen bytes from `at` on are before the first that is neither in the set nor
-/// a part of an octet that ends among them.
+/// Returns how many of the sixteen bytes from `at` on are before the first that is neither in the
+/// set nor a part of an octet that ends among them.
 #[inline(always)]
-pub fn spelt_length(low: u64, high: u64, bytes: &[u8], at: usize) -> usize
+pub fn encoded_run_len(low: u64, high: u64, bytes: &[u8], at: usize) -> usize
     requires { at + LANES ≤ length bytes.now }
     ensures few { result ≤ 16 }
-    ensures spelt { AreSpelt (has_bit low high) bytes.now at result }
+    ensures allowed { AreCharactersOrOctets (has_bit low high) bytes.now at result }
 {
     let starts = octet_starts(bytes, at);
     let open = outside(low, high, bytes, at) & !(starts | (starts << 1) | (starts << 2));
@@ -140,4 +247,46 @@ pub fn spelt_length(low: u64, high: u64, bytes: &[u8], at: usize) -> usize
         return LANES;
     }
     open.trailing_zeros() as usize
+}
+
+/// Returns whether each of the sixteen bytes from `at` on is in the set or is a `%`, and is a
+/// hexadecimal digit where one of the two bytes before it is a `%`.
+#[inline(always)]
+fn is_encoded_block(low: u64, high: u64, bytes: &[u8], at: usize) -> bool
+    requires before { 2 ≤ at }
+    requires within { at + LANES ≤ length bytes.now }
+    ensures { IsTrue result → (k : ℕ) → k < 16
+        → IsByteOfEncodedText (has_bit low high) bytes.now (at + k) }
+{
+    let digits = lanes_equal_to(b'%', bytes, at - 1) | lanes_equal_to(b'%', bytes, at - 2);
+    let no_octet = !lanes_equal_to(b'%', bytes, at);
+    let missed = lanes_without_hex_digit(bytes, at) & digits;
+    (outside(low, high, bytes, at) & no_octet) | missed == 0
+}
+
+/// Returns where a run of bytes of the set and of octets ends that begins at `start`. The blocks of
+/// sixteen bytes do not depend on where octets begin, so that a processor need not wait for one
+/// block to begin the next.
+#[inline(always)]
+pub fn encoded_run_end(low: u64, high: u64, bytes: &[u8], start: usize) -> usize
+    requires before { 2 ≤ start }
+    requires within { start ≤ length bytes.now }
+    ensures from { start ≤ result }
+    ensures within { result ≤ length bytes.now }
+    ensures allowed { AreCharactersOrOctets (has_bit low high) bytes.now start (result - start) }
+{
+    let mut i = start;
+    while bytes.len() - i >= LANES && is_encoded_block(low, high, bytes, i) {
+        i += LANES;
+    }
+    if i == start {
+        return start;
+    }
+    if bytes[i - 1] == b'%' {
+        return i - 1;
+    }
+    if bytes[i - 2] == b'%' {
+        return i - 2;
+    }
+    i
 }

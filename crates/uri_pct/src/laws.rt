@@ -1,5 +1,5 @@
 //! Laws of the definitions: each is the contract of a function that does nothing.
-#![tactic(auto, using(crate::proofs::Theorems::reading_laws))]
+#![tactic(auto, using(crate::proofs::Theorems::decoding_laws))]
 
 #[doc(hidden)]
 pub mod tables;
@@ -14,15 +14,17 @@ ghost use Rattle.std.specs.Str.Lossy.{utf8_lossy};
 ghost use Rattle.uri_pct.specs.Delimiters.{percent_sign};
 ghost use Rattle.uri_pct.specs.Encoding.{encode_text, encode_bytes};
 ghost use Rattle.uri_pct.specs.Sets.{TableSet, LacksPercent, IsSubset, unreserved_set};
-ghost use Rattle.uri_pct.specs.Spelling.{Spells, IsSpeltWithin};
-ghost use Rattle.uri_pct.specs.Tokens.{Token, Char, Octet, tokens, token_bytes, print};
+ghost use Rattle.uri_pct.specs.Representation.{Represents, RepresentsWithin};
+ghost use Rattle.uri_pct.specs.Tokens.{Token, Char, Octet, tokens, bytes_decoded_from, print};
 ghost use Rattle.uri_pct.specs.Tokens.{allows_token, IsValidFor};
-ghost use Rattle.uri_pct.specs.Pieces.{WellFormed, IsOfCharacter, is_well_formed, begins_within};
+ghost use Rattle.uri_pct.specs.Pieces.{WellFormed, IsOfCharacter, is_well_formed};
+ghost use Rattle.uri_pct.specs.Pieces.{begins_with_continuation};
 ghost use Rattle.uri_pct.specs.Pieces.{bytes_of_pieces, utf8_pieces, lossy_text};
 ghost use Rattle.uri_pct.specs.Prefixes.{valid_prefix};
-ghost use Rattle.uri_pct.specs.Reading.{LacksPastAscii, is_literal_formatting, is_printable};
-ghost use Rattle.uri_pct.specs.Reading.{is_readable, lower_token};
-ghost use Rattle.uri_pct.specs.Reading.{read_alone, read_tokens, read};
+ghost use Rattle.uri_pct.specs.DecodeUnreserved.{LacksPastAscii, is_literal_formatting};
+ghost use Rattle.uri_pct.specs.DecodeUnreserved.{is_printable};
+ghost use Rattle.uri_pct.specs.DecodeUnreserved.{is_decodable, lower_token};
+ghost use Rattle.uri_pct.specs.DecodeUnreserved.{decode_octet, decode_tokens, decode_unreserved};
 
 /// Printable tokens are the tokens of their printed text. If a text is valid for a set, its tokens
 /// are printable (RFC 3986, sections 2.1 and 6.2.2.1).
@@ -31,7 +33,7 @@ ghost use Rattle.uri_pct.specs.Reading.{read_alone, read_tokens, read};
 ///
 /// The tokens `a` and the octet 41 (hexadecimal) are printed as `a%41`, whose tokens are the same
 /// two.
-pub fn what_is_printed_is_read_back()
+pub fn printed_tokens_are_parsed_back()
     ensures tokens { (ts : List Token) → list_all is_printable ts ≡ true → tokens (print ts) ≡ ts }
     ensures valid { (set : TableSet) (ts : List Token) → list_all is_printable ts ≡ true
         → list_all (allows_token set) ts ≡ true → IsValidFor set (print ts) }
@@ -44,8 +46,8 @@ pub fn what_is_printed_is_read_back()
 /// # Examples
 ///
 /// `%3a` and `%3A` are the octet 3A.
-#[tactic(auto, using(crate::proofs::Decodings::OctetDigits::tokens_of_octet))]
-pub fn octets_are_read_in_either_case()
+#[tactic(auto, using(crate::proofs::Decodings::OctetDigits::printed_octet_is_first_token))]
+pub fn octets_decode_in_either_case()
     ensures { (upper : Bool) (value : ℕ) (rest : List ℕ) → value < 256
         → tokens (percent_sign ∷ digit_glyph upper (value / 16)
         ∷ digit_glyph upper (value % 16) ∷ rest) ≡ Octet value ∷ tokens rest }
@@ -58,13 +60,13 @@ pub fn octets_are_read_in_either_case()
 /// # Examples
 ///
 /// Both `a%3a` and `a%3A` are the character `a` and the octet 3A.
-#[tactic(auto, using(crate::proofs::Theorems::spelling_laws))]
-pub fn spelt_texts_are_read_back()
-    ensures one { (text : List ℕ) (ts : List Token) → Spells text ts → tokens text ≡ ts }
+#[tactic(auto, using(crate::proofs::Theorems::representation_laws))]
+pub fn texts_represent_only_their_tokens()
+    ensures one { (text : List ℕ) (ts : List Token) → Represents text ts → tokens text ≡ ts }
     ensures own { (text : List ℕ) → IsUtf8 text → list_all is_printable (tokens text) ≡ true
-        → Spells text (tokens text) }
+        → Represents text (tokens text) }
     ensures valid { (set : TableSet) (text : List ℕ) → LacksPercent set → IsUtf8 text
-        → IsValidFor set text ↔ IsSpeltWithin set text }
+        → IsValidFor set text ↔ RepresentsWithin set text }
 {}
 
 /// `valid_prefix` is the longest prefix of a text that is valid for a set: it is valid, it ends at
@@ -73,7 +75,7 @@ pub fn spelt_texts_are_read_back()
 /// # Examples
 ///
 /// For the set of a path, it is 5 of `a%20b%2` and 2 of `é` in an IRI.
-#[tactic(auto, using(crate::proofs::ValidTexts::LongestPrefixes::prefix_boundary, crate::proofs::ValidTexts::LongestPrefixes::prefix_valid, crate::proofs::ValidTexts::LongestPrefixes::prefix_longest))]
+#[tactic(auto, using(crate::proofs::ValidTexts::LongestPrefixes::valid_prefix_ends_at_boundary, crate::proofs::ValidTexts::LongestPrefixes::valid_prefix_is_valid, crate::proofs::ValidTexts::LongestPrefixes::valid_prefix_is_longest))]
 pub fn valid_prefixes_are_longest()
     ensures boundary { (set : TableSet) (text : List ℕ) → LacksPercent set → IsUtf8 text
         → IsCharBoundary text (valid_prefix set text) }
@@ -91,13 +93,13 @@ pub fn valid_prefixes_are_longest()
 ///
 /// `a b` is encoded as `a%20b`, whose bytes are those of `a b`.
 #[tactic(auto, using(crate::proofs::Theorems::encoding_laws))]
-pub fn what_is_encoded_decodes_to_what_was_given()
+pub fn decoding_inverts_encoding()
     ensures text { (set : TableSet) (text : List ℕ) → IsUtf8 text
-        → token_bytes (encode_text set text) ≡ text }
-    ensures bytes { (set : TableSet) (bytes : List ℕ) → token_bytes (encode_bytes set bytes)
+        → bytes_decoded_from (encode_text set text) ≡ text }
+    ensures bytes { (set : TableSet) (bytes : List ℕ) → bytes_decoded_from (encode_bytes set bytes)
         ≡ bytes }
-    ensures behind { (before behind : List Token) → token_bytes (before ++ behind)
-        ≡ token_bytes before ++ token_bytes behind }
+    ensures suffix { (before suffix : List Token) → bytes_decoded_from (before ++ suffix)
+        ≡ bytes_decoded_from before ++ bytes_decoded_from suffix }
     ensures tokens { (set : TableSet) (text : List ℕ) → LacksPercent set → IsUtf8 text
         → tokens (print (encode_text set text)) ≡ encode_text set text }
     ensures same { (set : TableSet) (text : List ℕ) → IsUtf8 text → encode_bytes set text
@@ -110,14 +112,14 @@ pub fn what_is_encoded_decodes_to_what_was_given()
 /// # Examples
 ///
 /// The bytes 61 and E9 are the character `a` and an ill-formed piece.
-pub fn pieces_are_together_the_bytes()
+pub fn utf8_pieces_join_to_the_bytes()
     ensures bytes { (bytes : List ℕ) → bytes_of_pieces (utf8_pieces bytes) ≡ bytes }
     ensures characters { (bytes : List ℕ) → All IsOfCharacter (utf8_pieces bytes) }
-    ensures around_char { (before : List ℕ) (c : ℕ) (behind : List ℕ) → IsScalar c
-        → utf8_pieces (before ++ (encode_utf8 c ++ behind)) ≡ utf8_pieces before
-        ++ WellFormed (encode_utf8 c) ∷ utf8_pieces behind }
-    ensures between { (before behind : List ℕ) → begins_within behind ≡ false
-        → utf8_pieces (before ++ behind) ≡ utf8_pieces before ++ utf8_pieces behind }
+    ensures around_char { (before : List ℕ) (c : ℕ) (suffix : List ℕ) → IsScalar c
+        → utf8_pieces (before ++ (encode_utf8 c ++ suffix)) ≡ utf8_pieces before
+        ++ WellFormed (encode_utf8 c) ∷ utf8_pieces suffix }
+    ensures between { (before suffix : List ℕ) → begins_with_continuation suffix ≡ false
+        → utf8_pieces (before ++ suffix) ≡ utf8_pieces before ++ utf8_pieces suffix }
 {}
 
 /// Bytes are UTF-8 exactly where no piece is ill-formed, and the lossy text is that of std's
@@ -132,37 +134,38 @@ pub fn lossy_texts_are_those_of_std()
     ensures text { (bytes : List ℕ) → lossy_text bytes ≡ utf8_lossy bytes }
 {}
 
-/// Decoding readable octets keeps the bytes, and keeps a text valid for its set. A literal
-/// character separates the decoding before it from that after it. The octets of a readable
+/// Decoding unreserved octets keeps the bytes, and keeps a text valid for its set. A literal
+/// character separates the decoding before it from that after it. The octets of a decodable
 /// character decode to it, in any context. If a set holds `ucschar` and octets, the decoded text
 /// has no literal formatting characters of bidirectional text: they are octets (RFC 3987, section
 /// 4.1).
 #[doc(hidden)]
-pub fn reading_changes_no_bytes()
-    ensures bytes { (set : TableSet) (text : List ℕ) → token_bytes (read set text)
-        ≡ token_bytes (tokens text) }
+pub fn decoding_unreserved_keeps_bytes()
+    ensures bytes { (set : TableSet) (text : List ℕ)
+        → bytes_decoded_from (decode_unreserved set text)
+        ≡ bytes_decoded_from (tokens text) }
     ensures allowed { (set : TableSet) (text : List ℕ) → IsSubset unreserved_set set
-        → IsValidFor set text → list_all (allows_token set) (read set text) ≡ true }
+        → IsValidFor set text → list_all (allows_token set) (decode_unreserved set text) ≡ true }
     ensures valid { (set : TableSet) (text : List ℕ) → LacksPercent set
         → IsSubset unreserved_set set → IsValidFor set text
-        → IsValidFor set (print (read set text)) }
+        → IsValidFor set (print (decode_unreserved set text)) }
     ensures printable { (set : TableSet) (ts : List Token) → list_all is_printable ts ≡ true
-        → list_all is_printable (read_tokens set ts) ≡ true }
-    ensures around_char { (set : TableSet) (before : List Token) (c : ℕ) (behind : List Token)
-        → read_tokens set (before ++ Char c ∷ behind) ≡ read_tokens set before ++ Char c
-        ∷ read_tokens set behind }
-    ensures encoded { (set : TableSet) (before : List Token) (c : ℕ) (behind : List Token)
-        → IsScalar c → is_readable set c ≡ true → read_tokens set
-        (before ++ (map Octet (encode_utf8 c) ++ behind))
-        ≡ read_tokens set (before ++ Char c ∷ behind) }
-    ensures spelt { (set : TableSet) (before : List Token) (c : ℕ) (behind : List Token)
-        → IsScalar c → is_readable set c ≡ true
-        → list_all is_printable (before ++ Char c ∷ behind) ≡ true
-        → read set (print (before ++ (map Octet (encode_utf8 c) ++ behind)))
-        ≡ read set (print (before ++ Char c ∷ behind)) }
+        → list_all is_printable (decode_tokens set ts) ≡ true }
+    ensures around_char { (set : TableSet) (before : List Token) (c : ℕ) (suffix : List Token)
+        → decode_tokens set (before ++ Char c ∷ suffix) ≡ decode_tokens set before ++ Char c
+        ∷ decode_tokens set suffix }
+    ensures encoded { (set : TableSet) (before : List Token) (c : ℕ) (suffix : List Token)
+        → IsScalar c → is_decodable set c ≡ true → decode_tokens set
+        (before ++ (map Octet (encode_utf8 c) ++ suffix))
+        ≡ decode_tokens set (before ++ Char c ∷ suffix) }
+    ensures printed { (set : TableSet) (before : List Token) (c : ℕ) (suffix : List Token)
+        → IsScalar c → is_decodable set c ≡ true
+        → list_all is_printable (before ++ Char c ∷ suffix) ≡ true
+        → decode_unreserved set (print (before ++ (map Octet (encode_utf8 c) ++ suffix)))
+        ≡ decode_unreserved set (print (before ++ Char c ∷ suffix)) }
     ensures formatting { (set : TableSet) (text : List ℕ)
         → (set.ucschar && set.pct_encoded) ≡ true
-        → list_any is_literal_formatting (read set text) ≡ false }
+        → list_any is_literal_formatting (decode_unreserved set text) ≡ false }
 {}
 
 /// In a URI each octet is decoded by itself (RFC 3986, section 6.2.2.2). This is the decoding of an
@@ -171,29 +174,30 @@ pub fn reading_changes_no_bytes()
 /// # Examples
 ///
 /// In a URI `%41%C3%A9` decodes to `A` and the octets C3 and A9, and in an IRI to `A` and `é`.
-pub fn uris_are_read_octet_by_octet()
-    ensures { (set : TableSet) (text : List ℕ) → LacksPastAscii set → read set text
-        ≡ map read_alone (tokens text) }
+pub fn uri_octets_are_decoded_one_by_one()
+    ensures { (set : TableSet) (text : List ℕ) → LacksPastAscii set → decode_unreserved set text
+        ≡ map decode_octet (tokens text) }
 {}
 
-/// Decoding readable octets twice equals decoding them once.
+/// Decoding the unreserved octets of a text twice equals decoding them once.
 #[doc(hidden)]
-pub fn reading_twice_is_reading_once()
-    ensures tokens { (set : TableSet) (ts : List Token) → read_tokens set (read_tokens set ts)
-        ≡ read_tokens set ts }
+pub fn decoding_unreserved_is_idempotent()
+    ensures tokens { (set : TableSet) (ts : List Token) → decode_tokens set (decode_tokens set ts)
+        ≡ decode_tokens set ts }
     ensures text { (set : TableSet) (text : List ℕ) → list_all is_printable (tokens text) ≡ true
-        → read set (print (read set text)) ≡ read set text }
+        → decode_unreserved set (print (decode_unreserved set text)) ≡ decode_unreserved set text }
 {}
 
-/// The decoded text with its letters lowered decodes to itself. If a set allows the decoded text,
-/// it allows the lowered text.
+/// The decoded text with its letters lowered decodes to itself. A set that has the unreserved
+/// characters, and allows a text, allows it with its letters lowered.
 #[doc(hidden)]
-pub fn lowering_may_come_before_reading()
+pub fn lowered_decoded_text_decodes_to_itself()
     ensures tokens { (set : TableSet) (ts : List Token)
-        → read_tokens set (map lower_token (read_tokens set ts))
-        ≡ map lower_token (read_tokens set ts) }
+        → decode_tokens set (map lower_token (decode_tokens set ts))
+        ≡ map lower_token (decode_tokens set ts) }
     ensures text { (set : TableSet) (text : List ℕ) → list_all is_printable (tokens text) ≡ true
-        → read set (print (map lower_token (read set text))) ≡ map lower_token (read set text) }
+        → decode_unreserved set (print (map lower_token (decode_unreserved set text)))
+        ≡ map lower_token (decode_unreserved set text) }
     ensures twice { (ts : List Token) → map lower_token (map lower_token ts) ≡ map lower_token ts }
     ensures printable { (ts : List Token) → list_all is_printable ts ≡ true
         → list_all is_printable (map lower_token ts) ≡ true }

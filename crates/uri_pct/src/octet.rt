@@ -23,7 +23,7 @@ const OCTETS: &str = "\
     %F0%F1%F2%F3%F4%F5%F6%F7%F8%F9%FA%FB%FC%FD%FE%FF\
     ";
 
-/// The byte as `%` and two upper-case hexadecimal digits.
+/// Returns the byte as `%` and two upper-case hexadecimal digits.
 #[doc(hidden)]
 pub fn pct_encoded(byte: u8) -> &'static str
     ensures { result.now ≡ text_of_token (Octet byte) }
@@ -43,7 +43,7 @@ const DIGIT_VALUES: &[u8; 112] = &[
     0, 10, 11, 12, 13, 14, 15, 0, 0, 0, 0, 0, 0, 0, 0, 0, // 60
 ];
 
-/// The value of a hexadecimal digit.
+/// Returns the value of a hexadecimal digit.
 fn digit_value(digit: u8) -> u8
     requires { IsTrue (is_ascii_hexdigit digit) }
     ensures value { result ≡ digit_value digit }

@@ -23,6 +23,11 @@ use std::marker::PhantomData;
 /// # Examples
 ///
 /// `a%20b` is an `EStr<Query>`; `a#b` and `a%2` are none.
+///
+/// ```
+/// let query = EStr::<Query>::new(text).ok_or(Failure::Query)?;
+/// let pairs = pairs_of(alloc, query)?;
+/// ```
 pub struct EStr<'a, E: Encoder> {
     text: &'a str,
     encoder: PhantomData<E>,
@@ -43,7 +48,7 @@ impl<'a, E: Encoder> Clone for EStr<'a, E> {
 
 impl<'a, E: Encoder> Copy for EStr<'a, E> {}
 
-#[tactic(auto, using(crate::proofs::ValidTexts::EStrs::valid_empty, crate::proofs::ValidTexts::EStrs::valid_octet, crate::proofs::ValidTexts::EStrs::valid_in_more))]
+#[tactic(auto, using(crate::proofs::ValidTexts::EStrs::empty_text_is_valid, crate::proofs::ValidTexts::EStrs::printed_octet_is_valid, crate::proofs::ValidTexts::EStrs::valid_for_superset))]
 impl<'a, E: Encoder> EStr<'a, E> {
     ghost use Rattle.uri_pct.specs.EncodedTexts.{text_of};
 
@@ -57,11 +62,16 @@ impl<'a, E: Encoder> EStr<'a, E> {
         encoder: PhantomData,
     };
 
-    /// The text as it is, or `None` exactly if the table of `E` does not allow it.
+    /// Returns the text as an `EStr`, or `None` exactly if the table of `E` does not allow it.
     ///
     /// # Examples
     ///
     /// `EStr::<Query>::new("a b")` is `None`, and `EStr::<Query>::new("a%20b")` is that text.
+    ///
+    /// ```
+    /// let query = EStr::<Query>::new(text).ok_or(Failure::Query)?;
+    /// let pairs = pairs_of(alloc, query)?;
+    /// ```
     pub fn new(text: &'a str) -> Option<Self>
         ensures valid { IsSome result ↔ IsValidFor E.set text.now }
         ensures same { IfSome result (λ e. text_of e ≡ text.now) }
@@ -73,11 +83,21 @@ impl<'a, E: Encoder> EStr<'a, E> {
         }
     }
 
-    /// The text as it is, which the table of `E` allows: `new` tests it.
+    /// Returns the text as an `EStr`.
+    ///
+    /// # Conditions
+    ///
+    /// The table of `E` allows the text; `new` tests it.
     ///
     /// # Examples
     ///
     /// `EStr::<Query>::new_or_panic("a=b")` is that text.
+    ///
+    /// ```
+    /// pub fn path_with_octets() -> EStr<'static, Path> {
+    ///     EStr::new_or_panic("/a%20b/%C3%A9")
+    /// }
+    /// ```
     pub fn new_or_panic(text: &'a str) -> Self
         requires { IsValidFor E.set text.now }
         ensures { text_of result ≡ text.now }
@@ -88,7 +108,7 @@ impl<'a, E: Encoder> EStr<'a, E> {
         }
     }
 
-    /// The text, for as long as it was borrowed.
+    /// Returns the text, for as long as it was borrowed.
     ///
     /// # Examples
     ///
@@ -100,7 +120,7 @@ impl<'a, E: Encoder> EStr<'a, E> {
         self.text
     }
 
-    /// The length of the text in bytes.
+    /// Returns the length of the text in bytes.
     ///
     /// # Examples
     ///
@@ -111,7 +131,7 @@ impl<'a, E: Encoder> EStr<'a, E> {
         self.text.len()
     }
 
-    /// Whether the text is empty.
+    /// Returns whether the text is empty.
     ///
     /// # Examples
     ///
@@ -122,7 +142,7 @@ impl<'a, E: Encoder> EStr<'a, E> {
         self.text.is_empty()
     }
 
-    /// Whether no `%` is in the text: it has no percent-encoded octet.
+    /// Returns whether the text has no percent-encoded octet.
     ///
     /// # Examples
     ///
@@ -133,12 +153,22 @@ impl<'a, E: Encoder> EStr<'a, E> {
         !self.text.as_bytes().contains(&b'%')
     }
 
-    /// The same text, for an encoder whose table allows all that the table of `E` allows:
-    /// `E::table().is_subset` tests it.
+    /// Returns the same text for another encoder.
+    ///
+    /// # Conditions
+    ///
+    /// The table of `SuperE` allows all that the table of `E` allows; `E::table().is_subset` tests
+    /// it.
     ///
     /// # Examples
     ///
     /// An `EStr<Data>` becomes an `EStr<Query>` by `upcast::<Query>()`.
+    ///
+    /// ```
+    /// pub fn path_of_a_uri(path: EStr<'_, Path>) -> EStr<'_, IPath> {
+    ///     path.upcast()
+    /// }
+    /// ```
     pub fn upcast<SuperE: Encoder>(self) -> EStr<'a, SuperE>
         requires { IsSubset E.set SuperE.set }
         ensures { text_of result ≡ text_of self.entry }
@@ -149,13 +179,22 @@ impl<'a, E: Encoder> EStr<'a, E> {
         }
     }
 
-    /// The byte as a percent-encoded octet, `%` and two upper-case hexadecimal digits
-    /// (RFC 3986, section 2.1). The table of `E` allows such octets:
-    /// `E::table().allows_pct_encoded` tests it.
+    /// Returns the byte as a percent-encoded octet: `%` and two upper-case hexadecimal digits (RFC
+    /// 3986, section 2.1).
+    ///
+    /// # Conditions
+    ///
+    /// The table of `E` allows percent-encoded octets; `E::table().allows_pct_encoded` tests it.
     ///
     /// # Examples
     ///
     /// Of the byte 20 (hexadecimal) it is `%20`, and of E9 `%E9`.
+    ///
+    /// ```
+    /// pub fn slash() -> EStr<'static, Userinfo> {
+    ///     EStr::encode_byte(b'/')
+    /// }
+    /// ```
     pub fn encode_byte(byte: u8) -> EStr<'static, E>
         requires { IsTrue (E.set).pct_encoded }
         ensures { text_of result ≡ text_of_token (Octet byte) }
@@ -170,7 +209,7 @@ impl<'a, E: Encoder> EStr<'a, E> {
 impl<'a, E: PathEncoder> EStr<'a, E> {
     ghost use Rattle.uri_pct.specs.EncodedTexts.{text_of};
 
-    /// Whether the path begins with `/`.
+    /// Returns whether the path begins with `/`.
     ///
     /// # Examples
     ///
@@ -181,7 +220,7 @@ impl<'a, E: PathEncoder> EStr<'a, E> {
         self.text.starts_with('/')
     }
 
-    /// Whether the path does not begin with `/`.
+    /// Returns whether the path does not begin with `/`.
     ///
     /// # Examples
     ///
@@ -193,14 +232,14 @@ impl<'a, E: PathEncoder> EStr<'a, E> {
     }
 }
 
-#[tactic(auto, using(crate::proofs::ValidTexts::EStrs::valid_empty))]
+#[tactic(auto, using(crate::proofs::ValidTexts::EStrs::empty_text_is_valid))]
 impl<'a, E: Encoder> Default for EStr<'a, E> {
     ghost use Rattle.std.specs.Prelude.{[]};
     ghost use Rattle.uri_pct.specs.EncodedTexts.{text_of};
 
     ghost is_default = { λ e. text_of e ≡ [] };
 
-    /// The empty text.
+    /// Returns the empty text.
     fn default() -> Self {
         EStr::new_or_panic("")
     }

@@ -2,20 +2,22 @@
 ghost use Rattle.std.specs.Prelude.{◌≡◌, ◌<◌, ◌≤◌, ◌+◌, IsTrue, false, true, length, drop};
 ghost use Rattle.std.specs.Prelude.{slice_index};
 ghost use Rattle.std.specs.Str.{IsCharBoundary};
-ghost use Rattle.uri_pct.specs.Models.Scans.{may_go_on};
+ghost use Rattle.uri_pct.specs.Models.Scans.{may_begin_octet_or_past_ascii};
 ghost use Rattle.uri_pct.specs.Prefixes.{valid_prefix};
-ghost use Rattle.uri_pct.specs.Texts.{has_digits};
+ghost use Rattle.uri_pct.specs.Texts.{has_hex_digits_after};
 ghost use Rattle.uri_pct.specs.Tokens.{is_valid_for};
 
-use crate::lanes::{LANES, has, holds, run_end, spelt_length, words};
+use crate::lanes::{
+    LANES, chars_end, encoded_run_end, encoded_run_len, has, holds, run_end, words,
+};
 use crate::table::Table;
 use crate::utf8::char_at;
 
-/// Whether two hexadecimal digits are after the byte at `index`.
-#[tactic(auto, unfolding(crate::specs::Texts::has_digits))]
-fn begins_octet(bytes: &[u8], index: usize) -> bool
+/// Returns whether two hexadecimal digits are after the byte at `index`.
+#[tactic(auto, unfolding(crate::specs::Texts::has_hex_digits_after))]
+fn has_octet_digits(bytes: &[u8], index: usize) -> bool
     requires { index < length bytes.now }
-    ensures value { result ≡ has_digits bytes.now index }
+    ensures value { result ≡ has_hex_digits_after bytes.now index }
     ensures within { IsTrue result → index + 2 < length bytes.now }
 {
     bytes.len() - index > 2
@@ -26,8 +28,8 @@ fn begins_octet(bytes: &[u8], index: usize) -> bool
 impl Table {
     ghost use Rattle.uri_pct.specs.Tables.{set_of};
 
-    /// Where the run of ASCII characters ends that begins at `start` and that the table allows,
-    /// both as byte offsets.
+    /// Returns where the run of ASCII characters ends that begins at `start` and that the table
+    /// allows, both as byte offsets.
     #[inline(always)]
     pub(crate) fn pass_ascii(&self, text: &str, start: usize) -> usize
         requires { IsCharBoundary text.now start }
@@ -51,8 +53,8 @@ impl Table {
         i
     }
 
-    /// Where the characters of ASCII and the octets after an octet end that are found in blocks of
-    /// sixteen bytes, an octet whole in a block; a block that they do not fill is the last.
+    /// Returns where the characters of ASCII and the octets end that are found in blocks of sixteen
+    /// bytes. The first block shows whether the run is short.
     #[inline(always)]
     fn pass_blocks(&self, text: &str, start: usize) -> usize
         requires octets { (set_of self.now).pct_encoded ≡ true }
@@ -65,20 +67,54 @@ impl Table {
         let (low, high) = self.masks();
         let bytes = text.as_bytes();
         let mut i = start;
-        while bytes.len() - i >= LANES && bytes[i] < 128 {
-            let length = spelt_length(low, high, bytes, i);
+        while bytes.len() - i >= LANES {
+            let length = encoded_run_len(low, high, bytes, i);
             i += length;
             if length < LANES - 2 {
                 break;
+            }
+            i = encoded_run_end(low, high, bytes, i);
+        }
+        i
+    }
+
+    /// Returns where the characters of ASCII and the octets end that begin at `start`. The table
+    /// allows octets.
+    #[inline(never)]
+    fn scan_octets(self, text: &str, start: usize) -> usize
+        requires octets { (set_of self).pct_encoded ≡ true }
+        requires here { IsCharBoundary text.now start }
+        ensures total { result + valid_prefix (set_of self) (drop result text.now)
+            ≡ start + valid_prefix (set_of self) (drop start text.now) }
+        ensures from { start ≤ result }
+        ensures boundary { IsCharBoundary text.now result }
+        ensures stop { result < length text.now → slice_index text.now result < 128
+            → valid_prefix (set_of self) (drop result text.now) ≡ 0 }
+    {
+        let (low, high) = self.masks();
+        let bytes = text.as_bytes();
+        let mut i = self.pass_blocks(text, start);
+        while i < bytes.len() {
+            let byte = bytes[i];
+            if byte == b'%' {
+                if !has_octet_digits(bytes, i) {
+                    break;
+                }
+                i += 3;
+            } else {
+                if byte >= 128 || !has(low, high, byte) {
+                    break;
+                }
+                i += 1;
             }
         }
         i
     }
 
-    /// Where the run of ASCII characters ends that begins at `start`, where a character past ASCII
-    /// is often next: that is looked at first.
+    /// Returns where the run of ASCII characters ends that begins at `start`, where a character
+    /// past ASCII is often next: that is looked at first.
     #[inline(always)]
-    fn pass_plain(&self, text: &str, start: usize) -> usize
+    fn pass_ascii_run(&self, text: &str, start: usize) -> usize
         requires { IsCharBoundary text.now start }
         ensures total { result + valid_prefix (set_of self.now) (drop result text.now)
             ≡ start + valid_prefix (set_of self.now) (drop start text.now) }
@@ -92,11 +128,11 @@ impl Table {
         self.pass_ascii(text, start)
     }
 
-    /// Whether the table allows octets, or characters past ASCII, and the byte begins one.
-    #[tactic(auto, using(std::proofs::lemmas::Bool::Decides::nat_tests), unfolding(crate::specs::Models::Scans::may_go_on))]
+    /// Returns whether the table allows octets, or characters past ASCII, and the byte begins one.
+    #[tactic(auto, using(std::proofs::lemmas::Bool::Decides::nat_tests), unfolding(crate::specs::Models::Scans::may_begin_octet_or_past_ascii))]
     #[inline(always)]
-    fn may_go_on(&self, byte: u8) -> bool
-        ensures { result ≡ may_go_on (set_of self.now) byte }
+    fn may_begin_octet_or_past_ascii(&self, byte: u8) -> bool
+        ensures { result ≡ may_begin_octet_or_past_ascii (set_of self.now) byte }
     {
         if byte == b'%' {
             self.allows_pct_encoded()
@@ -105,9 +141,8 @@ impl Table {
         }
     }
 
-    /// The length of the character past ASCII at `index`, or 0 where the table does not allow it.
-    ///
-    /// Where all that begin with the same byte are allowed, it is not decoded.
+    /// Returns the length of the character past ASCII at `index`, or 0 where the table does not
+    /// allow it.
     #[inline(always)]
     fn past_ascii_len(&self, text: &str, index: usize) -> usize
         requires here { IsCharBoundary text.now index }
@@ -118,18 +153,44 @@ impl Table {
             ≡ valid_prefix (set_of self.now) (drop (index + result) text.now) + result }
         ensures refused { result ≡ 0 → valid_prefix (set_of self.now) (drop index text.now) ≡ 0 }
     {
-        let byte = text.as_bytes()[index];
-        if self.allows_lead(byte) {
-            if byte < 0xE0 {
-                return 2;
-            }
-            return 3;
-        }
         let ch = char_at(text, index);
         if !self.allows_past_ascii(ch) {
             return 0;
         }
         ch.len_utf8()
+    }
+
+    /// Returns where a run of octets ends, of characters of ASCII, or of others, whichever is next,
+    /// or `start` where the table allows nothing there.
+    #[inline(always)]
+    fn pass_next_run(&self, text: &str, start: usize) -> usize
+        requires here { IsCharBoundary text.now start }
+        requires inside { start < length text.now }
+        ensures total { result + valid_prefix (set_of self.now) (drop result text.now)
+            ≡ start + valid_prefix (set_of self.now) (drop start text.now) }
+        ensures from { start ≤ result }
+        ensures boundary { IsCharBoundary text.now result }
+        ensures stop { result ≡ start → valid_prefix (set_of self.now) (drop start text.now) ≡ 0 }
+    {
+        let (low, high) = self.masks();
+        let bytes = text.as_bytes();
+        let byte = bytes[start];
+        if byte == b'%' {
+            if !self.allows_pct_encoded() {
+                return start;
+            }
+            return self.scan_octets(text, start);
+        }
+        if byte < 128 {
+            if !has(low, high, byte) {
+                return start;
+            }
+            return self.pass_ascii_run(text, start + 1);
+        }
+        if self.allows_lead(byte) {
+            return chars_end(low, high, bytes, start);
+        }
+        start + self.past_ascii_len(text, start)
     }
 
     /// Returns the end of the longest substring that begins at `start` and that the table allows,
@@ -148,47 +209,41 @@ impl Table {
             return start;
         }
         let i = self.pass_ascii(text, start);
-        if i == bytes.len() || !self.may_go_on(bytes[i]) {
+        if i == bytes.len() || !self.may_begin_octet_or_past_ascii(bytes[i]) {
             return i;
         }
-        self.scan_on(text, i)
+        if bytes[i] != b'%' {
+            return self.scan_mixed_runs(text, i);
+        }
+        let end = self.scan_octets(text, i);
+        if end == bytes.len() || bytes[end] < 128 || !self.allows_some_past_ascii() {
+            return end;
+        }
+        self.scan_mixed_runs(text, end)
     }
 
-    /// Returns what `scan` returns, whatever characters and octets the substring has.
+    /// Returns the end of the longest substring that begins at `start` and that the table allows,
+    /// whatever characters and octets it has.
     #[inline(never)]
-    fn scan_on(self, text: &str, start: usize) -> usize
+    fn scan_mixed_runs(self, text: &str, start: usize) -> usize
         requires { IsCharBoundary text.now start }
         ensures end { result ≡ start + valid_prefix (set_of self) (drop start text.now) }
         ensures boundary { IsCharBoundary text.now result }
     {
-        let (low, high) = self.masks();
         let bytes = text.as_bytes();
         let mut i = start;
         while i < bytes.len() {
-            let byte = bytes[i];
-            if byte >= 128 {
-                let length = self.past_ascii_len(text, i);
-                if length == 0 {
-                    break;
-                }
-                i += length;
-            } else if byte == b'%' {
-                if !self.allows_pct_encoded() || !begins_octet(bytes, i) {
-                    break;
-                }
-                i = self.pass_blocks(text, i + 3);
-            } else {
-                if !has(low, high, byte) {
-                    break;
-                }
-                i = self.pass_plain(text, i + 1);
+            let end = self.pass_next_run(text, i);
+            if end == i {
+                break;
             }
+            i = end;
         }
         i
     }
 
     /// Returns whether the table allows each character and octet of the text.
-    #[tactic(auto, using(crate::proofs::ValidTexts::Cuts::valid_where_scanned, crate::proofs::TableSets::Percent::lacks_percent))]
+    #[tactic(auto, using(crate::proofs::ValidTexts::Cuts::is_valid_for_is_scanned_to_end, crate::proofs::TableSets::Percent::lacks_percent))]
     #[doc(hidden)]
     pub fn allows_text(&self, text: &str) -> bool
         ensures { result ≡ is_valid_for (set_of self.now) text.now }

@@ -4,7 +4,7 @@ ghost use Rattle.std.specs.Prelude.{length, ◌<◌, ◌^◌};
 ghost use Rattle.std.specs.List.{slice_split, join_with_byte, AllPass};
 ghost use Rattle.uri_pct.specs.Delimiters.{slash};
 ghost use Rattle.uri_pct.specs.Sets.{is_reserved};
-ghost use Rattle.uri_pct.specs.Texts.{lacks, is_absolute, IsFirstCut, IsLastCut};
+ghost use Rattle.uri_pct.specs.Texts.{lacks, is_absolute, IsCutAtFirst, IsCutAtLast};
 
 use crate::encoder::{Encoder, PathEncoder};
 use crate::pct_enc::EStr;
@@ -26,9 +26,9 @@ pub struct Split<'a, E: Encoder> {
 
 impl<'a, E: Encoder> Clone for Split<'a, E> {
     ghost use Rattle.std.specs.Prelude.{⊤};
-    ghost use Rattle.uri_pct.specs.EncodedTexts.{pieces_left};
+    ghost use Rattle.uri_pct.specs.EncodedTexts.{substrings_left};
 
-    ghost is_clone = { λ value copy. pieces_left copy ≡ pieces_left value };
+    ghost is_clone = { λ value copy. substrings_left copy ≡ substrings_left value };
 
     ghost is_infallible = { λ _. ⊤ };
 
@@ -43,14 +43,15 @@ impl<'a, E: Encoder> Clone for Split<'a, E> {
 impl<'a, E: Encoder> Iterator for Split<'a, E> {
     ghost use Rattle.std.specs.Iterator.{YieldsFirstBy, item_count};
     ghost use Rattle.uri_pct.specs.EncodedTexts.{text_of};
-    ghost use Rattle.uri_pct.specs.EncodedTexts.{pieces_left};
+    ghost use Rattle.uri_pct.specs.EncodedTexts.{substrings_left};
 
     type Item = EStr<'a, E>;
 
-    ghost next_gives = { YieldsFirstBy text_of pieces_left };
+    ghost next_gives = { YieldsFirstBy text_of substrings_left };
 
-    ghost remaining = { item_count pieces_left };
+    ghost remaining = { item_count substrings_left };
 
+    /// Returns the next substring between delimiters, if any is left.
     fn next(&mut self) -> Option<EStr<'a, E>> {
         let text = self.rest?;
         match text.split_once(self.delimiter) {
@@ -69,10 +70,11 @@ impl<'a, E: Encoder> Iterator for Split<'a, E> {
 impl<'a, E: Encoder> DoubleEndedIterator for Split<'a, E> {
     ghost use Rattle.std.specs.Iterator.{YieldsLastBy};
     ghost use Rattle.uri_pct.specs.EncodedTexts.{text_of};
-    ghost use Rattle.uri_pct.specs.EncodedTexts.{pieces_left};
+    ghost use Rattle.uri_pct.specs.EncodedTexts.{substrings_left};
 
-    ghost next_back_gives = { YieldsLastBy text_of pieces_left };
+    ghost next_back_gives = { YieldsLastBy text_of substrings_left };
 
+    /// Returns the last substring between delimiters that is left, if any is.
     fn next_back(&mut self) -> Option<EStr<'a, E>> {
         let text = self.rest?;
         match text.rsplit_once(self.delimiter) {
@@ -92,55 +94,87 @@ impl<'a, E: Encoder> FusedIterator for Split<'a, E> {}
 
 impl<'a, E: Encoder> EStr<'a, E> {
     ghost use Rattle.uri_pct.specs.EncodedTexts.{text_of};
-    ghost use Rattle.uri_pct.specs.EncodedTexts.{pieces_left};
+    ghost use Rattle.uri_pct.specs.EncodedTexts.{substrings_left};
 
-    /// What is before the first `delimiter` and what is after it, or `None` exactly if
-    /// there is none. The delimiter is reserved (RFC 3986, section 2.2): `RESERVED.allows` tests
-    /// it.
+    /// Returns what is before the first `delimiter` and what is after it, or `None` exactly if
+    /// there is none.
+    ///
+    /// # Conditions
+    ///
+    /// The delimiter is reserved (RFC 3986, section 2.2); `RESERVED.allows` tests it.
     ///
     /// # Examples
     ///
     /// `a=b=c` at `=` is `a` and `b=c`.
+    ///
+    /// ```
+    /// match piece.split_once('=') {
+    ///     Some(pair) => pair,
+    ///     None => (piece, EStr::default()),
+    /// }
+    /// ```
     pub fn split_once(self, delimiter: char) -> Option<(EStr<'a, E>, EStr<'a, E>)>
         requires { IsTrue (is_reserved delimiter) }
         ensures { MatchOption result (IsTrue (lacks delimiter (text_of self.entry)))
-            (λ pair. IsFirstCut delimiter (text_of self.entry) (text_of pair.0) (text_of pair.1)) }
+            (λ pair. IsCutAtFirst delimiter (text_of self.entry) (text_of pair.0) (text_of pair.1)) }
     {
         let (before, after) = self.as_str().split_once(delimiter)?;
         Some((EStr::new_or_panic(before), EStr::new_or_panic(after)))
     }
 
-    /// What is before the last `delimiter` and what is after it, or `None` exactly if
-    /// there is none. The delimiter is reserved (RFC 3986, section 2.2): `RESERVED.allows` tests
-    /// it.
+    /// Returns what is before the last `delimiter` and what is after it, or `None` exactly if
+    /// there is none.
+    ///
+    /// # Conditions
+    ///
+    /// The delimiter is reserved (RFC 3986, section 2.2); `RESERVED.allows` tests it.
     ///
     /// # Examples
     ///
     /// `a=b=c` at `=` is `a=b` and `c`.
+    ///
+    /// ```
+    /// if table::RESERVED.allows(delimiter) {
+    ///     path.rsplit_once(delimiter)
+    /// } else {
+    ///     None
+    /// }
+    /// ```
     pub fn rsplit_once(self, delimiter: char) -> Option<(EStr<'a, E>, EStr<'a, E>)>
         requires { IsTrue (is_reserved delimiter) }
         ensures { MatchOption result (IsTrue (lacks delimiter (text_of self.entry)))
-            (λ pair. IsLastCut delimiter (text_of self.entry) (text_of pair.0) (text_of pair.1)) }
+            (λ pair. IsCutAtLast delimiter (text_of self.entry) (text_of pair.0) (text_of pair.1)) }
     {
         let (before, after) = self.as_str().rsplit_once(delimiter)?;
         Some((EStr::new_or_panic(before), EStr::new_or_panic(after)))
     }
 
-    /// Returns the substrings between the occurrences of `delimiter`. The delimiter is reserved
-    /// (RFC 3986, section 2.2); `RESERVED.allows` tests it. No substring contains the delimiter,
-    /// and joined by it they are the text. The empty text has one substring, which is empty. Their
-    /// number fits `usize`, so that `count` may be called.
+    /// Returns the substrings between the occurrences of `delimiter`. No substring contains the
+    /// delimiter, and joined by it they are the text. The empty text has one substring, which is
+    /// empty. Their number fits `usize`, so `count` may be called.
+    ///
+    /// # Conditions
+    ///
+    /// The delimiter is reserved (RFC 3986, section 2.2); `RESERVED.allows` tests it.
     ///
     /// # Examples
     ///
     /// `a&&b` at `&` is `a`, the empty substring and `b`.
+    ///
+    /// ```
+    /// for piece in query.split('&') {
+    ///     if !piece.is_empty() {
+    ///         pairs.push(pair_of(alloc, piece)?)?;
+    ///     }
+    /// }
+    /// ```
     pub fn split(self, delimiter: char) -> Split<'a, E>
         requires { IsTrue (is_reserved delimiter) }
-        ensures pieces { pieces_left result ≡ slice_split (λ b. b == delimiter)
+        ensures pieces { substrings_left result ≡ slice_split (λ b. b == delimiter)
             (text_of self.entry) }
-        ensures joined { join_with_byte delimiter (pieces_left result) ≡ text_of self.entry }
-        ensures apart { AllPass (lacks delimiter) (pieces_left result) }
-        ensures fits { length (pieces_left result) < 2 ^ 64 }
+        ensures joined { join_with_byte delimiter (substrings_left result) ≡ text_of self.entry }
+        ensures apart { AllPass (lacks delimiter) (substrings_left result) }
+        ensures fits { length (substrings_left result) < 2 ^ 64 }
     {
         // The text is in memory, so its length is known to fit.
         let _text = self.as_str();
@@ -153,11 +187,11 @@ impl<'a, E: Encoder> EStr<'a, E> {
 
 impl<'a, E: PathEncoder> EStr<'a, E> {
     ghost use Rattle.uri_pct.specs.EncodedTexts.{text_of};
-    ghost use Rattle.uri_pct.specs.EncodedTexts.{pieces_left};
+    ghost use Rattle.uri_pct.specs.EncodedTexts.{substrings_left};
 
-    /// The segments of the path (RFC 3986, section 3.3): what is after its first `/`, cut at
-    /// each further `/`; or `None` exactly if the path does not begin with `/`. Their number fits
-    /// `usize`.
+    /// Returns the segments of the path (RFC 3986, section 3.3), or `None` exactly if the path does
+    /// not begin with `/`. The segments are what is after the first `/`, cut at each further `/`.
+    /// Their number fits `usize`.
     ///
     /// # Examples
     ///
@@ -166,8 +200,8 @@ impl<'a, E: PathEncoder> EStr<'a, E> {
     pub fn segments_if_absolute(self) -> Option<Split<'a, E>>
         ensures absolute { is_some result ≡ is_absolute (text_of self.entry) }
         ensures segments { IfSome result
-            (λ s. pieces_left s ≡ slice_split (λ b. b == slash) (drop 1 (text_of self.entry))) }
-        ensures fits { IfSome result (λ s. length (pieces_left s) < 2 ^ 64) }
+            (λ s. substrings_left s ≡ slice_split (λ b. b == slash) (drop 1 (text_of self.entry))) }
+        ensures fits { IfSome result (λ s. length (substrings_left s) < 2 ^ 64) }
     {
         if self.is_rootless() {
             return None;

@@ -3,10 +3,10 @@ ghost use Rattle.std.specs.Prelude.{◌≡◌, ◌<◌, ◌↔◌, ◌==◌, ◌
 ghost use Rattle.std.specs.Prelude.{true, false};
 ghost use Rattle.std.specs.Int.{bit_at, is_in_range};
 ghost use Rattle.std.specs.List.{list_all};
-ghost use Rattle.uri_pct.specs.Masks.{has_bit, is_plain_ascii};
-ghost use Rattle.uri_pct.specs.Reading.{is_readable};
+ghost use Rattle.uri_pct.specs.Masks.{has_bit, is_unencoded_ascii};
+ghost use Rattle.uri_pct.specs.DecodeUnreserved.{is_decodable};
 ghost use Rattle.uri_pct.specs.Sets.{allows, allows_past_ascii, is_ucschar, is_iprivate, is_one_of};
-ghost use Rattle.uri_pct.specs.Sets.{plain, union, difference, IsSubset};
+ghost use Rattle.uri_pct.specs.Sets.{characters_only, union, difference, IsSubset};
 
 mod constants;
 
@@ -36,33 +36,52 @@ pub struct Table {
 impl Table {
     ghost use Rattle.uri_pct.specs.Tables.{set_of, empty_set};
 
-    /// The characters of these codes, and no flag: `None` exactly if a byte is past ASCII or `%`.
+    /// Returns the table of these characters, without percent-encoded octets and without characters
+    /// past ASCII, or `None` exactly if a byte is past ASCII or `%`.
     ///
     /// # Examples
     ///
     /// `Table::try_new(b"ab")` is the table of `a` and `b`, and `Table::try_new(b"100%")` is
     /// `None`.
+    ///
+    /// ```
+    /// if Table::try_new(bytes).is_some() {
+    ///     Some(Table::new(bytes))
+    /// } else {
+    ///     None
+    /// }
+    /// ```
     pub fn try_new(bytes: &[u8]) -> Option<Table>
-        ensures some { IsSome result ↔ IsTrue (list_all is_plain_ascii bytes.now) }
-        ensures table { IfSome result (λ table. set_of table ≡ plain (is_one_of bytes.now)) }
+        ensures some { IsSome result ↔ IsTrue (list_all is_unencoded_ascii bytes.now) }
+        ensures table { IfSome result (λ table. set_of table
+            ≡ characters_only (is_one_of bytes.now)) }
     {
-        if are_plain(bytes) {
+        if are_unencoded_ascii(bytes) {
             Some(Table::new(bytes))
         } else {
             None
         }
     }
 
-    /// The characters of these codes, and no flag.
+    /// Returns the table of these characters, without percent-encoded octets and without characters
+    /// past ASCII. The list may be empty.
     ///
-    /// Each byte is ASCII and not `%`, which `try_new` tests; the list may be empty.
+    /// # Conditions
+    ///
+    /// Each byte is ASCII and not `%`; `try_new` tests it.
     ///
     /// # Examples
     ///
     /// `Table::new(b"ab")` allows `a` and `b` alone.
+    ///
+    /// ```
+    /// pub fn vowels() -> Table {
+    ///     Table::new(b"aeiouAEIOU")
+    /// }
+    /// ```
     pub fn new(bytes: &[u8]) -> Table
-        requires { IsTrue (list_all is_plain_ascii bytes.now) }
-        ensures { set_of result ≡ plain (is_one_of bytes.now) }
+        requires { IsTrue (list_all is_unencoded_ascii bytes.now) }
+        ensures { set_of result ≡ characters_only (is_one_of bytes.now) }
     {
         let mut low: u64 = 0;
         let mut high: u64 = 0;
@@ -82,7 +101,7 @@ impl Table {
         }
     }
 
-    /// What `self` or `other` allows: the union of their characters, and of each flag.
+    /// Returns the union of two tables: of their characters, and of each flag.
     ///
     /// # Examples
     ///
@@ -99,7 +118,7 @@ impl Table {
         }
     }
 
-    /// What `self` allows and `other` does not, among the characters and the flags.
+    /// Returns what `self` allows and `other` does not, among the characters and the flags.
     ///
     /// # Examples
     ///
@@ -116,7 +135,7 @@ impl Table {
         }
     }
 
-    /// The same table, with percent-encoded octets allowed.
+    /// Returns the table with percent-encoded octets allowed.
     ///
     /// # Examples
     ///
@@ -128,7 +147,7 @@ impl Table {
         self
     }
 
-    /// The same table, without percent-encoded octets.
+    /// Returns the same table, without percent-encoded octets.
     #[inline(always)]
     pub(crate) fn without_octets(mut self) -> Table
         ensures { set_of result ≡ record (set_of self) { pct_encoded = false } }
@@ -137,7 +156,7 @@ impl Table {
         self
     }
 
-    /// The same table, with the characters of `ucschar` (RFC 3987, section 2.2) allowed.
+    /// Returns the table with the characters of `ucschar` (RFC 3987, section 2.2) allowed.
     ///
     /// # Examples
     ///
@@ -149,7 +168,7 @@ impl Table {
         self
     }
 
-    /// The same table, with the characters of `iprivate` (RFC 3987, section 2.2) allowed.
+    /// Returns the table with the characters of `iprivate` (RFC 3987, section 2.2) allowed.
     ///
     /// # Examples
     ///
@@ -161,26 +180,34 @@ impl Table {
         self
     }
 
-    /// Whether `other` allows every character that `self` allows, and has each flag that `self`
-    /// has.
+    /// Returns whether `other` allows every character that `self` allows, and has each flag that
+    /// `self` has.
     ///
     /// # Examples
     ///
     /// `ALPHA.is_subset(&UNRESERVED)` holds, and `UNRESERVED.is_subset(&ALPHA)` does not.
+    ///
+    /// ```
+    /// if E::table().is_subset(&SuperE::table()) {
+    ///     Some(text.upcast())
+    /// } else {
+    ///     None
+    /// }
+    /// ```
     pub fn is_subset(&self, other: &Table) -> bool
         ensures { IsTrue result ↔ IsSubset (set_of self.now) (set_of other.now) }
     {
         self.sub(other).is_empty()
     }
 
-    /// Whether there is no character and no flag.
+    /// Returns whether there is no character and no flag.
     fn is_empty(&self) -> bool
         ensures { IsTrue result ↔ (set_of self.now ≡ empty_set) }
     {
         (self.low | self.high == 0) & !(self.pct_encoded | self.ucschar | self.iprivate)
     }
 
-    /// Whether percent-encoded octets are allowed.
+    /// Returns whether percent-encoded octets are allowed.
     ///
     /// # Examples
     ///
@@ -191,7 +218,7 @@ impl Table {
         self.pct_encoded
     }
 
-    /// Whether the ASCII character of the code `byte` is allowed; from 128 on no byte is.
+    /// Returns whether the ASCII character of the code `byte` is allowed; from 128 on no byte is.
     pub(crate) fn allows_ascii(&self, byte: u8) -> bool
         ensures value { result ≡ (set_of self.now).ascii byte }
         ensures ascii { IsTrue result → byte < 128 }
@@ -199,7 +226,7 @@ impl Table {
         holds(&words(self.low, self.high), byte)
     }
 
-    /// The bits of the codes below 64, and of those from 64 on.
+    /// Returns the bits of the table's codes below 64, and of those from 64 on.
     #[inline(always)]
     pub(crate) fn masks(&self) -> (u64, u64)
         ensures { has_bit result.0 result.1 ≡ (set_of self.now).ascii }
@@ -207,8 +234,8 @@ impl Table {
         (self.low, self.high)
     }
 
-    /// Whether the byte begins a character of U+00C0 to U+D7FF, which are all in `ucschar`, and the
-    /// table allows that.
+    /// Returns whether the byte begins a character of U+00C0 to U+D7FF, which are all in `ucschar`,
+    /// and the table allows that.
     #[tactic(auto, using(std::proofs::lemmas::Bool::Decides::nat_tests))]
     #[inline(always)]
     pub(crate) fn allows_lead(&self, byte: u8) -> bool
@@ -217,7 +244,7 @@ impl Table {
         self.ucschar && matches!(byte, 0xC3..=0xED)
     }
 
-    /// Whether some characters past ASCII are allowed.
+    /// Returns whether some characters past ASCII are allowed.
     #[inline(always)]
     #[doc(hidden)]
     pub fn allows_some_past_ascii(&self) -> bool
@@ -226,7 +253,7 @@ impl Table {
         self.ucschar || self.iprivate
     }
 
-    /// Whether a character past ASCII is allowed, as one of `ucschar` or of `iprivate`.
+    /// Returns whether a character past ASCII is allowed, as one of `ucschar` or of `iprivate`.
     #[tactic(auto, unfolding(crate::specs::Sets::allows_past_ascii))]
     #[doc(hidden)]
     pub fn allows_past_ascii(&self, ch: char) -> bool
@@ -240,6 +267,12 @@ impl Table {
     /// # Examples
     ///
     /// `ALPHA.allows('a')` holds, and `ALPHA.allows('1')` does not.
+    ///
+    /// ```
+    /// if table::QUERY.allows(ch) {
+    ///     query.push(ch)?;
+    /// }
+    /// ```
     #[tactic(auto, using(std::proofs::lemmas::Bool::Decides::nat_tests))]
     pub fn allows(&self, ch: char) -> bool
         ensures { result ≡ allows (set_of self.now) ch }
@@ -255,8 +288,8 @@ impl Table {
     /// 6.2.2.2; RFC 3987, section 5.3.2.3): the unreserved ones, and those past ASCII that the
     /// table allows.
     #[doc(hidden)]
-    pub fn readable(&self) -> Table
-        ensures { (c : ℕ) → allows (set_of result) c ≡ is_readable (set_of self.now) c }
+    pub fn decodable(&self) -> Table
+        ensures { (c : ℕ) → allows (set_of result) c ≡ is_decodable (set_of self.now) c }
     {
         Table {
             low: UNRESERVED.low,
@@ -268,15 +301,15 @@ impl Table {
     }
 }
 
-/// Whether each byte is ASCII and not `%`.
-fn are_plain(bytes: &[u8]) -> bool
-    ensures { result ≡ list_all is_plain_ascii bytes.now }
+/// Returns whether each byte is ASCII and not `%`.
+fn are_unencoded_ascii(bytes: &[u8]) -> bool
+    ensures { result ≡ list_all is_unencoded_ascii bytes.now }
 {
     bytes.iter().all(|&byte| byte < 128 && byte != b'%')
 }
 
-/// A character of the rule `ucschar` (RFC 3987, section 2.2).
-#[tactic(auto, using(std::proofs::lemmas::Bool::Decides::nat_tests, crate::proofs::TableSets::Ranges::ucschar_low, crate::proofs::TableSets::Ranges::ucschar_middle, crate::proofs::TableSets::Ranges::ucschar_last))]
+/// Returns whether a character is of the rule `ucschar` (RFC 3987, section 2.2).
+#[tactic(auto, using(std::proofs::lemmas::Bool::Decides::nat_tests, crate::proofs::TableSets::Ranges::ucschar_below_plane_1_is_low_ucschar, crate::proofs::TableSets::Ranges::ucschar_of_planes_1_to_13_lacks_last_two, crate::proofs::TableSets::Ranges::ucschar_from_plane_14_is_one_range))]
 fn is_ucschar(ch: char) -> bool
     ensures { result ≡ is_ucschar ch }
 {
@@ -290,8 +323,8 @@ fn is_ucschar(ch: char) -> bool
     }
 }
 
-/// A character of the rule `iprivate` (RFC 3987, section 2.2).
-#[tactic(auto, using(std::proofs::lemmas::Bool::Decides::nat_tests, crate::proofs::TableSets::Ranges::iprivate_ranges))]
+/// Returns whether a character is of the rule `iprivate` (RFC 3987, section 2.2).
+#[tactic(auto, using(std::proofs::lemmas::Bool::Decides::nat_tests, crate::proofs::TableSets::Ranges::iprivate_is_three_ranges))]
 fn is_iprivate(ch: char) -> bool
     ensures { result ≡ is_iprivate ch }
 {

@@ -3,7 +3,7 @@ ghost use Rattle.std.specs.Prelude.{◌≡◌, ◌<◌, ◌+◌, ◌++◌, lengt
 ghost use Rattle.std.specs.Char.{len_utf8};
 ghost use Rattle.std.specs.Str.{IsCharBoundary};
 
-/// The character that begins at `index`, a byte offset.
+/// Returns the character that begins at `index`, a byte offset.
 pub(crate) fn char_at(text: &str, index: usize) -> char
     requires boundary { IsCharBoundary text.now index }
     requires inside { index < length text.now }

@@ -2,8 +2,9 @@
 ghost use Rattle.std.specs.Prelude.{◌≡◌, ◌<◌, OnOk, List, [], ◌∷◌, ◌++◌, length, map};
 ghost use Rattle.uri_pct.specs.Chunks.{Chunk, Byte};
 ghost use Rattle.uri_pct.specs.Decodes.{chunk_of};
-ghost use Rattle.uri_pct.specs.Models.Windows.{held};
-ghost use Rattle.uri_pct.specs.Parts.{Part, Plain, Read, parts, parts_from, fault_pieces};
+ghost use Rattle.uri_pct.specs.Models.Windows.{window_bytes};
+ghost use Rattle.uri_pct.specs.Parts.{Part, Literal, Decoded, parts, parts_from};
+ghost use Rattle.uri_pct.specs.Parts.{ill_formed_piece_if_any};
 ghost use Rattle.uri_pct.specs.Parts.{ArePastAscii};
 ghost use Rattle.uri_pct.specs.Pieces.{WellFormed, IllFormed, utf8_pieces};
 
@@ -19,32 +20,32 @@ pub trait TakeParts {
 
     /// Takes literal text.
     fn take_unencoded(&mut self, text: &str) -> Result<(), AllocError>
-        ensures { OnOk result (took self.old (Plain text.now ∷ []) self.new) };
+        ensures { OnOk result (took self.old (Literal text.now ∷ []) self.new) };
 
     /// Takes characters past ASCII that octets decode to.
     fn take_well_formed(&mut self, text: &str) -> Result<(), AllocError>
         requires { ArePastAscii text.now }
-        ensures { OnOk result (took self.old (map Read (utf8_pieces text.now)) self.new) };
+        ensures { OnOk result (took self.old (map Decoded (utf8_pieces text.now)) self.new) };
 
     /// Takes an ASCII character that an octet decodes to.
     fn take_ascii(&mut self, byte: u8) -> Result<(), AllocError>
         requires { byte < 128 }
-        ensures { OnOk result (took self.old (map Read (utf8_pieces (byte ∷ []))) self.new) };
+        ensures { OnOk result (took self.old (map Decoded (utf8_pieces (byte ∷ []))) self.new) };
 
     /// Takes a maximal ill-formed part of a run of octets.
     fn take_ill_formed(&mut self, bytes: &[u8]) -> Result<(), AllocError>
-        ensures { OnOk result (took self.old (Read (IllFormed bytes.now) ∷ []) self.new) };
+        ensures { OnOk result (took self.old (Decoded (IllFormed bytes.now) ∷ []) self.new) };
 
-    ghost takes_nothing: { (s : Self) → took s [] s };
+    ghost takes_no_parts: { (s : Self) → took s [] s };
 
-    ghost takes_on: { (s t u : Self) (ps qs : List Part)
+    ghost takes_appended_parts: { (s t u : Self) (ps qs : List Part)
         → took s ps t → took t qs u → took s (ps ++ qs) u };
 }
 
 /// Passes characters to the taker, if there are any.
 fn take_text<T: TakeParts>(text: &str, taker: &mut T) -> Result<(), AllocError>
     requires { ArePastAscii text.now }
-    ensures { OnOk result (T.took taker.old (map Read (utf8_pieces text.now)) taker.new) }
+    ensures { OnOk result (T.took taker.old (map Decoded (utf8_pieces text.now)) taker.new) }
 {
     if text.is_empty() {
         return Ok(());
@@ -56,7 +57,8 @@ fn take_text<T: TakeParts>(text: &str, taker: &mut T) -> Result<(), AllocError>
 fn take_chunk<T: TakeParts>(text: &str, fault: &[u8], taker: &mut T) -> Result<(), AllocError>
     requires { ArePastAscii text.now }
     ensures { OnOk result
-        (T.took taker.old (map Read (utf8_pieces text.now ++ fault_pieces fault.now)) taker.new) }
+        (T.took taker.old (map Decoded (utf8_pieces text.now ++ ill_formed_piece_if_any fault.now))
+        taker.new) }
 {
     take_text(text, taker)?;
     if fault.is_empty() {
@@ -68,7 +70,7 @@ fn take_chunk<T: TakeParts>(text: &str, fault: &[u8], taker: &mut T) -> Result<(
 /// Passes the pieces of a run of octets to the taker: each text, and each ill-formed part.
 fn take_chunks<T: TakeParts>(run: &[u8], taker: &mut T) -> Result<(), AllocError>
     requires { ArePastAscii run.now }
-    ensures { OnOk result (T.took taker.old (map Read (utf8_pieces run.now)) taker.new) }
+    ensures { OnOk result (T.took taker.old (map Decoded (utf8_pieces run.now)) taker.new) }
 {
     for chunk in run.utf8_chunks() {
         take_chunk(chunk.valid(), chunk.invalid(), taker)?;
@@ -79,7 +81,7 @@ fn take_chunks<T: TakeParts>(run: &[u8], taker: &mut T) -> Result<(), AllocError
 /// Passes the pieces of a run of octets to the taker, in one call if the run is UTF-8.
 fn take_run<T: TakeParts>(run: &[u8], taker: &mut T) -> Result<(), AllocError>
     requires { ArePastAscii run.now }
-    ensures { OnOk result (T.took taker.old (map Read (utf8_pieces run.now)) taker.new) }
+    ensures { OnOk result (T.took taker.old (map Decoded (utf8_pieces run.now)) taker.new) }
 {
     match str::from_utf8(run) {
         Ok(text) => taker.take_well_formed(text),
@@ -92,12 +94,12 @@ fn take_run<T: TakeParts>(run: &[u8], taker: &mut T) -> Result<(), AllocError>
 ///
 /// A function of its own, so that an octet which has room is put into the window without a call.
 #[inline(never)]
-fn take_full<T: TakeParts>(window: &mut Window, taker: &mut T) -> Result<(), AllocError>
-    requires { length (held window.old) ≡ 32 }
-    ensures room { OnOk result (length (held window.new) < 32) }
-    ensures taken { OnOk result ((u : _) (behind : List Chunk)
-        → T.took taker.new (parts_from (held window.new) behind) u
-        → T.took taker.old (parts_from (held window.old) behind) u) }
+fn take_full_window<T: TakeParts>(window: &mut Window, taker: &mut T) -> Result<(), AllocError>
+    requires { length (window_bytes window.old) ≡ 32 }
+    ensures room { OnOk result (length (window_bytes window.new) < 32) }
+    ensures taken { OnOk result ((u : _) (suffix : List Chunk)
+        → T.took taker.new (parts_from (window_bytes window.new) suffix) u
+        → T.took taker.old (parts_from (window_bytes window.old) suffix) u) }
 {
     let bytes = window.as_slice();
     let kept = unfinished_len(bytes);
@@ -107,10 +109,10 @@ fn take_full<T: TakeParts>(window: &mut Window, taker: &mut T) -> Result<(), All
 }
 
 /// Passes what the window holds to the taker, and empties the window.
-fn take_held<T: TakeParts>(window: &mut Window, taker: &mut T) -> Result<(), AllocError>
-    ensures emptied { OnOk result (held window.new ≡ []) }
+fn take_window<T: TakeParts>(window: &mut Window, taker: &mut T) -> Result<(), AllocError>
+    ensures emptied { OnOk result (window_bytes window.new ≡ []) }
     ensures taken { OnOk result
-        (T.took taker.old (map Read (utf8_pieces (held window.old))) taker.new) }
+        (T.took taker.old (map Decoded (utf8_pieces (window_bytes window.old))) taker.new) }
 {
     if window.is_empty() {
         return Ok(());
@@ -123,16 +125,16 @@ fn take_held<T: TakeParts>(window: &mut Window, taker: &mut T) -> Result<(), All
 /// Takes an octet: an ASCII one ends the run, since it is a character by itself, and any other goes
 /// to the window.
 fn take_octet<T: TakeParts>(byte: u8, window: &mut Window, taker: &mut T) -> Result<(), AllocError>
-    ensures { OnOk result ((u : _) (behind : List Chunk)
-        → T.took taker.new (parts_from (held window.new) behind) u
-        → T.took taker.old (parts_from (held window.old) (Byte byte ∷ behind)) u) }
+    ensures { OnOk result ((u : _) (suffix : List Chunk)
+        → T.took taker.new (parts_from (window_bytes window.new) suffix) u
+        → T.took taker.old (parts_from (window_bytes window.old) (Byte byte ∷ suffix)) u) }
 {
     if byte.is_ascii() {
-        take_held(window, taker)?;
+        take_window(window, taker)?;
         return taker.take_ascii(byte);
     }
     if window.is_full() {
-        take_full(window, taker)?;
+        take_full_window(window, taker)?;
     }
     window.push(byte);
     Ok(())
@@ -141,18 +143,19 @@ fn take_octet<T: TakeParts>(byte: u8, window: &mut Window, taker: &mut T) -> Res
 /// Takes a chunk: an octet, or text, which ends the run.
 ///
 /// If a taker then takes the remaining parts, it has taken those of the chunk too.
-fn take_decoded<T: TakeParts>(
+fn take_decoded_chunk<T: TakeParts>(
     chunk: DecodedChunk<'_>,
     window: &mut Window,
     taker: &mut T,
 ) -> Result<(), AllocError>
-    ensures { OnOk result ((u : _) (behind : List Chunk)
-        → T.took taker.new (parts_from (held window.new) behind) u
-        → T.took taker.old (parts_from (held window.old) (chunk_of chunk.entry ∷ behind)) u) }
+    ensures { OnOk result ((u : _) (suffix : List Chunk)
+        → T.took taker.new (parts_from (window_bytes window.new) suffix) u
+        → T.took taker.old (parts_from (window_bytes window.old) (chunk_of chunk.entry
+        ∷ suffix)) u) }
 {
     match chunk {
         DecodedChunk::Unencoded(text) => {
-            take_held(window, taker)?;
+            take_window(window, taker)?;
             taker.take_unencoded(text)
         }
         DecodedChunk::PctDecoded(byte) => take_octet(byte, window, taker),
@@ -169,8 +172,8 @@ impl<'a> Decode<'a> {
     {
         let mut window = Window::new();
         for chunk in self {
-            take_decoded(chunk, &mut window, taker)?;
+            take_decoded_chunk(chunk, &mut window, taker)?;
         }
-        take_held(&mut window, taker)
+        take_window(&mut window, taker)
     }
 }

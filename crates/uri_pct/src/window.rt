@@ -1,7 +1,7 @@
 //! The window through which a run of octets past ASCII is decoded.
 ghost use Rattle.std.specs.Prelude.{◌≡◌, ◌-◌, ◌<◌, ◌≤◌, ◌==◌, [], ◌∷◌, ◌++◌, length, take, drop};
 ghost use Rattle.uri_pct.specs.Parts.{ArePastAscii};
-ghost use Rattle.uri_pct.specs.Models.Unfinished.{called_for, unfinished_len};
+ghost use Rattle.uri_pct.specs.Models.Unfinished.{following_byte_count, unfinished_len};
 
 /// How many bytes a window holds at most.
 const WIDTH: usize = 32;
@@ -16,11 +16,11 @@ pub(crate) struct Window {
 }
 
 impl Window {
-    ghost use Rattle.uri_pct.specs.Models.Windows.{held};
+    ghost use Rattle.uri_pct.specs.Models.Windows.{window_bytes};
 
-    /// A window that holds nothing.
+    /// Returns a window of octets that holds none.
     pub(crate) fn new() -> Window
-        ensures { held result ≡ [] }
+        ensures { window_bytes result ≡ [] }
     {
         Window {
             bytes: [0; WIDTH],
@@ -28,58 +28,60 @@ impl Window {
         }
     }
 
-    /// The bytes that it holds.
+    /// Returns the bytes that the window holds.
     pub(crate) fn as_slice(&self) -> &[u8]
-        ensures value { result.now ≡ held self.now }
+        ensures value { result.now ≡ window_bytes self.now }
         ensures past_ascii { ArePastAscii result.now }
     {
         &self.bytes[..self.len]
     }
 
-    /// Whether it holds nothing.
+    /// Returns whether the window holds nothing.
     pub(crate) fn is_empty(&self) -> bool
-        ensures { result ≡ (length (held self.now) == 0) }
+        ensures { result ≡ (length (window_bytes self.now) == 0) }
     {
         self.len == 0
     }
 
-    /// Whether it holds as many bytes as it may.
+    /// Returns whether the window holds as many bytes as it may.
     pub(crate) fn is_full(&self) -> bool
-        ensures { result ≡ (length (held self.now) == 32) }
+        ensures { result ≡ (length (window_bytes self.now) == 32) }
     {
         self.len == WIDTH
     }
 
-    /// Puts a byte after those that it holds.
+    /// Puts a byte after those that the window holds.
     pub(crate) fn push(&mut self, byte: u8)
-        requires room { length (held self.old) < 32 }
+        requires room { length (window_bytes self.old) < 32 }
         requires past_ascii { 128 ≤ byte }
-        ensures { held self.new ≡ held self.old ++ byte ∷ [] }
+        ensures { window_bytes self.new ≡ window_bytes self.old ++ byte ∷ [] }
     {
         self.bytes[self.len] = byte;
         self.len += 1;
     }
 
-    /// Keeps so many bytes, the last ones.
+    /// Keeps so many of the bytes that the window holds, the last ones.
     pub(crate) fn keep_last(&mut self, kept: usize)
-        requires { kept ≤ length (held self.old) }
-        ensures { held self.new ≡ drop (length (held self.old) - kept) (held self.old) }
+        requires { kept ≤ length (window_bytes self.old) }
+        ensures { window_bytes self.new
+            ≡ drop (length (window_bytes self.old) - kept) (window_bytes self.old) }
     {
         self.bytes.copy_within(self.len - kept..self.len, 0);
         self.len = kept;
     }
 
-    /// Holds nothing from now on.
+    /// Empties the window.
     pub(crate) fn clear(&mut self)
-        ensures { held self.new ≡ [] }
+        ensures { window_bytes self.new ≡ [] }
     {
         self.len = 0;
     }
 }
 
-/// How many bytes follow the first one of a character; none follow what begins no character.
-fn called_for(first: u8) -> usize
-    ensures { result ≡ called_for first }
+/// Returns how many bytes follow the first one of a character; none follow what begins no
+/// character.
+fn following_byte_count(first: u8) -> usize
+    ensures { result ≡ following_byte_count first }
 {
     match first {
         0xC2..=0xDF => 1,
@@ -89,18 +91,18 @@ fn called_for(first: u8) -> usize
     }
 }
 
-/// How many bytes at the end begin a character that calls for more of them.
+/// Returns how many bytes at the end begin a character that calls for more of them.
 pub(crate) fn unfinished_len(bytes: &[u8]) -> usize
     requires { 3 ≤ length bytes.now }
     ensures value { result ≡ unfinished_len bytes.now }
     ensures few { result ≤ 3 }
 {
     let len = bytes.len();
-    if called_for(bytes[len - 3]) > 2 {
+    if following_byte_count(bytes[len - 3]) > 2 {
         3
-    } else if called_for(bytes[len - 2]) > 1 {
+    } else if following_byte_count(bytes[len - 2]) > 1 {
         2
-    } else if called_for(bytes[len - 1]) > 0 {
+    } else if following_byte_count(bytes[len - 1]) > 0 {
         1
     } else {
         0

@@ -1,27 +1,29 @@
--- Where the components are of what stands behind a scheme, and of a query and a fragment.
+-- The positions of the components after a scheme, and of a query and a fragment.
 use Rattle.std.proofs.Common.{◌≡◌, ℕ, ◌+◌, ◌-◌, ◌≤◌, List, [], length, refl, sym, ap, ◌∙◌}
 use Rattle.std.proofs.Common.{arith, length-append, option_map, subst}
-use Rattle.std.specs.Prelude.{codes, true, false, is_some, Option, Some, None, IfSome}
+use Rattle.std.specs.Prelude.{codes, true, false, is_some, Option, Some, None}
 use Rattle.std.proofs.lemmas.Bool.{false≢true}
 use Rattle.std.proofs.lemmas.Option.{none-some, same_Some}
 use Rattle.uri_parts.specs.declared.positions.AuthorityPositions.{AuthorityPositions}
 use Rattle.uri_parts.specs.declared.positions.Positions.{Positions}
 use Rattle.uri_parts.specs.Components.{Components, marked}
-use Rattle.uri_parts.specs.Positions.{authority_at, host_end_of, host_start_of, marked_length}
+use Rattle.uri_parts.specs.Positions.{authority_at, host_end_of, host_start_of, delimited_length}
 use Rattle.uri_parts.specs.Positions.{positions_of}
 
 -- an authority's positions, where so many bytes are before its `//`
-pub record IsFrom (n : ℕ) (places : AuthorityPositions) : Type 0 where
+pub record AuthorityBeginsAfter (n : ℕ) (places : AuthorityPositions) : Type 0 where
   pub start : n ≤ places.start
   pub host_start : n ≤ places.host_start
   pub host_end : n ≤ places.host_end
   pub end : n ≤ places.end
 
-pub is_from : (n : ℕ) (authority : Option (List ℕ)) (places : AuthorityPositions)
-    → Some places ≡ option_map (authority_at (n + 2)) authority → IsFrom n places
-is_from n None places e = absurd (none-some places (sym e))
-is_from n (Some a) places e =
-    subst (IsFrom n) (sym (same_Some _ _ e))
+-- references to a target: positions of an authority after a scheme of n bytes begin after its `//`
+pub authority-begins-after-scheme : (n : ℕ) (authority : Option (List ℕ))
+    (places : AuthorityPositions)
+    → Some places ≡ option_map (authority_at (n + 2)) authority → AuthorityBeginsAfter n places
+authority-begins-after-scheme n None places e = absurd (none-some places (sym e))
+authority-begins-after-scheme n (Some a) places e =
+    subst (AuthorityBeginsAfter n) (sym (same_Some _ _ e))
     (record {
       start = omega arith;
       host_start = omega arith;
@@ -29,14 +31,17 @@ is_from n (Some a) places e =
       end = omega arith;
     })
 
--- and without them
-pub moved_back : (n : ℕ) (authority : Option (List ℕ)) (places moved : AuthorityPositions)
+-- references to a target: the positions of an authority, moved back by n, are those in a text
+-- without the bytes before its `//`
+pub authority-positions-without-scheme : (n : ℕ) (authority : Option (List ℕ))
+    (places moved : AuthorityPositions)
     → Some places ≡ option_map (authority_at (n + 2)) authority
     → moved.start ≡ places.start - n → moved.host_start ≡ places.host_start - n
     → moved.host_end ≡ places.host_end - n → moved.end ≡ places.end - n
     → Some moved ≡ option_map (authority_at 2) authority
-moved_back n None places moved e start host_start host_end end = absurd (none-some places (sym e))
-moved_back n (Some a) places moved e start host_start host_end end =
+authority-positions-without-scheme n None places moved e start host_start host_end end = absurd
+    (none-some places (sym e))
+authority-positions-without-scheme n (Some a) places moved e start host_start host_end end =
     let f = same_Some _ _ e in
     let a0 : moved.start ≡ 2 = omega
     (arith, start, ap (λ (q : AuthorityPositions). q.start) f) in
@@ -48,48 +53,60 @@ moved_back n (Some a) places moved e start host_start host_end end =
     (arith, end, ap (λ (q : AuthorityPositions). q.end) f) in
     λ i. Some (record { start = a0 i; host_start = a1 i; host_end = a2 i; end = a3 i })
 
-pub authority_placed : (t : Components) (p : Positions) (n : ℕ) (places : AuthorityPositions)
-    → p ≡ positions_of t → n ≡ marked_length 1 t.scheme → p.authority ≡ Some places
+-- references to a target: an authority begins n + 2 bytes into
+-- a text with a scheme of n bytes (with its `:`)
+pub authority-positions-of-components : (t : Components) (p : Positions) (n : ℕ)
+    (places : AuthorityPositions)
+    → p ≡ positions_of t → n ≡ delimited_length 1 t.scheme → p.authority ≡ Some places
     → Some places ≡ option_map (authority_at (n + 2)) t.authority
-authority_placed t p n places at m e =
+authority-positions-of-components t p n places at m e =
     sym e ∙ ap (λ (q : Positions). q.authority) at
     ∙ ap (λ k. option_map (authority_at (k + 2)) t.authority) (sym m)
 
-unplaced : (n m : ℕ) (authority : Option (List ℕ)) → None ≡ option_map (authority_at n) authority
+-- references to a target: without an authority there are no positions of one, wherever it would be
+absent-authority-has-no-positions : (n m : ℕ) (authority : Option (List ℕ)) → None
+    ≡ option_map (authority_at n) authority
     → None ≡ option_map (authority_at m) authority
-unplaced n m None e = refl
-unplaced n m (Some a) e = absurd (none-some (authority_at n a) e)
+absent-authority-has-no-positions n m None e = refl
+absent-authority-has-no-positions n m (Some a) e = absurd (none-some (authority_at n a) e)
 
-pub no_authority : (t : Components) (p : Positions) → p ≡ positions_of t → p.authority ≡ None
+-- references to a target: without positions of an authority there is none
+pub no-authority-positions-no-authority : (t : Components) (p : Positions) → p ≡ positions_of t
+    → p.authority ≡ None
     → None ≡ option_map (authority_at 2) t.authority
-no_authority t p at e =
-    unplaced (marked_length 1 t.scheme + 2) 2 t.authority
+no-authority-positions-no-authority t p at e =
+    absent-authority-has-no-positions (delimited_length 1 t.scheme + 2) 2 t.authority
     (sym e ∙ ap (λ (q : Positions). q.authority) at)
 
--- a position behind a scheme
-pub scheme_marked : (t : Components) (p : Positions) (end : ℕ) → p ≡ positions_of t
-    → p.scheme_end ≡ Some end → end + 1 ≡ marked_length 1 t.scheme
-scheme_marked t p end at e =
+-- references to a target: the position after a scheme and its `:`
+pub scheme-end-is-scheme-length : (t : Components) (p : Positions) (end : ℕ) → p ≡ positions_of t
+    → p.scheme_end ≡ Some end → end + 1 ≡ delimited_length 1 t.scheme
+scheme-end-is-scheme-length t p end at e =
     marked_at t.scheme (sym e ∙ ap (λ (q : Positions). q.scheme_end) at)
   where
     marked_at : (scheme : Option (List ℕ)) → Some end ≡ option_map length scheme
-        → end + 1 ≡ marked_length 1 scheme
+        → end + 1 ≡ delimited_length 1 scheme
     marked_at None f = absurd (none-some end (sym f))
     marked_at (Some s) f = omega (arith, same_Some _ _ f)
 
-unschemed : (scheme : Option (List ℕ)) → None ≡ option_map length scheme → None ≡ scheme
-unschemed None e = refl
-unschemed (Some s) e = absurd (none-some (length s) e)
+-- references to a target: without an end of a scheme there is none
+absent-scheme-end-means-no-scheme : (scheme : Option (List ℕ)) → None ≡ option_map length scheme
+    → None ≡ scheme
+absent-scheme-end-means-no-scheme None e = refl
+absent-scheme-end-means-no-scheme (Some s) e = absurd (none-some (length s) e)
 
-pub without_scheme : (t : Components) (p : Positions) → p ≡ positions_of t
+-- references to a target: without a scheme, the positions are as they are
+pub positions-of-text-without-scheme-stay : (t : Components) (p : Positions) → p ≡ positions_of t
     → p.scheme_end ≡ None → p ≡ positions_of (record t { scheme = None })
-without_scheme t p at e =
+positions-of-text-without-scheme-stay t p at e =
     at ∙ sym (ap (λ s. let c : Components = record t { scheme = s } in positions_of c)
-    (unschemed t.scheme (sym e ∙ ap (λ (q : Positions). q.scheme_end) at)))
+    (absent-scheme-end-means-no-scheme t.scheme (sym e ∙ ap (λ (q : Positions). q.scheme_end) at)))
 
-pub after_scheme_at : (t : Components) (p : Positions) (n : ℕ)
+-- references to a target: leaving out a scheme of n bytes moves
+-- the positions n bytes back; start, end: of the path
+pub positions-without-scheme : (t : Components) (p : Positions) (n : ℕ)
     (authority : Option AuthorityPositions) (start end : ℕ) (query : Option ℕ)
-    → p ≡ positions_of t → n ≡ marked_length 1 t.scheme
+    → p ≡ positions_of t → n ≡ delimited_length 1 t.scheme
     → authority ≡ option_map (authority_at 2) t.authority → start ≡ p.path_start - n
     → end ≡ p.path_end - n → query ≡ option_map (λ q. q - n) p.query_end
     → (let q : Positions = record {
@@ -99,7 +116,7 @@ pub after_scheme_at : (t : Components) (p : Positions) (n : ℕ)
       path_end = end;
       query_end = query;
     } in q) ≡ positions_of (record t { scheme = None })
-after_scheme_at t p n authority start end query at m a s e q =
+positions-without-scheme t p n authority start end query at m a s e q =
     let u : Components = record t { scheme = None } in
     let s0 : start ≡ (positions_of u).path_start = omega
     (arith, m, s, ap (λ (q : Positions). q.path_start) at) in
@@ -124,13 +141,14 @@ after_scheme_at t p n authority start end query at m a s e q =
     query_back None = refl
     query_back (Some q) = ap Some (omega (arith, m))
 
--- how long a query is with its mark
-pub query_marked : (n : ℕ) (query : Option (List ℕ)) → is_some query ≡ true
+-- references to a target: a query after n bytes ends at n, its `?` and its length
+pub query-end-by-length : (n : ℕ) (query : Option (List ℕ)) → is_some query ≡ true
     → Some (n + length (marked (codes "?") query [])) ≡ option_map (λ q. n + 1 + length q) query
-query_marked n None e = absurd (false≢true e)
-query_marked n (Some q) e = ap Some (omega (arith, length-append q []))
+query-end-by-length n None e = absurd (false≢true e)
+query-end-by-length n (Some q) e = ap Some (omega (arith, length-append q []))
 
-pub query_absent : (n : ℕ) (query : Option (List ℕ)) → is_some query ≡ false
+-- references to a target: without a query there is no end of one
+pub no-query-no-query-end : (n : ℕ) (query : Option (List ℕ)) → is_some query ≡ false
     → None ≡ option_map (λ q. n + 1 + length q) query
-query_absent n None e = refl
-query_absent n (Some q) e = absurd (false≢true (sym e))
+no-query-no-query-end n None e = refl
+no-query-no-query-end n (Some q) e = absurd (false≢true (sym e))

@@ -5,174 +5,218 @@ use Rattle.std.specs.Prelude.{Ok, is_some}
 use Rattle.std.specs.Str.{IsUtf8}
 use Rattle.std.proofs.lemmas.Bool.{and_from, and_parts, cond-false, cond-true}
 use Rattle.uri_parts.specs.Components.{Components, IsSplitOf, components, recompose}
-use Rattle.uri_parts.specs.Grammar.{Kind, IsOfKind, are_components, has_colon_first}
-use Rattle.uri_parts.proofs.Splitting.Recompose.{IsSplitOf-components, recompose-components}
-use Rattle.uri_parts.proofs.Splitting.Splits.{components-recompose}
-use Rattle.uri_ops.specs.NormalTargets.{reference_kind}
+use Rattle.uri_parts.specs.Grammar.{Kind, IsOfKind, components_meet_rules}
+use Rattle.uri_parts.specs.Grammar.{has_colon_in_first_segment}
+use Rattle.uri_parts.proofs.Splitting.Recompose.{components-are-split-of-text, recompose-components}
+use Rattle.uri_parts.proofs.Splitting.Splits.{only-split-is-components}
 use Rattle.uri_ops.specs.ComponentSets.{HasComponentSets}
-use Rattle.uri_ops.specs.Resolving.{finished}
-use Rattle.uri_ops.specs.Target.{cleaned_path, is_fragment_only, is_opaque, joined, resolution_of}
+use Rattle.uri_ops.specs.Resolving.{with_final_path}
+use Rattle.uri_ops.specs.Target.{dotless_if_absolute, is_fragment_only, is_opaque, dotted_target}
+use Rattle.uri_ops.specs.Target.{resolution_of}
 use Rattle.uri_ops.specs.Target.{target_of}
-use Rattle.uri_ops.proofs.Meanings.AllowedParts.{part_from, part_valid}
-use Rattle.uri_ops.proofs.Meanings.TextParts.{components_utf8}
-use Rattle.uri_ops.proofs.Paths.PathMeanings.{part_cleaned, part_guarded}
-use Rattle.uri_ops.proofs.Targeting.Targets.{target_components}
+use Rattle.uri_ops.proofs.Meanings.AllowedParts.{set-text-from-utf8, set-text-is-valid}
+use Rattle.uri_ops.proofs.Meanings.TextParts.{components-of-utf8-are-utf8}
+use Rattle.uri_ops.proofs.Paths.PathMeanings.{path-without-dots-is-set-text}
+use Rattle.uri_ops.proofs.Paths.PathMeanings.{guarded-set-text-is-set-text}
+use Rattle.uri_ops.proofs.Targeting.Targets.{target-text-has-target-components}
 use Rattle.uri_relative.specs.Forms.{IsReferenceTo}
-use Rattle.uri_relative.specs.Leading.{ComesBack, IsNoLonger, IsRelativeTo, LeadsTo, bare}
+use Rattle.uri_relative.specs.Leading.{LeadsBackToTarget, IsNoLonger, IsRelativeTo, LeadsTo}
+use Rattle.uri_relative.specs.Leading.{without_fragment}
 use Rattle.uri_relative.specs.Leading.{settled}
-use Rattle.uri_relative.proofs.Forms.{IsTargetOf, rules_of}
-use Rattle.uri_relative.proofs.Returning.{comes_back}
-use Rattle.uri_relative.proofs.Settled.{finished_twice, none_and}
-use Rattle.uri_relative.proofs.Shrinking.{settled_length}
+use Rattle.uri_relative.proofs.Forms.{IsDotlessTargetOf, components-of-kind-meet-rules}
+use Rattle.uri_relative.proofs.Returning.{reference-leads-back-to-resolved-target}
+use Rattle.uri_relative.proofs.Settled.{final-path-is-idempotent, and-false-is-false}
+use Rattle.uri_relative.proofs.Shrinking.{settled-text-is-no-longer}
 
--- a text of a kind that needs a scheme has one
+-- general fact on booleans, for the rule on schemes: where one is needed it is there
 needs : (scheme : Bool) (needed : Bool) (other : Bool) → needed ≡ true
     → (scheme || (not needed && other)) ≡ true → scheme ≡ true
 needs true needed other e h = refl
 needs false true other e h = h
 needs false false other e h = e
 
-pub scheme_of : (kind : Kind) (text : List ℕ) → kind.needs_scheme ≡ true → IsOfKind kind text
+-- references to a target: a text of a kind that needs a scheme has one
+pub kind-needs-scheme : (kind : Kind) (text : List ℕ) → kind.needs_scheme ≡ true
+    → IsOfKind kind text
     → is_some (components text).scheme ≡ true
-scheme_of kind text e h =
+kind-needs-scheme kind text e h =
     needs (is_some (components text).scheme) kind.needs_scheme _ e (and_parts _ _ h).1
 
-pub target_of_text : (kind : Kind) (text : List ℕ) → kind.needs_scheme ≡ true → IsOfKind kind text
-    → finished (components text) ≡ components text → IsTargetOf kind (components text)
-target_of_text kind text e h done = record {
+-- references to a target: a text of a kind with a scheme is a possible target,
+-- if it has no dot segments left to remove
+pub dotless-text-is-target : (kind : Kind) (text : List ℕ) → kind.needs_scheme ≡ true
+    → IsOfKind kind text
+    → with_final_path (components text) ≡ components text → IsDotlessTargetOf kind (components text)
+dotless-text-is-target kind text e h done = record {
   split = subst (λ t. IsSplitOf t (components text)) (sym (recompose-components text))
-      (IsSplitOf-components text);
+      (components-are-split-of-text text);
   meets = h;
-  scheme = scheme_of kind text e h;
+  scheme = kind-needs-scheme kind text e h;
   settled = done;
 }
 
--- the text of a reference has its components, and is of the kind
-pub reference_parts : (kind : Kind) (prefers : Bool) (base target r : Components)
+-- references to a target: the text that is written of one has its components
+pub components-of-reference-text : (kind : Kind) (prefers : Bool) (base target r : Components)
     → IsReferenceTo kind prefers base target r → components (recompose r) ≡ r
-reference_parts kind prefers base target r w = components-recompose (recompose r) r w.split
+components-of-reference-text kind prefers base target r w = only-split-is-components
+    (recompose r) r w.split
 
--- what it resolves to
+-- references to a target: one that is not rejected resolves to the text of its target
 resolves : (base r : Components) (t : Components) → target_of base r ≡ t
     → (is_opaque base && not (is_some r.scheme || is_fragment_only r)) ≡ false
-    → resolution_of (bare base) r ≡ Ok (recompose t)
+    → resolution_of (without_fragment base) r ≡ Ok (recompose t)
 resolves base r t e f = cond-false _ _ _ f ∙ ap (λ c. Ok (recompose c)) e
 
+-- references to a target: a target with a scheme resolves to itself,
+-- without dot segments, against any base
 itself : (base t : Components) → is_some t.scheme ≡ true
-    → resolution_of (bare base) t ≡ Ok (recompose (finished t))
+    → resolution_of (without_fragment base) t ≡ Ok (recompose (with_final_path t))
 itself base t e =
-    resolves base t (finished t)
-    (let j : joined base t ≡ t = cond-true _ _ _ e in ap finished j)
-    (ap (λ b. is_opaque base && not (b || is_fragment_only t)) e ∙ none_and (is_opaque base))
+    resolves base t (with_final_path t)
+    (let j : dotted_target base t ≡ t = cond-true _ _ _ e in ap with_final_path j)
+    (ap (λ b. is_opaque base && not (b || is_fragment_only t)) e
+    ∙ and-false-is-false (is_opaque base))
 
-leads_to : (kind : Kind) (prefers : Bool) (base target reference : List ℕ)
+-- references to a target: the text of one leads to the target that its components lead to
+reference-text-leads-to-target : (kind : Kind) (prefers : Bool) (base target reference : List ℕ)
     → is_some (components target).scheme ≡ true
     → IsReferenceTo kind prefers (components base) (settled target) (components reference)
     → LeadsTo base target reference
-leads_to kind prefers base target reference e w = record {
+reference-text-leads-to-target kind prefers base target reference e w = record {
   leads = resolves (components base) (components reference) (settled target) w.leads w.taken;
   itself = itself (components base) (components target) e;
   below = w.below;
 }
 
-pub pushed_after : (old mid new way tail tail' : List ℕ) → mid ≡ old ++ way → new ≡ mid ++ tail
+-- references to a target: a path and then its query and fragment are appended; old, mid, new: the
+-- text before, between and after
+pub pushed-path-and-tail-are-appended : (old mid new way tail tail' : List ℕ) → mid ≡ old ++ way
+    → new ≡ mid ++ tail
     → tail ≡ tail' → new ≡ old ++ (way ++ tail')
-pushed_after old mid new way tail tail' e f h =
+pushed-path-and-tail-are-appended old mid new way tail tail' e f h =
     f ∙ ap (λ t. t ++ tail) e ∙ append_assoc old way tail ∙ ap (λ t. old ++ (way ++ t)) h
 
--- the target as it resolves itself
-target_itself : (base t : Components) → is_some t.scheme ≡ true → target_of base t ≡ finished t
-target_itself base t e = let j : joined base t ≡ t = cond-true _ _ _ e in ap finished j
+-- targets: one with a scheme, as a reference, has itself as its target, without dot segments
+target_of-whole-target-is-final : (base t : Components) → is_some t.scheme ≡ true → target_of base t
+    ≡ with_final_path t
+target_of-whole-target-is-final base t e = let j : dotted_target base t
+    ≡ t = cond-true _ _ _ e in ap with_final_path j
 
-pub settled_components : (text : List ℕ) → is_some (components text).scheme ≡ true
+-- references to a target: the text of a target without removable
+-- dot segments has that target's components
+pub settled-text-has-settled-components : (text : List ℕ) → is_some (components text).scheme ≡ true
     → components (recompose (settled text)) ≡ settled text
-settled_components text some =
+settled-text-has-settled-components text some =
     let c = components text in
-    let t = target_itself c c some in
-    sym (ap (λ x. components (recompose x)) t) ∙ target_components text text some ∙ t
+    let t = target_of-whole-target-is-final c c some in
+    sym (ap (λ x. components (recompose x)) t) ∙ target-text-has-target-components text text some
+    ∙ t
 
-pub settled_as : (text made : List ℕ) → is_some (components text).scheme ≡ true
+-- references to a target: a text made as the target without
+-- removable dot segments has that target's components
+pub components-of-settled-text : (text made : List ℕ) → is_some (components text).scheme ≡ true
     → made ≡ recompose (settled text) → components made ≡ settled text
-settled_as text made some e = ap components e ∙ settled_components text some
+components-of-settled-text text made some e = ap components e
+    ∙ settled-text-has-settled-components text some
 
-pub settled_again : (text made : List ℕ) → is_some (components text).scheme ≡ true
-    → made ≡ recompose (settled text) → finished (components made) ≡ components made
-settled_again text made some e =
-    let same = settled_as text made some e in
-    ap finished same ∙ finished_twice (components text) ∙ sym same
+-- references to a target: a text made as the target without
+-- removable dot segments has none left to remove
+pub settled-text-stays-settled : (text made : List ℕ) → is_some (components text).scheme ≡ true
+    → made ≡ recompose (settled text) → with_final_path (components made) ≡ components made
+settled-text-stays-settled text made some e =
+    let same = components-of-settled-text text made some e in
+    ap with_final_path same ∙ final-path-is-idempotent (components text) ∙ sym same
 
--- and of the kind
-pub settled_of_kind : (kind : Kind) (text : List ℕ) → HasComponentSets kind
+-- targets: the text of one without removable dot segments is of the kind
+pub settled-text-is-of-kind : (kind : Kind) (text : List ℕ) → HasComponentSets kind
     → kind.needs_scheme ≡ true → IsUtf8 text → IsOfKind kind text
     → IsOfKind kind (recompose (settled text))
-settled_of_kind kind text sets e utf8 h =
+settled-text-is-of-kind kind text sets e utf8 h =
     let c = components text in
-    let some = scheme_of kind text e h in
-    let m = rules_of kind c h in
-    let path = part_guarded kind.path sets.path sets.slash c.authority (cleaned_path c.path)
-    (part_cleaned kind.path sets.path sets.slash c.path
-    (part_from kind.path c.path (components_utf8 text utf8).path m.path)) in
-    subst (λ x. are_components kind x ≡ true) (sym (settled_components text some))
+    let some = kind-needs-scheme kind text e h in
+    let m = components-of-kind-meet-rules kind c h in
+    let path = guarded-set-text-is-set-text kind.path sets.path sets.slash c.authority
+    (dotless_if_absolute c.path)
+    (path-without-dots-is-set-text kind.path sets.path sets.slash c.path
+    (set-text-from-utf8 kind.path c.path (components-of-utf8-are-utf8 text utf8).path m.path)) in
+    subst (λ x. components_meet_rules kind x ≡ true)
+    (sym (settled-text-has-settled-components text some))
     (and_from _ _ (and_from _ _ (and_from _ _ (and_from _ _
-    (and_from _ _ m.scheme m.authority) (part_valid kind.path _ path)) m.query) m.fragment)
+    (and_from _ _ m.scheme m.authority) (set-text-is-valid kind.path _ path)) m.query) m.fragment)
     (ap (λ b. b || (not kind.needs_scheme && (is_some c.authority
-    || not (has_colon_first (settled text).path)))) some))
+    || not (has_colon_in_first_segment (settled text).path)))) some))
 
--- the text, piece by piece
-pub pieces_joined : (scheme authority path rest old : List ℕ) (o0 o1 o2 o3 : List ℕ) → o0 ≡ []
+-- references to a target: the text of four pieces that were appended one after the other;
+-- o0 to o3: the text between them
+pub pushed-pieces-are-text : (scheme authority path rest old : List ℕ) (o0 o1 o2 o3 : List ℕ) → o0
+    ≡ []
     → o1 ≡ o0 ++ (scheme ++ authority) → o2 ≡ o1 ++ path → o3 ≡ o2 ++ rest
     → o3 ≡ scheme ++ (authority ++ (path ++ rest))
-pieces_joined scheme authority path rest old o0 o1 o2 o3 e f g h =
+pushed-pieces-are-text scheme authority path rest old o0 o1 o2 o3 e f g h =
     h ∙ ap (λ t. t ++ rest) (g ∙ ap (λ t. t ++ path) (f ∙ ap (λ t. t ++ (scheme ++ authority)) e))
     ∙ append_assoc (scheme ++ authority) path rest ∙ append_assoc scheme authority (path ++ rest)
 
--- what is made of the text of a reference
-pub made_reference : (kind : Kind) (prefers : Bool) (base target r : Components)
+-- references to a target: the text that is made is one, if it is the text of one's components
+pub reference-text-is-reference : (kind : Kind) (prefers : Bool) (base target r : Components)
     (made text : List ℕ) → IsReferenceTo kind prefers base target r → text ≡ recompose r
     → made ≡ text → IsReferenceTo kind prefers base target (components made)
-made_reference kind prefers base target r made text w e f =
+reference-text-is-reference kind prefers base target r made text w e f =
     subst (IsReferenceTo kind prefers base target)
-    (sym (ap components (f ∙ e) ∙ reference_parts kind prefers base target r w)) w
+    (sym (ap components (f ∙ e) ∙ components-of-reference-text kind prefers base target r w)) w
 
--- what a caller is told
-pub leads_as : (kind : Kind) (prefers : Bool) (base target made base' target' made' : List ℕ)
+-- references to a target: the reference made leads to the target;
+-- primed texts are those of the call's clause
+pub reference-leads-to-target : (kind : Kind) (prefers : Bool)
+    (base target made base' target' made' : List ℕ)
     → kind.needs_scheme ≡ true → IsOfKind kind target → base ≡ base' → target ≡ target'
     → made' ≡ made
     → IsReferenceTo kind prefers (components base) (settled target) (components made)
     → LeadsTo base' target' made'
-leads_as kind prefers base target made base' target' made' needs of_kind e f h w =
+reference-leads-to-target kind prefers base target made base' target' made' needs of_kind e f h w =
     subst (λ x. LeadsTo x target' made') e (subst (λ x. LeadsTo base x made') f
     (subst (LeadsTo base target) (sym h)
-    (leads_to kind prefers base target made (scheme_of kind target needs of_kind) w)))
+    (reference-text-leads-to-target kind prefers base target made
+    (kind-needs-scheme kind target needs of_kind) w)))
 
-pub back_as : (kind : Kind) (prefers : Bool) (base target made base' target' made' : List ℕ)
+-- if the target is what some reference resolves to against the base, so does the reference made;
+-- primed texts are those of the call's clause
+pub reference-leads-back-to-target : (kind : Kind) (prefers : Bool)
+    (base target made base' target' made' : List ℕ)
     → kind.needs_scheme ≡ true → IsOfKind kind base → IsOfKind kind target → base ≡ base'
     → target ≡ target' → made' ≡ made
     → IsReferenceTo kind prefers (components base) (settled target) (components made)
-    → ComesBack base' target' made'
-back_as kind prefers base target made base' target' made' needs of_base of_kind e f h w =
-    λ reference resolves. comes_back base' reference target' made'
-    (subst (λ x. is_some (components x).scheme ≡ true) e (scheme_of kind base needs of_base))
+    → LeadsBackToTarget base' target' made'
+reference-leads-back-to-target kind prefers base target made base' target' made' needs of_base
+    of_kind e f h w =
+    λ reference resolves. reference-leads-back-to-resolved-target base' reference target' made'
+    (subst (λ x. is_some (components x).scheme ≡ true) e
+    (kind-needs-scheme kind base needs of_base))
     resolves
-    (leads_as kind prefers base target made base' target' made' needs of_kind e f h w)
+    (reference-leads-to-target kind prefers base target made base' target' made' needs
+    of_kind e f h w)
 
-pub no_longer_as : (kind : Kind) (prefers : Bool) (base : Components)
+-- references to a target: the reference made is no longer than the target, if relative ones are not
+-- preferred; primed texts are those of the call's clause
+pub reference-is-no-longer-than-target : (kind : Kind) (prefers : Bool) (base : Components)
     (target made target' made' : List ℕ) → prefers ≡ false → target ≡ target' → made' ≡ made
     → IsReferenceTo kind prefers base (settled target) (components made)
     → IsNoLonger target' made'
-no_longer_as kind prefers base target made target' made' e f h w =
+reference-is-no-longer-than-target kind prefers base target made target' made' e f h w =
     subst (λ x. IsNoLonger x made') f (subst (IsNoLonger target) (sym h)
     (record {
       than_settled = subst (λ x. length x ≤ length (recompose (settled target)))
           (recompose-components made) (w.short e);
-      than_given = settled_length target;
+      than_given = settled-text-is-no-longer target;
     }))
 
-pub relative_as : (kind : Kind) (prefers : Bool) (base target made base' target' made' : List ℕ)
+-- references to a target: the reference made is relative where the contract says so; primed texts
+-- are those of the call's clause
+pub reference-is-relative : (kind : Kind) (prefers : Bool)
+    (base target made base' target' made' : List ℕ)
     → base ≡ base' → target ≡ target' → made' ≡ made
     → IsReferenceTo kind prefers (components base) (settled target) (components made)
     → IsRelativeTo (components base') (settled target') (components made')
-relative_as kind prefers base target made base' target' made' e f h w =
+reference-is-relative kind prefers base target made base' target' made' e f h w =
     subst (λ x. IsRelativeTo (components x) (settled target') (components made')) e
     (subst (λ x. IsRelativeTo (components base) (settled x) (components made')) f
     (subst (λ x. IsRelativeTo (components base) (settled target) (components x)) (sym h)

@@ -8,78 +8,91 @@ use Rattle.std.proofs.lemmas.Nat.{div-add-mod', mod_below}
 use mir.Val.{bool_byte}
 use lib.Dec.{leb}
 use Rattle.uri_ops.specs.Dots.{is_empty}
-use Rattle.uri_relative.specs.Relative.{climbs, is_misread, relative_path}
-use Rattle.uri_relative.proofs.Climbs.{relative_up}
+use Rattle.uri_relative.specs.Relative.{double_dots, relative_path}
+use Rattle.uri_relative.proofs.Climbs.{relative_path-of-some-climbs}
 
-length_climbs : (n : ℕ) → length (climbs n) ≡ 3 * n
-unfolding climbs
-length_climbs zero = refl
-length_climbs (suc n) = omega (arith, length_climbs n)
+-- lengths of relative paths: n `../` have 3 * n bytes
+length-of-double-dots-is-threefold : (n : ℕ) → length (double_dots n) ≡ 3 * n
+unfolding double_dots
+length-of-double-dots-is-threefold zero = refl
+length-of-double-dots-is-threefold (suc n) = omega (arith, length-of-double-dots-is-threefold n)
 
-length_to : (n : ℕ) (rest : List ℕ) → length (climbs n ++ rest) ≡ 3 * n + length rest
-length_to n rest = omega (arith, length-append (climbs n) rest, length_climbs n)
+-- lengths of relative paths: n `../` and a rest
+length-of-double-dots-and-rest : (n : ℕ) (rest : List ℕ) → length (double_dots n ++ rest)
+    ≡ 3 * n + length rest
+length-of-double-dots-and-rest n rest = omega
+    (arith, length-append (double_dots n) rest, length-of-double-dots-is-threefold n)
 
--- up, to some rest or to none
-pub length_up : (n : ℕ) (rest : List ℕ) → is_empty rest ≡ false
+-- lengths of relative paths: one that goes n + 1 directories up, to some rest
+pub length-of-path-up-to-some : (n : ℕ) (rest : List ℕ) → is_empty rest ≡ false
     → length (relative_path (suc n) rest) ≡ 3 * suc n + length rest
-length_up n rest e =
-    ap length (relative_up n rest ∙ cond-false _ _ _ e) ∙ length_to (suc n) rest
+length-of-path-up-to-some n rest e =
+    ap length (relative_path-of-some-climbs n rest ∙ cond-false _ _ _ e)
+    ∙ length-of-double-dots-and-rest (suc n) rest
 
-pub length_up_none : (n : ℕ) (rest : List ℕ) → is_empty rest ≡ true
+-- relative paths: one that goes n + 1 directories up, and adds nothing, has 3 * n + 2 bytes
+pub length-of-path-up-to-nothing : (n : ℕ) (rest : List ℕ) → is_empty rest ≡ true
     → length (relative_path (suc n) rest) ≡ 3 * n + 2
-length_up_none n rest e =
-    ap length (relative_up n rest ∙ cond-true _ _ _ e) ∙ length_to n (codes "..")
+length-of-path-up-to-nothing n rest e =
+    ap length (relative_path-of-some-climbs n rest ∙ cond-true _ _ _ e)
+    ∙ length-of-double-dots-and-rest n (codes "..")
 
-empty_length : (rest : List ℕ) → is_empty rest ≡ true → length rest ≡ 0
-empty_length [] e = refl
-empty_length (c ∷ rest) e = absurd (false≢true e)
+-- lengths of relative paths: an empty text has length 0
+empty-text-has-length-zero : (rest : List ℕ) → is_empty rest ≡ true → length rest ≡ 0
+empty-text-has-length-zero [] e = refl
+empty-text-has-length-zero (c ∷ rest) e = absurd (false≢true e)
 
--- as the code tells it
-pub up_fits : (n front : ℕ) (rest : List ℕ) (none : Bool) → 0 < n → none ≡ is_empty rest
-    → leb n ((front + bool_byte none) / 3) ≡ true
-    → length (relative_path n rest) ≤ front + length rest
-up_fits zero front rest none some e h = absurd (omega (arith, some))
-up_fits (suc m) front rest true some e h =
+-- lengths of relative paths: by the code's test, a division by 3, one that goes up is no longer
+-- than the path from the root
+pub relative-path-fits-by-division : (n prefix : ℕ) (rest : List ℕ) (none : Bool) → 0 < n → none
+    ≡ is_empty rest
+    → leb n ((prefix + bool_byte none) / 3) ≡ true
+    → length (relative_path n rest) ≤ prefix + length rest
+relative-path-fits-by-division zero prefix rest none some e h = absurd (omega (arith, some))
+relative-path-fits-by-division (suc m) prefix rest true some e h =
     let one : bool_byte true ≡ 1 = refl in
     omega (
       arith,
       one,
       leb-true _ _ h,
-      div-add-mod' (front + bool_byte true) 3,
-      length_up_none m rest (sym e),
+      div-add-mod' (prefix + bool_byte true) 3,
+      length-of-path-up-to-nothing m rest (sym e),
     )
-up_fits (suc m) front rest false some e h =
+relative-path-fits-by-division (suc m) prefix rest false some e h =
     let nothing : bool_byte false ≡ 0 = refl in
     omega (
       arith,
       nothing,
       leb-true _ _ h,
-      div-add-mod' (front + bool_byte false) 3,
-      length_up m rest (sym e),
+      div-add-mod' (prefix + bool_byte false) 3,
+      length-of-path-up-to-some m rest (sym e),
     )
 
-pub up_longer : (n front : ℕ) (rest : List ℕ) (none : Bool) → 0 < n → none ≡ is_empty rest
-    → leb n ((front + bool_byte none) / 3) ≡ false
-    → front + length rest < length (relative_path n rest)
-up_longer zero front rest none some e h = absurd (omega (arith, some))
-up_longer (suc m) front rest true some e h =
+-- relative paths: one that goes up n times is longer than a path from the root, if n exceeds a
+-- third of the shared prefix; none: whether the rest is empty
+pub relative-path-is-longer-by-division : (n prefix : ℕ) (rest : List ℕ) (none : Bool) → 0 < n
+    → none ≡ is_empty rest
+    → leb n ((prefix + bool_byte none) / 3) ≡ false
+    → prefix + length rest < length (relative_path n rest)
+relative-path-is-longer-by-division zero prefix rest none some e h = absurd (omega (arith, some))
+relative-path-is-longer-by-division (suc m) prefix rest true some e h =
     let one : bool_byte true ≡ 1 = refl in
     omega (
       arith,
       one,
       leb-false _ _ h,
-      div-add-mod' (front + bool_byte true) 3,
-      mod_below (front + bool_byte true) 3 (omega arith),
-      length_up_none m rest (sym e),
-      empty_length rest (sym e),
+      div-add-mod' (prefix + bool_byte true) 3,
+      mod_below (prefix + bool_byte true) 3 (omega arith),
+      length-of-path-up-to-nothing m rest (sym e),
+      empty-text-has-length-zero rest (sym e),
     )
-up_longer (suc m) front rest false some e h =
+relative-path-is-longer-by-division (suc m) prefix rest false some e h =
     let nothing : bool_byte false ≡ 0 = refl in
     omega (
       arith,
       nothing,
       leb-false _ _ h,
-      div-add-mod' (front + bool_byte false) 3,
-      mod_below (front + bool_byte false) 3 (omega arith),
-      length_up m rest (sym e),
+      div-add-mod' (prefix + bool_byte false) 3,
+      mod_below (prefix + bool_byte false) 3 (omega arith),
+      length-of-path-up-to-some m rest (sym e),
     )

@@ -3,19 +3,22 @@ use Rattle.std.proofs.Common.{◌≡◌, ℕ, Bool, true, false, List, [], ◌&&
 use Rattle.std.proofs.Common.{◌∙◌, ⊎_elim}
 use Rattle.std.specs.Prelude.{Option, None, is_some}
 use Rattle.std.proofs.lemmas.Bool.{cases_Bool, cond-true, cond-false}
-use Rattle.uri_pct.proofs.Tests.{true_of}
+use Rattle.uri_pct.proofs.Tests.{eq_true_from_IsTrue}
 use Rattle.uri_pct.specs.Delimiters.{slash}
-use Rattle.uri_parts.specs.Components.{Components, IsRooted, starts}
+use Rattle.uri_parts.specs.Components.{Components, IsAbemptyPath, starts}
 use Rattle.uri_ops.specs.Dots.{remove_dot_segments, underflows}
-use Rattle.uri_ops.specs.Target.{cleaned_path, cleaning_underflows, guarded, joined, merged}
+use Rattle.uri_ops.specs.Target.{dotless_if_absolute, underflows_if_absolute, guarded}
+use Rattle.uri_ops.specs.Target.{dotted_target, merged}
 use Rattle.uri_ops.specs.Target.{target_of, target_underflows}
-use Rattle.uri_ops.specs.Resolving.{finished}
-use Rattle.uri_ops.proofs.Paths.MergedPaths.{merged_absolute}
+use Rattle.uri_ops.specs.Resolving.{with_final_path}
+use Rattle.uri_ops.proofs.Paths.MergedPaths.{merged-path-is-absolute}
 use Rattle.uri_relative.specs.Relative.{IsPathTo, joined_path}
 
-same_components : (c d : Components) → c.scheme ≡ d.scheme → c.authority ≡ d.authority
+-- general fact on records: components are equal if each is
+equal-parts-make-equal-components : (c d : Components) → c.scheme ≡ d.scheme → c.authority
+    ≡ d.authority
     → c.path ≡ d.path → c.query ≡ d.query → c.fragment ≡ d.fragment → c ≡ d
-same_components c d s a p q f =
+equal-parts-make-equal-components c d s a p q f =
     let by_s : Option (List ℕ) → Components = λ x. record c { scheme = x } in
     let by_a : Option (List ℕ) → Components = λ x. record c { scheme = d.scheme; authority = x } in
     let by_p : List ℕ → Components =
@@ -24,87 +27,94 @@ same_components c d s a p q f =
     let by_f : Option (List ℕ) → Components = λ x. record d { fragment = x } in
     ap by_s s ∙ ap by_a a ∙ ap by_p p ∙ ap by_q q ∙ ap by_f f
 
--- the target's path, where the reference has one
-path_leads_to : (a : Option (List ℕ)) (base way joins path whole : List ℕ)
+-- references to a target: the path of the target is that of base and reference joined, without dot
+-- segments and guarded; a: the authority
+joined-path-is-target-path : (a : Option (List ℕ)) (base way joins path whole : List ℕ)
     → IsPathTo base path way → joined_path base way ≡ joins → starts slash joins ≡ true
-    → guarded a path ≡ whole → guarded a (cleaned_path joins) ≡ whole
-path_leads_to a base way joins path whole w e rooted g =
+    → guarded a path ≡ whole → guarded a (dotless_if_absolute joins) ≡ whole
+joined-path-is-target-path a base way joins path whole w e rooted g =
     ap (guarded a) (cond-true _ _ _ rooted ∙ ap remove_dot_segments (sym e) ∙ w.leads) ∙ g
 
-pub path_reference : (b t : Components) (path way : List ℕ) → b.scheme ≡ t.scheme
-    → b.authority ≡ t.authority → IsRooted b.path → guarded t.authority path ≡ t.path
+-- references to a target: a reference that is a path (way) alone leads to the target t, if base b
+-- and target have the same scheme and authority
+pub target_of-path-form : (b t : Components) (path way : List ℕ) → b.scheme ≡ t.scheme
+    → b.authority ≡ t.authority → IsAbemptyPath b.path → guarded t.authority path ≡ t.path
     → IsPathTo b.path path way
     → target_of b (record t { scheme = None; authority = None; path = way }) ≡ t
-path_reference b t path way s a rooted g w =
+target_of-path-form b t path way s a rooted g w =
     let r : Components = record t { scheme = None; authority = None; path = way } in
     let whole : guarded b.authority path ≡ t.path = ap (λ x. guarded x path) a ∙ g in
     ⊎_elim
     (λ h. let c : Components = record b { path = way; query = t.query; fragment = t.fragment } in
-    let j : joined b r ≡ c = cond-false _ _ _ w.some ∙ cond-true _ _ _ h in
+    let j : dotted_target b r ≡ c = cond-false _ _ _ w.some ∙ cond-true _ _ _ h in
     let k : joined_path b.path way ≡ way = cond-false _ _ _ w.some ∙ cond-true _ _ _ h in
-    ap finished j ∙ same_components (finished c) t s a
-    (path_leads_to b.authority b.path way way path t.path w k h whole) refl refl)
+    ap with_final_path j ∙ equal-parts-make-equal-components (with_final_path c) t s a
+    (joined-path-is-target-path b.authority b.path way way path t.path w k h whole) refl refl)
     (λ h. let m = merged b.path way in
     let c : Components = record b { path = m; query = t.query; fragment = t.fragment } in
-    let j : joined b r ≡ c = cond-false _ _ _ w.some ∙ cond-false _ _ _ h in
+    let j : dotted_target b r ≡ c = cond-false _ _ _ w.some ∙ cond-false _ _ _ h in
     let k : joined_path b.path way ≡ m = cond-false _ _ _ w.some ∙ cond-false _ _ _ h in
-    ap finished j ∙ same_components (finished c) t s a
-    (path_leads_to b.authority b.path way m path t.path w k
-    (true_of _ (merged_absolute b.path way rooted)) whole) refl refl)
+    ap with_final_path j ∙ equal-parts-make-equal-components (with_final_path c) t s a
+    (joined-path-is-target-path b.authority b.path way m path t.path w k
+    (eq_true_from_IsTrue _ (merged-path-is-absolute b.path way rooted)) whole) refl refl)
     (cases_Bool (starts slash way))
 
--- `//`, where the target has an authority
-pub network_reference : (b t : Components) → b.scheme ≡ t.scheme → is_some t.authority ≡ true
-    → finished t ≡ t → target_of b (record t { scheme = None }) ≡ t
-network_reference b t s some done =
+-- references to a target: one that begins with `//` leads to a target with an authority
+pub target_of-authority-form : (b t : Components) → b.scheme ≡ t.scheme → is_some t.authority ≡ true
+    → with_final_path t ≡ t → target_of b (record t { scheme = None }) ≡ t
+target_of-authority-form b t s some done =
     let r : Components = record t { scheme = None } in
     let c : Components = record t { scheme = b.scheme } in
-    let j : joined b r ≡ c = cond-true _ _ _ some in
+    let j : dotted_target b r ≡ c = cond-true _ _ _ some in
     let by_s : Option (List ℕ) → Components = λ x. record t { scheme = x } in
-    ap finished j ∙ ap finished (ap by_s s) ∙ done
+    ap with_final_path j ∙ ap with_final_path (ap by_s s) ∙ done
 
--- `#` or nothing, where no more than the fragments differ
-pub fragment_reference : (b t : Components) → b.scheme ≡ t.scheme → b.authority ≡ t.authority
-    → b.path ≡ t.path → b.query ≡ t.query → finished t ≡ t
+-- references to a target: one of a fragment alone, or empty, leads to a target that differs from
+-- the base in the fragment only
+pub target_of-fragment-form : (b t : Components) → b.scheme ≡ t.scheme → b.authority ≡ t.authority
+    → b.path ≡ t.path → b.query ≡ t.query → with_final_path t ≡ t
     → target_of b (record t { scheme = None; authority = None; path = []; query = None }) ≡ t
-fragment_reference b t s a p q done =
+target_of-fragment-form b t s a p q done =
     let c : Components = record b { fragment = t.fragment } in
-    ap finished (same_components c t s a p q refl) ∙ done
+    ap with_final_path (equal-parts-make-equal-components c t s a p q refl) ∙ done
 
--- `?`, where the target has a query
-pub query_reference : (b t : Components) → b.scheme ≡ t.scheme → b.authority ≡ t.authority
-    → b.path ≡ t.path → is_some t.query ≡ true → finished t ≡ t
+-- references to a target: one that begins with `?` leads to a
+-- target with a query and the base's path
+pub target_of-query-form : (b t : Components) → b.scheme ≡ t.scheme → b.authority ≡ t.authority
+    → b.path ≡ t.path → is_some t.query ≡ true → with_final_path t ≡ t
     → target_of b (record t { scheme = None; authority = None; path = [] }) ≡ t
-query_reference b t s a p some done =
+target_of-query-form b t s a p some done =
     let r : Components = record t { scheme = None; authority = None; path = [] } in
-    ap finished (same_components (joined b r) t s a p (cond-true _ _ _ some) refl) ∙ done
+    ap with_final_path (equal-parts-make-equal-components (dotted_target b r) t s a p
+    (cond-true _ _ _ some) refl)
+    ∙ done
 
--- the target as it stands
-pub whole_reference : (b t : Components) → is_some t.scheme ≡ true → finished t ≡ t
+-- references to a target: the whole target leads to itself
+pub target_of-whole-target : (b t : Components) → is_some t.scheme ≡ true → with_final_path t ≡ t
     → target_of b t ≡ t
-whole_reference b t some done =
-    let j : joined b t ≡ t = cond-true _ _ _ some in ap finished j ∙ done
+target_of-whole-target b t some done =
+    let j : dotted_target b t ≡ t = cond-true _ _ _ some in ap with_final_path j ∙ done
 
--- and a path never goes above the root
-pub path_below : (b t : Components) (path way : List ℕ) → IsRooted b.path
+-- references to a target: one that is a path that leads to the target doesn't underflow
+pub path-form-does-not-underflow : (b t : Components) (path way : List ℕ) → IsAbemptyPath b.path
     → IsPathTo b.path path way
     → target_underflows b (record t { scheme = None; authority = None; path = way }) ≡ false
-path_below b t path way rooted w =
+path-form-does-not-underflow b t path way rooted w =
     let r : Components = record t { scheme = None; authority = None; path = way } in
     ⊎_elim
-    (λ h. let j : (joined b r).path ≡ way =
-    ap (λ (c : Components). c.path) (let k : joined b r
+    (λ h. let j : (dotted_target b r).path ≡ way =
+    ap (λ (c : Components). c.path) (let k : dotted_target b r
     ≡ record b { path = way; query = t.query; fragment = t.fragment } =
     cond-false _ _ _ w.some ∙ cond-true _ _ _ h in k) in
     let k : joined_path b.path way ≡ way = cond-false _ _ _ w.some ∙ cond-true _ _ _ h in
-    below_as (joined b r).path way (joined_path b.path way) j k w.below)
+    below_as (dotted_target b r).path way (joined_path b.path way) j k w.below)
     (λ h. let m = merged b.path way in
-    let j : (joined b r).path ≡ m =
-    ap (λ (c : Components). c.path) (let k : joined b r
+    let j : (dotted_target b r).path ≡ m =
+    ap (λ (c : Components). c.path) (let k : dotted_target b r
     ≡ record b { path = m; query = t.query; fragment = t.fragment } =
     cond-false _ _ _ w.some ∙ cond-false _ _ _ h in k) in
     let k : joined_path b.path way ≡ m = cond-false _ _ _ w.some ∙ cond-false _ _ _ h in
-    below_as (joined b r).path m (joined_path b.path way) j k w.below)
+    below_as (dotted_target b r).path m (joined_path b.path way) j k w.below)
     (cases_Bool (starts slash way))
   where
     none_and : (b : Bool) → (b && false) ≡ false
@@ -112,7 +122,7 @@ path_below b t path way rooted w =
     none_and false = refl
 
     below_as : (p q joins : List ℕ) → p ≡ q → joins ≡ q → underflows joins ≡ false
-        → cleaning_underflows p ≡ false
+        → underflows_if_absolute p ≡ false
     below_as p q joins e f h =
-        ap cleaning_underflows e
+        ap underflows_if_absolute e
         ∙ ap (λ u. starts slash q && u) (ap underflows (sym f) ∙ h) ∙ none_and (starts slash q)

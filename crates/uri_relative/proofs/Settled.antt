@@ -6,176 +6,230 @@ use Rattle.std.proofs.lemmas.Bool.{and_from, and_parts, both_ways, cases_Bool, c
 use Rattle.std.proofs.lemmas.Bool.{cond-false, eqb-true, false_from_ne_true, false≢true}
 use Rattle.std.proofs.lemmas.Str.{IsCharBoundary-after_ascii}
 use Rattle.std.specs.Str.{IsCharBoundary, IsUtf8}
-use Rattle.uri_pct.proofs.Tests.{true_of}
+use Rattle.uri_pct.proofs.Tests.{eq_true_from_IsTrue}
 use Rattle.uri_pct.specs.Delimiters.{slash}
 use Rattle.uri_parts.specs.Components.{Components, starts, has_authority}
-use Rattle.uri_parts.proofs.Splitting.Recompose.{true_to}
+use Rattle.uri_parts.proofs.Splitting.Recompose.{equal-to-true-is-IsTrue}
 use Rattle.uri_ops.specs.Dots.{IsAbsolute, lacks_dot_segments, remove_dot_segments, underflows}
-use Rattle.uri_ops.specs.Resolving.{finished}
-use Rattle.uri_ops.specs.Target.{cleaned_path, cleaning_underflows, guarded}
-use Rattle.uri_ops.proofs.Paths.DotLaws.{removed_absolute, removed_lacks, removed_of_plain}
-use Rattle.uri_ops.proofs.Paths.DotLaws.{underflows_of_plain}
-use Rattle.uri_ops.proofs.Paths.PathMeanings.{authority_first, cleaned_guarded}
-use Rattle.uri_ops.proofs.Paths.PathMeanings.{cleaned_twice}
-use Rattle.uri_ops.proofs.Paths.TakenSegments.{absolute_is}
+use Rattle.uri_ops.specs.Resolving.{with_final_path}
+use Rattle.uri_ops.specs.Target.{dotless_if_absolute, underflows_if_absolute, guarded}
+use Rattle.uri_ops.proofs.Paths.DotLaws.{removing-dots-keeps-absolute}
+use Rattle.uri_ops.proofs.Paths.DotLaws.{removing-dots-leaves-no-dot-segment}
+use Rattle.uri_ops.proofs.Paths.DotLaws.{remove-dots-of-dotless}
+use Rattle.uri_ops.proofs.Paths.DotLaws.{dotless-path-does-not-underflow}
+use Rattle.uri_ops.proofs.Paths.PathMeanings.{two-slashes-begin-with-slash}
+use Rattle.uri_ops.proofs.Paths.PathMeanings.{guard-is-removed-as-dot-segment}
+use Rattle.uri_ops.proofs.Paths.PathMeanings.{dotless_if_absolute-is-idempotent}
+use Rattle.uri_ops.proofs.Paths.TakenSegments.{absolute-path-is-slash-and-rest}
 use Rattle.uri_relative.specs.Forms.{IsUnguarded, is_guarded}
-use Rattle.uri_relative.proofs.Climbs.{underflowing}
-use Rattle.uri_relative.proofs.Ways.{guard_counts, rootless_path}
+use Rattle.uri_relative.proofs.Climbs.{underflows-follows-dots}
+use Rattle.uri_relative.proofs.Ways.{guard-counts-as-no-segment, rootless-path-has-no-authority}
 
-pub none_and : (b : Bool) → (b && false) ≡ false
-none_and true = refl
-none_and false = refl
+-- general fact on booleans, for targets
+pub and-false-is-false : (b : Bool) → (b && false) ≡ false
+and-false-is-false true = refl
+and-false-is-false false = refl
 
 -- a path that is cleaned and guarded stays as it is
 abbrev finish : Option (List ℕ) → List ℕ → List ℕ
-finish a p = guarded a (cleaned_path p)
+finish a p = guarded a (dotless_if_absolute p)
 
-finished_path : (a : Option (List ℕ)) (path : List ℕ) → finish a (finish a path) ≡ finish a path
-finished_path a path =
-    ap (guarded a) (cleaned_guarded a (cleaned_path path) ∙ cleaned_twice path)
+-- targets: removing dot segments and guarding the path, twice, is doing so once; a: the authority
+finish-is-idempotent : (a : Option (List ℕ)) (path : List ℕ) → finish a (finish a path)
+    ≡ finish a path
+finish-is-idempotent a path =
+    ap (guarded a) (guard-is-removed-as-dot-segment a (dotless_if_absolute path)
+    ∙ dotless_if_absolute-is-idempotent path)
 
-pub finished_twice : (t : Components) → finished (finished t) ≡ finished t
-finished_twice t =
+-- targets: removing dot segments from a target's path, and guarding it, twice is doing so once
+pub final-path-is-idempotent : (t : Components) → with_final_path (with_final_path t)
+    ≡ with_final_path t
+final-path-is-idempotent t =
     let g : List ℕ → Components = λ p. record t { path = p } in
-    ap g (finished_path t.authority t.path)
+    ap g (finish-is-idempotent t.authority t.path)
 
--- no guard stands before a path that doesn't begin with `/`
-pub rootless_stays : (a : Option (List ℕ)) (path : List ℕ) → starts slash path ≡ false
+-- targets: a path that doesn't begin with `/` keeps its dot
+-- segments and gets no guard; a: the authority
+pub finish-keeps-rootless-path : (a : Option (List ℕ)) (path : List ℕ) → starts slash path ≡ false
     → finish a path ≡ path
-rootless_stays a path e =
+finish-keeps-rootless-path a path e =
     ap (guarded a) (cond-false _ _ _ e)
-    ∙ cond-false _ _ _ (ap (λ b. is_none a && b) (rootless_path path e) ∙ none_and (is_none a))
+    ∙ cond-false _ _ _ (ap (λ b. is_none a && b) (rootless-path-has-no-authority path e)
+    ∙ and-false-is-false (is_none a))
 
--- nothing is left to remove of a path that is cleaned and guarded
-guard_below : (path : List ℕ) (guard : Bool) → IsAbsolute path → underflows path ≡ false
-    → cleaning_underflows (cond guard (codes "/." ++ path) path) ≡ false
-guard_below path true h e = guard_counts underflows underflowing path h ∙ e
-guard_below path false h e = ap (λ u. starts slash path && u) e ∙ none_and (starts slash path)
+-- targets: nothing is left to remove of a path without dot segments that is guarded
+guarded-path-does-not-underflow : (path : List ℕ) (guard : Bool) → IsAbsolute path
+    → underflows path ≡ false
+    → underflows_if_absolute (cond guard (codes "/." ++ path) path) ≡ false
+guarded-path-does-not-underflow path true h e = guard-counts-as-no-segment underflows
+    underflows-follows-dots path h ∙ e
+guarded-path-does-not-underflow path false h e = ap (λ u. starts slash path && u) e
+    ∙ and-false-is-false (starts slash path)
 
-rooted_below : (a : Option (List ℕ)) (path : List ℕ) → IsAbsolute path
-    → cleaning_underflows (finish a path) ≡ false
-rooted_below a path h =
+-- targets: an absolute path without dot segments, guarded, does not underflow; a: the authority
+finished-absolute-path-does-not-underflow : (a : Option (List ℕ)) (path : List ℕ) → IsAbsolute path
+    → underflows_if_absolute (finish a path) ≡ false
+finished-absolute-path-does-not-underflow a path h =
     let q = remove_dot_segments path in
-    let clean : cleaned_path path ≡ q = cond-true _ _ _ (true_of _ h) in
-    ap (λ t. cleaning_underflows (guarded a t)) clean
-    ∙ guard_below q (is_none a && has_authority q) (removed_absolute path h)
-    (underflows_of_plain q (removed_absolute path h) (removed_lacks path h))
+    let clean : dotless_if_absolute path ≡ q = cond-true _ _ _ (eq_true_from_IsTrue _ h) in
+    ap (λ t. underflows_if_absolute (guarded a t)) clean
+    ∙ guarded-path-does-not-underflow q (is_none a && has_authority q)
+    (removing-dots-keeps-absolute path h)
+    (dotless-path-does-not-underflow q (removing-dots-keeps-absolute path h)
+    (removing-dots-leaves-no-dot-segment path h))
 
-finished_below : (a : Option (List ℕ)) (path : List ℕ)
-    → cleaning_underflows (finish a path) ≡ false
-finished_below a path = ⊎_elim (λ e. rooted_below a path (true_to _ e))
-    (λ e. ap cleaning_underflows (rootless_stays a path e)
+-- targets: a path without dot segments, guarded, does not underflow; a: the authority
+finished-path-does-not-underflow : (a : Option (List ℕ)) (path : List ℕ)
+    → underflows_if_absolute (finish a path) ≡ false
+finished-path-does-not-underflow a path = ⊎_elim
+    (λ e. finished-absolute-path-does-not-underflow a path (equal-to-true-is-IsTrue _ e))
+    (λ e. ap underflows_if_absolute (finish-keeps-rootless-path a path e)
     ∙ ap (λ b. b && underflows path) e) (cases_Bool (starts slash path))
 
-pub settled_below : (t : Components) → finished t ≡ t → cleaning_underflows t.path ≡ false
-settled_below t done =
-    ap (λ (c : Components). cleaning_underflows c.path) (sym done)
-    ∙ finished_below t.authority t.path
+-- targets: one without removable dot segments has no underflow
+pub settled-target-does-not-underflow : (t : Components) → with_final_path t ≡ t
+    → underflows_if_absolute t.path ≡ false
+settled-target-does-not-underflow t done =
+    ap (λ (c : Components). underflows_if_absolute c.path) (sym done)
+    ∙ finished-path-does-not-underflow t.authority t.path
 
--- a path without dot segments is settled
-guard_none : (a : Option (List ℕ)) (path : List ℕ) → IfNone a (has_authority path ≡ false)
+-- targets: a path after an authority, or without `//` at its start,
+-- needs no guard; a: the authority
+path-without-slashes-needs-no-guard : (a : Option (List ℕ)) (path : List ℕ)
+    → IfNone a (has_authority path ≡ false)
     → guarded a path ≡ path
-guard_none None path e = cond-false _ _ _ e
-guard_none (Some a) path e = refl
+path-without-slashes-needs-no-guard None path e = cond-false _ _ _ e
+path-without-slashes-needs-no-guard (Some a) path e = refl
 
-plain_path : (a : Option (List ℕ)) (path : List ℕ) → IfNone a (has_authority path ≡ false)
+-- targets: an absolute path without dot segments stays; a: the authority
+finish-keeps-dotless-path : (a : Option (List ℕ)) (path : List ℕ)
+    → IfNone a (has_authority path ≡ false)
     → IsAbsolute path → lacks_dot_segments path ≡ true → finish a path ≡ path
-plain_path a path none absolute plain =
-    ap (guarded a) (cond-true _ _ _ (true_of _ absolute) ∙ removed_of_plain path absolute plain)
-    ∙ guard_none a path none
+finish-keeps-dotless-path a path none absolute dotless =
+    ap (guarded a) (cond-true _ _ _ (eq_true_from_IsTrue _ absolute)
+    ∙ remove-dots-of-dotless path absolute dotless)
+    ∙ path-without-slashes-needs-no-guard a path none
 
-by_path : (t : Components) → finish t.authority t.path ≡ t.path → finished t ≡ t
-by_path t e = let g : List ℕ → Components = λ p. record t { path = p } in ap g e
+-- targets: if the path stays when dot segments are removed, so does the target
+target-with-finished-path-is-settled : (t : Components) → finish t.authority t.path ≡ t.path
+    → with_final_path t ≡ t
+target-with-finished-path-is-settled t e = let g : List ℕ
+    → Components = λ p. record t { path = p } in ap g e
 
-pub plain_settled : (t : Components) → IfNone t.authority (has_authority t.path ≡ false)
-    → IsAbsolute t.path → lacks_dot_segments t.path ≡ true → finished t ≡ t
-plain_settled t none absolute plain = by_path t (plain_path t.authority t.path none absolute plain)
+-- targets: one with an absolute path without dot segments has none to remove
+pub dotless-target-is-settled : (t : Components) → IfNone t.authority (has_authority t.path ≡ false)
+    → IsAbsolute t.path → lacks_dot_segments t.path ≡ true → with_final_path t ≡ t
+dotless-target-is-settled t none absolute dotless = target-with-finished-path-is-settled t
+    (finish-keeps-dotless-path t.authority t.path none absolute dotless)
 
-pub rootless_settled : (t : Components) → starts slash t.path ≡ false → finished t ≡ t
-rootless_settled t e = by_path t (rootless_stays t.authority t.path e)
+-- targets: one with a path that does not begin with `/` has no dot segments to remove
+pub rootless-target-is-settled : (t : Components) → starts slash t.path ≡ false
+    → with_final_path t ≡ t
+rootless-target-is-settled t e = target-with-finished-path-is-settled t
+    (finish-keeps-rootless-path t.authority t.path e)
 
--- the path before a guard was put there
-same_path : (t : Components) → IsAbsolute t.path → finished t ≡ t
+-- targets: a path with its guard put back is the target's path
+guarded-dotless-path-is-the-path : (t : Components) → IsAbsolute t.path → with_final_path t ≡ t
     → guarded t.authority (remove_dot_segments t.path) ≡ t.path
-same_path t h done =
-    ap (guarded t.authority) (sym (cond-true _ _ _ (true_of _ h)))
+guarded-dotless-path-is-the-path t h done =
+    ap (guarded t.authority) (sym (cond-true _ _ _ (eq_true_from_IsTrue _ h)))
     ∙ ap (λ (c : Components). c.path) done
 
-left_alone : (t : Components) → IsAbsolute t.path → remove_dot_segments t.path ≡ t.path
+-- targets: a path without dot segments, and without need of a guard, has none to leave out
+path-without-dots-is-unguarded : (t : Components) → IsAbsolute t.path → remove_dot_segments t.path
+    ≡ t.path
     → guarded t.authority t.path ≡ t.path → IsUnguarded t t.path
-left_alone t h e guards = record {
+path-without-dots-is-unguarded t h e guards = record {
   absolute = h;
-  plain = subst (λ p. lacks_dot_segments p ≡ true) e (removed_lacks t.path h);
+  dotless = subst (λ p. lacks_dot_segments p ≡ true) e
+      (removing-dots-leaves-no-dot-segment t.path h);
   guards = guards;
 }
 
-guard_of_some : (a : Option (List ℕ)) (path : List ℕ) → is_some a ≡ true → guarded a path ≡ path
-guard_of_some None path e = absurd (false≢true e)
-guard_of_some (Some a) path e = refl
+-- targets: a path after an authority gets no guard `/.`; a: the authority
+path-after-authority-gets-no-guard : (a : Option (List ℕ)) (path : List ℕ) → is_some a ≡ true
+    → guarded a path ≡ path
+path-after-authority-gets-no-guard None path e = absurd (false≢true e)
+path-after-authority-gets-no-guard (Some a) path e = refl
 
-pub unguarded_some : (t : Components) → is_some t.authority ≡ true → IsAbsolute t.path
-    → finished t ≡ t → IsUnguarded t t.path
-unguarded_some t some h done =
+-- targets: the path after an authority has no guard `/.` to leave out
+pub path-after-authority-is-unguarded : (t : Components) → is_some t.authority ≡ true
+    → IsAbsolute t.path
+    → with_final_path t ≡ t → IsUnguarded t t.path
+path-after-authority-is-unguarded t some h done =
     let q = remove_dot_segments t.path in
-    let e : q ≡ t.path = sym (guard_of_some t.authority q some) ∙ same_path t h done in
-    left_alone t h e (guard_of_some t.authority t.path some)
+    let e : q ≡ t.path = sym (path-after-authority-gets-no-guard t.authority q some)
+    ∙ guarded-dotless-path-is-the-path t h done in
+    path-without-dots-is-unguarded t h e
+    (path-after-authority-gets-no-guard t.authority t.path some)
 
-guard_of_none : (a : Option (List ℕ)) (path : List ℕ) → is_some a ≡ false
+-- targets: without an authority, a path is guarded as it is for None; a: the authority
+guard-is-that-without-authority : (a : Option (List ℕ)) (path : List ℕ) → is_some a ≡ false
     → guarded a path ≡ guarded None path
-guard_of_none None path e = refl
-guard_of_none (Some a) path e = absurd (false≢true (sym e))
+guard-is-that-without-authority None path e = refl
+guard-is-that-without-authority (Some a) path e = absurd (false≢true (sym e))
 
--- a path that begins with a guard has a dot segment
-dotted : (rest : List ℕ) → lacks_dot_segments (codes "/." ++ 47 ∷ rest) ≡ false
-dotted rest = refl
+-- targets: the guard `/.` at the start of a path is a dot segment
+guard-is-dot-segment : (rest : List ℕ) → lacks_dot_segments (codes "/." ++ 47 ∷ rest) ≡ false
+guard-is-dot-segment rest = refl
 
-guard_dotted : (rest : List ℕ) → has_authority rest ≡ true
+-- targets: the guard `/.` is a dot segment
+guarded-path-has-dot-segment : (rest : List ℕ) → has_authority rest ≡ true
     → lacks_dot_segments (codes "/." ++ rest) ≡ false
-guard_dotted rest e =
+guarded-path-has-dot-segment rest e =
     ap (λ t. lacks_dot_segments (codes "/." ++ t))
-    (absolute_is rest (true_to _ (authority_first rest e)))
-    ∙ dotted (drop 1 rest)
+    (absolute-path-is-slash-and-rest rest
+    (equal-to-true-is-IsTrue _ (two-slashes-begin-with-slash rest e)))
+    ∙ guard-is-dot-segment (drop 1 rest)
 
-unguarded_found : (t : Components) (rest : List ℕ) → is_some t.authority ≡ false
-    → IsAbsolute t.path → finished t ≡ t → t.path ≡ codes "/." ++ rest
+-- targets: without an authority, the path with the guard `/.` is that of the rest
+path-after-guard-is-unguarded : (t : Components) (rest : List ℕ) → is_some t.authority ≡ false
+    → IsAbsolute t.path → with_final_path t ≡ t → t.path ≡ codes "/." ++ rest
     → has_authority rest ≡ true → IsUnguarded t rest
-unguarded_found t rest none h done whole double =
+path-after-guard-is-unguarded t rest none h done whole double =
     let q = remove_dot_segments t.path in
     let guards : guarded None q ≡ t.path =
-    sym (guard_of_none t.authority q none) ∙ same_path t h done in
-    let lacks = removed_lacks t.path h in
+    sym (guard-is-that-without-authority t.authority q none)
+    ∙ guarded-dotless-path-is-the-path t h done in
+    let lacks = removing-dots-leaves-no-dot-segment t.path h in
     let same : q ≡ rest = ⊎_elim
     (λ e. ap (drop 2) (sym (cond-true _ _ _ e) ∙ guards ∙ whole))
     (λ e. let p : q ≡ codes "/." ++ rest = sym (cond-false _ _ _ e) ∙ guards ∙ whole in
-    absurd (both_ways _ (guard_dotted rest double) (ap lacks_dot_segments (sym p) ∙ lacks)))
+    absurd (both_ways _ (guarded-path-has-dot-segment rest double)
+    (ap lacks_dot_segments (sym p) ∙ lacks)))
     (cases_Bool (has_authority q)) in
     record {
-      absolute = subst IsAbsolute same (removed_absolute t.path h);
-      plain = subst (λ p. lacks_dot_segments p ≡ true) same lacks;
-      guards = ap (guarded t.authority) (sym same) ∙ same_path t h done;
+      absolute = subst IsAbsolute same (removing-dots-keeps-absolute t.path h);
+      dotless = subst (λ p. lacks_dot_segments p ≡ true) same lacks;
+      guards = ap (guarded t.authority) (sym same) ∙ guarded-dotless-path-is-the-path t h done;
     }
 
-unguarded_none : (t : Components) → is_some t.authority ≡ false → IsAbsolute t.path
-    → finished t ≡ t
+-- targets: without an authority, a path that does not begin with
+-- the guard `/.` has none to leave out
+path-without-guard-is-itself-unguarded : (t : Components) → is_some t.authority ≡ false
+    → IsAbsolute t.path
+    → with_final_path t ≡ t
     → ((rest : List ℕ) → t.path ≡ codes "/." ++ rest → has_authority rest ≡ false)
     → IsUnguarded t t.path
-unguarded_none t none h done other =
+path-without-guard-is-itself-unguarded t none h done other =
     let q = remove_dot_segments t.path in
     let guards : guarded None q ≡ t.path =
-    sym (guard_of_none t.authority q none) ∙ same_path t h done in
+    sym (guard-is-that-without-authority t.authority q none)
+    ∙ guarded-dotless-path-is-the-path t h done in
     let same : q ≡ t.path = ⊎_elim
     (λ e. absurd (both_ways _ (other q (sym guards ∙ cond-true _ _ _ e)) e))
     (λ e. sym (cond-false _ _ _ e) ∙ guards)
     (cases_Bool (has_authority q)) in
-    left_alone t h same (ap (guarded t.authority) (sym same) ∙ same_path t h done)
+    path-without-dots-is-unguarded t h same (ap (guarded t.authority) (sym same)
+    ∙ guarded-dotless-path-is-the-path t h done)
 
--- what begins with `/.//`
-guard_split : (path : List ℕ) → is_guarded path ≡ true
+-- targets: a path that begins with `/.//` is a guard and a path that begins with `//`
+guarded-path-is-guard-and-path : (path : List ℕ) → is_guarded path ≡ true
     → (path ≡ codes "/." ++ drop 2 path) × (has_authority (drop 2 path) ≡ true)
-guard_split [] e = absurd (false≢true e)
-guard_split (a ∷ []) e =
+guarded-path-is-guard-and-path [] e = absurd (false≢true e)
+guarded-path-is-guard-and-path (a ∷ []) e =
     absurd (false≢true (and_parts (eqb a 47 && false) false (and_parts _ false e).0).1)
-guard_split (a ∷ b ∷ rest) e =
+guarded-path-is-guard-and-path (a ∷ b ∷ rest) e =
     let p = and_parts ((eqb a 47 && eqb b 46) && eqb (get_or rest 0 0) 47)
     (eqb (get_or rest 1 0) 47) e in
     let q = and_parts (eqb a 47 && eqb b 46) (eqb (get_or rest 0 0) 47) p.0 in
@@ -184,27 +238,35 @@ guard_split (a ∷ b ∷ rest) e =
       and_from _ _ q.1 p.1,
     )
 
-guarded_with : (rest : List ℕ) → has_authority rest ≡ true → is_guarded (codes "/." ++ rest) ≡ true
-guarded_with rest e =
+-- targets: `/.` before `//` is a guard
+guard-before-slashes-is-guarded : (rest : List ℕ) → has_authority rest ≡ true
+    → is_guarded (codes "/." ++ rest) ≡ true
+guard-before-slashes-is-guarded rest e =
     let p = and_parts (eqb (get_or rest 0 0) 47) (eqb (get_or rest 1 0) 47) e in
     and_from _ _ (and_from true _ refl p.0) p.1
 
-pub unguarded_cut : (t : Components) → is_some t.authority ≡ false → IsAbsolute t.path
-    → finished t ≡ t → is_guarded t.path ≡ true → IsUnguarded t (drop 2 t.path)
-unguarded_cut t none h done e =
-    let g = guard_split t.path e in
-    unguarded_found t (drop 2 t.path) none h done g.0 g.1
+-- targets: without an authority, a path with the guard `/.` is the rest without it
+pub path-without-guard-is-unguarded : (t : Components) → is_some t.authority ≡ false
+    → IsAbsolute t.path
+    → with_final_path t ≡ t → is_guarded t.path ≡ true → IsUnguarded t (drop 2 t.path)
+path-without-guard-is-unguarded t none h done e =
+    let g = guarded-path-is-guard-and-path t.path e in
+    path-after-guard-is-unguarded t (drop 2 t.path) none h done g.0 g.1
 
-pub unguarded_whole : (t : Components) → is_some t.authority ≡ false → IsAbsolute t.path
-    → finished t ≡ t → is_guarded t.path ≡ false → IsUnguarded t t.path
-unguarded_whole t none h done e =
-    unguarded_none t none h done (λ rest whole. false_from_ne_true _ (λ double.
-    both_ways _ e (ap is_guarded whole ∙ guarded_with rest double)))
+-- targets: without an authority, a path that begins with no guard `/.` is its own path without one
+pub path-that-needs-no-guard-is-unguarded : (t : Components) → is_some t.authority ≡ false
+    → IsAbsolute t.path
+    → with_final_path t ≡ t → is_guarded t.path ≡ false → IsUnguarded t t.path
+path-that-needs-no-guard-is-unguarded t none h done e =
+    path-without-guard-is-itself-unguarded t none h done
+    (λ rest whole. false_from_ne_true _ (λ double.
+    both_ways _ e (ap is_guarded whole ∙ guard-before-slashes-is-guarded rest double)))
 
-pub guard_boundary : (path : List ℕ) → IsUtf8 path → is_guarded path ≡ true
+-- targets: a character begins after the guard `/.` of a path
+pub guard-ends-at-character : (path : List ℕ) → IsUtf8 path → is_guarded path ≡ true
     → IsCharBoundary path 2
-guard_boundary path utf8 e =
-    let whole = (guard_split path e).0 in
+guard-ends-at-character path utf8 e =
+    let whole = (guarded-path-is-guard-and-path path e).0 in
     subst (λ t. IsCharBoundary t 2) (sym whole)
     (IsCharBoundary-after_ascii (codes "/." ++ drop 2 path) 1 (subst IsUtf8 whole utf8)
     (omega arith) (omega arith))

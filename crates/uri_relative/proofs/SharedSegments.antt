@@ -6,54 +6,61 @@ use Rattle.std.proofs.Common.{length-append}
 use Rattle.std.proofs.lemmas.List.{append-nil}
 use Rattle.std.proofs.lemmas.Bool.{false≢true}
 use Rattle.uri_ops.specs.Dots.{is_double_dot, is_single_dot}
-use Rattle.uri_ops.proofs.Paths.Segments.{closing, end_of, pop, pop_push, step_of, steps, turn}
+use Rattle.uri_ops.proofs.Paths.Segments.{closing, end_of, pop, pop-undoes-push, step_of, steps}
+use Rattle.uri_ops.proofs.Paths.Segments.{next_output}
 use Rattle.uri_ops.proofs.Paths.SlashedSegments.{slashed}
-use Rattle.uri_relative.proofs.Climbs.{last_split}
-use Rattle.uri_relative.proofs.Settled.{none_and}
-use Rattle.uri_relative.proofs.Shrinking.{left_by, length_first, length_none}
+use Rattle.uri_relative.proofs.Climbs.{segments-are-all-but-last-and-last}
+use Rattle.uri_relative.proofs.Settled.{and-false-is-false}
+use Rattle.uri_relative.proofs.Shrinking.{segments_left, length-of-first-segment-and-rest}
+use Rattle.uri_relative.proofs.Shrinking.{no-segments-have-length-zero}
 
 -- the segments begin with the same one
-unfoldable pub Begins : List (List ℕ) → List (List ℕ) → Type 0
-Begins [] down = ⊥
-Begins (s ∷ segs) down = (tail : List (List ℕ)) × (down ≡ s ∷ tail)
+unfoldable pub BeginWithSameSegment : List (List ℕ) → List (List ℕ) → Type 0
+BeginWithSameSegment [] down = ⊥
+BeginWithSameSegment (s ∷ segs) down = (tail : List (List ℕ)) × (down ≡ s ∷ tail)
 
 -- What segments make of a directory shares a front with it, from which they lead up to the
 -- directory's end, or down. They are no shorter than `../` for each step up, and what is down: but
 -- for one byte where nothing but the directory is named, since `..` needs no `/` at the end.
-pub record Shares (output left segs : List (List ℕ)) : Type 0 where
-  pub front : List (List ℕ)
+pub record SharesDirectoryPrefix (output left segs : List (List ℕ)) : Type 0 where
+  pub prefix : List (List ℕ)
   pub up : List (List ℕ)
   pub down : List (List ℕ)
-  pub output_is : output ≡ front ++ up
-  pub left_is : left ≡ front ++ down
+  pub output_is : output ≡ prefix ++ up
+  pub left_is : left ≡ prefix ++ down
   pub spare : ℕ
   pub few : spare ≤ 1
   pub some : 0 < length down
   pub why : (spare ≡ 0) ⊎ ((down ≡ [] ∷ []) × (0 < length up))
   pub cost : 3 * length up + length (slashed down) ≤ length (slashed segs) + spare
-  pub first : (0 < length up) ⊎ ((down ≡ [] ∷ []) ⊎ (Begins segs down
+  pub first : (0 < length up) ⊎ ((down ≡ [] ∷ []) ⊎ (BeginWithSameSegment segs down
       ⊎ (3 * length up + length (slashed down) + 2 ≤ length (slashed segs) + spare)))
 
--- a dot segment has as many bytes as dots at least
-single_some : (s : List ℕ) → is_single_dot s ≡ true → 0 < length s
-single_some [] e = absurd (false≢true e)
-single_some (c ∷ s) e = omega arith
+-- dot segments: `.` has a byte at least
+single-dot-segment-is-nonempty : (s : List ℕ) → is_single_dot s ≡ true → 0 < length s
+single-dot-segment-is-nonempty [] e = absurd (false≢true e)
+single-dot-segment-is-nonempty (c ∷ s) e = omega arith
 
-no_double : (c : ℕ) → is_double_dot (c ∷ []) ≡ false
-no_double c = simp none_and
+-- relative paths: a single byte is not `..`
+one-byte-is-no-double-dot : (c : ℕ) → is_double_dot (c ∷ []) ≡ false
+one-byte-is-no-double-dot c = simp and-false-is-false
 
-double_some : (s : List ℕ) → is_double_dot s ≡ true → 1 < length s
-double_some [] e = absurd (false≢true e)
-double_some (c ∷ []) e = absurd (false≢true (sym (no_double c) ∙ e))
-double_some (c ∷ d ∷ s) e = omega arith
+-- relative paths: the segment `..` has two bytes at least
+double-dot-segment-has-two-bytes : (s : List ℕ) → is_double_dot s ≡ true → 1 < length s
+double-dot-segment-has-two-bytes [] e = absurd (false≢true e)
+double-dot-segment-has-two-bytes (c ∷ []) e = absurd
+    (false≢true (sym (one-byte-is-no-double-dot c) ∙ e))
+double-dot-segment-has-two-bytes (c ∷ d ∷ s) e = omega arith
 
--- the last segment
-shares_last : (single double : Bool) (s : List ℕ) (output : List (List ℕ))
+-- relative paths: what the last segment makes of a directory shares a prefix with it;
+-- single, double: whether it is `.`, or `..`
+last-segment-shares-directory-prefix : (single double : Bool) (s : List ℕ) (output : List (List ℕ))
     → (single ≡ true → 0 < length s) → (double ≡ true → 1 < length s)
-    → Shares output (turn single double output s ++ end_of (single || double)) (s ∷ [])
-unfolding turn pop Begins
-shares_last true double s output one two = record {
-  front = output;
+    → SharesDirectoryPrefix output (next_output single double output s ++ end_of (single || double))
+    (s ∷ [])
+unfolding next_output pop BeginWithSameSegment
+last-segment-shares-directory-prefix true double s output one two = record {
+  prefix = output;
   up = [];
   down = [] ∷ [];
   output_is = sym (append-nil output);
@@ -62,11 +69,17 @@ shares_last true double s output one two = record {
   few = omega arith;
   some = omega arith;
   why = inl refl;
-  cost = omega (arith, one refl, length_first s [], length_first [] [], length_none);
+  cost = omega (
+    arith,
+    one refl,
+    length-of-first-segment-and-rest s [],
+    length-of-first-segment-and-rest [] [],
+    no-segments-have-length-zero,
+  );
   first = inr (inl refl);
 }
-shares_last false true s [] one two = record {
-  front = [];
+last-segment-shares-directory-prefix false true s [] one two = record {
+  prefix = [];
   up = [];
   down = [] ∷ [];
   output_is = refl;
@@ -75,13 +88,19 @@ shares_last false true s [] one two = record {
   few = omega arith;
   some = omega arith;
   why = inl refl;
-  cost = omega (arith, two refl, length_first s [], length_first [] [], length_none);
+  cost = omega (
+    arith,
+    two refl,
+    length-of-first-segment-and-rest s [],
+    length-of-first-segment-and-rest [] [],
+    no-segments-have-length-zero,
+  );
   first = inr (inl refl);
 }
-shares_last false true s (o ∷ output) one two =
-    let l = last_split o output in
+last-segment-shares-directory-prefix false true s (o ∷ output) one two =
+    let l = segments-are-all-but-last-and-last o output in
     record {
-      front = pop (o ∷ output);
+      prefix = pop (o ∷ output);
       up = l.0 ∷ [];
       down = [] ∷ [];
       output_is = l.1;
@@ -90,11 +109,17 @@ shares_last false true s (o ∷ output) one two =
       few = omega arith;
       some = omega arith;
       why = inr (refl, omega arith);
-      cost = omega (arith, two refl, length_first s [], length_first [] [], length_none);
+      cost = omega (
+        arith,
+        two refl,
+        length-of-first-segment-and-rest s [],
+        length-of-first-segment-and-rest [] [],
+        no-segments-have-length-zero,
+      );
       first = inl (omega arith);
     }
-shares_last false false s output one two = record {
-  front = output;
+last-segment-shares-directory-prefix false false s output one two = record {
+  prefix = output;
   up = [];
   down = s ∷ [];
   output_is = sym (append-nil output);
@@ -107,75 +132,87 @@ shares_last false false s output one two = record {
   first = inr (inr (inl ([], refl)));
 }
 
--- a segment before others, which is none of dots
-none_spare : (spare : ℕ) (down : List (List ℕ)) → (spare ≡ 0) ⊎ ((down ≡ [] ∷ []) × (0 < 0))
+-- relative paths: without a segment to go up no byte is spare
+no-byte-is-spare-without-climb : (spare : ℕ) (down : List (List ℕ)) → (spare ≡ 0)
+    ⊎ ((down ≡ [] ∷ []) × (0 < 0))
     → spare ≡ 0
-none_spare spare down (inl e) = e
-none_spare spare down (inr h) = absurd (omega (arith, h.1))
+no-byte-is-spare-without-climb spare down (inl e) = e
+no-byte-is-spare-without-climb spare down (inr h) = absurd (omega (arith, h.1))
 
-shares_push : (s : List ℕ) (output left segs front up down : List (List ℕ)) (spare : ℕ)
-    → output ++ s ∷ [] ≡ front ++ up → left ≡ front ++ down → spare ≤ 1 → 0 < length down
+-- relative paths: if the rest of a path, after segment s, goes up from s or stays in it, the path
+-- shares a prefix with the directory; spare: a byte too many
+pushed-segment-shares-directory-prefix : (s : List ℕ)
+    (output left segs prefix up down : List (List ℕ)) (spare : ℕ)
+    → output ++ s ∷ [] ≡ prefix ++ up → left ≡ prefix ++ down → spare ≤ 1 → 0 < length down
     → (spare ≡ 0) ⊎ ((down ≡ [] ∷ []) × (0 < length up))
     → 3 * length up + length (slashed down) ≤ length (slashed segs) + spare
-    → Shares output left (s ∷ segs)
-unfolding Begins
-shares_push s output left segs front [] down spare e f few some why cost = record {
-  front = output;
-  up = [];
-  down = s ∷ down;
-  output_is = sym (append-nil output);
-  left_is = f ∙ ap (λ t. t ++ down) (sym (e ∙ append-nil front))
-      ∙ append_assoc output (s ∷ []) down;
-  spare = 0;
-  few = omega arith;
-  some = omega arith;
-  why = inl refl;
-  cost = omega (
-    arith,
-    cost,
-    none_spare spare down why,
-    length_first s down,
-    length_first s segs,
-  );
-  first = inr (inr (inl (down, refl)));
-}
-shares_push s output left segs front (u ∷ us) down spare e f few some why cost =
-    let l = last_split u us in
+    → SharesDirectoryPrefix output left (s ∷ segs)
+unfolding BeginWithSameSegment
+pushed-segment-shares-directory-prefix s output left segs prefix [] down spare e f few some why
+    cost = record {
+      prefix = output;
+      up = [];
+      down = s ∷ down;
+      output_is = sym (append-nil output);
+      left_is = f ∙ ap (λ t. t ++ down) (sym (e ∙ append-nil prefix))
+          ∙ append_assoc output (s ∷ []) down;
+      spare = 0;
+      few = omega arith;
+      some = omega arith;
+      why = inl refl;
+      cost = omega (
+        arith,
+        cost,
+        no-byte-is-spare-without-climb spare down why,
+        length-of-first-segment-and-rest s down,
+        length-of-first-segment-and-rest s segs,
+      );
+      first = inr (inr (inl (down, refl)));
+    }
+pushed-segment-shares-directory-prefix s output left segs prefix (u ∷ us) down spare e f few
+    some why cost =
+    let l = segments-are-all-but-last-and-last u us in
     let fewer : length (u ∷ us) ≡ length (pop (u ∷ us)) + 1 = omega (
       arith,
       ap length l.1,
       length-append (pop (u ∷ us)) (l.0 ∷ []),
     ) in
     record {
-      front = front;
+      prefix = prefix;
       up = pop (u ∷ us);
       down = down;
-      output_is = sym (pop_push output s)
-          ∙ ap pop (e ∙ ap (λ t. front ++ t) l.1
-          ∙ sym (append_assoc front (pop (u ∷ us)) (l.0 ∷ [])))
-          ∙ pop_push (front ++ pop (u ∷ us)) l.0;
+      output_is = sym (pop-undoes-push output s)
+          ∙ ap pop (e ∙ ap (λ t. prefix ++ t) l.1
+          ∙ sym (append_assoc prefix (pop (u ∷ us)) (l.0 ∷ [])))
+          ∙ pop-undoes-push (prefix ++ pop (u ∷ us)) l.0;
       left_is = f;
       spare = 0;
       few = omega arith;
       some = some;
       why = inl refl;
-      cost = omega (arith, cost, few, fewer, length_first s segs);
-      first = inr (inr (inr (omega (arith, cost, few, fewer, length_first s segs))));
+      cost = omega (arith, cost, few, fewer, length-of-first-segment-and-rest s segs);
+      first = inr (inr (inr (omega
+          (arith, cost, few, fewer, length-of-first-segment-and-rest s segs))));
     }
 
-still : (spare : ℕ) (up down : List (List ℕ)) (last : List ℕ)
+-- relative paths: whether a byte is spare stays with one more segment to go up
+spare-byte-stays-with-one-more-climb : (spare : ℕ) (up down : List (List ℕ)) (last : List ℕ)
     → (spare ≡ 0) ⊎ ((down ≡ [] ∷ []) × (0 < length up))
     → (spare ≡ 0) ⊎ ((down ≡ [] ∷ []) × (0 < length (up ++ last ∷ [])))
-still spare up down last (inl e) = inl e
-still spare up down last (inr h) =
+spare-byte-stays-with-one-more-climb spare up down last (inl e) = inl e
+spare-byte-stays-with-one-more-climb spare up down last (inr h) =
     inr (h.0, omega (arith, length-append up (last ∷ [])))
 
-shares_more : (single double : Bool) (s : List ℕ) (output left segs : List (List ℕ))
+-- relative paths: what holds of the prefix shared after a segment does so before it;
+-- single, double: whether it is `.`, or `..`
+next-segment-shares-directory-prefix : (single double : Bool) (s : List ℕ)
+    (output left segs : List (List ℕ))
     → (single ≡ true → 0 < length s) → (double ≡ true → 1 < length s)
-    → Shares (turn single double output s) left segs → Shares output left (s ∷ segs)
-unfolding turn pop
-shares_more true double s output left segs one two w = record {
-  front = w.front;
+    → SharesDirectoryPrefix (next_output single double output s) left segs
+    → SharesDirectoryPrefix output left (s ∷ segs)
+unfolding next_output pop
+next-segment-shares-directory-prefix true double s output left segs one two w = record {
+  prefix = w.prefix;
   up = w.up;
   down = w.down;
   output_is = w.output_is;
@@ -184,11 +221,12 @@ shares_more true double s output left segs one two w = record {
   few = w.few;
   some = w.some;
   why = w.why;
-  cost = omega (arith, one refl, w.cost, length_first s segs);
-  first = inr (inr (inr (omega (arith, one refl, w.cost, length_first s segs))));
+  cost = omega (arith, one refl, w.cost, length-of-first-segment-and-rest s segs);
+  first = inr (inr (inr (omega
+      (arith, one refl, w.cost, length-of-first-segment-and-rest s segs))));
 }
-shares_more false true s [] left segs one two w = record {
-  front = w.front;
+next-segment-shares-directory-prefix false true s [] left segs one two w = record {
+  prefix = w.prefix;
   up = w.up;
   down = w.down;
   output_is = w.output_is;
@@ -197,41 +235,47 @@ shares_more false true s [] left segs one two w = record {
   few = w.few;
   some = w.some;
   why = w.why;
-  cost = omega (arith, two refl, w.cost, length_first s segs);
-  first = inr (inr (inr (omega (arith, two refl, w.cost, length_first s segs))));
+  cost = omega (arith, two refl, w.cost, length-of-first-segment-and-rest s segs);
+  first = inr (inr (inr (omega
+      (arith, two refl, w.cost, length-of-first-segment-and-rest s segs))));
 }
-shares_more false true s (o ∷ output) left segs one two w =
-    let l = last_split o output in
+next-segment-shares-directory-prefix false true s (o ∷ output) left segs one two w =
+    let l = segments-are-all-but-last-and-last o output in
     record {
-      front = w.front;
+      prefix = w.prefix;
       up = w.up ++ l.0 ∷ [];
       down = w.down;
       output_is = l.1 ∙ ap (λ t. t ++ l.0 ∷ []) w.output_is
-          ∙ append_assoc w.front w.up (l.0 ∷ []);
+          ∙ append_assoc w.prefix w.up (l.0 ∷ []);
       left_is = w.left_is;
       spare = w.spare;
       few = w.few;
       some = w.some;
-      why = still w.spare w.up w.down l.0 w.why;
+      why = spare-byte-stays-with-one-more-climb w.spare w.up w.down l.0 w.why;
       cost = omega (
         arith,
         two refl,
         w.cost,
-        length_first s segs,
+        length-of-first-segment-and-rest s segs,
         length-append w.up (l.0 ∷ []),
       );
       first = inl (omega (arith, length-append w.up (l.0 ∷ [])));
     }
-shares_more false false s output left segs one two w =
-    shares_push s output left segs w.front w.up w.down w.spare w.output_is w.left_is w.few
+next-segment-shares-directory-prefix false false s output left segs one two w =
+    pushed-segment-shares-directory-prefix s output left segs w.prefix w.up w.down w.spare
+    w.output_is w.left_is w.few
     w.some w.why w.cost
 
-pub shares : (s : List ℕ) (rest output : List (List ℕ))
-    → Shares output (left_by output (s ∷ rest)) (s ∷ rest)
-unfolding left_by steps step_of closing
-shares s [] output =
-    shares_last (is_single_dot s) (is_double_dot s) s output (single_some s) (double_some s)
-shares s (t ∷ rest) output =
-    shares_more (is_single_dot s) (is_double_dot s) s output
-    (left_by (step_of output s) (t ∷ rest)) (t ∷ rest) (single_some s) (double_some s)
-    (shares t rest (step_of output s))
+-- relative paths: what the segments leave of a directory shares a prefix with it;
+-- output: the directory's segments
+pub segments-share-directory-prefix : (s : List ℕ) (rest output : List (List ℕ))
+    → SharesDirectoryPrefix output (segments_left output (s ∷ rest)) (s ∷ rest)
+unfolding segments_left steps step_of closing
+segments-share-directory-prefix s [] output =
+    last-segment-shares-directory-prefix (is_single_dot s) (is_double_dot s) s output
+    (single-dot-segment-is-nonempty s) (double-dot-segment-has-two-bytes s)
+segments-share-directory-prefix s (t ∷ rest) output =
+    next-segment-shares-directory-prefix (is_single_dot s) (is_double_dot s) s output
+    (segments_left (step_of output s) (t ∷ rest)) (t ∷ rest) (single-dot-segment-is-nonempty s)
+    (double-dot-segment-has-two-bytes s)
+    (segments-share-directory-prefix t rest (step_of output s))

@@ -12,175 +12,230 @@ use Rattle.std.proofs.Math.Seq.{take-length}
 use Rattle.std.proofs.lemmas.Bool.{and_from, and_parts, cond_both, cond-false, or_parts}
 use Rattle.uri_pct.specs.Delimiters.{slash}
 use Rattle.uri_pct.specs.Sets.{TableSet, allows, is_one_of}
-use Rattle.uri_pct.specs.Tokens.{is_valid_for, tokens_of}
-use Rattle.uri_pct.proofs.ValidTexts.Validity.{allows-ascii}
+use Rattle.uri_pct.specs.Tokens.{is_valid_for, tokens_from_chars}
+use Rattle.uri_pct.proofs.ValidTexts.Validity.{ascii_char_is_allowed_iff_in_set}
 use Rattle.uri_parts.specs.Components.{starts, has_authority}
-use Rattle.uri_parts.specs.Grammar.{has_colon_first}
+use Rattle.uri_parts.specs.Grammar.{has_colon_in_first_segment}
 use Rattle.uri_ops.specs.ComponentSets.{IsComponentSet}
 use Rattle.uri_ops.specs.Dots.{is_empty, IsAbsolute, lacks_dot_segments, directory}
 use Rattle.uri_ops.specs.Dots.{remove_dot_segments, underflows}
 use Rattle.uri_ops.specs.Target.{guarded, merged}
-use Rattle.uri_ops.proofs.Meanings.AllowedParts.{is_part, part_from, part_valid}
-use Rattle.uri_ops.proofs.Meanings.PlainTexts.{utf8_ascii}
-use Rattle.uri_ops.proofs.Paths.DotLaws.{removed_of_plain, underflows_of_plain}
-use Rattle.uri_ops.proofs.Paths.PathCharacters.{lacks_test, test_lacks}
-use Rattle.uri_ops.proofs.Paths.PathMeanings.{part_guarded}
-use Rattle.uri_ops.proofs.Paths.ReadPaths.{part_cut, part_join}
+use Rattle.uri_ops.proofs.Meanings.AllowedParts.{is_set_text, set-text-from-utf8, set-text-is-valid}
+use Rattle.uri_ops.proofs.Meanings.AsciiCharacters.{ascii-bytes-are-utf8}
+use Rattle.uri_ops.proofs.Paths.DotLaws.{remove-dots-of-dotless, dotless-path-does-not-underflow}
+use Rattle.uri_ops.proofs.Paths.PathCharacters.{lacked-delimiters-fail-test}
+use Rattle.uri_ops.proofs.Paths.PathCharacters.{test-of-delimiters-gives-lacks}
+use Rattle.uri_ops.proofs.Paths.PathMeanings.{guarded-set-text-is-set-text}
+use Rattle.uri_ops.proofs.Paths.DecodedPaths.{set-text-splits, set-texts-join-at-slash}
 use Rattle.uri_ops.proofs.Paths.SlashedSegments.{slashed}
-use Rattle.uri_ops.proofs.Paths.TakenSegments.{absolute_is}
-use Rattle.uri_relative.specs.Relative.{climbs, relative_path, relative_from, is_misread, slashes}
-use Rattle.uri_relative.specs.Relative.{IsSharedFront, IsPathTo, joined_path}
-use Rattle.uri_relative.proofs.Climbs.{IsByDirectory, removing, underflowing, path_leads}
-use Rattle.uri_relative.proofs.Climbs.{path_stays_below, relative_up}
+use Rattle.uri_ops.proofs.Paths.TakenSegments.{absolute-path-is-slash-and-rest}
+use Rattle.uri_relative.specs.Relative.{double_dots, relative_path, relative_from}
+use Rattle.uri_relative.specs.Relative.{needs_leading_dot, slashes}
+use Rattle.uri_relative.specs.Relative.{IsSharedPrefix, IsPathTo, joined_path}
+use Rattle.uri_relative.proofs.Climbs.{FollowsDotsFromDirectory, remove_dot_segments-follows-dots}
+use Rattle.uri_relative.proofs.Climbs.{underflows-follows-dots, merged-relative-path-leads-to-path}
+use Rattle.uri_relative.proofs.Climbs.{merged-relative-path-does-not-underflow}
+use Rattle.uri_relative.proofs.Climbs.{relative_path-of-some-climbs}
 
 -- what a path is that is joined to the base's directory
 record IsRelative (way : List ℕ) : Type 0 where
   some : is_empty way ≡ false
   rootless : starts slash way ≡ false
-  no_scheme : has_colon_first way ≡ false
+  no_scheme : has_colon_in_first_segment way ≡ false
 
-plain_rest : (rest : List ℕ) → is_empty rest ≡ false → is_misread rest ≡ false → IsRelative rest
-plain_rest rest some read =
-    let p = or_parts (starts slash rest) (has_colon_first rest) read in
+-- relative paths: a rest that needs no `./` before it is a relative path
+rest-without-leading-dot-is-relative : (rest : List ℕ) → is_empty rest ≡ false
+    → needs_leading_dot rest ≡ false
+    → IsRelative rest
+rest-without-leading-dot-is-relative rest some read =
+    let p = or_parts (starts slash rest) (has_colon_in_first_segment rest) read in
     record { some = some; rootless = p.0; no_scheme = p.1 }
 
-stays_relative : (rest : List ℕ) (none misread : Bool) → is_empty rest ≡ none
-    → is_misread rest ≡ misread
+-- relative paths: one without `../` is `.`, or the rest, after `./` if it would be misread;
+-- none: whether the rest is empty
+path-without-double-dots-is-relative : (rest : List ℕ) (none misread : Bool) → is_empty rest ≡ none
+    → needs_leading_dot rest ≡ misread
     → IsRelative (cond none (codes ".") (cond misread (codes "./" ++ rest) rest))
-stays_relative rest true misread e f = record { some = refl; rootless = refl; no_scheme = refl }
-stays_relative rest false true e f = record { some = refl; rootless = refl; no_scheme = refl }
-stays_relative rest false false e f = plain_rest rest e f
+path-without-double-dots-is-relative rest true misread e f =
+    record { some = refl; rootless = refl; no_scheme = refl }
+path-without-double-dots-is-relative rest false true e f =
+    record { some = refl; rootless = refl; no_scheme = refl }
+path-without-double-dots-is-relative rest false false e f =
+    rest-without-leading-dot-is-relative rest e f
 
-ups_relative : (n : ℕ) (rest : List ℕ) (none : Bool)
-    → IsRelative (cond none (climbs n ++ codes "..") (climbs (suc n) ++ rest))
-unfolding climbs
-ups_relative zero rest true = record { some = refl; rootless = refl; no_scheme = refl }
-ups_relative (suc n) rest true = record { some = refl; rootless = refl; no_scheme = refl }
-ups_relative n rest false = record { some = refl; rootless = refl; no_scheme = refl }
+-- relative paths: one with n + 1 `../` is relative;
+-- none: whether the rest is empty, then the last has no `/`
+path-with-double-dots-is-relative : (n : ℕ) (rest : List ℕ) (none : Bool)
+    → IsRelative (cond none (double_dots n ++ codes "..") (double_dots (suc n) ++ rest))
+unfolding double_dots
+path-with-double-dots-is-relative zero rest true =
+    record { some = refl; rootless = refl; no_scheme = refl }
+path-with-double-dots-is-relative (suc n) rest true =
+    record { some = refl; rootless = refl; no_scheme = refl }
+path-with-double-dots-is-relative n rest false =
+    record { some = refl; rootless = refl; no_scheme = refl }
 
-is_relative : (n : ℕ) (rest : List ℕ) → IsRelative (relative_path n rest)
-is_relative zero rest = stays_relative rest (is_empty rest) (is_misread rest) refl refl
-is_relative (suc n) rest =
-    subst IsRelative (sym (relative_up n rest)) (ups_relative n rest (is_empty rest))
+-- relative paths: one that is made is relative
+relative_path-is-relative : (n : ℕ) (rest : List ℕ) → IsRelative (relative_path n rest)
+relative_path-is-relative zero rest = path-without-double-dots-is-relative rest (is_empty rest)
+    (needs_leading_dot rest) refl refl
+relative_path-is-relative (suc n) rest =
+    subst IsRelative (sym (relative_path-of-some-climbs n rest))
+    (path-with-double-dots-is-relative n rest (is_empty rest))
 
-pub rootless_path : (way : List ℕ) → starts slash way ≡ false → has_authority way ≡ false
-rootless_path [] e = refl
-rootless_path (c ∷ way) e = ap (λ b. b && eqb (get_or way 0 0) 47) e
+-- relative paths: one that does not begin with `/` does not begin with `//`
+pub rootless-path-has-no-authority : (way : List ℕ) → starts slash way ≡ false
+    → has_authority way ≡ false
+rootless-path-has-no-authority [] e = refl
+rootless-path-has-no-authority (c ∷ way) e = ap (λ b. b && eqb (get_or way 0 0) 47) e
 
-joined_relative : (base way : List ℕ) → IsRelative way → joined_path base way ≡ merged base way
-joined_relative base way r = cond-false _ _ _ r.some ∙ cond-false _ _ _ r.rootless
+-- relative paths: one is resolved by merging it with the base's path
+relative-path-is-merged : (base way : List ℕ) → IsRelative way → joined_path base way
+    ≡ merged base way
+relative-path-is-merged base way r = cond-false _ _ _ r.some ∙ cond-false _ _ _ r.rootless
 
--- what holds of each path that may be written holds of the path
-each_relative : (P : List ℕ → Type 0) (rest : List ℕ) → P (codes ".") → P (codes "./" ++ rest)
-    → P rest → ((n : ℕ) → P (climbs n ++ codes "..")) → ((n : ℕ) → P (climbs n ++ rest)) → (n : ℕ)
+-- relative paths: what holds of each form that one may have,
+-- `.` or `./` or `../` and a rest, holds of each
+property-of-each-case-holds-of-relative-path : (P : List ℕ → Type 0) (rest : List ℕ) → P (codes ".")
+    → P (codes "./" ++ rest)
+    → P rest → ((n : ℕ) → P (double_dots n ++ codes "..")) → ((n : ℕ) → P (double_dots n ++ rest))
+    → (n : ℕ)
     → P (relative_path n rest)
-each_relative P rest dot guard here up down n =
+property-of-each-case-holds-of-relative-path P rest dot guard here up down n =
     cond_both (eqb n 0) _ _ P
     (λ _. cond_both (is_empty rest) _ _ P (λ _. dot)
-    (λ _. cond_both (is_misread rest) _ _ P (λ _. guard) (λ _. here)))
+    (λ _. cond_both (needs_leading_dot rest) _ _ P (λ _. guard) (λ _. here)))
     (λ _. cond_both (is_empty rest) _ _ P (λ _. up (n - 1)) (λ _. down n))
 
 -- marks that are neither a dot nor `/`
 abbrev lacking : List ℕ → Bool
 lacking text = list_all (λ c. not (is_one_of (codes "?#") c)) text
 
-climbs_lack : (n : ℕ) (rest : List ℕ) → lacking rest ≡ true → lacking (climbs n ++ rest) ≡ true
-unfolding climbs
-climbs_lack zero rest e = e
-climbs_lack (suc n) rest e = climbs_lack n rest e
+-- relative paths: n `../` add neither `?` nor `#`
+double-dots-lack-marks : (n : ℕ) (rest : List ℕ) → lacking rest ≡ true
+    → lacking (double_dots n ++ rest) ≡ true
+unfolding double_dots
+double-dots-lack-marks zero rest e = e
+double-dots-lack-marks (suc n) rest e = double-dots-lack-marks n rest e
 
-rest_lacks : (n : ℕ) (path : List ℕ) → lacking path ≡ true → lacking (drop n path) ≡ true
-rest_lacks n path e =
+-- relative paths: what is left of a path has neither `?` nor `#`
+rest-of-path-lacks-marks : (n : ℕ) (path : List ℕ) → lacking path ≡ true
+    → lacking (drop n path) ≡ true
+rest-of-path-lacks-marks n path e =
     let p = λ (c : ℕ). not (is_one_of (codes "?#") c) in
     (and_parts (list_all p (take n path)) (list_all p (drop n path))
     (sym (list_all-append p (take n path) (drop n path))
     ∙ ap (list_all p) (take-append-drop n path) ∙ e)).1
 
-relative_lacks : (n : ℕ) (rest : List ℕ) → lacking rest ≡ true
+-- relative paths: one of a rest without `?` and `#` has none
+relative-path-lacks-marks : (n : ℕ) (rest : List ℕ) → lacking rest ≡ true
     → lacking (relative_path n rest) ≡ true
-relative_lacks n rest e =
-    each_relative (λ t. lacking t ≡ true) rest refl e e (λ m. climbs_lack m (codes "..") refl)
-    (λ m. climbs_lack m rest e) n
+relative-path-lacks-marks n rest e =
+    property-of-each-case-holds-of-relative-path (λ t. lacking t ≡ true) rest refl e e
+    (λ m. double-dots-lack-marks m (codes "..") refl)
+    (λ m. double-dots-lack-marks m rest e) n
 
-guarded_lacks : (path : List ℕ) → lacking path ≡ true → lacking (guarded None path) ≡ true
-guarded_lacks path e =
+-- references to a target: the guard `/.` adds neither `?` nor `#`
+guarded-path-lacks-marks : (path : List ℕ) → lacking path ≡ true → lacking (guarded None path)
+    ≡ true
+guarded-path-lacks-marks path e =
     cond_both (has_authority path) (codes "/." ++ path) path (λ t. lacking t ≡ true)
     (λ _. e) (λ _. e)
 
 -- characters that a set allows
 module _ (set : TableSet) (w : IsComponentSet (codes "?#[]") set)
     (slash : set.ascii 47 ≡ true) where
-  allows_dot : allows set 46 ≡ true
-  allows_dot = allows-ascii set 46 (lit< tt) ∙ w.unreserved.ascii 46 refl
+  path-set-allows-dot : allows set 46 ≡ true
+  path-set-allows-dot = ascii_char_is_allowed_iff_in_set set 46 (lit< tt)
+      ∙ w.unreserved.ascii 46 refl
 
-  part_dot : is_part set (codes ".") ≡ true
-  unfolding is_valid_for chars tokens_of
-  part_dot = part_from set (codes ".") (utf8_ascii (codes ".") refl) (and_from _ _ allows_dot refl)
+  dot-is-text-of-set : is_set_text set (codes ".") ≡ true
+  unfolding is_valid_for chars tokens_from_chars
+  dot-is-text-of-set = set-text-from-utf8 set (codes ".") (ascii-bytes-are-utf8 (codes ".") refl)
+      (and_from _ _ path-set-allows-dot refl)
 
-  part_dots : is_part set (codes "..") ≡ true
-  unfolding is_valid_for chars tokens_of
-  part_dots = part_from set (codes "..") (utf8_ascii (codes "..") refl)
-      (and_from _ _ allows_dot (and_from _ _ allows_dot refl))
+  double-dot-is-text-of-set : is_set_text set (codes "..") ≡ true
+  unfolding is_valid_for chars tokens_from_chars
+  double-dot-is-text-of-set = set-text-from-utf8 set (codes "..")
+      (ascii-bytes-are-utf8 (codes "..") refl)
+      (and_from _ _ path-set-allows-dot (and_from _ _ path-set-allows-dot refl))
 
-  climbs_part : (n : ℕ) (rest : List ℕ) → is_part set rest ≡ true
-      → is_part set (climbs n ++ rest) ≡ true
-  unfolding climbs
-  climbs_part zero rest e = e
-  climbs_part (suc n) rest e =
-      part_join set slash (codes "..") (climbs n ++ rest) part_dots (climbs_part n rest e)
+  double-dots-are-text-of-set : (n : ℕ) (rest : List ℕ) → is_set_text set rest ≡ true
+      → is_set_text set (double_dots n ++ rest) ≡ true
+  unfolding double_dots
+  double-dots-are-text-of-set zero rest e = e
+  double-dots-are-text-of-set (suc n) rest e =
+      set-texts-join-at-slash set slash (codes "..") (double_dots n ++ rest)
+      double-dot-is-text-of-set
+      (double-dots-are-text-of-set n rest e)
 
-  relative_part : (n : ℕ) (rest : List ℕ) → is_part set rest ≡ true
-      → is_part set (relative_path n rest) ≡ true
-  relative_part n rest e =
-      each_relative (λ t. is_part set t ≡ true) rest part_dot
-      (part_join set slash (codes ".") rest part_dot e) e
-      (λ m. climbs_part m (codes "..") part_dots) (λ m. climbs_part m rest e) n
+  relative-path-is-text-of-set : (n : ℕ) (rest : List ℕ) → is_set_text set rest ≡ true
+      → is_set_text set (relative_path n rest) ≡ true
+  relative-path-is-text-of-set n rest e =
+      property-of-each-case-holds-of-relative-path (λ t. is_set_text set t ≡ true) rest
+      dot-is-text-of-set
+      (set-texts-join-at-slash set slash (codes ".") rest dot-is-text-of-set e) e
+      (λ m. double-dots-are-text-of-set m (codes "..") double-dot-is-text-of-set)
+      (λ m. double-dots-are-text-of-set m rest e) n
 
-  behind_part : (n : ℕ) (path front : List ℕ) → take n path ≡ front ++ codes "/"
-      → is_part set path ≡ true → is_part set (drop n path) ≡ true
-  behind_part n path front closed e =
-      (part_cut set front (drop n path)
-      (ap (is_part set) (sym (append_assoc front (codes "/") (drop n path))
+  rest-after-slash-is-text-of-set : (n : ℕ) (path prefix : List ℕ) → take n path
+      ≡ prefix ++ codes "/"
+      → is_set_text set path ≡ true → is_set_text set (drop n path) ≡ true
+  rest-after-slash-is-text-of-set n path prefix closed e =
+      (set-text-splits set prefix (drop n path)
+      (ap (is_set_text set) (sym (append_assoc prefix (codes "/") (drop n path))
       ∙ ap (λ t. t ++ drop n path) (sym closed) ∙ take-append-drop n path) ∙ e)).1
 
-  relative_valid : (n : ℕ) (base path : List ℕ) → IsUtf8 path → IsSharedFront n base path
+  relative-path-is-valid-for-set : (n : ℕ) (base path : List ℕ) → IsUtf8 path
+      → IsSharedPrefix n base path
       → is_valid_for set path ≡ true → is_valid_for set (relative_from n base path) ≡ true
-  relative_valid n base path utf8 s e =
-      part_valid set _ (relative_part (slashes (drop n base)) (drop n path)
-      (behind_part n path s.closed.0 (sym s.same ∙ s.closed.1) (part_from set path utf8 e)))
+  relative-path-is-valid-for-set n base path utf8 s e =
+      set-text-is-valid set _ (relative-path-is-text-of-set (slashes (drop n base)) (drop n path)
+      (rest-after-slash-is-text-of-set n path s.closed.0 (sym s.same ∙ s.closed.1)
+      (set-text-from-utf8 set path utf8 e)))
 
-  absolute_valid : (path : List ℕ) → IsUtf8 path → is_valid_for set path ≡ true
+  path-from-root-is-valid-for-set : (path : List ℕ) → IsUtf8 path → is_valid_for set path ≡ true
       → is_valid_for set (guarded None path) ≡ true
-  absolute_valid path utf8 e =
-      part_valid set _ (part_guarded set w slash None path (part_from set path utf8 e))
+  path-from-root-is-valid-for-set path utf8 e =
+      set-text-is-valid set _ (guarded-set-text-is-set-text set w slash None path
+      (set-text-from-utf8 set path utf8 e))
 
-pub relative_way : (n : ℕ) (base given path : List ℕ) → directory base ≡ directory given
+-- relative paths: the one after the first n bytes, which base and path share,
+-- leads from the base to the path
+pub relative-path-leads-to-path : (n : ℕ) (base given path : List ℕ) → directory base
+    ≡ directory given
     → IsAbsolute base → lacks_dot_segments base ≡ true → IsAbsolute path
-    → lacks_dot_segments path ≡ true → IsUtf8 path → IsSharedFront n base path
+    → lacks_dot_segments path ≡ true → IsUtf8 path → IsSharedPrefix n base path
     → IsPathTo given path (relative_from n base path)
-relative_way n base given path same base_absolute base_plain absolute plain utf8 s =
+relative-path-leads-to-path n base given path same base_absolute base_dotless absolute
+    dotless utf8 s =
     let way = relative_from n base path in
-    let r = is_relative (slashes (drop n base)) (drop n path) in
+    let r = relative_path-is-relative (slashes (drop n base)) (drop n path) in
     let joined : joined_path given way ≡ directory base ++ way =
-    joined_relative given way r ∙ ap (λ d. d ++ way) (sym same) in
+    relative-path-is-merged given way r ∙ ap (λ d. d ++ way) (sym same) in
     record {
       some = r.some;
       leads = ap remove_dot_segments joined
-          ∙ path_leads n base path base_absolute base_plain absolute plain s;
+          ∙ merged-relative-path-leads-to-path n base path base_absolute base_dotless
+          absolute dotless s;
       below = ap underflows joined
-          ∙ path_stays_below n base path base_absolute base_plain absolute plain s;
-      no_authority = rootless_path way r.rootless;
+          ∙ merged-relative-path-does-not-underflow n base path base_absolute base_dotless
+          absolute dotless s;
+      no_authority = rootless-path-has-no-authority way r.rootless;
       no_scheme = r.no_scheme;
-      lacks = λ h. test_lacks (codes "?#") way (relative_lacks (slashes (drop n base)) (drop n path)
-          (rest_lacks n path (lacks_test (codes "?#") path h)));
-      valid = λ set w slash e. relative_valid set w slash n base path utf8 s e;
+      lacks = λ h. test-of-delimiters-gives-lacks (codes "?#") way
+          (relative-path-lacks-marks (slashes (drop n base)) (drop n path)
+          (rest-of-path-lacks-marks n path (lacked-delimiters-fail-test (codes "?#") path h)));
+      valid = λ set w slash e. relative-path-is-valid-for-set set w slash n base path utf8 s e;
     }
 
--- the path from the root
-pub guard_counts : {X : Type 0} (f : List ℕ → X) → IsByDirectory f → (path : List ℕ)
+-- relative paths: the guard `/.` before a path from the root counts as no segment
+pub guard-counts-as-no-segment : {X : Type 0} (f : List ℕ → X) → FollowsDotsFromDirectory f
+    → (path : List ℕ)
     → IsAbsolute path → f (codes "/." ++ path) ≡ f path
 unfolding slashed
-guard_counts f by path h = by.stay [] path refl refl (inr h) ∙ ap f (sym (absolute_is path h))
+guard-counts-as-no-segment f by path h = by.stay [] path refl refl (inr h)
+    ∙ ap f (sym (absolute-path-is-slash-and-rest path h))
 
 -- what is left to say of a path from the root
 record IsRootedWay (given path way : List ℕ) : Type 0 where
@@ -188,87 +243,106 @@ record IsRootedWay (given path way : List ℕ) : Type 0 where
   leads : remove_dot_segments (joined_path given way) ≡ path
   below : underflows (joined_path given way) ≡ false
   no_authority : has_authority way ≡ false
-  no_scheme : has_colon_first way ≡ false
+  no_scheme : has_colon_in_first_segment way ≡ false
 
-rooted_way : (given rest : List ℕ) (double : Bool) → has_authority (47 ∷ rest) ≡ double
+-- references to a target: a path from the root, guarded if it begins with `//` (double), leads from
+-- any base (given) to itself
+path-from-root-is-rooted-way : (given rest : List ℕ) (double : Bool) → has_authority (47 ∷ rest)
+    ≡ double
     → lacks_dot_segments (47 ∷ rest) ≡ true
     → IsRootedWay given (47 ∷ rest) (cond double (codes "/." ++ (47 ∷ rest)) (47 ∷ rest))
-rooted_way given rest true e plain = record {
+path-from-root-is-rooted-way given rest true e dotless = record {
   some = refl;
-  leads = guard_counts remove_dot_segments removing (47 ∷ rest) refl
-      ∙ removed_of_plain (47 ∷ rest) refl plain;
-  below = guard_counts underflows underflowing (47 ∷ rest) refl
-      ∙ underflows_of_plain (47 ∷ rest) refl plain;
+  leads = guard-counts-as-no-segment remove_dot_segments remove_dot_segments-follows-dots
+      (47 ∷ rest) refl
+      ∙ remove-dots-of-dotless (47 ∷ rest) refl dotless;
+  below = guard-counts-as-no-segment underflows underflows-follows-dots (47 ∷ rest) refl
+      ∙ dotless-path-does-not-underflow (47 ∷ rest) refl dotless;
   no_authority = refl;
   no_scheme = refl;
 }
-rooted_way given rest false e plain = record {
+path-from-root-is-rooted-way given rest false e dotless = record {
   some = refl;
-  leads = removed_of_plain (47 ∷ rest) refl plain;
-  below = underflows_of_plain (47 ∷ rest) refl plain;
+  leads = remove-dots-of-dotless (47 ∷ rest) refl dotless;
+  below = dotless-path-does-not-underflow (47 ∷ rest) refl dotless;
   no_authority = e;
   no_scheme = refl;
 }
 
-pub absolute_way : (given path : List ℕ) → IsAbsolute path → lacks_dot_segments path ≡ true
+-- references to a target: the path from the root, guarded, leads from each base (given) to the path
+pub path-from-root-leads-to-path : (given path : List ℕ) → IsAbsolute path → lacks_dot_segments path
+    ≡ true
     → IsUtf8 path → IsPathTo given path (guarded None path)
-absolute_way given path h plain utf8 =
-    let e = absolute_is path h in
+path-from-root-leads-to-path given path h dotless utf8 =
+    let e = absolute-path-is-slash-and-rest path h in
     let r = subst (λ p. lacks_dot_segments p ≡ true → IsRootedWay given p (guarded None p)) (sym e)
-    (λ k. rooted_way given (drop 1 path) (has_authority (47 ∷ drop 1 path)) refl k) plain in
+    (λ k. path-from-root-is-rooted-way given (drop 1 path) (has_authority (47 ∷ drop 1 path)) refl
+    k) dotless in
     record {
       some = r.some;
       leads = r.leads;
       below = r.below;
       no_authority = r.no_authority;
       no_scheme = r.no_scheme;
-      lacks = λ l. test_lacks (codes "?#") (guarded None path)
-          (guarded_lacks path (lacks_test (codes "?#") path l));
-      valid = λ set w slash e. absolute_valid set w slash path utf8 e;
+      lacks = λ l. test-of-delimiters-gives-lacks (codes "?#") (guarded None path)
+          (guarded-path-lacks-marks path (lacked-delimiters-fail-test (codes "?#") path l));
+      valid = λ set w slash e. path-from-root-is-valid-for-set set w slash path utf8 e;
     }
 
--- what is pushed leads to the path
-pub way_pushed : {A E : Type 0} (result : Result A E) (pushes short least : List ℕ → Type 0)
+-- references to a target: the path that was appended leads to the path, is as short as short says,
+-- and the least as least says
+pub pushed-path-leads-to-path : {A E : Type 0} (result : Result A E)
+    (pushes short least : List ℕ → Type 0)
     (way given path : List ℕ) → OnOk result (pushes way) → IsPathTo given path way → short way
     → least way
     → OnOk result ((way : List ℕ) × pushes way × IsPathTo given path way × short way × least way)
-way_pushed (Ok a) pushes short least way given path e w s l = (way, e, w, s, l)
-way_pushed (Err a) pushes short least way given path e w s l = tt
+pushed-path-leads-to-path (Ok a) pushes short least way given path e w s l = (way, e, w, s, l)
+pushed-path-leads-to-path (Err a) pushes short least way given path e w s l = tt
 
-pub boundary : (path bytes : List ℕ) (last : ℕ) → bytes ≡ path → IsUtf8 path
+-- relative paths: a character begins after the last shared slash (47)
+pub boundary-after-last-slash : (path bytes : List ℕ) (last : ℕ) → bytes ≡ path → IsUtf8 path
     → last < length bytes → get_or bytes last 0 ≡ 47 → IsCharBoundary path (last + 1)
-boundary path bytes last e utf8 within at =
+boundary-after-last-slash path bytes last e utf8 within at =
     IsCharBoundary-after_ascii path last utf8
     (let h : last < length path = subst (λ t. last < length t) e within in h)
     (let h : get_or path last 0 ≡ 47 = subst (λ t. get_or t last 0 ≡ 47) e at in
     let k : get_or path last 0 < 128 = omega arith in k)
 
-pub rest_whole : (n : ℕ) (l : List ℕ) → take (length l - n) (drop n l) ≡ drop n l
-rest_whole n l = ap (λ m. take m (drop n l)) (sym (length-drop n l)) ∙ take-length (drop n l)
+-- general fact on lists, for relative paths: all of what is left after n is taken
+pub take-all-of-suffix : (n : ℕ) (l : List ℕ) → take (length l - n) (drop n l) ≡ drop n l
+take-all-of-suffix n l = ap (λ m. take m (drop n l)) (sym (length-drop n l))
+    ∙ take-length (drop n l)
 
-pub shared_as : (n : ℕ) (a b p q : List ℕ) → a ≡ b → p ≡ q → IsSharedFront n a p
-    → IsSharedFront n b q
-shared_as n a b p q e f h = subst (λ t. IsSharedFront n t q) e (subst (IsSharedFront n a) f h)
+-- relative paths: equal texts share the same prefix
+pub shared-prefix-of-equals : (n : ℕ) (a b p q : List ℕ) → a ≡ b → p ≡ q → IsSharedPrefix n a p
+    → IsSharedPrefix n b q
+shared-prefix-of-equals n a b p q e f h = subst (λ t. IsSharedPrefix n t q) e
+    (subst (IsSharedPrefix n a) f h)
 
-pub relative_pushed : {A E : Type 0} (result : Result A E)
-    (pushes short least : List ℕ → Type 0) (n : ℕ) (base given path : List ℕ) (climbs : ℕ)
-    (rest : List ℕ) → climbs ≡ slashes (drop n base)
-    → rest ≡ drop n path → OnOk result (pushes (relative_path climbs rest))
-    → IsPathTo given path (relative_from n base path) → short (relative_path climbs rest)
-    → least (relative_path climbs rest)
+-- relative paths: the one that was appended leads to the path, is as short as short says, and the
+-- least as least says; double_dots: how many `../` it begins with
+pub pushed-relative-path-leads-to-path : {A E : Type 0} (result : Result A E)
+    (pushes short least : List ℕ → Type 0) (n : ℕ) (base given path : List ℕ) (double_dots : ℕ)
+    (rest : List ℕ) → double_dots ≡ slashes (drop n base)
+    → rest ≡ drop n path → OnOk result (pushes (relative_path double_dots rest))
+    → IsPathTo given path (relative_from n base path) → short (relative_path double_dots rest)
+    → least (relative_path double_dots rest)
     → OnOk result ((way : List ℕ) × pushes way × IsPathTo given path way × short way × least way)
-relative_pushed result pushes short least n base given path climbs rest e f h way s l =
-    let same : relative_path climbs rest ≡ relative_from n base path =
+pushed-relative-path-leads-to-path result pushes short least n base given path double_dots rest e f
+    h way s l =
+    let same : relative_path double_dots rest ≡ relative_from n base path =
     ap (λ m. relative_path m rest) e
     ∙ ap (λ t. relative_path (slashes (drop n base)) t) f in
-    way_pushed result pushes short least (relative_from n base path) given path
+    pushed-path-leads-to-path result pushes short least (relative_from n base path) given path
     (subst (λ t. OnOk result (pushes t)) same h) way (subst short same s) (subst least same l)
 
--- the path that goes up, against the path from the root
-pub relative_fits : (n : ℕ) (path rest way : List ℕ) (guard : ℕ) → rest ≡ drop n path
+-- relative paths: one that goes up n times is no longer than the path from the root,
+-- by its length; guard: that of the guard
+pub relative-path-is-no-longer-than-from-root : (n : ℕ) (path rest way : List ℕ) (guard : ℕ) → rest
+    ≡ drop n path
     → n ≤ length path → length (guarded None path) ≡ guard + length path
     → length way ≤ n + guard + length rest → length way ≤ length (guarded None path)
-relative_fits n path rest way guard e within whole h = omega (
+relative-path-is-no-longer-than-from-root n path rest way guard e within whole h = omega (
   arith,
   h,
   whole,

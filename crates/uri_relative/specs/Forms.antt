@@ -3,70 +3,79 @@ use Rattle.std.specs.Prelude.{◌≡◌, ◌≢◌, ◌≤◌, ℕ, Bool, true, 
 use Rattle.std.specs.Prelude.{None, ◌==◌, ◌&&◌, if◌then◌else◌, is_none, is_some, slice_index}
 use Rattle.uri_pct.specs.Delimiters.{full_stop, slash}
 use Rattle.uri_parts.specs.Components.{Components, IsSplitOf, marked, recompose, starts}
-use Rattle.uri_parts.specs.Grammar.{Kind, are_components}
+use Rattle.uri_parts.specs.Grammar.{Kind, components_meet_rules}
 use Rattle.uri_parts.specs.Positions.{positions_of}
 use Rattle.uri_parts.specs.declared.positions.Positions.{Positions}
 use Rattle.uri_ops.specs.Dots.{IsAbsolute, lacks_dot_segments}
 use Rattle.uri_ops.specs.NormalTargets.{reference_kind}
-use Rattle.uri_ops.specs.Target.{guarded, is_opaque, is_refused_as_opaque, target_of}
+use Rattle.uri_ops.specs.Target.{guarded, is_opaque, is_opaque_rejection, target_of}
 use Rattle.uri_ops.specs.Target.{target_underflows}
 use Rattle.uri_relative.specs.Leading.{IsRelativeTo}
 use Rattle.uri_relative.specs.Shortest.{Shortest}
 
--- what stands behind the path, with the marks
+-- the text after the path of these components: the query and the fragment with their delimiters
 abbrev pub after_path : Components → List ℕ
 after_path p = marked (codes "?") p.query [] ++ marked (codes "#") p.fragment []
 
--- what stands behind the scheme and its mark
+-- the text after the scheme of these components and its `:`
 abbrev pub after_scheme : Components → List ℕ
 after_scheme p = marked (codes "//") p.authority [] ++ (p.path ++ after_path p)
 
--- the target without its scheme, if it has an authority
+-- the components of a target without the scheme, if it has an authority: a reference that begins
+-- with `//`
 abbrev pub from_authority : Components → Components
 from_authority p = if is_some p.authority then record p { scheme = None } else p
 
--- the components of a reference of the kind that leads from the base to the target, of which no
--- dot segment is removed. Where paths from the root are not left for longer ones, it is no longer,
--- and none is shorter if the base's path has no dot segment.
+-- The components of a reference of the kind that leads from the base to a target without dot
+-- segments to remove; `prefers`: a relative path is preferred.
+-- Unless it is, the reference is no longer than the target, and none is shorter if the base's path
+-- has no dot segment.
 pub record IsReferenceTo (kind : Kind) (prefers : Bool) (base target r : Components) : Type 0 where
   pub split : IsSplitOf (recompose r) r
-  pub meets : are_components (reference_kind kind) r ≡ true
+  pub meets : components_meet_rules (reference_kind kind) r ≡ true
   pub leads : target_of base r ≡ target
-  pub taken : is_refused_as_opaque base r ≡ false
+  pub taken : is_opaque_rejection base r ≡ false
   pub below : target_underflows base r ≡ false
   pub relative : IsRelativeTo base target r
   pub short : prefers ≡ false → length (recompose r) ≤ length (recompose target)
   pub shortest : prefers ≡ false → lacks_dot_segments base.path ≡ true
       → Shortest kind base target (length (recompose r))
 
--- the text, with the positions of its components, is such a reference, whatever is preferred
+-- The text is that of a reference of the kind from the base to the target, in this order, and the
+-- positions are those of its components.
+-- It is one whether or not a relative path is preferred.
 abbrev pub IsTextOfReference : Kind → Components → Components → List ℕ → Positions → Type 0
 IsTextOfReference kind base target text positions =
     (r : Components) × (text ≡ recompose r) × (positions ≡ positions_of r)
     × ((prefers : Bool) → IsReferenceTo kind prefers base target r)
 
--- no reference without a path leads to the target
+-- No reference without a path leads from the base to the target: if authority and path are equal,
+-- the queries differ and the target has none.
+-- With an opaque base the target may have a query: such a base takes no reference that begins with
+-- `?`.
 pub record NeedsPath (base target : Components) : Type 0 where
   pub other_query : base.authority ≡ target.authority → base.path ≡ target.path
       → base.query ≢ target.query
   pub no_query : base.authority ≡ target.authority → base.path ≡ target.path
       → is_opaque base ≡ false → is_none target.query ≡ true
 
--- the reference has a path that leads from the base's to the target's
-pub record IsPathNeeded (base target : Components) : Type 0 where
+-- the reference from the base to the target has a path that leads from the base's to the target's:
+-- scheme and authority are equal
+pub record NeedsRelativePath (base target : Components) : Type 0 where
   pub scheme : base.scheme ≡ target.scheme
   pub authority : base.authority ≡ target.authority
   pub opaque : is_opaque base ≡ false
   pub absolute : starts slash target.path ≡ true
   pub needs : NeedsPath base target
 
--- the path before `/.` was put before it: section 5.2.2
+-- the path is the target's without a guard `/.`: with its guard, if it needs one, it is the
+-- target's (section 5.2.2)
 pub record IsUnguarded (target : Components) (path : List ℕ) : Type 0 where
   pub absolute : IsAbsolute path
-  pub plain : lacks_dot_segments path ≡ true
+  pub dotless : lacks_dot_segments path ≡ true
   pub guards : guarded target.authority path ≡ target.path
 
--- the path begins with `/.//`
+-- whether a path begins with the guard `/.` and `//` (section 4.2)
 abbrev pub is_guarded : List ℕ → Bool
 is_guarded path =
     slice_index path 0 == slash && slice_index path 1 == full_stop

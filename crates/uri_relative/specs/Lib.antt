@@ -2,4 +2,5 @@ pub mod Relative
 pub mod Leading
 pub mod Shortest
 pub mod Forms
+pub mod Rule
 pub mod Relativizers

@@ -2,19 +2,19 @@
 ghost use Rattle.std.specs.Prelude.{◌≡◌, ◌<◌, false, length, not};
 ghost use Rattle.uri_ops.specs.Dots.{IsAbsolute, is_dot_segment, is_double_dot, is_single_dot};
 ghost use Rattle.uri_ops.specs.Dots.{lacks_dot_segments};
-ghost use Rattle.uri_ops.specs.Models.LeadingSegments.{IsBeforeDots};
+ghost use Rattle.uri_ops.specs.Models.LeadingSegments.{IsPrefixToSlashDot};
 
 use uri_pct::lanes::LANES;
 use uri_pct::search::len_before_slash_dot;
 
-/// Whether a segment is `.`. The dot counts percent-encoded too.
+/// Returns whether a segment is `.`, also percent-encoded.
 fn is_single_dot(segment: &str) -> bool
     ensures { result ≡ is_single_dot segment.now }
 {
     segment == "." || segment == "%2E" || segment == "%2e"
 }
 
-/// Whether a segment is `..`. Each dot counts percent-encoded too.
+/// Returns whether a segment is `..`. Each dot may be percent-encoded.
 fn is_double_dot(segment: &str) -> bool
     ensures { result ≡ is_double_dot segment.now }
 {
@@ -29,18 +29,18 @@ fn is_double_dot(segment: &str) -> bool
         || segment == "%2e%2e"
 }
 
-/// Whether a segment is a dot segment.
+/// Returns whether a segment is `.` or `..`, where each dot may be percent-encoded.
 fn is_dot_segment(segment: &str) -> bool
     ensures { result ≡ is_dot_segment segment.now }
 {
     is_single_dot(segment) || is_double_dot(segment)
 }
 
-/// Whether a dot or an octet stands behind a `/`, as each dot segment of a path does that begins
-/// with `/`.
+/// Returns whether a `/` is followed by `.` or `%`. In a path that begins with `/`, every dot
+/// segment is preceded by a `/`, and begins with one of the two.
 fn may_have_dots(bytes: &[u8]) -> bool
     requires { 0 < length bytes.now }
-    ensures { result ≡ false → IsBeforeDots bytes.now (length bytes.now) }
+    ensures { result ≡ false → IsPrefixToSlashDot bytes.now (length bytes.now) }
 {
     let mut i = 0;
     while i + LANES < bytes.len() {
@@ -58,7 +58,7 @@ fn may_have_dots(bytes: &[u8]) -> bool
     false
 }
 
-/// Whether a path that begins with `/` has a dot segment.
+/// Returns whether a path that begins with `/` has a dot segment.
 pub(crate) fn has_dot_segments(path: &str) -> bool
     requires { IsAbsolute path.now }
     ensures { result ≡ not (lacks_dot_segments path.now) }

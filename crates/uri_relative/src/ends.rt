@@ -1,77 +1,77 @@
-//! The ends of a target's text that may be references to it (RFC 3986, section 4.2).
+//! The suffixes of a target's text that may be references to it (RFC 3986, section 4.2).
 ghost use Rattle.std.specs.Prelude.{◌≡◌, [], None};
 ghost use Rattle.uri_parts.specs.Components.{components, recompose};
 ghost use Rattle.uri_parts.specs.CoreTexts.{core_text};
 ghost use Rattle.uri_parts.specs.Positions.{positions_of};
 ghost use Rattle.uri_relative.specs.Forms.{from_authority};
 
-use crate::pieces::{after_path, after_scheme, marked_fragment};
+use crate::pieces::{after_path, after_scheme, fragment_with_delimiter};
 use crate::places::{positions_after_scheme, positions_of_fragment, positions_with_path};
 use uri_parts::core_text::Core;
 use uri_parts::kind::Kind;
 use uri_parts::positions::Positions;
 
-/// The end of a text, and where the components are in it.
+/// A suffix of a text, and the positions of its components.
 #[derive(Drop)]
-pub(crate) struct End<'a> {
+pub(crate) struct TargetSuffix<'a> {
     pub(crate) text: &'a str,
     pub(crate) positions: Positions,
 }
 
-impl<'a> End<'a> {
-    /// All of the text.
+impl<'a> TargetSuffix<'a> {
+    /// Returns all of the target's text.
     #[inline(always)]
-    pub(crate) fn whole<K: Kind>(target: Core<K, &'a str>) -> End<'a>
+    pub(crate) fn whole<K: Kind>(target: Core<K, &'a str>) -> TargetSuffix<'a>
         ensures text { result.text.now ≡ core_text target.entry }
         ensures at { result.positions ≡ positions_of (components (core_text target.entry)) }
     {
-        End {
+        TargetSuffix {
             text: target.as_str(),
             positions: target.positions(),
         }
     }
 
-    /// The text without its scheme, if it has an authority, and else all of it.
+    /// Returns the target's text without its scheme if it has an authority, or else all of it.
     #[inline(always)]
-    pub(crate) fn from_authority<K: Kind>(target: Core<K, &'a str>) -> End<'a>
+    pub(crate) fn from_authority<K: Kind>(target: Core<K, &'a str>) -> TargetSuffix<'a>
         ensures text { result.text.now
             ≡ recompose (from_authority (components (core_text target.entry))) }
         ensures at { result.positions
             ≡ positions_of (from_authority (components (core_text target.entry))) }
     {
         if target.has_authority() {
-            return End {
+            return TargetSuffix {
                 text: after_scheme(target),
                 positions: positions_after_scheme(target),
             };
         }
-        End::whole(target)
+        TargetSuffix::whole(target)
     }
 
-    /// The query and the fragment with their marks.
+    /// Returns the target's query and fragment with their delimiters.
     #[inline(always)]
-    pub(crate) fn from_query<K: Kind>(target: Core<K, &'a str>) -> End<'a>
+    pub(crate) fn from_query<K: Kind>(target: Core<K, &'a str>) -> TargetSuffix<'a>
         ensures text { let t = components (core_text target.entry) in result.text.now
             ≡ recompose (record t { scheme = None; authority = None; path = [] }) }
         ensures at { let t = components (core_text target.entry) in result.positions
             ≡ positions_of (record t { scheme = None; authority = None; path = [] }) }
     {
-        End {
+        TargetSuffix {
             text: after_path(target),
             positions: positions_with_path(target, 0),
         }
     }
 
-    /// The fragment with its `#`, or no text.
+    /// Returns the target's fragment with its `#`, or nothing.
     #[inline(always)]
-    pub(crate) fn from_fragment<K: Kind>(target: Core<K, &'a str>) -> End<'a>
+    pub(crate) fn from_fragment<K: Kind>(target: Core<K, &'a str>) -> TargetSuffix<'a>
         ensures text { let t = components (core_text target.entry) in result.text.now
             ≡ recompose (record t { scheme = None; authority = None; path = []; query = None }) }
         ensures at { let t = components (core_text target.entry) in result.positions
             ≡ positions_of (record t { scheme = None; authority = None; path = []; query = None }) }
     {
-        End {
-            text: marked_fragment(target),
+        TargetSuffix {
+            text: fragment_with_delimiter(target),
             positions: positions_of_fragment(),
         }
     }

@@ -1,4 +1,5 @@
-//! What a text consists of, for references that lead to it (RFC 3986, section 4.2).
+//! Components of a text with their delimiters, and comparisons of two texts' components (RFC 3986,
+//! section 4.2).
 ghost use Rattle.std.specs.Prelude.{◌≡◌, ◌↔◌, [], codes, option_map, true};
 ghost use Rattle.uri_parts.specs.Components.{components, marked};
 ghost use Rattle.uri_parts.specs.CoreTexts.{core_text};
@@ -10,7 +11,7 @@ use uri_ops::path::slashes::begins_with_slash;
 use uri_parts::core_text::Core;
 use uri_parts::kind::Kind;
 
-/// The path.
+/// Returns the path of a text.
 #[inline(always)]
 pub(crate) fn path<'a, K: Kind>(core: Core<K, &'a str>) -> &'a str
     ensures { result.now ≡ (components (core_text core.entry)).path }
@@ -18,7 +19,7 @@ pub(crate) fn path<'a, K: Kind>(core: Core<K, &'a str>) -> &'a str
     core.positions().path(core.as_str())
 }
 
-/// What stands behind the scheme and its `:`, or all if there is none.
+/// Returns the text after the scheme and its `:`, or all of it if there is no scheme.
 #[inline(always)]
 pub(crate) fn after_scheme<'a, K: Kind>(core: Core<K, &'a str>) -> &'a str
     ensures { result.now ≡ after_scheme (components (core_text core.entry)) }
@@ -30,7 +31,7 @@ pub(crate) fn after_scheme<'a, K: Kind>(core: Core<K, &'a str>) -> &'a str
     }
 }
 
-/// The query and the fragment with their marks: what stands behind the path.
+/// Returns the text after the path: the query and the fragment with their delimiters.
 #[inline(always)]
 pub(crate) fn after_path<'a, K: Kind>(core: Core<K, &'a str>) -> &'a str
     ensures { result.now ≡ after_path (components (core_text core.entry)) }
@@ -39,9 +40,9 @@ pub(crate) fn after_path<'a, K: Kind>(core: Core<K, &'a str>) -> &'a str
     &text[core.positions().path_end..]
 }
 
-/// The query with its `?`, or no text.
+/// Returns the query with its `?`, or nothing.
 #[inline(always)]
-pub(crate) fn marked_query<'a, K: Kind>(core: Core<K, &'a str>) -> &'a str
+pub(crate) fn query_with_delimiter<'a, K: Kind>(core: Core<K, &'a str>) -> &'a str
     ensures { result.now ≡ marked (codes "?") (components (core_text core.entry)).query [] }
 {
     let text = core.as_str();
@@ -49,16 +50,16 @@ pub(crate) fn marked_query<'a, K: Kind>(core: Core<K, &'a str>) -> &'a str
     &text[positions.path_end..positions.before_fragment()]
 }
 
-/// The fragment with its `#`, or no text.
+/// Returns the fragment with its `#`, or nothing.
 #[inline(always)]
-pub(crate) fn marked_fragment<'a, K: Kind>(core: Core<K, &'a str>) -> &'a str
+pub(crate) fn fragment_with_delimiter<'a, K: Kind>(core: Core<K, &'a str>) -> &'a str
     ensures { result.now ≡ marked (codes "#") (components (core_text core.entry)).fragment [] }
 {
     let text = core.as_str();
     &text[core.positions().before_fragment()..]
 }
 
-/// Whether a base takes no reference without a scheme but fragments.
+/// Returns whether a base is opaque: of references without a scheme, it takes only fragments.
 #[inline(always)]
 pub(crate) fn is_opaque<K: Kind>(base: Core<K, &str>) -> bool
     ensures { result ≡ is_opaque (components (core_text base.entry)) }
@@ -66,9 +67,9 @@ pub(crate) fn is_opaque<K: Kind>(base: Core<K, &str>) -> bool
     !base.has_authority() && !begins_with_slash(path(base).as_bytes())
 }
 
-/// Whether two components are the same, or both are absent.
+/// Returns whether two components are equal, or both are absent.
 #[inline(always)]
-fn are_same(one: Option<&str>, other: Option<&str>) -> bool
+fn are_equal_components(one: Option<&str>, other: Option<&str>) -> bool
     ensures { (result ≡ true)
         ↔ (option_map (λ s. s.now) one.entry ≡ option_map (λ s. s.now) other.entry) }
 {
@@ -79,31 +80,31 @@ fn are_same(one: Option<&str>, other: Option<&str>) -> bool
     }
 }
 
-/// Whether the schemes are the same.
+/// Returns whether a base and a target have equal schemes.
 #[inline(always)]
 pub(crate) fn have_same_scheme<K: Kind>(base: Core<K, &str>, target: Core<K, &str>) -> bool
     ensures { (result ≡ true) ↔ ((components (core_text base.entry)).scheme
         ≡ (components (core_text target.entry)).scheme) }
 {
-    are_same(
+    are_equal_components(
         base.positions().scheme(base.as_str()),
         target.positions().scheme(target.as_str()),
     )
 }
 
-/// Whether the authorities are the same, or both are absent.
+/// Returns whether a base and a target have equal authorities, or neither has one.
 #[inline(always)]
 pub(crate) fn have_same_authority<K: Kind>(base: Core<K, &str>, target: Core<K, &str>) -> bool
     ensures { (result ≡ true) ↔ ((components (core_text base.entry)).authority
         ≡ (components (core_text target.entry)).authority) }
 {
-    are_same(
+    are_equal_components(
         base.positions().authority(base.as_str()),
         target.positions().authority(target.as_str()),
     )
 }
 
-/// Whether the paths are the same.
+/// Returns whether a base and a target have equal paths.
 #[inline(always)]
 pub(crate) fn have_same_path<K: Kind>(base: Core<K, &str>, target: Core<K, &str>) -> bool
     ensures { (result ≡ true) ↔ ((components (core_text base.entry)).path
@@ -112,19 +113,19 @@ pub(crate) fn have_same_path<K: Kind>(base: Core<K, &str>, target: Core<K, &str>
     path(base) == path(target)
 }
 
-/// Whether the queries are the same, or both are absent.
+/// Returns whether a base and a target have equal queries, or neither has one.
 #[inline(always)]
 pub(crate) fn have_same_query<K: Kind>(base: Core<K, &str>, target: Core<K, &str>) -> bool
     ensures { (result ≡ true) ↔ ((components (core_text base.entry)).query
         ≡ (components (core_text target.entry)).query) }
 {
-    are_same(
+    are_equal_components(
         base.positions().query(base.as_str()),
         target.positions().query(target.as_str()),
     )
 }
 
-/// The scheme and the authority with their marks: what stands before the path.
+/// Returns the text before the path: the scheme and the authority with their delimiters.
 #[inline(always)]
 pub(crate) fn before_path<'a, K: Kind>(core: Core<K, &'a str>) -> &'a str
     ensures { result.now ≡ before_path (components (core_text core.entry)) }

@@ -1,19 +1,19 @@
-//! Where the components of a reference are that consists of the end of a target's text (RFC 3986,
-//! section 4.2).
+//! The positions of a reference that is a suffix of a target's text, or a path before one (RFC
+//! 3986, section 4.2).
 ghost use Rattle.std.specs.Prelude.{◌≡◌, ◌≤◌, ◌+◌, ◌-◌, ◌^◌, ℕ, List, [], IfSome, None, length};
 ghost use Rattle.std.specs.Prelude.{option_map};
 ghost use Rattle.uri_parts.specs.Components.{Components, components};
 ghost use Rattle.uri_parts.specs.CoreTexts.{core_text};
-ghost use Rattle.uri_parts.specs.Positions.{authority_at, marked_length, positions_of};
+ghost use Rattle.uri_parts.specs.Positions.{authority_at, delimited_length, positions_of};
 
-use crate::pieces::marked_query;
+use crate::pieces::query_with_delimiter;
 use uri_parts::core_text::Core;
 use uri_parts::kind::Kind;
 use uri_parts::positions::{AuthorityPositions, Positions};
 
-/// A position counted from so many bytes later on.
+/// Returns a position in a text without its first `start` bytes.
 #[inline(always)]
-fn counted_from(start: usize, position: Option<usize>) -> Option<usize>
+fn shift_position_back(start: usize, position: Option<usize>) -> Option<usize>
     requires { IfSome position (λ p. start ≤ p) }
     ensures { result ≡ option_map (λ p. p - start) position }
 {
@@ -23,9 +23,9 @@ fn counted_from(start: usize, position: Option<usize>) -> Option<usize>
     }
 }
 
-/// The positions of an authority counted from so many bytes later on.
+/// Returns the positions of an authority in a text without its first `start` bytes.
 #[inline(always)]
-fn authority_from(start: usize, authority: AuthorityPositions) -> AuthorityPositions
+fn shift_authority_back(start: usize, authority: AuthorityPositions) -> AuthorityPositions
     requires start { start ≤ authority.start }
     requires host_start { start ≤ authority.host_start }
     requires host_end { start ≤ authority.host_end }
@@ -43,20 +43,21 @@ fn authority_from(start: usize, authority: AuthorityPositions) -> AuthorityPosit
     }
 }
 
-/// Where the authority is, counted from after the scheme and its `:`, which end there.
+/// Returns the positions of the authority in a text without its scheme and `:`, which end at
+/// `start`.
 #[inline(always)]
 fn authority_after_scheme<K: Kind>(core: Core<K, &str>, start: usize) -> Option<AuthorityPositions>
-    requires { start ≡ marked_length 1 (components (core_text core)).scheme }
+    requires { start ≡ delimited_length 1 (components (core_text core)).scheme }
     ensures { let t = components (core_text core.entry) in
         result ≡ option_map (authority_at 2) t.authority }
 {
     match core.positions().authority {
-        Some(authority) => Some(authority_from(start, authority)),
+        Some(authority) => Some(shift_authority_back(start, authority)),
         None => None,
     }
 }
 
-/// The positions in a text without its scheme.
+/// Returns the positions in a text without its scheme.
 #[inline(always)]
 pub(crate) fn positions_after_scheme<K: Kind>(core: Core<K, &str>) -> Positions
     ensures { let t = components (core_text core.entry) in
@@ -72,13 +73,13 @@ pub(crate) fn positions_after_scheme<K: Kind>(core: Core<K, &str>) -> Positions
                 authority: authority_after_scheme(core, start),
                 path_start: positions.path_start - start,
                 path_end: positions.path_end - start,
-                query_end: counted_from(start, positions.query_end),
+                query_end: shift_position_back(start, positions.query_end),
             }
         }
     }
 }
 
-/// Where the query ends, if there is one, after a path of this length.
+/// Returns the end of the query, if there is one, after a path of this length.
 #[inline(always)]
 fn query_end_after<K: Kind>(core: Core<K, &str>, path_len: usize) -> Option<usize>
     requires { path_len ≤ 2 ^ 63 }
@@ -86,12 +87,13 @@ fn query_end_after<K: Kind>(core: Core<K, &str>, path_len: usize) -> Option<usiz
         result ≡ option_map (λ q. path_len + 1 + length q) t.query }
 {
     if core.has_query() {
-        return Some(path_len + marked_query(core).len());
+        return Some(path_len + query_with_delimiter(core).len());
     }
     None
 }
 
-/// The positions where a path of this length stands before the target's query and fragment.
+/// Returns the positions in a reference that is a path of this length, followed by the target's
+/// query and fragment.
 #[inline(always)]
 pub(crate) fn positions_with_path<K: Kind>(core: Core<K, &str>, path_len: usize) -> Positions
     requires { path_len ≤ 2 ^ 63 }
@@ -108,7 +110,7 @@ pub(crate) fn positions_with_path<K: Kind>(core: Core<K, &str>, path_len: usize)
     }
 }
 
-/// The positions of a fragment alone, or of nothing.
+/// Returns the positions in a reference that is a fragment alone, or empty.
 #[inline(always)]
 pub(crate) fn positions_of_fragment() -> Positions
     ensures { (t : Components) → result ≡ positions_of

@@ -1,15 +1,16 @@
 //! The text of a reference that leads from a base to a target (RFC 3986, sections 4.2 and 5.2).
-ghost use Rattle.std.specs.Prelude.{◌≡◌, IfOk, IfSome, IsNone, false, true};
+ghost use Rattle.std.specs.Prelude.{◌≡◌, Bool, IfOk, IfSome, IsNone, OnOk, false, true};
 ghost use Rattle.uri_pct.specs.Delimiters.{slash};
 ghost use Rattle.uri_pct.specs.Texts.{Pushes};
 ghost use Rattle.uri_parts.specs.Components.{Components, components, recompose, starts};
 ghost use Rattle.uri_parts.specs.CoreTexts.{core_text};
 ghost use Rattle.uri_parts.specs.Positions.{positions_of};
-ghost use Rattle.uri_ops.specs.Resolving.{finished};
-ghost use Rattle.uri_relative.specs.Forms.{IsPathNeeded, IsReferenceTo, IsTextOfReference};
+ghost use Rattle.uri_ops.specs.Resolving.{with_final_path};
+ghost use Rattle.uri_relative.specs.Forms.{NeedsRelativePath, IsReferenceTo, IsTextOfReference};
 ghost use Rattle.uri_relative.specs.Forms.{IsUnguarded, NeedsPath, is_guarded};
+ghost use Rattle.uri_relative.specs.Rule.{reference_components};
 
-use crate::ends::End;
+use crate::ends::TargetSuffix;
 use crate::paths::push_path;
 use crate::pieces::{
     after_path, have_same_authority, have_same_path, have_same_query, have_same_scheme, is_opaque,
@@ -22,9 +23,9 @@ use uri_ops::path::slashes::begins_with_slash;
 use uri_parts::core_text::Core;
 use uri_parts::positions::Positions;
 
-/// Whether the authorities are the same, and the paths.
+/// Returns whether a base and a target have equal authorities, and equal paths too.
 #[inline(always)]
-fn have_same_place<K: BaseKind>(base: Core<K, &str>, target: Core<K, &str>) -> bool
+fn have_same_authority_and_path<K: BaseKind>(base: Core<K, &str>, target: Core<K, &str>) -> bool
     ensures same { result ≡ true → ((components (core_text base.entry)).authority
         ≡ (components (core_text target.entry)).authority)
         × ((components (core_text base.entry)).path ≡ (components (core_text target.entry)).path) }
@@ -40,23 +41,30 @@ fn have_same_place<K: BaseKind>(base: Core<K, &str>, target: Core<K, &str>) -> b
     have_same_path(base, target)
 }
 
-/// The reference that has no path: the end of the target's text, if it leads there.
+/// Returns the reference without a path, if there is one: the target's text from the fragment or
+/// the query on.
 #[inline(always)]
-fn without_path<'a, K: BaseKind>(base: Core<K, &str>, target: Core<K, &'a str>) -> Option<End<'a>>
-    requires settled { let t = components (core_text target) in finished t ≡ t }
+fn suffix_without_path<'a, K: BaseKind>(
+    base: Core<K, &str>,
+    target: Core<K, &'a str>,
+) -> Option<TargetSuffix<'a>>
+    requires settled { let t = components (core_text target) in with_final_path t ≡ t }
     requires scheme { (components (core_text base)).scheme
         ≡ (components (core_text target)).scheme }
     ensures some { IfSome result (λ end. IsTextOfReference K.kind
         (components (core_text base.entry)) (components (core_text target.entry))
         end.text.now end.positions) }
+    ensures text { IfSome result (λ end. (prefers : Bool) → end.text.now
+        ≡ recompose (reference_components prefers (components (core_text base.entry))
+        (components (core_text target.entry)))) }
     ensures none { IsNone result → NeedsPath (components (core_text base.entry))
         (components (core_text target.entry)) }
 {
-    if !have_same_place(base, target) {
+    if !have_same_authority_and_path(base, target) {
         return None;
     }
     if have_same_query(base, target) {
-        return Some(End::from_fragment(target));
+        return Some(TargetSuffix::from_fragment(target));
     }
     if !target.has_query() {
         return None;
@@ -64,56 +72,68 @@ fn without_path<'a, K: BaseKind>(base: Core<K, &str>, target: Core<K, &'a str>) 
     if is_opaque(base) {
         return None;
     }
-    Some(End::from_query(target))
+    Some(TargetSuffix::from_query(target))
 }
 
-/// The reference from the scheme or the authority on, unless it has a path that leads from the
-/// base's.
+/// Returns the target's text from the scheme or the authority on, or none if a path leads from the
+/// base's to the target's.
 #[inline(always)]
-fn with_authority<'a, K: BaseKind>(base: Core<K, &str>, target: Core<K, &'a str>) -> Option<End<'a>>
-    requires settled { let t = components (core_text target) in finished t ≡ t }
+fn suffix_from_authority<'a, K: BaseKind>(
+    base: Core<K, &str>,
+    target: Core<K, &'a str>,
+) -> Option<TargetSuffix<'a>>
+    requires settled { let t = components (core_text target) in with_final_path t ≡ t }
     requires scheme { (components (core_text base)).scheme
         ≡ (components (core_text target)).scheme }
     requires path { NeedsPath (components (core_text base)) (components (core_text target)) }
     ensures some { IfSome result (λ end. IsTextOfReference K.kind
         (components (core_text base.entry)) (components (core_text target.entry))
         end.text.now end.positions) }
-    ensures none { IsNone result → IsPathNeeded (components (core_text base.entry))
+    ensures text { IfSome result (λ end. (prefers : Bool) → end.text.now
+        ≡ recompose (reference_components prefers (components (core_text base.entry))
+        (components (core_text target.entry)))) }
+    ensures none { IsNone result → NeedsRelativePath (components (core_text base.entry))
         (components (core_text target.entry)) }
 {
     if is_opaque(base) {
-        return Some(End::whole(target));
+        return Some(TargetSuffix::whole(target));
     }
     if !have_same_authority(base, target) {
-        return Some(End::from_authority(target));
+        return Some(TargetSuffix::from_authority(target));
     }
     if begins_with_slash(path(target).as_bytes()) {
         return None;
     }
-    Some(End::from_authority(target))
+    Some(TargetSuffix::from_authority(target))
 }
 
-/// The reference that is the end of the target's text, unless it has a path that leads from the
-/// base's.
+/// Returns the reference that is a suffix of the target's text, or none if a path leads from the
+/// base's to the target's.
 #[inline(always)]
-fn target_end<'a, K: BaseKind>(base: Core<K, &str>, target: Core<K, &'a str>) -> Option<End<'a>>
-    requires { let t = components (core_text target) in finished t ≡ t }
+fn target_suffix<'a, K: BaseKind>(
+    base: Core<K, &str>,
+    target: Core<K, &'a str>,
+) -> Option<TargetSuffix<'a>>
+    requires { let t = components (core_text target) in with_final_path t ≡ t }
     ensures some { IfSome result (λ end. IsTextOfReference K.kind
         (components (core_text base.entry)) (components (core_text target.entry))
         end.text.now end.positions) }
-    ensures none { IsNone result → IsPathNeeded (components (core_text base.entry))
+    ensures text { IfSome result (λ end. (prefers : Bool) → end.text.now
+        ≡ recompose (reference_components prefers (components (core_text base.entry))
+        (components (core_text target.entry)))) }
+    ensures none { IsNone result → NeedsRelativePath (components (core_text base.entry))
         (components (core_text target.entry)) }
 {
     if !have_same_scheme(base, target) {
-        return Some(End::whole(target));
+        return Some(TargetSuffix::whole(target));
     }
-    match without_path(base, target) {
+    match suffix_without_path(base, target) {
         Some(end) => Some(end),
-        None => with_authority(base, target),
+        None => suffix_from_authority(base, target),
     }
 }
 
-/// Whether a path begins with `/.//`.
+/// Returns whether a path begins with `/.//`.
 #[inline(always)]
 fn is_guarded(path: &[u8]) -> bool
     ensures { result ≡ is_guarded path.now }
@@ -121,10 +141,10 @@ fn is_guarded(path: &[u8]) -> bool
     matches!(path, [b'/', b'.', b'/', b'/', ..])
 }
 
-/// A path as it stood before `/.` was put before it (RFC 3986, section 5.2.2).
+/// Returns the path of a target without a guard `/.` (RFC 3986, section 5.2.2).
 #[inline(always)]
 fn without_guard<'a, K: BaseKind>(target: Core<K, &'a str>) -> &'a str
-    requires settled { let t = components (core_text target) in finished t ≡ t }
+    requires settled { let t = components (core_text target) in with_final_path t ≡ t }
     requires absolute { starts slash (components (core_text target)).path ≡ true }
     ensures { IsUnguarded (components (core_text target.entry)) result.now }
 {
@@ -138,21 +158,25 @@ fn without_guard<'a, K: BaseKind>(target: Core<K, &'a str>) -> &'a str
     path
 }
 
-/// Appends a reference that has a path, which leads from the base's to the target's, and returns
-/// where its components are in it.
+/// Appends a reference with a path that leads from the base's to the target's. Returns the
+/// positions of its components.
 #[inline(always)]
-fn push_from_path<K: BaseKind>(
+fn push_reference_with_path<K: BaseKind>(
     base: Core<K, &str>,
     target: Core<K, &str>,
     prefers_relative: bool,
     out: &mut String,
 ) -> Result<Positions, AllocError>
-    requires settled { let t = components (core_text target) in finished t ≡ t }
-    requires path { IsPathNeeded (components (core_text base)) (components (core_text target)) }
-    ensures { IfOk result (λ positions. (r : Components) × Pushes out.old out.new (recompose r)
-        × (positions ≡ positions_of r)
+    requires settled { let t = components (core_text target) in with_final_path t ≡ t }
+    requires path { NeedsRelativePath (components (core_text base))
+        (components (core_text target)) }
+    ensures leads { IfOk result (λ positions. (r : Components)
+        × Pushes out.old out.new (recompose r) × (positions ≡ positions_of r)
         × IsReferenceTo K.kind prefers_relative (components (core_text base.entry))
         (components (core_text target.entry)) r) }
+    ensures text { OnOk result (Pushes out.old out.new
+        (recompose (reference_components prefers_relative (components (core_text base.entry))
+        (components (core_text target.entry))))) }
 {
     let start = out.len();
     push_path(path(base), without_guard(target), prefers_relative, out)?;
@@ -161,8 +185,8 @@ fn push_from_path<K: BaseKind>(
     Ok(positions_with_path(target, path_len))
 }
 
-/// Appends a reference that leads from the base to the target, of which no dot segment is removed,
-/// and returns where its components are in it. The base's fragment counts for nothing.
+/// Appends a reference that leads from the base, without its fragment, to a target without dot
+/// segments to remove. Returns the positions of its components.
 #[inline(always)]
 pub(crate) fn push_reference<K: BaseKind>(
     base: Core<K, &str>,
@@ -170,17 +194,20 @@ pub(crate) fn push_reference<K: BaseKind>(
     prefers_relative: bool,
     out: &mut String,
 ) -> Result<Positions, AllocError>
-    requires { let t = components (core_text target) in finished t ≡ t }
-    ensures { IfOk result (λ positions. (r : Components) × Pushes out.old out.new (recompose r)
-        × (positions ≡ positions_of r)
+    requires { let t = components (core_text target) in with_final_path t ≡ t }
+    ensures leads { IfOk result (λ positions. (r : Components)
+        × Pushes out.old out.new (recompose r) × (positions ≡ positions_of r)
         × IsReferenceTo K.kind prefers_relative (components (core_text base.entry))
         (components (core_text target.entry)) r) }
+    ensures text { OnOk result (Pushes out.old out.new
+        (recompose (reference_components prefers_relative (components (core_text base.entry))
+        (components (core_text target.entry))))) }
 {
-    match target_end(base, target) {
+    match target_suffix(base, target) {
         Some(end) => {
             out.push_str(end.text)?;
             Ok(end.positions)
         }
-        None => push_from_path(base, target, prefers_relative, out),
+        None => push_reference_with_path(base, target, prefers_relative, out),
     }
 }

@@ -6,13 +6,14 @@ ghost use Rattle.uri_pct.specs.Texts.{Pushes};
 ghost use Rattle.uri_parts.specs.Components.{components, recompose};
 ghost use Rattle.uri_parts.specs.CoreTexts.{core_text};
 ghost use Rattle.uri_parts.specs.Grammar.{IsOfKind};
-ghost use Rattle.uri_parts.specs.Positions.{AreAt};
+ghost use Rattle.uri_parts.specs.Positions.{ArePositionsOf};
 ghost use Rattle.uri_ops.specs.Dots.{IsAbsolute};
 ghost use Rattle.uri_ops.specs.Models.Places.{before_path};
-ghost use Rattle.uri_ops.specs.Resolving.{finished};
+ghost use Rattle.uri_ops.specs.Resolving.{with_final_path};
 ghost use Rattle.uri_ops.specs.Target.{guarded};
 ghost use Rattle.uri_relative.specs.Forms.{IsReferenceTo};
 ghost use Rattle.uri_relative.specs.Leading.{LeadsTo, settled};
+ghost use Rattle.uri_relative.specs.Rule.{reference_components};
 
 use crate::dots::has_dot_segments;
 use crate::pieces::{after_path, before_path, path};
@@ -25,7 +26,8 @@ use uri_parts::core_text::Core;
 use uri_parts::kind::{IriKind, IriRefKind, Kind, UriKind, UriRefKind};
 use uri_parts::positions::Positions;
 
-/// A kind whose texts have a scheme, with the kind of the references that are resolved against it.
+/// A kind whose texts have a scheme. `Ref` is the kind of the references that are resolved against
+/// its texts.
 #[doc(hidden)]
 pub trait RelativeKind: BaseKind {
     ghost use Rattle.std.specs.Prelude.{false};
@@ -51,8 +53,8 @@ impl RelativeKind for IriKind {
     ghost same_tables = { refl };
 }
 
-/// Puts `/.` before the path that stands in `out` from `start` on, where it would be read as an
-/// authority.
+/// Inserts `/.` before the path in `out` from `start` on, if that begins with `//` and would be
+/// parsed as an authority.
 fn guard_path(start: usize, out: &mut String) -> Result<(), AllocError>
     requires { IsCharBoundary (string_bytes out.old) start }
     ensures { OnOk result (string_bytes out.new
@@ -64,8 +66,11 @@ fn guard_path(start: usize, out: &mut String) -> Result<(), AllocError>
     Ok(())
 }
 
-/// Appends the path of a target as resolving leaves it.
-fn push_settled_path<K: BaseKind>(target: Core<K, &str>, out: &mut String) -> Result<(), AllocError>
+/// Appends the path of a target without its dot segments, as resolving writes it.
+fn push_path_without_removable_dots<K: BaseKind>(
+    target: Core<K, &str>,
+    out: &mut String,
+) -> Result<(), AllocError>
     requires { IsAbsolute (components (core_text target)).path }
     ensures { OnOk result (Pushes out.old out.new (settled (core_text target.entry)).path) }
 {
@@ -78,8 +83,11 @@ fn push_settled_path<K: BaseKind>(target: Core<K, &str>, out: &mut String) -> Re
     Ok(())
 }
 
-/// The text of a target as resolving leaves it: without its dot segments.
-fn settled_text<K: BaseKind>(alloc: Global, target: Core<K, &str>) -> Result<String, AllocError>
+/// Returns the text of a target without its dot segments, as resolving writes it.
+fn text_without_removable_dots<K: BaseKind>(
+    alloc: Global,
+    target: Core<K, &str>,
+) -> Result<String, AllocError>
     requires { IsAbsolute (components (core_text target)).path }
     ensures text { IfOk result (λ text.
         string_bytes text ≡ recompose (settled (core_text target.entry))) }
@@ -87,42 +95,45 @@ fn settled_text<K: BaseKind>(alloc: Global, target: Core<K, &str>) -> Result<Str
 {
     let mut text = String::with_capacity(alloc, target.as_str().len())?;
     text.push_str(before_path(target))?;
-    push_settled_path(target, &mut text)?;
+    push_path_without_removable_dots(target, &mut text)?;
     text.push_str(after_path(target))?;
     Ok(text)
 }
 
-/// The text of a reference, and where its components are.
+/// The text of a reference, and the positions of its components.
 #[derive(Drop)]
-pub(crate) struct Made {
+pub(crate) struct MadeReference {
     pub(crate) text: String,
     pub(crate) positions: Positions,
 }
 
-/// A reference that leads from the base to the target, of which no dot segment is removed.
+/// Returns a reference that leads from the base to a target without dot segments to remove.
 #[inline(always)]
 fn reference<K: BaseKind>(
     alloc: Global,
     base: Core<K, &str>,
     target: Core<K, &str>,
     prefers_relative: bool,
-) -> Result<Made, AllocError>
-    requires { let t = components (core_text target) in finished t ≡ t }
+) -> Result<MadeReference, AllocError>
+    requires { let t = components (core_text target) in with_final_path t ≡ t }
     ensures leads { IfOk result (λ made. IsReferenceTo K.kind prefers_relative
         (components (core_text base.entry)) (components (core_text target.entry))
         (components (string_bytes made.text))) }
-    ensures at { IfOk result (λ made. AreAt (string_bytes made.text) made.positions) }
+    ensures text { IfOk result (λ made. string_bytes made.text
+        ≡ recompose (reference_components prefers_relative
+        (components (core_text base.entry)) (components (core_text target.entry)))) }
+    ensures at { IfOk result (λ made. ArePositionsOf (string_bytes made.text) made.positions) }
 {
     let mut text = String::with_capacity(alloc, target.as_str().len())?;
     let positions = push_reference(base, target, prefers_relative, &mut text)?;
-    Ok(Made { text, positions })
+    Ok(MadeReference { text, positions })
 }
 
-/// Whether no dot segment of a target is removed when it is resolved.
+/// Returns whether a target has no dot segment that resolving removes.
 #[inline(always)]
-fn is_settled<K: BaseKind>(target: Core<K, &str>) -> bool
+fn is_without_removable_dots<K: BaseKind>(target: Core<K, &str>) -> bool
     ensures settled { result ≡ true → let t = components (core_text target.entry) in
-        finished t ≡ t }
+        with_final_path t ≡ t }
     ensures absolute { result ≡ false → IsAbsolute (components (core_text target.entry)).path }
 {
     let path = path(target);
@@ -132,39 +143,45 @@ fn is_settled<K: BaseKind>(target: Core<K, &str>) -> bool
     !has_dot_segments(path)
 }
 
-/// A reference that leads from the base to the target as resolving leaves it.
-fn reference_to_settled<K: BaseKind>(
+/// Returns a reference that leads from the base to the target without its dot segments.
+fn reference_to_target_without_dots<K: BaseKind>(
     alloc: Global,
     base: Core<K, &str>,
     target: Core<K, &str>,
     prefers_relative: bool,
-) -> Result<Made, AllocError>
+) -> Result<MadeReference, AllocError>
     requires { IsAbsolute (components (core_text target)).path }
     ensures leads { IfOk result (λ made. IsReferenceTo K.kind prefers_relative
         (components (core_text base.entry)) (settled (core_text target.entry))
         (components (string_bytes made.text))) }
-    ensures at { IfOk result (λ made. AreAt (string_bytes made.text) made.positions) }
+    ensures text { IfOk result (λ made. string_bytes made.text
+        ≡ recompose (reference_components prefers_relative
+        (components (core_text base.entry)) (settled (core_text target.entry)))) }
+    ensures at { IfOk result (λ made. ArePositionsOf (string_bytes made.text) made.positions) }
 {
-    let text = settled_text(alloc, target)?;
+    let text = text_without_removable_dots(alloc, target)?;
     let settled = Core::<K, String>::of_text(text);
     reference(alloc, base, settled.borrow(), prefers_relative)
 }
 
-/// A reference that leads from the base, whose fragment counts for nothing, to the target.
+/// Returns a reference that leads from the base, without its fragment, to the target.
 #[inline(always)]
 pub(crate) fn relative<K: BaseKind>(
     alloc: Global,
     base: Core<K, &str>,
     target: Core<K, &str>,
     prefers_relative: bool,
-) -> Result<Made, AllocError>
+) -> Result<MadeReference, AllocError>
     ensures leads { IfOk result (λ made. IsReferenceTo K.kind prefers_relative
         (components (core_text base.entry)) (settled (core_text target.entry))
         (components (string_bytes made.text))) }
-    ensures at { IfOk result (λ made. AreAt (string_bytes made.text) made.positions) }
+    ensures text { IfOk result (λ made. string_bytes made.text
+        ≡ recompose (reference_components prefers_relative
+        (components (core_text base.entry)) (settled (core_text target.entry)))) }
+    ensures at { IfOk result (λ made. ArePositionsOf (string_bytes made.text) made.positions) }
 {
-    if is_settled(target) {
+    if is_without_removable_dots(target) {
         return reference(alloc, base, target, prefers_relative);
     }
-    reference_to_settled(alloc, base, target, prefers_relative)
+    reference_to_target_without_dots(alloc, base, target, prefers_relative)
 }

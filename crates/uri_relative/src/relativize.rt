@@ -2,7 +2,9 @@
 ghost use Rattle.std.specs.Prelude.{◌≡◌, IfOk, false};
 ghost use Rattle.uri_parts.specs.Components.{components};
 ghost use Rattle.fluent_uri.specs.References.{reference_text};
-ghost use Rattle.uri_relative.specs.Leading.{ComesBack, IsNoLonger, IsRelativeTo, LeadsTo, settled};
+ghost use Rattle.uri_relative.specs.Leading.{LeadsBackToTarget, IsNoLonger, IsRelativeTo, LeadsTo};
+ghost use Rattle.uri_relative.specs.Leading.{settled};
+ghost use Rattle.uri_relative.specs.Rule.{reference_to};
 ghost use Rattle.uri_relative.specs.Shortest.{IsShortest};
 
 use crate::relative::{RelativeKind, relative};
@@ -11,7 +13,7 @@ use std::alloc::{AllocError, Global};
 use std::convert::AsStr;
 use uri_parts::core_text::Core;
 
-/// A reference that leads from the base to the target.
+/// Returns a reference that leads from the base to the target.
 #[inline(always)]
 fn relativized<K: RelativeKind, B: AsStr, T: AsStr>(
     alloc: Global,
@@ -19,11 +21,14 @@ fn relativized<K: RelativeKind, B: AsStr, T: AsStr>(
     target: &Reference<K, T>,
     prefers_relative_path: bool,
 ) -> Result<Reference<K::Ref, String>, AllocError>
+    ensures text { IfOk result (λ reference. reference_text reference
+        ≡ reference_to prefers_relative_path (reference_text base.now)
+        (reference_text target.now)) }
     ensures leads { IfOk result (λ reference.
         LeadsTo (reference_text base.now) (reference_text target.now)
         (reference_text reference)) }
     ensures back { IfOk result (λ reference.
-        ComesBack (reference_text base.now) (reference_text target.now)
+        LeadsBackToTarget (reference_text base.now) (reference_text target.now)
         (reference_text reference)) }
     ensures short { prefers_relative_path ≡ false → IfOk result (λ reference.
         IsNoLonger (reference_text target.now) (reference_text reference)) }
@@ -38,7 +43,7 @@ fn relativized<K: RelativeKind, B: AsStr, T: AsStr>(
     Ok(Reference::of_core(Core::new(made.text, made.positions)))
 }
 
-/// Makes references that lead from a base to targets, by its setting: whether a relative path is
+/// Makes references that lead from a base to targets. Its setting is whether a relative path is
 /// preferred.
 ///
 /// # Examples
@@ -54,8 +59,8 @@ pub struct Relativizer<R> {
 impl<R> Relativizer<R> {
     ghost use Rattle.uri_relative.specs.Relativizers.{base_of, prefers_relative_path};
 
-    /// Makes references that lead from this base, with the path from the root where that is
-    /// shorter than a relative path.
+    /// Returns a relativizer that makes references from this base. If the path from the root is
+    /// shorter than the relative one, they have that.
     ///
     /// # Examples
     ///
@@ -70,8 +75,8 @@ impl<R> Relativizer<R> {
         }
     }
 
-    /// Sets whether a path that is relative to the base's is taken where the path from the root is
-    /// shorter, as for pages that are read from a disk.
+    /// Sets whether references have a relative path even if the path from the root is shorter, as
+    /// for pages that are read from a disk.
     ///
     /// # Examples
     ///
@@ -90,29 +95,32 @@ impl<R> Relativizer<R> {
 impl<K: RelativeKind, B: AsStr> Relativizer<Reference<K, B>> {
     ghost use Rattle.uri_relative.specs.Relativizers.{base_of, prefers_relative_path};
 
-    /// Returns a reference that leads from the base to the target: resolved against the base
-    /// without its fragment, it is what the target itself resolves to (RFC 3986, section 5.2).
+    /// Returns a reference that leads from the base to the target. Resolved against the base
+    /// without its fragment, it gives the same text as the target itself (RFC 3986, section 5.2).
     ///
-    /// Unless a relative path is preferred, no such reference is shorter where the base's path has
-    /// no dot segment.
+    /// If the base's path has no dot segment, and unless a relative path is preferred, no such
+    /// reference is shorter.
     ///
     /// # Errors
     ///
-    /// Only if memory is refused.
+    /// Only if memory is denied.
     ///
     /// # Examples
     ///
-    /// From `http://a/b/c/d` to `http://a/b/x/y` it is `../x/y`.
+    /// From `http://a/b/c/d` to `http://a/b/x/y` it returns `../x/y`.
     pub fn relativize<T: AsStr>(
         &self,
         alloc: Global,
         target: &Reference<K, T>,
     ) -> Result<Reference<K::Ref, String>, AllocError>
+        ensures text { IfOk result (λ reference. reference_text reference
+            ≡ reference_to (prefers_relative_path self.now)
+            (reference_text (base_of self.now)) (reference_text target.now)) }
         ensures leads { IfOk result (λ reference.
             LeadsTo (reference_text (base_of self.now)) (reference_text target.now)
             (reference_text reference)) }
         ensures back { IfOk result (λ reference.
-            ComesBack (reference_text (base_of self.now)) (reference_text target.now)
+            LeadsBackToTarget (reference_text (base_of self.now)) (reference_text target.now)
             (reference_text reference)) }
         ensures short { prefers_relative_path self.now ≡ false → IfOk result (λ reference.
             IsNoLonger (reference_text target.now) (reference_text reference)) }
@@ -139,26 +147,28 @@ pub trait Relativize<K: RelativeKind> {
 
     ghost base_text: { Self → List ℕ };
 
-    /// Returns a short reference that leads from this base to the target, as
-    /// `Relativizer::with_base` makes it. None is shorter where the base's path has no dot segment.
+    /// Returns a reference that leads from this one to the target. If the base's path has no dot
+    /// segment, none is shorter.
     ///
     /// # Errors
     ///
-    /// Only if memory is refused.
+    /// Only if memory is denied.
     ///
     /// # Examples
     ///
-    /// From `http://a/b/c/d` to `http://a/b/x/y` it is `../x/y`.
+    /// From `http://a/b/c/d` to `http://a/b/x/y` it returns `../x/y`.
     fn relativize<T: AsStr>(
         &self,
         alloc: Global,
         target: &Reference<K, T>,
     ) -> Result<Reference<K::Ref, String>, AllocError>
+        ensures text { IfOk result (λ reference. reference_text reference
+            ≡ reference_to false (base_text self.now) (reference_text target.now)) }
         ensures leads { IfOk result (λ reference.
             LeadsTo (base_text self.now) (reference_text target.now)
             (reference_text reference)) }
         ensures back { IfOk result (λ reference.
-            ComesBack (base_text self.now) (reference_text target.now)
+            LeadsBackToTarget (base_text self.now) (reference_text target.now)
             (reference_text reference)) }
         ensures short { IfOk result (λ reference.
             IsNoLonger (reference_text target.now) (reference_text reference)) }
@@ -173,6 +183,7 @@ pub trait Relativize<K: RelativeKind> {
 impl<K: RelativeKind, B: AsStr> Relativize<K> for Reference<K, B> {
     ghost base_text = { reference_text };
 
+    /// Returns a reference that leads from this one to the target.
     fn relativize<T: AsStr>(
         &self,
         alloc: Global,

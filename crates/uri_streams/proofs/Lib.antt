@@ -1,10 +1,13 @@
-pub mod Answering
+pub mod AsciiLines
+pub mod TextResults
 pub mod Cuts
 pub mod Failures
-pub mod LineAnswers
+pub mod Fields
+pub mod LineResults
 pub mod Parts
 pub mod Returns
 pub mod Steps
 pub mod Streams
 pub mod Tasks
 pub mod Uniques
+pub mod Relatives

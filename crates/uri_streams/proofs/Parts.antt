@@ -1,20 +1,21 @@
 -- What is kept of parts of a line that are read one after the other.
 use Rattle.std.proofs.Common.{◌≡◌, ◌<◌, ◌≤◌, ◌+◌, ◌-◌, ℕ, Bool, true, false, List, ◌++◌, Option}
-use Rattle.std.proofs.Common.{Some, None, IfSome, length, take, min, ap, arith, refl}
+use Rattle.std.proofs.Common.{Some, None, IfSome, cond, drop, length, take, min, ap, arith, refl}
 use Rattle.std.proofs.Common.{sym, ◌∙◌, take-take, take_all, length-take-le}
 use Rattle.std.proofs.Common.{ltb-true, ltb-false}
-use Rattle.std.specs.Prelude.{nat_lt, OnErr, Result, Ok, Err}
-use Rattle.std.specs.Io.BufRead.{take_through, DropsThrough}
+use Rattle.std.specs.Prelude.{nat_lt, OnErr, OnOk, Result, Ok, Err}
+use Rattle.std.specs.Io.BufRead.{take_through, DropsConsumable, DropsThrough}
+use Rattle.std.specs.Io.KnownBytes.{Consumes, prepend_known}
 use Rattle.std.proofs.BufReadLemmas.{take_through_nonempty}
-use Rattle.std.proofs.lemmas.List.{take-append-le, length-take, append-nil}
+use Rattle.std.proofs.lemmas.List.{take-append-drop, take-append-le, length-take, append-nil}
 use Rattle.std.proofs.Math.Seq.{take-append-add}
 use Rattle.uri_streams.specs.Lines.{ends_with_return}
-use Rattle.uri_streams.specs.Runs.{TakesLine}
+use Rattle.uri_streams.specs.Models.{ReadsFirstLine}
 
--- as much of a front as there is room for
-pub take_room : (kept count room : ℕ) (xs : List ℕ) → count ≤ length xs → kept ≡ min count room
+-- general fact on lists, for lines: as much of a prefix is taken as there is room for
+pub take-min : (kept count room : ℕ) (xs : List ℕ) → count ≤ length xs → kept ≡ min count room
     → take kept xs ≡ take room (take count xs)
-take_room kept count room xs within e = at (nat_lt count room) refl
+take-min kept count room xs within e = at (nat_lt count room) refl
   where
     at : (b : Bool) → nat_lt count room ≡ b → take kept xs ≡ take room (take count xs)
     at true is =
@@ -27,10 +28,10 @@ take_room kept count room xs within e = at (nat_lt count room) refl
         let some : kept ≡ room = omega arith in
         ap (λ n. take n xs) some ∙ sym (take-take room count xs longer)
 
--- a part more, of which as much is kept as there is room for
-pub take_more_parts : (limit : ℕ) (done part old new : List ℕ) → old ≡ take limit done
+-- lines: after one part more, as much is kept of all as there is room for
+pub take-of-appended-part : (limit : ℕ) (done part old new : List ℕ) → old ≡ take limit done
     → new ≡ old ++ take (limit - length old) part → new ≡ take limit (done ++ part)
-take_more_parts limit done part old new was is = at (nat_lt limit (length done)) refl
+take-of-appended-part limit done part old new was is = at (nat_lt limit (length done)) refl
   where
     long : length old ≡ min limit (length done)
     long = ap length was ∙ length-take limit done
@@ -49,12 +50,15 @@ take_more_parts limit done part old new was is = at (nat_lt limit (length done))
         ∙ sym (take-append-add done part (limit - length old))
         ∙ ap (λ n. take n (done ++ part)) (sym room)
 
-pub line_taken : (end limit : ℕ) (a c : Option (List ℕ)) (all line : List ℕ) (is_return : Bool)
+-- lines: a line that is read part by part is the first line that is left; a, c: what is left before
+-- and after, end: the byte that ends it
+pub ReadsFirstLine-of-parts : (end limit : ℕ) (a c : Option (List ℕ)) (all line : List ℕ)
+    (is_return : Bool)
     → IfSome a (λ xs. all ≡ take_through end xs) → DropsThrough a c end → 0 < length all
     → line ≡ take limit all → is_return ≡ ends_with_return end all
-    → TakesLine a c end limit line is_return
-line_taken end limit None c all line is_return whole rest some kept is = tt
-line_taken end limit (Some xs) c all line is_return whole rest some kept is =
+    → ReadsFirstLine a c end limit line is_return
+ReadsFirstLine-of-parts end limit None c all line is_return whole rest some kept is = tt
+ReadsFirstLine-of-parts end limit (Some xs) c all line is_return whole rest some kept is =
     let longer : 0 < length (take_through end xs) = omega (arith, some, ap length whole) in (
       take_through_nonempty end xs longer,
       kept ∙ ap (take limit) whole,
@@ -62,7 +66,32 @@ line_taken end limit (Some xs) c all line is_return whole rest some kept is =
       is ∙ ap (ends_with_return end) whole,
     )
 
--- what holds after an error
-pub on-err : {T E : Type 0} (result : Result T E) (P : Type 0) → P → OnErr result P
-on-err (Ok value) P p = tt
-on-err (Err error) P p = p
+-- lines: what is consumed of a buffer is consumed of the bytes that are left to read
+pub Consumes-buffered : (unknown : Bool) (buffer : List ℕ) (inner new : Option (List ℕ)) (n : ℕ)
+    → n ≤ length buffer
+    → DropsConsumable (cond unknown None (prepend_known buffer inner)) new
+    (Some (length buffer)) n
+    → Consumes (cond unknown None (prepend_known buffer inner)) new (take n buffer)
+Consumes-buffered true buffer inner new n within drops = tt
+Consumes-buffered false buffer None new n within drops = tt
+Consumes-buffered false buffer (Some xs) new n within drops = at new (drops within)
+  where
+    at : (o : Option (List ℕ)) → o ≡ Some (drop n (buffer ++ xs))
+        → Consumes (Some (buffer ++ xs)) o (take n buffer)
+    at None e = absurd (cc)
+    at (Some rest) e =
+        let same : rest ≡ drop n (buffer ++ xs) = cc in
+        sym (take-append-drop n (buffer ++ xs))
+        ∙ ap (λ l. l ++ drop n (buffer ++ xs)) (take-append-le n buffer xs within)
+        ∙ ap (λ l. take n buffer ++ l) (sym same)
+
+-- general fact on results: what follows from what holds after a success holds then
+pub on-ok : {T E : Type 0} (result : Result T E) (P Q : Type 0) → (P → Q) → OnOk result P
+    → OnOk result Q
+on-ok (Ok value) P Q more p = more p
+on-ok (Err error) P Q more p = tt
+
+-- general fact on results: what holds always holds after an error
+pub OnErr-of-any : {T E : Type 0} (result : Result T E) (P : Type 0) → P → OnErr result P
+OnErr-of-any (Ok value) P p = tt
+OnErr-of-any (Err error) P p = p

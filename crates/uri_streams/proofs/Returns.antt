@@ -10,16 +10,17 @@ use Rattle.std.proofs.Math.Seq.{get_or-append_right, take-append-add}
 use Rattle.std.proofs.lemmas.List.{nil_from_length}
 use Rattle.std.proofs.lemmas.List.Elements.{All-get_or}
 use Rattle.uri_streams.specs.Lines.{end_byte, ends_with_return, has_return, return_after}
-use Rattle.uri_streams.specs.Outputs.{end_of}
+use Rattle.uri_streams.specs.Outputs.{line_ending}
 
+-- general fact on booleans, for ends of lines
 is_false : (b : Bool) → (b ≡ true → ⊥) → b ≡ false
 is_false true h = absurd (h refl)
 is_false false h = refl
 
--- the last byte of two lists is that of the second, where that has one
-ends-append : (byte : ℕ) (xs ys : List ℕ) → 0 < length ys
+-- lines: the last byte of two lists is that of the second, where that has one
+ends_with_byte-append : (byte : ℕ) (xs ys : List ℕ) → 0 < length ys
     → ends_with_byte byte (xs ++ ys) ≡ ends_with_byte byte ys
-ends-append byte xs ys some =
+ends_with_byte-append byte xs ys some =
     let long : length (xs ++ ys) ≡ length xs + length ys = length-append xs ys in
     let last : get_or (xs ++ ys) (length (xs ++ ys) - 1) 0 ≡ get_or ys (length ys - 1) 0 =
     get_or-append_right xs ys (length (xs ++ ys) - 1) 0 (omega (arith, long, some))
@@ -29,10 +30,12 @@ ends-append byte xs ys some =
     ∙ ap (λ x. x == byte) last
     ∙ sym (ap (λ c. c && (get_or ys (length ys - 1) 0 == byte)) (lt-ltb 0 (length ys) some))
 
-strip-append : (byte : ℕ) (xs ys : List ℕ) → 0 < length ys
+-- lines: the last byte of two texts is that of the second, if it has one
+strip_last-append : (byte : ℕ) (xs ys : List ℕ) → 0 < length ys
     → strip_last byte (xs ++ ys) ≡ xs ++ strip_last byte ys
-strip-append byte xs ys some =
-    ap (λ b. cond b (take (length (xs ++ ys) - 1) (xs ++ ys)) (xs ++ ys)) (ends-append byte xs ys
+strip_last-append byte xs ys some =
+    ap (λ b. cond b (take (length (xs ++ ys) - 1) (xs ++ ys)) (xs ++ ys))
+    (ends_with_byte-append byte xs ys
     some)
     ∙ at (ends_with_byte byte ys)
   where
@@ -46,9 +49,10 @@ strip-append byte xs ys some =
     at true = shorter
     at false = refl
 
--- what lacks a byte does not end with it
-lacks-end : (byte : ℕ) (xs : List ℕ) → All (λ x. x ≢ byte) xs → ends_with_byte byte xs ≡ false
-lacks-end byte xs none = at (nat_lt 0 (length xs)) refl
+-- lines: what lacks a byte does not end with it
+ends_with_byte-of-lacking : (byte : ℕ) (xs : List ℕ) → All (λ x. x ≢ byte) xs
+    → ends_with_byte byte xs ≡ false
+ends_with_byte-of-lacking byte xs none = at (nat_lt 0 (length xs)) refl
   where
     at : (b : Bool) → nat_lt 0 (length xs) ≡ b
         → (nat_lt 0 (length xs) && (get_or xs (length xs - 1) 0 == byte)) ≡ false
@@ -60,36 +64,41 @@ lacks-end byte xs none = at (nat_lt 0 (length xs)) refl
         (eqb-true (get_or xs (length xs - 1) 0) byte same))
     at false is = ap (λ c. c && (get_or xs (length xs - 1) 0 == byte)) is
 
-lacks-strip : (byte : ℕ) (xs : List ℕ) → All (λ x. x ≢ byte) xs → strip_last byte xs ≡ xs
-lacks-strip byte xs none = ap (λ b. cond b (take (length xs - 1) xs) xs) (lacks-end byte xs none)
+-- lines: a text without a byte has none to strip
+strip_last-of-lacking : (byte : ℕ) (xs : List ℕ) → All (λ x. x ≢ byte) xs → strip_last byte xs ≡ xs
+strip_last-of-lacking byte xs none = ap (λ b. cond b (take (length xs - 1) xs) xs)
+    (ends_with_byte-of-lacking byte xs none)
 
--- the last byte of what was taken, after one part more
-last_of : (was : Bool) (xs ys : List ℕ) → was ≡ ends_with_byte 13 xs
+-- lines: whether what was taken ends with `\r` (13), after one part more
+ends_with_byte-after-part : (was : Bool) (xs ys : List ℕ) → was ≡ ends_with_byte 13 xs
     → cond (nat_lt 0 (length ys)) (ends_with_byte 13 ys) was ≡ ends_with_byte 13 (xs ++ ys)
-last_of was xs ys is = at (nat_lt 0 (length ys)) refl
+ends_with_byte-after-part was xs ys is = at (nat_lt 0 (length ys)) refl
   where
     at : (b : Bool) → nat_lt 0 (length ys) ≡ b
         → cond (nat_lt 0 (length ys)) (ends_with_byte 13 ys) was ≡ ends_with_byte 13 (xs ++ ys)
     at true some =
         ap (λ c. cond c (ends_with_byte 13 ys) was) some
-        ∙ sym (ends-append 13 xs ys (ltb-true 0 (length ys) some))
+        ∙ sym (ends_with_byte-append 13 xs ys (ltb-true 0 (length ys) some))
     at false none =
         let empty : ys ≡ [] = nil_from_length ys (omega (arith, ltb-false 0 (length ys) none)) in
         ap (λ c. cond c (ends_with_byte 13 ys) was) none ∙ is
         ∙ sym (ap (λ l. ends_with_byte 13 (xs ++ l)) empty ∙ ap (ends_with_byte 13) (append-nil xs))
 
--- a part more without the end
-pub return-more : (end : ℕ) (was : Bool) (done part : List ℕ) → was ≡ ends_with_byte 13 done
+-- lines: whether what was taken ends with `\r` (13), after a part without the byte that ends a line
+pub return_after-inner-part : (end : ℕ) (was : Bool) (done part : List ℕ) → was
+    ≡ ends_with_byte 13 done
     → All (λ x. x ≢ end) part → return_after end was part ≡ ends_with_byte 13 (done ++ part)
-return-more end was done part is none =
-    ap (λ l. cond (nat_lt 0 (length l)) (ends_with_byte 13 l) was) (lacks-strip end part none)
-    ∙ last_of was done part is
+return_after-inner-part end was done part is none =
+    ap (λ l. cond (nat_lt 0 (length l)) (ends_with_byte 13 l) was)
+    (strip_last-of-lacking end part none)
+    ∙ ends_with_byte-after-part was done part is
 
--- and the last part
-pub return-last : (end : ℕ) (was : Bool) (done part : List ℕ) → was ≡ ends_with_byte 13 done
+-- lines: whether a line ends with `\r` and the byte that ends it, after its last part
+pub return_after-last-part : (end : ℕ) (was : Bool) (done part : List ℕ) → was
+    ≡ ends_with_byte 13 done
     → All (λ x. x ≢ end) done → IsEmptyOrEndsWith part end
     → (return_after end was part && nat_lt 0 (length part)) ≡ ends_with_return end (done ++ part)
-return-last end was done part is none ends = at (nat_lt 0 (length part)) refl
+return_after-last-part end was done part is none ends = at (nat_lt 0 (length part)) refl
   where
     and-false : (b : Bool) → (b && false) ≡ false
     and-false true = refl
@@ -100,17 +109,18 @@ return-last end was done part is none ends = at (nat_lt 0 (length part)) refl
     and-true false = refl
 
     at : (b : Bool) → nat_lt 0 (length part) ≡ b
-        → (return_after end was part && nat_lt 0 (length part)) ≡ ends_with_return end (done ++ part)
+        → (return_after end was part && nat_lt 0 (length part))
+        ≡ ends_with_return end (done ++ part)
     at true more =
         let some : 0 < length part = ltb-true 0 (length part) more in
         let ended : ends_with_byte end part ≡ true =
         ap (λ c. c && (get_or part (length part - 1) 0 == end)) more
         ∙ eq-eqb (get_or part (length part - 1) 0) end (ends some) in
         ap (λ c. return_after end was part && c) more ∙ and-true (return_after end was part)
-        ∙ last_of was done (strip_last end part) is
-        ∙ ap (ends_with_byte 13) (sym (strip-append end done part some))
+        ∙ ends_with_byte-after-part was done (strip_last end part) is
+        ∙ ap (ends_with_byte 13) (sym (strip_last-append end done part some))
         ∙ sym (ap (λ c. c && ends_with_byte 13 (strip_last end (done ++ part)))
-        (ends-append end done part some ∙ ended))
+        (ends_with_byte-append end done part some ∙ ended))
     at false no_more =
         let empty : part ≡ [] = nil_from_length part (omega (
           arith,
@@ -121,11 +131,11 @@ return-last end was done part is none ends = at (nat_lt 0 (length part)) refl
         ∙ and-false (return_after end was part)
         ∙ sym (ap (λ c. c && ends_with_byte 13 (strip_last end (done ++ part)))
         (ap (λ l. ends_with_byte end (done ++ l)) empty ∙ ap (ends_with_byte end) (append-nil done)
-        ∙ lacks-end end done none))
+        ∙ ends_with_byte-of-lacking end done none))
 
--- what ends the answer is what ended the line
-pub end-is : (is_null is_return : Bool) (line : List ℕ)
+-- lines: what ends the output of a line is what ended the line
+pub output-end-is-line-end : (is_null is_return : Bool) (line : List ℕ)
     → is_return ≡ ends_with_return (end_byte is_null) line
-    → end_of is_null (not is_null && is_return) ≡ end_of is_null (has_return is_null line)
-end-is true is_return line is = refl
-end-is false is_return line is = ap (end_of false) is
+    → line_ending is_null (not is_null && is_return) ≡ line_ending is_null (has_return is_null line)
+output-end-is-line-end true is_return line is = refl
+output-end-is-line-end false is_return line is = ap (line_ending false) is

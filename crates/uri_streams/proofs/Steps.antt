@@ -1,129 +1,256 @@
 -- What is read of a line, and written for it, is a step.
 use Rattle.std.proofs.Common.{◌≡◌, ◌+◌, ◌++◌, ℕ, Bool, true, false, List, refl, ap, sym}
-use Rattle.std.proofs.Common.{◌∙◌, subst, Option, Some, None, IfSome, inl}
-use Rattle.std.specs.Prelude.{◌&&◌, not}
-use Rattle.std.specs.Io.BufRead.{take_through}
-use Rattle.std.specs.Io.KnownBytes.{Appends, Keeps}
-use Rattle.uri_commands.specs.Fronts.{AppendsFront}
-use Rattle.uri_streams.specs.Causes.{is_input}
-use Rattle.uri_streams.specs.Lines.{end_byte, has_return, line_text, lines_of}
-use Rattle.uri_streams.specs.Outputs.{answer_output, answered, answered_lines, end_of}
-use Rattle.uri_streams.specs.Outputs.{is_error, is_stop, line_answer, line_output, output_of}
-use Rattle.uri_streams.specs.Returned.{IsAnswer, answer_in}
-use Rattle.uri_streams.specs.Runs.{StepFails, Steps, StopsInLine, TakesLine}
-use Rattle.uri_streams.specs.Tasks.{Known, Remembers, answer_of}
-use Rattle.uri_streams.specs.declared.answers.Answer.{Answer as Returned}
+use Rattle.std.proofs.Common.{◌∙◌, subst, Option, Some, None, IfSome, inl, cond, [], ◌<◌, ◌≢◌, All}
+use Rattle.std.proofs.Common.{length, arith}
+use Rattle.std.specs.Prelude.{◌&&◌, IfErr, IfOk, Result, Ok, Err, not}
+use Rattle.std.proofs.BufReadLemmas.{Consumes_through, take_through_nonempty}
+use Rattle.std.proofs.KnownBytes.{Consumes-nil}
+use Rattle.std.proofs.lemmas.List.Elements.{All-nil}
+use Rattle.std.specs.Io.BufRead.{drop_through, DropsConsumable, DropsThrough, take_through}
+use Rattle.std.specs.Io.KnownBytes.{Appends, Consumes, Keeps, prepend_known}
+use Rattle.uri_commands.specs.Prefixes.{AppendsPrefix}
+use Rattle.uri_streams.specs.Causes.{caused_by_input, is_input_cause}
+use Rattle.uri_streams.specs.Lines.{end_byte, ends_with_return, lines_of}
+use Rattle.uri_streams.specs.Fields.{Cut}
+use Rattle.uri_streams.specs.Outputs.{line_ending, is_error, is_stop, line_cut, line_end}
+use Rattle.uri_streams.specs.Outputs.{line_output}
+use Rattle.uri_streams.specs.Outputs.{line_result, output_of, processed, processed_lines}
+use Rattle.uri_streams.specs.Outputs.{result_output}
+use Rattle.uri_streams.specs.Results.{LineResult}
+use Rattle.uri_streams.specs.Returned.{IsResult, result_in}
+use Rattle.uri_streams.specs.Models.{IsBufferedLine, StepFails, Steps, ReadsPartOfLine}
+use Rattle.uri_streams.specs.Models.{ReadsFirstLine}
+use Rattle.uri_streams.specs.Models.{WritesLineOutput, WritesOutputPrefix, WritesResult}
+use Rattle.uri_streams.specs.Models.{bytes_output}
+use Rattle.uri_streams.specs.Tasks.{Known, Remembers, cut_result}
 use Rattle.uri_streams.specs.declared.command.Command.{Command}
-use Rattle.uri_streams.specs.declared.failure.Failure.{Failure}
+use Rattle.uri_streams.specs.declared.failure.Cause.{Cause}
 use Rattle.uri_streams.specs.declared.job.Job.{Job}
-use Rattle.uri_streams.specs.declared.run.Step.{Step}
+use Rattle.uri_streams.specs.declared.results.LineResult.{LineResult as Returned}
+use Rattle.uri_streams.specs.declared.output.StepResult.{StepResult}
 use Rattle.uri_streams.specs.declared.task.Task.{Task}
-use Rattle.uri_streams.proofs.Cuts.{cut-answer}
-use Rattle.uri_streams.proofs.Failures.{front-before, front-longer, front-none, kept-appends}
-use Rattle.uri_streams.proofs.Returns.{end-is}
-use Rattle.uri_streams.proofs.Streams.{first_line, later}
+use Rattle.uri_streams.proofs.Cuts.{line_cut-of-limited-line}
+use Rattle.uri_streams.proofs.Parts.{Consumes-buffered}
+use Rattle.uri_streams.proofs.Failures.{AppendsPrefix-after-Keeps, AppendsPrefix-of-longer}
+use Rattle.uri_streams.proofs.Failures.{AppendsPrefix-of-kept, Appends-after-Keeps}
+use Rattle.uri_streams.proofs.Returns.{output-end-is-line-end}
+use Rattle.uri_streams.proofs.Streams.{processed_lines-of-first-line, lines_after_first}
 
--- what answers a text, whatever the lines before it were
-abbrev Answering : Task → Task → ℕ → List ℕ → Returned → Type 0
-Answering task task_new max_line text answer =
-    (command : Command) (known : Known) → Remembers task command known
-    → IsAnswer command (answer_of command max_line known text) answer task_new
-
--- a line that was read
-pub read_as : (left left_new : Option (List ℕ)) (end end_is limit : ℕ) (line line_is : List ℕ)
+-- lines: one that was read in parts is the first line that is left;
+-- the equations replace equal arguments
+pub ReadsFirstLine-of-read : (left left_new : Option (List ℕ)) (end end_is limit : ℕ)
+    (line line_is : List ℕ)
     (read : Option Bool) (is_return : Bool) → end ≡ end_is → line ≡ line_is
-    → read ≡ Some is_return → IfSome read (TakesLine left left_new end limit line)
-    → TakesLine left left_new end_is limit line_is is_return
-read_as left left_new end end_is limit line line_is read is_return e l r taken =
-    subst (λ n. TakesLine left left_new n limit line_is is_return) e
-    (subst (λ b. TakesLine left left_new end limit b is_return) l
-    (subst (λ o. IfSome o (TakesLine left left_new end limit line)) r taken))
+    → read ≡ Some is_return → IfSome read (ReadsFirstLine left left_new end limit line)
+    → ReadsFirstLine left left_new end_is limit line_is is_return
+ReadsFirstLine-of-read left left_new end end_is limit line line_is read is_return e l r taken =
+    subst (λ n. ReadsFirstLine left left_new n limit line_is is_return) e
+    (subst (λ b. ReadsFirstLine left left_new end limit b is_return) l
+    (subst (λ o. IfSome o (ReadsFirstLine left left_new end limit line)) r taken))
+
+-- the first line of known bytes is taken, and its bytes are cut as these are
+abbrev pub HasLine : Job → Option (List ℕ) → Option (List ℕ) → List ℕ → Bool → Type 0
+HasLine job left left_new line is_return = IfSome left (λ xs. (0 < length xs)
+    × (line_cut job line ≡ line_cut job (take_through (end_byte job.is_null) xs))
+    × (left_new ≡ Some (drop_through (end_byte job.is_null) xs))
+    × (is_return ≡ ends_with_return (end_byte job.is_null)
+    (take_through (end_byte job.is_null) xs)))
+
+-- lines: one that was read in parts, up to the limit, is a line of the job
+pub HasLine-of-read : (job : Job) (left left_new : Option (List ℕ)) (limit : ℕ) (line : List ℕ)
+    (is_return : Bool) → limit ≡ job.max_line + 3
+    → ReadsFirstLine left left_new (end_byte job.is_null) limit line is_return
+    → HasLine job left left_new line is_return
+HasLine-of-read job None left_new limit line is_return limit_is taken = tt
+HasLine-of-read job (Some xs) left_new limit line is_return limit_is taken = (
+  taken.0,
+  ap (line_cut job) taken.1
+      ∙ line_cut-of-limited-line job limit (take_through (end_byte job.is_null) xs) limit_is,
+  taken.2,
+  taken.3,
+)
+
+-- lines: one that was read whole is the first line that is left
+HasLine-of-whole-line : (job : Job) (left left_new : Option (List ℕ)) (line : List ℕ)
+    (is_return : Bool)
+    → IfSome left (λ xs. line ≡ take_through (end_byte job.is_null) xs)
+    × DropsThrough left left_new (end_byte job.is_null) → 0 < length line
+    → is_return ≡ ends_with_return (end_byte job.is_null) line
+    → HasLine job left left_new line is_return
+HasLine-of-whole-line job None left_new line is_return all some return = tt
+HasLine-of-whole-line job (Some xs) left_new line is_return all some return = (
+  take_through_nonempty (end_byte job.is_null) xs (omega (arith, some, ap length all.0)),
+  ap (line_cut job) all.0,
+  all.1,
+  return ∙ ap (ends_with_return (end_byte job.is_null)) all.0,
+)
+
+-- lines: one that is taken from the buffer is a line of the job
+pub HasLine-buffered : (job : Job) (unknown : Bool) (buffer : List ℕ)
+    (inner left_new : Option (List ℕ)) (line : List ℕ) (is_return : Bool)
+    → IsBufferedLine (end_byte job.is_null) buffer line
+    → DropsConsumable (cond unknown None (prepend_known buffer inner)) left_new
+    (Some (length buffer)) (length line)
+    → is_return ≡ ends_with_return (end_byte job.is_null) line
+    → HasLine job (cond unknown None (prepend_known buffer inner)) left_new line is_return
+HasLine-buffered job unknown buffer inner left_new line is_return first drops return =
+    HasLine-of-whole-line job (cond unknown None (prepend_known buffer inner)) left_new
+    line is_return
+    (Consumes_through (end_byte job.is_null) (cond unknown None (prepend_known buffer inner))
+    (cond unknown None (prepend_known buffer inner)) left_new [] line
+    (Consumes-nil (cond unknown None (prepend_known buffer inner)))
+    (All-nil (λ x. x ≢ end_byte job.is_null))
+    (subst (Consumes (cond unknown None (prepend_known buffer inner)) left_new)
+    (sym first.first)
+    (Consumes-buffered unknown buffer inner left_new (length line) first.within drops))
+    first.lacks_end (λ _. first.ends)
+    (λ none. absurd (omega (arith, first.some, none))))
+    first.some return
 
 module _ (job : Job) (before : ℕ) (task task_new : Task) (left left_new : Option (List ℕ))
-    (held mid held_new : Option (List ℕ)) (limit : ℕ) (line text : List ℕ) (is_return : Bool)
-    (answer : Returned) (limit_is : limit ≡ job.max_line + 3)
-    (taken : TakesLine left left_new (end_byte job.is_null) limit line is_return)
-    (text_is : text ≡ line_text job.is_null line) (kept : Keeps held mid)
-    (answering : Answering task task_new job.max_line text answer) where
+    (held mid held_new : Option (List ℕ)) (line : List ℕ) (is_return : Bool)
+    (has : HasLine job left left_new line is_return) (kept : Keeps held mid) where
   abbrev pub end : List ℕ
-  end = end_of job.is_null (not job.is_null && is_return)
+  end = line_ending job.is_null (not job.is_null && is_return)
 
-  module _ (xs : List ℕ) (known : Known) (is_left : left ≡ Some xs)
-      (remembers : Remembers task job.command known) where
+  module _ (xs : List ℕ) (known : Known) (is_left : left ≡ Some xs) where
     abbrev whole : List ℕ
     whole = take_through (end_byte job.is_null) xs
 
-    taken_here : TakesLine (Some xs) left_new (end_byte job.is_null) limit line is_return
-    taken_here = subst (λ o. TakesLine o left_new (end_byte job.is_null) limit line is_return)
-        is_left taken
+    has_here : HasLine job (Some xs) left_new line is_return
+    has_here = subst (λ o. HasLine job o left_new line is_return) is_left has
 
-    is_answer : IsAnswer job.command (line_answer job known whole) answer task_new
-    is_answer = subst (λ next. IsAnswer job.command next answer task_new)
-        (ap (answer_of job.command job.max_line known) text_is ∙ ap (line_answer job known)
-        taken_here.1
-        ∙ cut-answer job known limit whole limit_is)
-        (answering job.command known remembers)
+    same_cut : line_cut job line ≡ line_cut job whole
+    same_cut = has_here.1
 
-    output_is : answer_output job.errors end (answer_in answer)
-        ≡ line_output job (answered job (before + 1) known whole)
+    same_result : line_result job known line ≡ line_result job known whole
+    same_result = ap (λ (c : Cut). cut_result job.command known c.text) same_cut
+
+    output_is : bytes_output job known line end
+        ≡ line_output job (processed job (before + 1) known whole)
     output_is =
-        ap (λ e. answer_output job.errors e (answer_in answer))
-        (end-is job.is_null is_return whole taken_here.3)
-        ∙ ap (answer_output job.errors (end_of job.is_null (has_return job.is_null whole)))
-        is_answer.0
+        ap (bytes_output job known line)
+        (output-end-is-line-end job.is_null is_return whole has_here.3)
+        ∙ ap (λ (c : Cut). result_output job.errors c.before
+        (cut_result job.command known c.text).0 (c.after ++ line_end job whole)) same_cut
 
-    first_output : output_of job (answered_lines job before known (lines_of (end_byte job.is_null)
+    first_output : output_of job (processed_lines job before known (lines_of (end_byte job.is_null)
         xs))
-        ≡ answer_output job.errors end (answer_in answer) ++ output_of job (later job before known
-        xs)
+        ≡ bytes_output job known line end ++ output_of job (lines_after_first job before known xs)
     first_output =
-        ap (output_of job) (first_line job before known xs taken_here.0)
-        ∙ ap (λ l. l ++ output_of job (later job before known xs)) (sym output_is)
+        ap (output_of job) (processed_lines-of-first-line job before known xs has_here.0)
+        ∙ ap (λ l. l ++ output_of job (lines_after_first job before known xs)) (sym output_is)
 
-  pub Steps-line : (step : Step)
-      → Appends mid held_new (answer_output job.errors end (answer_in answer))
-      → step.is_line ≡ true → step.is_error ≡ is_error (answer_in answer)
-      → step.is_last ≡ (step.is_error && is_stop job.errors)
+  line-output-is-step : (step : StepResult)
+      → WritesLineOutput job task line end mid held_new task_new step
       → Steps job before task left left_new held held_new task_new step
-  Steps-line step output line error last = at left refl
+  line-output-is-step step written = at left refl
     where
       at : (o : Option (List ℕ)) → left ≡ o
           → Steps job before task o left_new held held_new task_new step
       at None e = tt
       at (Some xs) e = λ known remembers.
-          let taken' = taken_here xs known e remembers in
-          let is = is_answer xs known e remembers in
-          let same : step.is_error ≡ is_error (line_answer job known (whole xs known e
-          remembers)).0 = error ∙ ap is_error is.0 in
+          let has' = has_here xs known e in
+          let same = same_result xs known e in
+          let w = written known remembers in
           inl (
-            taken'.0,
-            taken'.2,
-            subst (Appends held held_new) (output_is xs known e remembers)
-                (kept-appends held mid held_new _ kept output),
-            line,
-            same,
-            last ∙ ap (λ b. b && is_stop job.errors) same,
-            is.1,
+            has'.0,
+            has'.2,
+            subst (Appends held held_new) (output_is xs known e)
+                (Appends-after-Keeps held mid held_new _ kept w.0),
+            w.1,
+            w.2 ∙ ap (λ (r : LineResult × Known). is_error r.0) same,
+            w.3 ∙ ap (λ (r : LineResult × Known). is_error r.0 && is_stop job.errors) same,
+            subst (λ (r : LineResult × Known). Remembers task_new job.command r.1) same w.4,
           )
 
-  pub Fails-writing : (failure : Failure)
-      → AppendsFront mid held_new (answer_output job.errors end (answer_in answer))
-      → is_input failure ≡ false → StepFails job before task left left_new held held_new failure
-  Fails-writing failure front no_input = at left refl
+  StepFails-in-writing : (cause : Cause)
+      → WritesOutputPrefix job task line end mid held_new cause
+      → StepFails job before task left left_new held held_new cause
+  StepFails-in-writing cause prefix = at left refl
     where
       at : (o : Option (List ℕ)) → left ≡ o
-          → StepFails job before task o left_new held held_new failure
+          → StepFails job before task o left_new held held_new cause
       at None e = tt
       at (Some xs) e = λ known remembers. (
-        subst (AppendsFront held held_new) (sym (first_output xs known e remembers))
-            (front-longer held held_new _ _ (front-before held mid held_new _ kept front)),
-        λ input. absurd (cc (input, no_input)),
+        subst (AppendsPrefix held held_new) (sym (first_output xs known e))
+            (AppendsPrefix-of-longer held held_new _ _
+            (AppendsPrefix-after-Keeps held mid held_new _ kept (prefix.1 known remembers))),
+        λ input. absurd (cc (input, prefix.0)),
       )
 
-pub Fails-reading : (job : Job) (before : ℕ) (task : Task)
-    (left left_new held held_new : Option (List ℕ)) (failure : Failure)
-    → StopsInLine left left_new (end_byte job.is_null) → Keeps held held_new
-    → StepFails job before task left left_new held held_new failure
-Fails-reading job before task None left_new held held_new failure stopped kept = tt
-Fails-reading job before task (Some xs) left_new held held_new failure stopped kept =
-    λ known remembers. (front-none held held_new _ kept, λ input. (kept, stopped))
+-- what is written for a cut of a line is written for the line
+module _ (job : Job) (task task_new : Task) (line end : List ℕ) (held held_new : Option (List ℕ))
+    (cut : Cut) (made : Returned) (cut_is : cut ≡ line_cut job line)
+    (gives : (command : Command) (known : Known) → Remembers task command known
+    → IsResult command (cut_result command known cut.text) made task_new) where
+  made_is : (known : Known) → Remembers task job.command known
+      → result_output job.errors cut.before (result_in made) (cut.after ++ end)
+      ≡ bytes_output job known line end
+  made_is known remembers =
+      ap (λ m. result_output job.errors cut.before m (cut.after ++ end))
+      (gives job.command known remembers).0
+      ∙ ap (λ (c : Cut). result_output job.errors c.before
+      (cut_result job.command known c.text).0 (c.after ++ end)) cut_is
+
+  pub WritesLineOutput-of-cut : (result : Result StepResult Cause)
+      → IfOk result (WritesResult job.errors cut.before (result_in made) (cut.after ++ end)
+      held held_new)
+      → IfOk result (WritesLineOutput job task line end held held_new task_new)
+  WritesLineOutput-of-cut (Err cause) written = tt
+  WritesLineOutput-of-cut (Ok step) (output, counts, error, last) = λ known remembers.
+      let given = gives job.command known remembers in
+      let same : cut_result job.command known cut.text ≡ line_result job known line =
+      ap (λ (c : Cut). cut_result job.command known c.text) cut_is in
+      let is : is_error (result_in made) ≡ is_error (line_result job known line).0 =
+      ap is_error given.0 ∙ ap (λ (r : LineResult × Known). is_error r.0) same in (
+        subst (Appends held held_new) (made_is known remembers) output,
+        counts,
+        error ∙ is,
+        last ∙ ap (λ b. b && is_stop job.errors) is,
+        subst (λ (r : LineResult × Known). Remembers task_new job.command r.1) same given.1,
+      )
+
+  pub WritesPrefix-cut : (result : Result StepResult Cause) → caused_by_input result ≡ false
+      → AppendsPrefix held held_new (result_output job.errors cut.before (result_in made)
+      (cut.after ++ end))
+      → IfErr result (WritesOutputPrefix job task line end held held_new)
+  WritesPrefix-cut (Ok step) reading prefix = tt
+  WritesPrefix-cut (Err cause) reading prefix = (
+    reading,
+    λ known remembers. subst (AppendsPrefix held held_new) (made_is known remembers) prefix,
+  )
+
+-- what is written of a line is a step, or a failure
+module _ (job : Job) (before : ℕ) (task task_new : Task) (left left_new : Option (List ℕ))
+    (held mid held_new : Option (List ℕ)) (line : List ℕ) (is_return : Bool)
+    (has : HasLine job left left_new line is_return) (kept : Keeps held mid) (shown : List ℕ)
+    (shown_is : shown ≡ line_ending job.is_null (not job.is_null && is_return)) where
+  pub line-output-result-is-step : (result : Result StepResult Cause)
+      → IfOk result (WritesLineOutput job task line shown mid held_new task_new)
+      → IfOk result (Steps job before task left left_new held held_new task_new)
+  line-output-result-is-step (Ok step) written =
+      line-output-is-step job before task task_new left left_new held mid held_new line
+      is_return has kept
+      step
+      (subst (λ e. WritesLineOutput job task line e mid held_new task_new step) shown_is written)
+  line-output-result-is-step (Err cause) written = tt
+
+  pub failed-line-output-fails-step : (result : Result StepResult Cause)
+      → IfErr result (WritesOutputPrefix job task line shown mid held_new)
+      → IfErr result (StepFails job before task left left_new held held_new)
+  failed-line-output-fails-step (Ok step) prefix = tt
+  failed-line-output-fails-step (Err cause) prefix =
+      StepFails-in-writing job before task task_new left left_new held mid held_new line
+      is_return has
+      kept cause
+      (subst (λ e. WritesOutputPrefix job task line e mid held_new cause) shown_is prefix)
+
+-- streams: a step fails if reading its line does, and leaves what the writer held
+pub StepFails-in-reading : (job : Job) (before : ℕ) (task : Task)
+    (left left_new held held_new : Option (List ℕ)) (cause : Cause)
+    → ReadsPartOfLine left left_new (end_byte job.is_null) → Keeps held held_new
+    → StepFails job before task left left_new held held_new cause
+StepFails-in-reading job before task None left_new held held_new cause stopped kept = tt
+StepFails-in-reading job before task (Some xs) left_new held held_new cause stopped kept =
+    λ known remembers. (AppendsPrefix-of-kept held held_new _ kept, λ input. (kept, stopped))

@@ -1,39 +1,45 @@
 -- What was met, and the first time that a normal form comes.
-use Rattle.std.proofs.Common.{◌≡◌, ℕ, Bool, true, false, cond, List, [], ◌∷◌, ◌++◌, refl, ap, sym, ◌∙◌}
+use Rattle.std.proofs.Common.{◌≡◌, ℕ, Bool, true, false, cond, List, [], ◌∷◌, ◌++◌, refl, ap, sym}
+use Rattle.std.proofs.Common.{◌∙◌}
 use Rattle.std.proofs.Common.{subst, String, string_bytes}
 use Rattle.std.specs.HashSet as bag
-use Rattle.std.specs.Prelude.{bytes_eq, if◌then◌else◌, ◌||◌, not}
+use Rattle.std.specs.Prelude.{bytes_eq, if◌then◌else◌, ◌||◌}
 use Rattle.std.specs.String.{string_eq}
 use Rattle.std.proofs.lemmas.Map.Text.{hash_set_updates_text}
 use Rattle.std.proofs.lemmas.List.Folds.{list_any-append}
 use Rattle.std.proofs.lemmas.Slice.Eq.{bytes_eq-Decides}
 use Rattle.std.proofs.lemmas.Bool.Decides.{same_from_decides, Decides-like}
-use Rattle.uri_streams.specs.Answers.{Answer, Text, NoLine}
-use Rattle.uri_streams.specs.Tasks.{HasMet, Known, first_time, has_met}
-use Rattle.uri_streams.specs.declared.met.Met.{Met}
+use Rattle.uri_streams.specs.Results.{LineResult, Text, NoLine}
+use Rattle.uri_streams.specs.Tasks.{HasMet, Known, text_if_new, has_met}
+use Rattle.uri_streams.specs.declared.met.MetTexts.{MetTexts}
 
--- the set after an insertion
-pub met-after : {Y S : Type 0} (key : String Y) (old new : bag.HashSet (String Y) S)
+-- lines: after an insertion, the set of `unique` has the new text and those that it had
+pub contains_text-after-insertion : {Y S : Type 0} (key : String Y)
+    (old new : bag.HashSet (String Y) S)
     → bag.Updates string_eq old new key true → (other : List ℕ) → bag.contains_text new other
     ≡ cond (bytes_eq (string_bytes key) other) true (bag.contains_text old other)
-met-after key old new u other = hash_set_updates_text (string_bytes key) old new true u other
+contains_text-after-insertion key old new u other = hash_set_updates_text (string_bytes key) old new
+    true u other
 
+-- general fact on texts, for `unique`: equality may swap
 bytes_eq-sym : (xs ys : List ℕ) → bytes_eq xs ys ≡ bytes_eq ys xs
 bytes_eq-sym xs ys =
     same_from_decides {P = xs ≡ ys} _ _ (bytes_eq-Decides xs ys)
     (Decides-like _ (λ e. sym e) (λ e. sym e) (bytes_eq-Decides ys xs))
 
+-- general fact on booleans, for `unique`
 or-as-cond : (a b : Bool) → cond a true b ≡ (b || a)
 or-as-cond true true = refl
 or-as-cond true false = refl
 or-as-cond false true = refl
 or-as-cond false false = refl
 
+-- general fact on booleans, for `unique`
 or-false : (a : Bool) → (a || false) ≡ a
 or-false true = refl
 or-false false = refl
 
--- a text more is known
+-- lines: after one text more, `unique` has met it and those before
 has_met-more : (known : Known) (text other : List ℕ)
     → has_met (known ++ text ∷ []) other ≡ cond (bytes_eq text other) true (has_met known other)
 has_met-more known text other =
@@ -42,23 +48,19 @@ has_met-more known text other =
     ∙ ap (λ b. has_met known other || b) (bytes_eq-sym other text)
     ∙ sym (or-as-cond (bytes_eq text other) (has_met known other))
 
-module _ (met met_new : Met) (known : Known) (normal : List ℕ) (is_new : Bool)
-    (has : HasMet met known)
-    (noted : (other : List ℕ) → bag.contains_text met_new.texts other
+-- a new text
+pub text_if_new-of-new : (met met_new : MetTexts) (known : Known) (normal : List ℕ)
+    → HasMet met known
+    → ((other : List ℕ) → bag.contains_text met_new.texts other
     ≡ cond (bytes_eq normal other) true (bag.contains_text met.texts other))
-    (new : is_new ≡ not (bag.contains_text met.texts normal)) where
-  -- a new text
-  pub first-new : is_new ≡ true
-      → (Text normal ≡ (first_time known (Text normal)).0) × HasMet met_new (first_time known (Text normal)).1
-  first-new is =
-      let unknown : has_met known normal ≡ false = at (has_met known normal) refl in
-      subst (λ (a : Answer × Known). (Text normal ≡ a.0) × HasMet met_new a.1)
-      (sym (ap (λ b. if b then (NoLine, known) else (Text normal, known ++ normal ∷ [])) unknown)) (
-        refl,
-        λ other. noted other ∙ ap (cond (bytes_eq normal other) true) (has other)
-            ∙ sym (has_met-more known normal other),
-      )
-    where
-      at : (b : Bool) → has_met known normal ≡ b → b ≡ false
-      at true e = absurd (cc (is, new, has normal, e))
-      at false e = refl
+    → bag.contains_text met.texts normal ≡ false
+    → (Text normal ≡ (text_if_new known (Text normal)).0)
+    × HasMet met_new (text_if_new known (Text normal)).1
+text_if_new-of-new met met_new known normal has noted unknown =
+    subst (λ (a : LineResult × Known). (Text normal ≡ a.0) × HasMet met_new a.1)
+    (sym (ap (λ b. if b then (NoLine, known) else (Text normal, known ++ normal ∷ []))
+    (sym (has normal) ∙ unknown))) (
+      refl,
+      λ other. noted other ∙ ap (cond (bytes_eq normal other) true) (has other)
+          ∙ sym (has_met-more known normal other),
+    )

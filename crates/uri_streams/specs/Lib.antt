@@ -1,11 +1,15 @@
 pub mod Causes
 pub mod Lines
 pub mod Json
-pub mod Answers
+pub mod Queries
+pub mod Fields
+pub mod Results
 pub mod Tasks
 pub mod Outputs
 pub mod Returned
 pub mod Runs
+pub mod Models
+pub use Rattle.cookbook.specs.Pairs
 pub use Rattle.fluent_uri.specs.Authority
 pub use Rattle.fluent_uri.specs.Components
 pub use Rattle.fluent_uri.specs.Grammar
@@ -19,4 +23,5 @@ pub use Rattle.fluent_uri.specs.Target
 pub use Rattle.uri_commands.specs.Messages
 pub use Rattle.uri_commands.specs.Links
 pub use Rattle.uri_links.specs.Outcomes
+pub use Rattle.uri_relative.specs.Rule
 pub use Rattle.uri_links.specs.Registers

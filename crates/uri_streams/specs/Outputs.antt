@@ -1,84 +1,103 @@
--- What is written for an input: one line for each of its lines, unless that has no answer.
+-- What is written for an input: one line for each of its lines, unless that has no output.
 use Rattle.std.specs.Prelude.{ℕ, ◌+◌, List, [], ◌∷◌, ◌++◌, codes, Bool, true, false, ◌&&◌}
 use Rattle.std.specs.Prelude.{if◌then◌else◌}
 use Rattle.std.specs.List.{count_by, flat_map}
-use Rattle.uri_streams.specs.Answers.{Answer, Text, NoLine, Error}
+use Rattle.uri_streams.specs.Fields.{Cut, bounded_cut}
+use Rattle.uri_streams.specs.Results.{LineResult, Text, NoLine, Error}
 use Rattle.uri_streams.specs.Lines.{end_byte, has_return, line_text, lines_of}
-use Rattle.uri_streams.specs.Tasks.{Known, answer_of}
+use Rattle.uri_streams.specs.Tasks.{Known, cut_result}
 use Rattle.uri_streams.specs.declared.job.Job.{Job}
 use Rattle.uri_streams.specs.declared.job.OnError.{OnError}
 use Rattle.uri_streams.specs.declared.job.OnError.TheVariants as errors
 
--- the answer to a line, and what is known after it
-abbrev pub line_answer : Job → Known → List ℕ → Answer × Known
-line_answer job known line =
-    answer_of job.command job.max_line known (line_text job.is_null line)
+-- a line, cut around what the command of the job gets of it
+abbrev pub line_cut : Job → List ℕ → Cut
+line_cut job line = bounded_cut job.max_line job.field (line_text job.is_null line)
 
--- what ends the answer: what ended the line, or would have ended the last one
-abbrev pub end_of : Bool → Bool → List ℕ
-end_of is_null is_return = if is_return then codes "\r\n" else end_byte is_null ∷ []
+-- the result of a line under a job, with what is known from earlier lines; and what is known after
+-- it
+abbrev pub line_result : Job → Known → List ℕ → LineResult × Known
+line_result job known line = cut_result job.command known (line_cut job line).text
 
-abbrev pub answer_end : Job → List ℕ → List ℕ
-answer_end job line = end_of job.is_null (has_return job.is_null line)
+-- what ends the output of a line; the Bools are whether NUL ends lines, and whether a `\r` is
+-- before the line's end
+abbrev pub line_ending : Bool → Bool → List ℕ
+line_ending is_null is_return = if is_return then codes "\r\n" else end_byte is_null ∷ []
 
-abbrev pub is_error : Answer → Bool
+-- what ends the output of this line under a job: what ended the line, or would have ended the last
+-- one
+abbrev pub line_end : Job → List ℕ → List ℕ
+line_end job line = line_ending job.is_null (has_return job.is_null line)
+
+-- whether the result of a line is an error
+abbrev pub is_error : LineResult → Bool
 is_error (Error message) = true
-is_error answer = false
+is_error other = false
 
+-- whether an error ends the run, as `--errors stop` asks
 abbrev pub is_stop : OnError → Bool
 is_stop errors.Stop = true
 is_stop mode = false
 
--- a line that was answered
-pub record Answered : Type 0 where
+-- a line of an input that was processed: its number, its result, and what is before and after its
+-- field
+pub record ProcessedLine : Type 0 where
   -- from 1
   pub number : ℕ
-  -- what ends its answer
-  pub end : List ℕ
-  pub answer : Answer
+  -- the fields before the one that the command gets
+  pub before : List ℕ
+  pub result : LineResult
+  -- the fields after it, and what ends the line
+  pub after : List ℕ
 
--- the line of this number, after lines that left this known
-abbrev pub answered : Job → ℕ → Known → List ℕ → Answered
-answered job number known line = record {
+-- how a job processes the line of this number, with what is known from earlier lines
+abbrev pub processed : Job → ℕ → Known → List ℕ → ProcessedLine
+processed job number known line = record {
   number = number;
-  end = answer_end job line;
-  answer = (line_answer job known line).0;
+  before = (line_cut job line).before;
+  result = (line_result job known line).0;
+  after = (line_cut job line).after ++ line_end job line;
 }
 
--- the run ends with this line
-abbrev pub is_last : Job → Answered → Bool
-is_last job line = is_error line.answer && is_stop job.errors
+-- whether the run of a job ends with this line
+abbrev pub is_last : Job → ProcessedLine → Bool
+is_last job line = is_error line.result && is_stop job.errors
 
--- the lines that are answered: under `stop` none after the first error
-unfoldable pub answered_lines : Job → ℕ → Known → List (List ℕ) → List Answered
-answered_lines job before known [] = []
-answered_lines job before known (line ∷ lines) =
-    answered job (before + 1) known line
-    ∷ (if is_last job (answered job (before + 1) known line) then []
-    else answered_lines job (before + 1) (line_answer job known line).1 lines)
+-- how a job processes lines, after so many others and with what is known from these: under `stop`
+-- none after the first error
+unfoldable pub processed_lines : Job → ℕ → Known → List (List ℕ) → List ProcessedLine
+processed_lines job before known [] = []
+processed_lines job before known (line ∷ lines) =
+    processed job (before + 1) known line
+    ∷ (if is_last job (processed job (before + 1) known line) then []
+    else processed_lines job (before + 1) (line_result job known line).1 lines)
 
--- an error in place of an answer
-abbrev pub error_output : OnError → List ℕ → List ℕ → List ℕ
-error_output errors.Line message end = codes "error: " ++ message ++ end
-error_output errors.Drop message end = []
-error_output errors.Stderr message end = []
-error_output errors.Stop message end = []
+-- what is written for a line that is an error; the texts are what is before its field, the message,
+-- and what is after the field
+abbrev pub error_output : OnError → List ℕ → List ℕ → List ℕ → List ℕ
+error_output errors.Line before message after = (before ++ (codes "error: " ++ message)) ++ after
+error_output errors.Drop before message after = []
+error_output errors.Stderr before message after = []
+error_output errors.Stop before message after = []
 
-abbrev pub answer_output : OnError → List ℕ → Answer → List ℕ
-answer_output mode end (Text text) = text ++ end
-answer_output mode end NoLine = []
-answer_output mode end (Error message) = error_output mode message end
+-- what is written for a line with this result; the texts are what is before and after its field
+abbrev pub result_output : OnError → List ℕ → LineResult → List ℕ → List ℕ
+result_output mode before (Text text) after = (before ++ text) ++ after
+result_output mode before NoLine after = []
+result_output mode before (Error message) after = error_output mode before message after
 
--- what is written for a line
-abbrev pub line_output : Job → Answered → List ℕ
-line_output job line = answer_output job.errors line.end line.answer
+-- what a job writes for a line that was processed
+abbrev pub line_output : Job → ProcessedLine → List ℕ
+line_output job line = result_output job.errors line.before line.result line.after
 
-abbrev pub output_of : Job → List Answered → List ℕ
+-- what a job writes for lines that were processed
+abbrev pub output_of : Job → List ProcessedLine → List ℕ
 output_of job lines = flat_map (line_output job) lines
 
-abbrev pub error_count : List Answered → ℕ
-error_count lines = count_by (λ line. is_error line.answer) lines
+-- how many of the lines that were processed are errors
+abbrev pub error_count : List ProcessedLine → ℕ
+error_count lines = count_by (λ line. is_error line.result) lines
 
--- the lines of an input that are answered
-abbrev pub answers_of : Job → List ℕ → List Answered
-answers_of job input = answered_lines job 0 [] (lines_of (end_byte job.is_null) input)
+-- how a job processes the lines of an input
+abbrev pub processed_in : Job → List ℕ → List ProcessedLine
+processed_in job input = processed_lines job 0 [] (lines_of (end_byte job.is_null) input)

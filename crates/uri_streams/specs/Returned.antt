@@ -1,25 +1,50 @@
--- What contracts see of an answer.
-use Rattle.std.specs.Prelude.{◌≡◌, ℕ, List, ◌++◌, codes, decimal, string_bytes}
-use Rattle.uri_commands.specs.Refusals.{message}
-use Rattle.uri_streams.specs.Answers.{Answer, Text, NoLine, Error}
-use Rattle.uri_streams.specs.Tasks.{Known, Remembers, long_message}
-use Rattle.uri_streams.specs.declared.answers.Answer.{Answer as Returned}
+-- What contracts see of a cut and of a result.
+use Rattle.std.specs.Prelude.{◌≡◌, ℕ, List, ◌++◌, codes, decimal, string_bytes, Result, Ok, Err}
+use Rattle.std.specs.Borrow.{Bor}
+use Rattle.uri_commands.specs.Refusals.{command_error_text}
+use Rattle.uri_streams.specs.Fields.{Cut, line_too_long_message, no_field_message}
+use Rattle.uri_streams.specs.Results.{LineResult, Text, NoLine, Error}
+use Rattle.uri_streams.specs.Tasks.{Known, Remembers}
+use Rattle.uri_streams.specs.declared.results.LineResult.{LineResult as Returned}
 use Rattle.uri_streams.specs.declared.command.Command.{Command}
+use Rattle.uri_streams.specs.declared.cut.Cut.{Cut as ReturnedCut}
 use Rattle.uri_streams.specs.declared.task.Task.{Task}
-use Rattle.uri_streams.specs.declared.answers.Answer.TheVariants as returned
-use Rattle.uri_streams.specs.declared.fault.Fault.{Fault}
-use Rattle.uri_streams.specs.declared.fault.Fault.TheVariants.{TooLong, NotUtf8, Refused}
+use Rattle.uri_streams.specs.declared.results.LineResult.TheVariants as returned
+use Rattle.uri_streams.specs.declared.fault.LineError.{LineError}
+use Rattle.uri_streams.specs.declared.fault.LineError.TheVariants.{TooLong, NoField, NotUtf8}
+use Rattle.uri_streams.specs.declared.fault.LineError.TheVariants.{Refused}
+use Rattle.uri_streams.specs.declared.fault.LineError.TheVariants.{Target}
+use Rattle.uri_commands.specs.Messages.{error_text}
 
-abbrev pub fault_message : Fault → List ℕ
-fault_message (TooLong most) = long_message most
-fault_message (NotUtf8 index) = codes "not UTF-8 at index " ++ decimal index
-fault_message (Refused why) = message why
+-- the message that the error of a line prints
+abbrev pub line_error_message : LineError → List ℕ
+line_error_message (TooLong most) = line_too_long_message most
+line_error_message (NoField before) = no_field_message before
+line_error_message (NotUtf8 index) = codes "not UTF-8 at index " ++ decimal index
+line_error_message (Refused why) = command_error_text why
+line_error_message (Target error) = codes "target: " ++ error_text error
 
-abbrev pub answer_in : Returned → Answer
-answer_in (returned.Text text) = Text (string_bytes text)
-answer_in returned.NoLine = NoLine
-answer_in (returned.Error fault) = Error (fault_message fault)
+-- the text that the command gets of a line, or the message that the error prints
+abbrev pub text_or_message : Result (Bor (List ℕ)) LineError → Result (List ℕ) (List ℕ)
+text_or_message (Ok bytes) = Ok bytes.now
+text_or_message (Err fault) = Err (line_error_message fault)
 
--- the answer is returned, and what is known after it is remembered
-abbrev pub IsAnswer : Command → Answer × Known → Returned → Task → Type 0
-IsAnswer command next returned task = (answer_in returned ≡ next.0) × Remembers task command next.1
+-- the cut of a line as contracts name it, with bytes and messages, for one that a call returned
+abbrev pub cut_in : ReturnedCut → Cut
+cut_in cut = record {
+  before = cut.before.now;
+  text = text_or_message cut.text;
+  after =
+      cut.after.now;
+}
+
+-- the result of a line as contracts name it, with bytes and messages, for one that a call returned
+abbrev pub result_in : Returned → LineResult
+result_in (returned.Text text) = Text (string_bytes text)
+result_in returned.NoLine = NoLine
+result_in (returned.Error fault) = Error (line_error_message fault)
+
+-- a call returns the result of a line under the command, and the task remembers what is known after
+-- it
+abbrev pub IsResult : Command → LineResult × Known → Returned → Task → Type 0
+IsResult command next returned task = (result_in returned ≡ next.0) × Remembers task command next.1

@@ -1,6 +1,6 @@
--- What a command answers for the text of a line, after the lines before it.
+-- The result of the text of a line under a command, after the lines before it.
 use Rattle.std.specs.Prelude.{◌≡◌, ℕ, List, [], ◌∷◌, ◌++◌, codes, Bool, bytes_eq, decimal}
-use Rattle.std.specs.Prelude.{length, nat_lt, if◌then◌else◌}
+use Rattle.std.specs.Prelude.{Result, Ok, Err, if◌then◌else◌}
 use Rattle.std.specs.HashSet.{contains_text}
 use Rattle.std.specs.List.{list_any}
 use Rattle.std.specs.Str.{is_utf8}
@@ -14,71 +14,85 @@ use Rattle.uri_links.specs.Outcomes.{outcome_of}
 use Rattle.uri_links.specs.Registers.{port_function_of, texts_of}
 use Rattle.uri_links.specs.declared.links.Outcome.{Outcome}
 use Rattle.uri_links.specs.declared.links.Outcome.TheVariants as outcomes
-use Rattle.uri_streams.specs.Answers.{Answer, Text, NoLine, Error, command_answer, kind_named}
-use Rattle.uri_streams.specs.Answers.{normalize_answer, parse_message}
+use Rattle.uri_streams.specs.Results.{LineResult, Text, NoLine, Error, command_result, kind_named}
+use Rattle.uri_streams.specs.Results.{normalize_result, parse_message}
 use Rattle.uri_streams.specs.declared.command.Command.{Command}
 use Rattle.uri_streams.specs.declared.command.Command.TheVariants.{Each, Unique, Links}
-use Rattle.uri_streams.specs.declared.met.Met.{Met}
+use Rattle.uri_streams.specs.declared.met.MetTexts.{MetTexts}
 use Rattle.uri_streams.specs.declared.task.Task.{Task}
 use Rattle.uri_streams.specs.declared.task.Task.TheVariants as tasks
 
--- what earlier lines leave to later ones: the normal forms or the targets that were met, each once
+-- what is known from earlier lines of a run: the normal forms or the targets that were met, each
+-- once
 abbrev pub Known : Type 0
 Known = List (List ℕ)
 
+-- whether a text is among those that are known from earlier lines
 abbrev pub has_met : Known → List ℕ → Bool
 has_met known text = list_any (bytes_eq text) known
 
--- an answer that is a text, the first time that it comes
-abbrev pub first_time : Known → Answer → Answer × Known
-first_time known (Text text) =
+-- the result of a line if its text is not known from earlier lines, and otherwise no line; and what
+-- is known after it
+abbrev pub text_if_new : Known → LineResult → LineResult × Known
+text_if_new known (Text text) =
     if has_met known text then (NoLine, known) else (Text text, known ++ text ∷ [])
-first_time known answer = (answer, known)
+text_if_new known other = (other, known)
 
+-- The result of `urilines unique` for a line: its normal form, if that is not known, and what is
+-- known after it.
 -- Two texts of a kind have one normal form exactly if they mean the same (RFC 3986, section 6.2.2).
-unfoldable pub unique_answer : Kind → Known → List ℕ → Answer × Known
-unique_answer kind known text = first_time known (normalize_answer kind text)
+unfoldable pub unique_result : Kind → Known → List ℕ → LineResult × Known
+unique_result kind known text = text_if_new known (normalize_result kind text)
 
--- a word, the id and the target
+-- the line that `urilines links` writes for a target: a word, the id and the target's text, which
+-- is known
 abbrev pub link_line : List ℕ → ℕ → Known → List ℕ
 link_line word id known = word ++ codes " " ++ decimal id ++ codes " " ++ text_at known id
 
-abbrev pub outcome_answer : Outcome × Known → Answer
-outcome_answer (outcomes.New id, known) = Text (link_line (codes "new") id known)
-outcome_answer (outcomes.Known id, known) = Text (link_line (codes "known") id known)
-outcome_answer (outcomes.Refused error, known) = Error (resolve_error_text error)
+-- the result of `urilines links` for a line whose reference has this outcome, with the texts that
+-- are known after it
+abbrev pub outcome_result : Outcome × Known → LineResult
+outcome_result (outcomes.New id, known) = Text (link_line (codes "new") id known)
+outcome_result (outcomes.Known id, known) = Text (link_line (codes "known") id known)
+outcome_result (outcomes.Refused error, known) = Error (resolve_error_text error)
 
-abbrev pub noted_answer : Outcome × Known → Answer × Known
-noted_answer noted = (outcome_answer noted, noted.1)
+-- the result of `urilines links` for a line whose reference has this outcome, and what is known
+-- after it
+abbrev pub noted_result : Outcome × Known → LineResult × Known
+noted_result noted = (outcome_result noted, noted.1)
 
--- a reference against a base, whose target is known by its meaning
-unfoldable pub link_answer : List ℕ → Known → List ℕ → Answer × Known
-link_answer base known text =
-    if is_of_kind uri_ref text then noted_answer (outcome_of default_port base known text)
+-- the result of `urilines links` for a base, what is known, and a line: its target is known if one
+-- with its meaning is; and what is known after it
+unfoldable pub link_result : List ℕ → Known → List ℕ → LineResult × Known
+link_result base known text =
+    if is_of_kind uri_ref text then noted_result (outcome_of default_port base known text)
     else (Error (codes "reference: " ++ parse_message uri_ref text), known)
 
--- the answer, and what is known after it
-abbrev pub text_answer : Command → Known → List ℕ → Answer × Known
-text_answer (Each command) known text = (command_answer command text, known)
-text_answer (Unique kind hasher) known text = unique_answer (kind_named kind) known text
-text_answer (Links base) known text = link_answer (uri_text base) known text
+-- the result of a text under a command of `urilines`, with what is known from earlier lines; and
+-- what is known after it
+abbrev pub text_result : Command → Known → List ℕ → LineResult × Known
+text_result (Each command) known text = (command_result command text, known)
+text_result (Unique kind hasher) known text = unique_result (kind_named kind) known text
+text_result (Links base) known text = link_result (uri_text base) known text
 
--- what is said of a line whose text has more bytes than this
-abbrev pub long_message : ℕ → List ℕ
-long_message max_line = codes "line over " ++ decimal max_line ++ codes " bytes"
+-- the result of bytes, which need not be UTF-8, under a command of `urilines`, with what is known
+-- from earlier lines; and what is known after it
+abbrev pub bytes_result : Command → Known → List ℕ → LineResult × Known
+bytes_result command known bytes =
+    if is_utf8 bytes then text_result command known bytes
+    else (Error (codes "not UTF-8 at index " ++ decimal (utf8_valid_len bytes)), known)
 
--- A line whose text is longer than the maximum, or not UTF-8, is an error under each command.
-abbrev pub answer_of : Command → ℕ → Known → List ℕ → Answer × Known
-answer_of command max_line known text =
-    if nat_lt max_line (length text) then (Error (long_message max_line), known)
-    else (if is_utf8 text then text_answer command known text
-    else (Error (codes "not UTF-8 at index " ++ decimal (utf8_valid_len text)), known))
+-- the result of the text that a command of `urilines` gets of a line, or of the error's message,
+-- with what is known; and what is known after it
+abbrev pub cut_result : Command → Known → Result (List ℕ) (List ℕ) → LineResult × Known
+cut_result command known (Ok bytes) = bytes_result command known bytes
+cut_result command known (Err message) = (Error message, known)
 
--- the texts that were met are those that are known
-abbrev pub HasMet : Met → Known → Type 0
+-- the set of texts that a task met has exactly the texts that are known
+abbrev pub HasMet : MetTexts → Known → Type 0
 HasMet met known = (text : List ℕ) → contains_text met.texts text ≡ has_met known text
 
--- the task is of the command, and remembers what is known
+-- the task is that of the command, and remembers what is known from earlier lines
 abbrev pub Remembers : Task → Command → Known → Type 0
 Remembers (tasks.Each own) (Each command) known = own ≡ command
 Remembers (tasks.Unique own) (Unique kind hasher) known =

@@ -3,51 +3,57 @@
 use fluent_uri::{Iri, Uri};
 use std::hash::RandomState;
 
-/// A kind, by its name on the command line.
+/// One of the four kinds, by its name on the command line of `urilines`.
 #[derive(Clone, Copy)]
 pub enum KindName {
-    /// `uri`
+    /// `uri`: a URI (RFC 3986, section 3).
     Uri,
-    /// `uri-ref`
+    /// `uri-ref`: a URI reference (RFC 3986, section 4.1).
     UriRef,
-    /// `iri`
+    /// `iri`: an IRI (RFC 3987, section 2.2).
     Iri,
-    /// `iri-ref`
+    /// `iri-ref`: an IRI reference (RFC 3987, section 2.2).
     IriRef,
 }
 
-/// A base, whose references are those of its kind.
+/// A base that lines are resolved against or relativized to: a URI or an IRI. Its references are
+/// URI references or IRI references.
 #[derive(Clone, Copy)]
 pub enum Base<'a> {
-    /// A URI.
+    /// A URI, the base of URI references.
     Uri(Uri<&'a str>),
-    /// An IRI.
+    /// An IRI, the base of IRI references.
     Iri(Iri<&'a str>),
 }
 
-/// What is done with the text of each line, whatever the other lines are.
+/// A command of `urilines` that does the same with the text of each line, whatever the other lines
+/// are.
 #[derive(Clone, Copy)]
 pub enum LineCommand<'a> {
-    /// `normalize KIND`: its normal form takes its place.
+    /// `normalize KIND`: the normal form of the text takes its place.
     Normalize(KindName),
-    /// `resolve uri|iri BASE`: its target against the base takes its place.
+    /// `resolve uri|iri BASE`: the target of the text against the base takes its place.
     Resolve(Base<'a>),
-    /// `check KIND`: it is passed on if it is of the kind as it stands, or where `true` is beside
-    /// the kind (`--invert`) if it is not.
+    /// `relativize uri|iri BASE`: a reference that leads to the text from the base takes its place.
+    Relativize(Base<'a>),
+    /// `check KIND`: the text is passed on, unchanged, if it is of the kind. If the `bool` is true
+    /// (`--invert`), it is passed on if it is not.
     Check(KindName, bool),
-    /// `parse KIND`: a line of JSON that has its components takes its place.
+    /// `parse KIND`: a line of JSON that has the components of the text takes its place.
     Parse(KindName),
+    /// `query KIND`: a line of JSON that has the pairs of the text's query takes its place.
+    Query(KindName),
 }
 
-/// What is done with the lines.
+/// A command of `urilines`: what is done with the lines of an input.
 #[derive(Clone, Copy)]
 pub enum Command<'a> {
-    /// The same with each line.
+    /// A command that does the same with each line.
     Each(LineCommand<'a>),
-    /// `unique KIND`: its normal form takes its place the first time that its meaning comes. The
-    /// normal forms that were met are kept, hashed with these keys.
+    /// `unique KIND`: the normal form of a line's text takes its place the first time that its
+    /// meaning comes. The normal forms that were met are kept, hashed with these keys.
     Unique(KindName, RandomState),
-    /// `links BASE`: the id of its target against the base takes its place, with whether it is new,
-    /// and the target. The targets that were met are kept.
+    /// `links BASE`: whether the target of a line's text against the base is new, the target's id
+    /// and the target take the text's place. The targets that were met are kept.
     Links(Uri<&'a str>),
 }

@@ -10,7 +10,7 @@ pub enum Failure {
     Input(io::Error),
     /// The writer failed.
     Output(io::Error),
-    /// Memory was refused.
+    /// Allocation failed.
     OutOfMemory,
 }
 
@@ -20,7 +20,31 @@ impl From<AllocError> for Failure {
 
     ghost from_gives = { λ _ failure. failure ≡ OutOfMemory };
 
+    /// Returns the failure of a run for a failed allocation.
     fn from(_: AllocError) -> Failure {
         Failure::OutOfMemory
+    }
+}
+
+/// What failed in a run. Its error is kept by the reader or the writer until the run ends.
+#[derive(Clone, Copy)]
+pub(crate) enum Cause {
+    /// The reader failed.
+    Input,
+    /// The writer failed.
+    Output,
+    /// Allocation failed.
+    OutOfMemory,
+}
+
+impl From<AllocError> for Cause {
+    ghost use Rattle.std.specs.Prelude.{◌≡◌};
+    ghost use Rattle.uri_streams.specs.declared.failure.Cause.TheVariants.{OutOfMemory};
+
+    ghost from_gives = { λ _ cause. cause ≡ OutOfMemory };
+
+    /// Returns the cause of a failed allocation, `OutOfMemory`.
+    fn from(_: AllocError) -> Cause {
+        Cause::OutOfMemory
     }
 }

@@ -1,31 +1,39 @@
-//! Why a line has no answer.
+//! Why a line is an error.
 
+use fluent_uri::ParseError;
 use std::fmt::{self, Display};
-use uri_commands::refusal::Refusal;
+use uri_commands::refusal::CommandError;
 
-/// Why a line has no answer.
+/// Why a line of an input is an error.
 #[derive(Clone, Copy)]
-pub(crate) enum Fault {
-    /// Its text has more bytes than this.
+pub(crate) enum LineError {
+    /// The text of the line has more bytes than this.
     TooLong(u32),
-    /// Its bytes are UTF-8 up to this index.
+    /// The line has no field after so many others.
+    NoField(u32),
+    /// The bytes that the command gets of the line are UTF-8 up to this index.
     NotUtf8(usize),
-    /// The command has no answer to its text.
-    Refused(Refusal),
+    /// The command rejects the text of the line.
+    Refused(CommandError),
+    /// The text of the line, a target to relativize, is not of the kind of the base.
+    Target(ParseError),
 }
 
-/// Prints the message, without the `error: ` before it.
-impl Display for Fault {
+/// Prints the message of the error of a line, without the `error: ` before it.
+impl Display for LineError {
     ghost use Rattle.std.specs.Prelude.{Some};
-    ghost use Rattle.uri_streams.specs.Returned.{fault_message};
+    ghost use Rattle.uri_streams.specs.Returned.{line_error_message};
 
-    ghost output = { λ fault. Some (fault_message fault) };
+    ghost output = { λ fault. Some (line_error_message fault) };
 
+    /// Prints the message of the error of a line, without the `error: ` before it.
     fn fmt<W: fmt::Write>(&self, f: &mut fmt::Formatter<W>) -> fmt::Result {
         match *self {
-            Fault::TooLong(most) => write!(f, "line over {most} bytes"),
-            Fault::NotUtf8(index) => write!(f, "not UTF-8 at index {index}"),
-            Fault::Refused(refusal) => write!(f, "{refusal}"),
+            LineError::TooLong(most) => write!(f, "line over {most} bytes"),
+            LineError::NoField(before) => write!(f, "no field {}", before as u64 + 1),
+            LineError::NotUtf8(index) => write!(f, "not UTF-8 at index {index}"),
+            LineError::Refused(refusal) => write!(f, "{refusal}"),
+            LineError::Target(error) => write!(f, "target: {}", CommandError::Text(error)),
         }
     }
 }

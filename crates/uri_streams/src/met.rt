@@ -1,5 +1,5 @@
 //! The texts that were met.
-ghost use Rattle.std.specs.Prelude.{◌≡◌, false, not, true, bytes_eq, if◌then◌else◌, ℕ, List, IfOk};
+ghost use Rattle.std.specs.Prelude.{◌≡◌, false, true, bytes_eq, if◌then◌else◌, ℕ, List};
 ghost use Rattle.std.specs.Prelude.{OnOk, string_bytes};
 ghost use Rattle.std.specs.HashSet.{contains_text};
 
@@ -7,34 +7,41 @@ use std::alloc::{AllocError, Global};
 use std::collections::HashSet;
 use std::hash::RandomState;
 
-/// The texts that were met.
+/// A set of the texts that were met in earlier lines of an input.
 #[derive(Drop)]
-pub(crate) struct Met {
+pub(crate) struct MetTexts {
+    /// The texts that were met.
     texts: HashSet<String, RandomState>,
 }
 
-impl Met {
-    /// Returns a set that has met nothing, and hashes with these keys.
-    pub(crate) fn new(alloc: Global, hasher: RandomState) -> Met
+impl MetTexts {
+    /// Returns an empty set of texts that were met, which hashes with these keys.
+    pub(crate) fn new(alloc: Global, hasher: RandomState) -> MetTexts
         ensures { (text : List ℕ) → contains_text result.texts text ≡ false }
     {
-        Met {
+        MetTexts {
             texts: HashSet::with_hasher(alloc, hasher),
         }
     }
 
-    /// Returns whether the text is met for the first time.
+    /// Returns whether a text was met in an earlier line.
+    pub(crate) fn contains(&self, text: &str) -> bool
+        ensures { result ≡ contains_text self.now.texts text.now }
+    {
+        self.texts.contains(text)
+    }
+
+    /// Adds a text to those that were met.
     ///
     /// # Errors
     ///
-    /// Only if memory is refused.
-    pub(crate) fn note(&mut self, text: String) -> Result<bool, AllocError>
-        ensures new { IfOk result (λ is_new.
-            is_new ≡ not (contains_text self.old.texts (string_bytes text))) }
-        ensures met { OnOk result ((other : List ℕ) → contains_text self.new.texts other
+    /// Only if allocation fails.
+    pub(crate) fn note(&mut self, text: String) -> Result<(), AllocError>
+        ensures { OnOk result ((other : List ℕ) → contains_text self.new.texts other
             ≡ (if bytes_eq (string_bytes text) other then true
             else contains_text self.old.texts other)) }
     {
-        Ok(self.texts.insert(text)?)
+        self.texts.insert(text)?;
+        Ok(())
     }
 }

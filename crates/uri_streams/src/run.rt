@@ -1,60 +1,51 @@
-//! Answering each line of an input.
-ghost use Rattle.std.specs.Prelude.{◌≡◌, ◌||◌, ◌++◌, ◌+◌, ◌-◌, ◌^◌, ◌<◌, min, IfErr, IfOk, OnOk};
-ghost use Rattle.std.specs.Prelude.{◌&&◌, false, not, if◌then◌else◌};
+//! Processing each line of an input.
+ghost use Rattle.std.specs.Prelude.{◌≡◌, ◌||◌, ◌+◌, ◌-◌, ◌^◌, ◌<◌, min, IfErr, IfOk};
+ghost use Rattle.std.specs.Prelude.{◌&&◌, false, not, true, if◌then◌else◌};
 ghost use Rattle.std.specs.Io.Buffered.{reader_remaining};
-ghost use Rattle.std.specs.Io.KnownBytes.{Appends};
-ghost use Rattle.uri_commands.specs.Fronts.{AppendsFront};
+ghost use Rattle.uri_streams.specs.Causes.{caused_by_input, caused_by_output, is_input};
+ghost use Rattle.uri_streams.specs.Causes.{is_input_cause, is_output, is_output_cause};
 ghost use Rattle.uri_streams.specs.Causes.{reading_failed, writing_failed};
-ghost use Rattle.uri_streams.specs.Lines.{end_byte};
 ghost use Rattle.uri_streams.specs.Outputs as outputs;
-ghost use Rattle.uri_streams.specs.Outputs.{answer_output, error_output, is_stop};
-ghost use Rattle.uri_streams.specs.Returned.{answer_in, fault_message};
-ghost use Rattle.uri_streams.specs.Runs.{Answers, StepFails, Steps, Stops};
+ghost use Rattle.uri_streams.specs.Models.{StepFails, Steps};
+ghost use Rattle.uri_streams.specs.Runs.{FailsAfterPrefix, StopsAfterPrefix, WritesOutput};
 
-use crate::answers::Answer;
-use crate::failure::Failure;
-use crate::fault::Fault;
-use crate::job::{Job, OnError};
-use crate::lines::{read_line, text_of};
+use crate::failure::{Cause, Failure};
+use crate::job::Job;
+use crate::line_ends::{ends_with_return, line_ending};
+use crate::lines::read_line;
+use crate::output::{StepResult, write_line};
 use crate::sink::Sink;
-use crate::source::Source;
+use crate::source::{Line, Source};
 use crate::task::Task;
-use std::alloc::{AllocError, Global};
+use std::alloc::Global;
 use std::io::{Read, Write};
 
-/// How many lines were answered, and how many of them were errors.
+/// How many lines of an input were processed, and how many of them were errors.
 #[derive(Clone, Copy, Debug)]
 pub struct Tally {
-    /// Lines.
+    /// How many lines were processed.
     pub lines: u64,
-    /// Errors.
+    /// How many of the lines were errors.
     pub errors: u64,
 }
 
-/// What a line came to.
-#[derive(Clone, Copy)]
-struct Step {
-    is_line: bool,
-    is_error: bool,
-    is_last: bool,
-}
-
-/// Sees how far a run is.
+/// An observer of a run, which sees its tally after each line.
 pub trait Watch {
-    /// Sees the tally after a line.
+    /// Sees the tally of a run after a line.
     fn see(&mut self, tally: Tally);
 }
 
-/// Looks at nothing.
+/// An observer of a run that does nothing.
 #[derive(Drop)]
 pub struct Unwatched;
 
 impl Watch for Unwatched {
+    /// Ignores the tally of a run.
     fn see(&mut self, _: Tally) {}
 }
 
-/// Answers each line in order, until the input ends, or `OnError::Stop` ends it. Returns how many
-/// lines it answered.
+/// Processes each line of an input in order, until it ends, or `OnError::Stop` ends it. Returns how
+/// many lines it processed, and how many of them were errors.
 ///
 /// The writer is flushed before the reader is asked for more than it has buffered, and at the end.
 /// A message for the error output begins with the number of its line; a failing `err` changes
@@ -62,8 +53,8 @@ impl Watch for Unwatched {
 ///
 /// # Errors
 ///
-/// If the reader or the writer fails, or memory is refused. The writer got a prefix of the output;
-/// if the reader failed, it got the answers to all lines that were read whole.
+/// If the reader or the writer fails, or allocation fails. The writer got a prefix of the output;
+/// if the reader failed, it got the output of all lines that were read whole.
 pub fn run<R: Read, W: Write, E: Write, V: Watch>(
     alloc: Global,
     job: &Job<'_>,
@@ -72,14 +63,42 @@ pub fn run<R: Read, W: Write, E: Write, V: Watch>(
     err: &mut Sink<E>,
     watch: &mut V,
 ) -> Result<Tally, Failure>
-    ensures answers { IfOk result (Answers job.now (reader_remaining R.remaining reader.old.reader)
-        (W.contents writer.old.writer) (W.contents writer.new.writer)) }
-    ensures stops { IfErr result (Stops job.now (reader_remaining R.remaining reader.old.reader)
+    ensures output { IfOk result (WritesOutput job.now
+        (reader_remaining R.remaining reader.old.reader) (W.contents writer.old.writer)
+        (W.contents writer.new.writer)) }
+    ensures stops { IfErr result
+        (FailsAfterPrefix job.now (reader_remaining R.remaining reader.old.reader)
         (reader_remaining R.remaining reader.new.reader) (W.contents writer.old.writer)
         (W.contents writer.new.writer)) }
     // The failure is of what failed, and nothing that failed is passed over.
     ensures reading { reader.new.has_failed ≡ (reading_failed result || reader.old.has_failed) }
     ensures writing { writer.new.has_failed ≡ (writing_failed result || writer.old.has_failed) }
+{
+    match process_lines(alloc, job, reader, writer, err, watch) {
+        Ok(tally) => Ok(tally),
+        Err(cause) => Err(failure(cause, reader, writer)),
+    }
+}
+
+/// Processes each line of an input in order, as `run` does. If that fails, returns what failed,
+/// which keeps the error.
+fn process_lines<R: Read, W: Write, E: Write, V: Watch>(
+    alloc: Global,
+    job: &Job<'_>,
+    reader: &mut Source<R>,
+    writer: &mut Sink<W>,
+    err: &mut Sink<E>,
+    watch: &mut V,
+) -> Result<Tally, Cause>
+    ensures output { IfOk result (WritesOutput job.now
+        (reader_remaining R.remaining reader.old.reader) (W.contents writer.old.writer)
+        (W.contents writer.new.writer)) }
+    ensures stops { IfErr result (λ cause. StopsAfterPrefix job.now
+        (reader_remaining R.remaining reader.old.reader)
+        (reader_remaining R.remaining reader.new.reader) (W.contents writer.old.writer)
+        (W.contents writer.new.writer) (is_input_cause cause)) }
+    ensures reading { reader.new.has_failed ≡ (caused_by_input result || reader.old.has_failed) }
+    ensures writing { writer.new.has_failed ≡ (caused_by_output result || writer.old.has_failed) }
 {
     let mut task = Task::new(alloc, job.command);
     let mut line = Vec::new(alloc);
@@ -88,7 +107,7 @@ pub fn run<R: Read, W: Write, E: Write, V: Watch>(
         errors: 0,
     };
     for number in 0..u64::MAX {
-        let step = answer_line(
+        let step = process_line(
             alloc, job, &mut task, reader, writer, err, &mut line, number,
         )?;
         tally.count(step);
@@ -98,11 +117,32 @@ pub fn run<R: Read, W: Write, E: Write, V: Watch>(
             return Ok(tally);
         }
     }
-    Err(reader.give_up())
+    Err(reader.fail_too_many_reads())
+}
+
+/// Returns the failure of a run for what failed, with the error that the reader or the writer kept.
+#[cold]
+#[inline(never)]
+fn failure<R: Read, W: Write>(cause: Cause, reader: &mut Source<R>, writer: &mut Sink<W>) -> Failure
+    ensures reader { reader.new.reader ≡ reader.old.reader }
+    ensures writer { writer.new.writer ≡ writer.old.writer }
+    ensures read { reader.new.has_failed ≡ reader.old.has_failed }
+    ensures written { writer.new.has_failed ≡ writer.old.has_failed }
+    ensures input { is_input result ≡ is_input_cause cause }
+    ensures output { is_output result ≡ is_output_cause cause }
+{
+    match cause {
+        Cause::Input => reader.failure(),
+        Cause::Output => writer.failure(),
+        Cause::OutOfMemory => Failure::OutOfMemory,
+    }
 }
 
 impl Tally {
-    fn count(&mut self, step: Step)
+    /// Adds a step of a run to the tally: its line, if there was one, and whether that was an
+    /// error.
+    #[inline(always)]
+    fn count(&mut self, step: StepResult)
         ensures lines { self.new.lines
             ≡ min (self.old.lines + (if step.is_line then 1 else 0)) (2 ^ 64 - 1) }
         ensures errors { self.new.errors
@@ -113,17 +153,19 @@ impl Tally {
     }
 }
 
-/// Reads a line, before which so many were answered, and writes its answer.
-fn answer_line<R: Read, W: Write, E: Write>(
+/// Processes the next line of an input: in the buffer, if it is whole there. `before` is how many
+/// lines were processed before it.
+#[inline(always)]
+fn process_line<R: Read, W: Write, E: Write>(
     alloc: Global,
     job: &Job<'_>,
     task: &mut Task<'_>,
     reader: &mut Source<R>,
     writer: &mut Sink<W>,
     err: &mut Sink<E>,
-    line: &mut Vec<u8>,
+    parts: &mut Vec<u8>,
     before: u64,
-) -> Result<Step, Failure>
+) -> Result<StepResult, Cause>
     requires { before < 2 ^ 64 - 1 }
     ensures steps { IfOk result (Steps job.now before task.old
         (reader_remaining R.remaining reader.old.reader)
@@ -133,24 +175,57 @@ fn answer_line<R: Read, W: Write, E: Write>(
         (reader_remaining R.remaining reader.old.reader)
         (reader_remaining R.remaining reader.new.reader) (W.contents writer.old.writer)
         (W.contents writer.new.writer)) }
-    ensures reading { reader.new.has_failed ≡ (reading_failed result || reader.old.has_failed) }
-    ensures writing { writer.new.has_failed ≡ (writing_failed result || writer.old.has_failed) }
+    ensures reading { reader.new.has_failed ≡ (caused_by_input result || reader.old.has_failed) }
+    ensures writing { writer.new.has_failed ≡ (caused_by_output result || writer.old.has_failed) }
+{
+    let Some(line) = reader.buffered_line(job.is_null) else {
+        return process_parts(alloc, job, task, reader, writer, err, parts, before);
+    };
+    let is_return = ends_with_return(line_ending(job.is_null), line.bytes);
+    let end = line_end(job.is_null, is_return);
+    let count = line.bytes.len();
+    let step = write_line(alloc, job, task, line, end, before + 1, writer, err);
+    reader.skip(count);
+    step
+}
+
+/// Reads the next line of an input in parts, and writes its output. `before` is how many lines were
+/// processed before it.
+#[cold]
+#[inline(never)]
+fn process_parts<R: Read, W: Write, E: Write>(
+    alloc: Global,
+    job: &Job<'_>,
+    task: &mut Task<'_>,
+    reader: &mut Source<R>,
+    writer: &mut Sink<W>,
+    err: &mut Sink<E>,
+    line: &mut Vec<u8>,
+    before: u64,
+) -> Result<StepResult, Cause>
+    requires { before < 2 ^ 64 - 1 }
+    ensures steps { IfOk result (Steps job.now before task.old
+        (reader_remaining R.remaining reader.old.reader)
+        (reader_remaining R.remaining reader.new.reader) (W.contents writer.old.writer)
+        (W.contents writer.new.writer) task.new) }
+    ensures fails { IfErr result (StepFails job.now before task.old
+        (reader_remaining R.remaining reader.old.reader)
+        (reader_remaining R.remaining reader.new.reader) (W.contents writer.old.writer)
+        (W.contents writer.new.writer)) }
+    ensures reading { reader.new.has_failed ≡ (caused_by_input result || reader.old.has_failed) }
+    ensures writing { writer.new.has_failed ≡ (caused_by_output result || writer.old.has_failed) }
 {
     let limit = job.max_line as usize + 3;
-    match read_line(reader, writer, end_of(job.is_null), limit, line)? {
+    match read_line(reader, writer, line_ending(job.is_null), limit, line)? {
         Some(is_return) => {
-            let text = text_of(job.is_null, line.as_slice());
-            let answer = task.answer_to(alloc, job.max_line, text)?;
-            let is_error = is_error(&answer);
-            let end = answer_end(job.is_null, is_return);
-            write_answer(alloc, job.errors, answer, end, before + 1, writer, err)?;
-            Ok(Step {
-                is_line: true,
-                is_error,
-                is_last: is_error && is_stopped(job.errors),
-            })
+            let end = line_end(job.is_null, is_return);
+            let line = Line {
+                bytes: line.as_slice(),
+                is_ascii: false,
+            };
+            write_line(alloc, job, task, line, end, before + 1, writer, err)
         }
-        None => Ok(Step {
+        None => Ok(StepResult {
             is_line: false,
             is_error: false,
             is_last: true,
@@ -158,27 +233,11 @@ fn answer_line<R: Read, W: Write, E: Write>(
     }
 }
 
-fn end_of(is_null: bool) -> u8
-    ensures { result ≡ end_byte is_null }
-{
-    if is_null { 0 } else { b'\n' }
-}
-
-fn is_stopped(errors: OnError) -> bool
-    ensures { result ≡ is_stop errors }
-{
-    matches!(errors, OnError::Stop)
-}
-
-fn is_error(answer: &Answer) -> bool
-    ensures { result ≡ outputs.is_error (answer_in answer.now) }
-{
-    matches!(answer, Answer::Error(_))
-}
-
-/// Returns what is put after the answer to a line.
-fn answer_end(is_null: bool, is_return: bool) -> &'static [u8]
-    ensures { result.now ≡ outputs.end_of is_null (not is_null && is_return) }
+/// Returns what ends the output of a line: NUL if `is_null`, `\r` and a newline if only
+/// `is_return`, and otherwise a newline.
+#[inline(always)]
+fn line_end(is_null: bool, is_return: bool) -> &'static [u8]
+    ensures { result.now ≡ outputs.line_ending is_null (not is_null && is_return) }
 {
     if is_null {
         b"\0"
@@ -187,79 +246,4 @@ fn answer_end(is_null: bool, is_return: bool) -> &'static [u8]
     } else {
         b"\n"
     }
-}
-
-/// Writes the answer to the line of this number, and `end` after it.
-fn write_answer<W: Write, E: Write>(
-    alloc: Global,
-    errors: OnError,
-    answer: Answer,
-    end: &[u8],
-    number: u64,
-    writer: &mut Sink<W>,
-    err: &mut Sink<E>,
-) -> Result<(), Failure>
-    ensures whole { OnOk result (Appends (W.contents writer.old.writer)
-        (W.contents writer.new.writer) (answer_output errors end.now (answer_in answer))) }
-    ensures front { AppendsFront (W.contents writer.old.writer)
-        (W.contents writer.new.writer) (answer_output errors end.now (answer_in answer)) }
-    ensures reading { reading_failed result ≡ false }
-    ensures writing { writer.new.has_failed ≡ (writing_failed result || writer.old.has_failed) }
-{
-    match answer {
-        Answer::Text(text) => put_both(writer, text.as_bytes(), end),
-        Answer::NoLine => Ok(()),
-        Answer::Error(fault) => write_error(alloc, errors, fault, end, number, writer, err),
-    }
-}
-
-fn put_both<W: Write>(writer: &mut Sink<W>, text: &[u8], end: &[u8]) -> Result<(), Failure>
-    ensures whole { OnOk result (Appends (W.contents writer.old.writer)
-        (W.contents writer.new.writer) (text.now ++ end.now)) }
-    ensures front { AppendsFront (W.contents writer.old.writer)
-        (W.contents writer.new.writer) (text.now ++ end.now) }
-    ensures reading { reading_failed result ≡ false }
-    ensures writing { writer.new.has_failed ≡ (writing_failed result || writer.old.has_failed) }
-{
-    writer.put(text)?;
-    writer.put(end)
-}
-
-fn write_error<W: Write, E: Write>(
-    alloc: Global,
-    errors: OnError,
-    fault: Fault,
-    end: &[u8],
-    number: u64,
-    writer: &mut Sink<W>,
-    err: &mut Sink<E>,
-) -> Result<(), Failure>
-    ensures whole { OnOk result (Appends (W.contents writer.old.writer)
-        (W.contents writer.new.writer) (error_output errors (fault_message fault) end.now)) }
-    ensures front { AppendsFront (W.contents writer.old.writer)
-        (W.contents writer.new.writer) (error_output errors (fault_message fault) end.now) }
-    ensures reading { reading_failed result ≡ false }
-    ensures writing { writer.new.has_failed ≡ (writing_failed result || writer.old.has_failed) }
-{
-    match errors {
-        OnError::Line => {
-            let text = format!(in alloc; "error: {fault}")?;
-            put_both(writer, text.as_bytes(), end)
-        }
-        OnError::Drop => Ok(()),
-        OnError::Stderr => Ok(tell_error(alloc, fault, number, err)?),
-        OnError::Stop => Ok(tell_error(alloc, fault, number, err)?),
-    }
-}
-
-/// Writes the error of the line of this number to the error output.
-fn tell_error<E: Write>(
-    alloc: Global,
-    fault: Fault,
-    number: u64,
-    err: &mut Sink<E>,
-) -> Result<(), AllocError> {
-    let message = format!(in alloc; "error: line {number}: {fault}\n")?;
-    err.tell(message.as_str());
-    Ok(())
 }

@@ -1,18 +1,23 @@
 //! A writer that says whether it failed.
-ghost use Rattle.std.specs.Prelude.{◌≡◌, ◌||◌, false, OnOk};
+ghost use Rattle.std.specs.Prelude.{◌≡◌, ◌||◌, ◌++◌, ℕ, List, Option, false, true, not, IsTrue};
+ghost use Rattle.std.specs.Prelude.{OnOk};
 ghost use Rattle.std.specs.Io.{WritesAtMost};
 ghost use Rattle.std.specs.Io.KnownBytes.{Appends, Keeps, WriteAppends};
-ghost use Rattle.uri_commands.specs.Fronts.{AppendsFront};
-ghost use Rattle.uri_streams.specs.Causes.{reading_failed, writing_failed};
+ghost use Rattle.uri_commands.specs.Prefixes.{AppendsPrefix};
+ghost use Rattle.uri_streams.specs.Causes.{caused_by_input, caused_by_output, is_input, is_output};
 
-use crate::failure::Failure;
+use crate::failure::{Cause, Failure};
 use std::io::{self, ErrorKind, Write};
 
-/// A writer that says whether it failed.
+/// A writer that says whether it failed, and keeps its error.
 #[derive(Drop)]
 pub struct Sink<W> {
+    /// The writer that texts are written to.
     writer: W,
+    /// Whether a write or a flush has failed.
     has_failed: bool,
+    /// Why a write or a flush failed, until that is asked for.
+    error: Option<io::Error>,
 }
 
 impl<W: Write> Sink<W> {
@@ -24,6 +29,7 @@ impl<W: Write> Sink<W> {
         Sink {
             writer,
             has_failed: false,
+            error: None,
         }
     }
 
@@ -34,58 +40,100 @@ impl<W: Write> Sink<W> {
         self.has_failed
     }
 
-    /// Returns the writer.
+    /// Returns the writer that was given to `new`.
     pub fn into_inner(self) -> W
         ensures { result ≡ self.writer }
     {
         self.writer
     }
 
-    /// Writes the text. Where that fails, the writer got a prefix of it.
-    pub(crate) fn put(&mut self, text: &[u8]) -> Result<(), Failure>
-        ensures whole { OnOk result
-            (Appends (W.contents self.old.writer) (W.contents self.new.writer) text.now) }
-        ensures front { AppendsFront (W.contents self.old.writer) (W.contents self.new.writer) text.now }
-        ensures reading { reading_failed result ≡ false }
-        ensures failed { self.new.has_failed ≡ (writing_failed result || self.old.has_failed) }
+    /// Writes a text. Returns whether it was written whole. If it was not, the writer got a prefix
+    /// of it, and `failure` returns why.
+    #[inline(always)]
+    pub(crate) fn put(&mut self, text: &[u8]) -> bool
+        ensures whole { IsTrue result
+            → Appends (W.contents self.old.writer) (W.contents self.new.writer) text.now }
+        ensures prefix { AppendsPrefix (W.contents self.old.writer) (W.contents self.new.writer)
+            text.now }
+        ensures failed { self.new.has_failed ≡ (not result || self.old.has_failed) }
     {
-        match write_whole(&mut self.writer, text) {
-            Ok(()) => Ok(()),
+        if text.is_empty() {
+            return true;
+        }
+        match self.writer.write(text) {
+            Ok(count) if count == text.len() => true,
+            first => self.put_rest(first, text),
+        }
+    }
+
+    /// Writes what the first write of a text left; `first` is what that write returned. Returns
+    /// whether the text was written whole.
+    #[cold]
+    #[inline(never)]
+    fn put_rest(&mut self, first: io::Result<usize>, text: &[u8]) -> bool
+        requires { WritesAtMost first text.now }
+        ensures whole { IsTrue result → (held : Option (List ℕ))
+            → WriteAppends held (W.contents self.old.writer) first text.now
+            → Appends held (W.contents self.new.writer) text.now }
+        ensures prefix { (held : Option (List ℕ))
+            → WriteAppends held (W.contents self.old.writer) first text.now
+            → AppendsPrefix held (W.contents self.new.writer) text.now }
+        ensures failed { self.new.has_failed ≡ (not result || self.old.has_failed) }
+    {
+        match write_rest(&mut self.writer, first, text) {
+            Ok(()) => true,
             Err(error) => {
                 self.has_failed = true;
-                Err(Failure::Output(error))
+                self.error = Some(error);
+                false
             }
         }
     }
 
-    /// Writes the text, unless a write has failed before.
-    pub(crate) fn tell(&mut self, text: &str) {
+    /// Returns why the writer failed, as the failure of a run.
+    #[cold]
+    #[inline(never)]
+    pub(crate) fn failure(&mut self) -> Failure
+        ensures kept { self.new.writer ≡ self.old.writer }
+        ensures failed { self.new.has_failed ≡ self.old.has_failed }
+        ensures input { is_input result ≡ false }
+        ensures output { is_output result ≡ true }
+    {
+        match self.error.take() {
+            Some(error) => Failure::Output(error),
+            None => Failure::Output(io::Error::from(ErrorKind::Other)),
+        }
+    }
+
+    /// Writes a text, unless a write or a flush has failed before.
+    pub(crate) fn show(&mut self, text: &str) {
         if !self.has_failed {
             let _ = self.put(text.as_bytes());
         }
     }
 
-    /// Flushes the writer.
-    pub(crate) fn flush(&mut self) -> Result<(), Failure>
+    /// Flushes the writer. If that fails, its error is kept.
+    pub(crate) fn flush(&mut self) -> Result<(), Cause>
         ensures keeps { Keeps (W.contents self.old.writer) (W.contents self.new.writer) }
-        ensures reading { reading_failed result ≡ false }
-        ensures failed { self.new.has_failed ≡ (writing_failed result || self.old.has_failed) }
+        ensures reading { caused_by_input result ≡ false }
+        ensures failed { self.new.has_failed ≡ (caused_by_output result || self.old.has_failed) }
     {
         match self.writer.flush() {
             Ok(()) => Ok(()),
             Err(error) => {
                 self.has_failed = true;
-                Err(Failure::Output(error))
+                self.error = Some(error);
+                Err(Cause::Output)
             }
         }
     }
 }
 
-/// Writes the bytes. Where that fails, the writer got a prefix of them.
+/// Writes all of the bytes. If that fails, the writer got a prefix of them.
 fn write_whole<W: Write>(writer: &mut W, bytes: &[u8]) -> io::Result<()>
     ensures whole { OnOk result
         (Appends (W.contents writer.old) (W.contents writer.new) bytes.now) }
-    ensures front { AppendsFront (W.contents writer.old) (W.contents writer.new) bytes.now }
+    ensures prefix { AppendsPrefix (W.contents writer.old) (W.contents writer.new) bytes.now }
 {
     let mut rest = bytes;
     for _ in 0..u64::MAX {
@@ -98,12 +146,52 @@ fn write_whole<W: Write>(writer: &mut W, bytes: &[u8]) -> io::Result<()>
     Err(io::Error::from(ErrorKind::WriteZero))
 }
 
-/// One write, of which an interrupted one took nothing.
+/// Writes two texts, one after the other. Returns whether both were written whole.
+#[inline(always)]
+pub(crate) fn put_both<W: Write>(writer: &mut Sink<W>, first: &[u8], second: &[u8]) -> bool
+    ensures whole { IsTrue result → Appends (W.contents writer.old.writer)
+        (W.contents writer.new.writer) (first.now ++ second.now) }
+    ensures prefix { AppendsPrefix (W.contents writer.old.writer)
+        (W.contents writer.new.writer) (first.now ++ second.now) }
+    ensures failed { writer.new.has_failed ≡ (not result || writer.old.has_failed) }
+{
+    writer.put(first) && writer.put(second)
+}
+
+/// Writes what the first write of the bytes left; `first` is what that write returned.
+fn write_rest<W: Write>(writer: &mut W, first: io::Result<usize>, bytes: &[u8]) -> io::Result<()>
+    requires { WritesAtMost first bytes.now }
+    ensures whole { OnOk result ((held : Option (List ℕ))
+        → WriteAppends held (W.contents writer.old) first bytes.now
+        → Appends held (W.contents writer.new) bytes.now) }
+    ensures prefix { (held : Option (List ℕ))
+        → WriteAppends held (W.contents writer.old) first bytes.now
+        → AppendsPrefix held (W.contents writer.new) bytes.now }
+{
+    let taken = settled(first, bytes)?;
+    write_whole(writer, &bytes[taken..])
+}
+
+/// Writes the bytes once. Returns how many of them the writer took: 0 if it was interrupted.
 fn write_once<W: Write>(writer: &mut W, bytes: &[u8]) -> io::Result<usize>
     ensures bound { WritesAtMost result bytes.now }
     ensures bytes { WriteAppends (W.contents writer.old) (W.contents writer.new) result bytes.now }
 {
-    match writer.write(bytes) {
+    let outcome = writer.write(bytes);
+    settled(outcome, bytes)
+}
+
+/// Returns how many bytes a write took, from what it returned: 0 if it was interrupted.
+///
+/// To take none without an interruption is the error `WriteZero`.
+fn settled(outcome: io::Result<usize>, bytes: &[u8]) -> io::Result<usize>
+    requires { WritesAtMost outcome bytes.now }
+    ensures bound { WritesAtMost result bytes.now }
+    ensures bytes { (held : Option (List ℕ)) → (held_new : Option (List ℕ))
+        → WriteAppends held held_new outcome bytes.now
+        → WriteAppends held held_new result bytes.now }
+{
+    match outcome {
         Ok(0) => Err(io::Error::from(ErrorKind::WriteZero)),
         Err(error) if error.kind() == ErrorKind::Interrupted => Ok(0),
         outcome => outcome,

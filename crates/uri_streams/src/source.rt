@@ -1,22 +1,34 @@
 //! A reader that says whether it failed.
 ghost use Rattle.std.specs.Prelude.{◌≡◌, ◌≢◌, ◌-◌, ◌<◌, ◌≤◌, ◌++◌, ◌||◌, ℕ, List, All, IfOk};
-ghost use Rattle.std.specs.Prelude.{OnErr, OnSome, length, take, true, false};
+ghost use Rattle.std.specs.Prelude.{IfSome, IsTrue, OnErr, OnSome, Some, length, slice_index, take};
+ghost use Rattle.std.specs.Prelude.{true};
+ghost use Rattle.std.specs.Prelude.{false};
+ghost use Rattle.std.specs.Str.{IsAscii};
+ghost use Rattle.uri_pct.specs.Masks.{has_bit};
 ghost use Rattle.std.specs.Io.{StopsAt, IsEmptyOrEndsWith};
-ghost use Rattle.std.specs.Io.Buffered.{reader_remaining};
+ghost use Rattle.std.specs.Io.BufRead.{DropsConsumable};
+ghost use Rattle.std.specs.Io.Buffered.{reader_buffer, reader_remaining};
 ghost use Rattle.std.specs.Io.KnownBytes.{Consumes, IsAtEnd, Keeps};
-ghost use Rattle.uri_streams.specs.Causes.{is_input, reading_failed, writing_failed};
-ghost use Rattle.uri_streams.specs.Lines.{return_after};
+ghost use Rattle.uri_streams.specs.Causes.{caused_by_input, caused_by_output, is_input};
+ghost use Rattle.uri_streams.specs.Causes.{is_input_cause, is_output};
+ghost use Rattle.uri_streams.specs.Lines.{end_byte, return_after};
+ghost use Rattle.uri_streams.specs.Models.{IsBufferedLine};
 
-use crate::failure::Failure;
-use crate::lines::{ends_with, without_last};
+use crate::failure::{Cause, Failure};
+use crate::line_ends::{ends_with, line_ending, strip_last_byte};
 use memchr::memchr;
 use std::io::{self, BufRead, BufReader, ErrorKind, Read};
+use uri_pct::lanes::{LANES, run_end};
 
-/// A buffered reader that says whether it failed.
+/// A buffered reader that says whether it failed, and keeps its error.
 #[derive(Drop)]
 pub struct Source<R> {
+    /// The buffered reader that lines are read from.
     reader: BufReader<R>,
+    /// Whether a read has failed, or there were too many.
     has_failed: bool,
+    /// Why the reader failed, until that is asked for.
+    error: Option<io::Error>,
 }
 
 impl<R: Read> Source<R> {
@@ -28,40 +40,79 @@ impl<R: Read> Source<R> {
         Source {
             reader,
             has_failed: false,
+            error: None,
         }
     }
 
-    /// Returns whether a read has failed.
+    /// Returns whether a read has failed, or there were too many.
     pub fn has_failed(&self) -> bool
         ensures { result ≡ self.now.has_failed }
     {
         self.has_failed
     }
 
-    /// Returns whether nothing is buffered, so that the next read may wait.
+    /// Returns whether the reader has nothing buffered, so that the next read may wait.
     pub(crate) fn is_drained(&self) -> bool {
         self.reader.buffer().is_empty()
     }
 
-    /// Returns the failure of a reader that was read too often for a line or an input.
-    pub(crate) fn give_up(&mut self) -> Failure
-        ensures failed { self.new.has_failed ≡ true }
-        ensures kept { self.new.reader ≡ self.old.reader }
-        ensures input { is_input result ≡ true }
+    /// Returns the first line that is buffered, with its end, if it is buffered whole. NUL ends it
+    /// if `is_null`, and otherwise a newline.
+    #[inline(always)]
+    pub(crate) fn buffered_line(&self, is_null: bool) -> Option<Line<'_>>
+        ensures line { IfSome result (λ line.
+            IsBufferedLine (end_byte is_null) (reader_buffer self.now.reader) line.bytes.now) }
+        ensures ascii { IfSome result (λ line. IsTrue line.is_ascii → IsAscii line.bytes.now) }
     {
-        self.has_failed = true;
-        Failure::Input(io::Error::from(ErrorKind::Other))
+        first_line(is_null, self.reader.buffer())
     }
 
-    /// Takes what the reader has buffered, up to and including the first `end`, and puts it onto
-    /// `line` as far as the limit. `was_return` says whether a `\r` ends what was taken before.
+    /// Passes over the first `count` bytes that are buffered.
+    #[inline(always)]
+    pub(crate) fn skip(&mut self, count: usize)
+        ensures bytes { DropsConsumable (reader_remaining R.remaining self.old.reader)
+            (reader_remaining R.remaining self.new.reader)
+            (Some (length (reader_buffer self.old.reader))) count }
+        ensures failed { self.new.has_failed ≡ self.old.has_failed }
+    {
+        self.reader.consume(count);
+    }
+
+    /// Marks the reader as failed, and returns the cause: it was read too often for one line or
+    /// input.
+    pub(crate) fn fail_too_many_reads(&mut self) -> Cause
+        ensures failed { self.new.has_failed ≡ true }
+        ensures kept { self.new.reader ≡ self.old.reader }
+        ensures input { is_input_cause result ≡ true }
+    {
+        self.has_failed = true;
+        Cause::Input
+    }
+
+    /// Returns why the reader failed, as the failure of a run.
+    #[cold]
+    #[inline(never)]
+    pub(crate) fn failure(&mut self) -> Failure
+        ensures kept { self.new.reader ≡ self.old.reader }
+        ensures failed { self.new.has_failed ≡ self.old.has_failed }
+        ensures input { is_input result ≡ true }
+        ensures output { is_output result ≡ false }
+    {
+        match self.error.take() {
+            Some(error) => Failure::Input(error),
+            None => Failure::Input(io::Error::from(ErrorKind::Other)),
+        }
+    }
+
+    /// Reads a part of a line: what is buffered, up to and including the first `end`. Appends it to
+    /// `line` as far as the limit. `was_return` says whether a `\r` ends what was read before.
     pub(crate) fn take_part(
         &mut self,
         end: u8,
         limit: usize,
         was_return: bool,
         line: &mut Vec<u8>,
-    ) -> Result<Part, Failure>
+    ) -> Result<LinePart, Cause>
         ensures taken { IfOk result (λ part. (bs : List ℕ) × (length bs ≡ part.count)
             × (line.new.items ≡ line.old.items ++ take (limit - length line.old.items) bs)
             × StopsAt bs end
@@ -75,21 +126,22 @@ impl<R: Read> Source<R> {
             × (part.is_return ≡ return_after end was_return bs)) }
         ensures kept { OnErr result (Keeps (reader_remaining R.remaining self.old.reader)
             (reader_remaining R.remaining self.new.reader)) }
-        ensures failed { self.new.has_failed ≡ (reading_failed result || self.old.has_failed) }
-        ensures writing { writing_failed result ≡ false }
+        ensures failed { self.new.has_failed ≡ (caused_by_input result || self.old.has_failed) }
+        ensures writing { caused_by_output result ≡ false }
     {
         let available = match self.reader.fill_buf() {
             Ok(available) => available,
             Err(error) => {
                 if error.kind() == ErrorKind::Interrupted {
-                    return Ok(Part {
+                    return Ok(LinePart {
                         count: 0,
                         is_last: false,
                         is_return: was_return,
                     });
                 }
                 self.has_failed = true;
-                return Err(Failure::Input(error));
+                self.error = Some(error);
+                return Err(Cause::Input);
             }
         };
         let count = count_through(available, end);
@@ -98,7 +150,7 @@ impl<R: Read> Source<R> {
         let is_last = count == 0 || available[count - 1] == end;
         let is_return = is_return_after(end, was_return, &available[..count]);
         self.reader.consume(count);
-        Ok(Part {
+        Ok(LinePart {
             count,
             is_last,
             is_return,
@@ -106,23 +158,98 @@ impl<R: Read> Source<R> {
     }
 }
 
-/// What was taken of a line.
+/// A line of an input, with what ends it.
 #[derive(Clone, Copy)]
-pub(crate) struct Part {
-    /// How many bytes.
+pub(crate) struct Line<'a> {
+    /// The bytes of the line, with what ends it.
+    pub bytes: &'a [u8],
+    /// Whether the line is known to be ASCII.
+    pub is_ascii: bool,
+}
+
+/// Returns the first line of the bytes, with its end, if they have one. NUL ends it if `is_null`,
+/// and otherwise a newline.
+#[inline(always)]
+fn first_line(is_null: bool, bytes: &[u8]) -> Option<Line<'_>>
+    ensures line { IfSome result (λ line.
+        IsBufferedLine (end_byte is_null) bytes.now line.bytes.now) }
+    ensures ascii { IfSome result (λ line. IsTrue line.is_ascii → IsAscii line.bytes.now) }
+{
+    if let Some(line) = first_ascii_line(is_null, bytes) {
+        return Some(Line {
+            bytes: line,
+            is_ascii: true,
+        });
+    }
+    match memchr(line_ending(is_null), bytes) {
+        Some(index) => Some(Line {
+            bytes: &bytes[..index + 1],
+            is_ascii: false,
+        }),
+        None => None,
+    }
+}
+
+/// Returns the first line of the bytes, with its end, if it is ASCII and the bytes fill a block.
+/// NUL ends it if `is_null`, and otherwise a newline.
+#[inline(always)]
+fn first_ascii_line(is_null: bool, bytes: &[u8]) -> Option<&[u8]>
+    ensures line { IfSome result (λ line. IsBufferedLine (end_byte is_null) bytes.now line.now) }
+    ensures ascii { IfSome result (λ line. IsAscii line.now) }
+{
+    if bytes.len() < LANES {
+        return None;
+    }
+    let index = ascii_run_end(is_null, bytes);
+    if index < bytes.len() && bytes[index] == line_ending(is_null) {
+        Some(&bytes[..index + 1])
+    } else {
+        None
+    }
+}
+
+/// Returns how many bytes are ASCII and do not end a line, up to the first that does or is not. NUL
+/// ends a line if `is_null`, and otherwise a newline.
+#[inline(always)]
+fn ascii_run_end(is_null: bool, bytes: &[u8]) -> usize
+    requires { LANES ≤ length bytes.now }
+    ensures within { result ≤ length bytes.now }
+    ensures ascii { (k : ℕ) → k < result → slice_index bytes.now k < 128 }
+    ensures inside { (k : ℕ) → k < result → slice_index bytes.now k ≢ end_byte is_null }
+{
+    run_end(low_bits(is_null), u64::MAX, bytes, 0)
+}
+
+/// Returns a mask of the bytes below 64 that do not end a line: all but NUL if `is_null`, and
+/// otherwise all but a newline.
+#[inline(always)]
+fn low_bits(is_null: bool) -> u64
+    ensures { has_bit result 0xFFFFFFFFFFFFFFFF (end_byte is_null) ≡ false }
+{
+    if is_null {
+        0xFFFF_FFFF_FFFF_FFFE
+    } else {
+        0xFFFF_FFFF_FFFF_FBFF
+    }
+}
+
+/// What a read took of a line: how many bytes, and whether they end the line.
+#[derive(Clone, Copy)]
+pub(crate) struct LinePart {
+    /// How many bytes the part has.
     pub count: usize,
-    /// Whether the line ends with it, or the input.
+    /// Whether the part ends the line, or the input.
     pub is_last: bool,
-    /// Whether a `\r` is before the end of the line, or last in what was taken so far.
+    /// Whether a `\r` is before the end of the line, or last in what was read of it so far.
     pub is_return: bool,
 }
 
-/// Returns whether a `\r` is last before the `end` of a part, or before the part where that has
-/// nothing else.
+/// Returns whether a `\r` is last in what was read of a line, before its `end` byte if that was
+/// read. `was_return` is whether it was last before this part was read.
 fn is_return_after(end: u8, was_return: bool, part: &[u8]) -> bool
     ensures { result ≡ return_after end was_return part.now }
 {
-    let bytes = without_last(end, part);
+    let bytes = strip_last_byte(end, part);
     if bytes.is_empty() {
         was_return
     } else {
@@ -130,7 +257,8 @@ fn is_return_after(end: u8, was_return: bool, part: &[u8]) -> bool
     }
 }
 
-/// Returns the length up to and including the first `byte`, or the whole length.
+/// Returns the length of the bytes up to and including the first `byte`, or of all if it is not
+/// there.
 fn count_through(bytes: &[u8], byte: u8) -> usize
     ensures bound { result ≤ length bytes.now }
     ensures some { 0 < length bytes.now → 0 < result }

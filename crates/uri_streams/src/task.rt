@@ -1,54 +1,59 @@
 //! A command with what it remembers of earlier lines.
-ghost use Rattle.std.specs.Prelude.{◌≡◌, [], ℕ, List, IfOk, string_bytes};
+ghost use Rattle.std.specs.Prelude.{◌≡◌, [], ℕ, List, IfOk, IsTrue, string_bytes};
+ghost use Rattle.std.specs.Str.{IsAscii};
 ghost use Rattle.fluent_uri.specs.SchemePorts.{default_port};
 ghost use Rattle.fluent_uri.specs.Uris.{uri_ref_text, uri_text};
 ghost use Rattle.uri_commands.specs.Links.{text_at};
 ghost use Rattle.uri_links.specs.Outcomes.{outcome_of};
 ghost use Rattle.uri_links.specs.Registers.{port_function_of, texts_of};
-ghost use Rattle.uri_streams.specs.Answers.{Text, kind_named};
-ghost use Rattle.uri_streams.specs.Returned.{IsAnswer, answer_in};
+ghost use Rattle.uri_streams.specs.Results.{Text, kind_named};
+ghost use Rattle.uri_streams.specs.Returned.{IsResult, result_in, text_or_message};
 ghost use Rattle.uri_streams.specs.Tasks as tasks;
-ghost use Rattle.uri_streams.specs.Tasks.{HasMet, Remembers, answer_of, link_answer};
-ghost use Rattle.uri_streams.specs.Tasks.{noted_answer, unique_answer};
+ghost use Rattle.uri_streams.specs.Tasks.{HasMet, Remembers, cut_result, link_result};
+ghost use Rattle.uri_streams.specs.Tasks.{noted_result, unique_result};
 ghost use Rattle.uri_streams.specs.declared.command.Command.{Command};
 
-use crate::answers::{Answer, command_answer, normalize};
 use crate::command::{Command, KindName, LineCommand};
-use crate::fault::Fault;
-use crate::met::Met;
+use crate::fault::LineError;
+use crate::met::MetTexts;
+use crate::results::{LineResult, command_result, normalize};
 use fluent_uri::normalize::{Normalizer, SchemeDefaults};
 use fluent_uri::{Uri, UriRef};
 use std::alloc::{AllocError, Global};
-use uri_commands::refusal::Refusal;
+use uri_commands::refusal::CommandError;
 use uri_links::links::{Outcome, Register};
 
 /// A command with what it remembers of earlier lines.
 #[derive(Drop)]
 pub(crate) enum Task<'a> {
-    /// Nothing.
+    /// A command that remembers nothing.
     Each(LineCommand<'a>),
-    /// The normal forms that were met.
+    /// `urilines unique`, with the normal forms that were met.
     Unique(UniqueTask),
-    /// The targets that were met.
+    /// `urilines links`, with the targets that were met.
     Links(LinksTask<'a>),
 }
 
-/// A kind, with the normal forms that were met.
+/// The task of `urilines unique`: a kind, with the normal forms that were met.
 #[derive(Drop)]
 pub(crate) struct UniqueTask {
+    /// The kind of each line's text.
     kind: KindName,
-    met: Met,
+    /// The normal forms that were met in earlier lines.
+    met: MetTexts,
 }
 
-/// A base, with the targets that were met.
+/// The task of `urilines links`: a base, with the targets that were met.
 #[derive(Drop)]
 pub(crate) struct LinksTask<'a> {
+    /// The base that each line is resolved against.
     base: Uri<&'a str>,
+    /// The targets that were met in earlier lines, each with its id.
     register: Register<SchemeDefaults>,
 }
 
 impl<'a> Task<'a> {
-    /// Returns the task of a command, before the first line.
+    /// Returns the task of a command before the first line, which remembers nothing yet.
     pub(crate) fn new(alloc: Global, command: Command<'a>) -> Task<'a>
         ensures { Remembers result command.entry [] }
     {
@@ -56,7 +61,7 @@ impl<'a> Task<'a> {
             Command::Each(command) => Task::Each(command),
             Command::Unique(kind, hasher) => Task::Unique(UniqueTask {
                 kind,
-                met: Met::new(alloc, hasher),
+                met: MetTexts::new(alloc, hasher),
             }),
             Command::Links(base) => Task::Links(LinksTask {
                 base,
@@ -65,64 +70,94 @@ impl<'a> Task<'a> {
         }
     }
 
-    /// Returns the answer to the bytes of a line, which need not be UTF-8.
+    /// Returns the result of what the command gets of a line: bytes that need not be UTF-8, or an
+    /// error.
     ///
     /// # Errors
     ///
-    /// Only if memory is refused.
-    pub(crate) fn answer_to(
+    /// Only if allocation fails.
+    pub(crate) fn result_for(
         &mut self,
         alloc: Global,
-        max_line: u32,
-        bytes: &[u8],
-    ) -> Result<Answer, AllocError>
+        text: Result<&[u8], LineError>,
+    ) -> Result<LineResult, AllocError>
         ensures { (command : Command) → (known : List (List ℕ)) → Remembers self.old command known
-            → IfOk result (λ answer.
-            IsAnswer command (answer_of command max_line known bytes.now) answer self.new) }
+            → IfOk result (λ line_result. IsResult command
+            (cut_result command known (text_or_message text.entry)) line_result self.new) }
     {
-        if bytes.len() > max_line as usize {
-            return Ok(Answer::Error(Fault::TooLong(max_line)));
-        }
-        match str::from_utf8(bytes) {
-            Ok(text) => self.text_answer(alloc, text),
-            Err(error) => Ok(Answer::Error(Fault::NotUtf8(error.valid_up_to()))),
+        match text {
+            Ok(bytes) => self.bytes_result(alloc, bytes, false),
+            Err(fault) => Ok(LineResult::Error(fault)),
         }
     }
 
-    fn text_answer(&mut self, alloc: Global, text: &str) -> Result<Answer, AllocError>
+    /// Returns the result of bytes under the task's command. `is_ascii` is whether they are known
+    /// to be ASCII.
+    ///
+    /// # Errors
+    ///
+    /// Only if allocation fails.
+    #[inline(always)]
+    pub(crate) fn bytes_result(
+        &mut self,
+        alloc: Global,
+        bytes: &[u8],
+        is_ascii: bool,
+    ) -> Result<LineResult, AllocError>
+        requires { IsTrue is_ascii → IsAscii bytes.now }
         ensures { (command : Command) → (known : List (List ℕ)) → Remembers self.old command known
-            → IfOk result (λ answer.
-            IsAnswer command (tasks.text_answer command known text.now) answer self.new) }
+            → IfOk result (λ line_result.
+            IsResult command (tasks.bytes_result command known bytes.now) line_result self.new) }
+    {
+        if is_ascii {
+            return self.text_result(alloc, unsafe { str::from_utf8_unchecked(bytes) });
+        }
+        match str::from_utf8(bytes) {
+            Ok(text) => self.text_result(alloc, text),
+            Err(error) => Ok(LineResult::Error(LineError::NotUtf8(error.valid_up_to()))),
+        }
+    }
+
+    /// Returns the result of a text under the task's command, and remembers what later lines need.
+    #[inline(always)]
+    fn text_result(&mut self, alloc: Global, text: &str) -> Result<LineResult, AllocError>
+        ensures { (command : Command) → (known : List (List ℕ)) → Remembers self.old command known
+            → IfOk result (λ line_result.
+            IsResult command (tasks.text_result command known text.now) line_result self.new) }
     {
         match self {
-            Task::Each(command) => command_answer(alloc, *command, text),
-            Task::Unique(unique) => unique.answer(alloc, text),
-            Task::Links(links) => links.answer(alloc, text),
+            Task::Each(command) => command_result(alloc, command, text),
+            Task::Unique(unique) => unique.result_for(alloc, text),
+            Task::Links(links) => links.result_for(alloc, text),
         }
     }
 }
 
 impl UniqueTask {
-    fn answer(&mut self, alloc: Global, text: &str) -> Result<Answer, AllocError>
-        ensures answer { (known : List (List ℕ)) → HasMet self.old.met known
-            → IfOk result (λ answer.
-            (answer_in answer ≡ (unique_answer (kind_named self.old.kind) known text.now).0)
-            × HasMet self.new.met (unique_answer (kind_named self.old.kind) known text.now).1) }
+    /// Returns the result of `urilines unique` for a text: its normal form if that was not met
+    /// before, no line if it was, or an error.
+    fn result_for(&mut self, alloc: Global, text: &str) -> Result<LineResult, AllocError>
+        ensures output { (known : List (List ℕ)) → HasMet self.old.met known
+            → IfOk result (λ line_result.
+            (result_in line_result ≡ (unique_result (kind_named self.old.kind) known text.now).0)
+            × HasMet self.new.met (unique_result (kind_named self.old.kind) known text.now).1) }
         ensures kind { self.new.kind ≡ self.old.kind }
     {
         match normalize(alloc, self.kind, text)? {
-            Answer::Text(normal) => first_time(alloc, &mut self.met, normal),
-            Answer::NoLine => Ok(Answer::NoLine),
-            Answer::Error(fault) => Ok(Answer::Error(fault)),
+            LineResult::Text(normal) => text_if_new(alloc, &mut self.met, normal),
+            LineResult::NoLine => Ok(LineResult::NoLine),
+            LineResult::Error(fault) => Ok(LineResult::Error(fault)),
         }
     }
 }
 
 impl<'a> LinksTask<'a> {
-    fn answer(&mut self, alloc: Global, text: &str) -> Result<Answer, AllocError>
-        ensures answer { port_function_of self.old.register ≡ default_port
-            → IfOk result (λ answer. (answer_in answer, texts_of self.new.register)
-            ≡ link_answer (uri_text self.old.base) (texts_of self.old.register) text.now) }
+    /// Returns the result of `urilines links` for a text: whether its target is new, the target's
+    /// id and the target, or an error.
+    fn result_for(&mut self, alloc: Global, text: &str) -> Result<LineResult, AllocError>
+        ensures output { port_function_of self.old.register ≡ default_port
+            → IfOk result (λ line_result. (result_in line_result, texts_of self.new.register)
+            ≡ link_result (uri_text self.old.base) (texts_of self.old.register) text.now) }
         ensures base { self.new.base ≡ self.old.base }
         ensures ports { port_function_of self.new.register ≡ port_function_of self.old.register }
     {
@@ -130,80 +165,91 @@ impl<'a> LinksTask<'a> {
     }
 }
 
-fn first_time(alloc: Global, met: &mut Met, normal: String) -> Result<Answer, AllocError>
-    ensures { (known : List (List ℕ)) → HasMet met.old known → IfOk result (λ answer.
-        (answer_in answer ≡ (tasks.first_time known (Text (string_bytes normal))).0)
-        × HasMet met.new (tasks.first_time known (Text (string_bytes normal))).1) }
+/// Returns a normal form as the result if it was not met before, and otherwise no line. Adds it to
+/// those that were met.
+fn text_if_new(alloc: Global, met: &mut MetTexts, normal: String) -> Result<LineResult, AllocError>
+    ensures { (known : List (List ℕ)) → HasMet met.old known → IfOk result (λ line_result.
+        (result_in line_result ≡ (tasks.text_if_new known (Text (string_bytes normal))).0)
+        × HasMet met.new (tasks.text_if_new known (Text (string_bytes normal))).1) }
 {
-    let key = String::from_str(alloc, normal.as_str())?;
-    if met.note(key)? {
-        Ok(Answer::Text(normal))
-    } else {
-        Ok(Answer::NoLine)
+    if met.contains(normal.as_str()) {
+        return Ok(LineResult::NoLine);
     }
+    let key = String::from_str(alloc, normal.as_str())?;
+    met.note(key)?;
+    Ok(LineResult::Text(normal))
 }
 
+/// Parses a text as a reference, notes its target in the register, and returns the result of
+/// `urilines links` for it.
 fn link(
     alloc: Global,
     base: &Uri<&str>,
     register: &mut Register<SchemeDefaults>,
     text: &str,
-) -> Result<Answer, AllocError>
-    ensures answer { port_function_of register.old ≡ default_port → IfOk result (λ answer.
-        (answer_in answer, texts_of register.new)
-        ≡ link_answer (uri_text base.now) (texts_of register.old) text.now) }
+) -> Result<LineResult, AllocError>
+    ensures output { port_function_of register.old ≡ default_port → IfOk result (λ line_result.
+        (result_in line_result, texts_of register.new)
+        ≡ link_result (uri_text base.now) (texts_of register.old) text.now) }
     ensures ports { port_function_of register.new ≡ port_function_of register.old }
 {
     match UriRef::<&str>::parse(text) {
         Ok(reference) => note(alloc, base, register, &reference),
-        Err(error) => Ok(Answer::Error(Fault::Refused(Refusal::Reference(error)))),
+        Err(error) => Ok(LineResult::Error(LineError::Refused(CommandError::Reference(error)))),
     }
 }
 
+/// Notes the target of a reference in the register, and returns the result of `urilines links` for
+/// it.
 fn note(
     alloc: Global,
     base: &Uri<&str>,
     register: &mut Register<SchemeDefaults>,
     reference: &UriRef<&str>,
-) -> Result<Answer, AllocError>
-    ensures answer { IfOk result (λ answer. (answer_in answer, texts_of register.new)
-        ≡ noted_answer (outcome_of (port_function_of register.old) (uri_text base.now)
+) -> Result<LineResult, AllocError>
+    ensures output { IfOk result (λ line_result. (result_in line_result, texts_of register.new)
+        ≡ noted_result (outcome_of (port_function_of register.old) (uri_text base.now)
         (texts_of register.old) (uri_ref_text reference.now))) }
     ensures ports { port_function_of register.new ≡ port_function_of register.old }
 {
     let outcome = register.note(base, reference)?;
-    outcome_answer(alloc, register, outcome)
+    outcome_result(alloc, register, outcome)
 }
 
-fn outcome_answer(
+/// Returns the result of `urilines links` for the outcome of noting a target in the register.
+fn outcome_result(
     alloc: Global,
     register: &Register<SchemeDefaults>,
     outcome: Outcome,
-) -> Result<Answer, AllocError>
-    ensures { IfOk result (λ answer.
-        answer_in answer ≡ tasks.outcome_answer (outcome, texts_of register.now)) }
+) -> Result<LineResult, AllocError>
+    ensures { IfOk result (λ line_result.
+        result_in line_result ≡ tasks.outcome_result (outcome, texts_of register.now)) }
 {
     match outcome {
         Outcome::New(id) => link_line(alloc, "new", register, id),
         Outcome::Known(id) => link_line(alloc, "known", register, id),
-        Outcome::Refused(error) => Ok(Answer::Error(Fault::Refused(Refusal::Target(error)))),
+        Outcome::Refused(error) => Ok(LineResult::Error(LineError::Refused(CommandError::Target(
+            error,
+        )))),
     }
 }
 
+/// Returns the line that `urilines links` writes for a target: a word, the target's id and its
+/// text.
 fn link_line(
     alloc: Global,
     word: &str,
     register: &Register<SchemeDefaults>,
     id: usize,
-) -> Result<Answer, AllocError>
-    ensures { IfOk result (λ answer.
-        answer_in answer ≡ Text (tasks.link_line word.now id (texts_of register.now))) }
+) -> Result<LineResult, AllocError>
+    ensures { IfOk result (λ line_result.
+        result_in line_result ≡ Text (tasks.link_line word.now id (texts_of register.now))) }
 {
     let target = target_text(register, id);
-    Ok(Answer::Text(format!(in alloc; "{word} {id} {target}")?))
+    Ok(LineResult::Text(format!(in alloc; "{word} {id} {target}")?))
 }
 
-/// Returns the target of this id, or an empty text where no id is that high.
+/// Returns the text of the target with this id in the register, or an empty text if there is none.
 fn target_text(register: &Register<SchemeDefaults>, id: usize) -> &str
     ensures { result.now ≡ text_at (texts_of register.now) id }
 {

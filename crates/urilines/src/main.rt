@@ -1,6 +1,6 @@
 //! Each line of standard input as a URI, an IRI or a reference: `urilines normalize KIND`,
-//! `urilines resolve uri|iri BASE`, `urilines check KIND`, `urilines parse KIND`, `urilines unique
-//! KIND` and `urilines links BASE`.
+//! `urilines resolve uri|iri BASE`, `urilines check KIND`, `urilines parse KIND`, `urilines query
+//! KIND`, `urilines unique KIND` and `urilines links BASE`.
 #![tactic(auto)]
 
 mod options;
@@ -19,9 +19,10 @@ use uri_streams::run::run;
 use uri_streams::sink::Sink;
 use uri_streams::source::Source;
 
-/// Of each buffer.
+/// The capacity of the buffers of standard input and standard output, in bytes.
 const CAPACITY: usize = 64 * 1024;
 
+/// Runs the command that the words of the command line make, and returns its exit status.
 fn main(rt: HostRuntime) -> ExitCode {
     let alloc = rt.alloc();
     let words = match words(&rt, alloc) {
@@ -45,16 +46,16 @@ fn main(rt: HostRuntime) -> ExitCode {
         return failed(&rt, "no random numbers");
     };
     match job(&matches, hasher) {
-        Ok(job) => answer(&rt, alloc, &job, shows_progress(&matches)),
-        Err(refusal) => {
-            let _ = eprintln!(rt; "error: {refusal}");
+        Ok(job) => process(&rt, alloc, &job, shows_progress(&matches)),
+        Err(error) => {
+            let _ = eprintln!(rt; "error: {error}");
             ExitCode::from(2)
         }
     }
 }
 
-/// Answers the lines of standard input.
-fn answer(rt: &HostRuntime, alloc: Global, job: &Job<'_>, shows_progress: bool) -> ExitCode {
+/// Processes the lines of standard input under a job, and returns the exit status.
+fn process(rt: &HostRuntime, alloc: Global, job: &Job<'_>, shows_progress: bool) -> ExitCode {
     let Ok(reader) = BufReader::with_capacity(alloc, CAPACITY, rt.stdin()) else {
         return failed(rt, "out of memory");
     };
@@ -87,12 +88,13 @@ fn answer(rt: &HostRuntime, alloc: Global, job: &Job<'_>, shows_progress: bool) 
     }
 }
 
-/// Tells why a run ended early.
+/// Writes to the error output why the program failed, and returns its exit status.
 fn failed(rt: &HostRuntime, why: &str) -> ExitCode {
     let _ = eprintln!(rt; "error: {why}");
     ExitCode::from(1)
 }
 
+/// Returns the words of the command line.
 fn words(rt: &HostRuntime, alloc: Global) -> io::Result<Vec<String>> {
     let mut words = Vec::new(alloc);
     for word in env::args(rt)? {

@@ -4,16 +4,21 @@ use std::io::IsTerminal;
 use std::time::{Duration, Instant};
 use uri_streams::run::{Tally, Watch};
 
-/// After how many lines the clock is looked at.
-const LINES: u64 = 4096;
+/// How many lines are processed between two reads of the clock.
+const LINES_PER_CLOCK_READ: u64 = 4096;
 
-/// Says how far a run is, once a second, and at the end how many lines there were.
+/// Reports on the error output how far a run is, once a second and at the end.
 #[derive(Drop)]
 pub struct Progress<'a> {
+    /// The runtime, which has the clock and the error output.
     rt: &'a HostRuntime,
+    /// When the run began, if the clock could be read.
     start: Option<Instant>,
+    /// Whether the error output is a terminal.
     is_terminal: bool,
+    /// Whether the command line has `--progress`.
     is_asked: bool,
+    /// In which second of the run the last report was written.
     last_second: u64,
 }
 
@@ -30,7 +35,8 @@ impl<'a> Progress<'a> {
         }
     }
 
-    /// Writes how many lines there were, how many of them were errors, and how many a second.
+    /// Writes the report at the end of a run: how many lines there were, how many of them were
+    /// errors, and how many a second.
     pub fn end(&self, tally: Tally) {
         if !self.is_asked && !self.is_terminal {
             return;
@@ -39,15 +45,17 @@ impl<'a> Progress<'a> {
         let each = lines.saturating_mul(1000) / self.milliseconds().max(1);
         let _ = eprintln!(self.rt;
             "{}{lines} lines, {errors} errors, {each} lines a second",
-            self.begin()
+            self.line_prefix()
         );
     }
 
-    /// Returns what a line begins with: on a terminal one replaces the other.
-    fn begin(&self) -> &'static str {
+    /// Returns what a line of the report begins with: on a terminal `\r`, so that it replaces the
+    /// line before.
+    fn line_prefix(&self) -> &'static str {
         if self.is_terminal { "\r" } else { "" }
     }
 
+    /// Returns how many milliseconds the run has taken, or 0 if the clock could not be read.
     fn milliseconds(&self) -> u64 {
         let elapsed = match self.start {
             Some(start) => start.elapsed(self.rt).unwrap_or(Duration::ZERO),
@@ -61,8 +69,10 @@ impl<'a> Progress<'a> {
 }
 
 impl<'a> Watch for Progress<'a> {
+    /// Writes a report of the tally, if `--progress` asks for it and a second has begun since the
+    /// last one.
     fn see(&mut self, tally: Tally) {
-        if !self.is_asked || tally.lines % LINES != 0 {
+        if !self.is_asked || tally.lines % LINES_PER_CLOCK_READ != 0 {
             return;
         }
         let second = self.milliseconds() / 1000;
@@ -72,6 +82,6 @@ impl<'a> Watch for Progress<'a> {
         self.last_second = second;
         let Tally { lines, errors } = tally;
         let end = if self.is_terminal { "" } else { "\n" };
-        let _ = eprint!(self.rt; "{}{lines} lines, {errors} errors{end}", self.begin());
+        let _ = eprint!(self.rt; "{}{lines} lines, {errors} errors{end}", self.line_prefix());
     }
 }

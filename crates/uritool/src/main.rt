@@ -13,46 +13,51 @@ use uri_commands::run::run;
 struct Arguments<'a>(&'a HostRuntime);
 
 impl Env for Arguments<'_> {
+    /// Fills `buf` with the argument at an index, where the program's name is left out.
     fn arg(&self, i: usize, buf: &mut [u8]) -> Result<usize, FillError> {
         let place = i.checked_add(1).ok_or(FillError::NotPresent)?;
         self.0.arg(place, buf)
     }
 
+    /// Fills `buf` with the environment variable of this name.
     fn var(&self, name: &str, buf: &mut [u8]) -> Result<usize, FillError> {
         self.0.var(name, buf)
     }
 
+    /// Fills `buf` with the environment variable at an index.
     fn var_at(&self, i: usize, buf: &mut [u8]) -> Result<usize, FillError> {
         self.0.var_at(i, buf)
     }
 }
 
-/// Writes the line, and returns status 1.
-fn refused<E: Write>(err: &mut E, line: &str) -> ExitCode {
+/// Writes the line to the error output, and returns status 1.
+fn report_error<E: Write>(err: &mut E, line: &str) -> ExitCode {
     let _ = err.write_all(line.as_bytes());
     ExitCode::from(1)
 }
 
+/// Runs the command that the words of the command line make, and returns its exit status.
 fn main(rt: HostRuntime) -> ExitCode {
     let alloc = rt.alloc();
     let mut err = rt.stderr();
     let words = match words(&rt, alloc) {
         Ok(words) => words,
         Err(error) if error.kind() == ErrorKind::OutOfMemory => {
-            return refused(&mut err, "error: out of memory\n");
+            return report_error(&mut err, "error: out of memory\n");
         }
-        Err(_) => return refused(&mut err, "error: arguments\n"),
+        Err(_) => return report_error(&mut err, "error: arguments\n"),
     };
     let Ok(mut out) = LineWriter::new(alloc, rt.stdout()) else {
-        return refused(&mut err, "error: out of memory\n");
+        return report_error(&mut err, "error: out of memory\n");
     };
-    let status = run(alloc, words.as_slice(), &mut out, &mut err);
+    let status = run(alloc, words.as_slice(), &mut out, &mut err).status;
     if status == 0 && out.flush().is_err() {
-        return refused(&mut err, "error: output failed\n");
+        return report_error(&mut err, "error: output failed\n");
     }
     ExitCode::from(status)
 }
 
+/// Returns the words of the command line after the program's name.
 fn words(rt: &HostRuntime, alloc: Global) -> io::Result<Vec<String>> {
     let mut words = Vec::new(alloc);
     for word in env::args(&(Arguments(rt), alloc))? {

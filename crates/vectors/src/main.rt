@@ -8,6 +8,7 @@ use std::process::ExitCode;
 use test_vectors::run::run;
 use test_vectors::{Row, push_rows};
 
+/// Tests the rows of the files that the command line names.
 fn main(rt: HostRuntime) -> io::Result<ExitCode> {
     let alloc = rt.alloc();
     let files: Vec<String> = env::args(&rt)?.skip(1).collect(alloc)?;

@@ -78,6 +78,7 @@ class _Value(_Reference):
     """What the four kinds have in common."""
 
     __slots__ = ()
+    __match_args__ = ("scheme", "authority", "path", "query", "fragment")
 
     @property
     def host_kind(self) -> Optional[HostKind]:
@@ -111,6 +112,9 @@ class _Value(_Reference):
 
     def __bytes__(self) -> bytes:
         return str(self).encode()
+
+    def __format__(self, how: str) -> str:
+        return format(str(self), how)
 
 
 class _Absolute(_Value):

@@ -225,6 +225,7 @@ static PyMethodDef reference_methods[] = {
 };
 
 static PyType_Slot reference_slots[] = {
+    {Py_tp_doc, "Reference(text)\n--\n\nA text of a kind."},
     {Py_tp_new, reference_new},
     {Py_tp_dealloc, reference_dealloc},
     {Py_tp_str, reference_str},
@@ -346,7 +347,8 @@ static struct PyModuleDef definition = {
     PyModuleDef_HEAD_INIT, "fluent_uri._compiled", NULL, -1, functions, NULL, NULL, NULL, NULL,
 };
 
-PyMODINIT_FUNC PyInit__compiled(void);
+/* The headers of Python 3.8 leave it hidden. */
+__attribute__((visibility("default"))) PyMODINIT_FUNC PyInit__compiled(void);
 PyMODINIT_FUNC PyInit__compiled(void) {
     PyObject *module = PyModule_Create(&definition);
     PyObject *reference = module ? PyType_FromSpec(&reference_spec) : NULL;

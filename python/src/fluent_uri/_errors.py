@@ -82,6 +82,8 @@ class ResolveError(ValueError):
 
 def utf8_of(text: str) -> bytes:
     """The text in UTF-8. A surrogate is three bytes, which the library reports as not UTF-8."""
+    if not isinstance(text, str):
+        raise TypeError(f"a text is a str, not {type(text)!r}")
     try:
         return str.encode(text)
     except UnicodeEncodeError:

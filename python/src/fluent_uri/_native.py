@@ -5,6 +5,7 @@ from __future__ import annotations
 import ctypes
 import os
 import pathlib
+from itertools import islice
 from typing import Any, Callable, List
 
 from fluent_uri._declarations import FUNCTIONS, NUMBER, SONAME, Outcome
@@ -18,14 +19,46 @@ def _path() -> str:
     return os.environ.get("FLUENT_URI_LIBRARY") or (str(beside) if beside.exists() else SONAME)
 
 
+# What x86-64-v2 has beside the first x86-64, by the names of /proc/cpuinfo.
+_V2 = {"cx16", "lahf_lm", "popcnt", "sse4_1", "sse4_2", "ssse3"}
+_TOO_OLD = f"{SONAME} needs a processor of x86-64-v2 (SSE4.2), and this one is older"
+
+
+def _lacks(cpuinfo: str) -> bool:
+    """Whether a processor lacks instructions of x86-64-v2, by its lines of /proc/cpuinfo."""
+    flags = [it.partition(":")[2].split() for it in cpuinfo.splitlines() if it.startswith("flags")]
+    return bool(flags) and not _V2 <= set(flags[0])
+
+
+def _is_too_old() -> bool:
+    """Whether the processor is too old, where the C library does not look for that: glibc does from
+    2.33 on."""
+    try:
+        name, _, version = (os.confstr("CS_GNU_LIBC_VERSION") or "").partition(" ")
+        if name == "glibc" and tuple(map(int, version.split(".")[:2])) >= (2, 33):
+            return False
+        with open("/proc/cpuinfo", encoding="ascii", errors="replace") as file:
+            return _lacks("".join(islice(file, 40)))
+    except (AttributeError, OSError, ValueError):
+        return False
+
+
+def _opened(name: str) -> ctypes.CDLL:
+    try:
+        return ctypes.CDLL(name)
+    except OSError as error:
+        if "ISA level" in str(error):
+            raise ImportError(f"{_TOO_OLD} ({error})") from error
+        raise ImportError(
+            f"fluent_uri cannot load the shared library {SONAME}: put it beside this package, or "
+            f"where the system looks for libraries, or name it in FLUENT_URI_LIBRARY ({error})"
+        ) from error
+
+
+if _is_too_old():
+    raise ImportError(_TOO_OLD)
 path = _path()
-try:
-    library = ctypes.CDLL(path)
-except OSError as error:
-    raise ImportError(
-        f"fluent_uri needs the shared library {SONAME}: put it beside this package, where the "
-        f"system looks for libraries, or name it in FLUENT_URI_LIBRARY ({error})"
-    ) from error
+library = _opened(path)
 
 
 def function(name: str, *, lets_others_run: bool = False) -> Callable[..., Any]:

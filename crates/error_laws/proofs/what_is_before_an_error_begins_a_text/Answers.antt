@@ -1,17 +1,21 @@
-use Rattle.error_laws.proofs.KindFacts.{facts_of}
-use Rattle.error_laws.proofs.Whole.{refusal_ok}
+use Rattle.error_laws.proofs.KindFacts.{facts-of-four-kinds}
+use Rattle.error_laws.proofs.Whole.{text-before-error-is-viable}
 use Rattle.uri_parts.specs.Grammar.{uri, uri_ref, iri, iri_ref}
 use Rattle.std.specs.Prelude.{false, true}
 use Rattle.error_laws.proofs.what_is_before_an_error_begins_a_text.Goals as goal
 
 pub returns-clause-uri : goal.returns-clause-uri
-returns-clause-uri c = λ text e u r late. refusal_ok uri (facts_of false true) text u e late r
+returns-clause-uri c = λ text e u r late. text-before-error-is-viable uri
+    (facts-of-four-kinds false true) text u e late r
 
 pub returns-clause-uri_ref : goal.returns-clause-uri_ref
-returns-clause-uri_ref c = λ text e u r late. refusal_ok uri_ref (facts_of false false) text u e late r
+returns-clause-uri_ref c = λ text e u r late. text-before-error-is-viable uri_ref
+    (facts-of-four-kinds false false) text u e late r
 
 pub returns-clause-iri : goal.returns-clause-iri
-returns-clause-iri c = λ text e u r late. refusal_ok iri (facts_of true true) text u e late r
+returns-clause-iri c = λ text e u r late. text-before-error-is-viable iri
+    (facts-of-four-kinds true true) text u e late r
 
 pub returns-clause-iri_ref : goal.returns-clause-iri_ref
-returns-clause-iri_ref c = λ text e u r late. refusal_ok iri_ref (facts_of true false) text u e late r
+returns-clause-iri_ref c = λ text e u r late. text-before-error-is-viable iri_ref
+    (facts-of-four-kinds true false) text u e late r

@@ -88,6 +88,15 @@ impl<'a, K: Kind> Reference<K, &'a str> {
     /// # Examples
     ///
     /// `http://example.com/a?b#c` has the path `/a`, and the path of `http://example.com` is empty.
+    ///
+    /// ```
+    /// let reference = UriRef::<&str>::parse(text)?;
+    /// Ok(Parts {
+    ///     scheme: reference.scheme().map(Scheme::as_str),
+    ///     host: reference.authority().map(Authority::host),
+    ///     path: reference.path().as_str(),
+    /// })
+    /// ```
     pub fn path(self) -> EStr<'a, K::PathE>
         ensures { text_of result ≡ (components (reference_text self.entry)).path }
     {
@@ -131,7 +140,7 @@ impl<'a, K: Kind> Reference<K, &'a str> {
         }
     }
 
-    /// Returns the same reference over a `String`, into which the text is copied.
+    /// Returns a copy of the reference that owns its text.
     ///
     /// # Errors
     ///

@@ -45,7 +45,7 @@ impl<K: Kind> Reference<K, String> {
         }
     }
 
-    /// Returns the same reference over the borrowed text.
+    /// Returns the reference over its own text, which is borrowed.
     ///
     /// # Examples
     ///
@@ -80,6 +80,12 @@ impl<K: Kind> Reference<K, String> {
     ///
     /// With the fragment `fragment`, `http://example.com/` becomes `http://example.com/#fragment`.
     /// With `None` that becomes `http://example.com/` again.
+    ///
+    /// ```
+    /// let mut target = UriRef::<&str>::parse(link)?.resolve_against(alloc, base)?;
+    /// target.set_fragment(None)?;
+    /// Ok(target)
+    /// ```
     pub fn set_fragment(
         &mut self,
         fragment: Option<EStr<'_, K::FragmentE>>,
@@ -98,6 +104,11 @@ impl<K: Kind> Reference<K, String> {
     /// # Examples
     ///
     /// A value that was parsed from the `String` `http://example.com/a?b#c` returns that `String`.
+    ///
+    /// ```
+    /// let normal = normal_form(alloc, text)?.into_string();
+    /// let seen = visits.get(normal.as_str()).copied().unwrap_or(0);
+    /// ```
     pub fn into_string(self) -> String
         ensures { string_bytes result ≡ reference_text self }
     {

@@ -21,6 +21,12 @@ impl<K: Kind, T: AsStr> Reference<K, T> {
     /// # Examples
     ///
     /// `http://example.com` has one, and `http:a` has none.
+    ///
+    /// ```
+    /// pub fn has_all_parts(value: &Uri<String>) -> bool {
+    ///     value.has_authority() && value.has_query() && value.has_fragment()
+    /// }
+    /// ```
     pub fn has_authority(&self) -> bool
         ensures { result ≡ is_some (components (reference_text self.now)).authority }
     {
@@ -97,6 +103,6 @@ impl<K: Kind, T: AsStr> Reference<K, T> {
         ensures { IfOk result (λ normal.
             IsNormalForm K.kind default_port (reference_text self.now) (reference_text normal)) }
     {
-        normalize::normal(alloc, self)
+        normalize::normalize_with_defaults(alloc, self)
     }
 }

@@ -1,7 +1,7 @@
 //! IRIs, and the URIs that they are converted to (RFC 3987, section 3.1).
 ghost use Rattle.std.specs.Prelude.{◌≡◌, IfOk, IfErr, true};
 ghost use Rattle.fluent_uri.specs.Components.{components};
-ghost use Rattle.fluent_uri.specs.Encoded.{encoded_text};
+ghost use Rattle.fluent_uri.specs.Encoded.{encode_past_ascii};
 ghost use Rattle.fluent_uri.specs.Resolving.{IsErrorForEncoded};
 ghost use Rattle.fluent_uri.specs.Iris.{iri_ref_text};
 ghost use Rattle.fluent_uri.specs.Iris.{iri_text};
@@ -37,7 +37,8 @@ pub fn same_normal_reference(alloc: Global, reference: &IriRef<String>) -> Resul
     Ok(converted.normalize(alloc)? == reference.normalize(alloc)?)
 }
 
-/// The target of a reference against a base, converted: it is the target of the two converted.
+/// Returns the target of a reference against a base, converted: it is the target of the two
+/// converted.
 ///
 /// # Errors
 ///
@@ -49,8 +50,8 @@ pub fn target_as_uri(
     allow_underflow: bool,
 ) -> Result<Uri<String>, ResolveError>
     ensures target { IfOk result (λ target. IsTarget allow_underflow
-        (components (encoded_text (iri_text base.entry)))
-        (components (encoded_text (iri_ref_text reference.entry))) (uri_text target)) }
+        (components (encode_past_ascii (iri_text base.entry)))
+        (components (encode_past_ascii (iri_ref_text reference.entry))) (uri_text target)) }
     ensures error { IfErr result
         (IsErrorForEncoded allow_underflow (iri_text base.entry) (iri_ref_text reference.entry)) }
 {
@@ -58,7 +59,8 @@ pub fn target_as_uri(
     Ok(resolver.resolve(alloc, &reference)?.to_uri(alloc)?)
 }
 
-/// Whether a base and a reference that are converted first come to the converted target: they do.
+/// Returns whether a base and a reference that are converted first come to the converted target:
+/// they do.
 ///
 /// # Errors
 ///

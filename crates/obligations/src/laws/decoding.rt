@@ -14,7 +14,7 @@ use std::alloc::{AllocError, Global};
 /// # Errors
 ///
 /// Only if allocation fails.
-pub fn bytes_behind_first<'a>(
+pub fn bytes_after_first<'a>(
     alloc: Global,
     text: EStr<'a, Path>,
 ) -> Result<CowSlice<'a, u8>, AllocError>

@@ -8,12 +8,12 @@ use fluent_uri::component::Authority;
 use fluent_uri::pct_enc::EStr;
 use std::alloc::Global;
 
-/// The reference with an empty authority, path, query and fragment: it is `//?#`.
+/// Returns the reference with an empty authority, path, query and fragment: it is `//?#`.
 ///
 /// # Errors
 ///
 /// Only if allocation fails.
-pub fn empty_parts(alloc: Global) -> Result<UriRef<String>, BuildError>
+pub fn reference_of_empty_components(alloc: Global) -> Result<UriRef<String>, BuildError>
     ensures { IfOk result (λ built. uri_ref_text built ≡ codes "//?#") }
 {
     let built = UriRef::<String>::builder(alloc)

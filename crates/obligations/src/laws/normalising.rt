@@ -13,7 +13,7 @@ ghost use Rattle.fluent_uri.specs.SchemePorts.{default_port};
 use fluent_uri::{Iri, laws};
 use std::alloc::{AllocError, Global};
 
-/// Whether a normal form is its own normal form: it is.
+/// Returns whether a normal form is its own normal form: it is.
 ///
 /// # Errors
 ///

@@ -4,15 +4,15 @@ ghost use Rattle.fluent_uri.specs.Components.{components};
 ghost use Rattle.fluent_uri.specs.Grammar.{iri};
 ghost use Rattle.fluent_uri.specs.Iris.{iri_ref_text};
 ghost use Rattle.fluent_uri.specs.Iris.{iri_text};
-ghost use Rattle.fluent_uri.specs.NormalTargets.{IsNormalFormOfTarget, IsRefusedFor};
+ghost use Rattle.fluent_uri.specs.NormalTargets.{IsNormalFormOfTarget, IsErrorUnderSomeSetting};
 ghost use Rattle.fluent_uri.specs.SchemePorts.{default_port};
 
 use fluent_uri::resolve::{ResolveError, Resolver};
 use fluent_uri::{Iri, IriRef};
 use std::alloc::Global;
 
-/// The normal form of the target of the normal forms of a base and a reference: it is the normal
-/// form of the target of the two.
+/// Returns the normal form of the target of the normal forms of a base and a reference: it is the
+/// normal form of the target of the two.
 ///
 /// # Errors
 ///
@@ -25,7 +25,7 @@ pub fn normal_target(
     ensures target { IfOk result (λ normal. IsNormalFormOfTarget iri default_port
         (iri_text base.entry) (iri_ref_text reference.entry) (iri_text normal)) }
     ensures error { IfErr result (λ error. (error ≡ ResolveError.OutOfMemory) ⊎
-        IsRefusedFor (components (iri_text base.entry))
+        IsErrorUnderSomeSetting (components (iri_text base.entry))
         (components (iri_ref_text reference.entry)) error) }
 {
     let _base_text = base.as_str();
@@ -36,8 +36,8 @@ pub fn normal_target(
     Ok(target.normalize(alloc)?)
 }
 
-/// Whether the target of the normal forms of a base and a reference has the normal form of the
-/// target: it has.
+/// Returns whether the target of the normal forms of a base and a reference has the normal form of
+/// the target: it has.
 ///
 /// # Errors
 ///

@@ -11,168 +11,202 @@ use Rattle.std.proofs.lemmas.Bool.{lt-ltb, both_ways, eqb-true}
 use Rattle.uri_pct.specs.Sets.{TableSet, LacksPercent, allows_past_ascii, digit_set}
 use Rattle.uri_pct.specs.Sets.{is_userinfo_char}
 use Rattle.uri_pct.specs.Tokens.{IsValidFor}
-use Rattle.uri_pct.specs.Prefixes.{allows_first, begins_hex, first_char}
-use Rattle.uri_pct.proofs.ValidTexts.Validity.{valid_from, is_valid_for-bytes, allows_first-past}
-use Rattle.uri_pct.proofs.Unicode.Characters.{hex_ascii}
+use Rattle.uri_pct.specs.Prefixes.{allows_first, begins_with_hex_digits, first_char}
+use Rattle.uri_pct.proofs.ValidTexts.Validity.{valid_from, validity_of_tokens_is_validity_of_bytes}
+use Rattle.uri_pct.proofs.ValidTexts.Validity.{first_byte_past_ascii_is_allowed_by_its_char}
+use Rattle.uri_pct.proofs.Unicode.Characters.{hexdigit_is_ascii}
 use Rattle.uri_parts.specs.Components.{Components, components, marked, recompose}
 use Rattle.uri_parts.specs.Grammar.{Kind, is_scheme, is_authority}
 use Rattle.uri_parts.specs.Hosts.{HostKind, Ipv4, Ipv6, IpvFuture, RegName, IsHost}
 use Rattle.uri_parts.specs.Authority.{authority_parts}
-use Rattle.uri_parts.proofs.HostForms.Addresses.{address_text-ipv6}
+use Rattle.uri_parts.proofs.HostForms.Addresses.{ipv6-text-is-address-text}
 use Rattle.uri_parts.proofs.Authorities.Authority.{is_authority_for-sound}
-use Rattle.uri_parts.proofs.HostForms.Hosts.{utf8_bracketed}
+use Rattle.uri_parts.proofs.HostForms.Hosts.{address-in-brackets-is-utf8}
 use Rattle.uri_parts.proofs.Splitting.Recompose.{recompose-components}
 use Rattle.uri_ops.specs.ComponentSets.{IsComponentSet, HasComponentSets}
 use Rattle.uri_ops.specs.Encoded.{ascii_set, ascii_kind}
 use Rattle.uri_parts.specs.Grammar.{IsTextOf}
-use Rattle.uri_ops.proofs.Meanings.PlainTexts.{valid_plain}
-use Rattle.uri_ops.proofs.Meanings.HostMeanings.{plain_future, future_chars}
-use Rattle.uri_ops.proofs.Meanings.AuthorityMeanings.{utf8_parts}
-use Rattle.uri_ops.proofs.Meanings.AllowedParts.{is_part, part_utf8, part_valid}
-use Rattle.uri_ops.proofs.Meanings.TextParts.{AreParts}
-use Rattle.uri_pct.proofs.Tests.{each_some, both_some}
-use Rattle.uri_ops.proofs.Normal.NormalTexts.{parts_of}
-use Rattle.uri_ops.proofs.AsciiForms.EncodedAuthorities.{plain_ascii, bracketed_ascii}
-use Rattle.uri_ops.proofs.AsciiForms.EncodedAuthorities.{address_ascii, dotted_ascii}
-use Rattle.uri_ops.proofs.AsciiForms.EncodedMeanings.{scheme_plain}
+use Rattle.uri_ops.proofs.Meanings.AsciiCharacters.{valid_ascii_text}
+use Rattle.uri_ops.proofs.Meanings.HostMeanings.{ipvfuture-has-ascii-parts}
+use Rattle.uri_ops.proofs.Meanings.HostMeanings.{ipvfuture-is-userinfo-characters}
+use Rattle.uri_ops.proofs.Meanings.AuthorityMeanings.{authority-parts-are-utf8}
+use Rattle.uri_ops.proofs.Meanings.AllowedParts.{is_set_text, set-text-is-utf8, set-text-is-valid}
+use Rattle.uri_ops.proofs.Meanings.TextParts.{ArePartsOfKind}
+use Rattle.uri_pct.proofs.Tests.{IfSome-weaken, IfSome-combine}
+use Rattle.uri_ops.proofs.Normal.NormalTexts.{text-has-parts-of-kind}
+use Rattle.uri_ops.proofs.AsciiForms.EncodedAuthorities.{text-passing-ascii-test-is-ascii}
+use Rattle.uri_ops.proofs.AsciiForms.EncodedAuthorities.{bracketed-ascii-address-is-ascii}
+use Rattle.uri_ops.proofs.AsciiForms.EncodedAuthorities.{address-text-is-ascii}
+use Rattle.uri_ops.proofs.AsciiForms.EncodedAuthorities.{dotted-decimal-is-ascii}
+use Rattle.uri_ops.proofs.AsciiForms.EncodedMeanings.{schemes-are-ascii}
 
 abbrev ascii : List ℕ → Bool
 ascii text = list_all (λ c. ltb c 128) text
 
-both_ascii : (x y : List ℕ) → ascii x ≡ true → ascii y ≡ true → ascii (x ++ y) ≡ true
-both_ascii x y e f = list_all-append (λ c. ltb c 128) x y ∙ and_from _ _ e f
+-- kinds of ASCII texts: two ASCII texts are ASCII, one after the other
+append-of-ascii-is-ascii : (x y : List ℕ) → ascii x ≡ true → ascii y ≡ true → ascii (x ++ y) ≡ true
+append-of-ascii-is-ascii x y e f = list_all-append (λ c. ltb c 128) x y ∙ and_from _ _ e f
 
--- the digits of an octet
-digits_taken : (rest : List ℕ) → begins_hex rest ≡ true → ascii (take 2 rest) ≡ true
-unfolding begins_hex
-digits_taken [] e = refl
-digits_taken (h ∷ []) e =
-    and_from _ _ (lt-ltb h 128 (hex_ascii h (and_parts (is_ascii_hexdigit h) _ e).0)) refl
-digits_taken (h ∷ l ∷ rest) e =
+-- kinds of ASCII texts: the two digits of an octet are ASCII
+octet-digits-are-ascii : (rest : List ℕ) → begins_with_hex_digits rest ≡ true
+    → ascii (take 2 rest) ≡ true
+unfolding begins_with_hex_digits
+octet-digits-are-ascii [] e = refl
+octet-digits-are-ascii (h ∷ []) e =
+    and_from _ _ (lt-ltb h 128 (hexdigit_is_ascii h (and_parts (is_ascii_hexdigit h) _ e).0)) refl
+octet-digits-are-ascii (h ∷ l ∷ rest) e =
     let p = and_parts (is_ascii_hexdigit h) (is_ascii_hexdigit l) e in
-    and_from _ _ (lt-ltb h 128 (hex_ascii h p.0))
-    (and_from _ _ (lt-ltb l 128 (hex_ascii l p.1)) refl)
+    and_from _ _ (lt-ltb h 128 (hexdigit_is_ascii h p.0))
+    (and_from _ _ (lt-ltb l 128 (hexdigit_is_ascii l p.1)) refl)
 
 module _ (set : TableSet) where
-  nothing_past : (c : ℕ) → allows_past_ascii (ascii_set set) c ≡ false
+  ascii_set-allows-nothing-past-ascii : (c : ℕ) → allows_past_ascii (ascii_set set) c ≡ false
   unfolding allows_past_ascii
-  nothing_past c = refl
+  ascii_set-allows-nothing-past-ascii c = refl
 
-  first_below : (b : ℕ) (rest : List ℕ) → allows_first (ascii_set set) b rest ≡ true → b < 128
-  first_below b rest e = ⊎_elim
+  first-byte-of-ascii-set-is-ascii : (b : ℕ) (rest : List ℕ) → allows_first (ascii_set set) b rest
+      ≡ true → b < 128
+  first-byte-of-ascii-set-is-ascii b rest e = ⊎_elim
       (λ h. h)
       (λ h.
-      absurd (both_ways _ (allows_first-past (ascii_set set) b rest h
-      ∙ nothing_past (first_char (b ∷ rest))) e))
+      absurd (both_ways _ (first_byte_past_ascii_is_allowed_by_its_char (ascii_set set) b rest h
+      ∙ ascii_set-allows-nothing-past-ascii (first_char (b ∷ rest))) e))
       (cases_lt b 128)
 
-  percent_below : (b : ℕ) → eqb b 37 ≡ true → b < 128
-  percent_below b e = let d = eqb-true b 37 e in omega arith
+  percent-byte-is-ascii : (b : ℕ) → eqb b 37 ≡ true → b < 128
+  percent-byte-is-ascii b e = let d = eqb-true b 37 e in omega arith
 
-  valid_ascii : (skip : ℕ) (bs : List ℕ) → ascii (take skip bs) ≡ true
+  valid-for-ascii-set-is-ascii : (skip : ℕ) (bs : List ℕ) → ascii (take skip bs) ≡ true
       → valid_from (ascii_set set) skip bs ≡ true → ascii bs ≡ true
   unfolding valid_from
-  valid_ascii skip [] t e = refl
-  valid_ascii zero (b ∷ rest) t e = ⊎_elim
+  valid-for-ascii-set-is-ascii skip [] t e = refl
+  valid-for-ascii-set-is-ascii zero (b ∷ rest) t e = ⊎_elim
       (λ h.
-      let p = and_parts (set.pct_encoded && eqb b 37) (begins_hex rest) h in
-      and_from _ _ (lt-ltb b 128 (percent_below b (and_parts set.pct_encoded (eqb b 37) p.0).1))
-      (valid_ascii 2 rest (digits_taken rest p.1) (sym (cond-true _ _ _ h) ∙ e)))
+      let p = and_parts (set.pct_encoded && eqb b 37) (begins_with_hex_digits rest) h in
+      and_from _ _ (lt-ltb b 128
+      (percent-byte-is-ascii b (and_parts set.pct_encoded (eqb b 37) p.0).1))
+      (valid-for-ascii-set-is-ascii 2 rest (octet-digits-are-ascii rest p.1)
+      (sym (cond-true _ _ _ h) ∙ e)))
       (λ h.
       let p = and_parts (allows_first (ascii_set set) b rest) _ (sym (cond-false _ _ _ h) ∙ e) in
-      let low = first_below b rest p.0 in
+      let low = first-byte-of-ascii-set-is-ascii b rest p.0 in
       and_from _ _ (lt-ltb b 128 low)
-      (valid_ascii 0 rest refl
+      (valid-for-ascii-set-is-ascii 0 rest refl
       (sym (ap (λ n. valid_from (ascii_set set) n rest)
       (cond-true _ _ _ (lt-ltb b 128 low))) ∙ p.1)))
-      (cases_Bool ((set.pct_encoded && eqb b 37) && begins_hex rest))
-  valid_ascii (suc k) (b ∷ rest) t e =
+      (cases_Bool ((set.pct_encoded && eqb b 37) && begins_with_hex_digits rest))
+  valid-for-ascii-set-is-ascii (suc k) (b ∷ rest) t e =
       let p = and_parts (ltb b 128) (ascii (take k rest)) t in
-      and_from _ _ p.0 (valid_ascii k rest p.1 e)
+      and_from _ _ p.0 (valid-for-ascii-set-is-ascii k rest p.1 e)
 
-  part_ascii : LacksPercent set → (text : List ℕ) → IsUtf8 text → IsValidFor (ascii_set set) text
+  text-for-ascii_set-is-ascii : LacksPercent set → (text : List ℕ) → IsUtf8 text
+      → IsValidFor (ascii_set set) text
       → ascii text ≡ true
-  part_ascii lacks text u e = valid_ascii 0 text refl
-      (sym (is_valid_for-bytes (ascii_set set) lacks text u) ∙ e)
+  text-for-ascii_set-is-ascii lacks text u e = valid-for-ascii-set-is-ascii 0 text refl
+      (sym (validity_of_tokens_is_validity_of_bytes (ascii_set set) lacks text u) ∙ e)
 
-digits_ascii : (text : List ℕ) → IsUtf8 text → IsValidFor digit_set text → ascii text ≡ true
-digits_ascii text u e = plain_ascii is_ascii_digit text
-    (sym (valid_plain is_ascii_digit refl text u) ∙ e)
+-- kinds of ASCII texts: the digits of a port are ASCII
+port-digits-are-ascii : (text : List ℕ) → IsUtf8 text → IsValidFor digit_set text
+    → ascii text ≡ true
+port-digits-are-ascii text u e = text-passing-ascii-test-is-ascii is_ascii_digit text
+    (sym (valid_ascii_text is_ascii_digit refl text u) ∙ e)
 
-host_ascii : (names : TableSet) → LacksPercent names → (text : List ℕ) (h : HostKind) → IsUtf8 text
+-- kinds of ASCII texts: a host of a set without characters past ASCII is ASCII
+host-for-ascii_set-is-ascii : (names : TableSet) → LacksPercent names
+    → (text : List ℕ) (h : HostKind) → IsUtf8 text
     → IsHost (ascii_set names) text h → ascii text ≡ true
-host_ascii names lacks text (Ipv6 segments) u (address, e, groups) = ap ascii e
-    ∙ bracketed_ascii address (address_ascii address (address_text-ipv6 address segments groups))
-host_ascii names lacks text IpvFuture u (address, e, future) =
-    let plain = plain_future address (utf8_bracketed address (subst IsUtf8 e u)) future in
+host-for-ascii_set-is-ascii names lacks text (Ipv6 segments) u (address, e, groups) = ap ascii e
+    ∙ bracketed-ascii-address-is-ascii address
+    (address-text-is-ascii address (ipv6-text-is-address-text address segments groups))
+host-for-ascii_set-is-ascii names lacks text IpvFuture u (address, e, future) =
+    let ascii_parts = ipvfuture-has-ascii-parts address
+    (address-in-brackets-is-utf8 address (subst IsUtf8 e u)) future in
     ap ascii e
-    ∙ bracketed_ascii address
-    (plain_ascii is_userinfo_char address (future_chars address future plain))
-host_ascii names lacks text (Ipv4 octets) u dotted = dotted_ascii text octets dotted
-host_ascii names lacks text RegName u (valid, other) = part_ascii names lacks text u valid
+    ∙ bracketed-ascii-address-is-ascii address
+    (text-passing-ascii-test-is-ascii is_userinfo_char address
+    (ipvfuture-is-userinfo-characters address future ascii_parts))
+host-for-ascii_set-is-ascii names lacks text (Ipv4 octets) u dotted = dotted-decimal-is-ascii text
+    octets dotted
+host-for-ascii_set-is-ascii names lacks text RegName u (valid, other) = text-for-ascii_set-is-ascii
+    names lacks text u valid
 
--- a component that is absent or passes, with its marks
-marked_ascii : (before behind : List ℕ) (o : Option (List ℕ)) → ascii before ≡ true
-    → ascii behind ≡ true → IfSome o (λ x. ascii x ≡ true) → ascii (marked before o behind) ≡ true
-marked_ascii before behind None e f h = refl
-marked_ascii before behind (Some x) e f h =
-    both_ascii (before ++ x) behind (both_ascii before x e h) f
+-- kinds of ASCII texts: a component that is absent or ASCII,
+-- with ASCII delimiters (before, suffix), is ASCII
+delimited-ascii-component-is-ascii : (before suffix : List ℕ) (o : Option (List ℕ))
+    → ascii before ≡ true
+    → ascii suffix ≡ true → IfSome o (λ x. ascii x ≡ true) → ascii (marked before o suffix) ≡ true
+delimited-ascii-component-is-ascii before suffix None e f h = refl
+delimited-ascii-component-is-ascii before suffix (Some x) e f h =
+    append-of-ascii-is-ascii (before ++ x) suffix (append-of-ascii-is-ascii before x e h) f
 
 module _ (kind : Kind) (sets : HasComponentSets kind) where
-  abbrev plain_kind : Kind
-  plain_kind = ascii_kind kind
+  abbrev kind_of_ascii : Kind
+  kind_of_ascii = ascii_kind kind
 
-  authority_ascii : (a : List ℕ) → IsUtf8 a → is_authority plain_kind a ≡ true → ascii a ≡ true
-  authority_ascii a u e =
-      let grammar = is_authority_for-sound plain_kind.userinfo plain_kind.reg_name a e in
+  authority-of-ascii-kind-is-ascii : (a : List ℕ) → IsUtf8 a → is_authority kind_of_ascii a ≡ true
+      → ascii a ≡ true
+  authority-of-ascii-kind-is-ascii a u e =
+      let grammar = is_authority_for-sound kind_of_ascii.userinfo kind_of_ascii.reg_name a e in
       let p = authority_parts a in
-      let utf8 = utf8_parts p.userinfo p.port p.host (subst IsUtf8 (sym grammar.whole) u) in
-      let user = both_some p.userinfo IsUtf8 (IsValidFor plain_kind.userinfo) (λ x. ascii x ≡ true)
-      (λ x v h. part_ascii kind.userinfo sets.userinfo.percent x v h) utf8.userinfo
+      let utf8 = authority-parts-are-utf8 p.userinfo p.port p.host
+      (subst IsUtf8 (sym grammar.whole) u) in
+      let user = IfSome-combine p.userinfo IsUtf8 (IsValidFor kind_of_ascii.userinfo) (λ x. ascii x
+      ≡ true)
+      (λ x v h. text-for-ascii_set-is-ascii kind.userinfo sets.userinfo.percent x v h) utf8.userinfo
       grammar.userinfo in
-      let port = both_some p.port IsUtf8 (IsValidFor digit_set) (λ x. ascii x ≡ true) digits_ascii
+      let port = IfSome-combine p.port IsUtf8 (IsValidFor digit_set) (λ x. ascii x
+      ≡ true) port-digits-are-ascii
       utf8.port grammar.port in
-      let host = host_ascii kind.reg_name sets.reg_name.percent p.host grammar.host.0 utf8.host
+      let host = host-for-ascii_set-is-ascii kind.reg_name sets.reg_name.percent p.host
+      grammar.host.0 utf8.host
       grammar.host.1 in
-      let behind = marked (codes ":") p.port [] in
+      let suffix = marked (codes ":") p.port [] in
       sym (ap ascii grammar.whole)
-      ∙ both_ascii (marked [] p.userinfo (codes "@")) (p.host ++ behind)
-      (marked_ascii [] (codes "@") p.userinfo refl refl user)
-      (both_ascii p.host behind host (marked_ascii (codes ":") [] p.port refl refl port))
+      ∙ append-of-ascii-is-ascii (marked [] p.userinfo (codes "@")) (p.host ++ suffix)
+      (delimited-ascii-component-is-ascii [] (codes "@") p.userinfo refl refl user)
+      (append-of-ascii-is-ascii p.host suffix host
+      (delimited-ascii-component-is-ascii (codes ":") [] p.port refl refl port))
 
-  component_ascii : (marks : List ℕ) (set : TableSet) → IsComponentSet marks set
-      → (o : Option (List ℕ)) → IfSome o (λ x. is_part (ascii_set set) x ≡ true)
+  component-of-ascii_set-is-ascii : (marks : List ℕ) (set : TableSet) → IsComponentSet marks set
+      → (o : Option (List ℕ)) → IfSome o (λ x. is_set_text (ascii_set set) x ≡ true)
       → IfSome o (λ x. ascii x ≡ true)
-  component_ascii marks set w o h =
-      each_some o (λ x. is_part (ascii_set set) x ≡ true) (λ x. ascii x ≡ true)
-      (λ x e. part_ascii set w.percent x (part_utf8 (ascii_set set) x e)
-      (part_valid (ascii_set set) x e)) h
+  component-of-ascii_set-is-ascii marks set w o h =
+      IfSome-weaken o (λ x. is_set_text (ascii_set set) x ≡ true) (λ x. ascii x ≡ true)
+      (λ x e. text-for-ascii_set-is-ascii set w.percent x (set-text-is-utf8 (ascii_set set) x e)
+      (set-text-is-valid (ascii_set set) x e)) h
 
-  parts_ascii : (p : Components) → AreParts plain_kind p → ascii (recompose p) ≡ true
-  parts_ascii p parts =
+  recomposed-ascii-components-are-ascii : (p : Components) → ArePartsOfKind kind_of_ascii p
+      → ascii (recompose p) ≡ true
+  recomposed-ascii-components-are-ascii p parts =
       let s = marked [] p.scheme (codes ":") in
       let a = marked (codes "//") p.authority [] in
       let q = marked (codes "?") p.query [] in
       let f = marked (codes "#") p.fragment [] in
-      let scheme = each_some p.scheme (λ x. IsUtf8 x × (is_scheme x ≡ true)) (λ x. ascii x ≡ true)
-      (λ x h. scheme_plain x h.0 h.1) parts.scheme in
-      let authority = each_some p.authority (λ x. IsUtf8 x × (is_authority plain_kind x ≡ true))
-      (λ x. ascii x ≡ true) (λ x h. authority_ascii x h.0 h.1) parts.authority in
-      let path = part_ascii kind.path sets.path.percent p.path
-      (part_utf8 plain_kind.path p.path parts.path)
-      (part_valid plain_kind.path p.path parts.path) in
-      let query = component_ascii (codes "#[]") kind.query sets.query p.query parts.query in
-      let fragment = component_ascii (codes "#[]") kind.fragment sets.fragment p.fragment
+      let scheme = IfSome-weaken p.scheme (λ x. IsUtf8 x × (is_scheme x ≡ true))
+      (λ x. ascii x ≡ true)
+      (λ x h. schemes-are-ascii x h.0 h.1) parts.scheme in
+      let authority = IfSome-weaken p.authority (λ x. IsUtf8 x
+      × (is_authority kind_of_ascii x ≡ true))
+      (λ x. ascii x ≡ true) (λ x h. authority-of-ascii-kind-is-ascii x h.0 h.1) parts.authority in
+      let path = text-for-ascii_set-is-ascii kind.path sets.path.percent p.path
+      (set-text-is-utf8 kind_of_ascii.path p.path parts.path)
+      (set-text-is-valid kind_of_ascii.path p.path parts.path) in
+      let query = component-of-ascii_set-is-ascii (codes "#[]") kind.query sets.query p.query
+      parts.query in
+      let fragment = component-of-ascii_set-is-ascii (codes "#[]") kind.fragment
+      sets.fragment p.fragment
       parts.fragment in
-      both_ascii s (a ++ (p.path ++ (q ++ f)))
-      (marked_ascii [] (codes ":") p.scheme refl refl scheme)
-      (both_ascii a (p.path ++ (q ++ f))
-      (marked_ascii (codes "//") [] p.authority refl refl authority)
-      (both_ascii p.path (q ++ f) path
-      (both_ascii q f (marked_ascii (codes "?") [] p.query refl refl query)
-      (marked_ascii (codes "#") [] p.fragment refl refl fragment))))
+      append-of-ascii-is-ascii s (a ++ (p.path ++ (q ++ f)))
+      (delimited-ascii-component-is-ascii [] (codes ":") p.scheme refl refl scheme)
+      (append-of-ascii-is-ascii a (p.path ++ (q ++ f))
+      (delimited-ascii-component-is-ascii (codes "//") [] p.authority refl refl authority)
+      (append-of-ascii-is-ascii p.path (q ++ f) path
+      (append-of-ascii-is-ascii q f
+      (delimited-ascii-component-is-ascii (codes "?") [] p.query refl refl query)
+      (delimited-ascii-component-is-ascii (codes "#") [] p.fragment refl refl fragment))))
 
-  pub text_ascii : (text : List ℕ) → IsTextOf plain_kind text
+  pub texts-of-ascii-kinds-are-ascii : (text : List ℕ) → IsTextOf kind_of_ascii text
       → list_all (λ c. ltb c 128) text ≡ true
-  text_ascii text w = sym (ap ascii (recompose-components text))
-      ∙ parts_ascii (components text) (parts_of plain_kind text w)
+  texts-of-ascii-kinds-are-ascii text w = sym (ap ascii (recompose-components text))
+      ∙ recomposed-ascii-components-are-ascii (components text)
+      (text-has-parts-of-kind kind_of_ascii text w)

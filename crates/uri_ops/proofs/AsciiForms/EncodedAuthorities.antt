@@ -14,41 +14,52 @@ use Rattle.std.proofs.lemmas.Bool.Decides.{nat_tests}
 use Rattle.std.proofs.NetLemmas.Alphabet.{IsDigitOrDot}
 use Rattle.uri_pct.specs.Sets.{TableSet, digit_set, is_userinfo_char}
 use Rattle.uri_pct.specs.Tokens.{IsValidFor}
-use Rattle.uri_pct.specs.Reading.{read, lower_token}
+use Rattle.uri_pct.specs.DecodeUnreserved.{decode_unreserved, lower_token}
 use Rattle.uri_pct.proofs.ValidTexts.Cuts.{excludes}
 use Rattle.uri_parts.specs.Components.{marked}
 use Rattle.uri_parts.specs.Hosts.{HostKind, Ipv4, Ipv6, IpvFuture, RegName, IsHost, bracketed}
 use Rattle.uri_parts.specs.Hosts.{host_kind, ipv4_value}
-use Rattle.uri_parts.specs.Authority.{AuthorityParts, IsAuthorityFor, KeepsApart, authority_parts}
+use Rattle.uri_parts.specs.Authority.{AuthorityParts, IsAuthorityFor, LackAuthorityDelimiters}
+use Rattle.uri_parts.specs.Authority.{authority_parts}
 use Rattle.uri_parts.specs.Authority.{recompose_authority}
 use Rattle.uri_parts.specs.Grammar.{Kind, is_authority}
 use Rattle.uri_parts.proofs.Authorities.Authority.{is_authority_for-sound}
-use Rattle.uri_parts.proofs.Authorities.Authority.{is_authority_for-complete, authority_parts-only}
-use Rattle.uri_parts.proofs.Authorities.Authority.{names_outside}
+use Rattle.uri_parts.proofs.Authorities.Authority.{is_authority_for-complete}
+use Rattle.uri_parts.proofs.Authorities.Authority.{authority_parts-are-unique}
+use Rattle.uri_parts.proofs.Authorities.Authority.{names_exclude_delimiters}
 use Rattle.uri_parts.proofs.HostForms.Addresses.{is_address_char, is_address_text}
-use Rattle.uri_parts.proofs.HostForms.Addresses.{address_text-ipv6}
-use Rattle.uri_parts.proofs.HostForms.Hosts.{is_host-sound, lacks_starts, utf8_bracketed}
-use Rattle.uri_parts.proofs.TextKinds.SpeltTexts.{valid_lacks}
-use Rattle.uri_parts.proofs.HostForms.Futures.{ipv4_digits}
+use Rattle.uri_parts.proofs.HostForms.Addresses.{ipv6-text-is-address-text}
+use Rattle.uri_parts.proofs.HostForms.Hosts.{is_host-sound, lacking_text_does_not_begin_with}
+use Rattle.uri_parts.proofs.HostForms.Hosts.{address-in-brackets-is-utf8}
+use Rattle.uri_parts.proofs.TextKinds.GrammarTexts.{valid_text_lacks_excluded_marks}
+use Rattle.uri_parts.proofs.HostForms.Futures.{ipv4-text-is-digits-and-dots}
 use Rattle.uri_ops.specs.ComponentSets.{IsComponentSet, HasComponentSets}
-use Rattle.uri_ops.specs.Encoded.{encoded_text, ascii_set, ascii_kind}
+use Rattle.uri_ops.specs.Encoded.{encode_past_ascii, ascii_set, ascii_kind}
 use Rattle.uri_ops.specs.Meaning.{AuthorityMeaning, Name, host_meaning, port_meaning}
 use Rattle.uri_ops.specs.Meaning.{authority_meaning}
-use Rattle.uri_ops.proofs.Meanings.AllowedParts.{is_part, part_from, part_utf8, part_valid}
-use Rattle.uri_ops.proofs.Meanings.PlainTexts.{is_plain_char, valid_plain}
-use Rattle.uri_ops.proofs.Meanings.HostMeanings.{plain_addresses, plain_future, future_chars}
-use Rattle.uri_ops.proofs.Meanings.HostMeanings.{name_meaning, at_name}
-use Rattle.uri_ops.proofs.Meanings.AuthorityMeanings.{PartsUtf8, utf8_parts, keeps_apart}
-use Rattle.uri_ops.proofs.AsciiForms.EncodedTokens.{IsUtf8-encoded}
-use Rattle.uri_ops.proofs.AsciiForms.EncodedReadings.{part_encoded, read-encoded}
-use Rattle.uri_ops.proofs.AsciiForms.EncodedPaths.{encoded-append, encoded-ascii, starts_encoded}
-use Rattle.uri_ops.proofs.AsciiForms.EncodedComponents.{marked_encoded}
-use Rattle.uri_pct.proofs.Tests.{both_some}
+use Rattle.uri_ops.proofs.Meanings.AllowedParts.{is_set_text, set-text-from-utf8, set-text-is-utf8}
+use Rattle.uri_ops.proofs.Meanings.AllowedParts.{set-text-is-valid}
+use Rattle.uri_ops.proofs.Meanings.AsciiCharacters.{is_ascii_in, valid_ascii_text}
+use Rattle.uri_ops.proofs.Meanings.HostMeanings.{address-characters-are-ascii}
+use Rattle.uri_ops.proofs.Meanings.HostMeanings.{ipvfuture-has-ascii-parts}
+use Rattle.uri_ops.proofs.Meanings.HostMeanings.{ipvfuture-is-userinfo-characters}
+use Rattle.uri_ops.proofs.Meanings.HostMeanings.{meaning-of-name-is-lowered-decoded}
+use Rattle.uri_ops.proofs.Meanings.HostMeanings.{unbracketed-valid-text-is-name}
+use Rattle.uri_ops.proofs.Meanings.AuthorityMeanings.{PartsUtf8, authority-parts-are-utf8}
+use Rattle.uri_ops.proofs.Meanings.AuthorityMeanings.{kind-sets-lack-authority-delimiters}
+use Rattle.uri_ops.proofs.AsciiForms.EncodedTokens.{encoded-text-is-utf8}
+use Rattle.uri_ops.proofs.AsciiForms.EncodedDecodings.{encoded-part-is-valid-for-ascii_set}
+use Rattle.uri_ops.proofs.AsciiForms.EncodedDecodings.{decode_unreserved-of-encoded-text}
+use Rattle.uri_ops.proofs.AsciiForms.EncodedPaths.{encoding-of-append-is-append}
+use Rattle.uri_ops.proofs.AsciiForms.EncodedPaths.{ascii-text-is-its-own-encoding}
+use Rattle.uri_ops.proofs.AsciiForms.EncodedPaths.{encoding-keeps-leading-delimiter}
+use Rattle.uri_ops.proofs.AsciiForms.EncodedComponents.{encoding-keeps-delimiters}
+use Rattle.uri_pct.proofs.Tests.{IfSome-combine}
 
--- the sets of the URIs that go with a kind of IRIs
-ascii_component : (marks : List ℕ) (set : TableSet) → IsComponentSet marks set
+-- IRIs as URIs: a component's set without its characters past ASCII is a component's set
+ascii_set-is-component-set : (marks : List ℕ) (set : TableSet) → IsComponentSet marks set
     → IsComponentSet marks (ascii_set set)
-ascii_component marks set w = record {
+ascii_set-is-component-set marks set w = record {
   unreserved = record {
     ascii = w.unreserved.ascii;
     pct_encoded =
@@ -62,54 +73,66 @@ ascii_component marks set w = record {
   ends = w.ends;
 }
 
-ascii_sets : (kind : Kind) → HasComponentSets kind → HasComponentSets (ascii_kind kind)
-ascii_sets kind sets = record {
-  userinfo = ascii_component (codes "/?#[]@") kind.userinfo sets.userinfo;
-  reg_name = ascii_component (codes "/?#[]@:") kind.reg_name sets.reg_name;
-  path = ascii_component (codes "?#[]") kind.path sets.path;
+-- IRIs as URIs: without characters past ASCII,
+-- the sets of a kind still lack what ends each component
+ascii_kind-has-component-sets : (kind : Kind) → HasComponentSets kind
+    → HasComponentSets (ascii_kind kind)
+ascii_kind-has-component-sets kind sets = record {
+  userinfo = ascii_set-is-component-set (codes "/?#[]@") kind.userinfo sets.userinfo;
+  reg_name = ascii_set-is-component-set (codes "/?#[]@:") kind.reg_name sets.reg_name;
+  path = ascii_set-is-component-set (codes "?#[]") kind.path sets.path;
   slash = sets.slash;
-  query = ascii_component (codes "#[]") kind.query sets.query;
-  fragment = ascii_component (codes "#[]") kind.fragment sets.fragment;
+  query = ascii_set-is-component-set (codes "#[]") kind.query sets.query;
+  fragment = ascii_set-is-component-set (codes "#[]") kind.fragment sets.fragment;
 }
 
--- texts that are ASCII in any case
-pub plain_ascii : (test : ℕ → Bool) (text : List ℕ) → list_all (is_plain_char test) text ≡ true
+-- IRIs as URIs: a text whose bytes pass an ASCII test is ASCII
+pub text-passing-ascii-test-is-ascii : (test : ℕ → Bool) (text : List ℕ)
+    → list_all (is_ascii_in test) text ≡ true
     → list_all (λ c. ltb c 128) text ≡ true
-plain_ascii test [] e = refl
-plain_ascii test (c ∷ text) e =
-    let p = and_parts (is_plain_char test c) (list_all (is_plain_char test) text) e in
-    and_from _ _ (and_parts (ltb c 128) (test c) p.0).0 (plain_ascii test text p.1)
+text-passing-ascii-test-is-ascii test [] e = refl
+text-passing-ascii-test-is-ascii test (c ∷ text) e =
+    let p = and_parts (is_ascii_in test c) (list_all (is_ascii_in test) text) e in
+    and_from _ _ (and_parts (ltb c 128) (test c) p.0).0
+    (text-passing-ascii-test-is-ascii test text p.1)
 
-pub bracketed_ascii : (address : List ℕ) → list_all (λ c. ltb c 128) address ≡ true
+-- IRIs as URIs: an ASCII address is ASCII in its brackets too
+pub bracketed-ascii-address-is-ascii : (address : List ℕ) → list_all (λ c. ltb c 128) address ≡ true
     → list_all (λ c. ltb c 128) (bracketed address) ≡ true
-bracketed_ascii address e = list_all-append (λ c. ltb c 128) address (codes "]")
+bracketed-ascii-address-is-ascii address e = list_all-append (λ c. ltb c 128) address (codes "]")
     ∙ and_from _ _ e refl
 
-pub address_ascii : (text : List ℕ) → is_address_text text ≡ true
+-- IRIs as URIs: the characters of an IP address are ASCII
+pub address-text-is-ascii : (text : List ℕ) → is_address_text text ≡ true
     → list_all (λ c. ltb c 128) text ≡ true
 unfolding is_address_text
-address_ascii text e = plain_ascii is_address_char text (plain_addresses text e)
+address-text-is-ascii text e = text-passing-ascii-test-is-ascii is_address_char text
+    (address-characters-are-ascii text e)
 
-pub dotted_ascii : (text octets : List ℕ) → IsDotted text octets
+-- IRIs as URIs: an IPv4 address is ASCII
+pub dotted-decimal-is-ascii : (text octets : List ℕ) → IsDotted text octets
     → list_all (λ c. ltb c 128) text ≡ true
-dotted_ascii text octets h =
+dotted-decimal-is-ascii text octets h =
     list_all-from_AllPass (λ c. ltb c 128) text
-    (All-weaker IsDigitOrDot (λ c. ltb c 128 ≡ true) below text (ipv4_digits text octets h))
+    (All-weaker IsDigitOrDot (λ c. ltb c 128 ≡ true) below text
+    (ipv4-text-is-digits-and-dots text octets h))
   where
     below : (c : ℕ) → IsDigitOrDot c → ltb c 128 ≡ true
     below c (inl range) = grind (arith, nat_tests)
     below c (inr dot) = grind (arith, nat_tests)
 
 -- a host
-record KeepsHost (names : TableSet) (text : List ℕ) : Type 0 where
-  pub host : (h : HostKind) × IsHost (ascii_set names) (encoded_text text) h
-  pub meaning : host_meaning names (encoded_text text) (host_kind (encoded_text text))
+record EncodingKeepsHost (names : TableSet) (text : List ℕ) : Type 0 where
+  pub host : (h : HostKind) × IsHost (ascii_set names) (encode_past_ascii text) h
+  pub meaning : host_meaning names (encode_past_ascii text) (host_kind (encode_past_ascii text))
       ≡ host_meaning names text (host_kind text)
 
-kept_host : (names : TableSet) (text : List ℕ) (h : HostKind) → IsHost (ascii_set names) text h
-    → list_all (λ c. ltb c 128) text ≡ true → KeepsHost names text
-kept_host names text h is_h e =
-    let same = encoded-ascii text e in
+-- IRIs as URIs: encoding characters past ASCII leaves a host that has none
+encoding-keeps-ascii-hosts : (names : TableSet) (text : List ℕ) (h : HostKind)
+    → IsHost (ascii_set names) text h
+    → list_all (λ c. ltb c 128) text ≡ true → EncodingKeepsHost names text
+encoding-keeps-ascii-hosts names text h is_h e =
+    let same = ascii-text-is-its-own-encoding text e in
     record {
       host = (h, subst (λ t. IsHost (ascii_set names) t h) (sym same) is_h);
       meaning =
@@ -118,86 +141,110 @@ kept_host names text h is_h e =
 
 module _ (names : TableSet) (w : IsComponentSet (codes "/?#[]@:") names)
     (apart : excludes names (codes "@:[") ≡ true) where
-  name_kept : (text : List ℕ) → is_part names text ≡ true → KeepsHost names text
-  name_kept text part =
+  encoding-keeps-names : (text : List ℕ) → is_set_text names text ≡ true
+      → EncodingKeepsHost names text
+  encoding-keeps-names text part =
       let first =
-      lacks_starts (codes "@:[") text 91 refl
-      (valid_lacks names (codes "@:[") w.percent apart text (part_utf8 names text part)
-      (part_valid names text part)) in
-      let other = starts_encoded 91 refl text ∙ first in
-      let encoded_part = part_encoded names w.octets text part in
-      let at = at_name (ascii_set names) (ascii_component (codes "/?#[]@:") names w) apart
-      (encoded_text text) other
-      (part_valid (ascii_set names) (encoded_text text) encoded_part) in
-      let was = at_name names w apart text first (part_valid names text part) in
+      lacking_text_does_not_begin_with (codes "@:[") text 91 refl
+      (valid_text_lacks_excluded_marks names (codes "@:[") w.percent apart text
+      (set-text-is-utf8 names text part)
+      (set-text-is-valid names text part)) in
+      let other = encoding-keeps-leading-delimiter 91 refl text ∙ first in
+      let encoded_part = encoded-part-is-valid-for-ascii_set names w.octets text part in
+      let at = unbracketed-valid-text-is-name (ascii_set names)
+      (ascii_set-is-component-set (codes "/?#[]@:") names w) apart
+      (encode_past_ascii text) other
+      (set-text-is-valid (ascii_set names) (encode_past_ascii text) encoded_part) in
+      let was = unbracketed-valid-text-is-name names w apart text first
+      (set-text-is-valid names text part) in
       record {
         host = (
-          host_kind (encoded_text text),
-          is_host-sound (ascii_set names) (encoded_text text)
+          host_kind (encode_past_ascii text),
+          is_host-sound (ascii_set names) (encode_past_ascii text)
               at.1,
         );
-        meaning = ap (host_meaning names (encoded_text text)) at.0
-            ∙ name_meaning names w apart (encoded_text text) (ipv4_value (encoded_text text))
-            ∙ ap (λ ts. Name (map lower_token ts)) (read-encoded names text part)
+        meaning = ap (host_meaning names (encode_past_ascii text)) at.0
+            ∙ meaning-of-name-is-lowered-decoded names w apart (encode_past_ascii text)
+            (ipv4_value (encode_past_ascii text))
+            ∙ ap (λ ts. Name (map lower_token ts))
+            (decode_unreserved-of-encoded-text names text part)
             ∙ sym (ap (host_meaning names text) was.0
-            ∙ name_meaning names w apart text (ipv4_value text));
+            ∙ meaning-of-name-is-lowered-decoded names w apart text (ipv4_value text));
       }
 
-  host_kept : (text : List ℕ) (h : HostKind) → IsUtf8 text → IsHost names text h
-      → KeepsHost names text
-  host_kept text (Ipv6 segments) u (address, e, groups) =
-      kept_host names text (Ipv6 segments) (address, e, groups)
+  encoding-keeps-hosts : (text : List ℕ) (h : HostKind) → IsUtf8 text → IsHost names text h
+      → EncodingKeepsHost names text
+  encoding-keeps-hosts text (Ipv6 segments) u (address, e, groups) =
+      encoding-keeps-ascii-hosts names text (Ipv6 segments) (address, e, groups)
       (ap (list_all (λ c. ltb c 128)) e
-      ∙ bracketed_ascii address
-      (address_ascii address (address_text-ipv6 address segments groups)))
-  host_kept text IpvFuture u (address, e, future) =
-      let plain = plain_future address (utf8_bracketed address (subst IsUtf8 e u)) future in
-      kept_host names text IpvFuture (address, e, future)
+      ∙ bracketed-ascii-address-is-ascii address
+      (address-text-is-ascii address (ipv6-text-is-address-text address segments groups)))
+  encoding-keeps-hosts text IpvFuture u (address, e, future) =
+      let ascii_parts = ipvfuture-has-ascii-parts address
+      (address-in-brackets-is-utf8 address (subst IsUtf8 e u)) future in
+      encoding-keeps-ascii-hosts names text IpvFuture (address, e, future)
       (ap (list_all (λ c. ltb c 128)) e
-      ∙ bracketed_ascii address
-      (plain_ascii is_userinfo_char address (future_chars address future plain)))
-  host_kept text (Ipv4 octets) u dotted =
-      kept_host names text (Ipv4 octets) dotted (dotted_ascii text octets dotted)
-  host_kept text RegName u (valid, other) = name_kept text (part_from names text u valid)
+      ∙ bracketed-ascii-address-is-ascii address
+      (text-passing-ascii-test-is-ascii is_userinfo_char address
+      (ipvfuture-is-userinfo-characters address future ascii_parts)))
+  encoding-keeps-hosts text (Ipv4 octets) u dotted =
+      encoding-keeps-ascii-hosts names text (Ipv4 octets) dotted
+      (dotted-decimal-is-ascii text octets dotted)
+  encoding-keeps-hosts text RegName u (valid, other) = encoding-keeps-names text
+      (set-text-from-utf8 names text u valid)
 
 -- an authority
-abbrev pub encoded_parts : AuthorityParts → AuthorityParts
-encoded_parts p = record {
-  userinfo = option_map encoded_text p.userinfo;
+abbrev pub encoded_authority_parts : AuthorityParts → AuthorityParts
+encoded_authority_parts p = record {
+  userinfo = option_map encode_past_ascii p.userinfo;
   host =
-      encoded_text p.host;
-  port = option_map encoded_text p.port;
+      encode_past_ascii p.host;
+  port = option_map encode_past_ascii p.port;
 }
 
-pub recompose_authority-encoded : (p : AuthorityParts)
-    → encoded_text (recompose_authority p) ≡ recompose_authority (encoded_parts p)
-recompose_authority-encoded p =
+-- IRIs as URIs: encoding characters past ASCII in an authority
+-- encodes them in its userinfo, host and port
+pub encoding-and-recomposing-authority-swap : (p : AuthorityParts)
+    → encode_past_ascii (recompose_authority p) ≡ recompose_authority (encoded_authority_parts p)
+encoding-and-recomposing-authority-swap p =
     let port = marked (codes ":") p.port [] in
-    encoded-append (marked [] p.userinfo (codes "@")) (p.host ++ port)
-    ∙ ap (λ x. x ++ encoded_text (p.host ++ port))
-    (marked_encoded [] (codes "@") p.userinfo refl refl)
-    ∙ ap (λ x. marked [] (option_map encoded_text p.userinfo) (codes "@") ++ x)
-    (encoded-append p.host port ∙ ap (λ x. encoded_text p.host ++ x)
-    (marked_encoded (codes ":") [] p.port refl refl))
+    encoding-of-append-is-append (marked [] p.userinfo (codes "@")) (p.host ++ port)
+    ∙ ap (λ x. x ++ encode_past_ascii (p.host ++ port))
+    (encoding-keeps-delimiters [] (codes "@") p.userinfo refl refl)
+    ∙ ap (λ x. marked [] (option_map encode_past_ascii p.userinfo) (codes "@") ++ x)
+    (encoding-of-append-is-append p.host port ∙ ap (λ x. encode_past_ascii p.host ++ x)
+    (encoding-keeps-delimiters (codes ":") [] p.port refl refl))
 
-digits_ascii : (text : List ℕ) → IsUtf8 text → IsValidFor digit_set text → encoded_text text ≡ text
-digits_ascii text u e = encoded-ascii text
-    (plain_ascii is_ascii_digit text (sym (valid_plain is_ascii_digit refl text u) ∙ e))
+-- IRIs as URIs: encoding characters past ASCII leaves the digits of a port
+port-digits-stay-when-encoded : (text : List ℕ) → IsUtf8 text → IsValidFor digit_set text
+    → encode_past_ascii text
+    ≡ text
+port-digits-stay-when-encoded text u e = ascii-text-is-its-own-encoding text
+    (text-passing-ascii-test-is-ascii is_ascii_digit text
+    (sym (valid_ascii_text is_ascii_digit refl text u) ∙ e))
 
-port_ascii : (port : Option (List ℕ)) → IfSome port IsUtf8 → IfSome port (IsValidFor digit_set)
-    → option_map encoded_text port ≡ port
-port_ascii None u h = refl
-port_ascii (Some digits) u h = ap Some (digits_ascii digits u h)
+-- IRIs as URIs: encoding characters past ASCII leaves the port, if there is one
+port-stays-when-encoded : (port : Option (List ℕ)) → IfSome port IsUtf8
+    → IfSome port (IsValidFor digit_set)
+    → option_map encode_past_ascii port ≡ port
+port-stays-when-encoded None u h = refl
+port-stays-when-encoded (Some digits) u h = ap Some (port-digits-stay-when-encoded digits u h)
 
-map_some : (o : Option (List ℕ)) (P Q : List ℕ → Type 0) → ((x : List ℕ) → P x → Q (encoded_text x))
-    → IfSome o P → IfSome (option_map encoded_text o) Q
-map_some None P Q f h = tt
-map_some (Some x) P Q f h = f x h
+-- IRIs as URIs: if a component, when there is one, has P, its encoded form has what P implies
+encoded-component-has-property : (o : Option (List ℕ)) (P Q : List ℕ → Type 0)
+    → ((x : List ℕ) → P x → Q (encode_past_ascii x))
+    → IfSome o P → IfSome (option_map encode_past_ascii o) Q
+encoded-component-has-property None P Q f h = tt
+encoded-component-has-property (Some x) P Q f h = f x h
 
-pub read_some : (set : TableSet) (o : Option (List ℕ)) → IfSome o (λ x. is_part set x ≡ true)
-    → option_map (read set) (option_map encoded_text o) ≡ option_map (read set) o
-read_some set None h = refl
-read_some set (Some x) h = ap Some (read-encoded set x h)
+-- IRIs as URIs: a component has the same decoded form after its characters past ASCII are encoded
+pub decode_unreserved-encoded_option : (set : TableSet) (o : Option (List ℕ))
+    → IfSome o (λ x. is_set_text set x ≡ true)
+    → option_map (decode_unreserved set) (option_map encode_past_ascii o)
+    ≡ option_map (decode_unreserved set) o
+decode_unreserved-encoded_option set None h = refl
+decode_unreserved-encoded_option set (Some x) h = ap Some
+    (decode_unreserved-of-encoded-text set x h)
 
 module _ (kind : Kind) (sets : HasComponentSets kind) (a : List ℕ) (u : IsUtf8 a)
     (e : is_authority kind a ≡ true) where
@@ -210,58 +257,71 @@ module _ (kind : Kind) (sets : HasComponentSets kind) (a : List ℕ) (u : IsUtf8
   abbrev parts : AuthorityParts
   parts = authority_parts a
 
-  apart : KeepsApart users names
-  apart = keeps_apart kind sets
+  apart : LackAuthorityDelimiters users names
+  apart = kind-sets-lack-authority-delimiters kind sets
 
-  ascii_apart : KeepsApart (ascii_set users) (ascii_set names)
-  ascii_apart = keeps_apart (ascii_kind kind) (ascii_sets kind sets)
+  ascii_apart : LackAuthorityDelimiters (ascii_set users) (ascii_set names)
+  ascii_apart = kind-sets-lack-authority-delimiters (ascii_kind kind)
+      (ascii_kind-has-component-sets kind sets)
 
   grammar : IsAuthorityFor users names a parts
   grammar = is_authority_for-sound users names a e
 
   utf8 : PartsUtf8 parts
-  utf8 = utf8_parts parts.userinfo parts.port parts.host (subst IsUtf8 (sym grammar.whole) u)
+  utf8 = authority-parts-are-utf8 parts.userinfo parts.port parts.host
+      (subst IsUtf8 (sym grammar.whole) u)
 
-  host : KeepsHost names parts.host
-  host = host_kept names sets.reg_name (names_outside users names apart) parts.host grammar.host.0
+  host : EncodingKeepsHost names parts.host
+  host = encoding-keeps-hosts names sets.reg_name (names_exclude_delimiters users names apart)
+      parts.host grammar.host.0
       utf8.host grammar.host.1
 
-  user : IfSome parts.userinfo (λ x. is_part users x ≡ true)
-  user = both_some parts.userinfo IsUtf8 (IsValidFor users) (λ x. is_part users x ≡ true)
-      (λ x v h. part_from users x v h) utf8.userinfo grammar.userinfo
+  user : IfSome parts.userinfo (λ x. is_set_text users x ≡ true)
+  user = IfSome-combine parts.userinfo IsUtf8 (IsValidFor users) (λ x. is_set_text users x ≡ true)
+      (λ x v h. set-text-from-utf8 users x v h) utf8.userinfo grammar.userinfo
 
-  encoded_grammar : IsAuthorityFor (ascii_set users) (ascii_set names) (encoded_text a)
-      (encoded_parts parts)
-  encoded_grammar = record {
-    whole = sym (recompose_authority-encoded parts) ∙ ap encoded_text grammar.whole;
-    userinfo = map_some parts.userinfo (λ x. is_part users x ≡ true) (IsValidFor (ascii_set users))
-        (λ x h. part_valid (ascii_set users) (encoded_text x)
-        (part_encoded users sets.userinfo.octets x h)) user;
+  encoded-authority-follows-grammar : IsAuthorityFor (ascii_set users) (ascii_set names)
+      (encode_past_ascii a)
+      (encoded_authority_parts parts)
+  encoded-authority-follows-grammar = record {
+    whole = sym (encoding-and-recomposing-authority-swap parts)
+        ∙ ap encode_past_ascii grammar.whole;
+    userinfo = encoded-component-has-property parts.userinfo (λ x. is_set_text users x ≡ true)
+        (IsValidFor (ascii_set users))
+        (λ x h. set-text-is-valid (ascii_set users) (encode_past_ascii x)
+        (encoded-part-is-valid-for-ascii_set users sets.userinfo.octets x h)) user;
     host = host.host;
     port = subst (λ o. IfSome o (IsValidFor digit_set))
-        (sym (port_ascii parts.port utf8.port grammar.port)) grammar.port;
+        (sym (port-stays-when-encoded parts.port utf8.port grammar.port)) grammar.port;
   }
 
-  pub authority_encoded : is_authority (ascii_kind kind) (encoded_text a) ≡ true
-  authority_encoded = is_authority_for-complete (ascii_set users) (ascii_set names) ascii_apart
-      (encoded_text a) (encoded_parts parts) (IsUtf8-encoded a u) encoded_grammar
+  pub encoded-authority-is-of-ascii_kind : is_authority (ascii_kind kind) (encode_past_ascii a)
+      ≡ true
+  encoded-authority-is-of-ascii_kind = is_authority_for-complete (ascii_set users)
+      (ascii_set names) ascii_apart
+      (encode_past_ascii a) (encoded_authority_parts parts) (encoded-text-is-utf8 a u)
+      encoded-authority-follows-grammar
 
-  pub authority_parts-encoded : authority_parts (encoded_text a) ≡ encoded_parts parts
-  authority_parts-encoded = authority_parts-only (ascii_set users) (ascii_set names) ascii_apart
-      (encoded_text a) (encoded_parts parts) (IsUtf8-encoded a u) encoded_grammar
+  pub parts-of-encoded-authority-are-encoded : authority_parts (encode_past_ascii a)
+      ≡ encoded_authority_parts parts
+  parts-of-encoded-authority-are-encoded = authority_parts-are-unique (ascii_set users)
+      (ascii_set names) ascii_apart
+      (encode_past_ascii a) (encoded_authority_parts parts) (encoded-text-is-utf8 a u)
+      encoded-authority-follows-grammar
 
-  pub authority_meaning-encoded : (default : Option ℕ)
-      → authority_meaning kind default (encoded_text a) ≡ authority_meaning kind default a
-  authority_meaning-encoded default =
+  pub encoding-keeps-authority-meaning : (default : Option ℕ)
+      → authority_meaning kind default (encode_past_ascii a) ≡ authority_meaning kind default a
+  encoding-keeps-authority-meaning default =
       let of_parts : AuthorityParts → AuthorityMeaning =
       λ p. record {
-        userinfo = option_map (read users) p.userinfo;
+        userinfo = option_map (decode_unreserved users) p.userinfo;
         host =
             host_meaning names p.host (host_kind p.host);
         port = port_meaning default p.port;
       } in
-      let user_read = read_some users parts.userinfo user in
-      let host_read = host.meaning in
-      let port_read = ap (port_meaning default) (port_ascii parts.port utf8.port grammar.port) in
-      ap of_parts authority_parts-encoded
-      ∙ (λ i. record { userinfo = user_read i; host = host_read i; port = port_read i })
+      let user_decoded = decode_unreserved-encoded_option users parts.userinfo user in
+      let host_decoded = host.meaning in
+      let port_decoded = ap (port_meaning default)
+      (port-stays-when-encoded parts.port utf8.port grammar.port) in
+      ap of_parts parts-of-encoded-authority-are-encoded
+      ∙ (λ i. record { userinfo = user_decoded i; host = host_decoded i; port = port_decoded i })

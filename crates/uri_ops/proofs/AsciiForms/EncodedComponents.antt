@@ -4,120 +4,158 @@ use Rattle.std.proofs.Common.{refl, sym, ap, ◌∙◌, ◌&&◌, ⊎_elim, inl,
 use Rattle.std.specs.Prelude.{codes, Option, Some, None, IfSome, IfNone}
 use Rattle.std.specs.List.{list_all}
 use Rattle.std.specs.Str.{IsUtf8}
-use Rattle.uri_parts.specs.Components.{Components, IsSplitOf, Lacks, IsRooted, marked, starts}
+use Rattle.uri_parts.specs.Components.{Components, IsSplitOf, Lacks, IsAbemptyPath, marked, starts}
 use Rattle.uri_parts.specs.Components.{has_scheme, has_authority, from_any, components, recompose}
-use Rattle.uri_parts.proofs.Splitting.Recompose.{IsSplitOf-components, true_to}
-use Rattle.uri_parts.proofs.Splitting.Splits.{components-recompose}
-use Rattle.uri_parts.proofs.Authorities.NamesAndPorts.{utf8_before}
-use Rattle.uri_ops.specs.Encoded.{encoded_text}
-use Rattle.uri_ops.proofs.Meanings.TextParts.{AreUtf8, scheme_ascii, components_utf8}
-use Rattle.uri_ops.proofs.AsciiForms.EncodedPaths.{encoded-append, encoded-nil, encoded-ascii}
-use Rattle.uri_ops.proofs.AsciiForms.EncodedPaths.{Lacks-encoded, starts_encoded, empty_encoded}
-use Rattle.uri_ops.proofs.AsciiForms.EncodedPaths.{has_authority_encoded, cut_encoded}
-use Rattle.uri_pct.proofs.Tests.{true_of}
-use Rattle.uri_ops.proofs.Paths.DotRuns.{some_length}
-use Rattle.uri_ops.proofs.Paths.Piecewise.{not_empty}
+use Rattle.uri_parts.proofs.Splitting.Recompose.{components-are-split-of-text}
+use Rattle.uri_parts.proofs.Splitting.Recompose.{equal-to-true-is-IsTrue}
+use Rattle.uri_parts.proofs.Splitting.Splits.{only-split-is-components}
+use Rattle.uri_parts.proofs.Authorities.NamesAndPorts.{utf8_before_marks}
+use Rattle.uri_ops.specs.Encoded.{encode_past_ascii}
+use Rattle.uri_ops.proofs.Meanings.TextParts.{AreUtf8, scheme-ends-are-ascii}
+use Rattle.uri_ops.proofs.Meanings.TextParts.{components-of-utf8-are-utf8}
+use Rattle.uri_ops.proofs.AsciiForms.EncodedPaths.{encoding-of-append-is-append}
+use Rattle.uri_ops.proofs.AsciiForms.EncodedPaths.{encoding-of-nil-is-nil}
+use Rattle.uri_ops.proofs.AsciiForms.EncodedPaths.{ascii-text-is-its-own-encoding}
+use Rattle.uri_ops.proofs.AsciiForms.EncodedPaths.{encoding-keeps-lacked-delimiters}
+use Rattle.uri_ops.proofs.AsciiForms.EncodedPaths.{encoding-keeps-leading-delimiter}
+use Rattle.uri_ops.proofs.AsciiForms.EncodedPaths.{encoding-keeps-emptiness}
+use Rattle.uri_ops.proofs.AsciiForms.EncodedPaths.{encoding-keeps-two-slashes}
+use Rattle.uri_ops.proofs.AsciiForms.EncodedPaths.{encoding-and-cutting-swap}
+use Rattle.uri_pct.proofs.Tests.{eq_true_from_IsTrue}
+use Rattle.uri_ops.proofs.Paths.DotRuns.{not-empty-has-length}
+use Rattle.uri_ops.proofs.Paths.Piecewise.{text-with-bytes-is-not-empty}
 
 abbrev pub encoded_components : Components → Components
 encoded_components p = record {
-  scheme = option_map encoded_text p.scheme;
-  authority = option_map encoded_text p.authority;
-  path = encoded_text p.path;
-  query = option_map encoded_text p.query;
-  fragment = option_map encoded_text p.fragment;
+  scheme = option_map encode_past_ascii p.scheme;
+  authority = option_map encode_past_ascii p.authority;
+  path = encode_past_ascii p.path;
+  query = option_map encode_past_ascii p.query;
+  fragment = option_map encode_past_ascii p.fragment;
 }
 
-pub marked_encoded : (before behind : List ℕ) (o : Option (List ℕ))
-    → list_all (λ c. ltb c 128) before ≡ true → list_all (λ c. ltb c 128) behind ≡ true
-    → encoded_text (marked before o behind) ≡ marked before (option_map encoded_text o) behind
-marked_encoded before behind None e f = encoded-nil
-marked_encoded before behind (Some x) e f =
-    encoded-append (before ++ x) behind
-    ∙ ap (λ t. t ++ encoded_text behind) (encoded-append before x)
-    ∙ ap (λ t. (t ++ encoded_text x) ++ encoded_text behind) (encoded-ascii before e)
-    ∙ ap (λ t. (before ++ encoded_text x) ++ t) (encoded-ascii behind f)
+-- IRIs as URIs: encoding characters past ASCII in a component
+-- leaves the ASCII delimiters before and after it
+pub encoding-keeps-delimiters : (before suffix : List ℕ) (o : Option (List ℕ))
+    → list_all (λ c. ltb c 128) before ≡ true → list_all (λ c. ltb c 128) suffix ≡ true
+    → encode_past_ascii (marked before o suffix)
+    ≡ marked before (option_map encode_past_ascii o) suffix
+encoding-keeps-delimiters before suffix None e f = encoding-of-nil-is-nil
+encoding-keeps-delimiters before suffix (Some x) e f =
+    encoding-of-append-is-append (before ++ x) suffix
+    ∙ ap (λ t. t ++ encode_past_ascii suffix) (encoding-of-append-is-append before x)
+    ∙ ap (λ t. (t ++ encode_past_ascii x) ++ encode_past_ascii suffix)
+    (ascii-text-is-its-own-encoding before e)
+    ∙ ap (λ t. (before ++ encode_past_ascii x) ++ t) (ascii-text-is-its-own-encoding suffix f)
 
-pub recompose-encoded : (p : Components)
-    → encoded_text (recompose p) ≡ recompose (encoded_components p)
-recompose-encoded p =
+-- IRIs as URIs: encoding characters past ASCII in a recomposed text encodes them in each component
+pub encoding-and-recomposing-swap : (p : Components)
+    → encode_past_ascii (recompose p) ≡ recompose (encoded_components p)
+encoding-and-recomposing-swap p =
     let s = marked [] p.scheme (codes ":") in
     let a = marked (codes "//") p.authority [] in
     let q = marked (codes "?") p.query [] in
     let f = marked (codes "#") p.fragment [] in
     let t = encoded_components p in
-    encoded-append s (a ++ (p.path ++ (q ++ f)))
-    ∙ ap (λ x. x ++ encoded_text (a ++ (p.path ++ (q ++ f))))
-    (marked_encoded [] (codes ":") p.scheme refl refl)
+    encoding-of-append-is-append s (a ++ (p.path ++ (q ++ f)))
+    ∙ ap (λ x. x ++ encode_past_ascii (a ++ (p.path ++ (q ++ f))))
+    (encoding-keeps-delimiters [] (codes ":") p.scheme refl refl)
     ∙ ap (λ x. marked [] t.scheme (codes ":") ++ x) (
-    encoded-append a (p.path ++ (q ++ f))
-    ∙ ap (λ x. x ++ encoded_text (p.path ++ (q ++ f)))
-    (marked_encoded (codes "//") [] p.authority refl refl)
+    encoding-of-append-is-append a (p.path ++ (q ++ f))
+    ∙ ap (λ x. x ++ encode_past_ascii (p.path ++ (q ++ f)))
+    (encoding-keeps-delimiters (codes "//") [] p.authority refl refl)
     ∙ ap (λ x. marked (codes "//") t.authority [] ++ x) (
-    encoded-append p.path (q ++ f)
+    encoding-of-append-is-append p.path (q ++ f)
     ∙ ap (λ x. t.path ++ x) (
-    encoded-append q f
-    ∙ ap (λ x. x ++ encoded_text f) (marked_encoded (codes "?") [] p.query refl refl)
+    encoding-of-append-is-append q f
+    ∙ ap (λ x. x ++ encode_past_ascii f)
+    (encoding-keeps-delimiters (codes "?") [] p.query refl refl)
     ∙ ap (λ x. marked (codes "?") t.query [] ++ x)
-    (marked_encoded (codes "#") [] p.fragment refl refl))))
+    (encoding-keeps-delimiters (codes "#") [] p.fragment refl refl))))
 
-has_scheme_encoded : (text : List ℕ) → IsUtf8 text
-    → has_scheme (encoded_text text) ≡ has_scheme text
-has_scheme_encoded text u =
+-- IRIs as URIs: a text has a scheme exactly if it does when encoded
+encoding-keeps-has_scheme : (text : List ℕ) → IsUtf8 text
+    → has_scheme (encode_past_ascii text) ≡ has_scheme text
+encoding-keeps-has_scheme text u =
     let from =
-    (cut_encoded (codes ":/?#") refl text u
-    (utf8_before (codes ":/?#") text scheme_ascii u)).1 in
-    ap (λ t. starts 58 t && not (starts 58 (encoded_text text))) from
-    ∙ ap (λ t. t && not (starts 58 (encoded_text text)))
-    (starts_encoded 58 refl (from_any (codes ":/?#") text))
-    ∙ ap (λ t. starts 58 (from_any (codes ":/?#") text) && not t) (starts_encoded 58 refl text)
+    (encoding-and-cutting-swap (codes ":/?#") refl text u
+    (utf8_before_marks (codes ":/?#") text scheme-ends-are-ascii u)).1 in
+    ap (λ t. starts 58 t && not (starts 58 (encode_past_ascii text))) from
+    ∙ ap (λ t. t && not (starts 58 (encode_past_ascii text)))
+    (encoding-keeps-leading-delimiter 58 refl (from_any (codes ":/?#") text))
+    ∙ ap (λ t. starts 58 (from_any (codes ":/?#") text) && not t)
+    (encoding-keeps-leading-delimiter 58 refl text)
 
-scheme_encoded : (o : Option (List ℕ)) → IfSome o IsUtf8
+-- IRIs as URIs: an encoded scheme, if there is one, is not empty and has no delimiter that ends it
+encoded-scheme-lacks-its-ends : (o : Option (List ℕ)) → IfSome o IsUtf8
     → IfSome o (λ s. (0 < length s) × Lacks (codes ":/?#") s)
-    → IfSome (option_map encoded_text o) (λ s. (0 < length s) × Lacks (codes ":/?#") s)
-scheme_encoded None u h = tt
-scheme_encoded (Some s) u h = (
-  some_length (encoded_text s) (empty_encoded s ∙ not_empty s h.0),
-  Lacks-encoded (codes ":/?#") refl s u h.1,
+    → IfSome (option_map encode_past_ascii o) (λ s. (0 < length s) × Lacks (codes ":/?#") s)
+encoded-scheme-lacks-its-ends None u h = tt
+encoded-scheme-lacks-its-ends (Some s) u h = (
+  not-empty-has-length (encode_past_ascii s) (encoding-keeps-emptiness s
+      ∙ text-with-bytes-is-not-empty s h.0),
+  encoding-keeps-lacked-delimiters (codes ":/?#") refl s u h.1,
 )
 
-rooted_encoded : (path : List ℕ) → IsRooted path → IsRooted (encoded_text path)
-rooted_encoded path h = ⊎_elim (λ e. inl (ap encoded_text e ∙ encoded-nil))
-    (λ e. inr (true_to _ (starts_encoded 47 refl path ∙ true_of _ e))) h
+-- IRIs as URIs: a path that is empty or begins with `/` is so when encoded
+encoded-abempty-path-is-abempty : (path : List ℕ) → IsAbemptyPath path
+    → IsAbemptyPath (encode_past_ascii path)
+encoded-abempty-path-is-abempty path h = ⊎_elim
+    (λ e. inl (ap encode_past_ascii e ∙ encoding-of-nil-is-nil))
+    (λ e. inr (equal-to-true-is-IsTrue _ (encoding-keeps-leading-delimiter 47 refl path
+    ∙ eq_true_from_IsTrue _ e))) h
 
-authority_encoded : (o : Option (List ℕ)) (path : List ℕ) → IfSome o IsUtf8
-    → IfSome o (λ a. Lacks (codes "/?#") a × IsRooted path)
-    → IfSome (option_map encoded_text o) (λ a. Lacks (codes "/?#") a × IsRooted (encoded_text path))
-authority_encoded None path u h = tt
-authority_encoded (Some a) path u h =
-    (Lacks-encoded (codes "/?#") refl a u h.0, rooted_encoded path h.1)
+-- IRIs as URIs: an encoded authority, if there is one, has no delimiter that ends it, and the path
+-- after it is empty or begins with `/`
+encoded-authority-lacks-its-ends : (o : Option (List ℕ)) (path : List ℕ) → IfSome o IsUtf8
+    → IfSome o (λ a. Lacks (codes "/?#") a × IsAbemptyPath path)
+    → IfSome (option_map encode_past_ascii o) (λ a. Lacks (codes "/?#") a
+    × IsAbemptyPath (encode_past_ascii path))
+encoded-authority-lacks-its-ends None path u h = tt
+encoded-authority-lacks-its-ends (Some a) path u h = (
+  encoding-keeps-lacked-delimiters (codes "/?#") refl a u h.0,
+  encoded-abempty-path-is-abempty
+      path h.1,
+)
 
-query_encoded : (o : Option (List ℕ)) → IfSome o IsUtf8 → IfSome o (λ q. Lacks (codes "#") q)
-    → IfSome (option_map encoded_text o) (λ q. Lacks (codes "#") q)
-query_encoded None u h = tt
-query_encoded (Some q) u h = Lacks-encoded (codes "#") refl q u h
+-- IRIs as URIs: an encoded query, if there is one, has no `#`
+encoded-query-lacks-its-end : (o : Option (List ℕ)) → IfSome o IsUtf8
+    → IfSome o (λ q. Lacks (codes "#") q)
+    → IfSome (option_map encode_past_ascii o) (λ q. Lacks (codes "#") q)
+encoded-query-lacks-its-end None u h = tt
+encoded-query-lacks-its-end (Some q) u h = encoding-keeps-lacked-delimiters (codes "#") refl q u h
 
-none_encoded : (o : Option (List ℕ)) (x y : Bool) → y ≡ x → IfNone o (x ≡ false)
-    → IfNone (option_map encoded_text o) (y ≡ false)
-none_encoded None x y e h = e ∙ h
-none_encoded (Some a) x y e h = tt
+-- IRIs as URIs: a test that is false for an absent component is so when the text is encoded;
+-- x, y: the test before and after
+absent-component-stays-when-encoded : (o : Option (List ℕ)) (x y : Bool) → y ≡ x
+    → IfNone o (x ≡ false)
+    → IfNone (option_map encode_past_ascii o) (y ≡ false)
+absent-component-stays-when-encoded None x y e h = e ∙ h
+absent-component-stays-when-encoded (Some a) x y e h = tt
 
-encoded_split : (text : List ℕ) (p : Components) → IsUtf8 text → AreUtf8 p → IsSplitOf text p
-    → IsSplitOf (encoded_text text) (encoded_components p)
-encoded_split text p u v split = record {
-  whole = sym (recompose-encoded p) ∙ ap encoded_text split.whole;
-  scheme = scheme_encoded p.scheme v.scheme split.scheme;
-  authority = authority_encoded p.authority p.path v.authority split.authority;
-  path = Lacks-encoded (codes "?#") refl p.path v.path split.path;
-  query = query_encoded p.query v.query split.query;
-  no_scheme = none_encoded p.scheme (has_scheme text) (has_scheme (encoded_text text))
-      (has_scheme_encoded text u) split.no_scheme;
-  no_authority = none_encoded p.authority (has_authority p.path)
-      (has_authority (encoded_text p.path)) (has_authority_encoded p.path) split.no_authority;
+-- IRIs as URIs: a split of a text into components, encoded, is a split of the encoded text
+encoded-text-splits-into-encoded-components : (text : List ℕ) (p : Components) → IsUtf8 text
+    → AreUtf8 p → IsSplitOf text p
+    → IsSplitOf (encode_past_ascii text) (encoded_components p)
+encoded-text-splits-into-encoded-components text p u v split = record {
+  whole = sym (encoding-and-recomposing-swap p) ∙ ap encode_past_ascii split.whole;
+  scheme = encoded-scheme-lacks-its-ends p.scheme v.scheme split.scheme;
+  authority = encoded-authority-lacks-its-ends p.authority p.path v.authority split.authority;
+  path = encoding-keeps-lacked-delimiters (codes "?#") refl p.path v.path split.path;
+  query = encoded-query-lacks-its-end p.query v.query split.query;
+  no_scheme = absent-component-stays-when-encoded p.scheme (has_scheme text)
+      (has_scheme (encode_past_ascii text))
+      (encoding-keeps-has_scheme text u) split.no_scheme;
+  no_authority = absent-component-stays-when-encoded p.authority (has_authority p.path)
+      (has_authority (encode_past_ascii p.path)) (encoding-keeps-two-slashes p.path)
+      split.no_authority;
 }
 
-pub components-encoded : (text : List ℕ) → IsUtf8 text
-    → components (encoded_text text) ≡ encoded_components (components text)
-components-encoded text u = components-recompose (encoded_text text)
+-- IRIs as URIs: the components of an encoded text are the components of the text, each encoded
+pub components-of-encoded-text-are-encoded : (text : List ℕ) → IsUtf8 text
+    → components (encode_past_ascii text) ≡ encoded_components (components text)
+components-of-encoded-text-are-encoded text u = only-split-is-components (encode_past_ascii text)
     (encoded_components (components text))
-    (encoded_split text (components text) u (components_utf8 text u)
-    (IsSplitOf-components text))
+    (encoded-text-splits-into-encoded-components text (components text) u
+    (components-of-utf8-are-utf8 text u)
+    (components-are-split-of-text text))

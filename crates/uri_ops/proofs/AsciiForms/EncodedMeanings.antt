@@ -10,142 +10,173 @@ use Rattle.std.specs.Str.{IsUtf8, str_to_ascii_lowercase}
 use Rattle.std.proofs.lemmas.Bool.{and_parts, and_from, not-true, not_from_false}
 use Rattle.uri_pct.specs.Sets.{TableSet, is_scheme_char, scheme_set}
 use Rattle.uri_pct.specs.Tokens.{is_valid_for}
-use Rattle.uri_pct.specs.Reading.{read}
-use Rattle.uri_pct.proofs.ValidTexts.Cuts.{ascii_marks}
+use Rattle.uri_pct.specs.DecodeUnreserved.{decode_unreserved}
+use Rattle.uri_pct.proofs.ValidTexts.MarksInTexts.{AreAscii-by-test}
 use Rattle.uri_parts.specs.Components.{Components, components, before_any}
-use Rattle.uri_parts.specs.Grammar.{Kind, is_scheme, is_authority, has_colon_first, are_components}
-use Rattle.uri_parts.proofs.Authorities.NamesAndPorts.{utf8_before}
-use Rattle.uri_ops.specs.Target.{cleaned_path}
+use Rattle.uri_parts.specs.Grammar.{Kind, is_scheme, is_authority, has_colon_in_first_segment}
+use Rattle.uri_parts.specs.Grammar.{components_meet_rules}
+use Rattle.uri_parts.proofs.Authorities.NamesAndPorts.{utf8_before_marks}
+use Rattle.uri_ops.specs.Target.{dotless_if_absolute}
 use Rattle.uri_ops.specs.ComponentSets.{HasComponentSets}
 use Rattle.uri_parts.specs.Grammar.{IsTextOf}
 use Rattle.uri_parts.specs.Ports.{PortFunction}
-use Rattle.uri_ops.specs.Meaning.{authority_meaning, plain_path, components_meaning, meaning_of}
-use Rattle.uri_ops.specs.Encoded.{encoded_text, ascii_set, ascii_kind}
-use Rattle.uri_ops.proofs.Paths.PathCharacters.{lacks_test, test_lacks}
-use Rattle.uri_ops.proofs.Meanings.Lacking.{has_lacks, lacks_has}
-use Rattle.uri_ops.proofs.Meanings.AllowedParts.{is_part, part_utf8}
-use Rattle.uri_ops.proofs.Meanings.PlainTexts.{valid_plain, no_percent}
-use Rattle.uri_ops.proofs.Paths.PathMeanings.{part_cleaned}
-use Rattle.uri_ops.proofs.Meanings.TextParts.{AreParts, parts_meet}
-use Rattle.uri_ops.proofs.Normal.NormalTexts.{parts_of}
-use Rattle.uri_ops.proofs.AsciiForms.EncodedTokens.{IsUtf8-encoded}
-use Rattle.uri_ops.proofs.AsciiForms.EncodedReadings.{part_encoded, read-encoded}
-use Rattle.uri_ops.proofs.AsciiForms.EncodedPaths.{encoded-ascii, Lacks-encoded, cut_encoded}
-use Rattle.uri_ops.proofs.AsciiForms.EncodedPaths.{cleaned_encoded}
-use Rattle.uri_ops.proofs.AsciiForms.EncodedComponents.{encoded_components, components-encoded}
-use Rattle.uri_ops.proofs.AsciiForms.EncodedAuthorities.{plain_ascii, read_some, authority_encoded}
-use Rattle.uri_ops.proofs.AsciiForms.EncodedAuthorities.{authority_meaning-encoded}
+use Rattle.uri_ops.specs.Meaning.{authority_meaning, dotless_path, components_meaning, meaning_of}
+use Rattle.uri_ops.specs.Encoded.{encode_past_ascii, ascii_set, ascii_kind}
+use Rattle.uri_ops.proofs.Paths.PathCharacters.{lacked-delimiters-fail-test}
+use Rattle.uri_ops.proofs.Paths.PathCharacters.{test-of-delimiters-gives-lacks}
+use Rattle.uri_ops.proofs.Meanings.Lacking.{lacks_any-gives-lacks, lacks-gives-lacks_any}
+use Rattle.uri_ops.proofs.Meanings.AllowedParts.{is_set_text, set-text-is-utf8}
+use Rattle.uri_ops.proofs.Meanings.AsciiCharacters.{valid_ascii_text}
+use Rattle.uri_ops.proofs.Meanings.AsciiCharacters.{percent-is-no-scheme-character}
+use Rattle.uri_ops.proofs.Paths.PathMeanings.{path-without-dots-is-set-text}
+use Rattle.uri_ops.proofs.Meanings.TextParts.{ArePartsOfKind, components-of-kind-meet-grammar}
+use Rattle.uri_ops.proofs.Normal.NormalTexts.{text-has-parts-of-kind}
+use Rattle.uri_ops.proofs.AsciiForms.EncodedTokens.{encoded-text-is-utf8}
+use Rattle.uri_ops.proofs.AsciiForms.EncodedDecodings.{encoded-part-is-valid-for-ascii_set}
+use Rattle.uri_ops.proofs.AsciiForms.EncodedDecodings.{decode_unreserved-of-encoded-text}
+use Rattle.uri_ops.proofs.AsciiForms.EncodedPaths.{ascii-text-is-its-own-encoding}
+use Rattle.uri_ops.proofs.AsciiForms.EncodedPaths.{encoding-keeps-lacked-delimiters}
+use Rattle.uri_ops.proofs.AsciiForms.EncodedPaths.{encoding-and-cutting-swap}
+use Rattle.uri_ops.proofs.AsciiForms.EncodedPaths.{dotless_if_absolute-and-encoding-swap}
+use Rattle.uri_ops.proofs.AsciiForms.EncodedComponents.{encoded_components}
+use Rattle.uri_ops.proofs.AsciiForms.EncodedComponents.{components-of-encoded-text-are-encoded}
+use Rattle.uri_ops.proofs.AsciiForms.EncodedAuthorities.{text-passing-ascii-test-is-ascii}
+use Rattle.uri_ops.proofs.AsciiForms.EncodedAuthorities.{decode_unreserved-encoded_option}
+use Rattle.uri_ops.proofs.AsciiForms.EncodedAuthorities.{encoded-authority-is-of-ascii_kind}
+use Rattle.uri_ops.proofs.AsciiForms.EncodedAuthorities.{encoding-keeps-authority-meaning}
 
-pub scheme_plain : (s : List ℕ) → IsUtf8 s → is_scheme s ≡ true → list_all (λ c. ltb c 128) s ≡ true
-scheme_plain s u e =
+-- IRIs as URIs: a scheme is ASCII
+pub schemes-are-ascii : (s : List ℕ) → IsUtf8 s → is_scheme s ≡ true → list_all (λ c. ltb c 128) s
+    ≡ true
+schemes-are-ascii s u e =
     let p = and_parts (is_ascii_alphabetic (slice_index s 0)) (is_valid_for scheme_set s) e in
-    plain_ascii is_scheme_char s (sym (valid_plain is_scheme_char no_percent s u) ∙ p.1)
+    text-passing-ascii-test-is-ascii is_scheme_char s
+    (sym (valid_ascii_text is_scheme_char percent-is-no-scheme-character s u) ∙ p.1)
 
-scheme_ascii : (s : List ℕ) → IsUtf8 s → is_scheme s ≡ true → encoded_text s ≡ s
-scheme_ascii s u e = encoded-ascii s (scheme_plain s u e)
+-- IRIs as URIs: encoding characters past ASCII leaves a scheme
+scheme-stays-when-encoded : (s : List ℕ) → IsUtf8 s → is_scheme s ≡ true → encode_past_ascii s ≡ s
+scheme-stays-when-encoded s u e = ascii-text-is-its-own-encoding s (schemes-are-ascii s u e)
 
-pub scheme_kept : (o : Option (List ℕ)) → IfSome o (λ s. IsUtf8 s × (is_scheme s ≡ true))
-    → option_map encoded_text o ≡ o
-scheme_kept None h = refl
-scheme_kept (Some s) h = ap Some (scheme_ascii s h.0 h.1)
+-- IRIs as URIs: encoding characters past ASCII leaves the scheme as it is
+pub schemes-stay-when-encoded : (o : Option (List ℕ))
+    → IfSome o (λ s. IsUtf8 s × (is_scheme s ≡ true))
+    → option_map encode_past_ascii o ≡ o
+schemes-stay-when-encoded None h = refl
+schemes-stay-when-encoded (Some s) h = ap Some (scheme-stays-when-encoded s h.0 h.1)
 
--- the first segment has no more colons
-colon_encoded : (path : List ℕ) → IsUtf8 path → has_colon_first path ≡ false
-    → has_colon_first (encoded_text path) ≡ false
-colon_encoded path u e =
-    let v = utf8_before (codes "/") path (ascii_marks (codes "/") refl) u in
-    ap (list_any (λ c. eqb c 58)) (cut_encoded (codes "/") refl path u v).0
+-- IRIs as URIs: encoding characters past ASCII brings no `:` into the first segment of a path
+encoding-adds-no-colon-first : (path : List ℕ) → IsUtf8 path → has_colon_in_first_segment path
+    ≡ false
+    → has_colon_in_first_segment (encode_past_ascii path) ≡ false
+encoding-adds-no-colon-first path u e =
+    let v = utf8_before_marks (codes "/") path (AreAscii-by-test (codes "/") refl) u in
+    ap (list_any (λ c. eqb c 58)) (encoding-and-cutting-swap (codes "/") refl path u v).0
     ∙ no_colon (before_any (codes "/") path) v e
   where
     no_colon : (s : List ℕ) → IsUtf8 s → list_any (λ c. eqb c 58) s ≡ false
-        → list_any (λ c. eqb c 58) (encoded_text s) ≡ false
-    no_colon s v f = has_lacks 58 (encoded_text s)
-        (lacks_test (codes ":") (encoded_text s)
-        (Lacks-encoded (codes ":") refl s v (test_lacks (codes ":") s (lacks_has 58 s f))))
+        → list_any (λ c. eqb c 58) (encode_past_ascii s) ≡ false
+    no_colon s v f = lacks_any-gives-lacks 58 (encode_past_ascii s)
+        (lacked-delimiters-fail-test (codes ":") (encode_past_ascii s)
+        (encoding-keeps-lacked-delimiters (codes ":") refl s v
+        (test-of-delimiters-gives-lacks (codes ":") s (lacks-gives-lacks_any 58 s f))))
 
-part_some : (set : TableSet) → set.pct_encoded ≡ true → (o : Option (List ℕ))
-    → IfSome o (λ x. is_part set x ≡ true)
-    → IfSome (option_map encoded_text o) (λ x. is_part (ascii_set set) x ≡ true)
-part_some set octets None h = tt
-part_some set octets (Some x) h = part_encoded set octets x h
+-- IRIs as URIs: an encoded component is valid for its set without characters past ASCII
+encoded-component-is-for-ascii_set : (set : TableSet) → set.pct_encoded ≡ true
+    → (o : Option (List ℕ))
+    → IfSome o (λ x. is_set_text set x ≡ true)
+    → IfSome (option_map encode_past_ascii o) (λ x. is_set_text (ascii_set set) x ≡ true)
+encoded-component-is-for-ascii_set set octets None h = tt
+encoded-component-is-for-ascii_set set octets (Some x) h = encoded-part-is-valid-for-ascii_set
+    set octets x h
 
 module _ (kind : Kind) (sets : HasComponentSets kind) where
-  authority_some : (o : Option (List ℕ)) → IfSome o (λ a. IsUtf8 a × (is_authority kind a ≡ true))
-      → IfSome (option_map encoded_text o)
+  encoded-authority-if-some-is-of-ascii_kind : (o : Option (List ℕ))
+      → IfSome o (λ a. IsUtf8 a × (is_authority kind a ≡ true))
+      → IfSome (option_map encode_past_ascii o)
       (λ a. IsUtf8 a × (is_authority (ascii_kind kind) a ≡ true))
-  authority_some None h = tt
-  authority_some (Some a) h = (IsUtf8-encoded a h.0, authority_encoded kind sets a h.0 h.1)
+  encoded-authority-if-some-is-of-ascii_kind None h = tt
+  encoded-authority-if-some-is-of-ascii_kind (Some a) h =
+      (encoded-text-is-utf8 a h.0, encoded-authority-is-of-ascii_kind kind sets a h.0 h.1)
 
-  needs_encoded : (scheme authority : Option (List ℕ)) (path : List ℕ)
-      → is_part kind.path path ≡ true
+  encoding-keeps-scheme-or-colon-rule : (scheme authority : Option (List ℕ)) (path : List ℕ)
+      → is_set_text kind.path path ≡ true
       → (is_some scheme
-      || (not kind.needs_scheme && (is_some authority || not (has_colon_first path))))
+      || (not kind.needs_scheme && (is_some authority || not (has_colon_in_first_segment path))))
       ≡ true
-      → (is_some (option_map encoded_text scheme)
-      || (not kind.needs_scheme && (is_some (option_map encoded_text authority)
-      || not (has_colon_first (encoded_text path)))))
+      → (is_some (option_map encode_past_ascii scheme)
+      || (not kind.needs_scheme && (is_some (option_map encode_past_ascii authority)
+      || not (has_colon_in_first_segment (encode_past_ascii path)))))
       ≡ true
-  needs_encoded (Some s) authority path part h = refl
-  needs_encoded None (Some a) path part h = h
-  needs_encoded None None path part h =
-      let q = and_parts (not kind.needs_scheme) (not (has_colon_first path)) h in
+  encoding-keeps-scheme-or-colon-rule (Some s) authority path part h = refl
+  encoding-keeps-scheme-or-colon-rule None (Some a) path part h = h
+  encoding-keeps-scheme-or-colon-rule None None path part h =
+      let q = and_parts (not kind.needs_scheme) (not (has_colon_in_first_segment path)) h in
       and_from _ _ q.0
-      (not_from_false _ (colon_encoded path (part_utf8 kind.path path part) (not-true _ q.1)))
+      (not_from_false _ (encoding-adds-no-colon-first path (set-text-is-utf8 kind.path path part)
+      (not-true _ q.1)))
 
-  parts_encoded : (p : Components) → AreParts kind p
-      → AreParts (ascii_kind kind) (encoded_components p)
-  parts_encoded p parts = record {
+  encoded-components-are-of-ascii_kind : (p : Components) → ArePartsOfKind kind p
+      → ArePartsOfKind (ascii_kind kind) (encoded_components p)
+  encoded-components-are-of-ascii_kind p parts = record {
     scheme = subst (λ o. IfSome o (λ s. IsUtf8 s × (is_scheme s ≡ true)))
-        (sym (scheme_kept p.scheme parts.scheme)) parts.scheme;
-    authority = authority_some p.authority parts.authority;
-    path = part_encoded kind.path sets.path.octets p.path parts.path;
-    query = part_some kind.query sets.query.octets p.query parts.query;
-    fragment = part_some kind.fragment sets.fragment.octets p.fragment parts.fragment;
-    needs = needs_encoded p.scheme p.authority p.path parts.path parts.needs;
+        (sym (schemes-stay-when-encoded p.scheme parts.scheme)) parts.scheme;
+    authority = encoded-authority-if-some-is-of-ascii_kind p.authority parts.authority;
+    path = encoded-part-is-valid-for-ascii_set kind.path sets.path.octets p.path parts.path;
+    query = encoded-component-is-for-ascii_set kind.query sets.query.octets p.query parts.query;
+    fragment = encoded-component-is-for-ascii_set kind.fragment sets.fragment.octets p.fragment
+        parts.fragment;
+    needs = encoding-keeps-scheme-or-colon-rule p.scheme p.authority p.path parts.path parts.needs;
   }
 
-  pub encoded_is_text : (text : List ℕ) → IsTextOf kind text
-      → IsTextOf (ascii_kind kind) (encoded_text text)
-  encoded_is_text text w = record {
-    utf8 = IsUtf8-encoded text w.utf8;
-    grammar = ap (are_components (ascii_kind kind)) (components-encoded text w.utf8)
-        ∙ parts_meet (ascii_kind kind) (encoded_components (components text))
-        (parts_encoded (components text) (parts_of kind text w));
+  pub encoded-text-is-of-ascii_kind : (text : List ℕ) → IsTextOf kind text
+      → IsTextOf (ascii_kind kind) (encode_past_ascii text)
+  encoded-text-is-of-ascii_kind text w = record {
+    utf8 = encoded-text-is-utf8 text w.utf8;
+    grammar = ap (components_meet_rules (ascii_kind kind))
+        (components-of-encoded-text-are-encoded text w.utf8)
+        ∙ components-of-kind-meet-grammar (ascii_kind kind) (encoded_components (components text))
+        (encoded-components-are-of-ascii_kind (components text)
+        (text-has-parts-of-kind kind text w));
   }
 
   -- the meaning
-  authority_kept : (default : Option ℕ) (o : Option (List ℕ))
+  encoding-keeps-optional-authority-meaning : (default : Option ℕ) (o : Option (List ℕ))
       → IfSome o (λ a. IsUtf8 a × (is_authority kind a ≡ true))
-      → option_map (authority_meaning kind default) (option_map encoded_text o)
+      → option_map (authority_meaning kind default) (option_map encode_past_ascii o)
       ≡ option_map (authority_meaning kind default) o
-  authority_kept default None h = refl
-  authority_kept default (Some a) h =
-      ap Some (authority_meaning-encoded kind sets a h.0 h.1 default)
+  encoding-keeps-optional-authority-meaning default None h = refl
+  encoding-keeps-optional-authority-meaning default (Some a) h =
+      ap Some (encoding-keeps-authority-meaning kind sets a h.0 h.1 default)
 
-  path_kept : (scheme : Option (List ℕ)) (path : List ℕ) → is_part kind.path path ≡ true
-      → read kind.path (plain_path scheme (encoded_text path))
-      ≡ read kind.path (plain_path scheme path)
-  path_kept None path part = read-encoded kind.path path part
-  path_kept (Some s) path part =
-      ap (read kind.path) (cleaned_encoded path (part_utf8 kind.path path part))
-      ∙ read-encoded kind.path (cleaned_path path)
-      (part_cleaned kind.path sets.path sets.slash path part)
+  encoding-keeps-path-meaning : (scheme : Option (List ℕ)) (path : List ℕ)
+      → is_set_text kind.path path
+      ≡ true
+      → decode_unreserved kind.path (dotless_path scheme (encode_past_ascii path))
+      ≡ decode_unreserved kind.path (dotless_path scheme path)
+  encoding-keeps-path-meaning None path part = decode_unreserved-of-encoded-text kind.path path part
+  encoding-keeps-path-meaning (Some s) path part =
+      ap (decode_unreserved kind.path)
+      (dotless_if_absolute-and-encoding-swap path (set-text-is-utf8 kind.path path part))
+      ∙ decode_unreserved-of-encoded-text kind.path (dotless_if_absolute path)
+      (path-without-dots-is-set-text kind.path sets.path sets.slash path part)
 
-  meaning_encoded : (ports : PortFunction) (p : Components) → AreParts kind p
+  encoding-keeps-components_meaning : (ports : PortFunction) (p : Components)
+      → ArePartsOfKind kind p
       → components_meaning kind ports (encoded_components p) ≡ components_meaning kind ports p
-  meaning_encoded ports p parts =
-      let scheme = scheme_kept p.scheme parts.scheme in
+  encoding-keeps-components_meaning ports p parts =
+      let scheme = schemes-stay-when-encoded p.scheme parts.scheme in
       let default = option_and_then ports (option_map str_to_ascii_lowercase p.scheme) in
       let authority =
       ap
       (λ s. option_map (authority_meaning kind
       (option_and_then ports (option_map str_to_ascii_lowercase s)))
-      (option_map encoded_text p.authority)) scheme
-      ∙ authority_kept default p.authority parts.authority in
-      let path = ap (λ s. read kind.path (plain_path s (encoded_text p.path))) scheme
-      ∙ path_kept p.scheme p.path parts.path in
-      let query = read_some kind.query p.query parts.query in
-      let fragment = read_some kind.fragment p.fragment parts.fragment in
+      (option_map encode_past_ascii p.authority)) scheme
+      ∙ encoding-keeps-optional-authority-meaning default p.authority parts.authority in
+      let path = ap (λ s. decode_unreserved kind.path (dotless_path s (encode_past_ascii p.path)))
+      scheme
+      ∙ encoding-keeps-path-meaning p.scheme p.path parts.path in
+      let query = decode_unreserved-encoded_option kind.query p.query parts.query in
+      let fragment = decode_unreserved-encoded_option kind.fragment p.fragment parts.fragment in
       λ i. record {
         scheme = option_map str_to_ascii_lowercase (scheme i);
         authority =
@@ -155,8 +186,9 @@ module _ (kind : Kind) (sets : HasComponentSets kind) where
         fragment = fragment i;
       }
 
-  pub meaning_of-encoded : (ports : PortFunction) (text : List ℕ) → IsTextOf kind text
-      → meaning_of kind ports (encoded_text text) ≡ meaning_of kind ports text
-  meaning_of-encoded ports text w =
-      ap (components_meaning kind ports) (components-encoded text w.utf8)
-      ∙ meaning_encoded ports (components text) (parts_of kind text w)
+  pub encoding-keeps-meaning_of-text : (ports : PortFunction) (text : List ℕ) → IsTextOf kind text
+      → meaning_of kind ports (encode_past_ascii text) ≡ meaning_of kind ports text
+  encoding-keeps-meaning_of-text ports text w =
+      ap (components_meaning kind ports) (components-of-encoded-text-are-encoded text w.utf8)
+      ∙ encoding-keeps-components_meaning ports (components text)
+      (text-has-parts-of-kind kind text w)

@@ -9,258 +9,332 @@ use Rattle.std.proofs.lemmas.Str.{IsUtf8-append, IsUtf8-nil, IsUtf8-from_is_utf8
 use Rattle.std.proofs.lemmas.Str.{is_utf8-from_IsUtf8}
 use Rattle.std.proofs.lemmas.Bool.{cases_Bool, cond-true, cond-false, cond_both, and_parts}
 use Rattle.std.proofs.lemmas.Bool.{and_from, and_left, false≢true}
-use Rattle.uri_parts.specs.Components.{Components, starts, IsRooted, components, recompose}
-use Rattle.uri_parts.proofs.Splitting.Recompose.{IsSplitOf-components, true_to}
+use Rattle.uri_parts.specs.Components.{Components, starts, IsAbemptyPath, components, recompose}
+use Rattle.uri_parts.proofs.Splitting.Recompose.{components-are-split-of-text}
+use Rattle.uri_parts.proofs.Splitting.Recompose.{equal-to-true-is-IsTrue}
 use Rattle.uri_ops.specs.Dots.{is_empty, underflows, directory}
-use Rattle.uri_ops.specs.Target.{Refusal, is_opaque, is_fragment_only, is_refused_as_opaque, merged}
-use Rattle.uri_ops.specs.Target.{joined, cleaned_path, guarded, target_of, target_underflows}
+use Rattle.uri_ops.specs.Target.{TargetError, is_opaque, is_fragment_only, is_opaque_rejection}
+use Rattle.uri_ops.specs.Target.{merged}
+use Rattle.uri_ops.specs.Target.{dotted_target, dotless_if_absolute, guarded, target_of}
+use Rattle.uri_ops.specs.Target.{target_underflows}
 use Rattle.uri_ops.specs.Target.{resolution_of}
-use Rattle.uri_ops.specs.Encoded.{encoded_text}
+use Rattle.uri_ops.specs.Encoded.{encode_past_ascii}
 use Rattle.uri_ops.specs.Resolving.{IsTargetOfEncoded, IsErrorForEncoded}
 use Rattle.uri_ops.specs.Resolving.{IsTarget, IsErrorFor}
-use Rattle.uri_ops.specs.declared.resolve.ResolveError.{ResolveError}
-use Rattle.uri_ops.specs.declared.resolve.ResolveError.TheVariants as Of
-use Rattle.uri_ops.proofs.Paths.Segments.{Passes, append_passes}
-use Rattle.uri_ops.proofs.Paths.SlashedSegments.{slashed, directory_slashed, parent_passes}
-use Rattle.uri_ops.proofs.Paths.DotLaws.{by_segments, rooted}
-use Rattle.uri_ops.proofs.Paths.ReadPaths.{utf8_join}
-use Rattle.uri_ops.proofs.Meanings.TextParts.{AreUtf8, components_utf8}
-use Rattle.uri_ops.proofs.Targeting.JoinedMeanings.{of_parts}
-use Rattle.uri_ops.proofs.Targeting.Swaps.{not_opaque, rooted_base}
-use Rattle.uri_ops.proofs.AsciiForms.EncodedPaths.{encoded-append, starts_encoded, empty_encoded}
-use Rattle.uri_ops.proofs.AsciiForms.EncodedPaths.{utf8_slashed, underflows_encoded}
-use Rattle.uri_ops.proofs.AsciiForms.EncodedPaths.{directory_encoded, cleaned_encoded}
-use Rattle.uri_ops.proofs.AsciiForms.EncodedPaths.{guarded_encoded}
-use Rattle.uri_ops.proofs.AsciiForms.EncodedComponents.{encoded_components, recompose-encoded}
-use Rattle.uri_ops.proofs.AsciiForms.EncodedComponents.{components-encoded}
-use Rattle.uri_ops.proofs.Targeting.RefusalOrder.{outcome, outcome_map, same_outcome, accepted}
-use Rattle.uri_pct.proofs.Tests.{none_map, some_map, absent}
+use Rattle.uri_ops.specs.declared.resolve.error.ResolveError.{ResolveError}
+use Rattle.uri_ops.specs.declared.resolve.error.ResolveError.TheVariants as Of
+use Rattle.uri_ops.proofs.Paths.Segments.{AllPass, appended-segments-pass-test}
+use Rattle.uri_ops.proofs.Paths.SlashedSegments.{slashed, directory-by-segments}
+use Rattle.uri_ops.proofs.Paths.SlashedSegments.{parent-segments-pass-test}
+use Rattle.uri_ops.proofs.Paths.DotLaws.{property-of-absolute-path-by-segments, rooted}
+use Rattle.uri_ops.proofs.Paths.DecodedPaths.{utf8-joined-at-slash-is-utf8}
+use Rattle.uri_ops.proofs.Meanings.TextParts.{AreUtf8, components-of-utf8-are-utf8}
+use Rattle.uri_ops.proofs.Targeting.JoinedMeanings.{components_of_parts}
+use Rattle.uri_ops.proofs.Targeting.Swaps.{merging-base-is-not-opaque}
+use Rattle.uri_ops.proofs.Targeting.Swaps.{base-that-is-not-opaque-has-abempty-path}
+use Rattle.uri_ops.proofs.AsciiForms.EncodedPaths.{encoding-of-append-is-append}
+use Rattle.uri_ops.proofs.AsciiForms.EncodedPaths.{encoding-keeps-leading-delimiter}
+use Rattle.uri_ops.proofs.AsciiForms.EncodedPaths.{encoding-keeps-emptiness}
+use Rattle.uri_ops.proofs.AsciiForms.EncodedPaths.{segments-of-utf8-path-are-utf8}
+use Rattle.uri_ops.proofs.AsciiForms.EncodedPaths.{encoding-keeps-underflow}
+use Rattle.uri_ops.proofs.AsciiForms.EncodedPaths.{directory-and-encoding-swap}
+use Rattle.uri_ops.proofs.AsciiForms.EncodedPaths.{dotless_if_absolute-and-encoding-swap}
+use Rattle.uri_ops.proofs.AsciiForms.EncodedPaths.{guarding-and-encoding-swap}
+use Rattle.uri_ops.proofs.AsciiForms.EncodedComponents.{encoded_components}
+use Rattle.uri_ops.proofs.AsciiForms.EncodedComponents.{encoding-and-recomposing-swap}
+use Rattle.uri_ops.proofs.AsciiForms.EncodedComponents.{components-of-encoded-text-are-encoded}
+use Rattle.uri_ops.proofs.Targeting.RefusalOrder.{result_or_target_error, map-of-result_or_error}
+use Rattle.uri_ops.proofs.Targeting.RefusalOrder.{rejected-results-are-equal}
+use Rattle.uri_ops.proofs.Targeting.RefusalOrder.{ok-result-has-no-opaque-rejection}
+use Rattle.uri_pct.proofs.Tests.{is_none-option_map, is_some-option_map, not_some_is_none}
 
--- a merged path in UTF-8
-utf8_join_behind : (s : List ℕ) (rest : List (List ℕ)) → Passes is_utf8 (s ∷ rest)
+-- paths: segments in UTF-8, of which all but the first have a `/` before them, are UTF-8 together
+joined-utf8-segments-are-utf8 : (s : List ℕ) (rest : List (List ℕ)) → AllPass is_utf8 (s ∷ rest)
     → IsUtf8 (s ++ slashed rest)
 unfolding slashed
-utf8_join_behind s [] e = IsUtf8-append s []
+joined-utf8-segments-are-utf8 s [] e = IsUtf8-append s []
     (IsUtf8-from_is_utf8 s (and_parts (is_utf8 s) true e).0) IsUtf8-nil
-utf8_join_behind s (t ∷ rest) e =
+joined-utf8-segments-are-utf8 s (t ∷ rest) e =
     let p = and_parts (is_utf8 s) (list_all is_utf8 (t ∷ rest)) e in
-    utf8_join s (t ++ slashed rest) (IsUtf8-from_is_utf8 s p.0) (utf8_join_behind t rest p.1)
+    utf8-joined-at-slash-is-utf8 s (t ++ slashed rest) (IsUtf8-from_is_utf8 s p.0)
+    (joined-utf8-segments-are-utf8 t rest p.1)
 
-utf8_join_slashed : (segs : List (List ℕ)) → Passes is_utf8 segs → IsUtf8 (slashed segs)
+-- paths: segments in UTF-8, each after a `/`, are UTF-8
+slashed-utf8-segments-are-utf8 : (segs : List (List ℕ)) → AllPass is_utf8 segs
+    → IsUtf8 (slashed segs)
 unfolding slashed
-utf8_join_slashed [] e = IsUtf8-nil
-utf8_join_slashed (s ∷ rest) e =
-    utf8_join [] (s ++ slashed rest) IsUtf8-nil (utf8_join_behind s rest e)
+slashed-utf8-segments-are-utf8 [] e = IsUtf8-nil
+slashed-utf8-segments-are-utf8 (s ∷ rest) e =
+    utf8-joined-at-slash-is-utf8 [] (s ++ slashed rest) IsUtf8-nil
+    (joined-utf8-segments-are-utf8 s rest e)
 
-utf8_directory : (path : List ℕ) → IsRooted path → IsUtf8 path → IsUtf8 (directory path)
+-- resolving: the directory of a path in UTF-8 is UTF-8
+directory-of-utf8-is-utf8 : (path : List ℕ) → IsAbemptyPath path → IsUtf8 path
+    → IsUtf8 (directory path)
 unfolding directory
-utf8_directory = rooted (λ path. IsUtf8 path → IsUtf8 (directory path))
-    (λ u. utf8_join [] [] IsUtf8-nil IsUtf8-nil)
-    (by_segments (λ path. IsUtf8 path → IsUtf8 (directory path))
-    (λ s rest f u. subst IsUtf8 (sym (directory_slashed s rest f))
-    (utf8_join_slashed _ (append_passes is_utf8 _ ([] ∷ [])
-    (parent_passes is_utf8 (s ∷ rest) (utf8_slashed s rest u))
+directory-of-utf8-is-utf8 = rooted (λ path. IsUtf8 path → IsUtf8 (directory path))
+    (λ u. utf8-joined-at-slash-is-utf8 [] [] IsUtf8-nil IsUtf8-nil)
+    (property-of-absolute-path-by-segments (λ path. IsUtf8 path → IsUtf8 (directory path))
+    (λ s rest f u. subst IsUtf8 (sym (directory-by-segments s rest f))
+    (slashed-utf8-segments-are-utf8 _ (appended-segments-pass-test is_utf8 _ ([] ∷ [])
+    (parent-segments-pass-test is_utf8 (s ∷ rest) (segments-of-utf8-path-are-utf8 s rest u))
     (and_from _ _ (is_utf8-from_IsUtf8 [] IsUtf8-nil) refl)))))
 
--- what is joined
-either_encoded : (q base : Option (List ℕ))
-    → cond (is_some (option_map encoded_text q)) (option_map encoded_text q)
-    (option_map encoded_text base)
-    ≡ option_map encoded_text (cond (is_some q) q base)
-either_encoded None base = refl
-either_encoded (Some x) base = refl
+-- IRIs as URIs: the query of a target, of the reference (q) or the base,
+-- is encoded as that query is
+choosing-query-and-encoding-swap : (q base : Option (List ℕ))
+    → cond (is_some (option_map encode_past_ascii q)) (option_map encode_past_ascii q)
+    (option_map encode_past_ascii base)
+    ≡ option_map encode_past_ascii (cond (is_some q) q base)
+choosing-query-and-encoding-swap None base = refl
+choosing-query-and-encoding-swap (Some x) base = refl
 
-merged_encoded : (path p : List ℕ) → IsRooted path → IsUtf8 path
-    → merged (encoded_text path) (encoded_text p) ≡ encoded_text (merged path p)
-merged_encoded path p h u = ap (λ t. t ++ encoded_text p) (directory_encoded path h u)
-    ∙ sym (encoded-append (directory path) p)
+-- IRIs as URIs: merging two paths and encoding them may swap
+merging-and-encoding-swap : (path p : List ℕ) → IsAbemptyPath path → IsUtf8 path
+    → merged (encode_past_ascii path) (encode_past_ascii p) ≡ encode_past_ascii (merged path p)
+merging-and-encoding-swap path p h u = ap (λ t. t ++ encode_past_ascii p)
+    (directory-and-encoding-swap path h u)
+    ∙ sym (encoding-of-append-is-append (directory path) p)
 
-on_path : (base : Components) (p : List ℕ) (q f : Option (List ℕ)) → AreUtf8 base
-    → (is_empty p ≡ false → IsRooted base.path)
-    → joined (encoded_components base) (encoded_components (of_parts None None p q f))
-    ≡ encoded_components (joined base (of_parts None None p q f))
-on_path base p q f u rooted = ⊎_elim
+-- IRIs as URIs: a reference without scheme and authority (p, q, f: its path, query and fragment)
+-- has the same target before dot segments are removed, encoded
+dotted_target-of-encoded-without-authority : (base : Components) (p : List ℕ)
+    (q f : Option (List ℕ))
+    → AreUtf8 base
+    → (is_empty p ≡ false → IsAbemptyPath base.path)
+    → dotted_target (encoded_components base)
+    (encoded_components (components_of_parts None None p q f))
+    ≡ encoded_components (dotted_target base (components_of_parts None None p q f))
+dotted_target-of-encoded-without-authority base p q f u rooted = ⊎_elim
     (λ h.
-    let query = either_encoded q base.query in
-    cond-true _ _ _ (empty_encoded p ∙ h)
+    let query = choosing-query-and-encoding-swap q base.query in
+    cond-true _ _ _ (encoding-keeps-emptiness p ∙ h)
     ∙ (λ i. record (encoded_components base)
-    { query = query i; fragment = option_map encoded_text f })
+    { query = query i; fragment = option_map encode_past_ascii f })
     ∙ sym (ap encoded_components (cond-true _ _ _ h)))
     (λ h.
-    let first = starts_encoded 47 refl p in
-    cond-false _ _ _ (empty_encoded p ∙ h)
+    let first = encoding-keeps-leading-delimiter 47 refl p in
+    cond-false _ _ _ (encoding-keeps-emptiness p ∙ h)
     ∙ ⊎_elim
     (λ e. cond-true _ _ _ (first ∙ e)
     ∙ sym (ap encoded_components (cond-false _ _ _ h ∙ cond-true _ _ _ e)))
     (λ e.
-    let path = merged_encoded base.path p (rooted h) u.path in
+    let path = merging-and-encoding-swap base.path p (rooted h) u.path in
     cond-false _ _ _ (first ∙ e)
-    ∙ (λ i. record (encoded_components base)
-    { path = path i; query = option_map encoded_text q; fragment = option_map encoded_text f })
+    ∙ (λ i. record (encoded_components base) {
+      path = path i;
+      query = option_map encode_past_ascii q;
+      fragment =
+          option_map encode_past_ascii f;
+    })
     ∙ sym (ap encoded_components (cond-false _ _ _ h ∙ cond-false _ _ _ e)))
     (cases_Bool (starts 47 p)))
     (cases_Bool (is_empty p))
 
-joined_encoded : (base : Components) (s a : Option (List ℕ)) (p : List ℕ) (q f : Option (List ℕ))
-    → AreUtf8 base → (is_none s ≡ true → is_empty p ≡ false → IsRooted base.path)
-    → joined (encoded_components base) (encoded_components (of_parts s a p q f))
-    ≡ encoded_components (joined base (of_parts s a p q f))
-joined_encoded base (Some s) a p q f u rooted = refl
-joined_encoded base None (Some a) p q f u rooted = refl
-joined_encoded base None None p q f u rooted = on_path base p q f u (rooted refl)
+-- IRIs as URIs: a base and a reference (s, a, p, q, f: its components) have the same target before
+-- dot segments are removed, encoded
+dotted_target-of-encoded-components : (base : Components) (s a : Option (List ℕ)) (p : List ℕ)
+    (q f : Option (List ℕ))
+    → AreUtf8 base → (is_none s ≡ true → is_empty p ≡ false → IsAbemptyPath base.path)
+    → dotted_target (encoded_components base) (encoded_components (components_of_parts s a p q f))
+    ≡ encoded_components (dotted_target base (components_of_parts s a p q f))
+dotted_target-of-encoded-components base (Some s) a p q f u rooted = refl
+dotted_target-of-encoded-components base None (Some a) p q f u rooted = refl
+dotted_target-of-encoded-components base None None p q f u rooted =
+    dotted_target-of-encoded-without-authority base p q f u
+    (rooted refl)
 
-utf8_joined : (base r : Components) → AreUtf8 base → AreUtf8 r
-    → (is_none r.scheme ≡ true → is_empty r.path ≡ false → IsRooted base.path)
-    → IsUtf8 (joined base r).path
-utf8_joined base r u v rooted =
+-- resolving: the path of a target, before its dot segments are removed, is UTF-8
+dotted_target-path-is-utf8 : (base r : Components) → AreUtf8 base → AreUtf8 r
+    → (is_none r.scheme ≡ true → is_empty r.path ≡ false → IsAbemptyPath base.path)
+    → IsUtf8 (dotted_target base r).path
+dotted_target-path-is-utf8 base r u v rooted =
     cond_both (is_some r.scheme) r _ (λ (t : Components). IsUtf8 t.path) (λ _. v.path)
     (λ s. cond_both (is_some r.authority) _ _ (λ (t : Components). IsUtf8 t.path) (λ _. v.path)
     (λ _. cond_both (is_empty r.path) _ _ (λ (t : Components). IsUtf8 t.path) (λ _. u.path)
     (λ e. cond_both (starts 47 r.path) _ _ (λ (t : Components). IsUtf8 t.path) (λ _. v.path)
     (λ _. IsUtf8-append (directory base.path) r.path
-    (utf8_directory base.path (rooted (absent r.scheme s) e) u.path) v.path))))
+    (directory-of-utf8-is-utf8 base.path (rooted (not_some_is_none r.scheme s) e) u.path) v.path))))
 
--- the target
-finished : Components → Components
-finished t = record t { path = guarded t.authority (cleaned_path t.path) }
+-- IRIs as URIs: the components of a target after its dot segments
+-- are removed and its path is guarded
+with_guarded_dotless_path : Components → Components
+with_guarded_dotless_path t = record t { path = guarded t.authority (dotless_if_absolute t.path) }
 
-finished_encoded : (t : Components) → IsUtf8 t.path
-    → finished (encoded_components t) ≡ encoded_components (finished t)
-unfolding finished
-finished_encoded t u =
-    let path = ap (guarded (option_map encoded_text t.authority)) (cleaned_encoded t.path u)
-    ∙ guarded_encoded t.authority (option_map encoded_text t.authority) (cleaned_path t.path)
-    (none_map encoded_text t.authority) in
+-- IRIs as URIs: removing a target's dot segments, guarding its path and encoding it may swap
+guarding-dotless-path-and-encoding-swap : (t : Components) → IsUtf8 t.path
+    → with_guarded_dotless_path (encoded_components t)
+    ≡ encoded_components (with_guarded_dotless_path t)
+unfolding with_guarded_dotless_path
+guarding-dotless-path-and-encoding-swap t u =
+    let path = ap (guarded (option_map encode_past_ascii t.authority))
+    (dotless_if_absolute-and-encoding-swap t.path u)
+    ∙ guarding-and-encoding-swap t.authority (option_map encode_past_ascii t.authority)
+    (dotless_if_absolute t.path)
+    (is_none-option_map encode_past_ascii t.authority) in
     λ i. record (encoded_components t) { path = path i }
 
-target_encoded : (base r : Components) → AreUtf8 base → AreUtf8 r
-    → (is_none r.scheme ≡ true → is_empty r.path ≡ false → IsRooted base.path)
+-- IRIs as URIs: encoded components resolve to the encoded target; r: the reference
+target_of-encoded-components : (base r : Components) → AreUtf8 base → AreUtf8 r
+    → (is_none r.scheme ≡ true → is_empty r.path ≡ false → IsAbemptyPath base.path)
     → target_of (encoded_components base) (encoded_components r)
     ≡ encoded_components (target_of base r)
-unfolding finished
-target_encoded base r u v rooted =
-    ap finished (joined_encoded base r.scheme r.authority r.path r.query r.fragment u rooted)
-    ∙ finished_encoded (joined base r) (utf8_joined base r u v rooted)
+unfolding with_guarded_dotless_path
+target_of-encoded-components base r u v rooted =
+    ap with_guarded_dotless_path
+    (dotted_target-of-encoded-components base r.scheme r.authority r.path r.query
+    r.fragment u rooted)
+    ∙ guarding-dotless-path-and-encoding-swap (dotted_target base r)
+    (dotted_target-path-is-utf8 base r u v rooted)
 
--- and the errors
-refused_encoded : (base r : Components)
-    → is_refused_as_opaque (encoded_components base) (encoded_components r)
-    ≡ is_refused_as_opaque base r
-refused_encoded base r =
+-- IRIs as URIs: encoding base and reference (r) doesn't change
+-- whether an opaque base rejects the reference
+encoding-keeps-opaque-rejection : (base r : Components)
+    → is_opaque_rejection (encoded_components base) (encoded_components r)
+    ≡ is_opaque_rejection base r
+encoding-keeps-opaque-rejection base r =
     let t = encoded_components r in
-    ap (λ x. (x && not (starts 47 (encoded_text base.path)))
-    && not (is_some t.scheme || is_fragment_only t)) (none_map encoded_text base.authority)
+    ap (λ x. (x && not (starts 47 (encode_past_ascii base.path)))
+    && not (is_some t.scheme || is_fragment_only t))
+    (is_none-option_map encode_past_ascii base.authority)
     ∙ ap (λ x. (is_none base.authority && not x) && not (is_some t.scheme || is_fragment_only t))
-    (starts_encoded 47 refl base.path)
-    ∙ ap (λ x. is_opaque base && not (x || is_fragment_only t)) (some_map encoded_text r.scheme)
+    (encoding-keeps-leading-delimiter 47 refl base.path)
+    ∙ ap (λ x. is_opaque base && not (x || is_fragment_only t))
+    (is_some-option_map encode_past_ascii r.scheme)
     ∙ ap (λ x. is_opaque base && not
     (is_some r.scheme || (((x && is_none t.authority) && is_empty t.path) && is_none t.query)))
-    (none_map encoded_text r.scheme)
+    (is_none-option_map encode_past_ascii r.scheme)
     ∙ ap (λ x. is_opaque base && not
     (is_some r.scheme || (((is_none r.scheme && x) && is_empty t.path) && is_none t.query)))
-    (none_map encoded_text r.authority)
+    (is_none-option_map encode_past_ascii r.authority)
     ∙ ap (λ x. is_opaque base && not
     (is_some r.scheme || (((is_none r.scheme && is_none r.authority) && x) && is_none t.query)))
-    (empty_encoded r.path)
+    (encoding-keeps-emptiness r.path)
     ∙ ap (λ x. is_opaque base && not
     (is_some r.scheme || (((is_none r.scheme && is_none r.authority) && is_empty r.path) && x)))
-    (none_map encoded_text r.query)
+    (is_none-option_map encode_past_ascii r.query)
 
--- a base that may be merged with
-mergeable : (b t : List ℕ) → is_refused_as_opaque (components b) (components t) ≡ false
+-- resolving: the path of a base with which a path is merged is empty or begins with `/`
+accepting-base-path-is-rooted : (b t : List ℕ) → is_opaque_rejection (components b) (components t)
+    ≡ false
     → is_none (components t).scheme ≡ true → is_empty (components t).path ≡ false
-    → IsRooted (components b).path
-mergeable b t e s p = rooted_base (components b).authority (components b).path
-    (not_opaque (components b) (components t) e s p) (IsSplitOf-components b).authority
+    → IsAbemptyPath (components b).path
+accepting-base-path-is-rooted b t e s p = base-that-is-not-opaque-has-abempty-path
+    (components b).authority (components b).path
+    (merging-base-is-not-opaque (components b) (components t) e s p)
+    (components-are-split-of-text b).authority
 
-pub resolution_encoded : (b t : List ℕ) → IsUtf8 b → IsUtf8 t
-    → resolution_of (components (encoded_text b)) (components (encoded_text t))
-    ≡ result_map_both encoded_text (λ (refusal : Refusal). refusal)
+-- IRIs as URIs: resolving and encoding characters past ASCII may swap; b, t: base and reference
+pub resolving-and-encoding-swap : (b t : List ℕ) → IsUtf8 b → IsUtf8 t
+    → resolution_of (components (encode_past_ascii b)) (components (encode_past_ascii t))
+    ≡ result_map_both encode_past_ascii (λ (refusal : TargetError). refusal)
     (resolution_of (components b) (components t))
-unfolding outcome
-resolution_encoded b t u v =
+unfolding result_or_target_error
+resolving-and-encoding-swap b t u v =
     let base = components b in
     let r = components t in
-    let fragment = some_map encoded_text base.fragment in
-    let opaque = refused_encoded base r in
-    let target = λ (e : is_refused_as_opaque base r ≡ false).
+    let fragment = is_some-option_map encode_past_ascii base.fragment in
+    let opaque = encoding-keeps-opaque-rejection base r in
+    let target = λ (e : is_opaque_rejection base r ≡ false).
     ap recompose
-    (target_encoded base r (components_utf8 b u) (components_utf8 t v) (mergeable b t e))
-    ∙ sym (recompose-encoded (target_of base r)) in
-    ap (λ x. resolution_of x (components (encoded_text t))) (components-encoded b u)
-    ∙ ap (λ x. resolution_of (encoded_components base) x) (components-encoded t v)
-    ∙ ap (λ x. outcome x (is_refused_as_opaque (encoded_components base) (encoded_components r))
+    (target_of-encoded-components base r (components-of-utf8-are-utf8 b u)
+    (components-of-utf8-are-utf8 t v)
+    (accepting-base-path-is-rooted b t e))
+    ∙ sym (encoding-and-recomposing-swap (target_of base r)) in
+    ap (λ x. resolution_of x (components (encode_past_ascii t)))
+    (components-of-encoded-text-are-encoded b u)
+    ∙ ap (λ x. resolution_of (encoded_components base) x)
+    (components-of-encoded-text-are-encoded t v)
+    ∙ ap (λ x. result_or_target_error x
+    (is_opaque_rejection (encoded_components base) (encoded_components r))
     (recompose (target_of (encoded_components base) (encoded_components r)))) fragment
-    ∙ ap (λ x. outcome (is_some base.fragment) x
+    ∙ ap (λ x. result_or_target_error (is_some base.fragment) x
     (recompose (target_of (encoded_components base) (encoded_components r)))) opaque
-    ∙ same_outcome (is_some base.fragment) (is_refused_as_opaque base r)
+    ∙ rejected-results-are-equal (is_some base.fragment) (is_opaque_rejection base r)
     (recompose (target_of (encoded_components base) (encoded_components r)))
-    (encoded_text (recompose (target_of base r))) target
-    ∙ sym (outcome_map encoded_text (is_some base.fragment) (is_refused_as_opaque base r)
+    (encode_past_ascii (recompose (target_of base r))) target
+    ∙ sym (map-of-result_or_error encode_past_ascii (is_some base.fragment)
+    (is_opaque_rejection base r)
     (recompose (target_of base r)))
 
--- underflow
-path_underflows : (path : List ℕ) → IsUtf8 path
-    → (starts 47 (encoded_text path) && underflows (encoded_text path))
+-- IRIs as URIs: encoding an absolute path doesn't change whether it underflows
+encoding-keeps-absolute-path-underflow : (path : List ℕ) → IsUtf8 path
+    → (starts 47 (encode_past_ascii path) && underflows (encode_past_ascii path))
     ≡ (starts 47 path && underflows path)
-path_underflows path u =
-    ap (λ x. x && underflows (encoded_text path)) (starts_encoded 47 refl path)
+encoding-keeps-absolute-path-underflow path u =
+    ap (λ x. x && underflows (encode_past_ascii path))
+    (encoding-keeps-leading-delimiter 47 refl path)
     ∙ ⊎_elim
-    (λ e. ap (λ x. starts 47 path && x) (underflows_encoded path (true_to _ e) u))
+    (λ e. ap (λ x. starts 47 path && x)
+    (encoding-keeps-underflow path (equal-to-true-is-IsTrue _ e) u))
     (λ e. and_left _ _ e ∙ sym (and_left _ _ e))
     (cases_Bool (starts 47 path))
 
-pub target_underflows_encoded : (b t target : List ℕ) → IsUtf8 b → IsUtf8 t
+-- IRIs as URIs: a target underflows exactly if the encoded target does; b, t: base and reference
+pub encoding-keeps-target-underflow : (b t target : List ℕ) → IsUtf8 b → IsUtf8 t
     → resolution_of (components b) (components t) ≡ Ok target
-    → target_underflows (components (encoded_text b)) (components (encoded_text t))
+    → target_underflows (components (encode_past_ascii b)) (components (encode_past_ascii t))
     ≡ target_underflows (components b) (components t)
-unfolding outcome
-target_underflows_encoded b t target u v e =
+unfolding result_or_target_error
+encoding-keeps-target-underflow b t target u v e =
     let base = components b in
     let r = components t in
-    let a = accepted (is_some base.fragment) (is_refused_as_opaque base r)
+    let a = ok-result-has-no-opaque-rejection (is_some base.fragment) (is_opaque_rejection base r)
     (recompose (target_of base r)) target e in
-    let merge = mergeable b t a.0 in
-    ap (λ x. target_underflows x (components (encoded_text t))) (components-encoded b u)
-    ∙ ap (λ x. target_underflows (encoded_components base) x) (components-encoded t v)
+    let merge = accepting-base-path-is-rooted b t a.0 in
+    ap (λ x. target_underflows x (components (encode_past_ascii t)))
+    (components-of-encoded-text-are-encoded b u)
+    ∙ ap (λ x. target_underflows (encoded_components base) x)
+    (components-of-encoded-text-are-encoded t v)
     ∙ ap (λ (x : Components). starts 47 x.path && underflows x.path)
-    (joined_encoded base r.scheme r.authority r.path r.query r.fragment (components_utf8 b u)
+    (dotted_target-of-encoded-components base r.scheme r.authority r.path r.query r.fragment
+    (components-of-utf8-are-utf8 b u)
     merge)
-    ∙ path_underflows (joined base r).path
-    (utf8_joined base r (components_utf8 b u) (components_utf8 t v) merge)
+    ∙ encoding-keeps-absolute-path-underflow (dotted_target base r).path
+    (dotted_target-path-is-utf8 base r (components-of-utf8-are-utf8 b u)
+    (components-of-utf8-are-utf8 t v) merge)
 
--- what is returned for both
-pub target_of_encoded : (allowed : Bool) (b t target : List ℕ) → IsUtf8 b → IsUtf8 t
+-- IRIs as URIs: a target, encoded, is the target of the encoded base and reference; b, t: these two
+pub target-is-target-of-encoded : (allowed : Bool) (b t target : List ℕ) → IsUtf8 b → IsUtf8 t
     → IsTarget allowed (components b) (components t) target → IsTargetOfEncoded allowed b t target
-target_of_encoded allowed b t target u v h = (
-  resolution_encoded b t u v ∙ ap (result_map_both encoded_text (λ (refusal : Refusal). refusal))
+target-is-target-of-encoded allowed b t target u v h = (
+  resolving-and-encoding-swap b t u v
+      ∙ ap (result_map_both encode_past_ascii (λ (refusal : TargetError). refusal))
       h.0,
-  λ no. target_underflows_encoded b t target u v h.0 ∙ h.1 no,
+  λ no. encoding-keeps-target-underflow b t target u v h.0 ∙ h.1 no,
 )
 
-some_target : (r : Result (List ℕ) Refusal) → is_ok r ≡ true → (target : List ℕ) × (r ≡ Ok target)
-some_target (Ok target) e = (target, refl)
-some_target (Err z) e = absurd (false≢true e)
+-- general fact on results, for resolving: one that is Ok has a target
+ok-result-has-target : (r : Result (List ℕ) TargetError) → is_ok r ≡ true → (target : List ℕ)
+    × (r ≡ Ok target)
+ok-result-has-target (Ok target) e = (target, refl)
+ok-result-has-target (Err z) e = absurd (false≢true e)
 
-ok_encoded : (r : Result (List ℕ) Refusal)
-    → is_ok (result_map_both encoded_text (λ (refusal : Refusal). refusal) r) ≡ is_ok r
-ok_encoded (Ok target) = refl
-ok_encoded (Err z) = refl
+-- IRIs as URIs: resolving returns a target exactly if it does for the encoded texts
+encoding-keeps-whether-ok : (r : Result (List ℕ) TargetError)
+    → is_ok (result_map_both encode_past_ascii (λ (refusal : TargetError). refusal) r) ≡ is_ok r
+encoding-keeps-whether-ok (Ok target) = refl
+encoding-keeps-whether-ok (Err z) = refl
 
-pub error_for_encoded : (allowed : Bool) (b t : List ℕ) (error : ResolveError) → IsUtf8 b → IsUtf8 t
+-- IRIs as URIs: an error of resolving is the error for the encoded texts; allowed: whether
+-- underflows are; b, t: base and reference
+pub error-is-error-for-encoded : (allowed : Bool) (b t : List ℕ) (error : ResolveError)
+    → IsUtf8 b → IsUtf8 t
     → IsErrorFor allowed (components b) (components t) error → IsErrorForEncoded allowed b t error
-error_for_encoded allowed b t Of.BaseWithFragment u v h = resolution_encoded b t u v
-    ∙ ap (result_map_both encoded_text (λ (refusal : Refusal). refusal)) h
-error_for_encoded allowed b t Of.InvalidReferenceAgainstOpaqueBase u v h =
-    resolution_encoded b t u v
-    ∙ ap (result_map_both encoded_text (λ (refusal : Refusal). refusal)) h
-error_for_encoded allowed b t Of.PathUnderflow u v h =
-    let target = some_target (resolution_of (components b) (components t)) h.0 in (
-      ap is_ok (resolution_encoded b t u v)
-          ∙ ok_encoded (resolution_of (components b) (components t))
+error-is-error-for-encoded allowed b t Of.BaseWithFragment u v h =
+    resolving-and-encoding-swap b t u v
+    ∙ ap (result_map_both encode_past_ascii (λ (refusal : TargetError). refusal)) h
+error-is-error-for-encoded allowed b t Of.InvalidReferenceAgainstOpaqueBase u v h =
+    resolving-and-encoding-swap b t u v
+    ∙ ap (result_map_both encode_past_ascii (λ (refusal : TargetError). refusal)) h
+error-is-error-for-encoded allowed b t Of.PathUnderflow u v h =
+    let target = ok-result-has-target (resolution_of (components b) (components t)) h.0 in (
+      ap is_ok (resolving-and-encoding-swap b t u v)
+          ∙ encoding-keeps-whether-ok (resolution_of (components b) (components t))
           ∙ h.0,
       h.1,
-      target_underflows_encoded b t target.0 u v target.1 ∙ h.2,
+      encoding-keeps-target-underflow b t target.0 u v target.1 ∙ h.2,
     )
-error_for_encoded allowed b t Of.OutOfMemory u v h = ap is_ok (resolution_encoded b t u v)
-    ∙ ok_encoded (resolution_of (components b) (components t)) ∙ h
+error-is-error-for-encoded allowed b t Of.OutOfMemory u v h = ap is_ok
+    (resolving-and-encoding-swap b t u v)
+    ∙ encoding-keeps-whether-ok (resolution_of (components b) (components t)) ∙ h

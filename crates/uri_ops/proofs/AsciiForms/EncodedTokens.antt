@@ -14,26 +14,31 @@ use Rattle.std.proofs.lemmas.Bool.{cases_Bool, cases_lt, agree_below_at, cond-tr
 use Rattle.std.proofs.lemmas.Bool.{and_left, and_right, and_from, and_parts, eqb-true, ltb-true}
 use Rattle.std.proofs.lemmas.Bool.{lt-ltb, le-ltb}
 use Rattle.std.proofs.lemmas.Bool.Decides.{nat_tests}
-use Rattle.uri_pct.specs.Tokens.{Token, Char, Octet, tokens, tokens_of, token_bytes, bytes_of_token}
+use Rattle.uri_pct.specs.Tokens.{Token, Char, Octet, tokens, tokens_from_chars, bytes_decoded_from}
+use Rattle.uri_pct.specs.Tokens.{bytes_of_one_token}
 use Rattle.uri_pct.specs.Tokens.{is_pct_encoded, text_of_token}
-use Rattle.uri_pct.specs.Prefixes.{begins_hex}
-use Rattle.uri_pct.proofs.Unicode.Characters.{bytes_of_char, is_high, lead, hex_ascii}
-use Rattle.uri_ops.specs.Encoded.{encoded_byte, encoded_text}
-use Rattle.uri_ops.proofs.Meanings.PlainTexts.{ascii_from, utf8_ascii}
-use Rattle.uri_pct.proofs.TableSets.Constants.{hexdigit_past}
-use Rattle.uri_pct.proofs.EncodedTexts.Encodings.{octets_bytes}
-use Rattle.uri_pct.proofs.ValidTexts.Validity.{not_escape}
+use Rattle.uri_pct.specs.Prefixes.{begins_with_hex_digits}
+use Rattle.uri_pct.proofs.Unicode.Characters.{char_has_encoding, is_no_ascii_byte}
+use Rattle.uri_pct.proofs.Unicode.Characters.{char_past_ascii_begins_past_ascii}
+use Rattle.uri_pct.proofs.Unicode.Characters.{hexdigit_is_ascii}
+use Rattle.uri_ops.specs.Encoded.{encode_byte_past_ascii, encode_past_ascii}
+use Rattle.uri_ops.proofs.Meanings.AsciiCharacters.{ascii-bytes-are-ascii-text}
+use Rattle.uri_ops.proofs.Meanings.AsciiCharacters.{ascii-bytes-are-utf8}
+use Rattle.uri_pct.proofs.TableSets.Constants.{past_ascii_is_no_hexdigit}
+use Rattle.uri_pct.proofs.EncodedTexts.Encodings.{octets_decode_to_their_bytes}
+use Rattle.uri_pct.proofs.ValidTexts.Validity.{chars_not_pct_encoded_begin_no_octet}
 
 -- the digits of a byte are two hexadecimal digits of its value
-abbrev are_digits : ℕ → Bool
-are_digits v =
+abbrev has_two_hex_digits : ℕ → Bool
+has_two_hex_digits v =
     let high = digit_glyph true (v / 16) in
     let low = digit_glyph true (v % 16) in
     (is_ascii_hexdigit high && is_ascii_hexdigit low)
     && eqb (16 * digit_value high + digit_value low) v
 
-pub digits_of : (v : ℕ) → v < 256 → are_digits v ≡ true
-digits_of v h = agree_below_at are_digits (λ _. true) 256 v refl h
+-- IRIs as URIs: the digits of the `%XX` of a byte have its value
+pub byte-digits-have-its-value : (v : ℕ) → v < 256 → has_two_hex_digits v ≡ true
+byte-digits-have-its-value v h = agree_below_at has_two_hex_digits (λ _. true) 256 v refl h
 
 -- a character, and an octet of it
 abbrev pub octet_text : ℕ → List ℕ
@@ -42,6 +47,7 @@ octet_text b = text_of_token (Octet b)
 abbrev encoded_char : ℕ → List ℕ
 encoded_char c = cond (ltb c 128) (c ∷ []) (flat_map octet_text (encode_utf8 c))
 
+-- IRIs as URIs: the text of characters of which those past ASCII are percent-encoded
 encoded_chars : List ℕ → List ℕ
 encoded_chars cs = flat_map encoded_char cs
 
@@ -49,221 +55,265 @@ abbrev pub encoded_token : Token → List Token
 encoded_token (Char c) = cond (ltb c 128) (Char c ∷ []) (map Octet (encode_utf8 c))
 encoded_token (Octet value) = Octet value ∷ []
 
--- the bytes of a character past ASCII
-high_bytes : (c : ℕ) → 128 ≤ c → list_all is_high (encode_utf8 c) ≡ true
-high_bytes c h =
-    let w = bytes_of_char c in
-    let first : 128 ≤ w.first = subst (λ n. 128 ≤ n) (ap (λ t. get_or (t ++ []) 0 0) w.spelt)
-    (lead c [] h) in
-    ap (list_all is_high) w.spelt ∙ and_from _ _ (high w.first first) w.high
+-- UTF-8: the bytes of a character past ASCII are all past ASCII
+character-past-ascii-has-no-ascii-byte : (c : ℕ) → 128 ≤ c
+    → list_all is_no_ascii_byte (encode_utf8 c) ≡ true
+character-past-ascii-has-no-ascii-byte c h =
+    let w = char_has_encoding c in
+    let first : 128 ≤ w.first = subst (λ n. 128 ≤ n) (ap (λ t. get_or (t ++ []) 0 0) w.joined)
+    (char_past_ascii_begins_past_ascii c [] h) in
+    ap (list_all is_no_ascii_byte) w.joined ∙ and_from _ _ (high w.first first) w.high
   where
-    high : (b : ℕ) → 128 ≤ b → is_high b ≡ true
+    high : (b : ℕ) → 128 ≤ b → is_no_ascii_byte b ≡ true
     high b h = grind (arith, nat_tests)
 
-scalar_below : (c : ℕ) → IsScalar c → c < 0x110000
-scalar_below c s = grind (arith, nat_tests)
+-- a Unicode scalar value is below 0x110000, for its UTF-8
+scalar-is-below-0x110000 : (c : ℕ) → IsScalar c → c < 0x110000
+scalar-is-below-0x110000 c s = grind (arith, nat_tests)
 
 unfoldable pub is_byte : ℕ → Bool
 is_byte b = ltb b 256
 
-byte : (b : ℕ) → b < 256 → is_byte b ≡ true
+-- general fact on numbers, for octets: one below 256 is a byte
+number-below-256-is-byte : (b : ℕ) → b < 256 → is_byte b ≡ true
 unfolding is_byte
-byte b h = lt-ltb b 256 h
+number-below-256-is-byte b h = lt-ltb b 256 h
 
-pub are_bytes : (c : ℕ) → IsScalar c → list_all is_byte (encode_utf8 c) ≡ true
+-- IRIs as URIs: a character in UTF-8 is a list of bytes
+pub utf8-of-character-is-bytes : (c : ℕ) → IsScalar c → list_all is_byte (encode_utf8 c) ≡ true
 unfolding encode_utf8
-are_bytes c s =
-    let most = scalar_below c s in
+utf8-of-character-is-bytes c s =
+    let most = scalar-is-below-0x110000 c s in
     ⊎_elim
-    (λ h. let e = lt-ltb c 128 h in rw e (and_from _ _ (byte c (omega arith)) refl))
+    (λ h. let e = lt-ltb c 128 h in rw e
+    (and_from _ _ (number-below-256-is-byte c (omega arith)) refl))
     (λ h. let e = le-ltb c 128 h in rw e (⊎_elim
     (λ k. let f = lt-ltb c 2048 k in
-    rw f (and_from _ _ (byte (192 + c / 64) (omega arith))
-    (and_from _ _ (byte (128 + c % 64) (omega arith)) refl)))
+    rw f (and_from _ _ (number-below-256-is-byte (192 + c / 64) (omega arith))
+    (and_from _ _ (number-below-256-is-byte (128 + c % 64) (omega arith)) refl)))
     (λ k. let f = le-ltb c 2048 k in rw f (⊎_elim
     (λ m. let g = lt-ltb c 65536 m in
-    rw g (and_from _ _ (byte (224 + c / 4096) (omega arith))
-    (and_from _ _ (byte (128 + c / 64 % 64) (omega arith))
-    (and_from _ _ (byte (128 + c % 64) (omega arith)) refl))))
+    rw g (and_from _ _ (number-below-256-is-byte (224 + c / 4096) (omega arith))
+    (and_from _ _ (number-below-256-is-byte (128 + c / 64 % 64) (omega arith))
+    (and_from _ _ (number-below-256-is-byte (128 + c % 64) (omega arith)) refl))))
     (λ m. let g = le-ltb c 65536 m in
-    rw g (and_from _ _ (byte (240 + c / 262144) (omega arith))
-    (and_from _ _ (byte (128 + c / 4096 % 64) (omega arith))
-    (and_from _ _ (byte (128 + c / 64 % 64) (omega arith))
-    (and_from _ _ (byte (128 + c % 64) (omega arith)) refl)))))
+    rw g (and_from _ _ (number-below-256-is-byte (240 + c / 262144) (omega arith))
+    (and_from _ _ (number-below-256-is-byte (128 + c / 4096 % 64) (omega arith))
+    (and_from _ _ (number-below-256-is-byte (128 + c / 64 % 64) (omega arith))
+    (and_from _ _ (number-below-256-is-byte (128 + c % 64) (omega arith)) refl)))))
     (cases_lt c 65536)))
     (cases_lt c 2048)))
     (cases_lt c 128)
 
-encoded_high : (bs : List ℕ) → list_all is_high bs ≡ true
-    → flat_map encoded_byte bs ≡ flat_map octet_text bs
-encoded_high [] e = refl
-encoded_high (b ∷ bs) e =
-    let p = and_parts (is_high b) (list_all is_high bs) e in
-    ap (λ t. t ++ flat_map encoded_byte bs) (cond-false _ _ _ (not_low b p.0))
-    ∙ ap (λ t. octet_text b ++ t) (encoded_high bs p.1)
+-- IRIs as URIs: bytes past ASCII are encoded as one `%XX` each
+bytes-past-ascii-encode-to-octets : (bs : List ℕ) → list_all is_no_ascii_byte bs ≡ true
+    → flat_map encode_byte_past_ascii bs ≡ flat_map octet_text bs
+bytes-past-ascii-encode-to-octets [] e = refl
+bytes-past-ascii-encode-to-octets (b ∷ bs) e =
+    let p = and_parts (is_no_ascii_byte b) (list_all is_no_ascii_byte bs) e in
+    ap (λ t. t ++ flat_map encode_byte_past_ascii bs) (cond-false _ _ _ (not_low b p.0))
+    ∙ ap (λ t. octet_text b ++ t) (bytes-past-ascii-encode-to-octets bs p.1)
   where
-    not_low : (b : ℕ) → is_high b ≡ true → ltb b 128 ≡ false
+    not_low : (b : ℕ) → is_no_ascii_byte b ≡ true → ltb b 128 ≡ false
     not_low b e = grind (arith, nat_tests)
 
-char_encoded : (c : ℕ) → flat_map encoded_byte (encode_utf8 c) ≡ encoded_char c
-char_encoded c = ⊎_elim
-    (λ h. ap (flat_map encoded_byte) (encode_ascii c h) ∙ append-nil (encoded_byte c)
+-- IRIs as URIs: the bytes of a character are encoded as the character is
+encoding-of-character-bytes : (c : ℕ) → flat_map encode_byte_past_ascii (encode_utf8 c)
+    ≡ encoded_char c
+encoding-of-character-bytes c = ⊎_elim
+    (λ h. ap (flat_map encode_byte_past_ascii) (encode_ascii c h)
+    ∙ append-nil (encode_byte_past_ascii c)
     ∙ cond-true _ _ _ (lt-ltb c 128 h) ∙ sym (cond-true _ _ _ (lt-ltb c 128 h)))
-    (λ h. encoded_high (encode_utf8 c) (high_bytes c h) ∙ sym (cond-false _ _ _ (le-ltb c 128 h)))
+    (λ h. bytes-past-ascii-encode-to-octets (encode_utf8 c)
+    (character-past-ascii-has-no-ascii-byte c h) ∙ sym (cond-false _ _ _ (le-ltb c 128 h)))
     (cases_lt c 128)
 
-encoded_text-encodes : (cs : List ℕ) → encoded_text (encode_utf8_all cs) ≡ encoded_chars cs
-unfolding encoded_text encoded_chars
-encoded_text-encodes [] = refl
-encoded_text-encodes (c ∷ cs) =
-    flat_map-append encoded_byte (encode_utf8 c) (encode_utf8_all cs)
-    ∙ ap (λ t. t ++ flat_map encoded_byte (encode_utf8_all cs)) (char_encoded c)
-    ∙ ap (λ t. encoded_char c ++ t) (encoded_text-encodes cs)
+-- IRIs as URIs: a text is encoded character by character
+encoding-is-character-by-character : (cs : List ℕ) → encode_past_ascii (encode_utf8_all cs)
+    ≡ encoded_chars cs
+unfolding encode_past_ascii encoded_chars
+encoding-is-character-by-character [] = refl
+encoding-is-character-by-character (c ∷ cs) =
+    flat_map-append encode_byte_past_ascii (encode_utf8 c) (encode_utf8_all cs)
+    ∙ ap (λ t. t ++ flat_map encode_byte_past_ascii (encode_utf8_all cs))
+    (encoding-of-character-bytes c)
+    ∙ ap (λ t. encoded_char c ++ t) (encoding-is-character-by-character cs)
 
--- a text without characters past ASCII
-digits_ascii : (v : ℕ) → v < 256
+-- octets: the digits that one is written with are ASCII
+hex-digit-glyphs-are-ascii : (v : ℕ) → v < 256
     → (ltb (digit_glyph true (v / 16)) 128 && ltb (digit_glyph true (v % 16)) 128) ≡ true
-digits_ascii v h = agree_below_at
+hex-digit-glyphs-are-ascii v h = agree_below_at
     (λ v. ltb (digit_glyph true (v / 16)) 128 && ltb (digit_glyph true (v % 16)) 128) (λ _. true)
     256 v refl h
 
-abbrev is_low : ℕ → Bool
-is_low c = ltb c 128
+abbrev is_ascii_byte : ℕ → Bool
+is_ascii_byte c = ltb c 128
 
-octet_low : (b : ℕ) → is_byte b ≡ true → list_all is_low (octet_text b) ≡ true
+-- IRIs as URIs: the `%XX` of a byte is ASCII
+octet_text-of-byte-is-ascii : (b : ℕ) → is_byte b ≡ true → list_all is_ascii_byte (octet_text b)
+    ≡ true
 unfolding is_byte
-octet_low b e =
-    let p = and_parts _ _ (digits_ascii b (ltb-true b 256 e)) in
+octet_text-of-byte-is-ascii b e =
+    let p = and_parts _ _ (hex-digit-glyphs-are-ascii b (ltb-true b 256 e)) in
     and_from _ _ p.0 (and_from _ true p.1 refl)
 
-octets_low : (bs : List ℕ) → list_all is_byte bs ≡ true
-    → list_all is_low (flat_map octet_text bs) ≡ true
-octets_low [] e = refl
-octets_low (b ∷ bs) e =
+-- IRIs as URIs: the `%XX` of bytes are ASCII
+octet_texts-of-bytes-are-ascii : (bs : List ℕ) → list_all is_byte bs ≡ true
+    → list_all is_ascii_byte (flat_map octet_text bs) ≡ true
+octet_texts-of-bytes-are-ascii [] e = refl
+octet_texts-of-bytes-are-ascii (b ∷ bs) e =
     let p = and_parts (is_byte b) (list_all is_byte bs) e in
-    list_all-append is_low (octet_text b) (flat_map octet_text bs)
-    ∙ and_from _ _ (octet_low b p.0) (octets_low bs p.1)
+    list_all-append is_ascii_byte (octet_text b) (flat_map octet_text bs)
+    ∙ and_from _ _ (octet_text-of-byte-is-ascii b p.0) (octet_texts-of-bytes-are-ascii bs p.1)
 
-chars_low : (cs : List ℕ) → all_scalars cs ≡ true → list_all is_low (encoded_chars cs) ≡ true
+-- IRIs as URIs: encoded characters are ASCII
+encoded-characters-are-ascii : (cs : List ℕ) → all_scalars cs ≡ true
+    → list_all is_ascii_byte (encoded_chars cs) ≡ true
 unfolding encoded_chars
-chars_low [] e = refl
-chars_low (c ∷ cs) e =
+encoded-characters-are-ascii [] e = refl
+encoded-characters-are-ascii (c ∷ cs) e =
     let p = and_parts _ (all_scalars cs) e in
-    list_all-append is_low (encoded_char c) (encoded_chars cs) ∙ and_from _ _ (⊎_elim
-    (λ h. ap (list_all is_low) (cond-true _ _ _ (lt-ltb c 128 h))
+    list_all-append is_ascii_byte (encoded_char c) (encoded_chars cs) ∙ and_from _ _ (⊎_elim
+    (λ h. ap (list_all is_ascii_byte) (cond-true _ _ _ (lt-ltb c 128 h))
     ∙ and_from _ true (lt-ltb c 128 h) refl)
-    (λ h. ap (list_all is_low) (cond-false _ _ _ (le-ltb c 128 h))
-    ∙ octets_low (encode_utf8 c) (are_bytes c p.0))
-    (cases_lt c 128)) (chars_low cs p.1)
+    (λ h. ap (list_all is_ascii_byte) (cond-false _ _ _ (le-ltb c 128 h))
+    ∙ octet_texts-of-bytes-are-ascii (encode_utf8 c) (utf8-of-character-is-bytes c p.0))
+    (cases_lt c 128)) (encoded-characters-are-ascii cs p.1)
 
-encoded_low : (text : List ℕ) → IsUtf8 text → list_all is_low (encoded_text text) ≡ true
-encoded_low text u = ap (λ t. list_all is_low (encoded_text t)) (sym u.1.1)
-    ∙ ap (list_all is_low) (encoded_text-encodes u.0) ∙ chars_low u.0 u.1.0
+-- IRIs as URIs: an encoded text is ASCII
+encoded-text-is-ascii : (text : List ℕ) → IsUtf8 text
+    → list_all is_ascii_byte (encode_past_ascii text) ≡ true
+encoded-text-is-ascii text u = ap (λ t. list_all is_ascii_byte (encode_past_ascii t)) (sym u.1.1)
+    ∙ ap (list_all is_ascii_byte) (encoding-is-character-by-character u.0)
+    ∙ encoded-characters-are-ascii u.0 u.1.0
 
-pub IsUtf8-encoded : (text : List ℕ) → IsUtf8 text → IsUtf8 (encoded_text text)
-IsUtf8-encoded text u = utf8_ascii (encoded_text text) (encoded_low text u)
+-- IRIs as URIs: a text whose characters past ASCII are encoded is UTF-8
+pub encoded-text-is-utf8 : (text : List ℕ) → IsUtf8 text → IsUtf8 (encode_past_ascii text)
+encoded-text-is-utf8 text u = ascii-bytes-are-utf8 (encode_past_ascii text)
+    (encoded-text-is-ascii text u)
 
--- its tokens
-tokens_cons : (c : ℕ) (cs : List ℕ) → (eqb c 37 && begins_hex cs) ≡ false
-    → tokens_of (c ∷ cs) ≡ Char c ∷ tokens_of cs
-unfolding tokens_of is_pct_encoded begins_hex
-tokens_cons c [] e = refl
-tokens_cons c (d ∷ []) e = refl
-tokens_cons c (h ∷ l ∷ cs) e = cond-false _ _ _ e
+-- tokens: a character that begins no percent-encoded octet is a token by itself
+tokens-begin-with-literal-character : (c : ℕ) (cs : List ℕ)
+    → (eqb c 37 && begins_with_hex_digits cs) ≡ false
+    → tokens_from_chars (c ∷ cs) ≡ Char c ∷ tokens_from_chars cs
+unfolding tokens_from_chars is_pct_encoded begins_with_hex_digits
+tokens-begin-with-literal-character c [] e = refl
+tokens-begin-with-literal-character c (d ∷ []) e = refl
+tokens-begin-with-literal-character c (h ∷ l ∷ cs) e = cond-false _ _ _ e
 
-octet_first : (b : ℕ) (cs : List ℕ) → is_byte b ≡ true
-    → tokens_of (octet_text b ++ cs) ≡ Octet b ∷ tokens_of cs
-unfolding is_byte tokens_of is_pct_encoded
-octet_first b cs e =
-    let p = and_parts _ _ (digits_of b (ltb-true b 256 e)) in
-    cond-true _ _ _ p.0 ∙ ap (λ n. Octet n ∷ tokens_of cs) (eqb-true _ b p.1)
+-- tokens: a `%XX` at the start is the octet of its byte
+tokens-begin-with-octet : (b : ℕ) (cs : List ℕ) → is_byte b ≡ true
+    → tokens_from_chars (octet_text b ++ cs) ≡ Octet b ∷ tokens_from_chars cs
+unfolding is_byte tokens_from_chars is_pct_encoded
+tokens-begin-with-octet b cs e =
+    let p = and_parts _ _ (byte-digits-have-its-value b (ltb-true b 256 e)) in
+    cond-true _ _ _ p.0 ∙ ap (λ n. Octet n ∷ tokens_from_chars cs) (eqb-true _ b p.1)
 
-octets_first : (bs cs : List ℕ) → list_all is_byte bs ≡ true
-    → tokens_of (flat_map octet_text bs ++ cs) ≡ map Octet bs ++ tokens_of cs
-octets_first [] cs e = refl
-octets_first (b ∷ bs) cs e =
+-- tokens: a run of `%XX` at the start is the octets of its bytes
+tokens-begin-with-octets : (bs cs : List ℕ) → list_all is_byte bs ≡ true
+    → tokens_from_chars (flat_map octet_text bs ++ cs) ≡ map Octet bs ++ tokens_from_chars cs
+tokens-begin-with-octets [] cs e = refl
+tokens-begin-with-octets (b ∷ bs) cs e =
     let p = and_parts (is_byte b) (list_all is_byte bs) e in
-    ap tokens_of (append_assoc (octet_text b) (flat_map octet_text bs) cs)
-    ∙ octet_first b (flat_map octet_text bs ++ cs) p.0
-    ∙ ap (λ ts. Octet b ∷ ts) (octets_first bs cs p.1)
+    ap tokens_from_chars (append_assoc (octet_text b) (flat_map octet_text bs) cs)
+    ∙ tokens-begin-with-octet b (flat_map octet_text bs ++ cs) p.0
+    ∙ ap (λ ts. Octet b ∷ ts) (tokens-begin-with-octets bs cs p.1)
 
-percent_first : (c : ℕ) (cs : List ℕ) → 128 ≤ c → get_or (encoded_chars (c ∷ cs)) 0 0 ≡ 37
+-- IRIs as URIs: a character past ASCII is encoded as a text that begins with `%` (37)
+encoded-past-ascii-begins-with-percent : (c : ℕ) (cs : List ℕ) → 128 ≤ c
+    → get_or (encoded_chars (c ∷ cs)) 0 0 ≡ 37
 unfolding encoded_chars
-percent_first c cs h =
+encoded-past-ascii-begins-with-percent c cs h =
     ap (λ t. get_or (t ++ encoded_chars cs) 0 0)
-    (cond-false _ _ _ (le-ltb c 128 h) ∙ ap (flat_map octet_text) (bytes_of_char c).spelt)
+    (cond-false _ _ _ (le-ltb c 128 h) ∙ ap (flat_map octet_text) (char_has_encoding c).joined)
 
-hex_first : (cs : List ℕ)
+-- IRIs as URIs: a text begins with a hexadecimal digit exactly if it does when encoded
+encoding-keeps-leading-hex-digit : (cs : List ℕ)
     → is_ascii_hexdigit (get_or (encoded_chars cs) 0 0) ≡ is_ascii_hexdigit (get_or cs 0 0)
 unfolding encoded_chars
-hex_first [] = refl
-hex_first (c ∷ cs) = ⊎_elim
+encoding-keeps-leading-hex-digit [] = refl
+encoding-keeps-leading-hex-digit (c ∷ cs) = ⊎_elim
     (λ h. ap (λ t. is_ascii_hexdigit (get_or (t ++ encoded_chars cs) 0 0))
     (cond-true _ _ _ (lt-ltb c 128 h)))
-    (λ h. ap is_ascii_hexdigit (percent_first c cs h) ∙ sym (hexdigit_past c h))
+    (λ h. ap is_ascii_hexdigit (encoded-past-ascii-begins-with-percent c cs h)
+    ∙ sym (past_ascii_is_no_hexdigit c h))
     (cases_lt c 128)
 
-begins_hex-encoded : (cs : List ℕ) → begins_hex (encoded_chars cs) ≡ begins_hex cs
-unfolding begins_hex encoded_chars
-begins_hex-encoded [] = refl
-begins_hex-encoded (c ∷ cs) = ⊎_elim
+-- IRIs as URIs: a text begins with two hexadecimal digits exactly if it does when encoded
+encoding-keeps-two-leading-hex-digits : (cs : List ℕ) → begins_with_hex_digits (encoded_chars cs)
+    ≡ begins_with_hex_digits cs
+unfolding begins_with_hex_digits encoded_chars
+encoding-keeps-two-leading-hex-digits [] = refl
+encoding-keeps-two-leading-hex-digits (c ∷ cs) = ⊎_elim
     (λ h. ap (λ t. is_ascii_hexdigit (get_or (t ++ encoded_chars cs) 0 0)
     && is_ascii_hexdigit (get_or (t ++ encoded_chars cs) 1 0))
     (cond-true _ _ _ (lt-ltb c 128 h))
-    ∙ ap (λ t. is_ascii_hexdigit c && t) (hex_first cs))
-    (λ h. and_left _ _ (ap is_ascii_hexdigit (percent_first c cs h))
-    ∙ sym (and_left _ _ (hexdigit_past c h)))
+    ∙ ap (λ t. is_ascii_hexdigit c && t) (encoding-keeps-leading-hex-digit cs))
+    (λ h. and_left _ _ (ap is_ascii_hexdigit (encoded-past-ascii-begins-with-percent c cs h))
+    ∙ sym (and_left _ _ (past_ascii_is_no_hexdigit c h)))
     (cases_lt c 128)
 
--- a character that begins no octet
-char_token : (c : ℕ) (cs : List ℕ) → all_scalars (c ∷ cs) ≡ true
-    → (eqb c 37 && begins_hex cs) ≡ false
-    → tokens_of (encoded_chars cs) ≡ flat_map encoded_token (tokens_of cs)
-    → tokens_of (encoded_chars (c ∷ cs)) ≡ flat_map encoded_token (tokens_of (c ∷ cs))
+-- IRIs as URIs: if the tokens of encoded characters are right,
+-- so they are with one more character that begins no octet
+tokens-of-encoded-character : (c : ℕ) (cs : List ℕ) → all_scalars (c ∷ cs) ≡ true
+    → (eqb c 37 && begins_with_hex_digits cs) ≡ false
+    → tokens_from_chars (encoded_chars cs) ≡ flat_map encoded_token (tokens_from_chars cs)
+    → tokens_from_chars (encoded_chars (c ∷ cs))
+    ≡ flat_map encoded_token (tokens_from_chars (c ∷ cs))
 unfolding encoded_chars
-char_token c cs s e ih =
+tokens-of-encoded-character c cs s e ih =
     let p = and_parts _ (all_scalars cs) s in
     ⊎_elim
     (λ h.
-    ap (λ t. tokens_of (t ++ encoded_chars cs)) (cond-true _ _ _ (lt-ltb c 128 h))
-    ∙ tokens_cons c (encoded_chars cs) (ap (λ t. eqb c 37 && t) (begins_hex-encoded cs) ∙ e)
+    ap (λ t. tokens_from_chars (t ++ encoded_chars cs)) (cond-true _ _ _ (lt-ltb c 128 h))
+    ∙ tokens-begin-with-literal-character c (encoded_chars cs)
+    (ap (λ t. eqb c 37 && t) (encoding-keeps-two-leading-hex-digits cs)
+    ∙ e)
     ∙ ap (λ ts. Char c ∷ ts) ih
-    ∙ sym (ap (flat_map encoded_token) (tokens_cons c cs e)
-    ∙ ap (λ t. t ++ flat_map encoded_token (tokens_of cs)) (cond-true _ _ _ (lt-ltb c 128 h))))
+    ∙ sym (ap (flat_map encoded_token) (tokens-begin-with-literal-character c cs e)
+    ∙ ap (λ t. t ++ flat_map encoded_token (tokens_from_chars cs))
+    (cond-true _ _ _ (lt-ltb c 128 h))))
     (λ h.
-    ap (λ t. tokens_of (t ++ encoded_chars cs)) (cond-false _ _ _ (le-ltb c 128 h))
-    ∙ octets_first (encode_utf8 c) (encoded_chars cs) (are_bytes c p.0)
+    ap (λ t. tokens_from_chars (t ++ encoded_chars cs)) (cond-false _ _ _ (le-ltb c 128 h))
+    ∙ tokens-begin-with-octets (encode_utf8 c) (encoded_chars cs) (utf8-of-character-is-bytes c p.0)
     ∙ ap (λ ts. map Octet (encode_utf8 c) ++ ts) ih
-    ∙ sym (ap (flat_map encoded_token) (tokens_cons c cs e)
-    ∙ ap (λ t. t ++ flat_map encoded_token (tokens_of cs)) (cond-false _ _ _ (le-ltb c 128 h))))
+    ∙ sym (ap (flat_map encoded_token) (tokens-begin-with-literal-character c cs e)
+    ∙ ap (λ t. t ++ flat_map encoded_token (tokens_from_chars cs))
+    (cond-false _ _ _ (le-ltb c 128 h))))
     (cases_lt c 128)
 
-opened : (c h l : ℕ) → is_pct_encoded c h l ≡ true
+-- tokens: an octet is `%` (37) and two hexadecimal digits
+pct-encoded-is-percent-and-hex-digits : (c h l : ℕ) → is_pct_encoded c h l ≡ true
     → (eqb c 37 && (is_ascii_hexdigit h && is_ascii_hexdigit l)) ≡ true
 unfolding is_pct_encoded
-opened c h l e = e
+pct-encoded-is-percent-and-hex-digits c h l e = e
 
-no_digits : (cs : List ℕ) → cs ≡ [] → begins_hex cs ≡ false
-unfolding begins_hex
-no_digits [] e = refl
-no_digits (c ∷ cs) e = cc
+-- tokens: the empty text does not begin with two hexadecimal digits
+empty-text-begins-with-no-hex-digits : (cs : List ℕ) → cs ≡ [] → begins_with_hex_digits cs ≡ false
+unfolding begins_with_hex_digits
+empty-text-begins-with-no-hex-digits [] e = refl
+empty-text-begins-with-no-hex-digits (c ∷ cs) e = cc
 
-one_digit : (d : ℕ) → begins_hex (d ∷ []) ≡ false
-unfolding begins_hex
-one_digit d = and_right _ _ refl
+-- tokens: a single character is not two hexadecimal digits
+one-character-is-not-two-hex-digits : (d : ℕ) → begins_with_hex_digits (d ∷ []) ≡ false
+unfolding begins_with_hex_digits
+one-character-is-not-two-hex-digits d = and_right _ _ refl
 
-octet_token : (c h l : ℕ) (rest : List ℕ) → is_pct_encoded c h l ≡ true
-    → tokens_of (encoded_chars rest) ≡ flat_map encoded_token (tokens_of rest)
-    → tokens_of (encoded_chars (c ∷ h ∷ l ∷ rest))
-    ≡ flat_map encoded_token (tokens_of (c ∷ h ∷ l ∷ rest))
-unfolding encoded_chars tokens_of
-octet_token c h l rest e ih =
+-- IRIs as URIs: an octet (c, h, l) before a text keeps the tokens
+-- of the encoded text those of the text, encoded
+tokens-of-encoded-octet : (c h l : ℕ) (rest : List ℕ) → is_pct_encoded c h l ≡ true
+    → tokens_from_chars (encoded_chars rest) ≡ flat_map encoded_token (tokens_from_chars rest)
+    → tokens_from_chars (encoded_chars (c ∷ h ∷ l ∷ rest))
+    ≡ flat_map encoded_token (tokens_from_chars (c ∷ h ∷ l ∷ rest))
+unfolding encoded_chars tokens_from_chars
+tokens-of-encoded-octet c h l rest e ih =
     let p = parts c h l e in
-    ap (λ t. tokens_of (t ++ (encoded_char h ++ (encoded_char l ++ encoded_chars rest))))
+    ap (λ t. tokens_from_chars (t ++ (encoded_char h ++ (encoded_char l ++ encoded_chars rest))))
     (cond-true _ _ _ (lt-ltb c 128 p.0))
-    ∙ ap (λ t. tokens_of (c ∷ (t ++ (encoded_char l ++ encoded_chars rest))))
+    ∙ ap (λ t. tokens_from_chars (c ∷ (t ++ (encoded_char l ++ encoded_chars rest))))
     (cond-true _ _ _ (lt-ltb h 128 p.1))
-    ∙ ap (λ t. tokens_of (c ∷ h ∷ (t ++ encoded_chars rest))) (cond-true _ _ _ (lt-ltb l 128 p.2))
+    ∙ ap (λ t. tokens_from_chars (c ∷ h ∷ (t ++ encoded_chars rest)))
+    (cond-true _ _ _ (lt-ltb l 128 p.2))
     ∙ cond-true _ _ _ e ∙ ap (λ ts. Octet (16 * digit_value h + digit_value l) ∷ ts) ih
     ∙ sym (ap (flat_map encoded_token) (cond-true _ _ _ e))
   where
@@ -273,54 +323,64 @@ octet_token c h l rest e ih =
     parts : (c h l : ℕ) → is_pct_encoded c h l ≡ true → (c < 128) × (h < 128) × (l < 128)
     parts c h l e =
         let p = and_parts (eqb c 37) (is_ascii_hexdigit h && is_ascii_hexdigit l)
-        (opened c h l e) in
+        (pct-encoded-is-percent-and-hex-digits c h l e) in
         let q = and_parts (is_ascii_hexdigit h) (is_ascii_hexdigit l) p.1 in
-        (percent_low c p.0, hex_ascii h q.0, hex_ascii l q.1)
+        (percent_low c p.0, hexdigit_is_ascii h q.0, hexdigit_is_ascii l q.1)
 
-tokens_encoded : (cs : List ℕ) → all_scalars cs ≡ true
-    → tokens_of (encoded_chars cs) ≡ flat_map encoded_token (tokens_of cs)
-unfolding tokens_of encoded_chars
-tokens_encoded [] s = refl
-tokens_encoded (c ∷ []) s = char_token c [] s (and_right _ _ (no_digits [] refl)) refl
-tokens_encoded (c ∷ d ∷ []) s =
-    char_token c (d ∷ []) s (and_right _ _ (one_digit d))
-    (tokens_encoded (d ∷ []) (and_parts _ _ s).1)
-tokens_encoded (c ∷ h ∷ l ∷ rest) s =
+-- IRIs as URIs: the tokens of encoded characters are those of the characters, each encoded
+tokens-of-encoded-characters : (cs : List ℕ) → all_scalars cs ≡ true
+    → tokens_from_chars (encoded_chars cs) ≡ flat_map encoded_token (tokens_from_chars cs)
+unfolding tokens_from_chars encoded_chars
+tokens-of-encoded-characters [] s = refl
+tokens-of-encoded-characters (c ∷ []) s = tokens-of-encoded-character c [] s
+    (and_right _ _ (empty-text-begins-with-no-hex-digits [] refl)) refl
+tokens-of-encoded-characters (c ∷ d ∷ []) s =
+    tokens-of-encoded-character c (d ∷ []) s (and_right _ _ (one-character-is-not-two-hex-digits d))
+    (tokens-of-encoded-characters (d ∷ []) (and_parts _ _ s).1)
+tokens-of-encoded-characters (c ∷ h ∷ l ∷ rest) s =
     let p = and_parts _ (all_scalars (h ∷ l ∷ rest)) s in
     let q = and_parts _ (all_scalars (l ∷ rest)) p.1 in
     let r = and_parts _ (all_scalars rest) q.1 in
     ⊎_elim
-    (λ e. octet_token c h l rest e (tokens_encoded rest r.1))
-    (λ e. char_token c (h ∷ l ∷ rest) s (not_escape c h l rest e)
-    (tokens_encoded (h ∷ l ∷ rest) p.1))
+    (λ e. tokens-of-encoded-octet c h l rest e (tokens-of-encoded-characters rest r.1))
+    (λ e. tokens-of-encoded-character c (h ∷ l ∷ rest) s
+    (chars_not_pct_encoded_begin_no_octet c h l rest e)
+    (tokens-of-encoded-characters (h ∷ l ∷ rest) p.1))
     (cases_Bool (is_pct_encoded c h l))
 
-pub tokens-encoded : (text : List ℕ) → IsUtf8 text
-    → tokens (encoded_text text) ≡ flat_map encoded_token (tokens text)
-tokens-encoded text u =
+-- IRIs as URIs: the tokens of an encoded text are those of the text, each encoded
+pub tokens-of-encoded-text : (text : List ℕ) → IsUtf8 text
+    → tokens (encode_past_ascii text) ≡ flat_map encoded_token (tokens text)
+tokens-of-encoded-text text u =
     let same : text ≡ encode_utf8_all u.0 = sym u.1.1 in
-    let spelt : encoded_text text ≡ encoded_chars u.0 = ap encoded_text same
-    ∙ encoded_text-encodes u.0 in
-    ap tokens_of (chars-IsAscii (encoded_text text)
-    (ascii_from (encoded_text text) (encoded_low text u)) ∙ spelt)
-    ∙ tokens_encoded u.0 u.1.0
-    ∙ ap (λ cs. flat_map encoded_token (tokens_of cs))
+    let joined : encode_past_ascii text ≡ encoded_chars u.0 = ap encode_past_ascii same
+    ∙ encoding-is-character-by-character u.0 in
+    ap tokens_from_chars (chars-IsAscii (encode_past_ascii text)
+    (ascii-bytes-are-ascii-text (encode_past_ascii text) (encoded-text-is-ascii text u)) ∙ joined)
+    ∙ tokens-of-encoded-characters u.0 u.1.0
+    ∙ ap (λ cs. flat_map encoded_token (tokens_from_chars cs))
     (sym (ap chars same ∙ chars-encodes u.0 u.1.0))
 
-bytes_of_encoded : (t : Token) → token_bytes (encoded_token t) ≡ bytes_of_token t
-bytes_of_encoded (Octet value) = refl
-bytes_of_encoded (Char c) = ⊎_elim
-    (λ e. ap token_bytes (cond-true _ _ _ e) ∙ append-nil (encode_utf8 c))
-    (λ e. ap token_bytes (cond-false _ _ _ e) ∙ octets_bytes (encode_utf8 c))
+-- IRIs as URIs: an encoded token decodes to the bytes of the token
+encoded-token-has-same-bytes : (t : Token) → bytes_decoded_from (encoded_token t)
+    ≡ bytes_of_one_token t
+encoded-token-has-same-bytes (Octet value) = refl
+encoded-token-has-same-bytes (Char c) = ⊎_elim
+    (λ e. ap bytes_decoded_from (cond-true _ _ _ e) ∙ append-nil (encode_utf8 c))
+    (λ e. ap bytes_decoded_from (cond-false _ _ _ e) ∙ octets_decode_to_their_bytes (encode_utf8 c))
     (cases_Bool (ltb c 128))
 
-bytes_encoded : (ts : List Token) → token_bytes (flat_map encoded_token ts) ≡ token_bytes ts
-bytes_encoded [] = refl
-bytes_encoded (t ∷ ts) =
-    flat_map-append bytes_of_token (encoded_token t) (flat_map encoded_token ts)
-    ∙ ap (λ x. x ++ token_bytes (flat_map encoded_token ts)) (bytes_of_encoded t)
-    ∙ ap (λ x. bytes_of_token t ++ x) (bytes_encoded ts)
+-- IRIs as URIs: encoded tokens decode to the bytes of the tokens
+encoded-tokens-have-same-bytes : (ts : List Token) → bytes_decoded_from (flat_map encoded_token ts)
+    ≡ bytes_decoded_from ts
+encoded-tokens-have-same-bytes [] = refl
+encoded-tokens-have-same-bytes (t ∷ ts) =
+    flat_map-append bytes_of_one_token (encoded_token t) (flat_map encoded_token ts)
+    ∙ ap (λ x. x ++ bytes_decoded_from (flat_map encoded_token ts)) (encoded-token-has-same-bytes t)
+    ∙ ap (λ x. bytes_of_one_token t ++ x) (encoded-tokens-have-same-bytes ts)
 
-pub token_bytes-encoded : (text : List ℕ) → IsUtf8 text
-    → token_bytes (tokens (encoded_text text)) ≡ token_bytes (tokens text)
-token_bytes-encoded text u = ap token_bytes (tokens-encoded text u) ∙ bytes_encoded (tokens text)
+-- IRIs as URIs: an encoded text decodes to the same bytes as the text
+pub encoding-keeps-decoded-bytes : (text : List ℕ) → IsUtf8 text
+    → bytes_decoded_from (tokens (encode_past_ascii text)) ≡ bytes_decoded_from (tokens text)
+encoding-keeps-decoded-bytes text u = ap bytes_decoded_from (tokens-of-encoded-text text u)
+    ∙ encoded-tokens-have-same-bytes (tokens text)

@@ -3,13 +3,18 @@ use Rattle.std.proofs.Common.{◌≡◌, ℕ, ◌+◌, false, List, [], ◌++◌
 use Rattle.std.proofs.Common.{length-append, append-nil}
 use Rattle.std.specs.Prelude.{codes, Option, Some, None, option_map, unwrap_or}
 use Rattle.uri_parts.specs.Components.{recompose}
-use Rattle.uri_ops.specs.declared.build.draft.Lengths.{Lengths}
+use Rattle.uri_ops.specs.declared.build.lengths.Lengths.{Lengths}
 use Rattle.uri_ops.specs.BuilderParts.{BuilderParts, with_authority, with_fragment}
 use Rattle.uri_ops.specs.BuilderParts.{with_more_authority, with_path, with_query, with_scheme}
-use Rattle.uri_ops.specs.Drafts.{IsDraft, behind_part, part_in, parts_in}
-use Rattle.uri_ops.proofs.Builders.Drafting.{IsStep, authority_text, fragment_text, more_text}
-use Rattle.uri_ops.proofs.Builders.Drafting.{path_text, query_text, stepped}
+use Rattle.uri_ops.specs.Drafts.{IsDraft, after_part, part_in, parts_in}
+use Rattle.uri_ops.proofs.Builders.Drafting.{IsDraftOfParts, recompose-with-authority-appended}
+use Rattle.uri_ops.proofs.Builders.Drafting.{recompose-with-fragment-appended}
+use Rattle.uri_ops.proofs.Builders.Drafting.{recompose-with-longer-authority}
+use Rattle.uri_ops.proofs.Builders.Drafting.{recompose-with-path-appended}
+use Rattle.uri_ops.proofs.Builders.Drafting.{recompose-with-query-appended}
+use Rattle.uri_ops.proofs.Builders.Drafting.{text-of-parts-is-their-draft}
 
+-- the text of five components, each with its delimiters
 abbrev whole : Option (List ℕ) → Option (List ℕ) → List ℕ → Option (List ℕ) → Option (List ℕ)
     → List ℕ
 whole scheme authority path query fragment =
@@ -27,126 +32,139 @@ module _ (lengths : Lengths) (text : List ℕ) (draft : IsDraft lengths text) wh
   old = parts_in lengths text false
 
   abbrev rest : List ℕ
-  rest = behind_part 1 lengths.scheme text
+  rest = after_part 1 lengths.scheme text
 
   abbrev from_path : List ℕ
-  from_path = behind_part 2 lengths.authority rest
+  from_path = after_part 2 lengths.authority rest
 
   abbrev from_query : List ℕ
-  from_query = behind_part 0 lengths.path from_path
+  from_query = after_part 0 lengths.path from_path
 
   abbrev from_fragment : List ℕ
-  from_fragment = behind_part 1 lengths.query from_query
+  from_fragment = after_part 1 lengths.query from_query
 
-  no_scheme : lengths.scheme ≡ None → old.scheme ≡ None
+  scheme-without-length-is-absent : lengths.scheme ≡ None → old.scheme ≡ None
   unfolding old
-  no_scheme e = ap (λ n. part_in 0 n text) e
+  scheme-without-length-is-absent e = ap (λ n. part_in 0 n text) e
 
-  no_authority : lengths.authority ≡ None → old.authority ≡ None
+  authority-without-length-is-absent : lengths.authority ≡ None → old.authority ≡ None
   unfolding old
-  no_authority e = ap (λ n. part_in 2 n rest) e
+  authority-without-length-is-absent e = ap (λ n. part_in 2 n rest) e
 
-  no_path : lengths.path ≡ None → old.path ≡ None
+  path-without-length-is-absent : lengths.path ≡ None → old.path ≡ None
   unfolding old
-  no_path e = ap (λ n. part_in 0 n from_path) e
+  path-without-length-is-absent e = ap (λ n. part_in 0 n from_path) e
 
-  no_query : lengths.query ≡ None → old.query ≡ None
+  query-without-length-is-absent : lengths.query ≡ None → old.query ≡ None
   unfolding old
-  no_query e = ap (λ n. part_in 1 n from_query) e
+  query-without-length-is-absent e = ap (λ n. part_in 1 n from_query) e
 
-  no_fragment : lengths.fragment ≡ None → old.fragment ≡ None
+  fragment-without-length-is-absent : lengths.fragment ≡ None → old.fragment ≡ None
   unfolding old
-  no_fragment e = ap (λ n. part_in 1 n from_fragment) e
+  fragment-without-length-is-absent e = ap (λ n. part_in 1 n from_fragment) e
 
   -- the old text, and a new part after it
-  longer : (more : List ℕ)
+  longer-text-is-parts-and-more : (more : List ℕ)
       → text ++ more
       ≡ whole old.scheme old.authority (unwrap_or old.path []) old.query old.fragment ++ more
   unfolding old
-  longer more = ap (λ t. t ++ more) (sym draft.whole)
+  longer-text-is-parts-and-more more = ap (λ t. t ++ more) (sym draft.whole)
 
-  pub scheme_step : (x : List ℕ) → lengths.scheme ≡ None → lengths.authority ≡ None
+  pub text-with-scheme-is-draft : (x : List ℕ) → lengths.scheme ≡ None → lengths.authority ≡ None
       → lengths.path ≡ None → lengths.query ≡ None → lengths.fragment ≡ None
-      → IsStep (with_scheme x (parts_in lengths text false))
+      → IsDraftOfParts (with_scheme x (parts_in lengths text false))
       (record lengths { scheme = Some (length x) }) (text ++ (x ++ codes ":"))
   unfolding old
-  scheme_step x s a p q f =
-      stepped (with_scheme x old) (record lengths { scheme = Some (length x) })
+  text-with-scheme-is-draft x s a p q f =
+      text-of-parts-is-their-draft (with_scheme x old) (record lengths { scheme = Some (length x) })
       (text ++ (x ++ codes ":")) refl
       (ap (λ (l : Lengths). record l { scheme = Some (length x) }) (sym draft.counted))
-      (longer (x ++ codes ":")
-      ∙ (λ i. whole (no_scheme s i) (no_authority a i) (unwrap_or (no_path p i) []) (no_query q i)
-      (no_fragment f i) ++ (x ++ codes ":"))
+      (longer-text-is-parts-and-more (x ++ codes ":")
+      ∙ (λ i. whole (scheme-without-length-is-absent s i) (authority-without-length-is-absent a i)
+      (unwrap_or (path-without-length-is-absent p i) []) (query-without-length-is-absent q i)
+      (fragment-without-length-is-absent f i) ++ (x ++ codes ":"))
       ∙ sym (append-nil (x ++ codes ":"))
-      ∙ sym (λ i. whole (Some x) (no_authority a i) (unwrap_or (no_path p i) []) (no_query q i)
-      (no_fragment f i)))
+      ∙ sym (λ i. whole (Some x) (authority-without-length-is-absent a i)
+      (unwrap_or (path-without-length-is-absent p i) []) (query-without-length-is-absent q i)
+      (fragment-without-length-is-absent f i)))
 
-  pub authority_step : (x : List ℕ) → lengths.authority ≡ None → lengths.path ≡ None
+  pub text-with-authority-is-draft : (x : List ℕ) → lengths.authority ≡ None → lengths.path ≡ None
       → lengths.query ≡ None → lengths.fragment ≡ None
-      → IsStep (with_authority x (parts_in lengths text false))
+      → IsDraftOfParts (with_authority x (parts_in lengths text false))
       (record lengths { authority = Some (length x) }) (text ++ (codes "//" ++ x))
   unfolding old
-  authority_step x a p q f =
-      stepped (with_authority x old) (record lengths { authority = Some (length x) })
+  text-with-authority-is-draft x a p q f =
+      text-of-parts-is-their-draft (with_authority x old)
+      (record lengths { authority = Some (length x) })
       (text ++ (codes "//" ++ x)) refl
       (ap (λ (l : Lengths). record l { authority = Some (length x) }) (sym draft.counted))
-      (longer (codes "//" ++ x)
-      ∙ (λ i. whole old.scheme (no_authority a i) (unwrap_or (no_path p i) []) (no_query q i)
-      (no_fragment f i) ++ (codes "//" ++ x))
-      ∙ authority_text old.scheme x
-      ∙ sym (λ i. whole old.scheme (Some x) (unwrap_or (no_path p i) []) (no_query q i)
-      (no_fragment f i)))
+      (longer-text-is-parts-and-more (codes "//" ++ x)
+      ∙ (λ i. whole old.scheme (authority-without-length-is-absent a i)
+      (unwrap_or (path-without-length-is-absent p i) []) (query-without-length-is-absent q i)
+      (fragment-without-length-is-absent f i) ++ (codes "//" ++ x))
+      ∙ recompose-with-authority-appended old.scheme x
+      ∙ sym (λ i. whole old.scheme (Some x) (unwrap_or (path-without-length-is-absent p i) [])
+      (query-without-length-is-absent q i)
+      (fragment-without-length-is-absent f i)))
 
-  pub path_step : (x : List ℕ) → lengths.path ≡ None → lengths.query ≡ None
+  pub text-with-path-is-draft : (x : List ℕ) → lengths.path ≡ None → lengths.query ≡ None
       → lengths.fragment ≡ None
-      → IsStep (with_path x (parts_in lengths text false))
+      → IsDraftOfParts (with_path x (parts_in lengths text false))
       (record lengths { path = Some (length x) }) (text ++ x)
   unfolding old
-  path_step x p q f =
-      stepped (with_path x old) (record lengths { path = Some (length x) }) (text ++ x) refl
+  text-with-path-is-draft x p q f =
+      text-of-parts-is-their-draft (with_path x old) (record lengths { path = Some (length x) })
+      (text ++ x) refl
       (ap (λ (l : Lengths). record l { path = Some (length x) }) (sym draft.counted))
-      (longer x
-      ∙ (λ i. whole old.scheme old.authority (unwrap_or (no_path p i) []) (no_query q i)
-      (no_fragment f i) ++ x)
-      ∙ path_text old.scheme old.authority x
-      ∙ sym (λ i. whole old.scheme old.authority x (no_query q i) (no_fragment f i)))
+      (longer-text-is-parts-and-more x
+      ∙ (λ i. whole old.scheme old.authority (unwrap_or (path-without-length-is-absent p i) [])
+      (query-without-length-is-absent q i)
+      (fragment-without-length-is-absent f i) ++ x)
+      ∙ recompose-with-path-appended old.scheme old.authority x
+      ∙ sym (λ i. whole old.scheme old.authority x (query-without-length-is-absent q i)
+      (fragment-without-length-is-absent f i)))
 
-  pub query_step : (x : List ℕ) → lengths.query ≡ None → lengths.fragment ≡ None
-      → IsStep (with_query x (parts_in lengths text false))
+  pub text-with-query-is-draft : (x : List ℕ) → lengths.query ≡ None → lengths.fragment ≡ None
+      → IsDraftOfParts (with_query x (parts_in lengths text false))
       (record lengths { query = Some (length x) }) (text ++ (codes "?" ++ x))
   unfolding old
-  query_step x q f =
-      stepped (with_query x old) (record lengths { query = Some (length x) })
+  text-with-query-is-draft x q f =
+      text-of-parts-is-their-draft (with_query x old) (record lengths { query = Some (length x) })
       (text ++ (codes "?" ++ x)) refl
       (ap (λ (l : Lengths). record l { query = Some (length x) }) (sym draft.counted))
-      (longer (codes "?" ++ x)
-      ∙ (λ i. whole old.scheme old.authority (unwrap_or old.path []) (no_query q i)
-      (no_fragment f i) ++ (codes "?" ++ x))
-      ∙ query_text old.scheme old.authority (unwrap_or old.path []) x
+      (longer-text-is-parts-and-more (codes "?" ++ x)
+      ∙ (λ i. whole old.scheme old.authority (unwrap_or old.path [])
+      (query-without-length-is-absent q i)
+      (fragment-without-length-is-absent f i) ++ (codes "?" ++ x))
+      ∙ recompose-with-query-appended old.scheme old.authority (unwrap_or old.path []) x
       ∙ sym
-      (λ i. whole old.scheme old.authority (unwrap_or old.path []) (Some x) (no_fragment f i)))
+      (λ i. whole old.scheme old.authority (unwrap_or old.path []) (Some x)
+      (fragment-without-length-is-absent f i)))
 
-  pub fragment_step : (x : List ℕ) → lengths.fragment ≡ None
-      → IsStep (with_fragment x (parts_in lengths text false))
+  pub text-with-fragment-is-draft : (x : List ℕ) → lengths.fragment ≡ None
+      → IsDraftOfParts (with_fragment x (parts_in lengths text false))
       (record lengths { fragment = Some (length x) }) (text ++ (codes "#" ++ x))
   unfolding old
-  fragment_step x f =
-      stepped (with_fragment x old) (record lengths { fragment = Some (length x) })
+  text-with-fragment-is-draft x f =
+      text-of-parts-is-their-draft (with_fragment x old)
+      (record lengths { fragment = Some (length x) })
       (text ++ (codes "#" ++ x)) refl
       (ap (λ (l : Lengths). record l { fragment = Some (length x) }) (sym draft.counted))
-      (longer (codes "#" ++ x)
-      ∙ (λ i. whole old.scheme old.authority (unwrap_or old.path []) old.query (no_fragment f i)
+      (longer-text-is-parts-and-more (codes "#" ++ x)
+      ∙ (λ i. whole old.scheme old.authority (unwrap_or old.path []) old.query
+      (fragment-without-length-is-absent f i)
       ++ (codes "#" ++ x))
-      ∙ fragment_text old.scheme old.authority old.query (unwrap_or old.path []) x)
+      ∙ recompose-with-fragment-appended old.scheme old.authority old.query
+      (unwrap_or old.path []) x)
 
   -- more of an authority that comes last
-  pub more_step : (n : ℕ) (a x : List ℕ) → lengths.authority ≡ Some n
+  pub text-with-more-authority-is-draft : (n : ℕ) (a x : List ℕ) → lengths.authority ≡ Some n
       → (parts_in lengths text false).authority ≡ Some a → lengths.path ≡ None
       → lengths.query ≡ None → lengths.fragment ≡ None
-      → IsStep (with_more_authority x (parts_in lengths text false))
+      → IsDraftOfParts (with_more_authority x (parts_in lengths text false))
       (record lengths { authority = Some (n + length x) }) (text ++ x)
   unfolding old
-  more_step n a x e is p q f =
+  text-with-more-authority-is-draft n a x e is p q f =
       let same : option_map length old.authority ≡ Some n = ap (λ l. l.authority) draft.counted
       ∙ e in
       let len : n ≡ length a =
@@ -155,15 +173,18 @@ module _ (lengths : Lengths) (text : List ℕ) (draft : IsDraft lengths text) wh
       ≡ option_map length (option_map (λ t. t ++ x) old.authority) =
       ap (λ k. Some (k + length x)) len ∙ ap Some (sym (length-append a x))
       ∙ sym (ap (λ o. option_map length (option_map (λ t. t ++ x) o)) is) in
-      stepped (with_more_authority x old) (record lengths { authority = Some (n + length x) })
+      text-of-parts-is-their-draft (with_more_authority x old)
+      (record lengths { authority = Some (n + length x) })
       (text ++ x) refl
       (ap (λ (o : Option ℕ). record lengths { authority = o }) longer_by
       ∙ ap (λ (l : Lengths). record l
       { authority = option_map length (option_map (λ t. t ++ x) old.authority) })
       (sym draft.counted))
-      (longer x
-      ∙ (λ i. whole old.scheme (is i) (unwrap_or (no_path p i) []) (no_query q i) (no_fragment f i)
+      (longer-text-is-parts-and-more x
+      ∙ (λ i. whole old.scheme (is i) (unwrap_or (path-without-length-is-absent p i) [])
+      (query-without-length-is-absent q i) (fragment-without-length-is-absent f i)
       ++ x)
-      ∙ more_text old.scheme a x
-      ∙ sym (λ i. whole old.scheme (option_map (λ t. t ++ x) (is i)) (unwrap_or (no_path p i) [])
-      (no_query q i) (no_fragment f i)))
+      ∙ recompose-with-longer-authority old.scheme a x
+      ∙ sym (λ i. whole old.scheme (option_map (λ t. t ++ x) (is i))
+      (unwrap_or (path-without-length-is-absent p i) [])
+      (query-without-length-is-absent q i) (fragment-without-length-is-absent f i)))

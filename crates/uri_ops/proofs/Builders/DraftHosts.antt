@@ -10,30 +10,36 @@ use Rattle.uri_pct.specs.Sets.{TableSet, digit_set}
 use Rattle.uri_pct.specs.Tokens.{is_valid_for}
 use Rattle.uri_parts.specs.Authority.{AuthorityParts, authority_parts, is_authority_for}
 use Rattle.uri_parts.specs.Components.{marked}
-use Rattle.uri_parts.specs.Grammar.{Kind, if_some}
-use Rattle.uri_parts.specs.Positions.{host_end_of, host_start_of, marked_length}
+use Rattle.uri_parts.specs.Grammar.{Kind, absent_or_passes}
+use Rattle.uri_parts.specs.Positions.{host_end_of, host_start_of, delimited_length}
 use Rattle.uri_parts.proofs.Authorities.Authority.{is_authority_for-sound}
 use Rattle.uri_ops.specs.declared.build.draft.Draft.{Draft}
-use Rattle.uri_ops.specs.declared.build.draft.Lengths.{Lengths}
-use Rattle.uri_ops.specs.declared.build.places.HostPlace.{HostPlace}
-use Rattle.uri_ops.specs.BuilderParts.{Adds, BuilderParts, Meets, is_authority_text, is_text_for}
-use Rattle.uri_ops.specs.BuilderParts.{takes_host, takes_port, with_authority, with_more_authority}
-use Rattle.uri_ops.specs.Builders.{draft_parts, ends_in_authority, lacks_path, stands}
+use Rattle.uri_ops.specs.declared.build.lengths.Lengths.{Lengths}
+use Rattle.uri_ops.specs.declared.build.places.HostRange.{HostRange}
+use Rattle.uri_ops.specs.BuilderParts.{AddsOrFails, BuilderParts, MeetsOrFailed, is_authority_text}
+use Rattle.uri_ops.specs.BuilderParts.{is_text_for}
+use Rattle.uri_ops.specs.BuilderParts.{lacks_host_and_port, lacks_port, with_authority}
+use Rattle.uri_ops.specs.BuilderParts.{with_more_authority}
+use Rattle.uri_ops.specs.Builders.{draft_parts, ends_in_authority, lacks_path, is_in_order}
 use Rattle.uri_ops.specs.ComponentSets.{HasComponentSets}
 use Rattle.uri_ops.specs.Dots.{is_empty}
 use Rattle.uri_ops.specs.HostParts.{IsHostText}
-use Rattle.uri_ops.specs.Models.DraftPlaces.{HasHost, IsHostAt, KnowsHost}
-use Rattle.uri_ops.proofs.Builders.BuilderAuthorities.{authority_meets, host_parts, port_parts}
-use Rattle.uri_ops.proofs.Builders.BuilderAuthorities.{user_parts}
-use Rattle.uri_ops.proofs.Builders.Drafting.{rules_of}
-use Rattle.uri_ops.proofs.Builders.PartRules.{at_place, unmarked}
-use Rattle.uri_ops.proofs.Normal.WrittenPlaces.{length-behind, length-before}
+use Rattle.uri_ops.specs.Models.DraftPlaces.{IsHostAtIfSome, IsHostAt, HasRightHostRange}
+use Rattle.uri_ops.proofs.Builders.BuilderAuthorities.{authority-text-meets-rule}
+use Rattle.uri_ops.proofs.Builders.BuilderAuthorities.{host-extends-authority}
+use Rattle.uri_ops.proofs.Builders.BuilderAuthorities.{port-extends-authority}
+use Rattle.uri_ops.proofs.Builders.BuilderAuthorities.{userinfo-begins-authority}
+use Rattle.uri_ops.proofs.Builders.Drafting.{meet_rules-gives-rules}
+use Rattle.uri_ops.proofs.Builders.PartRules.{in-order-parts-pass-their-test, failure-is-kept}
+use Rattle.uri_ops.proofs.Normal.WrittenPlaces.{length-with-delimiter-after}
+use Rattle.uri_ops.proofs.Normal.WrittenPlaces.{length-with-delimiter-before}
 
--- an authority is as long as its parts
-parts_length : (users names : TableSet) (a : List ℕ) → is_authority_for users names a ≡ true
-    → length a ≡ marked_length 1 (authority_parts a).userinfo + length (authority_parts a).host
-    + marked_length 1 (authority_parts a).port
-parts_length users names a e =
+-- building: an authority is as long as userinfo, host and port with their delimiters
+authority-is-as-long-as-its-parts : (users names : TableSet) (a : List ℕ)
+    → is_authority_for users names a ≡ true
+    → length a ≡ delimited_length 1 (authority_parts a).userinfo + length (authority_parts a).host
+    + delimited_length 1 (authority_parts a).port
+authority-is-as-long-as-its-parts users names a e =
     let p = authority_parts a in
     let U : List ℕ = marked [] p.userinfo (codes "@") in
     let P : List ℕ = marked (codes ":") p.port [] in
@@ -43,84 +49,106 @@ parts_length users names a e =
       ap length whole,
       length-append U (p.host ++ P),
       length-append p.host P,
-      length-behind p.userinfo 64,
-      length-before (codes ":") p.port,
+      length-with-delimiter-after p.userinfo 64,
+      length-with-delimiter-before (codes ":") p.port,
     )
 
-pub placed : (users names : TableSet) (place : HostPlace) (a : List ℕ)
+-- building: two positions are those of the host in the authority a,
+-- if they are where its host starts and ends
+pub host-range-from-ends : (users names : TableSet) (place : HostRange) (a : List ℕ)
     → is_authority_for users names a ≡ true → place.start ≡ host_start_of a
     → place.end ≡ host_end_of a → IsHostAt place a
-placed users names place a e s t =
-    record { start = s; end = t; inside = omega (arith, t, parts_length users names a e) }
+host-range-from-ends users names place a e s t =
+    record {
+      start = s;
+      end = t;
+      inside = omega
+          (arith, t, authority-is-as-long-as-its-parts users names a e);
+    }
 
-pub nothing_placed : (place : HostPlace) → place.start ≡ 0 → place.end ≡ 0 → IsHostAt place []
-nothing_placed place s t = record { start = s; end = t; inside = omega (arith, t) }
+-- building: in an empty authority the host is from 0 to 0
+pub empty-authority-has-host-range : (place : HostRange) → place.start ≡ 0 → place.end ≡ 0
+    → IsHostAt place []
+empty-authority-has-host-range place s t = record { start = s; end = t; inside = omega (arith, t) }
 
-pub some_is : (place : HostPlace) (o : Option (List ℕ)) → HasHost place o
+-- building: if there is an authority, the positions are those of its host
+pub host-range-of-some-authority : (place : HostRange) (o : Option (List ℕ))
+    → IsHostAtIfSome place o
     → IfSome o (IsHostAt place)
-some_is place None has = tt
-some_is place (Some a) has = has a refl
+host-range-of-some-authority place None has = tt
+host-range-of-some-authority place (Some a) has = has a refl
 
-is_some : (place : HostPlace) (o : Option (List ℕ)) → IfSome o (IsHostAt place) → HasHost place o
-is_some place o h = λ a e. subst (λ t. IfSome t (IsHostAt place)) e h
+-- building: if positions are those of the host in the authority, if there is one,
+-- they pass the test for an option
+host-range-if-some-authority : (place : HostRange) (o : Option (List ℕ)) → IfSome o (IsHostAt place)
+    → IsHostAtIfSome place o
+host-range-if-some-authority place o h = λ a e. subst (λ t. IfSome t (IsHostAt place)) e h
 
--- a step that leaves the authority as it is
-pub kept_host : (change : BuilderParts → BuilderParts) (d e : Draft)
-    → Adds change (draft_parts d) (draft_parts e) → (change (draft_parts d)).failed ≡ d.failed
+-- building: a step that leaves the authority as it is leaves the host's positions
+pub host-range-stays-with-authority : (change : BuilderParts → BuilderParts) (d e : Draft)
+    → AddsOrFails change (draft_parts d) (draft_parts e) → (change (draft_parts d)).failed
+    ≡ d.failed
     → (change (draft_parts d)).authority ≡ (draft_parts d).authority
-    → e.host ≡ d.host → KnowsHost d → KnowsHost e
-kept_host change d e adds same authority host knows whole =
+    → e.host ≡ d.host → HasRightHostRange d → HasRightHostRange e
+host-range-stays-with-authority change d e adds same authority host knows whole =
     let same_authority = ap (λ (p : BuilderParts). p.authority) (adds whole) ∙ authority in
-    subst (λ h. HasHost h (draft_parts e).authority) (sym host)
-    (subst (HasHost d.host) (sym same_authority)
-    (knows (unmarked change (draft_parts d) (draft_parts e) adds same whole)))
+    subst (λ h. IsHostAtIfSome h (draft_parts e).authority) (sym host)
+    (subst (IsHostAtIfSome d.host) (sym same_authority)
+    (knows (failure-is-kept change (draft_parts d) (draft_parts e) adds same whole)))
 
--- one that gives it
-pub given_host : (x : List ℕ) (d e : Draft)
-    → Adds (with_authority x) (draft_parts d) (draft_parts e) → IsHostAt e.host x → KnowsHost e
-given_host x d e adds at whole =
-    subst (HasHost e.host) (sym (ap (λ (p : BuilderParts). p.authority) (adds whole)))
-    (is_some e.host (Some x) at)
+-- building: a step that gives the authority gives the host's positions
+pub host-range-of-new-authority : (x : List ℕ) (d e : Draft)
+    → AddsOrFails (with_authority x) (draft_parts d) (draft_parts e) → IsHostAt e.host x
+    → HasRightHostRange e
+host-range-of-new-authority x d e adds at whole =
+    subst (IsHostAtIfSome e.host) (sym (ap (λ (p : BuilderParts). p.authority) (adds whole)))
+    (host-range-if-some-authority e.host (Some x) at)
 
 -- and one by which it goes on
 module _ (kind : Kind) (needs : Bool) (d e : Draft) (x : List ℕ) (takes : List ℕ → Bool)
-    (adds : Adds (with_more_authority x) (draft_parts d) (draft_parts e))
-    (meets : Meets kind (draft_parts d))
-    (before : stands (ends_in_authority takes) needs (draft_parts d) ≡ true)
+    (adds : AddsOrFails (with_more_authority x) (draft_parts d) (draft_parts e))
+    (meets : MeetsOrFailed kind (draft_parts d))
+    (before : is_in_order (ends_in_authority takes) needs (draft_parts d) ≡ true)
     (step : e.failed ≡ false → (a : List ℕ) → is_authority_text kind a ≡ true → takes a ≡ true
     → IsHostAt d.host a → unwrap_or e.lengths.authority 0 ≡ length (a ++ x)
     → IsHostAt e.host (a ++ x)) where
-  more : e.failed ≡ false → (o : Option (List ℕ)) → if_some o (is_authority_text kind) ≡ true
+  host-range-of-appended-authority : e.failed ≡ false → (o : Option (List ℕ))
+      → absent_or_passes o (is_authority_text kind)
+      ≡ true
       → option_map_or takes o false ≡ true → IfSome o (IsHostAt d.host)
       → option_map length (option_map (λ t. t ++ x) o) ≡ e.lengths.authority
       → IfSome (option_map (λ t. t ++ x) o) (IsHostAt e.host)
-  more whole None rule t at len = absurd (false≢true t)
-  more whole (Some a) rule t at len = step whole a rule t at (ap (λ o. unwrap_or o 0) (sym len))
+  host-range-of-appended-authority whole None rule t at len = absurd (false≢true t)
+  host-range-of-appended-authority whole (Some a) rule t at len = step whole a rule t at
+      (ap (λ o. unwrap_or o 0) (sym len))
 
-  pub more_host : KnowsHost d → KnowsHost e
-  more_host knows whole =
+  pub host-range-of-longer-authority : HasRightHostRange d → HasRightHostRange e
+  host-range-of-longer-authority knows whole =
       let p = draft_parts d in
-      let was = unmarked (with_more_authority x) p (draft_parts e) adds refl whole in
+      let was = failure-is-kept (with_more_authority x) p (draft_parts e) adds refl whole in
       let is = ap (λ (q : BuilderParts). q.authority) (adds whole) in
-      let h = at_place (ends_in_authority takes) needs p before was in
+      let h = in-order-parts-pass-their-test (ends_in_authority takes) needs p before was in
       let counted = ap (λ (l : Lengths). l.authority) (e.ok whole).counted in
-      subst (HasHost e.host) (sym is)
-      (is_some e.host (with_more_authority x p).authority
-      (more whole p.authority (rules_of kind p (meets was)).authority
+      subst (IsHostAtIfSome e.host) (sym is)
+      (host-range-if-some-authority e.host (with_more_authority x p).authority
+      (host-range-of-appended-authority whole p.authority
+      (meet_rules-gives-rules kind p (meets was)).authority
       (and_parts (option_map_or takes p.authority false) (lacks_path p) h.1).0
-      (some_is d.host p.authority (knows was)) (sym (ap (option_map length) is) ∙ counted)))
+      (host-range-of-some-authority d.host p.authority (knows was)) (sym (ap (option_map length) is)
+      ∙ counted)))
 
 -- by userinfo, by a host, and by a port
-module _ (kind : Kind) (sets : HasComponentSets kind) (old new : HostPlace) (len : ℕ) where
-  pub userinfo_host : (user : List ℕ) → IsUtf8 user → is_valid_for kind.userinfo user ≡ true
+module _ (kind : Kind) (sets : HasComponentSets kind) (old new : HostRange) (len : ℕ) where
+  pub host-range-after-userinfo : (user : List ℕ) → IsUtf8 user → is_valid_for kind.userinfo user
+      ≡ true
       → new.start ≡ len → new.end ≡ len
       → (a : List ℕ) → is_authority_text kind a ≡ true → is_empty a ≡ true → IsHostAt old a
       → len ≡ length (a ++ (user ++ codes "@")) → IsHostAt new (a ++ (user ++ codes "@"))
-  userinfo_host user u valid s t [] rule empty at n =
+  host-range-after-userinfo user u valid s t [] rule empty at n =
       let whole : List ℕ = user ++ codes "@" in
-      let h = user_parts kind sets user u valid in
+      let h = userinfo-begins-authority kind sets user u valid in
       let start : host_start_of whole ≡ 1 + length user =
-      ap (λ (p : AuthorityParts). marked_length 1 p.userinfo) h.parts in
+      ap (λ (p : AuthorityParts). delimited_length 1 p.userinfo) h.parts in
       let host : length (authority_parts whole).host ≡ 0 =
       ap (λ (p : AuthorityParts). length p.host) h.parts in
       let m = length-append user (codes "@") in
@@ -130,20 +158,22 @@ module _ (kind : Kind) (sets : HasComponentSets kind) (old new : HostPlace) (len
             omega (arith, t, n, m, start, host);
         inside = omega (arith, t, n);
       }
-  userinfo_host user u valid s t (c ∷ a) rule empty at n = absurd (false≢true empty)
+  host-range-after-userinfo user u valid s t (c ∷ a) rule empty at n = absurd (false≢true empty)
 
-  pub host_host : (host : List ℕ) → IsHostText kind.reg_name host → new.start ≡ old.start
+  pub host-range-after-host : (host : List ℕ) → IsHostText kind.reg_name host → new.start
+      ≡ old.start
       → new.end ≡ len
-      → (a : List ℕ) → is_authority_text kind a ≡ true → takes_host a ≡ true → IsHostAt old a
+      → (a : List ℕ) → is_authority_text kind a ≡ true → lacks_host_and_port a ≡ true
+      → IsHostAt old a
       → len ≡ length (a ++ host) → IsHostAt new (a ++ host)
-  host_host host text s t a rule takes at n =
-      let h = host_parts kind sets a host rule takes text in
+  host-range-after-host host text s t a rule takes at n =
+      let h = host-extends-authority kind sets a host rule takes text in
       let start : host_start_of (a ++ host) ≡ host_start_of a =
-      ap (λ (p : AuthorityParts). marked_length 1 p.userinfo) h.parts in
-      let port : marked_length 1 (authority_parts (a ++ host)).port ≡ 0 =
-      ap (λ (p : AuthorityParts). marked_length 1 p.port) h.parts in
-      let m = parts_length kind.userinfo kind.reg_name (a ++ host)
-      (authority_meets kind (a ++ host) h.rule) in
+      ap (λ (p : AuthorityParts). delimited_length 1 p.userinfo) h.parts in
+      let port : delimited_length 1 (authority_parts (a ++ host)).port ≡ 0 =
+      ap (λ (p : AuthorityParts). delimited_length 1 p.port) h.parts in
+      let m = authority-is-as-long-as-its-parts kind.userinfo kind.reg_name (a ++ host)
+      (authority-text-meets-rule kind (a ++ host) h.rule) in
       record {
         start = s ∙ at.start ∙ sym start;
         end = omega (arith, t, n, m, port);
@@ -151,18 +181,19 @@ module _ (kind : Kind) (sets : HasComponentSets kind) (old new : HostPlace) (len
             omega (arith, t, n);
       }
 
-  pub port_host : (digits : List ℕ) → is_text_for digit_set digits ≡ true → new ≡ old
-      → (a : List ℕ) → is_authority_text kind a ≡ true → takes_port a ≡ true → IsHostAt old a
+  pub host-range-after-port : (digits : List ℕ) → is_text_for digit_set digits ≡ true → new ≡ old
+      → (a : List ℕ) → is_authority_text kind a ≡ true → lacks_port a ≡ true → IsHostAt old a
       → len ≡ length (a ++ (codes ":" ++ digits)) → IsHostAt new (a ++ (codes ":" ++ digits))
   unfolding is_text_for
-  port_host digits d same a rule takes at n =
+  host-range-after-port digits d same a rule takes at n =
       let text = and_parts (is_utf8 digits) (is_valid_for digit_set digits) d in
       let whole : List ℕ = a ++ (codes ":" ++ digits) in
-      let h = port_parts kind sets a digits rule takes (IsUtf8-from_is_utf8 digits text.0) text.1 in
+      let h = port-extends-authority kind sets a digits rule takes
+      (IsUtf8-from_is_utf8 digits text.0) text.1 in
       let start : host_start_of whole ≡ host_start_of a =
-      ap (λ (p : AuthorityParts). marked_length 1 p.userinfo) h.parts in
+      ap (λ (p : AuthorityParts). delimited_length 1 p.userinfo) h.parts in
       let end : host_end_of whole ≡ host_end_of a =
-      ap (λ (p : AuthorityParts). marked_length 1 p.userinfo + length p.host) h.parts in
+      ap (λ (p : AuthorityParts). delimited_length 1 p.userinfo + length p.host) h.parts in
       subst (λ p. IsHostAt p whole) (sym same)
       (record {
         start = at.start ∙ sym start;

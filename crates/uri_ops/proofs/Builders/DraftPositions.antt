@@ -4,30 +4,39 @@ use Rattle.std.proofs.Common.{arith, length-append, string_bytes, option_map, fa
 use Rattle.std.specs.Prelude.{codes, Option, Some, None, IfSome, unwrap_or}
 use Rattle.uri_parts.specs.declared.positions.AuthorityPositions.{AuthorityPositions}
 use Rattle.uri_parts.specs.Components.{Components, marked}
-use Rattle.uri_parts.specs.Positions.{authority_at, marked_length, positions_of}
+use Rattle.uri_parts.specs.Positions.{authority_at, delimited_length, positions_of}
 use Rattle.uri_ops.specs.declared.build.draft.Draft.{Draft}
-use Rattle.uri_ops.specs.declared.build.draft.Lengths.{Lengths}
-use Rattle.uri_ops.specs.declared.build.places.HostPlace.{HostPlace}
+use Rattle.uri_ops.specs.declared.build.lengths.Lengths.{Lengths}
+use Rattle.uri_ops.specs.declared.build.places.HostRange.{HostRange}
 use Rattle.uri_ops.specs.BuilderParts.{BuilderParts, as_components, parts_text}
 use Rattle.uri_ops.specs.Builders.{draft_parts}
 use Rattle.uri_ops.specs.Drafts.{lengths_of}
-use Rattle.uri_ops.specs.Models.DraftPlaces.{IsHostAt, KnowsHost, authority_by, positions_by, span}
-use Rattle.uri_ops.proofs.Builders.DraftHosts.{some_is}
-use Rattle.uri_ops.proofs.Normal.WrittenPlaces.{length-behind, length-before}
+use Rattle.uri_ops.specs.Models.DraftPlaces.{IsHostAt, HasRightHostRange}
+use Rattle.uri_ops.specs.Models.DraftPlaces.{authority_positions_from_length}
+use Rattle.uri_ops.specs.Models.DraftPlaces.{positions_from_lengths, delimited_len}
+use Rattle.uri_ops.proofs.Builders.DraftHosts.{host-range-of-some-authority}
+use Rattle.uri_ops.proofs.Normal.WrittenPlaces.{length-with-delimiter-after}
+use Rattle.uri_ops.proofs.Normal.WrittenPlaces.{length-with-delimiter-before}
 
-spanned : (marks : ℕ) (o : Option (List ℕ))
-    → span marks (option_map length o) ≡ marked_length marks o
-spanned marks None = refl
-spanned marks (Some x) = refl
+-- building: the length of a component with its delimiters, from the length of the component
+delimited_len-of-component-length : (marks : ℕ) (o : Option (List ℕ))
+    → delimited_len marks (option_map length o) ≡ delimited_length marks o
+delimited_len-of-component-length marks None = refl
+delimited_len-of-component-length marks (Some x) = refl
 
-path_spanned : (o : Option (List ℕ)) → span 0 (option_map length o) ≡ length (unwrap_or o [])
-path_spanned None = refl
-path_spanned (Some x) = omega arith
+-- building: the length of a path, from the length if there is one
+delimited_len-of-path-length : (o : Option (List ℕ)) → delimited_len 0 (option_map length o)
+    ≡ length (unwrap_or o [])
+delimited_len-of-path-length None = refl
+delimited_len-of-path-length (Some x) = omega arith
 
-authority_placed : (place : ℕ) (host : HostPlace) (o : Option (List ℕ)) → IfSome o (IsHostAt host)
-    → option_map (authority_by place host) (option_map length o) ≡ option_map (authority_at place) o
-authority_placed place host None h = refl
-authority_placed place host (Some a) h =
+-- building: the positions of an authority at place, from its length and the host's positions
+authority-positions-from-its-length : (place : ℕ) (host : HostRange) (o : Option (List ℕ))
+    → IfSome o (IsHostAt host)
+    → option_map (authority_positions_from_length place host) (option_map length o)
+    ≡ option_map (authority_at place) o
+authority-positions-from-its-length place host None h = refl
+authority-positions-from-its-length place host (Some a) h =
     let s = h.start in
     let t = h.end in
     λ i. Some (let x : AuthorityPositions =
@@ -39,29 +48,35 @@ authority_placed place host (Some a) h =
           place + length a;
     } in x)
 
-query_placed : (place : ℕ) (o : Option (List ℕ))
+-- building: the end of a query at place, from its length
+query-end-from-its-length : (place : ℕ) (o : Option (List ℕ))
     → option_map (λ n. place + 1 + n) (option_map length o)
     ≡ option_map (λ q. place + 1 + length q) o
-query_placed place None = refl
-query_placed place (Some q) = refl
+query-end-from-its-length place None = refl
+query-end-from-its-length place (Some q) = refl
 
-parts_placed : (p : BuilderParts) (host : HostPlace) → IfSome p.authority (IsHostAt host)
-    → positions_by (lengths_of p) host ≡ positions_of (as_components p)
-parts_placed p host h =
-    let path_start : ℕ = marked_length 1 p.scheme + marked_length 2 p.authority in
+-- building: the positions of all parts, from their lengths and the host's positions
+positions-from-lengths-are-of-parts : (p : BuilderParts) (host : HostRange)
+    → IfSome p.authority (IsHostAt host)
+    → positions_from_lengths (lengths_of p) host ≡ positions_of (as_components p)
+positions-from-lengths-are-of-parts p host h =
+    let path_start : ℕ = delimited_length 1 p.scheme + delimited_length 2 p.authority in
     let path_end : ℕ = path_start + length (unwrap_or p.path []) in
-    let scheme : span 1 (option_map length p.scheme) ≡ marked_length 1 p.scheme =
-    spanned 1 p.scheme in
-    let start : span 1 (option_map length p.scheme) + span 2 (option_map length p.authority)
-    ≡ path_start = omega (arith, scheme, spanned 2 p.authority) in
-    let end : span 1 (option_map length p.scheme) + span 2 (option_map length p.authority)
-    + span 0 (option_map length p.path) ≡ path_end =
-    omega (arith, start, path_spanned p.path) in
-    let authority = ap (λ n. option_map (authority_by (n + 2) host) (option_map length p.authority))
+    let scheme : delimited_len 1 (option_map length p.scheme) ≡ delimited_length 1 p.scheme =
+    delimited_len-of-component-length 1 p.scheme in
+    let start : delimited_len 1 (option_map length p.scheme) + delimited_len 2
+    (option_map length p.authority)
+    ≡ path_start = omega (arith, scheme, delimited_len-of-component-length 2 p.authority) in
+    let end : delimited_len 1 (option_map length p.scheme) + delimited_len 2
+    (option_map length p.authority)
+    + delimited_len 0 (option_map length p.path) ≡ path_end =
+    omega (arith, start, delimited_len-of-path-length p.path) in
+    let authority = ap (λ n. option_map (authority_positions_from_length (n + 2) host)
+    (option_map length p.authority))
     scheme
-    ∙ authority_placed (marked_length 1 p.scheme + 2) host p.authority h in
+    ∙ authority-positions-from-its-length (delimited_length 1 p.scheme + 2) host p.authority h in
     let query = ap (λ m. option_map (λ n. m + 1 + n) (option_map length p.query)) end
-    ∙ query_placed path_end p.query in
+    ∙ query-end-from-its-length path_end p.query in
     λ i. record {
       scheme_end = option_map length p.scheme;
       authority = authority i;
@@ -71,11 +86,12 @@ parts_placed p host h =
       query_end = query i;
     }
 
-parts_inside : (p : BuilderParts)
-    → span 1 (option_map length p.scheme) + span 2 (option_map length p.authority)
-    + span 0 (option_map length p.path) + span 1 (option_map length p.query)
+-- building: the parts with their delimiters, up to the query, are no longer than the text
+part-lengths-are-within-text : (p : BuilderParts)
+    → delimited_len 1 (option_map length p.scheme) + delimited_len 2 (option_map length p.authority)
+    + delimited_len 0 (option_map length p.path) + delimited_len 1 (option_map length p.query)
     ≤ length (parts_text p)
-parts_inside p =
+part-lengths-are-within-text p =
     let c : Components = as_components p in
     let S : List ℕ = marked [] c.scheme (codes ":") in
     let A : List ℕ = marked (codes "//") c.authority [] in
@@ -83,58 +99,71 @@ parts_inside p =
     let F : List ℕ = marked (codes "#") c.fragment [] in
     omega (
       arith,
-      spanned 1 p.scheme,
-      spanned 2 p.authority,
-      path_spanned p.path,
-      spanned 1 p.query,
+      delimited_len-of-component-length 1 p.scheme,
+      delimited_len-of-component-length 2 p.authority,
+      delimited_len-of-path-length p.path,
+      delimited_len-of-component-length 1 p.query,
       length-append S (A ++ (c.path ++ (Q ++ F))),
       length-append A (c.path ++ (Q ++ F)),
       length-append c.path (Q ++ F),
       length-append Q F,
-      length-behind c.scheme 58,
-      length-before (codes "//") c.authority,
-      length-before (codes "?") c.query,
+      length-with-delimiter-after c.scheme 58,
+      length-with-delimiter-before (codes "//") c.authority,
+      length-with-delimiter-before (codes "?") c.query,
     )
 
-starts_inside : (host : HostPlace) (o : Option (List ℕ)) → IfSome o (IsHostAt host)
+-- building: the host begins within the authority, if there is one
+host-start-is-within-authority-length : (host : HostRange) (o : Option (List ℕ))
+    → IfSome o (IsHostAt host)
     → IfSome (option_map length o) (λ n. host.start ≤ n)
-starts_inside host None h = tt
-starts_inside host (Some a) h = omega (arith, h.start, h.end, h.inside)
+host-start-is-within-authority-length host None h = tt
+host-start-is-within-authority-length host (Some a) h = omega (arith, h.start, h.end, h.inside)
 
-ends_inside : (host : HostPlace) (o : Option (List ℕ)) → IfSome o (IsHostAt host)
+-- building: the host ends within the authority, if there is one
+host-end-is-within-authority-length : (host : HostRange) (o : Option (List ℕ))
+    → IfSome o (IsHostAt host)
     → IfSome (option_map length o) (λ n. host.end ≤ n)
-ends_inside host None h = tt
-ends_inside host (Some a) h = h.inside
+host-end-is-within-authority-length host None h = tt
+host-end-is-within-authority-length host (Some a) h = h.inside
 
-module _ (d : Draft) (whole : d.failed ≡ false) (knows : KnowsHost d) where
+module _ (d : Draft) (whole : d.failed ≡ false) (knows : HasRightHostRange d) where
   abbrev parts : BuilderParts
   parts = draft_parts d
 
+  -- the lengths that a draft keeps are the lengths of its parts
   counted : lengths_of parts ≡ d.lengths
   counted = (d.ok whole).counted
 
-  written : parts_text parts ≡ string_bytes d.text
-  written = (d.ok whole).whole
+  text-of-parts-is-draft-text : parts_text parts ≡ string_bytes d.text
+  text-of-parts-is-draft-text = (d.ok whole).whole
 
   host : IfSome parts.authority (IsHostAt d.host)
-  host = some_is d.host parts.authority (knows whole)
+  host = host-range-of-some-authority d.host parts.authority (knows whole)
 
-  pub positions_placed : positions_by d.lengths d.host ≡ positions_of (as_components parts)
-  positions_placed = ap (λ l. positions_by l d.host) (sym counted) ∙ parts_placed parts d.host host
+  pub draft-positions-are-of-its-parts : positions_from_lengths d.lengths d.host
+      ≡ positions_of (as_components parts)
+  draft-positions-are-of-its-parts = ap (λ l. positions_from_lengths l d.host) (sym counted)
+      ∙ positions-from-lengths-are-of-parts parts d.host host
 
-  pub spans_inside : span 1 d.lengths.scheme + span 2 d.lengths.authority + span 0 d.lengths.path
-      + span 1 d.lengths.query ≤ length (string_bytes d.text)
-  spans_inside =
-      subst (λ (l : Lengths). span 1 l.scheme + span 2 l.authority + span 0 l.path + span 1 l.query
+  pub part-lengths-fit-in-text : delimited_len 1 d.lengths.scheme
+      + delimited_len 2 d.lengths.authority + delimited_len 0 d.lengths.path
+      + delimited_len 1 d.lengths.query ≤ length (string_bytes d.text)
+  part-lengths-fit-in-text =
+      subst (λ (l : Lengths). delimited_len 1 l.scheme + delimited_len 2 l.authority
+      + delimited_len 0 l.path + delimited_len 1 l.query
       ≤ length (string_bytes d.text)) counted
-      (subst (λ t. span 1 (option_map length parts.scheme)
-      + span 2 (option_map length parts.authority) + span 0 (option_map length parts.path)
-      + span 1 (option_map length parts.query) ≤ length t) written (parts_inside parts))
+      (subst (λ t. delimited_len 1 (option_map length parts.scheme)
+      + delimited_len 2 (option_map length parts.authority) + delimited_len 0
+      (option_map length parts.path)
+      + delimited_len 1 (option_map length parts.query) ≤ length t) text-of-parts-is-draft-text
+      (part-lengths-are-within-text parts))
 
-  pub host_starts_inside : IfSome d.lengths.authority (λ n. d.host.start ≤ n)
-  host_starts_inside = subst (λ (l : Lengths). IfSome l.authority (λ n. d.host.start ≤ n)) counted
-      (starts_inside d.host parts.authority host)
+  pub host-start-is-in-authority : IfSome d.lengths.authority (λ n. d.host.start ≤ n)
+  host-start-is-in-authority = subst (λ (l : Lengths). IfSome l.authority (λ n. d.host.start ≤ n))
+      counted
+      (host-start-is-within-authority-length d.host parts.authority host)
 
-  pub host_ends_inside : IfSome d.lengths.authority (λ n. d.host.end ≤ n)
-  host_ends_inside = subst (λ (l : Lengths). IfSome l.authority (λ n. d.host.end ≤ n)) counted
-      (ends_inside d.host parts.authority host)
+  pub host-end-is-in-authority : IfSome d.lengths.authority (λ n. d.host.end ≤ n)
+  host-end-is-in-authority = subst (λ (l : Lengths). IfSome l.authority (λ n. d.host.end ≤ n))
+      counted
+      (host-end-is-within-authority-length d.host parts.authority host)

@@ -6,40 +6,45 @@ use Rattle.std.specs.Prelude.{codes, Option, Some, None, option_map, unwrap_or, 
 use Rattle.std.proofs.lemmas.Bool.{and_parts, and_from, false≢true}
 use Rattle.std.proofs.Math.Seq.{drop-append_seam, take-append_seam}
 use Rattle.uri_parts.specs.Components.{marked, recompose}
-use Rattle.uri_parts.specs.Grammar.{Kind, if_some}
-use Rattle.uri_ops.specs.declared.build.draft.Lengths.{Lengths}
+use Rattle.uri_parts.specs.Grammar.{Kind, absent_or_passes}
+use Rattle.uri_ops.specs.declared.build.lengths.Lengths.{Lengths}
 use Rattle.uri_ops.specs.BuilderParts.{BuilderParts, is_authority_text, is_scheme_text, is_text_for}
 use Rattle.uri_ops.specs.BuilderParts.{meet_rules, parts_text}
-use Rattle.uri_ops.specs.Drafts.{IsDraft, behind_part, lengths_of, part_in, parts_in}
+use Rattle.uri_ops.specs.Drafts.{IsDraft, after_part, lengths_of, part_in, parts_in}
 
--- a part with its marks is passed over by its length
-behind_marked : (before behind : List ℕ) (marks : ℕ) → marks ≡ length before + length behind
+-- building: a component with its delimiters (before,
+-- suffix) is passed over by its length, to the rest
+after_part-skips-delimited-component : (before suffix : List ℕ) (marks : ℕ) → marks
+    ≡ length before + length suffix
     → (o : Option (List ℕ)) (rest : List ℕ)
-    → behind_part marks (option_map length o) (marked before o behind ++ rest) ≡ rest
-behind_marked before behind marks e None rest = refl
-behind_marked before behind marks e (Some x) rest =
-    let n : marks + length x ≡ length ((before ++ x) ++ behind) =
-    omega (arith, length-append (before ++ x) behind, length-append before x) in
-    ap (λ k. drop k (((before ++ x) ++ behind) ++ rest)) n
-    ∙ drop-append_seam ((before ++ x) ++ behind) rest
+    → after_part marks (option_map length o) (marked before o suffix ++ rest) ≡ rest
+after_part-skips-delimited-component before suffix marks e None rest = refl
+after_part-skips-delimited-component before suffix marks e (Some x) rest =
+    let n : marks + length x ≡ length ((before ++ x) ++ suffix) =
+    omega (arith, length-append (before ++ x) suffix, length-append before x) in
+    ap (λ k. drop k (((before ++ x) ++ suffix) ++ rest)) n
+    ∙ drop-append_seam ((before ++ x) ++ suffix) rest
 
--- and taken by it
-in_marked : (before behind : List ℕ) (o : Option (List ℕ)) (rest : List ℕ)
-    → part_in (length before) (option_map length o) (marked before o behind ++ rest) ≡ o
-in_marked before behind None rest = refl
-in_marked before behind (Some x) rest =
-    let joined : ((before ++ x) ++ behind) ++ rest ≡ before ++ (x ++ (behind ++ rest)) =
-    append_assoc (before ++ x) behind rest
-    ∙ append_assoc before x (behind ++ rest) in
+-- building: a component after its delimiter (before) is found in the text by its length
+part_in-finds-delimited-component : (before suffix : List ℕ) (o : Option (List ℕ)) (rest : List ℕ)
+    → part_in (length before) (option_map length o) (marked before o suffix ++ rest) ≡ o
+part_in-finds-delimited-component before suffix None rest = refl
+part_in-finds-delimited-component before suffix (Some x) rest =
+    let joined : ((before ++ x) ++ suffix) ++ rest ≡ before ++ (x ++ (suffix ++ rest)) =
+    append_assoc (before ++ x) suffix rest
+    ∙ append_assoc before x (suffix ++ rest) in
     ap (λ t. Some (take (length x) (drop (length before) t))) joined
-    ∙ ap (λ t. Some (take (length x) t)) (drop-append_seam before (x ++ (behind ++ rest)))
-    ∙ ap Some (take-append_seam x (behind ++ rest))
+    ∙ ap (λ t. Some (take (length x) t)) (drop-append_seam before (x ++ (suffix ++ rest)))
+    ∙ ap Some (take-append_seam x (suffix ++ rest))
 
-path_marked : (o : Option (List ℕ)) → unwrap_or o [] ≡ marked [] o []
-path_marked None = refl
-path_marked (Some x) = sym (append-nil x)
+-- building: a path has no delimiters around it
+path-is-component-without-delimiters : (o : Option (List ℕ)) → unwrap_or o [] ≡ marked [] o []
+path-is-component-without-delimiters None = refl
+path-is-component-without-delimiters (Some x) = sym (append-nil x)
 
-same_parts : {s1 s2 a1 a2 p1 p2 q1 q2 f1 f2 : Option (List ℕ)} {failed : Bool} → s1 ≡ s2 → a1 ≡ a2
+-- general fact on records: parts of a builder are equal if each component is
+builder-parts-of-equal-components : {s1 s2 a1 a2 p1 p2 q1 q2 f1 f2 : Option (List ℕ)}
+    {failed : Bool} → s1 ≡ s2 → a1 ≡ a2
     → p1 ≡ p2 → q1 ≡ q2 → f1 ≡ f2
     → (let x : BuilderParts = record {
       scheme = s1;
@@ -51,7 +56,7 @@ same_parts : {s1 s2 a1 a2 p1 p2 q1 q2 f1 f2 : Option (List ℕ)} {failed : Bool}
       failed = failed;
     } in x)
     ≡ record { scheme = s2; authority = a2; path = p2; query = q2; fragment = f2; failed = failed }
-same_parts {failed = failed} s a p q f =
+builder-parts-of-equal-components {failed = failed} s a p q f =
     λ i. record {
       scheme = s i;
       authority = a i;
@@ -62,101 +67,117 @@ same_parts {failed = failed} s a p q f =
           failed;
     }
 
-parts_found : (p : BuilderParts) → parts_in (lengths_of p) (parts_text p) p.failed ≡ p
-parts_found p =
+-- building: the parts that are read back from a text, by their lengths, are those it was made of
+parts_in-of-own-text : (p : BuilderParts) → parts_in (lengths_of p) (parts_text p) p.failed ≡ p
+parts_in-of-own-text p =
     let F : List ℕ = marked (codes "#") p.fragment [] in
     let Q : List ℕ = marked (codes "?") p.query [] ++ F in
     let P : List ℕ = unwrap_or p.path [] ++ Q in
     let A : List ℕ = marked (codes "//") p.authority [] ++ P in
-    let rest : behind_part 1 (option_map length p.scheme) (marked [] p.scheme (codes ":") ++ A)
-    ≡ A = behind_marked [] (codes ":") 1 refl p.scheme A in
-    let path : behind_part 2 (option_map length p.authority) A ≡ P =
-    behind_marked (codes "//") [] 2 refl p.authority P in
-    let marked_path : P ≡ marked [] p.path [] ++ Q = ap (λ t. t ++ Q) (path_marked p.path) in
-    let query : behind_part 0 (option_map length p.path) P ≡ Q =
-    ap (behind_part 0 (option_map length p.path)) marked_path
-    ∙ behind_marked [] [] 0 refl p.path Q in
-    let fragment : behind_part 1 (option_map length p.query) Q ≡ F =
-    behind_marked (codes "?") [] 1 refl p.query F in
-    let to_path = ap (behind_part 2 (option_map length p.authority)) rest ∙ path in
-    let to_query = ap (behind_part 0 (option_map length p.path)) to_path ∙ query in
-    let to_fragment = ap (behind_part 1 (option_map length p.query)) to_query ∙ fragment in
-    same_parts
-    (in_marked [] (codes ":") p.scheme A)
-    (ap (part_in 2 (option_map length p.authority)) rest ∙ in_marked (codes "//") [] p.authority P)
-    (ap (part_in 0 (option_map length p.path)) (to_path ∙ marked_path) ∙ in_marked [] [] p.path Q)
-    (ap (part_in 1 (option_map length p.query)) to_query ∙ in_marked (codes "?") [] p.query F)
+    let rest : after_part 1 (option_map length p.scheme) (marked [] p.scheme (codes ":") ++ A)
+    ≡ A = after_part-skips-delimited-component [] (codes ":") 1 refl p.scheme A in
+    let path : after_part 2 (option_map length p.authority) A ≡ P =
+    after_part-skips-delimited-component (codes "//") [] 2 refl p.authority P in
+    let marked_path : P ≡ marked [] p.path [] ++ Q = ap (λ t. t ++ Q)
+    (path-is-component-without-delimiters p.path) in
+    let query : after_part 0 (option_map length p.path) P ≡ Q =
+    ap (after_part 0 (option_map length p.path)) marked_path
+    ∙ after_part-skips-delimited-component [] [] 0 refl p.path Q in
+    let fragment : after_part 1 (option_map length p.query) Q ≡ F =
+    after_part-skips-delimited-component (codes "?") [] 1 refl p.query F in
+    let to_path = ap (after_part 2 (option_map length p.authority)) rest ∙ path in
+    let to_query = ap (after_part 0 (option_map length p.path)) to_path ∙ query in
+    let to_fragment = ap (after_part 1 (option_map length p.query)) to_query ∙ fragment in
+    builder-parts-of-equal-components
+    (part_in-finds-delimited-component [] (codes ":") p.scheme A)
+    (ap (part_in 2 (option_map length p.authority)) rest
+    ∙ part_in-finds-delimited-component (codes "//") [] p.authority P)
+    (ap (part_in 0 (option_map length p.path)) (to_path ∙ marked_path)
+    ∙ part_in-finds-delimited-component [] [] p.path Q)
+    (ap (part_in 1 (option_map length p.query)) to_query
+    ∙ part_in-finds-delimited-component (codes "?") [] p.query F)
     (ap (part_in 1 (option_map length p.fragment)) (to_fragment ∙ sym (append-nil F))
-    ∙ in_marked (codes "#") [] p.fragment [])
+    ∙ part_in-finds-delimited-component (codes "#") [] p.fragment [])
 
--- a text with its lengths is known by the parts whose text it is
-parts_by_lengths : (p : BuilderParts) (lengths : Lengths) (text : List ℕ)
+-- building: the parts that are read back by their lengths from their text are the parts
+parts-from-their-lengths-and-text : (p : BuilderParts) (lengths : Lengths) (text : List ℕ)
     → lengths ≡ lengths_of p → text ≡ parts_text p → parts_in lengths text p.failed ≡ p
-parts_by_lengths p lengths text n t = ap (λ l. parts_in l text p.failed) n
-    ∙ ap (λ x. parts_in (lengths_of p) x p.failed) t ∙ parts_found p
+parts-from-their-lengths-and-text p lengths text n t = ap (λ l. parts_in l text p.failed) n
+    ∙ ap (λ x. parts_in (lengths_of p) x p.failed) t ∙ parts_in-of-own-text p
 
-drafted : (p : BuilderParts) (lengths : Lengths) (text : List ℕ) → p.failed ≡ false
+-- building: the text of a builder's parts with their lengths is a draft
+text-of-parts-is-draft : (p : BuilderParts) (lengths : Lengths) (text : List ℕ) → p.failed ≡ false
     → lengths ≡ lengths_of p → text ≡ parts_text p → IsDraft lengths text
-drafted p lengths text f n t =
+text-of-parts-is-draft p lengths text f n t =
     let same : parts_in lengths text false ≡ p = ap (parts_in lengths text) (sym f)
-    ∙ parts_by_lengths p lengths text n t in
+    ∙ parts-from-their-lengths-and-text p lengths text n t in
     record {
       whole = ap parts_text same ∙ sym t;
       counted = ap lengths_of same ∙ sym n;
     }
 
 -- a step from a draft: the text and the lengths become those of the parts so changed
-pub record IsStep (p : BuilderParts) (lengths : Lengths) (text : List ℕ) : Type 0 where
+pub record IsDraftOfParts (p : BuilderParts) (lengths : Lengths) (text : List ℕ) : Type 0 where
   pub draft : IsDraft lengths text
   pub parts : parts_in lengths text false ≡ p
 
-pub stepped : (p : BuilderParts) (lengths : Lengths) (text : List ℕ) → p.failed ≡ false
-    → lengths ≡ lengths_of p → text ≡ parts_text p → IsStep p lengths text
-stepped p lengths text f n t = record {
-  draft = drafted p lengths text f n t;
-  parts = ap (parts_in lengths text) (sym f) ∙ parts_by_lengths p lengths text n t;
+-- building: a text is the draft of a builder's parts,
+-- if it is their text and the lengths are theirs
+pub text-of-parts-is-their-draft : (p : BuilderParts) (lengths : Lengths) (text : List ℕ)
+    → p.failed ≡ false
+    → lengths ≡ lengths_of p → text ≡ parts_text p → IsDraftOfParts p lengths text
+text-of-parts-is-their-draft p lengths text f n t = record {
+  draft = text-of-parts-is-draft p lengths text f n t;
+  parts = ap (parts_in lengths text) (sym f) ∙ parts-from-their-lengths-and-text p lengths text n t;
 }
 
 -- each part with its rule
-pub record Rules (kind : Kind) (p : BuilderParts) : Type 0 where
-  pub scheme : if_some p.scheme is_scheme_text ≡ true
-  pub authority : if_some p.authority (is_authority_text kind) ≡ true
-  pub path : if_some p.path (is_text_for kind.path) ≡ true
-  pub query : if_some p.query (is_text_for kind.query) ≡ true
-  pub fragment : if_some p.fragment (is_text_for kind.fragment) ≡ true
+pub record MeetsEachRule (kind : Kind) (p : BuilderParts) : Type 0 where
+  pub scheme : absent_or_passes p.scheme is_scheme_text ≡ true
+  pub authority : absent_or_passes p.authority (is_authority_text kind) ≡ true
+  pub path : absent_or_passes p.path (is_text_for kind.path) ≡ true
+  pub query : absent_or_passes p.query (is_text_for kind.query) ≡ true
+  pub fragment : absent_or_passes p.fragment (is_text_for kind.fragment) ≡ true
 
-pub rules_of : (kind : Kind) (p : BuilderParts) → meet_rules kind p ≡ true → Rules kind p
-rules_of kind p e =
-    let a = and_parts (if_some p.scheme is_scheme_text) _ e in
-    let b = and_parts (if_some p.authority (is_authority_text kind)) _ a.1 in
-    let c = and_parts (if_some p.path (is_text_for kind.path)) _ b.1 in
-    let d = and_parts (if_some p.query (is_text_for kind.query))
-    (if_some p.fragment (is_text_for kind.fragment)) c.1 in
+-- building: parts that pass the test `meet_rules` meet each rule of the grammar
+pub meet_rules-gives-rules : (kind : Kind) (p : BuilderParts) → meet_rules kind p ≡ true
+    → MeetsEachRule kind p
+meet_rules-gives-rules kind p e =
+    let a = and_parts (absent_or_passes p.scheme is_scheme_text) _ e in
+    let b = and_parts (absent_or_passes p.authority (is_authority_text kind)) _ a.1 in
+    let c = and_parts (absent_or_passes p.path (is_text_for kind.path)) _ b.1 in
+    let d = and_parts (absent_or_passes p.query (is_text_for kind.query))
+    (absent_or_passes p.fragment (is_text_for kind.fragment)) c.1 in
     record { scheme = a.0; authority = b.0; path = c.0; query = d.0; fragment = d.1 }
 
-pub by_rules : (kind : Kind) (p : BuilderParts) → Rules kind p → meet_rules kind p ≡ true
-by_rules kind p r = and_from _ _ r.scheme
+-- building: parts that meet each rule of the grammar pass the test `meet_rules`
+pub rules-give-meet_rules : (kind : Kind) (p : BuilderParts) → MeetsEachRule kind p
+    → meet_rules kind p ≡ true
+rules-give-meet_rules kind p r = and_from _ _ r.scheme
     (and_from _ _ r.authority (and_from _ _ r.path (and_from _ _ r.query r.fragment)))
 
--- a part that is not there has no length
-pub none_in : (mark : ℕ) (n : Option ℕ) (text : List ℕ) → is_none (part_in mark n text) ≡ true
+-- building: a part that is not there has no length
+pub absent-part-has-no-length : (mark : ℕ) (n : Option ℕ) (text : List ℕ)
+    → is_none (part_in mark n text) ≡ true
     → n ≡ None
-none_in mark None text e = refl
-none_in mark (Some n) text e = absurd (false≢true e)
+absent-part-has-no-length mark None text e = refl
+absent-part-has-no-length mark (Some n) text e = absurd (false≢true e)
 
-pub authority_text : (scheme : Option (List ℕ)) (a : List ℕ)
+-- building: appending `//` and an authority to a scheme recomposes the two
+pub recompose-with-authority-appended : (scheme : Option (List ℕ)) (a : List ℕ)
     → recompose
     (record { scheme = scheme; authority = None; path = []; query = None; fragment = None })
     ++ (codes "//" ++ a)
     ≡ recompose
     (record { scheme = scheme; authority = Some a; path = []; query = None; fragment = None })
-authority_text scheme a =
+recompose-with-authority-appended scheme a =
     let S : List ℕ = marked [] scheme (codes ":") in
     ap (λ t. t ++ (codes "//" ++ a)) (append-nil S)
     ∙ ap (λ t. S ++ (codes "//" ++ t)) (sym (append-nil a))
     ∙ ap (λ t. S ++ t) (sym (append-nil ((codes "//" ++ a) ++ [])))
 
-pub more_text : (scheme : Option (List ℕ)) (a more : List ℕ)
+-- building: appending to an authority that ends the text recomposes the longer authority
+pub recompose-with-longer-authority : (scheme : Option (List ℕ)) (a more : List ℕ)
     → recompose
     (record { scheme = scheme; authority = Some a; path = []; query = None; fragment = None })
     ++ more
@@ -168,7 +189,7 @@ pub more_text : (scheme : Option (List ℕ)) (a more : List ℕ)
           None;
       fragment = None;
     })
-more_text scheme a more =
+recompose-with-longer-authority scheme a more =
     let S : List ℕ = marked [] scheme (codes ":") in
     let whole = λ (x : List ℕ). recompose
     (record {
@@ -184,7 +205,8 @@ more_text scheme a more =
     ∙ ap (λ t. S ++ (codes "//" ++ t)) (append-nil x) in
     ap (λ t. t ++ more) (bare a) ∙ append_assoc S (codes "//" ++ a) more ∙ sym (bare (a ++ more))
 
-pub path_text : (scheme authority : Option (List ℕ)) (x : List ℕ)
+-- building: appending a path to scheme and authority recomposes the three
+pub recompose-with-path-appended : (scheme authority : Option (List ℕ)) (x : List ℕ)
     → recompose (record {
       scheme = scheme;
       authority = authority;
@@ -196,13 +218,14 @@ pub path_text : (scheme authority : Option (List ℕ)) (x : List ℕ)
     ++ x
     ≡ recompose
     (record { scheme = scheme; authority = authority; path = x; query = None; fragment = None })
-path_text scheme authority x =
+recompose-with-path-appended scheme authority x =
     let S : List ℕ = marked [] scheme (codes ":") in
     let A : List ℕ = marked (codes "//") authority [] in
     ap (λ t. (S ++ t) ++ x) (append-nil A) ∙ append_assoc S A x
     ∙ ap (λ t. S ++ (A ++ t)) (sym (append-nil x))
 
-pub query_text : (scheme authority : Option (List ℕ)) (path x : List ℕ)
+-- building: appending `?` and a query recomposes the parts with the query
+pub recompose-with-query-appended : (scheme authority : Option (List ℕ)) (path x : List ℕ)
     → recompose (record {
       scheme = scheme;
       authority = authority;
@@ -220,7 +243,7 @@ pub query_text : (scheme authority : Option (List ℕ)) (path x : List ℕ)
           Some x;
       fragment = None;
     })
-query_text scheme authority path x =
+recompose-with-query-appended scheme authority path x =
     let S : List ℕ = marked [] scheme (codes ":") in
     let A : List ℕ = marked (codes "//") authority [] in
     let Q : List ℕ = codes "?" ++ x in
@@ -229,7 +252,8 @@ query_text scheme authority path x =
     ∙ ap (λ t. S ++ (A ++ (path ++ (codes "?" ++ t)))) (sym (append-nil x))
     ∙ ap (λ t. S ++ (A ++ (path ++ t))) (sym (append-nil ((codes "?" ++ x) ++ [])))
 
-pub fragment_text : (scheme authority query : Option (List ℕ)) (path x : List ℕ)
+-- building: appending `#` and a fragment recomposes the parts with the fragment
+pub recompose-with-fragment-appended : (scheme authority query : Option (List ℕ)) (path x : List ℕ)
     → recompose (record {
       scheme = scheme;
       authority = authority;
@@ -247,7 +271,7 @@ pub fragment_text : (scheme authority query : Option (List ℕ)) (path x : List 
           query;
       fragment = Some x;
     })
-fragment_text scheme authority query path x =
+recompose-with-fragment-appended scheme authority query path x =
     let S : List ℕ = marked [] scheme (codes ":") in
     let A : List ℕ = marked (codes "//") authority [] in
     let Q : List ℕ = marked (codes "?") query [] in

@@ -15,19 +15,22 @@ use Rattle.std.proofs.lemmas.List.Elements.{All-nil, All-cons, All-append, All-r
 use Rattle.std.proofs.lemmas.List.Elements.{All-get_or}
 
 -- every number has 16 bits
-abbrev Fit : List ℕ → Type 0
-Fit segments = All (λ n. n < 2 ^ 16) segments
+abbrev Fit16Bits : List ℕ → Type 0
+Fit16Bits segments = All (λ n. n < 2 ^ 16) segments
 
-group_fits : (group : List ℕ) (s : ℕ) → IsGroup group s → s < 2 ^ 16
-group_fits group s h =
+-- normal hosts: a group of an IPv6 address has 16 bits
+group-fits-16-bits : (group : List ℕ) (s : ℕ) → IsGroup group s → s < 2 ^ 16
+group-fits-16-bits group s h =
     let value = digits_value-lt 16 group h.0.0.1 in
     let most : 16 ^ length group ≤ 16 ^ 4 = pow-le-pow_right {n = 16} (lit< tt) h.1 in
     let same : 16 ^ 4 ≡ 2 ^ 16 = refl in
     omega (arith, value, most, same, h.0.1)
 
-dotted_fits : (text octets : List ℕ) → IsDotted text octets → Fit (segments_of octets)
-dotted_fits text octets h =
-    subst (λ o. Fit (segments_of o)) (sym h.value)
+-- normal hosts: an IPv4 address at the end of an IPv6 address makes groups of 16 bits
+ipv4-segments-fit-16-bits : (text octets : List ℕ) → IsDotted text octets
+    → Fit16Bits (segments_of octets)
+ipv4-segments-fit-16-bits text octets h =
+    subst (λ o. Fit16Bits (segments_of o)) (sym h.value)
     (All-cons (λ n. n < 2 ^ 16) (h.a * 256 + h.b) ((h.c * 256 + h.d) ∷ [])
     (two h.a h.b h.fit.0 h.fit.1)
     (All-cons (λ n. n < 2 ^ 16) (h.c * 256 + h.d) [] (two h.c h.d h.fit.2 h.fit.3)
@@ -36,31 +39,38 @@ dotted_fits text octets h =
     two : (a b : ℕ) → a < 256 → b < 256 → a * 256 + b < 2 ^ 16
     two a b p q = let same : 65536 ≡ 2 ^ 16 = refl in omega arith
 
-groups_fit : (ipv4 : Bool) (lead text segments : List ℕ) → IsGroupsAfter ipv4 lead text segments
-    → Fit segments
-groups_fit ipv4 lead text [] h = All-nil (λ n. n < 2 ^ 16)
-groups_fit ipv4 lead text (s ∷ segments) (inl (group, rest, e, is_group, more)) =
-    All-cons (λ n. n < 2 ^ 16) s segments (group_fits group s is_group)
-    (groups_fit ipv4 (58 ∷ []) rest segments more)
-groups_fit ipv4 lead text (s ∷ segments) (inr (last, octets, allowed, e, dotted, same)) =
-    subst Fit (sym same) (dotted_fits last octets dotted)
+-- normal hosts: the groups of an IPv6 address have 16 bits; ipv4: whether an IPv4 address ends
+-- them, lead: what is before each
+groups-fit-16-bits : (ipv4 : Bool) (lead text segments : List ℕ)
+    → IsGroupsAfter ipv4 lead text segments
+    → Fit16Bits segments
+groups-fit-16-bits ipv4 lead text [] h = All-nil (λ n. n < 2 ^ 16)
+groups-fit-16-bits ipv4 lead text (s ∷ segments) (inl (group, rest, e, is_group, more)) =
+    All-cons (λ n. n < 2 ^ 16) s segments (group-fits-16-bits group s is_group)
+    (groups-fit-16-bits ipv4 (58 ∷ []) rest segments more)
+groups-fit-16-bits ipv4 lead text (s ∷ segments) (inr (last, octets, allowed, e, dotted, same)) =
+    subst Fit16Bits (sym same) (ipv4-segments-fit-16-bits last octets dotted)
 
-zeros_fit : (n : ℕ) → Fit (replicate n 0)
-zeros_fit n = All-replicate (λ n. n < 2 ^ 16) n 0 (lit< tt)
+-- normal hosts: the groups that `::` stands for have 16 bits
+zeros-fit-16-bits : (n : ℕ) → Fit16Bits (replicate n 0)
+zeros-fit-16-bits n = All-replicate (λ n. n < 2 ^ 16) n 0 (lit< tt)
 
-segments_fit : (text segments : List ℕ) → IsColonHex text segments → Fit segments
-segments_fit text segments (inl h) = groups_fit true [] text segments h.0
-segments_fit text segments (inr h) =
-    subst Fit (sym h.value)
+-- normal hosts: the numbers of an IPv6 address have 16 bits
+ipv6-segments-fit-16-bits : (text segments : List ℕ) → IsColonHex text segments → Fit16Bits segments
+ipv6-segments-fit-16-bits text segments (inl h) = groups-fit-16-bits true [] text segments h.0
+ipv6-segments-fit-16-bits text segments (inr h) =
+    subst Fit16Bits (sym h.value)
     (All-append (λ n. n < 2 ^ 16) (h.head ++ replicate (8 - length h.head - length h.tail) 0) h.tail
     (All-append (λ n. n < 2 ^ 16) h.head (replicate (8 - length h.head - length h.tail) 0)
-    (groups_fit false [] h.head_text h.head h.head_groups)
-    (zeros_fit (8 - length h.head - length h.tail)))
-    (groups_fit true [] h.tail_text h.tail h.tail_groups))
+    (groups-fit-16-bits false [] h.head_text h.head h.head_groups)
+    (zeros-fit-16-bits (8 - length h.head - length h.tail)))
+    (groups-fit-16-bits true [] h.tail_text h.tail h.tail_groups))
 
-eight_segments : (text segments : List ℕ) → IsColonHex text segments → length segments ≡ 8
-eight_segments text segments (inl h) = h.1
-eight_segments text segments (inr h) =
+-- normal hosts: an IPv6 address has eight numbers
+ipv6-text-has-eight-segments : (text segments : List ℕ) → IsColonHex text segments
+    → length segments ≡ 8
+ipv6-text-has-eight-segments text segments (inl h) = h.1
+ipv6-text-has-eight-segments text segments (inr h) =
     let zeros : List ℕ = replicate (8 - length h.head - length h.tail) 0 in
     omega (
       arith,
@@ -72,10 +82,12 @@ eight_segments text segments (inr h) =
       h.room,
     )
 
-pub text_of_address : (text segments : List ℕ) → IsColonHex text segments
+-- normal hosts: the text of an IPv6 address by RFC 5952 has the same eight numbers
+pub ipv6_text-has-its-segments : (text segments : List ℕ) → IsColonHex text segments
     → IsColonHex (ipv6_text segments) segments
-text_of_address text segments h =
-    IsColonHex-ipv6_text segments (eight_segments text segments h) (λ k. ⊎_elim
-    (λ inside. All-get_or (λ n. n < 2 ^ 16) segments k 0 inside (segments_fit text segments h))
+ipv6_text-has-its-segments text segments h =
+    IsColonHex-ipv6_text segments (ipv6-text-has-eight-segments text segments h) (λ k. ⊎_elim
+    (λ inside. All-get_or (λ n. n < 2 ^ 16) segments k 0 inside
+    (ipv6-segments-fit-16-bits text segments h))
     (λ past. subst (λ n. n < 2 ^ 16) (sym (get_or_past segments k 0 past)) (lit< tt))
     (cases_lt k (length segments)))

@@ -10,136 +10,176 @@ use Rattle.std.proofs.lemmas.List.Concat.{flat_map-append}
 use Rattle.std.proofs.lemmas.List.Folds.{list_all-append}
 use Rattle.std.proofs.lemmas.Bool.{cases_Bool, cond-false, and_right, and_parts, and_from}
 use Rattle.uri_pct.specs.Sets.{TableSet, LacksPercent, IsSubset, unreserved_set, allows}
-use Rattle.uri_pct.specs.Tokens.{Token, Char, Octet, tokens, tokens_of, token_bytes, is_pct_encoded}
+use Rattle.uri_pct.specs.Tokens.{Token, Char, Octet, tokens, tokens_from_chars, bytes_decoded_from}
+use Rattle.uri_pct.specs.Tokens.{is_pct_encoded}
 use Rattle.uri_pct.specs.Tokens.{text_of_token, print, allows_token, is_valid_for, IsValidFor}
-use Rattle.uri_pct.specs.Reading.{is_printable, read, read_run, read_from, read_tokens}
-use Rattle.uri_pct.specs.Reading.{encode_formatting}
+use Rattle.uri_pct.specs.DecodeUnreserved.{is_printable, decode_unreserved, decode_run}
+use Rattle.uri_pct.specs.DecodeUnreserved.{decode_after_run}
+use Rattle.uri_pct.specs.DecodeUnreserved.{decode_tokens}
+use Rattle.uri_pct.specs.DecodeUnreserved.{encode_formatting}
 use Rattle.uri_pct.specs.Pieces.{pieces_from}
-use Rattle.uri_pct.proofs.Readings.Printing.{tokens-print, IsUtf8-print, char_first}
-use Rattle.uri_pct.proofs.ValidTexts.Allowed.{printable_valid}
-use Rattle.uri_pct.proofs.Readings.Reading.{printable-read, is_valid_for-read, token_bytes-read}
-use Rattle.uri_pct.proofs.Readings.Reading.{read_tokens-around_char}
-use Rattle.uri_pct.proofs.Readings.Formatting.{encode_formatting-around_char}
-use Rattle.uri_pct.proofs.Readings.Rereading.{read-print_read}
+use Rattle.uri_pct.proofs.UnreservedDecoding.Printing.{printed_tokens_parse_to_themselves}
+use Rattle.uri_pct.proofs.UnreservedDecoding.Printing.{printed_tokens_are_utf8}
+use Rattle.uri_pct.proofs.UnreservedDecoding.Printing.{char_but_percent_is_its_own_token}
+use Rattle.uri_pct.proofs.ValidTexts.Allowed.{valid_text_has_printable_tokens}
+use Rattle.uri_pct.proofs.UnreservedDecoding.DecodedTokens.{decode_unreserved_keeps_tokens_printable}
+use Rattle.uri_pct.proofs.UnreservedDecoding.DecodedTokens.{printed_decode_unreserved_stays_valid}
+use Rattle.uri_pct.proofs.UnreservedDecoding.DecodedTokens.{decode_unreserved_keeps_bytes}
+use Rattle.uri_pct.proofs.UnreservedDecoding.DecodedTokens.{char_separates_decoded_tokens}
+use Rattle.uri_pct.proofs.UnreservedDecoding.Formatting.{ascii_char_separates_encode_formatting}
+use Rattle.uri_pct.proofs.UnreservedDecoding.DecodedTwice.{decode_unreserved_is_idempotent}
 
 -- a text in UTF-8 that the set allows
-unfoldable pub is_part : TableSet → List ℕ → Bool
-is_part set text = is_utf8 text && is_valid_for set text
+unfoldable pub is_set_text : TableSet → List ℕ → Bool
+is_set_text set text = is_utf8 text && is_valid_for set text
 
-pub part_from : (set : TableSet) (text : List ℕ) → IsUtf8 text → IsValidFor set text
-    → is_part set text ≡ true
-unfolding is_part
-part_from set text u v = and_from _ _ (is_utf8-from_IsUtf8 text u) v
+-- normal forms: a valid text in UTF-8 passes the test `is_set_text` of the set
+pub set-text-from-utf8 : (set : TableSet) (text : List ℕ) → IsUtf8 text → IsValidFor set text
+    → is_set_text set text ≡ true
+unfolding is_set_text
+set-text-from-utf8 set text u v = and_from _ _ (is_utf8-from_IsUtf8 text u) v
 
-pub part_utf8 : (set : TableSet) (text : List ℕ) → is_part set text ≡ true → IsUtf8 text
-unfolding is_part
-part_utf8 set text e = IsUtf8-from_is_utf8 text (and_parts (is_utf8 text) _ e).0
+-- normal forms: a text that passes the test `is_set_text` is UTF-8
+pub set-text-is-utf8 : (set : TableSet) (text : List ℕ) → is_set_text set text ≡ true → IsUtf8 text
+unfolding is_set_text
+set-text-is-utf8 set text e = IsUtf8-from_is_utf8 text (and_parts (is_utf8 text) _ e).0
 
-pub part_valid : (set : TableSet) (text : List ℕ) → is_part set text ≡ true → IsValidFor set text
-unfolding is_part
-part_valid set text e = (and_parts (is_utf8 text) _ e).1
+-- normal forms: a text that passes the test `is_set_text` is valid for the set
+pub set-text-is-valid : (set : TableSet) (text : List ℕ) → is_set_text set text ≡ true
+    → IsValidFor set text
+unfolding is_set_text
+set-text-is-valid set text e = (and_parts (is_utf8 text) _ e).1
 
-pub part_nil : (set : TableSet) → is_part set [] ≡ true
-unfolding is_valid_for tokens_of chars
-part_nil set = part_from set [] IsUtf8-nil refl
+-- normal forms: the empty text is UTF-8, and valid for each set
+pub empty-text-is-set-text : (set : TableSet) → is_set_text set [] ≡ true
+unfolding is_valid_for tokens_from_chars chars
+empty-text-is-set-text set = set-text-from-utf8 set [] IsUtf8-nil refl
 
 -- the decoded text, as printed
-unfoldable pub reprinted : TableSet → List ℕ → List ℕ
-reprinted set text = print (read set text)
+unfoldable pub print_decoded : TableSet → List ℕ → List ℕ
+print_decoded set text = print (decode_unreserved set text)
 
-pub reprinted-nil : (set : TableSet) → reprinted set [] ≡ []
-unfolding reprinted chars tokens_of read_from read_run pieces_from
-reprinted-nil set = refl
+-- normal forms: the empty text decodes to the empty text
+pub print_decoded-of-nil-is-nil : (set : TableSet) → print_decoded set [] ≡ []
+unfolding print_decoded chars tokens_from_chars decode_after_run decode_run pieces_from
+print_decoded-of-nil-is-nil set = refl
 
 module _ (set : TableSet) (lacks : LacksPercent set) where
-  pub printable_part : (text : List ℕ) → is_part set text ≡ true
+  pub set-text-has-printable-tokens : (text : List ℕ) → is_set_text set text ≡ true
       → list_all is_printable (tokens text) ≡ true
-  printable_part text e = printable_valid set text lacks (part_valid set text e)
+  set-text-has-printable-tokens text e = valid_text_has_printable_tokens set text lacks
+      (set-text-is-valid set text e)
 
-  pub printable_read : (text : List ℕ) → is_part set text ≡ true
-      → list_all is_printable (read set text) ≡ true
-  printable_read text e = printable-read set text (printable_part text e)
+  pub decoded-set-text-is-printable : (text : List ℕ) → is_set_text set text ≡ true
+      → list_all is_printable (decode_unreserved set text) ≡ true
+  decoded-set-text-is-printable text e = decode_unreserved_keeps_tokens_printable set text
+      (set-text-has-printable-tokens text e)
 
-  tokens-reprinted : (text : List ℕ) → is_part set text ≡ true
-      → tokens (reprinted set text) ≡ read set text
-  unfolding reprinted
-  tokens-reprinted text e = tokens-print (read set text) (printable_read text e)
+  tokens-of-decoded-text : (text : List ℕ) → is_set_text set text ≡ true
+      → tokens (print_decoded set text) ≡ decode_unreserved set text
+  unfolding print_decoded
+  tokens-of-decoded-text text e = printed_tokens_parse_to_themselves (decode_unreserved set text)
+      (decoded-set-text-is-printable text e)
 
-  pub IsUtf8-reprinted : (text : List ℕ) → is_part set text ≡ true → IsUtf8 (reprinted set text)
-  unfolding reprinted
-  IsUtf8-reprinted text e = IsUtf8-print (read set text) (printable_read text e)
+  pub decoded-text-is-utf8 : (text : List ℕ) → is_set_text set text ≡ true
+      → IsUtf8 (print_decoded set text)
+  unfolding print_decoded
+  decoded-text-is-utf8 text e = printed_tokens_are_utf8 (decode_unreserved set text)
+      (decoded-set-text-is-printable text e)
 
-  pub read-reprinted : (text : List ℕ) → is_part set text ≡ true
-      → read set (reprinted set text) ≡ read set text
-  unfolding reprinted
-  read-reprinted text e = read-print_read set text (printable_part text e)
+  pub decode_unreserved-is-idempotent : (text : List ℕ) → is_set_text set text ≡ true
+      → decode_unreserved set (print_decoded set text) ≡ decode_unreserved set text
+  unfolding print_decoded
+  decode_unreserved-is-idempotent text e = decode_unreserved_is_idempotent set text
+      (set-text-has-printable-tokens text e)
 
-  pub token_bytes-reprinted : (text : List ℕ) → is_part set text ≡ true
-      → token_bytes (tokens (reprinted set text)) ≡ token_bytes (tokens text)
-  token_bytes-reprinted text e = ap token_bytes (tokens-reprinted text e)
-      ∙ token_bytes-read set text
+  pub decoding-keeps-decoded-bytes : (text : List ℕ) → is_set_text set text ≡ true
+      → bytes_decoded_from (tokens (print_decoded set text)) ≡ bytes_decoded_from (tokens text)
+  decoding-keeps-decoded-bytes text e = ap bytes_decoded_from (tokens-of-decoded-text text e)
+      ∙ decode_unreserved_keeps_bytes set text
 
-  pub part_reprinted : IsSubset unreserved_set set → (text : List ℕ) → is_part set text ≡ true
-      → is_part set (reprinted set text) ≡ true
-  unfolding reprinted
-  part_reprinted wide text e = part_from set (print (read set text)) (IsUtf8-reprinted text e)
-      (is_valid_for-read set text lacks wide (part_valid set text e))
+  pub decoded-set-text-is-set-text : IsSubset unreserved_set set → (text : List ℕ)
+      → is_set_text set text ≡ true
+      → is_set_text set (print_decoded set text) ≡ true
+  unfolding print_decoded
+  decoded-set-text-is-set-text wide text e = set-text-from-utf8 set
+      (print (decode_unreserved set text))
+      (decoded-text-is-utf8 text e)
+      (printed_decode_unreserved_stays_valid set text lacks wide (set-text-is-valid set text e))
 
-no_digit_first : (c d : ℕ) → is_pct_encoded c 47 d ≡ false
+-- tokens: `/` (47) is no first digit of an octet
+slash-is-no-first-hex-digit : (c d : ℕ) → is_pct_encoded c 47 d ≡ false
 unfolding is_pct_encoded
-no_digit_first c d = and_right (eqb c 37) (is_ascii_hexdigit 47 && is_ascii_hexdigit d) refl
+slash-is-no-first-hex-digit c d = and_right (eqb c 37) (is_ascii_hexdigit 47 && is_ascii_hexdigit d)
+    refl
 
-no_digit_second : (c d : ℕ) → is_pct_encoded c d 47 ≡ false
+-- tokens: `/` (47) is no second digit of an octet
+slash-is-no-second-hex-digit : (c d : ℕ) → is_pct_encoded c d 47 ≡ false
 unfolding is_pct_encoded
-no_digit_second c d = and_right (eqb c 37) (is_ascii_hexdigit d && is_ascii_hexdigit 47)
+slash-is-no-second-hex-digit c d = and_right (eqb c 37)
+    (is_ascii_hexdigit d && is_ascii_hexdigit 47)
     (and_right (is_ascii_hexdigit d) false refl)
 
-tokens_of-cut : (cs ds : List ℕ)
-    → tokens_of (cs ++ 47 ∷ ds) ≡ tokens_of cs ++ Char 47 ∷ tokens_of ds
-unfolding tokens_of
-tokens_of-cut [] ds = char_first 47 ds refl
-tokens_of-cut (c ∷ []) [] = refl
-tokens_of-cut (c ∷ []) (d ∷ ds) = cond-false _ _ _ (no_digit_first c d)
-    ∙ ap (λ ts. Char c ∷ ts) (char_first 47 (d ∷ ds) refl)
-tokens_of-cut (c ∷ d ∷ []) ds = cond-false _ _ _ (no_digit_second c d)
-    ∙ ap (λ ts. Char c ∷ ts) (tokens_of-cut (d ∷ []) ds)
-tokens_of-cut (c ∷ h ∷ l ∷ cs) ds = ⊎_elim
-    (λ e. rw e (ap (λ ts. Octet (16 * digit_value h + digit_value l) ∷ ts) (tokens_of-cut cs ds)))
-    (λ e. rw e (ap (λ ts. Char c ∷ ts) (tokens_of-cut (h ∷ l ∷ cs) ds)))
+-- tokens: those of characters with a `/` (47) are those on each side of it, and it
+tokens_from_chars-splits-at-slash : (cs ds : List ℕ)
+    → tokens_from_chars (cs ++ 47 ∷ ds) ≡ tokens_from_chars cs ++ Char 47 ∷ tokens_from_chars ds
+unfolding tokens_from_chars
+tokens_from_chars-splits-at-slash [] ds = char_but_percent_is_its_own_token 47 ds refl
+tokens_from_chars-splits-at-slash (c ∷ []) [] = refl
+tokens_from_chars-splits-at-slash (c ∷ []) (d ∷ ds) = cond-false _ _ _
+    (slash-is-no-first-hex-digit c d)
+    ∙ ap (λ ts. Char c ∷ ts) (char_but_percent_is_its_own_token 47 (d ∷ ds) refl)
+tokens_from_chars-splits-at-slash (c ∷ d ∷ []) ds = cond-false _ _ _
+    (slash-is-no-second-hex-digit c d)
+    ∙ ap (λ ts. Char c ∷ ts) (tokens_from_chars-splits-at-slash (d ∷ []) ds)
+tokens_from_chars-splits-at-slash (c ∷ h ∷ l ∷ cs) ds = ⊎_elim
+    (λ e. rw e (ap (λ ts. Octet (16 * digit_value h + digit_value l) ∷ ts)
+    (tokens_from_chars-splits-at-slash cs ds)))
+    (λ e. rw e (ap (λ ts. Char c ∷ ts) (tokens_from_chars-splits-at-slash (h ∷ l ∷ cs) ds)))
     (cases_Bool (is_pct_encoded c h l))
 
-chars-slash : (y : List ℕ) → chars (47 ∷ y) ≡ 47 ∷ chars y
+-- paths: the first character of a text that begins with `/` (47) is `/`
+chars-of-leading-slash : (y : List ℕ) → chars (47 ∷ y) ≡ 47 ∷ chars y
 unfolding chars
-chars-slash [] = refl
-chars-slash (b ∷ y) = refl
+chars-of-leading-slash [] = refl
+chars-of-leading-slash (b ∷ y) = refl
 
-tokens-cut : (x y : List ℕ) → IsUtf8 x → tokens (x ++ 47 ∷ y) ≡ tokens x ++ Char 47 ∷ tokens y
-tokens-cut x y u =
-    ap tokens_of (chars-append x (47 ∷ y) u ∙ ap (λ cs. chars x ++ cs) (chars-slash y))
-    ∙ tokens_of-cut (chars x) (chars y)
+-- tokens: those of a text with a `/` (47) are those on each side of it, and it
+tokens-split-at-slash : (x y : List ℕ) → IsUtf8 x → tokens (x ++ 47 ∷ y)
+    ≡ tokens x ++ Char 47 ∷ tokens y
+tokens-split-at-slash x y u =
+    ap tokens_from_chars (chars-append x (47 ∷ y) u
+    ∙ ap (λ cs. chars x ++ cs) (chars-of-leading-slash y))
+    ∙ tokens_from_chars-splits-at-slash (chars x) (chars y)
 
--- so it separates the decoding before it from that after it
-read-cut : (set : TableSet) (x y : List ℕ) → IsUtf8 x
-    → read set (x ++ 47 ∷ y) ≡ read set x ++ Char 47 ∷ read set y
-read-cut set x y u =
-    ap (encode_formatting set) (ap (read_tokens set) (tokens-cut x y u)
-    ∙ read_tokens-around_char set (tokens x) 47 (tokens y))
-    ∙ encode_formatting-around_char set (read_tokens set (tokens x)) 47 (read_tokens set (tokens y))
+-- normal paths: what is before a `/` (47) and what is after it are decoded separately
+decode_unreserved-splits-at-slash : (set : TableSet) (x y : List ℕ) → IsUtf8 x
+    → decode_unreserved set (x ++ 47 ∷ y) ≡ decode_unreserved set x ++ Char 47
+    ∷ decode_unreserved set y
+decode_unreserved-splits-at-slash set x y u =
+    ap (encode_formatting set) (ap (decode_tokens set) (tokens-split-at-slash x y u)
+    ∙ char_separates_decoded_tokens set (tokens x) 47 (tokens y))
+    ∙ ascii_char_separates_encode_formatting set (decode_tokens set (tokens x)) 47
+    (decode_tokens set (tokens y))
     (lit< tt)
 
-print-slash : (ts us : List Token) → print (ts ++ Char 47 ∷ us) ≡ print ts ++ 47 ∷ print us
-print-slash ts us =
+-- tokens: what is written with a `/` (47) is what is written on each side of it, and it
+print-splits-at-slash : (ts us : List Token) → print (ts ++ Char 47 ∷ us)
+    ≡ print ts ++ 47 ∷ print us
+print-splits-at-slash ts us =
     let slash : encode_utf8 47 ≡ 47 ∷ [] = encode_ascii 47 (lit< tt) in
     flat_map-append text_of_token ts (Char 47 ∷ us) ∙ ap (λ t. print ts ++ (t ++ print us)) slash
 
-pub reprinted-cut : (set : TableSet) (x y : List ℕ) → IsUtf8 x
-    → reprinted set (x ++ 47 ∷ y) ≡ reprinted set x ++ 47 ∷ reprinted set y
-unfolding reprinted
-reprinted-cut set x y u = ap print (read-cut set x y u) ∙ print-slash (read set x) (read set y)
+-- normal forms: a path is decoded on each side of a `/` (47) by itself
+pub decoding-splits-at-slash : (set : TableSet) (x y : List ℕ) → IsUtf8 x
+    → print_decoded set (x ++ 47 ∷ y) ≡ print_decoded set x ++ 47 ∷ print_decoded set y
+unfolding print_decoded
+decoding-splits-at-slash set x y u = ap print (decode_unreserved-splits-at-slash set x y u)
+    ∙ print-splits-at-slash (decode_unreserved set x) (decode_unreserved set y)
 
--- and a set that has it allows a text where it allows what is before and after
-pub valid-cut : (set : TableSet) (x y : List ℕ) → IsUtf8 x
+-- paths: a text with a `/` (47) is valid exactly if the set has `/`, and both sides are valid
+pub validity-splits-at-slash : (set : TableSet) (x y : List ℕ) → IsUtf8 x
     → is_valid_for set (x ++ 47 ∷ y) ≡ (is_valid_for set x && (allows set 47 && is_valid_for set y))
 unfolding is_valid_for
-valid-cut set x y u = ap (list_all (allows_token set)) (tokens-cut x y u)
+validity-splits-at-slash set x y u = ap (list_all (allows_token set)) (tokens-split-at-slash x y u)
     ∙ list_all-append (allows_token set) (tokens x) (Char 47 ∷ tokens y)

@@ -3,7 +3,7 @@ use Rattle.std.proofs.Common.{◌≡◌, ℕ, true, false, List, map, refl, sym,
 use Rattle.std.specs.Prelude.{Option, Some, None}
 use Rattle.std.proofs.lemmas.Bool.{cond-true, cond-false}
 use Rattle.std.specs.Str.{str_to_ascii_lowercase}
-use Rattle.uri_pct.specs.Reading.{read, lower_token}
+use Rattle.uri_pct.specs.DecodeUnreserved.{decode_unreserved, lower_token}
 use Rattle.uri_pct.specs.Sets.{TableSet}
 use Rattle.uri_pct.specs.Tokens.{print}
 use Rattle.uri_parts.specs.Components.{starts}
@@ -16,36 +16,40 @@ use Rattle.uri_parts.specs.declared.net.Ipv6Addr.{Ipv6Addr}
 use Rattle.uri_ops.specs.Meaning.{host_meaning}
 use Rattle.uri_ops.specs.Normal.{host_text}
 
--- an IPv4 address is written as a name is
-named_text : (names : TableSet) (host : List ℕ) (value : Option (List ℕ))
+-- normal hosts: an IPv4 address is written as a name is, decoded and in lower case
+name_kind-prints-lowered-decoded-name : (names : TableSet) (host : List ℕ) (value : Option (List ℕ))
     → host_text (host_meaning names host (name_kind value))
-    ≡ print (map lower_token (read names host))
-named_text names host None = refl
-named_text names host (Some octets) = refl
+    ≡ print (map lower_token (decode_unreserved names host))
+name_kind-prints-lowered-decoded-name names host None = refl
+name_kind-prints-lowered-decoded-name names host (Some octets) = refl
 
-pub name_written : (names : TableSet) (host : List ℕ) → starts 91 host ≡ false
+-- normal hosts: a host without `[` (91) is written decoded and in lower case
+pub normal-name-is-lowered-decoded : (names : TableSet) (host : List ℕ) → starts 91 host ≡ false
     → host_text (host_meaning names host (host_kind host))
-    ≡ print (map lower_token (read names host))
+    ≡ print (map lower_token (decode_unreserved names host))
 unfolding host_kind
-name_written names host s = ap (λ k. host_text (host_meaning names host k)) (cond-false _ _ _ s)
-    ∙ named_text names host (ipv4_value host)
+normal-name-is-lowered-decoded names host s = ap (λ k. host_text (host_meaning names host k))
+    (cond-false _ _ _ s)
+    ∙ name_kind-prints-lowered-decoded-name names host (ipv4_value host)
 
--- what is in brackets, and is no IPv6 address
-no_address : {N : Type 0} (h : HostOf N) (value : Option (List ℕ))
+-- hosts: what is in brackets, and is no IPv6 address, is an IPvFuture address
+literal-without-ipv6-is-ipvfuture : {N : Type 0} (h : HostOf N) (value : Option (List ℕ))
     → ((x : Ipv6Addr) → h ≡ Of.Ipv6 x → ⊥) → host_kind_of h ≡ literal_kind value
     → literal_kind value ≡ IpvFuture
-no_address (Of.Ipv4 a) None other e = cc
-no_address (Of.Ipv4 a) (Some segments) other e = absurd (cc)
-no_address (Of.Ipv6 a) value other e = absurd (other a refl)
-no_address Of.IpvFuture value other e = sym e
-no_address (Of.RegName name) None other e = cc
-no_address (Of.RegName name) (Some segments) other e = absurd (cc)
+literal-without-ipv6-is-ipvfuture (Of.Ipv4 a) None other e = cc
+literal-without-ipv6-is-ipvfuture (Of.Ipv4 a) (Some segments) other e = absurd (cc)
+literal-without-ipv6-is-ipvfuture (Of.Ipv6 a) value other e = absurd (other a refl)
+literal-without-ipv6-is-ipvfuture Of.IpvFuture value other e = sym e
+literal-without-ipv6-is-ipvfuture (Of.RegName name) None other e = cc
+literal-without-ipv6-is-ipvfuture (Of.RegName name) (Some segments) other e = absurd (cc)
 
-pub future_written : {N : Type 0} (h : HostOf N) (names : TableSet) (host : List ℕ)
+-- normal hosts: a host in brackets that is no IPv6 address is written in lower case
+pub normal-ipvfuture-is-lowered : {N : Type 0} (h : HostOf N) (names : TableSet) (host : List ℕ)
     → ((x : Ipv6Addr) → h ≡ Of.Ipv6 x → ⊥) → starts 91 host ≡ true → host_kind_of h ≡ host_kind host
     → host_text (host_meaning names host (host_kind host)) ≡ str_to_ascii_lowercase host
 unfolding host_kind
-future_written h names host other s e =
+normal-ipvfuture-is-lowered h names host other s e =
     let literal = cond-true _ _ _ s in
     ap (λ k. host_text (host_meaning names host k))
-    (literal ∙ no_address h (ipv6_value (literal_of host)) other (e ∙ literal))
+    (literal ∙ literal-without-ipv6-is-ipvfuture h (ipv6_value (literal_of host)) other
+    (e ∙ literal))

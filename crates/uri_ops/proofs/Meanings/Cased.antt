@@ -15,169 +15,214 @@ use Rattle.std.proofs.lemmas.Str.Ascii.{lowercase_ascii}
 use Rattle.uri_pct.specs.Encoding.{encode_char, encode_text, encode_piece}
 use Rattle.uri_pct.specs.Parts.{ArePastAscii}
 use Rattle.uri_pct.specs.Pieces.{Piece, WellFormed, IllFormed, IsOfCharacter, char_of, utf8_pieces}
-use Rattle.uri_pct.specs.Reading.{is_readable, read_piece, lower_token}
+use Rattle.uri_pct.specs.DecodeUnreserved.{is_decodable, decode_piece, lower_token}
 use Rattle.uri_pct.specs.Sets.{TableSet, allows, allows_past_ascii, is_unreserved}
 use Rattle.uri_pct.specs.Tokens.{Char, Octet, print}
-use Rattle.uri_pct.proofs.Unicode.CharacterPieces.{utf8_pieces-are}
-use Rattle.uri_pct.proofs.Unicode.Characters.{bytes_of_char, lead, is_high}
-use Rattle.uri_pct.proofs.EncodedTexts.Encodings.{text_as_pieces}
-use Rattle.uri_ops.specs.Models.Readings.{cased, cased_text}
-use Rattle.uri_pct.proofs.Readings.Formatting.{lower_octets, past_same}
+use Rattle.uri_pct.proofs.Unicode.CharacterPieces.{utf8_pieces-are-of-characters}
+use Rattle.uri_pct.proofs.Unicode.Characters.{char_has_encoding, char_past_ascii_begins_past_ascii}
+use Rattle.uri_pct.proofs.Unicode.Characters.{is_no_ascii_byte}
+use Rattle.uri_pct.proofs.EncodedTexts.Encodings.{pieces_of_text_are_encoded_as_text}
+use Rattle.uri_ops.specs.Models.Decodings.{lowered_if, lowered_text_if}
+use Rattle.uri_pct.proofs.UnreservedDecoding.Formatting.{lowering_keeps_octets}
+use Rattle.uri_pct.proofs.UnreservedDecoding.Formatting.{lowercase_keeps_char_past_ascii}
 
--- literal text
-print_chars : (cs : List ℕ) → print (map Char cs) ≡ encode_utf8_all cs
-print_chars [] = refl
-print_chars (c ∷ cs) = ap (λ x. encode_utf8 c ++ x) (print_chars cs)
+-- tokens: literal characters are written as their UTF-8
+print-of-characters-is-their-utf8 : (cs : List ℕ) → print (map Char cs) ≡ encode_utf8_all cs
+print-of-characters-is-their-utf8 [] = refl
+print-of-characters-is-their-utf8 (c ∷ cs) = ap (λ x. encode_utf8 c ++ x)
+    (print-of-characters-is-their-utf8 cs)
 
-pub print_text : (text : List ℕ) → IsUtf8 text → print (map Char (chars text)) ≡ text
-print_text text u = print_chars (chars text) ∙ encodes-chars text u
+-- normal forms: the characters of a text, written as tokens, are the text
+pub print-of-characters-is-text : (text : List ℕ) → IsUtf8 text → print (map Char (chars text))
+    ≡ text
+print-of-characters-is-text text u = print-of-characters-is-their-utf8 (chars text)
+    ∙ encodes-chars text u
 
--- bytes past ASCII have no letters to lower
-pub past_lower : (bytes : List ℕ) → ArePastAscii bytes → str_to_ascii_lowercase bytes ≡ bytes
-past_lower [] past = refl
-past_lower (b ∷ bytes) past =
-    ap (λ x. x ∷ str_to_ascii_lowercase bytes) (past_same b (All-head (λ x. 128 ≤ x) b bytes past))
-    ∙ ap (λ x. b ∷ x) (past_lower bytes (All-tail (λ x. 128 ≤ x) b bytes past))
+-- normal forms: bytes past ASCII have no letters to lower
+pub bytes-past-ascii-stay-when-lowered : (bytes : List ℕ) → ArePastAscii bytes
+    → str_to_ascii_lowercase bytes ≡ bytes
+bytes-past-ascii-stay-when-lowered [] past = refl
+bytes-past-ascii-stay-when-lowered (b ∷ bytes) past =
+    ap (λ x. x ∷ str_to_ascii_lowercase bytes)
+    (lowercase_keeps_char_past_ascii b (All-head (λ x. 128 ≤ x) b bytes past))
+    ∙ ap (λ x. b ∷ x) (bytes-past-ascii-stay-when-lowered bytes
+    (All-tail (λ x. 128 ≤ x) b bytes past))
 
-high_past : (bytes : List ℕ) → list_all is_high bytes ≡ true → ArePastAscii bytes
-high_past [] e = All-nil (λ x. 128 ≤ x)
-high_past (b ∷ bytes) e =
-    let p = and_parts (is_high b) (list_all is_high bytes) e in
-    All-cons (λ x. 128 ≤ x) b bytes (leb-true 128 b p.0) (high_past bytes p.1)
+-- normal forms: bytes without ASCII are past ASCII
+bytes-without-ascii-are-past-ascii : (bytes : List ℕ) → list_all is_no_ascii_byte bytes ≡ true
+    → ArePastAscii bytes
+bytes-without-ascii-are-past-ascii [] e = All-nil (λ x. 128 ≤ x)
+bytes-without-ascii-are-past-ascii (b ∷ bytes) e =
+    let p = and_parts (is_no_ascii_byte b) (list_all is_no_ascii_byte bytes) e in
+    All-cons (λ x. 128 ≤ x) b bytes (leb-true 128 b p.0)
+    (bytes-without-ascii-are-past-ascii bytes p.1)
 
-high_char : (c : ℕ) → 128 ≤ c → map to_ascii_lowercase (encode_utf8 c) ≡ encode_utf8 c
-high_char c h =
-    let w = bytes_of_char c in
+-- normal forms: a character past ASCII stays in lower case
+character-past-ascii-stays-when-lowered : (c : ℕ) → 128 ≤ c → map to_ascii_lowercase (encode_utf8 c)
+    ≡ encode_utf8 c
+character-past-ascii-stays-when-lowered c h =
+    let w = char_has_encoding c in
     let first : 128 ≤ w.first = subst (λ x. 128 ≤ slice_index x 0)
-    (append-nil (encode_utf8 c) ∙ w.spelt) (lead c [] h) in
-    ap (map to_ascii_lowercase) w.spelt
-    ∙ ap (λ x. x ∷ map to_ascii_lowercase w.more) (past_same w.first first)
-    ∙ ap (λ x. w.first ∷ x) (past_lower w.more (high_past w.more w.high)) ∙ sym w.spelt
+    (append-nil (encode_utf8 c) ∙ w.joined) (char_past_ascii_begins_past_ascii c [] h) in
+    ap (map to_ascii_lowercase) w.joined
+    ∙ ap (λ x. x ∷ map to_ascii_lowercase w.more) (lowercase_keeps_char_past_ascii w.first first)
+    ∙ ap (λ x. w.first ∷ x) (bytes-past-ascii-stay-when-lowered w.more
+    (bytes-without-ascii-are-past-ascii w.more w.high))
+    ∙ sym w.joined
 
-lower_char : (c : ℕ)
+-- normal forms: lowering a character and writing it in UTF-8 may swap
+lowering-and-utf8-swap-for-character : (c : ℕ)
     → encode_utf8 (to_ascii_lowercase c) ≡ map to_ascii_lowercase (encode_utf8 c)
-lower_char c = ⊎_elim
+lowering-and-utf8-swap-for-character c = ⊎_elim
     (λ h. encode_ascii (to_ascii_lowercase c) (lowercase_ascii c h)
     ∙ sym (ap (map to_ascii_lowercase) (encode_ascii c h)))
-    (λ h. ap encode_utf8 (past_same c h) ∙ sym (high_char c h))
+    (λ h. ap encode_utf8 (lowercase_keeps_char_past_ascii c h)
+    ∙ sym (character-past-ascii-stays-when-lowered c h))
     (cases_lt c 128)
 
-lower_encoded : (cs : List ℕ)
+-- normal forms: lowering characters and writing them in UTF-8 may swap
+lowering-and-utf8-swap : (cs : List ℕ)
     → encode_utf8_all (map to_ascii_lowercase cs) ≡ str_to_ascii_lowercase (encode_utf8_all cs)
-lower_encoded [] = refl
-lower_encoded (c ∷ cs) =
-    ap (λ x. x ++ encode_utf8_all (map to_ascii_lowercase cs)) (lower_char c)
-    ∙ ap (λ x. map to_ascii_lowercase (encode_utf8 c) ++ x) (lower_encoded cs)
+lowering-and-utf8-swap [] = refl
+lowering-and-utf8-swap (c ∷ cs) =
+    ap (λ x. x ++ encode_utf8_all (map to_ascii_lowercase cs))
+    (lowering-and-utf8-swap-for-character c)
+    ∙ ap (λ x. map to_ascii_lowercase (encode_utf8 c) ++ x) (lowering-and-utf8-swap cs)
     ∙ sym (map-append to_ascii_lowercase (encode_utf8 c) (encode_utf8_all cs))
 
-lower_chars : (cs : List ℕ) → map lower_token (map Char cs) ≡ map Char (map to_ascii_lowercase cs)
-lower_chars [] = refl
-lower_chars (c ∷ cs) = ap (λ ts. Char (to_ascii_lowercase c) ∷ ts) (lower_chars cs)
+-- normal forms: lowering literal tokens lowers their characters
+lowering-tokens-lowers-characters : (cs : List ℕ) → map lower_token (map Char cs)
+    ≡ map Char (map to_ascii_lowercase cs)
+lowering-tokens-lowers-characters [] = refl
+lowering-tokens-lowers-characters (c ∷ cs) = ap (λ ts. Char (to_ascii_lowercase c) ∷ ts)
+    (lowering-tokens-lowers-characters cs)
 
-print_lower : (text : List ℕ) → IsUtf8 text
+-- normal forms: the characters of a text as lowered tokens are written as the text in lower case
+print-of-lowered-characters-is-lowered : (text : List ℕ) → IsUtf8 text
     → print (map lower_token (map Char (chars text))) ≡ str_to_ascii_lowercase text
-print_lower text u =
-    ap print (lower_chars (chars text)) ∙ print_chars (map to_ascii_lowercase (chars text))
-    ∙ lower_encoded (chars text) ∙ ap str_to_ascii_lowercase (encodes-chars text u)
+print-of-lowered-characters-is-lowered text u =
+    ap print (lowering-tokens-lowers-characters (chars text))
+    ∙ print-of-characters-is-their-utf8 (map to_ascii_lowercase (chars text))
+    ∙ lowering-and-utf8-swap (chars text) ∙ ap str_to_ascii_lowercase (encodes-chars text u)
 
-pub print_cased : (lowers : Bool) (text : List ℕ) → IsUtf8 text
-    → print (cased lowers (map Char (chars text))) ≡ cased_text lowers text
-print_cased true text u = print_lower text u
-print_cased false text u = print_text text u
+-- normal forms: the characters of a text, in lower case if lowers,
+-- are written as the text in lower case
+pub print-lowers-characters : (lowers : Bool) (text : List ℕ) → IsUtf8 text
+    → print (lowered_if lowers (map Char (chars text))) ≡ lowered_text_if lowers text
+print-lowers-characters true text u = print-of-lowered-characters-is-lowered text u
+print-lowers-characters false text u = print-of-characters-is-text text u
 
--- the characters of a text in lower case
-scalar_lower : (c : ℕ) → all_scalars (c ∷ []) ≡ true
+-- normal forms: a Unicode scalar value is one in lower case
+lowered-scalar-is-scalar : (c : ℕ) → all_scalars (c ∷ []) ≡ true
     → all_scalars (to_ascii_lowercase c ∷ []) ≡ true
-scalar_lower c e = grind (arith, nat_tests)
+lowered-scalar-is-scalar c e = grind (arith, nat_tests)
 
-scalars_lower : (cs : List ℕ) → all_scalars cs ≡ true
+-- normal forms: Unicode scalar values are so in lower case
+lowered-scalars-are-scalars : (cs : List ℕ) → all_scalars cs ≡ true
     → all_scalars (map to_ascii_lowercase cs) ≡ true
-scalars_lower [] e = refl
-scalars_lower (c ∷ cs) e =
+lowered-scalars-are-scalars [] e = refl
+lowered-scalars-are-scalars (c ∷ cs) e =
     let p = and_parts _ (all_scalars cs) e in
-    and_from _ _ (and_parts _ true (scalar_lower c (and_from _ true p.0 refl))).0
-    (scalars_lower cs p.1)
+    and_from _ _ (and_parts _ true (lowered-scalar-is-scalar c (and_from _ true p.0 refl))).0
+    (lowered-scalars-are-scalars cs p.1)
 
-chars_lower : (text : List ℕ) → IsUtf8 text
+-- normal forms: the characters of a text in lower case are its characters in lower case
+chars-of-lowered-text-are-lowered : (text : List ℕ) → IsUtf8 text
     → chars (str_to_ascii_lowercase text) ≡ map to_ascii_lowercase (chars text)
-chars_lower text u =
+chars-of-lowered-text-are-lowered text u =
     ap (λ x. chars (str_to_ascii_lowercase x)) (sym (encodes-chars text u))
-    ∙ ap chars (sym (lower_encoded (chars text)))
+    ∙ ap chars (sym (lowering-and-utf8-swap (chars text)))
     ∙ chars-encodes (map to_ascii_lowercase (chars text))
-    (scalars_lower (chars text) (scalars-chars text u))
+    (lowered-scalars-are-scalars (chars text) (scalars-chars text u))
 
--- a set allows what is readable, and nothing else
-abbrev pub AllowsReadable : TableSet → TableSet → Type 0
-AllowsReadable readable set = (c : ℕ) → allows readable c ≡ is_readable set c
+-- a set allows what is decodable, and nothing else
+abbrev pub AllowsDecodable : TableSet → TableSet → Type 0
+AllowsDecodable decodable set = (c : ℕ) → allows decodable c ≡ is_decodable set c
 
-letters_unreserved : (c : ℕ) → is_unreserved c ≡ false → to_ascii_lowercase c ≡ c
-letters_unreserved c e = grind (arith, nat_tests)
+-- normal forms: a character that is not unreserved stays in lower case
+not-unreserved-stays-when-lowered : (c : ℕ) → is_unreserved c ≡ false → to_ascii_lowercase c ≡ c
+not-unreserved-stays-when-lowered c e = grind (arith, nat_tests)
 
-lower_unreserved : (c : ℕ) → is_unreserved c ≡ true → is_unreserved (to_ascii_lowercase c) ≡ true
-lower_unreserved c e = grind (arith, nat_tests)
+-- normal forms: an unreserved character is one in lower case
+lowered-unreserved-is-unreserved : (c : ℕ) → is_unreserved c ≡ true
+    → is_unreserved (to_ascii_lowercase c) ≡ true
+lowered-unreserved-is-unreserved c e = grind (arith, nat_tests)
 
-pub cased_octets : (lowers : Bool) (bytes : List ℕ)
-    → cased lowers (map Octet bytes) ≡ map Octet bytes
-cased_octets true bytes = lower_octets bytes
-cased_octets false bytes = refl
+-- normal forms: percent-encoded octets have no letters to lower;
+-- lowers: whether letters are lowered
+pub octets-stay-when-lowered : (lowers : Bool) (bytes : List ℕ)
+    → lowered_if lowers (map Octet bytes) ≡ map Octet bytes
+octets-stay-when-lowered true bytes = lowering_keeps_octets bytes
+octets-stay-when-lowered false bytes = refl
 
-module _ (readable set : TableSet) (same : AllowsReadable readable set) where
-  piece_read : (p : Piece) → IsOfCharacter p → read_piece set p ≡ encode_piece readable p
-  piece_read (IllFormed bytes) h = refl
-  piece_read (WellFormed bytes) h = ⊎_elim
+module _ (decodable set : TableSet) (same : AllowsDecodable decodable set) where
+  decode_piece-is-encode_piece : (p : Piece) → IsOfCharacter p → decode_piece set p
+      ≡ encode_piece decodable p
+  decode_piece-is-encode_piece (IllFormed bytes) h = refl
+  decode_piece-is-encode_piece (WellFormed bytes) h = ⊎_elim
       (λ e. cond-true _ _ _ e ∙ sym (cond-true _ _ _ (same (char_of bytes) ∙ e)))
       (λ e. cond-false _ _ _ e ∙ ap (map Octet) (sym h.1)
       ∙ sym (cond-false _ _ _ (same (char_of bytes) ∙ e)))
-      (cases_Bool (is_readable set (char_of bytes)))
+      (cases_Bool (is_decodable set (char_of bytes)))
 
-  pieces_read : (ps : List Piece) → All IsOfCharacter ps
-      → flat_map (read_piece set) ps ≡ flat_map (encode_piece readable) ps
-  pieces_read [] h = refl
-  pieces_read (p ∷ ps) h =
-      ap (λ ts. ts ++ flat_map (read_piece set) ps) (piece_read p (All-head IsOfCharacter p ps h))
-      ∙ ap (λ ts. encode_piece readable p ++ ts) (pieces_read ps (All-tail IsOfCharacter p ps h))
+  decoding-pieces-is-encoding-them : (ps : List Piece) → All IsOfCharacter ps
+      → flat_map (decode_piece set) ps ≡ flat_map (encode_piece decodable) ps
+  decoding-pieces-is-encoding-them [] h = refl
+  decoding-pieces-is-encoding-them (p ∷ ps) h =
+      ap (λ ts. ts ++ flat_map (decode_piece set) ps)
+      (decode_piece-is-encode_piece p (All-head IsOfCharacter p ps h))
+      ∙ ap (λ ts. encode_piece decodable p
+      ++ ts) (decoding-pieces-is-encoding-them ps (All-tail IsOfCharacter p ps h))
 
   -- characters that octets decode to
-  pub text_read : (text : List ℕ) → IsUtf8 text
-      → flat_map (read_piece set) (utf8_pieces text) ≡ encode_text readable text
-  text_read text u = pieces_read (utf8_pieces text) (utf8_pieces-are text)
-      ∙ text_as_pieces readable text u
+  pub decoded-pieces-are-encoded-text : (text : List ℕ) → IsUtf8 text
+      → flat_map (decode_piece set) (utf8_pieces text) ≡ encode_text decodable text
+  decoded-pieces-are-encoded-text text u = decoding-pieces-is-encoding-them (utf8_pieces text)
+      (utf8_pieces-are-of-characters text)
+      ∙ pieces_of_text_are_encoded_as_text decodable text u
 
   -- a character is encoded in lower case as it is encoded
-  kept_lower : (c : ℕ) → is_readable set c ≡ true → is_readable set (to_ascii_lowercase c) ≡ true
-  unfolding is_readable
-  kept_lower c e = ⊎_elim
-      (λ u. ap (λ b. b || allows_past_ascii set (to_ascii_lowercase c)) (lower_unreserved c u))
+  lowered-decodable-is-decodable : (c : ℕ) → is_decodable set c ≡ true
+      → is_decodable set (to_ascii_lowercase c) ≡ true
+  unfolding is_decodable
+  lowered-decodable-is-decodable c e = ⊎_elim
+      (λ u. ap (λ b. b || allows_past_ascii set (to_ascii_lowercase c))
+      (lowered-unreserved-is-unreserved c u))
       (λ u. subst (λ x. (is_unreserved x || allows_past_ascii set x) ≡ true)
-      (sym (letters_unreserved c u)) e)
+      (sym (not-unreserved-stays-when-lowered c u)) e)
       (cases_Bool (is_unreserved c))
 
-  other_same : (c : ℕ) → is_readable set c ≡ false → to_ascii_lowercase c ≡ c
-  unfolding is_readable
-  other_same c e = letters_unreserved c (or_parts (is_unreserved c) (allows_past_ascii set c) e).0
+  undecodable-stays-when-lowered : (c : ℕ) → is_decodable set c ≡ false → to_ascii_lowercase c ≡ c
+  unfolding is_decodable
+  undecodable-stays-when-lowered c e = not-unreserved-stays-when-lowered c
+      (or_parts (is_unreserved c) (allows_past_ascii set c) e).0
 
-  char_lower : (c : ℕ)
-      → encode_char readable (to_ascii_lowercase c) ≡ map lower_token (encode_char readable c)
-  char_lower c = ⊎_elim
-      (λ e. cond-true _ _ _ (same (to_ascii_lowercase c) ∙ kept_lower c e)
+  encode_char-and-lowering-swap : (c : ℕ)
+      → encode_char decodable (to_ascii_lowercase c) ≡ map lower_token (encode_char decodable c)
+  encode_char-and-lowering-swap c = ⊎_elim
+      (λ e. cond-true _ _ _ (same (to_ascii_lowercase c) ∙ lowered-decodable-is-decodable c e)
       ∙ sym (ap (map lower_token) (cond-true _ _ _ (same c ∙ e))))
-      (λ e. ap (encode_char readable) (other_same c e) ∙ cond-false _ _ _ (same c ∙ e)
-      ∙ sym (lower_octets (encode_utf8 c))
+      (λ e. ap (encode_char decodable) (undecodable-stays-when-lowered c e)
+      ∙ cond-false _ _ _ (same c ∙ e)
+      ∙ sym (lowering_keeps_octets (encode_utf8 c))
       ∙ sym (ap (map lower_token) (cond-false _ _ _ (same c ∙ e))))
-      (cases_Bool (is_readable set c))
+      (cases_Bool (is_decodable set c))
 
-  chars_read_lower : (cs : List ℕ)
-      → flat_map (encode_char readable) (map to_ascii_lowercase cs)
-      ≡ map lower_token (flat_map (encode_char readable) cs)
-  chars_read_lower [] = refl
-  chars_read_lower (c ∷ cs) =
-      ap (λ ts. ts ++ flat_map (encode_char readable) (map to_ascii_lowercase cs)) (char_lower c)
-      ∙ ap (λ ts. map lower_token (encode_char readable c) ++ ts) (chars_read_lower cs)
-      ∙ sym (map-append lower_token (encode_char readable c) (flat_map (encode_char readable) cs))
+  encoding-characters-and-lowering-swap : (cs : List ℕ)
+      → flat_map (encode_char decodable) (map to_ascii_lowercase cs)
+      ≡ map lower_token (flat_map (encode_char decodable) cs)
+  encoding-characters-and-lowering-swap [] = refl
+  encoding-characters-and-lowering-swap (c ∷ cs) =
+      ap (λ ts. ts ++ flat_map (encode_char decodable) (map to_ascii_lowercase cs))
+      (encode_char-and-lowering-swap c)
+      ∙ ap (λ ts. map lower_token (encode_char decodable c) ++ ts)
+      (encoding-characters-and-lowering-swap cs)
+      ∙ sym (map-append lower_token (encode_char decodable c) (flat_map (encode_char decodable) cs))
 
-  pub text_read_lower : (text : List ℕ) → IsUtf8 text
-      → map lower_token (flat_map (read_piece set) (utf8_pieces text))
-      ≡ encode_text readable (str_to_ascii_lowercase text)
-  text_read_lower text u =
-      ap (map lower_token) (text_read text u) ∙ sym (chars_read_lower (chars text))
-      ∙ ap (flat_map (encode_char readable)) (sym (chars_lower text u))
+  pub lowered-pieces-are-encoded-lowered-text : (text : List ℕ) → IsUtf8 text
+      → map lower_token (flat_map (decode_piece set) (utf8_pieces text))
+      ≡ encode_text decodable (str_to_ascii_lowercase text)
+  lowered-pieces-are-encoded-lowered-text text u =
+      ap (map lower_token) (decoded-pieces-are-encoded-text text u)
+      ∙ sym (encoding-characters-and-lowering-swap (chars text))
+      ∙ ap (flat_map (encode_char decodable)) (sym (chars-of-lowered-text-are-lowered text u))

@@ -9,48 +9,63 @@ use Rattle.std.proofs.lemmas.Bool.{both_ways, not_from_false}
 use Rattle.std.proofs.lemmas.Bool.Decides.{nat_tests}
 use Rattle.std.proofs.lemmas.List.Elements.{All-weaker}
 use Rattle.uri_pct.specs.Sets.{TableSet, is_one_of}
-use Rattle.uri_pct.proofs.ValidTexts.Cuts.{excludes, mark_len, other_len}
+use Rattle.uri_pct.proofs.ValidTexts.Cuts.{excludes}
+use Rattle.uri_pct.proofs.ValidTexts.MarksInTexts.{length_before_mark_at_start_is_zero}
+use Rattle.uri_pct.proofs.ValidTexts.MarksInTexts.{length_before_marks_counts_other_byte}
 use Rattle.uri_parts.specs.Components.{Lacks, starts, has_scheme, before_any, from_any}
-use Rattle.uri_parts.specs.Grammar.{has_colon_first, Kind}
-use Rattle.uri_parts.proofs.Splitting.Cuts.{Begins}
-use Rattle.uri_parts.proofs.Splitting.Relative.{four_of_two, no_colon_two}
+use Rattle.uri_parts.specs.Grammar.{has_colon_in_first_segment, Kind}
+use Rattle.uri_parts.proofs.Splitting.Cuts.{IsEmptyOrMarked}
+use Rattle.uri_parts.proofs.Splitting.Relative.{question_or_hash_ends_scheme}
+use Rattle.uri_parts.proofs.Splitting.Relative.{question_or_hash_is_no_colon}
 use Rattle.uri_ops.specs.ComponentSets.{HasComponentSets}
 
 -- the marks of a component are excluded from its set
-abbrev pub is_plain_mark : ℕ → Bool
-is_plain_mark c = nat_lt c 128 && (not (is_ascii_hexdigit c) && not (eqb c 37))
+abbrev pub is_outside_octets : ℕ → Bool
+is_outside_octets c = nat_lt c 128 && (not (is_ascii_hexdigit c) && not (eqb c 37))
 
-pub ends_outside : (marks : List ℕ) (set : TableSet) → list_all is_plain_mark marks ≡ true
+-- parts of a reference: marks that the set lacks as characters
+-- are excluded from its texts, if no octet contains one
+pub ends-are-excluded-from-set : (marks : List ℕ) (set : TableSet)
+    → list_all is_outside_octets marks ≡ true
     → list_any set.ascii marks ≡ false → excludes set marks ≡ true
-ends_outside [] set e f = refl
-ends_outside (m ∷ marks) set e f =
-    let p = and_parts (is_plain_mark m) (list_all is_plain_mark marks) e in
+ends-are-excluded-from-set [] set e f = refl
+ends-are-excluded-from-set (m ∷ marks) set e f =
+    let p = and_parts (is_outside_octets m) (list_all is_outside_octets marks) e in
     let q = and_parts (nat_lt m 128) _ p.0 in
     let r = or_parts (set.ascii m) (list_any set.ascii marks) f in
     and_from _ _ (and_from _ _ q.0 (and_from _ _ (not_from_false _ r.0) q.1))
-    (ends_outside marks set p.1 r.1)
+    (ends-are-excluded-from-set marks set p.1 r.1)
 
-pub excludes_front : (some more : List ℕ) (set : TableSet) → excludes set (some ++ more) ≡ true
+-- parts of a reference: a set that excludes some marks and more excludes the former
+pub fewer-characters-are-excluded-too : (some more : List ℕ) (set : TableSet)
+    → excludes set (some ++ more) ≡ true
     → excludes set some ≡ true
-excludes_front [] more set e = refl
-excludes_front (m ∷ some) more set e = let p = and_parts _ (excludes set (some ++ more)) e in
-    and_from _ _ p.0 (excludes_front some more set p.1)
+fewer-characters-are-excluded-too [] more set e = refl
+fewer-characters-are-excluded-too (m ∷ some) more set e = let p = and_parts _
+    (excludes set (some ++ more)) e in
+    and_from _ _ p.0 (fewer-characters-are-excluded-too some more set p.1)
 
--- a text whose first segment has no `:` begins with no scheme
-no_scheme_first : (path tail : List ℕ) → has_colon_first path ≡ false → Begins (codes "?#") tail
+-- recomposing: in a path without `:` in its first segment, and `?` or `#` after it,
+-- `:` is not the first delimiter
+path-without-colon-meets-no-colon-first : (path tail : List ℕ) → has_colon_in_first_segment path
+    ≡ false
+    → IsEmptyOrMarked (codes "?#") tail
     → starts 58 (from_any (codes ":/?#") (path ++ tail)) ≡ false
-no_scheme_first [] [] e begins = refl
-no_scheme_first [] (c ∷ tail) e begins =
-    ap (λ n. starts 58 (drop n (c ∷ tail))) (mark_len (codes ":/?#") c tail (four_of_two c begins))
-    ∙ no_colon_two c begins
-no_scheme_first (c ∷ path) tail e begins = ⊎_elim
+path-without-colon-meets-no-colon-first [] [] e begins = refl
+path-without-colon-meets-no-colon-first [] (c ∷ tail) e begins =
+    ap (λ n. starts 58 (drop n (c ∷ tail)))
+    (length_before_mark_at_start_is_zero (codes ":/?#") c tail
+    (question_or_hash_ends_scheme c begins))
+    ∙ question_or_hash_is_no_colon c begins
+path-without-colon-meets-no-colon-first (c ∷ path) tail e begins = ⊎_elim
     (λ m. ap (λ n. starts 58 (drop n (c ∷ (path ++ tail))))
-    (mark_len (codes ":/?#") c (path ++ tail) m) ∙ first c path e)
+    (length_before_mark_at_start_is_zero (codes ":/?#") c (path ++ tail) m) ∙ first c path e)
     (λ m.
     let past = ap (λ n. drop n (c ∷ (path ++ tail)))
-    (other_len (codes ":/?#") c (path ++ tail) m) in
+    (length_before_marks_counts_other_byte (codes ":/?#") c (path ++ tail) m) in
     ap (starts 58) past
-    ∙ no_scheme_first path tail (or_parts (eqb c 58) (has_colon_first path)
+    ∙ path-without-colon-meets-no-colon-first path tail
+    (or_parts (eqb c 58) (has_colon_in_first_segment path)
     (sym (ap (list_any (λ d. eqb d 58)) (before_other c path (no_slash c m))) ∙ e)).1 begins)
     (cases_Bool (is_one_of (codes ":/?#") c))
   where
@@ -62,9 +77,11 @@ no_scheme_first (c ∷ path) tail e begins = ⊎_elim
 
     before_other : (c : ℕ) (path : List ℕ) → is_one_of (codes "/") c ≡ false
         → before_any (codes "/") (c ∷ path) ≡ c ∷ before_any (codes "/") path
-    before_other c path m = ap (λ n. take n (c ∷ path)) (other_len (codes "/") c path m)
+    before_other c path m = ap (λ n. take n (c ∷ path))
+        (length_before_marks_counts_other_byte (codes "/") c path m)
 
-    first : (c : ℕ) (path : List ℕ) → has_colon_first (c ∷ path) ≡ false → eqb c 58 ≡ false
+    first : (c : ℕ) (path : List ℕ) → has_colon_in_first_segment (c ∷ path) ≡ false
+        → eqb c 58 ≡ false
     first c path e = ⊎_elim
         (λ h.
         absurd
@@ -73,16 +90,20 @@ no_scheme_first (c ∷ path) tail e begins = ⊎_elim
         (λ h. h)
         (cases_Bool (eqb c 58))
 
-pub no_scheme : (path tail : List ℕ) → has_colon_first path ≡ false → Begins (codes "?#") tail
+-- recomposing: a path whose first segment has no `:` has no scheme,
+-- whatever query or fragment follows it
+pub no_scheme : (path tail : List ℕ) → has_colon_in_first_segment path ≡ false
+    → IsEmptyOrMarked (codes "?#") tail
     → has_scheme (path ++ tail) ≡ false
-no_scheme path tail e begins = and_left _ _ (no_scheme_first path tail e begins)
+no_scheme path tail e begins = and_left _ _
+    (path-without-colon-meets-no-colon-first path tail e begins)
 
 -- a `?` and a `#` end a path, and a `#` a query
 module _ (kind : Kind) (sets : HasComponentSets kind) where
-  pub path_outside : excludes kind.path (codes "?#") ≡ true
-  path_outside = excludes_front (codes "?#") (codes "[]") kind.path
-      (ends_outside (codes "?#[]") kind.path refl sets.path.ends)
+  pub path-set-excludes-its-ends : excludes kind.path (codes "?#") ≡ true
+  path-set-excludes-its-ends = fewer-characters-are-excluded-too (codes "?#") (codes "[]") kind.path
+      (ends-are-excluded-from-set (codes "?#[]") kind.path refl sets.path.ends)
 
-  pub query_outside : excludes kind.query (codes "#") ≡ true
-  query_outside = excludes_front (codes "#") (codes "[]") kind.query
-      (ends_outside (codes "#[]") kind.query refl sets.query.ends)
+  pub query-set-excludes-its-end : excludes kind.query (codes "#") ≡ true
+  query-set-excludes-its-end = fewer-characters-are-excluded-too (codes "#") (codes "[]") kind.query
+      (ends-are-excluded-from-set (codes "#[]") kind.query refl sets.query.ends)

@@ -12,45 +12,54 @@ use Rattle.uri_pct.specs.Sets.{TableSet, LacksPercent}
 use Rattle.uri_pct.specs.Tables.{set_of}
 use Rattle.uri_pct.specs.Tokens.{IsValidFor}
 use Rattle.uri_pct.specs.declared.table.Table.{Table}
-use Rattle.uri_pct.proofs.Decodings.Decoding.{in_widest}
-use Rattle.uri_pct.proofs.ValidTexts.EStrs.{valid_in_more}
+use Rattle.uri_pct.proofs.Decodings.Decoding.{every_set_is_subset_of_widest}
+use Rattle.uri_pct.proofs.ValidTexts.EStrs.{valid_for_superset}
 use Rattle.uri_pct.proofs.TableSets.Percent.{lacks_percent}
 use Rattle.uri_parts.specs.Components.{starts}
 use Rattle.uri_parts.specs.Hosts.{ipv4_value, is_host}
-use Rattle.uri_parts.proofs.Authorities.AuthorityPlaces.{name_valid}
+use Rattle.uri_parts.proofs.Authorities.AuthorityPlaces.{reg_name_host_is_valid}
 use Rattle.uri_parts.proofs.HostForms.Addresses.{ipv4_value-sound}
-use Rattle.uri_parts.proofs.HostForms.Futures.{ipv4_digits}
-use Rattle.uri_ops.proofs.Meanings.AllowedParts.{part_valid}
-use Rattle.uri_ops.proofs.Meanings.PlainTexts.{is_plain_char, part_plain}
+use Rattle.uri_parts.proofs.HostForms.Futures.{ipv4-text-is-digits-and-dots}
+use Rattle.uri_ops.proofs.Meanings.AllowedParts.{set-text-is-valid}
+use Rattle.uri_ops.proofs.Meanings.AsciiCharacters.{is_ascii_in, ascii-in-test-is-set-text}
 
--- what a table allows
-pub valid_decodes : (table : Table) (set : TableSet) (text : List ℕ) → set_of table ≡ set
+-- normalising: a text that a table allows is one in which each `%` begins an octet
+pub valid-text-is-decodable : (table : Table) (set : TableSet) (text : List ℕ) → set_of table ≡ set
     → IsValidFor set text → IsValidFor widest_set text
-valid_decodes table set text e valid =
-    valid_in_more set widest_set text (in_widest set (subst LacksPercent e (lacks_percent table)))
+valid-text-is-decodable table set text e valid =
+    valid_for_superset set widest_set text
+    (every_set_is_subset_of_widest set (subst LacksPercent e (lacks_percent table)))
     valid
 
 -- digits and dots
-abbrev no_mark : ℕ → Bool
-no_mark c = not (eqb c 37)
+abbrev is_no_percent : ℕ → Bool
+is_no_percent c = not (eqb c 37)
 
-unmarked : (c : ℕ) → IsDigitOrDot c → is_plain_char no_mark c ≡ true
-unmarked c (inl range) = grind (arith, nat_tests)
-unmarked c (inr dot) = grind (arith, nat_tests)
+-- hosts: the characters of an IPv4 address are not `%`
+digit-or-dot-is-no-percent : (c : ℕ) → IsDigitOrDot c → is_ascii_in is_no_percent c ≡ true
+digit-or-dot-is-no-percent c (inl range) = grind (arith, nat_tests)
+digit-or-dot-is-no-percent c (inr dot) = grind (arith, nat_tests)
 
-dotted_decodes : (text octets : List ℕ) → IsDotted text octets → IsValidFor widest_set text
-dotted_decodes text octets h =
-    part_valid widest_set text
-    (part_plain widest_set no_mark refl refl (λ c e. e) text
-    (list_all-from_AllPass (is_plain_char no_mark) text
-    (All-weaker IsDigitOrDot (λ c. is_plain_char no_mark c ≡ true) (λ c d. unmarked c d) text
-    (ipv4_digits text octets h))))
+-- hosts: an IPv4 address may be decoded, as it has no `%`
+dotted-decimal-is-decodable : (text octets : List ℕ) → IsDotted text octets
+    → IsValidFor widest_set text
+dotted-decimal-is-decodable text octets h =
+    set-text-is-valid widest_set text
+    (ascii-in-test-is-set-text widest_set is_no_percent refl refl (λ c e. e) text
+    (list_all-from_AllPass (is_ascii_in is_no_percent) text
+    (All-weaker IsDigitOrDot (λ c. is_ascii_in is_no_percent c ≡ true)
+    (λ c d. digit-or-dot-is-no-percent c d) text
+    (ipv4-text-is-digits-and-dots text octets h))))
 
--- a host that doesn't begin with `[`: an IPv4 address or a name
-pub named_decodes : (table : Table) (names : TableSet) (host : List ℕ) → set_of table ≡ names
+-- hosts: in one that doesn't begin with `[` (91),
+-- an IPv4 address or a name, each `%` begins an octet
+pub unbracketed-host-is-decodable : (table : Table) (names : TableSet) (host : List ℕ)
+    → set_of table ≡ names
     → is_host names host ≡ true → starts 91 host ≡ false → IsValidFor widest_set host
-named_decodes table names host e h s = by_value (ipv4_value host) refl
+unbracketed-host-is-decodable table names host e h s = by_value (ipv4_value host) refl
   where
     by_value : (value : Option (List ℕ)) → ipv4_value host ≡ value → IsValidFor widest_set host
-    by_value (Some octets) v = dotted_decodes host octets (ipv4_value-sound host octets v)
-    by_value None v = valid_decodes table names host e (name_valid names host h s v)
+    by_value (Some octets) v = dotted-decimal-is-decodable host octets
+        (ipv4_value-sound host octets v)
+    by_value None v = valid-text-is-decodable table names host e
+        (reg_name_host_is_valid names host h s v)

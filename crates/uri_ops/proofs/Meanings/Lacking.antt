@@ -11,30 +11,34 @@ use Rattle.uri_pct.specs.Sets.{TableSet, LacksPercent, IsSubset, unreserved_set,
 use Rattle.uri_pct.specs.Sets.{is_one_of, allows_past_ascii}
 use Rattle.uri_pct.specs.Tokens.{Token, Char, Octet, tokens, print}
 use Rattle.uri_pct.specs.Pieces.{Piece, WellFormed, IllFormed, utf8_pieces}
-use Rattle.uri_pct.specs.Reading.{is_readable, read_piece, read_run, read_from, is_never_literal}
-use Rattle.uri_pct.specs.Reading.{formatting_as_octets, encode_formatting}
-use Rattle.uri_pct.specs.Prefixes.{begins_hex, allows_first}
+use Rattle.uri_pct.specs.DecodeUnreserved.{is_decodable, decode_piece, decode_run, decode_after_run}
+use Rattle.uri_pct.specs.DecodeUnreserved.{is_never_literal}
+use Rattle.uri_pct.specs.DecodeUnreserved.{formatting_as_octets, encode_formatting}
+use Rattle.uri_pct.specs.Prefixes.{begins_with_hex_digits, allows_first}
 use Rattle.uri_pct.proofs.ValidTexts.Cuts.{excludes}
-use Rattle.uri_pct.proofs.ValidTexts.Validity.{valid_from, is_valid_for-bytes}
-use Rattle.uri_parts.proofs.TextKinds.SpeltTexts.{valid_lacks}
-use Rattle.uri_ops.proofs.Paths.PathCharacters.{lacks_test}
-use Rattle.uri_ops.proofs.Meanings.AllowedParts.{is_part, part_from, part_utf8, part_valid}
-use Rattle.uri_ops.proofs.Meanings.AllowedParts.{reprinted, part_reprinted}
+use Rattle.uri_pct.proofs.ValidTexts.Validity.{valid_from, validity_of_tokens_is_validity_of_bytes}
+use Rattle.uri_parts.proofs.TextKinds.GrammarTexts.{valid_text_lacks_excluded_marks}
+use Rattle.uri_ops.proofs.Paths.PathCharacters.{lacked-delimiters-fail-test}
+use Rattle.uri_ops.proofs.Meanings.AllowedParts.{is_set_text, set-text-from-utf8, set-text-is-utf8}
+use Rattle.uri_ops.proofs.Meanings.AllowedParts.{set-text-is-valid}
+use Rattle.uri_ops.proofs.Meanings.AllowedParts.{print_decoded, decoded-set-text-is-set-text}
 
 -- the text has none of the marks
 abbrev pub lacks_any : List ℕ → List ℕ → Bool
 lacks_any marks text = list_all (λ c. not (is_one_of marks c)) text
 
--- what a set allows has no character that the set excludes
-part_lacks : (marks : List ℕ) (set : TableSet) → LacksPercent set → excludes set marks ≡ true
-    → (text : List ℕ) → is_part set text ≡ true → lacks_any marks text ≡ true
-part_lacks marks set lacks outside text e =
-    lacks_test marks text
-    (valid_lacks set marks lacks outside text (part_utf8 set text e) (part_valid set text e))
+-- normal forms: a valid text has no character that the set excludes
+set-text-lacks-excluded-characters : (marks : List ℕ) (set : TableSet) → LacksPercent set
+    → excludes set marks ≡ true
+    → (text : List ℕ) → is_set_text set text ≡ true → lacks_any marks text ≡ true
+set-text-lacks-excluded-characters marks set lacks outside text e =
+    lacked-delimiters-fail-test marks text
+    (valid_text_lacks_excluded_marks set marks lacks outside text (set-text-is-utf8 set text e)
+    (set-text-is-valid set text e))
 
 -- the set without one of its characters
-abbrev without : ℕ → TableSet → TableSet
-without m set = record {
+abbrev set_without : ℕ → TableSet → TableSet
+set_without m set = record {
   ascii = λ c. not (eqb c m) && set.ascii c;
   pct_encoded =
       set.pct_encoded;
@@ -43,91 +47,121 @@ without m set = record {
 }
 
 -- the text has the character
-abbrev pub has : ℕ → List ℕ → Bool
-has m text = list_any (λ c. eqb c m) text
+abbrev pub has_character : ℕ → List ℕ → Bool
+has_character m text = list_any (λ c. eqb c m) text
 
-allows_without : (m : ℕ) (set : TableSet) (b : ℕ) (rest : List ℕ) → eqb b m ≡ false
-    → allows_first (without m set) b rest ≡ allows_first set b rest
+-- normal forms: a set without the character m allows any other first byte as the set does
+set_without-allows-other-first-bytes : (m : ℕ) (set : TableSet) (b : ℕ) (rest : List ℕ)
+    → eqb b m ≡ false
+    → allows_first (set_without m set) b rest ≡ allows_first set b rest
 unfolding allows_first allows_past_ascii
-allows_without m set b rest e = ⊎_elim
+set_without-allows-other-first-bytes m set b rest e = ⊎_elim
     (λ h. cond-true _ _ _ (lt-ltb b 128 h) ∙ ap (λ t. not t && set.ascii b) e
     ∙ sym (cond-true _ _ _ (lt-ltb b 128 h)))
     (λ h. cond-false _ _ _ (le-ltb b 128 h) ∙ sym (cond-false _ _ _ (le-ltb b 128 h)))
     (cases_lt b 128)
 
-valid_without : (m : ℕ) (set : TableSet) (k : ℕ) (bs : List ℕ) → has m bs ≡ false
-    → valid_from (without m set) k bs ≡ valid_from set k bs
+-- normal forms: a text without the character m is valid for a set without m exactly if it is for
+-- the set; k: bytes to skip
+text-stays-valid-for-set_without : (m : ℕ) (set : TableSet) (k : ℕ) (bs : List ℕ)
+    → has_character m bs ≡ false
+    → valid_from (set_without m set) k bs ≡ valid_from set k bs
 unfolding valid_from
-valid_without m set zero [] e = refl
-valid_without m set (suc k) [] e = refl
-valid_without m set (suc k) (b ∷ rest) e =
-    valid_without m set k rest (or_parts (eqb b m) (has m rest) e).1
-valid_without m set zero (b ∷ rest) e =
-    let p = or_parts (eqb b m) (has m rest) e in
-    ap (λ t. cond ((set.pct_encoded && eqb b 37) && begins_hex rest) t
-    (allows_first (without m set) b rest
-    && valid_from (without m set) (continuation_len b) rest))
-    (valid_without m set 2 rest p.1)
-    ∙ ap (λ t. cond ((set.pct_encoded && eqb b 37) && begins_hex rest) (valid_from set 2 rest)
-    (t && valid_from (without m set) (continuation_len b) rest))
-    (allows_without m set b rest p.0)
-    ∙ ap (λ t. cond ((set.pct_encoded && eqb b 37) && begins_hex rest) (valid_from set 2 rest)
-    (allows_first set b rest && t)) (valid_without m set (continuation_len b) rest p.1)
+text-stays-valid-for-set_without m set zero [] e = refl
+text-stays-valid-for-set_without m set (suc k) [] e = refl
+text-stays-valid-for-set_without m set (suc k) (b ∷ rest) e =
+    text-stays-valid-for-set_without m set k rest (or_parts (eqb b m) (has_character m rest) e).1
+text-stays-valid-for-set_without m set zero (b ∷ rest) e =
+    let p = or_parts (eqb b m) (has_character m rest) e in
+    ap (λ t. cond ((set.pct_encoded && eqb b 37) && begins_with_hex_digits rest) t
+    (allows_first (set_without m set) b rest
+    && valid_from (set_without m set) (continuation_len b) rest))
+    (text-stays-valid-for-set_without m set 2 rest p.1)
+    ∙ ap (λ t. cond ((set.pct_encoded && eqb b 37) && begins_with_hex_digits rest)
+    (valid_from set 2 rest)
+    (t && valid_from (set_without m set) (continuation_len b) rest))
+    (set_without-allows-other-first-bytes m set b rest p.0)
+    ∙ ap (λ t. cond ((set.pct_encoded && eqb b 37) && begins_with_hex_digits rest)
+    (valid_from set 2 rest)
+    (allows_first set b rest && t))
+    (text-stays-valid-for-set_without m set (continuation_len b) rest p.1)
 
-lacks_without : (m : ℕ) (set : TableSet) → LacksPercent set → LacksPercent (without m set)
-lacks_without m set lacks = ⊎_elim (λ e. ap (λ t. not t && set.ascii 37) e)
+-- normal forms: a set without a character m lacks `%` too
+set_without-lacks-percent : (m : ℕ) (set : TableSet) → LacksPercent set
+    → LacksPercent (set_without m set)
+set_without-lacks-percent m set lacks = ⊎_elim (λ e. ap (λ t. not t && set.ascii 37) e)
     (λ e. ap (λ t. not t && set.ascii 37) e ∙ lacks) (cases_Bool (eqb 37 m))
 
-part_without : (m : ℕ) (set : TableSet) → LacksPercent set → (text : List ℕ)
-    → is_part set text ≡ true → has m text ≡ false → is_part (without m set) text ≡ true
-part_without m set lacks text e f =
-    let u = part_utf8 set text e in
-    part_from (without m set) text u
-    (is_valid_for-bytes (without m set) (lacks_without m set lacks) text u
-    ∙ valid_without m set 0 text f ∙ sym (is_valid_for-bytes set lacks text u)
-    ∙ part_valid set text e)
+-- normal forms: a valid text without the character m is valid for the set without m
+text-without-character-is-for-set_without : (m : ℕ) (set : TableSet) → LacksPercent set
+    → (text : List ℕ)
+    → is_set_text set text ≡ true → has_character m text ≡ false
+    → is_set_text (set_without m set) text ≡ true
+text-without-character-is-for-set_without m set lacks text e f =
+    let u = set-text-is-utf8 set text e in
+    set-text-from-utf8 (set_without m set) text u
+    (validity_of_tokens_is_validity_of_bytes (set_without m set)
+    (set_without-lacks-percent m set lacks) text u
+    ∙ text-stays-valid-for-set_without m set 0 text f
+    ∙ sym (validity_of_tokens_is_validity_of_bytes set lacks text u)
+    ∙ set-text-is-valid set text e)
 
--- a set without one character decodes the same
-piece_without : (m : ℕ) (set : TableSet) (p : Piece)
-    → read_piece (without m set) p ≡ read_piece set p
-unfolding is_readable allows_past_ascii
-piece_without m set (WellFormed bytes) = refl
-piece_without m set (IllFormed bytes) = refl
+-- normal forms: a piece of bytes is decoded in the same way for a set without a character m
+decode_piece-for-set_without : (m : ℕ) (set : TableSet) (p : Piece)
+    → decode_piece (set_without m set) p ≡ decode_piece set p
+unfolding is_decodable allows_past_ascii
+decode_piece-for-set_without m set (WellFormed bytes) = refl
+decode_piece-for-set_without m set (IllFormed bytes) = refl
 
-run_without : (m : ℕ) (set : TableSet) (run : List ℕ)
-    → read_run (without m set) run ≡ read_run set run
-unfolding read_run
-run_without m set run = ap (λ f. flat_map f (utf8_pieces run)) (λ i p. piece_without m set p i)
+-- normal forms: a run of octets is decoded in the same way for a set without a character m
+decode_run-for-set_without : (m : ℕ) (set : TableSet) (run : List ℕ)
+    → decode_run (set_without m set) run ≡ decode_run set run
+unfolding decode_run
+decode_run-for-set_without m set run = ap (λ f. flat_map f (utf8_pieces run))
+    (λ i p. decode_piece-for-set_without m set p i)
 
-from_without : (m : ℕ) (set : TableSet) (run : List ℕ) (ts : List Token)
-    → read_from (without m set) run ts ≡ read_from set run ts
-unfolding read_from
-from_without m set run [] = run_without m set run
-from_without m set run (Octet value ∷ ts) = from_without m set (run ++ value ∷ []) ts
-from_without m set run (Char c ∷ ts) =
-    ap (λ x. x ++ Char c ∷ read_from (without m set) [] ts) (run_without m set run)
-    ∙ ap (λ x. read_run set run ++ Char c ∷ x) (from_without m set [] ts)
+-- normal forms: tokens after a run of octets are decoded in the
+-- same way for a set without a character m
+decode_after_run-for-set_without : (m : ℕ) (set : TableSet) (run : List ℕ) (ts : List Token)
+    → decode_after_run (set_without m set) run ts ≡ decode_after_run set run ts
+unfolding decode_after_run
+decode_after_run-for-set_without m set run [] = decode_run-for-set_without m set run
+decode_after_run-for-set_without m set run (Octet value ∷ ts) = decode_after_run-for-set_without m
+    set (run ++ value ∷ []) ts
+decode_after_run-for-set_without m set run (Char c ∷ ts) =
+    ap (λ x. x ++ Char c ∷ decode_after_run (set_without m set) [] ts)
+    (decode_run-for-set_without m set run)
+    ∙ ap (λ x. decode_run set run ++ Char c ∷ x) (decode_after_run-for-set_without m set [] ts)
 
-token_without : (m : ℕ) (set : TableSet) (t : Token)
-    → formatting_as_octets (without m set) t ≡ formatting_as_octets set t
+-- bidirectional text: a formatting character is encoded in the
+-- same way for a set without a character m
+formatting_as_octets-for-set_without : (m : ℕ) (set : TableSet) (t : Token)
+    → formatting_as_octets (set_without m set) t ≡ formatting_as_octets set t
 unfolding is_never_literal
-token_without m set (Char c) = refl
-token_without m set (Octet value) = refl
+formatting_as_octets-for-set_without m set (Char c) = refl
+formatting_as_octets-for-set_without m set (Octet value) = refl
 
-formatting_without : (m : ℕ) (set : TableSet) (ts : List Token)
-    → encode_formatting (without m set) ts ≡ encode_formatting set ts
-formatting_without m set ts = ap (λ f. flat_map f ts) (λ i t. token_without m set t i)
+-- bidirectional text: formatting characters are encoded in the
+-- same way for a set without a character m
+encode_formatting-for-set_without : (m : ℕ) (set : TableSet) (ts : List Token)
+    → encode_formatting (set_without m set) ts ≡ encode_formatting set ts
+encode_formatting-for-set_without m set ts = ap (λ f. flat_map f ts)
+    (λ i t. formatting_as_octets-for-set_without m set t i)
 
-reprinted_without : (m : ℕ) (set : TableSet) (text : List ℕ)
-    → reprinted (without m set) text ≡ reprinted set text
-unfolding reprinted
-reprinted_without m set text =
-    ap print (formatting_without m set (read_from (without m set) [] (tokens text))
-    ∙ ap (encode_formatting set) (from_without m set [] (tokens text)))
+-- normal forms: a text has the same decoded form for a set without a character m
+print_decoded-for-set_without : (m : ℕ) (set : TableSet) (text : List ℕ)
+    → print_decoded (set_without m set) text ≡ print_decoded set text
+unfolding print_decoded
+print_decoded-for-set_without m set text =
+    ap print (encode_formatting-for-set_without m set
+    (decode_after_run (set_without m set) [] (tokens text))
+    ∙ ap (encode_formatting set) (decode_after_run-for-set_without m set [] (tokens text)))
 
-wide_without : (m : ℕ) (set : TableSet) → is_unreserved m ≡ false → IsSubset unreserved_set set
-    → IsSubset unreserved_set (without m set)
-wide_without m set reserved wide = record {
+-- sets: without a character m that is reserved, a set has the unreserved ones still
+set_without-reserved-has-unreserved : (m : ℕ) (set : TableSet) → is_unreserved m ≡ false
+    → IsSubset unreserved_set set
+    → IsSubset unreserved_set (set_without m set)
+set_without-reserved-has-unreserved m set reserved wide = record {
   ascii =
       λ c e. and_from _ _ (not_from_false _
       (false_from_ne_true _ (λ h. both_ways _ reserved
@@ -137,31 +171,43 @@ wide_without m set reserved wide = record {
   iprivate = wide.iprivate;
 }
 
-one_mark : (c m : ℕ) → is_one_of (m ∷ []) c ≡ eqb c m
-one_mark c m = grind (arith, nat_tests)
+-- splitting: being one of one delimiter is being equal to it
+is_one_of-one-is-equality : (c m : ℕ) → is_one_of (m ∷ []) c ≡ eqb c m
+is_one_of-one-is-equality c m = grind (arith, nat_tests)
 
-pub has_lacks : (m : ℕ) (text : List ℕ) → lacks_any (m ∷ []) text ≡ true → has m text ≡ false
-has_lacks m [] e = refl
-has_lacks m (c ∷ text) e =
+-- normal forms: a text that lacks any of one mark lacks this character
+pub lacks_any-gives-lacks : (m : ℕ) (text : List ℕ) → lacks_any (m ∷ []) text ≡ true
+    → has_character m text ≡ false
+lacks_any-gives-lacks m [] e = refl
+lacks_any-gives-lacks m (c ∷ text) e =
     let p = and_parts (not (is_one_of (m ∷ []) c)) (lacks_any (m ∷ []) text) e in
-    or_from _ _ (sym (one_mark c m) ∙ not-true _ p.0) (has_lacks m text p.1)
+    or_from _ _ (sym (is_one_of-one-is-equality c m) ∙ not-true _ p.0)
+    (lacks_any-gives-lacks m text p.1)
 
-pub lacks_has : (m : ℕ) (text : List ℕ) → has m text ≡ false → lacks_any (m ∷ []) text ≡ true
-lacks_has m [] e = refl
-lacks_has m (c ∷ text) e =
-    let p = or_parts (eqb c m) (has m text) e in
-    and_from _ _ (not_from_false _ (one_mark c m ∙ p.0)) (lacks_has m text p.1)
+-- normal forms: a text that lacks a character lacks any of this one mark
+pub lacks-gives-lacks_any : (m : ℕ) (text : List ℕ) → has_character m text ≡ false
+    → lacks_any (m ∷ []) text
+    ≡ true
+lacks-gives-lacks_any m [] e = refl
+lacks-gives-lacks_any m (c ∷ text) e =
+    let p = or_parts (eqb c m) (has_character m text) e in
+    and_from _ _ (not_from_false _ (is_one_of-one-is-equality c m ∙ p.0))
+    (lacks-gives-lacks_any m text p.1)
 
 module _ (m : ℕ) (set : TableSet) (lacks : LacksPercent set) (wide : IsSubset unreserved_set set)
-    (reserved : is_unreserved m ≡ false) (outside : excludes (without m set) (m ∷ []) ≡ true) where
+    (reserved : is_unreserved m ≡ false) (outside : excludes (set_without m set) (m ∷ [])
+    ≡ true) where
   -- if a text lacks a character that is not unreserved, its decoded form lacks it
-  pub reprinted_lacks : (text : List ℕ) → is_part set text ≡ true → has m text ≡ false
-      → has m (reprinted set text) ≡ false
-  reprinted_lacks text e f =
-      let part = part_without m set lacks text e f in
-      let again = part_reprinted (without m set) (lacks_without m set lacks)
-      (wide_without m set reserved wide) text part in
-      sym (ap (has m) (reprinted_without m set text))
-      ∙ has_lacks m (reprinted (without m set) text)
-      (part_lacks (m ∷ []) (without m set) (lacks_without m set lacks) outside
-      (reprinted (without m set) text) again)
+  pub decoding-adds-no-reserved : (text : List ℕ) → is_set_text set text ≡ true
+      → has_character m text ≡ false
+      → has_character m (print_decoded set text) ≡ false
+  decoding-adds-no-reserved text e f =
+      let part = text-without-character-is-for-set_without m set lacks text e f in
+      let again = decoded-set-text-is-set-text (set_without m set)
+      (set_without-lacks-percent m set lacks)
+      (set_without-reserved-has-unreserved m set reserved wide) text part in
+      sym (ap (has_character m) (print_decoded-for-set_without m set text))
+      ∙ lacks_any-gives-lacks m (print_decoded (set_without m set) text)
+      (set-text-lacks-excluded-characters (m ∷ []) (set_without m set)
+      (set_without-lacks-percent m set lacks) outside
+      (print_decoded (set_without m set) text) again)

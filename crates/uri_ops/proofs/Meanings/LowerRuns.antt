@@ -15,109 +15,127 @@ use Rattle.std.proofs.lemmas.Str.{IsCharBoundary-before_ascii}
 use Rattle.std.proofs.lemmas.Str.{IsCharBoundary-end, encode_ascii}
 use Rattle.std.proofs.lemmas.Str.Ascii.{lowercase_ascii}
 
-abbrev is_kept : ℕ → Bool
-is_kept b = not (is_ascii_uppercase b)
+abbrev is_no_uppercase : ℕ → Bool
+is_no_uppercase b = not (is_ascii_uppercase b)
 
 -- what is before the first letter in upper case
-pub record LowerFront (text : List ℕ) (n : ℕ) : Type 0 where
+pub record LowerPrefix (text : List ℕ) (n : ℕ) : Type 0 where
   pub within : n ≤ length text
   pub boundary : IsCharBoundary text n
   pub same : str_to_ascii_lowercase (take n text) ≡ take n text
   pub upper : n < length text → is_ascii_uppercase (get_or text n 0) ≡ true
 
-kept_byte : (b : ℕ) → is_kept b ≡ true → to_ascii_lowercase b ≡ b
-kept_byte b kept = grind (arith, nat_tests)
+-- normal schemes and hosts: a byte that is no letter in upper case stays in lower case
+byte-that-is-no-uppercase-stays-lowered : (b : ℕ) → is_no_uppercase b ≡ true
+    → to_ascii_lowercase b ≡ b
+byte-that-is-no-uppercase-stays-lowered b kept = grind (arith, nat_tests)
 
-kept_front : (text : List ℕ)
-    → str_to_ascii_lowercase (take (prefix_len is_kept text) text)
-    ≡ take (prefix_len is_kept text) text
-kept_front [] = refl
-kept_front (b ∷ text) =
-    let next : 1 + prefix_len is_kept text ≡ suc (prefix_len is_kept text) = omega arith in
+-- normal schemes and hosts: what is before the first letter in upper case stays in lower case
+prefix-before-uppercase-stays-lowered : (text : List ℕ)
+    → str_to_ascii_lowercase (take (prefix_len is_no_uppercase text) text)
+    ≡ take (prefix_len is_no_uppercase text) text
+prefix-before-uppercase-stays-lowered [] = refl
+prefix-before-uppercase-stays-lowered (b ∷ text) =
+    let next : 1 + prefix_len is_no_uppercase text ≡ suc (prefix_len is_no_uppercase text) =
+    omega arith in
     ⊎_elim
     (λ e.
-    let more = take (prefix_len is_kept text) text in
-    let first = ap (λ x. x ∷ str_to_ascii_lowercase more) (kept_byte b e) in
-    rw e (rw next (first ∙ ap (λ x. b ∷ x) (kept_front text))))
+    let more = take (prefix_len is_no_uppercase text) text in
+    let first = ap (λ x. x ∷ str_to_ascii_lowercase more)
+    (byte-that-is-no-uppercase-stays-lowered b e) in
+    rw e (rw next (first ∙ ap (λ x. b ∷ x) (prefix-before-uppercase-stays-lowered text))))
     (λ e. rw e refl)
-    (cases_Bool (is_kept b))
+    (cases_Bool (is_no_uppercase b))
 
-upper_ascii : (b : ℕ) → is_ascii_uppercase b ≡ true → b < 128
-upper_ascii b upper = grind (arith, nat_tests)
+-- normal schemes and hosts: a letter in upper case is ASCII
+uppercase-letter-is-ascii : (b : ℕ) → is_ascii_uppercase b ≡ true → b < 128
+uppercase-letter-is-ascii b upper = grind (arith, nat_tests)
 
-boundary_there : (text : List ℕ) (n : ℕ) → n ≤ length text
+-- normal schemes and hosts: a character begins at a letter in upper case, or the text ends
+uppercase-or-end-is-boundary : (text : List ℕ) (n : ℕ) → n ≤ length text
     → (n < length text → is_ascii_uppercase (get_or text n 0) ≡ true) → IsCharBoundary text n
-boundary_there text n within upper = ⊎_elim
+uppercase-or-end-is-boundary text n within upper = ⊎_elim
     (λ e. subst (IsCharBoundary text) (sym e) (IsCharBoundary-end text))
-    (λ below. IsCharBoundary-before_ascii text n below (upper_ascii _ (upper below)))
+    (λ below. IsCharBoundary-before_ascii text n below (uppercase-letter-is-ascii _ (upper below)))
     (eq-or-lt_of_le within)
 
-pub lower_front : (text : List ℕ) (n : ℕ) → n ≡ position_or_len is_ascii_uppercase text
-    → LowerFront text n
-lower_front text n e =
-    let at : n ≡ prefix_len is_kept text = e in
-    let fits = prefix_len-le-length is_kept text in
+-- normalising schemes and hosts: what is before the first letter
+-- in upper case stays when it is lowered
+pub prefix-before-uppercase-is-lower-prefix : (text : List ℕ) (n : ℕ) → n
+    ≡ position_or_len is_ascii_uppercase text
+    → LowerPrefix text n
+prefix-before-uppercase-is-lower-prefix text n e =
+    let at : n ≡ prefix_len is_no_uppercase text = e in
+    let fits = prefix_len-le-length is_no_uppercase text in
     let within : n ≤ length text = subst (λ k. k ≤ length text) (sym at) fits in
     let upper : n < length text → is_ascii_uppercase (get_or text n 0) ≡ true = λ below.
     ap (λ k. is_ascii_uppercase (get_or text k 0)) at
-    ∙ not-false _ (prefix_len_stops is_kept text 0 (subst (λ k. k < length text) at below)) in
+    ∙ not-false _ (prefix_len_stops is_no_uppercase text 0
+    (subst (λ k. k < length text) at below)) in
     record {
       within = within;
-      boundary = boundary_there text n within upper;
+      boundary = uppercase-or-end-is-boundary text n within upper;
       same = subst (λ k. str_to_ascii_lowercase (take k text) ≡ take k text) (sym at)
-          (kept_front text);
+          (prefix-before-uppercase-stays-lowered text);
       upper = upper;
     }
 
--- the letter after them is one character
-pub letter_ascii : (text : List ℕ) (n : ℕ) → LowerFront text n → n < length text
+-- normal schemes and hosts: the byte after a prefix without letters in upper case is ASCII
+pub byte-after-lower-prefix-is-ascii : (text : List ℕ) (n : ℕ) → LowerPrefix text n
+    → n < length text
     → get_or text n 0 < 128
-letter_ascii text n front below = upper_ascii _ (front.upper below)
+byte-after-lower-prefix-is-ascii text n prefix below = uppercase-letter-is-ascii _
+    (prefix.upper below)
 
-pushed_run : (text out mid : List ℕ) (n : ℕ) → mid ≡ out ++ take (n - 0) text
+-- general fact on prefixes: what is appended of a run from 0 on is a prefix
+run-from-zero-is-prefix : (text out mid : List ℕ) (n : ℕ) → mid ≡ out ++ take (n - 0) text
     → mid ≡ out ++ take n text
-pushed_run text out mid n = subst (λ k. mid ≡ out ++ take k text) (omega arith)
+run-from-zero-is-prefix text out mid n = subst (λ k. mid ≡ out ++ take k text) (omega arith)
 
--- they are pushed, and the letter after them
-pub letter_step : (text out mid new whole : List ℕ) (n : ℕ) → LowerFront text n → n < length text
+-- normal schemes and hosts: after a lower-case prefix, and the next letter in lower case,
+-- the rest is left to append
+pub lowered-letter-is-pushed : (text out mid new whole : List ℕ) (n : ℕ) → LowerPrefix text n
+    → n < length text
     → mid ≡ out ++ take (n - 0) text
     → new ≡ mid ++ encode_utf8 (to_ascii_lowercase (get_or text n 0))
     → out ++ str_to_ascii_lowercase text ≡ whole
     → new ++ str_to_ascii_lowercase (drop (n + 1) text) ≡ whole
-letter_step text out mid new whole n front below run letter total =
+lowered-letter-is-pushed text out mid new whole n prefix below run letter total =
     let ch = get_or text n 0 in
     let low = to_ascii_lowercase ch in
     let kept = take n text in
-    let behind = str_to_ascii_lowercase (drop (n + 1) text) in
+    let suffix = str_to_ascii_lowercase (drop (n + 1) text) in
     let one : encode_utf8 low ≡ low ∷ [] =
-    encode_ascii low (lowercase_ascii ch (letter_ascii text n front below)) in
-    let split : str_to_ascii_lowercase text ≡ kept ++ low ∷ behind =
+    encode_ascii low (lowercase_ascii ch (byte-after-lower-prefix-is-ascii text n prefix below)) in
+    let split : str_to_ascii_lowercase text ≡ kept ++ low ∷ suffix =
     ap str_to_ascii_lowercase (sym (take-append-drop n text))
     ∙ map-append to_ascii_lowercase kept (drop n text)
-    ∙ ap (λ x. x ++ str_to_ascii_lowercase (drop n text)) front.same
+    ∙ ap (λ x. x ++ str_to_ascii_lowercase (drop n text)) prefix.same
     ∙ ap (λ x. kept ++ str_to_ascii_lowercase x) (drop_more text n 0 below) in
-    ap (λ x. x ++ behind) (letter ∙ ap (λ x. mid ++ x) one)
-    ∙ append_assoc mid (low ∷ []) behind
-    ∙ ap (λ x. x ++ low ∷ behind) (pushed_run text out mid n run)
-    ∙ append_assoc out kept (low ∷ behind) ∙ ap (λ x. out ++ x) (sym split) ∙ total
+    ap (λ x. x ++ suffix) (letter ∙ ap (λ x. mid ++ x) one)
+    ∙ append_assoc mid (low ∷ []) suffix
+    ∙ ap (λ x. x ++ low ∷ suffix) (run-from-zero-is-prefix text out mid n run)
+    ∙ append_assoc out kept (low ∷ suffix) ∙ ap (λ x. out ++ x) (sym split) ∙ total
 
--- they are all that is left
-pub last_step : (text out new whole : List ℕ) (n : ℕ) → LowerFront text n → n ≡ length text
+-- normal schemes and hosts: a lower-case prefix that is the whole text completes what is appended
+pub last-lowercase-run-is-pushed : (text out new whole : List ℕ) (n : ℕ) → LowerPrefix text n → n
+    ≡ length text
     → new ≡ out ++ take (n - 0) text → out ++ str_to_ascii_lowercase text ≡ whole → new ≡ whole
-last_step text out new whole n front all run total =
+last-lowercase-run-is-pushed text out new whole n prefix all run total =
     let is_whole : take n text ≡ text = take_all n text (omega (arith, all)) in
     let lower : str_to_ascii_lowercase text ≡ text =
-    ap str_to_ascii_lowercase (sym is_whole) ∙ front.same ∙ is_whole in
-    pushed_run text out new n run ∙ ap (λ x. out ++ x) (is_whole ∙ sym lower) ∙ total
+    ap str_to_ascii_lowercase (sym is_whole) ∙ prefix.same ∙ is_whole in
+    run-from-zero-is-prefix text out new n run ∙ ap (λ x. out ++ x) (is_whole ∙ sym lower) ∙ total
 
--- if the position of the first one is an option
-pub found_or_end : (text : List ℕ) (found : Option ℕ)
+-- normal schemes and hosts: the first letter in upper case, as an option,
+-- is at its position, or else at the length
+pub first-uppercase-or-length : (text : List ℕ) (found : Option ℕ)
     → (let n = position_or_len is_ascii_uppercase text in
     found ≡ cond (ltb n (length text)) (Some n) None)
     → unwrap_or found (length text) ≡ position_or_len is_ascii_uppercase text
-found_or_end text found e =
+first-uppercase-or-length text found e =
     let n = position_or_len is_ascii_uppercase text in
-    let within : n ≤ length text = prefix_len-le-length is_kept text in
+    let within : n ≤ length text = prefix_len-le-length is_no_uppercase text in
     ⊎_elim
     (λ t. ap (λ r. unwrap_or r (length text)) (e ∙ cond-true _ _ _ t))
     (λ f.

@@ -10,7 +10,7 @@ use Rattle.std.specs.Net.Reader.{read_segments}
 use Rattle.uri_pct.specs.Sets as Sets
 use Rattle.uri_pct.specs.Tokens as Tokens
 use Rattle.uri_pct.specs.Pieces as Pieces
-use Rattle.uri_pct.specs.Reading as Reading
+use Rattle.uri_pct.specs.DecodeUnreserved as Decoding
 use Rattle.uri_parts.specs.Components.{components}
 use Rattle.uri_parts.specs.Grammar.{Kind, uri, uri_ref, iri, iri_ref}
 use Rattle.uri_parts.specs.Hosts.{Ipv4, RegName, host_kind, ipv4_value, ipv6_value}
@@ -20,16 +20,17 @@ use Rattle.uri_parts.specs.Ports.{PortFunction}
 use Rattle.uri_ops.specs.Meaning.{meaning_of}
 use Rattle.uri_ops.specs.Normal.{normal_text}
 
+-- examples of meanings: the port function that they use
 ports : PortFunction
 ports scheme = cond (bytes_eq scheme (codes "http")) (Some 80)
     (cond (bytes_eq scheme (codes "foo")) (Some 4673) None)
 
--- the normal text of a text of the kind
+-- examples of meanings: the second text is the normal form of the first, for the kind
 IsNormalOf : Kind → List ℕ → List ℕ → Type 0
 IsNormalOf kind text normal = normal_text (meaning_of kind ports text) ≡ normal
 
--- case, octets that are unreserved, and digits in upper case
-letters :
+-- examples of normal forms: case, octets that are unreserved, and digits in upper case
+normal-forms-of-case-and-octets :
     IsNormalOf uri_ref (codes "FOO://%55se%72@EXamp%4ce%2ecom:8042/%4b%2f?%4c%2b#%24%4d")
     (codes "foo://User@example.com:8042/K%2F?L%2B#%24M")
     × IsNormalOf uri (codes "eXAMPLE://a/./b/../b/%63/%7bfoo%7d")
@@ -40,15 +41,16 @@ letters :
     × IsNormalOf uri_ref (codes "//@:") (codes "//@")
 unfolding IsNormalOf ports chars encode_utf8 digits hex hex_groups_text ipv6_text read_ipv6
     read_ipv4 read_octet read_number read_segment read_segments Sets.is_ucschar Sets.is_iprivate
-    Sets.allows_past_ascii Tokens.is_pct_encoded Tokens.tokens_of Pieces.following
-    Pieces.pieces_from Reading.is_readable Reading.is_bidi_formatting
-    Reading.is_never_literal Reading.read_run Reading.read_from host_kind ipv4_value
+    Sets.allows_past_ascii Tokens.is_pct_encoded Tokens.tokens_from_chars Pieces.following_ranges
+    Pieces.pieces_from Decoding.is_decodable Decoding.is_bidi_formatting
+    Decoding.is_never_literal Decoding.decode_run Decoding.decode_after_run host_kind ipv4_value
     ipv6_value run remove_dot_segments
-letters =
+normal-forms-of-case-and-octets =
     (refl, refl, refl, refl, refl)
 
--- hosts: addresses by their numbers, and names that decode to addresses
-hosts :
+-- examples of normal forms: hosts, as addresses by their numbers,
+-- and names that decode to addresses
+normal-forms-of-hosts :
     IsNormalOf uri_ref (codes "//[0:0:0:0:0:ffff:192.0.2.1]") (codes "//[::ffff:192.0.2.1]")
     × IsNormalOf uri_ref (codes "//[::192.0.2.1]") (codes "//[::c000:201]")
     × IsNormalOf uri_ref (codes "//127.0.0.%31") (codes "//127.0.0.1")
@@ -62,15 +64,15 @@ hosts :
     (codes "http://r" ++ (0xC3 ∷ 0x89 ∷ []) ++ codes "/" ++ (0xC3 ∷ 0x89 ∷ []))
 unfolding IsNormalOf ports chars encode_utf8 digits hex hex_groups_text ipv6_text read_ipv6
     read_ipv4 read_octet read_number read_segment read_segments Sets.is_ucschar Sets.is_iprivate
-    Sets.allows_past_ascii Tokens.is_pct_encoded Tokens.tokens_of Pieces.following
-    Pieces.pieces_from Reading.is_readable Reading.is_bidi_formatting
-    Reading.is_never_literal Reading.read_run Reading.read_from host_kind ipv4_value
+    Sets.allows_past_ascii Tokens.is_pct_encoded Tokens.tokens_from_chars Pieces.following_ranges
+    Pieces.pieces_from Decoding.is_decodable Decoding.is_bidi_formatting
+    Decoding.is_never_literal Decoding.decode_run Decoding.decode_after_run host_kind ipv4_value
     ipv6_value run remove_dot_segments
-hosts =
+normal-forms-of-hosts =
     (refl, refl, refl, refl, refl, refl, refl, refl, refl)
 
--- in an IRI runs of octets are decoded as UTF-8
-characters :
+-- examples of normal forms: in an IRI, runs of octets are decoded as UTF-8
+normal-forms-of-octets-in-iris :
     IsNormalOf iri_ref (codes "/%C3%41%A9%C3%A9") (codes "/%C3A%A9" ++ (0xC3 ∷ 0xA9 ∷ []))
     × IsNormalOf iri_ref (codes "/%C3A%A9" ++ (0xC3 ∷ 0xA9 ∷ []))
     (codes "/%C3A%A9" ++ (0xC3 ∷ 0xA9 ∷ []))
@@ -92,15 +94,15 @@ characters :
     × IsNormalOf uri_ref (codes "%E2%C3%A9") (codes "%E2%C3%A9")
 unfolding IsNormalOf ports chars encode_utf8 digits hex hex_groups_text ipv6_text read_ipv6
     read_ipv4 read_octet read_number read_segment read_segments Sets.is_ucschar Sets.is_iprivate
-    Sets.allows_past_ascii Tokens.is_pct_encoded Tokens.tokens_of Pieces.following
-    Pieces.pieces_from Reading.is_readable Reading.is_bidi_formatting
-    Reading.is_never_literal Reading.read_run Reading.read_from host_kind ipv4_value
+    Sets.allows_past_ascii Tokens.is_pct_encoded Tokens.tokens_from_chars Pieces.following_ranges
+    Pieces.pieces_from Decoding.is_decodable Decoding.is_bidi_formatting
+    Decoding.is_never_literal Decoding.decode_run Decoding.decode_after_run host_kind ipv4_value
     ipv6_value run remove_dot_segments
-characters =
+normal-forms-of-octets-in-iris =
     (refl, refl, refl, refl, refl, refl, refl, refl, refl, refl, refl)
 
--- ports, and the dot segments of paths that begin with `/` under a scheme
-ports_and_dots :
+-- examples of normal forms: ports, and the dot segments of absolute paths under a scheme
+normal-forms-of-ports-and-dot-segments :
     IsNormalOf uri (codes "http://h:0080/") (codes "http://h/")
     × IsNormalOf uri (codes "http://h:65616/") (codes "http://h:65616/")
     × IsNormalOf uri (codes "foo://localhost:4673") (codes "foo://localhost")
@@ -116,37 +118,42 @@ ports_and_dots :
     × IsNormalOf uri_ref (codes "foo:bar/../baz") (codes "foo:bar/../baz")
 unfolding IsNormalOf ports chars encode_utf8 digits hex hex_groups_text ipv6_text read_ipv6
     read_ipv4 read_octet read_number read_segment read_segments Sets.is_ucschar Sets.is_iprivate
-    Sets.allows_past_ascii Tokens.is_pct_encoded Tokens.tokens_of Pieces.following
-    Pieces.pieces_from Reading.is_readable Reading.is_bidi_formatting
-    Reading.is_never_literal Reading.read_run Reading.read_from host_kind ipv4_value
+    Sets.allows_past_ascii Tokens.is_pct_encoded Tokens.tokens_from_chars Pieces.following_ranges
+    Pieces.pieces_from Decoding.is_decodable Decoding.is_bidi_formatting
+    Decoding.is_never_literal Decoding.decode_run Decoding.decode_after_run host_kind ipv4_value
     ipv6_value run remove_dot_segments
-ports_and_dots =
+normal-forms-of-ports-and-dot-segments =
     (refl, refl, refl, refl, refl, refl, refl, refl, refl, refl, refl, refl, refl)
 
--- the kind of a host that decodes to an address
-address_once_read : (host_kind (codes "127.0.0.%31") ≡ RegName)
+-- example by computation: a host whose decoded form is an IPv4 address is a registered name
+host-kind-before-and-after-decoding : (host_kind (codes "127.0.0.%31") ≡ RegName)
     × (host_kind (codes "127.0.0.1") ≡ Ipv4 (127 ∷ 0 ∷ 0 ∷ 1 ∷ []))
 unfolding host_kind ipv4_value read_ipv4 read_octet read_number
-address_once_read = (refl, refl)
+host-kind-before-and-after-decoding = (refl, refl)
 
--- the target of a reference, and its normal text
-Targets : List ℕ → List ℕ → List ℕ → List ℕ → Type 0
-Targets base reference target normal =
+-- examples of targets: base, reference, the target, and its normal form
+HasTargetWithNormalForm : List ℕ → List ℕ → List ℕ → List ℕ → Type 0
+HasTargetWithNormalForm base reference target normal =
     (resolution_of (components base) (components reference) ≡ Ok target)
     × IsNormalOf uri target normal
 
-targets :
-    Targets (codes "foo:/bar/..") (codes ".") (codes "foo:/") (codes "foo:/")
-    × Targets (codes "foo:/") (codes ".//@@") (codes "foo:/.//@@") (codes "foo:/.//@@")
-    × Targets (codes "http://x/") (codes "//a:80") (codes "http://a:80") (codes "http://a")
-    × Targets (codes "HTTP://A/%2e%2E/b/c") (codes "%2E./d") (codes "HTTP://A/d")
+-- examples of targets that have normal forms, by computation: base, reference,
+-- target and its normal form
+example-targets-have-normal-forms :
+    HasTargetWithNormalForm (codes "foo:/bar/..") (codes ".") (codes "foo:/") (codes "foo:/")
+    × HasTargetWithNormalForm (codes "foo:/") (codes ".//@@") (codes "foo:/.//@@")
+    (codes "foo:/.//@@")
+    × HasTargetWithNormalForm (codes "http://x/") (codes "//a:80") (codes "http://a:80")
+    (codes "http://a")
+    × HasTargetWithNormalForm (codes "HTTP://A/%2e%2E/b/c") (codes "%2E./d") (codes "HTTP://A/d")
     (codes "http://a/d")
-    × Targets (codes "foo:/bar/baz/.%2E/") (codes "..") (codes "foo:/") (codes "foo:/")
+    × HasTargetWithNormalForm (codes "foo:/bar/baz/.%2E/") (codes "..") (codes "foo:/")
+    (codes "foo:/")
 unfolding IsNormalOf ports chars encode_utf8 digits hex hex_groups_text ipv6_text read_ipv6
     read_ipv4 read_octet read_number read_segment read_segments Sets.is_ucschar Sets.is_iprivate
-    Sets.allows_past_ascii Tokens.is_pct_encoded Tokens.tokens_of Pieces.following
-    Pieces.pieces_from Reading.is_readable Reading.is_bidi_formatting
-    Reading.is_never_literal Reading.read_run Reading.read_from host_kind ipv4_value
-    ipv6_value run remove_dot_segments Targets directory
-targets =
+    Sets.allows_past_ascii Tokens.is_pct_encoded Tokens.tokens_from_chars Pieces.following_ranges
+    Pieces.pieces_from Decoding.is_decodable Decoding.is_bidi_formatting
+    Decoding.is_never_literal Decoding.decode_run Decoding.decode_after_run host_kind ipv4_value
+    ipv6_value run remove_dot_segments HasTargetWithNormalForm directory
+example-targets-have-normal-forms =
     ((refl, refl), (refl, refl), (refl, refl), (refl, refl), (refl, refl))

@@ -11,27 +11,34 @@ use Rattle.uri_pct.specs.Tokens.{Token, Char, Octet}
 use Rattle.uri_ops.specs.SameMeanings.{same_token, same_tokens, same_host, same_authority}
 use Rattle.uri_ops.specs.SameMeanings.{same_meaning}
 
-same_option : {A : Type 0} (E : A → A → Bool) → ((a b : A) → Decides (E a b) (a ≡ b))
+-- equivalence: comparing two options decides whether they are equal,
+-- if E decides it for their values
+option_eq-decides-equality : {A : Type 0} (E : A → A → Bool) → ((a b : A) → Decides (E a b) (a ≡ b))
     → (p q : Option A) → Decides (option_eq E p q) (p ≡ q)
-same_option E d None None = (λ _. refl, λ _. refl)
-same_option E d None (Some b) = (λ e. cc, λ e. cc)
-same_option E d (Some a) None = (λ e. cc, λ e. cc)
-same_option E d (Some a) (Some b) = Decides-like (E a b) (ap Some) (λ e. cc) (d a b)
+option_eq-decides-equality E d None None = (λ _. refl, λ _. refl)
+option_eq-decides-equality E d None (Some b) = (λ e. cc, λ e. cc)
+option_eq-decides-equality E d (Some a) None = (λ e. cc, λ e. cc)
+option_eq-decides-equality E d (Some a) (Some b) = Decides-like (E a b) (ap Some) (λ e. cc) (d a b)
 
-token : (a b : Token) → Decides (same_token a b) (a ≡ b)
-token (Char a) (Char b) = Decides-like _ (ap Char) (λ e. cc) (Decides-eqb a b)
-token (Octet a) (Octet b) = Decides-like _ (ap Octet) (λ e. cc) (Decides-eqb a b)
-token (Char a) (Octet b) = (λ e. cc, λ e. cc)
-token (Octet a) (Char b) = (λ e. cc, λ e. cc)
+-- equivalence: comparing two tokens decides whether they are equal
+same_token-decides-equality : (a b : Token) → Decides (same_token a b) (a ≡ b)
+same_token-decides-equality (Char a) (Char b) = Decides-like _ (ap Char) (λ e. cc) (Decides-eqb a b)
+same_token-decides-equality (Octet a) (Octet b) = Decides-like _ (ap Octet) (λ e. cc)
+    (Decides-eqb a b)
+same_token-decides-equality (Char a) (Octet b) = (λ e. cc, λ e. cc)
+same_token-decides-equality (Octet a) (Char b) = (λ e. cc, λ e. cc)
 
-some_tokens : (a b : List Token) → Decides (same_tokens a b) (a ≡ b)
-some_tokens a b = slice_eq-Decides token a b (same_tokens a b) refl
+-- equivalence: comparing two lists of tokens decides whether they are equal
+same_tokens-decides-equality : (a b : List Token) → Decides (same_tokens a b) (a ≡ b)
+same_tokens-decides-equality a b = slice_eq-Decides same_token-decides-equality a b
+    (same_tokens a b) refl
 
+-- equivalence: comparing the meanings of two hosts decides whether they are equal
 host : (a b : HostMeaning) → Decides (same_host a b) (a ≡ b)
 host (Address a) (Address b) = Decides-like _ (ap Address) (λ e. cc) (bytes_eq-Decides a b)
 host (FutureAddress a) (FutureAddress b) =
     Decides-like _ (ap FutureAddress) (λ e. cc) (bytes_eq-Decides a b)
-host (Name a) (Name b) = Decides-like _ (ap Name) (λ e. cc) (some_tokens a b)
+host (Name a) (Name b) = Decides-like _ (ap Name) (λ e. cc) (same_tokens-decides-equality a b)
 host (Address a) (FutureAddress b) = (λ e. cc, λ e. cc)
 host (Address a) (Name b) = (λ e. cc, λ e. cc)
 host (FutureAddress a) (Address b) = (λ e. cc, λ e. cc)
@@ -39,6 +46,7 @@ host (FutureAddress a) (Name b) = (λ e. cc, λ e. cc)
 host (Name a) (Address b) = (λ e. cc, λ e. cc)
 host (Name a) (FutureAddress b) = (λ e. cc, λ e. cc)
 
+-- equivalence: comparing the meanings of two authorities decides whether they are equal
 authority : (a b : AuthorityMeaning) → Decides (same_authority a b) (a ≡ b)
 authority a b =
     Decides-like _ (λ e. λ i. record { userinfo = e.0 i; host = e.1.0 i; port = e.1.1 i })
@@ -46,12 +54,15 @@ authority a b =
       ap (λ (m : AuthorityMeaning). m.userinfo) e,
       (ap (λ (m : AuthorityMeaning). m.host) e, ap (λ (m : AuthorityMeaning). m.port) e),
     ))
-    (Decides-and _ _ (same_option same_tokens some_tokens a.userinfo b.userinfo)
-    (Decides-and _ _ (host a.host b.host) (same_option bytes_eq bytes_eq-Decides a.port b.port)))
+    (Decides-and _ _ (option_eq-decides-equality same_tokens same_tokens-decides-equality a.userinfo
+    b.userinfo)
+    (Decides-and _ _ (host a.host b.host)
+    (option_eq-decides-equality bytes_eq bytes_eq-Decides a.port b.port)))
 
-pub same_meaning-decides : (m n : Meaning) → Decides (same_meaning m n) (m ≡ n)
+-- equivalence: the test of two meanings for equality returns true exactly if they are equal
+pub same_meaning-decides-equality : (m n : Meaning) → Decides (same_meaning m n) (m ≡ n)
 unfolding same_meaning
-same_meaning-decides m n =
+same_meaning-decides-equality m n =
     Decides-like _
     (λ e. λ i. record {
       scheme = e.0 i;
@@ -71,8 +82,9 @@ same_meaning-decides m n =
         ),
       ),
     ))
-    (Decides-and _ _ (same_option bytes_eq bytes_eq-Decides m.scheme n.scheme)
-    (Decides-and _ _ (same_option same_authority authority m.authority n.authority)
-    (Decides-and _ _ (some_tokens m.path n.path)
-    (Decides-and _ _ (same_option same_tokens some_tokens m.query n.query)
-    (same_option same_tokens some_tokens m.fragment n.fragment)))))
+    (Decides-and _ _ (option_eq-decides-equality bytes_eq bytes_eq-Decides m.scheme n.scheme)
+    (Decides-and _ _ (option_eq-decides-equality same_authority authority m.authority n.authority)
+    (Decides-and _ _ (same_tokens-decides-equality m.path n.path)
+    (Decides-and _ _ (option_eq-decides-equality same_tokens same_tokens-decides-equality
+    m.query n.query)
+    (option_eq-decides-equality same_tokens same_tokens-decides-equality m.fragment n.fragment)))))

@@ -5,51 +5,64 @@ use Rattle.std.specs.Prelude.{codes, Option, Some, None, IfSome, is_some}
 use Rattle.std.specs.Str.{IsUtf8}
 use Rattle.std.proofs.lemmas.Bool.{cases_Bool, and_parts, and_from, eqb-true}
 use Rattle.uri_pct.specs.Tokens.{is_valid_for}
-use Rattle.uri_pct.proofs.ValidTexts.Cuts.{AreAscii, ascii_marks}
+use Rattle.uri_pct.proofs.ValidTexts.MarksInTexts.{AreAscii, AreAscii-by-test}
 use Rattle.uri_parts.specs.Components.{Components, starts, before_any, from_any, has_scheme}
 use Rattle.uri_parts.specs.Components.{has_authority, after_scheme, after_authority, after_query}
 use Rattle.uri_parts.specs.Components.{components, when}
-use Rattle.uri_parts.specs.Grammar.{Kind, if_some, is_scheme, has_colon_first, is_authority}
-use Rattle.uri_parts.specs.Grammar.{are_components}
-use Rattle.uri_parts.proofs.Parsing.ScanStops.{utf8_from, utf8_tail, utf8_slashes}
-use Rattle.uri_ops.proofs.Meanings.AllowedParts.{is_part, part_from, part_valid}
-use Rattle.uri_pct.proofs.Tests.{both_some}
-use Rattle.uri_parts.proofs.Parsing.WholeTexts.{utf8_authority, utf8_scheme}
-use Rattle.uri_parts.proofs.Authorities.NamesAndPorts.{utf8_before}
+use Rattle.uri_parts.specs.Grammar.{Kind, absent_or_passes, is_scheme, has_colon_in_first_segment}
+use Rattle.uri_parts.specs.Grammar.{is_authority}
+use Rattle.uri_parts.specs.Grammar.{components_meet_rules}
+use Rattle.uri_parts.proofs.Parsing.ScanStops.{utf8_from_marks, utf8_after_ascii_byte}
+use Rattle.uri_parts.proofs.Parsing.ScanStops.{utf8_after_slashes}
+use Rattle.uri_ops.proofs.Meanings.AllowedParts.{is_set_text, set-text-from-utf8, set-text-is-valid}
+use Rattle.uri_pct.proofs.Tests.{IfSome-combine}
+use Rattle.uri_parts.proofs.Parsing.WholeTexts.{utf8_after_authority, utf8_after_scheme}
+use Rattle.uri_parts.proofs.Authorities.NamesAndPorts.{utf8_before_marks}
 
 -- the grammar of a kind, each component with its rule
-pub record AreParts (kind : Kind) (p : Components) : Type 0 where
+pub record ArePartsOfKind (kind : Kind) (p : Components) : Type 0 where
   pub scheme : IfSome p.scheme (λ s. IsUtf8 s × (is_scheme s ≡ true))
   pub authority : IfSome p.authority (λ a. IsUtf8 a × (is_authority kind a ≡ true))
-  pub path : is_part kind.path p.path ≡ true
-  pub query : IfSome p.query (λ q. is_part kind.query q ≡ true)
-  pub fragment : IfSome p.fragment (λ f. is_part kind.fragment f ≡ true)
+  pub path : is_set_text kind.path p.path ≡ true
+  pub query : IfSome p.query (λ q. is_set_text kind.query q ≡ true)
+  pub fragment : IfSome p.fragment (λ f. is_set_text kind.fragment f ≡ true)
   pub needs : (is_some p.scheme
-      || (not kind.needs_scheme && (is_some p.authority || not (has_colon_first p.path))))
+      || (not kind.needs_scheme
+      && (is_some p.authority || not (has_colon_in_first_segment p.path))))
       ≡ true
 
-some_if : (o : Option (List ℕ)) (test : List ℕ → Bool) → if_some o test ≡ true
+-- general fact on options, for components:
+-- a component that is absent or passes a test passes it, if there is one
+passing-option-passes-if-some : (o : Option (List ℕ)) (test : List ℕ → Bool)
+    → absent_or_passes o test ≡ true
     → IfSome o (λ x. test x ≡ true)
-some_if None test e = tt
-some_if (Some x) test e = e
+passing-option-passes-if-some None test e = tt
+passing-option-passes-if-some (Some x) test e = e
 
-if_from : (o : Option (List ℕ)) (P : List ℕ → Type 0) (test : List ℕ → Bool)
-    → ((x : List ℕ) → P x → test x ≡ true) → IfSome o P → if_some o test ≡ true
-if_from None P test f h = refl
-if_from (Some x) P test f h = f x h
+-- general fact on options, for components:
+-- a component passes the test that its property implies, or is absent
+property-if-some-passes-test : (o : Option (List ℕ)) (P : List ℕ → Type 0) (test : List ℕ → Bool)
+    → ((x : List ℕ) → P x → test x ≡ true) → IfSome o P → absent_or_passes o test ≡ true
+property-if-some-passes-test None P test f h = refl
+property-if-some-passes-test (Some x) P test f h = f x h
 
--- such components meet the grammar
-pub parts_meet : (kind : Kind) (p : Components) → AreParts kind p → are_components kind p ≡ true
-parts_meet kind p w =
+-- components of a kind, each in UTF-8 and valid, meet the rules of its grammar
+pub components-of-kind-meet-grammar : (kind : Kind) (p : Components) → ArePartsOfKind kind p
+    → components_meet_rules kind p ≡ true
+components-of-kind-meet-grammar kind p w =
     and_from _ _ (and_from _ _ (and_from _ _ (and_from _ _ (and_from _ _
-    (if_from p.scheme (λ s. IsUtf8 s × (is_scheme s ≡ true)) is_scheme (λ s h. h.1) w.scheme)
-    (if_from p.authority (λ a. IsUtf8 a × (is_authority kind a ≡ true)) (is_authority kind)
+    (property-if-some-passes-test p.scheme (λ s. IsUtf8 s × (is_scheme s ≡ true)) is_scheme
+    (λ s h. h.1) w.scheme)
+    (property-if-some-passes-test p.authority (λ a. IsUtf8 a × (is_authority kind a ≡ true))
+    (is_authority kind)
     (λ a h. h.1) w.authority))
-    (part_valid kind.path p.path w.path))
-    (if_from p.query (λ q. is_part kind.query q ≡ true) (is_valid_for kind.query)
-    (λ q h. part_valid kind.query q h) w.query))
-    (if_from p.fragment (λ f. is_part kind.fragment f ≡ true) (is_valid_for kind.fragment)
-    (λ f h. part_valid kind.fragment f h) w.fragment))
+    (set-text-is-valid kind.path p.path w.path))
+    (property-if-some-passes-test p.query (λ q. is_set_text kind.query q ≡ true)
+    (is_valid_for kind.query)
+    (λ q h. set-text-is-valid kind.query q h) w.query))
+    (property-if-some-passes-test p.fragment (λ f. is_set_text kind.fragment f ≡ true)
+    (is_valid_for kind.fragment)
+    (λ f h. set-text-is-valid kind.fragment f h) w.fragment))
     w.needs
 
 -- UTF-8
@@ -60,86 +73,105 @@ pub record AreUtf8 (p : Components) : Type 0 where
   pub query : IfSome p.query IsUtf8
   pub fragment : IfSome p.fragment IsUtf8
 
-utf8_past : (c : ℕ) (text : List ℕ) → c < 128 → starts c text ≡ true → IsUtf8 text
+-- splitting: after an ASCII byte c at its start, a text in UTF-8 is UTF-8
+utf8-after-leading-ascii-is-utf8 : (c : ℕ) (text : List ℕ) → c < 128 → starts c text ≡ true
+    → IsUtf8 text
     → IsUtf8 (drop 1 text)
-utf8_past c [] h e u = u
-utf8_past c (b ∷ rest) h e u = utf8_tail b rest (let d = eqb-true b c e in omega arith) u
+utf8-after-leading-ascii-is-utf8 c [] h e u = u
+utf8-after-leading-ascii-is-utf8 c (b ∷ rest) h e u = utf8_after_ascii_byte b rest
+    (let d = eqb-true b c e in omega arith) u
 
-utf8_when : (test : Bool) (text : List ℕ) → (test ≡ true → IsUtf8 text)
+-- splitting: a component that is found if a test passes is UTF-8
+optional-text-is-utf8 : (test : Bool) (text : List ℕ) → (test ≡ true → IsUtf8 text)
     → IfSome (when test text) IsUtf8
-utf8_when true text u = u refl
-utf8_when false text u = tt
+optional-text-is-utf8 true text u = u refl
+optional-text-is-utf8 false text u = tt
 
-pub scheme_ascii : AreAscii (codes ":/?#")
-scheme_ascii = ascii_marks (codes ":/?#") refl
+-- schemes: the delimiters at which the parser ends one are ASCII
+pub scheme-ends-are-ascii : AreAscii (codes ":/?#")
+scheme-ends-are-ascii = AreAscii-by-test (codes ":/?#") refl
 
-authority_ascii : AreAscii (codes "/?#")
-authority_ascii = ascii_marks (codes "/?#") refl
+-- splitting: the delimiters that end an authority are ASCII
+authority-ends-are-ascii : AreAscii (codes "/?#")
+authority-ends-are-ascii = AreAscii-by-test (codes "/?#") refl
 
-path_ascii : AreAscii (codes "?#")
-path_ascii = ascii_marks (codes "?#") refl
+-- splitting: the delimiters that end a path are ASCII
+path-ends-are-ascii : AreAscii (codes "?#")
+path-ends-are-ascii = AreAscii-by-test (codes "?#") refl
 
-query_ascii : AreAscii (codes "#")
-query_ascii = ascii_marks (codes "#") refl
+-- splitting: the delimiter that ends a query is ASCII
+query-ends-are-ascii : AreAscii (codes "#")
+query-ends-are-ascii = AreAscii-by-test (codes "#") refl
 
-utf8_query : (end : List ℕ) → IsUtf8 end → IsUtf8 (after_query end)
-utf8_query end u = ⊎_elim
+-- splitting: what is after the query in a text is UTF-8
+text-after-query-is-utf8 : (end : List ℕ) → IsUtf8 end → IsUtf8 (after_query end)
+text-after-query-is-utf8 end u = ⊎_elim
     (λ e.
-    rw e (utf8_from (codes "#") (drop 1 end) query_ascii (utf8_past 63 end (omega arith) e u)))
+    rw e (utf8_from_marks (codes "#") (drop 1 end) query-ends-are-ascii
+    (utf8-after-leading-ascii-is-utf8 63 end (omega arith) e u)))
     (λ e. rw e u)
     (cases_Bool (starts 63 end))
 
-pub components_utf8 : (text : List ℕ) → IsUtf8 text → AreUtf8 (components text)
-components_utf8 text u =
-    let rest = utf8_scheme text u in
-    let tail = utf8_authority (after_scheme text) rest in
-    let end = utf8_from (codes "?#") (after_authority (after_scheme text)) path_ascii tail in
+-- the components of a text in UTF-8 are UTF-8
+pub components-of-utf8-are-utf8 : (text : List ℕ) → IsUtf8 text → AreUtf8 (components text)
+components-of-utf8-are-utf8 text u =
+    let rest = utf8_after_scheme text u in
+    let tail = utf8_after_authority (after_scheme text) rest in
+    let end = utf8_from_marks (codes "?#") (after_authority (after_scheme text))
+    path-ends-are-ascii tail in
     record {
-      scheme = utf8_when (has_scheme text) (before_any (codes ":/?#") text)
-          (λ e. utf8_before (codes ":/?#") text scheme_ascii u);
-      authority = utf8_when (has_authority (after_scheme text))
+      scheme = optional-text-is-utf8 (has_scheme text) (before_any (codes ":/?#") text)
+          (λ e. utf8_before_marks (codes ":/?#") text scheme-ends-are-ascii u);
+      authority = optional-text-is-utf8 (has_authority (after_scheme text))
           (before_any (codes "/?#") (drop 2 (after_scheme text)))
-          (λ e. utf8_before (codes "/?#") (drop 2 (after_scheme text)) authority_ascii
-          (utf8_slashes (after_scheme text) e rest));
-      path = utf8_before (codes "?#") (after_authority (after_scheme text)) path_ascii tail;
-      query = utf8_when (starts 63 (from_any (codes "?#") (after_authority (after_scheme text)))) _
-          (λ e. utf8_before (codes "#") (drop 1
-          (from_any (codes "?#") (after_authority (after_scheme text)))) query_ascii
-          (utf8_past 63 (from_any (codes "?#") (after_authority (after_scheme text)))
+          (λ e. utf8_before_marks (codes "/?#") (drop 2 (after_scheme text))
+          authority-ends-are-ascii
+          (utf8_after_slashes (after_scheme text) e rest));
+      path = utf8_before_marks (codes "?#") (after_authority (after_scheme text))
+          path-ends-are-ascii tail;
+      query = optional-text-is-utf8
+          (starts 63 (from_any (codes "?#") (after_authority (after_scheme text)))) _
+          (λ e. utf8_before_marks (codes "#") (drop 1
+          (from_any (codes "?#") (after_authority (after_scheme text)))) query-ends-are-ascii
+          (utf8-after-leading-ascii-is-utf8 63
+          (from_any (codes "?#") (after_authority (after_scheme text)))
           (omega arith) e end));
       fragment =
-          utf8_when
+          optional-text-is-utf8
           (starts 35
           (after_query (from_any (codes "?#") (after_authority (after_scheme text))))) _
-          (λ e. utf8_past 35 (after_query
+          (λ e. utf8-after-leading-ascii-is-utf8 35 (after_query
           (from_any (codes "?#") (after_authority (after_scheme text))))
           (omega arith) e
-          (utf8_query (from_any (codes "?#")
+          (text-after-query-is-utf8 (from_any (codes "?#")
           (after_authority (after_scheme text))) end));
     }
 
--- the components of a text that meet the grammar
-pub meet_parts : (kind : Kind) (p : Components) → AreUtf8 p → are_components kind p ≡ true
-    → AreParts kind p
-meet_parts kind p u e =
+-- components in UTF-8 that meet the rules of the grammar are components of the kind
+pub grammar-gives-components-of-kind : (kind : Kind) (p : Components) → AreUtf8 p
+    → components_meet_rules kind p ≡ true
+    → ArePartsOfKind kind p
+grammar-gives-components-of-kind kind p u e =
     let a = and_parts _ _ e in
     let b = and_parts _ _ a.0 in
     let c = and_parts _ _ b.0 in
     let d = and_parts _ _ c.0 in
     let f = and_parts _ _ d.0 in
     record {
-      scheme = both_some p.scheme IsUtf8 (λ s. is_scheme s ≡ true)
+      scheme = IfSome-combine p.scheme IsUtf8 (λ s. is_scheme s ≡ true)
           (λ s. IsUtf8 s × (is_scheme s ≡ true)) (λ s v h. (v, h)) u.scheme
-          (some_if p.scheme is_scheme f.0);
-      authority = both_some p.authority IsUtf8 (λ s. is_authority kind s ≡ true)
+          (passing-option-passes-if-some p.scheme is_scheme f.0);
+      authority = IfSome-combine p.authority IsUtf8 (λ s. is_authority kind s ≡ true)
           (λ s. IsUtf8 s × (is_authority kind s ≡ true)) (λ s v h. (v, h)) u.authority
-          (some_if p.authority (is_authority kind) f.1);
-      path = part_from kind.path p.path u.path d.1;
-      query = both_some p.query IsUtf8 (λ q. is_valid_for kind.query q ≡ true)
-          (λ q. is_part kind.query q ≡ true) (λ q v h. part_from kind.query q v h) u.query
-          (some_if p.query (is_valid_for kind.query) c.1);
-      fragment = both_some p.fragment IsUtf8 (λ q. is_valid_for kind.fragment q ≡ true)
-          (λ q. is_part kind.fragment q ≡ true) (λ q v h. part_from kind.fragment q v h) u.fragment
-          (some_if p.fragment (is_valid_for kind.fragment) b.1);
+          (passing-option-passes-if-some p.authority (is_authority kind) f.1);
+      path = set-text-from-utf8 kind.path p.path u.path d.1;
+      query = IfSome-combine p.query IsUtf8 (λ q. is_valid_for kind.query q ≡ true)
+          (λ q. is_set_text kind.query q ≡ true) (λ q v h. set-text-from-utf8 kind.query q v h)
+          u.query
+          (passing-option-passes-if-some p.query (is_valid_for kind.query) c.1);
+      fragment = IfSome-combine p.fragment IsUtf8 (λ q. is_valid_for kind.fragment q ≡ true)
+          (λ q. is_set_text kind.fragment q ≡ true)
+          (λ q v h. set-text-from-utf8 kind.fragment q v h) u.fragment
+          (passing-option-passes-if-some p.fragment (is_valid_for kind.fragment) b.1);
       needs = a.1;
     }

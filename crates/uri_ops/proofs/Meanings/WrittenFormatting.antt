@@ -15,159 +15,211 @@ use Rattle.std.proofs.lemmas.List.Concat.{flat_map-append}
 use Rattle.std.proofs.lemmas.List.Folds.{list_any-append}
 use Rattle.std.proofs.lemmas.Str.{chars-nil, encodes-chars}
 use Rattle.uri_pct.specs.Chunks.{widest_set}
-use Rattle.uri_pct.specs.Reading.{is_bidi_formatting, is_printable, formatting_as_octets}
-use Rattle.uri_pct.specs.Reading.{encode_formatting, read_tokens, read}
+use Rattle.uri_pct.specs.DecodeUnreserved.{is_bidi_formatting, is_printable, formatting_as_octets}
+use Rattle.uri_pct.specs.DecodeUnreserved.{encode_formatting, decode_tokens, decode_unreserved}
 use Rattle.uri_pct.specs.Sets.{TableSet, allows, allows_past_ascii, is_ucschar, is_iprivate}
 use Rattle.uri_pct.specs.Tokens.{Token, Char, Octet, tokens, text_of_token, print, IsValidFor}
-use Rattle.uri_pct.proofs.ValidTexts.Allowed.{printable_valid, printable-lower}
-use Rattle.uri_pct.proofs.Readings.Formatting.{ascii_formatting, never_literal-both}
-use Rattle.uri_pct.proofs.Readings.Formatting.{encode_formatting-none, lower-encode_formatting}
-use Rattle.uri_pct.proofs.Readings.Printing.{digits_of, chars_of_token, token_encodes, chars-print}
-use Rattle.uri_pct.proofs.Readings.Printing.{IsUtf8-print}
-use Rattle.uri_pct.proofs.Readings.Reading.{printable-read_tokens}
-use Rattle.uri_pct.specs.Reading.{written_char, written_text}
-use Rattle.uri_ops.specs.Models.Readings.{cased}
+use Rattle.uri_pct.proofs.ValidTexts.Allowed.{valid_text_has_printable_tokens}
+use Rattle.uri_pct.proofs.ValidTexts.Allowed.{lowered_tokens_are_printable}
+use Rattle.uri_pct.proofs.UnreservedDecoding.Formatting.{ascii_char_is_no_formatting_char}
+use Rattle.uri_pct.proofs.UnreservedDecoding.Formatting.{never_literal_is_formatting_if_both_flags}
+use Rattle.uri_pct.proofs.UnreservedDecoding.Formatting.{encode_formatting_without_flags_keeps_tokens}
+use Rattle.uri_pct.proofs.UnreservedDecoding.Formatting.{encode_formatting_commutes_with_lowering}
+use Rattle.uri_pct.proofs.UnreservedDecoding.Printing.{octet_digits_are_hexadecimal, chars_of_token}
+use Rattle.uri_pct.proofs.UnreservedDecoding.Printing.{chars_of_token_encode_to_its_text}
+use Rattle.uri_pct.proofs.UnreservedDecoding.Printing.{chars_of_printed_tokens}
+use Rattle.uri_pct.proofs.UnreservedDecoding.Printing.{printed_tokens_are_utf8}
+use Rattle.uri_pct.proofs.UnreservedDecoding.DecodedTokens.{decode_tokens_keeps_tokens_printable}
+use Rattle.uri_pct.specs.DecodeUnreserved.{encoded_formatting_char, encoded_formatting_text}
+use Rattle.uri_ops.specs.Models.Decodings.{lowered_if}
 
-pub no_chars : (text : List ℕ) → length text ≡ 0 → chars text ≡ []
-no_chars text none = ap chars (nil_from_length text none) ∙ chars-nil
+-- the empty text has no characters; used for formatting characters of bidirectional text
+pub empty-text-has-no-characters : (text : List ℕ) → length text ≡ 0 → chars text ≡ []
+empty-text-has-no-characters text none = ap chars (nil_from_length text none) ∙ chars-nil
 
--- each formatting character begins with the byte E2
-formatting_bounds : (c : ℕ) → is_bidi_formatting c ≡ true → (0x200E ≤ c) × (c ≤ 0x202E)
+-- bidirectional text: a formatting character is from U+200E to U+202E,
+-- so it begins with the byte E2
+formatting-is-from-200E-to-202E : (c : ℕ) → is_bidi_formatting c ≡ true → (0x200E ≤ c)
+    × (c ≤ 0x202E)
 unfolding is_bidi_formatting
-formatting_bounds c e = (grind (arith, nat_tests), grind (arith, nat_tests))
+formatting-is-from-200E-to-202E c e = (grind (arith, nat_tests), grind (arith, nat_tests))
 
-is_lead : ℕ → Bool
-is_lead b = eqb b 0xE2
+-- bidirectional text: the byte is E2, with which formatting characters begin
+is_byte_E2 : ℕ → Bool
+is_byte_E2 b = eqb b 0xE2
 
-has_lead : (c : ℕ) → is_bidi_formatting c ≡ true → list_any is_lead (encode_utf8 c) ≡ true
-unfolding encode_utf8 is_lead
-has_lead c e =
-    let within = formatting_bounds c e in
+-- bidirectional text: a formatting character has the byte E2
+formatting-character-has-byte-E2 : (c : ℕ) → is_bidi_formatting c ≡ true
+    → list_any is_byte_E2 (encode_utf8 c) ≡ true
+unfolding encode_utf8 is_byte_E2
+formatting-character-has-byte-E2 c e =
+    let within = formatting-is-from-200E-to-202E c e in
     let first : 224 + c / 4096 ≡ 0xE2 = omega (arith, within.0, within.1) in
     let rest = (128 + c / 64 % 64) ∷ (128 + c % 64) ∷ [] in
-    ap (list_any is_lead) (cond-false _ _ _ (le-ltb c 128 (omega (arith, within.0)))
+    ap (list_any is_byte_E2) (cond-false _ _ _ (le-ltb c 128 (omega (arith, within.0)))
     ∙ cond-false _ _ _ (le-ltb c 2048 (omega (arith, within.0)))
     ∙ cond-true _ _ _ (lt-ltb c 65536 (omega (arith, within.1))))
-    ∙ ap (λ b. list_any is_lead (b ∷ rest)) first
+    ∙ ap (λ b. list_any is_byte_E2 (b ∷ rest)) first
 
-none_led : (cs : List ℕ) → list_any is_lead (encode_utf8_all cs) ≡ false
+-- bidirectional text: characters without the byte E2 are no formatting characters
+characters-without-byte-E2-are-no-formatting : (cs : List ℕ)
+    → list_any is_byte_E2 (encode_utf8_all cs) ≡ false
     → list_any is_bidi_formatting cs ≡ false
-none_led [] e = refl
-none_led (c ∷ cs) e =
-    let p = or_parts (list_any is_lead (encode_utf8 c)) (list_any is_lead (encode_utf8_all cs))
-    (sym (list_any-append is_lead (encode_utf8 c) (encode_utf8_all cs)) ∙ e) in
-    or_from _ _ (false_from_ne_true _ (λ h. both_ways _ p.0 (has_lead c h))) (none_led cs p.1)
+characters-without-byte-E2-are-no-formatting [] e = refl
+characters-without-byte-E2-are-no-formatting (c ∷ cs) e =
+    let p = or_parts (list_any is_byte_E2 (encode_utf8 c))
+    (list_any is_byte_E2 (encode_utf8_all cs))
+    (sym (list_any-append is_byte_E2 (encode_utf8 c) (encode_utf8_all cs)) ∙ e) in
+    or_from _ _ (false_from_ne_true _ (λ h. both_ways _ p.0 (formatting-character-has-byte-E2 c h)))
+    (characters-without-byte-E2-are-no-formatting cs p.1)
 
-pub no_lead : (text : List ℕ) → IsUtf8 text → list_any (λ b. eqb b 0xE2) text ≡ false
+-- bidirectional text: without a byte E2 there is no formatting character
+pub no-byte-E2-no-formatting : (text : List ℕ) → IsUtf8 text → list_any (λ b. eqb b 0xE2) text
+    ≡ false
     → list_any is_bidi_formatting (chars text) ≡ false
-unfolding is_lead
-no_lead text u e = none_led (chars text) (ap (list_any is_lead) (encodes-chars text u) ∙ e)
+unfolding is_byte_E2
+no-byte-E2-no-formatting text u e = characters-without-byte-E2-are-no-formatting (chars text)
+    (ap (list_any is_byte_E2) (encodes-chars text u) ∙ e)
 
--- a text that has none stays
-chars_stay : (cs : List ℕ) → list_any is_bidi_formatting cs ≡ false
-    → flat_map written_char cs ≡ encode_utf8_all cs
-chars_stay [] e = refl
-chars_stay (c ∷ cs) e =
+-- bidirectional text: characters without formatting characters stay as they are
+characters-without-formatting-stay : (cs : List ℕ) → list_any is_bidi_formatting cs ≡ false
+    → flat_map encoded_formatting_char cs ≡ encode_utf8_all cs
+characters-without-formatting-stay [] e = refl
+characters-without-formatting-stay (c ∷ cs) e =
     let p = or_parts (is_bidi_formatting c) (list_any is_bidi_formatting cs) e in
-    ap (λ x. x ++ flat_map written_char cs) (cond-false _ _ _ p.0)
-    ∙ ap (λ x. encode_utf8 c ++ x) (chars_stay cs p.1)
+    ap (λ x. x ++ flat_map encoded_formatting_char cs) (cond-false _ _ _ p.0)
+    ∙ ap (λ x. encode_utf8 c ++ x) (characters-without-formatting-stay cs p.1)
 
-pub written_text-none : (text : List ℕ) → IsUtf8 text
-    → list_any is_bidi_formatting (chars text) ≡ false → written_text text ≡ text
-written_text-none text u e = chars_stay (chars text) e ∙ encodes-chars text u
+-- bidirectional text: a text without formatting characters stays when these are percent-encoded
+pub text-without-formatting-stays : (text : List ℕ) → IsUtf8 text
+    → list_any is_bidi_formatting (chars text) ≡ false → encoded_formatting_text text ≡ text
+text-without-formatting-stays text u e = characters-without-formatting-stay (chars text) e
+    ∙ encodes-chars text u
 
--- what is printed
-digits_stay : (v : ℕ) → is_printable (Octet v) ≡ true
+-- bidirectional text: the text of an octet has no formatting character
+printable-octet-has-no-formatting : (v : ℕ) → is_printable (Octet v) ≡ true
     → list_any is_bidi_formatting (chars_of_token (Octet v)) ≡ false
-digits_stay v e =
-    let p = and_parts _ _ (and_parts _ _ (digits_of true v (ltb-true v 256 e))).0 in
-    let high = ascii_formatting (digit_glyph true (v / 16)) (ltb-true _ 128 p.0) in
-    let low = ascii_formatting (digit_glyph true (v % 16)) (ltb-true _ 128 p.1) in
-    or_from _ _ (ascii_formatting 37 (lit< tt)) (or_from _ _ high (or_from _ _ low refl))
+printable-octet-has-no-formatting v e =
+    let p = and_parts _ _ (and_parts _ _ (octet_digits_are_hexadecimal true v (ltb-true v 256 e))).0
+    in
+    let high = ascii_char_is_no_formatting_char (digit_glyph true (v / 16)) (ltb-true _ 128 p.0) in
+    let low = ascii_char_is_no_formatting_char (digit_glyph true (v % 16)) (ltb-true _ 128 p.1) in
+    or_from _ _ (ascii_char_is_no_formatting_char 37 (lit< tt))
+    (or_from _ _ high (or_from _ _ low refl))
 
-token_written : (set : TableSet) (t : Token) → (set.ucschar && set.pct_encoded) ≡ true
+-- bidirectional text: in the text of a token, a formatting character is encoded as in the token
+printed-token-has-formatting-encoded : (set : TableSet) (t : Token)
+    → (set.ucschar && set.pct_encoded) ≡ true
     → is_printable t ≡ true
-    → flat_map written_char (chars_of_token t) ≡ print (formatting_as_octets set t)
-token_written set (Octet v) both e = chars_stay (chars_of_token (Octet v)) (digits_stay v e)
-    ∙ token_encodes (Octet v) e
-token_written set (Char c) both e = ⊎_elim
+    → flat_map encoded_formatting_char (chars_of_token t) ≡ print (formatting_as_octets set t)
+printed-token-has-formatting-encoded set (Octet v) both e = characters-without-formatting-stay
+    (chars_of_token (Octet v)) (printable-octet-has-no-formatting v e)
+    ∙ chars_of_token_encode_to_its_text (Octet v) e
+printed-token-has-formatting-encoded set (Char c) both e = ⊎_elim
     (λ h.
     ap (λ x. x ++ []) (cond-true _ _ _ h) ∙ append-nil (print (map Octet (encode_utf8 c)))
-    ∙ sym (ap print (cond-true _ _ _ (never_literal-both set c both ∙ h))))
+    ∙ sym (ap print (cond-true _ _ _ (never_literal_is_formatting_if_both_flags set c both ∙ h))))
     (λ h. ap (λ x. x ++ []) (cond-false _ _ _ h)
-    ∙ sym (ap print (cond-false _ _ _ (never_literal-both set c both ∙ h))))
+    ∙ sym (ap print (cond-false _ _ _ (never_literal_is_formatting_if_both_flags set c both ∙ h))))
     (cases_Bool (is_bidi_formatting c))
 
-tokens_written : (set : TableSet) (ts : List Token) → (set.ucschar && set.pct_encoded) ≡ true
+-- bidirectional text: in the text of tokens, formatting characters are encoded as in the tokens
+printed-tokens-have-formatting-encoded : (set : TableSet) (ts : List Token)
+    → (set.ucschar && set.pct_encoded) ≡ true
     → list_all is_printable ts ≡ true
-    → flat_map written_char (flat_map chars_of_token ts) ≡ print (encode_formatting set ts)
-tokens_written set [] both e = refl
-tokens_written set (t ∷ ts) both e =
+    → flat_map encoded_formatting_char (flat_map chars_of_token ts)
+    ≡ print (encode_formatting set ts)
+printed-tokens-have-formatting-encoded set [] both e = refl
+printed-tokens-have-formatting-encoded set (t ∷ ts) both e =
     let p = and_parts (is_printable t) (list_all is_printable ts) e in
-    flat_map-append written_char (chars_of_token t) (flat_map chars_of_token ts)
-    ∙ ap (λ x. x ++ flat_map written_char (flat_map chars_of_token ts))
-    (token_written set t both p.0)
-    ∙ ap (λ x. print (formatting_as_octets set t) ++ x) (tokens_written set ts both p.1)
+    flat_map-append encoded_formatting_char (chars_of_token t) (flat_map chars_of_token ts)
+    ∙ ap (λ x. x ++ flat_map encoded_formatting_char (flat_map chars_of_token ts))
+    (printed-token-has-formatting-encoded set t both p.0)
+    ∙ ap (λ x. print (formatting_as_octets set t) ++ x)
+    (printed-tokens-have-formatting-encoded set ts both p.1)
     ∙ sym (flat_map-append text_of_token (formatting_as_octets set t) (encode_formatting set ts))
 
-written-print : (set : TableSet) (ts : List Token) → (set.ucschar && set.pct_encoded) ≡ true
-    → list_all is_printable ts ≡ true → written_text (print ts) ≡ print (encode_formatting set ts)
-written-print set ts both e = ap (flat_map written_char) (chars-print ts e)
-    ∙ tokens_written set ts both e
+-- bidirectional text: encoding the formatting characters of tokens and writing them may swap
+encoding-formatting-and-printing-swap : (set : TableSet) (ts : List Token)
+    → (set.ucschar && set.pct_encoded) ≡ true
+    → list_all is_printable ts ≡ true → encoded_formatting_text (print ts)
+    ≡ print (encode_formatting set ts)
+encoding-formatting-and-printing-swap set ts both e = ap (flat_map encoded_formatting_char)
+    (chars_of_printed_tokens ts e)
+    ∙ printed-tokens-have-formatting-encoded set ts both e
 
--- after what was there
-pub written_behind : (old more new : List ℕ) (start : ℕ) → start ≡ length old → new ≡ old ++ more
-    → take start new ++ written_text (drop start new) ≡ old ++ written_text more
-written_behind old more new start e f =
-    rw (e, f) (ap (λ x. x ++ written_text (drop (length old) (old ++ more)))
-    (take-append_seam old more) ∙ ap (λ x. old ++ written_text x) (drop-append_seam old more))
+-- bidirectional text: formatting characters are encoded in the
+-- text that was appended, and not before it
+pub formatting-encoded-after-prefix : (old more new : List ℕ) (start : ℕ) → start ≡ length old → new
+    ≡ old ++ more
+    → take start new ++ encoded_formatting_text (drop start new)
+    ≡ old ++ encoded_formatting_text more
+formatting-encoded-after-prefix old more new start e f =
+    rw (e, f) (ap (λ x. x ++ encoded_formatting_text (drop (length old) (old ++ more)))
+    (take-append_seam old more) ∙ ap (λ x. old ++ encoded_formatting_text x)
+    (drop-append_seam old more))
 
--- the decoded text, with its letters lowered if `lowers`
-cased_encode : (lowers : Bool) (set : TableSet) (ts : List Token)
-    → encode_formatting set (cased lowers ts) ≡ cased lowers (encode_formatting set ts)
-cased_encode true set ts = sym (lower-encode_formatting set ts)
-cased_encode false set ts = refl
+-- bidirectional text: percent-encoding formatting characters and lower case, if lowers, may swap
+encoding-formatting-and-lowering-swap : (lowers : Bool) (set : TableSet) (ts : List Token)
+    → encode_formatting set (lowered_if lowers ts) ≡ lowered_if lowers (encode_formatting set ts)
+encoding-formatting-and-lowering-swap true set ts = sym
+    (encode_formatting_commutes_with_lowering set ts)
+encoding-formatting-and-lowering-swap false set ts = refl
 
-cased_printable : (lowers : Bool) (ts : List Token) → list_all is_printable ts ≡ true
-    → list_all is_printable (cased lowers ts) ≡ true
-cased_printable true ts e = printable-lower ts e
-cased_printable false ts e = e
+-- normal forms: tokens that can be written can be in lower case; lowers: whether they are lowered
+lowered-printable-tokens-are-printable : (lowers : Bool) (ts : List Token)
+    → list_all is_printable ts ≡ true
+    → list_all is_printable (lowered_if lowers ts) ≡ true
+lowered-printable-tokens-are-printable true ts e = lowered_tokens_are_printable ts e
+lowered-printable-tokens-are-printable false ts e = e
 
-printable_cased : (lowers : Bool) (set : TableSet) (text : List ℕ) → IsValidFor widest_set text
-    → list_all is_printable (cased lowers (read_tokens set (tokens text))) ≡ true
-printable_cased lowers set text valid =
-    cased_printable lowers (read_tokens set (tokens text))
-    (printable-read_tokens set (tokens text) (printable_valid widest_set text refl valid))
+-- normal forms: the decoded tokens of a valid text can be written, in lower case too
+lowered-decoded-tokens-are-printable : (lowers : Bool) (set : TableSet) (text : List ℕ)
+    → IsValidFor widest_set text
+    → list_all is_printable (lowered_if lowers (decode_tokens set (tokens text))) ≡ true
+lowered-decoded-tokens-are-printable lowers set text valid =
+    lowered-printable-tokens-are-printable lowers (decode_tokens set (tokens text))
+    (decode_tokens_keeps_tokens_printable set (tokens text)
+    (valid_text_has_printable_tokens widest_set text refl valid))
 
-pub IsUtf8-cased : (lowers : Bool) (set : TableSet) (text : List ℕ) → IsValidFor widest_set text
-    → IsUtf8 (print (cased lowers (read_tokens set (tokens text))))
-IsUtf8-cased lowers set text valid =
-    IsUtf8-print (cased lowers (read_tokens set (tokens text)))
-    (printable_cased lowers set text valid)
+-- normal forms: a component of a valid text, decoded and in lower case if lowers, is UTF-8
+pub printed-lowered-decoding-is-utf8 : (lowers : Bool) (set : TableSet) (text : List ℕ)
+    → IsValidFor widest_set text
+    → IsUtf8 (print (lowered_if lowers (decode_tokens set (tokens text))))
+printed-lowered-decoding-is-utf8 lowers set text valid =
+    printed_tokens_are_utf8 (lowered_if lowers (decode_tokens set (tokens text)))
+    (lowered-decoded-tokens-are-printable lowers set text valid)
 
-pub written_cased : (lowers : Bool) (set : TableSet) (text : List ℕ)
+-- bidirectional text: percent-encoding the formatting characters
+-- of a decoded component completes its normal form
+pub encoding-formatting-completes-decoding : (lowers : Bool) (set : TableSet) (text : List ℕ)
     → (set.ucschar && set.pct_encoded) ≡ true → IsValidFor widest_set text
-    → written_text (print (cased lowers (read_tokens set (tokens text))))
-    ≡ print (cased lowers (read set text))
-written_cased lowers set text both valid =
-    written-print set (cased lowers (read_tokens set (tokens text))) both
-    (printable_cased lowers set text valid)
-    ∙ ap print (cased_encode lowers set (read_tokens set (tokens text)))
+    → encoded_formatting_text (print (lowered_if lowers (decode_tokens set (tokens text))))
+    ≡ print (lowered_if lowers (decode_unreserved set text))
+encoding-formatting-completes-decoding lowers set text both valid =
+    encoding-formatting-and-printing-swap set (lowered_if lowers (decode_tokens set (tokens text)))
+    both
+    (lowered-decoded-tokens-are-printable lowers set text valid)
+    ∙ ap print (encoding-formatting-and-lowering-swap lowers set (decode_tokens set (tokens text)))
 
-pub unwritten_cased : (lowers : Bool) (set : TableSet) (text : List ℕ)
+-- bidirectional text: a set without octets or characters past ASCII needs no formatting character
+-- encoded in its normal form
+pub decoding-without-formatting-is-complete : (lowers : Bool) (set : TableSet) (text : List ℕ)
     → (set.ucschar && set.pct_encoded) ≡ false
-    → print (cased lowers (read_tokens set (tokens text))) ≡ print (cased lowers (read set text))
-unwritten_cased lowers set text none =
-    ap (λ ts. print (cased lowers ts))
-    (sym (encode_formatting-none set (read_tokens set (tokens text)) none))
+    → print (lowered_if lowers (decode_tokens set (tokens text)))
+    ≡ print (lowered_if lowers (decode_unreserved set text))
+decoding-without-formatting-is-complete lowers set text none =
+    ap (λ ts. print (lowered_if lowers ts))
+    (sym (encode_formatting_without_flags_keeps_tokens set (decode_tokens set (tokens text)) none))
 
--- a set holds `ucschar` where it holds U+200E
-flag_alone : (u p : Bool) → ((u && true) || (p && false)) ≡ u
-flag_alone true true = refl
-flag_alone true false = refl
-flag_alone false true = refl
-flag_alone false false = refl
+-- general fact on booleans, for formatting characters: a set holds `ucschar` where it holds U+200E
+second-flag-does-not-matter : (u p : Bool) → ((u && true) || (p && false)) ≡ u
+second-flag-does-not-matter true true = refl
+second-flag-does-not-matter true false = refl
+second-flag-does-not-matter false true = refl
+second-flag-does-not-matter false false = refl
 
-pub allows_mark : (set : TableSet) → allows set 0x200E ≡ set.ucschar
+-- bidirectional text: a set allows a formatting character such as U+200E if it has `ucschar`
+pub set_allows_formatting_by_ucschar : (set : TableSet) → allows set 0x200E ≡ set.ucschar
 unfolding allows_past_ascii is_ucschar is_iprivate
-allows_mark set = flag_alone set.ucschar set.iprivate
+set_allows_formatting_by_ucschar set = second-flag-does-not-matter set.ucschar set.iprivate

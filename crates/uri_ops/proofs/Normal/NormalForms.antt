@@ -9,35 +9,40 @@ use Rattle.uri_ops.specs.Normal.{normal_text}
 use Rattle.uri_ops.specs.Normalizers.{HasNormalText, IsNormalForm}
 use Rattle.uri_parts.specs.Ports.{PortFunction}
 use Rattle.uri_parts.specs.Grammar.{IsTextOf}
-use Rattle.uri_ops.proofs.Normal.NormalTexts.{normal_is_text, meaning_of-normal_text}
-use Rattle.uri_ops.proofs.Normal.NormalTexts.{same_normal_text}
+use Rattle.uri_ops.proofs.Normal.NormalTexts.{normal-text-is-text-of-kind, meaning_of-normal_text}
+use Rattle.uri_ops.proofs.Normal.NormalTexts.{same-normal-text-same-meaning}
 
 module _ (kind own : Kind) (own_kind : own ≡ kind) (sets : HasComponentSets kind)
     (ports : PortFunction)
-    (held text normal : List ℕ) (same : held ≡ text) (utf8 : IsUtf8 held)
-    (grammar : IsOfKind kind text) (made : HasNormalText own ports held normal) where
-  source : IsTextOf kind text
-  source = record { utf8 = subst IsUtf8 same utf8; grammar = grammar }
+    (given text normal : List ℕ) (same : given ≡ text) (utf8 : IsUtf8 given)
+    (grammar : IsOfKind kind text) (made : HasNormalText own ports given normal) where
+  source-text-is-of-kind : IsTextOf kind text
+  source-text-is-of-kind = record { utf8 = subst IsUtf8 same utf8; grammar = grammar }
 
-  is_normal : normal ≡ normal_text (meaning_of kind ports text)
-  is_normal = made.text ∙ ap (λ k. normal_text (meaning_of k ports held)) own_kind
+  result-is-normal_text : normal ≡ normal_text (meaning_of kind ports text)
+  result-is-normal_text = made.text ∙ ap (λ k. normal_text (meaning_of k ports given)) own_kind
       ∙ ap (λ t. normal_text (meaning_of kind ports t)) same
 
-  pub normal_is_of_kind : IsTextOf kind normal
-  normal_is_of_kind = subst (IsTextOf kind) (sym is_normal)
-      (normal_is_text kind ports sets text source)
+  pub normal-text-is-of-kind : IsTextOf kind normal
+  normal-text-is-of-kind = subst (IsTextOf kind) (sym result-is-normal_text)
+      (normal-text-is-text-of-kind kind ports sets text source-text-is-of-kind)
 
-  normal_meaning : meaning_of kind ports normal ≡ meaning_of kind ports text
-  normal_meaning = ap (meaning_of kind ports) is_normal
-      ∙ meaning_of-normal_text kind ports sets text source
+  normal-text-keeps-meaning : meaning_of kind ports normal ≡ meaning_of kind ports text
+  normal-text-keeps-meaning = ap (meaning_of kind ports) result-is-normal_text
+      ∙ meaning_of-normal_text kind ports sets text source-text-is-of-kind
 
-  normal_same : (other : List ℕ) → IsTextOf kind other
+  same-normal-text-if-same-meaning : (other : List ℕ) → IsTextOf kind other
       → (normal ≡ normal_text (meaning_of kind ports other) ↔ meaning_of kind ports text
       ≡ meaning_of kind ports other)
-  normal_same other w =
-      let both = same_normal_text kind ports sets text other source w in
-      (λ h. both.0 (sym is_normal ∙ h), λ h. is_normal ∙ both.1 h)
+  same-normal-text-if-same-meaning other w =
+      let both = same-normal-text-same-meaning kind ports sets text other
+      source-text-is-of-kind w in
+      (λ h. both.0 (sym result-is-normal_text ∙ h), λ h. result-is-normal_text ∙ both.1 h)
 
-  pub normal_form : IsNormalForm kind ports text normal
-  normal_form =
-      record { text = record { text = is_normal }; meaning = normal_meaning; same = normal_same }
+  pub normal-text-is-normal-form : IsNormalForm kind ports text normal
+  normal-text-is-normal-form =
+      record {
+        text = record { text = result-is-normal_text };
+        meaning = normal-text-keeps-meaning;
+        same = same-normal-text-if-same-meaning;
+      }

@@ -5,77 +5,97 @@ use Rattle.std.specs.Prelude.{codes, Option, Some, None, IfSome}
 use Rattle.std.specs.List.{list_any}
 use Rattle.std.specs.Str.{chars, IsUtf8, str_to_ascii_lowercase}
 use Rattle.std.proofs.lemmas.Bool.{and_right, cond-false, or_parts}
-use Rattle.uri_pct.specs.Reading.{encode_formatting, is_bidi_formatting, is_never_literal}
-use Rattle.uri_pct.specs.Reading.{lower_token, read, read_from, read_tokens}
+use Rattle.uri_pct.specs.DecodeUnreserved.{encode_formatting, is_bidi_formatting, is_never_literal}
+use Rattle.uri_pct.specs.DecodeUnreserved.{lower_token, decode_unreserved, decode_after_run}
+use Rattle.uri_pct.specs.DecodeUnreserved.{decode_tokens}
 use Rattle.uri_pct.specs.Sets.{TableSet}
-use Rattle.uri_pct.specs.Tokens.{Char, print, tokens, tokens_of}
-use Rattle.uri_pct.proofs.Decodings.Decoding.{tokens_front}
+use Rattle.uri_pct.specs.Tokens.{Char, print, tokens, tokens_from_chars}
+use Rattle.uri_pct.proofs.Decodings.Decoding.{tokens_after_unencoded_prefix}
 use Rattle.uri_parts.specs.Authority.{AuthorityParts, IsAuthorityFor, authority_parts}
 use Rattle.uri_parts.specs.Authority.{recompose_authority}
 use Rattle.uri_parts.specs.Components.{marked, starts}
 use Rattle.uri_parts.specs.Grammar.{Kind, is_authority}
 use Rattle.uri_parts.specs.Hosts.{host_kind, ipv4_value, name_kind}
-use Rattle.uri_parts.proofs.Authorities.Authority.{is_authority_for-sound, names_outside}
+use Rattle.uri_parts.proofs.Authorities.Authority.{is_authority_for-sound, names_exclude_delimiters}
 use Rattle.uri_ops.specs.ComponentSets.{HasComponentSets}
 use Rattle.uri_ops.specs.Meaning.{authority_meaning, host_meaning, port_meaning}
-use Rattle.uri_ops.specs.Models.Unchanged.{IsKeptAuthority, IsPlain}
+use Rattle.uri_ops.specs.Models.Unchanged.{IsUnchangedAuthority, IsLiteral}
 use Rattle.uri_ops.specs.Normal.{host_text, normal_authority}
-use Rattle.uri_ops.proofs.Meanings.AuthorityMeanings.{PartsUtf8, keeps_apart, utf8_parts}
-use Rattle.uri_ops.proofs.Meanings.Cased.{print_cased, print_text}
-use Rattle.uri_ops.proofs.Meanings.HostMeanings.{name_meaning}
-use Rattle.uri_ops.proofs.Meanings.ReadOctets.{read_chars}
-use Rattle.uri_ops.proofs.Meanings.ReadParts.{no_run}
-use Rattle.uri_ops.proofs.Meanings.WrittenFormatting.{no_lead}
-use Rattle.uri_ops.proofs.Normal.UnchangedBytes.{plain_apart, plain_lacks, plain_leads}
-use Rattle.uri_ops.proofs.Normal.UnchangedBytes.{plain_marked}
+use Rattle.uri_ops.proofs.Meanings.AuthorityMeanings.{PartsUtf8}
+use Rattle.uri_ops.proofs.Meanings.AuthorityMeanings.{kind-sets-lack-authority-delimiters}
+use Rattle.uri_ops.proofs.Meanings.AuthorityMeanings.{authority-parts-are-utf8}
+use Rattle.uri_ops.proofs.Meanings.Cased.{print-lowers-characters, print-of-characters-is-text}
+use Rattle.uri_ops.proofs.Meanings.HostMeanings.{meaning-of-name-is-lowered-decoded}
+use Rattle.uri_ops.proofs.Meanings.DecodedOctets.{decode_tokens-after-chars}
+use Rattle.uri_ops.proofs.Meanings.DecodedParts.{decode_run-of-nil-is-nil}
+use Rattle.uri_ops.proofs.Meanings.WrittenFormatting.{no-byte-E2-no-formatting}
+use Rattle.uri_ops.proofs.Normal.UnchangedBytes.{literal-text-splits, literal-text-lacks-percent}
+use Rattle.uri_ops.proofs.Normal.UnchangedBytes.{literal-text-lacks-byte-E2}
+use Rattle.uri_ops.proofs.Normal.UnchangedBytes.{delimited-component-of-literal-is-literal}
 
--- characters of which none is a formatting character
-literal_chars : (set : TableSet) (cs : List ℕ) → list_any is_bidi_formatting cs ≡ false
+-- unchanged texts: encoding formatting characters keeps characters of which none is one
+encode_formatting-keeps-literal-characters : (set : TableSet) (cs : List ℕ)
+    → list_any is_bidi_formatting cs ≡ false
     → encode_formatting set (map Char cs) ≡ map Char cs
 unfolding is_never_literal
-literal_chars set [] e = refl
-literal_chars set (c ∷ cs) e =
+encode_formatting-keeps-literal-characters set [] e = refl
+encode_formatting-keeps-literal-characters set (c ∷ cs) e =
     let p = or_parts (is_bidi_formatting c) (list_any is_bidi_formatting cs) e in
     ap (λ us. us ++ encode_formatting set (map Char cs))
     (cond-false _ _ _ (and_right (set.ucschar && set.pct_encoded) (is_bidi_formatting c) p.0))
-    ∙ ap (λ us. Char c ∷ us) (literal_chars set cs p.1)
+    ∙ ap (λ us. Char c ∷ us) (encode_formatting-keeps-literal-characters set cs p.1)
 
-plain_tokens : (set : TableSet) (text : List ℕ) → IsUtf8 text → IsPlain text
-    → read_tokens set (tokens text) ≡ map Char (chars text)
-unfolding tokens_of chars read_from
-plain_tokens set text u e =
-    ap (λ x. read_tokens set (tokens x)) (sym (append-nil text))
-    ∙ ap (read_tokens set) (tokens_front text [] u (plain_lacks text e))
-    ∙ read_chars set (chars text) []
-    ∙ ap (λ ts. map Char (chars text) ++ ts) (no_run set) ∙ append-nil (map Char (chars text))
+-- unchanged texts: a text without octets and formatting characters is decoded to its characters
+literal-text-has-tokens-decoded : (set : TableSet) (text : List ℕ) → IsUtf8 text → IsLiteral text
+    → decode_tokens set (tokens text) ≡ map Char (chars text)
+unfolding tokens_from_chars chars decode_after_run
+literal-text-has-tokens-decoded set text u e =
+    ap (λ x. decode_tokens set (tokens x)) (sym (append-nil text))
+    ∙ ap (decode_tokens set)
+    (tokens_after_unencoded_prefix text [] u (literal-text-lacks-percent text e))
+    ∙ decode_tokens-after-chars set (chars text) []
+    ∙ ap (λ ts. map Char (chars text) ++ ts) (decode_run-of-nil-is-nil set)
+    ∙ append-nil (map Char (chars text))
 
--- a plain text decodes to its characters
-plain_read : (set : TableSet) (text : List ℕ) → IsUtf8 text → IsPlain text
-    → read set text ≡ map Char (chars text)
-plain_read set text u e = ap (encode_formatting set) (plain_tokens set text u e)
-    ∙ literal_chars set (chars text) (no_lead text u (plain_leads text e))
+-- a text without octets and formatting characters decodes to its characters
+literal-text-decodes-to-characters : (set : TableSet) (text : List ℕ) → IsUtf8 text → IsLiteral text
+    → decode_unreserved set text ≡ map Char (chars text)
+literal-text-decodes-to-characters set text u e = ap (encode_formatting set)
+    (literal-text-has-tokens-decoded set text u e)
+    ∙ encode_formatting-keeps-literal-characters set (chars text)
+    (no-byte-E2-no-formatting text u (literal-text-lacks-byte-E2 text e))
 
-pub printed_plain : (set : TableSet) (text : List ℕ) → IsUtf8 text → IsPlain text
-    → print (read set text) ≡ text
-printed_plain set text u e = ap print (plain_read set text u e) ∙ print_text text u
+-- unchanged texts: a text without octets and formatting characters is its own decoded form
+pub literal-decodes-to-itself : (set : TableSet) (text : List ℕ) → IsUtf8 text → IsLiteral text
+    → print (decode_unreserved set text) ≡ text
+literal-decodes-to-itself set text u e = ap print (literal-text-decodes-to-characters set text u e)
+    ∙ print-of-characters-is-text text u
 
-pub printed_some : (set : TableSet) (o : Option (List ℕ)) → IfSome o IsUtf8 → IfSome o IsPlain
-    → option_map print (option_map (read set) o) ≡ o
-printed_some set None u e = refl
-printed_some set (Some text) u e = ap Some (printed_plain set text u e)
+-- unchanged texts: a component without octets and formatting characters is its own decoded form
+pub literal-option-decodes-to-itself : (set : TableSet) (o : Option (List ℕ)) → IfSome o IsUtf8
+    → IfSome o IsLiteral
+    → option_map print (option_map (decode_unreserved set) o) ≡ o
+literal-option-decodes-to-itself set None u e = refl
+literal-option-decodes-to-itself set (Some text) u e = ap Some
+    (literal-decodes-to-itself set text u e)
 
-printed_lower : (set : TableSet) (text : List ℕ) → IsUtf8 text → IsPlain text
-    → print (map lower_token (read set text)) ≡ str_to_ascii_lowercase text
-printed_lower set text u e = ap (λ ts. print (map lower_token ts)) (plain_read set text u e)
-    ∙ print_cased true text u
+-- unchanged texts: a text without octets and formatting characters
+-- is written in lower case as its characters are
+literal-text-prints-lowered : (set : TableSet) (text : List ℕ) → IsUtf8 text → IsLiteral text
+    → print (map lower_token (decode_unreserved set text)) ≡ str_to_ascii_lowercase text
+literal-text-prints-lowered set text u e = ap (λ ts. print (map lower_token ts))
+    (literal-text-decodes-to-characters set text u e)
+    ∙ print-lowers-characters true text u
 
-name_of : (host : List ℕ) → starts 91 host ≡ false → host_kind host ≡ name_kind (ipv4_value host)
+-- hosts: one without `[` (91) is an IPv4 address or a name
+unbracketed-host-is-of-name_kind : (host : List ℕ) → starts 91 host ≡ false → host_kind host
+    ≡ name_kind (ipv4_value host)
 unfolding host_kind
-name_of host e = cond-false _ _ _ e
+unbracketed-host-is-of-name_kind host e = cond-false _ _ _ e
 
 module _ (kind : Kind) (sets : HasComponentSets kind) (default : Option ℕ) (a : List ℕ)
-    (u : IsUtf8 a) (e : is_authority kind a ≡ true) (plain : IsPlain a)
-    (kept : IsKeptAuthority a) where
+    (u : IsUtf8 a) (e : is_authority kind a ≡ true) (literal : IsLiteral a)
+    (kept : IsUnchangedAuthority a) where
   abbrev parts : AuthorityParts
   parts = authority_parts a
 
@@ -83,28 +103,44 @@ module _ (kind : Kind) (sets : HasComponentSets kind) (default : Option ℕ) (a 
   grammar = is_authority_for-sound kind.userinfo kind.reg_name a e
 
   utf8 : PartsUtf8 parts
-  utf8 = utf8_parts parts.userinfo parts.port parts.host (subst IsUtf8 (sym grammar.whole) u)
+  utf8 = authority-parts-are-utf8 parts.userinfo parts.port parts.host
+      (subst IsUtf8 (sym grammar.whole) u)
 
-  all_plain : IfSome parts.userinfo IsPlain × IsPlain parts.host
-  all_plain =
+  literal-authority-has-literal-parts : IfSome parts.userinfo IsLiteral × IsLiteral parts.host
+  literal-authority-has-literal-parts =
       let user = marked [] parts.userinfo (codes "@") in
       let port = marked (codes ":") parts.port [] in
-      let apart = plain_apart user (parts.host ++ port) (subst IsPlain (sym grammar.whole) plain) in
-      (plain_marked [] (codes "@") parts.userinfo apart.0, (plain_apart parts.host port apart.1).0)
+      let apart = literal-text-splits user (parts.host
+      ++ port) (subst IsLiteral (sym grammar.whole) literal) in (
+        delimited-component-of-literal-is-literal [] (codes "@") parts.userinfo apart.0,
+        (literal-text-splits parts.host port apart.1).0,
+      )
 
-  host_kept : host_text (host_meaning kind.reg_name parts.host (host_kind parts.host)) ≡ parts.host
-  host_kept =
-      let apart = names_outside kind.userinfo kind.reg_name (keeps_apart kind sets) in
-      ap (λ h. host_text (host_meaning kind.reg_name parts.host h)) (name_of parts.host kept.name)
+  unchanged-host-is-its-normal-form : host_text
+      (host_meaning kind.reg_name parts.host (host_kind parts.host)) ≡ parts.host
+  unchanged-host-is-its-normal-form =
+      let apart = names_exclude_delimiters kind.userinfo kind.reg_name
+      (kind-sets-lack-authority-delimiters kind sets) in
+      ap (λ h. host_text (host_meaning kind.reg_name parts.host h))
+      (unbracketed-host-is-of-name_kind parts.host kept.name)
       ∙ ap host_text
-      (name_meaning kind.reg_name sets.reg_name apart parts.host (ipv4_value parts.host))
-      ∙ printed_lower kind.reg_name parts.host utf8.host all_plain.1 ∙ kept.lower
+      (meaning-of-name-is-lowered-decoded kind.reg_name sets.reg_name apart parts.host
+      (ipv4_value parts.host))
+      ∙ literal-text-prints-lowered kind.reg_name parts.host utf8.host
+      literal-authority-has-literal-parts.1 ∙ kept.lower
 
   -- such an authority is its own normal form
-  pub authority_kept : normal_authority (authority_meaning kind default a) ≡ a
-  authority_kept =
-      let user_kept = printed_some kind.userinfo parts.userinfo utf8.userinfo all_plain.0 in
+  pub unchanged-authority-is-its-normal-form : normal_authority (authority_meaning kind default a)
+      ≡ a
+  unchanged-authority-is-its-normal-form =
+      let user_kept = literal-option-decodes-to-itself kind.userinfo parts.userinfo utf8.userinfo
+      literal-authority-has-literal-parts.0 in
       let port_kept = ap (port_meaning default) kept.port ∙ sym kept.port in
       (λ i. recompose_authority
-      (record { userinfo = user_kept i; host = host_kept i; port = port_kept i }))
+      (record {
+        userinfo = user_kept i;
+        host = unchanged-host-is-its-normal-form i;
+        port =
+            port_kept i;
+      }))
       ∙ grammar.whole

@@ -6,44 +6,50 @@ use Rattle.uri_parts.specs.declared.positions.AuthorityPositions.{AuthorityPosit
 use Rattle.uri_parts.specs.declared.positions.Positions.{Positions}
 use Rattle.uri_parts.specs.Authority.{AuthorityParts, authority_parts, recompose_authority}
 use Rattle.uri_parts.specs.Components.{Components, marked}
-use Rattle.uri_parts.specs.Positions.{authority_at, marked_length, positions_of}
+use Rattle.uri_parts.specs.Positions.{authority_at, delimited_length, positions_of}
 use Rattle.std.specs.Option.{option_and_then}
 use Rattle.std.specs.Str.{str_to_ascii_lowercase}
-use Rattle.uri_pct.specs.Reading.{read}
+use Rattle.uri_pct.specs.DecodeUnreserved.{decode_unreserved}
 use Rattle.uri_pct.specs.Tokens.{print}
 use Rattle.uri_parts.specs.Components.{components}
 use Rattle.uri_parts.specs.Grammar.{Kind}
 use Rattle.uri_ops.specs.Meaning.{authority_meaning, meaning_of}
 use Rattle.uri_ops.specs.Normal.{normal_authority, normal_components, normal_parts}
-use Rattle.uri_ops.specs.Normal.{path_text}
+use Rattle.uri_ops.specs.Normal.{normal_path_text}
 use Rattle.uri_parts.specs.Ports.{PortFunction}
-use Rattle.uri_ops.proofs.Normal.NormalPieces.{path_written}
+use Rattle.uri_ops.proofs.Normal.NormalPieces.{normal_path-by-components}
 use Rattle.uri_ops.specs.Models.Places.{before_path}
-use Rattle.uri_ops.specs.Models.Written.{authority_parts_at, written_at}
+use Rattle.uri_ops.specs.Models.Written.{authority_parts_at, positions_by_authority_parts}
 
-pub length-behind : (part : Option (List ℕ)) (mark : ℕ)
-    → length (marked [] part (mark ∷ [])) ≡ marked_length 1 part
-length-behind None mark = refl
-length-behind (Some s) mark = omega (arith, length-append s (mark ∷ []))
+-- positions in a normal text: a component with a delimiter after
+-- it has one byte more, or none if it is absent
+pub length-with-delimiter-after : (part : Option (List ℕ)) (mark : ℕ)
+    → length (marked [] part (mark ∷ [])) ≡ delimited_length 1 part
+length-with-delimiter-after None mark = refl
+length-with-delimiter-after (Some s) mark = omega (arith, length-append s (mark ∷ []))
 
-pub length-before : (mark : List ℕ) (part : Option (List ℕ))
-    → length (marked mark part []) ≡ marked_length (length mark) part
-length-before mark None = refl
-length-before mark (Some s) = omega (arith, length-append (mark ++ s) [], length-append mark s)
+-- positions in a normal text: a component with a delimiter before
+-- it has that many bytes more, or none if it is absent
+pub length-with-delimiter-before : (mark : List ℕ) (part : Option (List ℕ))
+    → length (marked mark part []) ≡ delimited_length (length mark) part
+length-with-delimiter-before mark None = refl
+length-with-delimiter-before mark (Some s) = omega
+    (arith, length-append (mark ++ s) [], length-append mark s)
 
--- an authority by its parts
-pub parts_placed : (p : AuthorityParts) (o0 o1 o2 o3 : List ℕ)
+-- positions in a normal text: userinfo, host and port that are appended have the positions of these
+-- parts; o0 to o3: the text between them
+pub pushed-authority-parts-have-positions : (p : AuthorityParts) (o0 o1 o2 o3 : List ℕ)
     → o1 ≡ o0 ++ marked [] p.userinfo (codes "@") → o2 ≡ o1 ++ p.host
     → o3 ≡ o2 ++ marked (codes ":") p.port []
     → (let x : AuthorityPositions = record
     { start = length o0; host_start = length o1; host_end = length o2; end = length o3 } in x)
     ≡ authority_parts_at (length o0) p
-parts_placed p o0 o1 o2 o3 e1 e2 e3 =
+pushed-authority-parts-have-positions p o0 o1 o2 o3 e1 e2 e3 =
     let user = marked [] p.userinfo (codes "@") in
     let port = marked (codes ":") p.port [] in
-    let n1 : length o1 ≡ length o0 + marked_length 1 p.userinfo = omega
-    (arith, ap length e1, length-append o0 user, length-behind p.userinfo 64) in
-    let n2 : length o2 ≡ length o0 + (marked_length 1 p.userinfo + length p.host) = omega
+    let n1 : length o1 ≡ length o0 + delimited_length 1 p.userinfo = omega
+    (arith, ap length e1, length-append o0 user, length-with-delimiter-after p.userinfo 64) in
+    let n2 : length o2 ≡ length o0 + (delimited_length 1 p.userinfo + length p.host) = omega
     (arith, n1, ap length e2, length-append o1 p.host) in
     let n3 : length o3 ≡ length o0 + length (recompose_authority p) =
     omega (
@@ -53,15 +59,18 @@ parts_placed p o0 o1 o2 o3 e1 e2 e3 =
       length-append o2 port,
       length-append user (p.host ++ port),
       length-append p.host port,
-      length-behind p.userinfo 64,
+      length-with-delimiter-after p.userinfo 64,
     ) in
     λ i. record { start = length o0; host_start = n1 i; host_end = n2 i; end = n3 i }
 
--- by its text, where that is cut into these parts
-pub parts_cut : (place : ℕ) (p : AuthorityParts) → authority_parts (recompose_authority p) ≡ p
+-- positions in a normal text: those of an authority by its parts
+-- are those by its text, if it splits into them
+pub positions-of-parts-are-of-text : (place : ℕ) (p : AuthorityParts)
+    → authority_parts (recompose_authority p) ≡ p
     → authority_parts_at place p ≡ authority_at place (recompose_authority p)
-parts_cut place p cut = ap
-    (λ (q : AuthorityParts). let host = marked_length 1 q.userinfo in let x : AuthorityPositions =
+positions-of-parts-are-of-text place p cut = ap
+    (λ (q : AuthorityParts). let host = delimited_length 1
+    q.userinfo in let x : AuthorityPositions =
     record {
       start = place;
       host_start = place + host;
@@ -69,26 +78,28 @@ parts_cut place p cut = ap
       end = place + length (recompose_authority p);
     } in x) (sym cut)
 
--- and components of which the authority is cut into these parts
-pub cut_placed : (c : Components) (parts : Option AuthorityParts)
-    → option_map (authority_parts_at (marked_length 1 c.scheme + 2)) parts
-    ≡ option_map (authority_at (marked_length 1 c.scheme + 2)) c.authority
-    → written_at c parts ≡ positions_of c
-cut_placed c parts e = ap
+-- positions in a normal text: those by the parts of the authority are those of the components
+pub positions-with-parts-are-of-components : (c : Components) (parts : Option AuthorityParts)
+    → option_map (authority_parts_at (delimited_length 1 c.scheme + 2)) parts
+    ≡ option_map (authority_at (delimited_length 1 c.scheme + 2)) c.authority
+    → positions_by_authority_parts c parts ≡ positions_of c
+positions-with-parts-are-of-components c parts e = ap
     (λ a. let x : Positions = record (positions_of c) { authority = a } in x) e
 
-pub from_zero : (part : Option (List ℕ))
+-- positions in a normal text: a component at position 0 ends at its length
+pub option_map-adding-zero-is-unchanged : (part : Option (List ℕ))
     → option_map (λ s. 0 + length s) part ≡ option_map length part
-from_zero None = refl
-from_zero (Some s) = ap Some (omega arith)
+option_map-adding-zero-is-unchanged None = refl
+option_map-adding-zero-is-unchanged (Some s) = ap Some (omega arith)
 
--- what is before a path, and how long it is
-pub length-before_path : (p : Components) → length (before_path p) ≡ (positions_of p).path_start
-length-before_path p = omega (
+-- positions: the path begins where the text before it ends
+pub length-before_path-is-path_start : (p : Components) → length (before_path p)
+    ≡ (positions_of p).path_start
+length-before_path-is-path_start p = omega (
   arith,
   length-append (marked [] p.scheme (codes ":")) (marked (codes "//") p.authority []),
-  length-behind p.scheme 58,
-  length-before (codes "//") p.authority,
+  length-with-delimiter-after p.scheme 58,
+  length-with-delimiter-before (codes "//") p.authority,
 )
 
 -- where a path, and the query after it, are written
@@ -97,11 +108,14 @@ record EndsAt (p : Components) (start stop : ℕ) (query : Option ℕ) : Type 0 
   pub stops : stop ≡ (positions_of p).path_end
   pub queries : query ≡ (positions_of p).query_end
 
-ends_at : (p : Components) (o2 o3 : List ℕ) (start stop : ℕ) (query : Option ℕ)
+-- positions in a normal text: path and query end where they were appended;
+-- o2, o3: the text before and after the path
+pushed-path-and-query-end-at-lengths : (p : Components) (o2 o3 : List ℕ) (start stop : ℕ)
+    (query : Option ℕ)
     → length o2 ≡ (positions_of p).path_start → o3 ≡ o2 ++ p.path → start ≡ length o2
     → stop ≡ length o3
     → query ≡ option_map (λ s. length o3 + 1 + length s) p.query → EndsAt p start stop query
-ends_at p o2 o3 start stop query n2 e3 starts stops queries =
+pushed-path-and-query-end-at-lengths p o2 o3 start stop query n2 e3 starts stops queries =
     let m3 : length o3 ≡ (positions_of p).path_end = omega
     (arith, n2, ap length e3, length-append o2 p.path) in
     record {
@@ -111,8 +125,10 @@ ends_at p o2 o3 start stop query n2 e3 starts stops queries =
           ∙ ap (λ n. option_map (λ s. n + 1 + length s) p.query) m3;
     }
 
--- components that are written one after the other, whose authority has these parts
-pub written_placed : (p : Components) (parts : Option AuthorityParts) (o0 o1 o2 o3 : List ℕ)
+-- positions in a normal text: components that are appended have the positions of these;
+-- o0 to o3: the text between them
+pub pushed-components-have-positions : (p : Components) (parts : Option AuthorityParts)
+    (o0 o1 o2 o3 : List ℕ)
     (start stop : ℕ) (end query : Option ℕ) (authority : Option AuthorityPositions)
     → o0 ≡ []
     → o1 ≡ o0 ++ marked [] p.scheme (codes ":") → o2 ≡ o1 ++ marked (codes "//") p.authority []
@@ -128,16 +144,17 @@ pub written_placed : (p : Components) (parts : Option AuthorityParts) (o0 o1 o2 
       query_end
           = query;
     } in x)
-    ≡ written_at p parts
-written_placed p parts o0 o1 o2 o3 start stop end query authority e0 e1 e2 e3 starts stops ends
+    ≡ positions_by_authority_parts p parts
+pushed-components-have-positions p parts o0 o1 o2 o3 start stop end query authority e0 e1 e2 e3
+    starts stops ends
     lies queries =
     let n0 : length o0 ≡ 0 = ap length e0 in
-    let n1 : length o1 ≡ marked_length 1 p.scheme = omega (
+    let n1 : length o1 ≡ delimited_length 1 p.scheme = omega (
       arith,
       n0,
       ap length e1,
       length-append o0 (marked [] p.scheme (codes ":")),
-      length-behind
+      length-with-delimiter-after
           p.scheme 58,
     ) in
     let n2 : length o2 ≡ (positions_of p).path_start = omega (
@@ -145,10 +162,12 @@ written_placed p parts o0 o1 o2 o3 start stop end query authority e0 e1 e2 e3 st
       n1,
       ap length e2,
       length-append o1 (marked (codes "//") p.authority []),
-      length-before (codes "//") p.authority,
+      length-with-delimiter-before (codes "//") p.authority,
     ) in
-    let w = ends_at p o2 o3 start stop query n2 e3 starts stops queries in
-    let f = ends ∙ ap (λ n. option_map (λ s. n + length s) p.scheme) n0 ∙ from_zero p.scheme in
+    let w = pushed-path-and-query-end-at-lengths p o2 o3 start stop query n2 e3 starts
+    stops queries in
+    let f = ends ∙ ap (λ n. option_map (λ s. n + length s) p.scheme) n0
+    ∙ option_map-adding-zero-is-unchanged p.scheme in
     let g = lies ∙ ap (λ n. option_map (authority_parts_at (n + 2)) parts) n1 in
     λ i. record {
       scheme_end = f i;
@@ -159,8 +178,10 @@ written_placed p parts o0 o1 o2 o3 start stop end query authority e0 e1 e2 e3 st
       query_end = w.queries i;
     }
 
--- and whose scheme and authority are written where they are
-pub pieces_placed : (p : Components) (o0 o2 o3 : List ℕ) (start stop : ℕ) (end query : Option ℕ)
+-- positions in a target: a prefix, a path and a query that are appended have the positions of
+-- these; o0, o2, o3: the text between them
+pub pushed-prefix-and-path-have-positions : (p : Components) (o0 o2 o3 : List ℕ) (start stop : ℕ)
+    (end query : Option ℕ)
     (authority : Option AuthorityPositions)
     → o0 ≡ []
     → o2 ≡ o0 ++ before_path p → o3 ≡ o2 ++ p.path → start ≡ length o2 → stop ≡ length o3
@@ -175,9 +196,11 @@ pub pieces_placed : (p : Components) (o0 o2 o3 : List ℕ) (start stop : ℕ) (e
           = query;
     } in x)
     ≡ positions_of p
-pieces_placed p o0 o2 o3 start stop end query authority e0 e2 e3 starts stops ends lies queries =
-    let w = ends_at p o2 o3 start stop query
-    (ap length (e2 ∙ ap (λ o. o ++ before_path p) e0) ∙ length-before_path p) e3 starts stops
+pushed-prefix-and-path-have-positions p o0 o2 o3 start stop end query authority e0 e2 e3 starts
+    stops ends lies queries =
+    let w = pushed-path-and-query-end-at-lengths p o2 o3 start stop query
+    (ap length (e2 ∙ ap (λ o. o ++ before_path p) e0) ∙ length-before_path-is-path_start p) e3
+    starts stops
     queries in
     λ i. record {
       scheme_end = ends i;
@@ -188,13 +211,17 @@ pieces_placed p o0 o2 o3 start stop end query authority e0 e2 e3 starts stops en
       query_end = w.queries i;
     }
 
-of_parts : {A B C D : Type 0} (f : C → D) (h : B → C) (k : A → B) (o : Option A)
+-- general fact on options: three functions, one after the other
+option_map-of-three-functions-splits : {A B C D : Type 0} (f : C → D) (h : B → C) (k : A → B)
+    (o : Option A)
     → option_map (λ a. f (h (k a))) o ≡ option_map f (option_map h (option_map k o))
-of_parts f h k None = refl
-of_parts f h k (Some a) = refl
+option_map-of-three-functions-splits f h k None = refl
+option_map-of-three-functions-splits f h k (Some a) = refl
 
--- the components of a normal text
-pub normal_placed : (kind : Kind) (ports : PortFunction) (text : List ℕ) (old o1 o2 o3 : List ℕ)
+-- positions in a normal text: the components of a meaning that are appended have the positions of
+-- these; old, o1 to o3: the text between them
+pub pushed-normal-text-has-positions : (kind : Kind) (ports : PortFunction) (text : List ℕ)
+    (old o1 o2 o3 : List ℕ)
     (start stop : ℕ) (end query : Option ℕ) (places : Option AuthorityPositions)
     → old ≡ []
     → (let p = components text in let scheme = option_map str_to_ascii_lowercase p.scheme in let
@@ -203,14 +230,14 @@ pub normal_placed : (kind : Kind) (ports : PortFunction) (text : List ℕ) (old 
     (option_map (authority_meaning kind default) p.authority) in
     o1 ≡ old ++ marked [] scheme (codes ":")
     → o2 ≡ o1 ++ marked (codes "//") authority []
-    → o3 ≡ o2 ++ path_text kind.path p.scheme authority p.path
+    → o3 ≡ o2 ++ normal_path_text kind.path p.scheme authority p.path
     → start ≡ length o2 → stop ≡ length o3
     → end ≡ option_map (λ s. length old + length s) scheme
     → places ≡ option_map
     (λ a. authority_parts_at (length o1 + 2) (normal_parts (authority_meaning kind default a)))
     p.authority
     → query ≡ option_map (λ s. length o3 + 1 + length s)
-    (option_map print (option_map (read kind.query) p.query))
+    (option_map print (option_map (decode_unreserved kind.query) p.query))
     → (let x : Positions = record {
       scheme_end = end;
       authority = places;
@@ -219,16 +246,18 @@ pub normal_placed : (kind : Kind) (ports : PortFunction) (text : List ℕ) (old 
       query_end =
           query;
     } in x)
-    ≡ written_at (normal_components (meaning_of kind ports text))
+    ≡ positions_by_authority_parts (normal_components (meaning_of kind ports text))
     (option_map normal_parts (meaning_of kind ports text).authority))
-normal_placed kind ports text old o1 o2 o3 start stop end query places empty e1 e2 e3 starts stops
+pushed-normal-text-has-positions kind ports text old o1 o2 o3 start stop end query places empty e1
+    e2 e3 starts stops
     ends lies queries =
     let m = meaning_of kind ports text in
     let default = option_and_then ports
     (option_map str_to_ascii_lowercase (components text).scheme) in
-    written_placed (normal_components m) (option_map normal_parts m.authority) old o1 o2 o3 start
+    pushed-components-have-positions (normal_components m) (option_map normal_parts m.authority) old
+    o1 o2 o3 start
     stop end query places empty e1 e2
-    (e3 ∙ ap (λ t. o2 ++ t) (path_written kind ports text)) starts stops ends
-    (lies ∙ of_parts (authority_parts_at (length o1 + 2)) normal_parts
+    (e3 ∙ ap (λ t. o2 ++ t) (normal_path-by-components kind ports text)) starts stops ends
+    (lies ∙ option_map-of-three-functions-splits (authority_parts_at (length o1 + 2)) normal_parts
     (authority_meaning kind default)
     (components text).authority) queries

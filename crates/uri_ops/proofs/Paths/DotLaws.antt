@@ -5,304 +5,393 @@ use Rattle.std.specs.Prelude.{codes}
 use Rattle.std.specs.List.{list_all}
 use Rattle.std.proofs.lemmas.List.{append-nil, length-append}
 use Rattle.std.proofs.lemmas.Bool.{and_parts, eqb-true, false≢true}
-use Rattle.uri_parts.specs.Components.{IsRooted}
+use Rattle.uri_parts.specs.Components.{IsAbemptyPath}
 use Rattle.uri_ops.specs.Dots.{is_single_dot, is_double_dot, is_dot_segment, segments}
 use Rattle.uri_ops.specs.Dots.{lacks_dot_segments, run, remove_dot_segments, underflows, directory}
 use Rattle.uri_ops.specs.Dots.{IsAbsolute, EndsInSlash}
-use Rattle.uri_ops.proofs.Paths.Segments.{pop, is_none, turn, step_of, steps, end_of, closing}
-use Rattle.uri_ops.proofs.Paths.Segments.{cleaned, sinks, parent, Passes, is_plain, none_push}
-use Rattle.uri_ops.proofs.Paths.Segments.{append_passes, steps_pass, cleaned_passes, cleaned_plain}
-use Rattle.uri_ops.proofs.Paths.Segments.{cleaned_is_plain, cleaned_closed, cleaned_front}
-use Rattle.uri_ops.proofs.Paths.Segments.{cleaned_parent, cleaned_some, sinks_plain, sinks_front}
-use Rattle.uri_ops.proofs.Paths.Segments.{sinks_closed, sinks_parent}
-use Rattle.uri_ops.proofs.Paths.SlashedSegments.{slashed, lacks_slash, NoSlashes, slashed_append}
-use Rattle.uri_ops.proofs.Paths.SlashedSegments.{slashed_push, remove_slashed, underflows_slashed}
-use Rattle.uri_ops.proofs.Paths.SlashedSegments.{directory_slashed, parent_passes, slashed_segments}
-use Rattle.uri_ops.proofs.Paths.SlashedSegments.{segments_lack, segments_some, segments_slashed}
-use Rattle.uri_pct.proofs.Tests.{true_of}
+use Rattle.uri_ops.proofs.Paths.Segments.{pop, is_none, next_output, step_of, steps, end_of}
+use Rattle.uri_ops.proofs.Paths.Segments.{closing, dotless_of, parent, AllPass, is_dotless}
+use Rattle.uri_ops.proofs.Paths.Segments.{pushed-segments-are-not-none, appended-segments-pass-test}
+use Rattle.uri_ops.proofs.Paths.Segments.{segments-after-steps-pass-test, dotless_of-pass-test}
+use Rattle.uri_ops.proofs.Paths.Segments.{dotless_of-of-dotless, dotless_of-is-dotless}
+use Rattle.uri_ops.proofs.Paths.Segments.{dotless_of-with-empty-last, dotless_of-prefix-first}
+use Rattle.uri_ops.proofs.Paths.Segments.{dotless_of-of-directory, dotless_of-is-not-empty}
+use Rattle.uri_ops.proofs.Paths.Underflows.{underflows_over, dotless-segments-do-not-underflow}
+use Rattle.uri_ops.proofs.Paths.Underflows.{segments-underflow-as-prefix-or-remainder}
+use Rattle.uri_ops.proofs.Paths.Underflows.{trailing-slash-changes-no-underflow}
+use Rattle.uri_ops.proofs.Paths.Underflows.{parent-underflows-as-segments}
+use Rattle.uri_ops.proofs.Paths.SlashedSegments.{slashed, lacks_slash, NoSlashes, slashed-of-append}
+use Rattle.uri_ops.proofs.Paths.SlashedSegments.{slashed-of-push, remove-dots-by-segments}
+use Rattle.uri_ops.proofs.Paths.SlashedSegments.{underflows-by-segments}
+use Rattle.uri_ops.proofs.Paths.SlashedSegments.{directory-by-segments, parent-segments-pass-test}
+use Rattle.uri_ops.proofs.Paths.SlashedSegments.{slashed-of-segments-is-text-after-slash}
+use Rattle.uri_ops.proofs.Paths.SlashedSegments.{segments-of-text-lack-slashes}
+use Rattle.uri_ops.proofs.Paths.SlashedSegments.{segments-of-text-are-not-none}
+use Rattle.uri_ops.proofs.Paths.SlashedSegments.{segments-of-slashed-segments}
+use Rattle.uri_pct.proofs.Tests.{eq_true_from_IsTrue}
 
--- what holds of each path that is made of segments holds of each path that begins with `/`
-some_segments : (P : List ℕ → Type 0)
+-- paths: what holds of `/` before each of some segments holds
+-- of any list of segments but the empty one
+property-of-slashed-segments-not-none : (P : List ℕ → Type 0)
     → ((s : List ℕ) (rest : List (List ℕ)) → NoSlashes (s ∷ rest) → P (slashed (s ∷ rest)))
     → (segs : List (List ℕ)) → is_none segs ≡ false → NoSlashes segs → P (slashed segs)
 unfolding is_none
-some_segments P each [] e f = absurd (false≢true (sym e))
-some_segments P each (s ∷ rest) e f = each s rest f
+property-of-slashed-segments-not-none P each [] e f = absurd (false≢true (sym e))
+property-of-slashed-segments-not-none P each (s ∷ rest) e f = each s rest f
 
-pub by_segments : (P : List ℕ → Type 0)
+-- dot segments: what holds of `/` before each of a list of segments holds of any absolute path
+pub property-of-absolute-path-by-segments : (P : List ℕ → Type 0)
     → ((s : List ℕ) (rest : List (List ℕ)) → NoSlashes (s ∷ rest) → P (slashed (s ∷ rest)))
     → (path : List ℕ) → IsAbsolute path → P path
-by_segments P each [] h = absurd (false≢true (true_of _ h))
-by_segments P each (c ∷ rest) h =
-    subst P (slashed_segments rest ∙ ap (λ d. d ∷ rest) (sym (eqb-true c 47 (true_of _ h))))
-    (some_segments P each (segments rest) (segments_some rest) (segments_lack rest))
+property-of-absolute-path-by-segments P each [] h = absurd (false≢true (eq_true_from_IsTrue _ h))
+property-of-absolute-path-by-segments P each (c ∷ rest) h =
+    subst P (slashed-of-segments-is-text-after-slash rest
+    ∙ ap (λ d. d ∷ rest) (sym (eqb-true c 47 (eq_true_from_IsTrue _ h))))
+    (property-of-slashed-segments-not-none P each (segments rest)
+    (segments-of-text-are-not-none rest) (segments-of-text-lack-slashes rest))
 
--- the same of paths that end in `/` too
-closed_front : (P : List ℕ → Type 0)
-    → ((segs : List (List ℕ)) → NoSlashes segs → P (slashed (segs ++ [] ∷ []))) → (front : List ℕ)
-    → IsAbsolute (front ++ codes "/") → P (front ++ codes "/")
+-- what holds of each path of segments that ends in `/` holds of each absolute one that does
+property-of-prefix-with-slash-by-segments : (P : List ℕ → Type 0)
+    → ((segs : List (List ℕ)) → NoSlashes segs → P (slashed (segs ++ [] ∷ []))) → (prefix : List ℕ)
+    → IsAbsolute (prefix ++ codes "/") → P (prefix ++ codes "/")
 unfolding slashed
-closed_front P each [] h = each [] refl
-closed_front P each (c ∷ front) h =
-    subst P (slashed_push (segments front) []
-    ∙ ap (λ t. t ++ 47 ∷ []) (slashed_segments front
-    ∙ ap (λ d. d ∷ front) (sym (eqb-true c 47 (true_of _ h)))))
-    (each (segments front) (segments_lack front))
+property-of-prefix-with-slash-by-segments P each [] h = each [] refl
+property-of-prefix-with-slash-by-segments P each (c ∷ prefix) h =
+    subst P (slashed-of-push (segments prefix) []
+    ∙ ap (λ t. t ++ 47 ∷ []) (slashed-of-segments-is-text-after-slash prefix
+    ∙ ap (λ d. d ∷ prefix) (sym (eqb-true c 47 (eq_true_from_IsTrue _ h)))))
+    (each (segments prefix) (segments-of-text-lack-slashes prefix))
 
-pub by_closed : (P : List ℕ → Type 0)
+-- dot segments: what holds of a list of segments and a last `/`
+-- holds of any absolute path that ends in `/`
+pub property-of-path-to-slash-by-segments : (P : List ℕ → Type 0)
     → ((segs : List (List ℕ)) → NoSlashes segs → P (slashed (segs ++ [] ∷ []))) → (path : List ℕ)
     → IsAbsolute path → EndsInSlash path → P path
-by_closed P each path h e = subst P (sym e.1) (closed_front P each e.0 (subst IsAbsolute e.1 h))
+property-of-path-to-slash-by-segments P each path h e = subst P (sym e.1)
+    (property-of-prefix-with-slash-by-segments P each e.0 (subst IsAbsolute e.1 h))
 
--- what follows a path that ends in `/` begins a new segment
-pub behind : (segs : List (List ℕ)) (q : List ℕ)
+-- dot segments: what follows a path that ends in `/` begins a new segment
+pub path-after-slash-appends-its-segments : (segs : List (List ℕ)) (q : List ℕ)
     → slashed (segs ++ [] ∷ []) ++ q ≡ slashed (segs ++ segments q)
-behind segs q =
-    ap (λ t. t ++ q) (slashed_push segs []) ∙ append_assoc (slashed segs) (47 ∷ []) q
-    ∙ ap (λ t. slashed segs ++ t) (sym (slashed_segments q))
-    ∙ sym (slashed_append segs (segments q))
+path-after-slash-appends-its-segments segs q =
+    ap (λ t. t ++ q) (slashed-of-push segs []) ∙ append_assoc (slashed segs) (47 ∷ []) q
+    ∙ ap (λ t. slashed segs ++ t) (sym (slashed-of-segments-is-text-after-slash q))
+    ∙ sym (slashed-of-append segs (segments q))
 
-pub behind_lacks : (segs : List (List ℕ)) (q : List ℕ) → NoSlashes segs
+-- dot segments: no segment has a slash, also after the segments of q are appended
+pub appended-segments-lack-slashes : (segs : List (List ℕ)) (q : List ℕ) → NoSlashes segs
     → NoSlashes (segs ++ segments q)
-behind_lacks segs q e = append_passes lacks_slash segs (segments q) e (segments_lack q)
+appended-segments-lack-slashes segs q e = appended-segments-pass-test lacks_slash segs
+    (segments q) e (segments-of-text-lack-slashes q)
 
-pub closed_lacks : (segs : List (List ℕ)) → NoSlashes segs → NoSlashes (segs ++ [] ∷ [])
-closed_lacks segs e = append_passes lacks_slash segs ([] ∷ []) e refl
+-- dot segments: no segment has a slash, also after an empty last one is appended
+pub segments-with-empty-last-lack-slashes : (segs : List (List ℕ)) → NoSlashes segs
+    → NoSlashes (segs ++ [] ∷ [])
+segments-with-empty-last-lack-slashes segs e = appended-segments-pass-test lacks_slash segs
+    ([] ∷ []) e refl
 
-steps_lack : (segs : List (List ℕ)) → NoSlashes segs → NoSlashes (steps [] segs)
-steps_lack segs e = steps_pass lacks_slash lacks_slash (λ s f d. f) [] segs refl e
+-- removing dot segments: the segments that are left have no `/`
+segments-after-steps-lack-slashes : (segs : List (List ℕ)) → NoSlashes segs
+    → NoSlashes (steps [] segs)
+segments-after-steps-lack-slashes segs e = segments-after-steps-pass-test lacks_slash lacks_slash
+    (λ s f d. f) [] segs refl e
 
-cleaned_lack : (segs : List (List ℕ)) → NoSlashes segs → NoSlashes (cleaned segs)
-cleaned_lack segs e = cleaned_passes lacks_slash lacks_slash (λ s f d. f) refl segs e
+-- removing dot segments: the segments that are left,
+-- with the empty one that a last dot segment leaves, have no `/`
+dotless_of-segments-lack-slashes : (segs : List (List ℕ)) → NoSlashes segs
+    → NoSlashes (dotless_of segs)
+dotless_of-segments-lack-slashes segs e = dotless_of-pass-test lacks_slash lacks_slash
+    (λ s f d. f) refl segs e
 
--- a path without dot segments is left as it is
-pub plain_segments : (segs : List (List ℕ)) → NoSlashes segs
-    → lacks_dot_segments (slashed segs) ≡ true → Passes is_plain segs
-plain_segments segs e f =
-    (and_parts true (list_all is_plain segs)
-    (sym (ap (list_all is_plain) (segments_slashed segs e)) ∙ f)).1
+-- dot segments: a path without dot segments has none among its segments
+pub segments-of-dotless-path-are-dotless : (segs : List (List ℕ)) → NoSlashes segs
+    → lacks_dot_segments (slashed segs) ≡ true → AllPass is_dotless segs
+segments-of-dotless-path-are-dotless segs e f =
+    (and_parts true (list_all is_dotless segs)
+    (sym (ap (list_all is_dotless) (segments-of-slashed-segments segs e)) ∙ f)).1
 
-pub removed_of_plain : (path : List ℕ) → IsAbsolute path → lacks_dot_segments path ≡ true
+-- removing the dot segments of a path that has none returns the path (RFC 3986, section 5.2.4)
+pub remove-dots-of-dotless : (path : List ℕ) → IsAbsolute path → lacks_dot_segments path ≡ true
     → remove_dot_segments path ≡ path
-removed_of_plain =
-    by_segments (λ path. lacks_dot_segments path ≡ true → remove_dot_segments path ≡ path)
-    (λ s rest e f. remove_slashed (s ∷ rest) e
-    ∙ ap slashed (cleaned_plain (s ∷ rest) (plain_segments (s ∷ rest) e f)))
+remove-dots-of-dotless =
+    property-of-absolute-path-by-segments (λ path. lacks_dot_segments path ≡ true
+    → remove_dot_segments path ≡ path)
+    (λ s rest e f. remove-dots-by-segments (s ∷ rest) e
+    ∙ ap slashed (dotless_of-of-dotless (s ∷ rest)
+    (segments-of-dotless-path-are-dotless (s ∷ rest) e f)))
 
-pub underflows_of_plain : (path : List ℕ) → IsAbsolute path → lacks_dot_segments path ≡ true
+pub dotless-path-does-not-underflow : (path : List ℕ) → IsAbsolute path → lacks_dot_segments path
+    ≡ true
     → underflows path ≡ false
-underflows_of_plain = by_segments (λ path. lacks_dot_segments path ≡ true → underflows path ≡ false)
-    (λ s rest e f. underflows_slashed (s ∷ rest) e
-    ∙ sinks_plain false [] (s ∷ rest) (plain_segments (s ∷ rest) e f))
+dotless-path-does-not-underflow = property-of-absolute-path-by-segments
+    (λ path. lacks_dot_segments path ≡ true
+    → underflows path
+    ≡ false)
+    (λ s rest e f. underflows-by-segments (s ∷ rest) e
+    ∙ dotless-segments-do-not-underflow false [] (s ∷ rest)
+    (segments-of-dotless-path-are-dotless (s ∷ rest) e f))
 
--- what is left has no dot segment and begins with `/`
-pub absolute_slashed : (segs : List (List ℕ)) → is_none segs ≡ false → IsAbsolute (slashed segs)
+-- paths: segments, each after a `/`, make an absolute path if there are any
+pub slashed-segments-are-absolute : (segs : List (List ℕ)) → is_none segs ≡ false
+    → IsAbsolute (slashed segs)
 unfolding is_none slashed
-absolute_slashed [] e = absurd (false≢true (sym e))
-absolute_slashed (s ∷ rest) e = search rules
+slashed-segments-are-absolute [] e = absurd (false≢true (sym e))
+slashed-segments-are-absolute (s ∷ rest) e = search rules
 
-pub removed_lacks : (path : List ℕ) → IsAbsolute path
+pub removing-dots-leaves-no-dot-segment : (path : List ℕ) → IsAbsolute path
     → lacks_dot_segments (remove_dot_segments path) ≡ true
-removed_lacks = by_segments (λ path. lacks_dot_segments (remove_dot_segments path) ≡ true)
-    (λ s rest e. ap lacks_dot_segments (remove_slashed (s ∷ rest) e)
-    ∙ ap (list_all is_plain) (segments_slashed (cleaned (s ∷ rest)) (cleaned_lack (s ∷ rest) e))
-    ∙ cleaned_is_plain (s ∷ rest))
+removing-dots-leaves-no-dot-segment = property-of-absolute-path-by-segments
+    (λ path. lacks_dot_segments (remove_dot_segments path) ≡ true)
+    (λ s rest e. ap lacks_dot_segments (remove-dots-by-segments (s ∷ rest) e)
+    ∙ ap (list_all is_dotless)
+    (segments-of-slashed-segments (dotless_of (s ∷ rest))
+    (dotless_of-segments-lack-slashes (s ∷ rest) e))
+    ∙ dotless_of-is-dotless (s ∷ rest))
 
-some_refl : (s : List ℕ) (rest : List (List ℕ)) → is_none (s ∷ rest) ≡ false
+-- general fact on lists of segments: one with a first is not empty
+cons-is-not-none : (s : List ℕ) (rest : List (List ℕ)) → is_none (s ∷ rest) ≡ false
 unfolding is_none
-some_refl s rest = refl
+cons-is-not-none s rest = refl
 
-pub removed_absolute : (path : List ℕ) → IsAbsolute path → IsAbsolute (remove_dot_segments path)
-removed_absolute = by_segments (λ path. IsAbsolute (remove_dot_segments path))
-    (λ s rest e. subst IsAbsolute (sym (remove_slashed (s ∷ rest) e))
-    (absolute_slashed (cleaned (s ∷ rest)) (cleaned_some (s ∷ rest) (some_refl s rest))))
+pub removing-dots-keeps-absolute : (path : List ℕ) → IsAbsolute path
+    → IsAbsolute (remove_dot_segments path)
+removing-dots-keeps-absolute = property-of-absolute-path-by-segments
+    (λ path. IsAbsolute (remove_dot_segments path))
+    (λ s rest e. subst IsAbsolute (sym (remove-dots-by-segments (s ∷ rest) e))
+    (slashed-segments-are-absolute (dotless_of (s ∷ rest))
+    (dotless_of-is-not-empty (s ∷ rest) (cons-is-not-none s rest))))
 
--- twice is once
-pub removed_twice : (path : List ℕ) → IsAbsolute path
+-- removing dot segments twice is removing them once
+pub removing_dots_is_idempotent : (path : List ℕ) → IsAbsolute path
     → remove_dot_segments (remove_dot_segments path) ≡ remove_dot_segments path
-removed_twice path h = removed_of_plain (remove_dot_segments path) (removed_absolute path h)
-    (removed_lacks path h)
+removing_dots_is_idempotent path h = remove-dots-of-dotless (remove_dot_segments path)
+    (removing-dots-keeps-absolute path h)
+    (removing-dots-leaves-no-dot-segment path h)
 
--- the directory of a path that is empty or begins with `/` begins with and ends in `/`
-directory_text : (segs : List (List ℕ)) → is_none segs ≡ false → NoSlashes segs
+-- resolving: the directory of a path is all its segments but the last, and an empty one
+directory-of-slashed-segments-is-parent : (segs : List (List ℕ)) → is_none segs ≡ false
+    → NoSlashes segs
     → directory (slashed segs) ≡ slashed (parent segs ++ [] ∷ [])
 unfolding is_none
-directory_text [] e f = absurd (false≢true (sym e))
-directory_text (s ∷ rest) e f = directory_slashed s rest f
+directory-of-slashed-segments-is-parent [] e f = absurd (false≢true (sym e))
+directory-of-slashed-segments-is-parent (s ∷ rest) e f = directory-by-segments s rest f
 
+-- paths: what holds of the empty path and of each absolute path holds of each path that is either
 pub rooted : (P : List ℕ → Type 0) → P [] → ((path : List ℕ) → IsAbsolute path → P path)
-    → (path : List ℕ) → IsRooted path → P path
+    → (path : List ℕ) → IsAbemptyPath path → P path
 rooted P none each path h = ⊎_elim (λ e. subst P (sym e) none) (each path) h
 
-pub directory_absolute : (path : List ℕ) → IsRooted path → IsAbsolute (directory path)
+pub directory-is-absolute : (path : List ℕ) → IsAbemptyPath path → IsAbsolute (directory path)
 unfolding directory
-directory_absolute = rooted (λ path. IsAbsolute (directory path)) (search rules)
-    (by_segments (λ path. IsAbsolute (directory path))
-    (λ s rest e. subst IsAbsolute (sym (directory_slashed s rest e))
-    (absolute_slashed (parent (s ∷ rest) ++ [] ∷ []) (none_push (parent (s ∷ rest)) []))))
+directory-is-absolute = rooted (λ path. IsAbsolute (directory path)) (search rules)
+    (property-of-absolute-path-by-segments (λ path. IsAbsolute (directory path))
+    (λ s rest e. subst IsAbsolute (sym (directory-by-segments s rest e))
+    (slashed-segments-are-absolute (parent (s ∷ rest) ++ [] ∷ [])
+    (pushed-segments-are-not-none (parent (s ∷ rest)) []))))
 
-pub directory_ends : (path : List ℕ) → IsRooted path → EndsInSlash (directory path)
+pub directory-ends-in-slash : (path : List ℕ) → IsAbemptyPath path → EndsInSlash (directory path)
 unfolding directory
-directory_ends = rooted (λ path. EndsInSlash (directory path)) ([], refl)
-    (by_segments (λ path. EndsInSlash (directory path))
+directory-ends-in-slash = rooted (λ path. EndsInSlash (directory path)) ([], refl)
+    (property-of-absolute-path-by-segments (λ path. EndsInSlash (directory path))
     (λ s rest e. (
       slashed (parent (s ∷ rest)),
-      directory_slashed s rest e
-          ∙ slashed_push (parent (s ∷ rest)) [],
+      directory-by-segments s rest e
+          ∙ slashed-of-push (parent (s ∷ rest)) [],
     )))
 
--- a directory's dot segments may be removed before or after
-pub removed_directory : (path : List ℕ) → IsRooted path
+-- resolving: a directory's dot segments may be removed before the last segment or after
+pub removing-dots-and-directory-swap : (path : List ℕ) → IsAbemptyPath path
     → remove_dot_segments (directory path) ≡ directory (remove_dot_segments path)
 unfolding remove_dot_segments directory run
-removed_directory = rooted (λ path. remove_dot_segments (directory path)
+removing-dots-and-directory-swap = rooted (λ path. remove_dot_segments (directory path)
     ≡ directory (remove_dot_segments path)) refl
-    (by_segments (λ path. remove_dot_segments (directory path)
+    (property-of-absolute-path-by-segments (λ path. remove_dot_segments (directory path)
     ≡ directory (remove_dot_segments path))
     (λ s rest e.
-    ap remove_dot_segments (directory_slashed s rest e)
-    ∙ remove_slashed (parent (s ∷ rest) ++ [] ∷ [])
-    (closed_lacks (parent (s ∷ rest)) (parent_passes lacks_slash (s ∷ rest) e))
-    ∙ ap slashed (cleaned_parent s rest)
-    ∙ sym (ap directory (remove_slashed (s ∷ rest) e)
-    ∙ directory_text (cleaned (s ∷ rest)) (cleaned_some (s ∷ rest) (some_refl s rest))
-    (cleaned_lack (s ∷ rest) e))))
+    ap remove_dot_segments (directory-by-segments s rest e)
+    ∙ remove-dots-by-segments (parent (s ∷ rest) ++ [] ∷ [])
+    (segments-with-empty-last-lack-slashes (parent (s ∷ rest))
+    (parent-segments-pass-test lacks_slash (s ∷ rest) e))
+    ∙ ap slashed (dotless_of-of-directory s rest)
+    ∙ sym (ap directory (remove-dots-by-segments (s ∷ rest) e)
+    ∙ directory-of-slashed-segments-is-parent (dotless_of (s ∷ rest))
+    (dotless_of-is-not-empty (s ∷ rest) (cons-is-not-none s rest))
+    (dotless_of-segments-lack-slashes (s ∷ rest) e))))
 
 -- if a prefix of a path ends in `/`, its dot segments may be removed first
-pub removed_in_pieces : (front q : List ℕ) → IsAbsolute front → EndsInSlash front
-    → remove_dot_segments (front ++ q) ≡ remove_dot_segments (remove_dot_segments front ++ q)
-removed_in_pieces front q = by_closed
-    (λ front. remove_dot_segments (front ++ q)
-    ≡ remove_dot_segments (remove_dot_segments front ++ q))
+pub prefix-dots-may-be-removed-first : (prefix q : List ℕ) → IsAbsolute prefix → EndsInSlash prefix
+    → remove_dot_segments (prefix ++ q) ≡ remove_dot_segments (remove_dot_segments prefix ++ q)
+prefix-dots-may-be-removed-first prefix q = property-of-path-to-slash-by-segments
+    (λ prefix. remove_dot_segments (prefix ++ q)
+    ≡ remove_dot_segments (remove_dot_segments prefix ++ q))
     (λ segs e.
-    ap remove_dot_segments (behind segs q)
-    ∙ remove_slashed (segs ++ segments q) (behind_lacks segs q e)
-    ∙ ap slashed (cleaned_front segs (segments q) (segments_some q))
+    ap remove_dot_segments (path-after-slash-appends-its-segments segs q)
+    ∙ remove-dots-by-segments (segs ++ segments q) (appended-segments-lack-slashes segs q e)
+    ∙ ap slashed (dotless_of-prefix-first segs (segments q) (segments-of-text-are-not-none q))
     ∙ sym (ap (λ t. remove_dot_segments (t ++ q))
-    (remove_slashed (segs ++ [] ∷ []) (closed_lacks segs e) ∙ ap slashed (cleaned_closed segs))
-    ∙ ap remove_dot_segments (behind (steps [] segs) q)
-    ∙ remove_slashed (steps [] segs ++ segments q)
-    (behind_lacks (steps [] segs) q (steps_lack segs e))))
-    front
+    (remove-dots-by-segments (segs ++ [] ∷ []) (segments-with-empty-last-lack-slashes segs e)
+    ∙ ap slashed (dotless_of-with-empty-last segs))
+    ∙ ap remove_dot_segments (path-after-slash-appends-its-segments (steps [] segs) q)
+    ∙ remove-dots-by-segments (steps [] segs ++ segments q)
+    (appended-segments-lack-slashes (steps [] segs) q (segments-after-steps-lack-slashes segs e))))
+    prefix
 
--- a base's may be removed before merging
-pub removed_before_merging : (path q : List ℕ) → IsRooted path
+-- a base's dot segments may be removed before its path is merged (5.2.3)
+pub base-dots-may-be-removed-before-merging : (path q : List ℕ) → IsAbemptyPath path
     → remove_dot_segments (directory path ++ q)
     ≡ remove_dot_segments (directory (remove_dot_segments path) ++ q)
-removed_before_merging path q h =
-    removed_in_pieces (directory path) q (directory_absolute path h) (directory_ends path h)
-    ∙ ap (λ t. remove_dot_segments (t ++ q)) (removed_directory path h)
+base-dots-may-be-removed-before-merging path q h =
+    prefix-dots-may-be-removed-first (directory path) q (directory-is-absolute path h)
+    (directory-ends-in-slash path h)
+    ∙ ap (λ t. remove_dot_segments (t ++ q)) (removing-dots-and-directory-swap path h)
 
--- underflow
-pub underflows_directory : (path : List ℕ) → IsRooted path
+-- resolving: a directory underflows exactly if its path does
+pub directory-underflows-as-path : (path : List ℕ) → IsAbemptyPath path
     → underflows (directory path) ≡ underflows path
 unfolding underflows directory run
-underflows_directory = rooted (λ path. underflows (directory path) ≡ underflows path) refl
-    (by_segments (λ path. underflows (directory path) ≡ underflows path)
+directory-underflows-as-path = rooted (λ path. underflows (directory path) ≡ underflows path) refl
+    (property-of-absolute-path-by-segments (λ path. underflows (directory path) ≡ underflows path)
     (λ s rest e.
-    ap underflows (directory_slashed s rest e)
-    ∙ underflows_slashed (parent (s ∷ rest) ++ [] ∷ [])
-    (closed_lacks (parent (s ∷ rest)) (parent_passes lacks_slash (s ∷ rest) e))
-    ∙ sinks_closed false [] (parent (s ∷ rest)) ∙ sinks_parent false [] (s ∷ rest)
-    ∙ sym (underflows_slashed (s ∷ rest) e)))
+    ap underflows (directory-by-segments s rest e)
+    ∙ underflows-by-segments (parent (s ∷ rest) ++ [] ∷ [])
+    (segments-with-empty-last-lack-slashes (parent (s ∷ rest))
+    (parent-segments-pass-test lacks_slash (s ∷ rest) e))
+    ∙ trailing-slash-changes-no-underflow false [] (parent (s ∷ rest))
+    ∙ parent-underflows-as-segments false [] (s ∷ rest)
+    ∙ sym (underflows-by-segments (s ∷ rest) e)))
 
-pub underflows_in_pieces : (front q : List ℕ) → IsAbsolute front → EndsInSlash front
-    → underflows (front ++ q) ≡ (underflows front || underflows (remove_dot_segments front ++ q))
-underflows_in_pieces front q =
-    by_closed (λ front. underflows (front ++ q)
-    ≡ (underflows front || underflows (remove_dot_segments front ++ q)))
+-- resolving: a directory and a path q after it underflow if the directory does, or if both do after
+-- its dot segments are removed
+pub path-underflows-as-prefix-or-remainder : (prefix q : List ℕ) → IsAbsolute prefix
+    → EndsInSlash prefix
+    → underflows (prefix ++ q) ≡ (underflows prefix || underflows (remove_dot_segments prefix ++ q))
+path-underflows-as-prefix-or-remainder prefix q =
+    property-of-path-to-slash-by-segments (λ prefix. underflows (prefix ++ q)
+    ≡ (underflows prefix || underflows (remove_dot_segments prefix ++ q)))
     (λ segs e.
-    ap underflows (behind segs q) ∙ underflows_slashed (segs ++ segments q) (behind_lacks segs q e)
-    ∙ sinks_front segs (segments q)
+    ap underflows (path-after-slash-appends-its-segments segs q)
+    ∙ underflows-by-segments (segs ++ segments q)
+    (appended-segments-lack-slashes segs q e)
+    ∙ segments-underflow-as-prefix-or-remainder segs (segments q)
     ∙ sym (ap (λ b. b || underflows (remove_dot_segments (slashed (segs ++ [] ∷ [])) ++ q))
-    (underflows_slashed (segs ++ [] ∷ []) (closed_lacks segs e) ∙ sinks_closed false [] segs)
-    ∙ ap (λ b. sinks false [] segs || b) (
-    ap (λ t. underflows (t ++ q)) (remove_slashed (segs ++ [] ∷ []) (closed_lacks segs e)
-    ∙ ap slashed (cleaned_closed segs))
-    ∙ ap underflows (behind (steps [] segs) q)
-    ∙ underflows_slashed (steps [] segs ++ segments q)
-    (behind_lacks (steps [] segs) q (steps_lack segs e)))))
-    front
+    (underflows-by-segments (segs ++ [] ∷ []) (segments-with-empty-last-lack-slashes segs e)
+    ∙ trailing-slash-changes-no-underflow false [] segs)
+    ∙ ap (λ b. underflows_over false [] segs || b) (
+    ap (λ t. underflows (t ++ q))
+    (remove-dots-by-segments (segs ++ [] ∷ []) (segments-with-empty-last-lack-slashes segs e)
+    ∙ ap slashed (dotless_of-with-empty-last segs))
+    ∙ ap underflows (path-after-slash-appends-its-segments (steps [] segs) q)
+    ∙ underflows-by-segments (steps [] segs ++ segments q)
+    (appended-segments-lack-slashes (steps [] segs) q (segments-after-steps-lack-slashes segs e)))))
+    prefix
 
-pub underflows_merged : (path q : List ℕ) → IsRooted path
+-- resolving: base path and reference q, merged, underflow if the base does, or if the merged path
+-- does after the base's dot segments are removed
+pub merged-path-underflows-as-base-or-remainder : (path q : List ℕ) → IsAbemptyPath path
     → underflows (directory path ++ q)
     ≡ (underflows path || underflows (directory (remove_dot_segments path) ++ q))
-underflows_merged path q h =
-    underflows_in_pieces (directory path) q (directory_absolute path h) (directory_ends path h)
+merged-path-underflows-as-base-or-remainder path q h =
+    path-underflows-as-prefix-or-remainder (directory path) q (directory-is-absolute path h)
+    (directory-ends-in-slash path h)
     ∙ ap (λ b. b || underflows (remove_dot_segments (directory path) ++ q))
-    (underflows_directory path h)
-    ∙ ap (λ t. underflows path || underflows (t ++ q)) (removed_directory path h)
+    (directory-underflows-as-path path h)
+    ∙ ap (λ t. underflows path || underflows (t ++ q)) (removing-dots-and-directory-swap path h)
 
--- nothing gets longer
-length_pair : (xs ys : List (List ℕ))
+-- lengths of paths: two lists of segments, each segment after a `/`, are as long as both texts
+length-of-slashed-append-is-sum : (xs ys : List (List ℕ))
     → length (slashed (xs ++ ys)) ≡ length (slashed xs) + length (slashed ys)
-length_pair xs ys = ap length (slashed_append xs ys) ∙ length-append (slashed xs) (slashed ys)
+length-of-slashed-append-is-sum xs ys = ap length (slashed-of-append xs ys)
+    ∙ length-append (slashed xs) (slashed ys)
 
-length_pop : (xs : List (List ℕ)) → length (slashed (pop xs)) ≤ length (slashed xs)
+-- removing dot segments: taking the last segment away makes the text no longer
+popped-segments-are-no-longer : (xs : List (List ℕ)) → length (slashed (pop xs)) ≤ length
+    (slashed xs)
 unfolding pop slashed
-length_pop [] = omega arith
-length_pop (s ∷ []) = omega arith
-length_pop (s ∷ t ∷ rest) = omega (
+popped-segments-are-no-longer [] = omega arith
+popped-segments-are-no-longer (s ∷ []) = omega arith
+popped-segments-are-no-longer (s ∷ t ∷ rest) = omega (
   arith,
-  length_pop (t ∷ rest),
+  popped-segments-are-no-longer (t ∷ rest),
   length-append s (slashed (pop (t ∷ rest))),
   length-append s
       (slashed (t ∷ rest)),
 )
 
--- a dot segment has room for the `/` that it leaves
-dot_some : (s : List ℕ) → is_dot_segment s ≡ true → 0 < length s
-dot_some [] e = absurd (false≢true e)
-dot_some (c ∷ s) e = omega arith
+-- dot segments: one is not empty, so there is room for the `/` that it leaves
+dot-segment-is-not-empty : (s : List ℕ) → is_dot_segment s ≡ true → 0 < length s
+dot-segment-is-not-empty [] e = absurd (false≢true e)
+dot-segment-is-not-empty (c ∷ s) e = omega arith
 
-length_segment : (s : List ℕ) → length (slashed (s ∷ [])) ≡ length s + 1
+-- lengths of paths: a segment with its `/` has one byte more
+slashed-segment-is-one-longer : (s : List ℕ) → length (slashed (s ∷ [])) ≡ length s + 1
 unfolding slashed
-length_segment s = omega (arith, length-append s [])
+slashed-segment-is-one-longer s = omega (arith, length-append s [])
 
-length_turn : (single double : Bool) (output : List (List ℕ)) (s : List ℕ)
+-- removing dot segments: one more segment makes the output no longer than it was with the segment;
+-- single, double: whether it is `.`, or `..`
+next_output-is-no-longer : (single double : Bool) (output : List (List ℕ)) (s : List ℕ)
     → ((single || double) ≡ true → 0 < length s) →
-    length (slashed (turn single double output s ++ end_of (single || double)))
+    length (slashed (next_output single double output s ++ end_of (single || double)))
     ≤ length (slashed output) + length (slashed (s ∷ []))
-unfolding turn
-length_turn true double output s h =
-    omega (arith, h refl, length_pair output ([] ∷ []), length_segment [], length_segment s)
-length_turn false true output s h =
+unfolding next_output
+next_output-is-no-longer true double output s h =
     omega (
       arith,
       h refl,
-      length_pop output,
-      length_pair (pop output) ([] ∷ []),
-      length_segment [],
-      length_segment s,
+      length-of-slashed-append-is-sum output
+          ([] ∷ []),
+      slashed-segment-is-one-longer [],
+      slashed-segment-is-one-longer s,
     )
-length_turn false false output s h =
+next_output-is-no-longer false true output s h =
+    omega (
+      arith,
+      h refl,
+      popped-segments-are-no-longer output,
+      length-of-slashed-append-is-sum (pop output) ([] ∷ []),
+      slashed-segment-is-one-longer [],
+      slashed-segment-is-one-longer s,
+    )
+next_output-is-no-longer false false output s h =
     omega (
       arith,
       ap (λ t. length (slashed t)) (append-nil (output ++ s ∷ [])),
-      length_pair output
+      length-of-slashed-append-is-sum output
           (s ∷ []),
     )
 
-length_more : (xs : List (List ℕ)) (dot : Bool)
+-- removing dot segments: the empty segment that a dot segment
+-- at the end leaves makes the text no shorter
+segments-with-end_of-are-no-shorter : (xs : List (List ℕ)) (dot : Bool)
     → length (slashed xs) ≤ length (slashed (xs ++ end_of dot))
-length_more xs dot = omega (arith, length_pair xs (end_of dot))
+segments-with-end_of-are-no-shorter xs dot = omega
+    (arith, length-of-slashed-append-is-sum xs (end_of dot))
 
-length_steps : (output segs : List (List ℕ))
+segments-after-steps-are-no-longer : (output segs : List (List ℕ))
     → length (slashed (steps output segs ++ closing segs))
     ≤ length (slashed output) + length (slashed segs)
 unfolding steps closing step_of
-length_steps output [] = omega (arith, ap (λ t. length (slashed t)) (append-nil output))
-length_steps output (s ∷ []) = length_turn (is_single_dot s) (is_double_dot s) output s (dot_some s)
-length_steps output (s ∷ t ∷ rest) = omega (
+segments-after-steps-are-no-longer output [] = omega
+    (arith, ap (λ t. length (slashed t)) (append-nil output))
+segments-after-steps-are-no-longer output (s ∷ []) = next_output-is-no-longer (is_single_dot s)
+    (is_double_dot s) output s (dot-segment-is-not-empty s)
+segments-after-steps-are-no-longer output (s ∷ t ∷ rest) = omega (
   arith,
-  length_steps (step_of output s) (t ∷ rest),
-  length_turn (is_single_dot s) (is_double_dot s) output s (dot_some s),
-  length_more (step_of output s) (is_dot_segment s),
-  length_pair (s ∷ []) (t ∷ rest),
+  segments-after-steps-are-no-longer (step_of output s) (t ∷ rest),
+  next_output-is-no-longer (is_single_dot s) (is_double_dot s) output s
+      (dot-segment-is-not-empty s),
+  segments-with-end_of-are-no-shorter (step_of output s) (is_dot_segment s),
+  length-of-slashed-append-is-sum (s ∷ []) (t ∷ rest),
 )
 
-pub length_removed : (path : List ℕ) → IsAbsolute path
+pub removing-dots-lengthens-no-path : (path : List ℕ) → IsAbsolute path
     → length (remove_dot_segments path) ≤ length path
-unfolding cleaned slashed
-length_removed = by_segments (λ path. length (remove_dot_segments path) ≤ length path)
-    (λ s rest e. omega (arith, ap length (remove_slashed (s ∷ rest) e), length_steps [] (s ∷ rest)))
+unfolding dotless_of slashed
+removing-dots-lengthens-no-path = property-of-absolute-path-by-segments
+    (λ path. length (remove_dot_segments path) ≤ length path)
+    (λ s rest e. omega (
+      arith,
+      ap length (remove-dots-by-segments (s ∷ rest) e),
+      segments-after-steps-are-no-longer []
+          (s ∷ rest),
+    ))

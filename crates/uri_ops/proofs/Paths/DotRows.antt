@@ -3,33 +3,35 @@ use Rattle.std.proofs.Common.{◌≡◌, ℕ, true, false, List, [], ◌∷◌, 
 use Rattle.std.specs.Prelude.{codes}
 use Rattle.uri_ops.specs.Dots.{remove_dot_segments, underflows, directory, lacks_dot_segments, run}
 
--- the path of a target, where it underflows and where it does not
-Removes : List ℕ → List ℕ → Type 0
-Removes path output = (remove_dot_segments path ≡ output) × (underflows path ≡ false)
+-- examples of dot segments: a path is the other without its dot segments, and doesn't underflow
+LosesDotsTo : List ℕ → List ℕ → Type 0
+LosesDotsTo path output = (remove_dot_segments path ≡ output) × (underflows path ≡ false)
 
-Underflows : List ℕ → List ℕ → Type 0
-Underflows path output = (remove_dot_segments path ≡ output) × (underflows path ≡ true)
+-- examples of dot segments: a path underflows, and is the other without its dot segments
+UnderflowsTo : List ℕ → List ℕ → Type 0
+UnderflowsTo path output = (remove_dot_segments path ≡ output) × (underflows path ≡ true)
 
--- section 5.2.4
-example : Removes (codes "/a/b/c/./../../g") (codes "/a/g")
-unfolding Removes remove_dot_segments underflows run
-example = (refl, refl)
+-- example of removing dot segments, by computation: RFC 3986, section 5.2.4
+rfc-example-loses-dot-segments : LosesDotsTo (codes "/a/b/c/./../../g") (codes "/a/g")
+unfolding LosesDotsTo remove_dot_segments underflows run
+rfc-example-loses-dot-segments = (refl, refl)
 
--- section 5.4, for the base's directory `/b/c/`
-normal : Removes (codes "/b/c/g") (codes "/b/c/g")
-    × Removes (codes "/b/c/./g") (codes "/b/c/g")
-    × Removes (codes "/b/c/g/") (codes "/b/c/g/")
-    × Removes (codes "/b/c/;x") (codes "/b/c/;x")
-    × Removes (codes "/b/c/.") (codes "/b/c/")
-    × Removes (codes "/b/c/./") (codes "/b/c/")
-    × Removes (codes "/b/c/..") (codes "/b/")
-    × Removes (codes "/b/c/../") (codes "/b/")
-    × Removes (codes "/b/c/../g") (codes "/b/g")
-    × Removes (codes "/b/c/../..") (codes "/")
-    × Removes (codes "/b/c/../../") (codes "/")
-    × Removes (codes "/b/c/../../g") (codes "/g")
-unfolding Removes remove_dot_segments underflows run
-normal = (
+-- examples of removing dot segments, by computation: RFC 3986, section 5.4,
+-- for the base's directory `/b/c/`
+rfc-normal-examples-lose-dot-segments : LosesDotsTo (codes "/b/c/g") (codes "/b/c/g")
+    × LosesDotsTo (codes "/b/c/./g") (codes "/b/c/g")
+    × LosesDotsTo (codes "/b/c/g/") (codes "/b/c/g/")
+    × LosesDotsTo (codes "/b/c/;x") (codes "/b/c/;x")
+    × LosesDotsTo (codes "/b/c/.") (codes "/b/c/")
+    × LosesDotsTo (codes "/b/c/./") (codes "/b/c/")
+    × LosesDotsTo (codes "/b/c/..") (codes "/b/")
+    × LosesDotsTo (codes "/b/c/../") (codes "/b/")
+    × LosesDotsTo (codes "/b/c/../g") (codes "/b/g")
+    × LosesDotsTo (codes "/b/c/../..") (codes "/")
+    × LosesDotsTo (codes "/b/c/../../") (codes "/")
+    × LosesDotsTo (codes "/b/c/../../g") (codes "/g")
+unfolding LosesDotsTo remove_dot_segments underflows run
+rfc-normal-examples-lose-dot-segments = (
   (refl, refl),
   (refl, refl),
   (refl, refl),
@@ -44,22 +46,23 @@ normal = (
   (refl, refl),
 )
 
-abnormal : Underflows (codes "/b/c/../../../g") (codes "/g")
-    × Underflows (codes "/b/c/../../../../g") (codes "/g")
-    × Removes (codes "/./g") (codes "/g")
-    × Underflows (codes "/../g") (codes "/g")
-    × Removes (codes "/b/c/g.") (codes "/b/c/g.")
-    × Removes (codes "/b/c/.g") (codes "/b/c/.g")
-    × Removes (codes "/b/c/g..") (codes "/b/c/g..")
-    × Removes (codes "/b/c/..g") (codes "/b/c/..g")
-    × Removes (codes "/b/c/./../g") (codes "/b/g")
-    × Removes (codes "/b/c/./g/.") (codes "/b/c/g/")
-    × Removes (codes "/b/c/g/./h") (codes "/b/c/g/h")
-    × Removes (codes "/b/c/g/../h") (codes "/b/c/h")
-    × Removes (codes "/b/c/g;x=1/./y") (codes "/b/c/g;x=1/y")
-    × Removes (codes "/b/c/g;x=1/../y") (codes "/b/c/y")
-unfolding Removes Underflows remove_dot_segments underflows run
-abnormal = (
+-- examples of dot segments: those of RFC 3986, section 5.4, by computation
+rfc-abnormal-examples-lose-dot-segments : UnderflowsTo (codes "/b/c/../../../g") (codes "/g")
+    × UnderflowsTo (codes "/b/c/../../../../g") (codes "/g")
+    × LosesDotsTo (codes "/./g") (codes "/g")
+    × UnderflowsTo (codes "/../g") (codes "/g")
+    × LosesDotsTo (codes "/b/c/g.") (codes "/b/c/g.")
+    × LosesDotsTo (codes "/b/c/.g") (codes "/b/c/.g")
+    × LosesDotsTo (codes "/b/c/g..") (codes "/b/c/g..")
+    × LosesDotsTo (codes "/b/c/..g") (codes "/b/c/..g")
+    × LosesDotsTo (codes "/b/c/./../g") (codes "/b/g")
+    × LosesDotsTo (codes "/b/c/./g/.") (codes "/b/c/g/")
+    × LosesDotsTo (codes "/b/c/g/./h") (codes "/b/c/g/h")
+    × LosesDotsTo (codes "/b/c/g/../h") (codes "/b/c/h")
+    × LosesDotsTo (codes "/b/c/g;x=1/./y") (codes "/b/c/g;x=1/y")
+    × LosesDotsTo (codes "/b/c/g;x=1/../y") (codes "/b/c/y")
+unfolding LosesDotsTo UnderflowsTo remove_dot_segments underflows run
+rfc-abnormal-examples-lose-dot-segments = (
   (refl, refl),
   (refl, refl),
   (refl, refl),
@@ -76,31 +79,32 @@ abnormal = (
   (refl, refl),
 )
 
--- encoded dots, in either case and mixed
-encoded_dots : Removes (codes "/a/b/%2E%2e/c") (codes "/a/c")
-    × Removes (codes "/a/b/c/%2E/%2E./%2e%2E/d") (codes "/a/d")
-    × Removes (codes "/a/.%2e") (codes "/")
-    × Removes (codes "/a/%2e") (codes "/a/")
-    × Underflows (codes "/%2e.") (codes "/")
-    × Removes (codes "/a/%2F../%2e%2e%2e/..%2e") (codes "/a/%2F../%2e%2e%2e/..%2e")
-unfolding Removes Underflows remove_dot_segments underflows run
-encoded_dots = ((refl, refl), (refl, refl), (refl, refl), (refl, refl), (refl, refl), (refl, refl))
+-- examples of removing dot segments, by computation: encoded dots, in either case and mixed
+encoded-dot-segments-are-removed : LosesDotsTo (codes "/a/b/%2E%2e/c") (codes "/a/c")
+    × LosesDotsTo (codes "/a/b/c/%2E/%2E./%2e%2E/d") (codes "/a/d")
+    × LosesDotsTo (codes "/a/.%2e") (codes "/")
+    × LosesDotsTo (codes "/a/%2e") (codes "/a/")
+    × UnderflowsTo (codes "/%2e.") (codes "/")
+    × LosesDotsTo (codes "/a/%2F../%2e%2e%2e/..%2e") (codes "/a/%2F../%2e%2e%2e/..%2e")
+unfolding LosesDotsTo UnderflowsTo remove_dot_segments underflows run
+encoded-dot-segments-are-removed =
+    ((refl, refl), (refl, refl), (refl, refl), (refl, refl), (refl, refl), (refl, refl))
 
--- dot segments at the end, and empty segments
-ends : Removes (codes "/a/b/..") (codes "/a/")
-    × Removes (codes "/.") (codes "/")
-    × Removes (codes "/./") (codes "/")
-    × Underflows (codes "/..") (codes "/")
-    × Underflows (codes "/../a") (codes "/a")
-    × Removes (codes "//..") (codes "/")
-    × Underflows (codes "//../..") (codes "/")
-    × Removes (codes "//../a") (codes "/a")
-    × Removes (codes "/a//../b") (codes "/a/b")
-    × Removes (codes "/.//a") (codes "//a")
-    × Removes (codes "/") (codes "/")
-    × Removes [] []
-unfolding Removes Underflows remove_dot_segments underflows run
-ends = (
+-- examples of removing dot segments, by computation: dot segments at the end, and empty segments
+trailing-dots-leave-slash : LosesDotsTo (codes "/a/b/..") (codes "/a/")
+    × LosesDotsTo (codes "/.") (codes "/")
+    × LosesDotsTo (codes "/./") (codes "/")
+    × UnderflowsTo (codes "/..") (codes "/")
+    × UnderflowsTo (codes "/../a") (codes "/a")
+    × LosesDotsTo (codes "//..") (codes "/")
+    × UnderflowsTo (codes "//../..") (codes "/")
+    × LosesDotsTo (codes "//../a") (codes "/a")
+    × LosesDotsTo (codes "/a//../b") (codes "/a/b")
+    × LosesDotsTo (codes "/.//a") (codes "//a")
+    × LosesDotsTo (codes "/") (codes "/")
+    × LosesDotsTo [] []
+unfolding LosesDotsTo UnderflowsTo remove_dot_segments underflows run
+trailing-dots-leave-slash = (
   (refl, refl),
   (refl, refl),
   (refl, refl),
@@ -115,23 +119,26 @@ ends = (
   (refl, refl),
 )
 
-directories : (directory [] ≡ codes "/") × (directory (codes "/") ≡ codes "/")
+-- examples of directories of paths, by computation (RFC 3986, section 5.2.3)
+directories-of-example-paths : (directory [] ≡ codes "/") × (directory (codes "/") ≡ codes "/")
     × (directory (codes "/b/c/d;p") ≡ codes "/b/c/")
     × (directory (codes "/bar/..") ≡ codes "/bar/../")
     × (directory (codes "/bar/%2E.") ≡ codes "/bar/%2E./")
     × (directory (codes "/bar/.") ≡ codes "/bar/")
     × (directory (codes "/bar/../") ≡ codes "/bar/../") × (directory (codes "//") ≡ codes "//")
 unfolding directory
-directories = (refl, refl, refl, refl, refl, refl, refl, refl)
+directories-of-example-paths = (refl, refl, refl, refl, refl, refl, refl, refl)
 
-dot_segments : (lacks_dot_segments (codes "/a/...//b.%2e") ≡ true)
+-- examples of paths with and without dot segments, by computation
+lacks_dot_segments-of-example-paths : (lacks_dot_segments (codes "/a/...//b.%2e") ≡ true)
     × (lacks_dot_segments (codes "/a/./b") ≡ false)
     × (lacks_dot_segments (codes "/a/b/%2e.") ≡ false) × (lacks_dot_segments (codes "/..") ≡ false)
-dot_segments = (refl, refl, refl, refl)
+lacks_dot_segments-of-example-paths = (refl, refl, refl, refl)
 
 -- a full-width dot (U+FF0E) is no dot, as itself or as octets
-full_width : Removes (codes "/a/" ++ (0xEF ∷ 0xBC ∷ 0x8E ∷ 0xEF ∷ 0xBC ∷ 0x8E ∷ []))
+full-width-dot-is-no-dot-segment : LosesDotsTo
     (codes "/a/" ++ (0xEF ∷ 0xBC ∷ 0x8E ∷ 0xEF ∷ 0xBC ∷ 0x8E ∷ []))
-    × Removes (codes "/a/%EF%BC%8E") (codes "/a/%EF%BC%8E")
-unfolding Removes remove_dot_segments underflows run
-full_width = ((refl, refl), (refl, refl))
+    (codes "/a/" ++ (0xEF ∷ 0xBC ∷ 0x8E ∷ 0xEF ∷ 0xBC ∷ 0x8E ∷ []))
+    × LosesDotsTo (codes "/a/%EF%BC%8E") (codes "/a/%EF%BC%8E")
+unfolding LosesDotsTo remove_dot_segments underflows run
+full-width-dot-is-no-dot-segment = ((refl, refl), (refl, refl))

@@ -8,59 +8,75 @@ use Rattle.std.proofs.lemmas.List.{length-drop, length-take, nil_from_length}
 use Rattle.uri_pct.specs.Sets.{is_one_of}
 use Rattle.uri_parts.specs.Components.{before_any, from_any}
 use Rattle.uri_ops.specs.Dots.{Buffers, is_empty, is_single_dot, is_double_dot, or_slash, step, run}
-use Rattle.uri_ops.specs.Dots.{run_whole}
+use Rattle.uri_ops.specs.Dots.{buffers_after_removal}
 
--- a dot segment is not empty
-some_single : (segment : List ℕ) → is_single_dot segment ≡ true → 0 < length segment
-some_single [] e = absurd (false≢true e)
-some_single (c ∷ rest) e = omega arith
+-- dot segments: `.` has bytes
+single-dot-is-not-empty : (segment : List ℕ) → is_single_dot segment ≡ true → 0 < length segment
+single-dot-is-not-empty [] e = absurd (false≢true e)
+single-dot-is-not-empty (c ∷ rest) e = omega arith
 
-some_double : (segment : List ℕ) → is_double_dot segment ≡ true → 0 < length segment
-some_double [] e = absurd (false≢true e)
-some_double (c ∷ rest) e = omega arith
+-- dot segments: `..` has bytes
+double-dot-is-not-empty : (segment : List ℕ) → is_double_dot segment ≡ true → 0 < length segment
+double-dot-is-not-empty [] e = absurd (false≢true e)
+double-dot-is-not-empty (c ∷ rest) e = omega arith
 
-or_slash_shorter : (rest : List ℕ) (n : ℕ) → length rest < n → 1 < n → length (or_slash rest) < n
-or_slash_shorter [] n h one = one
-or_slash_shorter (c ∷ rest) n h one = h
+-- removing dot segments: a rest or `/` is shorter than n, if the rest is, and n is above 1
+or_slash-of-shorter-is-shorter : (rest : List ℕ) (n : ℕ) → length rest < n → 1 < n
+    → length (or_slash rest) < n
+or_slash-of-shorter-is-shorter [] n h one = one
+or_slash-of-shorter-is-shorter (c ∷ rest) n h one = h
 
-pub some_length : (text : List ℕ) → is_empty text ≡ false → 0 < length text
-some_length [] e = absurd (false≢true (ap not e))
-some_length (c ∷ rest) e = omega arith
+-- general fact on texts, for removing dot segments: one that is not empty has a length above 0
+pub not-empty-has-length : (text : List ℕ) → is_empty text ≡ false → 0 < length text
+not-empty-has-length [] e = absurd (false≢true (ap not e))
+not-empty-has-length (c ∷ rest) e = omega arith
 
-pub none_length : (text : List ℕ) → is_empty text ≡ true → text ≡ []
-none_length [] e = refl
-none_length (c ∷ rest) e = absurd (false≢true e)
+-- general fact on texts, for removing dot segments: one that is empty is the empty list
+pub empty-text-is-nil : (text : List ℕ) → is_empty text ≡ true → text ≡ []
+empty-text-is-nil [] e = refl
+empty-text-is-nil (c ∷ rest) e = absurd (false≢true e)
 
-cut_shorter : (n : ℕ) (input : List ℕ) → 0 < length input
+-- removing dot segments: without its first byte, a text is shorter, also if n more are taken away
+drop-after-first-byte-is-shorter : (n : ℕ) (input : List ℕ) → 0 < length input
     → length (drop n (drop 1 input)) < length input
-cut_shorter n input some = omega (arith, length-drop n (drop 1 input), length-drop 1 input)
+drop-after-first-byte-is-shorter n input some = omega
+    (arith, length-drop n (drop 1 input), length-drop 1 input)
 
-cut_long : (n : ℕ) (input : List ℕ) → 0 < length (take n (drop 1 input)) → 1 < length input
-cut_long n input some = omega (arith, length-take n (drop 1 input), length-drop 1 input)
+-- removing dot segments: a segment with bytes after the first `/` makes the input longer than 1
+segment-with-bytes-has-longer-input : (n : ℕ) (input : List ℕ) → 0 < length (take n (drop 1 input))
+    → 1 < length input
+segment-with-bytes-has-longer-input n input some = omega
+    (arith, length-take n (drop 1 input), length-drop 1 input)
 
--- what is left after a step
-shorter : (b : Buffers) → is_empty b.input ≡ false → length (step b).input < length b.input
-shorter b e =
-    let some = some_length b.input e in
+-- each step of the loop of section 5.2.4 makes its input shorter
+step-shortens-input : (b : Buffers) → is_empty b.input ≡ false
+    → length (step b).input < length b.input
+step-shortens-input b e =
+    let some = not-empty-has-length b.input e in
     let segment = before_any (codes "/") (drop 1 b.input) in
     let rest = from_any (codes "/") (drop 1 b.input) in
     let n = prefix_len (λ c. not (is_one_of (codes "/") c)) (drop 1 b.input) in
-    let left : length rest < length b.input = cut_shorter n b.input some in
+    let left : length rest < length b.input = drop-after-first-byte-is-shorter n b.input some in
     cond_both (is_single_dot segment) _ _ (λ (x : Buffers). length x.input < length b.input)
-    (λ h. or_slash_shorter rest (length b.input) left (cut_long n b.input (some_single segment h)))
+    (λ h. or_slash-of-shorter-is-shorter rest (length b.input) left
+    (segment-with-bytes-has-longer-input n b.input (single-dot-is-not-empty segment h)))
     (λ _. cond_both (is_double_dot segment) _ _ (λ (x : Buffers). length x.input < length b.input)
-    (λ h. or_slash_shorter rest (length b.input) left (cut_long n b.input (some_double segment h)))
+    (λ h. or_slash-of-shorter-is-shorter rest (length b.input) left
+    (segment-with-bytes-has-longer-input n b.input (double-dot-is-not-empty segment h)))
     (λ _. left))
 
-ends : (n : ℕ) (b : Buffers) → length b.input ≤ n → (run n b).input ≡ []
+-- removing dot segments: as many steps as the input has bytes empty it; b: input and output
+enough-steps-empty-input : (n : ℕ) (b : Buffers) → length b.input ≤ n → (run n b).input ≡ []
 unfolding run
-ends zero b h = nil_from_length b.input (omega arith)
-ends (suc n) b h = ⊎_elim
-    (λ e. ap (λ (x : Buffers). x.input) (cond-true _ _ _ e) ∙ none_length b.input e)
+enough-steps-empty-input zero b h = nil_from_length b.input (omega arith)
+enough-steps-empty-input (suc n) b h = ⊎_elim
+    (λ e. ap (λ (x : Buffers). x.input) (cond-true _ _ _ e) ∙ empty-text-is-nil b.input e)
     (λ e. ap (λ (x : Buffers). x.input) (cond-false _ _ _ e)
-    ∙ (let less = shorter b e in ends n (step b) (omega arith)))
+    ∙ (let less = step-shortens-input b e in enough-steps-empty-input n (step b) (omega arith)))
     (cases_Bool (is_empty b.input))
 
-pub run_whole-ends : (path : List ℕ) → (run_whole path).input ≡ []
-run_whole-ends path = ends (length path + 1)
+-- removing dot segments: at the end of the loop of RFC 3986, section 5.2.4,
+-- nothing is left in the input buffer
+pub removal-loop-empties-its-input : (path : List ℕ) → (buffers_after_removal path).input ≡ []
+removal-loop-empties-its-input path = enough-steps-empty-input (length path + 1)
     (record { input = path; output = []; underflowed = false }) (omega arith)

@@ -9,26 +9,29 @@ use Rattle.std.proofs.lemmas.Bool.{false≢true}
 use Rattle.std.proofs.lemmas.List.{drop_at, take_at}
 use Rattle.uri_ops.specs.Target.{guarded}
 
--- a path begins where a text ended that it was appended to
-pub path_begins : (old path new : List ℕ) (start : ℕ) → start ≡ length old → new ≡ old ++ path
+-- guarded paths: a path that is appended to a text begins where a character does
+pub pushed-path-begins-at-boundary : (old path new : List ℕ) (start : ℕ) → start ≡ length old → new
+    ≡ old ++ path
     → IsUtf8 old → IsUtf8 new → IsCharBoundary new start
-path_begins old path new start at is before after =
+pushed-path-begins-at-boundary old path new start at is before after =
     IsCharBoundary-from_take new start after
     (omega (arith, at, ap length is, length-append old path))
     (subst IsUtf8 (sym (ap (take start) is ∙ take_at old path start (sym at))) before)
 
--- after an authority no path is guarded
-pub guarded_behind : (authority : Option (List ℕ)) (path : List ℕ) → is_some authority ≡ true
+-- guarded paths: a path after an authority gets no guard `/.`
+pub path-after-authority-needs-no-guard : (authority : Option (List ℕ)) (path : List ℕ)
+    → is_some authority ≡ true
     → path ≡ guarded authority path
-guarded_behind None path e = absurd (false≢true e)
-guarded_behind (Some a) path e = refl
+path-after-authority-needs-no-guard None path e = absurd (false≢true e)
+path-after-authority-needs-no-guard (Some a) path e = refl
 
--- without an authority, the path after an old text is guarded in its place
-pub guarded_after : (authority : Option (List ℕ)) (old mid new path : List ℕ) (start : ℕ)
+-- guarded paths: inserting the guard before a path that was appended appends the guarded path
+pub guard-inserted-before-path : (authority : Option (List ℕ)) (old mid new path : List ℕ)
+    (start : ℕ)
     → is_some authority ≡ false → start ≡ length old → mid ≡ old ++ path
     → new ≡ take start mid ++ guarded None (drop start mid) → new ≡ old ++ guarded authority path
-guarded_after (Some a) old mid new path start e at is put = absurd (false≢true (sym e))
-guarded_after None old mid new path start e at is put =
+guard-inserted-before-path (Some a) old mid new path start e at is put = absurd (false≢true (sym e))
+guard-inserted-before-path None old mid new path start e at is put =
     put ∙ ap (λ t. take start t ++ guarded None (drop start t)) is
     ∙ ap (λ t. t ++ guarded None (drop start (old ++ path))) (take_at old path start (sym at))
     ∙ ap (λ t. old ++ guarded None t) (drop_at old path start (sym at))

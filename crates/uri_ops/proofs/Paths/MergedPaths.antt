@@ -5,121 +5,160 @@ use Rattle.std.proofs.Common.{inr, append_assoc, rules}
 use Rattle.std.specs.Prelude.{codes, Option, is_none}
 use Rattle.std.proofs.lemmas.Bool.{cond_both, cond-true}
 use Rattle.uri_pct.specs.Sets.{TableSet}
-use Rattle.uri_pct.specs.Reading.{read}
-use Rattle.uri_parts.specs.Components.{has_authority, IsRooted}
+use Rattle.uri_pct.specs.DecodeUnreserved.{decode_unreserved}
+use Rattle.uri_parts.specs.Components.{has_authority, IsAbemptyPath}
 use Rattle.uri_ops.specs.Dots.{remove_dot_segments, directory, IsAbsolute, EndsInSlash}
-use Rattle.uri_ops.specs.Target.{cleaned_path, guarded}
+use Rattle.uri_ops.specs.Target.{dotless_if_absolute, guarded}
 use Rattle.uri_ops.specs.ComponentSets.{IsComponentSet}
-use Rattle.uri_ops.proofs.Paths.DotLaws.{directory_absolute, directory_ends, removed_before_merging}
-use Rattle.uri_ops.proofs.Targeting.Targets.{absolute_append, cleaned_rooted}
-use Rattle.uri_ops.proofs.Meanings.AllowedParts.{is_part, part_utf8, reprinted, reprinted-nil}
-use Rattle.uri_ops.proofs.Meanings.AllowedParts.{reprinted-cut, read-reprinted}
-use Rattle.uri_ops.proofs.Paths.ReadPaths.{part_cut, part_join, part_removed, part_directory}
-use Rattle.uri_ops.proofs.Paths.ReadPaths.{directory_reprinted, removed_reprinted}
-use Rattle.uri_ops.proofs.Paths.PathMeanings.{cleaned_guarded, part_cleaned}
-use Rattle.uri_ops.proofs.Normal.NormalComponents.{rooted_reprinted}
-use Rattle.uri_pct.proofs.Tests.{true_of}
+use Rattle.uri_ops.proofs.Paths.DotLaws.{directory-is-absolute, directory-ends-in-slash}
+use Rattle.uri_ops.proofs.Paths.DotLaws.{base-dots-may-be-removed-before-merging}
+use Rattle.uri_ops.proofs.Targeting.Targets.{appended-absolute-path-is-absolute}
+use Rattle.uri_ops.proofs.Targeting.Targets.{dotless-abempty-path-is-abempty}
+use Rattle.uri_ops.proofs.Meanings.AllowedParts.{is_set_text, set-text-is-utf8, print_decoded}
+use Rattle.uri_ops.proofs.Meanings.AllowedParts.{print_decoded-of-nil-is-nil}
+use Rattle.uri_ops.proofs.Meanings.AllowedParts.{decoding-splits-at-slash}
+use Rattle.uri_ops.proofs.Meanings.AllowedParts.{decode_unreserved-is-idempotent}
+use Rattle.uri_ops.proofs.Paths.DecodedPaths.{set-text-splits, set-texts-join-at-slash}
+use Rattle.uri_ops.proofs.Paths.DecodedPaths.{dotless-set-text-is-set-text}
+use Rattle.uri_ops.proofs.Paths.DecodedPaths.{directory-of-set-text-is-set-text}
+use Rattle.uri_ops.proofs.Paths.DecodedPaths.{directory-and-decoding-swap}
+use Rattle.uri_ops.proofs.Paths.DecodedPaths.{removing-dots-and-decoding-swap}
+use Rattle.uri_ops.proofs.Paths.PathMeanings.{guard-is-removed-as-dot-segment}
+use Rattle.uri_ops.proofs.Paths.PathMeanings.{path-without-dots-is-set-text}
+use Rattle.uri_ops.proofs.Normal.NormalComponents.{decoded-abempty-path-is-abempty}
+use Rattle.uri_pct.proofs.Tests.{eq_true_from_IsTrue}
 
-pub merged_absolute : (path y : List ℕ) → IsRooted path → IsAbsolute (directory path ++ y)
-merged_absolute path y h = absolute_append (directory path) y (directory_absolute path h)
+-- resolving: the directory of a path with any text after it begins with `/`
+pub merged-path-is-absolute : (path y : List ℕ) → IsAbemptyPath path
+    → IsAbsolute (directory path ++ y)
+merged-path-is-absolute path y h = appended-absolute-path-is-absolute (directory path) y
+    (directory-is-absolute path h)
 
--- the base's path may be cleaned first
-removed_cleaned : (path y : List ℕ) → IsRooted path
+-- resolving: dot segments of the base's path may be removed before it is merged with y
+base-dots-do-not-change-merged-path : (path y : List ℕ) → IsAbemptyPath path
     → remove_dot_segments (directory path ++ y)
-    ≡ remove_dot_segments (directory (cleaned_path path) ++ y)
-removed_cleaned path y h = ⊎_elim
-    (λ e. ap (λ t. remove_dot_segments (directory t ++ y)) (e ∙ sym (ap cleaned_path e)))
-    (λ e. removed_before_merging path y h
-    ∙ ap (λ t. remove_dot_segments (directory t ++ y)) (sym (cond-true _ _ _ (true_of _ e))))
+    ≡ remove_dot_segments (directory (dotless_if_absolute path) ++ y)
+base-dots-do-not-change-merged-path path y h = ⊎_elim
+    (λ e. ap (λ t. remove_dot_segments (directory t ++ y)) (e ∙ sym (ap dotless_if_absolute e)))
+    (λ e. base-dots-may-be-removed-before-merging path y h
+    ∙ ap (λ t. remove_dot_segments (directory t ++ y))
+    (sym (cond-true _ _ _ (eq_true_from_IsTrue _ e))))
     h
 
-guarded_rooted : (authority : Option (List ℕ)) (path : List ℕ) → IsRooted path
-    → IsRooted (guarded authority path)
-guarded_rooted authority path h =
-    cond_both (is_none authority && has_authority path) (codes "/." ++ path) path IsRooted
+-- paths: with the guard `/.` before it, a path is empty or begins with `/`, as it was
+guarded-abempty-path-is-abempty : (authority : Option (List ℕ)) (path : List ℕ) → IsAbemptyPath path
+    → IsAbemptyPath (guarded authority path)
+guarded-abempty-path-is-abempty authority path h =
+    cond_both (is_none authority && has_authority path) (codes "/." ++ path) path IsAbemptyPath
     (λ e. inr (search rules)) (λ e. h)
 
--- and a guard before it makes no difference
-removed_guarded : (authority : Option (List ℕ)) (path y : List ℕ) → IsRooted path
+-- resolving: a guard before the base's path makes no difference to the path merged with y
+base-guard-does-not-change-merged-path : (authority : Option (List ℕ)) (path y : List ℕ)
+    → IsAbemptyPath path
     → remove_dot_segments (directory (guarded authority path) ++ y)
     ≡ remove_dot_segments (directory path ++ y)
-removed_guarded authority path y h =
-    removed_cleaned (guarded authority path) y (guarded_rooted authority path h)
-    ∙ ap (λ t. remove_dot_segments (directory t ++ y)) (cleaned_guarded authority path)
-    ∙ sym (removed_cleaned path y h)
+base-guard-does-not-change-merged-path authority path y h =
+    base-dots-do-not-change-merged-path (guarded authority path) y
+    (guarded-abempty-path-is-abempty authority path h)
+    ∙ ap (λ t. remove_dot_segments (directory t ++ y))
+    (guard-is-removed-as-dot-segment authority path)
+    ∙ sym (base-dots-do-not-change-merged-path path y h)
 
 module _ (set : TableSet) (w : IsComponentSet (codes "?#[]") set)
     (slash : set.ascii 47 ≡ true) where
   -- what follows a path that ends in `/` is decoded by itself
-  reprinted_closed : (front y : List ℕ) → is_part set (front ++ codes "/") ≡ true
-      → reprinted set ((front ++ codes "/") ++ y)
-      ≡ reprinted set (front ++ codes "/") ++ reprinted set y
-  reprinted_closed front y e =
-      let u = part_utf8 set front (part_cut set front [] e).0 in
-      ap (reprinted set) (append_assoc front (codes "/") y) ∙ reprinted-cut set front y u
+  decoding-splits-after-slash : (prefix y : List ℕ) → is_set_text set (prefix ++ codes "/") ≡ true
+      → print_decoded set ((prefix ++ codes "/") ++ y)
+      ≡ print_decoded set (prefix ++ codes "/") ++ print_decoded set y
+  decoding-splits-after-slash prefix y e =
+      let u = set-text-is-utf8 set prefix (set-text-splits set prefix [] e).0 in
+      ap (print_decoded set) (append_assoc prefix (codes "/") y)
+      ∙ decoding-splits-at-slash set prefix y u
       ∙ sym (
-      ap (λ t. t ++ reprinted set y)
-      (reprinted-cut set front [] u ∙ ap (λ t. reprinted set front ++ 47 ∷ t)
-      (reprinted-nil set))
-      ∙ append_assoc (reprinted set front) (codes "/") (reprinted set y))
+      ap (λ t. t ++ print_decoded set y)
+      (decoding-splits-at-slash set prefix [] u ∙ ap (λ t. print_decoded set prefix ++ 47 ∷ t)
+      (print_decoded-of-nil-is-nil set))
+      ∙ append_assoc (print_decoded set prefix) (codes "/") (print_decoded set y))
 
-  reprinted_behind : (path y : List ℕ) → EndsInSlash path → is_part set path ≡ true
-      → reprinted set (path ++ y) ≡ reprinted set path ++ reprinted set y
-  reprinted_behind path y ends e =
-      subst (λ t. reprinted set (t ++ y) ≡ reprinted set t ++ reprinted set y) (sym ends.1)
-      (reprinted_closed ends.0 y (ap (is_part set) (sym ends.1) ∙ e))
+  decoding-splits-after-path-ending-in-slash : (path y : List ℕ) → EndsInSlash path
+      → is_set_text set path ≡ true
+      → print_decoded set (path ++ y) ≡ print_decoded set path ++ print_decoded set y
+  decoding-splits-after-path-ending-in-slash path y ends e =
+      subst (λ t. print_decoded set (t ++ y) ≡ print_decoded set t ++ print_decoded set y)
+      (sym ends.1)
+      (decoding-splits-after-slash ends.0 y (ap (is_set_text set) (sym ends.1) ∙ e))
 
-  part_behind : (path y : List ℕ) → EndsInSlash path → is_part set path ≡ true
-      → is_part set y ≡ true → is_part set (path ++ y) ≡ true
-  part_behind path y ends e f =
-      ap (λ t. is_part set (t ++ y)) ends.1 ∙ ap (is_part set) (append_assoc ends.0 (codes "/") y)
-      ∙ part_join set slash ends.0 y (part_cut set ends.0 [] (ap (is_part set) (sym ends.1) ∙ e)).0
+  set-texts-join-after-slash : (path y : List ℕ) → EndsInSlash path → is_set_text set path ≡ true
+      → is_set_text set y ≡ true → is_set_text set (path ++ y) ≡ true
+  set-texts-join-after-slash path y ends e f =
+      ap (λ t. is_set_text set (t ++ y)) ends.1
+      ∙ ap (is_set_text set) (append_assoc ends.0 (codes "/") y)
+      ∙ set-texts-join-at-slash set slash ends.0 y
+      (set-text-splits set ends.0 [] (ap (is_set_text set) (sym ends.1) ∙ e)).0
       f
 
-  pub part_merged : (path y : List ℕ) → IsRooted path → is_part set path ≡ true
-      → is_part set y ≡ true → is_part set (directory path ++ y) ≡ true
-  part_merged path y h e f = part_behind (directory path) y (directory_ends path h)
-      (part_directory set w.percent w.unreserved slash path h e) f
+  pub merged-set-text-is-set-text : (path y : List ℕ) → IsAbemptyPath path
+      → is_set_text set path ≡ true
+      → is_set_text set y ≡ true → is_set_text set (directory path ++ y) ≡ true
+  merged-set-text-is-set-text path y h e f = set-texts-join-after-slash (directory path) y
+      (directory-ends-in-slash path h)
+      (directory-of-set-text-is-set-text set w.percent w.unreserved slash path h e) f
 
-  reprinted_merged : (path y : List ℕ) → IsRooted path → is_part set path ≡ true
-      → directory (reprinted set path) ++ reprinted set y ≡ reprinted set (directory path ++ y)
-  reprinted_merged path y h e =
-      ap (λ t. t ++ reprinted set y) (directory_reprinted set w.percent w.unreserved path h e)
-      ∙ sym (reprinted_behind (directory path) y (directory_ends path h)
-      (part_directory set w.percent w.unreserved slash path h e))
+  merging-and-decoding-swap : (path y : List ℕ) → IsAbemptyPath path → is_set_text set path ≡ true
+      → directory (print_decoded set path) ++ print_decoded set y
+      ≡ print_decoded set (directory path ++ y)
+  merging-and-decoding-swap path y h e =
+      ap (λ t. t ++ print_decoded set y)
+      (directory-and-decoding-swap set w.percent w.unreserved path h e)
+      ∙ sym (decoding-splits-after-path-ending-in-slash (directory path) y
+      (directory-ends-in-slash path h)
+      (directory-of-set-text-is-set-text set w.percent w.unreserved slash path h e))
 
   -- the merged path of normal texts
-  read_merged : (authority : Option (List ℕ)) (path y : List ℕ) → IsRooted path
-      → is_part set path ≡ true → is_part set y ≡ true
-      → read set (remove_dot_segments
-      (directory (guarded authority (reprinted set (cleaned_path path))) ++ reprinted set y))
-      ≡ read set (remove_dot_segments (directory path ++ y))
-  read_merged authority path y h e f =
-      let clean = part_cleaned set w slash path e in
-      let rooted = cleaned_rooted path h in
-      let merged = part_merged (cleaned_path path) y rooted clean f in
-      let absolute = merged_absolute (cleaned_path path) y rooted in
-      ap (read set) (
-      removed_guarded authority (reprinted set (cleaned_path path)) (reprinted set y)
-      (rooted_reprinted set w slash (cleaned_path path) clean rooted)
-      ∙ ap remove_dot_segments (reprinted_merged (cleaned_path path) y rooted clean)
-      ∙ removed_reprinted set w.percent w.unreserved (directory (cleaned_path path) ++ y) absolute
+  merged-normal-paths-decode-as-merged-paths : (authority : Option (List ℕ)) (path y : List ℕ)
+      → IsAbemptyPath path
+      → is_set_text set path ≡ true → is_set_text set y ≡ true
+      → decode_unreserved set (remove_dot_segments
+      (directory (guarded authority (print_decoded set (dotless_if_absolute path)))
+      ++ print_decoded set y))
+      ≡ decode_unreserved set (remove_dot_segments (directory path ++ y))
+  merged-normal-paths-decode-as-merged-paths authority path y h e f =
+      let clean = path-without-dots-is-set-text set w slash path e in
+      let rooted = dotless-abempty-path-is-abempty path h in
+      let merged = merged-set-text-is-set-text (dotless_if_absolute path) y rooted clean f in
+      let absolute = merged-path-is-absolute (dotless_if_absolute path) y rooted in
+      ap (decode_unreserved set) (
+      base-guard-does-not-change-merged-path authority
+      (print_decoded set (dotless_if_absolute path)) (print_decoded set y)
+      (decoded-abempty-path-is-abempty set w slash (dotless_if_absolute path) clean rooted)
+      ∙ ap remove_dot_segments (merging-and-decoding-swap (dotless_if_absolute path) y rooted clean)
+      ∙ removing-dots-and-decoding-swap set w.percent w.unreserved
+      (directory (dotless_if_absolute path) ++ y) absolute
       merged)
-      ∙ read-reprinted set w.percent (remove_dot_segments (directory (cleaned_path path) ++ y))
-      (part_removed set w.percent w.unreserved slash (directory (cleaned_path path) ++ y)
+      ∙ decode_unreserved-is-idempotent set w.percent
+      (remove_dot_segments (directory (dotless_if_absolute path) ++ y))
+      (dotless-set-text-is-set-text set w.percent w.unreserved slash
+      (directory (dotless_if_absolute path) ++ y)
       absolute merged)
-      ∙ ap (read set) (sym (removed_cleaned path y h))
+      ∙ ap (decode_unreserved set) (sym (base-dots-do-not-change-merged-path path y h))
 
-  pub cleaned_merged : (authority : Option (List ℕ)) (path y : List ℕ) → IsRooted path
-      → is_part set path ≡ true → is_part set y ≡ true
-      → read set
-      (cleaned_path (directory (guarded authority (reprinted set (cleaned_path path)))
-      ++ reprinted set y))
-      ≡ read set (cleaned_path (directory path ++ y))
-  cleaned_merged authority path y h e f =
-      let rooted = rooted_reprinted set w slash (cleaned_path path)
-      (part_cleaned set w slash path e) (cleaned_rooted path h) in
-      let absolute = merged_absolute (guarded authority (reprinted set (cleaned_path path)))
-      (reprinted set y) (guarded_rooted authority (reprinted set (cleaned_path path)) rooted) in
-      ap (read set) (cond-true _ _ _ (true_of _ absolute)) ∙ read_merged authority path y h e f
-      ∙ ap (read set) (sym (cond-true _ _ _ (true_of _ (merged_absolute path y h))))
+  pub merged-normal-paths-decode-as-merged : (authority : Option (List ℕ)) (path y : List ℕ)
+      → IsAbemptyPath path
+      → is_set_text set path ≡ true → is_set_text set y ≡ true
+      → decode_unreserved set
+      (dotless_if_absolute (directory
+      (guarded authority (print_decoded set (dotless_if_absolute path)))
+      ++ print_decoded set y))
+      ≡ decode_unreserved set (dotless_if_absolute (directory path ++ y))
+  merged-normal-paths-decode-as-merged authority path y h e f =
+      let rooted = decoded-abempty-path-is-abempty set w slash (dotless_if_absolute path)
+      (path-without-dots-is-set-text set w slash path e) (dotless-abempty-path-is-abempty path h) in
+      let absolute = merged-path-is-absolute
+      (guarded authority (print_decoded set (dotless_if_absolute path)))
+      (print_decoded set y) (guarded-abempty-path-is-abempty authority
+      (print_decoded set (dotless_if_absolute path))
+      rooted) in
+      ap (decode_unreserved set) (cond-true _ _ _ (eq_true_from_IsTrue _ absolute))
+      ∙ merged-normal-paths-decode-as-merged-paths authority path y h e f
+      ∙ ap (decode_unreserved set)
+      (sym (cond-true _ _ _ (eq_true_from_IsTrue _ (merged-path-is-absolute path y h))))

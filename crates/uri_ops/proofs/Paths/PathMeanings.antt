@@ -9,119 +9,150 @@ use Rattle.std.proofs.lemmas.Str.{IsUtf8-encode, encode_ascii}
 use Rattle.std.proofs.lemmas.Bool.{cases_Bool, cond-true, cond-false, cond_both, and_from}
 use Rattle.std.proofs.lemmas.Bool.{and_parts, eqb-true}
 use Rattle.uri_pct.specs.Sets.{TableSet}
-use Rattle.uri_pct.specs.Tokens.{tokens_of, is_valid_for}
-use Rattle.uri_pct.specs.Reading.{read}
-use Rattle.uri_pct.proofs.ValidTexts.Validity.{allows-ascii}
+use Rattle.uri_pct.specs.Tokens.{tokens_from_chars, is_valid_for}
+use Rattle.uri_pct.specs.DecodeUnreserved.{decode_unreserved}
+use Rattle.uri_pct.proofs.ValidTexts.Validity.{ascii_char_is_allowed_iff_in_set}
 use Rattle.uri_parts.specs.Components.{starts, has_authority}
 use Rattle.uri_ops.specs.Dots.{remove_dot_segments, IsAbsolute}
-use Rattle.uri_ops.specs.Target.{cleaned_path, guarded}
+use Rattle.uri_ops.specs.Target.{dotless_if_absolute, guarded}
 use Rattle.uri_ops.specs.ComponentSets.{IsComponentSet}
-use Rattle.uri_ops.proofs.Paths.Segments.{is_none, turn, step_of, steps, cleaned, cleaned_front}
-use Rattle.uri_ops.proofs.Paths.SlashedSegments.{slashed, remove_slashed}
-use Rattle.uri_ops.proofs.Paths.DotLaws.{by_segments, removed_absolute, removed_twice}
-use Rattle.uri_ops.proofs.Meanings.AllowedParts.{is_part, part_from, part_nil, reprinted}
-use Rattle.uri_ops.proofs.Meanings.AllowedParts.{read-reprinted}
-use Rattle.uri_ops.proofs.Paths.ReadPaths.{part_join, part_cut, removed_reprinted, part_removed}
-use Rattle.uri_ops.proofs.Paths.ReadStarts.{starts_reprinted}
-use Rattle.uri_pct.proofs.Tests.{true_of}
-use Rattle.uri_parts.proofs.Splitting.Recompose.{true_to}
+use Rattle.uri_ops.proofs.Paths.Segments.{is_none, next_output, step_of, steps, dotless_of}
+use Rattle.uri_ops.proofs.Paths.Segments.{dotless_of-prefix-first}
+use Rattle.uri_ops.proofs.Paths.SlashedSegments.{slashed, remove-dots-by-segments}
+use Rattle.uri_ops.proofs.Paths.DotLaws.{property-of-absolute-path-by-segments}
+use Rattle.uri_ops.proofs.Paths.DotLaws.{removing-dots-keeps-absolute}
+use Rattle.uri_ops.proofs.Paths.DotLaws.{removing_dots_is_idempotent}
+use Rattle.uri_ops.proofs.Meanings.AllowedParts.{is_set_text, set-text-from-utf8}
+use Rattle.uri_ops.proofs.Meanings.AllowedParts.{empty-text-is-set-text}
+use Rattle.uri_ops.proofs.Meanings.AllowedParts.{print_decoded}
+use Rattle.uri_ops.proofs.Meanings.AllowedParts.{decode_unreserved-is-idempotent}
+use Rattle.uri_ops.proofs.Paths.DecodedPaths.{set-texts-join-at-slash, set-text-splits}
+use Rattle.uri_ops.proofs.Paths.DecodedPaths.{removing-dots-and-decoding-swap}
+use Rattle.uri_ops.proofs.Paths.DecodedPaths.{dotless-set-text-is-set-text}
+use Rattle.uri_ops.proofs.Paths.DecodedStarts.{decoding-keeps-leading-slash}
+use Rattle.uri_pct.proofs.Tests.{eq_true_from_IsTrue}
+use Rattle.uri_parts.proofs.Splitting.Recompose.{equal-to-true-is-IsTrue}
 
--- a path with its dot segments removed begins as the path does
-pub starts_cleaned : (path : List ℕ) → starts 47 (cleaned_path path) ≡ starts 47 path
-starts_cleaned path =
+-- paths: one with its dot segments removed begins with `/` (47) exactly if it does before
+pub removing-dots-keeps-leading-slash : (path : List ℕ) → starts 47 (dotless_if_absolute path)
+    ≡ starts 47 path
+removing-dots-keeps-leading-slash path =
     cond_both (starts 47 path) (remove_dot_segments path) path (λ t. starts 47 t ≡ starts 47 path)
-    (λ e. true_of _ (removed_absolute path (true_to _ e)) ∙ sym e) (λ e. refl)
+    (λ e. eq_true_from_IsTrue _ (removing-dots-keeps-absolute path (equal-to-true-is-IsTrue _ e))
+    ∙ sym e) (λ e. refl)
 
-pub cleaned_twice : (path : List ℕ) → cleaned_path (cleaned_path path) ≡ cleaned_path path
-cleaned_twice path = ⊎_elim
-    (λ e. cond-true _ _ _ (starts_cleaned path ∙ e) ∙ ap remove_dot_segments (cond-true _ _ _ e)
-    ∙ removed_twice path (true_to _ e) ∙ sym (cond-true _ _ _ e))
-    (λ e. cond-false _ _ _ (starts_cleaned path ∙ e))
+-- removing the dot segments of an absolute path twice is removing them once; any other path stays
+pub dotless_if_absolute-is-idempotent : (path : List ℕ)
+    → dotless_if_absolute (dotless_if_absolute path) ≡ dotless_if_absolute path
+dotless_if_absolute-is-idempotent path = ⊎_elim
+    (λ e. cond-true _ _ _ (removing-dots-keeps-leading-slash path ∙ e)
+    ∙ ap remove_dot_segments (cond-true _ _ _ e)
+    ∙ removing_dots_is_idempotent path (equal-to-true-is-IsTrue _ e) ∙ sym (cond-true _ _ _ e))
+    (λ e. cond-false _ _ _ (removing-dots-keeps-leading-slash path ∙ e))
     (cases_Bool (starts 47 path))
 
--- a guard before it makes no difference
-dot_first : (s : List ℕ) (rest : List (List ℕ))
-    → cleaned (codes "." ∷ s ∷ rest) ≡ cleaned (s ∷ rest)
-unfolding is_none steps step_of turn
-dot_first s rest = cleaned_front (codes "." ∷ []) (s ∷ rest) refl
+-- dot segments: a guard `/.` before a path makes no difference to what is left of it
+dotless_of-leading-dot-drops-it : (s : List ℕ) (rest : List (List ℕ))
+    → dotless_of (codes "." ∷ s ∷ rest) ≡ dotless_of (s ∷ rest)
+unfolding is_none steps step_of next_output
+dotless_of-leading-dot-drops-it s rest = dotless_of-prefix-first (codes "." ∷ []) (s ∷ rest) refl
 
-removed_guard : (path : List ℕ) → IsAbsolute path
+-- removing dot segments removes the guard `/.` too
+removing-dots-removes-guard : (path : List ℕ) → IsAbsolute path
     → remove_dot_segments (codes "/." ++ path) ≡ remove_dot_segments path
 unfolding slashed
-removed_guard =
-    by_segments (λ path. remove_dot_segments (codes "/." ++ path) ≡ remove_dot_segments path)
-    (λ s rest e. remove_slashed (codes "." ∷ s ∷ rest) e ∙ ap slashed (dot_first s rest)
-    ∙ sym (remove_slashed (s ∷ rest) e))
+removing-dots-removes-guard =
+    property-of-absolute-path-by-segments (λ path. remove_dot_segments (codes "/." ++ path)
+    ≡ remove_dot_segments path)
+    (λ s rest e. remove-dots-by-segments (codes "." ∷ s ∷ rest) e
+    ∙ ap slashed (dotless_of-leading-dot-drops-it s rest)
+    ∙ sym (remove-dots-by-segments (s ∷ rest) e))
 
-pub authority_first : (path : List ℕ) → has_authority path ≡ true → starts 47 path ≡ true
-authority_first [] e = e
-authority_first (c ∷ path) e = (and_parts (eqb c 47) _ e).0
+-- paths: what begins with `//` begins with `/` (47)
+pub two-slashes-begin-with-slash : (path : List ℕ) → has_authority path ≡ true
+    → starts 47 path ≡ true
+two-slashes-begin-with-slash [] e = e
+two-slashes-begin-with-slash (c ∷ path) e = (and_parts (eqb c 47) _ e).0
 
-pub cleaned_guarded : (authority : Option (List ℕ)) (path : List ℕ)
-    → cleaned_path (guarded authority path) ≡ cleaned_path path
-cleaned_guarded authority path =
+-- normal paths: the guard `/.` is itself removed as a dot segment
+pub guard-is-removed-as-dot-segment : (authority : Option (List ℕ)) (path : List ℕ)
+    → dotless_if_absolute (guarded authority path) ≡ dotless_if_absolute path
+guard-is-removed-as-dot-segment authority path =
     cond_both (is_absent authority && has_authority path) (codes "/." ++ path) path
-    (λ t. cleaned_path t ≡ cleaned_path path)
+    (λ t. dotless_if_absolute t ≡ dotless_if_absolute path)
     (λ e.
-    let first = authority_first path (and_parts (is_absent authority) (has_authority path) e).1 in
-    removed_guard path (true_to _ first) ∙ sym (cond-true _ _ _ first))
+    let first = two-slashes-begin-with-slash path
+    (and_parts (is_absent authority) (has_authority path) e).1 in
+    removing-dots-removes-guard path (equal-to-true-is-IsTrue _ first)
+    ∙ sym (cond-true _ _ _ first))
     (λ e. refl)
 
 module _ (set : TableSet) (w : IsComponentSet (codes "?#[]") set)
     (slash : set.ascii 47 ≡ true) where
-  allows_dot : is_valid_for set (codes ".") ≡ true
-  unfolding is_valid_for chars tokens_of
-  allows_dot = and_from _ true (allows-ascii set 46 (lit< tt) ∙ w.unreserved.ascii 46 refl) refl
+  path-set-allows-dot : is_valid_for set (codes ".") ≡ true
+  unfolding is_valid_for chars tokens_from_chars
+  path-set-allows-dot = and_from _ true (ascii_char_is_allowed_iff_in_set set 46 (lit< tt)
+      ∙ w.unreserved.ascii 46 refl) refl
 
-  part_dot : is_part set (codes ".") ≡ true
-  part_dot = part_from set (codes ".")
+  dot-is-set-text : is_set_text set (codes ".") ≡ true
+  dot-is-set-text = set-text-from-utf8 set (codes ".")
       (subst IsUtf8 (encode_ascii 46 (lit< tt)) (IsUtf8-encode 46 (low_scalar 46 (omega arith))))
-      allows_dot
+      path-set-allows-dot
 
-  part_guard : (path : List ℕ) → starts 47 path ≡ true → is_part set path ≡ true
-      → is_part set (codes "/." ++ path) ≡ true
-  part_guard [] e f = part_join set slash [] (codes ".") (part_nil set) part_dot
-  part_guard (c ∷ path) e f =
+  path-with-guard-is-set-text : (path : List ℕ) → starts 47 path ≡ true
+      → is_set_text set path ≡ true
+      → is_set_text set (codes "/." ++ path) ≡ true
+  path-with-guard-is-set-text [] e f = set-texts-join-at-slash set slash [] (codes ".")
+      (empty-text-is-set-text set) dot-is-set-text
+  path-with-guard-is-set-text (c ∷ path) e f =
       let slashed_path : c ∷ path ≡ 47 ∷ path = ap (λ d. d ∷ path) (eqb-true c 47 e) in
-      let rest = (part_cut set [] path (ap (is_part set) (sym slashed_path) ∙ f)).1 in
-      ap (λ t. is_part set (codes "/." ++ t)) slashed_path
-      ∙ part_join set slash (codes "/.") path
-      (part_join set slash [] (codes ".") (part_nil set) part_dot) rest
+      let rest = (set-text-splits set [] path (ap (is_set_text set) (sym slashed_path) ∙ f)).1 in
+      ap (λ t. is_set_text set (codes "/." ++ t)) slashed_path
+      ∙ set-texts-join-at-slash set slash (codes "/.") path
+      (set-texts-join-at-slash set slash [] (codes ".") (empty-text-is-set-text set)
+      dot-is-set-text) rest
 
-  pub part_guarded : (authority : Option (List ℕ)) (path : List ℕ) → is_part set path ≡ true
-      → is_part set (guarded authority path) ≡ true
-  part_guarded authority path f =
+  pub guarded-set-text-is-set-text : (authority : Option (List ℕ)) (path : List ℕ)
+      → is_set_text set path ≡ true
+      → is_set_text set (guarded authority path) ≡ true
+  guarded-set-text-is-set-text authority path f =
       cond_both (is_absent authority && has_authority path) (codes "/." ++ path) path
-      (λ t. is_part set t ≡ true)
-      (λ e. part_guard path
-      (authority_first path (and_parts (is_absent authority) (has_authority path) e).1) f)
+      (λ t. is_set_text set t ≡ true)
+      (λ e. path-with-guard-is-set-text path
+      (two-slashes-begin-with-slash path (and_parts (is_absent authority) (has_authority path) e).1)
+      f)
       (λ e. f)
 
-  pub part_cleaned : (path : List ℕ) → is_part set path ≡ true
-      → is_part set (cleaned_path path) ≡ true
-  part_cleaned path f =
-      cond_both (starts 47 path) (remove_dot_segments path) path (λ t. is_part set t ≡ true)
-      (λ e. part_removed set w.percent w.unreserved slash path (true_to _ e) f) (λ e. f)
+  pub path-without-dots-is-set-text : (path : List ℕ) → is_set_text set path ≡ true
+      → is_set_text set (dotless_if_absolute path) ≡ true
+  path-without-dots-is-set-text path f =
+      cond_both (starts 47 path) (remove_dot_segments path) path (λ t. is_set_text set t ≡ true)
+      (λ e. dotless-set-text-is-set-text set w.percent w.unreserved slash path
+      (equal-to-true-is-IsTrue _ e) f)
+      (λ e. f)
 
-  pub cleaned_reprinted : (path : List ℕ) → is_part set path ≡ true
-      → cleaned_path (reprinted set path) ≡ reprinted set (cleaned_path path)
-  cleaned_reprinted path f =
-      let first = starts_reprinted set w.percent w.unreserved path f in
+  pub dotless_if_absolute-and-decoding-swap : (path : List ℕ) → is_set_text set path ≡ true
+      → dotless_if_absolute (print_decoded set path) ≡ print_decoded set (dotless_if_absolute path)
+  dotless_if_absolute-and-decoding-swap path f =
+      let first = decoding-keeps-leading-slash set w.percent w.unreserved path f in
       ⊎_elim
       (λ e. cond-true _ _ _ (first ∙ e)
-      ∙ removed_reprinted set w.percent w.unreserved path (true_to _ e) f
-      ∙ ap (reprinted set) (sym (cond-true _ _ _ e)))
-      (λ e. cond-false _ _ _ (first ∙ e) ∙ ap (reprinted set) (sym (cond-false _ _ _ e)))
+      ∙ removing-dots-and-decoding-swap set w.percent w.unreserved path
+      (equal-to-true-is-IsTrue _ e) f
+      ∙ ap (print_decoded set) (sym (cond-true _ _ _ e)))
+      (λ e. cond-false _ _ _ (first ∙ e) ∙ ap (print_decoded set) (sym (cond-false _ _ _ e)))
       (cases_Bool (starts 47 path))
 
   -- the path of a normal text decodes as the path
-  pub read_guarded : (authority : Option (List ℕ)) (path : List ℕ) → is_part set path ≡ true
-      → read set (cleaned_path (guarded authority (reprinted set (cleaned_path path))))
-      ≡ read set (cleaned_path path)
-  read_guarded authority path f =
-      let clean = part_cleaned path f in
-      ap (read set) (
-      cleaned_guarded authority (reprinted set (cleaned_path path))
-      ∙ cleaned_reprinted (cleaned_path path) clean
-      ∙ ap (reprinted set) (cleaned_twice path))
-      ∙ read-reprinted set w.percent (cleaned_path path) clean
+  pub normal-path-decodes-as-path : (authority : Option (List ℕ)) (path : List ℕ)
+      → is_set_text set path ≡ true
+      → decode_unreserved set (dotless_if_absolute
+      (guarded authority (print_decoded set (dotless_if_absolute path))))
+      ≡ decode_unreserved set (dotless_if_absolute path)
+  normal-path-decodes-as-path authority path f =
+      let clean = path-without-dots-is-set-text path f in
+      ap (decode_unreserved set) (
+      guard-is-removed-as-dot-segment authority (print_decoded set (dotless_if_absolute path))
+      ∙ dotless_if_absolute-and-decoding-swap (dotless_if_absolute path) clean
+      ∙ ap (print_decoded set) (dotless_if_absolute-is-idempotent path))
+      ∙ decode_unreserved-is-idempotent set w.percent (dotless_if_absolute path) clean

@@ -8,28 +8,36 @@ use Rattle.std.specs.Prelude.{codes, ◌==◌}
 use Rattle.std.proofs.lemmas.Bool.{eqb-true, false≢true}
 use Rattle.std.proofs.lemmas.List.{append-nil, drop_at, take-append-drop, take_at}
 use Rattle.uri_pct.specs.Sets.{TableSet}
-use Rattle.uri_parts.specs.Components.{IsRooted}
-use Rattle.uri_parts.proofs.Splitting.Marks.{nil_cons}
-use Rattle.uri_parts.proofs.Splitting.Recompose.{true_to}
+use Rattle.uri_parts.specs.Components.{IsAbemptyPath}
+use Rattle.uri_parts.proofs.Splitting.Marks.{cons_is_not_nil}
+use Rattle.uri_parts.proofs.Splitting.Recompose.{equal-to-true-is-IsTrue}
 use Rattle.uri_ops.specs.ComponentSets.{IsComponentSet}
 use Rattle.uri_ops.specs.Dots.{before_last_slash, has_slash, is_double_dot, is_empty, is_single_dot}
 use Rattle.uri_ops.specs.Dots.{lacks_dot_segments, remove_dot_segments, underflows}
-use Rattle.uri_ops.specs.Models.Directories.{IsClosed, IsLeft, IsPlainDirectory, parent_directory}
-use Rattle.uri_ops.specs.Models.LeadingSegments.{IsFirst, IsPlainFront}
-use Rattle.uri_ops.proofs.Meanings.AllowedParts.{is_part, part_nil, part_utf8, reprinted}
-use Rattle.uri_ops.proofs.Meanings.AllowedParts.{reprinted-cut, reprinted-nil}
-use Rattle.uri_ops.proofs.Paths.DotLaws.{removed_lacks, removed_of_plain}
-use Rattle.uri_ops.proofs.Paths.LeftPaths.{directory_of_left, left_as, left_double, left_kept}
-use Rattle.uri_ops.proofs.Paths.LeftPaths.{left_last, left_single}
-use Rattle.uri_ops.proofs.Paths.ReadPaths.{keeps, no_slash, part_cut, part_join, reprinted_first}
-use Rattle.uri_ops.proofs.Paths.ReadPaths.{removed_reprinted}
-use Rattle.uri_ops.proofs.Paths.ReadStarts.{empty_reprinted}
+use Rattle.uri_ops.specs.Models.Directories.{IsCutAtSegment, RemovalState, IsDotlessDirectory}
+use Rattle.uri_ops.specs.Models.Directories.{parent_directory}
+use Rattle.uri_ops.specs.Models.LeadingSegments.{IsFirstSegment, IsDotlessPrefix}
+use Rattle.uri_ops.proofs.Meanings.AllowedParts.{is_set_text, empty-text-is-set-text}
+use Rattle.uri_ops.proofs.Meanings.AllowedParts.{set-text-is-utf8, print_decoded}
+use Rattle.uri_ops.proofs.Meanings.AllowedParts.{decoding-splits-at-slash}
+use Rattle.uri_ops.proofs.Meanings.AllowedParts.{print_decoded-of-nil-is-nil}
+use Rattle.uri_ops.proofs.Paths.DotLaws.{removing-dots-leaves-no-dot-segment}
+use Rattle.uri_ops.proofs.Paths.DotLaws.{remove-dots-of-dotless}
+use Rattle.uri_ops.proofs.Paths.LeftPaths.{removal-state-has-directory, removal-state-of-equals}
+use Rattle.uri_ops.proofs.Paths.LeftPaths.{removal-passes-double-dot, removal-passes-dotless-prefix}
+use Rattle.uri_ops.proofs.Paths.LeftPaths.{removal-state-without-rest-is-done}
+use Rattle.uri_ops.proofs.Paths.LeftPaths.{removal-passes-single-dot}
+use Rattle.uri_ops.proofs.Paths.DecodedPaths.{decoding-keeps-dot-segments, decoding-adds-no-slash}
+use Rattle.uri_ops.proofs.Paths.DecodedPaths.{set-text-splits, set-texts-join-at-slash}
+use Rattle.uri_ops.proofs.Paths.DecodedPaths.{decoding-keeps-first-slash}
+use Rattle.uri_ops.proofs.Paths.DecodedPaths.{removing-dots-and-decoding-swap}
+use Rattle.uri_ops.proofs.Paths.DecodedStarts.{decoding-keeps-emptiness}
 use Rattle.uri_ops.proofs.Paths.SegmentMaps.{KeepsDots}
-use Rattle.uri_pct.proofs.Tests.{true_of}
-use Rattle.uri_ops.proofs.Paths.DotRuns.{some_length}
+use Rattle.uri_pct.proofs.Tests.{eq_true_from_IsTrue}
+use Rattle.uri_ops.proofs.Paths.DotRuns.{not-empty-has-length}
 
 -- a change of texts that goes from `/` to `/`, and keeps which segments are dots
-pub record IsPiecewise (change : List ℕ → List ℕ) (among : List ℕ → Bool) : Type 0 where
+pub record KeepsSlashesAndDots (change : List ℕ → List ℕ) (among : List ℕ → Bool) : Type 0 where
   pub nothing : change [] ≡ []
   pub none : among [] ≡ true
   pub empty : (text : List ℕ) → among text ≡ true → is_empty (change text) ≡ is_empty text
@@ -39,12 +47,12 @@ pub record IsPiecewise (change : List ℕ → List ℕ) (among : List ℕ → Bo
       → change (x ++ 47 ∷ y) ≡ change x ++ 47 ∷ change y
   pub free : (s : List ℕ) → among s ≡ true → has_slash s ≡ false → has_slash (change s) ≡ false
   pub dots : (s : List ℕ) → among s ≡ true → KeepsDots change s
-  pub plain : (text : List ℕ) → among text ≡ true → lacks_dot_segments text ≡ true
+  pub dotless : (text : List ℕ) → among text ≡ true → lacks_dot_segments text ≡ true
       → lacks_dot_segments (change text) ≡ true
 
--- no change is one, and so is decoding
-pub unchanged : IsPiecewise (λ text. text) (λ text. true)
-unchanged = record {
+-- paths: copying a path keeps its slashes and dot segments, as decoding does
+pub identity-keeps-slashes-and-dots : KeepsSlashesAndDots (λ text. text) (λ text. true)
+identity-keeps-slashes-and-dots = record {
   nothing = refl;
   none = refl;
   empty = λ text e. refl;
@@ -53,58 +61,66 @@ unchanged = record {
   pieces = λ x y e. refl;
   free = λ s e f. f;
   dots = λ s e. record { single = refl; double = refl };
-  plain = λ text e f. f;
+  dotless = λ text e f. f;
 }
 
 module _ (set : TableSet) (w : IsComponentSet (codes "?#[]") set) (slash : set.ascii 47 ≡ true)
   where
-    plain_read : (text : List ℕ) → is_part set text ≡ true → lacks_dot_segments text ≡ true
-        → lacks_dot_segments (reprinted set text) ≡ true
-    plain_read text e f =
-        let read = reprinted_first set text in
-        let removed : remove_dot_segments (reprinted set (47 ∷ text)) ≡ reprinted set (47 ∷ text) =
-        removed_reprinted set w.percent w.unreserved (47 ∷ text) (true_to _ refl)
-        (part_join set slash [] text (part_nil set) e)
-        ∙ ap (reprinted set) (removed_of_plain (47 ∷ text) (true_to _ refl) f) in
-        ap lacks_dot_segments (sym read)
+    decoded-dotless-path-is-dotless : (text : List ℕ) → is_set_text set text ≡ true
+        → lacks_dot_segments text ≡ true
+        → lacks_dot_segments (print_decoded set text) ≡ true
+    decoded-dotless-path-is-dotless text e f =
+        let decoded = decoding-keeps-first-slash set text in
+        let removed : remove_dot_segments (print_decoded set (47 ∷ text))
+        ≡ print_decoded set (47 ∷ text) =
+        removing-dots-and-decoding-swap set w.percent w.unreserved (47 ∷ text)
+        (equal-to-true-is-IsTrue _ refl)
+        (set-texts-join-at-slash set slash [] text (empty-text-is-set-text set) e)
+        ∙ ap (print_decoded set)
+        (remove-dots-of-dotless (47 ∷ text) (equal-to-true-is-IsTrue _ refl) f) in
+        ap lacks_dot_segments (sym decoded)
         ∙ ap lacks_dot_segments (sym removed)
-        ∙ ap (λ t. lacks_dot_segments (remove_dot_segments t)) read
-        ∙ removed_lacks (47 ∷ reprinted set text) (true_to _ refl)
+        ∙ ap (λ t. lacks_dot_segments (remove_dot_segments t)) decoded
+        ∙ removing-dots-leaves-no-dot-segment (47 ∷ print_decoded set text)
+        (equal-to-true-is-IsTrue _ refl)
 
-    pub reading : IsPiecewise (reprinted set) (is_part set)
-    reading = record {
-      nothing = reprinted-nil set;
-      none = part_nil set;
-      empty = empty_reprinted set w.percent w.unreserved;
-      cut = part_cut set;
-      join = part_join set slash;
-      pieces = λ x y e. reprinted-cut set x y (part_utf8 set x e);
-      free = no_slash set w.percent w.unreserved;
-      dots = keeps set w.percent w.unreserved;
-      plain = plain_read;
+    pub decoding-keeps-slashes-and-dots : KeepsSlashesAndDots (print_decoded set) (is_set_text set)
+    decoding-keeps-slashes-and-dots = record {
+      nothing = print_decoded-of-nil-is-nil set;
+      none = empty-text-is-set-text set;
+      empty = decoding-keeps-emptiness set w.percent w.unreserved;
+      cut = set-text-splits set;
+      join = set-texts-join-at-slash set slash;
+      pieces = λ x y e. decoding-splits-at-slash set x y (set-text-is-utf8 set x e);
+      free = decoding-adds-no-slash set w.percent w.unreserved;
+      dots = decoding-keeps-dot-segments set w.percent w.unreserved;
+      dotless = decoded-dotless-path-is-dotless;
     }
 
-rooted_mark : (c : ℕ) (text : List ℕ) → IsRooted (c ∷ text) → c ≡ 47
-rooted_mark c text h = ⊎_elim (λ none. absurd (nil_cons c text none))
-    (λ a. eqb-true c 47 (true_of _ a)) h
+-- paths: a path that may be after an authority, and has a byte, has `/` (47) first
+abempty-path-begins-with-slash : (c : ℕ) (text : List ℕ) → IsAbemptyPath (c ∷ text) → c ≡ 47
+abempty-path-begins-with-slash c text h = ⊎_elim (λ none. absurd (cons_is_not_nil c text none))
+    (λ a. eqb-true c 47 (eq_true_from_IsTrue _ a)) h
 
-pub not_empty : (text : List ℕ) → 0 < length text → is_empty text ≡ false
-not_empty [] some = absurd (omega (arith, some))
-not_empty (c ∷ text) some = refl
+-- general fact on texts, for pieces of paths: one with bytes is not empty
+pub text-with-bytes-is-not-empty : (text : List ℕ) → 0 < length text → is_empty text ≡ false
+text-with-bytes-is-not-empty [] some = absurd (omega (arith, some))
+text-with-bytes-is-not-empty (c ∷ text) some = refl
 
-module _ (change : List ℕ → List ℕ) (among : List ℕ → Bool) (p : IsPiecewise change among) where
+module _ (change : List ℕ → List ℕ) (among : List ℕ → Bool)
+    (p : KeepsSlashesAndDots change among) where
   -- what is after a segment
-  record IsBehind (text s left : List ℕ) : Type 0 where
+  record IsAfter (text s left : List ℕ) : Type 0 where
     tail : List ℕ
     whole : change text ≡ change s ++ tail
-    rooted : IsRooted tail
+    rooted : IsAbemptyPath tail
     rest : drop 1 tail ≡ change left
     segment : among s ≡ true
     more : among left ≡ true
 
-  behind_segment : (s tail : List ℕ) → IsRooted tail → among (s ++ tail) ≡ true
-      → IsBehind (s ++ tail) s (drop 1 tail)
-  behind_segment s [] h e = record {
+  change-continues-after-segment : (s tail : List ℕ) → IsAbemptyPath tail → among (s ++ tail) ≡ true
+      → IsAfter (s ++ tail) s (drop 1 tail)
+  change-continues-after-segment s [] h e = record {
     tail = [];
     whole = ap change (append-nil s) ∙ sym (append-nil (change s));
     rooted = inl refl;
@@ -112,140 +128,155 @@ module _ (change : List ℕ → List ℕ) (among : List ℕ → Bool) (p : IsPie
     segment = ap among (sym (append-nil s)) ∙ e;
     more = p.none;
   }
-  behind_segment s (c ∷ text) h e =
-      let mark = rooted_mark c text h in
+  change-continues-after-segment s (c ∷ text) h e =
+      let mark = abempty-path-begins-with-slash c text h in
       let q = p.cut s text (ap (λ d. among (s ++ d ∷ text)) (sym mark) ∙ e) in
       record {
         tail = 47 ∷ change text;
         whole = ap (λ d. change (s ++ d ∷ text)) mark ∙ p.pieces s text q.0;
-        rooted = inr (true_to _ refl);
+        rooted = inr (equal-to-true-is-IsTrue _ refl);
         rest = refl;
         segment = q.0;
         more = q.1;
       }
 
   -- what is after a prefix without dot segments
-  record IsInTwo (front left : List ℕ) : Type 0 where
-    whole : change (front ++ left) ≡ change front ++ change left
-    closed : IsClosed (change front) (change left)
-    front_among : among front ≡ true
+  record IsInTwo (prefix left : List ℕ) : Type 0 where
+    whole : change (prefix ++ left) ≡ change prefix ++ change left
+    closed : IsCutAtSegment (change prefix) (change left)
+    prefix_among : among prefix ≡ true
     more : among left ≡ true
 
-  in_two : (front left : List ℕ) → IsClosed front left → among (front ++ left) ≡ true
-      → IsInTwo front left
-  in_two front left closed e = ⊎_elim
+  change-splits-after-dotless-prefix : (prefix left : List ℕ) → IsCutAtSegment prefix left
+      → among (prefix ++ left) ≡ true
+      → IsInTwo prefix left
+  change-splits-after-dotless-prefix prefix left closed e = ⊎_elim
       (λ none.
-      let only : front ++ left ≡ front = ap (λ t. front ++ t) none ∙ append-nil front in
+      let only : prefix ++ left ≡ prefix = ap (λ t. prefix ++ t) none ∙ append-nil prefix in
       let nothing : change left ≡ [] = ap change none ∙ p.nothing in
       record {
-        whole = ap change only ∙ sym (ap (λ t. change front ++ t) nothing
-            ∙ append-nil (change front));
+        whole = ap change only ∙ sym (ap (λ t. change prefix ++ t) nothing
+            ∙ append-nil (change prefix));
         closed = inl nothing;
-        front_among = ap among (sym only) ∙ e;
+        prefix_among = ap among (sym only) ∙ e;
         more = ap among none ∙ p.none;
       })
       (λ d.
-      let all : front ++ left ≡ d.0 ++ 47 ∷ left = ap (λ t. t ++ left) d.1
+      let all : prefix ++ left ≡ d.0 ++ 47 ∷ left = ap (λ t. t ++ left) d.1
       ∙ append_assoc d.0 (47 ∷ []) left in
       let q = p.cut d.0 left (ap among (sym all) ∙ e) in
-      let ended : change front ≡ change d.0 ++ codes "/" = ap change d.1 ∙ p.pieces d.0 [] q.0
+      let ended : change prefix ≡ change d.0 ++ codes "/" = ap change d.1 ∙ p.pieces d.0 [] q.0
       ∙ ap (λ t. change d.0 ++ 47 ∷ t) p.nothing in
       record {
         whole = ap change all ∙ p.pieces d.0 left q.0
             ∙ sym (append_assoc (change d.0) (47 ∷ []) (change left))
             ∙ ap (λ t. t ++ change left) (sym ended);
         closed = inr (change d.0, ended);
-        front_among = ap among d.1 ∙ p.join d.0 [] q.0 p.none;
+        prefix_among = ap among d.1 ∙ p.join d.0 [] q.0 p.none;
         more = q.1;
       })
       closed
 
-  pub left_none : (path kept rest : List ℕ) (underflowed : Bool)
-      → IsLeft path kept (change rest) underflowed → (length rest == 0) ≡ true
+  pub removal-ends-with-nothing-left : (path kept rest : List ℕ) (underflowed : Bool)
+      → RemovalState path kept (change rest) underflowed → (length rest == 0) ≡ true
       → (kept ≡ remove_dot_segments path) × (underflowed ≡ underflows path)
-  left_none path kept [] underflowed h e = left_last path kept underflowed
-      (subst (λ r. IsLeft path kept r underflowed) p.nothing h)
-  left_none path kept (c ∷ rest) underflowed h e = absurd (false≢true (search (rules, tests)))
+  removal-ends-with-nothing-left path kept [] underflowed h e = removal-state-without-rest-is-done
+      path kept underflowed
+      (subst (λ r. RemovalState path kept r underflowed) p.nothing h)
+  removal-ends-with-nothing-left path kept (c ∷ rest) underflowed h e = absurd
+      (false≢true (search (rules, tests)))
 
   -- one step further
   module _ (path kept rest : List ℕ) (underflowed : Bool)
-      (h : IsLeft path kept (change rest) underflowed) (e : among rest ≡ true)
+      (h : RemovalState path kept (change rest) underflowed) (e : among rest ≡ true)
       (some : 0 < length rest) where
-    some_changed : 0 < length (change rest)
-    some_changed = some_length (change rest) (p.empty rest e ∙ not_empty rest some)
+    changed-rest-has-bytes : 0 < length (change rest)
+    changed-rest-has-bytes = not-empty-has-length (change rest) (p.empty rest e
+        ∙ text-with-bytes-is-not-empty rest some)
 
-    pub kept_directory : IsPlainDirectory kept
-    kept_directory = directory_of_left path kept (change rest) underflowed h some_changed
+    pub kept-text-is-directory : IsDotlessDirectory kept
+    kept-text-is-directory = removal-state-has-directory path kept (change rest) underflowed h
+        changed-rest-has-bytes
 
     module _ (test : List ℕ → Bool)
         (same : (s : List ℕ) → among s ≡ true → test (change s) ≡ test s)
-        (left : List ℕ) (n : ℕ) (first : IsFirst test rest n) (is : left ≡ drop n rest) where
-      behind_first : IsBehind rest (take first.end rest) left
-      behind_first =
+        (left : List ℕ) (n : ℕ) (first : IsFirstSegment test rest n) (is : left ≡ drop n rest) where
+      change-continues-after-first-segment : IsAfter rest (take first.end rest) left
+      change-continues-after-first-segment =
           let all = take-append-drop first.end rest in
-          subst (IsBehind rest (take first.end rest)) (sym (is ∙ first.rest))
-          (subst (λ t. IsBehind t (take first.end rest) (drop 1 (drop first.end rest))) all
-          (behind_segment (take first.end rest) (drop first.end rest) first.behind
+          subst (IsAfter rest (take first.end rest)) (sym (is ∙ first.rest))
+          (subst (λ t. IsAfter t (take first.end rest) (drop 1 (drop first.end rest))) all
+          (change-continues-after-segment (take first.end rest) (drop first.end rest) first.suffix
           (ap among all ∙ e)))
 
       record IsChanged : Type 0 where
         end : ℕ
         segment : has_slash (take end (change rest)) ≡ false
-        behind : IsRooted (drop end (change rest))
+        suffix : IsAbemptyPath (drop end (change rest))
         passes : test (take end (change rest)) ≡ true
-        behind_that : change left ≡ drop 1 (drop end (change rest))
+        after_that : change left ≡ drop 1 (drop end (change rest))
         more : among left ≡ true
 
       first_changed : IsChanged
       first_changed =
-          let b = behind_first in
+          let b = change-continues-after-first-segment in
           let s = take first.end rest in
-          let front : take (length (change s)) (change rest) ≡ change s =
+          let prefix : take (length (change s)) (change rest) ≡ change s =
           ap (take (length (change s))) b.whole ∙ take_at (change s) b.tail _ refl in
           let tail : drop (length (change s)) (change rest) ≡ b.tail =
           ap (drop (length (change s))) b.whole ∙ drop_at (change s) b.tail _ refl in
           record {
             end = length (change s);
-            segment = ap has_slash front ∙ p.free s b.segment first.segment;
-            behind = subst IsRooted (sym tail) b.rooted;
-            passes = ap test front ∙ same s b.segment ∙ first.passes;
-            behind_that = sym (ap (drop 1) tail ∙ b.rest);
+            segment = ap has_slash prefix ∙ p.free s b.segment first.segment;
+            suffix = subst IsAbemptyPath (sym tail) b.rooted;
+            passes = ap test prefix ∙ same s b.segment ∙ first.passes;
+            after_that = sym (ap (drop 1) tail ∙ b.rest);
             more = b.more;
           }
 
-    pub step_single : (left : List ℕ) (n : ℕ) → IsFirst is_single_dot rest n → left ≡ drop n rest
-        → IsLeft path kept (change left) underflowed × (among left ≡ true)
-    step_single left n first is =
+    pub removal-step-at-single-dot : (left : List ℕ) (n : ℕ) → IsFirstSegment is_single_dot rest n
+        → left ≡ drop n rest
+        → RemovalState path kept (change left) underflowed × (among left ≡ true)
+    removal-step-at-single-dot left n first is =
         let c = first_changed is_single_dot (λ s f. (p.dots s f).single) left n first is in (
-          left_as path kept kept _ (change left) underflowed underflowed refl c.behind_that refl
-              (left_single path kept (change rest) underflowed h some_changed c.end c.segment
-              c.behind c.passes),
+          removal-state-of-equals path kept kept _ (change left) underflowed underflowed refl
+              c.after_that refl
+              (removal-passes-single-dot path kept (change rest) underflowed h
+              changed-rest-has-bytes
+              c.end c.segment
+              c.suffix c.passes),
           c.more,
         )
 
-    pub step_double : (left : List ℕ) (n : ℕ) → IsFirst is_double_dot rest n → left ≡ drop n rest
-        → IsLeft path (parent_directory kept) (change left)
+    pub removal-step-at-double-dot : (left : List ℕ) (n : ℕ) → IsFirstSegment is_double_dot rest n
+        → left ≡ drop n rest
+        → RemovalState path (parent_directory kept) (change left)
         (underflowed || is_empty (before_last_slash kept)) × (among left ≡ true)
-    step_double left n first is =
+    removal-step-at-double-dot left n first is =
         let c = first_changed is_double_dot (λ s f. (p.dots s f).double) left n first is in (
-          left_as path (parent_directory kept) (parent_directory kept) _ (change left) _ _ refl
-              c.behind_that refl
-              (left_double path kept (change rest) underflowed h some_changed c.end c.segment
-              c.behind c.passes),
+          removal-state-of-equals path (parent_directory kept) (parent_directory kept) _
+              (change left) _ _ refl
+              c.after_that refl
+              (removal-passes-double-dot path kept (change rest) underflowed h
+              changed-rest-has-bytes
+              c.end c.segment
+              c.suffix c.passes),
           c.more,
         )
 
-    module _ (front left : List ℕ) (n : ℕ) (f : IsPlainFront rest n) (is : front ≡ take n rest)
+    module _ (prefix left : List ℕ) (n : ℕ) (f : IsDotlessPrefix rest n) (is : prefix ≡ take n rest)
         (rest_is : left ≡ drop n rest) where
       two : IsInTwo (take n rest) (drop n rest)
-      two = in_two (take n rest) (drop n rest) f.closed (ap among (take-append-drop n rest) ∙ e)
+      two = change-splits-after-dotless-prefix (take n rest) (drop n rest) f.closed
+          (ap among (take-append-drop n rest) ∙ e)
 
-      pub front_among : among front ≡ true
-      front_among = ap among is ∙ two.front_among
+      pub prefix_among : among prefix ≡ true
+      prefix_among = ap among is ∙ two.prefix_among
 
-      pub step_kept : IsLeft path (kept ++ change front) (change left) underflowed
+      pub removal-keeps-changed-prefix : RemovalState path (kept ++ change prefix)
+          (change left) underflowed
           × (among left ≡ true)
-      step_kept =
+      removal-keeps-changed-prefix =
           let m = length (change (take n rest)) in
           let all : change rest ≡ change (take n rest) ++ change (drop n rest) =
           ap change (sym (take-append-drop n rest)) ∙ two.whole in
@@ -253,15 +284,17 @@ module _ (change : List ℕ → List ℕ) (among : List ℕ → Bool) (p : IsPie
           ap (take m) all ∙ take_at (change (take n rest)) (change (drop n rest)) m refl in
           let tail : drop m (change rest) ≡ change (drop n rest) =
           ap (drop m) all ∙ drop_at (change (take n rest)) (change (drop n rest)) m refl in
-          let closed : IsClosed (take m (change rest)) (drop m (change rest)) =
-          subst (λ t. IsClosed t (drop m (change rest))) (sym head)
-          (subst (IsClosed (change (take n rest))) (sym tail) two.closed) in (
-            left_as path (kept ++ take m (change rest)) (kept ++ change front) _ (change left)
+          let closed : IsCutAtSegment (take m (change rest)) (drop m (change rest)) =
+          subst (λ t. IsCutAtSegment t (drop m (change rest))) (sym head)
+          (subst (IsCutAtSegment (change (take n rest))) (sym tail) two.closed) in (
+            removal-state-of-equals path (kept ++ take m (change rest)) (kept ++ change prefix) _
+                (change left)
                 underflowed underflowed
                 (ap (λ t. kept ++ change t) is ∙ ap (λ t. kept ++ t) (sym head))
                 (ap change rest_is ∙ sym tail) refl
-                (left_kept path kept (change rest) underflowed h some_changed m
-                (ap lacks_dot_segments head ∙ p.plain (take n rest) two.front_among f.plain)
+                (removal-passes-dotless-prefix path kept (change rest) underflowed h
+                changed-rest-has-bytes m
+                (ap lacks_dot_segments head ∙ p.dotless (take n rest) two.prefix_among f.dotless)
                 closed),
             ap among rest_is ∙ two.more,
           )

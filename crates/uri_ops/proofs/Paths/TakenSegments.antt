@@ -3,199 +3,253 @@ use Rattle.std.proofs.Common.{◌≡◌, ℕ, Bool, true, false, List, [], ◌�
 use Rattle.std.proofs.Common.{◌∙◌, ◌||◌}
 use Rattle.std.proofs.lemmas.List.{append-nil}
 use Rattle.std.proofs.lemmas.Bool.{and_from, eqb-true, false≢true, not_from_false, or_right}
-use Rattle.uri_parts.specs.Components.{IsRooted}
+use Rattle.uri_parts.specs.Components.{IsAbemptyPath}
 use Rattle.uri_ops.specs.Dots.{is_single_dot, is_double_dot, is_dot_segment, has_slash, segments}
 use Rattle.uri_ops.specs.Dots.{remove_dot_segments, underflows, IsAbsolute}
-use Rattle.uri_ops.proofs.Paths.Segments.{is_none, step_of, steps, end_of, closing, cleaned, sunk}
-use Rattle.uri_ops.proofs.Paths.Segments.{sinks, Passes, is_plain, steps_plain, sinks_or}
-use Rattle.uri_ops.proofs.Paths.Segments.{sinks_plain, sinks_append, sinks_closed, cleaned_append}
-use Rattle.uri_ops.proofs.Paths.Segments.{cleaned_closed, closing_append, turn_passes}
-use Rattle.uri_ops.proofs.Paths.Segments.{append_passes}
-use Rattle.uri_ops.proofs.Paths.SlashedSegments.{slashed, lacks_slash, NoSlashes, slashed_push}
-use Rattle.uri_ops.proofs.Paths.SlashedSegments.{remove_slashed, underflows_slashed}
-use Rattle.uri_ops.proofs.Paths.SlashedSegments.{slashed_segments, segments_lack, segments_some}
-use Rattle.uri_ops.proofs.Paths.SlashedSegments.{segments_behind}
-use Rattle.uri_ops.proofs.Paths.DotLaws.{rooted, behind, behind_lacks, closed_lacks}
-use Rattle.uri_pct.proofs.Tests.{true_of}
+use Rattle.uri_ops.proofs.Paths.Segments.{is_none, step_of, steps, end_of, closing, dotless_of}
+use Rattle.uri_ops.proofs.Paths.Segments.{AllPass, is_dotless, steps-of-dotless-append-all}
+use Rattle.uri_ops.proofs.Paths.Segments.{dotless_of-append, dotless_of-with-empty-last}
+use Rattle.uri_ops.proofs.Paths.Segments.{closing-of-append, next_output-passes-test}
+use Rattle.uri_ops.proofs.Paths.Segments.{appended-segments-pass-test}
+use Rattle.uri_ops.proofs.Paths.Underflows.{underflows_at, underflows_over, underflows_over_is_or}
+use Rattle.uri_ops.proofs.Paths.Underflows.{dotless-segments-do-not-underflow}
+use Rattle.uri_ops.proofs.Paths.Underflows.{underflows_over-of-append}
+use Rattle.uri_ops.proofs.Paths.Underflows.{trailing-slash-changes-no-underflow}
+use Rattle.uri_ops.proofs.Paths.SlashedSegments.{slashed, lacks_slash, NoSlashes, slashed-of-push}
+use Rattle.uri_ops.proofs.Paths.SlashedSegments.{remove-dots-by-segments, underflows-by-segments}
+use Rattle.uri_ops.proofs.Paths.SlashedSegments.{slashed-of-segments-is-text-after-slash}
+use Rattle.uri_ops.proofs.Paths.SlashedSegments.{segments-of-text-lack-slashes}
+use Rattle.uri_ops.proofs.Paths.SlashedSegments.{segments-of-text-are-not-none}
+use Rattle.uri_ops.proofs.Paths.SlashedSegments.{segments-of-joined-segments}
+use Rattle.uri_ops.proofs.Paths.DotLaws.{rooted, path-after-slash-appends-its-segments}
+use Rattle.uri_ops.proofs.Paths.DotLaws.{appended-segments-lack-slashes}
+use Rattle.uri_ops.proofs.Paths.DotLaws.{segments-with-empty-last-lack-slashes}
+use Rattle.uri_pct.proofs.Tests.{eq_true_from_IsTrue}
 
--- of a segment after plain ones, what it leaves of them and what follows it are the same path
-module _ (xs : List (List ℕ)) (plain : Passes is_plain xs) (s : List ℕ) where
-  left_plain : Passes is_plain (step_of xs s)
+-- of a segment after ones without dot segments: what it leaves of them and what follows it are the
+-- same path
+module _ (xs : List (List ℕ)) (dotless : AllPass is_dotless xs) (s : List ℕ) where
+  segments-after-step-are-dotless : AllPass is_dotless (step_of xs s)
   unfolding step_of
-  left_plain = turn_passes is_plain (is_single_dot s) (is_double_dot s) xs s plain
+  segments-after-step-are-dotless = next_output-passes-test is_dotless (is_single_dot s)
+      (is_double_dot s) xs s dotless
       (λ e. not_from_false _ e)
 
-  cleaned_behind : (ys : List (List ℕ)) → is_none ys ≡ false
-      → cleaned (xs ++ s ∷ ys) ≡ cleaned (step_of xs s ++ ys)
+  -- removing dot segments may go on from what a segment leaves of the segments before it
+  dotless_of-after-step-is-same : (ys : List (List ℕ)) → is_none ys ≡ false
+      → dotless_of (xs ++ s ∷ ys) ≡ dotless_of (step_of xs s ++ ys)
   unfolding is_none steps closing
-  cleaned_behind [] e = absurd (false≢true (sym e))
-  cleaned_behind (y ∷ ys) e =
-      cleaned_append xs s (y ∷ ys)
-      ∙ ap (λ o. steps o (s ∷ y ∷ ys) ++ closing (y ∷ ys)) (steps_plain [] xs plain)
-      ∙ sym (cleaned_append (step_of xs s) y ys
+  dotless_of-after-step-is-same [] e = absurd (false≢true (sym e))
+  dotless_of-after-step-is-same (y ∷ ys) e =
+      dotless_of-append xs s (y ∷ ys)
+      ∙ ap (λ o. steps o (s ∷ y ∷ ys) ++ closing (y ∷ ys))
+      (steps-of-dotless-append-all [] xs dotless)
+      ∙ sym (dotless_of-append (step_of xs s) y ys
       ∙ ap (λ o. steps o (y ∷ ys) ++ closing (y ∷ ys))
-      (steps_plain [] (step_of xs s) left_plain))
+      (steps-of-dotless-append-all [] (step_of xs s) segments-after-step-are-dotless))
 
-  cleaned_last : is_dot_segment s ≡ true
-      → cleaned (xs ++ s ∷ []) ≡ cleaned (step_of xs s ++ [] ∷ [])
+  dotless_of-last-dot-leaves-empty-segment : is_dot_segment s ≡ true
+      → dotless_of (xs ++ s ∷ []) ≡ dotless_of (step_of xs s ++ [] ∷ [])
   unfolding steps closing
-  cleaned_last dot =
-      cleaned_append xs s []
-      ∙ ap (λ o. steps o (s ∷ []) ++ end_of (is_dot_segment s)) (steps_plain [] xs plain)
+  dotless_of-last-dot-leaves-empty-segment dot =
+      dotless_of-append xs s []
+      ∙ ap (λ o. steps o (s ∷ []) ++ end_of (is_dot_segment s))
+      (steps-of-dotless-append-all [] xs dotless)
       ∙ ap (λ b. step_of xs s ++ end_of b) dot
-      ∙ sym (cleaned_closed (step_of xs s)
-      ∙ ap (λ o. o ++ [] ∷ []) (steps_plain [] (step_of xs s) left_plain))
+      ∙ sym (dotless_of-with-empty-last (step_of xs s)
+      ∙ ap (λ o. o ++ [] ∷ [])
+      (steps-of-dotless-append-all [] (step_of xs s) segments-after-step-are-dotless))
 
-  meets_none : Bool
-  meets_none = sunk (is_single_dot s) (is_double_dot s) false xs
+  segment-underflows : Bool
+  segment-underflows = underflows_at (is_single_dot s) (is_double_dot s) false xs
 
-  sinks_behind : (ys : List (List ℕ))
-      → sinks false [] (xs ++ s ∷ ys) ≡ (meets_none || sinks false [] (step_of xs s ++ ys))
-  unfolding sinks meets_none
-  sinks_behind ys =
-      sinks_append false [] xs (s ∷ ys)
-      ∙ ap (λ b. sinks b (steps [] xs) (s ∷ ys)) (sinks_plain false [] xs plain)
-      ∙ ap (λ o. sinks false o (s ∷ ys)) (steps_plain [] xs plain)
-      ∙ sinks_or meets_none (step_of xs s) ys
-      ∙ ap (λ b. meets_none || b) (sym (
-      sinks_append false [] (step_of xs s) ys
-      ∙ ap (λ b. sinks b (steps [] (step_of xs s)) ys)
-      (sinks_plain false [] (step_of xs s) left_plain)
-      ∙ ap (λ o. sinks false o ys) (steps_plain [] (step_of xs s) left_plain)))
+  underflow-at-segment-or-after-step : (ys : List (List ℕ))
+      → underflows_over false [] (xs ++ s ∷ ys)
+      ≡ (segment-underflows || underflows_over false [] (step_of xs s ++ ys))
+  unfolding underflows_over segment-underflows
+  underflow-at-segment-or-after-step ys =
+      underflows_over-of-append false [] xs (s ∷ ys)
+      ∙ ap (λ b. underflows_over b (steps [] xs) (s ∷ ys))
+      (dotless-segments-do-not-underflow false [] xs dotless)
+      ∙ ap (λ o. underflows_over false o (s ∷ ys)) (steps-of-dotless-append-all [] xs dotless)
+      ∙ underflows_over_is_or segment-underflows (step_of xs s) ys
+      ∙ ap (λ b. segment-underflows || b) (sym (
+      underflows_over-of-append false [] (step_of xs s) ys
+      ∙ ap (λ b. underflows_over b (steps [] (step_of xs s)) ys)
+      (dotless-segments-do-not-underflow false [] (step_of xs s) segments-after-step-are-dotless)
+      ∙ ap (λ o. underflows_over false o ys)
+      (steps-of-dotless-append-all [] (step_of xs s) segments-after-step-are-dotless)))
 
-  sinks_last : sinks false [] (xs ++ s ∷ [])
-      ≡ (meets_none || sinks false [] (step_of xs s ++ [] ∷ []))
-  sinks_last =
-      sinks_behind []
-      ∙ ap (λ b. meets_none || b) (ap (sinks false []) (append-nil (step_of xs s))
-      ∙ sym (sinks_closed false [] (step_of xs s)))
+  underflow-at-last-segment-or-after-step : underflows_over false [] (xs ++ s ∷ [])
+      ≡ (segment-underflows || underflows_over false [] (step_of xs s ++ [] ∷ []))
+  underflow-at-last-segment-or-after-step =
+      underflow-at-segment-or-after-step []
+      ∙ ap (λ b. segment-underflows || b) (ap (underflows_over false []) (append-nil (step_of xs s))
+      ∙ sym (trailing-slash-changes-no-underflow false [] (step_of xs s)))
 
--- the same of texts
-removed_behind : (xs : List (List ℕ)) (q : List ℕ) → NoSlashes xs
-    → remove_dot_segments (slashed (xs ++ [] ∷ []) ++ q) ≡ slashed (cleaned (xs ++ segments q))
-removed_behind xs q e = ap remove_dot_segments (behind xs q)
-    ∙ remove_slashed (xs ++ segments q) (behind_lacks xs q e)
+-- removing dot segments after a directory is removing them from its segments and the text's
+removing-dots-after-segments-and-slash : (xs : List (List ℕ)) (q : List ℕ) → NoSlashes xs
+    → remove_dot_segments (slashed (xs ++ [] ∷ []) ++ q) ≡ slashed (dotless_of (xs ++ segments q))
+removing-dots-after-segments-and-slash xs q e = ap remove_dot_segments
+    (path-after-slash-appends-its-segments xs q)
+    ∙ remove-dots-by-segments (xs ++ segments q) (appended-segments-lack-slashes xs q e)
 
-underflows_behind : (xs : List (List ℕ)) (q : List ℕ) → NoSlashes xs
-    → underflows (slashed (xs ++ [] ∷ []) ++ q) ≡ sinks false [] (xs ++ segments q)
-underflows_behind xs q e = ap underflows (behind xs q)
-    ∙ underflows_slashed (xs ++ segments q) (behind_lacks xs q e)
+-- removing dot segments: a directory and text q after it underflow
+-- exactly if its segments and those of q do
+underflow-after-segments-and-slash : (xs : List (List ℕ)) (q : List ℕ) → NoSlashes xs
+    → underflows (slashed (xs ++ [] ∷ []) ++ q) ≡ underflows_over false [] (xs ++ segments q)
+underflow-after-segments-and-slash xs q e = ap underflows
+    (path-after-slash-appends-its-segments xs q)
+    ∙ underflows-by-segments (xs ++ segments q) (appended-segments-lack-slashes xs q e)
 
-lone_lacks : (s : List ℕ) (rest : List (List ℕ)) → has_slash s ≡ false → NoSlashes rest
+-- paths: a segment without `/` before segments without any
+slashless-segment-and-rest-lack-slashes : (s : List ℕ) (rest : List (List ℕ)) → has_slash s ≡ false
+    → NoSlashes rest
     → NoSlashes (s ∷ rest)
-lone_lacks s rest e f = and_from _ _ (not_from_false _ e) f
+slashless-segment-and-rest-lack-slashes s rest e f = and_from _ _ (not_from_false _ e) f
 
-segments_last : (s : List ℕ) → has_slash s ≡ false → segments (s ++ []) ≡ s ∷ []
+-- paths: a text without `/` is its only segment
+segments-of-slashless-text-is-one : (s : List ℕ) → has_slash s ≡ false → segments (s ++ []) ≡ s ∷ []
 unfolding slashed
-segments_last s e = segments_behind s [] (lone_lacks s [] e refl)
+segments-of-slashless-text-is-one s e = segments-of-joined-segments s []
+    (slashless-segment-and-rest-lack-slashes s [] e refl)
 
-segments_next : (s r : List ℕ) → has_slash s ≡ false → segments (s ++ 47 ∷ r) ≡ s ∷ segments r
-segments_next s r e = ap (λ t. segments (s ++ t)) (sym (slashed_segments r))
-    ∙ segments_behind s (segments r) (lone_lacks s (segments r) e (segments_lack r))
+-- paths: the segments of a text with a first `/` (47) are what is before it,
+-- and those of what is after it
+segments-split-at-first-slash : (s r : List ℕ) → has_slash s ≡ false → segments (s ++ 47 ∷ r)
+    ≡ s ∷ segments r
+segments-split-at-first-slash s r e = ap (λ t. segments (s ++ t))
+    (sym (slashed-of-segments-is-text-after-slash r))
+    ∙ segments-of-joined-segments s (segments r)
+    (slashless-segment-and-rest-lack-slashes s (segments r) e (segments-of-text-lack-slashes r))
 
-pub absolute_is : (path : List ℕ) → IsAbsolute path → path ≡ 47 ∷ drop 1 path
-absolute_is [] h = absurd (false≢true (true_of _ h))
-absolute_is (c ∷ rest) h = ap (λ d. d ∷ rest) (eqb-true c 47 (true_of _ h))
+-- paths: an absolute path is `/` (47) and a rest
+pub absolute-path-is-slash-and-rest : (path : List ℕ) → IsAbsolute path → path ≡ 47 ∷ drop 1 path
+absolute-path-is-slash-and-rest [] h = absurd (false≢true (eq_true_from_IsTrue _ h))
+absolute-path-is-slash-and-rest (c ∷ rest) h = ap (λ d. d ∷ rest)
+    (eqb-true c 47 (eq_true_from_IsTrue _ h))
 
-module _ (xs : List (List ℕ)) (plain : Passes is_plain xs) (lack : NoSlashes xs) (s : List ℕ)
+module _ (xs : List (List ℕ)) (dotless : AllPass is_dotless xs) (lack : NoSlashes xs) (s : List ℕ)
     (free : has_slash s ≡ false) (dot : is_dot_segment s ≡ true) where
-  left_lacks : NoSlashes (step_of xs s)
+  segments-after-step-lack-slashes : NoSlashes (step_of xs s)
   unfolding step_of
-  left_lacks = turn_passes lacks_slash (is_single_dot s) (is_double_dot s) xs s lack
+  segments-after-step-lack-slashes = next_output-passes-test lacks_slash (is_single_dot s)
+      (is_double_dot s) xs s lack
       (λ e. not_from_false _ free)
 
-  removed_last : remove_dot_segments (slashed (xs ++ [] ∷ []) ++ (s ++ []))
+  removing-dots-after-last-dot-segment : remove_dot_segments (slashed (xs ++ [] ∷ []) ++ (s ++ []))
       ≡ remove_dot_segments (slashed (step_of xs s ++ [] ∷ []) ++ [])
-  removed_last =
-      removed_behind xs (s ++ []) lack
-      ∙ ap (λ segs. slashed (cleaned (xs ++ segs))) (segments_last s free)
-      ∙ ap slashed (cleaned_last xs plain s dot) ∙ sym (removed_behind (step_of xs s) [] left_lacks)
+  removing-dots-after-last-dot-segment =
+      removing-dots-after-segments-and-slash xs (s ++ []) lack
+      ∙ ap (λ segs. slashed (dotless_of (xs ++ segs))) (segments-of-slashless-text-is-one s free)
+      ∙ ap slashed (dotless_of-last-dot-leaves-empty-segment xs dotless s dot)
+      ∙ sym (removing-dots-after-segments-and-slash
+      (step_of xs s) [] segments-after-step-lack-slashes)
 
-  removed_next : (r : List ℕ)
+  removing-dots-after-inner-dot-segment : (r : List ℕ)
       → remove_dot_segments (slashed (xs ++ [] ∷ []) ++ (s ++ 47 ∷ r))
       ≡ remove_dot_segments (slashed (step_of xs s ++ [] ∷ []) ++ r)
-  removed_next r =
-      removed_behind xs (s ++ 47 ∷ r) lack
-      ∙ ap (λ segs. slashed (cleaned (xs ++ segs))) (segments_next s r free)
-      ∙ ap slashed (cleaned_behind xs plain s (segments r) (segments_some r))
-      ∙ sym (removed_behind (step_of xs s) r left_lacks)
+  removing-dots-after-inner-dot-segment r =
+      removing-dots-after-segments-and-slash xs (s ++ 47 ∷ r) lack
+      ∙ ap (λ segs. slashed (dotless_of (xs ++ segs))) (segments-split-at-first-slash s r free)
+      ∙ ap slashed (dotless_of-after-step-is-same xs dotless s (segments r)
+      (segments-of-text-are-not-none r))
+      ∙ sym (removing-dots-after-segments-and-slash
+      (step_of xs s) r segments-after-step-lack-slashes)
 
-  pub removed_dot : (rest : List ℕ) → IsRooted rest
+  pub removing-dots-after-directory : (rest : List ℕ) → IsAbemptyPath rest
       → remove_dot_segments (slashed (xs ++ [] ∷ []) ++ (s ++ rest))
       ≡ remove_dot_segments (slashed (step_of xs s ++ [] ∷ []) ++ drop 1 rest)
-  removed_dot = rooted (λ rest. remove_dot_segments (slashed (xs ++ [] ∷ []) ++ (s ++ rest))
+  removing-dots-after-directory = rooted
+      (λ rest. remove_dot_segments (slashed (xs ++ [] ∷ []) ++ (s ++ rest))
       ≡ remove_dot_segments (slashed (step_of xs s ++ [] ∷ []) ++ drop 1 rest))
-      removed_last (λ rest h. ap (λ t. remove_dot_segments (slashed (xs ++ [] ∷ []) ++ (s ++ t)))
-      (absolute_is rest h) ∙ removed_next (drop 1 rest))
+      removing-dots-after-last-dot-segment
+      (λ rest h. ap (λ t. remove_dot_segments (slashed (xs ++ [] ∷ []) ++ (s ++ t)))
+      (absolute-path-is-slash-and-rest rest h) ∙ removing-dots-after-inner-dot-segment
+      (drop 1 rest))
 
-  sinks_at : Bool
-  sinks_at = meets_none xs plain s
+  dot-segment-underflows : Bool
+  dot-segment-underflows = segment-underflows xs dotless s
 
-  underflows_last : underflows (slashed (xs ++ [] ∷ []) ++ (s ++ []))
-      ≡ (sinks_at || underflows (slashed (step_of xs s ++ [] ∷ []) ++ []))
-  unfolding sinks_at
-  underflows_last =
-      underflows_behind xs (s ++ []) lack
-      ∙ ap (λ segs. sinks false [] (xs ++ segs)) (segments_last s free)
-      ∙ sinks_last xs plain s
-      ∙ ap (λ b. sinks_at || b) (sym (underflows_behind (step_of xs s) [] left_lacks))
+  underflow-at-last-dot-segment : underflows (slashed (xs ++ [] ∷ []) ++ (s ++ []))
+      ≡ (dot-segment-underflows || underflows (slashed (step_of xs s ++ [] ∷ []) ++ []))
+  unfolding dot-segment-underflows
+  underflow-at-last-dot-segment =
+      underflow-after-segments-and-slash xs (s ++ []) lack
+      ∙ ap (λ segs. underflows_over false [] (xs ++ segs))
+      (segments-of-slashless-text-is-one s free)
+      ∙ underflow-at-last-segment-or-after-step xs dotless s
+      ∙ ap (λ b. dot-segment-underflows || b)
+      (sym (underflow-after-segments-and-slash (step_of xs s) [] segments-after-step-lack-slashes))
 
-  underflows_next : (r : List ℕ)
+  underflow-at-inner-dot-segment : (r : List ℕ)
       → underflows (slashed (xs ++ [] ∷ []) ++ (s ++ 47 ∷ r))
-      ≡ (sinks_at || underflows (slashed (step_of xs s ++ [] ∷ []) ++ r))
-  unfolding sinks_at
-  underflows_next r =
-      underflows_behind xs (s ++ 47 ∷ r) lack
-      ∙ ap (λ segs. sinks false [] (xs ++ segs)) (segments_next s r free)
-      ∙ sinks_behind xs plain s (segments r)
-      ∙ ap (λ b. sinks_at || b) (sym (underflows_behind (step_of xs s) r left_lacks))
+      ≡ (dot-segment-underflows || underflows (slashed (step_of xs s ++ [] ∷ []) ++ r))
+  unfolding dot-segment-underflows
+  underflow-at-inner-dot-segment r =
+      underflow-after-segments-and-slash xs (s ++ 47 ∷ r) lack
+      ∙ ap (λ segs. underflows_over false [] (xs ++ segs)) (segments-split-at-first-slash s r free)
+      ∙ underflow-at-segment-or-after-step xs dotless s (segments r)
+      ∙ ap (λ b. dot-segment-underflows || b)
+      (sym (underflow-after-segments-and-slash (step_of xs s) r segments-after-step-lack-slashes))
 
-  pub underflows_dot : (rest : List ℕ) → IsRooted rest
+  pub underflow-after-directory : (rest : List ℕ) → IsAbemptyPath rest
       → underflows (slashed (xs ++ [] ∷ []) ++ (s ++ rest))
-      ≡ (sunk (is_single_dot s) (is_double_dot s) false xs
+      ≡ (underflows_at (is_single_dot s) (is_double_dot s) false xs
       || underflows (slashed (step_of xs s ++ [] ∷ []) ++ drop 1 rest))
-  unfolding sinks_at meets_none
-  underflows_dot = rooted (λ rest. underflows (slashed (xs ++ [] ∷ []) ++ (s ++ rest))
-      ≡ (sinks_at || underflows (slashed (step_of xs s ++ [] ∷ []) ++ drop 1 rest)))
-      underflows_last (λ rest h. ap (λ t. underflows (slashed (xs ++ [] ∷ []) ++ (s ++ t)))
-      (absolute_is rest h) ∙ underflows_next (drop 1 rest))
+  unfolding dot-segment-underflows segment-underflows
+  underflow-after-directory = rooted (λ rest. underflows (slashed (xs ++ [] ∷ []) ++ (s ++ rest))
+      ≡ (dot-segment-underflows || underflows (slashed (step_of xs s ++ [] ∷ []) ++ drop 1 rest)))
+      underflow-at-last-dot-segment
+      (λ rest h. ap (λ t. underflows (slashed (xs ++ [] ∷ []) ++ (s ++ t)))
+      (absolute-path-is-slash-and-rest rest h) ∙ underflow-at-inner-dot-segment (drop 1 rest))
 
--- a dot segment at the end leaves the `/` that may be after it
-closing_slashed : (xs : List (List ℕ)) (y : List ℕ) → is_dot_segment y ≡ true
-    → cleaned (xs ++ y ∷ []) ≡ cleaned ((xs ++ y ∷ []) ++ [] ∷ [])
-unfolding cleaned steps closing
-closing_slashed xs y dot =
-    ap (λ t. steps [] (xs ++ y ∷ []) ++ t) (closing_append xs y [] ∙ ap end_of dot)
-    ∙ sym (cleaned_closed (xs ++ y ∷ []))
+-- removing dot segments: one at the end leaves the `/` that may be after it
+last-dot-segment-leaves-closing-slash : (xs : List (List ℕ)) (y : List ℕ) → is_dot_segment y ≡ true
+    → dotless_of (xs ++ y ∷ []) ≡ dotless_of ((xs ++ y ∷ []) ++ [] ∷ [])
+unfolding dotless_of steps closing
+last-dot-segment-leaves-closing-slash xs y dot =
+    ap (λ t. steps [] (xs ++ y ∷ []) ++ t) (closing-of-append xs y [] ∙ ap end_of dot)
+    ∙ sym (dotless_of-with-empty-last (xs ++ y ∷ []))
 
-record Slashed (front : List ℕ) : Type 0 where
+record IsOfSlashedSegments (prefix : List ℕ) : Type 0 where
   segs : List (List ℕ)
-  whole : slashed segs ≡ front
+  whole : slashed segs ≡ prefix
   lack : NoSlashes segs
 
-slashed_nil : slashed [] ≡ []
+-- paths: no segments are the empty text
+slashed-of-no-segments-is-empty : slashed [] ≡ []
 unfolding slashed
-slashed_nil = refl
+slashed-of-no-segments-is-empty = refl
 
-front_slashed : (front y : List ℕ) → IsAbsolute (front ++ 47 ∷ y) → Slashed front
-front_slashed [] y h = record { segs = []; whole = slashed_nil; lack = refl }
-front_slashed (c ∷ front) y h = record {
-  segs = segments front;
-  whole = slashed_segments front ∙ ap (λ d. d ∷ front) (sym (eqb-true c 47 (true_of _ h)));
-  lack = segments_lack front;
+-- paths: what is before a `/` (47) in an absolute path is segments, each after a `/`
+prefix-before-slash-is-slashed-segments : (prefix y : List ℕ) → IsAbsolute (prefix ++ 47 ∷ y)
+    → IsOfSlashedSegments prefix
+prefix-before-slash-is-slashed-segments [] y h =
+    record { segs = []; whole = slashed-of-no-segments-is-empty; lack = refl }
+prefix-before-slash-is-slashed-segments (c ∷ prefix) y h = record {
+  segs = segments prefix;
+  whole = slashed-of-segments-is-text-after-slash prefix
+      ∙ ap (λ d. d ∷ prefix) (sym (eqb-true c 47 (eq_true_from_IsTrue _ h)));
+  lack = segments-of-text-lack-slashes prefix;
 }
 
-pub closing_dots : (front y : List ℕ) → IsAbsolute (front ++ 47 ∷ y) → has_slash y ≡ false
+-- removing dot segments: a `..` (y) at the end leaves a `/`, as if there were a `/` after it
+pub trailing-double-dot-leaves-slash : (prefix y : List ℕ) → IsAbsolute (prefix ++ 47 ∷ y)
+    → has_slash y ≡ false
     → is_double_dot y ≡ true
-    → remove_dot_segments (front ++ 47 ∷ y) ≡ remove_dot_segments ((front ++ 47 ∷ y) ++ 47 ∷ [])
-closing_dots front y h free double =
-    let f = front_slashed front y h in
-    let lack = append_passes lacks_slash f.segs (y ∷ []) f.lack (lone_lacks y [] free refl) in
-    let text : slashed (f.segs ++ y ∷ []) ≡ front ++ 47 ∷ y = slashed_push f.segs y
+    → remove_dot_segments (prefix ++ 47 ∷ y) ≡ remove_dot_segments ((prefix ++ 47 ∷ y) ++ 47 ∷ [])
+trailing-double-dot-leaves-slash prefix y h free double =
+    let f = prefix-before-slash-is-slashed-segments prefix y h in
+    let lack = appended-segments-pass-test lacks_slash f.segs (y ∷ []) f.lack
+    (slashless-segment-and-rest-lack-slashes y [] free refl) in
+    let text : slashed (f.segs ++ y ∷ []) ≡ prefix ++ 47 ∷ y = slashed-of-push f.segs y
     ∙ ap (λ t. t ++ 47 ∷ y) f.whole in
-    let closed : slashed ((f.segs ++ y ∷ []) ++ [] ∷ []) ≡ (front ++ 47 ∷ y) ++ 47 ∷ [] =
-    slashed_push (f.segs ++ y ∷ []) [] ∙ ap (λ t. t ++ 47 ∷ []) text in
-    ap remove_dot_segments (sym text) ∙ remove_slashed (f.segs ++ y ∷ []) lack
-    ∙ ap slashed (closing_slashed f.segs y (or_right (is_single_dot y) _ double))
-    ∙ sym (remove_slashed ((f.segs ++ y ∷ []) ++ [] ∷ []) (closed_lacks (f.segs ++ y ∷ []) lack))
+    let closed : slashed ((f.segs ++ y ∷ []) ++ [] ∷ []) ≡ (prefix ++ 47 ∷ y) ++ 47 ∷ [] =
+    slashed-of-push (f.segs ++ y ∷ []) [] ∙ ap (λ t. t ++ 47 ∷ []) text in
+    ap remove_dot_segments (sym text) ∙ remove-dots-by-segments (f.segs ++ y ∷ []) lack
+    ∙ ap slashed (last-dot-segment-leaves-closing-slash f.segs y
+    (or_right (is_single_dot y) _ double))
+    ∙ sym (remove-dots-by-segments ((f.segs ++ y ∷ []) ++ [] ∷ [])
+    (segments-with-empty-last-lack-slashes (f.segs ++ y ∷ []) lack))
     ∙ ap remove_dot_segments closed

@@ -4,92 +4,119 @@ use Rattle.std.proofs.Common.{◌∙◌, ◌&&◌, arith}
 use Rattle.std.specs.Prelude.{codes, slice_index, ◌==◌}
 use Rattle.std.specs.Str.{IsUtf8}
 use Rattle.std.proofs.lemmas.Bool.{and_parts, eqb-true, false≢true, ne_eqb}
-use Rattle.uri_pct.specs.Reading.{read}
+use Rattle.uri_pct.specs.DecodeUnreserved.{decode_unreserved}
 use Rattle.uri_pct.specs.Sets.{TableSet}
 use Rattle.uri_pct.specs.Tables.{set_of}
 use Rattle.uri_pct.specs.Tokens.{print}
 use Rattle.uri_ops.specs.ComponentSets.{IsComponentSet}
 use Rattle.uri_ops.specs.Dots.{IsAbsolute, remove_dot_segments, underflows}
-use Rattle.uri_ops.specs.Models.Directories.{IsPlainDirectory}
-use Rattle.uri_ops.specs.Models.SegmentModes.{IsInPieces, IsPathPiece, in_pieces}
+use Rattle.uri_ops.specs.Models.Directories.{IsDotlessDirectory}
+use Rattle.uri_ops.specs.Models.SegmentModes.{IsTextForMode, IsValidForPathSet, text_by_mode}
 use Rattle.uri_ops.specs.declared.path.segment_mode.SegmentMode.{SegmentMode}
-use Rattle.uri_ops.specs.declared.path.segment_mode.SegmentMode.TheVariants.{Copied, Read}
-use Rattle.uri_ops.proofs.Meanings.AllowedParts.{is_part, part_from, part_valid, reprinted}
-use Rattle.uri_ops.proofs.Meanings.AllowedParts.{reprinted-nil}
-use Rattle.uri_ops.proofs.Paths.LeftPaths.{directory_slashed}
-use Rattle.uri_ops.proofs.Paths.Piecewise.{IsPiecewise, reading, unchanged}
-use Rattle.uri_ops.proofs.Paths.ReadPaths.{part_cut, removed_reprinted, reprinted_first}
-use Rattle.uri_ops.proofs.Paths.ReadPaths.{underflows_reprinted}
+use Rattle.uri_ops.specs.declared.path.segment_mode.SegmentMode.TheVariants.{Copied, Decoded}
+use Rattle.uri_ops.proofs.Meanings.AllowedParts.{is_set_text, set-text-from-utf8, set-text-is-valid}
+use Rattle.uri_ops.proofs.Meanings.AllowedParts.{print_decoded}
+use Rattle.uri_ops.proofs.Meanings.AllowedParts.{print_decoded-of-nil-is-nil}
+use Rattle.uri_ops.proofs.Paths.LeftPaths.{slashed-dotless-segments-are-directory}
+use Rattle.uri_ops.proofs.Paths.Piecewise.{KeepsSlashesAndDots, decoding-keeps-slashes-and-dots}
+use Rattle.uri_ops.proofs.Paths.Piecewise.{identity-keeps-slashes-and-dots}
+use Rattle.uri_ops.proofs.Paths.DecodedPaths.{set-text-splits, removing-dots-and-decoding-swap}
+use Rattle.uri_ops.proofs.Paths.DecodedPaths.{decoding-keeps-first-slash}
+use Rattle.uri_ops.proofs.Paths.DecodedPaths.{decoding-keeps-underflow}
 use Rattle.uri_ops.proofs.Paths.SlashedSegments.{slashed}
-use Rattle.uri_ops.proofs.Paths.TakenSegments.{absolute_is}
+use Rattle.uri_ops.proofs.Paths.TakenSegments.{absolute-path-is-slash-and-rest}
 
 -- which texts may be appended so
-abbrev pub is_piece : SegmentMode → List ℕ → Bool
-is_piece Copied text = true
-is_piece (Read table) text = is_part (set_of table.now) text
+abbrev pub is_text_for_mode : SegmentMode → List ℕ → Bool
+is_text_for_mode Copied text = true
+is_text_for_mode (Decoded table) text = is_set_text (set_of table.now) text
 
-pub piecewise : (pieces : SegmentMode) (path : List ℕ) → IsInPieces pieces path
-    → IsPiecewise (in_pieces pieces) (is_piece pieces)
-unfolding reprinted
-piecewise Copied path h = unchanged
-piecewise (Read table) path h = reading (set_of table.now) h.component h.slash
+-- normalising and resolving paths: both ways to append a path, copied or decoded,
+-- keep its slashes and dot segments
+pub segment-mode-keeps-slashes-and-dots : (pieces : SegmentMode) (path : List ℕ)
+    → IsTextForMode pieces path
+    → KeepsSlashesAndDots (text_by_mode pieces) (is_text_for_mode pieces)
+unfolding print_decoded
+segment-mode-keeps-slashes-and-dots Copied path h = identity-keeps-slashes-and-dots
+segment-mode-keeps-slashes-and-dots (Decoded table) path h = decoding-keeps-slashes-and-dots
+    (set_of table.now) h.component h.slash
 
-pub whole_piece : (pieces : SegmentMode) (path : List ℕ) → IsUtf8 path → IsInPieces pieces path
-    → is_piece pieces path ≡ true
-whole_piece Copied path u h = refl
-whole_piece (Read table) path u h = part_from (set_of table.now) path u h.valid
+-- normalising and resolving paths: a whole path passes the test of the mode, copied or decoded
+pub whole-path-is-for-mode : (pieces : SegmentMode) (path : List ℕ) → IsUtf8 path
+    → IsTextForMode pieces path
+    → is_text_for_mode pieces path ≡ true
+whole-path-is-for-mode Copied path u h = refl
+whole-path-is-for-mode (Decoded table) path u h = set-text-from-utf8
+    (set_of table.now) path u h.valid
 
-pub each_piece : (pieces : SegmentMode) (path piece : List ℕ) → IsInPieces pieces path
-    → is_piece pieces piece ≡ true → IsInPieces pieces piece
-each_piece Copied path piece h e = tt
-each_piece (Read table) path piece h e = record {
+-- normalising and resolving paths: a piece of a path may be
+-- appended in the mode that the path is, copied or decoded
+pub part-of-path-is-for-mode : (pieces : SegmentMode) (path piece : List ℕ)
+    → IsTextForMode pieces path
+    → is_text_for_mode pieces piece ≡ true → IsTextForMode pieces piece
+part-of-path-is-for-mode Copied path piece h e = tt
+part-of-path-is-for-mode (Decoded table) path piece h e = record {
   component = h.component;
   slash = h.slash;
-  valid = part_valid (set_of table.now) piece e;
+  valid = set-text-is-valid (set_of table.now) piece e;
 }
 
--- a `/` by itself
-pub slash_alone : (text : List ℕ) → (length text == 1 && slice_index text 0 == 47) ≡ true
+-- paths: a text of one byte that is 47 is `/`
+pub text-of-one-byte-slash-is-slash : (text : List ℕ)
+    → (length text == 1 && slice_index text 0 == 47) ≡ true
     → text ≡ codes "/"
-slash_alone [] e = absurd (false≢true e)
-slash_alone (c ∷ []) e = ap (λ d. d ∷ []) (eqb-true c 47 e)
-slash_alone (c ∷ d ∷ text) e = absurd
+text-of-one-byte-slash-is-slash [] e = absurd (false≢true e)
+text-of-one-byte-slash-is-slash (c ∷ []) e = ap (λ d. d ∷ []) (eqb-true c 47 e)
+text-of-one-byte-slash-is-slash (c ∷ d ∷ text) e = absurd
     (false≢true (sym (ne_eqb (length (c ∷ d ∷ text)) 1 (λ h. omega (arith, h)))
     ∙ (and_parts _ _ e).0))
 
-pub slash_read : (set : TableSet) → print (read set (codes "/")) ≡ codes "/"
-unfolding reprinted
-slash_read set = reprinted_first set [] ∙ ap (λ t. 47 ∷ t) (reprinted-nil set)
+-- normal paths: `/` is its own decoded form
+pub slash-decodes-to-slash : (set : TableSet) → print (decode_unreserved set (codes "/"))
+    ≡ codes "/"
+unfolding print_decoded
+slash-decodes-to-slash set = decoding-keeps-first-slash set []
+    ∙ ap (λ t. 47 ∷ t) (print_decoded-of-nil-is-nil set)
 
-pub root_directory : IsPlainDirectory (codes "/")
+-- paths: `/` is a directory without dot segments
+pub root-is-dotless-directory : IsDotlessDirectory (codes "/")
 unfolding slashed
-root_directory = directory_slashed [] refl refl
+root-is-dotless-directory = slashed-dotless-segments-are-directory [] refl refl
 
 -- a decoded path that begins with `/`: the `/`, and then the segments
 
 module _ (set : TableSet) (w : IsComponentSet (codes "?#[]") set) (slash : set.ascii 47 ≡ true)
-    (path rest : List ℕ) (absolute : IsAbsolute path) (e : is_part set path ≡ true)
+    (path rest : List ℕ) (absolute : IsAbsolute path) (e : is_set_text set path ≡ true)
     (is : rest ≡ drop 1 path) where
-  root_and_rest : path ≡ 47 ∷ rest
-  root_and_rest = absolute_is path absolute ∙ ap (λ t. 47 ∷ t) (sym is)
+  absolute-path-is-root-and-rest : path ≡ 47 ∷ rest
+  absolute-path-is-root-and-rest = absolute-path-is-slash-and-rest path absolute
+      ∙ ap (λ t. 47 ∷ t) (sym is)
 
-  pub rest_piece : IsPathPiece set rest
-  rest_piece = record {
+  pub path-after-root-is-valid-for-set : IsValidForPathSet set rest
+  path-after-root-is-valid-for-set = record {
     component = w;
     slash = slash;
-    valid = part_valid set rest (part_cut set [] rest (ap (is_part set) (sym root_and_rest) ∙ e)).1;
+    valid = set-text-is-valid set rest
+        (set-text-splits set [] rest (ap (is_set_text set) (sym absolute-path-is-root-and-rest)
+        ∙ e)).1;
   }
 
-  read_behind : codes "/" ++ print (read set rest) ≡ reprinted set path
-  unfolding reprinted
-  read_behind = sym (ap (reprinted set) root_and_rest ∙ reprinted_first set rest)
+  root-and-decoded-rest-are-decoded-path : codes "/" ++ print (decode_unreserved set rest)
+      ≡ print_decoded set path
+  unfolding print_decoded
+  root-and-decoded-rest-are-decoded-path = sym
+      (ap (print_decoded set) absolute-path-is-root-and-rest ∙ decoding-keeps-first-slash set rest)
 
-  pub root_removed : remove_dot_segments (codes "/" ++ print (read set rest))
-      ≡ print (read set (remove_dot_segments path))
-  unfolding reprinted
-  root_removed = ap remove_dot_segments read_behind
-      ∙ removed_reprinted set w.percent w.unreserved path absolute e
+  pub root-and-decoded-rest-lose-dots-as-path : remove_dot_segments
+      (codes "/" ++ print (decode_unreserved set rest))
+      ≡ print (decode_unreserved set (remove_dot_segments path))
+  unfolding print_decoded
+  root-and-decoded-rest-lose-dots-as-path = ap remove_dot_segments
+      root-and-decoded-rest-are-decoded-path
+      ∙ removing-dots-and-decoding-swap set w.percent w.unreserved path absolute e
 
-  pub root_underflows : underflows (codes "/" ++ print (read set rest)) ≡ underflows path
-  root_underflows = ap underflows read_behind
-      ∙ underflows_reprinted set w.percent w.unreserved path absolute e
+  pub root-and-decoded-rest-underflow-as-path : underflows
+      (codes "/" ++ print (decode_unreserved set rest))
+      ≡ underflows path
+  root-and-decoded-rest-underflow-as-path = ap underflows root-and-decoded-rest-are-decoded-path
+      ∙ decoding-keeps-underflow set w.percent w.unreserved path absolute e

@@ -8,32 +8,41 @@ use Rattle.std.proofs.lemmas.Bool.{cases_Bool, and_parts, cond-true, cond-false,
 use Rattle.std.proofs.lemmas.Bool.{false≢true}
 use Rattle.uri_pct.specs.Sets.{TableSet}
 use Rattle.uri_pct.specs.Tokens.{print}
-use Rattle.uri_pct.specs.Reading.{read}
-use Rattle.uri_parts.specs.Components.{Components, starts, has_authority, IsRooted}
+use Rattle.uri_pct.specs.DecodeUnreserved.{decode_unreserved}
+use Rattle.uri_parts.specs.Components.{Components, starts, has_authority, IsAbemptyPath}
 use Rattle.uri_parts.specs.Grammar.{Kind, is_authority}
 use Rattle.uri_ops.specs.Dots.{is_empty, directory}
-use Rattle.uri_ops.specs.Target.{is_opaque, is_fragment_only, is_refused_as_opaque, joined}
-use Rattle.uri_ops.specs.Target.{cleaned_path, guarded}
+use Rattle.uri_ops.specs.Target.{is_opaque, is_fragment_only, is_opaque_rejection, dotted_target}
+use Rattle.uri_ops.specs.Target.{dotless_if_absolute, guarded}
 use Rattle.uri_ops.specs.ComponentSets.{IsComponentSet, HasComponentSets}
 use Rattle.uri_parts.specs.Ports.{PortFunction}
 use Rattle.uri_ops.specs.Meaning.{Meaning, authority_meaning, components_meaning}
 use Rattle.uri_ops.specs.Normal.{normal_authority, normal_components}
 use Rattle.uri_ops.specs.NormalTargets.{reference_kind}
-use Rattle.uri_ops.proofs.Meanings.AllowedParts.{is_part, reprinted, reprinted-nil, read-reprinted}
-use Rattle.uri_ops.proofs.Paths.ReadStarts.{empty_reprinted, starts_reprinted}
-use Rattle.uri_ops.proofs.Paths.PathMeanings.{authority_first, starts_cleaned, cleaned_twice}
-use Rattle.uri_ops.proofs.Paths.PathMeanings.{cleaned_guarded, part_cleaned, cleaned_reprinted}
-use Rattle.uri_ops.proofs.Meanings.PortMeanings.{with_default, authority_meaning-bare}
-use Rattle.uri_ops.proofs.Meanings.TextParts.{AreParts}
-use Rattle.uri_ops.proofs.Meanings.PlainTexts.{lower_twice}
-use Rattle.uri_ops.proofs.Normal.NormalComponents.{printed_read, normal_meaning}
-use Rattle.uri_ops.proofs.Meanings.AuthorityMeanings.{keeps_authorities}
-use Rattle.uri_ops.proofs.Paths.MergedPaths.{cleaned_merged}
-use Rattle.uri_pct.proofs.Tests.{none_map}
+use Rattle.uri_ops.proofs.Meanings.AllowedParts.{is_set_text, print_decoded}
+use Rattle.uri_ops.proofs.Meanings.AllowedParts.{print_decoded-of-nil-is-nil}
+use Rattle.uri_ops.proofs.Meanings.AllowedParts.{decode_unreserved-is-idempotent}
+use Rattle.uri_ops.proofs.Paths.DecodedStarts.{decoding-keeps-emptiness}
+use Rattle.uri_ops.proofs.Paths.DecodedStarts.{decoding-keeps-leading-slash}
+use Rattle.uri_ops.proofs.Paths.PathMeanings.{two-slashes-begin-with-slash}
+use Rattle.uri_ops.proofs.Paths.PathMeanings.{removing-dots-keeps-leading-slash}
+use Rattle.uri_ops.proofs.Paths.PathMeanings.{dotless_if_absolute-is-idempotent}
+use Rattle.uri_ops.proofs.Paths.PathMeanings.{guard-is-removed-as-dot-segment}
+use Rattle.uri_ops.proofs.Paths.PathMeanings.{path-without-dots-is-set-text}
+use Rattle.uri_ops.proofs.Paths.PathMeanings.{dotless_if_absolute-and-decoding-swap}
+use Rattle.uri_ops.proofs.Meanings.PortMeanings.{with_default, bare-authority-meaning-with_default}
+use Rattle.uri_ops.proofs.Meanings.TextParts.{ArePartsOfKind}
+use Rattle.uri_ops.proofs.Meanings.AsciiCharacters.{lowering-is-idempotent}
+use Rattle.uri_ops.proofs.Normal.NormalComponents.{normal-component-decodes-as-component}
+use Rattle.uri_ops.proofs.Normal.NormalComponents.{normal-components-have-same-meaning}
+use Rattle.uri_ops.proofs.Meanings.AuthorityMeanings.{normal-authorities-are-authorities}
+use Rattle.uri_ops.proofs.Paths.MergedPaths.{merged-normal-paths-decode-as-merged}
+use Rattle.uri_pct.proofs.Tests.{is_none-option_map}
 
-abbrev pub of_parts : Option (List ℕ) → Option (List ℕ) → List ℕ → Option (List ℕ) → Option (List ℕ)
+abbrev pub components_of_parts : Option (List ℕ) → Option (List ℕ) → List ℕ → Option (List ℕ)
+    → Option (List ℕ)
     → Components
-of_parts scheme authority path query fragment =
+components_of_parts scheme authority path query fragment =
     record {
       scheme = scheme;
       authority = authority;
@@ -43,50 +52,58 @@ of_parts scheme authority path query fragment =
           fragment;
     }
 
--- components with a scheme
+-- what holds of all components with `Some` scheme holds of components that have a scheme
 pub with_scheme : (P : Components → Type 0)
     → ((s : List ℕ) (a : Option (List ℕ)) (p : List ℕ) (q f : Option (List ℕ))
-    → P (of_parts (Some s) a p q f))
+    → P (components_of_parts (Some s) a p q f))
     → (c : Components) → is_some c.scheme ≡ true → P c
 with_scheme P each c h = some c.scheme h
   where
     some : (o : Option (List ℕ)) → is_some o ≡ true
-        → P (of_parts o c.authority c.path c.query c.fragment)
+        → P (components_of_parts o c.authority c.path c.query c.fragment)
     some None e = absurd (false≢true e)
     some (Some s) e = each s c.authority c.path c.query c.fragment
 
 module _ (set : TableSet) (w : IsComponentSet (codes "?#[]") set)
     (slash : set.ascii 47 ≡ true) where
   -- dot segments may be removed from a path or from its decoded form
-  read_cleaned : (path : List ℕ) → is_part set path ≡ true
-      → read set (cleaned_path (print (read set path))) ≡ read set (cleaned_path path)
-  unfolding reprinted
-  read_cleaned path e = ap (read set) (cleaned_reprinted set w slash path e)
-      ∙ read-reprinted set w.percent (cleaned_path path) (part_cleaned set w slash path e)
+  removing-dots-of-decoded-path-decodes-same : (path : List ℕ) → is_set_text set path ≡ true
+      → decode_unreserved set (dotless_if_absolute (print (decode_unreserved set path)))
+      ≡ decode_unreserved set (dotless_if_absolute path)
+  unfolding print_decoded
+  removing-dots-of-decoded-path-decodes-same path e = ap (decode_unreserved set)
+      (dotless_if_absolute-and-decoding-swap set w slash path e)
+      ∙ decode_unreserved-is-idempotent set w.percent (dotless_if_absolute path)
+      (path-without-dots-is-set-text set w slash path e)
 
-  empty_printed : (path : List ℕ) → is_part set path ≡ true
-      → is_empty (print (read set path)) ≡ is_empty path
-  unfolding reprinted
-  empty_printed path e = empty_reprinted set w.percent w.unreserved path e
+  normal-path-keeps-emptiness : (path : List ℕ) → is_set_text set path ≡ true
+      → is_empty (print (decode_unreserved set path)) ≡ is_empty path
+  unfolding print_decoded
+  normal-path-keeps-emptiness path e = decoding-keeps-emptiness set w.percent w.unreserved path e
 
-  starts_printed : (path : List ℕ) → is_part set path ≡ true
-      → starts 47 (print (read set path)) ≡ starts 47 path
-  unfolding reprinted
-  starts_printed path e = starts_reprinted set w.percent w.unreserved path e
+  normal-path-keeps-leading-slash : (path : List ℕ) → is_set_text set path ≡ true
+      → starts 47 (print (decode_unreserved set path)) ≡ starts 47 path
+  unfolding print_decoded
+  normal-path-keeps-leading-slash path e = decoding-keeps-leading-slash set w.percent
+      w.unreserved path e
 
   -- the path that is merged
-  merged_read : (authority : Option (List ℕ)) (base path : List ℕ) → IsRooted base
-      → is_part set base ≡ true → is_part set path ≡ true
-      → read set
-      (cleaned_path (directory (guarded authority (print (read set (cleaned_path base))))
-      ++ print (read set path)))
-      ≡ read set (cleaned_path (directory base ++ path))
-  unfolding reprinted
-  merged_read authority base path h e f = cleaned_merged set w slash authority base path h e f
+  merged-normal-path-decodes-same : (authority : Option (List ℕ)) (base path : List ℕ)
+      → IsAbemptyPath base
+      → is_set_text set base ≡ true → is_set_text set path ≡ true
+      → decode_unreserved set
+      (dotless_if_absolute (directory (guarded authority
+      (print (decode_unreserved set (dotless_if_absolute base))))
+      ++ print (decode_unreserved set path)))
+      ≡ decode_unreserved set (dotless_if_absolute (directory base ++ path))
+  unfolding print_decoded
+  merged-normal-path-decodes-same authority base path h e f = merged-normal-paths-decode-as-merged
+      set w slash
+      authority base path h e f
 
 module _ (kind : Kind) (sets : HasComponentSets kind) (ports : PortFunction) where
-  reference_sets : HasComponentSets (reference_kind kind)
-  reference_sets = record {
+  reference-kind-has-component-sets : HasComponentSets (reference_kind kind)
+  reference-kind-has-component-sets = record {
     userinfo = sets.userinfo;
     reg_name = sets.reg_name;
     path =
@@ -103,56 +120,74 @@ module _ (kind : Kind) (sets : HasComponentSets kind) (ports : PortFunction) whe
   normal p = normal_components (components_meaning kind ports p)
 
   -- the target's path has lost its dot segments, and may have a guard
-  pub target_meaning : (t : Components) → is_some t.scheme ≡ true
-      → meaning (record t { path = guarded t.authority (cleaned_path t.path) }) ≡ meaning t
-  target_meaning = with_scheme
-      (λ t. meaning (record t { path = guarded t.authority (cleaned_path t.path) }) ≡ meaning t)
+  pub target-path-has-meaning-of-joined : (t : Components) → is_some t.scheme ≡ true
+      → meaning (record t { path = guarded t.authority (dotless_if_absolute t.path) }) ≡ meaning t
+  target-path-has-meaning-of-joined = with_scheme
+      (λ t. meaning (record t { path = guarded t.authority (dotless_if_absolute t.path) })
+      ≡ meaning t)
       (λ s a p q f.
-      let e = cleaned_guarded a (cleaned_path p) ∙ cleaned_twice p in
-      λ i. record (meaning (of_parts (Some s) a p q f)) { path = read kind.path (e i) })
+      let e = guard-is-removed-as-dot-segment a (dotless_if_absolute p)
+      ∙ dotless_if_absolute-is-idempotent p in
+      λ i. record (meaning (components_of_parts (Some s) a p q f))
+      { path = decode_unreserved kind.path (e i) })
 
   -- an authority that came without a scheme
-  moved_authority : (default : Option ℕ) (a : List ℕ) → IsUtf8 a → is_authority kind a ≡ true
+  normal-bare-authority-has-meaning-under-default : (default : Option ℕ) (a : List ℕ) → IsUtf8 a
+      → is_authority kind a ≡ true
       → authority_meaning kind default (normal_authority (authority_meaning kind None a))
       ≡ authority_meaning kind default a
-  moved_authority default a u e =
-      sym (authority_meaning-bare kind default (normal_authority (authority_meaning kind None a)))
-      ∙ ap (with_default default) ((keeps_authorities kind sets).bare None a u e)
-      ∙ authority_meaning-bare kind default a
+  normal-bare-authority-has-meaning-under-default default a u e =
+      sym (bare-authority-meaning-with_default kind default
+      (normal_authority (authority_meaning kind None a)))
+      ∙ ap (with_default default) ((normal-authorities-are-authorities kind sets).bare None a u e)
+      ∙ bare-authority-meaning-with_default kind default a
 
-  printed_query : (o : Option (List ℕ)) → IfSome o (λ x. is_part kind.query x ≡ true)
-      → option_map (read kind.query) (option_map print (option_map (read kind.query) o))
-      ≡ option_map (read kind.query) o
-  printed_query o h = printed_read kind.query (codes "#[]") sets.query o h
+  normal-query-decodes-as-query : (o : Option (List ℕ))
+      → IfSome o (λ x. is_set_text kind.query x ≡ true)
+      → option_map (decode_unreserved kind.query)
+      (option_map print (option_map (decode_unreserved kind.query) o))
+      ≡ option_map (decode_unreserved kind.query) o
+  normal-query-decodes-as-query o h = normal-component-decodes-as-component kind.query
+      (codes "#[]") sets.query o h
 
-  printed_fragment : (o : Option (List ℕ)) → IfSome o (λ x. is_part kind.fragment x ≡ true)
-      → option_map (read kind.fragment) (option_map print (option_map (read kind.fragment) o))
-      ≡ option_map (read kind.fragment) o
-  printed_fragment o h = printed_read kind.fragment (codes "#[]") sets.fragment o h
+  normal-fragment-decodes-as-fragment : (o : Option (List ℕ))
+      → IfSome o (λ x. is_set_text kind.fragment x ≡ true)
+      → option_map (decode_unreserved kind.fragment)
+      (option_map print (option_map (decode_unreserved kind.fragment) o))
+      ≡ option_map (decode_unreserved kind.fragment) o
+  normal-fragment-decodes-as-fragment o h = normal-component-decodes-as-component kind.fragment
+      (codes "#[]") sets.fragment o h
 
   -- the query of the reference, or else of the base
-  either_query : (q : Option (List ℕ)) (other base : Option (List ℕ))
-      → IfSome q (λ x. is_part kind.query x ≡ true)
-      → option_map (read kind.query) other ≡ option_map (read kind.query) base
-      → option_map (read kind.query)
-      (cond (is_some (option_map print (option_map (read kind.query) q)))
-      (option_map print (option_map (read kind.query) q)) other)
-      ≡ option_map (read kind.query) (cond (is_some q) q base)
-  either_query None other base h e = e
-  either_query (Some x) other base h e = printed_query (Some x) h
+  chosen-normal-query-decodes-as-chosen : (q : Option (List ℕ)) (other base : Option (List ℕ))
+      → IfSome q (λ x. is_set_text kind.query x ≡ true)
+      → option_map (decode_unreserved kind.query) other
+      ≡ option_map (decode_unreserved kind.query) base
+      → option_map (decode_unreserved kind.query)
+      (cond (is_some (option_map print (option_map (decode_unreserved kind.query) q)))
+      (option_map print (option_map (decode_unreserved kind.query) q)) other)
+      ≡ option_map (decode_unreserved kind.query) (cond (is_some q) q base)
+  chosen-normal-query-decodes-as-chosen None other base h e = e
+  chosen-normal-query-decodes-as-chosen (Some x) other base h e = normal-query-decodes-as-query
+      (Some x) h
 
   -- a reference without a scheme, an authority or a path, against a base with a scheme
-  no_path : (base : Components) (q f : Option (List ℕ)) → AreParts kind base
-      → IfSome q (λ x. is_part kind.query x ≡ true) → IfSome f (λ x. is_part kind.fragment x ≡ true)
-      → meaning (joined (normal base) (normal (of_parts None None [] q f)))
-      ≡ meaning (joined base (of_parts None None [] q f))
-  unfolding reprinted
-  no_path base q f parts hq hf =
-      let r = of_parts None None [] q f in
-      let same = normal_meaning kind sets (keeps_authorities kind sets) ports base parts in
-      let nothing : is_empty (normal r).path ≡ true = ap is_empty (reprinted-nil kind.path) in
-      let query = either_query q (normal base).query base.query hq (ap (λ m. m.query) same) in
-      let fragment = printed_fragment f hf in
+  reference-without-path-has-same-target-meaning : (base : Components) (q f : Option (List ℕ))
+      → ArePartsOfKind kind base
+      → IfSome q (λ x. is_set_text kind.query x ≡ true)
+      → IfSome f (λ x. is_set_text kind.fragment x ≡ true)
+      → meaning (dotted_target (normal base) (normal (components_of_parts None None [] q f)))
+      ≡ meaning (dotted_target base (components_of_parts None None [] q f))
+  unfolding print_decoded
+  reference-without-path-has-same-target-meaning base q f parts hq hf =
+      let r = components_of_parts None None [] q f in
+      let same = normal-components-have-same-meaning kind sets
+      (normal-authorities-are-authorities kind sets) ports base parts in
+      let nothing : is_empty (normal r).path
+      ≡ true = ap is_empty (print_decoded-of-nil-is-nil kind.path) in
+      let query = chosen-normal-query-decodes-as-chosen q (normal base).query base.query hq
+      (ap (λ m. m.query) same) in
+      let fragment = normal-fragment-decodes-as-fragment f hf in
       ap meaning (cond-true _ _ _ nothing)
       ∙ (λ i. record {
         scheme = (same i).scheme;
@@ -163,27 +198,32 @@ module _ (kind : Kind) (sets : HasComponentSets kind) (ports : PortFunction) whe
         fragment = fragment i;
       })
 
-  -- with a path
-  on_path : (b : List ℕ) (ba : Option (List ℕ)) (bp : List ℕ) (bq bf : Option (List ℕ)) (p : List ℕ)
+  -- a reference with a path, but neither scheme nor authority, against a base with a scheme
+  reference-with-path-has-same-target-meaning : (b : List ℕ) (ba : Option (List ℕ)) (bp : List ℕ)
+      (bq bf : Option (List ℕ)) (p : List ℕ)
       (q f : Option (List ℕ))
-      → AreParts kind (of_parts (Some b) ba bp bq bf)
-      → is_part kind.path p ≡ true → IfSome q (λ x. is_part kind.query x ≡ true)
-      → IfSome f (λ x. is_part kind.fragment x ≡ true) → is_empty p ≡ false
-      → (starts 47 p ≡ false → IsRooted bp)
+      → ArePartsOfKind kind (components_of_parts (Some b) ba bp bq bf)
+      → is_set_text kind.path p ≡ true → IfSome q (λ x. is_set_text kind.query x ≡ true)
+      → IfSome f (λ x. is_set_text kind.fragment x ≡ true) → is_empty p ≡ false
+      → (starts 47 p ≡ false → IsAbemptyPath bp)
       → meaning
-      (joined (normal (of_parts (Some b) ba bp bq bf)) (normal (of_parts None None p q f)))
-      ≡ meaning (joined (of_parts (Some b) ba bp bq bf) (of_parts None None p q f))
-  on_path b ba bp bq bf p q f parts hp hq hf some rooted =
-      let base = of_parts (Some b) ba bp bq bf in
-      let r = of_parts None None p q f in
-      let same = normal_meaning kind sets (keeps_authorities kind sets) ports base parts in
-      let query = printed_query q hq in
-      let fragment = printed_fragment f hf in
-      let first = starts_printed kind.path sets.path sets.slash p hp in
-      ap meaning (cond-false _ _ _ (empty_printed kind.path sets.path sets.slash p hp ∙ some))
+      (dotted_target (normal (components_of_parts (Some b) ba bp bq bf))
+      (normal (components_of_parts None None p q f)))
+      ≡ meaning (dotted_target (components_of_parts (Some b) ba bp bq bf)
+      (components_of_parts None None p q f))
+  reference-with-path-has-same-target-meaning b ba bp bq bf p q f parts hp hq hf some rooted =
+      let base = components_of_parts (Some b) ba bp bq bf in
+      let r = components_of_parts None None p q f in
+      let same = normal-components-have-same-meaning kind sets
+      (normal-authorities-are-authorities kind sets) ports base parts in
+      let query = normal-query-decodes-as-query q hq in
+      let fragment = normal-fragment-decodes-as-fragment f hf in
+      let first = normal-path-keeps-leading-slash kind.path sets.path sets.slash p hp in
+      ap meaning (cond-false _ _ _ (normal-path-keeps-emptiness kind.path sets.path sets.slash p hp
+      ∙ some))
       ∙ ⊎_elim
       (λ h.
-      let path = read_cleaned kind.path sets.path sets.slash p hp in
+      let path = removing-dots-of-decoded-path-decodes-same kind.path sets.path sets.slash p hp in
       ap meaning (cond-true _ _ _ (first ∙ h))
       ∙ (λ i. record {
         scheme = (same i).scheme;
@@ -195,7 +235,9 @@ module _ (kind : Kind) (sets : HasComponentSets kind) (ports : PortFunction) whe
       })
       ∙ sym (ap meaning (cond-false _ _ _ some ∙ cond-true _ _ _ h)))
       (λ h.
-      let path = merged_read kind.path sets.path sets.slash (normal base).authority bp p (rooted h)
+      let path = merged-normal-path-decodes-same kind.path sets.path sets.slash
+      (normal base).authority bp p
+      (rooted h)
       parts.path hp in
       ap meaning (cond-false _ _ _ (first ∙ h))
       ∙ (λ i. record {
@@ -209,25 +251,29 @@ module _ (kind : Kind) (sets : HasComponentSets kind) (ports : PortFunction) whe
       ∙ sym (ap meaning (cond-false _ _ _ some ∙ cond-false _ _ _ h)))
       (cases_Bool (starts 47 p))
 
-  -- with an authority
-  with_authority : (b : List ℕ) (ba : Option (List ℕ)) (bp : List ℕ) (bq bf : Option (List ℕ))
+  -- a reference with an authority, but no scheme, against a base with a scheme
+  reference-with-authority-has-same-target-meaning : (b : List ℕ) (ba : Option (List ℕ))
+      (bp : List ℕ) (bq bf : Option (List ℕ))
       (a p : List ℕ) (q f : Option (List ℕ))
       → IsUtf8 a → is_authority kind a ≡ true
-      → is_part kind.path p ≡ true → IfSome q (λ x. is_part kind.query x ≡ true)
-      → IfSome f (λ x. is_part kind.fragment x ≡ true)
+      → is_set_text kind.path p ≡ true → IfSome q (λ x. is_set_text kind.query x ≡ true)
+      → IfSome f (λ x. is_set_text kind.fragment x ≡ true)
       → meaning
-      (joined (normal (of_parts (Some b) ba bp bq bf)) (normal (of_parts None (Some a) p q f)))
-      ≡ meaning (joined (of_parts (Some b) ba bp bq bf) (of_parts None (Some a) p q f))
-  with_authority b ba bp bq bf a p q f u e hp hq hf =
-      let twice = lower_twice b in
+      (dotted_target (normal (components_of_parts (Some b) ba bp bq bf))
+      (normal (components_of_parts None (Some a) p q f)))
+      ≡ meaning (dotted_target (components_of_parts (Some b) ba bp bq bf)
+      (components_of_parts None (Some a) p q f))
+  reference-with-authority-has-same-target-meaning b ba bp bq bf a p q f u e hp hq hf =
+      let twice = lowering-is-idempotent b in
       let authority =
       ap
       (λ t. Some (authority_meaning kind (ports t)
       (normal_authority (authority_meaning kind None a)))) twice
-      ∙ ap Some (moved_authority (ports (str_to_ascii_lowercase b)) a u e) in
-      let path = read_cleaned kind.path sets.path sets.slash p hp in
-      let query = printed_query q hq in
-      let fragment = printed_fragment f hf in
+      ∙ ap Some (normal-bare-authority-has-meaning-under-default
+      (ports (str_to_ascii_lowercase b)) a u e) in
+      let path = removing-dots-of-decoded-path-decodes-same kind.path sets.path sets.slash p hp in
+      let query = normal-query-decodes-as-query q hq in
+      let fragment = normal-fragment-decodes-as-fragment f hf in
       λ i. record {
         scheme = Some (twice i);
         authority = authority i;
@@ -237,73 +283,90 @@ module _ (kind : Kind) (sets : HasComponentSets kind) (ports : PortFunction) whe
         fragment = fragment i;
       }
 
-  -- the joined components are equivalent to those of the normal texts
-  pub joined_normal : (b : List ℕ) (ba : Option (List ℕ)) (bp : List ℕ) (bq bf : Option (List ℕ))
+  -- the target's components, before dot segments are removed, are equivalent to those of the
+  -- normal texts
+  pub joined-normal-components-have-same-meaning : (b : List ℕ) (ba : Option (List ℕ)) (bp : List ℕ)
+      (bq bf : Option (List ℕ))
       (s a : Option (List ℕ)) (p : List ℕ) (q f : Option (List ℕ))
-      → AreParts kind (of_parts (Some b) ba bp bq bf)
-      → AreParts (reference_kind kind) (of_parts s a p q f)
-      → (is_none s ≡ true → is_none a ≡ true → is_empty p ≡ false → IsRooted bp)
-      → meaning (joined (normal (of_parts (Some b) ba bp bq bf)) (normal (of_parts s a p q f)))
-      ≡ meaning (joined (of_parts (Some b) ba bp bq bf) (of_parts s a p q f))
-  joined_normal b ba bp bq bf (Some s) a p q f base r rooted =
-      normal_meaning (reference_kind kind) reference_sets
-      (keeps_authorities (reference_kind kind) reference_sets) ports (of_parts (Some s) a p q f)
+      → ArePartsOfKind kind (components_of_parts (Some b) ba bp bq bf)
+      → ArePartsOfKind (reference_kind kind) (components_of_parts s a p q f)
+      → (is_none s ≡ true → is_none a ≡ true → is_empty p ≡ false → IsAbemptyPath bp)
+      → meaning (dotted_target (normal (components_of_parts (Some b) ba bp bq bf))
+      (normal (components_of_parts s a p q f)))
+      ≡ meaning (dotted_target (components_of_parts (Some b) ba bp bq bf)
+      (components_of_parts s a p q f))
+  joined-normal-components-have-same-meaning b ba bp bq bf (Some s) a p q f base r rooted =
+      normal-components-have-same-meaning (reference_kind kind) reference-kind-has-component-sets
+      (normal-authorities-are-authorities (reference_kind kind) reference-kind-has-component-sets)
+      ports
+      (components_of_parts (Some s) a p q f)
       r
-  joined_normal b ba bp bq bf None (Some a) p q f base r rooted =
-      with_authority b ba bp bq bf a p q f r.authority.0 r.authority.1 r.path r.query r.fragment
-  joined_normal b ba bp bq bf None None [] q f base r rooted =
-      no_path (of_parts (Some b) ba bp bq bf) q f base r.query r.fragment
-  joined_normal b ba bp bq bf None None (c ∷ p) q f base r rooted =
-      on_path b ba bp bq bf (c ∷ p) q f base r.path r.query r.fragment refl
+  joined-normal-components-have-same-meaning b ba bp bq bf None (Some a) p q f base r rooted =
+      reference-with-authority-has-same-target-meaning b ba bp bq bf a p q f r.authority.0
+      r.authority.1 r.path r.query r.fragment
+  joined-normal-components-have-same-meaning b ba bp bq bf None None [] q f base r rooted =
+      reference-without-path-has-same-target-meaning (components_of_parts (Some b) ba bp bq bf) q f
+      base r.query r.fragment
+  joined-normal-components-have-same-meaning b ba bp bq bf None None (c ∷ p) q f base r rooted =
+      reference-with-path-has-same-target-meaning b ba bp bq bf (c ∷ p) q f base r.path r.query
+      r.fragment refl
       (λ h. rooted refl refl refl)
 
   -- an opaque base
-  starts_guarded : (authority : Option (List ℕ)) (path : List ℕ)
+  guard-keeps-leading-slash : (authority : Option (List ℕ)) (path : List ℕ)
       → starts 47 (guarded authority path) ≡ starts 47 path
-  starts_guarded authority path =
+  guard-keeps-leading-slash authority path =
       cond_both (is_none authority && has_authority path) (codes "/." ++ path) path
       (λ t. starts 47 t ≡ starts 47 path)
-      (λ e. sym (authority_first path (and_parts (is_none authority) (has_authority path) e).1))
+      (λ e. sym (two-slashes-begin-with-slash path
+      (and_parts (is_none authority) (has_authority path) e).1))
       (λ e. refl)
 
-  opaque_normal : (b : List ℕ) (ba : Option (List ℕ)) (bp : List ℕ) (bq bf : Option (List ℕ))
-      → is_part kind.path bp ≡ true
-      → is_opaque (normal (of_parts (Some b) ba bp bq bf))
-      ≡ is_opaque (of_parts (Some b) ba bp bq bf)
-  opaque_normal b ba bp bq bf h =
-      let base = of_parts (Some b) ba bp bq bf in
-      let first = starts_guarded (normal base).authority (print (read kind.path (cleaned_path bp)))
-      ∙ starts_printed kind.path sets.path sets.slash (cleaned_path bp)
-      (part_cleaned kind.path sets.path sets.slash bp h)
-      ∙ starts_cleaned bp in
+  normal-base-is-opaque-as-base : (b : List ℕ) (ba : Option (List ℕ)) (bp : List ℕ)
+      (bq bf : Option (List ℕ))
+      → is_set_text kind.path bp ≡ true
+      → is_opaque (normal (components_of_parts (Some b) ba bp bq bf))
+      ≡ is_opaque (components_of_parts (Some b) ba bp bq bf)
+  normal-base-is-opaque-as-base b ba bp bq bf h =
+      let base = components_of_parts (Some b) ba bp bq bf in
+      let first = guard-keeps-leading-slash (normal base).authority
+      (print (decode_unreserved kind.path (dotless_if_absolute bp)))
+      ∙ normal-path-keeps-leading-slash kind.path sets.path sets.slash (dotless_if_absolute bp)
+      (path-without-dots-is-set-text kind.path sets.path sets.slash bp h)
+      ∙ removing-dots-keeps-leading-slash bp in
       ap (λ t. t && not (starts 47 (normal base).path))
-      (none_map normal_authority (option_map
+      (is_none-option_map normal_authority (option_map
       (authority_meaning kind (ports (str_to_ascii_lowercase b))) ba)
-      ∙ none_map (authority_meaning kind (ports (str_to_ascii_lowercase b))) ba)
+      ∙ is_none-option_map (authority_meaning kind (ports (str_to_ascii_lowercase b))) ba)
       ∙ ap (λ t. is_none ba && not t) first
 
-  fragment_only_normal : (s a : Option (List ℕ)) (p : List ℕ) (q f : Option (List ℕ))
-      → is_part kind.path p ≡ true
-      → (is_some (normal (of_parts s a p q f)).scheme
-      || is_fragment_only (normal (of_parts s a p q f)))
-      ≡ (is_some s || is_fragment_only (of_parts s a p q f))
-  fragment_only_normal (Some s) a p q f h = refl
-  fragment_only_normal None (Some a) p q f h = refl
-  fragment_only_normal None None p q f h =
-      ap (λ t. t && is_none (option_map print (option_map (read kind.query) q)))
-      (empty_printed kind.path sets.path sets.slash p h)
-      ∙ ap (λ t. is_empty p && t) (none_map print (option_map (read kind.query) q)
-      ∙ none_map (read kind.query) q)
+  normal-reference-is-fragment-only-as-reference : (s a : Option (List ℕ)) (p : List ℕ)
+      (q f : Option (List ℕ))
+      → is_set_text kind.path p ≡ true
+      → (is_some (normal (components_of_parts s a p q f)).scheme
+      || is_fragment_only (normal (components_of_parts s a p q f)))
+      ≡ (is_some s || is_fragment_only (components_of_parts s a p q f))
+  normal-reference-is-fragment-only-as-reference (Some s) a p q f h = refl
+  normal-reference-is-fragment-only-as-reference None (Some a) p q f h = refl
+  normal-reference-is-fragment-only-as-reference None None p q f h =
+      ap (λ t. t && is_none (option_map print (option_map (decode_unreserved kind.query) q)))
+      (normal-path-keeps-emptiness kind.path sets.path sets.slash p h)
+      ∙ ap (λ t. is_empty p && t)
+      (is_none-option_map print (option_map (decode_unreserved kind.query) q)
+      ∙ is_none-option_map (decode_unreserved kind.query) q)
 
-  pub refused_normal : (b : List ℕ) (ba : Option (List ℕ)) (bp : List ℕ) (bq bf : Option (List ℕ))
+  pub normal-components-are-rejected-alike : (b : List ℕ) (ba : Option (List ℕ)) (bp : List ℕ)
+      (bq bf : Option (List ℕ))
       (s a : Option (List ℕ)) (p : List ℕ) (q f : Option (List ℕ))
-      → is_part kind.path bp ≡ true
-      → is_part kind.path p ≡ true
-      → is_refused_as_opaque (normal (of_parts (Some b) ba bp bq bf)) (normal (of_parts s a p q f))
-      ≡ is_refused_as_opaque (of_parts (Some b) ba bp bq bf) (of_parts s a p q f)
-  refused_normal b ba bp bq bf s a p q f hb hp =
-      let r = of_parts s a p q f in
+      → is_set_text kind.path bp ≡ true
+      → is_set_text kind.path p ≡ true
+      → is_opaque_rejection (normal (components_of_parts (Some b) ba bp bq bf))
+      (normal (components_of_parts s a p q f))
+      ≡ is_opaque_rejection (components_of_parts (Some b) ba bp bq bf)
+      (components_of_parts s a p q f)
+  normal-components-are-rejected-alike b ba bp bq bf s a p q f hb hp =
+      let r = components_of_parts s a p q f in
       ap (λ t. t && not (is_some (normal r).scheme || is_fragment_only (normal r)))
-      (opaque_normal b ba bp bq bf hb)
-      ∙ ap (λ t. is_opaque (of_parts (Some b) ba bp bq bf) && not t)
-      (fragment_only_normal s a p q f hp)
+      (normal-base-is-opaque-as-base b ba bp bq bf hb)
+      ∙ ap (λ t. is_opaque (components_of_parts (Some b) ba bp bq bf) && not t)
+      (normal-reference-is-fragment-only-as-reference s a p q f hp)

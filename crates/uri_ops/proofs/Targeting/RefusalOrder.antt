@@ -1,31 +1,39 @@
 -- The errors for a reference in their order, or the accepted reference.
 use Rattle.std.proofs.Common.{◌≡◌, Bool, true, false, cond, refl, ap, Result, Ok, Err}
 use Rattle.std.specs.Result.{result_map_both}
-use Rattle.uri_ops.specs.Target.{Refusal, BaseWithFragment, InvalidReferenceAgainstOpaqueBase}
+use Rattle.uri_ops.specs.Target.{TargetError, BaseWithFragment, InvalidReferenceAgainstOpaqueBase}
 
-unfoldable pub outcome : {A : Type 0} → Bool → Bool → A → Result A Refusal
-outcome fragment opaque x = cond fragment (Err BaseWithFragment)
+unfoldable pub result_or_target_error : {A : Type 0} → Bool → Bool → A → Result A TargetError
+result_or_target_error fragment opaque x = cond fragment (Err BaseWithFragment)
     (cond opaque (Err InvalidReferenceAgainstOpaqueBase) (Ok x))
 
-pub outcome_map : {A B : Type 0} (f : A → B) (fragment opaque : Bool) (x : A)
-    → result_map_both f (λ (refusal : Refusal). refusal) (outcome fragment opaque x)
-    ≡ outcome fragment opaque (f x)
-unfolding outcome
-outcome_map f true opaque x = refl
-outcome_map f false true x = refl
-outcome_map f false false x = refl
+-- resolving: mapping the target leaves the errors as they are; fragment, opaque: whether the base
+-- has one, whether it is opaque
+pub map-of-result_or_error : {A B : Type 0} (f : A → B) (fragment opaque : Bool) (x : A)
+    → result_map_both f (λ (refusal : TargetError). refusal)
+    (result_or_target_error fragment opaque x)
+    ≡ result_or_target_error fragment opaque (f x)
+unfolding result_or_target_error
+map-of-result_or_error f true opaque x = refl
+map-of-result_or_error f false true x = refl
+map-of-result_or_error f false false x = refl
 
--- what is accepted makes no difference where it is rejected
-pub same_outcome : {A : Type 0} (fragment opaque : Bool) (x y : A) → (opaque ≡ false → x ≡ y)
-    → outcome fragment opaque x ≡ outcome fragment opaque y
-unfolding outcome
-same_outcome true opaque x y e = refl
-same_outcome false true x y e = refl
-same_outcome false false x y e = ap Ok (e refl)
+-- resolving: what would be accepted makes no difference where it is rejected;
+-- fragment, opaque: whether the base has one, is opaque
+pub rejected-results-are-equal : {A : Type 0} (fragment opaque : Bool) (x y : A)
+    → (opaque ≡ false → x ≡ y)
+    → result_or_target_error fragment opaque x ≡ result_or_target_error fragment opaque y
+unfolding result_or_target_error
+rejected-results-are-equal true opaque x y e = refl
+rejected-results-are-equal false true x y e = refl
+rejected-results-are-equal false false x y e = ap Ok (e refl)
 
-pub accepted : {A : Type 0} (fragment opaque : Bool) (x y : A) → outcome fragment opaque x ≡ Ok y
+-- resolving: where a target is returned, the base is not opaque; fragment, opaque: whether the base
+-- has one, whether it is opaque
+pub ok-result-has-no-opaque-rejection : {A : Type 0} (fragment opaque : Bool) (x y : A)
+    → result_or_target_error fragment opaque x ≡ Ok y
     → (opaque ≡ false) × (x ≡ y)
-unfolding outcome
-accepted true opaque x y e = cc
-accepted false true x y e = cc
-accepted false false x y e = (refl, cc)
+unfolding result_or_target_error
+ok-result-has-no-opaque-rejection true opaque x y e = cc
+ok-result-has-no-opaque-rejection false true x y e = cc
+ok-result-has-no-opaque-rejection false false x y e = (refl, cc)

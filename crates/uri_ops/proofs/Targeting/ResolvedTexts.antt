@@ -9,20 +9,24 @@ use Rattle.uri_ops.specs.Resolving.{IsTargetOfEncoded, IsErrorForEncoded}
 use Rattle.uri_ops.specs.NormalTargets.{IsTargetOfMeanings, IsErrorOfMeanings}
 use Rattle.uri_ops.specs.Resolving.{IsTarget, IsErrorFor}
 use Rattle.uri_parts.specs.Grammar.{IsTextOf}
-use Rattle.uri_ops.specs.declared.resolve.ResolveError.{ResolveError}
-use Rattle.uri_ops.proofs.AsciiForms.EncodedTargets.{target_of_encoded, error_for_encoded}
-use Rattle.uri_ops.proofs.Targeting.NormalTargets.{target_of_meanings, error_of_meanings}
-use Rattle.uri_ops.proofs.Targeting.TargetTexts.{target_is_text}
+use Rattle.uri_ops.specs.declared.resolve.error.ResolveError.{ResolveError}
+use Rattle.uri_ops.proofs.AsciiForms.EncodedTargets.{target-is-target-of-encoded}
+use Rattle.uri_ops.proofs.AsciiForms.EncodedTargets.{error-is-error-for-encoded}
+use Rattle.uri_ops.proofs.Targeting.NormalTargets.{target-respects-meaning, error-respects-meaning}
+use Rattle.uri_ops.proofs.Targeting.TargetTexts.{target-is-of-kind-of-base}
 
--- the same of other names for the same components
-same_target : (allowed : Bool) (p q b r : Components) (text : List ℕ) → p ≡ b → q ≡ r
+-- resolving: equal components have the same target; allowed: whether underflows are
+equal-components-have-same-target : (allowed : Bool) (p q b r : Components) (text : List ℕ) → p
+    ≡ b → q ≡ r
     → IsTarget allowed p q text → IsTarget allowed b r text
-same_target allowed p q b r text e f h =
+equal-components-have-same-target allowed p q b r text e f h =
     subst (λ c. IsTarget allowed c r text) e (subst (λ c. IsTarget allowed p c text) f h)
 
-same_error : (allowed : Bool) (p q b r : Components) (error : ResolveError) → p ≡ b → q ≡ r
+-- resolving: equal components have the same error; allowed: whether underflows are
+equal-components-have-same-error : (allowed : Bool) (p q b r : Components) (error : ResolveError)
+    → p ≡ b → q ≡ r
     → IsErrorFor allowed p q error → IsErrorFor allowed b r error
-same_error allowed p q b r error e f h =
+equal-components-have-same-error allowed p q b r error e f h =
     subst (λ c. IsErrorFor allowed c r error) e (subst (λ c. IsErrorFor allowed p c error) f h)
 
 module _ (kind other : Kind) (sets : HasComponentSets kind) (needs : kind.needs_scheme ≡ true)
@@ -30,37 +34,47 @@ module _ (kind other : Kind) (sets : HasComponentSets kind) (needs : kind.needs_
     (base reference : List ℕ) (e : p ≡ components base) (f : q ≡ components reference)
     (u : IsUtf8 base) (v : IsUtf8 reference) (of_base : IsOfKind kind base)
     (of_reference : IsOfKind other reference) where
-  base_text : IsTextOf kind base
-  base_text = record { utf8 = u; grammar = of_base }
+  base-is-text-of-kind : IsTextOf kind base
+  base-is-text-of-kind = record { utf8 = u; grammar = of_base }
 
-  reference_text : IsTextOf other reference
-  reference_text = record { utf8 = v; grammar = of_reference }
+  reference-is-text-of-kind : IsTextOf other reference
+  reference-is-text-of-kind = record { utf8 = v; grammar = of_reference }
 
   -- the target is of the base's kind
-  pub target_of_kind : (target : List ℕ) → IsTarget allowed p q target → IsTextOf kind target
-  target_of_kind target h =
-      target_is_text kind sets base reference target needs base_text
-      (subst (λ k. IsTextOf k reference) same reference_text)
-      (same_target allowed p q (components base) (components reference) target e f h).0
+  pub target-is-text-of-base-kind : (target : List ℕ) → IsTarget allowed p q target
+      → IsTextOf kind target
+  target-is-text-of-base-kind target h =
+      target-is-of-kind-of-base kind sets base reference target needs base-is-text-of-kind
+      (subst (λ k. IsTextOf k reference) same reference-is-text-of-kind)
+      (equal-components-have-same-target allowed p q (components base) (components reference)
+      target e f h).0
 
-  pub encoded_target : (target : List ℕ) → IsTarget allowed p q target
+  pub target-of-texts-is-target-of-encoded : (target : List ℕ) → IsTarget allowed p q target
       → IsTargetOfEncoded allowed base reference target
-  encoded_target target h = target_of_encoded allowed base reference target u v
-      (same_target allowed p q (components base) (components reference) target e f h)
+  target-of-texts-is-target-of-encoded target h = target-is-target-of-encoded allowed base
+      reference target u v
+      (equal-components-have-same-target allowed p q (components base) (components reference)
+      target e f h)
 
-  pub encoded_error : (error : ResolveError) → IsErrorFor allowed p q error
+  pub error-of-texts-is-error-for-encoded : (error : ResolveError) → IsErrorFor allowed p q error
       → IsErrorForEncoded allowed base reference error
-  encoded_error error h = error_for_encoded allowed base reference error u v
-      (same_error allowed p q (components base) (components reference) error e f h)
+  error-of-texts-is-error-for-encoded error h = error-is-error-for-encoded allowed base
+      reference error u v
+      (equal-components-have-same-error allowed p q (components base) (components reference)
+      error e f h)
 
-  pub alike_target : (target : List ℕ) → IsTarget allowed p q target
+  pub target-of-texts-respects-meaning : (target : List ℕ) → IsTarget allowed p q target
       → IsTargetOfMeanings kind other base reference target
-  alike_target target h =
-      target_of_meanings kind other sets needs same allowed base reference base_text reference_text
-      target (same_target allowed p q (components base) (components reference) target e f h)
+  target-of-texts-respects-meaning target h =
+      target-respects-meaning kind other sets needs same allowed base reference base-is-text-of-kind
+      reference-is-text-of-kind
+      target (equal-components-have-same-target allowed p q (components base) (components reference)
+      target e f h)
 
-  pub alike_error : (error : ResolveError) → IsErrorFor allowed p q error
+  pub error-of-texts-respects-meaning : (error : ResolveError) → IsErrorFor allowed p q error
       → IsErrorOfMeanings kind other base reference error
-  alike_error error h =
-      error_of_meanings kind other sets needs same allowed base reference base_text reference_text
-      error (same_error allowed p q (components base) (components reference) error e f h)
+  error-of-texts-respects-meaning error h =
+      error-respects-meaning kind other sets needs same allowed base reference base-is-text-of-kind
+      reference-is-text-of-kind
+      error (equal-components-have-same-error allowed p q (components base) (components reference)
+      error e f h)

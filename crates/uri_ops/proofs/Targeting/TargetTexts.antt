@@ -3,24 +3,30 @@ use Rattle.std.proofs.Common.{◌≡◌, ℕ, true, false, cond, List, ap, subst
 use Rattle.std.specs.Prelude.{IfSome, Ok, is_some, is_none}
 use Rattle.std.specs.Str.{IsUtf8}
 use Rattle.std.proofs.lemmas.Bool.{cond_both, or_left}
-use Rattle.uri_parts.specs.Components.{Components, starts, IsRooted, components, recompose}
-use Rattle.uri_parts.specs.Grammar.{Kind, is_scheme, is_authority, are_components}
-use Rattle.uri_parts.proofs.Splitting.Recompose.{IsSplitOf-components}
+use Rattle.uri_parts.specs.Components.{Components, starts, IsAbemptyPath, components, recompose}
+use Rattle.uri_parts.specs.Grammar.{Kind, is_scheme, is_authority, components_meet_rules}
+use Rattle.uri_parts.proofs.Splitting.Recompose.{components-are-split-of-text}
 use Rattle.uri_ops.specs.Dots.{is_empty}
-use Rattle.uri_ops.specs.Target.{is_refused_as_opaque, merged, joined, cleaned_path, guarded}
+use Rattle.uri_ops.specs.Target.{is_opaque_rejection, merged, dotted_target, dotless_if_absolute}
+use Rattle.uri_ops.specs.Target.{guarded}
 use Rattle.uri_ops.specs.Target.{target_of, resolution_of}
 use Rattle.uri_ops.specs.ComponentSets.{HasComponentSets}
 use Rattle.uri_parts.specs.Grammar.{IsTextOf}
 use Rattle.uri_ops.specs.NormalTargets.{reference_kind}
-use Rattle.uri_ops.proofs.Meanings.AllowedParts.{is_part}
-use Rattle.uri_ops.proofs.Paths.PathMeanings.{part_guarded, part_cleaned}
-use Rattle.uri_ops.proofs.Paths.MergedPaths.{part_merged}
-use Rattle.uri_ops.proofs.Targeting.Targets.{target_components}
-use Rattle.uri_ops.proofs.Meanings.TextParts.{AreParts, parts_meet}
-use Rattle.uri_ops.proofs.Normal.NormalTexts.{utf8_recompose, parts_of}
-use Rattle.uri_ops.proofs.Targeting.Swaps.{has_needed_scheme, not_opaque, rooted_base}
-use Rattle.uri_ops.proofs.Targeting.RefusalOrder.{outcome, accepted}
-use Rattle.uri_pct.proofs.Tests.{absent}
+use Rattle.uri_ops.proofs.Meanings.AllowedParts.{is_set_text}
+use Rattle.uri_ops.proofs.Paths.PathMeanings.{guarded-set-text-is-set-text}
+use Rattle.uri_ops.proofs.Paths.PathMeanings.{path-without-dots-is-set-text}
+use Rattle.uri_ops.proofs.Paths.MergedPaths.{merged-set-text-is-set-text}
+use Rattle.uri_ops.proofs.Targeting.Targets.{target-text-has-target-components}
+use Rattle.uri_ops.proofs.Meanings.TextParts.{ArePartsOfKind, components-of-kind-meet-grammar}
+use Rattle.uri_ops.proofs.Normal.NormalTexts.{recomposed-components-are-utf8}
+use Rattle.uri_ops.proofs.Normal.NormalTexts.{text-has-parts-of-kind}
+use Rattle.uri_ops.proofs.Targeting.Swaps.{text-of-kind-has-needed-scheme}
+use Rattle.uri_ops.proofs.Targeting.Swaps.{merging-base-is-not-opaque}
+use Rattle.uri_ops.proofs.Targeting.Swaps.{base-that-is-not-opaque-has-abempty-path}
+use Rattle.uri_ops.proofs.Targeting.RefusalOrder.{result_or_target_error}
+use Rattle.uri_ops.proofs.Targeting.RefusalOrder.{ok-result-has-no-opaque-rejection}
+use Rattle.uri_pct.proofs.Tests.{not_some_is_none}
 
 module _ (kind : Kind) (sets : HasComponentSets kind) where
   -- components with a scheme, each of which meets its rule
@@ -28,15 +34,16 @@ module _ (kind : Kind) (sets : HasComponentSets kind) where
     some : is_some t.scheme ≡ true
     scheme : IfSome t.scheme (λ s. IsUtf8 s × (is_scheme s ≡ true))
     authority : IfSome t.authority (λ a. IsUtf8 a × (is_authority kind a ≡ true))
-    path : is_part kind.path t.path ≡ true
-    query : IfSome t.query (λ q. is_part kind.query q ≡ true)
-    fragment : IfSome t.fragment (λ f. is_part kind.fragment f ≡ true)
+    path : is_set_text kind.path t.path ≡ true
+    query : IfSome t.query (λ q. is_set_text kind.query q ≡ true)
+    fragment : IfSome t.fragment (λ f. is_set_text kind.fragment f ≡ true)
 
-  joined_parts : (base r : Components) → is_some base.scheme ≡ true → AreParts kind base
-      → AreParts (reference_kind kind) r
-      → (is_none r.scheme ≡ true → is_empty r.path ≡ false → IsRooted base.path)
-      → ArePartsWithScheme (joined base r)
-  joined_parts base r some b p rooted =
+  dotted_target-has-parts-with-scheme : (base r : Components) → is_some base.scheme ≡ true
+      → ArePartsOfKind kind base
+      → ArePartsOfKind (reference_kind kind) r
+      → (is_none r.scheme ≡ true → is_empty r.path ≡ false → IsAbemptyPath base.path)
+      → ArePartsWithScheme (dotted_target base r)
+  dotted_target-has-parts-with-scheme base r some b p rooted =
       cond_both (is_some r.scheme) r _ ArePartsWithScheme
       (λ h. record {
         some = h;
@@ -66,7 +73,7 @@ module _ (kind : Kind) (sets : HasComponentSets kind) where
         authority = b.authority;
         path = b.path;
         query = cond_both (is_some r.query) r.query base.query
-            (λ o. IfSome o (λ q. is_part kind.query q ≡ true)) (λ _. p.query) (λ _. b.query);
+            (λ o. IfSome o (λ q. is_set_text kind.query q ≡ true)) (λ _. p.query) (λ _. b.query);
         fragment = p.fragment;
       })
       (λ e. cond_both (starts 47 r.path)
@@ -90,40 +97,43 @@ module _ (kind : Kind) (sets : HasComponentSets kind) where
         some = some;
         scheme = b.scheme;
         authority = b.authority;
-        path = part_merged kind.path sets.path sets.slash base.path r.path
-            (rooted (absent r.scheme s) e) b.path p.path;
+        path = merged-set-text-is-set-text kind.path sets.path sets.slash base.path r.path
+            (rooted (not_some_is_none r.scheme s) e) b.path p.path;
         query = p.query;
         fragment = p.fragment;
       }))))
 
-  target_parts : (t : Components) → ArePartsWithScheme t
-      → AreParts kind (record t { path = guarded t.authority (cleaned_path t.path) })
-  target_parts t p = record {
+  guarded-dotless-target-is-of-kind : (t : Components) → ArePartsWithScheme t
+      → ArePartsOfKind kind (record t { path = guarded t.authority (dotless_if_absolute t.path) })
+  guarded-dotless-target-is-of-kind t p = record {
     scheme = p.scheme;
     authority = p.authority;
-    path = part_guarded kind.path sets.path sets.slash t.authority (cleaned_path t.path)
-        (part_cleaned kind.path sets.path sets.slash t.path p.path);
+    path = guarded-set-text-is-set-text kind.path sets.path sets.slash t.authority
+        (dotless_if_absolute t.path)
+        (path-without-dots-is-set-text kind.path sets.path sets.slash t.path p.path);
     query = p.query;
     fragment = p.fragment;
     needs = or_left _ _ p.some;
   }
 
-  pub target_is_text : (b t target : List ℕ) → kind.needs_scheme ≡ true → IsTextOf kind b
+  pub target-is-of-kind-of-base : (b t target : List ℕ) → kind.needs_scheme ≡ true → IsTextOf kind b
       → IsTextOf (reference_kind kind) t → resolution_of (components b) (components t) ≡ Ok target
       → IsTextOf kind target
-  unfolding outcome
-  target_is_text b t target needs v w e =
+  unfolding result_or_target_error
+  target-is-of-kind-of-base b t target needs v w e =
       let base = components b in
       let r = components t in
-      let some = has_needed_scheme kind b needs v in
-      let a = accepted (is_some base.fragment) (is_refused_as_opaque base r)
+      let some = text-of-kind-has-needed-scheme kind b needs v in
+      let a = ok-result-has-no-opaque-rejection (is_some base.fragment) (is_opaque_rejection base r)
       (recompose (target_of base r)) target e in
-      let parts = target_parts (joined base r)
-      (joined_parts base r some (parts_of kind b v) (parts_of (reference_kind kind) t w)
-      (λ s p. rooted_base base.authority base.path (not_opaque base r a.0 s p)
-      (IsSplitOf-components b).authority)) in
+      let parts = guarded-dotless-target-is-of-kind (dotted_target base r)
+      (dotted_target-has-parts-with-scheme base r some (text-has-parts-of-kind kind b v)
+      (text-has-parts-of-kind (reference_kind kind) t w)
+      (λ s p. base-that-is-not-opaque-has-abempty-path base.authority base.path
+      (merging-base-is-not-opaque base r a.0 s p)
+      (components-are-split-of-text b).authority)) in
       subst (IsTextOf kind) a.1 (record {
-        utf8 = utf8_recompose kind (target_of base r) parts;
-        grammar = ap (are_components kind) (target_components b t some)
-            ∙ parts_meet kind (target_of base r) parts;
+        utf8 = recomposed-components-are-utf8 kind (target_of base r) parts;
+        grammar = ap (components_meet_rules kind) (target-text-has-target-components b t some)
+            ∙ components-of-kind-meet-grammar kind (target_of base r) parts;
       })

@@ -6,40 +6,49 @@ use Rattle.std.proofs.lemmas.Bool.{cond_both, and_parts, eqb-true, cases_Bool, f
 use Rattle.std.proofs.lemmas.Bool.{false_from_ne_true}
 use Rattle.std.proofs.lemmas.List.Elements.{All-append}
 use Rattle.uri_pct.specs.Sets.{is_one_of}
-use Rattle.uri_parts.specs.Components.{Components, IsSplitOf, Lacks, IsRooted, marked, starts}
+use Rattle.uri_parts.specs.Components.{Components, IsSplitOf, Lacks, IsAbemptyPath, marked, starts}
 use Rattle.uri_parts.specs.Components.{has_authority, components, recompose}
-use Rattle.uri_parts.proofs.Splitting.Splits.{components-recompose}
-use Rattle.uri_parts.proofs.Splitting.Recompose.{IsSplitOf-components, recompose-components}
-use Rattle.uri_parts.proofs.Splitting.Recompose.{true_to}
+use Rattle.uri_parts.proofs.Splitting.Splits.{only-split-is-components}
+use Rattle.uri_parts.proofs.Splitting.Recompose.{components-are-split-of-text, recompose-components}
+use Rattle.uri_parts.proofs.Splitting.Recompose.{equal-to-true-is-IsTrue}
 use Rattle.uri_ops.specs.Dots.{is_empty, remove_dot_segments, directory, IsAbsolute}
-use Rattle.uri_ops.specs.Target.{is_fragment_only, merged, joined, cleaned_path, guarded, target_of}
-use Rattle.uri_ops.proofs.Paths.DotLaws.{removed_absolute, directory_absolute}
-use Rattle.uri_ops.proofs.Paths.PathCharacters.{test_lacks, removed_Lacks, directory_Lacks}
-use Rattle.uri_pct.proofs.Tests.{none_part}
-use Rattle.uri_ops.proofs.Paths.DotRuns.{none_length}
+use Rattle.uri_ops.specs.Target.{is_fragment_only, merged, dotted_target, dotless_if_absolute}
+use Rattle.uri_ops.specs.Target.{guarded, target_of}
+use Rattle.uri_ops.proofs.Paths.DotLaws.{removing-dots-keeps-absolute, directory-is-absolute}
+use Rattle.uri_ops.proofs.Paths.PathCharacters.{test-of-delimiters-gives-lacks}
+use Rattle.uri_ops.proofs.Paths.PathCharacters.{removing-dots-adds-no-character}
+use Rattle.uri_ops.proofs.Paths.PathCharacters.{directory-adds-no-character}
+use Rattle.uri_pct.proofs.Tests.{None-from-is_none}
+use Rattle.uri_ops.proofs.Paths.DotRuns.{empty-text-is-nil}
 
 -- components with a scheme, each of which lacks the characters that end it
-record Fits (c : Components) : Type 0 where
+record IsSplittable (c : Components) : Type 0 where
   pub some : is_some c.scheme ≡ true
   pub scheme : IfSome c.scheme (λ s. (0 < length s) × Lacks (codes ":/?#") s)
-  pub authority : IfSome c.authority (λ a. Lacks (codes "/?#") a × IsRooted c.path)
+  pub authority : IfSome c.authority (λ a. Lacks (codes "/?#") a × IsAbemptyPath c.path)
   pub path : Lacks (codes "?#") c.path
   pub query : IfSome c.query (λ q. Lacks (codes "#") q)
 
-pub absolute_append : (path q : List ℕ) → IsAbsolute path → IsAbsolute (path ++ q)
-absolute_append [] q h = absurd (false≢true (search rules))
-absolute_append (c ∷ path) q h = h
+-- paths: an absolute path with any text after it is absolute
+pub appended-absolute-path-is-absolute : (path q : List ℕ) → IsAbsolute path
+    → IsAbsolute (path ++ q)
+appended-absolute-path-is-absolute [] q h = absurd (false≢true (search rules))
+appended-absolute-path-is-absolute (c ∷ path) q h = h
 
-rooted_as : (o : Option (List ℕ)) (P Q : Type 0) → (P → Q)
+-- general fact on options, for authorities:
+-- what is known of the path after one implies another property of it
+authority-property-implies-other-if-some : (o : Option (List ℕ)) (P Q : Type 0) → (P → Q)
     → IfSome o (λ a. Lacks (codes "/?#") a × P) → IfSome o (λ a. Lacks (codes "/?#") a × Q)
-rooted_as None P Q f h = tt
-rooted_as (Some a) P Q f h = (h.0, f h.1)
+authority-property-implies-other-if-some None P Q f h = tt
+authority-property-implies-other-if-some (Some a) P Q f h = (h.0, f h.1)
 
--- the table of section 5.2.2
-joined_fits : (b t : List ℕ) (base r : Components) → is_some base.scheme ≡ true → IsSplitOf b base
-    → IsSplitOf t r → Fits (joined base r)
-joined_fits b t base r some is_base is_reference =
-    cond_both (is_some r.scheme) r _ Fits
+-- resolving: the components of a target by the table of RFC 3986, section 5.2.2, are split off
+-- again when its text is parsed
+dotted_target-is-splittable : (b t : List ℕ) (base r : Components) → is_some base.scheme ≡ true
+    → IsSplitOf b base
+    → IsSplitOf t r → IsSplittable (dotted_target base r)
+dotted_target-is-splittable b t base r some is_base is_reference =
+    cond_both (is_some r.scheme) r _ IsSplittable
     (λ h. record {
       some = h;
       scheme = is_reference.scheme;
@@ -48,7 +57,7 @@ joined_fits b t base r some is_base is_reference =
       path = is_reference.path;
       query = is_reference.query;
     })
-    (λ h. cond_both (is_some r.authority) (record r { scheme = base.scheme }) _ Fits
+    (λ h. cond_both (is_some r.authority) (record r { scheme = base.scheme }) _ IsSplittable
     (λ h. record {
       some = some;
       scheme = is_base.scheme;
@@ -59,7 +68,7 @@ joined_fits b t base r some is_base is_reference =
     })
     (λ h. cond_both (is_empty r.path)
     (record base { query = cond (is_some r.query) r.query base.query; fragment = r.fragment }) _
-    Fits
+    IsSplittable
     (λ h. record {
       some = some;
       scheme = is_base.scheme;
@@ -71,12 +80,14 @@ joined_fits b t base r some is_base is_reference =
     (λ h. cond_both (starts 47 r.path)
     (record base { path = r.path; query = r.query; fragment = r.fragment })
     (record base { path = merged base.path r.path; query = r.query; fragment = r.fragment })
-    Fits
+    IsSplittable
     (λ h. record {
       some = some;
       scheme = is_base.scheme;
       authority =
-          rooted_as base.authority (IsRooted base.path) (IsRooted r.path) (λ _. inr (true_to _ h))
+          authority-property-implies-other-if-some base.authority (IsAbemptyPath base.path)
+          (IsAbemptyPath r.path)
+          (λ _. inr (equal-to-true-is-IsTrue _ h))
           is_base.authority;
       path = is_reference.path;
       query = is_reference.query;
@@ -84,90 +95,115 @@ joined_fits b t base r some is_base is_reference =
     (λ h. record {
       some = some;
       scheme = is_base.scheme;
-      authority = rooted_as base.authority (IsRooted base.path) (IsRooted (merged base.path r.path))
-          (λ k. inr (absolute_append (directory base.path) r.path (directory_absolute base.path k)))
+      authority = authority-property-implies-other-if-some base.authority (IsAbemptyPath base.path)
+          (IsAbemptyPath (merged base.path r.path))
+          (λ k. inr (appended-absolute-path-is-absolute (directory base.path) r.path
+          (directory-is-absolute base.path k)))
           is_base.authority;
       path = All-append (λ c. is_one_of (codes "?#") c ≡ false) (directory base.path) r.path
-          (directory_Lacks (codes "?#") refl base.path is_base.path) is_reference.path;
+          (directory-adds-no-character (codes "?#") refl base.path is_base.path) is_reference.path;
       query = is_reference.query;
     }))))
 
--- the path's dot segments are removed
-pub cleaned_rooted : (path : List ℕ) → IsRooted path → IsRooted (cleaned_path path)
-cleaned_rooted path h = cond_both (starts 47 path) (remove_dot_segments path) path IsRooted
-    (λ e. inr (removed_absolute path (true_to _ e))) (λ e. h)
+-- resolving: without its dot segments, a path is empty or begins with `/` if it is or does
+pub dotless-abempty-path-is-abempty : (path : List ℕ) → IsAbemptyPath path
+    → IsAbemptyPath (dotless_if_absolute path)
+dotless-abempty-path-is-abempty path h = cond_both (starts 47 path) (remove_dot_segments path) path
+    IsAbemptyPath
+    (λ e. inr (removing-dots-keeps-absolute path (equal-to-true-is-IsTrue _ e))) (λ e. h)
 
-cleaned_lacks : (path : List ℕ) → Lacks (codes "?#") path → Lacks (codes "?#") (cleaned_path path)
-cleaned_lacks path h = cond_both (starts 47 path) (remove_dot_segments path) path
-    (Lacks (codes "?#")) (λ e. removed_Lacks (codes "?#") refl path (true_to _ e) h) (λ e. h)
+-- resolving: removing dot segments gives a path neither `?` nor `#`
+dotless-path-lacks-its-ends : (path : List ℕ) → Lacks (codes "?#") path
+    → Lacks (codes "?#") (dotless_if_absolute path)
+dotless-path-lacks-its-ends path h = cond_both (starts 47 path) (remove_dot_segments path) path
+    (Lacks (codes "?#")) (λ e. removing-dots-adds-no-character (codes "?#") refl path
+    (equal-to-true-is-IsTrue _ e) h) (λ e. h)
 
--- and parsing it finds no other authority
-guarded_rooted : (authority : Option (List ℕ)) (path : List ℕ)
-    → IfSome authority (λ a. Lacks (codes "/?#") a × IsRooted path)
-    → IfSome authority (λ a. Lacks (codes "/?#") a × IsRooted (guarded authority path))
-guarded_rooted None path h = tt
-guarded_rooted (Some a) path h = h
+-- resolving: a guarded path after an authority is empty or begins with `/`
+guarded-path-after-authority-is-abempty : (authority : Option (List ℕ)) (path : List ℕ)
+    → IfSome authority (λ a. Lacks (codes "/?#") a × IsAbemptyPath path)
+    → IfSome authority (λ a. Lacks (codes "/?#") a × IsAbemptyPath (guarded authority path))
+guarded-path-after-authority-is-abempty None path h = tt
+guarded-path-after-authority-is-abempty (Some a) path h = h
 
-guarded_lacks : (authority : Option (List ℕ)) (path : List ℕ) → Lacks (codes "?#") path
+-- resolving: the guard `/.` gives a path neither `?` nor `#`
+guarded-path-lacks-its-ends : (authority : Option (List ℕ)) (path : List ℕ)
+    → Lacks (codes "?#") path
     → Lacks (codes "?#") (guarded authority path)
-guarded_lacks authority path h =
+guarded-path-lacks-its-ends authority path h =
     cond_both (is_none authority && has_authority path) (codes "/." ++ path) path
     (Lacks (codes "?#"))
     (λ e. All-append (λ c. is_one_of (codes "?#") c ≡ false) (codes "/.") path
-    (test_lacks (codes "?#") (codes "/.") refl) h) (λ e. h)
+    (test-of-delimiters-gives-lacks (codes "?#") (codes "/.") refl) h) (λ e. h)
 
-pub guarded_plain : (authority : Option (List ℕ)) (path : List ℕ)
+-- resolving: a target without an authority has no path that
+-- begins with `//`, owing to the guard `/.`
+pub guarded-path-without-authority-has-no-two-slashes : (authority : Option (List ℕ))
+    (path : List ℕ)
     → IfNone authority (has_authority (guarded authority path) ≡ false)
-guarded_plain None path = cond_both (has_authority path) (codes "/." ++ path) path
+guarded-path-without-authority-has-no-two-slashes None path = cond_both (has_authority path)
+    (codes "/." ++ path) path
     (λ p. has_authority p ≡ false) (λ e. refl) (λ e. e)
-guarded_plain (Some a) path = tt
+guarded-path-without-authority-has-no-two-slashes (Some a) path = tt
 
-not_none : (o : Option (List ℕ)) (P : Type 0) → is_some o ≡ true → IfNone o P
-not_none None P h = absurd (false≢true h)
-not_none (Some x) P h = tt
+-- general fact on options, for components:
+-- one that is there makes each statement on its absence true
+option-that-is-some-has-no-none : (o : Option (List ℕ)) (P : Type 0) → is_some o ≡ true → IfNone o P
+option-that-is-some-has-no-none None P h = absurd (false≢true h)
+option-that-is-some-has-no-none (Some x) P h = tt
 
-target_fits : (t : Components) → Fits t
-    → IsSplitOf (recompose (record t { path = guarded t.authority (cleaned_path t.path) }))
-    (record t { path = guarded t.authority (cleaned_path t.path) })
-target_fits t fits = record {
+-- resolving: a target's path without dot segments, guarded,
+-- is split off again when its text is parsed
+guarded-target-is-split-of-its-text : (t : Components) → IsSplittable t
+    → IsSplitOf (recompose (record t { path = guarded t.authority (dotless_if_absolute t.path) }))
+    (record t { path = guarded t.authority (dotless_if_absolute t.path) })
+guarded-target-is-split-of-its-text t fits = record {
   whole = refl;
   scheme = fits.scheme;
-  authority = guarded_rooted t.authority (cleaned_path t.path)
-      (rooted_as t.authority (IsRooted t.path) (IsRooted (cleaned_path t.path))
-      (cleaned_rooted t.path) fits.authority);
-  path = guarded_lacks t.authority (cleaned_path t.path) (cleaned_lacks t.path fits.path);
+  authority = guarded-path-after-authority-is-abempty t.authority (dotless_if_absolute t.path)
+      (authority-property-implies-other-if-some t.authority (IsAbemptyPath t.path)
+      (IsAbemptyPath (dotless_if_absolute t.path))
+      (dotless-abempty-path-is-abempty t.path) fits.authority);
+  path = guarded-path-lacks-its-ends t.authority (dotless_if_absolute t.path)
+      (dotless-path-lacks-its-ends t.path fits.path);
   query = fits.query;
-  no_scheme = not_none t.scheme _ fits.some;
-  no_authority = guarded_plain t.authority (cleaned_path t.path);
+  no_scheme = option-that-is-some-has-no-none t.scheme _ fits.some;
+  no_authority = guarded-path-without-authority-has-no-two-slashes t.authority
+      (dotless_if_absolute t.path);
 }
 
-pub target_is_split : (base reference : List ℕ) → is_some (components base).scheme ≡ true
+-- resolving: parsing the text of a target splits it into the target's components
+pub target-components-are-split : (base reference : List ℕ) → is_some (components base).scheme
+    ≡ true
     → IsSplitOf (recompose (target_of (components base) (components reference)))
     (target_of (components base) (components reference))
-target_is_split base reference some =
-    target_fits (joined (components base) (components reference))
-    (joined_fits base reference (components base) (components reference) some
-    (IsSplitOf-components base) (IsSplitOf-components reference))
+target-components-are-split base reference some =
+    guarded-target-is-split-of-its-text (dotted_target (components base) (components reference))
+    (dotted_target-is-splittable base reference (components base) (components reference) some
+    (components-are-split-of-text base) (components-are-split-of-text reference))
 
-pub target_components : (base reference : List ℕ) → is_some (components base).scheme ≡ true
+-- resolving: the components of a target's text are those of the
+-- target (RFC 3986, sections 5.2.2 and 5.3)
+pub target-text-has-target-components : (base reference : List ℕ) → is_some (components base).scheme
+    ≡ true
     → components (recompose (target_of (components base) (components reference)))
     ≡ target_of (components base) (components reference)
-target_components base reference some =
-    components-recompose _ _ (target_is_split base reference some)
+target-text-has-target-components base reference some =
+    only-split-is-components _ _ (target-components-are-split base reference some)
 
--- what an opaque base takes, of the reference's text
-only_test : (r : Components) → is_fragment_only r ≡ true
+-- resolving: the text of a reference that is a fragment alone is empty or begins with `#` (35)
+fragment-only-text-is-empty-or-begins-with-hash : (r : Components) → is_fragment_only r ≡ true
     → (is_empty (recompose r) || starts 35 (recompose r)) ≡ true
-only_test r h =
+fragment-only-text-is-empty-or-begins-with-hash r h =
     let first = and_parts (is_none r.scheme && is_none r.authority && is_empty r.path)
     (is_none r.query) h in
     let second = and_parts (is_none r.scheme && is_none r.authority) (is_empty r.path) first.0 in
     let third = and_parts (is_none r.scheme) (is_none r.authority) second.0 in
     rw (
-      none_part r.scheme third.0,
-      none_part r.authority third.1,
-      none_length r.path second.1,
-      none_part
+      None-from-is_none r.scheme third.0,
+      None-from-is_none r.authority third.1,
+      empty-text-is-nil r.path second.1,
+      None-from-is_none
           r.query first.1,
     ) (of_fragment r.fragment)
   where
@@ -176,18 +212,22 @@ only_test r h =
     of_fragment None = refl
     of_fragment (Some x) = refl
 
-text_only : (text : List ℕ) → (is_empty text || starts 35 text) ≡ true
+-- resolving: a text that is empty or begins with `#` (35) has a fragment alone
+text-empty-or-beginning-with-hash-is-fragment-only : (text : List ℕ)
+    → (is_empty text || starts 35 text) ≡ true
     → is_fragment_only (components text) ≡ true
-text_only [] h = refl
-text_only (c ∷ rest) h = subst (λ d. is_fragment_only (components (d ∷ rest)) ≡ true)
+text-empty-or-beginning-with-hash-is-fragment-only [] h = refl
+text-empty-or-beginning-with-hash-is-fragment-only (c ∷ rest) h = subst
+    (λ d. is_fragment_only (components (d ∷ rest)) ≡ true)
     (sym (eqb-true c 35 h)) refl
 
-pub fragment_only : (text : List ℕ)
+-- resolving: a reference is a fragment alone exactly if it is empty or begins with `#` (35)
+pub fragment_only_is_empty_or_leading_hash : (text : List ℕ)
     → is_fragment_only (components text) ≡ (is_empty text || starts 35 text)
-fragment_only text = ⊎_elim
+fragment_only_is_empty_or_leading_hash text = ⊎_elim
     (λ h. h ∙ sym (ap (λ t. is_empty t || starts 35 t) (sym (recompose-components text))
-    ∙ only_test (components text) h))
+    ∙ fragment-only-text-is-empty-or-begins-with-hash (components text) h))
     (λ h. h
     ∙ sym (false_from_ne_true (is_empty text || starts 35 text)
-    (λ e. false≢true (sym h ∙ text_only text e))))
+    (λ e. false≢true (sym h ∙ text-empty-or-beginning-with-hash-is-fragment-only text e))))
     (cases_Bool (is_fragment_only (components text)))

@@ -8,208 +8,270 @@ use Rattle.std.specs.Str.{IsUtf8}
 use Rattle.std.proofs.lemmas.Bool.{cases_Bool, cases_lt, cond-true, cond-false, and_parts, and_from}
 use Rattle.std.proofs.lemmas.Bool.{lt-ltb, le-ltb, false≢true}
 use Rattle.uri_parts.specs.Components.{components}
-use Rattle.uri_parts.specs.Grammar.{Kind, IsOfKind, are_components, iri, iri_ref, uri, uri_ref}
+use Rattle.uri_parts.specs.Grammar.{Kind, IsOfKind, components_meet_rules, iri, iri_ref, uri}
+use Rattle.uri_parts.specs.Grammar.{uri_ref}
 use Rattle.uri_parts.proofs.TextKinds.KindSets.{uri_has_scheme, uri_is_uri_ref, iri_has_scheme}
 use Rattle.uri_ops.specs.declared.convert.ConvertError.{ConvertError}
 use Rattle.uri_ops.specs.declared.convert.ConvertError.TheVariants.{NoScheme, NotAscii}
 use Rattle.uri_ops.specs.ComponentSets.{HasComponentSets}
-use Rattle.uri_ops.specs.Conversions.{is_past_ascii, first_past_ascii, scheme_refusal}
-use Rattle.uri_ops.specs.Conversions.{ascii_refusal, uri_refusal}
-use Rattle.uri_ops.specs.Encoded.{encoded_text, ascii_kind, MeanTheSame}
+use Rattle.uri_ops.specs.Conversions.{is_past_ascii, first_past_ascii, missing_scheme_error}
+use Rattle.uri_ops.specs.Conversions.{not_ascii_error, uri_conversion_error}
+use Rattle.uri_ops.specs.Encoded.{encode_past_ascii, ascii_kind, AreEquivalent}
 use Rattle.uri_ops.specs.Meaning.{bare_meaning_of, meaning_of}
 use Rattle.uri_parts.specs.Ports.{PortFunction, no_defaults}
-use Rattle.uri_ops.proofs.AsciiForms.AsciiTexts.{text_ascii}
-use Rattle.uri_ops.proofs.AsciiForms.EncodedMeanings.{encoded_is_text, meaning_of-encoded}
-use Rattle.uri_ops.proofs.AsciiForms.EncodedPaths.{encoded-ascii}
-use Rattle.uri_ops.proofs.TextKinds.FourKinds.{iri_sets, iri_ref_sets}
-use Rattle.uri_ops.proofs.TextKinds.WiderKinds.{text_wider, ascii_within}
+use Rattle.uri_ops.proofs.AsciiForms.AsciiTexts.{texts-of-ascii-kinds-are-ascii}
+use Rattle.uri_ops.proofs.AsciiForms.EncodedMeanings.{encoded-text-is-of-ascii_kind}
+use Rattle.uri_ops.proofs.AsciiForms.EncodedMeanings.{encoding-keeps-meaning_of-text}
+use Rattle.uri_ops.proofs.AsciiForms.EncodedPaths.{ascii-text-is-its-own-encoding}
+use Rattle.uri_ops.proofs.TextKinds.FourKinds.{iri-has-component-sets, iri_ref-has-component-sets}
+use Rattle.uri_ops.proofs.TextKinds.WiderKinds.{text-is-of-wider-kind, ascii_kind-is-within-kind}
 
--- a scheme
-some_refused : (error : ConvertError) → Some error ≡ None → ⊥
-some_refused error e = absurd (cc e)
+-- general fact on options, for errors of conversion
+some-error-is-not-none : (error : ConvertError) → Some error ≡ None → ⊥
+some-error-is-not-none error e = absurd (cc e)
 
-none_refused : (text : List ℕ) → is_some (components text).scheme ≡ true
-    → scheme_refusal text ≡ None
-unfolding scheme_refusal
-none_refused text e = rw e refl
+-- conversions: a text with a scheme has no error for a missing one
+text-with-scheme-misses-no-scheme : (text : List ℕ) → is_some (components text).scheme ≡ true
+    → missing_scheme_error text ≡ None
+unfolding missing_scheme_error
+text-with-scheme-misses-no-scheme text e = rw e refl
 
-with_scheme : (text : List ℕ) → scheme_refusal text ≡ None → is_some (components text).scheme ≡ true
-unfolding scheme_refusal
-with_scheme text e = ⊎_elim
+-- conversions: a text without an error for a missing scheme has one
+no-missing_scheme_error-means-scheme : (text : List ℕ) → missing_scheme_error text ≡ None
+    → is_some (components text).scheme
+    ≡ true
+unfolding missing_scheme_error
+no-missing_scheme_error-means-scheme text e = ⊎_elim
     (λ h. h)
-    (λ h. absurd (some_refused NoScheme (sym (cond-false _ _ _ h) ∙ e)))
+    (λ h. absurd (some-error-is-not-none NoScheme (sym (cond-false _ _ _ h) ∙ e)))
     (cases_Bool (is_some (components text).scheme))
 
-needed : (kind : Kind) (text : List ℕ) → is_some (components text).scheme ≡ true
+-- conversions: a text with a scheme is of the kind that needs one
+text-with-scheme-is-of-kind-with-scheme : (kind : Kind) (text : List ℕ)
+    → is_some (components text).scheme ≡ true
     → IsOfKind kind text → IsOfKind (record kind { needs_scheme = true }) text
-needed kind text s h = let p = and_parts _ _ h in
+text-with-scheme-is-of-kind-with-scheme kind text s h = let p = and_parts _ _ h in
     and_from _ _ p.0 (present (is_some (components text).scheme) s _)
   where
     present : (b : Bool) → b ≡ true → (c : Bool) → (b || c) ≡ true
     present true e c = refl
     present false e c = absurd (false≢true e)
 
-pub uri_with_scheme : (text : List ℕ) → IsOfKind uri_ref text
-    → (scheme_refusal text ≡ None ↔ IsOfKind uri text)
-uri_with_scheme text h = (
-  λ e. needed uri_ref text (with_scheme text e) h,
-  λ w. none_refused text
+-- conversions: a URI reference converts to a URI exactly if it is one
+pub uri_ref_with_scheme_is_uri : (text : List ℕ) → IsOfKind uri_ref text
+    → (missing_scheme_error text ≡ None ↔ IsOfKind uri text)
+uri_ref_with_scheme_is_uri text h = (
+  λ e. text-with-scheme-is-of-kind-with-scheme uri_ref text
+      (no-missing_scheme_error-means-scheme text e) h,
+  λ w. text-with-scheme-misses-no-scheme text
       (uri_has_scheme text w),
 )
 
-pub iri_with_scheme : (text : List ℕ) → IsOfKind iri_ref text
-    → (scheme_refusal text ≡ None ↔ IsOfKind iri text)
-iri_with_scheme text h = (
-  λ e. needed iri_ref text (with_scheme text e) h,
-  λ w. none_refused text
+-- conversions: an IRI reference converts to an IRI exactly if it is one
+pub iri_ref_with_scheme_is_iri : (text : List ℕ) → IsOfKind iri_ref text
+    → (missing_scheme_error text ≡ None ↔ IsOfKind iri text)
+iri_ref_with_scheme_is_iri text h = (
+  λ e. text-with-scheme-is-of-kind-with-scheme iri_ref text
+      (no-missing_scheme_error-means-scheme text e) h,
+  λ w. text-with-scheme-misses-no-scheme text
       (iri_has_scheme text w),
 )
 
 -- characters past ASCII
-abbrev is_ascii : ℕ → Bool
-is_ascii b = not (is_past_ascii b)
+abbrev is_ascii_code : ℕ → Bool
+is_ascii_code b = not (is_past_ascii b)
 
-ascii_ahead : (text : List ℕ) → list_all (λ c. ltb c 128) text ≡ true
-    → prefix_len is_ascii text ≡ length text
-ascii_ahead [] e = refl
-ascii_ahead (c ∷ text) e =
+-- conversions: the ASCII bytes at the start of an ASCII text are all
+ascii-prefix-of-ascii-text-is-whole : (text : List ℕ) → list_all (λ c. ltb c 128) text ≡ true
+    → prefix_len is_ascii_code text ≡ length text
+ascii-prefix-of-ascii-text-is-whole [] e = refl
+ascii-prefix-of-ascii-text-is-whole (c ∷ text) e =
     let p = and_parts (ltb c 128) (list_all (λ c. ltb c 128) text) e in
-    let n : prefix_len is_ascii (c ∷ text) ≡ 1 + prefix_len is_ascii text =
+    let n : prefix_len is_ascii_code (c ∷ text) ≡ 1 + prefix_len is_ascii_code text =
     cond-true _ _ _ (ap (λ b. not (not b)) p.0) in
-    let m : prefix_len is_ascii text ≡ length text = ascii_ahead text p.1 in
+    let m : prefix_len is_ascii_code text
+    ≡ length text = ascii-prefix-of-ascii-text-is-whole text p.1 in
     omega arith
 
-all_ahead : (text : List ℕ) → length text ≤ prefix_len is_ascii text
+-- conversions: if the ASCII bytes at the start are all, the text is ASCII
+whole-ascii-prefix-means-ascii-text : (text : List ℕ) → length text ≤ prefix_len is_ascii_code text
     → list_all (λ c. ltb c 128) text ≡ true
-all_ahead [] h = refl
-all_ahead (c ∷ text) h = ⊎_elim
-    (λ e. let n : prefix_len is_ascii (c ∷ text) ≡ 1 + prefix_len is_ascii text =
+whole-ascii-prefix-means-ascii-text [] h = refl
+whole-ascii-prefix-means-ascii-text (c ∷ text) h = ⊎_elim
+    (λ e. let n : prefix_len is_ascii_code (c ∷ text) ≡ 1 + prefix_len is_ascii_code text =
     cond-true _ _ _ (ap (λ b. not (not b)) e) in
-    and_from _ _ e (all_ahead text (omega arith)))
-    (λ e. let n : prefix_len is_ascii (c ∷ text) ≡ 0 = cond-false _ _ _ (ap (λ b. not (not b)) e) in
+    and_from _ _ e (whole-ascii-prefix-means-ascii-text text (omega arith)))
+    (λ e. let n : prefix_len is_ascii_code (c ∷ text)
+    ≡ 0 = cond-false _ _ _ (ap (λ b. not (not b)) e) in
     absurd (omega arith))
     (cases_Bool (ltb c 128))
 
-some_index : (index : ℕ) → Some index ≡ None → ⊥
-some_index index e = absurd (cc e)
+-- general fact on options, for the index of a character past ASCII
+some-index-is-not-none : (index : ℕ) → Some index ≡ None → ⊥
+some-index-is-not-none index e = absurd (cc e)
 
-none_mapped : (place : Option ℕ) → option_map (λ index. NotAscii index) place ≡ None → place ≡ None
-none_mapped None e = refl
-none_mapped (Some index) e = absurd (some_refused (NotAscii index) e)
+-- general fact on options, for the index of a character past ASCII: no error comes from no index
+absent-mapped-index-is-absent : (place : Option ℕ) → option_map (λ index. NotAscii index) place
+    ≡ None → place ≡ None
+absent-mapped-index-is-absent None e = refl
+absent-mapped-index-is-absent (Some index) e = absurd (some-error-is-not-none (NotAscii index) e)
 
-all_ascii : (text : List ℕ) → ascii_refusal text ≡ None → list_all (λ c. ltb c 128) text ≡ true
-unfolding ascii_refusal first_past_ascii
-all_ascii text e =
-    let none = none_mapped (position is_past_ascii text) e in
+-- conversions: a text without an error for a character past ASCII is ASCII
+no-not_ascii_error-means-ascii : (text : List ℕ) → not_ascii_error text ≡ None
+    → list_all (λ c. ltb c 128) text ≡ true
+unfolding not_ascii_error first_past_ascii
+no-not_ascii_error-means-ascii text e =
+    let none = absent-mapped-index-is-absent (position is_past_ascii text) e in
     ⊎_elim
-    (λ h. absurd (some_index (prefix_len is_ascii text)
-    (sym (cond-true _ _ _ (lt-ltb (prefix_len is_ascii text) (length text) h)) ∙ none)))
-    (λ h. all_ahead text h)
-    (cases_lt (prefix_len is_ascii text) (length text))
+    (λ h. absurd (some-index-is-not-none (prefix_len is_ascii_code text)
+    (sym (cond-true _ _ _ (lt-ltb (prefix_len is_ascii_code text) (length text) h)) ∙ none)))
+    (λ h. whole-ascii-prefix-means-ascii-text text h)
+    (cases_lt (prefix_len is_ascii_code text) (length text))
 
-none_past : (text : List ℕ) → list_all (λ c. ltb c 128) text ≡ true → ascii_refusal text ≡ None
-unfolding ascii_refusal first_past_ascii
-none_past text e =
-    let n = ascii_ahead text e in
+-- conversions: an ASCII text has no error for a character past ASCII
+ascii-text-has-no-not_ascii_error : (text : List ℕ) → list_all (λ c. ltb c 128) text ≡ true
+    → not_ascii_error text ≡ None
+unfolding not_ascii_error first_past_ascii
+ascii-text-has-no-not_ascii_error text e =
+    let n = ascii-prefix-of-ascii-text-is-whole text e in
     ap (option_map (λ index. NotAscii index))
-    (cond-false _ _ _ (le-ltb (prefix_len is_ascii text) (length text) (omega arith)))
+    (cond-false _ _ _ (le-ltb (prefix_len is_ascii_code text) (length text) (omega arith)))
 
 module _ (kind : Kind) (sets : HasComponentSets kind) where
-  ascii_text : (text : List ℕ) → IsUtf8 text → IsOfKind kind text
-      → (ascii_refusal text ≡ None ↔ IsOfKind (ascii_kind kind) text)
-  ascii_text text u h = (
+  text-of-kind-is-ascii-if-of-ascii_kind : (text : List ℕ) → IsUtf8 text → IsOfKind kind text
+      → (not_ascii_error text ≡ None ↔ IsOfKind (ascii_kind kind) text)
+  text-of-kind-is-ascii-if-of-ascii_kind text u h = (
     λ e.
-        let plain = all_ascii text e in
-        ap (are_components (ascii_kind kind)) (ap components (sym (encoded-ascii text plain)))
-        ∙ (encoded_is_text kind sets text (record { utf8 = u; grammar = h })).grammar,
-    λ w. none_past text (text_ascii kind sets text (record { utf8 = u; grammar = w })),
+        let all_are_ascii = no-not_ascii_error-means-ascii text e in
+        ap (components_meet_rules (ascii_kind kind))
+        (ap components (sym (ascii-text-is-its-own-encoding text all_are_ascii)))
+        ∙ (encoded-text-is-of-ascii_kind kind sets text (record { utf8 = u; grammar = h })).grammar,
+    λ w. ascii-text-has-no-not_ascii_error text (texts-of-ascii-kinds-are-ascii kind sets text
+        (record { utf8 = u; grammar = w })),
   )
 
-pub iri_of_ascii : (text : List ℕ) → IsUtf8 text → IsOfKind iri text
-    → (ascii_refusal text ≡ None ↔ IsOfKind uri text)
-iri_of_ascii text u h = ascii_text iri iri_sets text u h
+-- conversions: an IRI converts to a URI exactly if it is one
+pub ascii_iri_is_uri : (text : List ℕ) → IsUtf8 text → IsOfKind iri text
+    → (not_ascii_error text ≡ None ↔ IsOfKind uri text)
+ascii_iri_is_uri text u h = text-of-kind-is-ascii-if-of-ascii_kind iri iri-has-component-sets text u
+    h
 
-pub iri_ref_of_ascii : (text : List ℕ) → IsUtf8 text → IsOfKind iri_ref text
-    → (ascii_refusal text ≡ None ↔ IsOfKind uri_ref text)
-iri_ref_of_ascii text u h = ascii_text iri_ref iri_ref_sets text u h
+-- conversions: an IRI reference converts to a URI reference exactly if it is one
+pub ascii_iri_ref_is_uri_ref : (text : List ℕ) → IsUtf8 text → IsOfKind iri_ref text
+    → (not_ascii_error text ≡ None ↔ IsOfKind uri_ref text)
+ascii_iri_ref_is_uri_ref text u h = text-of-kind-is-ascii-if-of-ascii_kind iri_ref
+    iri_ref-has-component-sets text u h
 
-both_none : {A : Type 0} (a b : Option A) → option_or a b ≡ None → (a ≡ None) × (b ≡ None)
-both_none None b e = (refl, e)
-both_none (Some x) b e = absurd (cc e)
+-- general fact on options, for the first of two errors: if there is none, there is neither
+option_or-is-none-if-both-are : {A : Type 0} (a b : Option A) → option_or a b ≡ None → (a ≡ None)
+    × (b ≡ None)
+option_or-is-none-if-both-are None b e = (refl, e)
+option_or-is-none-if-both-are (Some x) b e = absurd (cc e)
 
-none_both : {A : Type 0} (a b : Option A) → a ≡ None → b ≡ None → option_or a b ≡ None
-none_both a b e f = ap (λ o. option_or o b) e ∙ f
+-- general fact on options, for the first of two errors: if there is neither, there is none
+both-none-give-option_or-none : {A : Type 0} (a b : Option A) → a ≡ None → b ≡ None
+    → option_or a b ≡ None
+both-none-give-option_or-none a b e f = ap (λ o. option_or o b) e ∙ f
 
-pub uri_of_ascii : (text : List ℕ) → IsUtf8 text → IsOfKind iri_ref text
-    → (uri_refusal text ≡ None ↔ IsOfKind uri text)
-unfolding uri_refusal
-uri_of_ascii text u h = (
-  λ e. let p = both_none (scheme_refusal text) (ascii_refusal text) e in
-      (uri_with_scheme text ((iri_ref_of_ascii text u h).0 p.1)).0 p.0,
+-- conversions: an IRI reference converts to a URI exactly if it is one
+pub ascii_iri_ref_with_scheme_is_uri : (text : List ℕ) → IsUtf8 text → IsOfKind iri_ref text
+    → (uri_conversion_error text ≡ None ↔ IsOfKind uri text)
+unfolding uri_conversion_error
+ascii_iri_ref_with_scheme_is_uri text u h = (
+  λ e. let p = option_or-is-none-if-both-are (missing_scheme_error text) (not_ascii_error text) e in
+      (uri_ref_with_scheme_is_uri text ((ascii_iri_ref_is_uri_ref text u h).0 p.1)).0 p.0,
   λ w.
       let reference = uri_is_uri_ref text w in
-      none_both (scheme_refusal text) (ascii_refusal text) ((uri_with_scheme text reference).1 w)
-      ((iri_ref_of_ascii text u h).1 reference),
+      both-none-give-option_or-none (missing_scheme_error text) (not_ascii_error text)
+      ((uri_ref_with_scheme_is_uri text reference).1 w)
+      ((ascii_iri_ref_is_uri_ref text u h).1 reference),
 )
 
 -- a URI is an IRI
 pub uri_is_iri : (text : List ℕ) → IsUtf8 text → IsOfKind uri text → IsOfKind iri text
 uri_is_iri text u h =
-    (text_wider uri iri iri_sets (ascii_within iri) text (record { utf8 = u; grammar = h })).grammar
+    (text-is-of-wider-kind uri iri iri-has-component-sets (ascii_kind-is-within-kind iri) text
+    (record { utf8 = u; grammar = h })).grammar
 
+-- conversions: each URI reference is an IRI reference
 pub uri_ref_is_iri_ref : (text : List ℕ) → IsUtf8 text → IsOfKind uri_ref text
     → IsOfKind iri_ref text
-uri_ref_is_iri_ref text u h = (text_wider uri_ref iri_ref iri_ref_sets (ascii_within iri_ref) text
+uri_ref_is_iri_ref text u h =
+    (text-is-of-wider-kind uri_ref iri_ref iri_ref-has-component-sets
+    (ascii_kind-is-within-kind iri_ref) text
     (record { utf8 = u; grammar = h })).grammar
 
 -- an IRI with its characters past ASCII as octets is a URI of the same meaning
 module _ (kind : Kind) (sets : HasComponentSets kind) where
-  encoded_of_kind : (text encoded : List ℕ) → encoded ≡ encoded_text text → IsUtf8 text
+  encoded-text-is-of-ascii-kind : (text encoded : List ℕ) → encoded ≡ encode_past_ascii text
+      → IsUtf8 text
       → IsOfKind kind text → IsOfKind (ascii_kind kind) encoded
-  encoded_of_kind text encoded e u h = ap (are_components (ascii_kind kind)) (ap components e)
-      ∙ (encoded_is_text kind sets text (record { utf8 = u; grammar = h })).grammar
+  encoded-text-is-of-ascii-kind text encoded e u h = ap (components_meet_rules (ascii_kind kind))
+      (ap components e)
+      ∙ (encoded-text-is-of-ascii_kind kind sets text (record { utf8 = u; grammar = h })).grammar
 
-  encoded_means : (text encoded : List ℕ) → encoded ≡ encoded_text text → IsUtf8 text
-      → IsOfKind kind text → MeanTheSame kind encoded text
-  unfolding MeanTheSame
-  encoded_means text encoded e u h = ap (bare_meaning_of kind) e
-      ∙ meaning_of-encoded kind sets no_defaults text (record { utf8 = u; grammar = h })
+  encoded-text-is-equivalent : (text encoded : List ℕ) → encoded ≡ encode_past_ascii text
+      → IsUtf8 text
+      → IsOfKind kind text → AreEquivalent kind encoded text
+  unfolding AreEquivalent
+  encoded-text-is-equivalent text encoded e u h = ap (bare_meaning_of kind) e
+      ∙ encoding-keeps-meaning_of-text kind sets no_defaults text (record { utf8 = u; grammar = h })
 
-  encoded_means_under : (text encoded : List ℕ) → encoded ≡ encoded_text text → IsUtf8 text
+  encoded-text-has-same-meaning : (text encoded : List ℕ) → encoded ≡ encode_past_ascii text
+      → IsUtf8 text
       → IsOfKind kind text → (ports : PortFunction)
       → meaning_of kind ports encoded ≡ meaning_of kind ports text
-  encoded_means_under text encoded e u h ports = ap (meaning_of kind ports) e
-      ∙ meaning_of-encoded kind sets ports text (record { utf8 = u; grammar = h })
+  encoded-text-has-same-meaning text encoded e u h ports = ap (meaning_of kind ports) e
+      ∙ encoding-keeps-meaning_of-text kind sets ports text (record { utf8 = u; grammar = h })
 
-pub iri_encoded : (text encoded : List ℕ) → encoded ≡ encoded_text text → IsUtf8 text
+-- conversions: an IRI whose characters past ASCII are percent-encoded
+-- is a URI (RFC 3987, section 3.1)
+pub encoded-iri-is-uri : (text encoded : List ℕ) → encoded ≡ encode_past_ascii text → IsUtf8 text
     → IsOfKind iri text → IsOfKind uri encoded
-iri_encoded text encoded e u h = encoded_of_kind iri iri_sets text encoded e u h
+encoded-iri-is-uri text encoded e u h = encoded-text-is-of-ascii-kind iri iri-has-component-sets
+    text encoded e u h
 
-pub iri_ref_encoded : (text encoded : List ℕ) → encoded ≡ encoded_text text → IsUtf8 text
+-- conversions: an IRI reference whose characters past ASCII are
+-- percent-encoded is a URI reference (RFC 3987, section 3.1)
+pub encoded-iri_ref-is-uri_ref : (text encoded : List ℕ) → encoded ≡ encode_past_ascii text
+    → IsUtf8 text
     → IsOfKind iri_ref text → IsOfKind uri_ref encoded
-iri_ref_encoded text encoded e u h = encoded_of_kind iri_ref iri_ref_sets text encoded e u h
+encoded-iri_ref-is-uri_ref text encoded e u h = encoded-text-is-of-ascii-kind iri_ref
+    iri_ref-has-component-sets text
+    encoded e u h
 
-pub iri_means : (text encoded : List ℕ) → encoded ≡ encoded_text text → IsUtf8 text
-    → IsOfKind iri text → MeanTheSame iri encoded text
-iri_means text encoded e u h = encoded_means iri iri_sets text encoded e u h
+pub encoded-iri-is-equivalent : (text encoded : List ℕ) → encoded ≡ encode_past_ascii text
+    → IsUtf8 text
+    → IsOfKind iri text → AreEquivalent iri encoded text
+encoded-iri-is-equivalent text encoded e u h = encoded-text-is-equivalent iri iri-has-component-sets
+    text encoded e u h
 
-pub iri_ref_means : (text encoded : List ℕ) → encoded ≡ encoded_text text → IsUtf8 text
-    → IsOfKind iri_ref text → MeanTheSame iri_ref encoded text
-iri_ref_means text encoded e u h = encoded_means iri_ref iri_ref_sets text encoded e u h
+pub encoded-iri_ref-is-equivalent : (text encoded : List ℕ) → encoded ≡ encode_past_ascii text
+    → IsUtf8 text
+    → IsOfKind iri_ref text → AreEquivalent iri_ref encoded text
+encoded-iri_ref-is-equivalent text encoded e u h = encoded-text-is-equivalent iri_ref
+    iri_ref-has-component-sets text
+    encoded e u h
 
-pub iri_means_under : (text encoded : List ℕ) → encoded ≡ encoded_text text → IsUtf8 text
+pub encoded-iri-has-same-meaning : (text encoded : List ℕ) → encoded ≡ encode_past_ascii text
+    → IsUtf8 text
     → IsOfKind iri text → (ports : PortFunction)
     → meaning_of iri ports encoded ≡ meaning_of iri ports text
-iri_means_under text encoded e u h ports = encoded_means_under iri iri_sets text encoded e u h ports
+encoded-iri-has-same-meaning text encoded e u h ports = encoded-text-has-same-meaning iri
+    iri-has-component-sets text
+    encoded e u h ports
 
-pub iri_ref_means_under : (text encoded : List ℕ) → encoded ≡ encoded_text text → IsUtf8 text
+pub encoded-iri_ref-has-same-meaning : (text encoded : List ℕ) → encoded ≡ encode_past_ascii text
+    → IsUtf8 text
     → IsOfKind iri_ref text → (ports : PortFunction)
     → meaning_of iri_ref ports encoded ≡ meaning_of iri_ref ports text
-iri_ref_means_under text encoded e u h ports =
-    encoded_means_under iri_ref iri_ref_sets text encoded e u h ports
+encoded-iri_ref-has-same-meaning text encoded e u h ports =
+    encoded-text-has-same-meaning iri_ref iri_ref-has-component-sets text encoded e u h ports
 
 pub ruleset uri_widening = (uri_is_uri_ref, uri_ref_is_iri_ref)
 
-pub ruleset iri_encoding = (iri_encoded, iri_means, iri_means_under)
+pub ruleset iri_encoding =
+    (encoded-iri-is-uri, encoded-iri-is-equivalent, encoded-iri-has-same-meaning)
 
-pub ruleset iri_ref_encoding = (iri_ref_encoded, iri_ref_means, iri_ref_means_under)
+pub ruleset iri_ref_encoding =
+    (encoded-iri_ref-is-uri_ref, encoded-iri_ref-is-equivalent, encoded-iri_ref-has-same-meaning)

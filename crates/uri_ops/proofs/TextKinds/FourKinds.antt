@@ -5,35 +5,38 @@ use Rattle.std.specs.List.{list_any}
 use Rattle.std.proofs.lemmas.Bool.{or_left, false≢true}
 use Rattle.uri_pct.specs.Sets.{TableSet, is_unreserved, is_reg_name_char, is_userinfo_char}
 use Rattle.uri_pct.specs.Sets.{is_pchar, is_path_char, is_query_char}
-use Rattle.uri_parts.specs.Grammar.{Kind, one_of_four, uri, uri_ref, iri, iri_ref}
+use Rattle.uri_parts.specs.Grammar.{Kind, kind_by_flags, uri, uri_ref, iri, iri_ref}
 use Rattle.uri_ops.specs.ComponentSets.{IsComponentSet, HasComponentSets}
 
-in_reg_name : (c : ℕ) → is_unreserved c ≡ true → is_reg_name_char c ≡ true
-in_reg_name c e = or_left _ _ e
+unreserved-is-reg_name-character : (c : ℕ) → is_unreserved c ≡ true → is_reg_name_char c ≡ true
+unreserved-is-reg_name-character c e = or_left _ _ e
 
-in_userinfo : (c : ℕ) → is_unreserved c ≡ true → is_userinfo_char c ≡ true
-in_userinfo c e = or_left _ _ (in_reg_name c e)
+unreserved-is-userinfo-character : (c : ℕ) → is_unreserved c ≡ true → is_userinfo_char c ≡ true
+unreserved-is-userinfo-character c e = or_left _ _ (unreserved-is-reg_name-character c e)
 
-in_pchar : (c : ℕ) → is_unreserved c ≡ true → is_pchar c ≡ true
-in_pchar c e = or_left _ _ (in_reg_name c e)
+unreserved-is-pchar : (c : ℕ) → is_unreserved c ≡ true → is_pchar c ≡ true
+unreserved-is-pchar c e = or_left _ _ (unreserved-is-reg_name-character c e)
 
-in_path : (c : ℕ) → is_unreserved c ≡ true → is_path_char c ≡ true
-in_path c e = or_left _ _ (in_pchar c e)
+unreserved-is-path-character : (c : ℕ) → is_unreserved c ≡ true → is_path_char c ≡ true
+unreserved-is-path-character c e = or_left _ _ (unreserved-is-pchar c e)
 
-in_query : (c : ℕ) → is_unreserved c ≡ true → is_query_char c ≡ true
-in_query c e = or_left _ _ (in_pchar c e)
+unreserved-is-query-character : (c : ℕ) → is_unreserved c ≡ true → is_query_char c ≡ true
+unreserved-is-query-character c e = or_left _ _ (unreserved-is-pchar c e)
 
--- the set of a component whose ASCII characters are these
-component : (test : ℕ → Bool) (past private : Bool) → TableSet
-component test past private =
+-- sets: the one of a component whose ASCII characters pass the test;
+-- past, private: whether it has ucschar, iprivate
+component_table : (test : ℕ → Bool) (past private : Bool) → TableSet
+component_table test past private =
     record { ascii = test; pct_encoded = true; ucschar = past; iprivate = private }
 
-component_set : (marks : List ℕ) (test : ℕ → Bool) (past private : Bool)
+-- sets: a set of characters by a test is a component's, if it has the unreserved ones, and neither
+-- `%` (37) nor the delimiters; past, private: whether it has ucschar, iprivate
+tested-characters-are-component-set : (marks : List ℕ) (test : ℕ → Bool) (past private : Bool)
     → ((c : ℕ) → is_unreserved c ≡ true → test c ≡ true) → test 37 ≡ false
     → list_any test marks ≡ false
-    → IsComponentSet marks (component test past private)
-unfolding component
-component_set marks test past private within percent ends = record {
+    → IsComponentSet marks (component_table test past private)
+unfolding component_table
+tested-characters-are-component-set marks test past private within percent ends = record {
   unreserved = record {
     ascii = within;
     pct_encoded = λ e. refl;
@@ -46,53 +49,72 @@ component_set marks test past private within percent ends = record {
   ends = ends;
 }
 
--- for any characters past ASCII
+-- the kind whose sets have ucschar, or iprivate, or neither, and which needs a scheme or not
 kind_with : (past private needs : Bool) → Kind
 kind_with past private needs = record {
-  userinfo = component is_userinfo_char past false;
-  reg_name = component is_reg_name_char past false;
-  path = component is_path_char past false;
-  query = component is_query_char past private;
-  fragment = component is_query_char past false;
+  userinfo = component_table is_userinfo_char past false;
+  reg_name = component_table is_reg_name_char past false;
+  path = component_table is_path_char past false;
+  query = component_table is_query_char past private;
+  fragment = component_table is_query_char past false;
   needs_scheme = needs;
 }
 
-kind_sets : (past private needs : Bool) → HasComponentSets (kind_with past private needs)
-unfolding kind_with component
-kind_sets past private needs = record {
-  userinfo = component_set (codes "/?#[]@") is_userinfo_char past false in_userinfo refl refl;
-  reg_name = component_set (codes "/?#[]@:") is_reg_name_char past false in_reg_name refl refl;
-  path = component_set (codes "?#[]") is_path_char past false in_path refl refl;
+-- sets: those of a kind have unreserved characters and octets, and lack what ends each component;
+-- past, private: whether they have ucschar, iprivate
+kind_with-has-component-sets : (past private needs : Bool)
+    → HasComponentSets (kind_with past private needs)
+unfolding kind_with component_table
+kind_with-has-component-sets past private needs = record {
+  userinfo = tested-characters-are-component-set (codes "/?#[]@") is_userinfo_char past false
+      unreserved-is-userinfo-character refl refl;
+  reg_name = tested-characters-are-component-set (codes "/?#[]@:") is_reg_name_char past false
+      unreserved-is-reg_name-character refl refl;
+  path = tested-characters-are-component-set (codes "?#[]") is_path_char past false
+      unreserved-is-path-character refl refl;
   slash = refl;
-  query = component_set (codes "#[]") is_query_char past private in_query refl refl;
-  fragment = component_set (codes "#[]") is_query_char past false in_query refl refl;
+  query = tested-characters-are-component-set (codes "#[]") is_query_char past private
+      unreserved-is-query-character refl refl;
+  fragment = tested-characters-are-component-set (codes "#[]") is_query_char past false
+      unreserved-is-query-character refl refl;
 }
 
-pub uri_sets : HasComponentSets uri
-unfolding kind_with component
-uri_sets = kind_sets false false true
+-- the sets of a URI's components have unreserved characters and octets, and lack what ends each
+pub uri-has-component-sets : HasComponentSets uri
+unfolding kind_with component_table
+uri-has-component-sets = kind_with-has-component-sets false false true
 
-pub uri_ref_sets : HasComponentSets uri_ref
-unfolding kind_with component
-uri_ref_sets = kind_sets false false false
+-- the sets of a URI reference have unreserved characters and octets,
+-- and lack what ends each component
+pub uri_ref-has-component-sets : HasComponentSets uri_ref
+unfolding kind_with component_table
+uri_ref-has-component-sets = kind_with-has-component-sets false false false
 
-pub iri_sets : HasComponentSets iri
-unfolding kind_with component
-iri_sets = kind_sets true true true
+-- the sets of an IRI's components have unreserved characters and octets, and lack what ends each
+pub iri-has-component-sets : HasComponentSets iri
+unfolding kind_with component_table
+iri-has-component-sets = kind_with-has-component-sets true true true
 
-pub iri_ref_sets : HasComponentSets iri_ref
-unfolding kind_with component
-iri_ref_sets = kind_sets true true false
+-- the sets of an IRI reference have unreserved characters and octets,
+-- and lack what ends each component
+pub iri_ref-has-component-sets : HasComponentSets iri_ref
+unfolding kind_with component_table
+iri_ref-has-component-sets = kind_with-has-component-sets true true false
 
-one_has_sets : (international needs_scheme : Bool)
-    → HasComponentSets (one_of_four international needs_scheme)
-one_has_sets false false = uri_ref_sets
-one_has_sets false true = uri_sets
-one_has_sets true false = iri_ref_sets
-one_has_sets true true = iri_sets
+-- sets: those of the four kinds have unreserved characters and octets,
+-- and lack what ends each component
+kind_by_flags-has-component-sets : (international needs_scheme : Bool)
+    → HasComponentSets (kind_by_flags international needs_scheme)
+kind_by_flags-has-component-sets false false = uri_ref-has-component-sets
+kind_by_flags-has-component-sets false true = uri-has-component-sets
+kind_by_flags-has-component-sets true false = iri_ref-has-component-sets
+kind_by_flags-has-component-sets true true = iri-has-component-sets
 
--- a kind that is one of the four has sets that keep its components apart
-pub known_sets : (kind : Kind) → kind ≡ one_of_four kind.path.ucschar kind.needs_scheme
+-- the sets of a kind that is one of the four have unreserved characters and octets,
+-- and lack what ends each component
+pub one-of-four-kinds-has-sets : (kind : Kind) → kind
+    ≡ kind_by_flags kind.path.ucschar kind.needs_scheme
     → HasComponentSets kind
-known_sets kind known =
-    subst HasComponentSets (sym known) (one_has_sets kind.path.ucschar kind.needs_scheme)
+one-of-four-kinds-has-sets kind known =
+    subst HasComponentSets (sym known)
+    (kind_by_flags-has-component-sets kind.path.ucschar kind.needs_scheme)

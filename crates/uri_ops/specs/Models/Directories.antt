@@ -4,24 +4,27 @@ use Rattle.std.specs.Prelude.{◌≡◌, ◌⊎◌, ◌||◌, Bool, true, List, 
 use Rattle.uri_ops.specs.Dots.{IsAbsolute, EndsInSlash, before_last_slash, lacks_dot_segments}
 use Rattle.uri_ops.specs.Dots.{remove_dot_segments, underflows}
 
--- the path begins with and ends in `/`, and has no dot segment
-pub record IsPlainDirectory (path : List ℕ) : Type 0 where
+-- the path is a directory without dot segments: it begins with and ends in `/` (section 5.2.3)
+pub record IsDotlessDirectory (path : List ℕ) : Type 0 where
   pub absolute : IsAbsolute path
   pub closed : EndsInSlash path
-  pub plain : lacks_dot_segments path ≡ true
+  pub dotless : lacks_dot_segments path ≡ true
 
--- the directory that a directory is in, which is `/` for `/` too
+-- the parent of a directory, which a `..` leads to: `/a/` of `/a/b/`, and `/` of `/` (section
+-- 5.2.4)
 abbrev pub parent_directory : List ℕ → List ℕ
 parent_directory path = before_last_slash (before_last_slash path) ++ codes "/"
 
--- a segment begins after the prefix, unless nothing does
-abbrev pub IsClosed : List ℕ → List ℕ → Type 0
-IsClosed front rest = (rest ≡ []) ⊎ EndsInSlash front
+-- a path is cut after a prefix where a segment begins, or where the rest is empty
+abbrev pub IsCutAtSegment : List ℕ → List ℕ → Type 0
+IsCutAtSegment prefix rest = (rest ≡ []) ⊎ EndsInSlash prefix
 
--- what was kept, and what is left of a path
-pub record IsLeft (path kept rest : List ℕ) (underflowed : Bool) : Type 0 where
+-- A state of removing the dot segments of a path: the directory `kept`, the rest of the path, and
+-- whether it underflowed.
+-- Removing the rest's dot segments after `kept` gives what it gives for the path.
+pub record RemovalState (path kept rest : List ℕ) (underflowed : Bool) : Type 0 where
   pub removed : remove_dot_segments (kept ++ rest) ≡ remove_dot_segments path
   pub underflow : (underflowed || underflows (kept ++ rest)) ≡ underflows path
   pub absolute : IsAbsolute kept
-  pub plain : lacks_dot_segments kept ≡ true
-  pub closed : IsClosed kept rest
+  pub dotless : lacks_dot_segments kept ≡ true
+  pub closed : IsCutAtSegment kept rest

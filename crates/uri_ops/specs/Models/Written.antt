@@ -4,12 +4,13 @@ use Rattle.uri_parts.specs.declared.positions.AuthorityPositions.{AuthorityPosit
 use Rattle.uri_parts.specs.declared.positions.Positions.{Positions}
 use Rattle.uri_parts.specs.Authority.{AuthorityParts, recompose_authority}
 use Rattle.uri_parts.specs.Components.{Components}
-use Rattle.uri_parts.specs.Positions.{marked_length, positions_of}
+use Rattle.uri_parts.specs.Positions.{delimited_length, positions_of}
 
--- an authority of these parts that begins at a place
+-- the positions of an authority's components, where it begins at the position `place` of the text
+-- that is written
 abbrev pub authority_parts_at : ℕ → AuthorityParts → AuthorityPositions
 authority_parts_at place p =
-    let host = marked_length 1 p.userinfo in
+    let host = delimited_length 1 p.userinfo in
     record {
       start = place;
       host_start = place + host;
@@ -17,8 +18,9 @@ authority_parts_at place p =
       end = place + length (recompose_authority p);
     }
 
--- components whose authority has these parts
-abbrev pub written_at : Components → Option AuthorityParts → Positions
-written_at p parts =
-    let place = marked_length 1 p.scheme + 2 in
+-- the positions of components in the text that is recomposed of them, where the authority has these
+-- parts, the Option
+abbrev pub positions_by_authority_parts : Components → Option AuthorityParts → Positions
+positions_by_authority_parts p parts =
+    let place = delimited_length 1 p.scheme + 2 in
     record (positions_of p) { authority = option_map (authority_parts_at place) parts }

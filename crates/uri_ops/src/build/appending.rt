@@ -1,23 +1,42 @@
-//! What the steps of a builder append to its text.
+//! The steps of a builder, each of which lengthens its text.
 ghost use Rattle.std.specs.Prelude.{◌≡◌, ◌+◌, ◌-◌, ◌≤◌, IfSome, false, option_map, true};
+ghost use Rattle.std.specs.Prelude.{string_bytes};
 ghost use Rattle.uri_pct.specs.Sets.{digit_set};
 ghost use Rattle.uri_pct.specs.Texts.{Pushes};
 ghost use Rattle.uri_ops.specs.BuilderParts.{is_text_for};
 ghost use Rattle.uri_ops.specs.HostParts.{IsHostText};
 
-use crate::build::draft::Lengths;
 use crate::build::host_port::{AsPort, WithEncoder};
+use crate::build::lengths::Lengths;
 use uri_pct::encoder::Encoder;
 
-/// Appends to a text, unless it has failed, and returns whether it has failed now.
-pub(crate) fn append(text: &mut String, failed: bool, piece: &str) -> bool
+/// The capacity that a builder's text gets at first, so that most builders allocate once.
+const FIRST_CAPACITY: usize = 120;
+
+/// Reserves `additional` bytes, and at least `FIRST_CAPACITY`. Returns whether the allocation
+/// failed.
+#[inline(never)]
+fn reserve_fails(text: &mut String, additional: usize) -> bool
+    ensures { string_bytes text.new ≡ string_bytes text.old }
+{
+    text.reserve(additional.max(FIRST_CAPACITY)).is_err()
+}
+
+/// Appends a piece to a builder's text, unless the builder has failed. Returns whether it has
+/// failed now.
+///
+/// An empty text has no capacity, and gets some before the first piece that isn't empty.
+#[inline(always)]
+pub(crate) fn append_unless_failed(text: &mut String, failed: bool, piece: &str) -> bool
     ensures kept { result ≡ false → failed ≡ false }
     ensures text { result ≡ false → Pushes text.old text.new piece.now }
 {
-    failed || text.push_str(piece).is_err()
+    let len = piece.len();
+    failed || text.capacity() < len && reserve_fails(text, len) || text.push_str(piece).is_err()
 }
 
-/// As `append`, with a host.
+/// Appends a host to a builder's text, unless the builder has failed. Returns whether it has failed
+/// now.
 pub(crate) fn append_host<E: Encoder, H: WithEncoder<E>>(
     text: &mut String,
     failed: bool,
@@ -30,7 +49,8 @@ pub(crate) fn append_host<E: Encoder, H: WithEncoder<E>>(
     failed || host.push_host(text).is_err()
 }
 
-/// As `append`, with the digits of a port.
+/// Appends the digits of a port to a builder's text, unless the builder has failed. Returns whether
+/// it has failed now.
 pub(crate) fn append_port<P: AsPort>(text: &mut String, failed: bool, port: &P) -> bool
     ensures kept { result ≡ false → failed ≡ false }
     ensures text { result ≡ false → Pushes text.old text.new (P.port_digits port.now) }
@@ -39,9 +59,15 @@ pub(crate) fn append_port<P: AsPort>(text: &mut String, failed: bool, port: &P) 
     failed || port.push_digits(text).is_err()
 }
 
-/// The lengths where the authority, which ends the text, has grown with it, from a length of the
-/// text to another. Of a text that has failed they say nothing.
-pub(crate) fn grown(lengths: Lengths, failed: bool, old: usize, new: usize) -> Lengths
+/// Returns the lengths of a builder's parts after its text got longer, from `old` to `new`
+/// bytes, if all that was appended belongs to the authority. If the builder has failed, they say
+/// nothing.
+pub(crate) fn lengths_with_longer_authority(
+    lengths: Lengths,
+    failed: bool,
+    old: usize,
+    new: usize,
+) -> Lengths
     requires inside { failed ≡ false → IfSome lengths.authority (λ len. len ≤ old) }
     requires longer { failed ≡ false → old ≤ new }
     ensures { failed ≡ false → result

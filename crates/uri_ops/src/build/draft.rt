@@ -3,34 +3,26 @@ ghost use Rattle.std.specs.Prelude.{◌≡◌, ◌+◌, ◌++◌, ◌≤◌, IfS
 ghost use Rattle.std.specs.Prelude.{is_none, length, unwrap_or, true, string_bytes};
 ghost use Rattle.uri_pct.specs.Sets.{digit_set};
 ghost use Rattle.uri_pct.specs.Texts.{Pushes};
-ghost use Rattle.uri_parts.specs.Grammar.{has_colon_first};
+ghost use Rattle.uri_parts.specs.Grammar.{has_colon_in_first_segment};
 ghost use Rattle.uri_parts.specs.Positions.{positions_of};
-ghost use Rattle.uri_ops.specs.BuilderParts.{Adds, as_components, is_text_for, no_parts};
+ghost use Rattle.uri_ops.specs.BuilderParts.{AddsOrFails, as_components, is_text_for, no_parts};
 ghost use Rattle.uri_ops.specs.BuilderParts.{with_authority, with_fragment, with_host, with_path};
 ghost use Rattle.uri_ops.specs.BuilderParts.{with_port, with_query, with_scheme, with_userinfo};
-ghost use Rattle.uri_ops.specs.Built.{refusal_of};
-ghost use Rattle.uri_ops.specs.Drafts.{IsDraft, behind_part};
+ghost use Rattle.uri_ops.specs.Built.{build_error_of_path};
+ghost use Rattle.uri_ops.specs.Drafts.{IsDraft, after_part};
 ghost use Rattle.uri_ops.specs.HostParts.{IsHostText};
 
-use crate::build::BuildError;
-use crate::build::appending::{append, append_host, append_port, grown};
+use crate::build::appending::{
+    append_host, append_port, append_unless_failed, lengths_with_longer_authority,
+};
+use crate::build::error::BuildError;
 use crate::build::host_port::{AsPort, WithEncoder};
-use crate::build::places::{HostPlace, positions_by};
+use crate::build::lengths::Lengths;
+use crate::build::places::{HostRange, positions_from_lengths};
 use crate::path::slashes::{begins_with_slash, begins_with_two_slashes};
 use std::alloc::Global;
 use uri_parts::positions::Positions;
 use uri_pct::encoder::Encoder;
-
-/// The length of each part that is present, in bytes.
-#[doc(hidden)]
-#[derive(Clone, Copy)]
-pub struct Lengths {
-    pub scheme: Option<usize>,
-    pub authority: Option<usize>,
-    pub path: Option<usize>,
-    pub query: Option<usize>,
-    pub fragment: Option<usize>,
-}
 
 /// The text so far, with the lengths of its parts and the position of the host in the authority.
 /// Unless it is marked failed, it is the text of its parts by RFC 3986, section 5.3.
@@ -38,18 +30,19 @@ pub struct Lengths {
 pub struct Draft {
     pub text: String,
     pub lengths: Lengths,
-    pub host: HostPlace,
+    pub host: HostRange,
     pub failed: bool,
     pub ghost ok: { failed ≡ false → IsDraft lengths (string_bytes text) },
 }
 
 impl Draft {
     ghost use Rattle.uri_ops.specs.Builders.{any_authority, draft_parts, ends_in_authority};
-    ghost use Rattle.uri_ops.specs.Builders.{is_unended, lacks_all, lacks_authority, lacks_path};
+    ghost use Rattle.uri_ops.specs.Builders.{lacks_query_and_fragment, lacks_all, lacks_authority};
+    ghost use Rattle.uri_ops.specs.Builders.{lacks_path};
     ghost use Rattle.uri_ops.specs.Built.{refusal};
-    ghost use Rattle.uri_ops.specs.Models.DraftPlaces.{KnowsHost};
+    ghost use Rattle.uri_ops.specs.Models.DraftPlaces.{HasRightHostRange};
 
-    /// A draft that holds nothing.
+    /// Returns a builder's draft that holds nothing.
     pub fn new(alloc: Global) -> Draft
         ensures { draft_parts result ≡ no_parts }
     {
@@ -62,7 +55,7 @@ impl Draft {
                 query: None,
                 fragment: None,
             },
-            host: HostPlace { start: 0, end: 0 },
+            host: HostRange { start: 0, end: 0 },
             failed: false,
         }
     }
@@ -70,7 +63,7 @@ impl Draft {
     /// Returns the draft with these two texts appended, with parts of these lengths, and the host
     /// at this position.
     #[inline(always)]
-    fn appended(self, first: &str, second: &str, lengths: Lengths, host: HostPlace) -> Draft
+    fn appended(self, first: &str, second: &str, lengths: Lengths, host: HostRange) -> Draft
         requires { self.failed ≡ false → IsDraft lengths
             (string_bytes self.text ++ (first.now ++ second.now)) }
         ensures text { result.failed ≡ false
@@ -84,8 +77,8 @@ impl Draft {
             failed,
             ..
         } = self;
-        let failed = append(&mut text, failed, first);
-        let failed = append(&mut text, failed, second);
+        let failed = append_unless_failed(&mut text, failed, first);
+        let failed = append_unless_failed(&mut text, failed, second);
         Draft {
             text,
             lengths,
@@ -94,11 +87,12 @@ impl Draft {
         }
     }
 
-    /// With a scheme, and its `:`.
+    /// Returns the draft with a scheme and its `:` appended.
     #[inline(always)]
     pub fn with_scheme(self, scheme: &str) -> Draft
         requires { self.failed ≡ false → lacks_all (draft_parts self) ≡ true }
-        ensures adds { Adds (with_scheme scheme.now) (draft_parts self) (draft_parts result) }
+        ensures adds { AddsOrFails (with_scheme scheme.now) (draft_parts self)
+            (draft_parts result) }
         ensures host { result.host ≡ self.host }
     {
         let lengths = Lengths {
@@ -109,11 +103,12 @@ impl Draft {
         self.appended(scheme, ":", lengths, host)
     }
 
-    /// Appends an authority after its `//`, with the host at this position in it.
+    /// Returns the draft with `//` and an authority appended, whose host is at this position in it.
     #[inline(always)]
-    pub fn with_authority(self, authority: &str, host: HostPlace) -> Draft
+    pub fn with_authority(self, authority: &str, host: HostRange) -> Draft
         requires { self.failed ≡ false → lacks_authority (draft_parts self) ≡ true }
-        ensures adds { Adds (with_authority authority.now) (draft_parts self) (draft_parts result) }
+        ensures adds { AddsOrFails (with_authority authority.now) (draft_parts self)
+            (draft_parts result) }
         ensures host { result.host ≡ host }
     {
         let lengths = Lengths {
@@ -123,11 +118,12 @@ impl Draft {
         self.appended("//", authority, lengths, host)
     }
 
-    /// With userinfo and its `@`, where an authority is begun.
+    /// Returns the draft with userinfo and its `@` appended to the authority that was begun.
     #[inline(always)]
     pub fn with_userinfo(self, userinfo: &str) -> Draft
         requires { self.failed ≡ false → ends_in_authority any_authority (draft_parts self) ≡ true }
-        ensures adds { Adds (with_userinfo userinfo.now) (draft_parts self) (draft_parts result) }
+        ensures adds { AddsOrFails (with_userinfo userinfo.now) (draft_parts self)
+            (draft_parts result) }
         ensures host { let end = unwrap_or result.lengths.authority 0 in
             (result.host.start ≡ end) × (result.host.end ≡ end) }
     {
@@ -138,23 +134,24 @@ impl Draft {
             ..
         } = self;
         let old = text.len();
-        let failed = append(&mut text, failed, userinfo);
-        let failed = append(&mut text, failed, "@");
-        let lengths = grown(lengths, failed, old, text.len());
+        let failed = append_unless_failed(&mut text, failed, userinfo);
+        let failed = append_unless_failed(&mut text, failed, "@");
+        let lengths = lengths_with_longer_authority(lengths, failed, old, text.len());
         let end = lengths.authority.unwrap_or(0);
         Draft {
             text,
             lengths,
-            host: HostPlace { start: end, end },
+            host: HostRange { start: end, end },
             failed,
         }
     }
 
-    /// With a host.
+    /// Returns the draft with a host appended to its authority.
     #[inline(always)]
     pub fn with_host<E: Encoder, H: WithEncoder<E>>(self, host: H) -> Draft
         requires { self.failed ≡ false → ends_in_authority any_authority (draft_parts self) ≡ true }
-        ensures adds { Adds (with_host (H.host_text host)) (draft_parts self) (draft_parts result) }
+        ensures adds { AddsOrFails (with_host (H.host_text host)) (draft_parts self)
+            (draft_parts result) }
         ensures start { result.host.start ≡ self.host.start }
         ensures end { result.host.end ≡ unwrap_or result.lengths.authority 0 }
         ensures host { result.failed ≡ false → IsHostText E.set (H.host_text host) }
@@ -167,11 +164,11 @@ impl Draft {
         } = self;
         let old = text.len();
         let failed = append_host::<E, H>(&mut text, failed, &host);
-        let lengths = grown(lengths, failed, old, text.len());
+        let lengths = lengths_with_longer_authority(lengths, failed, old, text.len());
         Draft {
             text,
             lengths,
-            host: HostPlace {
+            host: HostRange {
                 start: place.start,
                 end: lengths.authority.unwrap_or(0),
             },
@@ -179,11 +176,11 @@ impl Draft {
         }
     }
 
-    /// With a port after its `:`.
+    /// Returns the draft with a `:` and a port appended to its authority.
     #[inline(always)]
     pub fn with_port<P: AsPort>(self, port: P) -> Draft
         requires { self.failed ≡ false → ends_in_authority any_authority (draft_parts self) ≡ true }
-        ensures adds { Adds (with_port (P.port_digits port))
+        ensures adds { AddsOrFails (with_port (P.port_digits port))
             (draft_parts self) (draft_parts result) }
         ensures host { result.host ≡ self.host }
         ensures digits { result.failed ≡ false
@@ -196,9 +193,9 @@ impl Draft {
             failed,
         } = self;
         let old = text.len();
-        let begun = append(&mut text, failed, ":");
+        let begun = append_unless_failed(&mut text, failed, ":");
         let failed = append_port(&mut text, begun, &port);
-        let lengths = grown(lengths, failed, old, text.len());
+        let lengths = lengths_with_longer_authority(lengths, failed, old, text.len());
         Draft {
             text,
             lengths,
@@ -207,11 +204,11 @@ impl Draft {
         }
     }
 
-    /// With a path.
+    /// Returns the draft with a path appended.
     #[inline(always)]
     pub fn with_path(self, path: &str) -> Draft
         requires { self.failed ≡ false → lacks_path (draft_parts self) ≡ true }
-        ensures adds { Adds (with_path path.now) (draft_parts self) (draft_parts result) }
+        ensures adds { AddsOrFails (with_path path.now) (draft_parts self) (draft_parts result) }
         ensures host { result.host ≡ self.host }
     {
         let lengths = Lengths {
@@ -222,11 +219,11 @@ impl Draft {
         self.appended("", path, lengths, host)
     }
 
-    /// With a query after its `?`.
+    /// Returns the draft with a `?` and a query appended.
     #[inline(always)]
     pub fn with_query(self, query: &str) -> Draft
-        requires { self.failed ≡ false → is_unended (draft_parts self) ≡ true }
-        ensures adds { Adds (with_query query.now) (draft_parts self) (draft_parts result) }
+        requires { self.failed ≡ false → lacks_query_and_fragment (draft_parts self) ≡ true }
+        ensures adds { AddsOrFails (with_query query.now) (draft_parts self) (draft_parts result) }
         ensures host { result.host ≡ self.host }
     {
         let lengths = Lengths {
@@ -237,11 +234,12 @@ impl Draft {
         self.appended("?", query, lengths, host)
     }
 
-    /// With a fragment after its `#`.
+    /// Returns the draft with a `#` and a fragment appended.
     #[inline(always)]
     pub fn with_fragment(self, fragment: &str) -> Draft
         requires { self.failed ≡ false → is_none (draft_parts self).fragment ≡ true }
-        ensures adds { Adds (with_fragment fragment.now) (draft_parts self) (draft_parts result) }
+        ensures adds { AddsOrFails (with_fragment fragment.now) (draft_parts self)
+            (draft_parts result) }
         ensures host { result.host ≡ self.host }
     {
         let lengths = Lengths {
@@ -252,22 +250,22 @@ impl Draft {
         self.appended("#", fragment, lengths, host)
     }
 
-    /// Where the parts are in the text.
+    /// Returns the positions of the components in the draft's text.
     #[inline(always)]
     pub fn positions(&self) -> Positions
         requires whole { self.now.failed ≡ false }
-        requires host { KnowsHost self.now }
+        requires host { HasRightHostRange self.now }
         ensures { result ≡ positions_of (as_components (draft_parts self.now)) }
     {
-        positions_by(&self.lengths, self.host, self.text.as_str())
+        positions_from_lengths(&self.lengths, self.host, self.text.as_str())
     }
 
-    /// Why the parts are rejected, if they are.
+    /// Returns the error for which `build` rejects the draft's parts, if it does.
     pub fn refusal(&self) -> Option<BuildError>
         requires whole { self.now.failed ≡ false }
         ensures { result ≡ refusal (draft_parts self.now) }
     {
-        first_refusal(
+        path_error(
             self.lengths.scheme.is_some(),
             self.lengths.authority.is_some(),
             self.path(),
@@ -279,8 +277,8 @@ impl Draft {
         requires whole { self.now.failed ≡ false }
         ensures { result.now ≡ unwrap_or (draft_parts self.now).path [] }
     {
-        let from_scheme = behind_part(self.text.as_bytes(), 1, self.lengths.scheme);
-        let from_path = behind_part(from_scheme, 2, self.lengths.authority);
+        let from_scheme = after_part(self.text.as_bytes(), 1, self.lengths.scheme);
+        let from_path = after_part(from_scheme, 2, self.lengths.authority);
         match self.lengths.path {
             Some(len) => &from_path[..len],
             None => b"",
@@ -288,10 +286,10 @@ impl Draft {
     }
 }
 
-/// What is after a part and its marks.
-fn behind_part(text: &[u8], marks: usize, part: Option<usize>) -> &[u8]
+/// Returns the text after a part and its delimiters, if the part is present.
+fn after_part(text: &[u8], marks: usize, part: Option<usize>) -> &[u8]
     requires { IfSome part (λ len. marks + len ≤ length text.now) }
-    ensures { result.now ≡ behind_part marks part text.now }
+    ensures { result.now ≡ after_part marks part text.now }
 {
     match part {
         Some(len) => &text[marks + len..],
@@ -299,19 +297,19 @@ fn behind_part(text: &[u8], marks: usize, part: Option<usize>) -> &[u8]
     }
 }
 
-/// Whether a `:` is in the first segment of a path.
-fn has_colon_first(path: &[u8]) -> bool
-    ensures { result ≡ has_colon_first path.now }
+/// Returns whether a `:` is in the first segment of a path.
+fn has_colon_in_first_segment(path: &[u8]) -> bool
+    ensures { result ≡ has_colon_in_first_segment path.now }
 {
     path.iter()
         .take_while(|byte| **byte != b'/')
         .any(|byte| *byte == b':')
 }
 
-/// Why a path is rejected after what is before it.
-#[tactic(auto, unfolding(crate::specs::Built::refusal_of))]
-fn first_refusal(has_scheme: bool, has_authority: bool, path: &[u8]) -> Option<BuildError>
-    ensures { result ≡ refusal_of has_scheme has_authority path.now }
+/// Returns the error for which `build` rejects a path, if it does, by what is before the path.
+#[tactic(auto, unfolding(crate::specs::Built::build_error_of_path))]
+fn path_error(has_scheme: bool, has_authority: bool, path: &[u8]) -> Option<BuildError>
+    ensures { result ≡ build_error_of_path has_scheme has_authority path.now }
 {
     if has_authority {
         if path.is_empty() || begins_with_slash(path) {
@@ -321,7 +319,7 @@ fn first_refusal(has_scheme: bool, has_authority: bool, path: &[u8]) -> Option<B
         }
     } else if begins_with_two_slashes(path) {
         Some(BuildError::PathStartsWithDoubleSlash)
-    } else if !has_scheme && has_colon_first(path) {
+    } else if !has_scheme && has_colon_in_first_segment(path) {
         Some(BuildError::FirstPathSegmentContainsColon)
     } else {
         None

@@ -4,6 +4,7 @@ ghost use Rattle.uri_pct.specs.Texts.{Pushes};
 
 use std::alloc::AllocError;
 use std::fmt::Write;
+use uri_parts::address_text::push_ipv6_host;
 use uri_parts::laws;
 use uri_parts::net::{IpAddr, Ipv4Addr, Ipv6Addr};
 use uri_pct::encoder::{Encoder, IRegName, Port, RegName};
@@ -48,8 +49,9 @@ impl AsHost for Ipv4Addr {
 }
 
 impl<E: Encoder> WithEncoder<E> for Ipv4Addr {
+    /// Appends the four octets in decimal.
     fn push_host(&self, out: &mut String) -> Result<(), AllocError> {
-        laws::ipv4_text_is_read_back(self);
+        laws::ipv4_text_parses_to_its_octets(self);
         write!(out, "{self}")
     }
 }
@@ -64,9 +66,10 @@ impl AsHost for Ipv6Addr {
 }
 
 impl<E: Encoder> WithEncoder<E> for Ipv6Addr {
+    /// Appends the IPv6 address in brackets, by RFC 5952.
     fn push_host(&self, out: &mut String) -> Result<(), AllocError> {
-        laws::ipv6_text_is_read_back(self);
-        write!(out, "[{self}]")
+        laws::ipv6_text_parses_to_its_segments(self);
+        push_ipv6_host(self, out)
     }
 }
 
@@ -78,6 +81,7 @@ impl AsHost for IpAddr {
 }
 
 impl<E: Encoder> WithEncoder<E> for IpAddr {
+    /// Appends the address in it, an IPv6 address in brackets.
     fn push_host(&self, out: &mut String) -> Result<(), AllocError> {
         match self {
             IpAddr::V4(address) => <Ipv4Addr as WithEncoder<E>>::push_host(address, out),
@@ -94,6 +98,7 @@ impl AsHost for EStr<'_, RegName> {
 }
 
 impl WithEncoder<RegName> for EStr<'_, RegName> {
+    /// Appends the registered name as it is.
     fn push_host(&self, out: &mut String) -> Result<(), AllocError> {
         out.push_str(self.as_str())
     }
@@ -107,6 +112,7 @@ impl AsHost for EStr<'_, IRegName> {
 }
 
 impl WithEncoder<IRegName> for EStr<'_, IRegName> {
+    /// Appends the registered name as it is.
     fn push_host(&self, out: &mut String) -> Result<(), AllocError> {
         out.push_str(self.as_str())
     }
@@ -126,7 +132,7 @@ pub trait AsPort: Drop {
 
     ghost port_digits: { Self → List ℕ };
 
-    /// Appends the digits.
+    /// Appends the port's digits.
     #[doc(hidden)]
     fn push_digits(&self, out: &mut String) -> Result<(), AllocError>
         ensures text { OnOk result (Pushes out.old out.new (port_digits self.now)) }
@@ -134,12 +140,13 @@ pub trait AsPort: Drop {
 }
 
 /// Written in decimal.
-#[tactic(auto, using(crate::proofs::Builders::BuilderHosts::decimal_port))]
+#[tactic(auto, using(crate::proofs::Builders::BuilderHosts::decimal_number_is_port))]
 impl AsPort for u16 {
     ghost use Rattle.std.specs.Fmt.{decimal};
 
     ghost port_digits = { decimal };
 
+    /// Appends the port in decimal.
     fn push_digits(&self, out: &mut String) -> Result<(), AllocError> {
         let port = *self;
         write!(out, "{port}")
@@ -147,12 +154,13 @@ impl AsPort for u16 {
 }
 
 /// Written as they are.
-#[tactic(auto, using(crate::proofs::Builders::BuilderDrafts::text_from))]
+#[tactic(auto, using(crate::proofs::Builders::BuilderDrafts::valid_utf8_is_text_for_set))]
 impl AsPort for EStr<'_, Port> {
     ghost use Rattle.uri_pct.specs.EncodedTexts.{text_of};
 
     ghost port_digits = { λ digits. text_of digits };
 
+    /// Appends the port's digits as they are.
     fn push_digits(&self, out: &mut String) -> Result<(), AllocError> {
         out.push_str(self.as_str())
     }

@@ -1,28 +1,33 @@
 //! The order of a builder's steps: which state follows which (RFC 3986, section 3).
-ghost use Rattle.uri_ops.specs.BuilderOrder.{authority_path, fragment_end, fresh_authority};
-ghost use Rattle.uri_ops.specs.BuilderOrder.{fresh_path, fresh_reference, inside_path};
-ghost use Rattle.uri_ops.specs.BuilderOrder.{port_authority, port_path, query_end, query_fragment};
-ghost use Rattle.uri_ops.specs.BuilderOrder.{userinfo_host};
+ghost use Rattle.uri_ops.specs.BuilderOrder.{before_authority_is_before_path};
+ghost use Rattle.uri_ops.specs.BuilderOrder.{before_fragment_is_at_end};
+ghost use Rattle.uri_ops.specs.BuilderOrder.{fresh_reference_is_before_authority};
+ghost use Rattle.uri_ops.specs.BuilderOrder.{fresh_reference_is_before_path};
+ghost use Rattle.uri_ops.specs.BuilderOrder.{fresh_reference_is_fresh, in_authority_is_before_path};
+ghost use Rattle.uri_ops.specs.BuilderOrder.{before_port_is_in_authority};
+ghost use Rattle.uri_ops.specs.BuilderOrder.{before_port_is_before_path, before_query_is_at_end};
+ghost use Rattle.uri_ops.specs.BuilderOrder.{before_query_is_before_fragment};
+ghost use Rattle.uri_ops.specs.BuilderOrder.{before_userinfo_is_before_host};
 
 use crate::build::state::{
-    AdvanceTo, AuthorityEnd, AuthorityStart, Begins, End, FragmentEnd, HostEnd, NonRefStart,
-    PathEnd, PortEnd, QueryEnd, SchemeEnd, Start, To, UserinfoEnd,
+    AdvanceTo, AuthorityEnd, AuthorityStart, BeginsAuthority, End, FragmentEnd, HostEnd,
+    NonRefStart, PathEnd, PortEnd, QueryEnd, SchemeEnd, Start, To, UserinfoEnd,
 };
 
 impl To<SchemeEnd> for Start {
-    ghost passes = { fresh_reference };
+    ghost passes = { fresh_reference_is_fresh };
 }
 
 impl To<AuthorityStart> for Start {
-    ghost passes = { fresh_authority };
+    ghost passes = { fresh_reference_is_before_authority };
 }
 
 impl To<AuthorityEnd> for Start {
-    ghost passes = { fresh_path };
+    ghost passes = { fresh_reference_is_before_path };
 }
 
 impl To<PathEnd> for Start {
-    ghost passes = { fresh_path };
+    ghost passes = { fresh_reference_is_before_path };
 }
 
 impl To<SchemeEnd> for NonRefStart {
@@ -34,11 +39,11 @@ impl To<AuthorityStart> for SchemeEnd {
 }
 
 impl To<AuthorityEnd> for SchemeEnd {
-    ghost passes = { authority_path };
+    ghost passes = { before_authority_is_before_path };
 }
 
 impl To<PathEnd> for SchemeEnd {
-    ghost passes = { authority_path };
+    ghost passes = { before_authority_is_before_path };
 }
 
 impl To<UserinfoEnd> for AuthorityStart {
@@ -46,7 +51,7 @@ impl To<UserinfoEnd> for AuthorityStart {
 }
 
 impl To<HostEnd> for AuthorityStart {
-    ghost passes = { userinfo_host };
+    ghost passes = { before_userinfo_is_before_host };
 }
 
 impl To<HostEnd> for UserinfoEnd {
@@ -58,11 +63,11 @@ impl To<PortEnd> for HostEnd {
 }
 
 impl To<AuthorityEnd> for HostEnd {
-    ghost passes = { port_path };
+    ghost passes = { before_port_is_before_path };
 }
 
 impl To<AuthorityEnd> for PortEnd {
-    ghost passes = { inside_path };
+    ghost passes = { in_authority_is_before_path };
 }
 
 impl To<PathEnd> for AuthorityEnd {
@@ -74,11 +79,11 @@ impl To<QueryEnd> for PathEnd {
 }
 
 impl To<FragmentEnd> for PathEnd {
-    ghost passes = { query_fragment };
+    ghost passes = { before_query_is_before_fragment };
 }
 
 impl To<End> for PathEnd {
-    ghost passes = { query_end };
+    ghost passes = { before_query_is_at_end };
 }
 
 impl To<FragmentEnd> for QueryEnd {
@@ -86,7 +91,7 @@ impl To<FragmentEnd> for QueryEnd {
 }
 
 impl To<End> for QueryEnd {
-    ghost passes = { fragment_end };
+    ghost passes = { before_fragment_is_at_end };
 }
 
 impl To<End> for FragmentEnd {
@@ -94,44 +99,44 @@ impl To<End> for FragmentEnd {
 }
 
 impl AdvanceTo<SchemeEnd> for Start {
-    ghost passes = { fresh_authority };
+    ghost passes = { fresh_reference_is_before_authority };
 }
 
 impl AdvanceTo<AuthorityEnd> for Start {
-    ghost passes = { fresh_path };
+    ghost passes = { fresh_reference_is_before_path };
 }
 
 impl AdvanceTo<AuthorityEnd> for SchemeEnd {
-    ghost passes = { authority_path };
+    ghost passes = { before_authority_is_before_path };
 }
 
 impl AdvanceTo<UserinfoEnd> for AuthorityStart {
-    ghost passes = { userinfo_host };
+    ghost passes = { before_userinfo_is_before_host };
 }
 
 impl AdvanceTo<PortEnd> for HostEnd {
-    ghost passes = { port_authority };
+    ghost passes = { before_port_is_in_authority };
 }
 
 impl AdvanceTo<QueryEnd> for PathEnd {
-    ghost passes = { query_fragment };
+    ghost passes = { before_query_is_before_fragment };
 }
 
 impl AdvanceTo<FragmentEnd> for PathEnd {
-    ghost passes = { query_end };
+    ghost passes = { before_query_is_at_end };
 }
 
 impl AdvanceTo<FragmentEnd> for QueryEnd {
-    ghost passes = { fragment_end };
+    ghost passes = { before_fragment_is_at_end };
 }
 
-impl Begins for Start {
+impl BeginsAuthority for Start {
     type Begun = AuthorityStart;
 
     ghost begun = { λ _ _ here. here };
 }
 
-impl Begins for SchemeEnd {
+impl BeginsAuthority for SchemeEnd {
     type Begun = AuthorityStart;
 
     ghost begun = { λ _ _ here. here };

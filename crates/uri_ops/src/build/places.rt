@@ -1,9 +1,10 @@
 //! Where the parts of a builder are in its text.
 ghost use Rattle.std.specs.Prelude.{◌≡◌, ◌+◌, ◌≤◌, IfSome, length};
 ghost use Rattle.uri_parts.specs.AuthorityTexts.{authority_text};
-ghost use Rattle.uri_ops.specs.Models.DraftPlaces.{IsHostAt, authority_by, positions_by, span};
+ghost use Rattle.uri_ops.specs.Models.DraftPlaces.{IsHostAt, authority_positions_from_length};
+ghost use Rattle.uri_ops.specs.Models.DraftPlaces.{positions_from_lengths, delimited_len};
 
-use crate::build::draft::Lengths;
+use crate::build::lengths::Lengths;
 use uri_parts::component::Authority;
 use uri_parts::positions::{AuthorityPositions, Positions};
 use uri_pct::encoder::Encoder;
@@ -11,13 +12,13 @@ use uri_pct::encoder::Encoder;
 /// Where the host begins and ends in the authority, if there is one.
 #[doc(hidden)]
 #[derive(Clone, Copy)]
-pub struct HostPlace {
+pub struct HostRange {
     pub start: usize,
     pub end: usize,
 }
 
-/// Where the host of an authority is in it.
-pub(crate) fn host_place<U: Encoder, N: Encoder>(authority: Authority<'_, U, N>) -> HostPlace
+/// Returns where the host of an authority is in it.
+pub(crate) fn host_place<U: Encoder, N: Encoder>(authority: Authority<'_, U, N>) -> HostRange
     ensures { IsHostAt result (authority_text authority.entry) }
 {
     let host_len = authority.host().len();
@@ -25,17 +26,17 @@ pub(crate) fn host_place<U: Encoder, N: Encoder>(authority: Authority<'_, U, N>)
         Some(userinfo) => userinfo.len() + 1,
         None => 0,
     };
-    HostPlace {
+    HostRange {
         start,
         end: start + host_len,
     }
 }
 
-/// Returns the position after a part and its marks, if the part is present, in their text.
+/// Returns the position after a part and its delimiters, or the same position without the part.
 #[inline(always)]
-fn behind(place: usize, marks: usize, part: Option<usize>, text: &str) -> usize
-    requires { place + span marks part ≤ length text.now }
-    ensures { result ≡ place + span marks part }
+fn suffix(place: usize, marks: usize, part: Option<usize>, text: &str) -> usize
+    requires { place + delimited_len marks part ≤ length text.now }
+    ensures { result ≡ place + delimited_len marks part }
 {
     match part {
         Some(len) => place + (marks + len),
@@ -43,13 +44,18 @@ fn behind(place: usize, marks: usize, part: Option<usize>, text: &str) -> usize
     }
 }
 
-/// Where an authority of a length is in its text.
+/// Returns the positions of an authority by its start, its length and where its host is.
 #[inline(always)]
-fn authority_by(start: usize, len: usize, host: HostPlace, text: &str) -> AuthorityPositions
+fn authority_positions_from_length(
+    start: usize,
+    len: usize,
+    host: HostRange,
+    text: &str,
+) -> AuthorityPositions
     requires inside { start + len ≤ length text.now }
     requires host_start { host.start ≤ len }
     requires host_end { host.end ≤ len }
-    ensures { result ≡ authority_by start host len }
+    ensures { result ≡ authority_positions_from_length start host len }
 {
     AuthorityPositions {
         start,
@@ -59,22 +65,27 @@ fn authority_by(start: usize, len: usize, host: HostPlace, text: &str) -> Author
     }
 }
 
-/// Where the parts of these lengths are in their text.
+/// Returns the positions of components by the lengths of a builder's parts.
 #[inline(always)]
-pub(crate) fn positions_by(lengths: &Lengths, host: HostPlace, text: &str) -> Positions
-    requires inside { span 1 lengths.now.scheme + span 2 lengths.now.authority
-        + span 0 lengths.now.path + span 1 lengths.now.query ≤ length text.now }
+pub(crate) fn positions_from_lengths(lengths: &Lengths, host: HostRange, text: &str) -> Positions
+    requires inside { delimited_len 1 lengths.now.scheme + delimited_len 2 lengths.now.authority
+        + delimited_len 0 lengths.now.path + delimited_len 1 lengths.now.query ≤ length text.now }
     requires host_start { IfSome lengths.now.authority (λ len. host.start ≤ len) }
     requires host_end { IfSome lengths.now.authority (λ len. host.end ≤ len) }
-    ensures { result ≡ positions_by lengths.now host }
+    ensures { result ≡ positions_from_lengths lengths.now host }
 {
-    let behind_scheme = behind(0, 1, lengths.scheme, text);
-    let path_start = behind(behind_scheme, 2, lengths.authority, text);
-    let path_end = behind(path_start, 0, lengths.path, text);
+    let from_scheme_end = suffix(0, 1, lengths.scheme, text);
+    let path_start = suffix(from_scheme_end, 2, lengths.authority, text);
+    let path_end = suffix(path_start, 0, lengths.path, text);
     Positions {
         scheme_end: lengths.scheme,
         authority: match lengths.authority {
-            Some(len) => Some(authority_by(behind_scheme + 2, len, host, text)),
+            Some(len) => Some(authority_positions_from_length(
+                from_scheme_end + 2,
+                len,
+                host,
+                text,
+            )),
             None => None,
         },
         path_start,

@@ -1,11 +1,16 @@
-//! The states of a builder (RFC 3986, section 3).
+//! The states of a builder (RFC 3986, section 3), and what it holds in each.
+ghost use Rattle.std.specs.Prelude.{◌≡◌, true};
+ghost use Rattle.uri_ops.specs.BuilderParts.{MeetsOrFailed};
+ghost use Rattle.uri_ops.specs.Builders.{draft_parts};
 ghost use Rattle.uri_ops.specs.Builders.{is_at_end, is_before_authority, is_before_fragment};
 ghost use Rattle.uri_ops.specs.Builders.{is_before_host, is_before_path, is_before_port};
 ghost use Rattle.uri_ops.specs.Builders.{is_before_query, is_before_userinfo, is_fresh};
 ghost use Rattle.uri_ops.specs.Builders.{is_fresh_reference, is_in_authority};
+ghost use Rattle.uri_ops.specs.Models.DraftPlaces.{HasRightHostRange};
 
-use crate::build::held::{At, Holds};
+use crate::build::draft::Draft;
 use crate::traits::RiMaybeRef;
+use std::marker::PhantomData;
 
 /// A state of a builder: which step was the last.
 ///
@@ -30,7 +35,7 @@ pub trait State {
 /// `PathEnd` is a `StateOf<Uri<String>>`.
 pub trait StateOf<R: RiMaybeRef>: State {
     #[doc(hidden)]
-    type Held: Holds<R, Self>;
+    type Contents: BuilderContents<R, Self>;
 }
 
 /// A state from which the step to `T` may be taken.
@@ -39,9 +44,9 @@ pub trait StateOf<R: RiMaybeRef>: State {
 ///
 /// `SchemeEnd` is a `To<PathEnd>`: `path` may be called after `scheme`.
 pub trait To<T: State>: State {
-    ghost use Rattle.uri_ops.specs.Builders.{Passes};
+    ghost use Rattle.uri_ops.specs.Builders.{HoldsAlsoIn};
 
-    ghost passes: { Passes Self.place T.before };
+    ghost passes: { HoldsAlsoIn Self.place T.before };
 }
 
 /// A state from which the steps up to `T` may be left out.
@@ -50,9 +55,9 @@ pub trait To<T: State>: State {
 ///
 /// `Start` is an `AdvanceTo<SchemeEnd>`: of a reference the scheme may be left out by `advance`.
 pub trait AdvanceTo<T: State>: State {
-    ghost use Rattle.uri_ops.specs.Builders.{Passes};
+    ghost use Rattle.uri_ops.specs.Builders.{HoldsAlsoIn};
 
-    ghost passes: { Passes Self.place T.place };
+    ghost passes: { HoldsAlsoIn Self.place T.place };
 }
 
 /// A state from which an authority may be given part by part.
@@ -60,13 +65,13 @@ pub trait AdvanceTo<T: State>: State {
 /// # Examples
 ///
 /// `SchemeEnd` is such a state, and what `authority_with` begins is in `AuthorityStart`.
-pub trait Begins: To<AuthorityStart> {
-    ghost use Rattle.uri_ops.specs.Builders.{Passes, is_before_userinfo};
+pub trait BeginsAuthority: To<AuthorityStart> {
+    ghost use Rattle.uri_ops.specs.Builders.{HoldsAlsoIn, is_before_userinfo};
 
     /// The state of the builder that the closure is called with, which is `AuthorityStart`.
     type Begun: State;
 
-    ghost begun: { Passes is_before_userinfo Self.Begun.place };
+    ghost begun: { HoldsAlsoIn is_before_userinfo Self.Begun.place };
 }
 
 /// The start of a reference.
@@ -83,7 +88,7 @@ impl State for Start {
 }
 
 impl<R: RiMaybeRef> StateOf<R> for Start {
-    type Held = At<R, Start>;
+    type Contents = DraftInState<R, Start>;
 }
 
 /// The start of a URI or an IRI, which needs a scheme.
@@ -100,7 +105,7 @@ impl State for NonRefStart {
 }
 
 impl<R: RiMaybeRef> StateOf<R> for NonRefStart {
-    type Held = At<R, NonRefStart>;
+    type Contents = DraftInState<R, NonRefStart>;
 }
 
 /// After the scheme.
@@ -117,7 +122,7 @@ impl State for SchemeEnd {
 }
 
 impl<R: RiMaybeRef> StateOf<R> for SchemeEnd {
-    type Held = At<R, SchemeEnd>;
+    type Contents = DraftInState<R, SchemeEnd>;
 }
 
 /// At the start of the authority.
@@ -134,7 +139,7 @@ impl State for AuthorityStart {
 }
 
 impl<R: RiMaybeRef> StateOf<R> for AuthorityStart {
-    type Held = At<R, AuthorityStart>;
+    type Contents = DraftInState<R, AuthorityStart>;
 }
 
 /// After the userinfo.
@@ -151,7 +156,7 @@ impl State for UserinfoEnd {
 }
 
 impl<R: RiMaybeRef> StateOf<R> for UserinfoEnd {
-    type Held = At<R, UserinfoEnd>;
+    type Contents = DraftInState<R, UserinfoEnd>;
 }
 
 /// After the host.
@@ -168,7 +173,7 @@ impl State for HostEnd {
 }
 
 impl<R: RiMaybeRef> StateOf<R> for HostEnd {
-    type Held = At<R, HostEnd>;
+    type Contents = DraftInState<R, HostEnd>;
 }
 
 /// After the port.
@@ -185,7 +190,7 @@ impl State for PortEnd {
 }
 
 impl<R: RiMaybeRef> StateOf<R> for PortEnd {
-    type Held = At<R, PortEnd>;
+    type Contents = DraftInState<R, PortEnd>;
 }
 
 /// After the authority.
@@ -202,7 +207,7 @@ impl State for AuthorityEnd {
 }
 
 impl<R: RiMaybeRef> StateOf<R> for AuthorityEnd {
-    type Held = At<R, AuthorityEnd>;
+    type Contents = DraftInState<R, AuthorityEnd>;
 }
 
 /// After the path.
@@ -219,7 +224,7 @@ impl State for PathEnd {
 }
 
 impl<R: RiMaybeRef> StateOf<R> for PathEnd {
-    type Held = At<R, PathEnd>;
+    type Contents = DraftInState<R, PathEnd>;
 }
 
 /// After the query.
@@ -236,7 +241,7 @@ impl State for QueryEnd {
 }
 
 impl<R: RiMaybeRef> StateOf<R> for QueryEnd {
-    type Held = At<R, QueryEnd>;
+    type Contents = DraftInState<R, QueryEnd>;
 }
 
 /// After the fragment.
@@ -253,7 +258,7 @@ impl State for FragmentEnd {
 }
 
 impl<R: RiMaybeRef> StateOf<R> for FragmentEnd {
-    type Held = At<R, FragmentEnd>;
+    type Contents = DraftInState<R, FragmentEnd>;
 }
 
 /// The end.
@@ -270,5 +275,65 @@ impl State for End {
 }
 
 impl<R: RiMaybeRef> StateOf<R> for End {
-    type Held = At<R, End>;
+    type Contents = DraftInState<R, End>;
+}
+
+/// What a builder of an `R` holds in the state `S`.
+#[doc(hidden)]
+pub trait BuilderContents<R: RiMaybeRef, S: State>: Drop {
+    ghost use Rattle.std.specs.Prelude.{true};
+    ghost use Rattle.uri_ops.specs.BuilderParts.{BuilderParts, MeetsOrFailed};
+    ghost use Rattle.uri_ops.specs.Builders.{draft_parts};
+    ghost use Rattle.uri_ops.specs.Models.DraftPlaces.{HasRightHostRange};
+
+    ghost parts: { Self → BuilderParts };
+
+    /// Returns the draft that the builder holds.
+    fn into_draft(self) -> Draft
+        ensures same { draft_parts result ≡ Self.parts self }
+        ensures rules { MeetsOrFailed R.kind (draft_parts result) }
+        ensures place { S.place R.kind.needs_scheme (draft_parts result) ≡ true }
+        ensures host { HasRightHostRange result };
+
+    /// Returns contents that hold this draft. Its parts are of the kind, and may be held in the
+    /// state.
+    fn made(draft: Draft) -> Self
+        requires rules { MeetsOrFailed R.kind (draft_parts draft) }
+        requires place { S.place R.kind.needs_scheme (draft_parts draft) ≡ true }
+        requires host { HasRightHostRange draft }
+        ensures { Self.parts result ≡ draft_parts draft };
+}
+
+/// A draft in the state `S` whose parts are those of an `R`.
+#[doc(hidden)]
+#[derive(Drop)]
+pub struct DraftInState<R: RiMaybeRef, S: State> {
+    draft: Draft,
+    kind: PhantomData<R>,
+    state: PhantomData<S>,
+    pub ghost rules: { MeetsOrFailed R.kind (draft_parts draft) },
+    pub ghost place: { S.place R.kind.needs_scheme (draft_parts draft) ≡ true },
+    pub ghost host: { HasRightHostRange draft },
+}
+
+impl<R: RiMaybeRef, S: State> BuilderContents<R, S> for DraftInState<R, S> {
+    ghost use Rattle.uri_ops.specs.BuilderStates.{parts_in_state};
+
+    ghost parts = { parts_in_state };
+
+    /// Returns the draft that the builder holds.
+    #[inline(always)]
+    fn into_draft(self) -> Draft {
+        self.draft
+    }
+
+    /// Returns contents that hold this draft.
+    #[inline(always)]
+    fn made(draft: Draft) -> DraftInState<R, S> {
+        DraftInState {
+            draft,
+            kind: PhantomData,
+            state: PhantomData,
+        }
+    }
 }

@@ -2,11 +2,14 @@
 ghost use Rattle.std.specs.Prelude.{◌≡◌, ◌≤◌, ◌<◌, ◌+◌, ◌*◌, ◌++◌, [], IfOk, OnOk, length, take};
 ghost use Rattle.std.specs.Prelude.{option_map, slice_index, string_bytes};
 ghost use Rattle.std.specs.Str.{IsUtf8};
+ghost use Rattle.uri_pct.specs.Tokens.{Octet, text_of_token};
 ghost use Rattle.uri_parts.specs.Grammar.{IsOfKind};
-ghost use Rattle.uri_parts.specs.Positions.{AreAt};
-ghost use Rattle.uri_ops.specs.Encoded.{encoded_text};
-ghost use Rattle.uri_ops.specs.Models.EncodedPlaces.{AreOrdered, IsOrdered, authority_moved};
-ghost use Rattle.uri_ops.specs.Models.EncodedPlaces.{moved, positions_moved};
+ghost use Rattle.uri_parts.specs.Positions.{ArePositionsOf};
+ghost use Rattle.uri_ops.specs.Encoded.{encode_past_ascii};
+ghost use Rattle.uri_ops.specs.Models.EncodedPlaces.{ArePositionsOrdered};
+ghost use Rattle.uri_ops.specs.Models.EncodedPlaces.{AreAuthorityPositionsOrdered};
+ghost use Rattle.uri_ops.specs.Models.EncodedPlaces.{authority_positions_in_encoded};
+ghost use Rattle.uri_ops.specs.Models.EncodedPlaces.{position_in_encoded, positions_in_encoded};
 
 use crate::traits::RiMaybeRef;
 use std::alloc::{AllocError, Global};
@@ -14,11 +17,11 @@ use uri_parts::positions::{AuthorityPositions, Positions};
 use uri_pct::lanes::{LANES, ascii_end};
 use uri_pct::octet::pct_encoded;
 
-/// How many bytes are before the first one past ASCII, or before the end.
+/// Returns how many bytes are before the first one past ASCII, or before the end.
 #[tactic(auto, using(crate::proofs::AsciiForms::EncodedRuns::encoded_runs))]
-fn ascii_len(bytes: &[u8]) -> usize
+fn ascii_prefix_len(bytes: &[u8]) -> usize
     ensures inside { result ≤ length bytes.now }
-    ensures plain { encoded_text (take result bytes.now) ≡ take result bytes.now }
+    ensures unchanged { encode_past_ascii (take result bytes.now) ≡ take result bytes.now }
     ensures stops { result < length bytes.now → 128 ≤ slice_index bytes.now result }
 {
     if bytes.len() >= LANES {
@@ -31,9 +34,9 @@ fn ascii_len(bytes: &[u8]) -> usize
     i
 }
 
-/// How many bytes are past ASCII: for each the encoded text has two more.
-fn past_ascii(bytes: &[u8]) -> usize
-    ensures { length (encoded_text bytes.now) ≡ length bytes.now + 2 * result }
+/// Counts the bytes past ASCII: for each the encoded text has two more.
+fn count_past_ascii(bytes: &[u8]) -> usize
+    ensures { length (encode_past_ascii bytes.now) ≡ length bytes.now + 2 * result }
 {
     let mut count = 0;
     for &byte in bytes {
@@ -58,19 +61,27 @@ fn push_run(bytes: &[u8], out: &mut Vec<u8>) -> Result<(), AllocError>
     Ok(())
 }
 
+/// Appends a byte as an octet.
+#[inline(always)]
+fn push_octet(byte: u8, out: &mut Vec<u8>) -> Result<(), AllocError>
+    ensures { OnOk result (out.new.items ≡ out.old.items ++ text_of_token (Octet byte)) }
+{
+    push_run(pct_encoded(byte).as_bytes(), out)
+}
+
 /// Appends the bytes, each one past ASCII as an octet.
 #[tactic(auto, using(crate::proofs::AsciiForms::EncodedRuns::encoded_runs))]
-fn push_encoded(bytes: &[u8], out: &mut Vec<u8>) -> Result<(), AllocError>
-    ensures { OnOk result (out.new.items ≡ out.old.items ++ encoded_text bytes.now) }
+fn push_past_ascii_encoded(bytes: &[u8], out: &mut Vec<u8>) -> Result<(), AllocError>
+    ensures { OnOk result (out.new.items ≡ out.old.items ++ encode_past_ascii bytes.now) }
 {
     let mut done = 0;
     while done < bytes.len() {
         let byte = bytes[done];
         if byte >= 128 {
-            out.extend_from_slice(pct_encoded(byte).as_bytes())?;
+            push_octet(byte, out)?;
             done += 1;
         } else {
-            let end = done + ascii_len(&bytes[done..]);
+            let end = done + ascii_prefix_len(&bytes[done..]);
             push_run(&bytes[done..end], out)?;
             done = end;
         }
@@ -78,9 +89,9 @@ fn push_encoded(bytes: &[u8], out: &mut Vec<u8>) -> Result<(), AllocError>
     Ok(())
 }
 
-/// Appends the bytes between two positions, as `push_encoded`, after those before the first.
-/// Returns the position of the end in `out`.
-fn push_between(
+/// Appends the bytes between two positions, each one past ASCII as an octet. `out` has those before
+/// the first position. Returns the position of the end in `out`.
+fn push_encoded_between(
     bytes: &[u8],
     start: usize,
     end: usize,
@@ -88,31 +99,32 @@ fn push_between(
 ) -> Result<usize, AllocError>
     requires ordered { start ≤ end }
     requires inside { end ≤ length bytes.now }
-    requires before { out.now.items ≡ encoded_text (take start bytes.now) }
-    ensures text { OnOk result (out.new.items ≡ encoded_text (take end bytes.now)) }
-    ensures place { IfOk result (λ place. place ≡ moved bytes.now end) }
+    requires before { out.now.items ≡ encode_past_ascii (take start bytes.now) }
+    ensures text { OnOk result (out.new.items ≡ encode_past_ascii (take end bytes.now)) }
+    ensures place { IfOk result (λ place. place ≡ position_in_encoded bytes.now end) }
 {
-    push_encoded(&bytes[start..end], out)?;
+    push_past_ascii_encoded(&bytes[start..end], out)?;
     Ok(out.len())
 }
 
-/// Appends what is before a path that follows this authority, as `push_encoded`, and returns
-/// where the authority is.
-fn push_to_authority_end(
+/// Appends the bytes up to the end of this authority, each one past ASCII as an octet. Returns the
+/// positions of the authority in `out`.
+fn push_encoded_to_authority_end(
     bytes: &[u8],
     authority: AuthorityPositions,
     out: &mut Vec<u8>,
 ) -> Result<AuthorityPositions, AllocError>
-    requires ordered { IsOrdered authority.end authority }
+    requires ordered { AreAuthorityPositionsOrdered authority.end authority }
     requires inside { authority.end ≤ length bytes.now }
     requires before { out.now.items ≡ [] }
-    ensures text { OnOk result (out.new.items ≡ encoded_text (take authority.end bytes.now)) }
-    ensures places { IfOk result (λ places. places ≡ authority_moved bytes.now authority) }
+    ensures text { OnOk result (out.new.items ≡ encode_past_ascii (take authority.end bytes.now)) }
+    ensures places { IfOk result (λ places. places
+        ≡ authority_positions_in_encoded bytes.now authority) }
 {
-    let start = push_between(bytes, 0, authority.start, out)?;
-    let host_start = push_between(bytes, authority.start, authority.host_start, out)?;
-    let host_end = push_between(bytes, authority.host_start, authority.host_end, out)?;
-    let end = push_between(bytes, authority.host_end, authority.end, out)?;
+    let start = push_encoded_between(bytes, 0, authority.start, out)?;
+    let host_start = push_encoded_between(bytes, authority.start, authority.host_start, out)?;
+    let host_end = push_encoded_between(bytes, authority.host_start, authority.host_end, out)?;
+    let end = push_encoded_between(bytes, authority.host_end, authority.end, out)?;
     Ok(AuthorityPositions {
         start,
         host_start,
@@ -121,45 +133,47 @@ fn push_to_authority_end(
     })
 }
 
-/// Appends what is before the path, as `push_encoded`, and returns where the authority is.
-fn push_to_path(
+/// Appends the bytes before the path, each one past ASCII as an octet. Returns the positions of the
+/// authority in `out`, if there is one.
+fn push_encoded_to_path(
     bytes: &[u8],
     positions: &Positions,
     out: &mut Vec<u8>,
 ) -> Result<Option<AuthorityPositions>, AllocError>
-    requires ordered { AreOrdered (length bytes.now) positions.now }
+    requires ordered { ArePositionsOrdered (length bytes.now) positions.now }
     requires before { out.now.items ≡ [] }
     ensures text { OnOk result
-        (out.new.items ≡ encoded_text (take positions.now.path_start bytes.now)) }
+        (out.new.items ≡ encode_past_ascii (take positions.now.path_start bytes.now)) }
     ensures places { IfOk result (λ places.
-        places ≡ option_map (authority_moved bytes.now) positions.now.authority) }
+        places ≡ option_map (authority_positions_in_encoded bytes.now) positions.now.authority) }
 {
     match positions.authority {
-        Some(authority) => Ok(Some(push_to_authority_end(bytes, authority, out)?)),
+        Some(authority) => Ok(Some(push_encoded_to_authority_end(bytes, authority, out)?)),
         None => {
-            push_between(bytes, 0, positions.path_start, out)?;
+            push_encoded_between(bytes, 0, positions.path_start, out)?;
             Ok(None)
         }
     }
 }
 
-/// Appends the text whose components are so, as `push_encoded`, and returns where they are then.
-fn push_components(
+/// Appends the text with these components, each byte past ASCII as an octet. Returns the positions
+/// of the components in `out`.
+fn push_encoded_components(
     bytes: &[u8],
     positions: &Positions,
     out: &mut Vec<u8>,
 ) -> Result<Positions, AllocError>
-    requires ordered { AreOrdered (length bytes.now) positions.now }
+    requires ordered { ArePositionsOrdered (length bytes.now) positions.now }
     requires before { out.now.items ≡ [] }
-    ensures text { OnOk result (out.new.items ≡ encoded_text bytes.now) }
-    ensures places { IfOk result (λ places. places ≡ positions_moved bytes.now positions.now) }
+    ensures text { OnOk result (out.new.items ≡ encode_past_ascii bytes.now) }
+    ensures places { IfOk result (λ places. places ≡ positions_in_encoded bytes.now positions.now) }
 {
-    let authority = push_to_path(bytes, positions, out)?;
+    let authority = push_encoded_to_path(bytes, positions, out)?;
     let path_start = out.len();
-    let path_end = push_between(bytes, positions.path_start, positions.path_end, out)?;
+    let path_end = push_encoded_between(bytes, positions.path_start, positions.path_end, out)?;
     let before_fragment = positions.before_fragment();
-    let fragment_start = push_between(bytes, positions.path_end, before_fragment, out)?;
-    push_between(bytes, before_fragment, bytes.len(), out)?;
+    let fragment_start = push_encoded_between(bytes, positions.path_end, before_fragment, out)?;
+    push_encoded_between(bytes, before_fragment, bytes.len(), out)?;
     Ok(Positions {
         scheme_end: positions.scheme_end,
         authority,
@@ -172,29 +186,29 @@ fn push_components(
     })
 }
 
-/// The text of a value with each character past ASCII as the octets of its UTF-8, and where its
-/// components are.
+/// Returns the text of a value with each character past ASCII as the octets of its UTF-8, and where
+/// its components are.
 ///
 /// It allocates once, for as many bytes as it has. If all characters are ASCII, the text is copied,
 /// with its positions.
 #[doc(hidden)]
 pub fn encoded<R: RiMaybeRef>(alloc: Global, value: &R) -> Result<(String, Positions), AllocError>
-    ensures text { IfOk result (λ made. string_bytes made.0 ≡ encoded_text (R.text value.now)) }
-    ensures at { IfOk result (λ made. AreAt (string_bytes made.0) made.1) }
+    ensures text { IfOk result (λ made. string_bytes made.0 ≡ encode_past_ascii (R.text value.now)) }
+    ensures at { IfOk result (λ made. ArePositionsOf (string_bytes made.0) made.1) }
     ensures utf8 { IsUtf8 (R.text value.now) }
     ensures of_kind { IsOfKind R.kind (R.text value.now) }
 {
     let core = value.core();
     let text = core.as_str();
     let bytes = text.as_bytes();
-    let past = past_ascii(bytes);
+    let past = count_past_ascii(bytes);
     if past == 0 {
         let copy = String::from_str(alloc, text)?;
         return Ok((copy, core.positions()));
     }
     let len = bytes.len().saturating_add(past.saturating_mul(2));
     let mut out = Vec::with_capacity(alloc, len)?;
-    let positions = push_components(bytes, &core.positions(), &mut out)?;
+    let positions = push_encoded_components(bytes, &core.positions(), &mut out)?;
     match String::from_utf8(out) {
         Ok(text) => Ok((text, positions)),
         Err(_) => unreachable!(),

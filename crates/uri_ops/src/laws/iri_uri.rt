@@ -6,7 +6,7 @@ ghost use Rattle.std.specs.Str.{IsUtf8};
 ghost use Rattle.uri_parts.specs.Components.{components};
 ghost use Rattle.uri_parts.specs.Grammar.{Kind, iri, iri_ref, uri, uri_ref};
 ghost use Rattle.uri_ops.specs.ComponentSets.{HasComponentSets, IsWithin};
-ghost use Rattle.uri_ops.specs.Encoded.{ascii_kind, encoded_text};
+ghost use Rattle.uri_ops.specs.Encoded.{ascii_kind, encode_past_ascii};
 ghost use Rattle.uri_ops.specs.Meaning.{bare_meaning_of, meaning_of};
 ghost use Rattle.uri_parts.specs.Ports.{PortFunction};
 ghost use Rattle.uri_ops.specs.Target.{resolution_of_texts, target_underflows};
@@ -18,45 +18,47 @@ ghost use Rattle.uri_parts.specs.Grammar.{IsTextOf};
 /// # Examples
 ///
 /// `http://a` is a URI, and so a URI reference and an IRI.
-pub fn texts_of_wider_kinds()
+pub fn texts_are_of_wider_kinds_too()
     ensures wider { (kind wide : Kind) (text : List ℕ) → HasComponentSets wide → IsWithin kind wide
         → IsTextOf kind text → IsTextOf wide text }
     ensures uri { (kind : Kind) → IsWithin (ascii_kind kind) kind }
     ensures reference { IsWithin uri uri_ref × IsWithin iri iri_ref }
 {}
 
-/// `encoded_text` turns a text of a kind of IRIs into one of the kind of URIs that goes with it
-/// (RFC 3987, section 3.1). Its characters past ASCII become octets. As an IRI it is equivalent to
-/// the text.
+/// `encode_past_ascii` turns a text of a kind of IRIs into one of the kind of URIs that goes with
+/// it (RFC 3987, section 3.1). Its characters past ASCII become octets. As an IRI it is equivalent
+/// to the text.
 ///
 /// # Examples
 ///
 /// `http://a/é` and `http://a/%C3%A9` are equivalent as IRIs.
-pub fn encoded_texts_mean_the_same()
+pub fn encoding_past_ascii_keeps_meaning()
     ensures uri { ascii_kind iri ≡ uri }
     ensures uri_ref { ascii_kind iri_ref ≡ uri_ref }
     ensures text { (kind : Kind) (text : List ℕ) → HasComponentSets kind → IsTextOf kind text
-        → IsTextOf (ascii_kind kind) (encoded_text text) }
+        → IsTextOf (ascii_kind kind) (encode_past_ascii text) }
     ensures bare { (kind : Kind) (text : List ℕ) → HasComponentSets kind → IsTextOf kind text
-        → bare_meaning_of kind (encoded_text text) ≡ bare_meaning_of kind text }
+        → bare_meaning_of kind (encode_past_ascii text) ≡ bare_meaning_of kind text }
     ensures meaning { (kind : Kind) (ports : PortFunction) (text : List ℕ) → HasComponentSets kind
         → IsTextOf kind text
-        → meaning_of kind ports (encoded_text text) ≡ meaning_of kind ports text }
+        → meaning_of kind ports (encode_past_ascii text) ≡ meaning_of kind ports text }
 {}
 
-/// If `encoded_text` turns the characters past ASCII of a base and a reference into octets, the
-/// target changes in the same way. An error stays the same error. The target underflows in the same
-/// cases.
+/// If `encode_past_ascii` turns the characters past ASCII of a base and a reference into octets,
+/// the target changes in the same way. An error stays the same error. The target underflows in the
+/// same cases.
 ///
 /// # Examples
 ///
 /// `é` against `http://a` is `http://a/é`, and `%C3%A9` against it `http://a/%C3%A9`.
-pub fn encoded_texts_resolve_alike()
+pub fn encoding_past_ascii_and_resolving_swap()
     ensures resolution { (base reference : List ℕ) → IsUtf8 base → IsUtf8 reference
-        → resolution_of_texts (encoded_text base) (encoded_text reference)
-        ≡ result_map_both encoded_text (λ refusal. refusal) (resolution_of_texts base reference) }
+        → resolution_of_texts (encode_past_ascii base) (encode_past_ascii reference)
+        ≡ result_map_both encode_past_ascii (λ refusal. refusal)
+        (resolution_of_texts base reference) }
     ensures underflow { (base reference target : List ℕ) → IsUtf8 base → IsUtf8 reference
         → resolution_of_texts base reference ≡ Ok target
-        → target_underflows (components (encoded_text base)) (components (encoded_text reference))
+        → target_underflows (components (encode_past_ascii base))
+        (components (encode_past_ascii reference))
         ≡ target_underflows (components base) (components reference) }
 {}

@@ -8,8 +8,8 @@ ghost use Rattle.uri_ops.specs.SameMeanings.{same_meaning};
 ghost use Rattle.uri_parts.specs.Ports.{PortFunction};
 ghost use Rattle.uri_parts.specs.Grammar.{IsTextOf};
 
-/// The sets of the four kinds have what the laws below ask of a kind's (RFC 3986, sections 2.2, 2.3
-/// and 3, and RFC 3987, section 2.2).
+/// The sets of the four kinds have what the laws of normal forms ask of a kind's (RFC 3986,
+/// sections 2.2, 2.3 and 3, and RFC 3987, section 2.2).
 ///
 /// # Examples
 ///
@@ -29,7 +29,7 @@ pub fn four_kinds_have_component_sets()
 /// `http://a:80` and `http://a` are equivalent if 80 is the default port of `http`, and not if it
 /// has none.
 #[tactic(auto, using(crate::proofs::Theorems::canonical))]
-pub fn meaning_under_ports()
+pub fn bare_meanings_determine_meanings()
     ensures { (kind : Kind) (ports : PortFunction) (text : List ℕ)
         → meaning_of kind ports text ≡ under ports (bare_meaning_of kind text) }
 {}

@@ -15,7 +15,7 @@ ghost use Rattle.uri_parts.specs.Grammar.{IsTextOf};
 /// # Examples
 ///
 /// `../g` against the URI `http://a/b/c` is `http://a/g`, a URI.
-pub fn targets_are_texts()
+pub fn targets_are_of_the_kind_of_their_base()
     ensures { (kind : Kind) (base reference target : List ℕ) → HasComponentSets kind
         → kind.needs_scheme ≡ true → IsTextOf kind base → IsTextOf (reference_kind kind) reference
         → resolution_of_texts base reference ≡ Ok target → IsTextOf kind target }

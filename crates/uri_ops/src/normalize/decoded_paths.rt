@@ -2,7 +2,7 @@
 //! and 6.2.2.3).
 ghost use Rattle.std.specs.Prelude.{◌≡◌, IfOk, OnOk, codes, true};
 ghost use Rattle.uri_pct.specs.Delimiters.{slash};
-ghost use Rattle.uri_pct.specs.Reading.{read};
+ghost use Rattle.uri_pct.specs.DecodeUnreserved.{decode_unreserved};
 ghost use Rattle.uri_pct.specs.Tables.{set_of};
 ghost use Rattle.uri_pct.specs.Tokens.{IsValidFor, print};
 ghost use Rattle.uri_pct.specs.Texts.{Pushes};
@@ -14,10 +14,10 @@ use crate::path::segment_mode::SegmentMode;
 use std::alloc::AllocError;
 use uri_pct::table::Table;
 
-/// Appends a path that begins with `/`, with its readable octets decoded and without its dot
+/// Appends a path that begins with `/`, with its decodable octets decoded and without its dot
 /// segments. Returns whether a double dot had nothing left to remove. A double dot removes the last
 /// segment that was appended.
-pub(crate) fn push_read_path(
+pub(crate) fn push_decoded_path(
     table: &Table,
     path: &str,
     out: &mut String,
@@ -27,11 +27,11 @@ pub(crate) fn push_read_path(
     requires set { IsComponentSet (codes "?#[]") (set_of table.now) }
     requires slash { (set_of table.now).ascii slash ≡ true }
     ensures text { OnOk result (Pushes out.old out.new
-        (print (read (set_of table.now) (remove_dot_segments path.now)))) }
+        (print (decode_unreserved (set_of table.now) (remove_dot_segments path.now)))) }
     ensures underflow { IfOk result (λ underflowed. underflowed ≡ underflows path.now) }
 {
     let start = out.len();
     out.push('/')?;
-    let underflowed = push_segments(SegmentMode::Read(table), &path[1..], start, out)?;
+    let underflowed = push_segments(SegmentMode::Decoded(table), &path[1..], start, out)?;
     Ok(underflowed)
 }

@@ -3,22 +3,22 @@
 ghost use Rattle.std.specs.Prelude.{◌≡◌, ◌++◌, OnOk, string_bytes, take, drop};
 ghost use Rattle.std.specs.List.{list_any};
 ghost use Rattle.std.specs.Str.{IsCharBoundary, chars};
-ghost use Rattle.uri_pct.specs.Reading.{is_bidi_formatting};
-ghost use Rattle.uri_pct.specs.Reading.{written_char, written_text};
+ghost use Rattle.uri_pct.specs.DecodeUnreserved.{is_bidi_formatting};
+ghost use Rattle.uri_pct.specs.DecodeUnreserved.{encoded_formatting_char, encoded_formatting_text};
 
 use std::alloc::AllocError;
 use uri_pct::encode::push_octets;
 
-/// Whether the character is LRM, RLM, LRE, RLE, PDF, LRO or RLO.
-#[tactic(auto, using(std::proofs::lemmas::Bool::Decides::nat_tests), unfolding(uri_pct::specs::Reading::is_bidi_formatting))]
+/// Returns whether the character is LRM, RLM, LRE, RLE, PDF, LRO or RLO.
+#[tactic(auto, using(std::proofs::lemmas::Bool::Decides::nat_tests), unfolding(uri_pct::specs::DecodeUnreserved::is_bidi_formatting))]
 fn is_bidi_formatting(ch: char) -> bool
     ensures { result ≡ is_bidi_formatting ch }
 {
     matches!(ch as u32, 0x200E | 0x200F | 0x202A..=0x202E)
 }
 
-/// Whether one of the text's characters is a formatting character.
-fn is_any_formatting(text: &str) -> bool
+/// Returns whether one of the text's characters is a formatting character.
+fn has_formatting_char(text: &str) -> bool
     ensures { result ≡ list_any is_bidi_formatting (chars text.now) }
 {
     for ch in text.chars() {
@@ -29,17 +29,18 @@ fn is_any_formatting(text: &str) -> bool
     false
 }
 
-/// Whether a formatting character is in the text. All begin with the byte E2, which most texts
-/// have not.
+/// Returns whether a formatting character is in the text. All begin with the byte E2, which most
+/// texts have not.
 fn has_formatting(text: &str) -> bool
     ensures { result ≡ list_any is_bidi_formatting (chars text.now) }
 {
-    text.as_bytes().contains(&0xE2) && is_any_formatting(text)
+    text.as_bytes().contains(&0xE2) && has_formatting_char(text)
 }
 
 /// Appends the character, a formatting character as octets.
-fn push_char(ch: char, out: &mut String) -> Result<(), AllocError>
-    ensures { OnOk result (string_bytes out.new ≡ string_bytes out.old ++ written_char ch) }
+fn push_char_formatting_encoded(ch: char, out: &mut String) -> Result<(), AllocError>
+    ensures { OnOk result (string_bytes out.new
+        ≡ string_bytes out.old ++ encoded_formatting_char ch) }
 {
     if is_bidi_formatting(ch) {
         push_octets(ch.encode_utf8(&mut [0; 4]).as_bytes(), out)
@@ -49,11 +50,12 @@ fn push_char(ch: char, out: &mut String) -> Result<(), AllocError>
 }
 
 /// Appends the text, with its formatting characters as octets.
-fn push_written(text: &str, out: &mut String) -> Result<(), AllocError>
-    ensures { OnOk result (string_bytes out.new ≡ string_bytes out.old ++ written_text text.now) }
+fn push_with_formatting_encoded(text: &str, out: &mut String) -> Result<(), AllocError>
+    ensures { OnOk result (string_bytes out.new
+        ≡ string_bytes out.old ++ encoded_formatting_text text.now) }
 {
     for ch in text.chars() {
-        push_char(ch, out)?;
+        push_char_formatting_encoded(ch, out)?;
     }
     Ok(())
 }
@@ -66,11 +68,12 @@ fn push_written(text: &str, out: &mut String) -> Result<(), AllocError>
 pub fn encode_formatting(start: usize, out: &mut String) -> Result<(), AllocError>
     requires { IsCharBoundary (string_bytes out.old) start }
     ensures { OnOk result (string_bytes out.new
-        ≡ take start (string_bytes out.old) ++ written_text (drop start (string_bytes out.old))) }
+        ≡ take start (string_bytes out.old) ++ encoded_formatting_text
+        (drop start (string_bytes out.old))) }
 {
     if !has_formatting(&out.as_str()[start..]) {
         return Ok(());
     }
     let text = out.split_off(start)?;
-    push_written(&text, out)
+    push_with_formatting_encoded(&text, out)
 }

@@ -12,12 +12,14 @@ ghost use Rattle.uri_parts.specs.Hosts.{host_kind};
 ghost use Rattle.uri_parts.specs.Schemes.{scheme_text};
 ghost use Rattle.uri_ops.specs.Meaning.{authority_meaning, host_meaning, port_meaning};
 ghost use Rattle.uri_ops.specs.Normal.{host_text, normal_authority, normal_part, normal_parts};
-ghost use Rattle.uri_ops.specs.Normal.{default_of};
+ghost use Rattle.uri_ops.specs.Normal.{default_port_of};
 ghost use Rattle.uri_ops.specs.Models.Written.{authority_parts_at};
 
 use crate::default_port::DefaultPort;
-use crate::normalize::decode_unreserved::{push_component, push_lower, push_read_host};
+use crate::normalize::decode_unreserved::{push_decoded_component, push_decoded_host};
+use crate::normalize::literal_runs::push_lower;
 use std::alloc::AllocError;
+use uri_parts::address_text::push_ipv6_host;
 use uri_parts::component::{Authority, HostOf, Scheme};
 use uri_parts::positions::AuthorityPositions;
 use uri_pct::encoder::Encoder;
@@ -33,12 +35,12 @@ pub fn push_authority<U: Encoder, R: Encoder, P: DefaultPort>(
     ports: &P,
     out: &mut String,
 ) -> Result<AuthorityPositions, AllocError>
-    ensures text { let default = default_of (P.port_of ports.now)
+    ensures text { let default = default_port_of (P.port_of ports.now)
         (option_map scheme_text scheme.entry) in
         (kind : Kind) → kind.userinfo ≡ U.set → kind.reg_name ≡ R.set
         → OnOk result (Pushes out.old out.new
         (normal_authority (authority_meaning kind default (authority_text authority.entry)))) }
-    ensures places { let default = default_of (P.port_of ports.now)
+    ensures places { let default = default_port_of (P.port_of ports.now)
         (option_map scheme_text scheme.entry) in
         (kind : Kind) → kind.userinfo ≡ U.set → kind.reg_name ≡ R.set
         → IfOk result (λ places. places ≡ authority_parts_at (length (string_bytes out.old))
@@ -70,7 +72,7 @@ fn push_userinfo<U: Encoder, R: Encoder>(
     let Some(userinfo) = authority.userinfo() else {
         return Ok(());
     };
-    push_component(userinfo, out)?;
+    push_decoded_component(userinfo, out)?;
     out.push('@')
 }
 
@@ -89,15 +91,15 @@ pub fn push_host<U: Encoder, R: Encoder>(
 {
     let host = authority.host();
     if !is_bracketed(host) {
-        return push_read_host(&R::table(), host, out);
+        return push_decoded_host(&R::table(), host, out);
     }
     match authority.host_parsed() {
-        HostOf::Ipv6(address) => write!(out, "[{address}]"),
+        HostOf::Ipv6(address) => push_ipv6_host(&address, out),
         _ => push_lower(host, out),
     }
 }
 
-/// Whether the host is an address in brackets.
+/// Returns whether the host is an address in brackets.
 pub(crate) fn is_bracketed(host: &str) -> bool
     ensures { result ≡ starts left_bracket host.now }
 {
@@ -112,20 +114,20 @@ fn push_port<U: Encoder, R: Encoder, P: DefaultPort>(
     out: &mut String,
 ) -> Result<(), AllocError>
     ensures { let p = authority_parts (authority_text authority.entry) in
-        let default = default_of (P.port_of ports.now) (option_map scheme_text scheme.entry) in
+        let default = default_port_of (P.port_of ports.now) (option_map scheme_text scheme.entry) in
         OnOk result (Pushes out.old out.new (marked (codes ":") (port_meaning default p.port) [])) }
 {
-    let default = default_behind(authority, scheme, ports);
-    let Some(digits) = kept_port(authority, default) else {
+    let default = default_for_port(authority, scheme, ports);
+    let Some(digits) = port_unless_default(authority, default) else {
         return Ok(());
     };
     out.push(':')?;
     out.push_str(digits)
 }
 
-/// The port's digits, unless there are none or they write the default. A port over 65535 is no
-/// default.
-fn kept_port<'a, U: Encoder, R: Encoder>(
+/// Returns the port's digits, unless there are none or they write the default. A port over 65535 is
+/// no default.
+fn port_unless_default<'a, U: Encoder, R: Encoder>(
     authority: Authority<'a, U, R>,
     default: Option<u16>,
 ) -> Option<&'a str>
@@ -133,23 +135,26 @@ fn kept_port<'a, U: Encoder, R: Encoder>(
         option_map (λ digits. digits.now) result ≡ port_meaning default p.port }
 {
     let port = authority.port()?;
+    if default.is_none() && !port.is_empty() {
+        return Some(port.as_str());
+    }
     match authority.port_to_u16() {
         Ok(None) => None,
-        Ok(Some(number)) if is_number_of(default, number) => None,
+        Ok(Some(number)) if is_default_number(default, number) => None,
         _ => Some(port.as_str()),
     }
 }
 
 /// Returns the default port of the scheme. It calls `ports` only if there is a port that isn't
 /// empty.
-fn default_behind<U: Encoder, R: Encoder, P: DefaultPort>(
+fn default_for_port<U: Encoder, R: Encoder, P: DefaultPort>(
     authority: Authority<'_, U, R>,
     scheme: Option<Scheme<'_>>,
     ports: &P,
 ) -> Option<u16>
     ensures { let port = (authority_parts (authority_text authority.entry)).port in
         port_meaning result port
-        ≡ port_meaning (default_of (P.port_of ports.now) (option_map scheme_text scheme.entry))
+        ≡ port_meaning (default_port_of (P.port_of ports.now) (option_map scheme_text scheme.entry))
         port }
 {
     if authority.port()?.is_empty() {
@@ -158,8 +163,8 @@ fn default_behind<U: Encoder, R: Encoder, P: DefaultPort>(
     ports.default_port(scheme?)
 }
 
-/// Whether there is a default port, and it is this number.
-fn is_number_of(default: Option<u16>, number: u16) -> bool
+/// Returns whether there is a default port, and it is this number.
+fn is_default_number(default: Option<u16>, number: u16) -> bool
     ensures { result ≡ option_map_or (λ port. number == port) default false }
 {
     match default {

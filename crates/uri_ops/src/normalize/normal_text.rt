@@ -3,7 +3,7 @@ ghost use Rattle.std.specs.Prelude.{◌≡◌, ◌+◌, ◌<◌, ◌++◌, ◌�
 ghost use Rattle.std.specs.Prelude.{codes, is_some, length, option_map, string_bytes, true};
 ghost use Rattle.uri_pct.specs.Delimiters.{slash};
 ghost use Rattle.uri_pct.specs.EncodedTexts.{text_of};
-ghost use Rattle.uri_pct.specs.Reading.{read};
+ghost use Rattle.uri_pct.specs.DecodeUnreserved.{decode_unreserved};
 ghost use Rattle.uri_pct.specs.Tokens.{print, IsValidFor};
 ghost use Rattle.uri_pct.specs.Texts.{Pushes};
 ghost use Rattle.uri_parts.specs.AuthorityTexts.{authority_text};
@@ -14,18 +14,19 @@ ghost use Rattle.uri_parts.specs.Schemes.{scheme_text};
 ghost use Rattle.uri_ops.specs.ComponentSets.{HasComponentSets, IsComponentSet};
 ghost use Rattle.uri_ops.specs.Dots.{IsAbsolute, remove_dot_segments, underflows};
 ghost use Rattle.uri_ops.specs.Meaning.{authority_meaning, meaning_of};
-ghost use Rattle.uri_ops.specs.Normal.{marked_authority, normal_components, normal_part};
+ghost use Rattle.uri_ops.specs.Normal.{normal_authority_with_delimiter, normal_components};
+ghost use Rattle.uri_ops.specs.Normal.{normal_part};
 ghost use Rattle.uri_ops.specs.Normal.{normal_parts, normal_scheme, normal_text};
-ghost use Rattle.uri_ops.specs.Normal.{path_text, path_underflows};
-ghost use Rattle.uri_ops.specs.Normal.{default_of};
+ghost use Rattle.uri_ops.specs.Normal.{normal_path_text, path_underflows};
+ghost use Rattle.uri_ops.specs.Normal.{default_port_of};
 ghost use Rattle.uri_ops.specs.Target.{guarded};
-ghost use Rattle.uri_ops.specs.Models.Written.{authority_parts_at, written_at};
+ghost use Rattle.uri_ops.specs.Models.Written.{authority_parts_at, positions_by_authority_parts};
 
 use crate::default_port::DefaultPort;
-use crate::normalize::decode_unreserved::{push_component, push_lower, push_read};
-use crate::normalize::decoded_paths::push_read_path;
+use crate::normalize::decode_unreserved::{push_decoded, push_decoded_component};
+use crate::normalize::decoded_paths::push_decoded_path;
+use crate::normalize::literal_runs::{push_lower, push_short_str};
 use crate::normalize::normal_authority::push_authority;
-use crate::normalize::octets::push_some;
 use crate::path::dot_segments::has_dot_segments;
 use crate::path::slashes::{begins_with_two_slashes, guard_path};
 use std::alloc::AllocError;
@@ -54,18 +55,19 @@ fn push_scheme(scheme: Option<Scheme<'_>>, out: &mut String) -> Result<Option<us
 }
 
 /// Appends `//` and the normal form of the authority after this scheme, and returns where it is.
-fn push_marked_authority<U: Encoder, R: Encoder, P: DefaultPort>(
+fn push_authority_with_delimiter<U: Encoder, R: Encoder, P: DefaultPort>(
     authority: Option<Authority<'_, U, R>>,
     scheme: Option<Scheme<'_>>,
     ports: &P,
     out: &mut String,
 ) -> Result<Option<AuthorityPositions>, AllocError>
-    ensures text { let default = default_of (P.port_of ports.now)
+    ensures text { let default = default_port_of (P.port_of ports.now)
         (option_map scheme_text scheme.entry) in
         (kind : Kind) → kind.userinfo ≡ U.set → kind.reg_name ≡ R.set
         → OnOk result (Pushes out.old out.new
-        (marked_authority kind default (option_map authority_text authority.entry))) }
-    ensures places { let default = default_of (P.port_of ports.now)
+        (normal_authority_with_delimiter kind default
+        (option_map authority_text authority.entry))) }
+    ensures places { let default = default_port_of (P.port_of ports.now)
         (option_map scheme_text scheme.entry) in
         (kind : Kind) → kind.userinfo ≡ U.set → kind.reg_name ≡ R.set
         → IfOk result (λ places. places
@@ -83,7 +85,7 @@ fn push_marked_authority<U: Encoder, R: Encoder, P: DefaultPort>(
 }
 
 /// Appends a query or a fragment, decoded, after its mark, and returns where it ends.
-fn push_marked<E: Encoder>(
+fn push_with_delimiter<E: Encoder>(
     mark: char,
     part: Option<EStr<'_, E>>,
     out: &mut String,
@@ -99,7 +101,7 @@ fn push_marked<E: Encoder>(
         return Ok(None);
     };
     out.push(mark)?;
-    push_component(part, out)?;
+    push_decoded_component(part, out)?;
     Ok(Some(out.len()))
 }
 
@@ -118,7 +120,7 @@ fn guard_before(follows_authority: bool, path: &str) -> &'static str
 }
 
 /// Appends a path, decoded, after `/.` if it would otherwise be parsed as an authority.
-fn push_read_guarded<E: Encoder>(
+fn push_decoded_guarded<E: Encoder>(
     follows_authority: bool,
     path: &str,
     out: &mut String,
@@ -126,15 +128,16 @@ fn push_read_guarded<E: Encoder>(
     requires valid { IsValidFor E.set path.now }
     requires set { IsComponentSet (codes "?#[]") E.set }
     ensures { (authority : Option (List ℕ)) → is_some authority ≡ follows_authority
-        → OnOk result (Pushes out.old out.new (guarded authority (print (read E.set path.now)))) }
+        → OnOk result (Pushes out.old out.new
+        (guarded authority (print (decode_unreserved E.set path.now)))) }
 {
-    push_some(guard_before(follows_authority, path), out)?;
-    push_read(&E::table(), path, out)
+    push_short_str(guard_before(follows_authority, path), out)?;
+    push_decoded(&E::table(), path, out)
 }
 
 /// Appends a path, decoded and without its dot segments, after `/.` if it would otherwise be parsed
 /// as an authority. Returns whether a double dot had nothing left to remove.
-fn push_read_cleaned<E: Encoder>(
+fn push_decoded_without_dot_segments<E: Encoder>(
     has_authority: bool,
     path: EStr<'_, E>,
     out: &mut String,
@@ -144,11 +147,12 @@ fn push_read_cleaned<E: Encoder>(
     requires slash { E.set.ascii slash ≡ true }
     ensures text { (authority : Option (List ℕ)) → is_some authority ≡ has_authority
         → OnOk result (Pushes out.old out.new
-        (guarded authority (print (read E.set (remove_dot_segments (text_of path.entry)))))) }
+        (guarded authority (print
+        (decode_unreserved E.set (remove_dot_segments (text_of path.entry)))))) }
     ensures underflow { IfOk result (λ underflowed. underflowed ≡ underflows (text_of path.entry)) }
 {
     let start = out.len();
-    let underflowed = push_read_path(&E::table(), path.as_str(), out)?;
+    let underflowed = push_decoded_path(&E::table(), path.as_str(), out)?;
     if !has_authority {
         guard_path(start, out)?;
     }
@@ -157,7 +161,7 @@ fn push_read_cleaned<E: Encoder>(
 
 /// Appends a path that is under a scheme and begins with `/`, decoded and without its dot segments.
 /// Returns whether a double dot had nothing left to remove.
-fn push_absolute<E: Encoder>(
+fn push_normal_absolute_path<E: Encoder>(
     has_authority: bool,
     path: EStr<'_, E>,
     out: &mut String,
@@ -167,13 +171,14 @@ fn push_absolute<E: Encoder>(
     requires slash { E.set.ascii slash ≡ true }
     ensures text { (authority : Option (List ℕ)) → is_some authority ≡ has_authority
         → OnOk result (Pushes out.old out.new
-        (guarded authority (print (read E.set (remove_dot_segments (text_of path.entry)))))) }
+        (guarded authority (print
+        (decode_unreserved E.set (remove_dot_segments (text_of path.entry)))))) }
     ensures underflow { IfOk result (λ underflowed. underflowed ≡ underflows (text_of path.entry)) }
 {
     if has_dot_segments(path.as_str()) {
-        return push_read_cleaned(has_authority, path, out);
+        return push_decoded_without_dot_segments(has_authority, path, out);
     }
-    push_read_guarded::<E>(has_authority, path.as_str(), out)?;
+    push_decoded_guarded::<E>(has_authority, path.as_str(), out)?;
     Ok(false)
 }
 
@@ -190,14 +195,14 @@ fn push_normal_path<E: PathEncoder>(
     ensures text { (scheme authority : Option (List ℕ)) → is_some scheme ≡ has_scheme
         → is_some authority ≡ has_authority
         → OnOk result (Pushes out.old out.new
-        (path_text E.set scheme authority (text_of path.entry))) }
+        (normal_path_text E.set scheme authority (text_of path.entry))) }
     ensures underflow { (scheme : Option (List ℕ)) → is_some scheme ≡ has_scheme
         → IfOk result (λ underflowed. underflowed ≡ path_underflows scheme (text_of path.entry)) }
 {
     if has_scheme && path.is_absolute() {
-        return push_absolute(has_authority, path, out);
+        return push_normal_absolute_path(has_authority, path, out);
     }
-    push_component(path, out)?;
+    push_decoded_component(path, out)?;
     Ok(false)
 }
 
@@ -205,7 +210,7 @@ fn push_normal_path<E: PathEncoder>(
 /// whether the removal of its dot segments underflows.
 ///
 /// After an error, part of it may have been appended.
-pub(crate) fn push_normal<K: Kind, P: DefaultPort>(
+pub(crate) fn push_normal_text<K: Kind, P: DefaultPort>(
     core: Core<K, &str>,
     ports: &P,
     out: &mut String,
@@ -215,19 +220,20 @@ pub(crate) fn push_normal<K: Kind, P: DefaultPort>(
         (normal_text (meaning_of K.kind (P.port_of ports.now) (core_text core.entry)))) }
     ensures places { let m = meaning_of K.kind (P.port_of ports.now) (core_text core.entry) in
         string_bytes out.old ≡ [] → IfOk result (λ written.
-        written.0 ≡ written_at (normal_components m) (option_map normal_parts m.authority)) }
+        written.0 ≡ positions_by_authority_parts (normal_components m)
+        (option_map normal_parts m.authority)) }
     ensures underflow { let p = components (core_text core.entry) in
         IfOk result (λ written. written.1 ≡ path_underflows p.scheme p.path) }
 {
     let scheme = core.scheme();
     let scheme_end = push_scheme(scheme, out)?;
-    let authority = push_marked_authority(core.authority(), scheme, ports, out)?;
+    let authority = push_authority_with_delimiter(core.authority(), scheme, ports, out)?;
     let path_start = out.len();
     let path = core.path();
     let underflows = push_normal_path(core.has_scheme(), core.has_authority(), path, out)?;
     let path_end = out.len();
-    let query_end = push_marked('?', core.query(), out)?;
-    push_marked('#', core.fragment(), out)?;
+    let query_end = push_with_delimiter('?', core.query(), out)?;
+    push_with_delimiter('#', core.fragment(), out)?;
     let positions = Positions {
         scheme_end,
         authority,

@@ -5,17 +5,17 @@ ghost use Rattle.std.specs.Prelude.{length, is_some, option_map, slice_index, st
 ghost use Rattle.std.specs.Str.{str_to_ascii_lowercase};
 ghost use Rattle.uri_parts.specs.AuthorityTexts.{authority_text};
 ghost use Rattle.uri_parts.specs.CoreTexts.{core_text};
-ghost use Rattle.uri_parts.specs.Positions.{AreAt};
+ghost use Rattle.uri_parts.specs.Positions.{ArePositionsOf};
 ghost use Rattle.uri_parts.specs.Schemes.{scheme_text};
 ghost use Rattle.uri_ops.specs.ComponentSets.{HasComponentSets};
-ghost use Rattle.uri_ops.specs.Models.Unchanged.{IsKeptAuthority, IsKeptPath, IsPlain};
-ghost use Rattle.uri_ops.specs.Models.Unchanged.{is_plain_byte};
+ghost use Rattle.uri_ops.specs.Models.Unchanged.{IsUnchangedAuthority, IsUnchangedPath, IsLiteral};
+ghost use Rattle.uri_ops.specs.Models.Unchanged.{is_literal_byte};
 ghost use Rattle.uri_ops.specs.Normal.{normal_scheme};
 ghost use Rattle.uri_ops.specs.Normalizers.{HasNormalText, text_underflows};
 ghost use Rattle.uri_parts.specs.Ports.{PortFunction};
 
-use crate::normalize::Normalized;
 use crate::normalize::normal_authority::is_bracketed;
+use crate::normalize::normalized::Normalized;
 use crate::path::dot_segments::has_dot_segments;
 use crate::path::slashes::begins_with_slash;
 use std::alloc::{AllocError, Global};
@@ -23,54 +23,57 @@ use uri_parts::component::{Authority, Scheme};
 use uri_parts::core_text::Core;
 use uri_parts::kind::Kind;
 use uri_pct::encoder::Encoder;
-use uri_pct::lanes::LANES;
-use uri_pct::search::{len_before_slash_dot, places_of};
+use uri_pct::lanes::{LANES, lanes_equal_to};
+use uri_pct::search::len_before_slash_dot;
 
-/// Whether the byte begins neither an octet nor a formatting character of bidirectional text.
-fn is_plain_byte(byte: u8) -> bool
-    ensures { result ≡ is_plain_byte byte }
+/// Returns whether the byte begins neither an octet nor a formatting character of bidirectional
+/// text.
+fn is_literal_byte(byte: u8) -> bool
+    ensures { result ≡ is_literal_byte byte }
 {
     byte != b'%' && byte != 0xE2
 }
 
-/// Whether none of the sixteen bytes from `at` on begins one.
+/// Returns whether none of the sixteen bytes from `at` on begins an octet or a formatting
+/// character.
 #[inline(always)]
-fn is_plain_block(bytes: &[u8], at: usize) -> bool
+fn is_literal_block(bytes: &[u8], at: usize) -> bool
     requires { at + LANES ≤ length bytes.now }
     ensures { result ≡ true → (k : ℕ) → k < 16
-        → is_plain_byte (slice_index bytes.now (at + k)) ≡ true }
+        → is_literal_byte (slice_index bytes.now (at + k)) ≡ true }
 {
-    let found = places_of(b'%', bytes, at) | places_of(0xE2, bytes, at);
+    let found = lanes_equal_to(b'%', bytes, at) | lanes_equal_to(0xE2, bytes, at);
     found == 0
 }
 
-/// Returns whether no byte begins one. The last sixteen bytes overlap those before.
-fn is_plain(bytes: &[u8]) -> bool
-    ensures { result ≡ true → IsPlain bytes.now }
+/// Returns whether no byte begins an octet or a formatting character. The last sixteen bytes
+/// overlap those before.
+fn is_literal(bytes: &[u8]) -> bool
+    ensures { result ≡ true → IsLiteral bytes.now }
 {
     if bytes.len() < LANES {
-        return bytes.iter().all(|byte| is_plain_byte(*byte));
+        return bytes.iter().all(|byte| is_literal_byte(*byte));
     }
     let last = bytes.len() - LANES;
     let mut i = 0;
     while i < last {
-        if !is_plain_block(bytes, i) {
+        if !is_literal_block(bytes, i) {
             return false;
         }
         i += LANES;
     }
-    is_plain_block(bytes, last)
+    is_literal_block(bytes, last)
 }
 
-/// Whether no ASCII letter is in upper case.
+/// Returns whether no ASCII letter is in upper case.
 fn is_lower(text: &str) -> bool
     ensures { result ≡ true → str_to_ascii_lowercase text.now ≡ text.now }
 {
     !text.as_bytes().iter().any(|byte| byte.is_ascii_uppercase())
 }
 
-/// Whether there is no scheme, or none that is lowered.
-fn keeps_scheme(scheme: Option<Scheme<'_>>) -> bool
+/// Returns whether normalising keeps the scheme: there is none, or it is in lower case.
+fn is_scheme_unchanged(scheme: Option<Scheme<'_>>) -> bool
     ensures { result ≡ true → normal_scheme (option_map scheme_text scheme.entry)
         ≡ option_map scheme_text scheme.entry }
 {
@@ -80,9 +83,11 @@ fn keeps_scheme(scheme: Option<Scheme<'_>>) -> bool
     }
 }
 
-/// Whether there is no authority, or one with a name in lower case and no port.
-fn keeps_authority<U: Encoder, R: Encoder>(authority: Option<Authority<'_, U, R>>) -> bool
-    ensures { result ≡ true → IfSome (option_map authority_text authority.entry) IsKeptAuthority }
+/// Returns `true` only if normalising keeps the authority: there is none, or it has a name in lower
+/// case as its host, and no port.
+fn is_authority_unchanged<U: Encoder, R: Encoder>(authority: Option<Authority<'_, U, R>>) -> bool
+    ensures { result ≡ true → IfSome (option_map authority_text authority.entry)
+        IsUnchangedAuthority }
 {
     let Some(authority) = authority else {
         return true;
@@ -91,10 +96,10 @@ fn keeps_authority<U: Encoder, R: Encoder>(authority: Option<Authority<'_, U, R>
     !authority.has_port() && !is_bracketed(host) && is_lower(host)
 }
 
-/// Whether the path has no dot segments, or none that are removed.
-fn keeps_path(has_scheme: bool, path: &str) -> bool
+/// Returns `true` only if normalising removes no dot segment of the path.
+fn is_path_unchanged(has_scheme: bool, path: &str) -> bool
     ensures { result ≡ true → (scheme : Option (List ℕ)) → is_some scheme ≡ has_scheme
-        → IsKeptPath scheme path.now }
+        → IsUnchangedPath scheme path.now }
 {
     if !has_scheme || !begins_with_slash(path.as_bytes()) {
         return true;
@@ -114,19 +119,22 @@ pub(crate) fn is_unchanged<K: Kind>(core: Core<K, &str>) -> bool
     if path.len() > LANES && len_before_slash_dot(path.as_bytes(), 0) < LANES {
         return false;
     }
-    if !is_plain(core.as_str().as_bytes())
-        || !keeps_scheme(core.scheme())
-        || !keeps_authority(core.authority())
+    if !is_literal(core.as_str().as_bytes())
+        || !is_scheme_unchanged(core.scheme())
+        || !is_authority_unchanged(core.authority())
     {
         return false;
     }
-    keeps_path(core.has_scheme(), path)
+    is_path_unchanged(core.has_scheme(), path)
 }
 
-/// A copy of the text with its positions.
-pub(crate) fn copied<K: Kind>(alloc: Global, core: Core<K, &str>) -> Result<Normalized, AllocError>
+/// Returns a copy of the text with its positions.
+pub(crate) fn copy_unchanged<K: Kind>(
+    alloc: Global,
+    core: Core<K, &str>,
+) -> Result<Normalized, AllocError>
     ensures text { IfOk result (λ made. string_bytes made.text ≡ core_text core.entry) }
-    ensures at { IfOk result (λ made. AreAt (string_bytes made.text) made.positions) }
+    ensures at { IfOk result (λ made. ArePositionsOf (string_bytes made.text) made.positions) }
     ensures underflow { IfOk result (λ made. made.underflows ≡ false) }
 {
     Ok(Normalized {

@@ -3,27 +3,27 @@ ghost use Rattle.std.specs.Prelude.{◌≡◌, ◌≤◌, ◌<◌, ◌++◌, ◌
 ghost use Rattle.std.specs.Prelude.{drop, take, string_bytes};
 ghost use Rattle.std.specs.Str.{IsCharBoundary};
 ghost use Rattle.uri_pct.specs.Texts.{Pushes};
-ghost use Rattle.uri_parts.specs.Components.{IsRooted};
-ghost use Rattle.uri_ops.specs.Models.Directories.{IsLeft, IsPlainDirectory, parent_directory};
-ghost use Rattle.uri_ops.specs.Models.LeadingSegments.{IsNoDots};
-ghost use Rattle.uri_ops.specs.Models.SegmentModes.{IsInPieces, in_pieces};
-ghost use Rattle.uri_ops.specs.Models.Places.{IsSlashOrAt};
+ghost use Rattle.uri_parts.specs.Components.{IsAbemptyPath};
+ghost use Rattle.uri_ops.specs.Models.Directories.{RemovalState, IsDotlessDirectory};
+ghost use Rattle.uri_ops.specs.Models.Directories.{parent_directory};
+ghost use Rattle.uri_ops.specs.Models.LeadingSegments.{BeginsWithoutDotSegment};
+ghost use Rattle.uri_ops.specs.Models.SegmentModes.{IsTextForMode, text_by_mode};
+ghost use Rattle.uri_ops.specs.Models.Places.{IsSlashOrStart};
 ghost use Rattle.uri_ops.specs.Dots.{EndsInSlash, IsAbsolute, before_last_slash, directory};
 ghost use Rattle.uri_ops.specs.Dots.{has_slash, is_double_dot, is_empty, lacks_dot_segments};
 ghost use Rattle.uri_ops.specs.Dots.{remove_dot_segments, underflows};
 ghost use Rattle.uri_ops.specs.Target.{merged};
 
 use crate::path::leading_segment::{
-    Leading, begins_with_dot, is_double_dot, leading_dots, undotted_len,
+    LeadingDots, begins_with_dot, dotless_prefix_len, is_double_dot, leading_dot_segment,
 };
 use crate::path::segment_mode::SegmentMode;
 use std::alloc::AllocError;
-use uri_pct::lanes::LANES;
-use uri_pct::search::places_of;
+use uri_pct::lanes::{LANES, lanes_equal_to};
 
-/// Returns the end of what is left of a text without its last blocks of sixteen bytes that have no
-/// `/`. Blocks are counted from the end back to `start`.
-fn end_of_slashes(bytes: &[u8], start: usize) -> usize
+/// Returns the end of the last block of sixteen bytes that has a `/`, or of the bytes that are left
+/// at `start`. Blocks are counted from the end of the text back to `start`.
+fn end_of_last_block_with_slash(bytes: &[u8], start: usize) -> usize
     requires { start ≤ length bytes.now }
     ensures from { start ≤ result }
     ensures within { result ≤ length bytes.now }
@@ -31,7 +31,7 @@ fn end_of_slashes(bytes: &[u8], start: usize) -> usize
 {
     let mut left = bytes.len();
     while left - start >= LANES {
-        if places_of(b'/', bytes, left - LANES) != 0 {
+        if lanes_equal_to(b'/', bytes, left - LANES) != 0 {
             return left;
         }
         left -= LANES;
@@ -42,14 +42,14 @@ fn end_of_slashes(bytes: &[u8], start: usize) -> usize
 /// Returns the position of the last `/` that is not before `start`, or `start` if there is none.
 /// The text has none from `limit` on.
 #[inline(always)]
-fn slash_before(bytes: &[u8], start: usize, limit: usize) -> usize
+fn last_slash_before(bytes: &[u8], start: usize, limit: usize) -> usize
     requires from { start ≤ limit }
     requires within { limit ≤ length bytes.now }
     requires none { has_slash (drop limit bytes.now) ≡ false }
-    ensures front { take result bytes.now
+    ensures prefix { take result bytes.now
         ≡ take start bytes.now ++ before_last_slash (drop start bytes.now) }
     ensures last { has_slash (drop (result + 1) bytes.now) ≡ false }
-    ensures place { IsSlashOrAt bytes.now start result }
+    ensures place { IsSlashOrStart bytes.now start result }
 {
     let mut end = limit;
     while start < end {
@@ -65,41 +65,42 @@ fn slash_before(bytes: &[u8], start: usize, limit: usize) -> usize
 /// searches sixteen bytes at a time.
 pub(crate) fn last_slash(bytes: &[u8], start: usize) -> usize
     requires { start ≤ length bytes.now }
-    ensures front { take result bytes.now
+    ensures prefix { take result bytes.now
         ≡ take start bytes.now ++ before_last_slash (drop start bytes.now) }
     ensures last { has_slash (drop (result + 1) bytes.now) ≡ false }
-    ensures place { IsSlashOrAt bytes.now start result }
+    ensures place { IsSlashOrStart bytes.now start result }
 {
-    slash_before(bytes, start, end_of_slashes(bytes, start))
+    last_slash_before(bytes, start, end_of_last_block_with_slash(bytes, start))
 }
 
-/// The same, looked for byte by byte: most segments are short.
-fn near_slash(bytes: &[u8], start: usize) -> usize
+/// Returns the position of the last `/` that is not before `start`, or `start` if there is none. It
+/// searches byte by byte, since most segments are short.
+fn last_slash_bytewise(bytes: &[u8], start: usize) -> usize
     requires { start ≤ length bytes.now }
-    ensures front { take result bytes.now
+    ensures prefix { take result bytes.now
         ≡ take start bytes.now ++ before_last_slash (drop start bytes.now) }
-    ensures place { IsSlashOrAt bytes.now start result }
+    ensures place { IsSlashOrStart bytes.now start result }
 {
-    slash_before(bytes, start, bytes.len())
+    last_slash_before(bytes, start, bytes.len())
 }
 
 /// Cuts off the last segment of the directory that is in `out` from `start` on, with the `/`
 /// after it, and returns whether there is none.
 fn pop_segment(start: usize, out: &mut String) -> bool
-    requires { IsPlainDirectory (drop start (string_bytes out.old)) }
+    requires { IsDotlessDirectory (drop start (string_bytes out.old)) }
     ensures bytes { string_bytes out.new
         ≡ take start (string_bytes out.old)
         ++ parent_directory (drop start (string_bytes out.old)) }
     ensures none { result ≡ is_empty (before_last_slash (drop start (string_bytes out.old))) }
 {
     let end = out.len() - 1;
-    let slash = near_slash(&out.as_bytes()[..end], start);
+    let slash = last_slash_bytewise(&out.as_bytes()[..end], start);
     out.truncate(slash + 1);
     end == start
 }
 
-/// Whether a path that begins with `/` has a dot segment (RFC 3986, section 3.3). A dot counts
-/// percent-encoded too.
+/// Returns whether a path that begins with `/` has a dot segment (RFC 3986, section 3.3). A dot
+/// counts percent-encoded too.
 pub(crate) fn has_dot_segments(path: &str) -> bool
     requires { IsAbsolute path.now }
     ensures { result ≡ false → lacks_dot_segments path.now ≡ true }
@@ -107,9 +108,9 @@ pub(crate) fn has_dot_segments(path: &str) -> bool
     let mut done = 1;
     while done < path.len() {
         let rest = &path[done..];
-        match leading_dots(rest) {
-            Leading::NoDots => done += undotted_len(rest),
-            Leading::SingleDot(_) | Leading::DoubleDot(_) => return true,
+        match leading_dot_segment(rest) {
+            LeadingDots::NoDots => done += dotless_prefix_len(rest),
+            LeadingDots::SingleDot(_) | LeadingDots::DoubleDot(_) => return true,
         }
     }
     false
@@ -127,27 +128,27 @@ pub(crate) fn push_segments(
     start: usize,
     out: &mut String,
 ) -> Result<bool, AllocError>
-    requires directory { IsPlainDirectory (drop start (string_bytes out.old)) }
-    requires pieces { IsInPieces pieces path.now }
+    requires directory { IsDotlessDirectory (drop start (string_bytes out.old)) }
+    requires pieces { IsTextForMode pieces path.now }
     ensures before { IfOk result (λ _.
         take start (string_bytes out.new) ≡ take start (string_bytes out.old)) }
     ensures text { IfOk result (λ _. drop start (string_bytes out.new)
         ≡ remove_dot_segments
-        (drop start (string_bytes out.old) ++ in_pieces pieces.entry path.now)) }
+        (drop start (string_bytes out.old) ++ text_by_mode pieces.entry path.now)) }
     ensures underflow { IfOk result (λ underflowed. underflowed
-        ≡ underflows (drop start (string_bytes out.old) ++ in_pieces pieces.entry path.now)) }
+        ≡ underflows (drop start (string_bytes out.old) ++ text_by_mode pieces.entry path.now)) }
 {
     let mut underflowed = false;
     let mut rest = path;
     while !rest.is_empty() {
-        match leading_dots(rest) {
-            Leading::SingleDot(next) => rest = &rest[next..],
-            Leading::DoubleDot(next) => {
+        match leading_dot_segment(rest) {
+            LeadingDots::SingleDot(next) => rest = &rest[next..],
+            LeadingDots::DoubleDot(next) => {
                 underflowed |= pop_segment(start, out);
                 rest = &rest[next..];
             }
-            Leading::NoDots => {
-                let next = undotted_len(rest);
+            LeadingDots::NoDots => {
+                let next = dotless_prefix_len(rest);
                 pieces.push(&rest[..next], out)?;
                 rest = &rest[next..];
             }
@@ -169,12 +170,12 @@ pub fn push_without_dot_segments(path: &str, out: &mut String) -> Result<bool, A
     ensures underflow { IfOk result (λ underflowed. underflowed ≡ underflows path.now) }
 {
     let start = out.len();
-    let plain = undotted_len(path);
-    out.push_str(&path[..plain])?;
-    if plain == path.len() {
+    let dotless = dotless_prefix_len(path);
+    out.push_str(&path[..dotless])?;
+    if dotless == path.len() {
         return Ok(false);
     }
-    let underflowed = push_segments(SegmentMode::Copied, &path[plain..], start, out)?;
+    let underflowed = push_segments(SegmentMode::Copied, &path[dotless..], start, out)?;
     Ok(underflowed)
 }
 
@@ -197,9 +198,9 @@ fn directory_end(path: &str) -> usize
     slash + 1
 }
 
-/// The path, or `/` for an empty one, which has the same directory.
-fn root_or(path: &str) -> &str
-    requires { IsRooted path.now }
+/// Returns the path, or `/` for an empty one, which has the same directory.
+fn path_or_slash(path: &str) -> &str
+    requires { IsAbemptyPath path.now }
     ensures absolute { IsAbsolute result.now }
     ensures directory { directory result.now ≡ directory path.now }
 {
@@ -208,20 +209,20 @@ fn root_or(path: &str) -> &str
 
 /// Returns `true` only if a path is a directory without dot segments. It looks only at where
 /// segments begin.
-fn is_plain_directory(path: &str) -> bool
+fn is_dotless_directory(path: &str) -> bool
     requires { IsAbsolute path.now }
-    ensures { result ≡ true → IsPlainDirectory path.now }
+    ensures { result ≡ true → IsDotlessDirectory path.now }
 {
-    path.as_bytes()[path.len() - 1] == b'/' && undotted_len(path) == path.len()
+    path.as_bytes()[path.len() - 1] == b'/' && dotless_prefix_len(path) == path.len()
 }
 
-/// The parent of a directory; that of `/` is `/`.
+/// Returns the parent of a directory; that of `/` is `/`.
 fn parent(directory: &str) -> &str
-    requires { IsPlainDirectory directory.now }
+    requires { IsDotlessDirectory directory.now }
     ensures { result.now ≡ parent_directory directory.now }
 {
     let end = directory.len() - 1;
-    let slash = near_slash(&directory.as_bytes()[..end], 0);
+    let slash = last_slash_bytewise(&directory.as_bytes()[..end], 0);
     &directory[..slash + 1]
 }
 
@@ -229,34 +230,36 @@ fn parent(directory: &str) -> &str
 /// the directory, what is left of the reference, and whether a double dot had nothing left to
 /// remove.
 #[inline(always)]
-fn seam<'a>(directory: &'a str, reference: &'a str) -> (&'a str, &'a str, bool)
-    requires { IsPlainDirectory directory.now }
-    ensures kept { IsPlainDirectory result.0.now }
-    ensures first { IsNoDots result.1.now }
-    ensures left { IsLeft (directory.now ++ reference.now) result.0.now result.1.now result.2 }
+fn follow_leading_dots<'a>(directory: &'a str, reference: &'a str) -> (&'a str, &'a str, bool)
+    requires { IsDotlessDirectory directory.now }
+    ensures kept { IsDotlessDirectory result.0.now }
+    ensures first { BeginsWithoutDotSegment result.1.now }
+    ensures left { RemovalState (directory.now ++ reference.now) result.0.now
+        result.1.now result.2 }
 {
     let mut kept = directory;
     let mut rest = reference;
     let mut underflowed = false;
     while begins_with_dot(rest.as_bytes()) {
-        match leading_dots(rest) {
-            Leading::SingleDot(next) => rest = &rest[next..],
-            Leading::DoubleDot(next) => {
+        match leading_dot_segment(rest) {
+            LeadingDots::SingleDot(next) => rest = &rest[next..],
+            LeadingDots::DoubleDot(next) => {
                 underflowed |= kept.len() == 1;
                 kept = parent(kept);
                 rest = &rest[next..];
             }
-            Leading::NoDots => return (kept, rest, underflowed),
+            LeadingDots::NoDots => return (kept, rest, underflowed),
         }
     }
     (kept, rest, underflowed)
 }
 
-/// Appends segments like `push_segments`. The first is no dot segment.
+/// Appends the segments of a path without dot segments, where the first is none, to the directory
+/// that is in `out` from `start` on. Returns whether a double dot had nothing left to remove.
 #[inline(always)]
-fn push_from_plain(path: &str, start: usize, out: &mut String) -> Result<bool, AllocError>
-    requires directory { IsPlainDirectory (drop start (string_bytes out.old)) }
-    requires first { IsNoDots path.now }
+fn push_after_first_segment(path: &str, start: usize, out: &mut String) -> Result<bool, AllocError>
+    requires directory { IsDotlessDirectory (drop start (string_bytes out.old)) }
+    requires first { BeginsWithoutDotSegment path.now }
     ensures before { IfOk result (λ _.
         take start (string_bytes out.new) ≡ take start (string_bytes out.old)) }
     ensures text { IfOk result (λ _. drop start (string_bytes out.new)
@@ -267,28 +270,32 @@ fn push_from_plain(path: &str, start: usize, out: &mut String) -> Result<bool, A
     if path.is_empty() {
         return Ok(false);
     }
-    let front = undotted_len(path);
-    out.push_str(&path[..front])?;
-    if front == path.len() {
+    let prefix = dotless_prefix_len(path);
+    out.push_str(&path[..prefix])?;
+    if prefix == path.len() {
         return Ok(false);
     }
-    let underflowed = push_segments(SegmentMode::Copied, &path[front..], start, out)?;
+    let underflowed = push_segments(SegmentMode::Copied, &path[prefix..], start, out)?;
     Ok(underflowed)
 }
 
-/// Appends a reference's path after a directory without dot segments like `push_merged`. What the
-/// dot segments at its beginning remove of the directory is not appended.
-fn push_behind(directory: &str, reference: &str, out: &mut String) -> Result<bool, AllocError>
-    requires { IsPlainDirectory directory.now }
+/// Appends a reference's path after a directory that has no dot segments, without its dot segments.
+/// What those at its beginning remove of the directory is not appended.
+fn push_after_directory(
+    directory: &str,
+    reference: &str,
+    out: &mut String,
+) -> Result<bool, AllocError>
+    requires { IsDotlessDirectory directory.now }
     ensures text { OnOk result (Pushes out.old out.new
         (remove_dot_segments (directory.now ++ reference.now))) }
     ensures underflow { IfOk result (λ underflowed. underflowed
         ≡ underflows (directory.now ++ reference.now)) }
 {
-    let (kept, rest, underflowed) = seam(directory, reference);
+    let (kept, rest, underflowed) = follow_leading_dots(directory, reference);
     let start = out.len();
     out.push_str(kept)?;
-    let of_rest = push_from_plain(rest, start, out)?;
+    let of_rest = push_after_first_segment(rest, start, out)?;
     Ok(underflowed | of_rest)
 }
 
@@ -296,16 +303,16 @@ fn push_behind(directory: &str, reference: &str, out: &mut String) -> Result<boo
 /// without dot segments. Returns whether a double dot had nothing left to remove. The two paths are
 /// scanned one after the other, and never joined.
 pub(crate) fn push_merged(base: &str, reference: &str, out: &mut String) -> Result<bool, AllocError>
-    requires { IsRooted base.now }
+    requires { IsAbemptyPath base.now }
     ensures text { OnOk result (Pushes out.old out.new
         (remove_dot_segments (merged base.now reference.now))) }
     ensures underflow { IfOk result (λ underflowed. underflowed
         ≡ underflows (merged base.now reference.now)) }
 {
-    let base = root_or(base);
+    let base = path_or_slash(base);
     let directory = &base[..directory_end(base)];
-    if is_plain_directory(directory) {
-        return push_behind(directory, reference, out);
+    if is_dotless_directory(directory) {
+        return push_after_directory(directory, reference, out);
     }
     let start = out.len();
     let of_base = push_without_dot_segments(directory, out)?;

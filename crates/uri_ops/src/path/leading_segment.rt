@@ -4,17 +4,19 @@ ghost use Rattle.std.specs.Prelude.{◌≡◌, ◌≤◌, ◌<◌, ◌==◌, ◌
 ghost use Rattle.std.specs.Prelude.{slice_index};
 ghost use Rattle.std.specs.Str.{IsCharBoundary};
 ghost use Rattle.uri_pct.specs.Delimiters.{full_stop, percent_sign, slash};
-ghost use Rattle.uri_parts.specs.Components.{IsRooted};
-ghost use Rattle.uri_ops.specs.Models.LeadingSegments.{IsBeforeDots, IsLeading, IsNoDots, IsPart};
-ghost use Rattle.uri_ops.specs.Models.LeadingSegments.{IsPlainFront, begins_with_dot, dot_len};
+ghost use Rattle.uri_parts.specs.Components.{IsAbemptyPath};
+ghost use Rattle.uri_ops.specs.Models.LeadingSegments.{IsPrefixToSlashDot, DescribesLeadingDots};
+ghost use Rattle.uri_ops.specs.Models.LeadingSegments.{BeginsWithoutDotSegment};
+ghost use Rattle.uri_ops.specs.Models.LeadingSegments.{HasLengthAtCharBoundary};
+ghost use Rattle.uri_ops.specs.Models.LeadingSegments.{IsDotlessPrefix, begins_with_dot, dot_len};
 ghost use Rattle.uri_ops.specs.Models.LeadingSegments.{ends_segment};
 ghost use Rattle.uri_ops.specs.Dots.{is_double_dot};
 
 use uri_pct::lanes::LANES;
 use uri_pct::search::len_before_slash_dot;
 
-/// How many bytes the dot takes that a text begins with, which may be percent-encoded; without a
-/// dot none.
+/// Returns how many bytes the dot takes that a text begins with, which may be percent-encoded;
+/// without a dot none.
 #[inline(always)]
 fn dot_len(text: &[u8]) -> usize
     ensures bytes { result ≡ dot_len text.now }
@@ -27,14 +29,14 @@ fn dot_len(text: &[u8]) -> usize
     }
 }
 
-/// Whether a segment ends before the text: it is empty or begins with `/`.
+/// Returns whether a segment ends before the text: it is empty or begins with `/`.
 fn ends_segment(text: &[u8]) -> bool
     ensures { result ≡ ends_segment text.now }
 {
     matches!(text, [] | [b'/', ..])
 }
 
-/// Whether a segment is `..`, where each dot may be percent-encoded.
+/// Returns whether a segment is `..`, where each dot may be percent-encoded.
 pub(crate) fn is_double_dot(segment: &str) -> bool
     ensures { result ≡ is_double_dot segment.now }
 {
@@ -47,7 +49,7 @@ pub(crate) fn is_double_dot(segment: &str) -> bool
     0 < second && first + second == bytes.len()
 }
 
-/// Whether a path begins with a dot or an octet, as each dot segment does.
+/// Returns whether a path begins with a dot or an octet, as each dot segment does.
 #[inline(always)]
 pub(crate) fn begins_with_dot(path: &[u8]) -> bool
     ensures { result ≡ begins_with_dot path.now }
@@ -55,7 +57,7 @@ pub(crate) fn begins_with_dot(path: &[u8]) -> bool
     matches!(path, [b'.' | b'%', ..])
 }
 
-/// Whether a dot segment begins with this byte.
+/// Returns whether a dot segment begins with this byte.
 fn is_dot_start(byte: u8) -> bool
     ensures { result ≡ (byte == full_stop || byte == percent_sign) }
 {
@@ -65,30 +67,31 @@ fn is_dot_start(byte: u8) -> bool
 /// Returns the length up to and with the first `/` that has a dot or an octet after it.
 ///
 /// The last window ends with the text and overlaps those before, which have no such `/`.
-fn long_undotted_len(bytes: &[u8]) -> usize
+fn long_dotless_prefix_len(bytes: &[u8]) -> usize
     requires { LANES < length bytes.now }
-    ensures { IsBeforeDots bytes.now result }
+    ensures { IsPrefixToSlashDot bytes.now result }
 {
     let last = bytes.len() - LANES - 1;
     let mut i = 0;
     while i < last {
-        let plain = len_before_slash_dot(bytes, i);
-        if plain < LANES {
-            return i + plain + 1;
+        let dotless = len_before_slash_dot(bytes, i);
+        if dotless < LANES {
+            return i + dotless + 1;
         }
         i += LANES;
     }
-    let plain = len_before_slash_dot(bytes, last);
-    last + plain + 1
+    let dotless = len_before_slash_dot(bytes, last);
+    last + dotless + 1
 }
 
-/// The same of a text that may be short.
-fn short_undotted_len(bytes: &[u8]) -> usize
+/// Returns the length up to and with the first `/` that has a dot or an octet after it, of a text
+/// that may be short.
+fn short_dotless_prefix_len(bytes: &[u8]) -> usize
     requires { 0 < length bytes.now }
-    ensures { IsBeforeDots bytes.now result }
+    ensures { IsPrefixToSlashDot bytes.now result }
 {
     if bytes.len() > LANES {
-        return long_undotted_len(bytes);
+        return long_dotless_prefix_len(bytes);
     }
     let mut i = 0;
     while i + 1 < bytes.len() {
@@ -102,21 +105,22 @@ fn short_undotted_len(bytes: &[u8]) -> usize
 
 /// Returns how many bytes come before the first segment that begins with a dot or an octet, as each
 /// dot segment does. The first segment is no dot segment.
-pub(crate) fn undotted_len(path: &str) -> usize
+pub(crate) fn dotless_prefix_len(path: &str) -> usize
     requires some { 0 < length path.now }
-    requires first { IsNoDots path.now }
-    ensures plain { IsPlainFront path.now result }
+    requires first { BeginsWithoutDotSegment path.now }
+    ensures dotless { IsDotlessPrefix path.now result }
     ensures some { 0 < result }
     ensures place { IsCharBoundary path.now result }
 {
-    short_undotted_len(path.as_bytes())
+    short_dotless_prefix_len(path.as_bytes())
 }
 
-/// Where the second segment begins, or the end of the path: after the `/` that may be at `end`.
+/// Returns where the second segment begins, or the end of the path: after the `/` that may be at
+/// `end`.
 #[inline(always)]
-fn next_segment(path: &str, end: usize) -> usize
+fn next_segment_start(path: &str, end: usize) -> usize
     requires within { end ≤ length path.now }
-    requires behind { IsRooted (drop end path.now) }
+    requires suffix { IsAbemptyPath (drop end path.now) }
     ensures rest { drop result path.now ≡ drop 1 (drop end path.now) }
     ensures place { IsCharBoundary path.now result }
     ensures from { end ≤ result }
@@ -125,7 +129,7 @@ fn next_segment(path: &str, end: usize) -> usize
 }
 
 /// The dot segment that a path begins with, and how many bytes that takes, with the `/` after it.
-pub(crate) enum Leading {
+pub(crate) enum LeadingDots {
     /// A single dot.
     SingleDot(usize),
     /// A double dot.
@@ -135,35 +139,35 @@ pub(crate) enum Leading {
 }
 
 /// Returns the dot segment that a path begins with, if any, by the dots at its start.
-fn leading_segment(path: &str) -> Leading
+fn leading_segment(path: &str) -> LeadingDots
     requires { 0 < length path.now }
-    ensures leading { IsLeading path.now result }
-    ensures part { IsPart path.now result }
+    ensures leading { DescribesLeadingDots path.now result }
+    ensures part { HasLengthAtCharBoundary path.now result }
 {
     let bytes = path.as_bytes();
     let first = dot_len(bytes);
     let second = dot_len(&bytes[first..]);
     let end = first + second;
     if end == 0 || !ends_segment(&bytes[end..]) {
-        return Leading::NoDots;
+        return LeadingDots::NoDots;
     }
-    let next = next_segment(path, end);
+    let next = next_segment_start(path, end);
     if second == 0 {
-        return Leading::SingleDot(next);
+        return LeadingDots::SingleDot(next);
     }
-    Leading::DoubleDot(next)
+    LeadingDots::DoubleDot(next)
 }
 
-/// Whether the first segment is `.`.
-fn is_first_dot(path: &[u8]) -> bool
+/// Returns whether the first segment is `.`.
+fn begins_with_single_dot_segment(path: &[u8]) -> bool
     ensures { result ≡ (slice_index path.now 0 == full_stop
         && (length path.now == 1 || slice_index path.now 1 == slash)) }
 {
     matches!(path, [b'.'] | [b'.', b'/', ..])
 }
 
-/// Whether the first segment is `..`.
-fn is_first_double_dot(path: &[u8]) -> bool
+/// Returns whether the first segment is `..`.
+fn begins_with_double_dot_segment(path: &[u8]) -> bool
     ensures { result ≡ (slice_index path.now 0 == full_stop && slice_index path.now 1 == full_stop
         && (length path.now == 2 || slice_index path.now 2 == slash)) }
 {
@@ -172,20 +176,20 @@ fn is_first_double_dot(path: &[u8]) -> bool
 
 /// Returns the dot segment that a path begins with, if any. It tests literal dots first.
 #[inline(always)]
-pub(crate) fn leading_dots(path: &str) -> Leading
+pub(crate) fn leading_dot_segment(path: &str) -> LeadingDots
     requires { 0 < length path.now }
-    ensures leading { IsLeading path.now result }
-    ensures part { IsPart path.now result }
+    ensures leading { DescribesLeadingDots path.now result }
+    ensures part { HasLengthAtCharBoundary path.now result }
 {
     let bytes = path.as_bytes();
-    if is_first_double_dot(bytes) {
-        return Leading::DoubleDot(next_segment(path, 2));
+    if begins_with_double_dot_segment(bytes) {
+        return LeadingDots::DoubleDot(next_segment_start(path, 2));
     }
-    if is_first_dot(bytes) {
-        return Leading::SingleDot(next_segment(path, 1));
+    if begins_with_single_dot_segment(bytes) {
+        return LeadingDots::SingleDot(next_segment_start(path, 1));
     }
     if begins_with_dot(bytes) {
         return leading_segment(path);
     }
-    Leading::NoDots
+    LeadingDots::NoDots
 }

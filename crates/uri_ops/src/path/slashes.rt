@@ -7,7 +7,7 @@ ghost use Rattle.uri_ops.specs.Target.{guarded};
 
 use std::alloc::AllocError;
 
-/// Whether a path begins with `/`.
+/// Returns whether a path begins with `/`.
 pub fn begins_with_slash(path: &[u8]) -> bool
     ensures { result ≡ starts slash path.now }
 {

@@ -5,7 +5,8 @@ ghost use Rattle.std.specs.Prelude.{is_some, option_map};
 ghost use Rattle.std.specs.Str.{IsUtf8};
 ghost use Rattle.uri_parts.specs.Components.{components, marked};
 ghost use Rattle.uri_parts.specs.Grammar.{IsOfKind};
-ghost use Rattle.uri_parts.specs.Positions.{AreAt, authority_at, host_end_of, positions_of};
+ghost use Rattle.uri_parts.specs.Positions.{ArePositionsOf, authority_at, host_end_of};
+ghost use Rattle.uri_parts.specs.Positions.{positions_of};
 
 use crate::traits::RiMaybeRef;
 use uri_parts::positions::{AuthorityPositions, Positions};
@@ -15,7 +16,7 @@ use uri_parts::positions::{AuthorityPositions, Positions};
 pub struct TextView<'a> {
     text: &'a str,
     positions: Positions,
-    pub ghost at: { AreAt text.now positions },
+    pub ghost at: { ArePositionsOf text.now positions },
     pub ghost host: { (a : List ℕ) → (components text.now).authority ≡ Some a
         → host_end_of a ≤ length a },
 }
@@ -23,7 +24,7 @@ pub struct TextView<'a> {
 impl<'a> TextView<'a> {
     ghost use Rattle.std.specs.Prelude.{take};
     ghost use Rattle.uri_ops.specs.Dots.{IsAbsolute};
-    ghost use Rattle.uri_ops.specs.Models.Places.{IsSlashOrAt, before_path};
+    ghost use Rattle.uri_ops.specs.Models.Places.{IsSlashOrStart, before_path};
     ghost use Rattle.uri_ops.specs.Resolving.{components_of};
 
     /// The text of a value of a kind.
@@ -39,56 +40,56 @@ impl<'a> TextView<'a> {
         }
     }
 
-    /// The text.
+    /// Returns the text that is viewed.
     pub(crate) fn as_str(&self) -> &'a str
         ensures text { result.now ≡ self.now.text.now }
-        ensures at { AreAt result.now self.now.positions }
+        ensures at { ArePositionsOf result.now self.now.positions }
     {
         self.text
     }
 
-    /// How long the text is.
+    /// Returns how long the text is, in bytes.
     pub(crate) fn len(&self) -> usize {
         self.text.len()
     }
 
-    /// Whether there is a scheme.
+    /// Returns whether the text has a scheme.
     pub(crate) fn has_scheme(&self) -> bool
         ensures { result ≡ is_some (components_of self.now).scheme }
     {
         self.positions.has_scheme(self.text)
     }
 
-    /// Whether there is an authority.
+    /// Returns whether the text has an authority.
     pub(crate) fn has_authority(&self) -> bool
         ensures { result ≡ is_some (components_of self.now).authority }
     {
         self.positions.has_authority(self.text)
     }
 
-    /// Whether there is a query.
+    /// Returns whether the text has a query.
     pub(crate) fn has_query(&self) -> bool
         ensures { result ≡ is_some (components_of self.now).query }
     {
         self.positions.has_query(self.text)
     }
 
-    /// Whether there is a fragment.
+    /// Returns whether the text has a fragment.
     pub(crate) fn has_fragment(&self) -> bool
         ensures { result ≡ is_some (components_of self.now).fragment }
     {
         self.positions.has_fragment(self.text)
     }
 
-    /// The path.
+    /// Returns the path of the text, which may be empty.
     pub(crate) fn path(&self) -> &'a str
         ensures { result.now ≡ (components_of self.now).path }
     {
         self.positions.path(self.text)
     }
 
-    /// The scheme with its `:`, or no text.
-    pub(crate) fn marked_scheme(&self) -> &'a str
+    /// Returns the scheme with its `:`, or no text.
+    pub(crate) fn scheme_with_delimiter(&self) -> &'a str
         ensures { result.now ≡ marked [] (components_of self.now).scheme (codes ":") }
     {
         let text = self.as_str();
@@ -98,7 +99,7 @@ impl<'a> TextView<'a> {
         }
     }
 
-    /// The scheme and the authority with their marks: what is before the path.
+    /// Returns the scheme and the authority with their marks: what is before the path.
     pub(crate) fn before_path(&self) -> &'a str
         ensures { result.now ≡ before_path (components_of self.now) }
     {
@@ -106,10 +107,10 @@ impl<'a> TextView<'a> {
         &text[..self.positions.path_start]
     }
 
-    /// The text up to the last `/` of its path, and with it.
+    /// Returns the text up to the last `/` of its path, and with it.
     pub(crate) fn through_slash(&self, slash: usize) -> &'a str
         requires absolute { IsAbsolute (components_of self.now).path }
-        requires place { IsSlashOrAt (components_of self.now).path 0 slash }
+        requires place { IsSlashOrStart (components_of self.now).path 0 slash }
         ensures { let p = components_of self.now in
             result.now ≡ before_path p ++ take (slash + 1) p.path }
     {
@@ -117,7 +118,7 @@ impl<'a> TextView<'a> {
         &text[..self.positions.path_start + slash + 1]
     }
 
-    /// The text up to the end of its path.
+    /// Returns the text up to the end of its path.
     pub(crate) fn through_path(&self) -> &'a str
         ensures { let p = components_of self.now in result.now ≡ before_path p ++ p.path }
     {
@@ -125,7 +126,7 @@ impl<'a> TextView<'a> {
         &text[..self.positions.path_end]
     }
 
-    /// The text up to its fragment.
+    /// Returns the text up to its fragment.
     pub(crate) fn before_fragment(&self) -> &'a str
         ensures { let p = components_of self.now in
             result.now ≡ (before_path p ++ p.path) ++ marked (codes "?") p.query [] }
@@ -134,8 +135,8 @@ impl<'a> TextView<'a> {
         &text[..self.positions.before_fragment()]
     }
 
-    /// The query and the fragment with their marks: what is after the path.
-    pub(crate) fn behind_path(&self) -> &'a str
+    /// Returns the query and the fragment with their marks: what is after the path.
+    pub(crate) fn after_path(&self) -> &'a str
         ensures { let p = components_of self.now in result.now
             ≡ marked (codes "?") p.query [] ++ marked (codes "#") p.fragment [] }
     {
@@ -143,57 +144,57 @@ impl<'a> TextView<'a> {
         &text[self.positions.path_end..]
     }
 
-    /// The query with its `?`, or no text.
-    pub(crate) fn marked_query(&self) -> &'a str
+    /// Returns the query with its `?`, or no text.
+    pub(crate) fn query_with_delimiter(&self) -> &'a str
         ensures { result.now ≡ marked (codes "?") (components_of self.now).query [] }
     {
         let text = self.as_str();
         &text[self.positions.path_end..self.positions.before_fragment()]
     }
 
-    /// The fragment with its `#`, or no text.
-    pub(crate) fn marked_fragment(&self) -> &'a str
+    /// Returns the fragment with its `#`, or no text.
+    pub(crate) fn fragment_with_delimiter(&self) -> &'a str
         ensures { result.now ≡ marked (codes "#") (components_of self.now).fragment [] }
     {
         let text = self.as_str();
         &text[self.positions.before_fragment()..]
     }
 
-    /// Where its components are.
+    /// Returns the positions of the components of the text.
     pub(crate) fn positions(&self) -> Positions
         ensures { result ≡ positions_of (components_of self.now) }
     {
         self.positions
     }
 
-    /// Where the scheme ends, if there is one.
+    /// Returns where the scheme ends, if there is one.
     pub(crate) fn scheme_end(&self) -> Option<usize>
         ensures { result ≡ option_map length (components_of self.now).scheme }
     {
         self.positions.scheme_end
     }
 
-    /// Where the authority is, if there is one.
+    /// Returns where the authority is, if there is one.
     pub(crate) fn authority(&self) -> Option<AuthorityPositions>
         ensures { result ≡ (positions_of (components_of self.now)).authority }
     {
         self.positions.authority
     }
 
-    /// Where the authority is, if there is one, when what is before the path is after
-    /// this scheme with its `:`.
-    pub(crate) fn authority_behind(&self, scheme: &str) -> Option<AuthorityPositions>
+    /// Returns where the authority is, if there is one, when what is before the path is after this
+    /// scheme with its `:`.
+    pub(crate) fn authority_after(&self, scheme: &str) -> Option<AuthorityPositions>
         requires { (components_of self.now).scheme ≡ None }
         ensures { result ≡ option_map (authority_at (length scheme.now + 2))
             (components_of self.now).authority }
     {
         let places = self.positions.authority?;
-        Some(moved(places, self.before_path(), scheme))
+        Some(shift_authority(places, self.before_path(), scheme))
     }
 }
 
-/// Where an authority is that ends a text, when that is after a scheme with its `:`.
-fn moved(places: AuthorityPositions, text: &str, scheme: &str) -> AuthorityPositions
+/// Returns where an authority is that ends a text, when that is after a scheme with its `:`.
+fn shift_authority(places: AuthorityPositions, text: &str, scheme: &str) -> AuthorityPositions
     requires start { places.start ≤ places.end }
     requires host_start { places.host_start ≤ places.end }
     requires host_end { places.host_end ≤ places.end }

@@ -2,17 +2,19 @@
 use Rattle.std.proofs.Common.{◌≡◌, ℕ, ◌+◌, not, List, length, drop}
 use Rattle.uri_parts.specs.Components.{before_any}
 use Rattle.uri_pct.specs.Sets.{is_one_of}
-use Rattle.uri_pct.proofs.ValidTexts.Cuts.{to_mark}
+use Rattle.uri_pct.proofs.ValidTexts.MarksInTexts.{length_before_marks}
 use Rattle.std.proofs.lemmas.List.Folds.{length-prefix_len}
 use Rattle.std.proofs.lemmas.List.{drop-drop}
 
-pub length-before : (marks text : List ℕ) → length (before_any marks text) ≡ to_mark marks text
-length-before marks text = length-prefix_len (λ c. not (is_one_of marks c)) text
+-- splitting: the length of what is before the first delimiter is the position of the delimiter
+pub length-of-text-before-marks : (marks text : List ℕ) → length (before_any marks text)
+    ≡ length_before_marks marks text
+length-of-text-before-marks marks text = length-prefix_len (λ c. not (is_one_of marks c)) text
 
--- what is passed in two steps
-pub behind : (n k : ℕ) (bs : List ℕ) → drop k (drop n bs) ≡ drop (n + k) bs
-behind n k bs = drop-drop k n bs
+-- general fact on lists, for parsing an authority: what is passed in two steps
+pub suffix : (n k : ℕ) (bs : List ℕ) → drop k (drop n bs) ≡ drop (n + k) bs
+suffix n k bs = drop-drop k n bs
 
--- after a mark, and what is passed there
-pub behind_mark : (k : ℕ) (bs : List ℕ) → drop k (drop 1 bs) ≡ drop (1 + k) bs
-behind_mark k bs = drop-drop k 1 bs
+-- general fact on lists, for parsing an authority: one byte, and then k, are passed
+pub drop-after-drop-of-one : (k : ℕ) (bs : List ℕ) → drop k (drop 1 bs) ≡ drop (1 + k) bs
+drop-after-drop-of-one k bs = drop-drop k 1 bs

@@ -12,7 +12,7 @@ use Rattle.std.proofs.lemmas.Str.{IsCharBoundary-before_ascii}
 use Rattle.std.proofs.lemmas.Bool.{and_parts, ne_eqb, and_from, or_right, cond-true, cond-false}
 use Rattle.std.proofs.lemmas.Slice.Eq.{bytes_eq-Decides}
 use Rattle.uri_pct.specs.Sets.{TableSet, digit_set}
-use Rattle.uri_pct.specs.Tokens.{is_valid_for, tokens_of, IsValidFor}
+use Rattle.uri_pct.specs.Tokens.{is_valid_for, tokens_from_chars, IsValidFor}
 use Rattle.uri_parts.specs.Components.{marked}
 use Rattle.std.specs.Str.{chars}
 use Rattle.uri_parts.specs.Components.{starts}
@@ -20,19 +20,21 @@ use Rattle.uri_parts.specs.Hosts.{is_host, host_kind, name_kind, literal_kind, l
 use Rattle.uri_parts.specs.Hosts.{ipv4_value, ipv6_value}
 use Rattle.uri_parts.specs.Authority.{AuthorityParts, recompose_authority, authority_parts}
 use Rattle.uri_parts.specs.Authority.{is_authority_for}
-use Rattle.uri_parts.specs.Positions.{host_start_of, host_end_of, marked_length}
-use Rattle.uri_parts.proofs.Splitting.Places.{range-between, get-seam, after_mark}
+use Rattle.uri_parts.specs.Positions.{host_start_of, host_end_of, delimited_length}
+use Rattle.uri_parts.proofs.Splitting.Places.{slice-between-prefix-and-suffix, get_or-after-prefix}
+use Rattle.uri_parts.proofs.Splitting.Places.{boundary_after_mark}
 use Rattle.std.proofs.lemmas.List.{drop-drop}
 
 -- what the test of an authority says of its parts
-pub record Holds (users names : TableSet) (text : List ℕ) : Type 0 where
+pub record AuthorityMeetsRules (users names : TableSet) (text : List ℕ) : Type 0 where
   pub whole : recompose_authority (authority_parts text) ≡ text
   pub userinfo : option_map_or (is_valid_for users) (authority_parts text).userinfo true ≡ true
   pub host : is_host names (authority_parts text).host ≡ true
   pub port : option_map_or (is_valid_for digit_set) (authority_parts text).port true ≡ true
 
+-- authorities: one that passes its test meets the rules of its components
 pub holds : (users names : TableSet) (text : List ℕ) → is_authority_for users names text ≡ true
-    → Holds users names text
+    → AuthorityMeetsRules users names text
 unfolding is_authority_for
 holds users names text t =
     let p : AuthorityParts = authority_parts text in
@@ -47,89 +49,104 @@ holds users names text t =
       port = c.1;
     }
 
-before_ascii : (front rest : List ℕ) (c : ℕ) → c < 128
-    → IsCharBoundary (front ++ (c ∷ rest)) (length front)
-before_ascii front rest c ascii =
-    let at : get_or (front ++ (c ∷ rest)) (length front) 0 < 128 =
-    rw (get-seam front rest c) ascii in
-    IsCharBoundary-before_ascii (front ++ (c ∷ rest)) (length front)
-    (omega (arith, length-append front (c ∷ rest))) at
+-- positions: a character begins at an ASCII byte c after a prefix
+boundary-before-ascii-byte : (prefix rest : List ℕ) (c : ℕ) → c < 128
+    → IsCharBoundary (prefix ++ (c ∷ rest)) (length prefix)
+boundary-before-ascii-byte prefix rest c ascii =
+    let at : get_or (prefix ++ (c ∷ rest)) (length prefix) 0 < 128 =
+    rw (get_or-after-prefix prefix rest c) ascii in
+    IsCharBoundary-before_ascii (prefix ++ (c ∷ rest)) (length prefix)
+    (omega (arith, length-append prefix (c ∷ rest))) at
 
+-- the text of a port with its `:`, or nothing
 abbrev port_text : Option (List ℕ) → List ℕ
 port_text port = marked (codes ":") port []
 
+-- the text of userinfo with its `@`, or nothing
 abbrev user_text : Option (List ℕ) → List ℕ
 user_text userinfo = marked [] userinfo (codes "@")
 
-length-user_text : (userinfo : Option (List ℕ))
-    → length (user_text userinfo) ≡ marked_length 1 userinfo
-length-user_text None = refl
-length-user_text (Some user) = omega (arith, length-append user (codes "@"))
+-- positions: a userinfo with its `@` is one byte longer, or nothing
+length-of-userinfo-with-at-sign : (userinfo : Option (List ℕ))
+    → length (user_text userinfo) ≡ delimited_length 1 userinfo
+length-of-userinfo-with-at-sign None = refl
+length-of-userinfo-with-at-sign (Some user) = omega (arith, length-append user (codes "@"))
 
 -- a part, from a position to another
-pub record LiesIn (text : List ℕ) (start end : ℕ) (part : List ℕ) : Type 0 where
+pub record IsBetween (text : List ℕ) (start end : ℕ) (part : List ℕ) : Type 0 where
   pub ordered : start ≤ end
   pub starts : IsCharBoundary text start
   pub ends : IsCharBoundary text end
   pub holds : slice_range text start end ≡ part
 
-host_starts : (userinfo : Option (List ℕ)) (rest text : List ℕ) → user_text userinfo ++ rest ≡ text
-    → IsUtf8 text → IsCharBoundary text (marked_length 1 userinfo)
-host_starts None rest text whole u = IsCharBoundary-start text u
-host_starts (Some user) rest text whole u =
+-- positions: a character begins where the host does, after userinfo and `@`
+host-begins-at-boundary-after-userinfo : (userinfo : Option (List ℕ)) (rest text : List ℕ)
+    → user_text userinfo ++ rest ≡ text
+    → IsUtf8 text → IsCharBoundary text (delimited_length 1 userinfo)
+host-begins-at-boundary-after-userinfo None rest text whole u = IsCharBoundary-start text u
+host-begins-at-boundary-after-userinfo (Some user) rest text whole u =
     let e : user ++ (64 ∷ rest) ≡ text = sym (append_assoc user (codes "@") rest) ∙ whole in
     let n : length user + 1 ≡ 1 + length user = omega arith in
     subst (IsCharBoundary text) n (subst (λ t. IsCharBoundary t (length user + 1)) e
-    (after_mark user rest 64 (lit< tt) (subst IsUtf8 (sym e) u)))
+    (boundary_after_mark user rest 64 (lit< tt) (subst IsUtf8 (sym e) u)))
 
-host_ends : (front : List ℕ) (port : Option (List ℕ)) (text : List ℕ)
-    → front ++ port_text port ≡ text → IsCharBoundary text (length front)
-host_ends front None text whole =
-    subst (λ t. IsCharBoundary t (length front)) (sym (append-nil front) ∙ whole)
-    (IsCharBoundary-end front)
-host_ends front (Some digits) text whole =
-    subst (λ t. IsCharBoundary t (length front)) whole
-    (before_ascii front (digits ++ []) 58 (lit< tt))
+-- positions: a character begins where the host ends, before the `:` of a port or at the end
+host-ends-at-boundary : (prefix : List ℕ) (port : Option (List ℕ)) (text : List ℕ)
+    → prefix ++ port_text port ≡ text → IsCharBoundary text (length prefix)
+host-ends-at-boundary prefix None text whole =
+    subst (λ t. IsCharBoundary t (length prefix)) (sym (append-nil prefix) ∙ whole)
+    (IsCharBoundary-end prefix)
+host-ends-at-boundary prefix (Some digits) text whole =
+    subst (λ t. IsCharBoundary t (length prefix)) whole
+    (boundary-before-ascii-byte prefix (digits ++ []) 58 (lit< tt))
 
-host_lies : (userinfo port : Option (List ℕ)) (host text : List ℕ)
+-- positions: the host is between userinfo and port
+host-is-between-userinfo-and-port : (userinfo port : Option (List ℕ)) (host text : List ℕ)
     → user_text userinfo ++ (host ++ port_text port) ≡ text → IsUtf8 text
-    → LiesIn text (marked_length 1 userinfo) (marked_length 1 userinfo + length host) host
-host_lies userinfo port host text whole u =
-    let n = length-user_text userinfo in
-    let front : List ℕ = user_text userinfo ++ host in
-    let joined : front ++ port_text port ≡ text =
+    → IsBetween text (delimited_length 1 userinfo) (delimited_length 1 userinfo + length host) host
+host-is-between-userinfo-and-port userinfo port host text whole u =
+    let n = length-of-userinfo-with-at-sign userinfo in
+    let prefix : List ℕ = user_text userinfo ++ host in
+    let joined : prefix ++ port_text port ≡ text =
     append_assoc (user_text userinfo) host (port_text port)
     ∙ whole in
-    let l : length front ≡ marked_length 1 userinfo + length host =
+    let l : length prefix ≡ delimited_length 1 userinfo + length host =
     omega (arith, length-append (user_text userinfo) host) in
     record {
       ordered = omega arith;
-      starts = host_starts userinfo (host ++ port_text port) text whole u;
-      ends = subst (IsCharBoundary text) l (host_ends front port text joined);
+      starts = host-begins-at-boundary-after-userinfo userinfo (host ++ port_text port)
+          text whole u;
+      ends = subst (IsCharBoundary text) l (host-ends-at-boundary prefix port text joined);
       holds =
-          ap (λ t. slice_range t (marked_length 1 userinfo)
-          (marked_length 1 userinfo + length host)) (sym whole)
+          ap (λ t. slice_range t (delimited_length 1 userinfo)
+          (delimited_length 1 userinfo + length host)) (sym whole)
           ∙ ap (λ k. slice_range (user_text userinfo ++ (host ++ port_text port)) k
           (k + length host)) (sym n)
-          ∙ range-between (user_text userinfo) host (port_text port);
+          ∙ slice-between-prefix-and-suffix (user_text userinfo) host (port_text port);
     }
 
-pub host_place : (users names : TableSet) (text : List ℕ) → is_authority_for users names text ≡ true
-    → IsUtf8 text → LiesIn text (host_start_of text) (host_end_of text) (authority_parts text).host
-host_place users names text t u =
+-- authorities: the host is between its positions
+pub host_is_at_positions : (users names : TableSet) (text : List ℕ)
+    → is_authority_for users names text ≡ true
+    → IsUtf8 text → IsBetween text (host_start_of text) (host_end_of text)
+    (authority_parts text).host
+host_is_at_positions users names text t u =
     let p = authority_parts text in
-    host_lies p.userinfo p.port p.host text (holds users names text t).whole u
+    host-is-between-userinfo-and-port p.userinfo p.port p.host text
+    (holds users names text t).whole u
 
 -- the userinfo before the host
-pub record HasUser (users : TableSet) (text : List ℕ) (start : ℕ)
+pub record HasUserinfoBefore (users : TableSet) (text : List ℕ) (start : ℕ)
     (userinfo : Option (List ℕ)) : Type 0 where
   pub cut : IsCharBoundary text (start - 1)
   pub valid : IsValidFor users (take (start - 1) text)
   pub is : Some (take (start - 1) text) ≡ userinfo
 
+-- positions: a userinfo with its `@` is before the host, and is valid for its set (users)
 user_lies : (users : TableSet) (userinfo : Option (List ℕ)) (rest text : List ℕ)
     → user_text userinfo ++ rest ≡ text → option_map_or (is_valid_for users) userinfo true ≡ true
-    → 0 < marked_length 1 userinfo → HasUser users text (marked_length 1 userinfo) userinfo
+    → 0 < delimited_length 1 userinfo
+    → HasUserinfoBefore users text (delimited_length 1 userinfo) userinfo
 user_lies users None rest text whole h l = absurd (omega arith)
 user_lies users (Some user) rest text whole h l =
     let e : user ++ (64 ∷ rest) ≡ text = sym (append_assoc user (codes "@") rest) ∙ whole in
@@ -138,94 +155,109 @@ user_lies users (Some user) rest text whole h l =
     ∙ ap (take (length user)) (sym e) ∙ take-append_seam user (64 ∷ rest) in
     record {
       cut = subst (IsCharBoundary text) n
-          (subst (λ t. IsCharBoundary t (length user)) e (before_ascii user rest 64 (lit< tt)));
+          (subst (λ t. IsCharBoundary t (length user)) e
+          (boundary-before-ascii-byte user rest 64 (lit< tt)));
       valid = ap (is_valid_for users) part ∙ h;
       is = ap Some part;
     }
 
-pub user_place : (users names : TableSet) (text : List ℕ) → is_authority_for users names text ≡ true
+-- authorities: if the host starts later than at 0, userinfo and `@` are before it
+pub userinfo_is_before_host : (users names : TableSet) (text : List ℕ)
+    → is_authority_for users names text ≡ true
     → 0 < host_start_of text
-    → HasUser users text (host_start_of text) (authority_parts text).userinfo
-user_place users names text t l =
+    → HasUserinfoBefore users text (host_start_of text) (authority_parts text).userinfo
+userinfo_is_before_host users names text t l =
     let p = authority_parts text in
     let w = holds users names text t in
     user_lies users p.userinfo (p.host ++ port_text p.port) text w.whole w.userinfo l
 
-pub some_user : (userinfo : Option (List ℕ))
-    → not (eqb (marked_length 1 userinfo) 0) ≡ is_some userinfo
-some_user None = refl
-some_user (Some user) = ap not (ne_eqb _ 0 (λ e. omega arith))
+-- authorities: the host starts later than at 0 exactly if there is a userinfo
+pub userinfo_where_host_starts_later : (userinfo : Option (List ℕ))
+    → not (eqb (delimited_length 1 userinfo) 0) ≡ is_some userinfo
+userinfo_where_host_starts_later None = refl
+userinfo_where_host_starts_later (Some user) = ap not (ne_eqb _ 0 (λ e. omega arith))
 
 -- the port after the host
-pub record HasPort (text : List ℕ) (end : ℕ) (port : Option (List ℕ)) : Type 0 where
+pub record HasPortAfter (text : List ℕ) (end : ℕ) (port : Option (List ℕ)) : Type 0 where
   pub inside : end < length text
   pub cut : IsCharBoundary text (end + 1)
   pub valid : IsValidFor digit_set (drop (end + 1) text)
   pub is : Some (drop (end + 1) text) ≡ port
 
-port_lies : (front : List ℕ) (port : Option (List ℕ)) (text : List ℕ)
-    → front ++ port_text port ≡ text → IsUtf8 text
+-- positions: where the host ends, the text does, or a valid port follows
+text-ends-or-port-follows-prefix : (prefix : List ℕ) (port : Option (List ℕ)) (text : List ℕ)
+    → prefix ++ port_text port ≡ text → IsUtf8 text
     → option_map_or (is_valid_for digit_set) port true ≡ true
-    → (length front ≡ length text) × (None ≡ port) ⊎ HasPort text (length front) port
-port_lies front None text whole u h = inl (ap length (sym (append-nil front) ∙ whole), refl)
-port_lies front (Some digits) text whole u h =
-    let e : front ++ (58 ∷ digits) ≡ text = ap (λ t. front ++ (58 ∷ t)) (sym (append-nil digits))
+    → (length prefix ≡ length text) × (None ≡ port) ⊎ HasPortAfter text (length prefix) port
+text-ends-or-port-follows-prefix prefix None text whole u h = inl
+    (ap length (sym (append-nil prefix) ∙ whole), refl)
+text-ends-or-port-follows-prefix prefix (Some digits) text whole u h =
+    let e : prefix ++ (58 ∷ digits) ≡ text = ap (λ t. prefix ++ (58 ∷ t)) (sym (append-nil digits))
     ∙ whole in
     let n = ap length e in
-    let part : drop (length front + 1) text ≡ digits = ap (drop (length front + 1)) (sym e)
-    ∙ sym (drop-drop 1 (length front) (front ++ (58 ∷ digits)))
-    ∙ ap (drop 1) (drop-append_seam front (58 ∷ digits)) in
+    let part : drop (length prefix + 1) text ≡ digits = ap (drop (length prefix + 1)) (sym e)
+    ∙ sym (drop-drop 1 (length prefix) (prefix ++ (58 ∷ digits)))
+    ∙ ap (drop 1) (drop-append_seam prefix (58 ∷ digits)) in
     inr (record {
-      inside = omega (arith, n, length-append front (58 ∷ digits));
-      cut = subst (λ t. IsCharBoundary t (length front + 1)) e
-          (after_mark front digits 58 (lit< tt) (subst IsUtf8 (sym e) u));
+      inside = omega (arith, n, length-append prefix (58 ∷ digits));
+      cut = subst (λ t. IsCharBoundary t (length prefix + 1)) e
+          (boundary_after_mark prefix digits 58 (lit< tt) (subst IsUtf8 (sym e) u));
       valid = ap (is_valid_for digit_set) part ∙ h;
       is = ap Some part;
     })
 
-pub port_place : (users names : TableSet) (text : List ℕ) → is_authority_for users names text ≡ true
+-- authorities: the host ends it, or a port follows the host
+pub port_is_after_host : (users names : TableSet) (text : List ℕ)
+    → is_authority_for users names text ≡ true
     → IsUtf8 text
     → ((host_end_of text ≡ length text) × (None ≡ (authority_parts text).port))
-    ⊎ HasPort text (host_end_of text) (authority_parts text).port
-port_place users names text t u =
+    ⊎ HasPortAfter text (host_end_of text) (authority_parts text).port
+port_is_after_host users names text t u =
     let p = authority_parts text in
     let w = holds users names text t in
-    let front : List ℕ = user_text p.userinfo ++ p.host in
-    let l : length front ≡ host_end_of text =
-    omega (arith, length-append (user_text p.userinfo) p.host, length-user_text p.userinfo) in
-    let cases = port_lies front p.port text
+    let prefix : List ℕ = user_text p.userinfo ++ p.host in
+    let l : length prefix ≡ host_end_of text =
+    omega (
+      arith,
+      length-append (user_text p.userinfo) p.host,
+      length-of-userinfo-with-at-sign
+          p.userinfo,
+    ) in
+    let cases = text-ends-or-port-follows-prefix prefix p.port text
     (append_assoc (user_text p.userinfo) p.host (port_text p.port) ∙ w.whole) u w.port in
-    subst (λ n. ((n ≡ length text) × (None ≡ p.port)) ⊎ HasPort text n p.port) l cases
+    subst (λ n. ((n ≡ length text) × (None ≡ p.port)) ⊎ HasPortAfter text n p.port) l cases
 
--- the empty text is an authority for all sets
-pub empty_is : (users names : TableSet) → is_authority_for users names [] ≡ true
-unfolding is_authority_for is_host is_valid_for tokens_of chars ipv4_value
-empty_is users names = and_from (is_some (ipv4_value []) || true) true
+-- authorities: the empty text is one for all sets
+pub empty_is_authority : (users names : TableSet) → is_authority_for users names [] ≡ true
+unfolding is_authority_for is_host is_valid_for tokens_from_chars chars ipv4_value
+empty_is_authority users names = and_from (is_some (ipv4_value []) || true) true
     (or_right (is_some (ipv4_value [])) true refl) refl
 
--- a name that is no address is valid for the set of names
-pub name_valid : (names : TableSet) (host : List ℕ) → is_host names host ≡ true
+-- hosts: a name that is no IPv4 address is valid for the set of names
+pub reg_name_host_is_valid : (names : TableSet) (host : List ℕ) → is_host names host ≡ true
     → starts 91 host ≡ false → ipv4_value host ≡ None → IsValidFor names host
 unfolding is_host
-name_valid names host h s v = sym (ap (λ o. is_some o || is_valid_for names host) v)
+reg_name_host_is_valid names host h s v = sym (ap (λ o. is_some o || is_valid_for names host) v)
     ∙ sym (cond-false _ _ _ s) ∙ h
 
-pub name_kind_of : (host : List ℕ) (o : Option (List ℕ)) → starts 91 host ≡ false
+-- hosts: a host without `[` (91) is an IPv4 address if it has the value o of one, else a name
+pub kind_of_unbracketed_host : (host : List ℕ) (o : Option (List ℕ)) → starts 91 host ≡ false
     → o ≡ ipv4_value host → name_kind o ≡ host_kind host
 unfolding host_kind
-name_kind_of host o s v = ap name_kind v ∙ sym (cond-false _ _ _ s)
+kind_of_unbracketed_host host o s v = ap name_kind v ∙ sym (cond-false _ _ _ s)
 
-pub literal_kind_of : (host address : List ℕ) (o : Option (List ℕ)) → starts 91 host ≡ true
+-- hosts: a host in brackets is an IPv6 address if it has the value o of one, else IPvFuture
+pub kind_of_bracketed_host : (host address : List ℕ) (o : Option (List ℕ)) → starts 91 host ≡ true
     → address ≡ literal_of host → o ≡ ipv6_value address → literal_kind o ≡ host_kind host
 unfolding host_kind
-literal_kind_of host address o s a v = ap literal_kind (v ∙ ap ipv6_value a)
+kind_of_bracketed_host host address o s a v = ap literal_kind (v ∙ ap ipv6_value a)
     ∙ sym (cond-true _ _ _ s)
 
--- where the host does not end the text, a port does
-pub with_port : (users names : TableSet) (text : List ℕ) (end : ℕ)
+-- authorities: where the host does not end it, a port follows
+pub port_follows_host : (users names : TableSet) (text : List ℕ) (end : ℕ)
     → is_authority_for users names text ≡ true → IsUtf8 text → end ≡ host_end_of text
-    → (end ≡ length text → ⊥) → HasPort text end (authority_parts text).port
-with_port users names text end t u e apart = ⊎_elim
+    → (end ≡ length text → ⊥) → HasPortAfter text end (authority_parts text).port
+port_follows_host users names text end t u e apart = ⊎_elim
     (λ w. absurd (apart (e ∙ w.0)))
-    (λ w. subst (λ n. HasPort text n (authority_parts text).port) (sym e) w)
-    (port_place users names text t u)
+    (λ w. subst (λ n. HasPortAfter text n (authority_parts text).port) (sym e) w)
+    (port_is_after_host users names text t u)

@@ -7,7 +7,7 @@ use Rattle.std.specs.Net.Reader.{read_octet}
 use Rattle.std.specs.Str.{chars}
 use Rattle.uri_pct.specs.Sets.{userinfo_set, reg_name_set}
 use Rattle.uri_pct.specs.Tokens as Tokens
-use Rattle.uri_pct.specs.Tokens.{tokens_of}
+use Rattle.uri_pct.specs.Tokens.{tokens_from_chars}
 use Rattle.uri_parts.specs.Hosts.{Ipv4, Ipv6, IpvFuture, RegName, host_kind, is_host, ipv4_value}
 use Rattle.uri_parts.specs.Hosts.{ipv6_value, is_ipv_future}
 use Rattle.uri_parts.specs.Authority.{authority_parts, is_authority_for}
@@ -16,26 +16,28 @@ user_host_port : authority_parts (codes "u@h:80")
     ≡ record { userinfo = Some (codes "u"); host = codes "h"; port = Some (codes "80") }
 user_host_port = refl
 
-all_empty : authority_parts (codes "@:") ≡ record { userinfo = Some []; host = []; port = Some [] }
-all_empty = refl
+lone-marks-give-empty-userinfo-host-and-port : authority_parts (codes "@:")
+    ≡ record { userinfo = Some []; host = []; port = Some [] }
+lone-marks-give-empty-userinfo-host-and-port = refl
 
-nothing : authority_parts [] ≡ record { userinfo = None; host = []; port = None }
-nothing = refl
+empty-authority-has-empty-host-alone : authority_parts []
+    ≡ record { userinfo = None; host = []; port = None }
+empty-authority-has-empty-host-alone = refl
 
-colon_in_userinfo : authority_parts (codes "u:p@h")
+userinfo-may-hold-colon : authority_parts (codes "u:p@h")
     ≡ record { userinfo = Some (codes "u:p"); host = codes "h"; port = None }
-colon_in_userinfo = refl
+userinfo-may-hold-colon = refl
 
-address_and_empty_port : authority_parts (codes "[::ffff:192.0.2.1]:")
+parts-of-ipv6-host-with-empty-port : authority_parts (codes "[::ffff:192.0.2.1]:")
     ≡ record { userinfo = None; host = codes "[::ffff:192.0.2.1]"; port = Some [] }
-address_and_empty_port = refl
+parts-of-ipv6-host-with-empty-port = refl
 
-address_behind_userinfo : authority_parts (codes "u@[::1]:8")
+parts-of-ipv6-host-after-userinfo : authority_parts (codes "u@[::1]:8")
     ≡ record { userinfo = Some (codes "u"); host = codes "[::1]"; port = Some (codes "8") }
-address_behind_userinfo = refl
+parts-of-ipv6-host-after-userinfo = refl
 
--- the kinds of some hosts: the first that fits
-kinds : map host_kind (
+-- examples of hosts and their kinds, by computation: each is of the first kind that fits
+example-hosts-have-their-kinds : map host_kind (
     codes "127.0.0.1" ∷ codes "127.0.0.001" ∷ codes "127.1" ∷ codes "256.0.0.1" ∷ codes ""
     ∷ codes "1.2.3.4.5"
     ∷ codes "[v1F.a:b]" ∷ codes "[V1.x]" ∷ codes "[::]" ∷ codes "[::ffff:192.0.2.1]"
@@ -49,20 +51,20 @@ kinds : map host_kind (
     )
 unfolding host_kind ipv4_value read_ipv4 read_octet read_number ipv6_value read_ipv6 read_segments
     read_segment
-kinds = refl
+example-hosts-have-their-kinds = refl
 
-accepted : list_all (is_authority_for userinfo_set reg_name_set) (
+example-authorities-are-accepted : list_all (is_authority_for userinfo_set reg_name_set) (
     codes "" ∷ codes "@:" ∷ codes "u@h:80" ∷ codes "u:p@h" ∷ codes "h:" ∷ codes "a%20b"
     ∷ codes "127.0.0.001" ∷ codes "user%40x@[v1F.a:b]:8080"
     ∷ codes "[V1.x]" ∷ codes "[::ffff:192.0.2.1]:" ∷ codes "[1:2:3:4:5:6:7::]"
     ∷ codes "[1:2:3:4:5:6:7:8]" ∷ codes "[1:2:3:4:5:6:1.2.3.4]" ∷ []
     ) ≡ true
-unfolding is_authority_for Tokens.is_valid_for tokens_of chars Tokens.is_pct_encoded is_host
+unfolding is_authority_for Tokens.is_valid_for tokens_from_chars chars Tokens.is_pct_encoded is_host
     is_ipv_future ipv4_value read_ipv4 read_octet read_number ipv6_value read_ipv6 read_segments
     read_segment
-accepted = refl
+example-authorities-are-accepted = refl
 
-refused : list_any (is_authority_for userinfo_set reg_name_set) (
+malformed-authorities-are-rejected : list_any (is_authority_for userinfo_set reg_name_set) (
     codes "[1:2:3:4::5:6:7:8]" ∷ codes "[1:2:3:4:5:6:7:8:9]" ∷ codes "[44:55::66::77]"
     ∷ codes "[1.2.3.4]" ∷ codes "[::01.1.1.1]" ∷ codes "[::12345]"
     ∷ codes "[::1" ∷ codes "[::1]x"
@@ -70,7 +72,7 @@ refused : list_any (is_authority_for userinfo_set reg_name_set) (
     ∷ codes "[fe80::abcd%eth0]" ∷ codes "a@b@c" ∷ codes "h:80a" ∷ codes "a:b:c"
     ∷ codes "u[@h" ∷ codes "a%2" ∷ []
     ) ≡ false
-unfolding is_authority_for Tokens.is_valid_for tokens_of chars Tokens.is_pct_encoded is_host
+unfolding is_authority_for Tokens.is_valid_for tokens_from_chars chars Tokens.is_pct_encoded is_host
     is_ipv_future ipv4_value read_ipv4 read_octet read_number ipv6_value read_ipv6 read_segments
     read_segment
-refused = refl
+malformed-authorities-are-rejected = refl

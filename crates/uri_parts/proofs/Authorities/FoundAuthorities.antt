@@ -1,155 +1,103 @@
 -- An authority is parsed exactly where the one that is cut out is taken apart, and its
 -- positions are where it is cut.
-use Rattle.std.proofs.Common.{◌≡◌, ℕ, ◌+◌, Bool, true, false, eqb, List, [], ◌∷◌, ◌++◌}
+use Rattle.std.proofs.Common.{◌≡◌, ℕ, ◌+◌, Bool, true, false, eqb, List, ◌∷◌, ◌++◌}
 use Rattle.std.proofs.Common.{length, drop, refl, sym, ap, ◌∙◌, arith, ◌||◌, ◌&&◌, ⊎_elim}
 use Rattle.std.proofs.Common.{append_assoc, length-append, subst, zero-add, lit<}
 use Rattle.std.specs.Prelude.{codes}
 use Rattle.std.specs.Str.{IsUtf8}
 use Rattle.std.proofs.lemmas.Bool.{cases_Bool, cond-true, cond-false, and_left, and_parts, eq-eqb}
-use Rattle.std.proofs.lemmas.Bool.{ne_eqb, eqb-true, both_ways, false_from_ne_true}
+use Rattle.std.proofs.lemmas.Bool.{ne_eqb, both_ways, false_from_ne_true}
 use Rattle.std.proofs.lemmas.Bool.Decides.{nat_tests}
-use Rattle.uri_pct.specs.Sets.{TableSet, digit_set}
+use Rattle.uri_pct.specs.Sets.{TableSet}
 use Rattle.uri_pct.specs.Tokens.{is_valid_for}
 use Rattle.uri_pct.specs.Prefixes.{valid_prefix, after}
-use Rattle.uri_pct.proofs.ValidTexts.Cuts.{to_mark, ascii_marks, cut, prefix_zero_mark}
-use Rattle.uri_pct.proofs.ValidTexts.Prefixes.{valid_prefix-char, valid_prefix-within}
+use Rattle.uri_pct.proofs.ValidTexts.Cuts.{cut}
+use Rattle.uri_pct.proofs.ValidTexts.MarksInTexts.{length_before_marks, AreAscii-by-test}
 use Rattle.uri_parts.specs.Components.{before_any, from_any, starts, Lacks}
 use Rattle.uri_parts.specs.Positions.{authority_at}
-use Rattle.uri_parts.specs.Models.AuthorityParsing.{port_length, name_length, finds_name, host_end}
-use Rattle.uri_parts.specs.Models.AuthorityParsing.{host_length, more_user, user_length}
-use Rattle.uri_parts.specs.Models.AuthorityParsing.{host_place, from_host}
-use Rattle.uri_parts.specs.Models.AuthorityParsing.{other_length, found_length}
+use Rattle.uri_parts.specs.Models.AuthorityParsing.{name_and_port_length, name_ends_authority}
+use Rattle.uri_parts.specs.Models.AuthorityParsing.{host_end, host_and_port_length, host_offset}
+use Rattle.uri_parts.specs.Models.AuthorityParsing.{text_from_host, other_authority_length}
+use Rattle.uri_parts.specs.Models.AuthorityParsing.{found_authority_length}
 use Rattle.uri_parts.proofs.Parsing.Acceptance.{finds_host, passes_user, finds_other}
 use Rattle.uri_parts.proofs.Parsing.Acceptance.{finds_authority}
 use Rattle.uri_parts.specs.Models.AuthorityParsing.{other_authority, found_authority}
 use Rattle.uri_parts.specs.Grammar.{Kind}
-use Rattle.uri_parts.proofs.Authorities.Authority.{cut-none, lacks_fewer}
-use Rattle.uri_parts.proofs.Authorities.AuthorityCuts.{length-before, behind, behind_mark}
-use Rattle.uri_parts.proofs.Splitting.Cuts.{IsCut-any, cut-append, before_past_other, Lacks-cons}
-use Rattle.uri_parts.proofs.HostForms.Futures.{lacks_append}
-use Rattle.uri_parts.proofs.HostForms.Hosts.{lacks_starts}
-use Rattle.uri_parts.proofs.Authorities.NamesAndPorts.{prefix_nil, cut_again, starts_before}
-use Rattle.uri_parts.proofs.Authorities.NamesAndPorts.{utf8_before}
-use Rattle.uri_parts.proofs.Authorities.HostParsing.{bare_end, bare_length, bare_host, name_bare}
-use Rattle.uri_parts.proofs.Authorities.HostParsing.{host_parses, found_host}
-use Rattle.uri_parts.proofs.Splitting.Relative.{stops_at}
-use Rattle.uri_parts.proofs.TextKinds.Separations.{Separates}
-use Rattle.uri_parts.proofs.TextKinds.SpeltTexts.{valid_lacks}
-use Rattle.uri_parts.proofs.Parsing.ScanStops.{stop_cases, utf8_from, utf8_past}
+use Rattle.uri_parts.proofs.Authorities.Authority.{cut-of-text-without-marks, Lacks-of-fewer-marks}
+use Rattle.uri_parts.proofs.Authorities.AuthorityCuts.{length-of-text-before-marks}
+use Rattle.uri_parts.proofs.Splitting.Cuts.{text-is-cut-at-first-mark}
+use Rattle.uri_parts.proofs.Splitting.Cuts.{cut-at-end-of-text-without-marks, before_any-past-other}
+use Rattle.uri_parts.proofs.Splitting.Cuts.{text-after-other-byte-lacks-marks}
+use Rattle.uri_parts.proofs.HostForms.Futures.{joined-texts-lack-marks}
+use Rattle.uri_parts.proofs.HostForms.Hosts.{lacking_text_does_not_begin_with}
+use Rattle.uri_parts.proofs.Authorities.NamesAndPorts.{cut_at_further_mark}
+use Rattle.uri_parts.proofs.Authorities.NamesAndPorts.{cut-text-begins-with-same-other-byte}
+use Rattle.uri_parts.proofs.Authorities.NamesAndPorts.{utf8_before_marks}
+use Rattle.uri_parts.proofs.Authorities.HostParsing.{host_end-unbracketed}
+use Rattle.uri_parts.proofs.Authorities.HostParsing.{host_and_port_length-unbracketed}
+use Rattle.uri_parts.proofs.Authorities.HostParsing.{finds_host-unbracketed, bracket_begins_no_name}
+use Rattle.uri_parts.proofs.Authorities.HostParsing.{finds_host-is-parses_host_and_port}
+use Rattle.uri_parts.proofs.Authorities.HostParsing.{host-that-is-found-has-its-positions}
+use Rattle.uri_parts.proofs.Splitting.Relative.{scan_stops_at_first_mark}
+use Rattle.uri_parts.proofs.TextKinds.Separations.{SeparatesComponents}
+use Rattle.uri_parts.proofs.TextKinds.GrammarTexts.{valid_text_lacks_excluded_marks}
+use Rattle.uri_parts.proofs.Parsing.ScanStops.{scan-stops-at-first-mark-or-within, utf8_from_marks}
+use Rattle.uri_parts.proofs.Parsing.ScanStops.{utf8_after_mark}
 use Rattle.uri_parts.proofs.Authorities.WholeAuthorities.{parses_host_and_port}
 use Rattle.uri_parts.proofs.Authorities.WholeAuthorities.{parses_whole_authority}
-use Rattle.uri_parts.proofs.Splitting.Recompose.{starts-cons}
-use Rattle.uri_pct.proofs.Tests.{or_false}
-use Rattle.uri_parts.proofs.Authorities.PlacedHosts.{places, bare, bare_at, user_at}
+use Rattle.uri_parts.proofs.Splitting.Recompose.{text-with-mark-is-mark-and-rest}
+use Rattle.uri_pct.proofs.Tests.{or_false_is_the_same}
+use Rattle.uri_parts.proofs.Authorities.HostPositions.{places, authority_at-without-userinfo}
+use Rattle.uri_parts.proofs.Authorities.HostPositions.{authority_at-with-userinfo}
+use Rattle.uri_parts.proofs.Authorities.UserinfoLengths.{host_offset-is-after-userinfo-and-at-sign}
+use Rattle.uri_parts.proofs.Authorities.UserinfoLengths.{text_from_host-is-after-at-sign}
+use Rattle.uri_parts.proofs.Authorities.UserinfoLengths.{passes_user-is-at-sign-after-userinfo}
 
 -- what is found agrees with what is cut
 pub record IsFound (kind : Kind) (rest : List ℕ) : Type 0 where
-  pub len : found_length kind rest ≡ length (before_any (codes "/?#") rest)
+  pub len : found_authority_length kind rest ≡ length (before_any (codes "/?#") rest)
   pub found : (place : ℕ)
       → found_authority kind place rest ≡ authority_at place (before_any (codes "/?#") rest)
 
-module _ (segment : TableSet) (kind : Kind) (w : Separates segment kind) where
-  -- a name and a port are the prefix of userinfo
-  port_prefix : (bs : List ℕ)
-      → valid_prefix kind.userinfo bs
-      ≡ port_length bs + valid_prefix kind.userinfo (drop (port_length bs) bs)
-  unfolding port_length
-  port_prefix [] =
-      let a : valid_prefix kind.userinfo (drop (port_length []) []) ≡ 0 = prefix_nil kind.userinfo in
-      let b : port_length [] ≡ 0 = refl in
-      omega (arith, prefix_nil kind.userinfo, a, b)
-  port_prefix (b ∷ bs) = ⊎_elim
-      (λ e.
-      let c = eqb-true b 58 e in
-      let l : port_length (b ∷ bs) ≡ 1 + valid_prefix digit_set bs = cond-true _ _ _ e in
-      let one : valid_prefix kind.userinfo (b ∷ bs) ≡ valid_prefix kind.userinfo bs + 1 =
-      valid_prefix-char kind.userinfo w.userinfo_lacks (b ∷ bs) 0 (omega arith) (omega arith)
-      (ap kind.userinfo.ascii c ∙ w.colon_within) in
-      let digits = valid_prefix-within digit_set kind.userinfo w.digits_within refl bs in
-      let d = ap (valid_prefix kind.userinfo) (behind_mark (valid_prefix digit_set bs) (b ∷ bs)) in
-      let sum : valid_prefix kind.userinfo (b ∷ bs)
-      ≡ 1 + valid_prefix digit_set bs
-      + valid_prefix kind.userinfo (drop (1 + valid_prefix digit_set bs) (b ∷ bs)) =
-      omega (arith, one, digits, d) in
-      sum ∙ sym (ap (λ n. n + valid_prefix kind.userinfo (drop n (b ∷ bs))) l))
-      (λ e.
-      let none : port_length (b ∷ bs) ≡ 0 = cond-false _ _ _ e in
-      sym (ap (λ n. n + valid_prefix kind.userinfo (drop n (b ∷ bs))) none ∙ zero-add _))
-      (cases_Bool (eqb b 58))
-
-  pub more_is : (bs : List ℕ) → more_user kind bs ≡ valid_prefix kind.userinfo bs
-  unfolding more_user
-  more_is bs = ⊎_elim
-      (λ e. cond-true _ _ _ e ∙ sym (ap (valid_prefix kind.userinfo) (starts-cons 64 bs e)
-      ∙ prefix_zero_mark (codes "@/?#") kind.userinfo w.userinfo_lacks w.userinfo_marks 64
-      (drop 1 bs) refl))
-      (λ e. cond-false _ _ _ e)
-      (cases_Bool (starts 64 bs))
-
-  pub user_is : (rest : List ℕ) → user_length kind rest ≡ valid_prefix kind.userinfo rest
-  unfolding user_length name_length
-  user_is rest =
-      let behind_name : List ℕ = after kind.reg_name rest in
-      let a = valid_prefix-within kind.reg_name kind.userinfo w.name_within w.reg_name_lacks rest in
-      let b = port_prefix behind_name in
-      let c = more_is (drop (valid_prefix kind.reg_name rest + port_length behind_name) rest)
-      ∙ ap (valid_prefix kind.userinfo)
-      (sym (behind (valid_prefix kind.reg_name rest) (port_length behind_name) rest)) in
-      let sum : valid_prefix kind.reg_name rest + port_length behind_name
-      + more_user kind (drop (valid_prefix kind.reg_name rest + port_length behind_name) rest)
-      ≡ valid_prefix kind.userinfo rest = omega (arith, a, b, c) in
-      sum
-
+module _ (segment : TableSet) (kind : Kind) (w : SeparatesComponents segment kind) where
   -- what begins with `[` is no userinfo
-  literal_first : (rest : List ℕ) → starts 91 rest ≡ true → from_host kind rest ≡ rest
-  unfolding host_place
-  literal_first rest e = ap (λ n. drop n rest) (cond-true _ _ _ e)
+  no-userinfo-before-bracketed-host : (rest : List ℕ) → starts 91 rest ≡ true
+      → text_from_host kind rest ≡ rest
+  unfolding host_offset
+  no-userinfo-before-bracketed-host rest e = ap (λ n. drop n rest) (cond-true _ _ _ e)
 
-  literal_other : (rest : List ℕ) → starts 91 rest ≡ true
+  bracketed-authority-is-host-and-port : (rest : List ℕ) → starts 91 rest ≡ true
       → finds_authority kind rest ≡ finds_host kind rest
   unfolding finds_authority finds_other
-  literal_other rest e =
+  bracketed-authority-is-host-and-port rest e =
       ap
       (λ t. t || ((starts 91 rest || passes_user kind rest)
-      && finds_host kind (from_host kind rest))) (name_bare segment kind w rest e)
-      ∙ ap (λ t. (t || passes_user kind rest) && finds_host kind (from_host kind rest)) e
-      ∙ ap (finds_host kind) (literal_first rest e)
+      && finds_host kind (text_from_host kind rest))) (bracket_begins_no_name segment kind w rest e)
+      ∙ ap (λ t. (t || passes_user kind rest) && finds_host kind (text_from_host kind rest)) e
+      ∙ ap (finds_host kind) (no-userinfo-before-bracketed-host rest e)
 
-  name_or_user : (rest : List ℕ) → starts 91 rest ≡ false
+  unbracketed-authority-is-name-or-userinfo-and-host : (rest : List ℕ) → starts 91 rest ≡ false
       → finds_authority kind rest
-      ≡ (finds_name kind rest || (passes_user kind rest && finds_host kind (from_host kind rest)))
+      ≡ (name_ends_authority kind rest
+      || (passes_user kind rest && finds_host kind (text_from_host kind rest)))
   unfolding finds_authority finds_other
-  name_or_user rest e = ap (λ t. finds_name kind rest
-      || ((t || passes_user kind rest) && finds_host kind (from_host kind rest))) e
-
-  user_place : (rest : List ℕ) → starts 91 rest ≡ false
-      → host_place kind rest ≡ valid_prefix kind.userinfo rest + 1
-  unfolding host_place
-  user_place rest e = cond-false _ _ _ e ∙ ap (λ n. n + 1) (user_is rest)
-
-  user_behind : (rest : List ℕ) → starts 91 rest ≡ false
-      → from_host kind rest ≡ drop 1 (after kind.userinfo rest)
-  user_behind rest e = ap (λ n. drop n rest) (user_place rest e)
-      ∙ sym (behind (valid_prefix kind.userinfo rest) 1 rest)
-
-  user_passed : (rest : List ℕ) → passes_user kind rest ≡ starts 64 (after kind.userinfo rest)
-  unfolding passes_user
-  user_passed rest = ap (λ n. starts 64 (drop n rest)) (user_is rest)
+  unbracketed-authority-is-name-or-userinfo-and-host rest e = ap (λ t. name_ends_authority kind rest
+      || ((t || passes_user kind rest) && finds_host kind (text_from_host kind rest))) e
 
   -- an authority with a host alone holds no `@`
-  host_free : (rest : List ℕ) → IsUtf8 rest → finds_host kind rest ≡ true
+  host-alone-holds-no-at-sign : (rest : List ℕ) → IsUtf8 rest → finds_host kind rest ≡ true
       → starts 64 (from_any (codes "@") (before_any (codes "/?#") rest)) ≡ false
-  host_free rest u h =
-      let f = found_host segment kind w rest u h in
+  host-alone-holds-no-at-sign rest u h =
+      let f = host-that-is-found-has-its-positions segment kind w rest u h in
       ap (λ t. starts 64 (from_any (codes "@") t)) f.text
-      ∙ ap (starts 64) (cut-none (codes "@") (f.host ++ f.behind) f.at).1
+      ∙ ap (starts 64) (cut-of-text-without-marks (codes "@") (f.host ++ f.suffix) f.at).1
 
-  name_is_host : (rest : List ℕ) → finds_name kind rest ≡ true
+  name-that-ends-authority-is-host : (rest : List ℕ) → name_ends_authority kind rest ≡ true
       → (starts 91 rest ≡ false) × (finds_host kind rest ≡ true)
-  name_is_host rest h =
+  name-that-ends-authority-is-host rest h =
       let e : starts 91 rest ≡ false =
-      false_from_ne_true _ (λ t. both_ways _ (name_bare segment kind w rest t) h) in
-      (e, bare_host segment kind w rest e ∙ h)
+      false_from_ne_true _ (λ t. both_ways _ (bracket_begins_no_name segment kind w rest t) h) in
+      (e, finds_host-unbracketed segment kind w rest e ∙ h)
 
   module _ (rest : List ℕ) (u : IsUtf8 rest) where
     abbrev cut_text : List ℕ
@@ -158,120 +106,141 @@ module _ (segment : TableSet) (kind : Kind) (w : Separates segment kind) where
     abbrev tail : List ℕ
     tail = from_any (codes "@/?#") rest
 
-    mark_is : starts 64 (from_any (codes "@") cut_text) ≡ starts 64 tail
-    mark_is = ap (starts 64) (cut_again 64 (codes "/?#") rest).1
-        ∙ starts_before 64 (codes "/?#") refl tail
+    at-sign-in-cut-is-at-sign-in-tail : starts 64 (from_any (codes "@") cut_text) ≡ starts 64 tail
+    at-sign-in-cut-is-at-sign-in-tail = ap (starts 64) (cut_at_further_mark 64 (codes "/?#") rest).1
+        ∙ cut-text-begins-with-same-other-byte 64 (codes "/?#") refl tail
 
-    utf8_mark : starts 64 tail ≡ true → IsUtf8 (drop 1 tail)
-    utf8_mark e = utf8_past 64 (lit< tt) tail e
-        (utf8_from (codes "@/?#") rest (ascii_marks (codes "@/?#") refl) u)
+    text-after-at-sign-is-utf8 : starts 64 tail ≡ true → IsUtf8 (drop 1 tail)
+    text-after-at-sign-is-utf8 e = utf8_after_mark 64 (lit< tt) tail e
+        (utf8_from_marks (codes "@/?#") rest (AreAscii-by-test (codes "@/?#") refl) u)
 
-    valid_user : is_valid_for kind.userinfo (before_any (codes "@/?#") rest)
-        ≡ eqb (valid_prefix kind.userinfo rest) (to_mark (codes "@/?#") rest)
-    valid_user = cut (codes "@/?#") kind.userinfo w.userinfo_lacks w.userinfo_marks rest u
+    userinfo-validity-by-prefix-length : is_valid_for kind.userinfo (before_any (codes "@/?#") rest)
+        ≡ eqb (valid_prefix kind.userinfo rest) (length_before_marks (codes "@/?#") rest)
+    userinfo-validity-by-prefix-length = cut (codes "@/?#") kind.userinfo w.userinfo_lacks
+        w.userinfo_marks rest u
 
     -- with an `@` it is userinfo, and then a host
-    with_mark : starts 64 tail ≡ true
+    authority-with-at-sign-is-userinfo-and-host : starts 64 tail ≡ true
         → parses_whole_authority kind.userinfo kind.reg_name cut_text
         ≡ (is_valid_for kind.userinfo (before_any (codes "@/?#") rest)
         && finds_host kind (drop 1 tail))
     unfolding parses_whole_authority
-    with_mark e =
-        let c = cut_again 64 (codes "/?#") rest in
+    authority-with-at-sign-is-userinfo-and-host e =
+        let c = cut_at_further_mark 64 (codes "/?#") rest in
         let t : before_any (codes "/?#") tail ≡ 64 ∷ before_any (codes "/?#") (drop 1 tail) =
-        ap (before_any (codes "/?#")) (starts-cons 64 tail e)
-        ∙ before_past_other (codes "/?#") 64 (drop 1 tail) refl in
-        cond-true _ _ _ (mark_is ∙ e)
+        ap (before_any (codes "/?#")) (text-with-mark-is-mark-and-rest 64 tail e)
+        ∙ before_any-past-other (codes "/?#") 64 (drop 1 tail) refl in
+        cond-true _ _ _ (at-sign-in-cut-is-at-sign-in-tail ∙ e)
         ∙ ap (λ x. is_valid_for kind.userinfo x
         && parses_host_and_port kind.reg_name (drop 1 (from_any (codes "@") cut_text))) c.0
         ∙ ap (λ x. is_valid_for kind.userinfo (before_any (codes "@/?#") rest)
         && parses_host_and_port kind.reg_name (drop 1 x)) (c.1 ∙ t)
         ∙ ap (λ x. is_valid_for kind.userinfo (before_any (codes "@/?#") rest) && x)
-        (sym (host_parses segment kind w (drop 1 tail) (utf8_mark e)))
+        (sym (finds_host-is-parses_host_and_port segment kind w (drop 1 tail)
+        (text-after-at-sign-is-utf8 e)))
 
-    without_mark : starts 64 tail ≡ false
+    authority-without-at-sign-is-host : starts 64 tail ≡ false
         → parses_whole_authority kind.userinfo kind.reg_name cut_text ≡ finds_host kind rest
     unfolding parses_whole_authority
-    without_mark e = cond-false _ _ _ (mark_is ∙ e) ∙ sym (host_parses segment kind w rest u)
+    authority-without-at-sign-is-host e = cond-false _ _ _ (at-sign-in-cut-is-at-sign-in-tail ∙ e)
+        ∙ sym (finds_host-is-parses_host_and_port segment kind w rest u)
 
-    no_host : starts 64 tail ≡ true → finds_host kind rest ≡ false
-    no_host e = false_from_ne_true _ (λ h. both_ways _ (host_free rest u h) (mark_is ∙ e))
+    text-with-at-sign-is-no-host-alone : starts 64 tail ≡ true → finds_host kind rest ≡ false
+    text-with-at-sign-is-no-host-alone e = false_from_ne_true _
+        (λ h. both_ways _ (host-alone-holds-no-at-sign rest u h)
+        (at-sign-in-cut-is-at-sign-in-tail ∙ e))
 
-    user_to_mark : starts 64 (after kind.userinfo rest) ≡ true
-        → valid_prefix kind.userinfo rest ≡ to_mark (codes "@/?#") rest
-    user_to_mark e = stops_at (codes "@/?#") 64 refl kind.userinfo w.userinfo_lacks w.userinfo_marks
+    userinfo-before-at-sign-ends-at-first-mark : starts 64 (after kind.userinfo rest) ≡ true
+        → valid_prefix kind.userinfo rest ≡ length_before_marks (codes "@/?#") rest
+    userinfo-before-at-sign-ends-at-first-mark e = scan_stops_at_first_mark (codes "@/?#") 64 refl
+        kind.userinfo w.userinfo_lacks
+        w.userinfo_marks
         rest u e
 
-    literal_user : starts 91 rest ≡ true
+    bracket-begins-no-userinfo : starts 91 rest ≡ true
         → is_valid_for kind.userinfo (before_any (codes "@/?#") rest) ≡ false
-    literal_user e = false_from_ne_true _ (λ v.
+    bracket-begins-no-userinfo e = false_from_ne_true _ (λ v.
         both_ways _
-        (lacks_starts (codes "[") (before_any (codes "@/?#") rest) 91 refl
-        (valid_lacks kind.userinfo (codes "[") w.userinfo_lacks w.userinfo_starts
+        (lacking_text_does_not_begin_with (codes "[") (before_any (codes "@/?#") rest) 91 refl
+        (valid_text_lacks_excluded_marks kind.userinfo (codes "[") w.userinfo_lacks
+        w.userinfo_starts
         (before_any (codes "@/?#") rest)
-        (utf8_before (codes "@/?#") rest (ascii_marks (codes "@/?#") refl) u) v))
-        (starts_before 91 (codes "@/?#") refl rest ∙ e))
+        (utf8_before_marks (codes "@/?#") rest (AreAscii-by-test (codes "@/?#") refl) u) v))
+        (cut-text-begins-with-same-other-byte 91 (codes "@/?#") refl rest ∙ e))
 
-    user_parses : starts 91 rest ≡ false → starts 64 tail ≡ true
-        → (passes_user kind rest && finds_host kind (from_host kind rest))
+    userinfo-and-host-are-parsed-as-cut : starts 91 rest ≡ false → starts 64 tail ≡ true
+        → (passes_user kind rest && finds_host kind (text_from_host kind rest))
         ≡ (is_valid_for kind.userinfo (before_any (codes "@/?#") rest)
         && finds_host kind (drop 1 tail))
-    user_parses bare e = ⊎_elim
+    userinfo-and-host-are-parsed-as-cut bare e = ⊎_elim
         (λ m.
-        ap (λ t. t && finds_host kind (from_host kind rest))
-        (user_passed rest ∙ ap (λ n. starts 64 (drop n rest)) m ∙ e)
-        ∙ ap (finds_host kind) (user_behind rest bare ∙ ap (λ n. drop 1 (drop n rest)) m)
-        ∙ sym (ap (λ t. t && finds_host kind (drop 1 tail)) (valid_user ∙ eq-eqb _ _ m)))
+        ap (λ t. t && finds_host kind (text_from_host kind rest))
+        (passes_user-is-at-sign-after-userinfo segment kind w rest
+        ∙ ap (λ n. starts 64 (drop n rest)) m ∙ e)
+        ∙ ap (finds_host kind) (text_from_host-is-after-at-sign segment kind w rest bare
+        ∙ ap (λ n. drop 1 (drop n rest)) m)
+        ∙ sym (ap (λ t. t && finds_host kind (drop 1 tail)) (userinfo-validity-by-prefix-length
+        ∙ eq-eqb _ _ m)))
         (λ s.
         let none : starts 64 (after kind.userinfo rest) ≡ false =
-        false_from_ne_true _ (λ t. s.apart (user_to_mark t)) in
-        ap (λ t. t && finds_host kind (from_host kind rest)) (user_passed rest ∙ none)
-        ∙ sym (ap (λ t. t && finds_host kind (drop 1 tail)) (valid_user ∙ ne_eqb _ _ s.apart)))
-        (stop_cases (codes "@/?#") kind.userinfo w.userinfo_lacks w.userinfo_marks rest u)
+        false_from_ne_true _ (λ t. s.apart (userinfo-before-at-sign-ends-at-first-mark t)) in
+        ap (λ t. t && finds_host kind (text_from_host kind rest))
+        (passes_user-is-at-sign-after-userinfo segment kind w rest ∙ none)
+        ∙ sym (ap (λ t. t && finds_host kind (drop 1 tail)) (userinfo-validity-by-prefix-length
+        ∙ ne_eqb _ _ s.apart)))
+        (scan-stops-at-first-mark-or-within (codes "@/?#") kind.userinfo w.userinfo_lacks
+        w.userinfo_marks rest u)
 
-    no_user : starts 64 tail ≡ false → passes_user kind rest ≡ false
-    no_user e = user_passed rest
+    no-userinfo-without-at-sign : starts 64 tail ≡ false → passes_user kind rest ≡ false
+    no-userinfo-without-at-sign e = passes_user-is-at-sign-after-userinfo segment kind w rest
         ∙ false_from_ne_true _
-        (λ t. both_ways _ e (sym (ap (λ n. starts 64 (drop n rest)) (user_to_mark t)) ∙ t))
+        (λ t. both_ways _ e (sym
+        (ap (λ n. starts 64 (drop n rest)) (userinfo-before-at-sign-ends-at-first-mark t)) ∙ t))
 
-    finds_user : starts 64 tail ≡ true
+    authority-with-at-sign-is-found-as-cut : starts 64 tail ≡ true
         → finds_authority kind rest
         ≡ (is_valid_for kind.userinfo (before_any (codes "@/?#") rest)
         && finds_host kind (drop 1 tail))
-    finds_user e = ⊎_elim
-        (λ b. literal_other rest b ∙ no_host e ∙ sym (and_left _ _ (literal_user b)))
+    authority-with-at-sign-is-found-as-cut e = ⊎_elim
+        (λ b. bracketed-authority-is-host-and-port rest b ∙ text-with-at-sign-is-no-host-alone e
+        ∙ sym (and_left _ _ (bracket-begins-no-userinfo b)))
         (λ b.
-        let none : finds_name kind rest ≡ false =
-        false_from_ne_true _ (λ h. both_ways _ (no_host e) (name_is_host rest h).1) in
-        name_or_user rest b
-        ∙ ap (λ t. t || (passes_user kind rest && finds_host kind (from_host kind rest))) none
-        ∙ user_parses b e)
+        let none : name_ends_authority kind rest ≡ false =
+        false_from_ne_true _ (λ h. both_ways _ (text-with-at-sign-is-no-host-alone e)
+        (name-that-ends-authority-is-host rest h).1) in
+        unbracketed-authority-is-name-or-userinfo-and-host rest b
+        ∙ ap (λ t. t || (passes_user kind rest && finds_host kind (text_from_host kind rest))) none
+        ∙ userinfo-and-host-are-parsed-as-cut b e)
         (cases_Bool (starts 91 rest))
 
-    pub accepts : finds_authority kind rest
+    pub finds_authority-is-parses_whole_authority : finds_authority kind rest
         ≡ parses_whole_authority kind.userinfo kind.reg_name cut_text
-    accepts = ⊎_elim
-        (λ e. finds_user e ∙ sym (with_mark e))
+    finds_authority-is-parses_whole_authority = ⊎_elim
+        (λ e. authority-with-at-sign-is-found-as-cut e
+        ∙ sym (authority-with-at-sign-is-userinfo-and-host e))
         (λ e. ⊎_elim
-        (λ b. literal_other rest b)
+        (λ b. bracketed-authority-is-host-and-port rest b)
         (λ b.
-        name_or_user rest b
-        ∙ ap (λ t. finds_name kind rest || (t && finds_host kind (from_host kind rest))) (no_user e)
-        ∙ or_false (finds_name kind rest) ∙ sym (bare_host segment kind w rest b))
+        unbracketed-authority-is-name-or-userinfo-and-host rest b
+        ∙ ap (λ t. name_ends_authority kind rest
+        || (t && finds_host kind (text_from_host kind rest))) (no-userinfo-without-at-sign e)
+        ∙ or_false_is_the_same (name_ends_authority kind rest)
+        ∙ sym (finds_host-unbracketed segment kind w rest b))
         (cases_Bool (starts 91 rest))
-        ∙ sym (without_mark e))
+        ∙ sym (authority-without-at-sign-is-host e))
         (cases_Bool (starts 64 tail))
 
     -- its positions
-    name_case : finds_name kind rest ≡ true → IsFound kind rest
-    unfolding found_length found_authority
-    name_case h =
-        let p = name_is_host rest h in
-        let f = found_host segment kind w rest u p.1 in
-        let n : valid_prefix kind.reg_name rest ≡ length f.host = sym (bare_end segment kind w rest p.0)
+    name-alone-is-found-authority : name_ends_authority kind rest ≡ true → IsFound kind rest
+    unfolding found_authority_length found_authority
+    name-alone-is-found-authority h =
+        let p = name-that-ends-authority-is-host rest h in
+        let f = host-that-is-found-has-its-positions segment kind w rest u p.1 in
+        let n : valid_prefix kind.reg_name rest
+        ≡ length f.host = sym (host_end-unbracketed segment kind w rest p.0)
         ∙ f.end in
-        let l : name_length kind rest ≡ length (f.host ++ f.behind) =
-        sym (bare_length segment kind w rest p.0)
+        let l : name_and_port_length kind rest ≡ length (f.host ++ f.suffix) =
+        sym (host_and_port_length-unbracketed segment kind w rest p.0)
         ∙ f.whole in
         record {
           len = cond-true _ _ _ h ∙ l ∙ sym (ap length f.text);
@@ -281,9 +250,9 @@ module _ (segment : TableSet) (kind : Kind) (w : Separates segment kind) where
                 host_start = place;
                 host_end =
                     place + valid_prefix kind.reg_name rest;
-                end = place + name_length kind rest;
+                end = place + name_and_port_length kind rest;
               }
-              ≡ places place place f.host f.behind =
+              ≡ places place place f.host f.suffix =
               λ i. record {
                 start = place;
                 host_start = place;
@@ -292,37 +261,40 @@ module _ (segment : TableSet) (kind : Kind) (w : Separates segment kind) where
                     place + l i;
               } in
               cond-true _ _ _ h ∙ same
-              ∙ sym (ap (authority_at place) f.text ∙ bare_at f.host f.behind f.at f.cut place);
+              ∙ sym (ap (authority_at place) f.text
+              ∙ authority_at-without-userinfo f.host f.suffix f.at f.cut place);
         }
 
-    other_case : finds_name kind rest ≡ false → (len : other_length kind rest ≡ length cut_text)
+    authority-at-cut-positions-is-found : name_ends_authority kind rest ≡ false
+        → (len : other_authority_length kind rest ≡ length cut_text)
         → ((place : ℕ) → other_authority kind place rest ≡ authority_at place cut_text)
         → IsFound kind rest
-    unfolding found_length found_authority
-    other_case none len found = record {
+    unfolding found_authority_length found_authority
+    authority-at-cut-positions-is-found none len found = record {
       len = cond-false _ _ _ none
           ∙ len;
       found = λ place. cond-false _ _ _ none ∙ found place;
     }
 
-    literal_case : finds_name kind rest ≡ false → starts 91 rest ≡ true
+    bracketed-host-is-found-authority : name_ends_authority kind rest ≡ false
+        → starts 91 rest ≡ true
         → finds_host kind rest ≡ true → IsFound kind rest
-    unfolding other_length other_authority host_place
-    literal_case none e h =
-        let f = found_host segment kind w rest u h in
-        let z : host_place kind rest ≡ 0 = cond-true _ _ _ e in
-        let l : host_place kind rest + host_length kind (from_host kind rest)
-        ≡ length (f.host ++ f.behind) = ap (λ n. n + host_length kind (drop n rest)) z
+    unfolding other_authority_length other_authority host_offset
+    bracketed-host-is-found-authority none e h =
+        let f = host-that-is-found-has-its-positions segment kind w rest u h in
+        let z : host_offset kind rest ≡ 0 = cond-true _ _ _ e in
+        let l : host_offset kind rest + host_and_port_length kind (text_from_host kind rest)
+        ≡ length (f.host ++ f.suffix) = ap (λ n. n + host_and_port_length kind (drop n rest)) z
         ∙ zero-add _ ∙ f.whole in
-        other_case none (l ∙ sym (ap length f.text)) (λ place.
-        let s : place + host_place kind rest ≡ place = omega (arith, z) in
-        let n : host_end kind (from_host kind rest) ≡ length f.host =
-        ap (host_end kind) (literal_first rest e)
+        authority-at-cut-positions-is-found none (l ∙ sym (ap length f.text)) (λ place.
+        let s : place + host_offset kind rest ≡ place = omega (arith, z) in
+        let n : host_end kind (text_from_host kind rest) ≡ length f.host =
+        ap (host_end kind) (no-userinfo-before-bracketed-host rest e)
         ∙ f.end in
-        let m : host_length kind (from_host kind rest) ≡ length (f.host ++ f.behind) =
-        ap (host_length kind) (literal_first rest e)
+        let m : host_and_port_length kind (text_from_host kind rest) ≡ length (f.host ++ f.suffix) =
+        ap (host_and_port_length kind) (no-userinfo-before-bracketed-host rest e)
         ∙ f.whole in
-        let same : other_authority kind place rest ≡ places place place f.host f.behind =
+        let same : other_authority kind place rest ≡ places place place f.host f.suffix =
         λ i. record {
           start = place;
           host_start = s i;
@@ -330,51 +302,62 @@ module _ (segment : TableSet) (kind : Kind) (w : Separates segment kind) where
           end =
               s i + m i;
         } in
-        same ∙ sym (ap (authority_at place) f.text ∙ bare_at f.host f.behind f.at f.cut place))
+        same ∙ sym (ap (authority_at place) f.text
+        ∙ authority_at-without-userinfo f.host f.suffix f.at f.cut place))
 
-    user_case : finds_name kind rest ≡ false → starts 91 rest ≡ false → passes_user kind rest ≡ true
-        → finds_host kind (from_host kind rest) ≡ true → IsFound kind rest
-    unfolding other_length other_authority
-    user_case none e passed h =
-        let m = user_to_mark (sym (user_passed rest) ∙ passed) in
+    userinfo-and-host-are-found-authority : name_ends_authority kind rest ≡ false
+        → starts 91 rest ≡ false
+        → passes_user kind rest ≡ true
+        → finds_host kind (text_from_host kind rest) ≡ true → IsFound kind rest
+    unfolding other_authority_length other_authority
+    userinfo-and-host-are-found-authority none e passed h =
+        let m = userinfo-before-at-sign-ends-at-first-mark
+        (sym (passes_user-is-at-sign-after-userinfo segment kind w rest) ∙ passed) in
         let user : List ℕ = before_any (codes "@/?#") rest in
         let s : List ℕ = drop 1 tail in
         let mark : starts 64 tail ≡ true = sym (ap (λ n. starts 64 (drop n rest)) m)
-        ∙ sym (user_passed rest) ∙ passed in
-        let b : from_host kind rest ≡ s = user_behind rest e ∙ ap (λ n. drop 1 (drop n rest)) m in
-        let f = found_host segment kind w s (utf8_mark mark) (sym (ap (finds_host kind) b) ∙ h) in
-        let cut_user = IsCut-any (codes "@/?#") rest in
-        let cut_host = IsCut-any (codes "/?#") s in
+        ∙ sym (passes_user-is-at-sign-after-userinfo segment kind w rest) ∙ passed in
+        let b : text_from_host kind rest ≡ s = text_from_host-is-after-at-sign segment kind w rest e
+        ∙ ap (λ n. drop 1 (drop n rest)) m in
+        let f = host-that-is-found-has-its-positions segment kind w s
+        (text-after-at-sign-is-utf8 mark) (sym (ap (finds_host kind) b) ∙ h) in
+        let cut_user = text-is-cut-at-first-mark (codes "@/?#") rest in
+        let cut_host = text-is-cut-at-first-mark (codes "/?#") s in
         let outside : Lacks (codes "@") user =
-        lacks_fewer (codes "@") (codes "@/?#") (λ c e. grind (arith, nat_tests)) user
+        Lacks-of-fewer-marks (codes "@") (codes "@/?#") (λ c e. grind (arith, nat_tests)) user
         cut_user.lacks in
-        let whole_text : List ℕ = user ++ (64 ∷ (f.host ++ f.behind)) in
+        let whole_text : List ℕ = user ++ (64 ∷ (f.host ++ f.suffix)) in
         let end : List ℕ = from_any (codes "/?#") s in
         let whole : whole_text ++ end ≡ rest =
-        append_assoc user (64 ∷ (f.host ++ f.behind)) end
+        append_assoc user (64 ∷ (f.host ++ f.suffix)) end
         ∙ ap (λ t. user ++ (64 ∷ (t ++ end))) (sym f.text)
         ∙ ap (λ t. user ++ (64 ∷ t)) cut_host.whole
-        ∙ ap (λ t. user ++ t) (sym (starts-cons 64 tail mark)) ∙ cut_user.whole in
+        ∙ ap (λ t. user ++ t) (sym (text-with-mark-is-mark-and-rest 64 tail mark))
+        ∙ cut_user.whole in
         let ends_lack : Lacks (codes "/?#") whole_text =
-        lacks_append (codes "/?#") user (64 ∷ (f.host ++ f.behind))
-        (lacks_fewer (codes "/?#") (codes "@/?#") (λ c e. grind (arith, nat_tests)) user
+        joined-texts-lack-marks (codes "/?#") user (64 ∷ (f.host ++ f.suffix))
+        (Lacks-of-fewer-marks (codes "/?#") (codes "@/?#") (λ c e. grind (arith, nat_tests)) user
         cut_user.lacks)
-        (Lacks-cons (codes "/?#") 64 (f.host ++ f.behind) refl
+        (text-after-other-byte-lacks-marks (codes "/?#") 64 (f.host ++ f.suffix) refl
         (subst (Lacks (codes "/?#")) f.text cut_host.lacks)) in
         let text_is : cut_text ≡ whole_text = ap (before_any (codes "/?#")) (sym whole)
-        ∙ (cut-append (codes "/?#") whole_text end ends_lack cut_host.begins).0 in
-        let n : host_place kind rest ≡ length user + 1 = user_place rest e
-        ∙ ap (λ n. n + 1) (m ∙ sym (length-before (codes "@/?#") rest)) in
-        let host : host_end kind (from_host kind rest) ≡ length f.host = ap (host_end kind) b
+        ∙ (cut-at-end-of-text-without-marks (codes "/?#") whole_text end ends_lack
+        cut_host.begins).0 in
+        let n : host_offset kind rest
+        ≡ length user + 1 = host_offset-is-after-userinfo-and-at-sign segment kind w rest e
+        ∙ ap (λ n. n + 1) (m ∙ sym (length-of-text-before-marks (codes "@/?#") rest)) in
+        let host : host_end kind (text_from_host kind rest) ≡ length f.host = ap (host_end kind) b
         ∙ f.end in
-        let past : host_length kind (from_host kind rest) ≡ length (f.host ++ f.behind) =
-        ap (host_length kind) b
+        let past : host_and_port_length kind (text_from_host kind rest)
+        ≡ length (f.host ++ f.suffix) =
+        ap (host_and_port_length kind) b
         ∙ f.whole in
-        let l : host_place kind rest + host_length kind (from_host kind rest) ≡ length whole_text =
-        omega (arith, n, past, length-append user (64 ∷ (f.host ++ f.behind))) in
-        other_case none (l ∙ sym (ap length text_is)) (λ place.
+        let l : host_offset kind rest + host_and_port_length kind (text_from_host kind rest)
+        ≡ length whole_text =
+        omega (arith, n, past, length-append user (64 ∷ (f.host ++ f.suffix))) in
+        authority-at-cut-positions-is-found none (l ∙ sym (ap length text_is)) (λ place.
         let same : other_authority kind place rest
-        ≡ places place (place + (length user + 1)) f.host f.behind =
+        ≡ places place (place + (length user + 1)) f.host f.suffix =
         λ i. record {
           start = place;
           host_start = place + n i;
@@ -383,19 +366,21 @@ module _ (segment : TableSet) (kind : Kind) (w : Separates segment kind) where
           end = place + n i + past i;
         } in
         same ∙ sym (ap (authority_at place) text_is
-        ∙ user_at f.host f.behind f.at f.cut user outside place))
+        ∙ authority_at-with-userinfo f.host f.suffix f.at f.cut user outside place))
 
-    split_or : (x y : Bool) → (x || y) ≡ true → x ≡ false → y ≡ true
-    split_or true y h e = absurd (both_ways true e refl)
-    split_or false y h e = h
+    second-holds-if-first-of-or-fails : (x y : Bool) → (x || y) ≡ true → x ≡ false → y ≡ true
+    second-holds-if-first-of-or-fails true y h e = absurd (both_ways true e refl)
+    second-holds-if-first-of-or-fails false y h e = h
 
-    pub is_found : finds_authority kind rest ≡ true → IsFound kind rest
-    is_found h = ⊎_elim name_case
+    pub found-authority-is-the-cut-one : finds_authority kind rest ≡ true → IsFound kind rest
+    found-authority-is-the-cut-one h = ⊎_elim name-alone-is-found-authority
         (λ none. ⊎_elim
-        (λ e. literal_case none e (sym (literal_other rest e) ∙ h))
+        (λ e. bracketed-host-is-found-authority none e
+        (sym (bracketed-authority-is-host-and-port rest e) ∙ h))
         (λ e.
         let p = and_parts (passes_user kind rest) _
-        (split_or (finds_name kind rest) _ (sym (name_or_user rest e) ∙ h) none) in
-        user_case none e p.0 p.1)
+        (second-holds-if-first-of-or-fails (name_ends_authority kind rest) _
+        (sym (unbracketed-authority-is-name-or-userinfo-and-host rest e) ∙ h) none) in
+        userinfo-and-host-are-found-authority none e p.0 p.1)
         (cases_Bool (starts 91 rest)))
-        (cases_Bool (finds_name kind rest))
+        (cases_Bool (name_ends_authority kind rest))

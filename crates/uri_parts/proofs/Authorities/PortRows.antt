@@ -4,31 +4,33 @@ use Rattle.std.specs.Str.{str_to_ascii_lowercase}
 use Rattle.uri_parts.specs.Ports.{port_number}
 use Rattle.uri_parts.specs.SchemePorts.{scheme_ports, default_port}
 
-rows : length scheme_ports ≡ 44
-rows = refl
+table-of-default-ports-has-44-rows : length scheme_ports ≡ 44
+table-of-default-ports-has-44-rows = refl
 
--- each name is in lower case, and occurs once: what its row says is its default port
-in_lower_case : map (λ row. str_to_ascii_lowercase row.0) scheme_ports
+-- default ports: the names of the table are in lower case,
+-- so its rows are found by a scheme in lower case
+names-of-default-ports-are-lower-case : map (λ row. str_to_ascii_lowercase row.0) scheme_ports
     ≡ map (λ row. row.0) scheme_ports
-in_lower_case = refl
+names-of-default-ports-are-lower-case = refl
 
-each_row : map (λ row. default_port row.0) scheme_ports ≡ map (λ row. Some row.1) scheme_ports
+each-row-gives-its-default-port : map (λ row. default_port row.0) scheme_ports
+    ≡ map (λ row. Some row.1) scheme_ports
 unfolding default_port
-each_row = refl
+each-row-gives-its-default-port = refl
 
-no_row : default_port (codes "httpx") ≡ None
+unknown-scheme-has-no-default-port : default_port (codes "httpx") ≡ None
 unfolding default_port
-no_row = refl
+unknown-scheme-has-no-default-port = refl
 
-any_case : default_port (str_to_ascii_lowercase (codes "COAP+TCP")) ≡ Some 5683
+default-port-ignores-case : default_port (str_to_ascii_lowercase (codes "COAP+TCP")) ≡ Some 5683
 unfolding default_port
-any_case = refl
+default-port-ignores-case = refl
 
-long_port : port_number (Some (codes "00000000000000000080")) ≡ Some 80
-long_port = refl
+leading-zeros-keep-port-number : port_number (Some (codes "00000000000000000080")) ≡ Some 80
+leading-zeros-keep-port-number = refl
 
-great_port : port_number (Some (codes "65536")) ≡ Some 65536
-great_port = refl
+port-number-may-pass-65535 : port_number (Some (codes "65536")) ≡ Some 65536
+port-number-may-pass-65535 = refl
 
-empty_port : port_number (Some []) ≡ None
-empty_port = refl
+empty-port-has-no-number : port_number (Some []) ≡ None
+empty-port-has-no-number = refl

@@ -17,44 +17,56 @@ use Rattle.std.proofs.lemmas.Str.Parse.{without_leading_plus_none}
 use Rattle.uri_pct.specs.Sets.{digit_set}
 use Rattle.uri_pct.specs.Tokens.{IsValidFor}
 use Rattle.uri_parts.specs.Ports.{port_number, port_value, FitsPort}
-use Rattle.uri_parts.proofs.TextKinds.PlainSets.{is_plain_char, valid_plain}
+use Rattle.uri_parts.proofs.TextKinds.AsciiSets.{is_ascii_in, valid_ascii_text}
 
-is_digit : (d : ℕ) → is_plain_char is_ascii_digit d ≡ true → digit_value d < 10
-is_digit d e =
+-- ports: an ASCII digit has a value below 10
+ascii-digit-has-value-below-ten : (d : ℕ) → is_ascii_in is_ascii_digit d ≡ true → digit_value d < 10
+ascii-digit-has-value-below-ten d e =
     let q : (leb 48 d && leb d 57) ≡ true = (and_parts (ltb d 128) (is_ascii_digit d) e).1 in
     let r = and_parts (leb 48 d) (leb d 57) q in
     let low : 48 ≤ d = leb-true 48 d r.0 in
     let high : d ≤ 57 = leb-true d 57 r.1 in
     omega (arith, digit_value_digit d (low, high))
 
-all_digits : (digits : List ℕ) → list_all (is_plain_char is_ascii_digit) digits ≡ true
+-- ports: ASCII digits are decimal digits, as std reads them
+ascii-digits-are-decimal-digits : (digits : List ℕ) → list_all (is_ascii_in is_ascii_digit) digits
+    ≡ true
     → AllDigits 10 digits
-all_digits [] e = tt
-all_digits (d ∷ digits) e =
-    let p = and_parts (is_plain_char is_ascii_digit d)
-    (list_all (is_plain_char is_ascii_digit) digits) e in
-    (is_digit d p.0, all_digits digits p.1)
+ascii-digits-are-decimal-digits [] e = tt
+ascii-digits-are-decimal-digits (d ∷ digits) e =
+    let p = and_parts (is_ascii_in is_ascii_digit d)
+    (list_all (is_ascii_in is_ascii_digit) digits) e in
+    (ascii-digit-has-value-below-ten d p.0, ascii-digits-are-decimal-digits digits p.1)
 
-valid_digits : (digits : List ℕ) → IsUtf8 digits → IsValidFor digit_set digits
+-- ports: a text that is valid for the set of digits is decimal digits
+valid-digit-text-is-decimal-digits : (digits : List ℕ) → IsUtf8 digits → IsValidFor digit_set digits
     → AllDigits 10 digits
-valid_digits digits u v = all_digits digits (sym (valid_plain is_ascii_digit refl digits u) ∙ v)
+valid-digit-text-is-decimal-digits digits u v = ascii-digits-are-decimal-digits digits
+    (sym (valid_ascii_text is_ascii_digit refl digits u)
+    ∙ v)
 
-plain_words : IsNumeralModel (AllDigits 10) port_value
-plain_words = record { to = λ ds d. d; from = λ ds d. d; same = λ ds d. refl }
+-- ports: the value of a port is one by which std reads numbers
+port_value-is-numeral-model : IsNumeralModel (AllDigits 10) port_value
+port_value-is-numeral-model = record { to = λ ds d. d; from = λ ds d. d; same = λ ds d. refl }
 
-not_empty : (digits : List ℕ) → eqb (length digits) 0 ≡ false
+-- ports: a port with digits has their value as its number
+nonempty-port-has-number : (digits : List ℕ) → eqb (length digits) 0 ≡ false
     → (0 < length digits) × (port_number (Some digits) ≡ Some (port_value digits))
-not_empty [] e = absurd (true≢false e)
-not_empty (d ∷ digits) e = (omega arith, refl)
+nonempty-port-has-number [] e = absurd (true≢false e)
+nonempty-port-has-number (d ∷ digits) e = (omega arith, refl)
 
-no_plus : (digits : List ℕ) → AllDigits 10 digits → without_leading_plus digits ≡ digits
-no_plus [] d = refl
-no_plus (c ∷ digits) d = without_leading_plus_none (c ∷ digits)
+-- ports: digits have no `+` before them, which std would allow
+digits-have-no-leading-plus : (digits : List ℕ) → AllDigits 10 digits → without_leading_plus digits
+    ≡ digits
+digits-have-no-leading-plus [] d = refl
+digits-have-no-leading-plus (c ∷ digits) d = without_leading_plus_none (c ∷ digits)
     (λ e. omega (arith, digit_from_value c d.0))
 
-numeral : (digits : List ℕ) → AllDigits 10 digits → 0 < length digits
+-- ports: digits, one at least, are a number as std reads them
+nonempty-digits-are-numeral : (digits : List ℕ) → AllDigits 10 digits → 0 < length digits
     → IsNumeral 10 (without_leading_plus digits)
-numeral digits d some = subst (IsNumeral 10) (sym (no_plus digits d)) (some, d)
+nonempty-digits-are-numeral digits d some = subst (IsNumeral 10)
+    (sym (digits-have-no-leading-plus digits d)) (some, d)
 
 -- a port that is not empty is parsed as its number, or rejected because that is too great
 pub record IsPortParsed (port : Option (List ℕ)) (r : Result ℕ ParseIntError) : Type 0 where
@@ -62,33 +74,40 @@ pub record IsPortParsed (port : Option (List ℕ)) (r : Result ℕ ParseIntError
   pub err : (e : ParseIntError) → r ≡ Err e
       → ¬ (FitsPort (port_number port)) × (error_kind e ≡ PosOverflow)
 
+-- std parses the digits exactly if there are some and their number is below 65536
 abbrev IsParsed : List ℕ → Result ℕ ParseIntError → Type 0
 IsParsed digits r = OkIff r ((0 < length digits) × (port_value digits < 2 ^ 16)) (port_value digits)
 
+-- ports: a number below 65536 is the port's as 16 bits
 fits : (port : Option (List ℕ)) (n m : ℕ) → port_number port ≡ Some m → n ≡ m → m < 65536
     → FitsPort (port_number port) × (Some n ≡ port_number port)
 fits port n m is e h = (subst FitsPort (sym is) h, ap Some e ∙ sym is)
 
-parsed_as : (digits : List ℕ) (r : Result ℕ ParseIntError) → AllDigits 10 digits → 0 < length digits
+-- ports: the digits of one are parsed as its number, or rejected because that is too great
+parsed-digits-are-parsed-port : (digits : List ℕ) (r : Result ℕ ParseIntError) → AllDigits 10 digits
+    → 0 < length digits
     → port_number (Some digits) ≡ Some (port_value digits) → IsParsed digits r
     → ExplainsUnsignedError 10 digits r → IsPortParsed (Some digits) r
-parsed_as digits r d some is h explains = record {
+parsed-digits-are-parsed-port digits r d some is h explains = record {
   ok = λ n e. let k = subst (IsParsed digits) e h in
       fits (Some digits) n (port_value digits) is k.1 k.0.1;
   err = λ e refused. (
     λ fits. subst (IsParsed digits) refused h (some, subst FitsPort is fits),
     ⊎_elim (λ w. absurd (omega (arith, w.1)))
-        (λ w. ⊎_elim (λ x. absurd (x.1 (numeral digits d some))) (λ x. x) w.1)
+        (λ w. ⊎_elim (λ x. absurd (x.1 (nonempty-digits-are-numeral digits d some))) (λ x. x) w.1)
         (subst (ExplainsUnsignedError 10 digits) refused explains),
   );
 }
 
-pub port_parsed : (port : Option (List ℕ)) (digits : List ℕ) (r : Result ℕ ParseIntError)
+-- ports: one that is not empty is parsed as its number, or rejected as too great
+pub port-is-parsed-as-its-number : (port : Option (List ℕ)) (digits : List ℕ)
+    (r : Result ℕ ParseIntError)
     → Some digits ≡ port → IsUtf8 digits → IsValidFor digit_set digits
     → eqb (length digits) 0 ≡ false → ParsesUnsigned 16 10 digits r
     → ExplainsUnsignedError 10 digits r → IsPortParsed port r
-port_parsed port digits r is u v long parses explains =
-    let d = valid_digits digits u v in
-    let some = not_empty digits long in
+port-is-parsed-as-its-number port digits r is u v long parses explains =
+    let d = valid-digit-text-is-decimal-digits digits u v in
+    let some = nonempty-port-has-number digits long in
     subst (λ port. IsPortParsed port r) is
-    (parsed_as digits r d some.0 some.1 (parse_digits plain_words 16 digits r parses d) explains)
+    (parsed-digits-are-parsed-port digits r d some.0 some.1
+    (parse_digits port_value-is-numeral-model 16 digits r parses d) explains)

@@ -4,51 +4,59 @@ use Rattle.std.proofs.Common.{sym, ◌∙◌, Option, Some, None, option_map, Bo
 use Rattle.std.specs.Str.{str_to_ascii_lowercase, str_eq_ignore_ascii_case}
 use Rattle.uri_parts.specs.SchemePorts.{scheme_ports, default_port, port_ignoring_case}
 
+-- a row of the constant: a scheme and its default port
 abbrev pub Row : Type 0
 Row = Bor (List ℕ) × ℕ
 
+-- a row of the constant as one of the table
 abbrev pub row_of : Row → List ℕ × ℕ
 row_of row = (row.0.now, row.1)
 
+-- the row is of this scheme, whatever its case
 abbrev pub is_named : List ℕ → Row → Bool
 is_named name row = str_eq_ignore_ascii_case row.0.now name
 
-either : (t : Bool) (row : Row) (found : Option Row) (port : Option ℕ)
+-- default ports: the port of the first row that fits, else of the rows after it
+port-of-chosen-row-or-later : (t : Bool) (row : Row) (found : Option Row) (port : Option ℕ)
     → option_map (λ r. r.1) found ≡ port
     → option_map (λ r. r.1) (cond t (Some row) found) ≡ cond t (Some row.1) port
-either true row found port e = refl
-either false row found port e = e
+port-of-chosen-row-or-later true row found port e = refl
+port-of-chosen-row-or-later false row found port e = e
 
-outside : (t : Bool) (row : List ℕ × ℕ) (found : Option (List ℕ × ℕ))
+-- default ports: taking a row if a test passes, and then its port, is taking the port if it passes
+port-commutes-with-row-choice : (t : Bool) (row : List ℕ × ℕ) (found : Option (List ℕ × ℕ))
     → option_map (λ r. r.1) (cond t (Some row) found)
     ≡ cond t (Some row.1) (option_map (λ r. r.1) found)
-outside true row found = refl
-outside false row found = refl
+port-commutes-with-row-choice true row found = refl
+port-commutes-with-row-choice false row found = refl
 
-port_of_rows : (name : List ℕ) (rows : List Row)
+-- default ports: the port of the row that is found by its name is the port by that name in any case
+port-of-found-row-is-port_ignoring_case : (name : List ℕ) (rows : List Row)
     → option_map (λ r. r.1) (find (is_named name) rows) ≡ port_ignoring_case name (map row_of rows)
 unfolding port_ignoring_case
-port_of_rows name [] = refl
-port_of_rows name (row ∷ rows) =
-    either (is_named name row) row (find (is_named name) rows)
-    (port_ignoring_case name (map row_of rows)) (port_of_rows name rows)
-    ∙ sym (outside (is_named name row) (row_of row)
+port-of-found-row-is-port_ignoring_case name [] = refl
+port-of-found-row-is-port_ignoring_case name (row ∷ rows) =
+    port-of-chosen-row-or-later (is_named name row) row (find (is_named name) rows)
+    (port_ignoring_case name (map row_of rows)) (port-of-found-row-is-port_ignoring_case name rows)
+    ∙ sym (port-commutes-with-row-choice (is_named name row) (row_of row)
     (find (λ r. str_eq_ignore_ascii_case r.0 name) (map row_of rows)))
 
-port_behind : (r : Option (Bor Row))
+-- default ports: the port of a row that is borrowed is that of the row
+port-of-row-behind-reference : (r : Option (Bor Row))
     → option_map (λ x. x.now.1) r ≡ option_map (λ (row : Row). row.1) (option_map (λ x. x.now) r)
-port_behind None = refl
-port_behind (Some row) = refl
+port-of-row-behind-reference None = refl
+port-of-row-behind-reference (Some row) = refl
 
--- the port of the row that a search found
-pub port_found : (name : List ℕ) (rows : List Row) (r : Option (Bor Row))
+-- default ports: the port of the row that a search by name found
+pub found-row-gives-port-of-name : (name : List ℕ) (rows : List Row) (r : Option (Bor Row))
     → option_map (λ x. x.now) r ≡ find (is_named name) rows
     → option_map (λ x. x.now.1) r ≡ port_ignoring_case name (map (λ row. (row.0.now, row.1)) rows)
-port_found name rows r e = port_behind r ∙ ap (option_map (λ (row : Row). row.1)) e
-    ∙ port_of_rows name rows
+found-row-gives-port-of-name name rows r e = port-of-row-behind-reference r
+    ∙ ap (option_map (λ (row : Row). row.1)) e
+    ∙ port-of-found-row-is-port_ignoring_case name rows
 
--- the names of the table are in lower case
-pub port_of_lowered : (scheme : List ℕ)
+-- default ports: a search that ignores case finds the port of the scheme in lower case
+pub port_ignoring_case-is-default_port : (scheme : List ℕ)
     → port_ignoring_case scheme scheme_ports ≡ default_port (str_to_ascii_lowercase scheme)
 unfolding port_ignoring_case default_port
-port_of_lowered scheme = refl
+port_ignoring_case-is-default_port scheme = refl

@@ -12,234 +12,281 @@ use Rattle.uri_pct.specs.Sets.{TableSet, digit_set, is_one_of}
 use Rattle.uri_pct.specs.Tokens.{is_valid_for}
 use Rattle.uri_parts.specs.Components.{marked, starts, before_any, from_any, when, Lacks}
 use Rattle.uri_parts.specs.Hosts.{is_host, bracketed, ipv4_value, ipv6_value, is_ipv_future}
-use Rattle.uri_parts.specs.Authority.{host_before, behind_host, is_authority_for}
+use Rattle.uri_parts.specs.Authority.{leading_host, after_host, is_authority_for}
 use Rattle.uri_parts.proofs.Parsing.Acceptance.{is_literal}
-use Rattle.uri_parts.proofs.Splitting.Cuts.{Begins, IsCut-any, before_past_other, from_past_other}
-use Rattle.uri_parts.proofs.HostForms.Hosts.{literal_at}
+use Rattle.uri_parts.proofs.Splitting.Cuts.{IsEmptyOrMarked, text-is-cut-at-first-mark}
+use Rattle.uri_parts.proofs.Splitting.Cuts.{before_any-past-other}
+use Rattle.uri_parts.proofs.Splitting.Cuts.{from_any-past-other}
+use Rattle.uri_parts.proofs.HostForms.Hosts.{literal_of-bracketed-is-address}
 
 -- a host without brackets
-unfoldable pub is_name : TableSet → List ℕ → Bool
-is_name names text = is_some (ipv4_value text) || is_valid_for names text
+unfoldable pub is_unbracketed_host : TableSet → List ℕ → Bool
+is_unbracketed_host names text = is_some (ipv4_value text) || is_valid_for names text
 
 -- nothing is left, or a port
-unfoldable pub ends_in_port : List ℕ → Bool
-ends_in_port [] = true
-ends_in_port (b ∷ rest) = starts 58 (b ∷ rest) && is_valid_for digit_set rest
+unfoldable pub is_empty_or_port : List ℕ → Bool
+is_empty_or_port [] = true
+is_empty_or_port (b ∷ rest) = starts 58 (b ∷ rest) && is_valid_for digit_set rest
 
+-- a host, in brackets or not, and then nothing or a port
 unfoldable pub parses_host_and_port : TableSet → List ℕ → Bool
 parses_host_and_port names rest = cond (starts 91 rest)
     (starts 93 (from_any (codes "]") (drop 1 rest))
     && (is_literal (before_any (codes "]") (drop 1 rest))
-    && ends_in_port (drop 1 (from_any (codes "]") (drop 1 rest)))))
-    (is_name names (before_any (codes ":") rest) && ends_in_port (from_any (codes ":") rest))
+    && is_empty_or_port (drop 1 (from_any (codes "]") (drop 1 rest)))))
+    (is_unbracketed_host names (before_any (codes ":") rest) && is_empty_or_port
+    (from_any (codes ":") rest))
 
+-- userinfo if there is an `@`, and then a host and a port
 unfoldable pub parses_whole_authority : TableSet → TableSet → List ℕ → Bool
 parses_whole_authority users names text = cond (starts 64 (from_any (codes "@") text))
     (is_valid_for users (before_any (codes "@") text)
     && parses_host_and_port names (drop 1 (from_any (codes "@") text)))
     (parses_host_and_port names text)
 
-same : (xs ys : List ℕ) → xs ≡ ys → bytes_eq xs ys ≡ true
-same xs ys e = (bytes_eq-Decides xs ys).1 e
+-- general fact on texts, for brackets around a host: equal ones pass the test of equality
+equal-texts-pass-bytes_eq : (xs ys : List ℕ) → xs ≡ ys → bytes_eq xs ys ≡ true
+equal-texts-pass-bytes_eq xs ys e = (bytes_eq-Decides xs ys).1 e
 
-other : (xs ys : List ℕ) → (xs ≡ ys → ⊥) → bytes_eq xs ys ≡ false
-other xs ys apart = false_from_ne_true _ (λ t. apart ((bytes_eq-Decides xs ys).0 t))
+-- general fact on texts, for brackets around a host: different ones fail the test of equality
+different_texts_fail_bytes_eq : (xs ys : List ℕ) → (xs ≡ ys → ⊥) → bytes_eq xs ys ≡ false
+different_texts_fail_bytes_eq xs ys apart = false_from_ne_true _
+    (λ t. apart ((bytes_eq-Decides xs ys).0 t))
 
-bytes_eq-front : (xs ys zs : List ℕ) → bytes_eq (xs ++ ys) (xs ++ zs) ≡ bytes_eq ys zs
-bytes_eq-front [] ys zs = refl
-bytes_eq-front (x ∷ xs) ys zs = ap (λ t. t && bytes_eq (xs ++ ys) (xs ++ zs)) (eq-eqb x x refl)
-    ∙ bytes_eq-front xs ys zs
+-- general fact on texts, for brackets around a host: a common prefix changes no test of equality
+bytes_eq-ignores-common-prefix : (xs ys zs : List ℕ) → bytes_eq (xs ++ ys) (xs ++ zs)
+    ≡ bytes_eq ys zs
+bytes_eq-ignores-common-prefix [] ys zs = refl
+bytes_eq-ignores-common-prefix (x ∷ xs) ys zs = ap (λ t. t && bytes_eq (xs ++ ys) (xs ++ zs))
+    (eq-eqb x x refl)
+    ∙ bytes_eq-ignores-common-prefix xs ys zs
 
--- a port with its mark
+-- authorities: the port that is after the `:`, if the text begins with it
 port_of : List ℕ → Option (List ℕ)
-port_of behind = when (starts 58 behind) (drop 1 behind)
+port_of suffix = when (starts 58 suffix) (drop 1 suffix)
 
--- nothing else than a port comes after a host
-port_ends : (behind : List ℕ)
-    → (bytes_eq (marked (codes ":") (port_of behind) []) behind
-    && option_map_or (is_valid_for digit_set) (port_of behind) true)
-    ≡ ends_in_port behind
-unfolding port_of ends_in_port
-port_ends [] = refl
-port_ends (b ∷ rest) = ⊎_elim
+-- authorities: a suffix that is a port with its `:`, or nothing, passes the test of it
+suffix-test-is-is_empty_or_port : (suffix : List ℕ)
+    → (bytes_eq (marked (codes ":") (port_of suffix) []) suffix
+    && option_map_or (is_valid_for digit_set) (port_of suffix) true)
+    ≡ is_empty_or_port suffix
+unfolding port_of is_empty_or_port
+suffix-test-is-is_empty_or_port [] = refl
+suffix-test-is-is_empty_or_port (b ∷ rest) = ⊎_elim
     (λ e.
     let p : when (starts 58 (b ∷ rest)) rest ≡ Some rest = cond-true _ _ _ e in
     let t : (codes ":" ++ rest) ++ [] ≡ b ∷ rest = append-nil (58 ∷ rest)
     ∙ ap (λ c. c ∷ rest) (sym (eqb-true b 58 e)) in
     ap (λ o. bytes_eq (marked (codes ":") o []) (b ∷ rest)
     && option_map_or (is_valid_for digit_set) o true) p
-    ∙ ap (λ x. x && is_valid_for digit_set rest) (same _ _ t)
+    ∙ ap (λ x. x && is_valid_for digit_set rest) (equal-texts-pass-bytes_eq _ _ t)
     ∙ sym (ap (λ x. x && is_valid_for digit_set rest) e))
     (λ e. ap (λ x. bytes_eq (marked (codes ":") (when x rest) []) (b ∷ rest)
     && option_map_or (is_valid_for digit_set) (when x rest) true) e
     ∙ sym (and_left _ _ e))
     (cases_Bool (eqb b 58))
 
--- the host and the port of what is after the userinfo
+-- authorities: the test of the host and the port in what is after the userinfo
 host_test : TableSet → List ℕ → Bool
 host_test names rest =
-    bytes_eq (host_before rest ++ marked (codes ":") (port_of (behind_host rest)) []) rest
-    && (is_host names (host_before rest)
-    && option_map_or (is_valid_for digit_set) (port_of (behind_host rest)) true)
+    bytes_eq (leading_host rest ++ marked (codes ":") (port_of (after_host rest)) []) rest
+    && (is_host names (leading_host rest)
+    && option_map_or (is_valid_for digit_set) (port_of (after_host rest)) true)
 
-three : (a b c : Bool) → (a && (b && c)) ≡ (b && (a && c))
-three true true c = refl
-three true false c = refl
-three false true c = refl
-three false false c = refl
+-- general fact on booleans, for the tests of an authority's components
+and-of-three-swaps-first-two : (a b c : Bool) → (a && (b && c)) ≡ (b && (a && c))
+and-of-three-swaps-first-two true true c = refl
+and-of-three-swaps-first-two true false c = refl
+and-of-three-swaps-first-two false true c = refl
+and-of-three-swaps-first-two false false c = refl
 
--- with a host that is known, the rest is the port
-by_cut : (names : TableSet) (host behind rest : List ℕ) → host ++ behind ≡ rest
-    → host_before rest ≡ host → behind_host rest ≡ behind →
-    host_test names rest ≡ (is_host names host && ends_in_port behind)
+-- authorities: if the host is known, the test is that of the host, and of the rest as a port
+host_test-of-known-cut : (names : TableSet) (host suffix rest : List ℕ) → host ++ suffix ≡ rest
+    → leading_host rest ≡ host → after_host rest ≡ suffix →
+    host_test names rest ≡ (is_host names host && is_empty_or_port suffix)
 unfolding host_test
-by_cut names host behind rest whole h b =
-    ap (λ x. bytes_eq (x ++ marked (codes ":") (port_of (behind_host rest)) []) rest
-    && (is_host names x && option_map_or (is_valid_for digit_set) (port_of (behind_host rest))
+host_test-of-known-cut names host suffix rest whole h b =
+    ap (λ x. bytes_eq (x ++ marked (codes ":") (port_of (after_host rest)) []) rest
+    && (is_host names x && option_map_or (is_valid_for digit_set) (port_of (after_host rest))
     true)) h
     ∙ ap (λ x. bytes_eq (host ++ marked (codes ":") (port_of x) []) rest
     && (is_host names host && option_map_or (is_valid_for digit_set) (port_of x) true)) b
-    ∙ ap (λ x. bytes_eq (host ++ marked (codes ":") (port_of behind) []) x
-    && (is_host names host && option_map_or (is_valid_for digit_set) (port_of behind) true))
+    ∙ ap (λ x. bytes_eq (host ++ marked (codes ":") (port_of suffix) []) x
+    && (is_host names host && option_map_or (is_valid_for digit_set) (port_of suffix) true))
     (sym whole)
     ∙ ap
     (λ x. x && (is_host names host
-    && option_map_or (is_valid_for digit_set) (port_of behind) true))
-    (bytes_eq-front host (marked (codes ":") (port_of behind) []) behind)
-    ∙ three (bytes_eq (marked (codes ":") (port_of behind) []) behind) (is_host names host)
-    (option_map_or (is_valid_for digit_set) (port_of behind) true)
-    ∙ ap (λ x. is_host names host && x) (port_ends behind)
+    && option_map_or (is_valid_for digit_set) (port_of suffix) true))
+    (bytes_eq-ignores-common-prefix host (marked (codes ":") (port_of suffix) []) suffix)
+    ∙ and-of-three-swaps-first-two (bytes_eq (marked (codes ":") (port_of suffix) []) suffix)
+    (is_host names host)
+    (option_map_or (is_valid_for digit_set) (port_of suffix) true)
+    ∙ ap (λ x. is_host names host && x) (suffix-test-is-is_empty_or_port suffix)
 
--- a host in no brackets
-name_host : (names : TableSet) (host : List ℕ) → starts 91 host ≡ false
-    → is_host names host ≡ is_name names host
-unfolding is_host is_name
-name_host names host e = cond-false _ _ _ e
+-- hosts: the test of one without `[` (91) is that of an IPv4 address or a name
+unbracketed-host-test-is-is_unbracketed_host : (names : TableSet) (host : List ℕ)
+    → starts 91 host ≡ false
+    → is_host names host ≡ is_unbracketed_host names host
+unfolding is_host is_unbracketed_host
+unbracketed-host-test-is-is_unbracketed_host names host e = cond-false _ _ _ e
 
-starts_front : (mark : ℕ) (front behind : List ℕ) → starts mark (front ++ behind) ≡ false
-    → starts mark front ≡ false
-starts_front mark [] behind e = refl
-starts_front mark (b ∷ front) behind e = e
+-- splitting: a prefix of a text that does not begin with a byte does not either
+prefix-begins-with-no-mark-either : (mark : ℕ) (prefix suffix : List ℕ)
+    → starts mark (prefix ++ suffix) ≡ false
+    → starts mark prefix ≡ false
+prefix-begins-with-no-mark-either mark [] suffix e = refl
+prefix-begins-with-no-mark-either mark (b ∷ prefix) suffix e = e
 
-name_lemma : (names : TableSet) (rest : List ℕ) → starts 91 rest ≡ false
+-- parsing authorities: the test of host and port is parsing them, for a host without `[` (91)
+host_test-parses-unbracketed-host : (names : TableSet) (rest : List ℕ) → starts 91 rest ≡ false
     → host_test names rest ≡ parses_host_and_port names rest
 unfolding parses_host_and_port
-name_lemma names rest e =
-    let cut = IsCut-any (codes ":") rest in
+host_test-parses-unbracketed-host names rest e =
+    let cut = text-is-cut-at-first-mark (codes ":") rest in
     let host : List ℕ = before_any (codes ":") rest in
-    let behind : List ℕ = from_any (codes ":") rest in
-    by_cut names host behind rest cut.whole (cond-false _ _ _ e) (cond-false _ _ _ e)
-    ∙ ap (λ x. x && ends_in_port behind)
-    (name_host names host (starts_front 91 host behind (ap (starts 91) cut.whole ∙ e)))
+    let suffix : List ℕ = from_any (codes ":") rest in
+    host_test-of-known-cut names host suffix rest cut.whole (cond-false _ _ _ e)
+    (cond-false _ _ _ e)
+    ∙ ap (λ x. x && is_empty_or_port suffix)
+    (unbracketed-host-test-is-is_unbracketed_host names host
+    (prefix-begins-with-no-mark-either 91 host suffix (ap (starts 91) cut.whole ∙ e)))
     ∙ sym (cond-false _ _ _ e)
 
--- a host in brackets
-bracket_host : (names : TableSet) (address : List ℕ) → Lacks (codes "]") address
+-- hosts: the test of one in brackets is that of the address in them
+bracketed-host-test-is-is_literal : (names : TableSet) (address : List ℕ)
+    → Lacks (codes "]") address
     → is_host names (bracketed address) ≡ is_literal address
 unfolding is_host is_literal
-bracket_host names address lacks =
-    let l = literal_at address lacks in
+bracketed-host-test-is-is_literal names address lacks =
+    let l = literal_of-bracketed-is-address address lacks in
     ap (λ t. bytes_eq (bracketed t) (bracketed address)
     && (is_some (ipv6_value t) || is_ipv_future t)) l
     ∙ ap (λ t. t && (is_some (ipv6_value address) || is_ipv_future address))
-    (same (bracketed address) (bracketed address) refl)
+    (equal-texts-pass-bytes_eq (bracketed address) (bracketed address) refl)
 
-mark_is : (c : ℕ) → is_one_of (codes "]") c ≡ true → eqb c 93 ≡ true
-mark_is c m = grind (arith, nat_tests)
+-- hosts: the one delimiter `]` is the byte 93
+closing-bracket-is-byte-93 : (c : ℕ) → is_one_of (codes "]") c ≡ true → eqb c 93 ≡ true
+closing-bracket-is-byte-93 c m = grind (arith, nat_tests)
 
--- `[` is no `]`
-before_bracket : (rest : List ℕ)
+-- hosts: what is before the first `]` keeps the `[` (91) before it
+cut-at-closing-bracket-keeps-open-bracket : (rest : List ℕ)
     → before_any (codes "]") (91 ∷ rest) ≡ 91 ∷ before_any (codes "]") rest
-before_bracket rest = before_past_other (codes "]") 91 rest refl
+cut-at-closing-bracket-keeps-open-bracket rest = before_any-past-other (codes "]") 91 rest refl
 
-from_bracket : (rest : List ℕ) → from_any (codes "]") (91 ∷ rest) ≡ from_any (codes "]") rest
-from_bracket rest = from_past_other (codes "]") 91 rest refl
+-- hosts: the first `]` of a text is after the `[` (91) before it
+text-from-closing-bracket-skips-open-bracket : (rest : List ℕ) → from_any (codes "]") (91 ∷ rest)
+    ≡ from_any (codes "]") rest
+text-from-closing-bracket-skips-open-bracket rest = from_any-past-other (codes "]") 91 rest refl
 
-begins_bracket : (behind : List ℕ) → Begins (codes "]") behind → starts 93 behind ≡ true
-    → behind ≡ 93 ∷ drop 1 behind
-begins_bracket [] b e = absurd (false≢true e)
-begins_bracket (c ∷ behind) b e = ap (λ x. x ∷ behind) (eqb-true c 93 e)
+-- hosts: what is from the first `]` (93) on is `]` and a rest
+marked-suffix-is-bracket-and-rest : (suffix : List ℕ) → IsEmptyOrMarked (codes "]") suffix
+    → starts 93 suffix ≡ true
+    → suffix ≡ 93 ∷ drop 1 suffix
+marked-suffix-is-bracket-and-rest [] b e = absurd (false≢true e)
+marked-suffix-is-bracket-and-rest (c ∷ suffix) b e = ap (λ x. x ∷ suffix) (eqb-true c 93 e)
 
-no_bracket : (behind : List ℕ) → Begins (codes "]") behind → starts 93 behind ≡ false → behind ≡ []
-no_bracket [] b e = refl
-no_bracket (c ∷ behind) b e = absurd (both_ways _ e (mark_is c b))
+-- hosts: what is from the first `]` (93) on is nothing, if it does not begin with it
+suffix-without-bracket-is-empty : (suffix : List ℕ) → IsEmptyOrMarked (codes "]") suffix
+    → starts 93 suffix ≡ false
+    → suffix ≡ []
+suffix-without-bracket-is-empty [] b e = refl
+suffix-without-bracket-is-empty (c ∷ suffix) b e = absurd
+    (both_ways _ e (closing-bracket-is-byte-93 c b))
 
-closed_lemma : (names : TableSet) (rest : List ℕ) → starts 93 (from_any (codes "]") rest) ≡ true
+-- parsing authorities: the test of host and port is parsing them, for a host in brackets
+host_test-parses-closed-literal : (names : TableSet) (rest : List ℕ)
+    → starts 93 (from_any (codes "]") rest) ≡ true
     → host_test names (91 ∷ rest) ≡ parses_host_and_port names (91 ∷ rest)
 unfolding parses_host_and_port
-closed_lemma names rest e =
-    let cut = IsCut-any (codes "]") rest in
+host_test-parses-closed-literal names rest e =
+    let cut = text-is-cut-at-first-mark (codes "]") rest in
     let address : List ℕ = before_any (codes "]") rest in
-    let behind : List ℕ = drop 1 (from_any (codes "]") rest) in
-    let f : from_any (codes "]") rest ≡ 93 ∷ behind = begins_bracket (from_any (codes "]") rest)
+    let suffix : List ℕ = drop 1 (from_any (codes "]") rest) in
+    let f : from_any (codes "]") rest ≡ 93 ∷ suffix = marked-suffix-is-bracket-and-rest
+    (from_any (codes "]") rest)
     cut.begins e in
-    let whole : bracketed address ++ behind ≡ 91 ∷ rest =
-    append_assoc (91 ∷ address) (codes "]") behind ∙ ap (λ t. 91 ∷ (address ++ t)) (sym f)
+    let whole : bracketed address ++ suffix ≡ 91 ∷ rest =
+    append_assoc (91 ∷ address) (codes "]") suffix ∙ ap (λ t. 91 ∷ (address ++ t)) (sym f)
     ∙ ap (λ t. 91 ∷ t) cut.whole in
-    let h : host_before (91 ∷ rest) ≡ bracketed address = ap (λ t. t ++ codes "]")
-    (before_bracket rest) in
-    let b : behind_host (91 ∷ rest) ≡ behind = ap (drop 1) (from_bracket rest) in
-    by_cut names (bracketed address) behind (91 ∷ rest) whole h b
-    ∙ ap (λ t. t && ends_in_port behind) (bracket_host names address cut.lacks)
-    ∙ sym (ap (λ t. t && (is_literal address && ends_in_port behind)) e)
+    let h : leading_host (91 ∷ rest) ≡ bracketed address = ap (λ t. t ++ codes "]")
+    (cut-at-closing-bracket-keeps-open-bracket rest) in
+    let b : after_host (91 ∷ rest)
+    ≡ suffix = ap (drop 1) (text-from-closing-bracket-skips-open-bracket rest) in
+    host_test-of-known-cut names (bracketed address) suffix (91 ∷ rest) whole h b
+    ∙ ap (λ t. t && is_empty_or_port suffix)
+    (bracketed-host-test-is-is_literal names address cut.lacks)
+    ∙ sym (ap (λ t. t && (is_literal address && is_empty_or_port suffix)) e)
 
-too_long : (rest : List ℕ) → (bracketed rest ++ []) ≡ 91 ∷ rest → ⊥
-too_long rest e = let n = ap length e in
+-- hosts: a text without `]` is not one in brackets
+unclosed-text-is-not-bracketed : (rest : List ℕ) → (bracketed rest ++ []) ≡ 91 ∷ rest → ⊥
+unclosed-text-is-not-bracketed rest e = let n = ap length e in
     omega (arith, n, length-append rest (codes "]"), length-append (bracketed rest) [])
 
-open_lemma : (names : TableSet) (rest : List ℕ) → starts 93 (from_any (codes "]") rest) ≡ false
+-- parsing authorities: the test of host and port is parsing them, where a `[` is not closed
+host_test-parses-unclosed-literal : (names : TableSet) (rest : List ℕ)
+    → starts 93 (from_any (codes "]") rest) ≡ false
     → host_test names (91 ∷ rest) ≡ parses_host_and_port names (91 ∷ rest)
 unfolding host_test parses_host_and_port port_of
-open_lemma names rest e =
-    let cut = IsCut-any (codes "]") rest in
-    let none : from_any (codes "]") rest ≡ [] = no_bracket (from_any (codes "]") rest) cut.begins
+host_test-parses-unclosed-literal names rest e =
+    let cut = text-is-cut-at-first-mark (codes "]") rest in
+    let none : from_any (codes "]") rest ≡ [] = suffix-without-bracket-is-empty
+    (from_any (codes "]") rest) cut.begins
     e in
     let all : before_any (codes "]") rest ≡ rest = sym (append-nil (before_any (codes "]") rest))
     ∙ ap (λ t. before_any (codes "]") rest ++ t) (sym none) ∙ cut.whole in
-    let h : host_before (91 ∷ rest) ≡ bracketed rest = ap (λ t. t ++ codes "]")
-    (before_bracket rest ∙ ap (λ t. 91 ∷ t) all) in
-    let b : behind_host (91 ∷ rest) ≡ [] = ap (drop 1) (from_bracket rest ∙ none) in
-    let text : host_before (91 ∷ rest) ++ marked (codes ":") (port_of (behind_host (91 ∷ rest))) []
+    let h : leading_host (91 ∷ rest) ≡ bracketed rest = ap (λ t. t ++ codes "]")
+    (cut-at-closing-bracket-keeps-open-bracket rest ∙ ap (λ t. 91 ∷ t) all) in
+    let b : after_host (91 ∷ rest)
+    ≡ [] = ap (drop 1) (text-from-closing-bracket-skips-open-bracket rest ∙ none) in
+    let text : leading_host (91 ∷ rest) ++ marked (codes ":") (port_of (after_host (91 ∷ rest))) []
     ≡ bracketed rest ++ [] =
-    ap (λ t. t ++ marked (codes ":") (port_of (behind_host (91 ∷ rest))) []) h
+    ap (λ t. t ++ marked (codes ":") (port_of (after_host (91 ∷ rest))) []) h
     ∙ ap (λ t. bracketed rest ++ marked (codes ":") (port_of t) []) b in
     and_left _ _
-    (other (host_before (91 ∷ rest) ++ marked (codes ":") (port_of (behind_host (91 ∷ rest)))
-    []) (91 ∷ rest) (λ d. too_long rest (sym text ∙ d)))
+    (different_texts_fail_bytes_eq
+    (leading_host (91 ∷ rest) ++ marked (codes ":") (port_of (after_host (91 ∷ rest)))
+    []) (91 ∷ rest) (λ d. unclosed-text-is-not-bracketed rest (sym text ∙ d)))
     ∙ sym (and_left _ _ e)
 
-host_lemma : (names : TableSet) (rest : List ℕ)
+-- parsing authorities: the test of host and port is parsing them from left to right
+host_test-is-parses_host_and_port : (names : TableSet) (rest : List ℕ)
     → host_test names rest ≡ parses_host_and_port names rest
-host_lemma names [] = name_lemma names [] refl
-host_lemma names (b ∷ rest) = ⊎_elim
+host_test-is-parses_host_and_port names [] = host_test-parses-unbracketed-host names [] refl
+host_test-is-parses_host_and_port names (b ∷ rest) = ⊎_elim
     (λ e. ap (λ c. host_test names (c ∷ rest)) (eqb-true b 91 e)
-    ∙ ⊎_elim (λ c. closed_lemma names rest c) (λ c. open_lemma names rest c)
+    ∙ ⊎_elim (λ c. host_test-parses-closed-literal names rest c)
+    (λ c. host_test-parses-unclosed-literal names rest c)
     (cases_Bool (starts 93 (from_any (codes "]") rest)))
     ∙ sym (ap (λ c. parses_host_and_port names (c ∷ rest)) (eqb-true b 91 e)))
-    (λ e. name_lemma names (b ∷ rest) e)
+    (λ e. host_test-parses-unbracketed-host names (b ∷ rest) e)
     (cases_Bool (eqb b 91))
 
-begins_at : (behind : List ℕ) → Begins (codes "@") behind → starts 64 behind ≡ true
-    → behind ≡ 64 ∷ drop 1 behind
-begins_at [] b e = absurd (false≢true e)
-begins_at (c ∷ behind) b e = ap (λ x. x ∷ behind) (eqb-true c 64 e)
+-- authorities: what is from the first `@` (64) on is `@` and a rest
+marked-suffix-is-at-sign-and-rest : (suffix : List ℕ) → IsEmptyOrMarked (codes "@") suffix
+    → starts 64 suffix ≡ true
+    → suffix ≡ 64 ∷ drop 1 suffix
+marked-suffix-is-at-sign-and-rest [] b e = absurd (false≢true e)
+marked-suffix-is-at-sign-and-rest (c ∷ suffix) b e = ap (λ x. x ∷ suffix) (eqb-true c 64 e)
 
-four : (a u h p : Bool) → (a && (u && (h && p))) ≡ (u && (a && (h && p)))
-four true true h p = refl
-four true false h p = refl
-four false true h p = refl
-four false false h p = refl
+-- general fact on booleans, for the tests of an authority's components
+and-of-four-swaps-first-two : (a u h p : Bool) → (a && (u && (h && p))) ≡ (u && (a && (h && p)))
+and-of-four-swaps-first-two true true h p = refl
+and-of-four-swaps-first-two true false h p = refl
+and-of-four-swaps-first-two false true h p = refl
+and-of-four-swaps-first-two false false h p = refl
 
-pub authority_parses : (users names : TableSet) (text : List ℕ)
+-- parsing authorities: an authority is of the grammar exactly if userinfo, host and port are passed
+-- to its end, from left to right
+pub is_authority_for-is-parsed-whole : (users names : TableSet) (text : List ℕ)
     → is_authority_for users names text ≡ parses_whole_authority users names text
 unfolding is_authority_for parses_whole_authority host_test port_of
-authority_parses users names text =
-    let cut = IsCut-any (codes "@") text in
+is_authority_for-is-parsed-whole users names text =
+    let cut = text-is-cut-at-first-mark (codes "@") text in
     let user : List ℕ = before_any (codes "@") text in
     let from : List ℕ = from_any (codes "@") text in
-    let tail = λ (r : List ℕ). host_before r ++ marked (codes ":") (port_of (behind_host r)) [] in
-    let tests = λ (r : List ℕ). is_host names (host_before r)
-    && option_map_or (is_valid_for digit_set) (port_of (behind_host r)) true in
+    let tail = λ (r : List ℕ). leading_host r ++ marked (codes ":") (port_of (after_host r)) [] in
+    let tests = λ (r : List ℕ). is_host names (leading_host r)
+    && option_map_or (is_valid_for digit_set) (port_of (after_host r)) true in
     let form = λ (t : Bool). bytes_eq
     (marked [] (when t user) (codes "@") ++ tail (cond t (drop 1 from) text)) text
     && (option_map_or (is_valid_for users) (when t user) true
@@ -247,17 +294,19 @@ authority_parses users names text =
     ⊎_elim
     (λ e.
     let rest : List ℕ = drop 1 from in
-    let whole : user ++ (64 ∷ rest) ≡ text = ap (λ t. user ++ t) (sym (begins_at from cut.begins e))
+    let whole : user ++ (64 ∷ rest)
+    ≡ text = ap (λ t. user ++ t) (sym (marked-suffix-is-at-sign-and-rest from cut.begins e))
     ∙ cut.whole in
     let text_is : bytes_eq ((user ++ codes "@") ++ tail rest) text ≡ bytes_eq (tail rest) rest =
     ap (λ t. bytes_eq t text) (append_assoc user (codes "@") (tail rest))
     ∙ ap (bytes_eq (user ++ (64 ∷ tail rest))) (sym whole)
-    ∙ bytes_eq-front user (64 ∷ tail rest) (64 ∷ rest) in
+    ∙ bytes_eq-ignores-common-prefix user (64 ∷ tail rest) (64 ∷ rest) in
     ap form e
     ∙ ap (λ t. t && (is_valid_for users user && tests rest)) text_is
-    ∙ four (bytes_eq (tail rest) rest) (is_valid_for users user) (is_host names (host_before rest))
-    (option_map_or (is_valid_for digit_set) (port_of (behind_host rest)) true)
-    ∙ ap (λ t. is_valid_for users user && t) (host_lemma names rest)
+    ∙ and-of-four-swaps-first-two (bytes_eq (tail rest) rest) (is_valid_for users user)
+    (is_host names (leading_host rest))
+    (option_map_or (is_valid_for digit_set) (port_of (after_host rest)) true)
+    ∙ ap (λ t. is_valid_for users user && t) (host_test-is-parses_host_and_port names rest)
     ∙ sym (cond-true _ _ _ e))
-    (λ e. ap form e ∙ host_lemma names text ∙ sym (cond-false _ _ _ e))
+    (λ e. ap form e ∙ host_test-is-parses_host_and_port names text ∙ sym (cond-false _ _ _ e))
     (cases_Bool (starts 64 from))

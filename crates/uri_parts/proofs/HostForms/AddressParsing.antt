@@ -15,36 +15,39 @@ use Rattle.std.specs.Net.Reader.{read_number, read_ipv4, read_segment}
 use Rattle.std.proofs.NetLemmas.Numbers.{NoDigit, read_number_some_at, read_number_sound}
 use Rattle.std.proofs.NetLemmas.Numbers.{read_number_empty}
 use Rattle.std.proofs.NetLemmas.Ipv4.{read_ipv4_sound, read_ipv4_none}
-use Rattle.uri_parts.specs.Models.Literals.{AreHexDigits}
+use Rattle.uri_parts.specs.Models.Literals.{AreLeadingHexDigits}
 
+-- the text of an IPv4 address is four decimal numbers with `.` between them
 pub dotted : (a b c d : ℕ) (rest : List ℕ)
     → dotted_text a b c d ++ rest
     ≡ decimal a ++ 46 ∷ (decimal b ++ 46 ∷ (decimal c ++ 46 ∷ (decimal d ++ rest)))
 dotted a b c d rest = simp append_assoc
 
-digit_at : (text : List ℕ) (i : ℕ) → AllDigits 16 text → i < length text
+-- parsing IPv6: each hexadecimal digit has a value below 16
+pub digit-of-hex-text-is-below-16 : (text : List ℕ) (i : ℕ) → AllDigits 16 text → i < length text
     → digit_value (get_or text i 0) < 16
-digit_at [] i h l = absurd (omega arith)
-digit_at (d ∷ text) zero h l = h.0
-digit_at (d ∷ text) (suc i) h l = digit_at text i h.1 (omega arith)
+digit-of-hex-text-is-below-16 [] i h l = absurd (omega arith)
+digit-of-hex-text-is-below-16 (d ∷ text) zero h l = h.0
+digit-of-hex-text-is-below-16 (d ∷ text) (suc i) h l = digit-of-hex-text-is-below-16 text i h.1
+    (omega arith)
 
-module _ (text : List ℕ) (count : ℕ) (h : AreHexDigits text count) where
+module _ (text : List ℕ) (count : ℕ) (h : AreLeadingHexDigits text count) where
   -- a byte that is no hexadecimal digit comes after them
-  no_digit_within : (i : ℕ) → i < count → ¬ (16 ≤ digit_value (get_or text i 0))
-  no_digit_within i l big =
+  leading-byte-is-a-digit : (i : ℕ) → i < count → ¬ (16 ≤ digit_value (get_or text i 0))
+  leading-byte-is-a-digit i l big =
       let inside : i < length (take count text) =
       omega (arith, length-take-le count text h.within) in
-      let small = digit_at (take count text) i h.digits inside in
+      let small = digit-of-hex-text-is-below-16 (take count text) i h.digits inside in
       let same : get_or (take count text) i 0 ≡ get_or text i 0 = get_or-take count text i 0 l in
       omega (arith, ap digit_value same)
 
-  stops : count < 5 → NoDigit 16 (drop count text)
-  stops few = rw (get_or-drop count text 0 0, add-zero) (h.stop few)
+  no-digit-after-leading-digits : count < 5 → NoDigit 16 (drop count text)
+  no-digit-after-leading-digits few = rw (get_or-drop count text 0 0, add-zero) (h.stop few)
 
-  pub group_parsed : 0 < count → count < 5
+  pub hex_digits_are_read_as_segment : 0 < count → count < 5
       → read_segment text ≡ Some (digits_value 16 (take count text), drop count text)
   unfolding read_segment
-  group_parsed some few =
+  hex_digits_are_read_as_segment some few =
       let below = digits_value-lt 16 (take count text) h.digits in
       let size = length-take-le count text h.within in
       let short : length (take count text) ≤ 4 = omega arith in
@@ -53,45 +56,48 @@ module _ (text : List ℕ) (count : ℕ) (h : AreHexDigits text count) where
       (h.stop few) in
       rw (found, le-ltb 4 count (omega arith))
 
-  pub nothing_parsed : count ≡ 0 → read_segment text ≡ None
+  pub no_digits_are_no_segment : count ≡ 0 → read_segment text ≡ None
   unfolding read_segment
-  nothing_parsed none = rw (read_number_empty 16 0xffff text (rw none at (h.stop (omega arith))))
+  no_digits_are_no_segment none = rw
+      (read_number_empty 16 0xffff text (rw none at (h.stop (omega arith))))
 
-  long : count ≡ 5 → (o : Option (ℕ × ℕ)) → read_number 16 0xffff text ≡ o
+  too-long-number-is-no-segment : count ≡ 5 → (o : Option (ℕ × ℕ)) → read_number 16 0xffff text ≡ o
       → read_segment text ≡ None
   unfolding read_segment
-  long five None e = rw e
-  long five (Some n) e =
+  too-long-number-is-no-segment five None e = rw e
+  too-long-number-is-no-segment five (Some n) e =
       let (number, fits, len, stop) = read_number_sound 16 0xffff text n.0 n.1 (lit≤ tt) e in
       elim (cases_lt n.1 5) [
         | inl short ↦ absurd
-            (no_digit_within n.1 (omega arith) (rw (get_or-drop n.1 text 0 0, add-zero) at stop))
+            (leading-byte-is-a-digit n.1 (omega arith)
+            (rw (get_or-drop n.1 text 0 0, add-zero) at stop))
         | inr more ↦ rw (e, lt-ltb 4 n.1 (omega arith))
       ]
 
-  pub long_unparsed : count ≡ 5 → read_segment text ≡ None
-  long_unparsed five = long five _ refl
+  pub five_digits_are_no_segment : count ≡ 5 → read_segment text ≡ None
+  five_digits_are_no_segment five = too-long-number-is-no-segment five _ refl
 
-  pub undotted : count < 5 → get_or text count 0 ≢ 46 → read_ipv4 text ≡ None
-  undotted few other =
+  pub no_dot_means_no_ipv4 : count < 5 → get_or text count 0 ≢ 46 → read_ipv4 text ≡ None
+  no_dot_means_no_ipv4 few other =
       let next : get_or (drop count text) 0 0 ≡ get_or text count 0 =
       rw (get_or-drop count text 0 0, add-zero) refl in
       rw (take-append-drop count text) at
-      (read_ipv4_none (take count text) (drop count text) h.digits (stops few)
+      (read_ipv4_none (take count text) (drop count text) h.digits
+      (no-digit-after-leading-digits few)
       (λ e. other (sym next ∙ e)))
 
-  dotted_late : count ≡ 5 → (o : Option (List ℕ × List ℕ)) → read_ipv4 text ≡ o
+  late-dot-is-no-ipv4 : count ≡ 5 → (o : Option (List ℕ × List ℕ)) → read_ipv4 text ≡ o
       → read_ipv4 text ≡ None
-  dotted_late five None e = e
-  dotted_late five (Some p) e =
-      let (front, split, w) = read_ipv4_sound text p.0 p.1 e in
+  late-dot-is-no-ipv4 five None e = e
+  late-dot-is-no-ipv4 five (Some p) e =
+      let (prefix, split, w) = read_ipv4_sound text p.0 p.1 e in
       let size : length (decimal w.a) ≤ 3 =
       length-decimal-le 3 w.a (lit≤ tt) (omega (arith, w.fit.0)) (omega (arith, w.fit.0)) in
       let dot : get_or text (length (decimal w.a)) 0 ≡ 46 =
       ap (λ t. get_or t (length (decimal w.a)) 0)
       (split ∙ ap (λ t. t ++ p.1) w.spelled ∙ dotted w.a w.b w.c w.d p.1)
       ∙ get_or-append_seam (decimal w.a) 46 _ 0 in
-      absurd (no_digit_within (length (decimal w.a)) (omega arith) (rw dot (lit≤ tt)))
+      absurd (leading-byte-is-a-digit (length (decimal w.a)) (omega arith) (rw dot (lit≤ tt)))
 
-  pub long_undotted : count ≡ 5 → read_ipv4 text ≡ None
-  long_undotted five = dotted_late five _ refl
+  pub five_digits_begin_no_ipv4 : count ≡ 5 → read_ipv4 text ≡ None
+  five_digits_begin_no_ipv4 five = late-dot-is-no-ipv4 five _ refl

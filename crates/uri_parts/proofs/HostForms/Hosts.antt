@@ -15,53 +15,65 @@ use Rattle.uri_parts.specs.Components.{Lacks, starts}
 use Rattle.uri_parts.specs.Hosts.{HostKind, Ipv4, Ipv6, IpvFuture, RegName, IsHost, IsIpvFuture}
 use Rattle.uri_parts.specs.Hosts.{IsIpv4Text, bracketed, literal_of, literal_kind, name_kind}
 use Rattle.uri_parts.specs.Hosts.{ipv4_value, ipv6_value, is_ipv_future, host_kind, is_host}
-use Rattle.uri_parts.proofs.Splitting.Cuts.{cut-append}
-use Rattle.uri_parts.proofs.TextKinds.SpeltTexts.{utf8_apart, valid_lacks}
-use Rattle.uri_parts.proofs.Parsing.ScanStops.{utf8_tail}
+use Rattle.uri_parts.proofs.Splitting.Cuts.{cut-at-end-of-text-without-marks}
+use Rattle.uri_parts.proofs.TextKinds.GrammarTexts.{utf8_around_ascii_byte}
+use Rattle.uri_parts.proofs.TextKinds.GrammarTexts.{valid_text_lacks_excluded_marks}
+use Rattle.uri_parts.proofs.Parsing.ScanStops.{utf8_after_ascii_byte}
 use Rattle.uri_parts.proofs.HostForms.Addresses.{is_address_char, is_address_text}
-use Rattle.uri_parts.proofs.HostForms.Addresses.{address_text-ipv6, address_text-first}
+use Rattle.uri_parts.proofs.HostForms.Addresses.{ipv6-text-is-address-text}
+use Rattle.uri_parts.proofs.HostForms.Addresses.{address-text-begins-with-address-char}
 use Rattle.uri_parts.proofs.HostForms.Addresses.{ipv4_value-complete, ipv4_value-sound}
 use Rattle.uri_parts.proofs.HostForms.Addresses.{ipv6_value-complete, ipv6_value-sound}
 use Rattle.uri_parts.proofs.HostForms.Futures.{is_ipv_future-complete, is_ipv_future-sound}
-use Rattle.uri_parts.proofs.HostForms.Futures.{ipv4_lacks, ipv6_lacks, ipv_future_lacks}
+use Rattle.uri_parts.proofs.HostForms.Futures.{ipv4-text-lacks-name-marks}
+use Rattle.uri_parts.proofs.HostForms.Futures.{ipv6-text-lacks-excluded-marks}
+use Rattle.uri_parts.proofs.HostForms.Futures.{ipvfuture-text-lacks-excluded-marks}
 
--- a test of the value of an address
-pub value_cases : (o : Option (List ℕ)) → (o ≡ None) ⊎ ((x : List ℕ) × (o ≡ Some x))
-value_cases None = inl refl
-value_cases (Some x) = inr (x, refl)
+-- general fact on options, for the value of an IP address: there is one or none
+pub option-is-none-or-some : (o : Option (List ℕ)) → (o ≡ None) ⊎ ((x : List ℕ) × (o ≡ Some x))
+option-is-none-or-some None = inl refl
+option-is-none-or-some (Some x) = inr (x, refl)
 
--- no IPvFuture address is an IPv6 address
-letter_other : (c : ℕ) → is_one_of (codes "vV") c ≡ true → is_address_char c ≡ true → ⊥
+-- hosts: `v`, which begins an IPvFuture address, is no character of an IPv6 address
+version-letter-is-no-address-char : (c : ℕ) → is_one_of (codes "vV") c ≡ true
+    → is_address_char c ≡ true → ⊥
 unfolding is_address_char
-letter_other c e h = grind (arith, nat_tests)
+version-letter-is-no-address-char c e h = grind (arith, nat_tests)
 
-future_no_ipv6 : (text : List ℕ) → IsIpvFuture text → ipv6_value text ≡ None
-future_no_ipv6 text h = ⊎_elim
+-- hosts: the text of an IPvFuture address is no IPv6 address
+ipvfuture-text-is-no-ipv6 : (text : List ℕ) → IsIpvFuture text → ipv6_value text ≡ None
+ipvfuture-text-is-no-ipv6 text h = ⊎_elim
     (λ n. n)
     (λ (segments, e).
-    let ok = address_text-ipv6 _ segments (ipv6_value-sound text segments e) in
-    absurd (letter_other h.letter h.is_v
-    (address_text-first h.letter _ (subst (λ t. is_address_text t ≡ true) h.whole ok))))
-    (value_cases (ipv6_value text))
+    let ok = ipv6-text-is-address-text _ segments (ipv6_value-sound text segments e) in
+    absurd (version-letter-is-no-address-char h.letter h.is_v
+    (address-text-begins-with-address-char h.letter _
+    (subst (λ t. is_address_text t ≡ true) h.whole ok))))
+    (option-is-none-or-some (ipv6_value text))
 
-no_ipv4 : (text : List ℕ) → ((octets : List ℕ) → ¬ (IsIpv4Text text octets))
+-- hosts: a text that is no IPv4 address by the grammar has no value of one
+text-of-no-ipv4-has-no-ipv4-value : (text : List ℕ)
+    → ((octets : List ℕ) → ¬ (IsIpv4Text text octets))
     → ipv4_value text ≡ None
-no_ipv4 text h = ⊎_elim
+text-of-no-ipv4-has-no-ipv4-value text h = ⊎_elim
     (λ n. n)
     (λ (octets, e). absurd (h octets (ipv4_value-sound text octets e)))
-    (value_cases (ipv4_value text))
+    (option-is-none-or-some (ipv4_value text))
 
--- the test, and the kind, at each shape of a text
-pub literal_at : (address : List ℕ) → Lacks (codes "]") address
+-- hosts: the address in brackets is the one that was put into them
+pub literal_of-bracketed-is-address : (address : List ℕ) → Lacks (codes "]") address
     → literal_of (bracketed address) ≡ address
-literal_at address h = (cut-append (codes "]") address (codes "]") h refl).0
+literal_of-bracketed-is-address address h =
+    (cut-at-end-of-text-without-marks (codes "]") address (codes "]") h refl).0
 
-at_literal : (names : TableSet) (address : List ℕ) → Lacks (codes "]") address →
+-- hosts: for one in brackets, its kind and the test of it depend on the address
+kind-and-test-of-bracketed-host : (names : TableSet) (address : List ℕ) → Lacks (codes "]") address
+    →
     (host_kind (bracketed address) ≡ literal_kind (ipv6_value address))
     × (is_host names (bracketed address) ≡ (is_some (ipv6_value address) || is_ipv_future address))
 unfolding host_kind is_host
-at_literal names address h =
-    let e = literal_at address h in (
+kind-and-test-of-bracketed-host names address h =
+    let e = literal_of-bracketed-is-address address h in (
       ap (λ t. literal_kind (ipv6_value t)) e,
       ap (λ t. bytes_eq (bracketed t) (bracketed address)
           && (is_some (ipv6_value t) || is_ipv_future t)) e
@@ -69,25 +81,30 @@ at_literal names address h =
           ((bytes_eq-Decides (bracketed address) (bracketed address)).1 refl),
     )
 
-at_name : (names : TableSet) (text : List ℕ) → starts 91 text ≡ false →
+-- hosts: for one without `[` (91), its kind and the test of it
+-- depend on whether it is an IPv4 address
+kind-and-test-of-unbracketed-host : (names : TableSet) (text : List ℕ) → starts 91 text ≡ false →
     (host_kind text ≡ name_kind (ipv4_value text))
     × (is_host names text ≡ (is_some (ipv4_value text) || is_valid_for names text))
 unfolding host_kind is_host
-at_name names text e = (cond-false _ _ _ e, cond-false _ _ _ e)
+kind-and-test-of-unbracketed-host names text e = (cond-false _ _ _ e, cond-false _ _ _ e)
 
-pub lacks_starts : (marks text : List ℕ) (c : ℕ) → is_one_of marks c ≡ true → Lacks marks text
+-- hosts: a text that lacks some delimiters does not begin with one of them (c)
+pub lacking_text_does_not_begin_with : (marks text : List ℕ) (c : ℕ) → is_one_of marks c ≡ true
+    → Lacks marks text
     → starts c text ≡ false
-lacks_starts marks [] c m h = refl
-lacks_starts marks (d ∷ text) c m h = ⊎_elim
+lacking_text_does_not_begin_with marks [] c m h = refl
+lacking_text_does_not_begin_with marks (d ∷ text) c m h = ⊎_elim
     (λ e. absurd (both_ways _ (h 0 0 (omega arith))
     (subst (λ x. is_one_of marks x ≡ true) (sym (eqb-true d c e)) m)))
     (λ e. e)
     (cases_Bool (eqb d c))
 
-literal_sound : (names : TableSet) (text address : List ℕ) → text ≡ bracketed address
+-- hosts: one in brackets that passes the test is of the grammar
+tested-literal-is-host : (names : TableSet) (text address : List ℕ) → text ≡ bracketed address
     → (is_some (ipv6_value address) || is_ipv_future address) ≡ true
     → IsHost names text (literal_kind (ipv6_value address))
-literal_sound names text address e t = ⊎_elim
+tested-literal-is-host names text address e t = ⊎_elim
     (λ n. subst (λ o. IsHost names text (literal_kind o)) (sym n) (
       address,
       e,
@@ -96,12 +113,13 @@ literal_sound names text address e t = ⊎_elim
     ))
     (λ (segments, s). subst (λ o. IsHost names text (literal_kind o)) (sym s)
     (address, e, ipv6_value-sound address segments s))
-    (value_cases (ipv6_value address))
+    (option-is-none-or-some (ipv6_value address))
 
-name_sound : (names : TableSet) (text : List ℕ)
+-- hosts: one without brackets that passes the test is of the grammar
+tested-name-is-host : (names : TableSet) (text : List ℕ)
     → (is_some (ipv4_value text) || is_valid_for names text) ≡ true
     → IsHost names text (name_kind (ipv4_value text))
-name_sound names text t = ⊎_elim
+tested-name-is-host names text t = ⊎_elim
     (λ n. subst (λ o. IsHost names text (name_kind o)) (sym n) (
       subst (λ o. (is_some o || is_valid_for names text) ≡ true) n t,
       λ octets dotted.
@@ -109,9 +127,9 @@ name_sound names text t = ⊎_elim
     ))
     (λ (octets, s). subst (λ o. IsHost names text (name_kind o)) (sym s)
     (ipv4_value-sound text octets s))
-    (value_cases (ipv4_value text))
+    (option-is-none-or-some (ipv4_value text))
 
--- what passes the test is a host of its kind
+-- hosts: what passes the test is a host of its kind
 pub is_host-sound : (names : TableSet) (text : List ℕ) → is_host names text ≡ true
     → IsHost names text (host_kind text)
 unfolding is_host host_kind
@@ -119,20 +137,24 @@ is_host-sound names text t = ⊎_elim
     (λ s.
     let p = and_parts _ _ (sym (cond-true _ _ _ s) ∙ t) in
     subst (IsHost names text) (sym (cond-true _ _ _ s))
-    (literal_sound names text (literal_of text) (sym ((bytes_eq-Decides _ _).0 p.0)) p.1))
+    (tested-literal-is-host names text (literal_of text) (sym ((bytes_eq-Decides _ _).0 p.0)) p.1))
     (λ s. subst (IsHost names text) (sym (cond-false _ _ _ s))
-    (name_sound names text (sym (cond-false _ _ _ s) ∙ t)))
+    (tested-name-is-host names text (sym (cond-false _ _ _ s) ∙ t)))
     (cases_Bool (starts 91 text))
 
-bracket_outside : excludes ipv_future_set (codes "]") ≡ true
-bracket_outside = refl
+-- hosts: an IPvFuture address has no `]`
+ipv_future_set-excludes-closing-bracket : excludes ipv_future_set (codes "]") ≡ true
+ipv_future_set-excludes-closing-bracket = refl
 
-pub name_marks_outside : excludes reg_name_set (codes "@:[") ≡ true
-name_marks_outside = refl
+-- hosts: a registered name has neither `@`, `:` nor `[`
+pub reg_name_set-excludes-host-delimiters : excludes reg_name_set (codes "@:[") ≡ true
+reg_name_set-excludes-host-delimiters = refl
 
-pub utf8_bracketed : (address : List ℕ) → IsUtf8 (bracketed address) → IsUtf8 address
-utf8_bracketed address u =
-    (utf8_apart address 93 [] (omega arith) (utf8_tail 91 (address ++ codes "]") (omega arith) u)).0
+-- hosts: an address is UTF-8 if it is with its brackets
+pub address-in-brackets-is-utf8 : (address : List ℕ) → IsUtf8 (bracketed address) → IsUtf8 address
+address-in-brackets-is-utf8 address u =
+    (utf8_around_ascii_byte address 93 [] (omega arith)
+    (utf8_after_ascii_byte 91 (address ++ codes "]") (omega arith) u)).0
 
 module _ (names : TableSet) (percent : LacksPercent names)
     (outside : excludes names (codes "@:[") ≡ true) where
@@ -144,7 +166,9 @@ module _ (names : TableSet) (percent : LacksPercent names)
   pub is_host-complete : (text : List ℕ) (host : HostKind) → IsUtf8 text → IsHost names text host
       → IsFound text host
   is_host-complete text (Ipv6 segments) u (address, e, groups) =
-      let at = at_literal names address (ipv6_lacks (codes "]") bracket_outside address segments
+      let at = kind-and-test-of-bracketed-host names address
+      (ipv6-text-lacks-excluded-marks (codes "]") ipv_future_set-excludes-closing-bracket
+      address segments
       groups) in
       let v = ipv6_value-complete address segments groups in
       record {
@@ -152,19 +176,22 @@ module _ (names : TableSet) (percent : LacksPercent names)
         test = ap (is_host names) e ∙ at.1 ∙ ap (λ o. is_some o || is_ipv_future address) v;
       }
   is_host-complete text IpvFuture u (address, e, future) =
-      let inner = utf8_bracketed address (subst IsUtf8 e u) in
-      let at = at_literal names address (ipv_future_lacks (codes "]") bracket_outside address inner
+      let inner = address-in-brackets-is-utf8 address (subst IsUtf8 e u) in
+      let at = kind-and-test-of-bracketed-host names address
+      (ipvfuture-text-lacks-excluded-marks (codes "]") ipv_future_set-excludes-closing-bracket
+      address inner
       future) in
       record {
-        kind = ap host_kind e ∙ at.0 ∙ ap literal_kind (future_no_ipv6 address future);
+        kind = ap host_kind e ∙ at.0 ∙ ap literal_kind (ipvfuture-text-is-no-ipv6 address future);
         test = ap (is_host names) e ∙ at.1
             ∙ or_right _ _ (is_ipv_future-complete address inner future);
       }
   is_host-complete text (Ipv4 octets) u dotted =
       let at =
-      at_name names text (lacks_starts
+      kind-and-test-of-unbracketed-host names text (lacking_text_does_not_begin_with
       (codes "@:[") text 91 refl
-      (ipv4_lacks (codes "@:[") name_marks_outside text octets dotted)) in
+      (ipv4-text-lacks-name-marks (codes "@:[") reg_name_set-excludes-host-delimiters text octets
+      dotted)) in
       let v = ipv4_value-complete text octets dotted in
       record {
         kind = at.0 ∙ ap name_kind v;
@@ -172,10 +199,10 @@ module _ (names : TableSet) (percent : LacksPercent names)
       }
   is_host-complete text RegName u (valid, other) =
       let at =
-      at_name names text (lacks_starts
+      kind-and-test-of-unbracketed-host names text (lacking_text_does_not_begin_with
       (codes "@:[") text 91 refl
-      (valid_lacks names (codes "@:[") percent outside text u valid)) in
+      (valid_text_lacks_excluded_marks names (codes "@:[") percent outside text u valid)) in
       record {
-        kind = at.0 ∙ ap name_kind (no_ipv4 text other);
+        kind = at.0 ∙ ap name_kind (text-of-no-ipv4-has-no-ipv4-value text other);
         test = at.1 ∙ or_right _ _ valid;
       }

@@ -13,94 +13,117 @@ use Rattle.uri_parts.specs.Components.{starts, before_any, from_any}
 use Rattle.uri_parts.specs.Hosts.{ipv6_value, is_ipv_future}
 use Rattle.uri_parts.specs.Models.Literals.{literal_length}
 use Rattle.uri_parts.proofs.Parsing.Acceptance.{is_literal, parses_literal}
-use Rattle.uri_parts.proofs.Splitting.Cuts.{Begins, IsCut-any, cut-append}
+use Rattle.uri_parts.proofs.Splitting.Cuts.{IsEmptyOrMarked, text-is-cut-at-first-mark}
+use Rattle.uri_parts.proofs.Splitting.Cuts.{cut-at-end-of-text-without-marks}
 use Rattle.uri_parts.proofs.HostForms.Addresses.{ipv6_value-complete, ipv6_value-sound}
-use Rattle.uri_parts.proofs.HostForms.Futures.{ipv6_lacks}
-use Rattle.uri_parts.proofs.HostForms.LiteralTexts.{future_unlettered}
+use Rattle.uri_parts.proofs.HostForms.Futures.{ipv6-text-lacks-excluded-marks}
+use Rattle.uri_parts.proofs.HostForms.LiteralTexts.{text-without-version-letter-is-no-ipvfuture}
 
+-- what is left after an IPv6 address
 abbrev left : List ℕ → Option (List ℕ)
 left rest = option_map (λ p. p.1) (read_ipv6 rest)
 
-pub begins : (text : List ℕ) → starts 93 text ≡ true → Begins (codes "]") text
-begins [] e = absurd (false≢true e)
-begins (c ∷ text) e = rw (eqb-true c 93 e) refl
+-- parsing IP literals: a text that begins with `]` (93) is cut there
+pub text-with-bracket-is-empty-or-marked : (text : List ℕ) → starts 93 text ≡ true
+    → IsEmptyOrMarked (codes "]") text
+text-with-bracket-is-empty-or-marked [] e = absurd (false≢true e)
+text-with-bracket-is-empty-or-marked (c ∷ text) e = rw (eqb-true c 93 e) refl
 
-ends : (text : List ℕ) → starts 93 text ≡ true → EndsGroups text
-ends [] e = absurd (false≢true e)
-ends (c ∷ text) e = rw (eqb-true c 93 e) ((lit≤ tt, omega arith), λ colon. absurd (omega arith))
+-- parsing IPv6: `]` (93) ends the groups of an address
+closing-bracket-ends-groups : (text : List ℕ) → starts 93 text ≡ true → EndsGroups text
+closing-bracket-ends-groups [] e = absurd (false≢true e)
+closing-bracket-ends-groups (c ∷ text) e = rw (eqb-true c 93 e)
+    ((lit≤ tt, omega arith), λ colon. absurd (omega arith))
 
--- the address and what follows are the text
-pub follows : (rest behind : List ℕ) → Some behind ≡ left rest
-    → (length behind ≤ length rest) × (behind ≡ drop (length rest - length behind) rest)
-follows rest behind e =
-    map_some (λ p. p.1) (read_ipv6 rest) behind (sym e) λ p found same.
-    let (front, split, groups) = read_ipv6_sound rest p.0 p.1 found in
-    let whole : rest ≡ front ++ behind = split ∙ ap (λ t. front ++ t) same in
-    let size : length rest ≡ length front + length behind = ap length whole
-    ∙ length-append front behind in (
+-- parsing IPv6: an address and what is left after it are the text
+pub text-after-ipv6-is-suffix : (rest suffix : List ℕ) → Some suffix ≡ left rest
+    → (length suffix ≤ length rest) × (suffix ≡ drop (length rest - length suffix) rest)
+text-after-ipv6-is-suffix rest suffix e =
+    map_some (λ p. p.1) (read_ipv6 rest) suffix (sym e) λ p found same.
+    let (prefix, split, groups) = read_ipv6_sound rest p.0 p.1 found in
+    let whole : rest ≡ prefix ++ suffix = split ∙ ap (λ t. prefix ++ t) same in
+    let size : length rest ≡ length prefix + length suffix = ap length whole
+    ∙ length-append prefix suffix in (
       omega arith,
       rw whole
-          (sym (drop_at front behind _ (omega (arith, length-append front behind)))),
+          (sym (drop_at prefix suffix _ (omega (arith, length-append prefix suffix)))),
     )
 
-pub place_behind : (text behind : List ℕ) (start : ℕ) → start ≤ length text
-    → Some behind ≡ left (drop start text) → behind ≡ drop (length text - length behind) text
-place_behind text behind start within e =
-    let f = follows (drop start text) behind e in
+-- parsing IPv6: what is left after an address at a position is a suffix of the whole text
+pub text-after-ipv6-at-position : (text suffix : List ℕ) (start : ℕ) → start ≤ length text
+    → Some suffix ≡ left (drop start text) → suffix ≡ drop (length text - length suffix) text
+text-after-ipv6-at-position text suffix start within e =
+    let f = text-after-ipv6-is-suffix (drop start text) suffix e in
     let size = length-drop start text in
     f.1 ∙ drop-drop _ start text ∙ ap (λ n. drop n text) (omega (arith, f.0))
 
-pub accepted : (rest behind : List ℕ) → Some behind ≡ left rest → starts 93 behind ≡ true
-    → (parses_literal rest ≡ true) × (literal_length rest + length behind ≡ length rest + 1)
+-- an IPv6 address with `]` after it is parsed as one in brackets
+pub ipv6-and-bracket-are-parsed-literal : (rest suffix : List ℕ) → Some suffix ≡ left rest
+    → starts 93 suffix ≡ true
+    → (parses_literal rest ≡ true) × (literal_length rest + length suffix ≡ length rest + 1)
 unfolding is_literal parses_literal literal_length
-accepted rest behind e closed =
-    map_some (λ p. p.1) (read_ipv6 rest) behind (sym e) λ p found same.
-    let (front, split, groups) = read_ipv6_sound rest p.0 p.1 found in
-    let whole : rest ≡ front ++ behind = split ∙ ap (λ t. front ++ t) same in
-    let cut = cut-append (codes "]") front behind (ipv6_lacks (codes "]") refl front p.0 groups)
-    (begins behind closed) in
-    rw (whole, cut.0, cut.1, closed, ipv6_value-complete front p.0 groups)
-    (refl, omega (arith, length-append front behind))
+ipv6-and-bracket-are-parsed-literal rest suffix e closed =
+    map_some (λ p. p.1) (read_ipv6 rest) suffix (sym e) λ p found same.
+    let (prefix, split, groups) = read_ipv6_sound rest p.0 p.1 found in
+    let whole : rest ≡ prefix ++ suffix = split ∙ ap (λ t. prefix ++ t) same in
+    let cut = cut-at-end-of-text-without-marks (codes "]") prefix suffix
+    (ipv6-text-lacks-excluded-marks (codes "]") refl prefix p.0 groups)
+    (text-with-bracket-is-empty-or-marked suffix closed) in
+    rw (whole, cut.0, cut.1, closed, ipv6_value-complete prefix p.0 groups)
+    (refl, omega (arith, length-append prefix suffix))
 
-unlettered : (before from : List ℕ)
+-- parsing IP literals: if a text does not begin with `v`, no prefix of it is an IPvFuture address
+prefix-without-version-letter-is-no-ipvfuture : (before from : List ℕ)
     → (starts 118 (before ++ from) || starts 86 (before ++ from)) ≡ false
     → is_ipv_future before ≡ false
-unlettered [] from e = future_unlettered [] refl
-unlettered (c ∷ before) from e = future_unlettered (c ∷ before) e
+prefix-without-version-letter-is-no-ipvfuture [] from e =
+    text-without-version-letter-is-no-ipvfuture [] refl
+prefix-without-version-letter-is-no-ipvfuture (c ∷ before) from e =
+    text-without-version-letter-is-no-ipvfuture (c ∷ before) e
 
-value_of : (o : Option (List ℕ)) (b : Bool) → (is_some o || b) ≡ true → b ≡ false
+-- general fact on options, for the value of an IPv6 address
+present-option-has-value : (o : Option (List ℕ)) (b : Bool) → (is_some o || b) ≡ true → b ≡ false
     → (x : List ℕ) × (o ≡ Some x)
-value_of None b e f = absurd (false≢true (sym f ∙ e))
-value_of (Some x) b e f = (x, refl)
+present-option-has-value None b e f = absurd (false≢true (sym f ∙ e))
+present-option-has-value (Some x) b e f = (x, refl)
 
--- an address with `]` after it is parsed
-pub closed_parsed : (rest : List ℕ) → (starts 118 rest || starts 86 rest) ≡ false
+-- parsing IP literals: without a `v`, what is parsed is an IPv6 address and the `]` (93) after it
+pub literal_is_ipv6_and_bracket : (rest : List ℕ) → (starts 118 rest || starts 86 rest) ≡ false
     → parses_literal rest ≡ true
     → (left rest ≡ Some (from_any (codes "]") rest))
     × (starts 93 (from_any (codes "]") rest) ≡ true)
 unfolding is_literal parses_literal
-closed_parsed rest plain e =
-    let cut = IsCut-any (codes "]") rest in
+literal_is_ipv6_and_bracket rest no_version e =
+    let cut = text-is-cut-at-first-mark (codes "]") rest in
     let before = before_any (codes "]") rest in
     let from = from_any (codes "]") rest in
     let p = and_parts _ _ e in
-    let no_future = unlettered before from (rw cut.whole plain) in
-    let (segments, value) = value_of (ipv6_value before) _ p.1 no_future in
+    let no_future = prefix-without-version-letter-is-no-ipvfuture before from
+    (rw cut.whole no_version) in
+    let (segments, value) = present-option-has-value (ipv6_value before) _ p.1 no_future in
     let found = read_ipv6_complete before segments from (ipv6_value-sound before segments value)
-    (ends from p.0) in
+    (closing-bracket-ends-groups from p.0) in
     (ap (option_map (λ p. p.1)) (ap read_ipv6 (sym cut.whole) ∙ found), p.0)
 
-not_true : (b : Bool) → (b ≡ true → ⊥) → b ≡ false
-not_true true k = absurd (k refl)
-not_true false k = refl
+-- general fact on booleans, for tests of an IPv6 address
+not-true-is-false : (b : Bool) → (b ≡ true → ⊥) → b ≡ false
+not-true-is-false true k = absurd (k refl)
+not-true-is-false false k = refl
 
-pub unparsed : (rest : List ℕ) → (starts 118 rest || starts 86 rest) ≡ false → None ≡ left rest
+-- parsing IP literals: without a `v` at its start, and if no IPv6 address is found,
+-- the text after `[` is no literal
+pub no_ipv6_is_no_literal : (rest : List ℕ) → (starts 118 rest || starts 86 rest) ≡ false → None
+    ≡ left rest
     → parses_literal rest ≡ false
-unparsed rest plain e = not_true _ λ t. none-some _ (e ∙ (closed_parsed rest plain t).0)
+no_ipv6_is_no_literal rest no_version e = not-true-is-false _ λ t. none-some _
+    (e ∙ (literal_is_ipv6_and_bracket rest no_version t).0)
 
-pub unclosed : (rest behind : List ℕ) → (starts 118 rest || starts 86 rest) ≡ false
-    → Some behind ≡ left rest → starts 93 behind ≡ false → parses_literal rest ≡ false
-unclosed rest behind plain e other = not_true _ λ t.
-    let c = closed_parsed rest plain t in
-    let same : behind ≡ from_any (codes "]") rest = same_Some _ _ (e ∙ c.0) in
+-- parsing IP literals: without a `v` at its start,
+-- and if no `]` (93) follows the IPv6 address, it is no literal
+pub unclosed_ipv6_is_no_literal : (rest suffix : List ℕ) → (starts 118 rest || starts 86 rest)
+    ≡ false
+    → Some suffix ≡ left rest → starts 93 suffix ≡ false → parses_literal rest ≡ false
+unclosed_ipv6_is_no_literal rest suffix no_version e other = not-true-is-false _ λ t.
+    let c = literal_is_ipv6_and_bracket rest no_version t in
+    let same : suffix ≡ from_any (codes "]") rest = same_Some _ _ (e ∙ c.0) in
     false≢true (sym other ∙ ap (starts 93) same ∙ c.1)

@@ -8,62 +8,72 @@ use Rattle.std.proofs.lemmas.Bool.{eqb-true, false≢true}
 use Rattle.uri_parts.specs.declared.error.ParseError.{ParseError}
 use Rattle.uri_pct.specs.Sets.{TableSet, is_one_of, hexdig_set, ipv_future_set}
 use Rattle.uri_parts.specs.Components.{starts}
-use Rattle.uri_parts.specs.Errors.{IsErrorIn, IsFault, unexpected}
-use Rattle.uri_parts.specs.LiteralErrors.{closed, literal, is_no_ipv6}
-use Rattle.uri_parts.specs.Scanning.{End, is_next, scan_end, scan_to_mark}
+use Rattle.uri_parts.specs.Errors.{IsErrorIn, IsErrorKindAt, unexpected}
+use Rattle.uri_parts.specs.LiteralErrors.{closed, literal, cannot_begin_ipv6}
+use Rattle.uri_parts.specs.Scanning.{ScanResult, is_next, scan_end, scan_to_mark}
 
-first_is : (mark : ℕ) (text : List ℕ) → starts mark text ≡ true → get_or text 0 0 ≡ mark
-first_is mark [] e = absurd (false≢true e)
-first_is mark (c ∷ text) e = eqb-true c mark e
+-- parse errors: a text that begins with a byte (mark) has it first
+first-byte-is-mark : (mark : ℕ) (text : List ℕ) → starts mark text ≡ true → get_or text 0 0 ≡ mark
+first-byte-is-mark mark [] e = absurd (false≢true e)
+first-byte-is-mark mark (c ∷ text) e = eqb-true c mark e
 
-byte_at : (mark place : ℕ) (text : List ℕ) → starts mark (drop place text) ≡ true
+-- parse errors: if what is left begins with a byte (mark), this is the byte at place
+byte-at-position-is-mark : (mark place : ℕ) (text : List ℕ) → starts mark (drop place text) ≡ true
     → get_or text place 0 ≡ mark
-byte_at mark place text e =
+byte-at-position-is-mark mark place text e =
     let z : place + 0 ≡ place = omega arith in
     sym (get_or-drop place text 0 0 ∙ ap (λ n. get_or text n 0) z)
-    ∙ first_is mark (drop place text) e
+    ∙ first-byte-is-mark mark (drop place text) e
 
 -- what is wrong where an address that begins after a `[` ends with an error
 module _ (text : List ℕ) (place : ℕ) (bracket : starts 91 (drop place text) ≡ true) where
-  HasFault : End → Type 0
-  HasFault (Ok end) = ⊤
-  HasFault (Err e) = IsFault text e.kind e.index
+  HasErrorKindAt : ScanResult → Type 0
+  HasErrorKindAt (Ok end) = ⊤
+  HasErrorKindAt (Err e) = IsErrorKindAt text e.kind e.index
 
-  either : (test : Bool) (a b : End) → HasFault a → HasFault b → HasFault (cond test a b)
-  either true a b h k = h
-  either false a b h k = k
+  both-branches-have-error-kind : (test : Bool) (a b : ScanResult) → HasErrorKindAt a
+      → HasErrorKindAt b
+      → HasErrorKindAt (cond test a b)
+  both-branches-have-error-kind true a b h k = h
+  both-branches-have-error-kind false a b h k = k
 
-  no_fault : (end : ℕ) → HasFault (Ok end)
-  unfolding HasFault
-  no_fault end = tt
+  result-without-error-has-error-kind : (end : ℕ) → HasErrorKindAt (Ok end)
+  unfolding HasErrorKindAt
+  result-without-error-has-error-kind end = tt
 
-  unexpected_fault : (i : ℕ) → HasFault (Err (unexpected i))
-  unfolding HasFault
-  unexpected_fault i = tt
+  unexpected-error-has-its-kind : (i : ℕ) → HasErrorKindAt (Err (unexpected i))
+  unfolding HasErrorKindAt
+  unexpected-error-has-its-kind i = tt
 
-  closed_fault : (end : Option ℕ) → HasFault (closed text (place + 1) end)
-  unfolding HasFault
-  closed_fault None =
+  unclosed-literal-error-has-its-kind : (end : Option ℕ)
+      → HasErrorKindAt (closed text (place + 1) end)
+  unfolding HasErrorKindAt
+  unclosed-literal-error-has-its-kind None =
       let n : place + 1 - 1 ≡ place = omega arith in
-      (omega arith, ap (λ k. get_or text k 0) n ∙ byte_at 91 place text bracket)
-  closed_fault (Some end) =
-      either (is_next text 93 end) (Ok (end + 1)) (Err (unexpected end)) tt tt
+      (omega arith, ap (λ k. get_or text k 0) n ∙ byte-at-position-is-mark 91 place text bracket)
+  unclosed-literal-error-has-its-kind (Some end) =
+      both-branches-have-error-kind (is_next text 93 end) (Ok (end + 1))
+      (Err (unexpected end)) tt tt
 
-  marked_fault : (set : TableSet) (mark : ℕ) (next : ℕ → End) → ((n : ℕ) → HasFault (next n))
-      → (i : ℕ) → HasFault (scan_to_mark text set mark next i)
-  marked_fault set mark next h i =
+  scan-to-mark-error-has-its-kind : (set : TableSet) (mark : ℕ) (next : ℕ → ScanResult)
+      → ((n : ℕ) → HasErrorKindAt (next n))
+      → (i : ℕ) → HasErrorKindAt (scan_to_mark text set mark next i)
+  scan-to-mark-error-has-its-kind set mark next h i =
       let end : ℕ = scan_end text set i in
-      either (nat_lt i end && is_next text mark end) _ _ (h (end + 1)) (unexpected_fault end)
+      both-branches-have-error-kind (nat_lt i end && is_next text mark end) _ _ (h (end + 1))
+      (unexpected-error-has-its-kind end)
 
-  fault_is : HasFault (literal text (place + 1))
+  literal-error-has-its-kind : HasErrorKindAt (literal text (place + 1))
   unfolding literal
-  fault_is = either (not (is_no_ipv6 text (place + 1))) _ _ (closed_fault _)
-      (either (is_one_of (codes "vV") (get_or text (place + 1) 0)) _ _
-      (marked_fault hexdig_set 46 _ (marked_fault ipv_future_set 93 _ no_fault) _)
-      (unexpected_fault _))
+  literal-error-has-its-kind = both-branches-have-error-kind
+      (not (cannot_begin_ipv6 text (place + 1))) _ _ (unclosed-literal-error-has-its-kind _)
+      (both-branches-have-error-kind (is_one_of (codes "vV") (get_or text (place + 1) 0)) _ _
+      (scan-to-mark-error-has-its-kind hexdig_set 46 _
+      (scan-to-mark-error-has-its-kind ipv_future_set 93 _ result-without-error-has-error-kind) _)
+      (unexpected-error-has-its-kind _))
 
-  pub literal_error : (e : ParseError) → literal text (place + 1) ≡ Err e
+  pub literal_error_is_in_text : (e : ParseError) → literal text (place + 1) ≡ Err e
       → IsCharBoundary text e.index → IsErrorIn text e
-  unfolding HasFault
-  literal_error e is boundary =
-      record { boundary = boundary; fault = subst HasFault is fault_is }
+  unfolding HasErrorKindAt
+  literal_error_is_in_text e is boundary =
+      record { boundary = boundary; fault = subst HasErrorKindAt is literal-error-has-its-kind }

@@ -10,30 +10,40 @@ use Rattle.std.proofs.lemmas.Bool.Decides.{nat_tests}
 use Rattle.uri_pct.specs.Sets.{is_one_of}
 use Rattle.uri_parts.specs.Components.{starts}
 use Rattle.uri_parts.specs.Hosts.{is_ipv_future}
-use Rattle.uri_pct.proofs.Tests.{true_of}
+use Rattle.uri_pct.proofs.Tests.{eq_true_from_IsTrue}
 
-pub letter_of : (c : ℕ) → (eqb c 118 || eqb c 86) ≡ true → is_one_of (codes "vV") c ≡ true
-letter_of c e = grind (arith, nat_tests)
+-- parsing IP literals: 118 and 86 are `v` and `V`, which begin an IPvFuture address
+pub byte-118-or-86-is-version-letter : (c : ℕ) → (eqb c 118 || eqb c 86) ≡ true
+    → is_one_of (codes "vV") c ≡ true
+byte-118-or-86-is-version-letter c e = grind (arith, nat_tests)
 
-pub letter_ascii : (c : ℕ) → (eqb c 118 || eqb c 86) ≡ true → c < 128
-letter_ascii c e = grind (arith, nat_tests)
+-- parsing IP literals: `v` (118) and `V` (86) are ASCII
+pub version-letter-byte-is-ascii : (c : ℕ) → (eqb c 118 || eqb c 86) ≡ true → c < 128
+version-letter-byte-is-ascii c e = grind (arith, nat_tests)
 
-letter_other : (c : ℕ) → (eqb c 118 || eqb c 86) ≡ false → is_one_of (codes "vV") c ≡ false
-letter_other c e = grind (arith, nat_tests)
+-- parsing IP literals: a byte that is neither 118 nor 86 is neither `v` nor `V`
+other-byte-is-no-version-letter : (c : ℕ) → (eqb c 118 || eqb c 86) ≡ false
+    → is_one_of (codes "vV") c ≡ false
+other-byte-is-no-version-letter c e = grind (arith, nat_tests)
 
-pub future_unlettered : (text : List ℕ) → (starts 118 text || starts 86 text) ≡ false
+-- parsing IP literals: without a `v` at its start a text is no IPvFuture address
+pub text-without-version-letter-is-no-ipvfuture : (text : List ℕ)
+    → (starts 118 text || starts 86 text) ≡ false
     → is_ipv_future text ≡ false
 unfolding is_ipv_future
-future_unlettered [] e = refl
-future_unlettered (letter ∷ rest) e = and_left _ _ (letter_other letter e)
+text-without-version-letter-is-no-ipvfuture [] e = refl
+text-without-version-letter-is-no-ipvfuture (letter ∷ rest) e = and_left _ _
+    (other-byte-is-no-version-letter letter e)
 
-pub digit_ascii : (c radix : ℕ) → radix ≤ 36 → digit_value c < radix → c < 128
-digit_ascii c radix most h = grind (arith, nat_tests)
+-- parsing addresses: a digit is ASCII
+pub digit-is-ascii : (c radix : ℕ) → radix ≤ 36 → digit_value c < radix → c < 128
+digit-is-ascii c radix most h = grind (arith, nat_tests)
 
-pub behind_ascii : (text bytes : List ℕ) (i byte : ℕ) → bytes ≡ text → IsUtf8 text
+-- parsing: after an ASCII byte at index i, a character begins
+pub boundary-after-ascii-byte : (text bytes : List ℕ) (i byte : ℕ) → bytes ≡ text → IsUtf8 text
     → i < length bytes → byte < 128 → IsTrue (eqb (get_or bytes i 0) byte)
     → IsCharBoundary text (i + 1)
-behind_ascii text bytes i byte e u inside ascii h =
+boundary-after-ascii-byte text bytes i byte e u inside ascii h =
     let same : get_or text i 0 ≡ byte = ap (λ t. get_or t i 0) (sym e)
-    ∙ eqb-true _ _ (true_of _ h) in
+    ∙ eqb-true _ _ (eq_true_from_IsTrue _ h) in
     IsCharBoundary-after_ascii text i u (omega (arith, ap length e)) (omega arith)

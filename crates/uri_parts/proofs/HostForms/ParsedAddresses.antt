@@ -7,27 +7,31 @@ use Rattle.std.specs.Net.Grammar.{IsIpv4Text, IsIpv6Text}
 use Rattle.uri_parts.specs.Hosts.{ipv4_value, ipv6_value}
 use Rattle.uri_parts.proofs.HostForms.Addresses.{ipv4_value-complete, ipv4_value-sound}
 use Rattle.uri_parts.proofs.HostForms.Addresses.{ipv6_value-complete, ipv6_value-sound}
-use Rattle.uri_parts.proofs.HostForms.Hosts.{value_cases}
+use Rattle.uri_parts.proofs.HostForms.Hosts.{option-is-none-or-some}
 
-pub ipv4_parsed : (text : List ℕ) (a : Ipv4Addr) → IsIpv4Text text a
+-- what std parses as an IPv4 address has the octets that the grammar reads
+pub parsed_ipv4_has_value_of_text : (text : List ℕ) (a : Ipv4Addr) → IsIpv4Text text a
     → Some (ipv4_octets a) ≡ ipv4_value text
-ipv4_parsed text a h = sym (ipv4_value-complete text (ipv4_octets a) h)
+parsed_ipv4_has_value_of_text text a h = sym (ipv4_value-complete text (ipv4_octets a) h)
 
-pub ipv4_refused : (text : List ℕ) → ((a : Ipv4Addr) → ¬ (IsIpv4Text text a))
+-- what std rejects as an IPv4 address is none by the grammar
+pub text-of-no-ipv4-has-no-value : (text : List ℕ) → ((a : Ipv4Addr) → ¬ (IsIpv4Text text a))
     → None ≡ ipv4_value text
-ipv4_refused text h = ⊎_elim
+text-of-no-ipv4-has-no-value text h = ⊎_elim
     (λ n. sym n)
     (λ (octets, e). absurd (h (record { octets = octets }) (ipv4_value-sound text octets e)))
-    (value_cases (ipv4_value text))
+    (option-is-none-or-some (ipv4_value text))
 
-pub ipv6_parsed : (text : List ℕ) (a : Ipv6Addr) → IsIpv6Text text a
+-- what std parses as an IPv6 address has the segments that the grammar reads
+pub parsed_ipv6_has_value_of_text : (text : List ℕ) (a : Ipv6Addr) → IsIpv6Text text a
     → Some (ipv6_segments a) ≡ ipv6_value text
-ipv6_parsed text a h = sym (ipv6_value-complete text (ipv6_segments a) h)
+parsed_ipv6_has_value_of_text text a h = sym (ipv6_value-complete text (ipv6_segments a) h)
 
-pub ipv6_refused : (text : List ℕ) → ((a : Ipv6Addr) → ¬ (IsIpv6Text text a))
+-- what std rejects as an IPv6 address is none by the grammar
+pub text-of-no-ipv6-has-no-value : (text : List ℕ) → ((a : Ipv6Addr) → ¬ (IsIpv6Text text a))
     → None ≡ ipv6_value text
-ipv6_refused text h = ⊎_elim
+text-of-no-ipv6-has-no-value text h = ⊎_elim
     (λ n. sym n)
     (λ (segments, e).
     absurd (h (record { segments = segments }) (ipv6_value-sound text segments e)))
-    (value_cases (ipv6_value text))
+    (option-is-none-or-some (ipv6_value text))

@@ -1,4 +1,5 @@
--- Which texts are parsed, as tests of the text that is left: RFC 3986, sections 3 and 4.1. The parser
+-- Which texts are parsed, as tests of the text that is left: RFC 3986, sections 3 and 4.1. The
+-- parser
 -- returns no error for these (`Refusals.Accepted`), and they are those of the grammar.
 use Rattle.std.specs.Prelude.{ℕ, ◌+◌, Bool, true, not, ◌&&◌, ◌||◌, ◌==◌, List, drop, codes, nat_lt}
 use Rattle.std.specs.Prelude.{slice_index, is_some, if◌then◌else◌}
@@ -10,9 +11,11 @@ use Rattle.uri_pct.specs.Sets.{TableSet, hexdig_set, ipv_future_set, scheme_set}
 use Rattle.uri_parts.specs.Components.{starts, from_any, has_authority, is_end}
 use Rattle.uri_parts.specs.Grammar.{Kind}
 use Rattle.uri_parts.specs.Hosts.{ipv6_value, is_ipv_future}
-use Rattle.uri_parts.specs.Models.AuthorityParsing.{begins_any, finds_name, from_host, found_length}
-use Rattle.uri_parts.specs.Models.AuthorityParsing.{host_length, user_length}
-use Rattle.uri_parts.specs.Models.Literals.{literal_before}
+use Rattle.uri_parts.specs.Models.AuthorityParsing.{is_empty_or_begins_with_any}
+use Rattle.uri_parts.specs.Models.AuthorityParsing.{name_ends_authority, text_from_host}
+use Rattle.uri_parts.specs.Models.AuthorityParsing.{found_authority_length}
+use Rattle.uri_parts.specs.Models.AuthorityParsing.{host_and_port_length, userinfo_length}
+use Rattle.uri_parts.specs.Models.Literals.{text_before_bracket}
 
 -- what may be in brackets
 unfoldable pub is_literal : List ℕ → Bool
@@ -21,46 +24,54 @@ is_literal address = is_some (ipv6_value address) || is_ipv_future address
 -- an address and `]` come first
 unfoldable pub parses_literal : List ℕ → Bool
 parses_literal rest = starts right_bracket (from_any (codes "]") rest)
-    && is_literal (literal_before rest)
+    && is_literal (text_before_bracket rest)
 
 -- one or more characters of the set come first, and then the mark
 unfoldable pub parses_marked : TableSet → ℕ → List ℕ → Bool
 parses_marked set mark rest = nat_lt 0 (valid_prefix set rest) && starts mark (after set rest)
 
+-- how many characters come up to the mark, with it
 unfoldable pub length_to_mark : TableSet → List ℕ → ℕ
 length_to_mark set rest = valid_prefix set rest + 1
 
 -- what is left after a version and its `.`
-abbrev pub behind_version : List ℕ → List ℕ
-behind_version rest = drop (length_to_mark hexdig_set rest) rest
+abbrev pub after_version : List ℕ → List ℕ
+after_version rest = drop (length_to_mark hexdig_set rest) rest
 
 -- after a `v`, the rest of an IPvFuture address and `]` come first
 unfoldable pub parses_future : List ℕ → Bool
 parses_future rest =
     parses_marked hexdig_set full_stop rest
-    && parses_marked ipv_future_set right_bracket (behind_version rest)
+    && parses_marked ipv_future_set right_bracket (after_version rest)
 
+-- the length of an IPvFuture address after its `v`, with its `]`
 unfoldable pub future_length : List ℕ → ℕ
 future_length rest =
-    length_to_mark hexdig_set rest + length_to_mark ipv_future_set (behind_version rest)
+    length_to_mark hexdig_set rest + length_to_mark ipv_future_set (after_version rest)
 
+-- a host is next: a name, or an address and its brackets
 unfoldable pub passes_host : List ℕ → Bool
 passes_host rest = if starts left_bracket rest then parses_literal (drop 1 rest) else true
 
+-- a host and a port are next, and then what ends an authority
 unfoldable pub finds_host : Kind → List ℕ → Bool
 finds_host kind rest =
-    passes_host rest && begins_any (codes "/?#") (drop (host_length kind rest) rest)
+    passes_host rest && is_empty_or_begins_with_any (codes "/?#")
+    (drop (host_and_port_length kind rest) rest)
 
+-- userinfo is next, with its `@`
 unfoldable pub passes_user : Kind → List ℕ → Bool
-passes_user kind rest = starts at_sign (drop (user_length kind rest) rest)
+passes_user kind rest = starts at_sign (drop (userinfo_length kind rest) rest)
 
 -- an authority of any other form than a name
 unfoldable pub finds_other : Kind → List ℕ → Bool
 finds_other kind rest =
-    (starts left_bracket rest || passes_user kind rest) && finds_host kind (from_host kind rest)
+    (starts left_bracket rest || passes_user kind rest) && finds_host kind
+    (text_from_host kind rest)
 
+-- an authority is next: a name and a port, or one of another form
 unfoldable pub finds_authority : Kind → List ℕ → Bool
-finds_authority kind rest = finds_name kind rest || finds_other kind rest
+finds_authority kind rest = name_ends_authority kind rest || finds_other kind rest
 
 -- a scan for a set with octets stopped at a `%` that begins none
 abbrev pub is_stray : TableSet → List ℕ → Bool
@@ -88,7 +99,7 @@ parses_path kind rest = parses_after kind.path (parses_end kind) rest
 -- an authority, and what follows it
 unfoldable pub parses_authority : Kind → List ℕ → Bool
 parses_authority kind rest =
-    finds_authority kind rest && parses_path kind (drop (found_length kind rest) rest)
+    finds_authority kind rest && parses_path kind (drop (found_authority_length kind rest) rest)
 
 -- a path that has no colon after the characters of a first segment, and what follows it
 unfoldable pub parses_relative : TableSet → Kind → List ℕ → Bool
@@ -96,8 +107,8 @@ parses_relative segment kind rest =
     parses_after segment (λ r. not (starts colon r) && parses_path kind r) rest
 
 -- what follows a scheme
-unfoldable pub parses_hier : Kind → List ℕ → Bool
-parses_hier kind rest =
+unfoldable pub parses_hier_part : Kind → List ℕ → Bool
+parses_hier_part kind rest =
     if has_authority rest then parses_authority kind (drop 2 rest) else parses_path kind rest
 
 -- a text that has no scheme, of which so many characters are passed that may be in one
@@ -106,10 +117,11 @@ parses_schemeless segment kind passed rest =
     if passed == 0 && has_authority rest then parses_authority kind (drop 2 rest)
     else parses_relative segment kind rest
 
+-- a whole text: a scheme and what follows it, or a text without a scheme
 unfoldable pub parses : TableSet → Kind → List ℕ → Bool
 parses segment kind text =
     if starts colon (after scheme_set text)
     then is_ascii_alphabetic (slice_index text 0)
-    && parses_hier kind (drop 1 (after scheme_set text))
+    && parses_hier_part kind (drop 1 (after scheme_set text))
     else not kind.needs_scheme
     && parses_schemeless segment kind (valid_prefix scheme_set text) (after scheme_set text)

@@ -7,115 +7,143 @@ use Rattle.std.proofs.lemmas.Bool.{cases_Bool, cond-false, eq-eqb, eqb-true, ne_
 use Rattle.std.proofs.lemmas.Bool.Decides.{nat_tests}
 use Rattle.uri_pct.specs.Sets.{TableSet, is_one_of}
 use Rattle.uri_pct.specs.Tokens.{is_valid_for}
-use Rattle.uri_pct.proofs.ValidTexts.Cuts.{ascii_marks, from_mark, other_len}
+use Rattle.uri_pct.proofs.ValidTexts.MarksInTexts.{AreAscii-by-test, cut_leaves_mark_or_nothing}
+use Rattle.uri_pct.proofs.ValidTexts.MarksInTexts.{length_before_marks_counts_other_byte}
 use Rattle.uri_parts.specs.Components.{before_any, from_any, starts, when, after_query, is_end}
 use Rattle.uri_parts.proofs.Parsing.Acceptance.{parses_after, parses_fragment, parses_end}
 use Rattle.uri_parts.proofs.Parsing.Acceptance.{parses_path}
-use Rattle.uri_parts.specs.Grammar.{Kind, if_some}
-use Rattle.uri_parts.proofs.Parsing.ScanStops.{piece, utf8_from, utf8_tail}
-use Rattle.uri_parts.proofs.TextKinds.Separations.{Separates}
-use Rattle.uri_pct.proofs.Tests.{and_true, or_false}
+use Rattle.uri_parts.specs.Grammar.{Kind, absent_or_passes}
+use Rattle.uri_parts.proofs.Parsing.ScanStops.{parses_after-is-valid-before-mark, utf8_from_marks}
+use Rattle.uri_parts.proofs.Parsing.ScanStops.{utf8_after_ascii_byte}
+use Rattle.uri_parts.proofs.TextKinds.Separations.{SeparatesComponents}
+use Rattle.uri_pct.proofs.Tests.{and_true_is_the_same, or_false_is_the_same}
 
-flip : (a b : ℕ) → eqb b a ≡ true → eqb a b ≡ true
-flip a b e = eq-eqb a b (sym (eqb-true b a e))
+-- general fact on numbers, for comparing bytes in the parser
+eqb-is-symmetric : (a b : ℕ) → eqb b a ≡ true → eqb a b ≡ true
+eqb-is-symmetric a b e = eq-eqb a b (sym (eqb-true b a e))
 
-flip_false : (a b : ℕ) → eqb b a ≡ false → eqb a b ≡ false
-flip_false a b e = ne_eqb a b (λ d. both_ways _ e (eq-eqb b a (sym d)))
+-- general fact on numbers, for comparing bytes in the parser
+eqb-false-is-symmetric : (a b : ℕ) → eqb b a ≡ false → eqb a b ≡ false
+eqb-false-is-symmetric a b e = ne_eqb a b (λ d. both_ways _ e (eq-eqb b a (sym d)))
 
-hash : (b : ℕ) → is_one_of (codes "#") b ≡ eqb 35 b
-hash b = or_false _
+-- parser: the one delimiter `#` is the byte 35
+one-of-hash-is-byte-35 : (b : ℕ) → is_one_of (codes "#") b ≡ eqb 35 b
+one-of-hash-is-byte-35 b = or_false_is_the_same _
 
-one_of_two : (b : ℕ) → is_one_of (codes "?#") b ≡ true → eqb b 63 ≡ false → eqb b 35 ≡ true
-one_of_two b e q = grind (arith, nat_tests)
+-- parser: a delimiter `?` or `#` that is not 63 is 35, `#`
+mark-that-is-no-question-is-hash : (b : ℕ) → is_one_of (codes "?#") b ≡ true → eqb b 63 ≡ false
+    → eqb b 35 ≡ true
+mark-that-is-no-question-is-hash b e q = grind (arith, nat_tests)
 
-none_of_two : (b : ℕ) → is_one_of (codes "?#") b ≡ false → (eqb b 63 ≡ false) × (eqb b 35 ≡ false)
-none_of_two b e = (grind (arith, nat_tests), grind (arith, nat_tests))
+-- parser: a byte that is neither `?` nor `#` is neither 63 nor 35
+other-byte-is-no-question-or-hash : (b : ℕ) → is_one_of (codes "?#") b ≡ false → (eqb b 63 ≡ false)
+    × (eqb b 35 ≡ false)
+other-byte-is-no-question-or-hash b e = (grind (arith, nat_tests), grind (arith, nat_tests))
 
-pub none_of_four : (b : ℕ) → is_one_of (codes ":/?#") b ≡ false
+-- parsing: a byte that is none of `:`, `/`, `?`, `#` is none of each two of them
+pub none-of-four-marks-is-none-of-two-pairs : (b : ℕ) → is_one_of (codes ":/?#") b ≡ false
     → (is_one_of (codes ":/") b ≡ false) × (is_one_of (codes "?#") b ≡ false)
-none_of_four b e = (grind (arith, nat_tests), grind (arith, nat_tests))
+none-of-four-marks-is-none-of-two-pairs b e = (grind (arith, nat_tests), grind (arith, nat_tests))
 
-module _ (segment : TableSet) (kind : Kind) (w : Separates segment kind) where
+module _ (segment : TableSet) (kind : Kind) (w : SeparatesComponents segment kind) where
   -- fragments and queries
-  unfoldable pub fragment_ok : List ℕ → Bool
-  fragment_ok rest = if_some (when (starts 35 rest) (drop 1 rest)) (is_valid_for kind.fragment)
+  unfoldable pub fragment_is_valid : List ℕ → Bool
+  fragment_is_valid rest = absent_or_passes (when (starts 35 rest) (drop 1 rest))
+      (is_valid_for kind.fragment)
 
-  unfoldable pub end_ok : List ℕ → Bool
-  end_ok rest = if_some (when (starts 63 rest) (before_any (codes "#") (drop 1 rest)))
-      (is_valid_for kind.query) && fragment_ok (after_query rest)
+  unfoldable pub query_and_fragment_are_valid : List ℕ → Bool
+  query_and_fragment_are_valid rest = absent_or_passes
+      (when (starts 63 rest) (before_any (codes "#") (drop 1 rest)))
+      (is_valid_for kind.query) && fragment_is_valid (after_query rest)
 
-  none_cut : (bs : List ℕ) → (before_any [] bs ≡ bs) × (from_any [] bs ≡ [])
-  none_cut [] = (refl, refl)
-  none_cut (b ∷ bs) =
-      let p = none_cut bs in
-      let e = other_len [] b bs refl in
+  cut-at-no-marks-is-whole : (bs : List ℕ) → (before_any [] bs ≡ bs) × (from_any [] bs ≡ [])
+  cut-at-no-marks-is-whole [] = (refl, refl)
+  cut-at-no-marks-is-whole (b ∷ bs) =
+      let p = cut-at-no-marks-is-whole bs in
+      let e = length_before_marks_counts_other_byte [] b bs refl in
       (ap (λ n. take n (b ∷ bs)) e ∙ ap (λ t. b ∷ t) p.0, ap (λ n. drop n (b ∷ bs)) e ∙ p.1)
 
-  fragment_piece : (bs : List ℕ) → IsUtf8 bs
+  fragment-is-parsed-iff-valid : (bs : List ℕ) → IsUtf8 bs
       → parses_after kind.fragment is_end bs ≡ is_valid_for kind.fragment bs
   unfolding is_end
-  fragment_piece bs u =
-      let p = none_cut bs in
-      piece [] kind.fragment w.fragment_lacks refl is_end (λ b rest _ _. refl) bs u
+  fragment-is-parsed-iff-valid bs u =
+      let p = cut-at-no-marks-is-whole bs in
+      parses_after-is-valid-before-mark [] kind.fragment w.fragment_lacks refl is_end
+      (λ b rest _ _. refl) bs u
       ∙ ap (λ xs. is_valid_for kind.fragment xs && is_end (from_any [] bs)) p.0
-      ∙ ap (λ xs. is_valid_for kind.fragment bs && is_end xs) p.1 ∙ and_true _
+      ∙ ap (λ xs. is_valid_for kind.fragment bs && is_end xs) p.1 ∙ and_true_is_the_same _
 
-  pub fragment_stuck : (b : ℕ) (rest : List ℕ) → eqb b 35 ≡ false
+  pub parses_fragment-not-at-other : (b : ℕ) (rest : List ℕ) → eqb b 35 ≡ false
       → parses_fragment kind (b ∷ rest) ≡ false
   unfolding parses_fragment is_end
-  fragment_stuck b rest e = cond-false _ _ _ e
+  parses_fragment-not-at-other b rest e = cond-false _ _ _ e
 
-  fragment_at : (b : ℕ) (rest : List ℕ) → eqb b 35 ≡ true → IsUtf8 (b ∷ rest)
-      → parses_fragment kind (b ∷ rest) ≡ fragment_ok (b ∷ rest)
-  unfolding parses_fragment fragment_ok
-  fragment_at b rest e u =
-      rw e (fragment_piece rest (utf8_tail b rest (let d = eqb-true b 35 e in omega arith) u))
+  fragment-at-hash-is-parsed-iff-valid : (b : ℕ) (rest : List ℕ) → eqb b 35 ≡ true
+      → IsUtf8 (b ∷ rest)
+      → parses_fragment kind (b ∷ rest) ≡ fragment_is_valid (b ∷ rest)
+  unfolding parses_fragment fragment_is_valid
+  fragment-at-hash-is-parsed-iff-valid b rest e u =
+      rw e (fragment-is-parsed-iff-valid rest
+      (utf8_after_ascii_byte b rest (let d = eqb-true b 35 e in omega arith) u))
 
-  fragment_back : (bs : List ℕ) → IsUtf8 bs
-      → parses_fragment kind (from_any (codes "#") bs) ≡ fragment_ok (from_any (codes "#") bs)
-  unfolding parses_fragment fragment_ok is_end
-  fragment_back bs u =
-      from_mark (codes "#") (λ r. IsUtf8 r → parses_fragment kind r ≡ fragment_ok r) (λ _. refl)
-      (λ b rest e. fragment_at b rest (flip b 35 (sym (hash b) ∙ e)))
-      bs (utf8_from (codes "#") bs (ascii_marks (codes "#") refl) u)
+  fragment-after-cut-is-parsed-iff-valid : (bs : List ℕ) → IsUtf8 bs
+      → parses_fragment kind (from_any (codes "#") bs) ≡ fragment_is_valid (from_any (codes "#") bs)
+  unfolding parses_fragment fragment_is_valid is_end
+  fragment-after-cut-is-parsed-iff-valid bs u =
+      cut_leaves_mark_or_nothing (codes "#") (λ r. IsUtf8 r → parses_fragment kind r
+      ≡ fragment_is_valid r) (λ _. refl)
+      (λ b rest e. fragment-at-hash-is-parsed-iff-valid b rest
+      (eqb-is-symmetric b 35 (sym (one-of-hash-is-byte-35 b) ∙ e)))
+      bs (utf8_from_marks (codes "#") bs (AreAscii-by-test (codes "#") refl) u)
 
-  query_piece : (rest : List ℕ) → IsUtf8 rest
+  query-is-parsed-iff-valid-with-fragment : (rest : List ℕ) → IsUtf8 rest
       → parses_after kind.query (parses_fragment kind) rest
       ≡ (is_valid_for kind.query (before_any (codes "#") rest)
-      && fragment_ok (from_any (codes "#") rest))
-  query_piece rest u =
-      piece (codes "#") kind.query w.query_lacks w.query_marks (parses_fragment kind)
-      (λ b r e _. fragment_stuck b r (flip_false b 35 (sym (hash b) ∙ e))) rest u
-      ∙ ap (λ t. is_valid_for kind.query (before_any (codes "#") rest) && t) (fragment_back rest u)
+      && fragment_is_valid (from_any (codes "#") rest))
+  query-is-parsed-iff-valid-with-fragment rest u =
+      parses_after-is-valid-before-mark (codes "#") kind.query w.query_lacks w.query_marks
+      (parses_fragment kind)
+      (λ b r e _. parses_fragment-not-at-other b r
+      (eqb-false-is-symmetric b 35 (sym (one-of-hash-is-byte-35 b) ∙ e))) rest u
+      ∙ ap (λ t. is_valid_for kind.query (before_any (codes "#") rest) && t)
+      (fragment-after-cut-is-parsed-iff-valid rest u)
 
-  end_at : (b : ℕ) (rest : List ℕ) → is_one_of (codes "?#") b ≡ true → IsUtf8 (b ∷ rest)
-      → parses_end kind (b ∷ rest) ≡ end_ok (b ∷ rest)
-  unfolding parses_end end_ok
-  end_at b rest e u = ⊎_elim
-      (λ q. rw q (query_piece rest (utf8_tail b rest (let d = eqb-true b 63 q in omega arith) u)))
-      (λ q. rw q (fragment_at b rest (one_of_two b e q) u))
+  query-or-fragment-at-mark-is-parsed-iff-valid : (b : ℕ) (rest : List ℕ) → is_one_of (codes "?#") b
+      ≡ true → IsUtf8 (b ∷ rest)
+      → parses_end kind (b ∷ rest) ≡ query_and_fragment_are_valid (b ∷ rest)
+  unfolding parses_end query_and_fragment_are_valid
+  query-or-fragment-at-mark-is-parsed-iff-valid b rest e u = ⊎_elim
+      (λ q. rw q (query-is-parsed-iff-valid-with-fragment rest
+      (utf8_after_ascii_byte b rest (let d = eqb-true b 63 q in omega arith) u)))
+      (λ q. rw q (fragment-at-hash-is-parsed-iff-valid b rest
+      (mark-that-is-no-question-is-hash b e q) u))
       (cases_Bool (eqb b 63))
 
-  end_back : (bs : List ℕ) → IsUtf8 bs
-      → parses_end kind (from_any (codes "?#") bs) ≡ end_ok (from_any (codes "?#") bs)
-  unfolding parses_end end_ok parses_fragment fragment_ok is_end
-  end_back bs u =
-      from_mark (codes "?#") (λ r. IsUtf8 r → parses_end kind r ≡ end_ok r) (λ _. refl)
-      (λ b rest e. end_at b rest e)
-      bs (utf8_from (codes "?#") bs (ascii_marks (codes "?#") refl) u)
+  query-and-fragment-after-cut-are-parsed-iff-valid : (bs : List ℕ) → IsUtf8 bs
+      → parses_end kind (from_any (codes "?#") bs)
+      ≡ query_and_fragment_are_valid (from_any (codes "?#") bs)
+  unfolding parses_end query_and_fragment_are_valid parses_fragment fragment_is_valid is_end
+  query-and-fragment-after-cut-are-parsed-iff-valid bs u =
+      cut_leaves_mark_or_nothing (codes "?#") (λ r. IsUtf8 r → parses_end kind r
+      ≡ query_and_fragment_are_valid r) (λ _. refl)
+      (λ b rest e. query-or-fragment-at-mark-is-parsed-iff-valid b rest e)
+      bs (utf8_from_marks (codes "?#") bs (AreAscii-by-test (codes "?#") refl) u)
 
-  pub end_stuck : (b : ℕ) (rest : List ℕ) → is_one_of (codes "?#") b ≡ false
+  pub parses_end-not-at-other : (b : ℕ) (rest : List ℕ) → is_one_of (codes "?#") b ≡ false
       → parses_end kind (b ∷ rest) ≡ false
   unfolding parses_end
-  end_stuck b rest e = cond-false _ _ _ (none_of_two b e).0
-      ∙ fragment_stuck b rest (none_of_two b e).1
+  parses_end-not-at-other b rest e = cond-false _ _ _ (other-byte-is-no-question-or-hash b e).0
+      ∙ parses_fragment-not-at-other b rest (other-byte-is-no-question-or-hash b e).1
 
   -- paths
-  pub path_lemma : (bs : List ℕ) → IsUtf8 bs
+  pub parses_path-is-valid-path-and-end : (bs : List ℕ) → IsUtf8 bs
       → parses_path kind bs
-      ≡ (is_valid_for kind.path (before_any (codes "?#") bs) && end_ok (from_any (codes "?#") bs))
+      ≡ (is_valid_for kind.path (before_any (codes "?#") bs) && query_and_fragment_are_valid
+      (from_any (codes "?#") bs))
   unfolding parses_path
-  path_lemma bs u =
-      piece (codes "?#") kind.path w.path_lacks w.path_marks (parses_end kind)
-      (λ b r e _. end_stuck b r e) bs u
-      ∙ ap (λ t. is_valid_for kind.path (before_any (codes "?#") bs) && t) (end_back bs u)
+  parses_path-is-valid-path-and-end bs u =
+      parses_after-is-valid-before-mark (codes "?#") kind.path w.path_lacks w.path_marks
+      (parses_end kind)
+      (λ b r e _. parses_end-not-at-other b r e) bs u
+      ∙ ap (λ t. is_valid_for kind.path (before_any (codes "?#") bs) && t)
+      (query-and-fragment-after-cut-are-parsed-iff-valid bs u)

@@ -8,51 +8,60 @@ use Rattle.std.proofs.lemmas.Bool.Decides.{nat_tests}
 use Rattle.uri_pct.specs.Sets.{TableSet, is_one_of}
 use Rattle.uri_pct.specs.Prefixes.{valid_prefix, after}
 use Rattle.uri_pct.specs.Texts.{IsStrayPercent}
-use Rattle.uri_pct.proofs.ValidTexts.Prefixes.{valid_prefix-after, stray-digits}
+use Rattle.uri_pct.proofs.ValidTexts.Prefixes.{nothing_is_scanned_after_valid_prefix}
+use Rattle.uri_pct.proofs.ValidTexts.PrefixSteps.{unscanned_percent_has_no_hex_digits}
 use Rattle.uri_parts.specs.Components.{starts, is_end}
-use Rattle.uri_parts.specs.Models.AuthorityParsing.{begins_any}
+use Rattle.uri_parts.specs.Models.AuthorityParsing.{is_empty_or_begins_with_any}
 
-pub starts_at : (mark i : ℕ) (text : List ℕ)
+-- parsing: what is left from index i begins with a byte exactly if this is the byte at i
+pub starts_at_position : (mark i : ℕ) (text : List ℕ)
     → starts mark (drop i text) ≡ (ltb i (length text) && eqb (get_or text i 0) mark)
-starts_at mark i text = ⊎_elim
+starts_at_position mark i text = ⊎_elim
     (λ h. ap (starts mark) (drop_more text i 0 h)
     ∙ sym (ap (λ t. t && eqb (get_or text i 0) mark) (lt-ltb i (length text) h)))
     (λ h. ap (starts mark) (drop_all i text h) ∙ sym (and_left _ _ (le-ltb i (length text) h)))
     (cases_lt i (length text))
 
-pub stray_fault : (set : TableSet) (text : List ℕ) (i n : ℕ) → set.pct_encoded ≡ true
+-- parsing: a `%` (37) at which a scan ends, at n, begins no octet
+pub stray_percent_ends_scan : (set : TableSet) (text : List ℕ) (i n : ℕ) → set.pct_encoded ≡ true
     → n ≡ i + valid_prefix set (drop i text) → n < length text → get_or text n 0 ≡ 37
     → IsStrayPercent text n
-stray_fault set text i n o e h p =
+stray_percent_ends_scan set text i n o e h p =
     let d : drop n text ≡ after set (drop i text) = ap (λ k. drop k text) e
     ∙ sym (drop-drop (valid_prefix set (drop i text)) i text) in
     record {
       inside = h;
       percent = p;
       stray =
-          stray-digits set text n h o p (ap (valid_prefix set) d ∙ valid_prefix-after set (drop i text));
+          unscanned_percent_has_no_hex_digits set text n h o p (ap (valid_prefix set) d
+          ∙ nothing_is_scanned_after_valid_prefix set (drop i text));
     }
 
--- nothing is left where the position is the length
-pub is_end_at : (i : ℕ) (text : List ℕ) → i ≤ length text
+-- parsing: nothing is left exactly where the position is the length
+pub text_ends_where_position_is_length : (i : ℕ) (text : List ℕ) → i ≤ length text
     → is_end (drop i text) ≡ eqb i (length text)
 unfolding is_end
-is_end_at i text l = ⊎_elim
+text_ends_where_position_is_length i text l = ⊎_elim
     (λ h. ap is_end (drop_more text i 0 h) ∙ sym (ne_eqb i (length text) (λ e. omega arith)))
     (λ h. ap is_end (drop_all i text h) ∙ sym (eq-eqb i (length text) (omega arith)))
     (cases_lt i (length text))
 
--- what may come after an authority
-three : (b : ℕ) → is_one_of (codes "/?#") b ≡ ((eqb b 47 || eqb b 63) || eqb b 35)
-three b = grind (arith, nat_tests)
+-- parsing authorities: one ends at `/` (47), `?` (63) or `#` (35)
+authority-ends-at-slash-question-or-hash : (b : ℕ) → is_one_of (codes "/?#") b
+    ≡ ((eqb b 47 || eqb b 63) || eqb b 35)
+authority-ends-at-slash-question-or-hash b = grind (arith, nat_tests)
 
-pub ends_at : (i : ℕ) (text : List ℕ) → length text ≤ i
-    → begins_any (codes "/?#") (drop i text) ≡ true
-unfolding begins_any
-ends_at i text h = ap (begins_any (codes "/?#")) (drop_all i text h)
+-- parsing authorities: one may end where the text does
+pub authority_may_end_at_end : (i : ℕ) (text : List ℕ) → length text ≤ i
+    → is_empty_or_begins_with_any (codes "/?#") (drop i text) ≡ true
+unfolding is_empty_or_begins_with_any
+authority_may_end_at_end i text h = ap (is_empty_or_begins_with_any (codes "/?#"))
+    (drop_all i text h)
 
-pub goes_on_at : (i : ℕ) (text : List ℕ) → i < length text
-    → begins_any (codes "/?#") (drop i text)
+-- parsing authorities: one may end at `/` (47), `?` (63) or `#` (35)
+pub authority_may_end_at_byte : (i : ℕ) (text : List ℕ) → i < length text
+    → is_empty_or_begins_with_any (codes "/?#") (drop i text)
     ≡ ((eqb (get_or text i 0) 47 || eqb (get_or text i 0) 63) || eqb (get_or text i 0) 35)
-unfolding begins_any
-goes_on_at i text h = ap (begins_any (codes "/?#")) (drop_more text i 0 h) ∙ three (get_or text i 0)
+unfolding is_empty_or_begins_with_any
+authority_may_end_at_byte i text h = ap (is_empty_or_begins_with_any (codes "/?#"))
+    (drop_more text i 0 h) ∙ authority-ends-at-slash-question-or-hash (get_or text i 0)

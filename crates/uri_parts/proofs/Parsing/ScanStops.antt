@@ -10,32 +10,41 @@ use Rattle.std.proofs.lemmas.Bool.{not-true, cases_eq, false≢true}
 use Rattle.uri_pct.specs.Sets.{TableSet, LacksPercent, is_one_of}
 use Rattle.uri_pct.specs.Tokens.{is_valid_for}
 use Rattle.uri_pct.specs.Prefixes.{valid_prefix, after}
-use Rattle.uri_pct.proofs.ValidTexts.Cuts.{AreAscii, to_mark, excludes, mark_percent, mark_boundary}
-use Rattle.uri_pct.proofs.ValidTexts.Cuts.{from_mark, cut, prefix_le_mark}
-use Rattle.uri_pct.proofs.ValidTexts.Prefixes.{valid_prefix-after}
+use Rattle.uri_pct.proofs.ValidTexts.Cuts.{excludes, excluded_mark_is_no_percent, cut}
+use Rattle.uri_pct.proofs.ValidTexts.Cuts.{valid_prefix-ends-by-mark}
+use Rattle.uri_pct.proofs.ValidTexts.MarksInTexts.{AreAscii, length_before_marks}
+use Rattle.uri_pct.proofs.ValidTexts.MarksInTexts.{first_mark_is_at_boundary}
+use Rattle.uri_pct.proofs.ValidTexts.MarksInTexts.{cut_leaves_mark_or_nothing}
+use Rattle.uri_pct.proofs.ValidTexts.Prefixes.{nothing_is_scanned_after_valid_prefix}
 use Rattle.uri_parts.specs.Components.{before_any, from_any, starts, has_authority}
 use Rattle.uri_parts.proofs.Parsing.Acceptance.{is_stray, parses_after}
 
-pub utf8_from : (marks bs : List ℕ) → AreAscii marks → IsUtf8 bs → IsUtf8 (from_any marks bs)
-utf8_from marks bs ascii u = IsUtf8-drop bs _ u (mark_boundary marks ascii bs)
+-- splitting: a text in UTF-8 is UTF-8 from its first ASCII delimiter on
+pub utf8_from_marks : (marks bs : List ℕ) → AreAscii marks → IsUtf8 bs → IsUtf8 (from_any marks bs)
+utf8_from_marks marks bs ascii u = IsUtf8-drop bs _ u (first_mark_is_at_boundary marks ascii bs)
 
-pub utf8_tail : (b : ℕ) (rest : List ℕ) → b < 128 → IsUtf8 (b ∷ rest) → IsUtf8 rest
-utf8_tail b rest h u = IsUtf8-drop (b ∷ rest) 1 u
+-- parsing: after an ASCII byte, the rest of a text in UTF-8 is UTF-8
+pub utf8_after_ascii_byte : (b : ℕ) (rest : List ℕ) → b < 128 → IsUtf8 (b ∷ rest) → IsUtf8 rest
+utf8_after_ascii_byte b rest h u = IsUtf8-drop (b ∷ rest) 1 u
     (IsCharBoundary-after_ascii (b ∷ rest) 0 u (omega arith) h)
 
-pub utf8_past : (mark : ℕ) → mark < 128 → (bs : List ℕ) → starts mark bs ≡ true → IsUtf8 bs
+-- parsing: after an ASCII delimiter at its start, a text in UTF-8 is UTF-8
+pub utf8_after_mark : (mark : ℕ) → mark < 128 → (bs : List ℕ) → starts mark bs ≡ true → IsUtf8 bs
     → IsUtf8 (drop 1 bs)
-utf8_past mark h [] e u = u
-utf8_past mark h (b ∷ rest) e u = utf8_tail b rest (let d = eqb-true b mark e in omega arith) u
+utf8_after_mark mark h [] e u = u
+utf8_after_mark mark h (b ∷ rest) e u = utf8_after_ascii_byte b rest
+    (let d = eqb-true b mark e in omega arith) u
 
-pub utf8_slashes : (rest : List ℕ) → has_authority rest ≡ true → IsUtf8 rest → IsUtf8 (drop 2 rest)
-utf8_slashes [] e u = u
-utf8_slashes (a ∷ []) e u = absurd (false≢true (sym (and_right _ _ refl) ∙ e))
-utf8_slashes (a ∷ b ∷ r) e u =
+-- parsing: what is after the `//` before an authority is UTF-8
+pub utf8_after_slashes : (rest : List ℕ) → has_authority rest ≡ true → IsUtf8 rest
+    → IsUtf8 (drop 2 rest)
+utf8_after_slashes [] e u = u
+utf8_after_slashes (a ∷ []) e u = absurd (false≢true (sym (and_right _ _ refl) ∙ e))
+utf8_after_slashes (a ∷ b ∷ r) e u =
     let p = and_parts _ _ e in
     let c = eqb-true a 47 p.0 in
     let d = eqb-true b 47 p.1 in
-    utf8_tail b r (omega arith) (utf8_tail a (b ∷ r) (omega arith) u)
+    utf8_after_ascii_byte b r (omega arith) (utf8_after_ascii_byte a (b ∷ r) (omega arith) u)
 
 -- a scan stops at the first mark, or at a byte that is none
 pub record StopsWithin (marks : List ℕ) (set : TableSet) (bs : List ℕ) : Type 0 where
@@ -44,16 +53,16 @@ pub record StopsWithin (marks : List ℕ) (set : TableSet) (bs : List ℕ) : Typ
   pub other : is_one_of marks byte ≡ false
   pub left : after set bs ≡ byte ∷ rest
   pub stuck : valid_prefix set (byte ∷ rest) ≡ 0
-  pub apart : valid_prefix set bs ≡ to_mark marks bs → ⊥
+  pub apart : valid_prefix set bs ≡ length_before_marks marks bs → ⊥
 
 module _ (marks : List ℕ) (set : TableSet) (lacks : LacksPercent set)
     (outside : excludes set marks ≡ true) where
-  pub stop_cases : (bs : List ℕ) → IsUtf8 bs
-      → (valid_prefix set bs ≡ to_mark marks bs) ⊎ StopsWithin marks set bs
-  stop_cases bs u =
-      let m = to_mark marks bs in
+  pub scan-stops-at-first-mark-or-within : (bs : List ℕ) → IsUtf8 bs
+      → (valid_prefix set bs ≡ length_before_marks marks bs) ⊎ StopsWithin marks set bs
+  scan-stops-at-first-mark-or-within bs u =
+      let m = length_before_marks marks bs in
       let n = valid_prefix set bs in
-      let le = prefix_le_mark marks set lacks outside bs u in
+      let le = valid_prefix-ends-by-mark marks set lacks outside bs u in
       ⊎_elim (λ e. inl e)
       (λ d.
       let lt : n < length bs =
@@ -65,29 +74,30 @@ module _ (marks : List ℕ) (set : TableSet) (lacks : LacksPercent set)
         other = not-true _
             (prefix_len_passes (λ c. not (is_one_of marks c)) bs n 0 (omega (arith, le)));
         left = more;
-        stuck = ap (valid_prefix set) (sym more) ∙ valid_prefix-after set bs;
+        stuck = ap (valid_prefix set) (sym more) ∙ nothing_is_scanned_after_valid_prefix set bs;
         apart = d;
       }))
       (cases_eq n m)
 
-  no_stray : (bs : List ℕ) → is_stray set (from_any marks bs) ≡ false
-  no_stray bs = from_mark marks (λ r. is_stray set r ≡ false) (and_right _ _ refl)
-      (λ b rest m. and_right _ _ (mark_percent set marks outside b m)) bs
+  no-stray-percent-at-mark : (bs : List ℕ) → is_stray set (from_any marks bs) ≡ false
+  no-stray-percent-at-mark bs = cut_leaves_mark_or_nothing marks (λ r. is_stray set r ≡ false)
+      (and_right _ _ refl)
+      (λ b rest m. and_right _ _ (excluded_mark_is_no_percent set marks outside b m)) bs
 
   -- what a test takes after the longest prefix, where it takes nothing but the end and marks
-  pub piece : (test : List ℕ → Bool)
+  pub parses_after-is-valid-before-mark : (test : List ℕ → Bool)
       → ((b : ℕ) (rest : List ℕ) → is_one_of marks b ≡ false → valid_prefix set (b ∷ rest) ≡ 0
       → test (b ∷ rest) ≡ false)
       → (bs : List ℕ) → IsUtf8 bs
       → parses_after set test bs
       ≡ (is_valid_for set (before_any marks bs) && test (from_any marks bs))
-  piece test stuck bs u = ⊎_elim
+  parses_after-is-valid-before-mark test stuck bs u = ⊎_elim
       (λ e.
       ap (λ n. not (is_stray set (drop n bs)) && test (drop n bs)) e
-      ∙ ap (λ t. not t && test (from_any marks bs)) (no_stray bs)
+      ∙ ap (λ t. not t && test (from_any marks bs)) (no-stray-percent-at-mark bs)
       ∙ sym (ap (λ t. t && test (from_any marks bs))
       (cut marks set lacks outside bs u ∙ eq-eqb _ _ e)))
       (λ w.
       and_right _ _ (ap test w.left ∙ stuck w.byte w.rest w.other w.stuck)
       ∙ sym (and_left _ _ (cut marks set lacks outside bs u ∙ ne_eqb _ _ w.apart)))
-      (stop_cases bs u)
+      (scan-stops-at-first-mark-or-within bs u)

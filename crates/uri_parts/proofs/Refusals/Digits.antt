@@ -1,9 +1,11 @@
 -- Where digits end.
 use Rattle.std.proofs.Common.{◌≡◌, ℕ, ◌+◌, ◌-◌, ◌<◌, ◌≤◌, true, false, List, [], ◌∷◌}
-use Rattle.std.proofs.Common.{length, get_or, take, drop, sym, ap, ◌∙◌, arith, refl, ⊎_elim, ltb-true}
+use Rattle.std.proofs.Common.{length, get_or, take, drop, sym, ap, ◌∙◌, arith, refl, ⊎_elim}
+use Rattle.std.proofs.Common.{ltb-true}
 use Rattle.std.proofs.Common.{zero, suc, ◌&&◌, length-drop, length-take-le, inl, inr, ◌⊎◌, Some}
 use Rattle.std.proofs.Common.{None, cond}
-use Rattle.std.specs.Prelude.{slice_range, Result, Ok, Err, is_ok, nat_lt, nat_le, ◌==◌, option_and_then}
+use Rattle.std.specs.Prelude.{slice_range, Result, Ok, Err, is_ok, nat_lt, nat_le, ◌==◌}
+use Rattle.std.specs.Prelude.{option_and_then}
 use Rattle.std.specs.Char.{is_digit, digit_value}
 use Rattle.std.specs.Str.Parse.{AllDigits, ParsesUnsigned, digits_value, without_leading_plus}
 use Rattle.std.specs.Net.Reader.{digit_count}
@@ -15,123 +17,154 @@ use Rattle.std.proofs.lemmas.List.{drop_more, drop_all}
 use Rattle.uri_parts.specs.Components.{starts}
 use Rattle.uri_parts.specs.LiteralErrors.{digits_end, octet_end, octets_end}
 
-count_more : (text : List ℕ) (radix i : ℕ) → i < length text
+-- parse errors: a digit at i is one more than are after it
+digit_count-at-digit-is-one-more : (text : List ℕ) (radix i : ℕ) → i < length text
     → is_digit (get_or text i 0) radix ≡ true
     → digit_count radix (drop i text) ≡ 1 + digit_count radix (drop (i + 1) text)
-count_more text radix i l d = ap (digit_count radix) (drop_more text i 0 l) ∙ cond-true _ _ _ d
+digit_count-at-digit-is-one-more text radix i l d = ap (digit_count radix) (drop_more text i 0 l)
+    ∙ cond-true _ _ _ d
 
-count_none : (text : List ℕ) (radix i : ℕ) → i < length text
+-- parse errors: another byte at i begins no digits
+digit_count-at-other-byte-is-zero : (text : List ℕ) (radix i : ℕ) → i < length text
     → is_digit (get_or text i 0) radix ≡ false → digit_count radix (drop i text) ≡ 0
-count_none text radix i l d = ap (digit_count radix) (drop_more text i 0 l) ∙ cond-false _ _ _ d
+digit_count-at-other-byte-is-zero text radix i l d = ap (digit_count radix) (drop_more text i 0 l)
+    ∙ cond-false _ _ _ d
 
-count_over : (text : List ℕ) (radix i : ℕ) → length text ≤ i → digit_count radix (drop i text) ≡ 0
-count_over text radix i l = ap (digit_count radix) (drop_all i text l)
+-- parse errors: no digits are past the end of the text
+digit_count-past-end-is-zero : (text : List ℕ) (radix i : ℕ) → length text ≤ i
+    → digit_count radix (drop i text) ≡ 0
+digit_count-past-end-is-zero text radix i l = ap (digit_count radix) (drop_all i text l)
 
-pub one_digit : (text : List ℕ) (radix i left more : ℕ) → i < length text
+-- parse errors: digits end after a further one, if more are left to allow
+pub digits_end-passes-digit : (text : List ℕ) (radix i left more : ℕ) → i < length text
     → is_digit (get_or text i 0) radix ≡ true → left ≡ more + 1
     → digits_end text radix more (i + 1) ≡ digits_end text radix left i
-one_digit text radix i left more l d e =
-    let n = count_more text radix i l d in omega arith
+digits_end-passes-digit text radix i left more l d e =
+    let n = digit_count-at-digit-is-one-more text radix i l d in omega arith
 
-pub no_digit : (text : List ℕ) (radix most i : ℕ) → i < length text
+-- parse errors: digits end where another byte is
+pub digits_end-stays-at-other-byte : (text : List ℕ) (radix most i : ℕ) → i < length text
     → is_digit (get_or text i 0) radix ≡ false → digits_end text radix most i ≡ i
-no_digit text radix most i l d = let n = count_none text radix i l d in omega arith
+digits_end-stays-at-other-byte text radix most i l d = let n = digit_count-at-other-byte-is-zero
+    text radix i l d in omega arith
 
-pub no_more : (text : List ℕ) (radix most i : ℕ) → most ≡ 0 → digits_end text radix most i ≡ i
-no_more text radix most i e = omega arith
-
-pub no_text : (text : List ℕ) (radix most i : ℕ) → length text ≤ i
+-- parse errors: digits end where no more are allowed
+pub digits_end-stays-where-none-may-follow : (text : List ℕ) (radix most i : ℕ) → most ≡ 0
     → digits_end text radix most i ≡ i
-no_text text radix most i l = let n = count_over text radix i l in omega arith
+digits_end-stays-where-none-may-follow text radix most i e = omega arith
 
--- what is passed is digits
-all_within : (radix k : ℕ) (xs : List ℕ) → k ≤ digit_count radix xs → AllDigits radix (take k xs)
-all_within radix zero xs h = tt
-all_within radix (suc k) [] h = absurd (omega arith)
-all_within radix (suc k) (x ∷ xs) h = ⊎_elim
+-- parse errors: digits end where the text does
+pub digits_end-stays-past-text : (text : List ℕ) (radix most i : ℕ) → length text ≤ i
+    → digits_end text radix most i ≡ i
+digits_end-stays-past-text text radix most i l = let n = digit_count-past-end-is-zero text radix i
+    l in omega arith
+
+-- parse errors: what is passed as digits is digits
+counted-prefix-is-digits : (radix k : ℕ) (xs : List ℕ) → k ≤ digit_count radix xs
+    → AllDigits radix (take k xs)
+counted-prefix-is-digits radix zero xs h = tt
+counted-prefix-is-digits radix (suc k) [] h = absurd (omega arith)
+counted-prefix-is-digits radix (suc k) (x ∷ xs) h = ⊎_elim
     (λ d. (
       ltb-true _ _ d,
-      all_within radix k xs
+      counted-prefix-is-digits radix k xs
           (let e = cond-true (is_digit x radix) (1 + digit_count radix xs) 0 d in omega arith),
     ))
     (λ d. absurd (let e = cond-false (is_digit x radix) (1 + digit_count radix xs) 0 d in
     omega arith))
     (cases_Bool (is_digit x radix))
 
-pub all_digits : (text : List ℕ) (radix most i : ℕ)
+-- parse errors: up to the end of the digits there are only digits
+pub text-to-digits_end-is-digits : (text : List ℕ) (radix most i : ℕ)
     → AllDigits radix (slice_range text i (digits_end text radix most i))
-all_digits text radix most i = all_within radix _ (drop i text) (omega arith)
+text-to-digits_end-is-digits text radix most i = counted-prefix-is-digits radix _ (drop i text)
+    (omega arith)
 
-pub digits_long : (text : List ℕ) (radix most i : ℕ) → digits_end text radix most i ≤ length text
+-- parse errors: the digits have as many bytes as are between their positions
+pub length-of-text-to-digits_end : (text : List ℕ) (radix most i : ℕ)
+    → digits_end text radix most i ≤ length text
     → length (slice_range text i (digits_end text radix most i))
     ≡ digits_end text radix most i - i
-digits_long text radix most i l =
+length-of-text-to-digits_end text radix most i l =
     length-take-le _ (drop i text) (omega (arith, length-drop i text))
 
--- digits are read as a number of one byte where they are at most 255
-no_plus : (bs : List ℕ) → AllDigits 10 bs → without_leading_plus bs ≡ bs
-no_plus [] h = refl
-no_plus (c ∷ bs) h = ap (λ n. drop n (c ∷ bs)) (cond-false (c == 43) 1 0 (ne_eqb c 43 (λ e.
+-- parse errors: decimal digits have no `+` before them, which std would allow
+digits-have-no-leading-plus : (bs : List ℕ) → AllDigits 10 bs → without_leading_plus bs ≡ bs
+digits-have-no-leading-plus [] h = refl
+digits-have-no-leading-plus (c ∷ bs) h = ap (λ n. drop n (c ∷ bs))
+    (cond-false (c == 43) 1 0 (ne_eqb c 43 (λ e.
     let l : digit_value 43 < 10 = rw e at h.0 in omega arith)))
 
-at_most : (m n : ℕ) → (m ≤ n) ⊎ (n < m)
-at_most m n = ⊎_elim (λ l. inr l) (λ l. inl l) (cases_lt n m)
+-- general fact on numbers, for counts of digits
+at-most-or-greater : (m n : ℕ) → (m ≤ n) ⊎ (n < m)
+at-most-or-greater m n = ⊎_elim (λ l. inr l) (λ l. inl l) (cases_lt n m)
 
-octet_read : {E : Type 0} (bs : List ℕ) (r : Result ℕ E) → AllDigits 10 bs
+-- parse errors: decimal digits are parsed as eight bits exactly if there are some,
+-- and their value is at most 255
+octet-is-parsed-iff-at-most-255 : {E : Type 0} (bs : List ℕ) (r : Result ℕ E) → AllDigits 10 bs
     → ParsesUnsigned 8 10 bs r
     → is_ok r ≡ (nat_lt 0 (length bs) && nat_le (digits_value 10 bs) 255)
-octet_read bs (Ok n) h p =
-    let q = rw (no_plus bs h) at p in
+octet-is-parsed-iff-at-most-255 bs (Ok n) h p =
+    let q = rw (digits-have-no-leading-plus bs h) at p in
     let small = q.0.1 in
     sym (and_from _ _ (lt-ltb 0 _ q.0.0.0) (le-leb _ 255 (omega arith)))
-octet_read bs (Err e) h p =
-    let q = rw (no_plus bs h) at p in
+octet-is-parsed-iff-at-most-255 bs (Err e) h p =
+    let q = rw (digits-have-no-leading-plus bs h) at p in
     ⊎_elim
     (λ some. ⊎_elim
     (λ small. absurd (q ((some, h), omega arith)))
     (λ great. sym (and_right _ _ (lt-leb _ 255 great)))
-    (at_most (digits_value 10 bs) 255))
+    (at-most-or-greater (digits_value 10 bs) 255))
     (λ none. sym (and_left _ _ (le-ltb 0 _ none)))
     (cases_lt 0 (length bs))
 
-some_digits : (i end : ℕ) → nat_lt 0 (end - i) ≡ nat_lt i end
-some_digits i end = grind (arith, nat_tests)
+-- general fact on numbers, for digits: there are some exactly if they end after they begin
+digits-are-some-iff-end-is-later : (i end : ℕ) → nat_lt 0 (end - i) ≡ nat_lt i end
+digits-are-some-iff-end-is-later i end = grind (arith, nat_tests)
 
-pub octet_is : {E : Type 0} (text : List ℕ) (i end : ℕ) (bs : List ℕ) (r : Result ℕ E)
+-- parse errors: three decimal digits at most that are parsed as a number up to 255 end where an
+-- octet of an IPv4 address does
+pub parsed-octet-ends-at-octet_end : {E : Type 0} (text : List ℕ) (i end : ℕ) (bs : List ℕ)
+    (r : Result ℕ E)
     → end ≡ digits_end text 10 3 i → end ≤ length text → bs ≡ slice_range text i end
     → ParsesUnsigned 8 10 bs r → starts 48 (drop i text) ≡ false
     → cond (is_ok r) (Some end) None ≡ octet_end text i
 unfolding octet_end
-octet_is text i end bs r e l b p z =
+parsed-octet-ends-at-octet_end text i end bs r e l b p z =
     let last : ℕ = digits_end text 10 3 i in
     let same : bs ≡ slice_range text i last = b ∙ ap (slice_range text i) e in
     let q = rw same at p in
     let within : last ≤ length text = omega (arith, e) in
     let t : is_ok r ≡ (nat_lt i last && nat_le (digits_value 10 (slice_range text i last)) 255) =
-    octet_read _ r (all_digits text 10 3 i) q
+    octet-is-parsed-iff-at-most-255 _ r (text-to-digits_end-is-digits text 10 3 i) q
     ∙ ap (λ n. nat_lt 0 n && nat_le (digits_value 10 (slice_range text i last)) 255)
-    (digits_long text 10 3 i within)
-    ∙ ap (λ t. t && nat_le (digits_value 10 (slice_range text i last)) 255) (some_digits i last) in
+    (length-of-text-to-digits_end text 10 3 i within)
+    ∙ ap (λ t. t && nat_le (digits_value 10 (slice_range text i last)) 255)
+    (digits-are-some-iff-end-is-later i last) in
     ap (λ n. cond (is_ok r) (Some n) None) e ∙ ap (λ t. cond t (Some last) None) t
     ∙ sym (cond-false _ _ _ z)
 
--- one more number of an IPv4 address
-pub octets_none : (text : List ℕ) (n i : ℕ) → n ≡ 0 → octets_end text n i ≡ Some i
+-- parse errors: no number of an IPv4 address is left to read, so its end is here
+pub octets_end-of-no-octets-stays : (text : List ℕ) (n i : ℕ) → n ≡ 0 → octets_end text n i ≡ Some i
 unfolding octets_end
-octets_none text zero i e = refl
-octets_none text (suc n) i e = absurd (omega arith)
+octets_end-of-no-octets-stays text zero i e = refl
+octets_end-of-no-octets-stays text (suc n) i e = absurd (omega arith)
 
-pub octets_dotted : (text : List ℕ) (n m i : ℕ) → n ≡ m + 1 → starts 46 (drop i text) ≡ true
+-- parse errors: after a `.` (46), one more octet of an IPv4 address is found, of n that are left
+pub octets_end-goes-on-after-dot : (text : List ℕ) (n m i : ℕ) → n ≡ m + 1 → starts 46 (drop i text)
+    ≡ true
     → octets_end text n i ≡ option_and_then (octets_end text m) (octet_end text (i + 1))
 unfolding octets_end
-octets_dotted text zero m i e d = absurd (omega arith)
-octets_dotted text (suc n) m i e d =
+octets_end-goes-on-after-dot text zero m i e d = absurd (omega arith)
+octets_end-goes-on-after-dot text (suc n) m i e d =
     let s : n ≡ m = omega arith in
     cond-true _ _ _ d
     ∙ ap (λ k. option_and_then (octets_end text k) (octet_end text (i + 1))) s
 
-pub octets_undotted : (text : List ℕ) (n m i : ℕ) → n ≡ m + 1 → starts 46 (drop i text) ≡ false
+-- parse errors: without a `.` (46), no further octet of an IPv4 address is found
+pub octets_end-fails-without-dot : (text : List ℕ) (n m i : ℕ) → n ≡ m + 1 → starts 46 (drop i text)
+    ≡ false
     → octets_end text n i ≡ None
 unfolding octets_end
-octets_undotted text zero m i e d = absurd (omega arith)
-octets_undotted text (suc n) m i e d = cond-false _ _ _ d
+octets_end-fails-without-dot text zero m i e d = absurd (omega arith)
+octets_end-fails-without-dot text (suc n) m i e d = cond-false _ _ _ d

@@ -5,10 +5,14 @@ use Rattle.uri_parts.specs.Refusals.{refusal}
 use Rattle.uri_parts.specs.RefusalRows.{uri_ref_rows, uri_rows}
 use Rattle.uri_parts.proofs.Refusals.OnLiterals.{errors_on_literals}
 
-pub uri_ref_error : map (λ row. refusal uri_ref row.0) uri_ref_rows ≡ map (λ row. row.1) uri_ref_rows
+-- parse errors: the stored examples of URI references have the errors that their rows say
+pub uri_ref_rows_have_their_errors : map (λ row. refusal uri_ref row.0) uri_ref_rows
+    ≡ map (λ row. row.1) uri_ref_rows
 unfolding errors_on_literals
-uri_ref_error = refl
+uri_ref_rows_have_their_errors = refl
 
-pub uri_error : map (λ row. refusal uri row.0) uri_rows ≡ map (λ row. row.1) uri_rows
+-- parse errors: the stored examples of URIs have the errors that their rows say
+pub uri_rows_have_their_errors : map (λ row. refusal uri row.0) uri_rows
+    ≡ map (λ row. row.1) uri_rows
 unfolding errors_on_literals
-uri_error = refl
+uri_rows_have_their_errors = refl

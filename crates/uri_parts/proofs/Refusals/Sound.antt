@@ -1,6 +1,7 @@
 -- What is read as an IPv6 address with something after it, as `]`, is one.
 use Rattle.std.proofs.Common.{◌≡◌, ◌≢◌, ℕ, zero, suc, ◌+◌, ◌-◌, ◌<◌, ◌≤◌, Bool, true, false, not}
-use Rattle.std.proofs.Common.{cond, eqb, List, [], ◌∷◌, ◌++◌, length, get_or, drop, decimal, Option, Some}
+use Rattle.std.proofs.Common.{cond, eqb, List, [], ◌∷◌, ◌++◌, length, get_or, drop, decimal, Option}
+use Rattle.std.proofs.Common.{Some}
 use Rattle.std.proofs.Common.{None, refl, sym, ap, subst, ◌∙◌, arith, ◌&&◌, ◌||◌, ⊎_elim, inl, inr}
 use Rattle.std.proofs.Common.{append_assoc, length-drop, eqb-true, lit<, get_or-drop, add-zero}
 use Rattle.std.proofs.Common.{replicate}
@@ -26,77 +27,91 @@ use Rattle.uri_parts.specs.Components.{starts, is_end}
 use Rattle.uri_parts.specs.LiteralErrors.{Groups, Groups_end, Elision, Malformed, digits_end}
 use Rattle.uri_parts.specs.LiteralErrors.{octet_end, octets_end, ipv4_end, after_ipv4, groups_from}
 use Rattle.uri_parts.specs.LiteralErrors.{ipv6_end, after_groups, after_elision}
-use Rattle.uri_parts.proofs.Refusals.Digits.{all_digits, digits_long}
-use Rattle.uri_parts.proofs.Refusals.GroupTurns.{none_left, ends, elides, lone, over, amiss}
-use Rattle.uri_parts.proofs.Refusals.GroupTurns.{dotted_full, dotted, goes_on}
-use Rattle.uri_parts.proofs.Splitting.Recompose.{starts-cons}
+use Rattle.uri_parts.proofs.Refusals.Digits.{text-to-digits_end-is-digits}
+use Rattle.uri_parts.proofs.Refusals.Digits.{length-of-text-to-digits_end}
+use Rattle.uri_parts.proofs.Refusals.GroupTurns.{groups_from-ends-without-room}
+use Rattle.uri_parts.proofs.Refusals.GroupTurns.{groups_from-ends-without-group}
+use Rattle.uri_parts.proofs.Refusals.GroupTurns.{groups_from-elides-at-two-colons}
+use Rattle.uri_parts.proofs.Refusals.GroupTurns.{groups_from-rejects-lone-colon}
+use Rattle.uri_parts.proofs.Refusals.GroupTurns.{groups_from-ends-with-text}
+use Rattle.uri_parts.proofs.Refusals.GroupTurns.{groups_from-rejects-misplaced-colon}
+use Rattle.uri_parts.proofs.Refusals.GroupTurns.{groups_from-rejects-ipv4-without-room, dotted}
+use Rattle.uri_parts.proofs.Refusals.GroupTurns.{groups_from-goes-on-after-group}
+use Rattle.uri_parts.proofs.Splitting.Recompose.{text-with-mark-is-mark-and-rest}
 
 module _ (text : List ℕ) where
-  mark_at : (mark i : ℕ) → starts mark (drop i text) ≡ true
+  text-at-mark-is-mark-and-rest : (mark i : ℕ) → starts mark (drop i text) ≡ true
       → drop i text ≡ mark ∷ drop (i + 1) text
-  mark_at mark i e = starts-cons mark (drop i text) e ∙ ap (λ t. mark ∷ t) (drop-drop 1 i text)
+  text-at-mark-is-mark-and-rest mark i e = text-with-mark-is-mark-and-rest mark (drop i text) e
+      ∙ ap (λ t. mark ∷ t) (drop-drop 1 i text)
 
-  count_le : (radix : ℕ) (xs : List ℕ) → digit_count radix xs ≤ length xs
-  count_le radix xs = prefix_len-le-length (λ c. is_digit c radix) xs
+  digit_count-is-at-most-length : (radix : ℕ) (xs : List ℕ) → digit_count radix xs ≤ length xs
+  digit_count-is-at-most-length radix xs = prefix_len-le-length (λ c. is_digit c radix) xs
 
-  digits_within : (radix most i : ℕ) → i < digits_end text radix most i
+  digits_end-is-within-text : (radix most i : ℕ) → i < digits_end text radix most i
       → digits_end text radix most i ≤ length text
-  digits_within radix most i l =
-      let c = count_le radix (drop i text) in omega (arith, c, length-drop i text)
+  digits_end-is-within-text radix most i l =
+      let c = digit_count-is-at-most-length radix (drop i text) in omega
+      (arith, c, length-drop i text)
 
-  first_of_slice : (i end : ℕ) → i < end → end ≤ length text
+  slice-begins-with-byte-at-position : (i end : ℕ) → i < end → end ≤ length text
       → get_or (slice_range text i end) 0 0 ≡ get_or (drop i text) 0 0
-  first_of_slice i end l k = get_or-take (end - i) (drop i text) 0 0 (omega arith)
+  slice-begins-with-byte-at-position i end l k = get_or-take (end - i) (drop i text) 0 0
+      (omega arith)
 
   record IsOctet (i end : ℕ) : Type 0 where
     value : ℕ
     fits : value < 256
     split : drop i text ≡ decimal value ++ drop end text
 
-  octet_digits : (i : ℕ) → starts 48 (drop i text) ≡ false → i < digits_end text 10 3 i
+  digits-up-to-255-are-octet : (i : ℕ) → starts 48 (drop i text) ≡ false
+      → i < digits_end text 10 3 i
       → digits_value 10 (slice_range text i (digits_end text 10 3 i)) ≤ 255
       → IsOctet i (digits_end text 10 3 i)
-  octet_digits i z l v =
+  digits-up-to-255-are-octet i z l v =
       let end : ℕ = digits_end text 10 3 i in
       let ds : List ℕ = slice_range text i end in
-      let within = digits_within 10 3 i l in
-      let long = digits_long text 10 3 i within in
+      let within = digits_end-is-within-text 10 3 i l in
+      let long = length-of-text-to-digits_end text 10 3 i within in
       let first : get_or ds 0 0 ≡ 48 → length ds ≡ 1 = λ e. absurd (both_ways _ z
       (ap (starts 48) (drop_more text i 0 (omega (arith, within, l))) ∙ eq-eqb _ 48
       (sym (get_or-drop i text 0 0 ∙ ap (λ n. get_or text n 0) (add-zero i))
-      ∙ sym (first_of_slice i end l within) ∙ e))) in
-      let spelled = decimal-digits_value (numerals_by_value _ tells_digits) ds (all_digits text 10 3 i)
+      ∙ sym (slice-begins-with-byte-at-position i end l within) ∙ e))) in
+      let spelled = decimal-digits_value (numerals_by_value _ tells_digits) ds
+      (text-to-digits_end-is-digits text 10 3 i)
       (omega (arith, long, l)) first (omega (arith, v)) in
       record {
         value = digits_value 10 ds;
         fits = omega (arith, v);
-        split = drop_split text i end (omega (arith, l)) ∙ ap (λ t. t ++ drop end text) (sym spelled);
+        split = drop_split text i end (omega (arith, l))
+            ∙ ap (λ t. t ++ drop end text) (sym spelled);
       }
 
-  octet_sound : (i end : ℕ) → octet_end text i ≡ Some end → IsOctet i end
+  octet_end-ends-an-octet : (i end : ℕ) → octet_end text i ≡ Some end → IsOctet i end
   unfolding octet_end
-  octet_sound i end e = ⊎_elim
+  octet_end-ends-an-octet i end e = ⊎_elim
       (λ z.
       let n : i + 1 ≡ end = same_Some _ _ (sym (cond-true _ _ _ z) ∙ e) in
       record {
         value = 0;
         fits = lit< tt;
-        split = mark_at 48 i z ∙ ap (λ k. 48 ∷ drop k text) n
+        split = text-at-mark-is-mark-and-rest 48 i z ∙ ap (λ k. 48 ∷ drop k text) n
             ∙ ap (λ t. t ++ drop end text) (sym (decimal_digit 0 (lit< tt)));
       })
       (λ z.
       let q = cond_some _ _ _ (sym (cond-false _ _ _ z) ∙ e) in
       let p = and_parts _ _ q.0 in
-      subst (IsOctet i) q.1 (octet_digits i z (ltb-true _ _ p.0) (leb-true _ _ p.1)))
+      subst (IsOctet i) q.1 (digits-up-to-255-are-octet i z (ltb-true _ _ p.0) (leb-true _ _ p.1)))
       (cases_Bool (starts 48 (drop i text)))
 
-  next_octet : (n i end : ℕ) → octets_end text (suc n) i ≡ Some end →
+  octets_end-passed-dot-and-octet : (n i end : ℕ) → octets_end text (suc n) i ≡ Some end →
       (mid : ℕ) × (drop i text ≡ 46 ∷ drop (i + 1) text) × (octet_end text (i + 1) ≡ Some mid)
       × (octets_end text n mid ≡ Some end)
   unfolding octets_end
-  next_octet n i end e = ⊎_elim
+  octets_end-passed-dot-and-octet n i end e = ⊎_elim
       (λ z. and_then_some (octets_end text n) (octet_end text (i + 1)) end
-      (sym (cond-true _ _ _ z) ∙ e) λ mid found left. (mid, mark_at 46 i z, found, left))
+      (sym (cond-true _ _ _ z) ∙ e) λ mid found left.
+      (mid, text-at-mark-is-mark-and-rest 46 i z, found, left))
       (λ z. absurd (none-some end (sym (cond-false _ _ _ z) ∙ e)))
       (cases_Bool (starts 46 (drop i text)))
 
@@ -106,17 +121,17 @@ module _ (text : List ℕ) where
     is : IsDotted address octets
     split : drop i text ≡ address ++ drop end text
 
-  ipv4_sound : (i end : ℕ) → ipv4_end text i ≡ Some end → IsAddress i end
+  ipv4_end-ends-an-ipv4 : (i end : ℕ) → ipv4_end text i ≡ Some end → IsAddress i end
   unfolding octets_end
-  ipv4_sound i end e =
+  ipv4_end-ends-an-ipv4 i end e =
       and_then_some (octets_end text 3) (octet_end text i) end e λ a first left.
-      let (b, dot_b, second, left_b) = next_octet 2 a end left in
-      let (c, dot_c, third, left_c) = next_octet 1 b end left_b in
-      let (d, dot_d, fourth, left_d) = next_octet 0 c end left_c in
-      let v = octet_sound i a first in
-      let w = octet_sound (a + 1) b second in
-      let x = octet_sound (b + 1) c third in
-      let y = octet_sound (c + 1) d fourth in
+      let (b, dot_b, second, left_b) = octets_end-passed-dot-and-octet 2 a end left in
+      let (c, dot_c, third, left_c) = octets_end-passed-dot-and-octet 1 b end left_b in
+      let (d, dot_d, fourth, left_d) = octets_end-passed-dot-and-octet 0 c end left_c in
+      let v = octet_end-ends-an-octet i a first in
+      let w = octet_end-ends-an-octet (a + 1) b second in
+      let x = octet_end-ends-an-octet (b + 1) c third in
+      let y = octet_end-ends-an-octet (c + 1) d fourth in
       let last : d ≡ end = same_Some _ _ left_d in
       let all = v.split ∙ ap (λ t. decimal v.value ++ t) (dot_b
       ∙ ap (λ t. 46 ∷ t) (w.split ∙ ap (λ t. decimal w.value ++ t) (dot_c
@@ -141,98 +156,106 @@ module _ (text : List ℕ) where
   lead true = []
   lead false = 58 ∷ []
 
-  record Reads (ipv4 : Bool) (room : ℕ) (is_first : Bool) (i m : ℕ) (behind : List ℕ) : Type 0 where
-    pub groups : List ℕ
-    pub segments : List ℕ
-    pub split : drop i text ≡ groups ++ behind
-    pub are : IsGroupsAfter ipv4 (lead is_first) groups segments
-    pub count : length segments + m ≡ room
+  record Parses (ipv4 : Bool) (room : ℕ) (is_first : Bool) (i m : ℕ) (suffix : List ℕ) : Type 0
+    where
+      pub groups : List ℕ
+      pub segments : List ℕ
+      pub split : drop i text ≡ groups ++ suffix
+      pub are : IsGroupsAfter ipv4 (lead is_first) groups segments
+      pub count : length segments + m ≡ room
 
   abbrev Sound : ℕ → Bool → ℕ → Groups → Type 0
   Sound room is_first i (Groups_end m end) =
-      is_end (drop end text) ≡ false → Reads true room is_first i m (drop end text)
+      is_end (drop end text) ≡ false → Parses true room is_first i m (drop end text)
   Sound room is_first i (Elision m end) =
-      Reads false room is_first i m (58 ∷ 58 ∷ drop end text)
+      Parses false room is_first i m (58 ∷ 58 ∷ drop end text)
   Sound room is_first i Malformed = Unit {0}
 
-  nothing : (ipv4 : Bool) (room : ℕ) (is_first : Bool) (i : ℕ)
-      → Reads ipv4 room is_first i room (drop i text)
-  nothing ipv4 room is_first i =
+  no-groups-parse-to-same-text : (ipv4 : Bool) (room : ℕ) (is_first : Bool) (i : ℕ)
+      → Parses ipv4 room is_first i room (drop i text)
+  no-groups-parse-to-same-text ipv4 room is_first i =
       record { groups = []; segments = []; split = refl; are = refl; count = omega arith }
 
   -- one more group
-  more : (ipv4 : Bool) (r : ℕ) (is_first : Bool) (i group end m : ℕ) (behind : List ℕ)
+  one-more-group-is-parsed : (ipv4 : Bool) (r : ℕ) (is_first : Bool) (i group end m : ℕ)
+      (suffix : List ℕ)
       → drop i text ≡ lead is_first ++ drop group text → end ≡ digits_end text 16 4 group
-      → end ≢ group → Reads ipv4 r false end m behind → Reads ipv4 (suc r) is_first i m behind
-  more ipv4 r is_first i group end m behind led l some w =
+      → end ≢ group → Parses ipv4 r false end m suffix → Parses ipv4 (suc r) is_first i m suffix
+  one-more-group-is-parsed ipv4 r is_first i group end m suffix led l some w =
       let last : ℕ = digits_end text 16 4 group in
       let longer : group < last = omega (arith, l, some) in
-      let within = digits_within 16 4 group longer in
+      let within = digits_end-is-within-text 16 4 group longer in
       let ds : List ℕ = slice_range text group last in
-      let long = digits_long text 16 4 group within in
-      let cut : drop group text ≡ ds ++ (w.groups ++ behind) =
+      let long = length-of-text-to-digits_end text 16 4 group within in
+      let cut : drop group text ≡ ds ++ (w.groups ++ suffix) =
       drop_split text group last (omega (arith, longer)) ∙ ap (λ t. ds ++ t)
       (ap (λ n. drop n text) (sym l) ∙ w.split) in
       record {
         groups = lead is_first ++ (ds ++ w.groups);
         segments = digits_value 16 ds ∷ w.segments;
         split = led ∙ ap (λ t. lead is_first ++ t) cut
-            ∙ sym (append_assoc (lead is_first) (ds ++ w.groups) behind
-            ∙ ap (λ t. lead is_first ++ t) (append_assoc ds w.groups behind));
+            ∙ sym (append_assoc (lead is_first) (ds ++ w.groups) suffix
+            ∙ ap (λ t. lead is_first ++ t) (append_assoc ds w.groups suffix));
         are = inl (
           ds,
           w.groups,
           sym (append_assoc (lead is_first) ds w.groups),
-          (((omega (arith, long, longer), all_digits text 16 4 group), refl), omega (arith, long)),
+          (
+            ((omega (arith, long, longer), text-to-digits_end-is-digits text 16 4 group), refl),
+            omega (arith, long),
+          ),
           w.are,
         );
         count = omega (arith, w.count);
       }
 
-  lift : (r : ℕ) (is_first : Bool) (i group end : ℕ) (g : Groups)
+  soundness-after-one-more-group : (r : ℕ) (is_first : Bool) (i group end : ℕ) (g : Groups)
       → drop i text ≡ lead is_first ++ drop group text → end ≡ digits_end text 16 4 group
       → end ≢ group → Sound r false end g → Sound (suc r) is_first i g
-  lift r is_first i group end (Groups_end m last) led l some w =
-      λ c. more true r is_first i group end m _ led l some (w c)
-  lift r is_first i group end (Elision m last) led l some w =
-      more false r is_first i group end m _ led l some w
-  lift r is_first i group end Malformed led l some w = tt
+  soundness-after-one-more-group r is_first i group end (Groups_end m last) led l some w =
+      λ c. one-more-group-is-parsed true r is_first i group end m _ led l some (w c)
+  soundness-after-one-more-group r is_first i group end (Elision m last) led l some w =
+      one-more-group-is-parsed false r is_first i group end m _ led l some w
+  soundness-after-one-more-group r is_first i group end Malformed led l some w = tt
 
   -- a `::`
-  elided : (r : ℕ) (is_first : Bool) (i group : ℕ) → starts 58 (drop i text) ≡ true
+  double-colon-is-parsed : (r : ℕ) (is_first : Bool) (i group : ℕ) → starts 58 (drop i text) ≡ true
       → group ≡ i + 1 → starts 58 (drop group text) ≡ true
-      → Reads false (suc r) is_first i (suc r) (58 ∷ 58 ∷ drop (group + 1) text)
-  elided r is_first i group c g d =
-      subst (Reads false (suc r) is_first i (suc r))
-      (mark_at 58 i c ∙ ap (λ t. 58 ∷ t) (ap (λ n. drop n text) (sym g) ∙ mark_at 58 group d))
-      (nothing false (suc r) is_first i)
+      → Parses false (suc r) is_first i (suc r) (58 ∷ 58 ∷ drop (group + 1) text)
+  double-colon-is-parsed r is_first i group c g d =
+      subst (Parses false (suc r) is_first i (suc r))
+      (text-at-mark-is-mark-and-rest 58 i c ∙ ap (λ t. 58 ∷ t) (ap (λ n. drop n text) (sym g)
+      ∙ text-at-mark-is-mark-and-rest 58 group d))
+      (no-groups-parse-to-same-text false (suc r) is_first i)
 
-  closed_some : (xs : List ℕ) → starts 93 xs ≡ true → is_end xs ≡ false
+  text-with-bracket-is-not-ended : (xs : List ℕ) → starts 93 xs ≡ true → is_end xs ≡ false
   unfolding is_end
-  closed_some [] z = absurd (false≢true z)
-  closed_some (x ∷ xs) z = refl
+  text-with-bracket-is-not-ended [] z = absurd (false≢true z)
+  text-with-bracket-is-not-ended (x ∷ xs) z = refl
 
   -- a group has its `:`, but the first
-  separated : (is_first : Bool) (i : ℕ)
-      → (starts 58 (drop i text) && is_first || not (starts 58 (drop i text)) && not is_first) ≡ false
+  group-follows-its-colon : (is_first : Bool) (i : ℕ)
+      → (starts 58 (drop i text) && is_first || not (starts 58 (drop i text)) && not is_first)
+      ≡ false
       → drop i text ≡ lead is_first ++ drop (cond (starts 58 (drop i text)) (i + 1) i) text
-  separated true i m = ⊎_elim
+  group-follows-its-colon true i m = ⊎_elim
       (λ c. absurd (false≢true (sym m ∙ ap (λ t. t && true || not t && false) c)))
       (λ c. ap (λ n. drop n text) (sym (cond-false _ (i + 1) i c)))
       (cases_Bool (starts 58 (drop i text)))
-  separated false i m = ⊎_elim
-      (λ c. mark_at 58 i c ∙ ap (λ n. 58 ∷ drop n text) (sym (cond-true _ (i + 1) i c)))
+  group-follows-its-colon false i m = ⊎_elim
+      (λ c. text-at-mark-is-mark-and-rest 58 i c
+      ∙ ap (λ n. 58 ∷ drop n text) (sym (cond-true _ (i + 1) i c)))
       (λ c. absurd (false≢true (sym m ∙ ap (λ t. t && false || not t && true) c)))
       (cases_Bool (starts 58 (drop i text)))
 
   -- an IPv4 address ends the groups
-  addressed : (r : ℕ) (is_first : Bool) (i group : ℕ) → r ≢ 0
+  ipv4-ends-sound-groups : (r : ℕ) (is_first : Bool) (i group : ℕ) → r ≢ 0
       → drop i text ≡ lead is_first ++ drop group text
       → (o : Option ℕ) → ipv4_end text group ≡ o
       → Sound (suc r) is_first i (after_ipv4 text (r - 1) o)
-  addressed r is_first i group left led None e = tt
-  addressed r is_first i group left led (Some last) e = λ z.
-      let w = ipv4_sound group last e in
+  ipv4-ends-sound-groups r is_first i group left led None e = tt
+  ipv4-ends-sound-groups r is_first i group left led (Some last) e = λ z.
+      let w = ipv4_end-ends-an-ipv4 group last e in
       record {
         groups = lead is_first ++ w.address;
         segments = segments_of (w.is.a ∷ w.is.b ∷ w.is.c ∷ w.is.d ∷ []);
@@ -242,12 +265,12 @@ module _ (text : List ℕ) where
         count = omega arith;
       }
 
-  sound : (room : ℕ) (is_first : Bool) (i : ℕ)
+  groups_from-is-sound : (room : ℕ) (is_first : Bool) (i : ℕ)
       → Sound room is_first i (groups_from text room is_first i)
-  sound zero is_first i =
-      subst (Sound zero is_first i) (sym (none_left text zero is_first i refl))
-      (λ c. nothing true zero is_first i)
-  sound (suc r) is_first i =
+  groups_from-is-sound zero is_first i =
+      subst (Sound zero is_first i) (sym (groups_from-ends-without-room text zero is_first i refl))
+      (λ c. no-groups-parse-to-same-text true zero is_first i)
+  groups_from-is-sound (suc r) is_first i =
       let colon : Bool = starts 58 (drop i text) in
       let group : ℕ = cond colon (i + 1) i in
       let end : ℕ = digits_end text 16 4 group in
@@ -258,34 +281,42 @@ module _ (text : List ℕ) where
       let none : end ≡ group = eqb-true end group q in
       ⊎_elim
       (λ c. ⊎_elim
-      (λ d. subst S (sym (elides text (suc r) r is_first i group end n refl refl none c d))
-      (elided r is_first i group c (cond-true _ _ _ c) d))
-      (λ d. subst S (sym (lone text (suc r) r is_first i group end n refl refl none c d)) tt)
+      (λ d. subst S (sym (groups_from-elides-at-two-colons text (suc r) r is_first i group end n
+      refl refl none c d))
+      (double-colon-is-parsed r is_first i group c (cond-true _ _ _ c) d))
+      (λ d. subst S (sym (groups_from-rejects-lone-colon text (suc r) r is_first i group end n refl
+      refl none c d)) tt)
       (cases_Bool (starts 58 (drop group text))))
-      (λ c. subst S (sym (ends text (suc r) r is_first i group end n refl refl none c))
-      (λ z. nothing true (suc r) is_first i))
+      (λ c. subst S (sym (groups_from-ends-without-group text (suc r) r is_first i group end n refl
+      refl none c))
+      (λ z. no-groups-parse-to-same-text true (suc r) is_first i))
       (cases_Bool colon))
       (λ q.
       let some : end ≢ group = λ s. both_ways _ q (eq-eqb end group s) in
       ⊎_elim
-      (λ o. subst S (sym (over text (suc r) r is_first i group end n refl refl some o))
+      (λ o. subst S (sym (groups_from-ends-with-text text (suc r) r is_first i group end n refl
+      refl some o))
       (λ z. absurd (both_ways _ z (and_parts _ _ o).1)))
       (λ o. ⊎_elim
-      (λ m. subst S (sym (amiss text (suc r) r is_first i group end n refl refl some o m)) tt)
+      (λ m. subst S (sym (groups_from-rejects-misplaced-colon text (suc r) r is_first i group end n
+      refl refl some o m)) tt)
       (λ m.
-      let led = separated is_first i m in
+      let led = group-follows-its-colon is_first i m in
       ⊎_elim
       (λ d. ⊎_elim
-      (λ z. subst S (sym (dotted_full text (suc r) r is_first i group end n refl refl some o m d
+      (λ z. subst S (sym (groups_from-rejects-ipv4-without-room text (suc r) r is_first i group end
+      n refl refl some o m d
       (eqb-true r 0 z))) tt)
       (λ z.
       let left : r ≢ 0 = λ s. both_ways _ z (eq-eqb r 0 s) in
       subst S (sym (dotted text (suc r) r is_first i group end n refl refl some o m d left))
-      (addressed r is_first i group left led (ipv4_end text group) refl))
+      (ipv4-ends-sound-groups r is_first i group left led (ipv4_end text group) refl))
       (cases_Bool (eqb r 0)))
-      (λ d. subst S (sym (goes_on text (suc r) r is_first i group end n refl refl some o m d))
-      (lift r is_first i group end (groups_from text r false end) led refl some
-      (sound r false end)))
+      (λ d. subst S (sym (groups_from-goes-on-after-group text (suc r) r is_first i group end n refl
+      refl some o m d))
+      (soundness-after-one-more-group r is_first i group end (groups_from text r false end)
+      led refl some
+      (groups_from-is-sound r false end)))
       (cases_Bool (nat_lt end (group + 4) && starts 46 (drop end text))))
       (cases_Bool (colon && is_first || not colon && not is_first)))
       (cases_Bool (nat_lt end (group + 4) && is_end (drop end text))))
@@ -298,10 +329,10 @@ module _ (text : List ℕ) where
     pub split : drop i text ≡ address ++ drop end text
     pub is : IsColonHex address segments
 
-  behind_elided : (i m e end : ℕ) → Reads false 8 true i m (58 ∷ 58 ∷ drop e text)
+  elision-gives-ipv6 : (i m e end : ℕ) → Parses false 8 true i m (58 ∷ 58 ∷ drop e text)
       → (g : Groups) → Sound m true e g → after_elision text g ≡ Some end
       → is_end (drop end text) ≡ false → Holds i end
-  behind_elided i m e end head (Groups_end room last) s b c =
+  elision-gives-ipv6 i m e end head (Groups_end room last) s b c =
       let q = cond_none (eqb room 0) (Some last) end b in
       let left : room ≢ 0 = λ z. both_ways _ q.0 (eq-eqb room 0 z) in
       let same : last ≡ end = same_Some _ _ q.1 in
@@ -327,12 +358,12 @@ module _ (text : List ℕ) where
           value = refl;
         });
       }
-  behind_elided i m e end head (Elision room last) s b c = absurd (none-some end b)
-  behind_elided i m e end head Malformed s b c = absurd (none-some end b)
+  elision-gives-ipv6 i m e end head (Elision room last) s b c = absurd (none-some end b)
+  elision-gives-ipv6 i m e end head Malformed s b c = absurd (none-some end b)
 
-  behind_sound : (i end : ℕ) (g : Groups) → Sound 8 true i g → after_groups text g ≡ Some end
+  groups-give-ipv6 : (i end : ℕ) (g : Groups) → Sound 8 true i g → after_groups text g ≡ Some end
       → is_end (drop end text) ≡ false → Holds i end
-  behind_sound i end (Groups_end room last) s b c =
+  groups-give-ipv6 i end (Groups_end room last) s b c =
       let q = cond_some (eqb room 0) last end b in
       let none : room ≡ 0 = eqb-true room 0 q.0 in
       let w = s (ap (λ n. is_end (drop n text)) q.1 ∙ c) in
@@ -342,15 +373,20 @@ module _ (text : List ℕ) where
         split = w.split ∙ ap (λ n. w.groups ++ drop n text) q.1;
         is = inl (w.are, omega (arith, w.count, none));
       }
-  behind_sound i end (Elision room last) s b c =
-      behind_elided i room last end s (groups_from text room true last) (sound room true last) b c
-  behind_sound i end Malformed s b c = absurd (none-some end b)
+  groups-give-ipv6 i end (Elision room last) s b c =
+      elision-gives-ipv6 i room last end s (groups_from text room true last)
+      (groups_from-is-sound room true last) b c
+  groups-give-ipv6 i end Malformed s b c = absurd (none-some end b)
 
-  pub ipv6_followed : (i end : ℕ) → ipv6_end text i ≡ Some end → is_end (drop end text) ≡ false
+  pub ipv6_end-before-text-ends-ipv6 : (i end : ℕ) → ipv6_end text i ≡ Some end
+      → is_end (drop end text) ≡ false
       → Holds i end
   unfolding ipv6_end
-  ipv6_followed i end e c = behind_sound i end (groups_from text 8 true i) (sound 8 true i) e c
+  ipv6_end-before-text-ends-ipv6 i end e c = groups-give-ipv6 i end (groups_from text 8 true i)
+      (groups_from-is-sound 8 true i) e c
 
-  pub ipv6_sound : (i end : ℕ) → ipv6_end text i ≡ Some end → starts 93 (drop end text) ≡ true
+  pub ipv6_end-before-bracket-ends-ipv6 : (i end : ℕ) → ipv6_end text i ≡ Some end
+      → starts 93 (drop end text) ≡ true
       → Holds i end
-  ipv6_sound i end e c = ipv6_followed i end e (closed_some (drop end text) c)
+  ipv6_end-before-bracket-ends-ipv6 i end e c = ipv6_end-before-text-ends-ipv6 i end e
+      (text-with-bracket-is-not-ended (drop end text) c)

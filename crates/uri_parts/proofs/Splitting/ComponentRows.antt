@@ -3,34 +3,36 @@ use Rattle.std.proofs.Common.{◌≡◌, [], refl}
 use Rattle.std.specs.Prelude.{codes, Some, None}
 use Rattle.uri_parts.specs.Components.{components, recompose}
 
--- RFC 3986, section 3
-section_3 : components (codes "foo://example.com/over/there?name=ferret#nose") ≡ record {
-  scheme = Some (codes "foo");
-  authority = Some (codes "example.com");
-  path = codes "/over/there";
-  query = Some (codes "name=ferret");
-  fragment = Some (codes "nose");
-}
-section_3 = refl
+-- example of components, by computation: that of RFC 3986, section 3
+components-of-rfc-3986-example : components (codes "foo://example.com/over/there?name=ferret#nose")
+    ≡ record {
+      scheme = Some (codes "foo");
+      authority = Some (codes "example.com");
+      path = codes "/over/there";
+      query = Some (codes "name=ferret");
+      fragment = Some (codes "nose");
+    }
+components-of-rfc-3986-example = refl
 
-section_3_urn : components (codes "urn:example:animal:ferret:nose") ≡ record {
+components-of-rfc-3986-urn : components (codes "urn:example:animal:ferret:nose") ≡ record {
   scheme = Some (codes "urn");
   authority = None;
   path = codes "example:animal:ferret:nose";
   query = None;
   fragment = None;
 }
-section_3_urn = refl
+components-of-rfc-3986-urn = refl
 
-section_3_back : recompose (components (codes "foo://example.com/over/there?name=ferret#nose"))
+rfc-3986-example-recomposes : recompose
+    (components (codes "foo://example.com/over/there?name=ferret#nose"))
     ≡ codes "foo://example.com/over/there?name=ferret#nose"
-section_3_back = refl
+rfc-3986-example-recomposes = refl
 
-nothing : components []
+empty-text-has-empty-path-alone : components []
     ≡ record { scheme = None; authority = None; path = []; query = None; fragment = None }
-nothing = refl
+empty-text-has-empty-path-alone = refl
 
-authority_alone : components (codes "//h")
+components-of-authority-alone : components (codes "//h")
     ≡ record {
       scheme = None;
       authority = Some (codes "h");
@@ -39,9 +41,9 @@ authority_alone : components (codes "//h")
       fragment =
           None;
     }
-authority_alone = refl
+components-of-authority-alone = refl
 
-empty_authority : components (codes "file:///a")
+components-of-empty-authority : components (codes "file:///a")
     ≡ record {
       scheme = Some (codes "file");
       authority = Some [];
@@ -50,9 +52,9 @@ empty_authority : components (codes "file:///a")
           None;
       fragment = None;
     }
-empty_authority = refl
+components-of-empty-authority = refl
 
-query_and_fragment : components (codes "?q#f")
+components-of-query-and-fragment : components (codes "?q#f")
     ≡ record {
       scheme = None;
       authority = None;
@@ -61,13 +63,13 @@ query_and_fragment : components (codes "?q#f")
       fragment =
           Some (codes "f");
     }
-query_and_fragment = refl
+components-of-query-and-fragment = refl
 
-empty_query_and_fragment : components (codes "?#")
+components-of-empty-query-and-fragment : components (codes "?#")
     ≡ record { scheme = None; authority = None; path = []; query = Some []; fragment = Some [] }
-empty_query_and_fragment = refl
+components-of-empty-query-and-fragment = refl
 
-marks_in_fragment : components (codes "#a#b?c:d")
+fragment-may-hold-marks : components (codes "#a#b?c:d")
     ≡ record {
       scheme = None;
       authority = None;
@@ -76,7 +78,7 @@ marks_in_fragment : components (codes "#a#b?c:d")
       fragment =
           Some (codes "a#b?c:d");
     }
-marks_in_fragment = refl
+fragment-may-hold-marks = refl
 
 first_colon_ends_the_scheme : components (codes "a:b:c")
     ≡ record {
@@ -89,11 +91,11 @@ first_colon_ends_the_scheme : components (codes "a:b:c")
     }
 first_colon_ends_the_scheme = refl
 
-no_empty_scheme : components (codes ":x")
+colon-at-start-begins-no-scheme : components (codes ":x")
     ≡ record { scheme = None; authority = None; path = codes ":x"; query = None; fragment = None }
-no_empty_scheme = refl
+colon-at-start-begins-no-scheme = refl
 
-slashes_in_path : components (codes "/a//b")
+double-slash-inside-path-begins-no-authority : components (codes "/a//b")
     ≡ record {
       scheme = None;
       authority = None;
@@ -102,4 +104,4 @@ slashes_in_path : components (codes "/a//b")
       fragment =
           None;
     }
-slashes_in_path = refl
+double-slash-inside-path-begins-no-authority = refl

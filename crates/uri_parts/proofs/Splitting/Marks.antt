@@ -8,89 +8,106 @@ use Rattle.std.proofs.lemmas.Bool.{not_from_false}
 use Rattle.std.proofs.lemmas.Bool.Decides.{nat_tests}
 use Rattle.uri_pct.specs.Sets.{is_one_of}
 use Rattle.uri_parts.specs.Components.{marked, starts, has_scheme, has_authority, after_scheme}
-use Rattle.uri_parts.specs.Components.{after_authority, after_query, when, Lacks, IsRooted}
+use Rattle.uri_parts.specs.Components.{after_authority, after_query, when, Lacks, IsAbemptyPath}
 use Rattle.uri_parts.specs.Components.{before_any, from_any}
-use Rattle.uri_parts.proofs.Splitting.Cuts.{Begins, Begins-more, cut-append}
-use Rattle.uri_pct.proofs.Tests.{true_of}
+use Rattle.uri_parts.proofs.Splitting.Cuts.{IsEmptyOrMarked, empty-or-marked-for-more-marks}
+use Rattle.uri_parts.proofs.Splitting.Cuts.{cut-at-end-of-text-without-marks}
+use Rattle.uri_pct.proofs.Tests.{eq_true_from_IsTrue}
 
 -- the text of a fragment, and of a query and a fragment
 abbrev pub fragment_text : Option (List ℕ) → List ℕ
 fragment_text fragment = marked (codes "#") fragment []
 
+-- the text of a query and a fragment with their marks
 abbrev pub query_text : Option (List ℕ) → Option (List ℕ) → List ℕ
 query_text query fragment = marked (codes "?") query [] ++ fragment_text fragment
 
-pub Begins-fragment_text : (fragment : Option (List ℕ))
-    → Begins (codes "#") (fragment_text fragment)
-Begins-fragment_text None = tt
-Begins-fragment_text (Some f) = refl
+-- recomposing: a fragment with its `#`, if there is one, begins with `#`
+pub IsEmptyOrMarked-fragment_text : (fragment : Option (List ℕ))
+    → IsEmptyOrMarked (codes "#") (fragment_text fragment)
+IsEmptyOrMarked-fragment_text None = tt
+IsEmptyOrMarked-fragment_text (Some f) = refl
 
-pub Begins-query_text : (query fragment : Option (List ℕ))
-    → Begins (codes "?#") (query_text query fragment)
-Begins-query_text None fragment =
-    Begins-more (codes "#") (codes "?#") (fragment_text fragment) (λ c e. grind (arith, nat_tests))
-    (Begins-fragment_text fragment)
-Begins-query_text (Some q) fragment = refl
+-- recomposing: a query with its `?`, and what follows, begins with `?` or `#`, if there is any
+pub IsEmptyOrMarked-query_text : (query fragment : Option (List ℕ))
+    → IsEmptyOrMarked (codes "?#") (query_text query fragment)
+IsEmptyOrMarked-query_text None fragment =
+    empty-or-marked-for-more-marks (codes "#") (codes "?#") (fragment_text fragment)
+    (λ c e. grind (arith, nat_tests))
+    (IsEmptyOrMarked-fragment_text fragment)
+IsEmptyOrMarked-query_text (Some q) fragment = refl
 
-starts-fragment_text : (fragment : Option (List ℕ)) → starts 63 (fragment_text fragment) ≡ false
-starts-fragment_text None = refl
-starts-fragment_text (Some f) = refl
+-- recomposing: a fragment with its `#`, or nothing, does not begin with `?` (63)
+fragment-begins-with-no-question-mark : (fragment : Option (List ℕ))
+    → starts 63 (fragment_text fragment) ≡ false
+fragment-begins-with-no-question-mark None = refl
+fragment-begins-with-no-question-mark (Some f) = refl
 
--- the fragment that is found in such a text is that fragment
+-- recomposing: the fragment that is found in what is after its `#` is that fragment
 pub fragment-found : (fragment : Option (List ℕ))
     → when (starts 35 (fragment_text fragment)) (drop 1 (fragment_text fragment)) ≡ fragment
 fragment-found None = refl
 fragment-found (Some f) = ap Some (append-nil f)
 
--- the query that is found, and what is left after it
+-- recomposing: the query that is found is the one that was written,
+-- and the fragment is left after it
 pub query-found : (query fragment : Option (List ℕ)) → IfSome query (λ q. Lacks (codes "#") q) →
     (when (starts 63 (query_text query fragment))
     (before_any (codes "#") (drop 1 (query_text query fragment))) ≡ query)
     × (after_query (query_text query fragment) ≡ fragment_text fragment)
 query-found None fragment lacks =
-    let e = starts-fragment_text fragment in (
+    let e = fragment-begins-with-no-question-mark fragment in (
       ap (λ t. when t (before_any (codes "#") (drop 1 (fragment_text fragment)))) e,
       cond-false _ _ _
           e,
     )
 query-found (Some q) fragment lacks =
-    let cut = cut-append (codes "#") q (fragment_text fragment) lacks
-    (Begins-fragment_text fragment) in
+    let cut = cut-at-end-of-text-without-marks (codes "#") q (fragment_text fragment) lacks
+    (IsEmptyOrMarked-fragment_text fragment) in
     let e : (q ++ []) ++ fragment_text fragment ≡ q ++ fragment_text fragment =
     ap (λ t. t ++ fragment_text fragment) (append-nil q) in
     (ap Some (ap (before_any (codes "#")) e ∙ cut.0), ap (from_any (codes "#")) e ∙ cut.1)
 
-no_slash : (c : ℕ) → is_one_of (codes "?#") c ≡ true → eqb c 47 ≡ false
-no_slash c h = grind (arith, nat_tests)
+-- splitting: `?` and `#` are not `/` (47)
+question-or-hash-is-no-slash : (c : ℕ) → is_one_of (codes "?#") c ≡ true → eqb c 47 ≡ false
+question-or-hash-is-no-slash c h = grind (arith, nat_tests)
 
--- what is after a path does not make it begin with `//`
-pub has_authority-append : (path tail : List ℕ) → Begins (codes "?#") tail
+-- recomposing: what is after a path does not make it begin with `//`
+pub has_authority-append : (path tail : List ℕ) → IsEmptyOrMarked (codes "?#") tail
     → has_authority (path ++ tail) ≡ has_authority path
 has_authority-append [] [] begins = refl
-has_authority-append [] (c ∷ tail) begins = and_left _ _ (no_slash c begins)
+has_authority-append [] (c ∷ tail) begins = and_left _ _ (question-or-hash-is-no-slash c begins)
 has_authority-append (a ∷ []) [] begins = refl
-has_authority-append (a ∷ []) (c ∷ tail) begins = and_right _ _ (no_slash c begins)
+has_authority-append (a ∷ []) (c ∷ tail) begins = and_right _ _
+    (question-or-hash-is-no-slash c begins)
     ∙ sym (and_right _ _ refl)
 has_authority-append (a ∷ d ∷ path) tail begins = refl
 
-pub nil_cons : (c : ℕ) (xs : List ℕ) → c ∷ xs ≡ [] → ⊥
-nil_cons c xs e = cc
+-- general fact on lists, for texts that begin with a delimiter: such a text is not empty
+pub cons_is_not_nil : (c : ℕ) (xs : List ℕ) → c ∷ xs ≡ [] → ⊥
+cons_is_not_nil c xs e = cc
 
-slash_mark : (c : ℕ) → eqb c 47 ≡ true → is_one_of (codes "/?#") c ≡ true
-slash_mark c e = ap (is_one_of (codes "/?#")) (eqb-true c 47 e)
+-- splitting: `/` (47) ends an authority
+slash-ends-authority : (c : ℕ) → eqb c 47 ≡ true → is_one_of (codes "/?#") c ≡ true
+slash-ends-authority c e = ap (is_one_of (codes "/?#")) (eqb-true c 47 e)
 
--- a rooted path ends an authority
-pub Begins-rooted : (path tail : List ℕ) → IsRooted path → Begins (codes "?#") tail
-    → Begins (codes "/?#") (path ++ tail)
-Begins-rooted [] tail rooted begins =
-    Begins-more (codes "?#") (codes "/?#") tail (λ c e. grind (arith, nat_tests)) begins
-Begins-rooted (c ∷ path) tail rooted begins =
-    ⊎_elim (λ e. absurd (nil_cons c path e)) (λ e. slash_mark c (true_of _ e)) rooted
+-- recomposing: a path that is empty or begins with `/` ends an authority
+pub rooted-path-ends-authority : (path tail : List ℕ) → IsAbemptyPath path
+    → IsEmptyOrMarked (codes "?#") tail
+    → IsEmptyOrMarked (codes "/?#") (path ++ tail)
+rooted-path-ends-authority [] tail rooted begins =
+    empty-or-marked-for-more-marks (codes "?#") (codes "/?#") tail
+    (λ c e. grind (arith, nat_tests)) begins
+rooted-path-ends-authority (c ∷ path) tail rooted begins =
+    ⊎_elim (λ e. absurd (cons_is_not_nil c path e))
+    (λ e. slash-ends-authority c (eq_true_from_IsTrue _ e))
+    rooted
 
--- the authority that is found, and what is left after it
+-- recomposing: the authority that is found is the one that was written,
+-- and path and tail are left after it
 pub authority-found : (authority : Option (List ℕ)) (path tail : List ℕ) →
-    IfSome authority (λ a. Lacks (codes "/?#") a × IsRooted path)
-    → IfNone authority (has_authority path ≡ false) → Begins (codes "?#") tail →
+    IfSome authority (λ a. Lacks (codes "/?#") a × IsAbemptyPath path)
+    → IfNone authority (has_authority path ≡ false) → IsEmptyOrMarked (codes "?#") tail →
     (when (has_authority (marked (codes "//") authority [] ++ (path ++ tail)))
     (before_any (codes "/?#") (drop 2 (marked (codes "//") authority [] ++ (path ++ tail))))
     ≡ authority)
@@ -99,21 +116,24 @@ authority-found None path tail some none begins =
     let e : has_authority (path ++ tail) ≡ false = has_authority-append path tail begins ∙ none in
     (ap (λ t. when t (before_any (codes "/?#") (drop 2 (path ++ tail)))) e, cond-false _ _ _ e)
 authority-found (Some a) path tail some none begins =
-    let cut = cut-append (codes "/?#") a (path ++ tail) some.0
-    (Begins-rooted path tail some.1 begins) in
+    let cut = cut-at-end-of-text-without-marks (codes "/?#") a (path ++ tail) some.0
+    (rooted-path-ends-authority path tail some.1 begins) in
     let e : (a ++ []) ++ (path ++ tail) ≡ a ++ (path ++ tail) =
     ap (λ t. t ++ (path ++ tail)) (append-nil a) in
     (ap Some (ap (before_any (codes "/?#")) e ∙ cut.0), ap (from_any (codes "/?#")) e ∙ cut.1)
 
-no_colon : (c : ℕ) → is_one_of (codes ":/?#") c ≡ false → eqb c 58 ≡ false
-no_colon c e = grind (arith, nat_tests)
+-- splitting: a byte that is none of `:`, `/`, `?`, `#` is not 58
+other-byte-is-no-colon : (c : ℕ) → is_one_of (codes ":/?#") c ≡ false → eqb c 58 ≡ false
+other-byte-is-no-colon c e = grind (arith, nat_tests)
 
-scheme_first : (s rest : List ℕ) → 0 < length s → Lacks (codes ":/?#") s
+-- recomposing: a scheme with its `:` (58) does not begin with `:`
+scheme-does-not-begin-with-colon : (s rest : List ℕ) → 0 < length s → Lacks (codes ":/?#") s
     → starts 58 (s ++ (58 ∷ rest)) ≡ false
-scheme_first [] rest h lacks = absurd (omega arith)
-scheme_first (c ∷ s) rest h lacks = no_colon c (lacks 0 0 (omega arith))
+scheme-does-not-begin-with-colon [] rest h lacks = absurd (omega arith)
+scheme-does-not-begin-with-colon (c ∷ s) rest h lacks = other-byte-is-no-colon c
+    (lacks 0 0 (omega arith))
 
--- the scheme that is found, and what is left after it
+-- recomposing: the scheme that is found is the one that was written, and the rest is left after it
 pub scheme-found : (scheme : Option (List ℕ)) (rest : List ℕ) →
     IfSome scheme (λ s. (0 < length s) × Lacks (codes ":/?#") s)
     → IfNone scheme (has_scheme (marked [] scheme (codes ":") ++ rest) ≡ false) →
@@ -125,11 +145,12 @@ scheme-found None rest some none =
 scheme-found (Some s) rest some none =
     let text : List ℕ = (s ++ codes ":") ++ rest in
     let e : text ≡ s ++ (58 ∷ rest) = append_assoc s (codes ":") rest in
-    let cut = cut-append (codes ":/?#") s (58 ∷ rest) some.1 refl in
+    let cut = cut-at-end-of-text-without-marks (codes ":/?#") s (58 ∷ rest) some.1 refl in
     let back : from_any (codes ":/?#") text ≡ 58 ∷ rest = ap (from_any (codes ":/?#")) e ∙ cut.1 in
     let t : has_scheme text ≡ true =
     and_from _ _ (ap (starts 58) back)
-    (not_from_false _ (ap (starts 58) e ∙ scheme_first s rest some.0 some.1)) in (
+    (not_from_false _ (ap (starts 58) e ∙ scheme-does-not-begin-with-colon s rest some.0 some.1))
+    in (
       ap (λ t. when t (before_any (codes ":/?#") text)) t
           ∙ ap Some (ap (before_any (codes ":/?#")) e ∙ cut.0),
       cond-true _ _ _ t ∙ ap (drop 1) back,

@@ -13,178 +13,206 @@ use Rattle.std.proofs.lemmas.Bool.{lt-ltb, le-ltb}
 use Rattle.std.proofs.lemmas.Bool.Decides.{nat_tests}
 use Rattle.uri_pct.specs.Sets.{is_one_of}
 use Rattle.uri_parts.specs.Components.{Components, IsSplitOf, recompose, marked}
-use Rattle.uri_parts.specs.Components.{IsRooted, Lacks}
-use Rattle.uri_parts.specs.Positions.{positions_of, marked_length, before_fragment}
-use Rattle.uri_parts.proofs.Splitting.Cuts.{Begins, Begins-more}
-use Rattle.uri_parts.proofs.Splitting.Marks.{query_text, fragment_text, Begins-query_text}
-use Rattle.uri_parts.proofs.Splitting.Marks.{Begins-fragment_text, Begins-rooted}
+use Rattle.uri_parts.specs.Components.{IsAbemptyPath, Lacks}
+use Rattle.uri_parts.specs.Positions.{positions_of, delimited_length, before_fragment}
+use Rattle.uri_parts.proofs.Splitting.Cuts.{IsEmptyOrMarked, empty-or-marked-for-more-marks}
+use Rattle.uri_parts.proofs.Splitting.Marks.{query_text, fragment_text, IsEmptyOrMarked-query_text}
+use Rattle.uri_parts.proofs.Splitting.Marks.{IsEmptyOrMarked-fragment_text}
+use Rattle.uri_parts.proofs.Splitting.Marks.{rooted-path-ends-authority}
 
 -- a text may be cut at both positions, and between them is this component
-pub record LiesAt (text : List ℕ) (start end : ℕ) (part : Option (List ℕ)) : Type 0 where
+pub record IsComponentAt (text : List ℕ) (start end : ℕ) (part : Option (List ℕ)) : Type 0 where
   pub ordered : start ≤ end
   pub starts : IsCharBoundary text start
   pub ends : IsCharBoundary text end
   pub holds : Some (slice_range text start end) ≡ part
 
-pub get-seam : (before rest : List ℕ) (c : ℕ) → get_or (before ++ (c ∷ rest)) (length before) 0 ≡ c
-get-seam [] rest c = refl
-get-seam (b ∷ before) rest c = get-seam before rest c
+-- general fact on lists, for positions: the byte after a prefix is at its length
+pub get_or-after-prefix : (before rest : List ℕ) (c : ℕ)
+    → get_or (before ++ (c ∷ rest)) (length before) 0 ≡ c
+get_or-after-prefix [] rest c = refl
+get_or-after-prefix (b ∷ before) rest c = get_or-after-prefix before rest c
 
-is_ascii_mark : (c : ℕ) → is_one_of (codes ":/?#") c ≡ true → c < 128
-is_ascii_mark c h = grind (arith, nat_tests)
+-- splitting: `:`, `/`, `?` and `#` are ASCII
+component-mark-is-ascii : (c : ℕ) → is_one_of (codes ":/?#") c ≡ true → c < 128
+component-mark-is-ascii c h = grind (arith, nat_tests)
 
--- a text may be cut before a mark, and at its end
-pub before_mark : (before rest : List ℕ) → Begins (codes ":/?#") rest
+-- positions: a text may be cut before a delimiter, and at its end
+pub boundary_before_mark : (before rest : List ℕ) → IsEmptyOrMarked (codes ":/?#") rest
     → IsCharBoundary (before ++ rest) (length before)
-before_mark before [] begins = rw (append-nil before) (IsCharBoundary-end before)
-before_mark before (c ∷ rest) begins =
-    let ascii = is_ascii_mark c begins in
+boundary_before_mark before [] begins = rw (append-nil before) (IsCharBoundary-end before)
+boundary_before_mark before (c ∷ rest) begins =
+    let ascii = component-mark-is-ascii c begins in
     let at : get_or (before ++ (c ∷ rest)) (length before) 0 < 128 =
-    rw (get-seam before rest c) ascii in
+    rw (get_or-after-prefix before rest c) ascii in
     IsCharBoundary-before_ascii (before ++ (c ∷ rest)) (length before)
     (omega (arith, length-append before (c ∷ rest))) at
 
--- and after one
-pub after_mark : (before rest : List ℕ) (c : ℕ) → c < 128 → IsUtf8 (before ++ (c ∷ rest))
+-- positions: a text may be cut after an ASCII character
+pub boundary_after_mark : (before rest : List ℕ) (c : ℕ) → c < 128 → IsUtf8 (before ++ (c ∷ rest))
     → IsCharBoundary (before ++ (c ∷ rest)) (length before + 1)
-after_mark before rest c ascii utf8 =
+boundary_after_mark before rest c ascii utf8 =
     let at : get_or (before ++ (c ∷ rest)) (length before) 0 < 128 =
-    rw (get-seam before rest c) ascii in
+    rw (get_or-after-prefix before rest c) ascii in
     IsCharBoundary-after_ascii (before ++ (c ∷ rest)) (length before) utf8
     (omega (arith, length-append before (c ∷ rest))) at
 
-pub range-between : (before part behind : List ℕ)
-    → slice_range (before ++ (part ++ behind)) (length before) (length before + length part) ≡ part
-range-between before part behind =
+-- general fact on lists, for positions: what is after a prefix is at the length of the prefix
+pub slice-between-prefix-and-suffix : (before part suffix : List ℕ)
+    → slice_range (before ++ (part ++ suffix)) (length before) (length before + length part) ≡ part
+slice-between-prefix-and-suffix before part suffix =
     let n : (length before + length part) - length before ≡ length part = omega arith in
-    ap (λ k. take k (drop (length before) (before ++ (part ++ behind)))) n
-    ∙ ap (take (length part)) (drop-append_seam before (part ++ behind))
-    ∙ take-append_seam part behind
+    ap (λ k. take k (drop (length before) (before ++ (part ++ suffix)))) n
+    ∙ ap (take (length part)) (drop-append_seam before (part ++ suffix))
+    ∙ take-append_seam part suffix
 
--- a part with a mark, or nothing, after it
-LiesAt-between : (text before part behind : List ℕ) (start end : ℕ)
-    → text ≡ before ++ (part ++ behind) → start ≡ length before → end ≡ start + length part
-    → IsCharBoundary text start → Begins (codes ":/?#") behind → LiesAt text start end (Some part)
-LiesAt-between text before part behind start end whole at_start at_end starts begins =
-    let joined : text ≡ (before ++ part) ++ behind = whole
-    ∙ sym (append_assoc before part behind) in
+-- positions: a component with a delimiter, or nothing, after it is between its positions
+component-before-mark-is-slice : (text before part suffix : List ℕ) (start end : ℕ)
+    → text ≡ before ++ (part ++ suffix) → start ≡ length before → end ≡ start + length part
+    → IsCharBoundary text start → IsEmptyOrMarked (codes ":/?#") suffix
+    → IsComponentAt text start end (Some part)
+component-before-mark-is-slice text before part suffix start end whole at_start at_end
+    starts begins =
+    let joined : text ≡ (before ++ part) ++ suffix = whole
+    ∙ sym (append_assoc before part suffix) in
     let n : length (before ++ part) ≡ end = omega (arith, length-append before part) in
     let m : end ≡ length before + length part = omega arith in
     record {
       ordered = omega arith;
       starts = starts;
-      ends = rw (joined, ← n) (before_mark (before ++ part) behind begins);
-      holds = rw (whole, at_start, m) (ap Some (range-between before part behind));
+      ends = rw (joined, ← n) (boundary_before_mark (before ++ part) suffix begins);
+      holds = rw (whole, at_start, m)
+          (ap Some (slice-between-prefix-and-suffix before part suffix));
     }
 
--- the same of a part with a mark before it too
-LiesAt-behind_mark : (text before part behind : List ℕ) (c start end : ℕ)
-    → text ≡ before ++ (c ∷ (part ++ behind)) → start ≡ length before + 1
+-- a component between a mark before it and a mark, or nothing, after it
+component-between-marks-is-slice : (text before part suffix : List ℕ) (c start end : ℕ)
+    → text ≡ before ++ (c ∷ (part ++ suffix)) → start ≡ length before + 1
     → end ≡ start + length part
-    → c < 128 → IsUtf8 text → Begins (codes ":/?#") behind → LiesAt text start end (Some part)
-LiesAt-behind_mark text before part behind c start end whole at_start at_end ascii utf8 begins =
-    let joined : text ≡ (before ++ (c ∷ [])) ++ (part ++ behind) = whole
-    ∙ sym (append_assoc before (c ∷ []) (part ++ behind)) in
+    → c < 128 → IsUtf8 text → IsEmptyOrMarked (codes ":/?#") suffix
+    → IsComponentAt text start end (Some part)
+component-between-marks-is-slice text before part suffix c start end whole at_start at_end ascii
+    utf8 begins =
+    let joined : text ≡ (before ++ (c ∷ [])) ++ (part ++ suffix) = whole
+    ∙ sym (append_assoc before (c ∷ []) (part ++ suffix)) in
     let n : start ≡ length (before ++ (c ∷ [])) = omega (arith, length-append before (c ∷ [])) in
-    let valid : IsUtf8 (before ++ (c ∷ (part ++ behind))) = rw (← whole) utf8 in
+    let valid : IsUtf8 (before ++ (c ∷ (part ++ suffix))) = rw (← whole) utf8 in
     let starts : IsCharBoundary text start =
-    rw (whole, at_start) (after_mark before (part ++ behind) c ascii valid) in
-    LiesAt-between text (before ++ (c ∷ [])) part behind start end joined n at_end starts begins
+    rw (whole, at_start) (boundary_after_mark before (part ++ suffix) c ascii valid) in
+    component-before-mark-is-slice text (before ++ (c ∷ [])) part suffix start end joined n at_end
+    starts begins
 
+-- the text of a scheme with its `:`, or nothing
 abbrev scheme_text : Option (List ℕ) → List ℕ
 scheme_text scheme = marked [] scheme (codes ":")
 
+-- the text of an authority with its `//`, or nothing
 abbrev marked_authority : Option (List ℕ) → List ℕ
 marked_authority authority = marked (codes "//") authority []
 
 length-scheme_text : (scheme : Option (List ℕ))
-    → length (scheme_text scheme) ≡ marked_length 1 scheme
+    → length (scheme_text scheme) ≡ delimited_length 1 scheme
 length-scheme_text None = refl
 length-scheme_text (Some s) = omega (arith, length-append s (codes ":"))
 
 length-marked_authority : (authority : Option (List ℕ))
-    → length (marked_authority authority) ≡ marked_length 2 authority
+    → length (marked_authority authority) ≡ delimited_length 2 authority
 length-marked_authority None = refl
 length-marked_authority (Some a) = omega (arith, length-append a [])
 
 length-query_text : (query : Option (List ℕ))
-    → length (marked (codes "?") query []) ≡ marked_length 1 query
+    → length (marked (codes "?") query []) ≡ delimited_length 1 query
 length-query_text None = refl
 length-query_text (Some q) = omega (arith, length-append q [])
 
--- the end of a query, or of the path before it
-end-query : (path_end : ℕ) (query : Option (List ℕ))
+-- positions: the end of a query, or of the path if there is none
+query-end-or-path-end : (path_end : ℕ) (query : Option (List ℕ))
     → unwrap_or (option_map (λ q. path_end + 1 + length q) query) path_end
-    ≡ path_end + marked_length 1 query
-end-query path_end None = omega arith
-end-query path_end (Some q) = omega arith
+    ≡ path_end + delimited_length 1 query
+query-end-or-path-end path_end None = omega arith
+query-end-or-path-end path_end (Some q) = omega arith
 
-any_mark : (text : List ℕ) → Begins (codes "/?#") text → Begins (codes ":/?#") text
-any_mark text begins = Begins-more (codes "/?#") (codes ":/?#") text
+authority-mark-is-component-mark : (text : List ℕ) → IsEmptyOrMarked (codes "/?#") text
+    → IsEmptyOrMarked (codes ":/?#") text
+authority-mark-is-component-mark text begins = empty-or-marked-for-more-marks (codes "/?#")
+    (codes ":/?#") text
     (λ c e. grind (arith, nat_tests)) begins
 
-end_mark : (text : List ℕ) → Begins (codes "?#") text → Begins (codes ":/?#") text
-end_mark text begins = Begins-more (codes "?#") (codes ":/?#") text
+query-mark-is-component-mark : (text : List ℕ) → IsEmptyOrMarked (codes "?#") text
+    → IsEmptyOrMarked (codes ":/?#") text
+query-mark-is-component-mark text begins = empty-or-marked-for-more-marks (codes "?#")
+    (codes ":/?#") text
     (λ c e. grind (arith, nat_tests)) begins
 
-pub hash_mark : (text : List ℕ) → Begins (codes "#") text → Begins (codes ":/?#") text
-hash_mark text begins = Begins-more (codes "#") (codes ":/?#") text
+-- splitting: what begins with `#` ends a scheme too
+pub fragment-mark-is-component-mark : (text : List ℕ) → IsEmptyOrMarked (codes "#") text
+    → IsEmptyOrMarked (codes ":/?#") text
+fragment-mark-is-component-mark text begins = empty-or-marked-for-more-marks (codes "#")
+    (codes ":/?#") text
     (λ c e. grind (arith, nat_tests)) begins
 
--- the authority
-authority_lies : (text : List ℕ) (scheme : Option (List ℕ)) (a path behind : List ℕ)
-    → text ≡ scheme_text scheme ++ (marked_authority (Some a) ++ (path ++ behind)) → IsUtf8 text
-    → IsRooted path → Begins (codes "?#") behind
-    → LiesAt text (marked_length 1 scheme + 2) (marked_length 1 scheme + 2 + length a) (Some a)
-authority_lies text scheme a path behind whole utf8 rooted begins =
-    let front : List ℕ = scheme_text scheme ++ (47 ∷ []) in
-    let joined : text ≡ front ++ (47 ∷ (a ++ (path ++ behind))) =
-    whole ∙ ap (λ t. scheme_text scheme ++ (47 ∷ 47 ∷ (t ++ (path ++ behind)))) (append-nil a)
-    ∙ sym (append_assoc (scheme_text scheme) (47 ∷ []) (47 ∷ (a ++ (path ++ behind)))) in
-    let n : marked_length 1 scheme + 2 ≡ length front + 1 =
+-- positions: an authority after a scheme and `//` is between its positions
+authority-after-scheme-is-slice : (text : List ℕ) (scheme : Option (List ℕ))
+    (a path suffix : List ℕ)
+    → text ≡ scheme_text scheme ++ (marked_authority (Some a) ++ (path ++ suffix)) → IsUtf8 text
+    → IsAbemptyPath path → IsEmptyOrMarked (codes "?#") suffix
+    → IsComponentAt text (delimited_length 1 scheme + 2) (delimited_length 1 scheme + 2 + length a)
+    (Some a)
+authority-after-scheme-is-slice text scheme a path suffix whole utf8 rooted begins =
+    let prefix : List ℕ = scheme_text scheme ++ (47 ∷ []) in
+    let joined : text ≡ prefix ++ (47 ∷ (a ++ (path ++ suffix))) =
+    whole ∙ ap (λ t. scheme_text scheme ++ (47 ∷ 47 ∷ (t ++ (path ++ suffix)))) (append-nil a)
+    ∙ sym (append_assoc (scheme_text scheme) (47 ∷ []) (47 ∷ (a ++ (path ++ suffix)))) in
+    let n : delimited_length 1 scheme + 2 ≡ length prefix + 1 =
     omega (arith, length-append (scheme_text scheme) (47 ∷ []), length-scheme_text scheme) in
-    LiesAt-behind_mark text front a (path ++ behind) 47 (marked_length 1 scheme + 2)
-    (marked_length 1 scheme + 2 + length a) joined n refl (omega arith) utf8
-    (any_mark (path ++ behind) (Begins-rooted path behind rooted begins))
+    component-between-marks-is-slice text prefix a (path ++ suffix) 47
+    (delimited_length 1 scheme + 2)
+    (delimited_length 1 scheme + 2 + length a) joined n refl (omega arith) utf8
+    (authority-mark-is-component-mark (path ++ suffix)
+    (rooted-path-ends-authority path suffix rooted begins))
 
--- the path
-path_starts : (text : List ℕ) (scheme authority : Option (List ℕ)) (path behind : List ℕ)
-    → text ≡ scheme_text scheme ++ (marked_authority authority ++ (path ++ behind)) → IsUtf8 text
-    → IfSome authority (λ a. IsRooted path) → Begins (codes "?#") behind
-    → IsCharBoundary text (marked_length 1 scheme + marked_length 2 authority)
-path_starts text scheme (Some a) path behind whole utf8 rooted begins =
-    let n : marked_length 1 scheme + 2 + length a
-    ≡ marked_length 1 scheme + marked_length 2 (Some a) = omega arith in
+-- positions: a character begins where the path does
+path-begins-at-boundary : (text : List ℕ) (scheme authority : Option (List ℕ))
+    (path suffix : List ℕ)
+    → text ≡ scheme_text scheme ++ (marked_authority authority ++ (path ++ suffix)) → IsUtf8 text
+    → IfSome authority (λ a. IsAbemptyPath path) → IsEmptyOrMarked (codes "?#") suffix
+    → IsCharBoundary text (delimited_length 1 scheme + delimited_length 2 authority)
+path-begins-at-boundary text scheme (Some a) path suffix whole utf8 rooted begins =
+    let n : delimited_length 1 scheme + 2 + length a
+    ≡ delimited_length 1 scheme + delimited_length 2 (Some a) = omega arith in
     subst (IsCharBoundary text) n
-    (authority_lies text scheme a path behind whole utf8 rooted begins).ends
-path_starts text None None path behind whole utf8 rooted begins = IsCharBoundary-start text utf8
-path_starts text (Some s) None path behind whole utf8 rooted begins =
-    let joined : text ≡ s ++ (58 ∷ (path ++ behind)) = whole
-    ∙ append_assoc s (codes ":") (path ++ behind) in
-    let valid : IsUtf8 (s ++ (58 ∷ (path ++ behind))) = rw (← joined) utf8 in
+    (authority-after-scheme-is-slice text scheme a path suffix whole utf8 rooted begins).ends
+path-begins-at-boundary text None None path suffix whole utf8 rooted begins =
+    IsCharBoundary-start text utf8
+path-begins-at-boundary text (Some s) None path suffix whole utf8 rooted begins =
+    let joined : text ≡ s ++ (58 ∷ (path ++ suffix)) = whole
+    ∙ append_assoc s (codes ":") (path ++ suffix) in
+    let valid : IsUtf8 (s ++ (58 ∷ (path ++ suffix))) = rw (← joined) utf8 in
     let n : length s + 1 ≡ 1 + length s + 0 = omega arith in
-    subst (IsCharBoundary text) n (rw joined (after_mark s (path ++ behind) 58 (omega arith) valid))
+    subst (IsCharBoundary text) n
+    (rw joined (boundary_after_mark s (path ++ suffix) 58 (omega arith) valid))
 
-path_lies : (text : List ℕ) (scheme authority : Option (List ℕ)) (path behind : List ℕ)
-    → text ≡ scheme_text scheme ++ (marked_authority authority ++ (path ++ behind)) → IsUtf8 text
-    → IfSome authority (λ a. IsRooted path) → Begins (codes "?#") behind
-    → LiesAt text (marked_length 1 scheme + marked_length 2 authority)
-    (marked_length 1 scheme + marked_length 2 authority + length path) (Some path)
-path_lies text scheme authority path behind whole utf8 rooted begins =
-    let start : ℕ = marked_length 1 scheme + marked_length 2 authority in
-    let front : List ℕ = scheme_text scheme ++ marked_authority authority in
-    let joined : text ≡ front ++ (path ++ behind) = whole
-    ∙ sym (append_assoc (scheme_text scheme) (marked_authority authority) (path ++ behind)) in
-    let n : start ≡ length front =
+path-after-authority-is-slice : (text : List ℕ) (scheme authority : Option (List ℕ))
+    (path suffix : List ℕ)
+    → text ≡ scheme_text scheme ++ (marked_authority authority ++ (path ++ suffix)) → IsUtf8 text
+    → IfSome authority (λ a. IsAbemptyPath path) → IsEmptyOrMarked (codes "?#") suffix
+    → IsComponentAt text (delimited_length 1 scheme + delimited_length 2 authority)
+    (delimited_length 1 scheme + delimited_length 2 authority + length path) (Some path)
+path-after-authority-is-slice text scheme authority path suffix whole utf8 rooted begins =
+    let start : ℕ = delimited_length 1 scheme + delimited_length 2 authority in
+    let prefix : List ℕ = scheme_text scheme ++ marked_authority authority in
+    let joined : text ≡ prefix ++ (path ++ suffix) = whole
+    ∙ sym (append_assoc (scheme_text scheme) (marked_authority authority) (path ++ suffix)) in
+    let n : start ≡ length prefix =
     omega (
       arith,
       length-append (scheme_text scheme) (marked_authority authority),
       length-scheme_text scheme,
       length-marked_authority authority,
     ) in
-    LiesAt-between text front path behind start (start + length path) joined n refl
-    (path_starts text scheme authority path behind whole utf8 rooted begins)
-    (end_mark behind begins)
+    component-before-mark-is-slice text prefix path suffix start (start + length path) joined n refl
+    (path-begins-at-boundary text scheme authority path suffix whole utf8 rooted begins)
+    (query-mark-is-component-mark suffix begins)
 
 -- the text up to the end of the path
 abbrev pub hierarchy_text : Option (List ℕ) → Option (List ℕ) → List ℕ → List ℕ
@@ -192,7 +220,7 @@ hierarchy_text scheme authority path = (scheme_text scheme ++ marked_authority a
 
 length-hierarchy_text : (scheme authority : Option (List ℕ)) (path : List ℕ)
     → length (hierarchy_text scheme authority path)
-    ≡ marked_length 1 scheme + marked_length 2 authority + length path
+    ≡ delimited_length 1 scheme + delimited_length 2 authority + length path
 length-hierarchy_text scheme authority path =
     omega (
       arith,
@@ -202,29 +230,30 @@ length-hierarchy_text scheme authority path =
       length-marked_authority authority,
     )
 
-hierarchy-append : (scheme authority : Option (List ℕ)) (path behind : List ℕ)
-    → scheme_text scheme ++ (marked_authority authority ++ (path ++ behind))
-    ≡ hierarchy_text scheme authority path ++ behind
-hierarchy-append scheme authority path behind =
-    sym (append_assoc (scheme_text scheme) (marked_authority authority) (path ++ behind))
-    ∙ sym (append_assoc (scheme_text scheme ++ marked_authority authority) path behind)
+hierarchy-append : (scheme authority : Option (List ℕ)) (path suffix : List ℕ)
+    → scheme_text scheme ++ (marked_authority authority ++ (path ++ suffix))
+    ≡ hierarchy_text scheme authority path ++ suffix
+hierarchy-append scheme authority path suffix =
+    sym (append_assoc (scheme_text scheme) (marked_authority authority) (path ++ suffix))
+    ∙ sym (append_assoc (scheme_text scheme ++ marked_authority authority) path suffix)
 
--- a query after the end of the path
-query_lies : (text hierarchy q behind : List ℕ)
-    → text ≡ hierarchy ++ (marked (codes "?") (Some q) [] ++ behind) → IsUtf8 text
-    → Begins (codes "#") behind
-    → LiesAt text (length hierarchy + 1) (length hierarchy + 1 + length q) (Some q)
-query_lies text hierarchy q behind whole utf8 begins =
-    let joined : text ≡ hierarchy ++ (63 ∷ (q ++ behind)) = whole
-    ∙ ap (λ t. hierarchy ++ (63 ∷ (t ++ behind))) (append-nil q) in
-    LiesAt-behind_mark text hierarchy q behind 63 (length hierarchy + 1)
+-- positions: a query after the path and `?` is between its positions
+query-after-path-is-slice : (text hierarchy q suffix : List ℕ)
+    → text ≡ hierarchy ++ (marked (codes "?") (Some q) [] ++ suffix) → IsUtf8 text
+    → IsEmptyOrMarked (codes "#") suffix
+    → IsComponentAt text (length hierarchy + 1) (length hierarchy + 1 + length q) (Some q)
+query-after-path-is-slice text hierarchy q suffix whole utf8 begins =
+    let joined : text ≡ hierarchy ++ (63 ∷ (q ++ suffix)) = whole
+    ∙ ap (λ t. hierarchy ++ (63 ∷ (t ++ suffix))) (append-nil q) in
+    component-between-marks-is-slice text hierarchy q suffix 63 (length hierarchy + 1)
     (length hierarchy + 1 + length q) joined refl refl (omega arith) utf8
-    (hash_mark behind begins)
+    (fragment-mark-is-component-mark suffix begins)
 
--- a fragment, after all else
-fragment_lies : (text before f : List ℕ) → text ≡ before ++ fragment_text (Some f) → IsUtf8 text
-    → LiesAt text (length before + 1) (length text) (Some f)
-fragment_lies text before f whole utf8 =
+-- positions: a fragment after `#` is from there to the end of the text
+fragment-after-all-else-is-slice : (text before f : List ℕ) → text
+    ≡ before ++ fragment_text (Some f) → IsUtf8 text
+    → IsComponentAt text (length before + 1) (length text) (Some f)
+fragment-after-all-else-is-slice text before f whole utf8 =
     let n : length text ≡ length before + 1 + length f =
     omega (
       arith,
@@ -233,11 +262,13 @@ fragment_lies text before f whole utf8 =
       length-append
           f [],
     ) in
-    LiesAt-behind_mark text before f [] 35 (length before + 1) (length text) whole refl n
+    component-between-marks-is-slice text before f [] 35 (length before + 1)
+    (length text) whole refl n
     (omega arith) utf8 tt
 
--- each component at its positions, over any split
-pub authority_at : (text : List ℕ) (scheme authority : Option (List ℕ)) (path : List ℕ)
+-- positions: the authority of a split is between its positions in the text
+pub authority-of-split-is-at-positions : (text : List ℕ) (scheme authority : Option (List ℕ))
+    (path : List ℕ)
     (query fragment : Option (List ℕ))
     → IsSplitOf text (record {
       scheme = scheme;
@@ -257,25 +288,33 @@ pub authority_at : (text : List ℕ) (scheme authority : Option (List ℕ)) (pat
           query;
       fragment = fragment;
     }) in
-    IfSome at.authority (λ a. LiesAt text a.start a.end authority))
-authority_at text scheme None path query fragment split utf8 = tt
-authority_at text scheme (Some a) path query fragment split utf8 =
-    authority_lies text scheme a path (query_text query fragment) (sym split.whole) utf8
-    split.authority.1 (Begins-query_text query fragment)
+    IfSome at.authority (λ a. IsComponentAt text a.start a.end authority))
+authority-of-split-is-at-positions text scheme None path query fragment split utf8 = tt
+authority-of-split-is-at-positions text scheme (Some a) path query fragment split utf8 =
+    authority-after-scheme-is-slice text scheme a path (query_text query fragment)
+    (sym split.whole) utf8
+    split.authority.1 (IsEmptyOrMarked-query_text query fragment)
 
-pub rooted_of : (authority : Option (List ℕ)) (path : List ℕ)
-    → IfSome authority (λ a. Lacks (codes "/?#") a × IsRooted path)
-    → IfSome authority (λ a. IsRooted path)
-rooted_of None path some = tt
-rooted_of (Some a) path some = some.1
+-- with an authority, the path is empty or begins with `/` (RFC 3986, section 3.3)
+pub authority_has_abempty_path : (authority : Option (List ℕ)) (path : List ℕ)
+    → IfSome authority (λ a. Lacks (codes "/?#") a × IsAbemptyPath path)
+    → IfSome authority (λ a. IsAbemptyPath path)
+authority_has_abempty_path None path some = tt
+authority_has_abempty_path (Some a) path some = some.1
 
-pub path_at : (text : List ℕ) (p : Components) → IsSplitOf text p → IsUtf8 text
-    → LiesAt text (positions_of p).path_start (positions_of p).path_end (Some p.path)
-path_at text p split utf8 =
-    path_lies text p.scheme p.authority p.path (query_text p.query p.fragment) (sym split.whole)
-    utf8 (rooted_of p.authority p.path split.authority) (Begins-query_text p.query p.fragment)
+-- positions: the path of a split is between its positions in the text
+pub path-of-split-is-at-positions : (text : List ℕ) (p : Components) → IsSplitOf text p
+    → IsUtf8 text
+    → IsComponentAt text (positions_of p).path_start (positions_of p).path_end (Some p.path)
+path-of-split-is-at-positions text p split utf8 =
+    path-after-authority-is-slice text p.scheme p.authority p.path (query_text p.query p.fragment)
+    (sym split.whole)
+    utf8 (authority_has_abempty_path p.authority p.path split.authority)
+    (IsEmptyOrMarked-query_text p.query p.fragment)
 
-pub query_at : (text : List ℕ) (scheme authority : Option (List ℕ)) (path : List ℕ)
+-- positions: the query of a split is between its positions in the text
+pub query-of-split-is-at-positions : (text : List ℕ) (scheme authority : Option (List ℕ))
+    (path : List ℕ)
     (query fragment : Option (List ℕ))
     → IsSplitOf text (record {
       scheme = scheme;
@@ -295,26 +334,28 @@ pub query_at : (text : List ℕ) (scheme authority : Option (List ℕ)) (path : 
           query;
       fragment = fragment;
     }) in
-    IfSome at.query_end (λ end. LiesAt text (at.path_end + 1) end query))
-query_at text scheme authority path None fragment split utf8 = tt
-query_at text scheme authority path (Some q) fragment split utf8 =
+    IfSome at.query_end (λ end. IsComponentAt text (at.path_end + 1) end query))
+query-of-split-is-at-positions text scheme authority path None fragment split utf8 = tt
+query-of-split-is-at-positions text scheme authority path (Some q) fragment split utf8 =
     let hierarchy : List ℕ = hierarchy_text scheme authority path in
     let whole : text ≡ hierarchy ++ query_text (Some q) fragment = sym split.whole
     ∙ hierarchy-append scheme authority path (query_text (Some q) fragment) in
     let n = length-hierarchy_text scheme authority path in
-    let Lies : ℕ → Type 0 = λ k. LiesAt text (k + 1) (k + 1 + length q) (Some q) in
-    subst Lies n (query_lies text hierarchy q (fragment_text fragment) whole utf8
-    (Begins-fragment_text fragment))
+    let Lies : ℕ → Type 0 = λ k. IsComponentAt text (k + 1) (k + 1 + length q) (Some q) in
+    subst Lies n (query-after-path-is-slice text hierarchy q (fragment_text fragment) whole utf8
+    (IsEmptyOrMarked-fragment_text fragment))
 
 -- the text up to a fragment
 abbrev pub before_hash : Components → List ℕ
 before_hash p = hierarchy_text p.scheme p.authority p.path ++ marked (codes "?") p.query []
 
+-- positions: the text before the fragment and its `#` ends where the positions say
 pub length-before_hash : (p : Components)
     → length (before_hash p) ≡ before_fragment (positions_of p)
 length-before_hash p =
-    let path_end : ℕ = marked_length 1 p.scheme + marked_length 2 p.authority + length p.path in
-    let n : length (before_hash p) ≡ path_end + marked_length 1 p.query =
+    let path_end : ℕ = delimited_length 1 p.scheme + delimited_length 2 p.authority
+    + length p.path in
+    let n : length (before_hash p) ≡ path_end + delimited_length 1 p.query =
     omega (
       arith,
       length-append (hierarchy_text p.scheme p.authority p.path)
@@ -322,8 +363,9 @@ length-before_hash p =
       length-hierarchy_text p.scheme p.authority p.path,
       length-query_text p.query,
     ) in
-    n ∙ sym (end-query path_end p.query)
+    n ∙ sym (query-end-or-path-end path_end p.query)
 
+-- recomposing: a text is what is before the fragment, and the fragment with its `#`
 pub recompose-before_hash : (p : Components)
     → recompose p ≡ before_hash p ++ fragment_text p.fragment
 recompose-before_hash p =
@@ -331,23 +373,26 @@ recompose-before_hash p =
     ∙ sym (append_assoc (hierarchy_text p.scheme p.authority p.path) (marked (codes "?") p.query [])
     (fragment_text p.fragment))
 
-pub before_hash-append : (text : List ℕ) (p : Components) → IsSplitOf text p
+-- splitting: a text is what is before its fragment, and the fragment with its `#`
+pub split-text-is-before-fragment-and-fragment : (text : List ℕ) (p : Components) → IsSplitOf text p
     → text ≡ before_hash p ++ fragment_text p.fragment
-before_hash-append text p split = sym split.whole ∙ recompose-before_hash p
+split-text-is-before-fragment-and-fragment text p split = sym split.whole ∙ recompose-before_hash p
 
--- a text is longer than what is before its fragment only where it has one
-pub fragment_there : (text before : List ℕ) (fragment : Option (List ℕ))
+-- positions: a text is longer than what is before its fragment only if it has one
+pub longer_than_before_fragment_if_some : (text before : List ℕ) (fragment : Option (List ℕ))
     → text ≡ before ++ fragment_text fragment
     → nat_lt (length before) (length text) ≡ is_some fragment
-fragment_there text before None whole =
+longer_than_before_fragment_if_some text before None whole =
     le-ltb (length before) (length text) (omega (arith, ap length whole, length-append before []))
-fragment_there text before (Some f) whole =
+longer_than_before_fragment_if_some text before (Some f) whole =
     lt-ltb (length before) (length text)
     (omega (arith, ap length whole, length-append before (fragment_text (Some f))))
 
-pub fragment_at : (text before : List ℕ) (fragment : Option (List ℕ))
+-- positions: the fragment, if there is one, is from after its `#` to the end of the text
+pub fragment-is-slice-to-end : (text before : List ℕ) (fragment : Option (List ℕ))
     → text ≡ before ++ fragment_text fragment → IsUtf8 text → length before < length text
-    → LiesAt text (length before + 1) (length text) fragment
-fragment_at text before None whole utf8 less =
+    → IsComponentAt text (length before + 1) (length text) fragment
+fragment-is-slice-to-end text before None whole utf8 less =
     absurd (omega (arith, ap length whole, length-append before []))
-fragment_at text before (Some f) whole utf8 less = fragment_lies text before f whole utf8
+fragment-is-slice-to-end text before (Some f) whole utf8 less = fragment-after-all-else-is-slice
+    text before f whole utf8

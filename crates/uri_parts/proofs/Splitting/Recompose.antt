@@ -9,86 +9,99 @@ use Rattle.std.proofs.lemmas.Bool.Decides.{nat_tests}
 use Rattle.uri_pct.specs.Sets.{is_one_of}
 use Rattle.uri_parts.specs.Components.{IsSplitOf, recompose, marked, starts, has_scheme}
 use Rattle.uri_parts.specs.Components.{has_authority, after_scheme, after_authority, after_query}
-use Rattle.uri_parts.specs.Components.{components, when, Lacks, IsRooted, before_any, from_any}
-use Rattle.uri_parts.proofs.Splitting.Cuts.{Begins, IsCut-any}
+use Rattle.uri_parts.specs.Components.{components, when, Lacks, IsAbemptyPath, before_any, from_any}
+use Rattle.uri_parts.proofs.Splitting.Cuts.{IsEmptyOrMarked, text-is-cut-at-first-mark}
 use Rattle.uri_parts.proofs.Splitting.Marks.{has_authority-append}
 
-not_true : (b : Bool) → not b ≡ true → b ≡ false
-not_true true h = cc
-not_true false h = refl
+-- general fact on booleans, for splitting a text
+negation-true-means-false : (b : Bool) → not b ≡ true → b ≡ false
+negation-true-means-false true h = cc
+negation-true-means-false false h = refl
 
-pub true_to : (b : Bool) → b ≡ true → IsTrue b
-true_to b h = search rules
+-- general fact on booleans, for tests of a text
+pub equal-to-true-is-IsTrue : (b : Bool) → b ≡ true → IsTrue b
+equal-to-true-is-IsTrue b h = search rules
 
-pub starts-cons : (c : ℕ) (text : List ℕ) → starts c text ≡ true → text ≡ c ∷ drop 1 text
-starts-cons c [] h = absurd (both_ways _ refl h)
-starts-cons c (d ∷ text) h = ap (λ x. x ∷ text) (eqb-true d c h)
+-- splitting: a text that begins with a character c is that and what is after it
+pub text-with-mark-is-mark-and-rest : (c : ℕ) (text : List ℕ) → starts c text ≡ true → text
+    ≡ c ∷ drop 1 text
+text-with-mark-is-mark-and-rest c [] h = absurd (both_ways _ refl h)
+text-with-mark-is-mark-and-rest c (d ∷ text) h = ap (λ x. x ∷ text) (eqb-true d c h)
 
-has_authority-cons : (text : List ℕ) → has_authority text ≡ true → text ≡ 47 ∷ 47 ∷ drop 2 text
-has_authority-cons [] h = cc
-has_authority-cons (a ∷ []) h = absurd (both_ways _ refl (and_parts _ _ h).1)
-has_authority-cons (a ∷ b ∷ text) h = let parts = and_parts _ _ h in
+-- splitting: what begins with `//` is two slashes (47) and a rest
+text-with-authority-is-slashes-and-rest : (text : List ℕ) → has_authority text ≡ true → text
+    ≡ 47 ∷ 47 ∷ drop 2 text
+text-with-authority-is-slashes-and-rest [] h = cc
+text-with-authority-is-slashes-and-rest (a ∷ []) h = absurd (both_ways _ refl (and_parts _ _ h).1)
+text-with-authority-is-slashes-and-rest (a ∷ b ∷ text) h = let parts = and_parts _ _ h in
     ap (λ x. x ∷ b ∷ text) (eqb-true a 47 parts.0) ∙ ap (λ x. 47 ∷ x ∷ text) (eqb-true b 47 parts.1)
 
--- the scheme and what is after it
-scheme_whole : (text : List ℕ)
+-- splitting: a scheme with its `:`, if there is one, and what is after it are the text
+scheme-and-rest-are-text : (text : List ℕ)
     → marked [] (when (has_scheme text) (before_any (codes ":/?#") text)) (codes ":")
     ++ after_scheme text
     ≡ text
-scheme_whole text = ⊎_elim
+scheme-and-rest-are-text text = ⊎_elim
     (λ h.
     let back = from_any (codes ":/?#") text in
     let before = before_any (codes ":/?#") text in
     rw h (append_assoc before (codes ":") (drop 1 back)
-    ∙ ap (λ t. before ++ t) (sym (starts-cons 58 back (and_parts _ _ h).0))
-    ∙ (IsCut-any (codes ":/?#") text).whole))
+    ∙ ap (λ t. before ++ t) (sym (text-with-mark-is-mark-and-rest 58 back (and_parts _ _ h).0))
+    ∙ (text-is-cut-at-first-mark (codes ":/?#") text).whole))
     (λ h. rw h refl)
     (cases_Bool (has_scheme text))
 
-authority_whole : (rest : List ℕ)
+-- splitting: an authority with its `//`, and what is after it, are the text; or there is none
+authority-and-rest-are-text : (rest : List ℕ)
     → marked (codes "//") (when (has_authority rest) (before_any (codes "/?#") (drop 2 rest))) []
     ++ after_authority rest
     ≡ rest
-authority_whole rest = ⊎_elim
+authority-and-rest-are-text rest = ⊎_elim
     (λ h.
-    let behind = drop 2 rest in
-    rw h (ap (λ t. 47 ∷ 47 ∷ (t ++ from_any (codes "/?#") behind))
-    (append-nil (before_any (codes "/?#") behind))
-    ∙ ap (λ t. 47 ∷ 47 ∷ t) (IsCut-any (codes "/?#") behind).whole
-    ∙ sym (has_authority-cons rest h)))
+    let suffix = drop 2 rest in
+    rw h (ap (λ t. 47 ∷ 47 ∷ (t ++ from_any (codes "/?#") suffix))
+    (append-nil (before_any (codes "/?#") suffix))
+    ∙ ap (λ t. 47 ∷ 47 ∷ t) (text-is-cut-at-first-mark (codes "/?#") suffix).whole
+    ∙ sym (text-with-authority-is-slashes-and-rest rest h)))
     (λ h. rw h refl)
     (cases_Bool (has_authority rest))
 
-query_whole : (end : List ℕ)
+-- splitting: a query with its `?`, and what is after it, are the text; or there is none
+query-and-rest-are-text : (end : List ℕ)
     → marked (codes "?") (when (starts 63 end) (before_any (codes "#") (drop 1 end))) []
     ++ after_query end
     ≡ end
-query_whole end = ⊎_elim
+query-and-rest-are-text end = ⊎_elim
     (λ h.
-    let behind = drop 1 end in
-    rw h (ap (λ t. 63 ∷ (t ++ from_any (codes "#") behind))
-    (append-nil (before_any (codes "#") behind))
-    ∙ ap (λ t. 63 ∷ t) (IsCut-any (codes "#") behind).whole ∙ sym (starts-cons 63 end h)))
+    let suffix = drop 1 end in
+    rw h (ap (λ t. 63 ∷ (t ++ from_any (codes "#") suffix))
+    (append-nil (before_any (codes "#") suffix))
+    ∙ ap (λ t. 63 ∷ t) (text-is-cut-at-first-mark (codes "#") suffix).whole
+    ∙ sym (text-with-mark-is-mark-and-rest 63 end h)))
     (λ h. rw h refl)
     (cases_Bool (starts 63 end))
 
-fragment_whole : (text : List ℕ) → Begins (codes "#") text
+-- splitting: a fragment with its `#`, or nothing, is what is left
+fragment-with-hash-is-text : (text : List ℕ) → IsEmptyOrMarked (codes "#") text
     → marked (codes "#") (when (starts 35 text) (drop 1 text)) [] ≡ text
-fragment_whole [] begins = refl
-fragment_whole (c ∷ text) begins =
+fragment-with-hash-is-text [] begins = refl
+fragment-with-hash-is-text (c ∷ text) begins =
     let h : eqb c 35 ≡ true = grind (arith, nat_tests) in
     rw h (ap (λ t. 35 ∷ t) (append-nil text) ∙ ap (λ x. x ∷ text) (sym (eqb-true c 35 h)))
 
--- what is after a path, and does not begin with `?`, begins with `#`
-hash_left : (end : List ℕ) → Begins (codes "?#") end → starts 63 end ≡ false
-    → Begins (codes "#") end
-hash_left [] begins h = tt
-hash_left (c ∷ end) begins h = grind (arith, nat_tests)
+-- splitting: what is after a path, and does not begin with `?` (63), is empty or begins with `#`
+end-without-query-begins-with-hash : (end : List ℕ) → IsEmptyOrMarked (codes "?#") end
+    → starts 63 end ≡ false
+    → IsEmptyOrMarked (codes "#") end
+end-without-query-begins-with-hash [] begins h = tt
+end-without-query-begins-with-hash (c ∷ end) begins h = grind (arith, nat_tests)
 
-Begins-after_query : (end : List ℕ) → Begins (codes "?#") end → Begins (codes "#") (after_query end)
-Begins-after_query end begins = ⊎_elim
-    (λ h. rw h (IsCut-any (codes "#") (drop 1 end)).begins)
-    (λ h. rw h (hash_left end begins h))
+-- splitting: what is after a query begins with `#`, or there is nothing
+text-after-query-begins-with-hash : (end : List ℕ) → IsEmptyOrMarked (codes "?#") end
+    → IsEmptyOrMarked (codes "#") (after_query end)
+text-after-query-begins-with-hash end begins = ⊎_elim
+    (λ h. rw h (text-is-cut-at-first-mark (codes "#") (drop 1 end)).begins)
+    (λ h. rw h (end-without-query-begins-with-hash end begins h))
     (cases_Bool (starts 63 end))
 
 pub recompose-components : (text : List ℕ) → recompose (components text) ≡ text
@@ -97,93 +110,108 @@ recompose-components text =
     let tail = after_authority rest in
     let end = from_any (codes "?#") tail in
     let p = components text in
-    let path = IsCut-any (codes "?#") tail in
-    let fragment = fragment_whole (after_query end) (Begins-after_query end path.begins) in
+    let path = text-is-cut-at-first-mark (codes "?#") tail in
+    let fragment = fragment-with-hash-is-text (after_query end)
+    (text-after-query-begins-with-hash end path.begins) in
     ap (λ t. marked [] p.scheme (codes ":")
     ++ (marked (codes "//") p.authority [] ++ (p.path ++ (marked (codes "?") p.query [] ++ t))))
     fragment
     ∙ ap (λ t. marked [] p.scheme (codes ":")
-    ++ (marked (codes "//") p.authority [] ++ (p.path ++ t))) (query_whole end)
+    ++ (marked (codes "//") p.authority [] ++ (p.path ++ t))) (query-and-rest-are-text end)
     ∙ ap (λ t. marked [] p.scheme (codes ":") ++ (marked (codes "//") p.authority [] ++ t))
     path.whole
-    ∙ ap (λ t. marked [] p.scheme (codes ":") ++ t) (authority_whole rest)
-    ∙ scheme_whole text
+    ∙ ap (λ t. marked [] p.scheme (codes ":") ++ t) (authority-and-rest-are-text rest)
+    ∙ scheme-and-rest-are-text text
 
-not_first : (before from : List ℕ) → starts 58 from ≡ true → starts 58 (before ++ from) ≡ false
+-- splitting: what is before the first `:` (58) of a text that does not begin with it is not empty
+prefix-before-colon-is-nonempty : (before from : List ℕ) → starts 58 from ≡ true
+    → starts 58 (before ++ from) ≡ false
     → 0 < length before
-not_first [] from h first = absurd (both_ways _ first h)
-not_first (c ∷ before) from h first = omega arith
+prefix-before-colon-is-nonempty [] from h first = absurd (both_ways _ first h)
+prefix-before-colon-is-nonempty (c ∷ before) from h first = omega arith
 
-scheme_fits : (text : List ℕ)
+-- splitting: a scheme that is found is not empty and has no delimiter
+found-scheme-is-nonempty-and-lacks-marks : (text : List ℕ)
     → IfSome (components text).scheme (λ s. (0 < length s) × Lacks (codes ":/?#") s)
-scheme_fits text = ⊎_elim
+found-scheme-is-nonempty-and-lacks-marks text = ⊎_elim
     (λ h.
-    let cut = IsCut-any (codes ":/?#") text in
+    let cut = text-is-cut-at-first-mark (codes ":/?#") text in
     let tests = and_parts _ _ h in
-    let first = ap (starts 58) cut.whole ∙ not_true _ tests.1 in
+    let first = ap (starts 58) cut.whole ∙ negation-true-means-false _ tests.1 in
     rw h (
-      not_first (before_any (codes ":/?#") text) (from_any (codes ":/?#") text) tests.0 first,
+      prefix-before-colon-is-nonempty (before_any (codes ":/?#") text)
+          (from_any (codes ":/?#") text) tests.0 first,
       cut.lacks,
     ))
     (λ h. rw h tt)
     (cases_Bool (has_scheme text))
 
-no_scheme_fits : (text : List ℕ) → IfNone (components text).scheme (has_scheme text ≡ false)
-no_scheme_fits text = ⊎_elim (λ h. rw h tt) (λ h. rw h refl) (cases_Bool (has_scheme text))
+-- splitting: if no scheme is found, the text begins with none
+no-scheme-if-none-is-found : (text : List ℕ)
+    → IfNone (components text).scheme (has_scheme text ≡ false)
+no-scheme-if-none-is-found text = ⊎_elim (λ h. rw h tt) (λ h. rw h refl)
+    (cases_Bool (has_scheme text))
 
--- a path in a text that begins with one of `/?#`
-rooted_front : (path end : List ℕ) → Lacks (codes "?#") path → Begins (codes "/?#") (path ++ end)
-    → IsRooted path
-rooted_front [] end lacks begins = inl refl
-rooted_front (c ∷ path) end lacks begins =
+-- splitting: a path in a text that is empty or begins with `/`,
+-- `?` or `#` is empty or begins with `/`
+path-before-marks-is-abempty : (path end : List ℕ) → Lacks (codes "?#") path
+    → IsEmptyOrMarked (codes "/?#") (path ++ end)
+    → IsAbemptyPath path
+path-before-marks-is-abempty [] end lacks begins = inl refl
+path-before-marks-is-abempty (c ∷ path) end lacks begins =
     let other : is_one_of (codes "?#") c ≡ false = lacks 0 0 (omega arith) in
     let slash : eqb c 47 ≡ true = grind (arith, nat_tests) in
-    inr (true_to _ slash)
+    inr (equal-to-true-is-IsTrue _ slash)
 
-authority_fits : (rest : List ℕ)
+-- splitting: an authority that is found has no delimiter,
+-- and the path after it is empty or begins with `/`
+found-authority-lacks-marks : (rest : List ℕ)
     → IfSome (when (has_authority rest) (before_any (codes "/?#") (drop 2 rest)))
-    (λ a. Lacks (codes "/?#") a × IsRooted (before_any (codes "?#") (after_authority rest)))
-authority_fits rest = ⊎_elim
+    (λ a. Lacks (codes "/?#") a × IsAbemptyPath (before_any (codes "?#") (after_authority rest)))
+found-authority-lacks-marks rest = ⊎_elim
     (λ h.
-    let cut = IsCut-any (codes "/?#") (drop 2 rest) in
+    let cut = text-is-cut-at-first-mark (codes "/?#") (drop 2 rest) in
     let tail = from_any (codes "/?#") (drop 2 rest) in
-    let path = IsCut-any (codes "?#") tail in
-    let begins = subst (Begins (codes "/?#")) (sym path.whole) cut.begins in
+    let path = text-is-cut-at-first-mark (codes "?#") tail in
+    let begins = subst (IsEmptyOrMarked (codes "/?#")) (sym path.whole) cut.begins in
     rw h (
       cut.lacks,
-      rooted_front (before_any (codes "?#") tail) (from_any (codes "?#") tail)
+      path-before-marks-is-abempty (before_any (codes "?#") tail) (from_any (codes "?#") tail)
           path.lacks begins,
     ))
     (λ h. rw h tt)
     (cases_Bool (has_authority rest))
 
-no_authority_fits : (rest : List ℕ)
+-- splitting: if no authority is found, the path does not begin with `//`
+no-slashes-if-no-authority-is-found : (rest : List ℕ)
     → IfNone (when (has_authority rest) (before_any (codes "/?#") (drop 2 rest)))
     (has_authority (before_any (codes "?#") (after_authority rest)) ≡ false)
-no_authority_fits rest = ⊎_elim
+no-slashes-if-no-authority-is-found rest = ⊎_elim
     (λ h. rw h tt)
     (λ h.
-    let path = IsCut-any (codes "?#") rest in
+    let path = text-is-cut-at-first-mark (codes "?#") rest in
     rw h
     (sym (has_authority-append (before_any (codes "?#") rest) (from_any (codes "?#") rest)
     path.begins) ∙ ap has_authority path.whole ∙ h))
     (cases_Bool (has_authority rest))
 
-query_fits : (end : List ℕ)
+-- splitting: a query that is found has no `#`
+found-query-lacks-hash : (end : List ℕ)
     → IfSome (when (starts 63 end) (before_any (codes "#") (drop 1 end))) (λ q. Lacks (codes "#") q)
-query_fits end = ⊎_elim (λ h. rw h (IsCut-any (codes "#") (drop 1 end)).lacks) (λ h. rw h tt)
+found-query-lacks-hash end = ⊎_elim
+    (λ h. rw h (text-is-cut-at-first-mark (codes "#") (drop 1 end)).lacks) (λ h. rw h tt)
     (cases_Bool (starts 63 end))
 
-pub IsSplitOf-components : (text : List ℕ) → IsSplitOf text (components text)
-IsSplitOf-components text =
+pub components-are-split-of-text : (text : List ℕ) → IsSplitOf text (components text)
+components-are-split-of-text text =
     let rest = after_scheme text in
     let tail = after_authority rest in
     record {
       whole = recompose-components text;
-      scheme = scheme_fits text;
-      authority = authority_fits rest;
-      path = (IsCut-any (codes "?#") tail).lacks;
-      query = query_fits (from_any (codes "?#") tail);
-      no_scheme = no_scheme_fits text;
-      no_authority = no_authority_fits rest;
+      scheme = found-scheme-is-nonempty-and-lacks-marks text;
+      authority = found-authority-lacks-marks rest;
+      path = (text-is-cut-at-first-mark (codes "?#") tail).lacks;
+      query = found-query-lacks-hash (from_any (codes "?#") tail);
+      no_scheme = no-scheme-if-none-is-found text;
+      no_authority = no-slashes-if-no-authority-is-found rest;
     }

@@ -11,36 +11,44 @@ use Rattle.uri_pct.specs.Sets.{TableSet, is_one_of, is_scheme_char, is_segment_n
 use Rattle.uri_pct.specs.Sets.{is_path_char, is_reg_name_char, is_userinfo_char, segment_nz_nc_set}
 use Rattle.uri_pct.specs.Sets.{path_set, userinfo_set, reg_name_set, query_set, fragment_set}
 use Rattle.uri_pct.specs.Sets.{allows_past_ascii}
-use Rattle.uri_pct.specs.Tokens.{is_valid_for, tokens_of}
+use Rattle.uri_pct.specs.Tokens.{is_valid_for, tokens_from_chars}
 use Rattle.uri_pct.specs.Prefixes.{allows_first}
 use Rattle.uri_parts.specs.Grammar.{Kind, uri, uri_ref, iri, iri_ref, IsOfKind, first_segment_set}
-use Rattle.uri_parts.specs.Grammar.{one_of_four}
+use Rattle.uri_parts.specs.Grammar.{kind_by_flags}
 use Rattle.uri_parts.specs.Components.{components}
-use Rattle.uri_parts.proofs.TextKinds.Separations.{Separates}
+use Rattle.uri_parts.proofs.TextKinds.Separations.{SeparatesComponents}
 
-scheme_in_segment : (c : ℕ) → is_scheme_char c ≡ true → is_segment_nz_nc_char c ≡ true
-scheme_in_segment c e = grind (arith, nat_tests)
+-- sets: a scheme's characters may be in a first segment too
+scheme-char-is-segment-char : (c : ℕ) → is_scheme_char c ≡ true → is_segment_nz_nc_char c ≡ true
+scheme-char-is-segment-char c e = grind (arith, nat_tests)
 
-segment_in_path : (c : ℕ) → is_segment_nz_nc_char c ≡ true → is_path_char c ≡ true
-segment_in_path c e = grind (arith, nat_tests)
+-- sets: a first segment's characters may be in a path too
+segment-char-is-path-char : (c : ℕ) → is_segment_nz_nc_char c ≡ true → is_path_char c ≡ true
+segment-char-is-path-char c e = grind (arith, nat_tests)
 
-path_in_segment : (c : ℕ) → is_one_of (codes ":/") c ≡ false → is_segment_nz_nc_char c ≡ false
+-- sets: a path's characters but `:` and `/` may be in a first segment too
+other-path-char-is-segment-char : (c : ℕ) → is_one_of (codes ":/") c ≡ false
+    → is_segment_nz_nc_char c ≡ false
     → is_path_char c ≡ false
-path_in_segment c m e = grind (arith, nat_tests)
+other-path-char-is-segment-char c m e = grind (arith, nat_tests)
 
-name_in_userinfo : (c : ℕ) → is_reg_name_char c ≡ true → is_userinfo_char c ≡ true
-name_in_userinfo c e = grind (arith, nat_tests)
+-- sets: a registered name's characters may be in userinfo too
+name-char-is-userinfo-char : (c : ℕ) → is_reg_name_char c ≡ true → is_userinfo_char c ≡ true
+name-char-is-userinfo-char c e = grind (arith, nat_tests)
 
-digit_in_userinfo : (c : ℕ) → is_ascii_digit c ≡ true → is_userinfo_char c ≡ true
-digit_in_userinfo c e = grind (arith, nat_tests)
+-- sets: a digit may be in userinfo
+digit-is-userinfo-char : (c : ℕ) → is_ascii_digit c ≡ true → is_userinfo_char c ≡ true
+digit-is-userinfo-char c e = grind (arith, nat_tests)
 
 -- the sets of the four kinds differ in flags alone
 abbrev international : Bool → TableSet → TableSet
 international ucschar set = record set { ucschar = ucschar }
 
+-- the set of a first segment, with or without characters past ASCII
 abbrev segment_with : Bool → TableSet
 segment_with ucschar = international ucschar segment_nz_nc_set
 
+-- a kind, by what it allows and whether it needs a scheme
 abbrev kind_with : (ucschar iprivate needs_scheme : Bool) → Kind
 kind_with ucschar iprivate needs_scheme = record {
   userinfo = international ucschar userinfo_set;
@@ -51,19 +59,24 @@ kind_with ucschar iprivate needs_scheme = record {
   needs_scheme = needs_scheme;
 }
 
-first_rest : (ucschar : Bool) (b : ℕ) (bs : List ℕ) → is_one_of (codes ":/") b ≡ false
+-- parsing a path: it goes on after a first segment with `:` or `/` only; ucschar: whether the set
+-- has characters past ASCII
+path-goes-on-after-segment-only-with-mark : (ucschar : Bool) (b : ℕ) (bs : List ℕ)
+    → is_one_of (codes ":/") b ≡ false
     → allows_first (segment_with ucschar) b bs ≡ false
     → allows_first (international ucschar path_set) b bs ≡ false
 unfolding allows_first allows_past_ascii
-first_rest ucschar b bs m e = ⊎_elim
+path-goes-on-after-segment-only-with-mark ucschar b bs m e = ⊎_elim
     (λ h. let l = lt-ltb b 128 h in cond-true _ _ _ l
-    ∙ path_in_segment b m (sym (cond-true _ _ _ l) ∙ e))
+    ∙ other-path-char-is-segment-char b m (sym (cond-true _ _ _ l) ∙ e))
     (λ h. let l = le-ltb b 128 h in cond-false _ _ _ l ∙ (sym (cond-false _ _ _ l) ∙ e))
     (cases_lt b 128)
 
-separates : (ucschar iprivate needs_scheme : Bool)
-    → Separates (segment_with ucschar) (kind_with ucschar iprivate needs_scheme)
-separates ucschar iprivate needs_scheme = record {
+-- parsing: the sets of a kind are such that each component ends where the next begins;
+-- ucschar, iprivate: which characters past ASCII it has
+sets-by-flags-separate-components : (ucschar iprivate needs_scheme : Bool)
+    → SeparatesComponents (segment_with ucschar) (kind_with ucschar iprivate needs_scheme)
+sets-by-flags-separate-components ucschar iprivate needs_scheme = record {
   userinfo_lacks = refl;
   reg_name_lacks = refl;
   path_lacks = refl;
@@ -79,14 +92,14 @@ separates ucschar iprivate needs_scheme = record {
   segment_marks = refl;
   userinfo_starts = refl;
   name_within = record {
-    ascii = name_in_userinfo;
+    ascii = name-char-is-userinfo-char;
     pct_encoded = λ e. e;
     ucschar =
         λ e. e;
     iprivate = λ e. e;
   };
   digits_within = record {
-    ascii = digit_in_userinfo;
+    ascii = digit-is-userinfo-char;
     pct_encoded = λ e. refl;
     ucschar =
         λ e. absurd (cc e);
@@ -101,68 +114,88 @@ separates ucschar iprivate needs_scheme = record {
     iprivate = λ e. e;
   };
   scheme_within = record {
-    ascii = scheme_in_segment;
+    ascii = scheme-char-is-segment-char;
     pct_encoded = λ e. refl;
     ucschar =
         λ e. absurd (cc e);
     iprivate = λ e. e;
   };
   within =
-      record { ascii = segment_in_path; pct_encoded = λ e. e; ucschar = λ e. e; iprivate = λ e. e };
+      record {
+        ascii = segment-char-is-path-char;
+        pct_encoded = λ e. e;
+        ucschar =
+            λ e. e;
+        iprivate = λ e. e;
+      };
   octets = refl;
-  rest = first_rest ucschar;
+  rest = path-goes-on-after-segment-only-with-mark ucschar;
 }
 
-one_separates : (international needs_scheme : Bool) (kind : Kind)
-    → kind ≡ one_of_four international needs_scheme → kind.path.ucschar ≡ international
-    → Separates (first_segment_set kind) kind
-one_separates false needs_scheme kind e u =
-    subst (λ k. Separates (first_segment_set k) k) (sym e) (separates false false needs_scheme)
-one_separates true needs_scheme kind e u =
-    subst (λ k. Separates (first_segment_set k) k) (sym e) (separates true true needs_scheme)
+-- parsing: the sets of the four kinds are such that each component ends where the next begins
+kind-by-flags-separates-components : (international needs_scheme : Bool) (kind : Kind)
+    → kind ≡ kind_by_flags international needs_scheme → kind.path.ucschar ≡ international
+    → SeparatesComponents (first_segment_set kind) kind
+kind-by-flags-separates-components false needs_scheme kind e u =
+    subst (λ k. SeparatesComponents (first_segment_set k) k) (sym e)
+    (sets-by-flags-separate-components false false needs_scheme)
+kind-by-flags-separates-components true needs_scheme kind e u =
+    subst (λ k. SeparatesComponents (first_segment_set k) k) (sym e)
+    (sets-by-flags-separate-components true true needs_scheme)
 
--- each of the four kinds does
-pub known_separates : (kind : Kind) → kind ≡ one_of_four kind.path.ucschar kind.needs_scheme
-    → Separates (first_segment_set kind) kind
-known_separates kind known = one_separates kind.path.ucschar kind.needs_scheme kind known refl
+-- parsing: the sets of each of the four kinds are such that each
+-- component ends where the next begins
+pub each_kind_separates_components : (kind : Kind) → kind
+    ≡ kind_by_flags kind.path.ucschar kind.needs_scheme
+    → SeparatesComponents (first_segment_set kind) kind
+each_kind_separates_components kind known = kind-by-flags-separates-components kind.path.ucschar
+    kind.needs_scheme
+    kind known refl
 
--- where a scheme is needed it is there, and a text that has one is a reference too
+-- general fact on booleans, for the rule on schemes: where one is needed it is there
 pub with_scheme : (needed present other : Bool) → needed ≡ true
     → (present || (not needed && other)) ≡ true → present ≡ true
 with_scheme needed true other n h = refl
 with_scheme needed false other n h = absurd (cc (ap not n))
 
-needed_or_not : (needed present other : Bool) → (present || (not needed && other)) ≡ true
+-- general fact on booleans, for the rule on schemes;
+-- needed, present: whether one is needed, is there
+scheme-rule-holds-without-need : (needed present other : Bool) → (present || (not needed && other))
+    ≡ true
     → (present || other) ≡ true
-needed_or_not needed true other h = refl
-needed_or_not needed false other h = (and_parts (not needed) other h).1
+scheme-rule-holds-without-need needed true other h = refl
+scheme-rule-holds-without-need needed false other h = (and_parts (not needed) other h).1
 
-scheme_there : (kind : Kind) (text : List ℕ) → kind.needs_scheme ≡ true → IsOfKind kind text
+-- a text of a kind that needs a scheme has one
+kind-that-needs-scheme-has-one : (kind : Kind) (text : List ℕ) → kind.needs_scheme ≡ true
+    → IsOfKind kind text
     → is_some (components text).scheme ≡ true
-scheme_there kind text n h = with_scheme kind.needs_scheme (is_some (components text).scheme) _ n
+kind-that-needs-scheme-has-one kind text n h = with_scheme kind.needs_scheme
+    (is_some (components text).scheme) _ n
     (and_parts _ _ h).1
 
-is_reference : (kind : Kind) (text : List ℕ) → IsOfKind kind text
+-- a text of a kind is a reference: it is of the same kind without the need for a scheme
+text-of-kind-is-reference : (kind : Kind) (text : List ℕ) → IsOfKind kind text
     → IsOfKind (record kind { needs_scheme = false }) text
-is_reference kind text h =
+text-of-kind-is-reference kind text h =
     let parts = and_parts _ _ h in
-    and_from _ _ parts.0 (needed_or_not kind.needs_scheme _ _ parts.1)
+    and_from _ _ parts.0 (scheme-rule-holds-without-need kind.needs_scheme _ _ parts.1)
 
 pub uri_has_scheme : (text : List ℕ) → IsOfKind uri text → is_some (components text).scheme ≡ true
-uri_has_scheme text h = scheme_there uri text refl h
+uri_has_scheme text h = kind-that-needs-scheme-has-one uri text refl h
 
 pub uri_is_uri_ref : (text : List ℕ) → IsOfKind uri text → IsOfKind uri_ref text
-uri_is_uri_ref text h = is_reference uri text h
+uri_is_uri_ref text h = text-of-kind-is-reference uri text h
 
 pub iri_has_scheme : (text : List ℕ) → IsOfKind iri text → is_some (components text).scheme ≡ true
-iri_has_scheme text h = scheme_there iri text refl h
+iri_has_scheme text h = kind-that-needs-scheme-has-one iri text refl h
 
 pub iri_is_iri_ref : (text : List ℕ) → IsOfKind iri text → IsOfKind iri_ref text
-iri_is_iri_ref text h = is_reference iri text h
+iri_is_iri_ref text h = text-of-kind-is-reference iri text h
 
--- the empty text is a reference
+-- the empty text is a reference, for a kind that needs no scheme
 pub empty_is_reference : (kind : Kind) → kind.needs_scheme ≡ false → IsOfKind kind []
-unfolding is_valid_for tokens_of chars
+unfolding is_valid_for tokens_from_chars chars
 empty_is_reference kind n = ap (λ needed. not needed && true) n
 
 -- a URI is a URI reference with a scheme, and an IRI an IRI reference with one

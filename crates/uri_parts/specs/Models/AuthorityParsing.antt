@@ -10,72 +10,93 @@ use Rattle.uri_parts.specs.Models.Literals.{literal_length}
 use Rattle.uri_parts.specs.declared.positions.AuthorityPositions.{AuthorityPositions}
 use Rattle.uri_pct.specs.Delimiters.{at_sign, colon, left_bracket}
 
--- the text begins with one of these characters, or is empty
-unfoldable pub begins_any : List ℕ → List ℕ → Bool
-begins_any marks [] = true
-begins_any marks (b ∷ rest) = is_one_of marks b
+-- the text begins with one of the characters marks, or is empty
+unfoldable pub is_empty_or_begins_with_any : List ℕ → List ℕ → Bool
+is_empty_or_begins_with_any marks [] = true
+is_empty_or_begins_with_any marks (b ∷ rest) = is_one_of marks b
 
--- `:` and digits, if they are next
+-- the length of the port that begins the text, with its `:`, or 0 if no `:` is next (RFC 3986,
+-- section 3.2.3)
 unfoldable pub port_length : List ℕ → ℕ
 port_length rest = if starts colon rest then 1 + valid_prefix digit_set (drop 1 rest) else 0
 
--- a registered name, perhaps with a port
-unfoldable pub name_length : Kind → List ℕ → ℕ
-name_length kind rest = valid_prefix kind.reg_name rest + port_length (after kind.reg_name rest)
+-- the length of the registered name that begins the text, and of the port after it if there is one
+unfoldable pub name_and_port_length : Kind → List ℕ → ℕ
+name_and_port_length kind rest = valid_prefix kind.reg_name rest + port_length
+    (after kind.reg_name rest)
 
--- An authority ends where `/`, `?`, `#` or nothing follows. Most are a registered name, perhaps
--- with a port.
-unfoldable pub finds_name : Kind → List ℕ → Bool
-finds_name kind rest = begins_any (codes "/?#") (drop (name_length kind rest) rest)
+-- the registered name that begins the text, with the port after it if there is one, is a whole
+-- authority: `/`, `?`, `#` or nothing follows (RFC 3986, section 3.2).
+-- Most authorities are so.
+unfoldable pub name_ends_authority : Kind → List ℕ → Bool
+name_ends_authority kind rest = is_empty_or_begins_with_any (codes "/?#")
+    (drop (name_and_port_length kind rest) rest)
 
--- a host: an address in brackets if `[` is next, and else a registered name
+-- the length of the host that begins the text: an address in brackets if `[` is next, and else a
+-- registered name
 unfoldable pub host_end : Kind → List ℕ → ℕ
 host_end kind rest =
-    if starts left_bracket rest then 1 + literal_length (drop 1 rest) else valid_prefix kind.reg_name rest
+    if starts left_bracket rest then 1 + literal_length (drop 1 rest) else valid_prefix
+    kind.reg_name rest
 
--- a host, perhaps with a port
-unfoldable pub host_length : Kind → List ℕ → ℕ
-host_length kind rest = host_end kind rest + port_length (drop (host_end kind rest) rest)
+-- the length of the host that begins the text, and of the port after it if there is one
+unfoldable pub host_and_port_length : Kind → List ℕ → ℕ
+host_and_port_length kind rest = host_end kind rest + port_length (drop (host_end kind rest) rest)
 
--- what was passed as a name and a port is a prefix of userinfo, which goes on from there
-unfoldable pub more_user : Kind → List ℕ → ℕ
-more_user kind rest = if starts at_sign rest then 0 else valid_prefix kind.userinfo rest
+-- the length of the userinfo that goes on at the start of the text, after a prefix that was passed
+-- as a name and a port; 0 if `@` is next
+unfoldable pub further_userinfo_length : Kind → List ℕ → ℕ
+further_userinfo_length kind rest = if starts at_sign rest then 0 else valid_prefix
+    kind.userinfo rest
 
-unfoldable pub user_length : Kind → List ℕ → ℕ
-user_length kind rest =
-    name_length kind rest + more_user kind (drop (name_length kind rest) rest)
+-- the length of the userinfo that begins the text: of what is passed as a name and a port, and of
+-- what goes on from there
+unfoldable pub userinfo_length : Kind → List ℕ → ℕ
+userinfo_length kind rest =
+    name_and_port_length kind rest + further_userinfo_length kind
+    (drop (name_and_port_length kind rest) rest)
 
--- where the host begins: at once if it is in brackets, and else after userinfo and its mark
-unfoldable pub host_place : Kind → List ℕ → ℕ
-host_place kind rest = if starts left_bracket rest then 0 else user_length kind rest + 1
+-- where the host begins in a text that begins with an authority: at once if it is in brackets, and
+-- else after userinfo and its `@`
+unfoldable pub host_offset : Kind → List ℕ → ℕ
+host_offset kind rest = if starts left_bracket rest then 0 else userinfo_length kind rest + 1
 
-abbrev pub from_host : Kind → List ℕ → List ℕ
-from_host kind rest = drop (host_place kind rest) rest
+-- of a text that begins with an authority, what is left from the host on
+abbrev pub text_from_host : Kind → List ℕ → List ℕ
+text_from_host kind rest = drop (host_offset kind rest) rest
 
-unfoldable pub other_length : Kind → List ℕ → ℕ
-other_length kind rest = host_place kind rest + host_length kind (from_host kind rest)
+-- the length of the authority that begins the text, if it has a userinfo or its host is in brackets
+unfoldable pub other_authority_length : Kind → List ℕ → ℕ
+other_authority_length kind rest = host_offset kind rest + host_and_port_length kind
+    (text_from_host kind rest)
 
-unfoldable pub found_length : Kind → List ℕ → ℕ
-found_length kind rest =
-    if finds_name kind rest then name_length kind rest else other_length kind rest
+-- the length of the authority that the parser finds at the start of a text
+unfoldable pub found_authority_length : Kind → List ℕ → ℕ
+found_authority_length kind rest =
+    if name_ends_authority kind rest then name_and_port_length kind rest else other_authority_length
+    kind rest
 
+-- the positions of an authority that has a userinfo or whose host is in brackets; rest is the text
+-- from the authority on, which is at the position place
 unfoldable pub other_authority : Kind → ℕ → List ℕ → AuthorityPositions
 other_authority kind place rest =
-    let host = place + host_place kind rest in
+    let host = place + host_offset kind rest in
     record {
       start = place;
       host_start = host;
-      host_end = host + host_end kind (from_host kind rest);
-      end = host + host_length kind (from_host kind rest);
+      host_end = host + host_end kind (text_from_host kind rest);
+      end = host + host_and_port_length kind (text_from_host kind rest);
     }
 
+-- the positions of the authority that the parser finds at the start of the text rest, which is at
+-- the position place
 unfoldable pub found_authority : Kind → ℕ → List ℕ → AuthorityPositions
 found_authority kind place rest =
-    if finds_name kind rest
+    if name_ends_authority kind rest
     then record {
       start = place;
       host_start = place;
       host_end = place + valid_prefix kind.reg_name rest;
-      end = place + name_length kind rest;
+      end = place + name_and_port_length kind rest;
     }
     else other_authority kind place rest

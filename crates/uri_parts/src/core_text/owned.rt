@@ -11,8 +11,8 @@ use std::alloc::AllocError;
 use uri_pct::pct_enc::EStr;
 
 impl<K: Kind> Core<K, String> {
-    /// Replaces the fragment by this one, or removes it. If an allocation fails, the text is as it
-    /// was. Removing the fragment allocates nothing.
+    /// Replaces the fragment of an owned text by this one, or removes it. If an allocation fails,
+    /// the text is as it was. Removing the fragment allocates nothing.
     pub fn set_fragment(
         &mut self,
         fragment: Option<EStr<'_, K::FragmentE>>,
@@ -26,7 +26,7 @@ impl<K: Kind> Core<K, String> {
         fragment::set_fragment(&mut self.text, &self.positions, fragment)
     }
 
-    /// The text, with its memory.
+    /// Returns the text as a `String`, without a copy.
     pub fn into_string(self) -> String
         ensures { string_bytes result ≡ core_text self }
     {

@@ -7,45 +7,60 @@ use Rattle.std.specs.Str.{chars, IsUtf8}
 use Rattle.std.proofs.lemmas.List.Splits.{length-slice_split}
 use Rattle.std.proofs.lemmas.List.Sums.{count_by-le-length}
 use Rattle.std.proofs.lemmas.Str.{encodes-chars, length-le-encodes}
-use Rattle.uri_pct.specs.Tokens.{Token, Char, Octet, is_pct_encoded, tokens_of, tokens}
-use Rattle.uri_pct.specs.Chunks.{Chunk, Text, Byte, onto_chunks, chunks_of, chunks}
+use Rattle.uri_pct.specs.Tokens.{Token, Char, Octet, is_pct_encoded, tokens_from_chars, tokens}
+use Rattle.uri_pct.specs.Chunks.{Chunk, Text, Byte, prepend_to_chunks, chunks_of_tokens, chunks}
 
-pub length-pieces : (p : ℕ → Bool) (text : List ℕ) → length (slice_split p text) ≤ length text + 1
-length-pieces p text = omega (arith, length-slice_split p text, count_by-le-length p text)
+-- splitting at delimiters: a text has at most one piece more than it has bytes,
+-- so their number fits usize
+pub split_pieces_are_at_most_length_plus_one : (p : ℕ → Bool) (text : List ℕ)
+    → length (slice_split p text) ≤ length text + 1
+split_pieces_are_at_most_length_plus_one p text = omega
+    (arith, length-slice_split p text, count_by-le-length p text)
 
-length-onto_chunks : (text : List ℕ) (ps : List Chunk)
-    → length (onto_chunks text ps) ≤ length ps + 1
-unfolding onto_chunks
-length-onto_chunks text [] = omega arith
-length-onto_chunks text (Text more ∷ ps) = omega arith
-length-onto_chunks text (Byte value ∷ ps) = omega arith
+-- decoding: a literal text before chunks makes one chunk more at most
+prepend_adds_at_most_one_chunk : (text : List ℕ) (ps : List Chunk)
+    → length (prepend_to_chunks text ps) ≤ length ps + 1
+unfolding prepend_to_chunks
+prepend_adds_at_most_one_chunk text [] = omega arith
+prepend_adds_at_most_one_chunk text (Text more ∷ ps) = omega arith
+prepend_adds_at_most_one_chunk text (Byte value ∷ ps) = omega arith
 
-length-chunks_of : (ts : List Token) → length (chunks_of ts) ≤ length ts
-unfolding chunks_of
-length-chunks_of [] = omega arith
-length-chunks_of (Char c ∷ ts) =
-    omega (arith, length-chunks_of ts, length-onto_chunks (encode_utf8 c) (chunks_of ts))
-length-chunks_of (Octet value ∷ ts) = omega (arith, length-chunks_of ts)
-
-length-tokens_of : (cs : List ℕ) → length (tokens_of cs) ≤ length cs
-unfolding tokens_of
-length-tokens_of [] = omega arith
-length-tokens_of (c ∷ []) = omega arith
-length-tokens_of (c ∷ d ∷ []) = omega arith
-length-tokens_of (c ∷ high ∷ low ∷ rest) =
-    elim (is_pct_encoded c high low)
-    as (λ t. length (cond t (Octet (16 * digit_value high + digit_value low) ∷ tokens_of rest)
-    (Char c ∷ tokens_of (high ∷ low ∷ rest))) ≤ length (c ∷ high ∷ low ∷ rest)) [
-      | true ↦ omega (arith, length-tokens_of rest)
-      | false ↦ omega (arith, length-tokens_of (high ∷ low ∷ rest))
-    ]
-
-pub length-chunks : (text : List ℕ) → IsUtf8 text → length (chunks text) ≤ length text
-length-chunks text u =
+-- decoding: a text has no more chunks than tokens
+chunks_are_no_more_than_tokens : (ts : List Token) → length (chunks_of_tokens ts) ≤ length ts
+unfolding chunks_of_tokens
+chunks_are_no_more_than_tokens [] = omega arith
+chunks_are_no_more_than_tokens (Char c ∷ ts) =
     omega (
       arith,
-      length-chunks_of (tokens text),
-      length-tokens_of (chars text),
+      chunks_are_no_more_than_tokens ts,
+      prepend_adds_at_most_one_chunk (encode_utf8 c)
+          (chunks_of_tokens ts),
+    )
+chunks_are_no_more_than_tokens (Octet value ∷ ts) = omega (arith, chunks_are_no_more_than_tokens ts)
+
+-- tokens: a text has no more of them than characters
+tokens_are_no_more_than_chars : (cs : List ℕ) → length (tokens_from_chars cs) ≤ length cs
+unfolding tokens_from_chars
+tokens_are_no_more_than_chars [] = omega arith
+tokens_are_no_more_than_chars (c ∷ []) = omega arith
+tokens_are_no_more_than_chars (c ∷ d ∷ []) = omega arith
+tokens_are_no_more_than_chars (c ∷ high ∷ low ∷ rest) =
+    elim (is_pct_encoded c high low)
+    as (λ t. length (cond t (Octet (16 * digit_value high + digit_value low) ∷
+    tokens_from_chars rest)
+    (Char c ∷ tokens_from_chars (high ∷ low ∷ rest))) ≤ length (c ∷ high ∷ low ∷ rest)) [
+      | true ↦ omega (arith, tokens_are_no_more_than_chars rest)
+      | false ↦ omega (arith, tokens_are_no_more_than_chars (high ∷ low ∷ rest))
+    ]
+
+-- decoding: a text has no more chunks than bytes
+pub chunks_are_no_more_than_bytes : (text : List ℕ) → IsUtf8 text
+    → length (chunks text) ≤ length text
+chunks_are_no_more_than_bytes text u =
+    omega (
+      arith,
+      chunks_are_no_more_than_tokens (tokens text),
+      tokens_are_no_more_than_chars (chars text),
       length-le-encodes
           (chars text),
       ap length (encodes-chars text u),

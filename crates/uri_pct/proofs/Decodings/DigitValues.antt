@@ -6,22 +6,24 @@ use Rattle.std.proofs.lemmas.Bool.{and_parts, eqb-true, ltb-true}
 use Rattle.std.proofs.lemmas.Bool.Decides.{Decides-below_and}
 use Rattle.uri_pct.specs.declared.octet.TheConstants.{DIGIT_VALUES}
 
-abbrev entry : ℕ → ℕ
-entry b = get_or DIGIT_VALUES.now b 0
+abbrev digit_table_entry : ℕ → ℕ
+digit_table_entry b = get_or DIGIT_VALUES.now b 0
 
-abbrev is_value : ℕ → Bool
-is_value b = eqb (entry b) (digit_value b) && ltb (entry b) 16
+abbrev is_entry_value_of_digit : ℕ → Bool
+is_entry_value_of_digit b = eqb (digit_table_entry b) (digit_value b) && ltb
+    (digit_table_entry b) 16
 
-abbrev entries_match : ℕ → Bool
-entries_match zero = true
-entries_match (suc n) = (not (is_ascii_hexdigit n) || is_value n) && entries_match n
+abbrev digit_entries_match_below : ℕ → Bool
+digit_entries_match_below zero = true
+digit_entries_match_below (suc n) = (not (is_ascii_hexdigit n) || is_entry_value_of_digit n)
+    && digit_entries_match_below n
 
--- the entry of a digit is its value
-pub digit_entry : (b : ℕ) → b < 256 → is_ascii_hexdigit b ≡ true
+-- octets: the table's entry of a hexadecimal digit is its value
+pub hex_digit_entry_is_value : (b : ℕ) → b < 256 → is_ascii_hexdigit b ≡ true
     → (get_or DIGIT_VALUES.now b 0 ≡ digit_value b) × (get_or DIGIT_VALUES.now b 0 < 16)
-digit_entry b small digit =
-    let found = (Decides-below_and (λ n. not (is_ascii_hexdigit n) || is_value n)
-    (λ n. (not (is_ascii_hexdigit n) || is_value n) ≡ true) entries_match
+hex_digit_entry_is_value b small digit =
+    let found = (Decides-below_and (λ n. not (is_ascii_hexdigit n) || is_entry_value_of_digit n)
+    (λ n. (not (is_ascii_hexdigit n) || is_entry_value_of_digit n) ≡ true) digit_entries_match_below
     (λ n. (λ e. e, λ e. e)) refl (λ _. refl) 256).0 refl b small in
-    let is = and_parts _ _ (subst (λ h. (not h || is_value b) ≡ true) digit found) in
+    let is = and_parts _ _ (subst (λ h. (not h || is_entry_value_of_digit b) ≡ true) digit found) in
     (eqb-true _ _ is.0, ltb-true _ _ is.1)

@@ -8,26 +8,30 @@ use Rattle.std.proofs.lemmas.Str.Ascii.{IsAscii-from_all}
 use Rattle.uri_pct.specs.declared.octet.TheConstants.{OCTETS}
 use Rattle.uri_pct.specs.Tokens.{Octet, text_of_token}
 
-abbrev entry : ℕ → List ℕ
-entry b = take 3 (drop (b * 3) OCTETS.now)
+abbrev octet_table_entry : ℕ → List ℕ
+octet_table_entry b = take 3 (drop (b * 3) OCTETS.now)
 
-abbrev entries_match : ℕ → Bool
-entries_match zero = true
-entries_match (suc n) = bytes_eq (entry n) (text_of_token (Octet n)) && entries_match n
+abbrev octet_entries_match_below : ℕ → Bool
+octet_entries_match_below zero = true
+octet_entries_match_below (suc n) = bytes_eq (octet_table_entry n) (text_of_token (Octet n))
+    && octet_entries_match_below n
 
--- the three bytes at three times b are the octet b
-pub octet_entry : (b : ℕ) → b < 256 → take 3 (drop (b * 3) OCTETS.now) ≡ text_of_token (Octet b)
-octet_entry =
-    (Decides-below_and (λ b. bytes_eq (entry b) (text_of_token (Octet b)))
-    (λ b. entry b ≡ text_of_token (Octet b)) entries_match (λ b. bytes_eq-Decides _ _) refl
+-- octets: in the table of their texts, the three bytes at three times b are the octet b
+pub octet_entry_is_printed_octet : (b : ℕ) → b < 256 → take 3 (drop (b * 3) OCTETS.now)
+    ≡ text_of_token (Octet b)
+octet_entry_is_printed_octet =
+    (Decides-below_and (λ b. bytes_eq (octet_table_entry b) (text_of_token (Octet b)))
+    (λ b. octet_table_entry b ≡ text_of_token (Octet b)) octet_entries_match_below
+    (λ b. bytes_eq-Decides _ _) refl
     (λ _. refl) 256).0 refl
 
-abbrev all_ascii : List ℕ → Bool
-all_ascii [] = true
-all_ascii (b ∷ bs) = ltb b 128 && all_ascii bs
+abbrev are_all_ascii : List ℕ → Bool
+are_all_ascii [] = true
+are_all_ascii (b ∷ bs) = ltb b 128 && are_all_ascii bs
 
-pub octets_ascii : IsAscii OCTETS.now
-octets_ascii =
+-- encoding: the table of the 256 octets, as `%XX`, is ASCII
+pub octet_table_is_ascii : IsAscii OCTETS.now
+octet_table_is_ascii =
     IsAscii-from_all OCTETS.now
-    ((Decides-by_and (λ b. ltb b 128) (λ b. b < 128) all_ascii (λ b. Decides-ltb b 128) refl
+    ((Decides-by_and (λ b. ltb b 128) (λ b. b < 128) are_all_ascii (λ b. Decides-ltb b 128) refl
     (λ _ _. refl) OCTETS.now).0 refl)

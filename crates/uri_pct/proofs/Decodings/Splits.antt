@@ -2,11 +2,13 @@
 use Rattle.std.proofs.Common.{◌≡◌, eqb, Some, refl}
 use Rattle.std.specs.List.{slice_split}
 use Rattle.uri_pct.specs.EncodedTexts.{text_of}
-use Rattle.uri_pct.specs.EncodedTexts.{pieces_left}
+use Rattle.uri_pct.specs.EncodedTexts.{substrings_left}
 use Rattle.uri_pct.specs.declared.pct_enc.EStr.{EStr}
 use Rattle.uri_pct.specs.declared.split.Split.{Split}
 
--- the pieces of the text that is left
-pub pieces_left-at : {E : _} {g : _} (s : Split E g) (e : EStr E g) → s.rest ≡ Some e
-    → pieces_left s ≡ slice_split (λ b. eqb b s.delimiter) (text_of e)
-pieces_left-at s e h = rw h refl
+-- splitting at a delimiter: the substrings that an iterator has
+-- left are the split of the text that is left
+pub substrings_left_are_split_of_rest : {E : _} {g : _} (s : Split E g) (e : EStr E g)
+    → s.rest ≡ Some e
+    → substrings_left s ≡ slice_split (λ b. eqb b s.delimiter) (text_of e)
+substrings_left_are_split_of_rest s e h = rw h refl

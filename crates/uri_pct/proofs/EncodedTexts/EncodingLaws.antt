@@ -3,16 +3,20 @@ use Rattle.std.proofs.Common.{◌≡◌, ℕ, List, ◌++◌}
 use Rattle.std.specs.Str.{IsUtf8}
 use Rattle.std.proofs.lemmas.List.Concat.{flat_map-append}
 use Rattle.uri_pct.specs.Sets.{TableSet, LacksPercent}
-use Rattle.uri_pct.specs.Tokens.{Token, tokens, token_bytes, bytes_of_token, print}
+use Rattle.uri_pct.specs.Tokens.{Token, tokens, bytes_decoded_from, bytes_of_one_token, print}
 use Rattle.uri_pct.specs.Encoding.{encode_text}
-use Rattle.uri_pct.proofs.EncodedTexts.EncodedTokens.{printable-encode_text}
-use Rattle.uri_pct.proofs.Readings.Printing.{tokens-print}
+use Rattle.uri_pct.proofs.EncodedTexts.EncodedTokens.{encoded_text_is_printable}
+use Rattle.uri_pct.proofs.UnreservedDecoding.Printing.{printed_tokens_parse_to_themselves}
 
-pub token_bytes-append : (ts us : List Token)
-    → token_bytes (ts ++ us) ≡ token_bytes ts ++ token_bytes us
-token_bytes-append ts us = flat_map-append bytes_of_token ts us
+-- decoding: two lists of tokens, one after the other, decode to the bytes of both
+pub joined_tokens_decode_to_joined_bytes : (ts us : List Token)
+    → bytes_decoded_from (ts ++ us) ≡ bytes_decoded_from ts ++ bytes_decoded_from us
+joined_tokens_decode_to_joined_bytes ts us = flat_map-append bytes_of_one_token ts us
 
-pub tokens-encode_text : (set : TableSet) (text : List ℕ) → LacksPercent set → IsUtf8 text
+-- encoding: the text that is written of encoded tokens has these tokens
+pub encoded_text_parses_to_its_tokens : (set : TableSet) (text : List ℕ) → LacksPercent set
+    → IsUtf8 text
     → tokens (print (encode_text set text)) ≡ encode_text set text
-tokens-encode_text set text lacks u =
-    tokens-print (encode_text set text) (printable-encode_text set text lacks u)
+encoded_text_parses_to_its_tokens set text lacks u =
+    printed_tokens_parse_to_themselves (encode_text set text)
+    (encoded_text_is_printable set text lacks u)

@@ -6,8 +6,8 @@ use Rattle.std.specs.Str.{IsUtf8, IsCharBoundary}
 use Rattle.std.proofs.lemmas.Str.{IsCharBoundary-after_ascii}
 use Rattle.uri_pct.specs.Sets.{TableSet, LacksPercent}
 use Rattle.uri_pct.specs.Prefixes.{valid_prefix}
-use Rattle.uri_pct.specs.Models.ByteRuns.{IsRun}
-use Rattle.uri_pct.proofs.ValidTexts.Prefixes.{valid_prefix-char}
+use Rattle.uri_pct.specs.Models.ByteRuns.{IsLongestRun}
+use Rattle.uri_pct.proofs.ValidTexts.PrefixSteps.{valid_prefix_passes_ascii_char_of_set}
 
 module _ (set : TableSet) (lacks : LacksPercent set)
     (ascii : (b : ℕ) → set.ascii b ≡ true → b < 128) (bs : List ℕ) (u : IsUtf8 bs) (start : ℕ)
@@ -17,16 +17,18 @@ module _ (set : TableSet) (lacks : LacksPercent set)
       (i + valid_prefix set (drop i bs) ≡ start + valid_prefix set (drop start bs))
       × IsCharBoundary bs i
 
-  goes_on : (n : ℕ) → start + n ≤ length bs
+  allowed_ascii_is_scanned : (n : ℕ) → start + n ≤ length bs
       → ((k : ℕ) → start ≤ k → k < start + n → set.ascii (get_or bs k 0) ≡ true)
       → IsScannedTo (start + n)
-  goes_on zero room pass = let e : start ≡ start + zero = omega arith in
+  allowed_ascii_is_scanned zero room pass = let e : start ≡ start + zero = omega arith in
       subst IsScannedTo e (omega arith, here)
-  goes_on (suc n) room pass =
-      let before = goes_on n (omega arith) (λ k from to. pass k from (omega arith)) in
-      let held = pass (start + n) (omega arith) (omega arith) in
-      let below = ascii (get_or bs (start + n) 0) held in
-      let step = valid_prefix-char set lacks bs (start + n) (omega arith) below held in
+  allowed_ascii_is_scanned (suc n) room pass =
+      let before = allowed_ascii_is_scanned n (omega arith)
+      (λ k from to. pass k from (omega arith)) in
+      let given = pass (start + n) (omega arith) (omega arith) in
+      let below = ascii (get_or bs (start + n) 0) given in
+      let step = valid_prefix_passes_ascii_char_of_set set lacks bs (start + n)
+      (omega arith) below given in
       let next : start + n + 1 ≡ start + suc n = omega arith in
       subst IsScannedTo next (
         omega (arith, before.0, step),
@@ -34,12 +36,13 @@ module _ (set : TableSet) (lacks : LacksPercent set)
             u (omega arith) below,
       )
 
-  pub run_scanned : (end : ℕ) → IsRun set.ascii bs start end
+  pub ascii_run_is_scanned : (end : ℕ) → IsLongestRun set.ascii bs start end
       → (end + valid_prefix set (drop end bs) ≡ start + valid_prefix set (drop start bs))
       × IsCharBoundary bs end
-  run_scanned end run =
+  ascii_run_is_scanned end run =
       let f = run.from in
       let w = run.within in
       let e : start + (end - start) ≡ end = omega arith in
       subst IsScannedTo e
-      (goes_on (end - start) (omega arith) (λ k from to. run.pass k from (omega arith)))
+      (allowed_ascii_is_scanned (end - start) (omega arith)
+      (λ k from to. run.pass k from (omega arith)))

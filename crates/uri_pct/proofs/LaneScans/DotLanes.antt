@@ -6,68 +6,81 @@ use Rattle.std.specs.Simd.Lanes.{mask_l, chunk}
 use Rattle.std.proofs.lemmas.Nat.{and_le_l}
 use Rattle.std.proofs.lemmas.Nat.Bits.{bit_at-zero}
 use Rattle.std.proofs.lemmas.Bool.{and_parts, eq-eqb, eqb-true}
-use Rattle.uri_pct.proofs.TableSets.Masks.{and_test, or_test}
-use Rattle.uri_pct.proofs.LaneScans.LaneBits.{bit, byte_lane, bytes_below, first_lane}
+use Rattle.uri_pct.proofs.TableSets.Masks.{bit_of_bit_and, bit_of_bit_or}
+use Rattle.uri_pct.proofs.LaneScans.LaneBits.{is_set_bit, mask_bit_is_equality_of_byte}
+use Rattle.uri_pct.proofs.LaneScans.LaneBits.{equality_mask_is_below_2_16}
+use Rattle.uri_pct.proofs.LaneScans.LaneBits.{trailing_zeros_is_first_set_lane}
 
-abbrev lanes_of : ℕ → List ℕ → ℕ → ℕ
-lanes_of byte bs i = mask_l (map (λ b. eqb b byte) (chunk i 16 bs))
+abbrev mask_of_lanes_equal_to : ℕ → List ℕ → ℕ → ℕ
+mask_of_lanes_equal_to byte bs i = mask_l (map (λ b. eqb b byte) (chunk i 16 bs))
 
-abbrev begins : List ℕ → ℕ → Bool
-begins bs k = eqb (get_or bs k 0) 47
+abbrev is_slash_before_dot_or_percent : List ℕ → ℕ → Bool
+is_slash_before_dot_or_percent bs k = eqb (get_or bs k 0) 47
     && (eqb (get_or bs (k + 1) 0) 46 || eqb (get_or bs (k + 1) 0) 37)
 
--- where no lane has a `/` none has one with a dot after it
-pub no_slash : (bs : List ℕ) (i slashes : ℕ) → i + 16 < length bs → slashes ≡ lanes_of 47 bs i
-    → slashes ≡ 0 → (k : ℕ) → k < 16 → begins bs (i + k) ≡ false
-no_slash bs i slashes room s none k h =
+-- sixteen bytes at a time: where no lane has a `/`, none has one with a dot or `%` after it
+pub no_slash_dot_where_no_slash : (bs : List ℕ) (i slashes : ℕ) → i + 16 < length bs → slashes
+    ≡ mask_of_lanes_equal_to 47 bs i
+    → slashes ≡ 0 → (k : ℕ) → k < 16 → is_slash_before_dot_or_percent bs (i + k) ≡ false
+no_slash_dot_where_no_slash bs i slashes room s none k h =
     ap (λ b. b && (eqb (get_or bs (i + k + 1) 0) 46 || eqb (get_or bs (i + k + 1) 0) 37))
-    (sym (ap (λ m. bit m k) s ∙ byte_lane 47 bs i k (omega (arith, room)) h)
+    (sym (ap (λ m. is_set_bit m k) s ∙ mask_bit_is_equality_of_byte 47 bs i k
+    (omega (arith, room)) h)
     ∙ ap (λ m. eqb (bit_at m k) 1) none ∙ ap (λ m. eqb m 1) (bit_at-zero k))
 
 module _ (bs : List ℕ) (i : ℕ) (room : i + 16 < length bs) (slashes dots octets : ℕ)
-    (s : slashes ≡ lanes_of 47 bs i) (d : dots ≡ lanes_of 46 bs (i + 1))
-    (o : octets ≡ lanes_of 37 bs (i + 1)) where
-  abbrev found : ℕ
-  found = bit_and slashes (bit_or dots octets)
+    (s : slashes ≡ mask_of_lanes_equal_to 47 bs i) (d : dots ≡ mask_of_lanes_equal_to 46 bs (i + 1))
+    (o : octets ≡ mask_of_lanes_equal_to 37 bs (i + 1)) where
+  abbrev slash_dot_mask : ℕ
+  slash_dot_mask = bit_and slashes (bit_or dots octets)
 
-  found_lane : (k : ℕ) → k < 16 → bit found k ≡ begins bs (i + k)
-  found_lane k h =
+  mask_bit_is_slash_dot_at_lane : (k : ℕ) → k < 16 → is_set_bit slash_dot_mask k
+      ≡ is_slash_before_dot_or_percent bs (i + k)
+  mask_bit_is_slash_dot_at_lane k h =
       let next : i + 1 + k ≡ i + k + 1 = omega arith in
-      and_test slashes (bit_or dots octets) k
-      ∙ ap (λ b. b && bit (bit_or dots octets) k)
-      (ap (λ m. bit m k) s ∙ byte_lane 47 bs i k (omega (arith, room)) h)
+      bit_of_bit_and slashes (bit_or dots octets) k
+      ∙ ap (λ b. b && is_set_bit (bit_or dots octets) k)
+      (ap (λ m. is_set_bit m k) s ∙ mask_bit_is_equality_of_byte 47 bs i k (omega (arith, room)) h)
       ∙ ap (λ b. eqb (get_or bs (i + k) 0) 47 && b)
-      (or_test dots octets k
-      ∙ ap (λ b. b || bit octets k) (ap (λ m. bit m k) d
-      ∙ byte_lane 46 bs (i + 1) k (omega (arith, room)) h)
+      (bit_of_bit_or dots octets k
+      ∙ ap (λ b. b || is_set_bit octets k) (ap (λ m. is_set_bit m k) d
+      ∙ mask_bit_is_equality_of_byte 46 bs (i + 1) k (omega (arith, room)) h)
       ∙ ap (λ b. eqb (get_or bs (i + 1 + k) 0) 46 || b)
-      (ap (λ m. bit m k) o ∙ byte_lane 37 bs (i + 1) k (omega (arith, room)) h)
+      (ap (λ m. is_set_bit m k) o ∙ mask_bit_is_equality_of_byte 37 bs (i + 1) k
+      (omega (arith, room)) h)
       ∙ ap (λ n. eqb (get_or bs n 0) 46 || eqb (get_or bs n 0) 37) next)
 
-  pub none_found : found ≡ 0 → (k : ℕ) → k < 16 → begins bs (i + k) ≡ false
-  none_found e k h = sym (found_lane k h) ∙ ap (λ m. eqb (bit_at m k) 1) e
+  pub no_slash_dot_where_mask_is_zero : slash_dot_mask ≡ 0 → (k : ℕ) → k < 16
+      → is_slash_before_dot_or_percent bs (i + k) ≡ false
+  no_slash_dot_where_mask_is_zero e k h = sym (mask_bit_is_slash_dot_at_lane k h)
+      ∙ ap (λ m. eqb (bit_at m k) 1) e
       ∙ ap (λ m. eqb m 1) (bit_at-zero k)
 
-  module _ (some : found ≡ 0 → ⊥) where
-    first : (trailing_zeros w64 found < 16) × (bit_at found (trailing_zeros w64 found) ≡ 1)
-        × ((k : ℕ) → k < trailing_zeros w64 found → bit_at found k ≡ 0)
-    first =
-        first_lane found
+  module _ (some : slash_dot_mask ≡ 0 → ⊥) where
+    trailing_zeros_is_first_slash_dot_lane : (trailing_zeros w64 slash_dot_mask < 16)
+        × (bit_at slash_dot_mask (trailing_zeros w64 slash_dot_mask) ≡ 1)
+        × ((k : ℕ) → k < trailing_zeros w64 slash_dot_mask → bit_at slash_dot_mask k ≡ 0)
+    trailing_zeros_is_first_slash_dot_lane =
+        trailing_zeros_is_first_set_lane slash_dot_mask
         (omega (
           arith,
           s,
-          bytes_below 47 bs i (omega (arith, room)),
+          equality_mask_is_below_2_16 47 bs i (omega (arith, room)),
           and_le_l slashes
               (bit_or dots octets),
         )) some
 
-    pub first_within : trailing_zeros w64 found ≤ 16
-    first_within = omega (arith, first.0)
+    pub first_slash_dot_lane_is_at_most_16 : trailing_zeros w64 slash_dot_mask ≤ 16
+    first_slash_dot_lane_is_at_most_16 = omega (arith, trailing_zeros_is_first_slash_dot_lane.0)
 
-    pub none_before : (k : ℕ) → k < trailing_zeros w64 found → begins bs (i + k) ≡ false
-    none_before k h = sym (found_lane k (omega (arith, h, first.0)))
-        ∙ ap (λ m. eqb m 1) (first.2 k h)
+    pub no_slash_dot_before_first_lane : (k : ℕ) → k < trailing_zeros w64 slash_dot_mask
+        → is_slash_before_dot_or_percent bs (i + k) ≡ false
+    no_slash_dot_before_first_lane k h = sym
+        (mask_bit_is_slash_dot_at_lane k (omega (arith, h, trailing_zeros_is_first_slash_dot_lane.0)))
+        ∙ ap (λ m. eqb m 1) (trailing_zeros_is_first_slash_dot_lane.2 k h)
 
-    pub slash_there : get_or bs (i + trailing_zeros w64 found) 0 ≡ 47
-    slash_there = eqb-true _ _
-        (and_parts _ _ (sym (found_lane (trailing_zeros w64 found) first.0) ∙ eq-eqb _ _ first.1)).0
+    pub slash_is_at_first_slash_dot_lane : get_or bs (i + trailing_zeros w64 slash_dot_mask) 0 ≡ 47
+    slash_is_at_first_slash_dot_lane = eqb-true _ _
+        (and_parts _ _ (sym (mask_bit_is_slash_dot_at_lane (trailing_zeros w64 slash_dot_mask)
+        trailing_zeros_is_first_slash_dot_lane.0)
+        ∙ eq-eqb _ _ trailing_zeros_is_first_slash_dot_lane.1)).0

@@ -18,54 +18,62 @@ use Rattle.std.proofs.lemmas.List.{ext_get_or, length-map}
 use Rattle.std.proofs.lemmas.Grind.{get_or_default_zero}
 use Rattle.std.proofs.Math.ListN.{get_or-map}
 use Rattle.uri_pct.specs.Masks.{has_bit}
-use Rattle.uri_pct.proofs.TableSets.Masks.{has_low_bit, has_high_bit, has_no_bit}
-use Rattle.uri_pct.specs.Models.LaneMasks.{bytes_of_masks, bit_of}
+use Rattle.uri_pct.proofs.TableSets.Masks.{has_bit_below_64_is_bit_of_low}
+use Rattle.uri_pct.proofs.TableSets.Masks.{has_bit_from_64_is_bit_of_high}
+use Rattle.uri_pct.proofs.TableSets.Masks.{has_bit_past_ascii_is_false}
+use Rattle.uri_pct.specs.Models.LaneMasks.{bytes_of_masks, bit_in_mask_byte}
 
--- byte j of a number has its bits from 8 * j on
-digit : (n x j : ℕ) → j < n → get_or (digits_l (2 ^ 8) n x) j 0 ≡ x / 2 ^ (8 * j) % 2 ^ 8
-digit zero x j h = absurd (omega arith)
-digit (suc n) x zero h = ap (λ y. y % 2 ^ 8) (omega arith)
-digit (suc n) x (suc j) h =
+-- bits, for scans: byte j of a number has its bits from 8 * j on
+byte_of_number_is_its_eight_bits : (n x j : ℕ) → j < n → get_or (digits_l (2 ^ 8) n x) j 0
+    ≡ x / 2 ^ (8 * j) % 2 ^ 8
+byte_of_number_is_its_eight_bits zero x j h = absurd (omega arith)
+byte_of_number_is_its_eight_bits (suc n) x zero h = ap (λ y. y % 2 ^ 8) (omega arith)
+byte_of_number_is_its_eight_bits (suc n) x (suc j) h =
     let e : 8 + 8 * j ≡ 8 * suc j = omega arith in
-    digit n (x / 2 ^ 8) j (omega arith)
+    byte_of_number_is_its_eight_bits n (x / 2 ^ 8) j (omega arith)
     ∙ ap (λ y. y % 2 ^ 8) (shr-shr x 8 (8 * j) ∙ ap (λ k. x / 2 ^ k) e)
 
-bit_of_digit : (x j k : ℕ) → k < 8 → bit_at (x / 2 ^ (8 * j) % 2 ^ 8) k ≡ bit_at x (8 * j + k)
-bit_of_digit x j k h =
+-- bits, for scans: bit k of byte j of a number is its bit 8 * j + k
+bit_of_byte_is_bit_of_number : (x j k : ℕ) → k < 8 → bit_at (x / 2 ^ (8 * j) % 2 ^ 8) k
+    ≡ bit_at x (8 * j + k)
+bit_of_byte_is_bit_of_number x j k h =
     let m : ℕ = x / 2 ^ (8 * j) in
     let l : bit_at m k < 2 = bit_at-lt m k in
     ap (λ y. bit_at y k) (sym (and_mask m 8)) ∙ bit_at_and m (2 ^ 8 - 1) k
     ∙ ap (λ b. min (bit_at m k) b) (bit_at_ones 8 k h) ∙ omega arith
     ∙ ap (λ y. y % 2) (shr-shr x (8 * j) k)
 
--- the bit of an ASCII character in the two words as one number
-bit_of_masks : (low high c : ℕ) → low < 2 ^ 64 → c < 128
+-- tables: the bit of an ASCII character in the two words as one number
+has_bit_is_bit_of_joined_masks : (low high c : ℕ) → low < 2 ^ 64 → c < 128
     → has_bit low high c ≡ eqb (bit_at (low + 2 ^ 64 * high) c) 1
-bit_of_masks low high c fits below =
+has_bit_is_bit_of_joined_masks low high c fits below =
     let turned : high * 2 ^ 64 + low ≡ low + 2 ^ 64 * high = omega arith in
     ⊎_elim
-    (λ (h : c < 64). has_low_bit low high c h
+    (λ (h : c < 64). has_bit_below_64_is_bit_of_low low high c h
     ∙ ap (λ b. eqb b 1) (sym (bit_at_cat_low high 64 low c h) ∙ ap (λ n. bit_at n c) turned))
-    (λ (h : 64 ≤ c). has_high_bit low high c h below
+    (λ (h : 64 ≤ c). has_bit_from_64_is_bit_of_high low high c h below
     ∙ ap (λ b. eqb b 1) (sym (bit_at_cat_high high 64 low c fits h)
     ∙ ap (λ n. bit_at n c) turned))
     (cases_lt c 64)
 
--- the bit that a lane reads
-no_bit_there : (b k : ℕ) → b < 2 → eqb (b * 2 ^ k) 0 ≡ not (eqb b 1)
-no_bit_there zero k h = let e : 0 * 2 ^ k ≡ 0 = omega arith in ap (λ x. eqb x 0) e
-no_bit_there (suc zero) k h = let l : 0 < 2 ^ k = pow_pos k in
+-- bits, for scans: a bit times a power of two is zero exactly if the bit is
+shifted_bit_is_zero_iff_clear : (b k : ℕ) → b < 2 → eqb (b * 2 ^ k) 0 ≡ not (eqb b 1)
+shifted_bit_is_zero_iff_clear zero k h = let e : 0 * 2 ^ k ≡ 0 = omega arith in ap (λ x. eqb x 0) e
+shifted_bit_is_zero_iff_clear (suc zero) k h = let l : 0 < 2 ^ k = pow_pos k in
     ne_eqb (1 * 2 ^ k) 0 (λ (e : 1 * 2 ^ k ≡ 0). omega arith)
-no_bit_there (suc (suc b)) k h = absurd (omega arith)
+shifted_bit_is_zero_iff_clear (suc (suc b)) k h = absurd (omega arith)
 
-no_bit_past : (n k : ℕ) → k ≡ 0 → eqb (bit_and n k) 0 ≡ true
-no_bit_past n k e = rw e (ap (λ x. eqb x 0) (and_zero_r n))
+-- bits, for scans: `and` with zero is zero
+and_with_zero_is_zero : (n k : ℕ) → k ≡ 0 → eqb (bit_and n k) 0 ≡ true
+and_with_zero_is_zero n k e = rw e (ap (λ x. eqb x 0) (and_zero_r n))
 
-lane_is : (low high b : ℕ) → low < 2 ^ 64
-    → eqb (bit_and (get_or (bytes_of_masks low high) (b / 8 % 16) 0) (bit_of b)) 0
+-- sixteen bytes at a time: a byte's bit is not in the bytes of
+-- a table exactly if the table lacks it
+mask_byte_lacks_bit_iff_char_is_outside : (low high b : ℕ) → low < 2 ^ 64
+    → eqb (bit_and (get_or (bytes_of_masks low high) (b / 8 % 16) 0) (bit_in_mask_byte b)) 0
     ≡ not (has_bit low high b)
-unfolding bit_of
-lane_is low high b fits = ⊎_elim
+unfolding bit_in_mask_byte
+mask_byte_lacks_bit_iff_char_is_outside low high b fits = ⊎_elim
     (λ (below : b < 128).
     let n : ℕ = low + 2 ^ 64 * high in
     let j : ℕ = b / 8 % 16 in
@@ -73,86 +81,97 @@ lane_is low high b fits = ⊎_elim
     let place : 8 * j + k ≡ b = omega arith in
     let byte : get_or (bytes_of_masks low high) j 0 ≡ n / 2 ^ (8 * j) % 2 ^ 8 =
     ap (λ m. get_or (digits_l (2 ^ 8) 16 m) j 0) (omega arith)
-    ∙ digit 16 n j (omega arith) in
+    ∙ byte_of_number_is_its_eight_bits 16 n j (omega arith) in
     ap (λ x. eqb (bit_and (get_or (bytes_of_masks low high) j 0) x) 0)
     (cond-true _ _ _ (lt-ltb b 128 below))
     ∙ ap (λ x. eqb x 0) (ap (λ y. bit_and y (2 ^ k)) byte ∙ and_pow (n / 2 ^ (8 * j) % 2 ^ 8) k)
-    ∙ no_bit_there _ k (bit_at-lt (n / 2 ^ (8 * j) % 2 ^ 8) k)
-    ∙ ap (λ x. not (eqb x 1)) (bit_of_digit n j k (omega arith) ∙ ap (bit_at n) place)
-    ∙ ap not (sym (bit_of_masks low high b fits below)))
-    (λ (past : 128 ≤ b). no_bit_past _ _ (cond-false _ _ _ (le-ltb b 128 past))
-    ∙ ap not (sym (has_no_bit low high b past)))
+    ∙ shifted_bit_is_zero_iff_clear _ k (bit_at-lt (n / 2 ^ (8 * j) % 2 ^ 8) k)
+    ∙ ap (λ x. not (eqb x 1)) (bit_of_byte_is_bit_of_number n j k (omega arith)
+    ∙ ap (bit_at n) place)
+    ∙ ap not (sym (has_bit_is_bit_of_joined_masks low high b fits below)))
+    (λ (past : 128 ≤ b). and_with_zero_is_zero _ _ (cond-false _ _ _ (le-ltb b 128 past))
+    ∙ ap not (sym (has_bit_past_ascii_is_false low high b past)))
     (cases_lt b 128)
 
 -- positions computed lane by lane, and what is there
 module _ (xs v : List ℕ) (f g : ℕ → ℕ) (long : length v ≡ 16) (fits : Each1 (Fits w8) v) where
-  at : (i : ℕ) → i < 16 → get_or (map f v) i 0 ≡ f (get_or v i 0)
-  at i h = sym (get_or_default_zero (map f v) i (f 0) (omega (arith, length-map v f)))
+  mapped_lane : (i : ℕ) → i < 16 → get_or (map f v) i 0 ≡ f (get_or v i 0)
+  mapped_lane i h = sym (get_or_default_zero (map f v) i (f 0) (omega (arith, length-map v f)))
       ∙ get_or-map f v i 0
 
-  byte_at : (i : ℕ) → i < 16 → get_or v i 0 < 256
-  byte_at i h = (Each1-get_or (Fits w8) v i 0 (omega arith) fits).fits
+  lane_is_below_256 : (i : ℕ) → i < 16 → get_or v i 0 < 256
+  lane_is_below_256 i h = (Each1-get_or (Fits w8) v i 0 (omega arith) fits).fits
 
-  pub swizzles : ((b : ℕ) → b < 256 → (zeroes 16 w8 (f b) || ltb (f b) 16) ≡ true)
+  pub lanes_fit_swizzle : ((b : ℕ) → b < 256 → (zeroes 16 w8 (f b) || ltb (f b) 16) ≡ true)
       → SwzOk w8 16 16 0 (map f v)
-  swizzles ok =
+  lanes_fit_swizzle ok =
       SwzOk-from_Each1 w8 16 1 16 0 _ refl (omega (arith, length-map v f))
       (Each1-from_get_or (λ j. T (zeroes 16 w8 j || ltb j 16)) (map f v) 0 (λ i l.
       let h : i < 16 = omega (arith, length-map v f) in
-      subst T (sym (ap (λ j. zeroes 16 w8 j || ltb j 16) (at i h)
-      ∙ ok (get_or v i 0) (byte_at i h))) tt))
+      subst T (sym (ap (λ j. zeroes 16 w8 j || ltb j 16) (mapped_lane i h)
+      ∙ ok (get_or v i 0) (lane_is_below_256 i h))) tt))
 
-  pub looked_up : ((b : ℕ) → b < 256 → cond (zeroes 16 w8 (f b)) 0 (get_or xs (f b) 0) ≡ g b)
+  pub swizzle_is_lookup : ((b : ℕ) → b < 256 → cond (zeroes 16 w8 (f b)) 0 (get_or xs (f b) 0)
+      ≡ g b)
       → swz_l w8 16 xs 0 (map f v) ≡ map g v
-  looked_up is =
+  swizzle_is_lookup is =
       let both = length-swz_l w8 16 xs 0 (map f v) ∙ length-map v f in
       ext_get_or 0 _ _ (both ∙ sym (length-map v g)) (λ i inside.
       let h : i < 16 = omega (arith, both) in
       get_or-swz_l w8 16 xs 0 (map f v) i (omega (arith, length-map v f))
       ∙ ap (λ j. cond (zeroes 16 w8 (get_or (map f v) i 0)) 0 (get_or xs j 0)) (omega arith)
-      ∙ ap (λ j. cond (zeroes 16 w8 j) 0 (get_or xs j 0)) (at i h)
-      ∙ is (get_or v i 0) (byte_at i h)
+      ∙ ap (λ j. cond (zeroes 16 w8 j) 0 (get_or xs j 0)) (mapped_lane i h)
+      ∙ is (get_or v i 0) (lane_is_below_256 i h)
       ∙ sym (sym (get_or_default_zero (map g v) i (g 0) (omega (arith, length-map v g)))
       ∙ get_or-map g v i 0))
 
--- the place of a byte of the words, and of a bit
-pub byte_place : (b : ℕ) → b < 256 → (zeroes 16 w8 (b / 8 % 16) || ltb (b / 8 % 16) 16) ≡ true
-byte_place b h = agree_below_at (λ c. zeroes 16 w8 (c / 8 % 16) || ltb (c / 8 % 16) 16) (λ c. true)
+-- sixteen bytes at a time: the index of a mask's byte is one that the swizzle accepts
+pub byte_index_fits_swizzle : (b : ℕ) → b < 256 → (zeroes 16 w8 (b / 8 % 16) || ltb (b / 8 % 16) 16)
+    ≡ true
+byte_index_fits_swizzle b h = agree_below_at (λ c. zeroes 16 w8 (c / 8 % 16) || ltb (c / 8 % 16) 16)
+    (λ c. true)
     256 b refl h
 
-pub bit_place : (b : ℕ) → b < 256 → (zeroes 16 w8 (bit_and b 135) || ltb (bit_and b 135) 16) ≡ true
-bit_place b h = agree_below_at (λ c. zeroes 16 w8 (bit_and c 135) || ltb (bit_and c 135) 16)
+-- sixteen bytes at a time: an index into the vector of bits is below 16, or has bit 7 set,
+-- for which the vector gives 0
+pub bit_index_fits_swizzle : (b : ℕ) → b < 256
+    → (zeroes 16 w8 (bit_and b 135) || ltb (bit_and b 135) 16) ≡ true
+bit_index_fits_swizzle b h = agree_below_at
+    (λ c. zeroes 16 w8 (bit_and c 135) || ltb (bit_and c 135) 16)
     (λ c. true) 256 b refl h
 
-pub byte_there : (xs : List ℕ) (b : ℕ) → b < 256
+-- sixteen bytes at a time: a vector gives the byte of a table's mask that byte b is looked up in
+pub swizzle_reads_mask_byte : (xs : List ℕ) (b : ℕ) → b < 256
     → cond (zeroes 16 w8 (b / 8 % 16)) 0 (get_or xs (b / 8 % 16) 0) ≡ get_or xs (b / 8 % 16) 0
-byte_there xs b h = cond-false _ _ _
+swizzle_reads_mask_byte xs b h = cond-false _ _ _
     (agree_below_at (λ c. zeroes 16 w8 (c / 8 % 16)) (λ c. false) 256 b refl h)
 
-abbrev pub bit_list : List ℕ
-bit_list = 1 ∷ 2 ∷ 4 ∷ 8 ∷ 16 ∷ 32 ∷ 64 ∷ 128 ∷ 0 ∷ 0 ∷ 0 ∷ 0 ∷ 0 ∷ 0 ∷ 0 ∷ 0 ∷ []
+abbrev pub swizzle_bits : List ℕ
+swizzle_bits = 1 ∷ 2 ∷ 4 ∷ 8 ∷ 16 ∷ 32 ∷ 64 ∷ 128 ∷ 0 ∷ 0 ∷ 0 ∷ 0 ∷ 0 ∷ 0 ∷ 0 ∷ 0 ∷ []
 
-pub bit_there : (b : ℕ) → b < 256
-    → cond (zeroes 16 w8 (bit_and b 135)) 0 (get_or bit_list (bit_and b 135) 0) ≡ bit_of b
-unfolding bit_of
-bit_there b h =
+-- sixteen bytes at a time: a vector gives the bit that a byte has in the mask of a table
+pub swizzle_reads_bit_of_byte : (b : ℕ) → b < 256
+    → cond (zeroes 16 w8 (bit_and b 135)) 0 (get_or swizzle_bits (bit_and b 135) 0)
+    ≡ bit_in_mask_byte b
+unfolding bit_in_mask_byte
+swizzle_reads_bit_of_byte b h =
     eqb-true _ _
     (agree_below_at
-    (λ c. eqb (cond (zeroes 16 w8 (bit_and c 135)) 0 (get_or bit_list (bit_and c 135) 0))
-    (bit_of c)) (λ c. true) 256 b refl h)
+    (λ c. eqb (cond (zeroes 16 w8 (bit_and c 135)) 0 (get_or swizzle_bits (bit_and c 135) 0))
+    (bit_in_mask_byte c)) (λ c. true) 256 b refl h)
 
--- the mask of the lanes that have no bit
-pub mask_is : (low high : ℕ) (v : List ℕ) → length v ≡ 16 → low < 2 ^ 64
+-- sixteen bytes at a time: the mask marks the lanes whose characters are not in the set
+pub swizzle_mask_is_outside_set : (low high : ℕ) (v : List ℕ) → length v ≡ 16 → low < 2 ^ 64
     → mask_l
     (map (top 7) (zip2 (λ a b. cond (eqb a b) 255 0)
     (zip2 bit_and (map (λ b. get_or (bytes_of_masks low high) (b / 8 % 16) 0) v)
-    (map bit_of v)) (replicate 16 0))) % 2 ^ 64
+    (map bit_in_mask_byte v)) (replicate 16 0))) % 2 ^ 64
     ≡ mask_l (map (λ b. not (has_bit low high b)) v)
-mask_is low high v long fits =
-    let at : ℕ → ℕ = λ b. get_or (bytes_of_masks low high) (b / 8 % 16) 0 in
-    let m : ℕ → ℕ = λ b. bit_and (at b) (bit_of b) in
+swizzle_mask_is_outside_set low high v long fits =
+    let mapped_lane : ℕ → ℕ = λ b. get_or (bytes_of_masks low high) (b / 8 % 16) 0 in
+    let m : ℕ → ℕ = λ b. bit_and (mapped_lane b) (bit_in_mask_byte b) in
     ap (λ l. mask_l (map (top 7) (zip2 (λ a b. cond (eqb a b) 255 0) l (replicate 16 0))) % 2 ^ 64)
-    (zip2_of_maps bit_and at bit_of v refl refl)
+    (zip2_of_maps bit_and mapped_lane bit_in_mask_byte v refl refl)
     ∙ bitmask_splat w8 eqb (map m v) 16 0 (length-map v m ∙ long) (omega arith)
     ∙ ap mask_l (map-map (λ x. eqb x 0) m v)
-    ∙ ap (λ f. mask_l (map f v)) (λ i b. lane_is low high b fits i)
+    ∙ ap (λ f. mask_l (map f v)) (λ i b. mask_byte_lacks_bit_iff_char_is_outside low high b fits i)

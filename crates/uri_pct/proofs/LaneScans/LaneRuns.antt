@@ -10,17 +10,17 @@ use Rattle.std.proofs.lemmas.Simd.{bit_mask_l, mask_l-lt, get_or-chunk, length-c
 use Rattle.std.proofs.lemmas.Bool.{cases_lt}
 use Rattle.std.proofs.lemmas.List.{get_or_default, length-map}
 use Rattle.std.proofs.Math.ListN.{get_or-map}
-use Rattle.uri_pct.specs.Models.ByteRuns.{IsRun}
+use Rattle.uri_pct.specs.Models.ByteRuns.{IsLongestRun}
 
 -- bit k of the mask is set where the byte at i + k does not pass, for w bytes
-pub record LaneMarks (test : ℕ → Bool) (bs : List ℕ) (i w mask : ℕ) : Type 0 where
+pub record MarksFailingLanes (test : ℕ → Bool) (bs : List ℕ) (i w mask : ℕ) : Type 0 where
   pub lane : (k : ℕ) → k < w → bit_at mask k ≡ cond (not (test (get_or bs (i + k) 0))) 1 0
   pub below : mask < 2 ^ w
 
--- the mask of a load
-pub marks_of_load : (test : ℕ → Bool) (bs : List ℕ) (i w : ℕ) → i + w ≤ length bs
-    → LaneMarks test bs i w (mask_l (map (λ b. not (test b)) (chunk i w bs)))
-marks_of_load test bs i w room =
+-- sixteen bytes at a time: the mask of a load marks the lanes whose bytes fail the test
+pub load_mask_marks_failing_lanes : (test : ℕ → Bool) (bs : List ℕ) (i w : ℕ) → i + w ≤ length bs
+    → MarksFailingLanes test bs i w (mask_l (map (λ b. not (test b)) (chunk i w bs)))
+load_mask_marks_failing_lanes test bs i w room =
     let v = chunk i w bs in
     let ms = map (λ b. not (test b)) v in
     let long : length v ≡ w = length-chunk i w bs room in
@@ -34,79 +34,109 @@ marks_of_load test bs i w room =
       below = subst (λ n. mask_l ms < 2 ^ n) both (mask_l-lt ms);
     }
 
--- its last lanes
-pub marks_behind : (test : ℕ → Bool) (bs : List ℕ) (i w s mask : ℕ)
-    → LaneMarks test bs i (w + s) mask → LaneMarks test bs (i + s) w (mask / 2 ^ s)
-marks_behind test bs i w s mask m = record {
+-- sixteen bytes at a time: a mask that is shifted right marks the lanes after the first s
+shifted_mask_marks_later_lanes : (test : ℕ → Bool) (bs : List ℕ) (i w s mask : ℕ)
+    → MarksFailingLanes test bs i (w + s) mask → MarksFailingLanes test bs (i + s) w (mask / 2 ^ s)
+shifted_mask_marks_later_lanes test bs i w s mask m = record {
   lane = λ k h. ap (λ n. n % 2) (shr-shr mask s k) ∙ m.lane (s + k) (omega arith)
       ∙ ap (λ n. cond (not (test (get_or bs n 0))) 1 0) (omega arith);
   below = shr_below mask w s m.below;
 }
 
-abbrev mark : Bool → ℕ
-mark b = cond (not b) 1 0
+-- sixteen bytes at a time: a load of the last sixteen bytes, shifted right,
+-- marks the lanes from i on
+pub last_load_marks_failing_lanes : (test : ℕ → Bool) (bs : List ℕ) (i mask : ℕ) → 16 ≤ length bs
+    → i ≤ length bs
+    → length bs ≤ i + 16 → MarksFailingLanes test bs (length bs - 16) 16 mask
+    → MarksFailingLanes test bs i (length bs - i) (mask / 2 ^ (i - (length bs - 16)))
+last_load_marks_failing_lanes test bs i mask long within near m =
+    let s : ℕ = i - (length bs - 16) in
+    let whole : length bs - i + s ≡ 16 = omega arith in
+    let here : length bs - 16 + s ≡ i = omega arith in
+    subst (λ n. MarksFailingLanes test bs n (length bs - i) (mask / 2 ^ s)) here
+    (shifted_mask_marks_later_lanes test bs (length bs - 16) (length bs - i) s mask
+    (subst (λ n. MarksFailingLanes test bs (length bs - 16) n mask) (sym whole) m))
 
-unmarked : (b : Bool) → mark b ≡ 0 → b ≡ true
-unmarked true e = refl
-unmarked false e = absurd (omega arith)
+abbrev mask_bit_of_lane : Bool → ℕ
+mask_bit_of_lane b = cond (not b) 1 0
 
-marked : (b : Bool) → mark b ≡ 1 → b ≡ false
-marked true e = absurd (omega arith)
-marked false e = refl
+-- sixteen bytes at a time: a lane whose bit in the mask is 0 passes the test
+unmarked_lane_passes : (b : Bool) → mask_bit_of_lane b ≡ 0 → b ≡ true
+unmarked_lane_passes true e = refl
+unmarked_lane_passes false e = absurd (omega arith)
 
-module _ (test : ℕ → Bool) (bs : List ℕ) (i w mask : ℕ) (m : LaneMarks test bs i w mask) where
-  at : (k : ℕ) → i ≤ k → k < i + w → bit_at mask (k - i) ≡ 0 → test (get_or bs k 0) ≡ true
-  at k from to e = unmarked _ (ap (λ n. cond (not (test (get_or bs n 0))) 1 0) (omega arith)
+-- sixteen bytes at a time: a lane whose bit in the mask is 1 fails the test
+marked_lane_fails : (b : Bool) → mask_bit_of_lane b ≡ 1 → b ≡ false
+marked_lane_fails true e = absurd (omega arith)
+marked_lane_fails false e = refl
+
+module _ (test : ℕ → Bool) (bs : List ℕ) (i w mask : ℕ)
+    (m : MarksFailingLanes test bs i w mask) where
+  clear_bit_is_passing_byte : (k : ℕ) → i ≤ k → k < i + w → bit_at mask (k - i) ≡ 0
+      → test (get_or bs k 0) ≡ true
+  clear_bit_is_passing_byte k from to e = unmarked_lane_passes _
+      (ap (λ n. cond (not (test (get_or bs n 0))) 1 0) (omega arith)
       ∙ sym (m.lane (k - i) (omega arith)) ∙ e)
 
-  all_pass : mask ≡ 0 → (k : ℕ) → i ≤ k → k < i + w → test (get_or bs k 0) ≡ true
-  all_pass e k from to = at k from to (ap (λ n. bit_at n (k - i)) e ∙ bit_at-zero (k - i))
+  all_bytes_pass_if_mask_is_zero : mask ≡ 0 → (k : ℕ) → i ≤ k → k < i + w
+      → test (get_or bs k 0) ≡ true
+  all_bytes_pass_if_mask_is_zero e k from to = clear_bit_is_passing_byte k from to
+      (ap (λ n. bit_at n (k - i)) e ∙ bit_at-zero (k - i))
 
   module _ (some : 0 < mask) (small : w ≤ 64) where
-    place : (trailing_zeros w64 mask < 64) × (bit_at mask (trailing_zeros w64 mask) ≡ 1)
+    trailing_zeros_is_first_marked_lane : (trailing_zeros w64 mask < 64)
+        × (bit_at mask (trailing_zeros w64 mask) ≡ 1)
         × ((j : ℕ) → j < trailing_zeros w64 mask → bit_at mask j ≡ 0)
-    place = bit_at-trailing_zeros w64 mask some
+    trailing_zeros_is_first_marked_lane = bit_at-trailing_zeros w64 mask some
         (omega (arith, m.below, pow_mono {i = w} {j = 64} small))
 
-    first_within : trailing_zeros w64 mask < w
-    first_within = ⊎_elim
+    first_marked_lane_is_within_width : trailing_zeros w64 mask < w
+    first_marked_lane_is_within_width = ⊎_elim
         (λ (h : trailing_zeros w64 mask < w). h)
         (λ (h : w ≤ trailing_zeros w64 mask). let e =
-        bit_at_above mask w (trailing_zeros w64 mask) m.below h in let f = place.1 in
+        bit_at_above mask w (trailing_zeros w64 mask) m.below h in let f =
+        trailing_zeros_is_first_marked_lane.1 in
         absurd (omega arith))
         (cases_lt (trailing_zeros w64 mask) w)
 
-    first_passes : (k : ℕ) → i ≤ k → k < i + trailing_zeros w64 mask
+    bytes_before_first_mark_pass : (k : ℕ) → i ≤ k → k < i + trailing_zeros w64 mask
         → test (get_or bs k 0) ≡ true
-    first_passes k from to = at k from (omega (arith, first_within)) (place.2 (k - i) (omega arith))
+    bytes_before_first_mark_pass k from to = clear_bit_is_passing_byte k from
+        (omega (arith, first_marked_lane_is_within_width))
+        (trailing_zeros_is_first_marked_lane.2 (k - i) (omega arith))
 
-    first_stops : test (get_or bs (i + trailing_zeros w64 mask) 0) ≡ false
-    first_stops = marked _ (sym (m.lane (trailing_zeros w64 mask) first_within) ∙ place.1)
+    byte_at_first_mark_fails : test (get_or bs (i + trailing_zeros w64 mask) 0) ≡ false
+    byte_at_first_mark_fails = marked_lane_fails _
+        (sym (m.lane (trailing_zeros w64 mask) first_marked_lane_is_within_width)
+        ∙ trailing_zeros_is_first_marked_lane.1)
 
--- a run of bytes that pass, and then another
-both_pass : (test : ℕ → Bool) (bs : List ℕ) (a m b : ℕ)
+-- scanning: if two adjacent runs of bytes pass a test, all their bytes pass it
+adjacent_passing_runs_join : (test : ℕ → Bool) (bs : List ℕ) (a m b : ℕ)
     → ((k : ℕ) → a ≤ k → k < m → test (get_or bs k 0) ≡ true)
     → ((k : ℕ) → m ≤ k → k < b → test (get_or bs k 0) ≡ true) → (k : ℕ) → a ≤ k → k < b
     → test (get_or bs k 0) ≡ true
-both_pass test bs a m b low high k from to = elim (cases_lt k m) [
+adjacent_passing_runs_join test bs a m b low high k from to = elim (cases_lt k m) [
   | inl below ↦ low k from below
   | inr past ↦ high k past to
 ]
 
 -- where no lane is marked the run goes on, and else it ends at the first that is
-module _ (test : ℕ → Bool) (bs : List ℕ) (start i w mask : ℕ) (m : LaneMarks test bs i w mask)
+module _ (test : ℕ → Bool) (bs : List ℕ) (start i w mask : ℕ)
+    (m : MarksFailingLanes test bs i w mask)
     (passed : (k : ℕ) → start ≤ k → k < i → test (get_or bs k 0) ≡ true) where
-  pub goes_on : mask ≡ 0 → (k : ℕ) → start ≤ k → k < i + w → test (get_or bs k 0) ≡ true
-  goes_on e = both_pass test bs start i (i + w) passed (all_pass test bs i w mask m e)
+  pub run_goes_on_past_unmarked_lanes : mask ≡ 0 → (k : ℕ) → start ≤ k → k < i + w
+      → test (get_or bs k 0) ≡ true
+  run_goes_on_past_unmarked_lanes e = adjacent_passing_runs_join test bs start i (i + w) passed
+      (all_bytes_pass_if_mask_is_zero test bs i w mask m e)
 
-  pub ends_there : 0 < mask → w ≤ 64 → start ≤ i → i + w ≤ length bs
-      → IsRun test bs start (i + trailing_zeros w64 mask)
-  ends_there some small from room =
-      let first = first_within test bs i w mask m some small in
+  pub run_ends_at_first_marked_lane : 0 < mask → w ≤ 64 → start ≤ i → i + w ≤ length bs
+      → IsLongestRun test bs start (i + trailing_zeros w64 mask)
+  run_ends_at_first_marked_lane some small from room =
+      let first = first_marked_lane_is_within_width test bs i w mask m some small in
       record {
         from = omega arith;
         within = omega arith;
-        pass = both_pass test bs start i (i + trailing_zeros w64 mask) passed
-            (first_passes test bs i w mask m some small);
-        stop = λ h. first_stops test bs i w mask m some small;
+        pass = adjacent_passing_runs_join test bs start i (i + trailing_zeros w64 mask) passed
+            (bytes_before_first_mark_pass test bs i w mask m some small);
+        stop = λ h. byte_at_first_mark_fails test bs i w mask m some small;
       }

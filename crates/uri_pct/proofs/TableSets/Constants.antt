@@ -4,7 +4,7 @@ use Rattle.std.specs.Char.{is_ascii_alphabetic, is_ascii_digit, is_ascii_hexdigi
 use Rattle.std.proofs.lemmas.Bool.{agree_below, cond-true, cond-false, lt-ltb, le-ltb, cases_lt}
 use Rattle.std.proofs.lemmas.Bool.{false≢true}
 use Rattle.std.proofs.lemmas.Bool.Decides.{nat_tests}
-use Rattle.uri_pct.specs.Sets.{TableSet, plain, allows, allows_past_ascii, is_unreserved}
+use Rattle.uri_pct.specs.Sets.{TableSet, characters_only, allows, allows_past_ascii, is_unreserved}
 use Rattle.uri_pct.specs.Sets.{is_gen_delim, is_sub_delim, is_reserved, is_scheme_char}
 use Rattle.uri_pct.specs.Sets.{is_reg_name_char, is_userinfo_char, is_pchar, is_segment_nz_nc_char}
 use Rattle.uri_pct.specs.Sets.{is_path_char, is_query_char, alpha_set, digit_set, hexdig_set}
@@ -14,212 +14,301 @@ use Rattle.uri_pct.specs.Sets.{unreserved_set, reserved_set, gen_delims_set, sub
 use Rattle.uri_pct.specs.Sets.{iuserinfo_set, ireg_name_set, ipath_set, isegment_nz_nc_set}
 use Rattle.uri_pct.specs.Sets.{iquery_set, ifragment_set}
 use Rattle.uri_pct.specs.Masks.{has_bit}
-use Rattle.uri_pct.proofs.TableSets.Masks.{has_bit_is}
-use Rattle.uri_pct.proofs.TableSets.Tables.{same_set, record_set, set_of_masks}
+use Rattle.uri_pct.proofs.TableSets.Masks.{has_bit-by-agreement}
+use Rattle.uri_pct.proofs.TableSets.Tables.{sets_equal_by_agreement, record_set, set_of_masks}
 
--- a table whose masks agree with a test on ASCII, and a test that is false past it
-by_masks : (low high : ℕ) (pct_encoded : Bool) (test : ℕ → Bool)
+-- tables: two words that agree with a test on ASCII are its set, if the test fails past ASCII
+agreeing_masks_are_set_of_test : (low high : ℕ) (pct_encoded : Bool) (test : ℕ → Bool)
     → agree_below (has_bit low high) test 128 ≡ true → ((c : ℕ) → 128 ≤ c → test c ≡ false)
     → set_of_masks low high pct_encoded false false ≡ record_set test pct_encoded false false
-by_masks low high pct_encoded test same none =
-    same_set (has_bit low high) test pct_encoded false false (has_bit_is low high test same none)
+agreeing_masks_are_set_of_test low high pct_encoded test same none =
+    sets_equal_by_agreement (has_bit low high) test pct_encoded false false
+    (has_bit-by-agreement low high test same none)
 
--- no character past ASCII is in a rule
-alphabetic_past : (c : ℕ) → 128 ≤ c → is_ascii_alphabetic c ≡ false
-alphabetic_past c h = grind (arith, nat_tests)
+-- sets: no letter of ALPHA is past ASCII
+past_ascii_is_not_alphabetic : (c : ℕ) → 128 ≤ c → is_ascii_alphabetic c ≡ false
+past_ascii_is_not_alphabetic c h = grind (arith, nat_tests)
 
-digit_past : (c : ℕ) → 128 ≤ c → is_ascii_digit c ≡ false
-digit_past c h = grind (arith, nat_tests)
+-- sets: no digit is past ASCII
+past_ascii_is_no_digit : (c : ℕ) → 128 ≤ c → is_ascii_digit c ≡ false
+past_ascii_is_no_digit c h = grind (arith, nat_tests)
 
-pub hexdigit_past : (c : ℕ) → 128 ≤ c → is_ascii_hexdigit c ≡ false
-hexdigit_past c h = grind (arith, nat_tests)
+-- sets: a hexadecimal digit is below 128
+pub past_ascii_is_no_hexdigit : (c : ℕ) → 128 ≤ c → is_ascii_hexdigit c ≡ false
+past_ascii_is_no_hexdigit c h = grind (arith, nat_tests)
 
-scheme_past : (c : ℕ) → 128 ≤ c → is_scheme_char c ≡ false
-scheme_past c h = grind (arith, nat_tests)
+-- sets: no character of a scheme is past ASCII
+past_ascii_is_no_scheme_char : (c : ℕ) → 128 ≤ c → is_scheme_char c ≡ false
+past_ascii_is_no_scheme_char c h = grind (arith, nat_tests)
 
-userinfo_past : (c : ℕ) → 128 ≤ c → is_userinfo_char c ≡ false
-userinfo_past c h = grind (arith, nat_tests)
+-- sets: no character of a URI's userinfo is past ASCII
+past_ascii_is_no_userinfo_char : (c : ℕ) → 128 ≤ c → is_userinfo_char c ≡ false
+past_ascii_is_no_userinfo_char c h = grind (arith, nat_tests)
 
-reg_name_past : (c : ℕ) → 128 ≤ c → is_reg_name_char c ≡ false
-reg_name_past c h = grind (arith, nat_tests)
+-- sets: no character of a URI's registered name is past ASCII
+past_ascii_is_no_reg_name_char : (c : ℕ) → 128 ≤ c → is_reg_name_char c ≡ false
+past_ascii_is_no_reg_name_char c h = grind (arith, nat_tests)
 
-path_past : (c : ℕ) → 128 ≤ c → is_path_char c ≡ false
-path_past c h = grind (arith, nat_tests)
+-- sets: no character of a URI's path is past ASCII
+past_ascii_is_no_path_char : (c : ℕ) → 128 ≤ c → is_path_char c ≡ false
+past_ascii_is_no_path_char c h = grind (arith, nat_tests)
 
-segment_nz_nc_past : (c : ℕ) → 128 ≤ c → is_segment_nz_nc_char c ≡ false
-segment_nz_nc_past c h = grind (arith, nat_tests)
+-- sets: no character of a URI's first segment is past ASCII
+past_ascii_is_no_segment_nz_nc_char : (c : ℕ) → 128 ≤ c → is_segment_nz_nc_char c ≡ false
+past_ascii_is_no_segment_nz_nc_char c h = grind (arith, nat_tests)
 
-pchar_past : (c : ℕ) → 128 ≤ c → is_pchar c ≡ false
-pchar_past c h = grind (arith, nat_tests)
+-- sets: no character of a URI's segment is past ASCII
+past_ascii_is_no_pchar : (c : ℕ) → 128 ≤ c → is_pchar c ≡ false
+past_ascii_is_no_pchar c h = grind (arith, nat_tests)
 
-query_past : (c : ℕ) → 128 ≤ c → is_query_char c ≡ false
-query_past c h = grind (arith, nat_tests)
+-- sets: no character of a URI's query is past ASCII
+past_ascii_is_no_query_char : (c : ℕ) → 128 ≤ c → is_query_char c ≡ false
+past_ascii_is_no_query_char c h = grind (arith, nat_tests)
 
-pub unreserved_past : (c : ℕ) → 128 ≤ c → is_unreserved c ≡ false
-unreserved_past c h = grind (arith, nat_tests)
+-- sets: an unreserved character is below 128
+pub past_ascii_is_not_unreserved : (c : ℕ) → 128 ≤ c → is_unreserved c ≡ false
+past_ascii_is_not_unreserved c h = grind (arith, nat_tests)
 
-reserved_past : (c : ℕ) → 128 ≤ c → is_reserved c ≡ false
-reserved_past c h = grind (arith, nat_tests)
+-- sets: no reserved character is past ASCII
+past_ascii_is_not_reserved : (c : ℕ) → 128 ≤ c → is_reserved c ≡ false
+past_ascii_is_not_reserved c h = grind (arith, nat_tests)
 
-gen_delim_past : (c : ℕ) → 128 ≤ c → is_gen_delim c ≡ false
-gen_delim_past c h = grind (arith, nat_tests)
+-- sets: no character of gen-delims is past ASCII
+past_ascii_is_no_gen_delim : (c : ℕ) → 128 ≤ c → is_gen_delim c ≡ false
+past_ascii_is_no_gen_delim c h = grind (arith, nat_tests)
 
-sub_delim_past : (c : ℕ) → 128 ≤ c → is_sub_delim c ≡ false
-sub_delim_past c h = grind (arith, nat_tests)
+-- sets: no character of sub-delims is past ASCII
+past_ascii_is_no_sub_delim : (c : ℕ) → 128 ≤ c → is_sub_delim c ≡ false
+past_ascii_is_no_sub_delim c h = grind (arith, nat_tests)
 
-pub alpha_table : set_of_masks 0x0000000000000000 0x07FFFFFE07FFFFFE false false false ≡ alpha_set
+-- the table of ALPHA (two words, then the flags pct_encoded,
+-- ucschar and iprivate) is its set (RFC 5234)
+pub alpha_masks_are_alpha_set : set_of_masks 0x0000000000000000 0x07FFFFFE07FFFFFE false false false
+    ≡ alpha_set
 unfolding has_bit
-alpha_table = by_masks 0x0000000000000000 0x07FFFFFE07FFFFFE false is_ascii_alphabetic refl
-    alphabetic_past
+alpha_masks_are_alpha_set = agreeing_masks_are_set_of_test 0x0000000000000000 0x07FFFFFE07FFFFFE
+    false is_ascii_alphabetic refl
+    past_ascii_is_not_alphabetic
 
-pub digit_table : set_of_masks 0x03FF000000000000 0x0000000000000000 false false false ≡ digit_set
+-- the table of DIGIT (two words, then the flags pct_encoded,
+-- ucschar and iprivate) is its set (RFC 5234)
+pub digit_masks_are_digit_set : set_of_masks 0x03FF000000000000 0x0000000000000000 false false false
+    ≡ digit_set
 unfolding has_bit
-digit_table = by_masks 0x03FF000000000000 0x0000000000000000 false is_ascii_digit refl digit_past
+digit_masks_are_digit_set = agreeing_masks_are_set_of_test 0x03FF000000000000 0x0000000000000000
+    false is_ascii_digit refl past_ascii_is_no_digit
 
-pub hexdig_table : set_of_masks 0x03FF000000000000 0x0000007E0000007E false false false ≡ hexdig_set
+-- the table of HEXDIG (two words, then the flags pct_encoded,
+-- ucschar and iprivate) is its set (RFC 5234)
+pub hexdig_masks_are_hexdig_set : set_of_masks 0x03FF000000000000 0x0000007E0000007E false false
+    false ≡ hexdig_set
 unfolding has_bit
-hexdig_table = by_masks 0x03FF000000000000 0x0000007E0000007E false is_ascii_hexdigit refl
-    hexdigit_past
+hexdig_masks_are_hexdig_set = agreeing_masks_are_set_of_test 0x03FF000000000000 0x0000007E0000007E
+    false is_ascii_hexdigit refl
+    past_ascii_is_no_hexdigit
 
-pub scheme_table : set_of_masks 0x03FF680000000000 0x07FFFFFE07FFFFFE false false false ≡ scheme_set
+-- the table of scheme characters (two words and three flags) is their set (RFC 3986, section 3.1)
+pub scheme_masks_are_scheme_set : set_of_masks 0x03FF680000000000 0x07FFFFFE07FFFFFE false false
+    false ≡ scheme_set
 unfolding has_bit
-scheme_table = by_masks 0x03FF680000000000 0x07FFFFFE07FFFFFE false is_scheme_char refl scheme_past
+scheme_masks_are_scheme_set = agreeing_masks_are_set_of_test 0x03FF680000000000 0x07FFFFFE07FFFFFE
+    false is_scheme_char refl past_ascii_is_no_scheme_char
 
-pub userinfo_table : set_of_masks 0x2FFF7FD200000000 0x47FFFFFE87FFFFFE true false false
+-- the table of userinfo (two words and three flags) is its set (RFC 3986, section 3.2.1)
+pub userinfo_masks_are_userinfo_set : set_of_masks 0x2FFF7FD200000000 0x47FFFFFE87FFFFFE true
+    false false
     ≡ userinfo_set
 unfolding has_bit
-userinfo_table = by_masks 0x2FFF7FD200000000 0x47FFFFFE87FFFFFE true is_userinfo_char refl
-    userinfo_past
+userinfo_masks_are_userinfo_set = agreeing_masks_are_set_of_test 0x2FFF7FD200000000
+    0x47FFFFFE87FFFFFE true is_userinfo_char refl
+    past_ascii_is_no_userinfo_char
 
-pub ipv_future_table : set_of_masks 0x2FFF7FD200000000 0x47FFFFFE87FFFFFE false false false
+-- the table of an IPvFuture address (two words and three flags)
+-- is its set (RFC 3986, section 3.2.2)
+pub ipv_future_masks_are_ipv_future_set : set_of_masks 0x2FFF7FD200000000 0x47FFFFFE87FFFFFE false
+    false false
     ≡ ipv_future_set
 unfolding has_bit
-ipv_future_table = by_masks 0x2FFF7FD200000000 0x47FFFFFE87FFFFFE false is_userinfo_char refl
-    userinfo_past
+ipv_future_masks_are_ipv_future_set = agreeing_masks_are_set_of_test 0x2FFF7FD200000000
+    0x47FFFFFE87FFFFFE false is_userinfo_char refl
+    past_ascii_is_no_userinfo_char
 
-pub reg_name_table : set_of_masks 0x2BFF7FD200000000 0x47FFFFFE87FFFFFE true false false
+-- the table of a registered name (two words and three flags) is its set (RFC 3986, section 3.2.2)
+pub reg_name_masks_are_reg_name_set : set_of_masks 0x2BFF7FD200000000 0x47FFFFFE87FFFFFE true
+    false false
     ≡ reg_name_set
 unfolding has_bit
-reg_name_table = by_masks 0x2BFF7FD200000000 0x47FFFFFE87FFFFFE true is_reg_name_char refl
-    reg_name_past
+reg_name_masks_are_reg_name_set = agreeing_masks_are_set_of_test 0x2BFF7FD200000000
+    0x47FFFFFE87FFFFFE true is_reg_name_char refl
+    past_ascii_is_no_reg_name_char
 
-pub path_table : set_of_masks 0x2FFFFFD200000000 0x47FFFFFE87FFFFFF true false false ≡ path_set
+-- the table of a path (two words and three flags) is its set (RFC 3986, section 3.3)
+pub path_masks_are_path_set : set_of_masks 0x2FFFFFD200000000 0x47FFFFFE87FFFFFF true false false
+    ≡ path_set
 unfolding has_bit
-path_table = by_masks 0x2FFFFFD200000000 0x47FFFFFE87FFFFFF true is_path_char refl path_past
+path_masks_are_path_set = agreeing_masks_are_set_of_test 0x2FFFFFD200000000 0x47FFFFFE87FFFFFF true
+    is_path_char refl past_ascii_is_no_path_char
 
-pub segment_nz_nc_table : set_of_masks 0x2BFF7FD200000000 0x47FFFFFE87FFFFFF true false false
+-- the table of a segment without `:` (two words and three flags) is its set (RFC 3986, section 3.3)
+pub segment_nz_nc_masks_are_segment_nz_nc_set : set_of_masks 0x2BFF7FD200000000 0x47FFFFFE87FFFFFF
+    true false false
     ≡ segment_nz_nc_set
 unfolding has_bit
-segment_nz_nc_table = by_masks 0x2BFF7FD200000000 0x47FFFFFE87FFFFFF true is_segment_nz_nc_char refl
-    segment_nz_nc_past
+segment_nz_nc_masks_are_segment_nz_nc_set = agreeing_masks_are_set_of_test 0x2BFF7FD200000000
+    0x47FFFFFE87FFFFFF true is_segment_nz_nc_char refl
+    past_ascii_is_no_segment_nz_nc_char
 
-pub pchar_table : set_of_masks 0x2FFF7FD200000000 0x47FFFFFE87FFFFFF true false false ≡ pchar_set
+-- the table of a segment (two words and three flags) is its set (RFC 3986, section 3.3)
+pub pchar_masks_are_pchar_set : set_of_masks 0x2FFF7FD200000000 0x47FFFFFE87FFFFFF true false false
+    ≡ pchar_set
 unfolding has_bit
-pchar_table = by_masks 0x2FFF7FD200000000 0x47FFFFFE87FFFFFF true is_pchar refl pchar_past
+pchar_masks_are_pchar_set = agreeing_masks_are_set_of_test 0x2FFF7FD200000000 0x47FFFFFE87FFFFFF
+    true is_pchar refl past_ascii_is_no_pchar
 
-pub query_table : set_of_masks 0xAFFFFFD200000000 0x47FFFFFE87FFFFFF true false false ≡ query_set
+-- the table of a query (two words and three flags) is its set (RFC 3986, section 3.4)
+pub query_masks_are_query_set : set_of_masks 0xAFFFFFD200000000 0x47FFFFFE87FFFFFF true false false
+    ≡ query_set
 unfolding has_bit
-query_table = by_masks 0xAFFFFFD200000000 0x47FFFFFE87FFFFFF true is_query_char refl query_past
+query_masks_are_query_set = agreeing_masks_are_set_of_test 0xAFFFFFD200000000 0x47FFFFFE87FFFFFF
+    true is_query_char refl past_ascii_is_no_query_char
 
-pub fragment_table : set_of_masks 0xAFFFFFD200000000 0x47FFFFFE87FFFFFF true false false
+-- the table of a fragment (two words and three flags) is its set (RFC 3986, section 3.5)
+pub fragment_masks_are_fragment_set : set_of_masks 0xAFFFFFD200000000 0x47FFFFFE87FFFFFF true
+    false false
     ≡ fragment_set
 unfolding has_bit
-fragment_table = by_masks 0xAFFFFFD200000000 0x47FFFFFE87FFFFFF true is_query_char refl query_past
+fragment_masks_are_fragment_set = agreeing_masks_are_set_of_test 0xAFFFFFD200000000
+    0x47FFFFFE87FFFFFF true is_query_char refl past_ascii_is_no_query_char
 
-pub unreserved_table : set_of_masks 0x03FF600000000000 0x47FFFFFE87FFFFFE false false false
+-- the table of unreserved characters (two words and three flags)
+-- is their set (RFC 3986, section 2.3)
+pub unreserved_masks_are_unreserved_set : set_of_masks 0x03FF600000000000 0x47FFFFFE87FFFFFE false
+    false false
     ≡ unreserved_set
 unfolding has_bit
-unreserved_table = by_masks 0x03FF600000000000 0x47FFFFFE87FFFFFE false is_unreserved refl
-    unreserved_past
+unreserved_masks_are_unreserved_set = agreeing_masks_are_set_of_test 0x03FF600000000000
+    0x47FFFFFE87FFFFFE false is_unreserved refl
+    past_ascii_is_not_unreserved
 
-pub reserved_table : set_of_masks 0xAC009FDA00000000 0x0000000028000001 false false false
+-- the table of reserved characters (two words and three flags) is their set (RFC 3986, section 2.2)
+pub reserved_masks_are_reserved_set : set_of_masks 0xAC009FDA00000000 0x0000000028000001 false
+    false false
     ≡ reserved_set
 unfolding has_bit
-reserved_table = by_masks 0xAC009FDA00000000 0x0000000028000001 false is_reserved refl reserved_past
+reserved_masks_are_reserved_set = agreeing_masks_are_set_of_test 0xAC009FDA00000000
+    0x0000000028000001 false is_reserved refl past_ascii_is_not_reserved
 
-pub gen_delims_table : set_of_masks 0x8400800800000000 0x0000000028000001 false false false
+-- the table of gen-delims (two words and three flags) is their set (RFC 3986, section 2.2)
+pub gen_delims_masks_are_gen_delims_set : set_of_masks 0x8400800800000000 0x0000000028000001 false
+    false false
     ≡ gen_delims_set
 unfolding has_bit
-gen_delims_table = by_masks 0x8400800800000000 0x0000000028000001 false is_gen_delim refl
-    gen_delim_past
+gen_delims_masks_are_gen_delims_set = agreeing_masks_are_set_of_test 0x8400800800000000
+    0x0000000028000001 false is_gen_delim refl
+    past_ascii_is_no_gen_delim
 
-pub sub_delims_table : set_of_masks 0x28001FD200000000 0x0000000000000000 false false false
+-- the table of sub-delims (two words and three flags) is their set (RFC 3986, section 2.2)
+pub sub_delims_masks_are_sub_delims_set : set_of_masks 0x28001FD200000000 0x0000000000000000 false
+    false false
     ≡ sub_delims_set
 unfolding has_bit
-sub_delims_table = by_masks 0x28001FD200000000 0x0000000000000000 false is_sub_delim refl
-    sub_delim_past
+sub_delims_masks_are_sub_delims_set = agreeing_masks_are_set_of_test 0x28001FD200000000
+    0x0000000000000000 false is_sub_delim refl
+    past_ascii_is_no_sub_delim
 
--- an IRI's tables are those of a URI with flags
-flagged : (low high : ℕ) (set : TableSet) (ucschar iprivate : Bool)
+-- tables: those of an IRI are those of a URI, with the flags ucschar and iprivate
+masks_with_flags_are_set_with_flags : (low high : ℕ) (set : TableSet) (ucschar iprivate : Bool)
     → set_of_masks low high true false false ≡ set
     → set_of_masks low high true ucschar iprivate
     ≡ record set { ucschar = ucschar; iprivate = iprivate }
-flagged low high set ucschar iprivate e =
+masks_with_flags_are_set_with_flags low high set ucschar iprivate e =
     ap (λ (s : TableSet). record s { ucschar = ucschar; iprivate = iprivate }) e
 
-pub iuserinfo_table : set_of_masks 0x2FFF7FD200000000 0x47FFFFFE87FFFFFE true true false
+-- the table of an IRI's userinfo (two words and three flags) is its set (RFC 3987, section 2.2)
+pub iuserinfo_masks_are_iuserinfo_set : set_of_masks 0x2FFF7FD200000000 0x47FFFFFE87FFFFFE
+    true true false
     ≡ iuserinfo_set
-iuserinfo_table = flagged 0x2FFF7FD200000000 0x47FFFFFE87FFFFFE userinfo_set true false
-    userinfo_table
+iuserinfo_masks_are_iuserinfo_set = masks_with_flags_are_set_with_flags 0x2FFF7FD200000000
+    0x47FFFFFE87FFFFFE userinfo_set true false
+    userinfo_masks_are_userinfo_set
 
-pub ireg_name_table : set_of_masks 0x2BFF7FD200000000 0x47FFFFFE87FFFFFE true true false
+-- the table of an IRI's registered name (two words and three
+-- flags) is its set (RFC 3987, section 2.2)
+pub ireg_name_masks_are_ireg_name_set : set_of_masks 0x2BFF7FD200000000 0x47FFFFFE87FFFFFE
+    true true false
     ≡ ireg_name_set
-ireg_name_table = flagged 0x2BFF7FD200000000 0x47FFFFFE87FFFFFE reg_name_set true false
-    reg_name_table
+ireg_name_masks_are_ireg_name_set = masks_with_flags_are_set_with_flags 0x2BFF7FD200000000
+    0x47FFFFFE87FFFFFE reg_name_set true false
+    reg_name_masks_are_reg_name_set
 
-pub ipath_table : set_of_masks 0x2FFFFFD200000000 0x47FFFFFE87FFFFFF true true false ≡ ipath_set
-ipath_table = flagged 0x2FFFFFD200000000 0x47FFFFFE87FFFFFF path_set true false path_table
+-- the table of an IRI's path (two words and three flags) is its set (RFC 3987, section 2.2)
+pub ipath_masks_are_ipath_set : set_of_masks 0x2FFFFFD200000000 0x47FFFFFE87FFFFFF true true false
+    ≡ ipath_set
+ipath_masks_are_ipath_set = masks_with_flags_are_set_with_flags 0x2FFFFFD200000000
+    0x47FFFFFE87FFFFFF path_set true false path_masks_are_path_set
 
-pub isegment_nz_nc_table : set_of_masks 0x2BFF7FD200000000 0x47FFFFFE87FFFFFF true true false
+-- the table of an IRI's segment without `:` (two words and three
+-- flags) is its set (RFC 3987, section 2.2)
+pub isegment_nz_nc_masks_are_isegment_nz_nc_set : set_of_masks 0x2BFF7FD200000000 0x47FFFFFE87FFFFFF
+    true true false
     ≡ isegment_nz_nc_set
-isegment_nz_nc_table = flagged 0x2BFF7FD200000000 0x47FFFFFE87FFFFFF segment_nz_nc_set true false
-    segment_nz_nc_table
+isegment_nz_nc_masks_are_isegment_nz_nc_set = masks_with_flags_are_set_with_flags 0x2BFF7FD200000000
+    0x47FFFFFE87FFFFFF segment_nz_nc_set true false
+    segment_nz_nc_masks_are_segment_nz_nc_set
 
-pub iquery_table : set_of_masks 0xAFFFFFD200000000 0x47FFFFFE87FFFFFF true true true ≡ iquery_set
-iquery_table = flagged 0xAFFFFFD200000000 0x47FFFFFE87FFFFFF query_set true true query_table
+-- the table of an IRI's query (two words and three flags) is its set (RFC 3987, section 2.2)
+pub iquery_masks_are_iquery_set : set_of_masks 0xAFFFFFD200000000 0x47FFFFFE87FFFFFF true true true
+    ≡ iquery_set
+iquery_masks_are_iquery_set = masks_with_flags_are_set_with_flags 0xAFFFFFD200000000
+    0x47FFFFFE87FFFFFF query_set true true query_masks_are_query_set
 
-pub ifragment_table : set_of_masks 0xAFFFFFD200000000 0x47FFFFFE87FFFFFF true true false
+-- the table of an IRI's fragment (two words and three flags) is its set (RFC 3987, section 2.2)
+pub ifragment_masks_are_ifragment_set : set_of_masks 0xAFFFFFD200000000 0x47FFFFFE87FFFFFF
+    true true false
     ≡ ifragment_set
-ifragment_table = flagged 0xAFFFFFD200000000 0x47FFFFFE87FFFFFF fragment_set true false
-    fragment_table
+ifragment_masks_are_ifragment_set = masks_with_flags_are_set_with_flags 0xAFFFFFD200000000
+    0x47FFFFFE87FFFFFF fragment_set true false
+    fragment_masks_are_fragment_set
 
--- what a set of characters alone allows is one of them
-allowed_plain : (test : ℕ → Bool) (c : ℕ) → allows (plain test) c ≡ true → test c ≡ true
+-- sets: what a set of characters alone allows passes the test of these
+allowed_character_passes_test : (test : ℕ → Bool) (c : ℕ) → allows (characters_only test) c
+    ≡ true → test c
+    ≡ true
 unfolding allows_past_ascii
-allowed_plain test c e = ⊎_elim
+allowed_character_passes_test test c e = ⊎_elim
     (λ low. sym (cond-true _ _ _ (lt-ltb c 128 low)) ∙ e)
     (λ high. absurd (false≢true (sym (cond-false _ _ _ (le-ltb c 128 high)) ∙ e)))
     (cases_lt c 128)
 
--- what the table of reserved characters allows is reserved
-pub reserved_where_allowed : (c : ℕ)
+-- tables: what the table of reserved characters allows is reserved
+pub reserved_table_allows_reserved_only : (c : ℕ)
     → allows (set_of_masks 0xAC009FDA00000000 0x0000000028000001 false false false) c ≡ true
     → is_reserved c ≡ true
-reserved_where_allowed c e = allowed_plain is_reserved c
-    (sym (ap (λ set. allows set c) reserved_table) ∙ e)
+reserved_table_allows_reserved_only c e = allowed_character_passes_test is_reserved c
+    (sym (ap (λ set. allows set c) reserved_masks_are_reserved_set) ∙ e)
 
 -- each constant is the set of its rule
 pub ruleset constant_tables = (
-  alpha_table,
-  digit_table,
-  hexdig_table,
-  scheme_table,
-  userinfo_table,
-  ipv_future_table,
-  reg_name_table,
-  path_table,
-  segment_nz_nc_table,
-  pchar_table,
-  query_table,
-  fragment_table,
-  unreserved_table,
-  reserved_table,
-  gen_delims_table,
-  sub_delims_table,
-  iuserinfo_table,
-  ireg_name_table,
-  ipath_table,
-  isegment_nz_nc_table,
-  iquery_table,
-  ifragment_table,
+  alpha_masks_are_alpha_set,
+  digit_masks_are_digit_set,
+  hexdig_masks_are_hexdig_set,
+  scheme_masks_are_scheme_set,
+  userinfo_masks_are_userinfo_set,
+  ipv_future_masks_are_ipv_future_set,
+  reg_name_masks_are_reg_name_set,
+  path_masks_are_path_set,
+  segment_nz_nc_masks_are_segment_nz_nc_set,
+  pchar_masks_are_pchar_set,
+  query_masks_are_query_set,
+  fragment_masks_are_fragment_set,
+  unreserved_masks_are_unreserved_set,
+  reserved_masks_are_reserved_set,
+  gen_delims_masks_are_gen_delims_set,
+  sub_delims_masks_are_sub_delims_set,
+  iuserinfo_masks_are_iuserinfo_set,
+  ireg_name_masks_are_ireg_name_set,
+  ipath_masks_are_ipath_set,
+  isegment_nz_nc_masks_are_isegment_nz_nc_set,
+  iquery_masks_are_iquery_set,
+  ifragment_masks_are_ifragment_set,
 )

@@ -15,146 +15,180 @@ use Rattle.std.proofs.lemmas.Bool.{agree_below, agree_below_at, both_ways}
 use Rattle.std.proofs.lemmas.Bool.Decides.{nat_tests}
 use Rattle.uri_pct.specs.Masks.{has_bit}
 
--- the three thirds of a byte's range
-pub has_low_bit : (low high c : ℕ) → c < 64 → has_bit low high c ≡ eqb (bit_at low c) 1
+-- tables: below 64 the low word decides whether a character is in the set
+pub has_bit_below_64_is_bit_of_low : (low high c : ℕ) → c < 64 → has_bit low high c
+    ≡ eqb (bit_at low c) 1
 unfolding has_bit
-has_low_bit low high c h = cond-true _ _ _ (lt-ltb c 64 h)
+has_bit_below_64_is_bit_of_low low high c h = cond-true _ _ _ (lt-ltb c 64 h)
 
-pub has_high_bit : (low high c : ℕ) → 64 ≤ c → c < 128
+-- tables: a character from 64 to 127 is a bit of the high word
+pub has_bit_from_64_is_bit_of_high : (low high c : ℕ) → 64 ≤ c → c < 128
     → has_bit low high c ≡ eqb (bit_at high (c - 64)) 1
 unfolding has_bit
-has_high_bit low high c from below = cond-false _ _ _ (le-ltb c 64 from)
+has_bit_from_64_is_bit_of_high low high c from below = cond-false _ _ _ (le-ltb c 64 from)
     ∙ ap (λ b. b && eqb (bit_at high (c - 64)) 1) (lt-ltb c 128 below)
 
-pub has_no_bit : (low high c : ℕ) → 128 ≤ c → has_bit low high c ≡ false
+-- tables: the two words have no character past ASCII
+pub has_bit_past_ascii_is_false : (low high c : ℕ) → 128 ≤ c → has_bit low high c ≡ false
 unfolding has_bit
-has_no_bit low high c h = cond-false _ _ _ (le-ltb c 64 (omega arith))
+has_bit_past_ascii_is_false low high c h = cond-false _ _ _ (le-ltb c 64 (omega arith))
     ∙ ap (λ b. b && eqb (bit_at high (c - 64)) 1) (le-ltb c 128 h)
 
-pub bit_ascii : (low high c : ℕ) → has_bit low high c ≡ true → c < 128
-bit_ascii low high c e = ⊎_elim (λ (below : c < 128). below)
-    (λ (past : 128 ≤ c). absurd (both_ways _ (has_no_bit low high c past) e)) (cases_lt c 128)
+-- tables: the two words have ASCII characters only
+pub has_bit-only-ascii : (low high c : ℕ) → has_bit low high c ≡ true → c < 128
+has_bit-only-ascii low high c e = ⊎_elim (λ (below : c < 128). below)
+    (λ (past : 128 ≤ c). absurd (both_ways _ (has_bit_past_ascii_is_false low high c past) e))
+    (cases_lt c 128)
 
--- the place of `%`
-pub percent_bit : (low high : ℕ) → has_bit low high 37 ≡ eqb (bit_at low 37) 1
+-- tables: the bit of `%` (37) is in the low word
+pub has_bit_of_percent_is_bit_of_low : (low high : ℕ) → has_bit low high 37 ≡ eqb (bit_at low 37) 1
 unfolding has_bit
-percent_bit low high = refl
+has_bit_of_percent_is_bit_of_low low high = refl
 
 -- the bit that the code reads, out of four words
-abbrev pub bit_read : List ℕ → ℕ → Bool
-bit_read words b = eqb (bit_and (slice_index_or words (b / 64) 0 / 2 ^ bit_and b 63) 1) 1
+abbrev pub tested_bit : List ℕ → ℕ → Bool
+tested_bit words b = eqb (bit_and (slice_index_or words (b / 64) 0 / 2 ^ bit_and b 63) 1) 1
 
-bit_of_word : (words : List ℕ) (b q : ℕ) → b / 64 ≡ q
-    → bit_read words b ≡ eqb (bit_at (slice_index_or words q 0) (b - 64 * q)) 1
-bit_of_word words b q e =
+-- tables: a tested bit is a bit of one of the two words; q: which
+tested_bit_is_bit_of_its_word : (words : List ℕ) (b q : ℕ) → b / 64 ≡ q
+    → tested_bit words b ≡ eqb (bit_at (slice_index_or words q 0) (b - 64 * q)) 1
+tested_bit_is_bit_of_its_word words b q e =
     let place : bit_and b 63 ≡ b - 64 * q = and_mask b 6 ∙ omega arith in
     ap (λ w. eqb w 1) (shr_and_one (slice_index_or words (b / 64) 0) (bit_and b 63))
     ∙ ap (λ k. eqb (bit_at (slice_index_or words (b / 64) 0) k) 1) place
     ∙ ap (λ k. eqb (bit_at (slice_index_or words k 0) (b - 64 * q)) 1) e
 
-no_bit_of_zero : (w k : ℕ) → w ≡ 0 → eqb (bit_at w k) 1 ≡ false
-no_bit_of_zero w k e = ap (λ v. eqb (bit_at v k) 1) e ∙ ap (λ v. eqb v 1) (bit_at-zero k)
+-- bits, for tables: the word 0 has none
+zero_word_has_no_bit : (w k : ℕ) → w ≡ 0 → eqb (bit_at w k) 1 ≡ false
+zero_word_has_no_bit w k e = ap (λ v. eqb (bit_at v k) 1) e ∙ ap (λ v. eqb v 1) (bit_at-zero k)
 
--- the last two words are empty
-pub bit_read_is : (words : List ℕ) (b : ℕ) → slice_index_or words 2 0 ≡ 0
+-- tables: if the last two of four words are zero, the first two are those of the table
+pub tested_bit-is-has_bit : (words : List ℕ) (b : ℕ) → slice_index_or words 2 0 ≡ 0
     → slice_index_or words 3 0 ≡ 0 → b < 256
-    → bit_read words b ≡ has_bit (slice_index_or words 0 0) (slice_index_or words 1 0) b
-bit_read_is words b third fourth h =
+    → tested_bit words b ≡ has_bit (slice_index_or words 0 0) (slice_index_or words 1 0) b
+tested_bit-is-has_bit words b third fourth h =
     let low = slice_index_or words 0 0 in
     let high = slice_index_or words 1 0 in
     ⊎_elim
-    (λ (below : b < 64). bit_of_word words b 0 (omega arith)
-    ∙ ap (λ k. eqb (bit_at low k) 1) (omega arith) ∙ sym (has_low_bit low high b below))
+    (λ (below : b < 64). tested_bit_is_bit_of_its_word words b 0 (omega arith)
+    ∙ ap (λ k. eqb (bit_at low k) 1) (omega arith)
+    ∙ sym (has_bit_below_64_is_bit_of_low low high b below))
     (λ (from : 64 ≤ b).
     ⊎_elim
-    (λ (below : b < 128). bit_of_word words b 1 (omega arith)
-    ∙ ap (λ k. eqb (bit_at high k) 1) (omega arith) ∙ sym (has_high_bit low high b from below))
+    (λ (below : b < 128). tested_bit_is_bit_of_its_word words b 1 (omega arith)
+    ∙ ap (λ k. eqb (bit_at high k) 1) (omega arith)
+    ∙ sym (has_bit_from_64_is_bit_of_high low high b from below))
     (λ (past : 128 ≤ b).
     ⊎_elim
-    (λ (below : b < 192). bit_of_word words b 2 (omega arith) ∙ no_bit_of_zero _ (b - 64 * 2) third
-    ∙ sym (has_no_bit low high b past))
-    (λ (last : 192 ≤ b). bit_of_word words b 3 (omega arith) ∙ no_bit_of_zero _ (b - 64 * 3) fourth
-    ∙ sym (has_no_bit low high b past))
+    (λ (below : b < 192). tested_bit_is_bit_of_its_word words b 2 (omega arith)
+    ∙ zero_word_has_no_bit _ (b - 64 * 2) third
+    ∙ sym (has_bit_past_ascii_is_false low high b past))
+    (λ (last : 192 ≤ b). tested_bit_is_bit_of_its_word words b 3 (omega arith)
+    ∙ zero_word_has_no_bit _ (b - 64 * 3) fourth
+    ∙ sym (has_bit_past_ascii_is_false low high b past))
     (cases_lt b 192))
     (cases_lt b 128))
     (cases_lt b 64)
 
 -- The bits of two words are a test of characters if those of `low` agree with it below 64, and
 -- those of `high` below 128. From 128 on the test fails.
-has_bit_by : (low high : ℕ) (f : ℕ → Bool) → ((c : ℕ) → c < 64 → eqb (bit_at low c) 1 ≡ f c)
+has_bit_is_test_if_words_agree : (low high : ℕ) (f : ℕ → Bool)
+    → ((c : ℕ) → c < 64 → eqb (bit_at low c) 1 ≡ f c)
     → ((c : ℕ) → 64 ≤ c → c < 128 → eqb (bit_at high (c - 64)) 1 ≡ f c)
     → ((c : ℕ) → 128 ≤ c → f c ≡ false) → (c : ℕ) → has_bit low high c ≡ f c
-has_bit_by low high f first second third c =
+has_bit_is_test_if_words_agree low high f first second third c =
     ⊎_elim
-    (λ (below : c < 64). has_low_bit low high c below ∙ first c below)
+    (λ (below : c < 64). has_bit_below_64_is_bit_of_low low high c below ∙ first c below)
     (λ (from : 64 ≤ c).
     ⊎_elim
-    (λ (below : c < 128). has_high_bit low high c from below ∙ second c from below)
-    (λ (past : 128 ≤ c). has_no_bit low high c past ∙ sym (third c past))
+    (λ (below : c < 128). has_bit_from_64_is_bit_of_high low high c from below
+    ∙ second c from below)
+    (λ (past : 128 ≤ c). has_bit_past_ascii_is_false low high c past ∙ sym (third c past))
     (cases_lt c 128))
     (cases_lt c 64)
 
-in_both : (f : Bool → Bool → Bool) {a a' b b' : Bool} → a ≡ a' → b ≡ b' → f a b ≡ f a' b'
-in_both f p q = λ i. f (p i) (q i)
+-- general fact on booleans, for joining tables
+binary_function_of_equals_is_equal : (f : Bool → Bool → Bool) {a a' b b' : Bool} → a ≡ a' → b ≡ b'
+    → f a b ≡ f a' b'
+binary_function_of_equals_is_equal f p q = λ i. f (p i) (q i)
 
-max_test : (x y : ℕ) → x < 2 → y < 2 → eqb (max x y) 1 ≡ (eqb x 1 || eqb y 1)
-max_test x y p q = grind (arith, nat_tests)
+-- bits, for unions of tables: the greater of two bits is `or`
+max_of_bits_is_or : (x y : ℕ) → x < 2 → y < 2 → eqb (max x y) 1 ≡ (eqb x 1 || eqb y 1)
+max_of_bits_is_or x y p q = grind (arith, nat_tests)
 
-min_test : (x y : ℕ) → x < 2 → y < 2 → eqb (min x (1 - y)) 1 ≡ (eqb x 1 && not (eqb y 1))
-min_test x y p q = grind (arith, nat_tests)
+-- bits, for differences of tables: the smaller of a bit and another's complement is `and not`
+min_with_complement_is_and_not : (x y : ℕ) → x < 2 → y < 2 → eqb (min x (1 - y)) 1
+    ≡ (eqb x 1 && not (eqb y 1))
+min_with_complement_is_and_not x y p q = grind (arith, nat_tests)
 
-pub or_test : (a b i : ℕ)
+-- bits, for unions of tables: a bit of `or` is in one of both words
+pub bit_of_bit_or : (a b i : ℕ)
     → eqb (bit_at (bit_or a b) i) 1 ≡ (eqb (bit_at a i) 1 || eqb (bit_at b i) 1)
-or_test a b i = ap (λ n. eqb n 1) (bit_at_or a b i)
-    ∙ max_test (bit_at a i) (bit_at b i) (bit_at-lt a i) (bit_at-lt b i)
+bit_of_bit_or a b i = ap (λ n. eqb n 1) (bit_at_or a b i)
+    ∙ max_of_bits_is_or (bit_at a i) (bit_at b i) (bit_at-lt a i) (bit_at-lt b i)
 
-both_test : (x y : ℕ) → x < 2 → y < 2 → eqb (min x y) 1 ≡ (eqb x 1 && eqb y 1)
-both_test x y p q = grind (arith, nat_tests)
+-- bits, for tables: the smaller of two bits is `and`
+min_of_bits_is_and : (x y : ℕ) → x < 2 → y < 2 → eqb (min x y) 1 ≡ (eqb x 1 && eqb y 1)
+min_of_bits_is_and x y p q = grind (arith, nat_tests)
 
-pub and_test : (a b i : ℕ)
+-- bits, for tables: a bit of `and` is in both words
+pub bit_of_bit_and : (a b i : ℕ)
     → eqb (bit_at (bit_and a b) i) 1 ≡ (eqb (bit_at a i) 1 && eqb (bit_at b i) 1)
-and_test a b i = ap (λ n. eqb n 1) (bit_at_and a b i)
-    ∙ both_test (bit_at a i) (bit_at b i) (bit_at-lt a i) (bit_at-lt b i)
+bit_of_bit_and a b i = ap (λ n. eqb n 1) (bit_at_and a b i)
+    ∙ min_of_bits_is_and (bit_at a i) (bit_at b i) (bit_at-lt a i) (bit_at-lt b i)
 
-pub without_test : (a b i : ℕ) → b < 2 ^ 64 → i < 64
+-- bits, for differences of tables: a bit of `and not` is in the first word alone
+pub bit_of_bit_and_not : (a b i : ℕ) → b < 2 ^ 64 → i < 64
     → eqb (bit_at (bit_and a (bit_not w64 b)) i) 1
     ≡ (eqb (bit_at a i) 1 && not (eqb (bit_at b i) 1))
-without_test a b i fits within =
+bit_of_bit_and_not a b i fits within =
     ap (λ n. eqb n 1) (bit_at_and a (bit_not w64 b) i)
     ∙ ap (λ n. eqb (min (bit_at a i) n) 1) (bit_at_not w64 b i fits within)
-    ∙ min_test (bit_at a i) (bit_at b i) (bit_at-lt a i) (bit_at-lt b i)
+    ∙ min_with_complement_is_and_not (bit_at a i) (bit_at b i) (bit_at-lt a i) (bit_at-lt b i)
 
-pub has_bit_or : (low high low' high' c : ℕ)
+-- tables: the union of two pairs of words has the characters of both
+pub has_bit_of_joined_masks_is_or : (low high low' high' c : ℕ)
     → has_bit (bit_or low low') (bit_or high high') c ≡ (has_bit low high c || has_bit low' high' c)
-has_bit_or low high low' high' =
-    has_bit_by (bit_or low low') (bit_or high high')
+has_bit_of_joined_masks_is_or low high low' high' =
+    has_bit_is_test_if_words_agree (bit_or low low') (bit_or high high')
     (λ c. has_bit low high c || has_bit low' high' c)
-    (λ c h. or_test low low' c
-    ∙ sym (in_both (λ a b. a || b) (has_low_bit low high c h) (has_low_bit low' high' c h)))
-    (λ c h k. or_test high high' (c - 64)
+    (λ c h. bit_of_bit_or low low' c
+    ∙ sym (binary_function_of_equals_is_equal (λ a b. a || b)
+    (has_bit_below_64_is_bit_of_low low high c h) (has_bit_below_64_is_bit_of_low low' high' c h)))
+    (λ c h k. bit_of_bit_or high high' (c - 64)
     ∙ sym
-    (in_both (λ a b. a || b) (has_high_bit low high c h k) (has_high_bit low' high' c h k)))
-    (λ c h. or_from (has_bit low high c) (has_bit low' high' c) (has_no_bit low high c h)
-    (has_no_bit low' high' c h))
+    (binary_function_of_equals_is_equal (λ a b. a || b)
+    (has_bit_from_64_is_bit_of_high low high c h k)
+    (has_bit_from_64_is_bit_of_high low' high' c h k)))
+    (λ c h. or_from (has_bit low high c) (has_bit low' high' c)
+    (has_bit_past_ascii_is_false low high c h)
+    (has_bit_past_ascii_is_false low' high' c h))
 
-pub has_bit_without : (low high low' high' c : ℕ) → low' < 2 ^ 64 → high' < 2 ^ 64
+-- tables: the difference of two pairs of words has the characters
+-- of the first that the second lacks
+pub has_bit_of_mask_difference_is_and_not : (low high low' high' c : ℕ) → low' < 2 ^ 64
+    → high' < 2 ^ 64
     → has_bit (bit_and low (bit_not w64 low')) (bit_and high (bit_not w64 high')) c
     ≡ (has_bit low high c && not (has_bit low' high' c))
-has_bit_without low high low' high' c fits fits' =
-    has_bit_by (bit_and low (bit_not w64 low')) (bit_and high (bit_not w64 high'))
+has_bit_of_mask_difference_is_and_not low high low' high' c fits fits' =
+    has_bit_is_test_if_words_agree (bit_and low (bit_not w64 low'))
+    (bit_and high (bit_not w64 high'))
     (λ c. has_bit low high c && not (has_bit low' high' c))
-    (λ c h. without_test low low' c fits h
-    ∙ sym (in_both (λ a b. a && not b) (has_low_bit low high c h) (has_low_bit low' high' c h)))
-    (λ c h k. without_test high high' (c - 64) fits' (omega arith)
-    ∙ sym (in_both (λ a b. a && not b) (has_high_bit low high c h k)
-    (has_high_bit low' high' c h k)))
-    (λ c h. and_left (has_bit low high c) (not (has_bit low' high' c)) (has_no_bit low high c h))
+    (λ c h. bit_of_bit_and_not low low' c fits h
+    ∙ sym (binary_function_of_equals_is_equal (λ a b. a && not b)
+    (has_bit_below_64_is_bit_of_low low high c h) (has_bit_below_64_is_bit_of_low low' high' c h)))
+    (λ c h k. bit_of_bit_and_not high high' (c - 64) fits' (omega arith)
+    ∙ sym (binary_function_of_equals_is_equal (λ a b. a && not b)
+    (has_bit_from_64_is_bit_of_high low high c h k)
+    (has_bit_from_64_is_bit_of_high low' high' c h k)))
+    (λ c h. and_left (has_bit low high c) (not (has_bit low' high' c))
+    (has_bit_past_ascii_is_false low high c h))
     c
 
--- one more bit
-set_test : (n k i : ℕ) → k < 64
+-- bits, for tables: the bits of a word after its bit k is set
+bit_after_one_bit_is_set : (n k i : ℕ) → k < 64
     → eqb (bit_at (bit_or n (1 * 2 ^ k % 2 ^ 64)) i) 1 ≡ (eqb (bit_at n i) 1 || eqb k i)
-set_test n k i within =
+bit_after_one_bit_is_set n k i within =
     ⊎_elim
     (λ (e : k ≡ i).
     ap (λ j. eqb (bit_at (bit_or n (1 * 2 ^ k % 2 ^ 64)) j) 1) (sym e)
@@ -165,74 +199,95 @@ set_test n k i within =
     ∙ sym (or-false (eqb (bit_at n i) 1)) ∙ ap (λ b. eqb (bit_at n i) 1 || b) (sym (ne_eqb k i ne)))
     (cases_eq k i)
 
-pub has_bit_set_low : (low high k c : ℕ) → k < 64
+-- tables: setting a bit of the low word adds the character k
+pub has_bit_after_low_bit_is_set : (low high k c : ℕ) → k < 64
     → has_bit (bit_or low (1 * 2 ^ k % 2 ^ 64)) high c ≡ (has_bit low high c || eqb k c)
-has_bit_set_low low high k c within =
-    has_bit_by (bit_or low (1 * 2 ^ k % 2 ^ 64)) high (λ c. has_bit low high c || eqb k c)
-    (λ c h. set_test low k c within ∙ ap (λ a. a || eqb k c) (sym (has_low_bit low high c h)))
+has_bit_after_low_bit_is_set low high k c within =
+    has_bit_is_test_if_words_agree (bit_or low (1 * 2 ^ k % 2 ^ 64)) high
+    (λ c. has_bit low high c || eqb k c)
+    (λ c h. bit_after_one_bit_is_set low k c within
+    ∙ ap (λ a. a || eqb k c) (sym (has_bit_below_64_is_bit_of_low low high c h)))
     (λ c h j.
-    sym (has_high_bit low high c h j) ∙ sym (or-false (has_bit low high c))
+    sym (has_bit_from_64_is_bit_of_high low high c h j) ∙ sym (or-false (has_bit low high c))
     ∙ ap (λ b. has_bit low high c || b) (sym (ne_eqb k c (λ (e : k ≡ c). omega arith))))
-    (λ c h. or_from (has_bit low high c) (eqb k c) (has_no_bit low high c h)
+    (λ c h. or_from (has_bit low high c) (eqb k c) (has_bit_past_ascii_is_false low high c h)
     (ne_eqb k c (λ (e : k ≡ c). omega arith)))
     c
 
-same_distance : (k c : ℕ) → 64 ≤ k → 64 ≤ c → eqb (k - 64) (c - 64) ≡ eqb k c
-same_distance k c p q = grind (arith, nat_tests)
+-- general fact on numbers, for the high word of a table
+equality_is_kept_by_subtracting_64 : (k c : ℕ) → 64 ≤ k → 64 ≤ c → eqb (k - 64) (c - 64) ≡ eqb k c
+equality_is_kept_by_subtracting_64 k c p q = grind (arith, nat_tests)
 
-pub has_bit_set_high : (low high k c : ℕ) → 64 ≤ k → k < 128
+-- tables: setting a bit of the high word adds the character k
+pub has_bit_after_high_bit_is_set : (low high k c : ℕ) → 64 ≤ k → k < 128
     → has_bit low (bit_or high (1 * 2 ^ (k - 64) % 2 ^ 64)) c ≡ (has_bit low high c || eqb k c)
-has_bit_set_high low high k c from within =
-    has_bit_by low (bit_or high (1 * 2 ^ (k - 64) % 2 ^ 64)) (λ c. has_bit low high c || eqb k c)
+has_bit_after_high_bit_is_set low high k c from within =
+    has_bit_is_test_if_words_agree low (bit_or high (1 * 2 ^ (k - 64) % 2 ^ 64))
+    (λ c. has_bit low high c || eqb k c)
     (λ c h.
-    sym (has_low_bit low high c h) ∙ sym (or-false (has_bit low high c))
+    sym (has_bit_below_64_is_bit_of_low low high c h) ∙ sym (or-false (has_bit low high c))
     ∙ ap (λ b. has_bit low high c || b) (sym (ne_eqb k c (λ (e : k ≡ c). omega arith))))
     (λ c h j.
-    set_test high (k - 64) (c - 64) (omega arith)
-    ∙ in_both (λ a b. a || b) (sym (has_high_bit low high c h j)) (same_distance k c from h))
-    (λ c h. or_from (has_bit low high c) (eqb k c) (has_no_bit low high c h)
+    bit_after_one_bit_is_set high (k - 64) (c - 64) (omega arith)
+    ∙ binary_function_of_equals_is_equal (λ a b. a || b)
+    (sym (has_bit_from_64_is_bit_of_high low high c h j))
+    (equality_is_kept_by_subtracting_64 k c from h))
+    (λ c h. or_from (has_bit low high c) (eqb k c) (has_bit_past_ascii_is_false low high c h)
     (ne_eqb k c (λ (e : k ≡ c). omega arith)))
     c
 
--- no bit at all
-pub has_no_bits : (c : ℕ) → has_bit 0 0 c ≡ false
-has_no_bits = has_bit_by 0 0 (λ c. false) (λ c h. no_bit_of_zero 0 c refl)
-    (λ c h k. no_bit_of_zero 0 (c - 64) refl) (λ c h. refl)
+-- tables: two words that are zero have no character
+pub has_bit-zero-masks : (c : ℕ) → has_bit 0 0 c ≡ false
+has_bit-zero-masks = has_bit_is_test_if_words_agree 0 0 (λ c. false)
+    (λ c h. zero_word_has_no_bit 0 c refl)
+    (λ c h k. zero_word_has_no_bit 0 (c - 64) refl) (λ c h. refl)
 
-no_bit : (n i : ℕ) → eqb (bit_at n i) 1 ≡ false → bit_at n i ≡ 0
-no_bit n i e =
+-- bits, for tables: one that is not 1 is 0
+bit_that_is_not_one_is_zero : (n i : ℕ) → eqb (bit_at n i) 1 ≡ false → bit_at n i ≡ 0
+bit_that_is_not_one_is_zero n i e =
     let ne : bit_at n i ≡ 1 → ⊥ = eqb-false (bit_at n i) 1 e in
     let h : bit_at n i < 2 = bit_at-lt n i in
     omega arith
 
-zero_by_bits : (n : ℕ) → n < 2 ^ 64 → ((i : ℕ) → i < 64 → eqb (bit_at n i) 1 ≡ false) → n ≡ 0
-zero_by_bits n fits none =
+-- bits, for tables: a word without any is 0
+number_without_set_bits_is_zero : (n : ℕ) → n < 2 ^ 64
+    → ((i : ℕ) → i < 64 → eqb (bit_at n i) 1 ≡ false) → n ≡ 0
+number_without_set_bits_is_zero n fits none =
     same_from_bits_below 64 n 0 fits (omega arith)
-    (λ i h. no_bit n i (none i h) ∙ sym (bit_at-zero i))
+    (λ i h. bit_that_is_not_one_is_zero n i (none i h) ∙ sym (bit_at-zero i))
 
-pub low_is_zero : (low high : ℕ) → low < 2 ^ 64 → ((c : ℕ) → has_bit low high c ≡ false) → low ≡ 0
-low_is_zero low high fits none =
-    zero_by_bits low fits (λ i h. sym (has_low_bit low high i h) ∙ none i)
+-- tables: a low word without characters is 0
+pub low_mask_without_bits_is_zero : (low high : ℕ) → low < 2 ^ 64
+    → ((c : ℕ) → has_bit low high c ≡ false) → low ≡ 0
+low_mask_without_bits_is_zero low high fits none =
+    number_without_set_bits_is_zero low fits
+    (λ i h. sym (has_bit_below_64_is_bit_of_low low high i h) ∙ none i)
 
-pub high_is_zero : (low high : ℕ) → high < 2 ^ 64 → ((c : ℕ) → has_bit low high c ≡ false)
+-- tables: a high word without characters is 0
+pub high_mask_without_bits_is_zero : (low high : ℕ) → high < 2 ^ 64
+    → ((c : ℕ) → has_bit low high c ≡ false)
     → high ≡ 0
-high_is_zero low high fits none =
-    zero_by_bits high fits
+high_mask_without_bits_is_zero low high fits none =
+    number_without_set_bits_is_zero high fits
     (λ i h.
     ap (λ j. eqb (bit_at high j) 1) (omega arith)
-    ∙ sym (has_high_bit low high (i + 64) (omega arith) (omega arith)) ∙ none (i + 64))
+    ∙ sym (has_bit_from_64_is_bit_of_high low high (i + 64) (omega arith) (omega arith))
+    ∙ none (i + 64))
 
--- masks that agree with a test below 128 are the test, where that is false from there on
-pub has_bit_is : (low high : ℕ) (test : ℕ → Bool) → agree_below (has_bit low high) test 128 ≡ true
+-- tables: two words that agree with a test below 128 are the test,
+-- where that is false from there on
+pub has_bit-by-agreement : (low high : ℕ) (test : ℕ → Bool)
+    → agree_below (has_bit low high) test 128 ≡ true
     → ((c : ℕ) → 128 ≤ c → test c ≡ false) → (c : ℕ) → has_bit low high c ≡ test c
-has_bit_is low high test same none c =
+has_bit-by-agreement low high test same none c =
     ⊎_elim
     (λ (below : c < 128). agree_below_at (has_bit low high) test 128 c same below)
-    (λ (past : 128 ≤ c). has_no_bit low high c past ∙ sym (none c past))
+    (λ (past : 128 ≤ c). has_bit_past_ascii_is_false low high c past ∙ sym (none c past))
     (cases_lt c 128)
 
--- where all bits are set, each ASCII character
-pub all_bits : (c : ℕ) → has_bit 0xFFFFFFFFFFFFFFFF 0xFFFFFFFFFFFFFFFF c ≡ ltb c 128
+-- tables: two words of which all bits are set have each ASCII character
+pub has_bit-full-masks : (c : ℕ) → has_bit 0xFFFFFFFFFFFFFFFF 0xFFFFFFFFFFFFFFFF c ≡ ltb c 128
 unfolding has_bit
-all_bits c = has_bit_is 0xFFFFFFFFFFFFFFFF 0xFFFFFFFFFFFFFFFF (λ b. ltb b 128) refl
+has_bit-full-masks c = has_bit-by-agreement 0xFFFFFFFFFFFFFFFF 0xFFFFFFFFFFFFFFFF
+    (λ b. ltb b 128) refl
     (λ b h. le-ltb b 128 h) c

@@ -6,19 +6,22 @@ use Rattle.uri_pct.specs.Sets.{LacksPercent}
 use Rattle.uri_pct.specs.Tables.{set_of}
 use Rattle.uri_pct.specs.Texts.{lacks}
 use Rattle.uri_pct.specs.declared.table.Table.{Table}
-use Rattle.uri_pct.proofs.TableSets.Masks.{percent_bit}
+use Rattle.uri_pct.proofs.TableSets.Masks.{has_bit_of_percent_is_bit_of_low}
 
--- no table holds `%`
+-- sets: that of a table never has `%`
 pub lacks_percent : (t : Table) → LacksPercent (set_of t)
-lacks_percent t = percent_bit t.low t.high ∙ t.lacks_percent
+lacks_percent t = has_bit_of_percent_is_bit_of_low t.low t.high ∙ t.lacks_percent
 
-none_of_two : (x y : Bool) → not (x || y) ≡ (not x && not y)
-none_of_two true y = refl
-none_of_two false y = refl
+-- general fact on booleans, for sets without `%`
+not_or_is_and_of_nots : (x y : Bool) → not (x || y) ≡ (not x && not y)
+not_or_is_and_of_nots true y = refl
+not_or_is_and_of_nots false y = refl
 
+-- general fact on lists of bytes, for tables:
 -- if a search finds a byte nowhere in a text, the text lacks it
-pub lacks_unless_found : (byte : ℕ) (text : List ℕ)
+pub byte_not_found_is_lacked : (byte : ℕ) (text : List ℕ)
     → not (list_any (λ b. eqb b byte) text) ≡ lacks byte text
-lacks_unless_found byte [] = refl
-lacks_unless_found byte (b ∷ text) = none_of_two (eqb b byte) (list_any (λ b. eqb b byte) text)
-    ∙ ap (λ t. not (eqb b byte) && t) (lacks_unless_found byte text)
+byte_not_found_is_lacked byte [] = refl
+byte_not_found_is_lacked byte (b ∷ text) = not_or_is_and_of_nots (eqb b byte)
+    (list_any (λ b. eqb b byte) text)
+    ∙ ap (λ t. not (eqb b byte) && t) (byte_not_found_is_lacked byte text)

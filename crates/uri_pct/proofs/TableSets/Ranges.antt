@@ -8,11 +8,13 @@ use Rattle.std.proofs.lemmas.Bool.{cases_lt, and_left, and_right, or_from, lt-le
 use Rattle.std.proofs.lemmas.Bool.Decides.{nat_tests}
 use Rattle.uri_pct.specs.Sets.{is_ucschar, is_iprivate}
 
-below_range : (low high c : ℕ) → c < low → is_in_range low high c ≡ false
-below_range low high c h = and_left (leb low c) (leb c high) (lt-leb low c h)
+-- sets, for `ucschar` and `iprivate`: a character below a range is not in it
+char_below_range_is_not_in_it : (low high c : ℕ) → c < low → is_in_range low high c ≡ false
+char_below_range_is_not_in_it low high c h = and_left (leb low c) (leb c high) (lt-leb low c h)
 
-above_range : (low high c : ℕ) → high < c → is_in_range low high c ≡ false
-above_range low high c h = and_right (leb low c) (leb c high) (lt-leb c high h)
+-- sets, for `ucschar` and `iprivate`: a character above a range is not in it
+char_above_range_is_not_in_it : (low high c : ℕ) → high < c → is_in_range low high c ≡ false
+char_above_range_is_not_in_it low high c h = and_right (leb low c) (leb c high) (lt-leb c high h)
 
 -- `others`, or a character of one of the planes 1 to n that is not among the last two of its plane
 unfoldable in_planes : Bool → ℕ → ℕ → Bool
@@ -20,41 +22,47 @@ in_planes others zero c = others
 in_planes others (suc n) c = in_planes others n c
     || is_in_range (65536 * (n + 1)) (65536 * (n + 1) + 65533) c
 
-below_planes : (others : Bool) (n c : ℕ) → c < 65536 → in_planes others n c ≡ others
+-- sets, for `ucschar`: below plane 1, the ranges are the others; n: the last plane
+in_planes_below_plane_1_is_the_others : (others : Bool) (n c : ℕ) → c < 65536
+    → in_planes others n c ≡ others
 unfolding in_planes
-below_planes others zero c h = refl
-below_planes others (suc n) c h =
+in_planes_below_plane_1_is_the_others others zero c h = refl
+in_planes_below_plane_1_is_the_others others (suc n) c h =
     ap (λ b. in_planes others n c || b)
-    (below_range (65536 * (n + 1)) (65536 * (n + 1) + 65533) c (omega arith))
-    ∙ or-false (in_planes others n c) ∙ below_planes others n c h
+    (char_below_range_is_not_in_it (65536 * (n + 1)) (65536 * (n + 1) + 65533) c (omega arith))
+    ∙ or-false (in_planes others n c) ∙ in_planes_below_plane_1_is_the_others others n c h
 
-above_planes : (n c : ℕ) → 65536 * (n + 1) ≤ c → in_planes false n c ≡ false
+-- sets, for `ucschar`: above the last plane n, no range is left
+in_planes_above_last_plane_is_false : (n c : ℕ) → 65536 * (n + 1) ≤ c → in_planes false n c ≡ false
 unfolding in_planes
-above_planes zero c h = refl
-above_planes (suc n) c h =
+in_planes_above_last_plane_is_false zero c h = refl
+in_planes_above_last_plane_is_false (suc n) c h =
     or_from (in_planes false n c) (is_in_range (65536 * (n + 1)) (65536 * (n + 1) + 65533) c)
-    (above_planes n c (omega arith))
-    (above_range (65536 * (n + 1)) (65536 * (n + 1) + 65533) c (omega arith))
+    (in_planes_above_last_plane_is_false n c (omega arith))
+    (char_above_range_is_not_in_it (65536 * (n + 1)) (65536 * (n + 1) + 65533) c (omega arith))
 
-in_plane : (n c : ℕ) → 65536 * n ≤ c → c < 65536 * n + 65536
+-- sets, for `ucschar`: the range of a plane n lacks its last two characters only
+range_of_plane_lacks_only_last_two : (n c : ℕ) → 65536 * n ≤ c → c < 65536 * n + 65536
     → is_in_range (65536 * n) (65536 * n + 65533) c ≡ leb (c % 65536) 65533
-in_plane n c from below =
+range_of_plane_lacks_only_last_two n c from below =
     let place : c % 65536 + 65536 * n ≡ c = omega arith in
     grind (arith, nat_tests, place)
 
-within_planes : (n c : ℕ) → 65536 ≤ c → c < 65536 * (n + 1)
+-- sets, for `ucschar`: the ranges of planes 1 to n lack the last two characters of each only
+planes_lack_only_last_two_of_each : (n c : ℕ) → 65536 ≤ c → c < 65536 * (n + 1)
     → in_planes false n c ≡ leb (c % 65536) 65533
 unfolding in_planes
-within_planes zero c from below = absurd (omega arith)
-within_planes (suc n) c from below =
+planes_lack_only_last_two_of_each zero c from below = absurd (omega arith)
+planes_lack_only_last_two_of_each (suc n) c from below =
     ⊎_elim
     (λ (lower : c < 65536 * (n + 1)).
     ap (λ b. in_planes false n c || b)
-    (below_range (65536 * (n + 1)) (65536 * (n + 1) + 65533) c lower)
-    ∙ or-false (in_planes false n c) ∙ within_planes n c from lower)
+    (char_below_range_is_not_in_it (65536 * (n + 1)) (65536 * (n + 1) + 65533) c lower)
+    ∙ or-false (in_planes false n c) ∙ planes_lack_only_last_two_of_each n c from lower)
     (λ (here : 65536 * (n + 1) ≤ c).
-    ap (λ b. b || is_in_range (65536 * (n + 1)) (65536 * (n + 1) + 65533) c) (above_planes n c here)
-    ∙ in_plane (n + 1) c here (omega arith))
+    ap (λ b. b || is_in_range (65536 * (n + 1)) (65536 * (n + 1) + 65533) c)
+    (in_planes_above_last_plane_is_false n c here)
+    ∙ range_of_plane_lacks_only_last_two (n + 1) c here (omega arith))
     (cases_lt c (65536 * (n + 1)))
 
 -- the ranges of plane 0
@@ -62,39 +70,51 @@ abbrev pub is_low_ucschar : ℕ → Bool
 is_low_ucschar c = is_in_range 0xA0 0xD7FF c || is_in_range 0xF900 0xFDCF c
     || is_in_range 0xFDF0 0xFFEF c
 
-ucschar_by_planes : (c : ℕ)
+-- sets: `ucschar` is a part of planes 0 to 13, and a range in plane 14
+ucschar_is_planes_0_to_13_and_range_in_14 : (c : ℕ)
     → is_ucschar c ≡ (in_planes (is_low_ucschar c) 13 c || is_in_range 0xE1000 0xEFFFD c)
 unfolding is_ucschar in_planes
-ucschar_by_planes c = refl
+ucschar_is_planes_0_to_13_and_range_in_14 c = refl
 
-pub ucschar_low : (c : ℕ) → c < 65536 → is_ucschar c ≡ is_low_ucschar c
-ucschar_low c h =
-    ucschar_by_planes c
-    ∙ ap (λ b. in_planes (is_low_ucschar c) 13 c || b) (below_range 0xE1000 0xEFFFD c (omega arith))
-    ∙ or-false (in_planes (is_low_ucschar c) 13 c) ∙ below_planes (is_low_ucschar c) 13 c h
+-- sets: `ucschar` below U+10000, as the code tests it (RFC 3987, section 2.2)
+pub ucschar_below_plane_1_is_low_ucschar : (c : ℕ) → c < 65536 → is_ucschar c ≡ is_low_ucschar c
+ucschar_below_plane_1_is_low_ucschar c h =
+    ucschar_is_planes_0_to_13_and_range_in_14 c
+    ∙ ap (λ b. in_planes (is_low_ucschar c) 13 c || b)
+    (char_below_range_is_not_in_it 0xE1000 0xEFFFD c (omega arith))
+    ∙ or-false (in_planes (is_low_ucschar c) 13 c) ∙ in_planes_below_plane_1_is_the_others
+    (is_low_ucschar c) 13 c h
 
-none_low : (c : ℕ) → 65536 ≤ c → is_low_ucschar c ≡ false
-none_low c h = grind (arith, nat_tests)
+-- sets: the part of `ucschar` below U+10000 has nothing from there on
+no_low_ucschar_from_plane_1 : (c : ℕ) → 65536 ≤ c → is_low_ucschar c ≡ false
+no_low_ucschar_from_plane_1 c h = grind (arith, nat_tests)
 
-ucschar_high : (c : ℕ) → 65536 ≤ c
+-- sets: from U+10000 on, `ucschar` is a part of planes 1 to 13, and a range in plane 14
+ucschar_from_plane_1_is_by_planes : (c : ℕ) → 65536 ≤ c
     → is_ucschar c ≡ (in_planes false 13 c || is_in_range 0xE1000 0xEFFFD c)
-ucschar_high c h = ucschar_by_planes c
-    ∙ ap (λ b. in_planes b 13 c || is_in_range 0xE1000 0xEFFFD c) (none_low c h)
+ucschar_from_plane_1_is_by_planes c h = ucschar_is_planes_0_to_13_and_range_in_14 c
+    ∙ ap (λ b. in_planes b 13 c || is_in_range 0xE1000 0xEFFFD c) (no_low_ucschar_from_plane_1 c h)
 
-pub ucschar_middle : (c : ℕ) → 65536 ≤ c → c < 0xE0000 → is_ucschar c ≡ leb (c % 65536) 65533
-ucschar_middle c from below =
-    ucschar_high c from
-    ∙ ap (λ b. in_planes false 13 c || b) (below_range 0xE1000 0xEFFFD c (omega arith))
-    ∙ or-false (in_planes false 13 c) ∙ within_planes 13 c from below
+-- sets: in the planes 1 to 13 `ucschar` has all characters but the last two of each
+pub ucschar_of_planes_1_to_13_lacks_last_two : (c : ℕ) → 65536 ≤ c → c < 0xE0000 → is_ucschar c
+    ≡ leb (c % 65536) 65533
+ucschar_of_planes_1_to_13_lacks_last_two c from below =
+    ucschar_from_plane_1_is_by_planes c from
+    ∙ ap (λ b. in_planes false 13 c || b) (char_below_range_is_not_in_it 0xE1000 0xEFFFD c
+    (omega arith))
+    ∙ or-false (in_planes false 13 c) ∙ planes_lack_only_last_two_of_each 13 c from below
 
-pub ucschar_last : (c : ℕ) → 0xE0000 ≤ c → is_ucschar c ≡ is_in_range 0xE1000 0xEFFFD c
-ucschar_last c h =
-    ucschar_high c (omega arith)
-    ∙ ap (λ b. b || is_in_range 0xE1000 0xEFFFD c) (above_planes 13 c h)
+-- from plane 14 on `ucschar` has U+E1000 to U+EFFFD
+pub ucschar_from_plane_14_is_one_range : (c : ℕ) → 0xE0000 ≤ c → is_ucschar c
+    ≡ is_in_range 0xE1000 0xEFFFD c
+ucschar_from_plane_14_is_one_range c h =
+    ucschar_from_plane_1_is_by_planes c (omega arith)
+    ∙ ap (λ b. b || is_in_range 0xE1000 0xEFFFD c) (in_planes_above_last_plane_is_false 13 c h)
 
-pub iprivate_ranges : (c : ℕ)
+-- sets: `iprivate` is three ranges (RFC 3987, section 2.2)
+pub iprivate_is_three_ranges : (c : ℕ)
     → is_iprivate c
     ≡ (is_in_range 0xE000 0xF8FF c || is_in_range 0xF0000 0xFFFFD c
     || is_in_range 0x100000 0x10FFFD c)
 unfolding is_iprivate
-iprivate_ranges c = refl
+iprivate_is_three_ranges c = refl

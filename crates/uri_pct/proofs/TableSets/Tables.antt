@@ -10,45 +10,55 @@ use Rattle.std.proofs.lemmas.List.Sums.{AllPass-from_list_all}
 use Rattle.std.proofs.Math.Dec.{ltb}
 use Rattle.std.specs.List.{list_all}
 use Rattle.uri_pct.specs.Sets.{TableSet, difference, IsSubset, is_one_of}
-use Rattle.uri_pct.specs.Masks.{has_bit, is_plain_ascii}
+use Rattle.uri_pct.specs.Masks.{has_bit, is_unencoded_ascii}
 use Rattle.uri_pct.specs.Tables.{empty_set}
-use Rattle.uri_pct.proofs.TableSets.Masks.{has_no_bits, low_is_zero, high_is_zero}
+use Rattle.uri_pct.proofs.TableSets.Masks.{has_bit-zero-masks, low_mask_without_bits_is_zero}
+use Rattle.uri_pct.proofs.TableSets.Masks.{high_mask_without_bits_is_zero}
 
 abbrev pub record_set : (ℕ → Bool) → Bool → Bool → Bool → TableSet
 record_set test pct_encoded ucschar iprivate =
     record { ascii = test; pct_encoded = pct_encoded; ucschar = ucschar; iprivate = iprivate }
 
--- sets are equal if their tests agree everywhere, and their flags are the same
-pub same_set : (test test' : ℕ → Bool) (pct_encoded ucschar iprivate : Bool)
+-- sets: two are equal if their tests agree everywhere, and their flags are the same
+pub sets_equal_by_agreement : (test test' : ℕ → Bool) (pct_encoded ucschar iprivate : Bool)
     → ((c : ℕ) → test c ≡ test' c)
     → record_set test pct_encoded ucschar iprivate ≡ record_set test' pct_encoded ucschar iprivate
-same_set test test' pct_encoded ucschar iprivate same =
+sets_equal_by_agreement test test' pct_encoded ucschar iprivate same =
     λ i. record_set (λ c. same c i) pct_encoded ucschar iprivate
 
--- a set is in another if nothing is left of it without that other
-kept : (a b : Bool) → (a && not b) ≡ false → a ≡ true → b ≡ true
-kept true true e h = refl
-kept true false e h = sym e
-kept false b e h = absurd (cc)
+-- general fact on booleans, for subsets: if `a` without `b` is nothing, `a` implies `b`
+second_is_true_if_and_not_is_false : (a b : Bool) → (a && not b) ≡ false → a ≡ true → b ≡ true
+second_is_true_if_and_not_is_false true true e h = refl
+second_is_true_if_and_not_is_false true false e h = sym e
+second_is_true_if_and_not_is_false false b e h = absurd (cc)
 
-dropped : (a b : Bool) → (a ≡ true → b ≡ true) → (a && not b) ≡ false
-dropped true b h = ap not (h refl)
-dropped false b h = refl
+-- general fact on booleans, for differences of sets
+and_not_is_false_if_first_implies_second : (a b : Bool) → (a ≡ true → b ≡ true)
+    → (a && not b) ≡ false
+and_not_is_false_if_first_implies_second true b h = ap not (h refl)
+and_not_is_false_if_first_implies_second false b h = refl
 
-pub subset_if_empty : (s t : TableSet) → difference s t ≡ empty_set → IsSubset s t
-subset_if_empty s t e = record {
-  ascii = λ c. kept (s.ascii c) (t.ascii c) (ap (λ (r : TableSet). r.ascii c) e);
-  pct_encoded = kept s.pct_encoded t.pct_encoded (ap (λ (r : TableSet). r.pct_encoded) e);
-  ucschar = kept s.ucschar t.ucschar (ap (λ (r : TableSet). r.ucschar) e);
-  iprivate = kept s.iprivate t.iprivate (ap (λ (r : TableSet). r.iprivate) e);
+-- tables: a set is within another if it has nothing that the other lacks
+pub subset_if_difference_is_empty : (s t : TableSet) → difference s t ≡ empty_set → IsSubset s t
+subset_if_difference_is_empty s t e = record {
+  ascii = λ c. second_is_true_if_and_not_is_false (s.ascii c) (t.ascii c)
+      (ap (λ (r : TableSet). r.ascii c) e);
+  pct_encoded = second_is_true_if_and_not_is_false s.pct_encoded t.pct_encoded
+      (ap (λ (r : TableSet). r.pct_encoded) e);
+  ucschar = second_is_true_if_and_not_is_false s.ucschar t.ucschar
+      (ap (λ (r : TableSet). r.ucschar) e);
+  iprivate = second_is_true_if_and_not_is_false s.iprivate t.iprivate
+      (ap (λ (r : TableSet). r.iprivate) e);
 }
 
-pub empty_if_subset : (s t : TableSet) → IsSubset s t → difference s t ≡ empty_set
-empty_if_subset s t h = λ i. record {
-  ascii = λ c. dropped (s.ascii c) (t.ascii c) (h.ascii c) i;
-  pct_encoded = dropped s.pct_encoded t.pct_encoded h.pct_encoded i;
-  ucschar = dropped s.ucschar t.ucschar h.ucschar i;
-  iprivate = dropped s.iprivate t.iprivate h.iprivate i;
+-- tables: a set within another has nothing that the other lacks
+pub difference_from_superset_is_empty : (s t : TableSet) → IsSubset s t → difference s t ≡ empty_set
+difference_from_superset_is_empty s t h = λ i. record {
+  ascii = λ c. and_not_is_false_if_first_implies_second (s.ascii c) (t.ascii c) (h.ascii c) i;
+  pct_encoded = and_not_is_false_if_first_implies_second s.pct_encoded t.pct_encoded
+      h.pct_encoded i;
+  ucschar = and_not_is_false_if_first_implies_second s.ucschar t.ucschar h.ucschar i;
+  iprivate = and_not_is_false_if_first_implies_second s.iprivate t.iprivate h.iprivate i;
 }
 
 -- masks and flags of which none is set
@@ -59,10 +69,11 @@ is_clear low high pct_encoded ucschar iprivate =
 abbrev pub set_of_masks : ℕ → ℕ → Bool → Bool → Bool → TableSet
 set_of_masks low high = record_set (has_bit low high)
 
-pub empty_if_clear : (low high : ℕ) (pct_encoded ucschar iprivate : Bool)
+-- tables: two zero words without flags are the empty set
+pub clear_masks_are_empty_set : (low high : ℕ) (pct_encoded ucschar iprivate : Bool)
     → is_clear low high pct_encoded ucschar iprivate ≡ true
     → set_of_masks low high pct_encoded ucschar iprivate ≡ empty_set
-empty_if_clear low high pct_encoded ucschar iprivate h =
+clear_masks_are_empty_set low high pct_encoded ucschar iprivate h =
     let parts = and_parts (eqb (bit_or low high) 0) (not (pct_encoded || ucschar || iprivate)) h in
     let none : bit_or low high ≡ 0 = eqb-true (bit_or low high) 0 parts.0 in
     let total : bit_or low high + bit_and low high ≡ low + high = or_add_and low high in
@@ -75,28 +86,35 @@ empty_if_clear low high pct_encoded ucschar iprivate h =
     let first_flags = or_parts pct_encoded ucschar flags.0 in
     ap (λ n. set_of_masks n high pct_encoded ucschar iprivate) no_low
     ∙ ap (λ n. set_of_masks 0 n pct_encoded ucschar iprivate) no_high
-    ∙ (λ i. record_set (λ c. has_no_bits c i) (first_flags.0 i) (first_flags.1 i) (flags.1 i))
+    ∙ (λ i. record_set (λ c. has_bit-zero-masks c i) (first_flags.0 i) (first_flags.1 i)
+    (flags.1 i))
 
-pub clear_if_empty : (low high : ℕ) (pct_encoded ucschar iprivate : Bool) → low < 2 ^ 64
+-- if a table's set is empty, its masks are zero and it has no flag
+pub empty_set_has_clear_masks : (low high : ℕ) (pct_encoded ucschar iprivate : Bool) → low < 2 ^ 64
     → high < 2 ^ 64 → set_of_masks low high pct_encoded ucschar iprivate ≡ empty_set
     → is_clear low high pct_encoded ucschar iprivate ≡ true
-clear_if_empty low high pct_encoded ucschar iprivate fits fits' e =
+empty_set_has_clear_masks low high pct_encoded ucschar iprivate fits fits' e =
     let none : (c : ℕ) → has_bit low high c ≡ false = λ c. ap (λ (r : TableSet). r.ascii c) e in
-    ap (λ n. is_clear n high pct_encoded ucschar iprivate) (low_is_zero low high fits none)
-    ∙ ap (λ n. is_clear 0 n pct_encoded ucschar iprivate) (high_is_zero low high fits' none)
+    ap (λ n. is_clear n high pct_encoded ucschar iprivate)
+    (low_mask_without_bits_is_zero low high fits none)
+    ∙ ap (λ n. is_clear 0 n pct_encoded ucschar iprivate)
+    (high_mask_without_bits_is_zero low high fits' none)
     ∙ ap (λ b. not (b || ucschar || iprivate)) (ap (λ (r : TableSet). r.pct_encoded) e)
     ∙ ap (λ b. not (b || iprivate)) (ap (λ (r : TableSet). r.ucschar) e)
     ∙ ap not (ap (λ (r : TableSet). r.iprivate) e)
 
--- a byte that is in no place of a list
-pub not_one_of : (bytes : List ℕ) (c : ℕ) → All (λ b. b ≡ c → ⊥) bytes → is_one_of bytes c ≡ false
-not_one_of bytes c h = list_any_none (λ x. eqb x c) bytes
+-- general fact on lists of bytes, for tables: a byte that equals none of a list is not one of it
+pub byte_unlike_all_is_not_one_of_them : (bytes : List ℕ) (c : ℕ) → All (λ b. b ≡ c → ⊥) bytes
+    → is_one_of bytes c ≡ false
+byte_unlike_all_is_not_one_of_them bytes c h = list_any_none (λ x. eqb x c) bytes
     (λ k d within. ne_eqb (get_or bytes k d) c (h k d within))
 
-pub plain_bytes : (bytes : List ℕ) → list_all is_plain_ascii bytes ≡ true
+-- tables: the bytes of a text that a caller writes to make one are ASCII, and none is `%` (37)
+pub unencoded_ascii_is_below_128_and_no_percent : (bytes : List ℕ)
+    → list_all is_unencoded_ascii bytes ≡ true
     → All (λ b. (b < 128) × (b ≡ 37 → ⊥)) bytes
-plain_bytes bytes h = λ k d within.
+unencoded_ascii_is_below_128_and_no_percent bytes h = λ k d within.
     let b = get_or bytes k d in
     let parts = and_parts (ltb b 128) (not (eqb b 37))
-    (AllPass-from_list_all is_plain_ascii bytes h k d within) in
+    (AllPass-from_list_all is_unencoded_ascii bytes h k d within) in
     (ltb-true b 128 parts.0, eqb-false b 37 (not-true (eqb b 37) parts.1))

@@ -7,42 +7,52 @@ use Rattle.std.proofs.Math.Seq.{take-append_seam, drop-append_seam}
 use Rattle.std.proofs.lemmas.Str.{IsUtf8-from_ascii}
 use Rattle.std.proofs.lemmas.Str.Ascii.{IsAscii-nil, IsAscii-push}
 use Rattle.uri_pct.specs.Chunks.{Chunk, Byte}
-use Rattle.uri_pct.specs.Parts.{ArePastAscii, Read, parts_from}
+use Rattle.uri_pct.specs.Parts.{ArePastAscii, Decoded, parts_from}
 use Rattle.uri_pct.specs.Pieces.{utf8_pieces}
-use Rattle.uri_pct.specs.Models.Unfinished.{PartNoPiece}
-use Rattle.uri_pct.proofs.Unicode.CharacterPieces.{outside}
-use Rattle.uri_pct.proofs.Unicode.Pieces.{utf8_pieces-append}
-use Rattle.uri_pct.proofs.Unicode.Runs.{utf8_pieces-text}
-use Rattle.uri_pct.proofs.Unicode.Unfinished.{cut_run}
+use Rattle.uri_pct.specs.Models.Unfinished.{CutsNoPiece}
+use Rattle.uri_pct.proofs.Unicode.CharacterPieces.{byte_below_80_or_from_c0_is_no_continuation}
+use Rattle.uri_pct.proofs.Unicode.Pieces.{utf8_pieces_are_cut_at_non_continuation}
+use Rattle.uri_pct.proofs.Unicode.Runs.{utf8_pieces_are_cut_after_text}
+use Rattle.uri_pct.proofs.Unicode.Unfinished.{parts_from_are_cut_where_pieces_are}
 
-pub ascii_text : (b : ℕ) → b < 128 → IsUtf8 (b ∷ [])
-ascii_text b small = IsUtf8-from_ascii (b ∷ []) (IsAscii-push [] b IsAscii-nil small)
+-- UTF-8: an ASCII byte is a character
+pub ascii_byte_is_utf8 : (b : ℕ) → b < 128 → IsUtf8 (b ∷ [])
+ascii_byte_is_utf8 b small = IsUtf8-from_ascii (b ∷ []) (IsAscii-push [] b IsAscii-nil small)
 
-parted_before : (run : List ℕ) (b : ℕ) → b < 128 → PartNoPiece run (b ∷ [])
-parted_before run b small behind = utf8_pieces-append run (b ∷ behind) (outside b (inl small))
+-- UTF-8: bytes (run) before an ASCII byte end where a piece does
+cut_before_ascii_divides_no_piece : (run : List ℕ) (b : ℕ) → b < 128 → CutsNoPiece run (b ∷ [])
+cut_before_ascii_divides_no_piece run b small suffix = utf8_pieces_are_cut_at_non_continuation run
+    (b ∷ suffix) (byte_below_80_or_from_c0_is_no_continuation b (inl small))
 
-parted_behind : (b : ℕ) → b < 128 → PartNoPiece (b ∷ []) []
-parted_behind b small behind = utf8_pieces-text (b ∷ []) behind (ascii_text b small)
+-- UTF-8: an ASCII byte at the end is a piece
+cut_after_ascii_divides_no_piece : (b : ℕ) → b < 128 → CutsNoPiece (b ∷ []) []
+cut_after_ascii_divides_no_piece b small suffix = utf8_pieces_are_cut_after_text (b ∷ []) suffix
+    (ascii_byte_is_utf8 b small)
 
--- the parts of a run that such an octet ends
-pub cut_ascii : (run : List ℕ) (b : ℕ) (behind : List Chunk) → b < 128
-    → parts_from run (Byte b ∷ behind)
-    ≡ map Read (utf8_pieces run) ++ (map Read (utf8_pieces (b ∷ [])) ++ parts_from [] behind)
+-- decoding: an octet of ASCII ends the run of octets before it, and its part is separate
+pub parts_from-ascii-octet : (run : List ℕ) (b : ℕ) (suffix : List Chunk) → b < 128
+    → parts_from run (Byte b ∷ suffix)
+    ≡ map Decoded (utf8_pieces run) ++ (map Decoded (utf8_pieces (b ∷ [])) ++ parts_from [] suffix)
 unfolding parts_from
-cut_ascii run b behind small =
-    cut_run run (b ∷ []) [] behind (parted_before run b small)
-    ∙ ap (λ ps. map Read (utf8_pieces run) ++ ps)
-    (cut_run (b ∷ []) [] [] behind (parted_behind b small))
+parts_from-ascii-octet run b suffix small =
+    parts_from_are_cut_where_pieces_are run (b ∷ []) [] suffix
+    (cut_before_ascii_divides_no_piece run b small)
+    ∙ ap (λ ps. map Decoded (utf8_pieces run) ++ ps)
+    (parts_from_are_cut_where_pieces_are (b ∷ []) [] [] suffix
+    (cut_after_ascii_divides_no_piece b small))
 
--- bytes past ASCII, cut
-pub past_ascii_front : (front end bytes : List ℕ) → bytes ≡ front ++ end → ArePastAscii bytes
-    → ArePastAscii front
-past_ascii_front front end bytes same past = All-same (λ b. 128 ≤ b) _ _
-    (sym (ap (take (length front)) same ∙ take-append_seam front end))
-    (All-take (λ b. 128 ≤ b) (length front) bytes past)
+-- decoding: a prefix of bytes past ASCII is past ASCII
+pub prefix_of_past_ascii_is_past_ascii : (prefix end bytes : List ℕ) → bytes ≡ prefix ++ end
+    → ArePastAscii bytes
+    → ArePastAscii prefix
+prefix_of_past_ascii_is_past_ascii prefix end bytes same past = All-same (λ b. 128 ≤ b) _ _
+    (sym (ap (take (length prefix)) same ∙ take-append_seam prefix end))
+    (All-take (λ b. 128 ≤ b) (length prefix) bytes past)
 
-pub past_ascii_behind : (front end bytes : List ℕ) → bytes ≡ front ++ end → ArePastAscii bytes
+-- decoding: in bytes past ASCII, each suffix is past ASCII
+pub suffix_of_past_ascii_is_past_ascii : (prefix end bytes : List ℕ) → bytes ≡ prefix ++ end
+    → ArePastAscii bytes
     → ArePastAscii end
-past_ascii_behind front end bytes same past = All-same (λ b. 128 ≤ b) _ _
-    (sym (ap (drop (length front)) same ∙ drop-append_seam front end))
-    (All-drop (λ b. 128 ≤ b) (length front) bytes past)
+suffix_of_past_ascii_is_past_ascii prefix end bytes same past = All-same (λ b. 128 ≤ b) _ _
+    (sym (ap (drop (length prefix)) same ∙ drop-append_seam prefix end))
+    (All-drop (λ b. 128 ≤ b) (length prefix) bytes past)

@@ -9,47 +9,56 @@ use Rattle.std.proofs.lemmas.Str.{chars-encodes, encode_ascii}
 use Rattle.std.proofs.lemmas.Bool.{cases_lt, cond-true, cond-false, and_left, and_from, lt-ltb}
 use Rattle.std.proofs.lemmas.Bool.{le-ltb}
 use Rattle.std.proofs.lemmas.Bool.Decides.{nat_tests}
-use Rattle.uri_pct.specs.Prefixes.{begins_hex, first_char}
-use Rattle.uri_pct.proofs.TableSets.Constants.{hexdigit_past}
+use Rattle.uri_pct.specs.Prefixes.{begins_with_hex_digits, first_char}
+use Rattle.uri_pct.proofs.TableSets.Constants.{past_ascii_is_no_hexdigit}
 
 -- a byte that is not ASCII
-abbrev pub is_high : ℕ → Bool
-is_high b = nat_le 128 b
+abbrev pub is_no_ascii_byte : ℕ → Bool
+is_no_ascii_byte b = nat_le 128 b
 
 -- the first byte of a character says how many follow, and these are not ASCII
-pub record IsSpelt (c : ℕ) : Type 0 where
+pub record HasEncoding (c : ℕ) : Type 0 where
   pub first : ℕ
   pub more : List ℕ
-  pub spelt : encode_utf8 c ≡ first ∷ more
+  pub joined : encode_utf8 c ≡ first ∷ more
   pub len : continuation_len first ≡ length more
-  pub high : list_all is_high more ≡ true
+  pub high : list_all is_no_ascii_byte more ≡ true
 
-len_two : (b : ℕ) → 192 ≤ b → b < 224 → continuation_len b ≡ 1
-len_two b h l = grind (arith, nat_tests)
+-- UTF-8: a byte from C0 (192) to DF is followed by one that continues the character
+lead_from_192_has_one_continuation : (b : ℕ) → 192 ≤ b → b < 224 → continuation_len b ≡ 1
+lead_from_192_has_one_continuation b h l = grind (arith, nat_tests)
 
-len_three : (b : ℕ) → 224 ≤ b → b < 240 → continuation_len b ≡ 2
-len_three b h l = grind (arith, nat_tests)
+-- UTF-8: a byte from E0 (224) to EF is followed by two that continue the character
+lead_from_224_has_two_continuations : (b : ℕ) → 224 ≤ b → b < 240 → continuation_len b ≡ 2
+lead_from_224_has_two_continuations b h l = grind (arith, nat_tests)
 
-len_four : (b : ℕ) → 240 ≤ b → continuation_len b ≡ 3
-len_four b h = grind (arith, nat_tests)
+-- UTF-8: a byte from F0 (240) on is followed by three that continue the character
+lead_from_240_has_three_continuations : (b : ℕ) → 240 ≤ b → continuation_len b ≡ 3
+lead_from_240_has_three_continuations b h = grind (arith, nat_tests)
 
-high_byte : (n : ℕ) → is_high (128 + n) ≡ true
-high_byte n = grind (arith, nat_tests)
+-- UTF-8: a byte from 128 on is not ASCII
+byte_from_128_is_no_ascii : (n : ℕ) → is_no_ascii_byte (128 + n) ≡ true
+byte_from_128_is_no_ascii n = grind (arith, nat_tests)
 
-high_one : (x : ℕ) → list_all is_high ((128 + x) ∷ []) ≡ true
-high_one x = and_from _ _ (high_byte x) refl
+-- UTF-8: one byte from 128 on is not ASCII
+one_byte_from_128_is_no_ascii : (x : ℕ) → list_all is_no_ascii_byte ((128 + x) ∷ []) ≡ true
+one_byte_from_128_is_no_ascii x = and_from _ _ (byte_from_128_is_no_ascii x) refl
 
-high_two : (x y : ℕ) → list_all is_high ((128 + x) ∷ (128 + y) ∷ []) ≡ true
-high_two x y = and_from _ _ (high_byte x) (high_one y)
+-- UTF-8: two bytes from 128 on are not ASCII
+two_bytes_from_128_are_no_ascii : (x y : ℕ) → list_all is_no_ascii_byte ((128 + x) ∷ (128 + y) ∷ [])
+    ≡ true
+two_bytes_from_128_are_no_ascii x y = and_from _ _ (byte_from_128_is_no_ascii x)
+    (one_byte_from_128_is_no_ascii y)
 
-pub bytes_of_char : (c : ℕ) → IsSpelt c
+-- UTF-8: the bytes of a character are those of the one of its four forms that it is in
+pub char_has_encoding : (c : ℕ) → HasEncoding c
 unfolding encode_utf8
-bytes_of_char c = ⊎_elim
+char_has_encoding c = ⊎_elim
     (λ h. let e = lt-ltb c 128 h in
     record {
       first = c;
       more = [];
-      spelt = encode_ascii c h;
+      joined = encode_ascii c h;
       len = cond-true _ _ _ e;
       high =
           refl;
@@ -58,44 +67,46 @@ bytes_of_char c = ⊎_elim
     (λ k. record {
       first = 192 + c / 64;
       more = (128 + c % 64) ∷ [];
-      spelt = cond-false _ _ _ e
+      joined = cond-false _ _ _ e
           ∙ cond-true _ _ _ (lt-ltb c 2048 k);
       len =
-          len_two (192 + c / 64) (omega arith) (omega arith);
-      high = high_one _;
+          lead_from_192_has_one_continuation (192 + c / 64) (omega arith) (omega arith);
+      high = one_byte_from_128_is_no_ascii _;
     })
     (λ k. ⊎_elim
     (λ m. record {
       first = 224 + c / 4096;
       more = (128 + c / 64 % 64) ∷ (128 + c % 64) ∷ [];
-      spelt =
+      joined =
           cond-false _ _ _ e ∙ cond-false _ _ _ (le-ltb c 2048 k)
           ∙ cond-true _ _ _ (lt-ltb c 65536 m);
       len =
-          len_three (224 + c / 4096) (omega arith) (omega arith);
+          lead_from_224_has_two_continuations (224 + c / 4096) (omega arith) (omega arith);
       high =
-          high_two (c / 64 % 64) (c % 64);
+          two_bytes_from_128_are_no_ascii (c / 64 % 64) (c % 64);
     })
     (λ m. record {
       first = 240 + c / 262144;
       more =
           (128 + c / 4096 % 64) ∷ (128 + c / 64 % 64) ∷ (128 + c % 64) ∷ [];
-      spelt =
+      joined =
           cond-false _ _ _ e ∙ cond-false _ _ _ (le-ltb c 2048 k)
           ∙ cond-false _ _ _ (le-ltb c 65536 m);
       len =
-          len_four (240 + c / 262144) (omega arith);
+          lead_from_240_has_three_continuations (240 + c / 262144) (omega arith);
       high =
-          and_from _ _ (high_byte (c / 4096 % 64)) (high_two (c / 64 % 64) (c % 64));
+          and_from _ _ (byte_from_128_is_no_ascii (c / 4096 % 64))
+          (two_bytes_from_128_are_no_ascii (c / 64 % 64) (c % 64));
     })
     (cases_lt c 65536))
     (cases_lt c 2048))
     (cases_lt c 128)
 
--- the first byte of a character past ASCII
-pub lead : (c : ℕ) (rest : List ℕ) → 128 ≤ c → 128 ≤ get_or (encode_utf8 c ++ rest) 0 0
+-- UTF-8: the first byte of a character past ASCII is past ASCII
+pub char_past_ascii_begins_past_ascii : (c : ℕ) (rest : List ℕ) → 128 ≤ c
+    → 128 ≤ get_or (encode_utf8 c ++ rest) 0 0
 unfolding encode_utf8
-lead c rest h =
+char_past_ascii_begins_past_ascii c rest h =
     let e = le-ltb c 128 h in
     rw e (⊎_elim (λ k. let f = lt-ltb c 2048 k in rw f (omega arith))
     (λ k. let f = le-ltb c 2048 k in
@@ -103,25 +114,34 @@ lead c rest h =
     (λ m. let g = le-ltb c 65536 m in rw g (omega arith)) (cases_lt c 65536)))
     (cases_lt c 2048))
 
-pub first_char-encodes : (c : ℕ) (cs : List ℕ) → all_scalars (c ∷ cs) ≡ true
+-- UTF-8: the first character of encoded ones is the first that was encoded
+pub first_of_encoded_chars_is_first_char : (c : ℕ) (cs : List ℕ) → all_scalars (c ∷ cs) ≡ true
     → first_char (encode_utf8_all (c ∷ cs)) ≡ c
 unfolding first_char
-first_char-encodes c cs e = ap (λ xs. slice_index xs 0) (chars-encodes (c ∷ cs) e)
+first_of_encoded_chars_is_first_char c cs e = ap (λ xs. slice_index xs 0) (chars-encodes (c ∷ cs) e)
 
-pub hex_ascii : (b : ℕ) → is_ascii_hexdigit b ≡ true → b < 128
-hex_ascii b e = grind (arith, nat_tests)
+-- octets: a hexadecimal digit is ASCII
+pub hexdigit_is_ascii : (b : ℕ) → is_ascii_hexdigit b ≡ true → b < 128
+hexdigit_is_ascii b e = grind (arith, nat_tests)
 
-hex_first : (cs : List ℕ)
+-- octets: the first byte of characters is a hexadecimal digit exactly if the first character is
+first_byte_is_hexdigit_iff_first_char_is : (cs : List ℕ)
     → is_ascii_hexdigit (get_or (encode_utf8_all cs) 0 0) ≡ is_ascii_hexdigit (get_or cs 0 0)
-hex_first [] = refl
-hex_first (c ∷ cs) = ⊎_elim (λ h. rw (encode_ascii c h) refl)
-    (λ h. hexdigit_past _ (lead c (encode_utf8_all cs) h) ∙ sym (hexdigit_past c h))
+first_byte_is_hexdigit_iff_first_char_is [] = refl
+first_byte_is_hexdigit_iff_first_char_is (c ∷ cs) = ⊎_elim (λ h. rw (encode_ascii c h) refl)
+    (λ h. past_ascii_is_no_hexdigit _ (char_past_ascii_begins_past_ascii c (encode_utf8_all cs) h)
+    ∙ sym (past_ascii_is_no_hexdigit c h))
     (cases_lt c 128)
 
-pub begins_hex-encodes : (cs : List ℕ) → begins_hex (encode_utf8_all cs) ≡ begins_hex cs
-unfolding begins_hex
-begins_hex-encodes [] = refl
-begins_hex-encodes (c ∷ cs) = ⊎_elim
-    (λ h. rw (encode_ascii c h) (ap (λ b. is_ascii_hexdigit c && b) (hex_first cs)))
-    (λ h. and_left _ _ (hexdigit_past _ (lead c (encode_utf8_all cs) h))
-    ∙ sym (and_left _ _ (hexdigit_past c h))) (cases_lt c 128)
+-- octets: characters begin with two hexadecimal digits exactly if their bytes do
+pub encoded_chars_begin_with_same_hex_digits : (cs : List ℕ)
+    → begins_with_hex_digits (encode_utf8_all cs)
+    ≡ begins_with_hex_digits cs
+unfolding begins_with_hex_digits
+encoded_chars_begin_with_same_hex_digits [] = refl
+encoded_chars_begin_with_same_hex_digits (c ∷ cs) = ⊎_elim
+    (λ h. rw (encode_ascii c h)
+    (ap (λ b. is_ascii_hexdigit c && b) (first_byte_is_hexdigit_iff_first_char_is cs)))
+    (λ h. and_left _ _ (past_ascii_is_no_hexdigit _
+    (char_past_ascii_begins_past_ascii c (encode_utf8_all cs) h))
+    ∙ sym (and_left _ _ (past_ascii_is_no_hexdigit c h))) (cases_lt c 128)

@@ -8,107 +8,139 @@ use Rattle.std.proofs.lemmas.Bool.{and_parts}
 use Rattle.std.proofs.lemmas.List.{append-nil}
 use Rattle.std.proofs.lemmas.List.Concat.{flat_map-append}
 use Rattle.std.proofs.lemmas.Str.{IsUtf8-encode, encodes-chars}
-use Rattle.uri_pct.specs.Chunks.{Chunk, Text, Byte, onto_chunks, chunks_of, chunk_bytes, widest_set}
+use Rattle.uri_pct.specs.Chunks.{Chunk, Text, Byte, prepend_to_chunks, chunks_of_tokens}
+use Rattle.uri_pct.specs.Chunks.{chunk_bytes, widest_set}
 use Rattle.uri_pct.specs.Decodes.{undecoded, decoded, bytes_left}
 use Rattle.uri_pct.specs.declared.decode.Decode.{Decode}
-use Rattle.uri_pct.specs.Parts.{Plain, Read, parts_from, parts, part_pieces, pieces_of}
+use Rattle.uri_pct.specs.Parts.{Literal, Decoded, parts_from, parts, part_pieces, pieces_of_parts}
 use Rattle.uri_pct.specs.Pieces.{Piece, WellFormed, utf8_pieces}
 use Rattle.uri_pct.specs.Texts.{is_unencoded}
-use Rattle.uri_pct.specs.Tokens.{Token, Char, Octet, tokens_of, tokens, token_bytes, IsValidFor}
-use Rattle.uri_pct.specs.Reading.{is_printable}
-use Rattle.uri_pct.proofs.ValidTexts.Allowed.{printable_valid}
-use Rattle.uri_pct.proofs.Unicode.CharacterPieces.{utf8_pieces-around_char}
-use Rattle.uri_pct.proofs.Unicode.CharacterPieces.{utf8_pieces-encode_first}
-use Rattle.uri_pct.proofs.Decodings.Decoding.{tokens_front}
-use Rattle.uri_pct.proofs.Unicode.Runs.{nil_pieces, utf8_pieces-text}
+use Rattle.uri_pct.specs.Tokens.{Token, Char, Octet, tokens_from_chars, tokens, bytes_decoded_from}
+use Rattle.uri_pct.specs.Tokens.{IsValidFor}
+use Rattle.uri_pct.specs.DecodeUnreserved.{is_printable}
+use Rattle.uri_pct.proofs.ValidTexts.Allowed.{valid_text_has_printable_tokens}
+use Rattle.uri_pct.proofs.Unicode.CharacterPieces.{char_separates_utf8_pieces}
+use Rattle.uri_pct.proofs.Unicode.CharacterPieces.{first_char_is_first_piece}
+use Rattle.uri_pct.proofs.Decodings.Decoding.{tokens_after_unencoded_prefix}
+use Rattle.uri_pct.proofs.Unicode.Runs.{no_bytes_have_no_pieces, utf8_pieces_are_cut_after_text}
 
--- the bytes of chunks are those of the tokens
-onto_bytes : (text : List ℕ) (ps : List Chunk)
-    → flat_map chunk_bytes (onto_chunks text ps) ≡ text ++ flat_map chunk_bytes ps
-unfolding onto_chunks
-onto_bytes text [] = refl
-onto_bytes text (Text more ∷ ps) = append_assoc text more (flat_map chunk_bytes ps)
-onto_bytes text (Byte value ∷ ps) = refl
+-- decoding: a text that is put before chunks comes before their bytes
+prepended_text_comes_before_chunk_bytes : (text : List ℕ) (ps : List Chunk)
+    → flat_map chunk_bytes (prepend_to_chunks text ps) ≡ text ++ flat_map chunk_bytes ps
+unfolding prepend_to_chunks
+prepended_text_comes_before_chunk_bytes text [] = refl
+prepended_text_comes_before_chunk_bytes text (Text more ∷ ps) = append_assoc text more
+    (flat_map chunk_bytes ps)
+prepended_text_comes_before_chunk_bytes text (Byte value ∷ ps) = refl
 
-pub chunk_bytes-chunks_of : (ts : List Token) → flat_map chunk_bytes (chunks_of ts) ≡ token_bytes ts
-unfolding chunks_of
-chunk_bytes-chunks_of [] = refl
-chunk_bytes-chunks_of (Char c ∷ ts) = onto_bytes (encode_utf8 c) (chunks_of ts)
-    ∙ ap (λ x. encode_utf8 c ++ x) (chunk_bytes-chunks_of ts)
-chunk_bytes-chunks_of (Octet value ∷ ts) = ap (λ x. value ∷ x) (chunk_bytes-chunks_of ts)
+-- decoding: the chunks of tokens are joined the bytes that the tokens decode to
+pub chunks_have_bytes_of_their_tokens : (ts : List Token)
+    → flat_map chunk_bytes (chunks_of_tokens ts)
+    ≡ bytes_decoded_from ts
+unfolding chunks_of_tokens
+chunks_have_bytes_of_their_tokens [] = refl
+chunks_have_bytes_of_their_tokens (Char c ∷ ts) = prepended_text_comes_before_chunk_bytes
+    (encode_utf8 c) (chunks_of_tokens ts)
+    ∙ ap (λ x. encode_utf8 c ++ x) (chunks_have_bytes_of_their_tokens ts)
+chunks_have_bytes_of_their_tokens (Octet value ∷ ts) = ap (λ x. value ∷ x)
+    (chunks_have_bytes_of_their_tokens ts)
 
-pub left_decoded : (d : Decode) → bytes_left d ≡ decoded d
-left_decoded d = chunk_bytes-chunks_of (tokens (undecoded d))
+-- decoding: the bytes that an iterator has left are those that its text decodes to
+pub bytes_left-is-decoded : (d : Decode) → bytes_left d ≡ decoded d
+bytes_left-is-decoded d = chunks_have_bytes_of_their_tokens (tokens (undecoded d))
 
--- a text without `%` decodes to itself
-chars_bytes : (cs : List ℕ) → token_bytes (map Char cs) ≡ encode_utf8_all cs
-chars_bytes [] = refl
-chars_bytes (c ∷ cs) = ap (λ x. encode_utf8 c ++ x) (chars_bytes cs)
+-- decoding: literal characters decode to their UTF-8
+literal_chars_decode_to_their_utf8 : (cs : List ℕ) → bytes_decoded_from (map Char cs)
+    ≡ encode_utf8_all cs
+literal_chars_decode_to_their_utf8 [] = refl
+literal_chars_decode_to_their_utf8 (c ∷ cs) = ap (λ x. encode_utf8 c ++ x)
+    (literal_chars_decode_to_their_utf8 cs)
 
-pub token_bytes-unencoded : (text : List ℕ) → IsUtf8 text → is_unencoded text ≡ true
-    → token_bytes (tokens text) ≡ text
-unfolding tokens_of chars
-token_bytes-unencoded text u e =
-    ap (λ x. token_bytes (tokens x)) (sym (append-nil text))
-    ∙ ap token_bytes (tokens_front text [] u e)
-    ∙ ap token_bytes (append-nil (map Char (chars text))) ∙ chars_bytes (chars text)
+-- decoding: a text without `%` decodes to itself
+pub unencoded_text_decodes_to_itself : (text : List ℕ) → IsUtf8 text → is_unencoded text ≡ true
+    → bytes_decoded_from (tokens text) ≡ text
+unfolding tokens_from_chars chars
+unencoded_text_decodes_to_itself text u e =
+    ap (λ x. bytes_decoded_from (tokens x)) (sym (append-nil text))
+    ∙ ap bytes_decoded_from (tokens_after_unencoded_prefix text [] u e)
+    ∙ ap bytes_decoded_from (append-nil (map Char (chars text)))
+    ∙ literal_chars_decode_to_their_utf8 (chars text)
     ∙ encodes-chars text u
 
-pub read_pieces : (ps : List Piece) → pieces_of (map Read ps) ≡ ps
-read_pieces [] = refl
-read_pieces (p ∷ ps) = ap (λ x. p ∷ x) (read_pieces ps)
+-- decoding: parts that are pieces of decoded bytes have these pieces
+pub decoded_parts_have_their_pieces : (ps : List Piece) → pieces_of_parts (map Decoded ps) ≡ ps
+decoded_parts_have_their_pieces [] = refl
+decoded_parts_have_their_pieces (p ∷ ps) = ap (λ x. p ∷ x) (decoded_parts_have_their_pieces ps)
 
-text_pieces : (run text : List ℕ) (ps : List Chunk)
-    → pieces_of (parts_from run (Text text ∷ ps))
-    ≡ utf8_pieces run ++ (utf8_pieces text ++ pieces_of (parts_from [] ps))
+-- decoding: octets (run) and a literal text after them have the pieces of each;
+-- ps: the chunks after them
+pieces_of_run_before_text_chunk : (run text : List ℕ) (ps : List Chunk)
+    → pieces_of_parts (parts_from run (Text text ∷ ps))
+    ≡ utf8_pieces run ++ (utf8_pieces text ++ pieces_of_parts (parts_from [] ps))
 unfolding parts_from
-text_pieces run text ps =
-    flat_map-append part_pieces (map Read (utf8_pieces run)) (Plain text ∷ parts_from [] ps)
-    ∙ ap (λ x. x ++ (utf8_pieces text ++ pieces_of (parts_from [] ps)))
-    (read_pieces (utf8_pieces run))
+pieces_of_run_before_text_chunk run text ps =
+    flat_map-append part_pieces (map Decoded (utf8_pieces run)) (Literal text ∷ parts_from [] ps)
+    ∙ ap (λ x. x ++ (utf8_pieces text ++ pieces_of_parts (parts_from [] ps)))
+    (decoded_parts_have_their_pieces (utf8_pieces run))
 
-onto_pieces : (run text : List ℕ) (ps : List Chunk) → IsUtf8 text
-    → pieces_of (parts_from run (onto_chunks text ps))
-    ≡ utf8_pieces run ++ (utf8_pieces text ++ pieces_of (parts_from [] ps))
-unfolding onto_chunks
-onto_pieces run text [] u = text_pieces run text []
-onto_pieces run text (Text more ∷ ps) u =
-    text_pieces run (text ++ more) ps
-    ∙ ap (λ x. utf8_pieces run ++ (x ++ pieces_of (parts_from [] ps)))
-    (utf8_pieces-text text more u)
+-- decoding: octets (run) and a literal text that joins the next have the pieces of each;
+-- ps: the chunks after them
+pieces_of_run_before_prepended_text : (run text : List ℕ) (ps : List Chunk) → IsUtf8 text
+    → pieces_of_parts (parts_from run (prepend_to_chunks text ps))
+    ≡ utf8_pieces run ++ (utf8_pieces text ++ pieces_of_parts (parts_from [] ps))
+unfolding prepend_to_chunks
+pieces_of_run_before_prepended_text run text [] u = pieces_of_run_before_text_chunk run text []
+pieces_of_run_before_prepended_text run text (Text more ∷ ps) u =
+    pieces_of_run_before_text_chunk run (text ++ more) ps
+    ∙ ap (λ x. utf8_pieces run ++ (x ++ pieces_of_parts (parts_from [] ps)))
+    (utf8_pieces_are_cut_after_text text more u)
     ∙ ap (λ x. utf8_pieces run ++ x)
-    (append_assoc (utf8_pieces text) (utf8_pieces more) (pieces_of (parts_from [] ps))
+    (append_assoc (utf8_pieces text) (utf8_pieces more) (pieces_of_parts (parts_from [] ps))
     ∙ ap (λ x. utf8_pieces text ++ x)
-    (sym (text_pieces [] more ps
-    ∙ ap (λ x. x ++ (utf8_pieces more ++ pieces_of (parts_from [] ps))) nil_pieces)))
-onto_pieces run text (Byte value ∷ ps) u = text_pieces run text (Byte value ∷ ps)
+    (sym (pieces_of_run_before_text_chunk [] more ps
+    ∙ ap (λ x. x ++ (utf8_pieces more ++ pieces_of_parts (parts_from [] ps)))
+    no_bytes_have_no_pieces)))
+pieces_of_run_before_prepended_text run text (Byte value ∷ ps) u = pieces_of_run_before_text_chunk
+    run text (Byte value ∷ ps)
 
-char_pieces : (c : ℕ) → IsScalar c → utf8_pieces (encode_utf8 c) ≡ WellFormed (encode_utf8 c) ∷ []
-char_pieces c s = ap utf8_pieces (sym (append-nil (encode_utf8 c)))
-    ∙ utf8_pieces-encode_first c [] s ∙ ap (λ x. WellFormed (encode_utf8 c) ∷ x) nil_pieces
+-- UTF-8: the bytes of a character are one well-formed piece
+char_is_one_well_formed_piece : (c : ℕ) → IsScalar c → utf8_pieces (encode_utf8 c)
+    ≡ WellFormed (encode_utf8 c) ∷ []
+char_is_one_well_formed_piece c s = ap utf8_pieces (sym (append-nil (encode_utf8 c)))
+    ∙ first_char_is_first_piece c [] s
+    ∙ ap (λ x. WellFormed (encode_utf8 c) ∷ x) no_bytes_have_no_pieces
 
-pub scalar_first : (c : ℕ) → is_printable (Char c) ≡ true → IsScalar c
-scalar_first c e = (and_parts _ true (and_parts _ _ e).0).0
+-- tokens: a character that can be written is a Unicode scalar value
+pub printable_char_is_scalar : (c : ℕ) → is_printable (Char c) ≡ true → IsScalar c
+printable_char_is_scalar c e = (and_parts _ true (and_parts _ _ e).0).0
 
-pieces_of-parts_from : (run : List ℕ) (ts : List Token) → list_all is_printable ts ≡ true
-    → pieces_of (parts_from run (chunks_of ts)) ≡ utf8_pieces (run ++ token_bytes ts)
-unfolding chunks_of parts_from
-pieces_of-parts_from run [] e = read_pieces (utf8_pieces run)
+-- decoding: octets (run) and tokens have the pieces of the bytes that they decode to
+parts_after_run_have_pieces_of_decoded_bytes : (run : List ℕ) (ts : List Token)
+    → list_all is_printable ts ≡ true
+    → pieces_of_parts (parts_from run (chunks_of_tokens ts))
+    ≡ utf8_pieces (run ++ bytes_decoded_from ts)
+unfolding chunks_of_tokens parts_from
+parts_after_run_have_pieces_of_decoded_bytes run [] e = decoded_parts_have_their_pieces
+    (utf8_pieces run)
     ∙ ap utf8_pieces (sym (append-nil run))
-pieces_of-parts_from run (Octet value ∷ ts) e =
-    pieces_of-parts_from (run ++ value ∷ []) ts (and_parts (is_printable (Octet value)) _ e).1
-    ∙ ap utf8_pieces (append_assoc run (value ∷ []) (token_bytes ts))
-pieces_of-parts_from run (Char c ∷ ts) e =
+parts_after_run_have_pieces_of_decoded_bytes run (Octet value ∷ ts) e =
+    parts_after_run_have_pieces_of_decoded_bytes (run ++ value ∷ []) ts
+    (and_parts (is_printable (Octet value)) _ e).1
+    ∙ ap utf8_pieces (append_assoc run (value ∷ []) (bytes_decoded_from ts))
+parts_after_run_have_pieces_of_decoded_bytes run (Char c ∷ ts) e =
     let p = and_parts (is_printable (Char c)) _ e in
-    let scalar = scalar_first c p.0 in
-    onto_pieces run (encode_utf8 c) (chunks_of ts) (IsUtf8-encode c scalar)
-    ∙ ap (λ x. utf8_pieces run ++ (x ++ pieces_of (parts_from [] (chunks_of ts))))
-    (char_pieces c scalar)
-    ∙ ap (λ x. utf8_pieces run ++ WellFormed (encode_utf8 c) ∷ x) (pieces_of-parts_from [] ts p.1)
-    ∙ sym (utf8_pieces-around_char run c (token_bytes ts) scalar)
+    let scalar = printable_char_is_scalar c p.0 in
+    pieces_of_run_before_prepended_text run (encode_utf8 c) (chunks_of_tokens ts)
+    (IsUtf8-encode c scalar)
+    ∙ ap (λ x. utf8_pieces run ++ (x ++ pieces_of_parts (parts_from [] (chunks_of_tokens ts))))
+    (char_is_one_well_formed_piece c scalar)
+    ∙ ap (λ x. utf8_pieces run ++ WellFormed (encode_utf8 c) ∷ x)
+    (parts_after_run_have_pieces_of_decoded_bytes [] ts p.1)
+    ∙ sym (char_separates_utf8_pieces run c (bytes_decoded_from ts) scalar)
 
--- of a text that decodes
-pub pieces_of-parts : (text : List ℕ) → IsValidFor widest_set text
-    → pieces_of (parts text) ≡ utf8_pieces (token_bytes (tokens text))
-pieces_of-parts text v = pieces_of-parts_from [] (tokens text)
-    (printable_valid widest_set text refl v)
+-- decoding: the parts of a text that decodes have the pieces of the decoded bytes
+pub parts_have_pieces_of_decoded_bytes : (text : List ℕ) → IsValidFor widest_set text
+    → pieces_of_parts (parts text) ≡ utf8_pieces (bytes_decoded_from (tokens text))
+parts_have_pieces_of_decoded_bytes text v = parts_after_run_have_pieces_of_decoded_bytes []
+    (tokens text)
+    (valid_text_has_printable_tokens widest_set text refl v)

@@ -7,77 +7,101 @@ use Rattle.std.specs.List.{list_all, find}
 use Rattle.std.proofs.lemmas.List.{take-take, drop-take, take_at, take-append-drop, take-append-le}
 use Rattle.std.proofs.lemmas.Bool.{cases_Bool, cond-true, cond-false, and_parts, and_left}
 use Rattle.std.proofs.lemmas.Bool.{and_right, and_cases, leb-true, lt-leb, leb-false}
-use Rattle.uri_pct.specs.Pieces.{Piece, WellFormed, IllFormed, ByteRange, Row, is_within}
-use Rattle.uri_pct.specs.Pieces.{continuation, well_formed_rows, begins_within, piece_bytes}
-use Rattle.uri_pct.specs.Pieces.{bytes_of_pieces, following, fitting, taken, first_piece}
+use Rattle.uri_pct.specs.Pieces.{Piece, WellFormed, IllFormed, ByteRange, Row, is_in_byte_range}
+use Rattle.uri_pct.specs.Pieces.{continuation, well_formed_rows, begins_with_continuation}
+use Rattle.uri_pct.specs.Pieces.{piece_bytes}
+use Rattle.uri_pct.specs.Pieces.{bytes_of_pieces, following_ranges, len_in_ranges}
+use Rattle.uri_pct.specs.Pieces.{first_piece_tail_len, first_piece}
 use Rattle.uri_pct.specs.Pieces.{pieces_from, utf8_pieces}
 
-fitting_le : (ranges : List ByteRange) (text : List ℕ) → fitting ranges text ≤ length text
-fitting_le [] text = omega arith
-fitting_le (range ∷ ranges) [] = omega arith
-fitting_le (range ∷ ranges) (b ∷ rest) =
-    let h = fitting_le ranges rest in
-    ⊎_elim (λ e. rw e (omega arith)) (λ e. rw e (omega arith)) (cases_Bool (is_within range b))
+-- UTF-8: no more bytes fit ranges than there are
+len_in_ranges_is_at_most_length : (ranges : List ByteRange) (text : List ℕ)
+    → len_in_ranges ranges text ≤ length text
+len_in_ranges_is_at_most_length [] text = omega arith
+len_in_ranges_is_at_most_length (range ∷ ranges) [] = omega arith
+len_in_ranges_is_at_most_length (range ∷ ranges) (b ∷ rest) =
+    let h = len_in_ranges_is_at_most_length ranges rest in
+    ⊎_elim (λ e. rw e (omega arith)) (λ e. rw e (omega arith))
+    (cases_Bool (is_in_byte_range range b))
 
-pub taken_le : (row : Option (List ByteRange)) (rest : List ℕ) → taken row rest ≤ length rest
-taken_le None rest = omega arith
-taken_le (Some ranges) rest = fitting_le ranges rest
+-- UTF-8: the first piece takes no more of the rest than there is;
+-- row: which bytes may follow the first
+pub first_piece_tail_is_within_rest : (row : Option (List ByteRange)) (rest : List ℕ)
+    → first_piece_tail_len row rest ≤ length rest
+first_piece_tail_is_within_rest None rest = omega arith
+first_piece_tail_is_within_rest (Some ranges) rest = len_in_ranges_is_at_most_length ranges rest
 
-pub first_bytes : (row : Option (List ByteRange)) (b : ℕ) (rest : List ℕ)
-    → piece_bytes (first_piece row b rest) ≡ b ∷ take (taken row rest) rest
-first_bytes None b rest = refl
-first_bytes (Some ranges) b rest =
+-- UTF-8: the first piece has the first byte b, and some of the rest; row: which bytes may follow b
+pub first_piece_has_first_bytes : (row : Option (List ByteRange)) (b : ℕ) (rest : List ℕ)
+    → piece_bytes (first_piece row b rest) ≡ b ∷ take (first_piece_tail_len row rest) rest
+first_piece_has_first_bytes None b rest = refl
+first_piece_has_first_bytes (Some ranges) b rest =
     ⊎_elim (λ e. rw e refl) (λ e. rw e refl)
-    (cases_Bool (eqb (fitting ranges rest) (length ranges)))
+    (cases_Bool (eqb (len_in_ranges ranges rest) (length ranges)))
 
--- to pass some bytes is to begin after them
-pub pieces_from-drop : (k : ℕ) (bytes : List ℕ) → pieces_from k bytes ≡ utf8_pieces (drop k bytes)
+-- UTF-8: the pieces after k skipped bytes are those of the bytes after them
+pub pieces_from_are_pieces_after_skipped_bytes : (k : ℕ) (bytes : List ℕ) → pieces_from k bytes
+    ≡ utf8_pieces (drop k bytes)
 unfolding pieces_from
-pieces_from-drop zero bytes = refl
-pieces_from-drop (suc k) [] = refl
-pieces_from-drop (suc k) (b ∷ rest) = pieces_from-drop k rest
+pieces_from_are_pieces_after_skipped_bytes zero bytes = refl
+pieces_from_are_pieces_after_skipped_bytes (suc k) [] = refl
+pieces_from_are_pieces_after_skipped_bytes (suc k) (b ∷ rest) =
+    pieces_from_are_pieces_after_skipped_bytes k rest
 
-bytes_passed : (k : ℕ) (bytes : List ℕ) → bytes_of_pieces (pieces_from k bytes) ≡ drop k bytes
+-- UTF-8: after k bytes that are skipped, the pieces are joined the rest
+pieces_after_skipped_bytes_join_to_the_rest : (k : ℕ) (bytes : List ℕ)
+    → bytes_of_pieces (pieces_from k bytes) ≡ drop k bytes
 unfolding pieces_from
-bytes_passed zero [] = refl
-bytes_passed (suc k) [] = refl
-bytes_passed (suc k) (b ∷ rest) = bytes_passed k rest
-bytes_passed zero (b ∷ rest) =
-    let n = taken (following b) rest in
-    ap (λ x. x ++ bytes_of_pieces (pieces_from n rest)) (first_bytes (following b) b rest)
-    ∙ ap (λ x. b ∷ (take n rest ++ x)) (bytes_passed n rest)
+pieces_after_skipped_bytes_join_to_the_rest zero [] = refl
+pieces_after_skipped_bytes_join_to_the_rest (suc k) [] = refl
+pieces_after_skipped_bytes_join_to_the_rest (suc k) (b ∷ rest) =
+    pieces_after_skipped_bytes_join_to_the_rest k rest
+pieces_after_skipped_bytes_join_to_the_rest zero (b ∷ rest) =
+    let n = first_piece_tail_len (following_ranges b) rest in
+    ap (λ x. x ++ bytes_of_pieces (pieces_from n rest))
+    (first_piece_has_first_bytes (following_ranges b) b rest)
+    ∙ ap (λ x. b ∷ (take n rest ++ x)) (pieces_after_skipped_bytes_join_to_the_rest n rest)
     ∙ ap (λ x. b ∷ x) (take-append-drop n rest)
 
--- the pieces are together the bytes
-pub bytes_of_pieces-utf8_pieces : (bytes : List ℕ) → bytes_of_pieces (utf8_pieces bytes) ≡ bytes
-bytes_of_pieces-utf8_pieces bytes = bytes_passed 0 bytes
+-- UTF-8: the pieces of bytes are together the bytes
+pub bytes_of_utf8_pieces_are_the_bytes : (bytes : List ℕ) → bytes_of_pieces (utf8_pieces bytes)
+    ≡ bytes
+bytes_of_utf8_pieces_are_the_bytes bytes = pieces_after_skipped_bytes_join_to_the_rest 0 bytes
 
 -- the ranges of the table are of bytes that begin no character
-unfoldable pub is_inner : ByteRange → Bool
-is_inner range = leb 0x80 range.0 && leb range.1 0xBF
+unfoldable pub is_continuation_range : ByteRange → Bool
+is_continuation_range range = leb 0x80 range.0 && leb range.1 0xBF
 
-unfoldable pub are_inner : Option (List ByteRange) → Bool
-are_inner None = true
-are_inner (Some ranges) = list_all is_inner ranges
+unfoldable pub are_continuation_ranges : Option (List ByteRange) → Bool
+are_continuation_ranges None = true
+are_continuation_ranges (Some ranges) = list_all is_continuation_range ranges
 
-found_inner : (b : ℕ) (rows : List Row)
-    → list_all (λ (row : Row). list_all is_inner row.1) rows ≡ true
-    → are_inner (option_map (λ (row : Row). row.1) (find (λ (row : Row). is_within row.0 b) rows))
+-- UTF-8: if each row of the table has continuation bytes only, the row that a search finds has too
+found_row_has_continuation_ranges : (b : ℕ) (rows : List Row)
+    → list_all (λ (row : Row). list_all is_continuation_range row.1) rows ≡ true
+    → are_continuation_ranges
+    (option_map (λ (row : Row). row.1) (find (λ (row : Row). is_in_byte_range row.0 b) rows))
     ≡ true
-unfolding are_inner
-found_inner b [] h = refl
-found_inner b (row ∷ rows) h =
-    let p = and_parts (list_all is_inner row.1) _ h in
-    ⊎_elim (λ e. rw e p.0) (λ e. rw e (found_inner b rows p.1)) (cases_Bool (is_within row.0 b))
+unfolding are_continuation_ranges
+found_row_has_continuation_ranges b [] h = refl
+found_row_has_continuation_ranges b (row ∷ rows) h =
+    let p = and_parts (list_all is_continuation_range row.1) _ h in
+    ⊎_elim (λ e. rw e p.0) (λ e. rw e (found_row_has_continuation_ranges b rows p.1))
+    (cases_Bool (is_in_byte_range row.0 b))
 
-pub following_inner : (b : ℕ) → are_inner (following b) ≡ true
-unfolding following is_inner
-following_inner b = found_inner b well_formed_rows refl
+-- UTF-8: only the bytes 80 to BF may follow a first byte
+pub following_ranges_are_continuations : (b : ℕ) → are_continuation_ranges (following_ranges b)
+    ≡ true
+unfolding following_ranges is_continuation_range
+following_ranges_are_continuations b = found_row_has_continuation_ranges b well_formed_rows refl
 
-outside : (range : ByteRange) (b : ℕ) → is_inner range ≡ true → is_within continuation b ≡ false
-    → is_within range b ≡ false
-unfolding is_inner
-outside range b inner out =
+-- UTF-8: a byte that continues no character is in no range of bytes that may follow
+non_continuation_is_in_no_continuation_range : (range : ByteRange) (b : ℕ)
+    → is_continuation_range range ≡ true
+    → is_in_byte_range continuation b ≡ false
+    → is_in_byte_range range b ≡ false
+unfolding is_continuation_range
+non_continuation_is_in_no_continuation_range range b inner out =
     let p = and_parts (leb 0x80 range.0) _ inner in
     let low : 0x80 ≤ range.0 = leb-true 0x80 range.0 p.0 in
     let high : range.1 ≤ 0xBF = leb-true range.1 0xBF p.1 in
@@ -88,166 +112,218 @@ outside range b inner out =
     and_right _ _ (lt-leb b range.1 (omega arith)))
     (and_cases (leb 0x80 b) (leb b 0xBF) out)
 
--- what follows a byte that begins no character does not fit
-fitting_stops : (ranges : List ByteRange) (xs ys : List ℕ) → list_all is_inner ranges ≡ true
-    → begins_within ys ≡ false → fitting ranges (xs ++ ys) ≡ fitting ranges xs
-fitting_stops [] xs ys inner out = refl
-fitting_stops (range ∷ ranges) [] [] inner out = refl
-fitting_stops (range ∷ ranges) [] (b ∷ ys) inner out =
-    cond-false _ _ _ (outside range b (and_parts (is_inner range) _ inner).0 out)
-fitting_stops (range ∷ ranges) (x ∷ xs) ys inner out =
-    ap (λ n. cond (is_within range x) (suc n) 0)
-    (fitting_stops ranges xs ys (and_parts (is_inner range) _ inner).1 out)
+-- UTF-8: what follows does not fit the ranges, if it begins with a byte that continues no character
+fitting_stops_at_non_continuation : (ranges : List ByteRange) (xs ys : List ℕ)
+    → list_all is_continuation_range ranges
+    ≡ true
+    → begins_with_continuation ys ≡ false → len_in_ranges ranges (xs ++ ys)
+    ≡ len_in_ranges ranges xs
+fitting_stops_at_non_continuation [] xs ys inner out = refl
+fitting_stops_at_non_continuation (range ∷ ranges) [] [] inner out = refl
+fitting_stops_at_non_continuation (range ∷ ranges) [] (b ∷ ys) inner out =
+    cond-false _ _ _ (non_continuation_is_in_no_continuation_range range b
+    (and_parts (is_continuation_range range) _ inner).0 out)
+fitting_stops_at_non_continuation (range ∷ ranges) (x ∷ xs) ys inner out =
+    ap (λ n. cond (is_in_byte_range range x) (suc n) 0)
+    (fitting_stops_at_non_continuation ranges xs ys
+    (and_parts (is_continuation_range range) _ inner).1 out)
 
-taken_stops : (row : Option (List ByteRange)) (xs ys : List ℕ) → are_inner row ≡ true
-    → begins_within ys ≡ false → taken row (xs ++ ys) ≡ taken row xs
-unfolding are_inner
-taken_stops None xs ys inner out = refl
-taken_stops (Some ranges) xs ys inner out = fitting_stops ranges xs ys inner out
+-- UTF-8: the first piece ends before a byte that continues none;
+-- row: which bytes may follow its first
+first_piece_tail_stops_at_non_continuation : (row : Option (List ByteRange)) (xs ys : List ℕ)
+    → are_continuation_ranges row ≡ true
+    → begins_with_continuation ys ≡ false → first_piece_tail_len row (xs ++ ys)
+    ≡ first_piece_tail_len row xs
+unfolding are_continuation_ranges
+first_piece_tail_stops_at_non_continuation None xs ys inner out = refl
+first_piece_tail_stops_at_non_continuation (Some ranges) xs ys inner out =
+    fitting_stops_at_non_continuation ranges xs ys inner out
 
-first_stays : (row : Option (List ByteRange)) (b : ℕ) (xs ys : List ℕ)
-    → taken row (xs ++ ys) ≡ taken row xs
+-- UTF-8: the first piece is the same whatever follows,
+-- if as many bytes follow its first; row: which may
+first_piece_is_unchanged_by_suffix : (row : Option (List ByteRange)) (b : ℕ) (xs ys : List ℕ)
+    → first_piece_tail_len row (xs ++ ys) ≡ first_piece_tail_len row xs
     → first_piece row b (xs ++ ys) ≡ first_piece row b xs
-first_stays None b xs ys same = refl
-first_stays (Some ranges) b xs ys same =
-    let n = fitting ranges xs in
+first_piece_is_unchanged_by_suffix None b xs ys same = refl
+first_piece_is_unchanged_by_suffix (Some ranges) b xs ys same =
+    let n = len_in_ranges ranges xs in
     ap (λ m. cond (eqb m (length ranges)) (WellFormed (b ∷ take m (xs ++ ys)))
     (IllFormed (b ∷ take m (xs ++ ys)))) same
     ∙ ap (λ t. cond (eqb n (length ranges)) (WellFormed (b ∷ t)) (IllFormed (b ∷ t)))
-    (take-append-le n xs ys (fitting_le ranges xs))
+    (take-append-le n xs ys (len_in_ranges_is_at_most_length ranges xs))
 
--- where the first piece takes no byte of what follows, what is left decides
-pub first_parted : (x : ℕ) (xs ys : List ℕ)
-    → taken (following x) (xs ++ ys) ≡ taken (following x) xs
-    → pieces_from (taken (following x) xs) (xs ++ ys)
-    ≡ pieces_from (taken (following x) xs) xs ++ utf8_pieces ys
+-- UTF-8: where the first piece takes no byte of what follows,
+-- the pieces are cut there if those of the rest are
+pub utf8_pieces_are_cut_after_first_if_rest_is : (x : ℕ) (xs ys : List ℕ)
+    → first_piece_tail_len (following_ranges x) (xs ++ ys)
+    ≡ first_piece_tail_len (following_ranges x) xs
+    → pieces_from (first_piece_tail_len (following_ranges x) xs) (xs ++ ys)
+    ≡ pieces_from (first_piece_tail_len (following_ranges x) xs) xs ++ utf8_pieces ys
     → utf8_pieces ((x ∷ xs) ++ ys) ≡ utf8_pieces (x ∷ xs) ++ utf8_pieces ys
 unfolding pieces_from
-first_parted x xs ys same left =
-    let row = following x in
-    ap (λ p. p ∷ pieces_from (taken row (xs ++ ys)) (xs ++ ys)) (first_stays row x xs ys same)
+utf8_pieces_are_cut_after_first_if_rest_is x xs ys same left =
+    let row = following_ranges x in
+    ap (λ p. p ∷ pieces_from (first_piece_tail_len row (xs ++ ys)) (xs ++ ys))
+    (first_piece_is_unchanged_by_suffix row x xs ys same)
     ∙ ap (λ n. first_piece row x xs ∷ pieces_from n (xs ++ ys)) same
     ∙ ap (λ ps. first_piece row x xs ∷ ps) left
 
-pieces_parted : (k : ℕ) (xs ys : List ℕ) → k ≤ length xs → begins_within ys ≡ false
+-- UTF-8: pieces are cut before a byte that continues no character; k: how many bytes are skipped
+pieces_from_are_cut_at_non_continuation : (k : ℕ) (xs ys : List ℕ) → k ≤ length xs
+    → begins_with_continuation ys ≡ false
     → pieces_from k (xs ++ ys) ≡ pieces_from k xs ++ utf8_pieces ys
 unfolding pieces_from
-pieces_parted zero [] ys h out = refl
-pieces_parted (suc k) [] ys h out = absurd (omega arith)
-pieces_parted (suc k) (x ∷ xs) ys h out = pieces_parted k xs ys (omega arith) out
-pieces_parted zero (x ∷ xs) ys h out =
-    let row = following x in
-    first_parted x xs ys (taken_stops row xs ys (following_inner x) out)
-    (pieces_parted (taken row xs) xs ys (taken_le row xs) out)
+pieces_from_are_cut_at_non_continuation zero [] ys h out = refl
+pieces_from_are_cut_at_non_continuation (suc k) [] ys h out = absurd (omega arith)
+pieces_from_are_cut_at_non_continuation (suc k) (x ∷ xs) ys h out =
+    pieces_from_are_cut_at_non_continuation k xs ys (omega arith) out
+pieces_from_are_cut_at_non_continuation zero (x ∷ xs) ys h out =
+    let row = following_ranges x in
+    utf8_pieces_are_cut_after_first_if_rest_is x xs ys
+    (first_piece_tail_stops_at_non_continuation row xs ys
+    (following_ranges_are_continuations x) out)
+    (pieces_from_are_cut_at_non_continuation (first_piece_tail_len row xs) xs ys
+    (first_piece_tail_is_within_rest row xs) out)
 
--- a byte that begins a character, or none at all, begins a piece
-pub utf8_pieces-append : (xs ys : List ℕ) → begins_within ys ≡ false
+-- UTF-8: a byte that continues no character begins a piece
+pub utf8_pieces_are_cut_at_non_continuation : (xs ys : List ℕ) → begins_with_continuation ys ≡ false
     → utf8_pieces (xs ++ ys) ≡ utf8_pieces xs ++ utf8_pieces ys
-utf8_pieces-append xs ys out = pieces_parted 0 xs ys (omega arith) out
+utf8_pieces_are_cut_at_non_continuation xs ys out = pieces_from_are_cut_at_non_continuation 0 xs ys
+    (omega arith) out
 
--- a cut after what fits changes nothing
-fitting_cut : (ranges : List ByteRange) (text : List ℕ) (m : ℕ) → fitting ranges text ≤ m
-    → fitting ranges (take m text) ≡ fitting ranges text
-fitting_cut [] text m h = refl
-fitting_cut (range ∷ ranges) [] zero h = refl
-fitting_cut (range ∷ ranges) [] (suc m) h = refl
-fitting_cut (range ∷ ranges) (b ∷ rest) zero h = ⊎_elim
-    (λ e. let fits : suc (fitting ranges rest) ≤ 0 = subst (λ n. n ≤ 0) (cond-true _ _ _ e) h in
+-- UTF-8: if bytes are cut after those that fit ranges, as many fit
+cut_after_fitting_bytes_keeps_len_in_ranges : (ranges : List ByteRange) (text : List ℕ) (m : ℕ)
+    → len_in_ranges ranges text ≤ m
+    → len_in_ranges ranges (take m text) ≡ len_in_ranges ranges text
+cut_after_fitting_bytes_keeps_len_in_ranges [] text m h = refl
+cut_after_fitting_bytes_keeps_len_in_ranges (range ∷ ranges) [] zero h = refl
+cut_after_fitting_bytes_keeps_len_in_ranges (range ∷ ranges) [] (suc m) h = refl
+cut_after_fitting_bytes_keeps_len_in_ranges (range ∷ ranges) (b ∷ rest) zero h = ⊎_elim
+    (λ e. let fits : suc (len_in_ranges ranges rest) ≤ 0 = subst (λ n. n ≤ 0)
+    (cond-true _ _ _ e) h in
     absurd (omega arith))
-    (λ e. sym (cond-false _ _ _ e)) (cases_Bool (is_within range b))
-fitting_cut (range ∷ ranges) (b ∷ rest) (suc m) h = ⊎_elim
-    (λ e. let fits : suc (fitting ranges rest) ≤ suc m =
+    (λ e. sym (cond-false _ _ _ e)) (cases_Bool (is_in_byte_range range b))
+cut_after_fitting_bytes_keeps_len_in_ranges (range ∷ ranges) (b ∷ rest) (suc m) h = ⊎_elim
+    (λ e. let fits : suc (len_in_ranges ranges rest) ≤ suc m =
     subst (λ n. n ≤ suc m) (cond-true _ _ _ e) h in
-    rw e (ap suc (fitting_cut ranges rest m (omega arith))))
-    (λ e. rw e refl) (cases_Bool (is_within range b))
+    rw e (ap suc (cut_after_fitting_bytes_keeps_len_in_ranges ranges rest m (omega arith))))
+    (λ e. rw e refl) (cases_Bool (is_in_byte_range range b))
 
-taken_cut : (row : Option (List ByteRange)) (rest : List ℕ) (m : ℕ) → taken row rest ≤ m
-    → taken row (take m rest) ≡ taken row rest
-taken_cut None rest m h = refl
-taken_cut (Some ranges) rest m h = fitting_cut ranges rest m h
+-- UTF-8: a cut after the first piece leaves as many bytes in it; row: which may follow its first
+cut_after_first_piece_keeps_its_tail_len : (row : Option (List ByteRange)) (rest : List ℕ) (m : ℕ)
+    → first_piece_tail_len row rest ≤ m
+    → first_piece_tail_len row (take m rest) ≡ first_piece_tail_len row rest
+cut_after_first_piece_keeps_its_tail_len None rest m h = refl
+cut_after_first_piece_keeps_its_tail_len (Some ranges) rest m h =
+    cut_after_fitting_bytes_keeps_len_in_ranges ranges rest m h
 
-first_cut : (row : Option (List ByteRange)) (b : ℕ) (rest : List ℕ) (m : ℕ) → taken row rest ≤ m
+-- UTF-8: a cut after the first piece leaves it as it is; row: which bytes may follow b
+cut_after_first_piece_keeps_it : (row : Option (List ByteRange)) (b : ℕ) (rest : List ℕ) (m : ℕ)
+    → first_piece_tail_len row rest ≤ m
     → first_piece row b (take m rest) ≡ first_piece row b rest
-first_cut None b rest m h = refl
-first_cut (Some ranges) b rest m h =
-    let n = fitting ranges rest in
+cut_after_first_piece_keeps_it None b rest m h = refl
+cut_after_first_piece_keeps_it (Some ranges) b rest m h =
+    let n = len_in_ranges ranges rest in
     ap (λ j. cond (eqb j (length ranges)) (WellFormed (b ∷ take j (take m rest)))
-    (IllFormed (b ∷ take j (take m rest)))) (fitting_cut ranges rest m h)
+    (IllFormed (b ∷ take j (take m rest))))
+    (cut_after_fitting_bytes_keeps_len_in_ranges ranges rest m h)
     ∙ ap (λ t. cond (eqb n (length ranges)) (WellFormed (b ∷ t)) (IllFormed (b ∷ t)))
     (take-take n m rest h)
 
-take-nil : (n : ℕ) → take {A = ℕ} n [] ≡ []
-take-nil zero = refl
-take-nil (suc n) = refl
+-- general fact on lists, for pieces of bytes: of nothing, nothing is taken
+take_of_nothing_is_nothing : (n : ℕ) → take {A = ℕ} n [] ≡ []
+take_of_nothing_is_nothing zero = refl
+take_of_nothing_is_nothing (suc n) = refl
 
-pub take_two : (n m : ℕ) (text : List ℕ) → take n text ++ take m (drop n text) ≡ take (n + m) text
-take_two zero m text = ap (λ k. take k text) (sym (zero-add m))
-take_two (suc n) m [] = take-nil m ∙ sym (take-nil (suc n + m))
-take_two (suc n) m (b ∷ rest) = let e : suc n + m ≡ suc (n + m) = omega arith in
-    rw e (ap (λ t. b ∷ t) (take_two n m rest))
+-- general fact on prefixes, for pieces of bytes: n bytes and then m are n + m
+pub take_then_take_is_take_of_sum : (n m : ℕ) (text : List ℕ) → take n text ++ take m (drop n text)
+    ≡ take (n + m) text
+take_then_take_is_take_of_sum zero m text = ap (λ k. take k text) (sym (zero-add m))
+take_then_take_is_take_of_sum (suc n) m [] = take_of_nothing_is_nothing m
+    ∙ sym (take_of_nothing_is_nothing (suc n + m))
+take_then_take_is_take_of_sum (suc n) m (b ∷ rest) = let e : suc n + m
+    ≡ suc (n + m) = omega arith in
+    rw e (ap (λ t. b ∷ t) (take_then_take_is_take_of_sum n m rest))
 
--- the bytes of the first pieces are a prefix of the bytes
-front_bytes : (k j : ℕ) (bytes : List ℕ)
+-- UTF-8: the bytes of the first j pieces are a prefix of the bytes; k: how many are skipped
+bytes_of_first_pieces_are_prefix : (k j : ℕ) (bytes : List ℕ)
     → (m : ℕ) × (bytes_of_pieces (take j (pieces_from k bytes)) ≡ take m (drop k bytes))
 unfolding pieces_from
-front_bytes k zero bytes = (0, refl)
-front_bytes zero (suc j) [] = (0, refl)
-front_bytes (suc k) (suc j) [] = (0, refl)
-front_bytes (suc k) (suc j) (b ∷ rest) = front_bytes k (suc j) rest
-front_bytes zero (suc j) (b ∷ rest) =
-    let n = taken (following b) rest in
-    let ih = front_bytes n j rest in (
+bytes_of_first_pieces_are_prefix k zero bytes = (0, refl)
+bytes_of_first_pieces_are_prefix zero (suc j) [] = (0, refl)
+bytes_of_first_pieces_are_prefix (suc k) (suc j) [] = (0, refl)
+bytes_of_first_pieces_are_prefix (suc k) (suc j) (b ∷ rest) = bytes_of_first_pieces_are_prefix k
+    (suc j) rest
+bytes_of_first_pieces_are_prefix zero (suc j) (b ∷ rest) =
+    let n = first_piece_tail_len (following_ranges b) rest in
+    let ih = bytes_of_first_pieces_are_prefix n j rest in (
       suc (n + ih.0),
       ap (λ x. x ++ bytes_of_pieces (take j (pieces_from n rest)))
-          (first_bytes (following b) b rest) ∙ ap (λ x. b ∷ (take n rest ++ x)) ih.1
-          ∙ ap (λ x. b ∷ x) (take_two n ih.0 rest),
+          (first_piece_has_first_bytes (following_ranges b) b rest)
+          ∙ ap (λ x. b ∷ (take n rest ++ x)) ih.1
+          ∙ ap (λ x. b ∷ x) (take_then_take_is_take_of_sum n ih.0 rest),
     )
 
-pieces_front : (k j : ℕ) (bytes : List ℕ)
+-- UTF-8: the first j pieces of bytes are the pieces of their own bytes;
+-- k: how many bytes are skipped
+first_pieces_are_pieces_of_own_bytes : (k j : ℕ) (bytes : List ℕ)
     → utf8_pieces (bytes_of_pieces (take j (pieces_from k bytes))) ≡ take j (pieces_from k bytes)
 unfolding pieces_from
-pieces_front k zero bytes = refl
-pieces_front zero (suc j) [] = refl
-pieces_front (suc k) (suc j) [] = refl
-pieces_front (suc k) (suc j) (b ∷ rest) = pieces_front k (suc j) rest
-pieces_front zero (suc j) (b ∷ rest) =
-    let row = following b in
-    let n = taken row rest in
-    let front = bytes_of_pieces (take j (pieces_from n rest)) in
-    let f = front_bytes n j rest in
+first_pieces_are_pieces_of_own_bytes k zero bytes = refl
+first_pieces_are_pieces_of_own_bytes zero (suc j) [] = refl
+first_pieces_are_pieces_of_own_bytes (suc k) (suc j) [] = refl
+first_pieces_are_pieces_of_own_bytes (suc k) (suc j) (b ∷ rest) =
+    first_pieces_are_pieces_of_own_bytes k (suc j) rest
+first_pieces_are_pieces_of_own_bytes zero (suc j) (b ∷ rest) =
+    let row = following_ranges b in
+    let n = first_piece_tail_len row rest in
+    let prefix = bytes_of_pieces (take j (pieces_from n rest)) in
+    let f = bytes_of_first_pieces_are_prefix n j rest in
     let kept = take (n + f.0) rest in
-    ap (λ x. utf8_pieces (x ++ front)) (first_bytes row b rest)
+    ap (λ x. utf8_pieces (x ++ prefix)) (first_piece_has_first_bytes row b rest)
     ∙ ap (λ x. utf8_pieces (b ∷ (take n rest ++ x))) f.1
-    ∙ ap (λ x. utf8_pieces (b ∷ x)) (take_two n f.0 rest)
-    ∙ ap (λ p. p ∷ pieces_from (taken row kept) kept) (first_cut row b rest (n + f.0) (omega arith))
+    ∙ ap (λ x. utf8_pieces (b ∷ x)) (take_then_take_is_take_of_sum n f.0 rest)
+    ∙ ap (λ p. p ∷ pieces_from (first_piece_tail_len row kept) kept)
+    (cut_after_first_piece_keeps_it row b rest (n + f.0) (omega arith))
     ∙ ap (λ m. first_piece row b rest ∷ pieces_from m kept)
-    (taken_cut row rest (n + f.0) (omega arith))
+    (cut_after_first_piece_keeps_its_tail_len row rest (n + f.0) (omega arith))
     ∙ ap (λ ps. first_piece row b rest ∷ ps)
-    (pieces_from-drop n kept ∙ ap utf8_pieces (drop-take n f.0 rest ∙ sym f.1)
-    ∙ pieces_front n j rest)
+    (pieces_from_are_pieces_after_skipped_bytes n kept
+    ∙ ap utf8_pieces (drop-take n f.0 rest ∙ sym f.1)
+    ∙ first_pieces_are_pieces_of_own_bytes n j rest)
 
 -- the pieces of their bytes are these
-abbrev pub AreCut : List Piece → Type 0
-AreCut ps = utf8_pieces (bytes_of_pieces ps) ≡ ps
+abbrev pub ArePiecesOfOwnBytes : List Piece → Type 0
+ArePiecesOfOwnBytes ps = utf8_pieces (bytes_of_pieces ps) ≡ ps
 
-pub cut_whole : (bytes : List ℕ) → AreCut (utf8_pieces bytes)
-cut_whole bytes = ap utf8_pieces (bytes_of_pieces-utf8_pieces bytes)
+-- UTF-8: each piece of bytes is by itself the one piece of its bytes
+pub utf8_pieces-are-of-own-bytes : (bytes : List ℕ) → ArePiecesOfOwnBytes (utf8_pieces bytes)
+utf8_pieces-are-of-own-bytes bytes = ap utf8_pieces (bytes_of_utf8_pieces_are_the_bytes bytes)
 
-pub cut_front : (ps qs : List Piece) → AreCut (ps ++ qs) → AreCut ps
-cut_front ps qs cut =
+-- UTF-8: if the pieces of a list are those of their own bytes, so are the first of them (ps)
+pub prefix_of_pieces_is_of_own_bytes : (ps qs : List Piece) → ArePiecesOfOwnBytes (ps ++ qs)
+    → ArePiecesOfOwnBytes ps
+prefix_of_pieces_is_of_own_bytes ps qs cut =
     let same : take (length ps) (utf8_pieces (bytes_of_pieces (ps ++ qs))) ≡ ps =
     ap (take (length ps)) cut
     ∙ take_at ps qs (length ps) refl in
     sym (ap (λ x. utf8_pieces (bytes_of_pieces x)) same)
-    ∙ pieces_front 0 (length ps) (bytes_of_pieces (ps ++ qs)) ∙ same
+    ∙ first_pieces_are_pieces_of_own_bytes 0 (length ps) (bytes_of_pieces (ps ++ qs)) ∙ same
 
-rest_cut : (bytes : List ℕ) (p : Piece) (ps : List Piece) → utf8_pieces bytes ≡ p ∷ ps → AreCut ps
+-- UTF-8: each list of pieces after the first is the pieces of its own bytes
+pieces_after_first_are_of_own_bytes : (bytes : List ℕ) (p : Piece) (ps : List Piece)
+    → utf8_pieces bytes ≡ p ∷ ps
+    → ArePiecesOfOwnBytes ps
 unfolding pieces_from
-rest_cut [] p ps e = cc
-rest_cut (b ∷ rest) p ps e =
-    let n = taken (following b) rest in
-    let same : ps ≡ utf8_pieces (drop n rest) = ap (drop 1) (sym e) ∙ pieces_from-drop n rest in
-    rw same (cut_whole (drop n rest))
+pieces_after_first_are_of_own_bytes [] p ps e = cc
+pieces_after_first_are_of_own_bytes (b ∷ rest) p ps e =
+    let n = first_piece_tail_len (following_ranges b) rest in
+    let same : ps ≡ utf8_pieces (drop n rest) = ap (drop 1) (sym e)
+    ∙ pieces_from_are_pieces_after_skipped_bytes n rest in
+    rw same (utf8_pieces-are-of-own-bytes (drop n rest))
 
-pub cut_back : (p : Piece) (ps : List Piece) → AreCut (p ∷ ps) → AreCut ps
-cut_back p ps cut = rest_cut (bytes_of_pieces (p ∷ ps)) p ps cut
+-- UTF-8: if the pieces of a list are those of their own bytes, so are those after the first (ps)
+pub tail_of_pieces_is_of_own_bytes : (p : Piece) (ps : List Piece) → ArePiecesOfOwnBytes (p ∷ ps)
+    → ArePiecesOfOwnBytes ps
+tail_of_pieces_is_of_own_bytes p ps cut = pieces_after_first_are_of_own_bytes
+    (bytes_of_pieces (p ∷ ps)) p ps cut

@@ -9,63 +9,74 @@ use Rattle.std.proofs.lemmas.Bool.{false≢true, false_from_ne_true}
 use Rattle.std.proofs.lemmas.List.Folds.{list_all-append}
 use Rattle.std.proofs.lemmas.Str.{chars-append}
 use Rattle.uri_pct.specs.Sets.{TableSet, LacksPercent, allows}
-use Rattle.uri_pct.specs.Tokens.{Token, Char, Octet, is_pct_encoded, tokens_of, tokens}
+use Rattle.uri_pct.specs.Tokens.{Token, Char, Octet, is_pct_encoded, tokens_from_chars, tokens}
 use Rattle.uri_pct.specs.Tokens.{allows_token, is_valid_for, IsValidFor, print}
-use Rattle.uri_pct.specs.Reading.{is_printable}
-use Rattle.uri_pct.proofs.Readings.Printing.{char_first, is_valid_for-print, tokens-print}
+use Rattle.uri_pct.specs.DecodeUnreserved.{is_printable}
+use Rattle.uri_pct.proofs.UnreservedDecoding.Printing.{char_but_percent_is_its_own_token}
+use Rattle.uri_pct.proofs.UnreservedDecoding.Printing.{printed_tokens_are_valid_iff_allowed}
+use Rattle.uri_pct.proofs.UnreservedDecoding.Printing.{printed_tokens_parse_to_themselves}
 
 -- a character that a table allows is no `%`
-no_percent : (set : TableSet) (c : ℕ) → LacksPercent set → allows set c ≡ true → eqb c 37 ≡ false
-no_percent set c lacks e = false_from_ne_true _
+allowed_char_is_not_percent : (set : TableSet) (c : ℕ) → LacksPercent set → allows set c ≡ true
+    → eqb c 37 ≡ false
+allowed_char_is_not_percent set c lacks e = false_from_ne_true _
     (λ p. false≢true (sym lacks ∙ sym (ap (allows set) (eqb-true c 37 p)) ∙ e))
 
 module _ (set : TableSet) (lacks : LacksPercent set) where
-  tokens_of-append : (cs ds : List ℕ) → list_all (allows_token set) (tokens_of cs) ≡ true
-      → tokens_of (cs ++ ds) ≡ tokens_of cs ++ tokens_of ds
-  unfolding tokens_of
-  tokens_of-append [] ds e = refl
-  tokens_of-append (c ∷ []) ds e =
-      char_first c ds (no_percent set c lacks (and_parts (allows set c) true e).0)
-  tokens_of-append (c ∷ d ∷ []) ds e =
+  tokens_of_chars_after_allowed_chars : (cs ds : List ℕ)
+      → list_all (allows_token set) (tokens_from_chars cs)
+      ≡ true
+      → tokens_from_chars (cs ++ ds) ≡ tokens_from_chars cs ++ tokens_from_chars ds
+  unfolding tokens_from_chars
+  tokens_of_chars_after_allowed_chars [] ds e = refl
+  tokens_of_chars_after_allowed_chars (c ∷ []) ds e =
+      char_but_percent_is_its_own_token c ds
+      (allowed_char_is_not_percent set c lacks (and_parts (allows set c) true e).0)
+  tokens_of_chars_after_allowed_chars (c ∷ d ∷ []) ds e =
       let p = and_parts (allows set c) (allows set d && true) e in
-      char_first c (d ∷ ds) (no_percent set c lacks p.0)
+      char_but_percent_is_its_own_token c (d ∷ ds) (allowed_char_is_not_percent set c lacks p.0)
       ∙ ap (λ ts. Char c ∷ ts)
-      (char_first d ds (no_percent set d lacks (and_parts (allows set d) true p.1).0))
-  tokens_of-append (c ∷ high ∷ low ∷ cs) ds e = ⊎_elim
+      (char_but_percent_is_its_own_token d ds
+      (allowed_char_is_not_percent set d lacks (and_parts (allows set d) true p.1).0))
+  tokens_of_chars_after_allowed_chars (c ∷ high ∷ low ∷ cs) ds e = ⊎_elim
       (λ o.
-      let rest = (and_parts set.pct_encoded (list_all (allows_token set) (tokens_of cs))
+      let rest = (and_parts set.pct_encoded (list_all (allows_token set) (tokens_from_chars cs))
       (sym (ap (list_all (allows_token set)) (cond-true _ _ _ o)) ∙ e)).1 in
       rw o (ap (λ ts. Octet (16 * digit_value high + digit_value low) ∷ ts)
-      (tokens_of-append cs ds rest)))
+      (tokens_of_chars_after_allowed_chars cs ds rest)))
       (λ o.
       let rest =
-      (and_parts (allows set c) (list_all (allows_token set) (tokens_of (high ∷ low ∷ cs)))
+      (and_parts (allows set c) (list_all (allows_token set) (tokens_from_chars (high ∷ low ∷ cs)))
       (sym (ap (list_all (allows_token set)) (cond-false _ _ _ o)) ∙ e)).1 in
-      rw o (ap (λ ts. Char c ∷ ts) (tokens_of-append (high ∷ low ∷ cs) ds rest)))
+      rw o (ap (λ ts. Char c ∷ ts) (tokens_of_chars_after_allowed_chars (high ∷ low ∷ cs) ds rest)))
       (cases_Bool (is_pct_encoded c high low))
 
-  -- the tokens of a valid text with another after it
-  pub tokens-append : (xs ys : List ℕ) → IsUtf8 xs → IsValidFor set xs
+  -- the tokens of a text after a valid text come after the tokens of that
+  pub tokens_of_text_after_valid_text : (xs ys : List ℕ) → IsUtf8 xs → IsValidFor set xs
       → tokens (xs ++ ys) ≡ tokens xs ++ tokens ys
   unfolding is_valid_for
-  tokens-append xs ys u e = ap tokens_of (chars-append xs ys u)
-      ∙ tokens_of-append (chars xs) (chars ys) e
+  tokens_of_text_after_valid_text xs ys u e = ap tokens_from_chars (chars-append xs ys u)
+      ∙ tokens_of_chars_after_allowed_chars (chars xs) (chars ys) e
 
-  pub valid_append : (xs ys : List ℕ) → IsUtf8 xs → IsValidFor set xs → IsValidFor set ys
+  pub valid_text_after_valid_text_is_valid : (xs ys : List ℕ) → IsUtf8 xs → IsValidFor set xs
+      → IsValidFor set ys
       → IsValidFor set (xs ++ ys)
   unfolding is_valid_for
-  valid_append xs ys u e f =
-      ap (list_all (allows_token set)) (tokens-append xs ys u e)
+  valid_text_after_valid_text_is_valid xs ys u e f =
+      ap (list_all (allows_token set)) (tokens_of_text_after_valid_text xs ys u e)
       ∙ list_all-append (allows_token set) (tokens xs) (tokens ys) ∙ and_from _ _ e f
 
-  -- printed tokens after a valid text
-  pub tokens-append_print : (xs : List ℕ) (ts : List Token) → IsUtf8 xs → IsValidFor set xs
+  -- the tokens of a valid text and printed tokens after it
+  pub tokens_of_print_after_valid_text : (xs : List ℕ) (ts : List Token) → IsUtf8 xs
+      → IsValidFor set xs
       → list_all is_printable ts ≡ true → tokens (xs ++ print ts) ≡ tokens xs ++ ts
-  tokens-append_print xs ts u e p = tokens-append xs (print ts) u e
-      ∙ ap (λ us. tokens xs ++ us) (tokens-print ts p)
+  tokens_of_print_after_valid_text xs ts u e p = tokens_of_text_after_valid_text xs (print ts) u e
+      ∙ ap (λ us. tokens xs ++ us) (printed_tokens_parse_to_themselves ts p)
 
-  pub valid_append_print : (xs : List ℕ) (ts : List Token) → IsUtf8 xs → IsValidFor set xs
+  pub printed_tokens_after_valid_text_are_valid : (xs : List ℕ) (ts : List Token) → IsUtf8 xs
+      → IsValidFor set xs
       → list_all is_printable ts ≡ true → list_all (allows_token set) ts ≡ true
       → IsValidFor set (xs ++ print ts)
-  valid_append_print xs ts u e p a =
-      valid_append xs (print ts) u e (is_valid_for-print set ts p ∙ a)
+  printed_tokens_after_valid_text_are_valid xs ts u e p a =
+      valid_text_after_valid_text_is_valid xs (print ts) u e
+      (printed_tokens_are_valid_iff_allowed set ts p ∙ a)

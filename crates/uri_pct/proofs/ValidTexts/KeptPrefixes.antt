@@ -13,160 +13,191 @@ use Rattle.uri_pct.specs.Sets.{TableSet, allows, allows_past_ascii}
 use Rattle.uri_pct.specs.Prefixes.{valid_prefix_from, valid_prefix}
 use Rattle.uri_pct.specs.Tokens.{Octet, print}
 use Rattle.uri_pct.specs.Encoding.{encode_char, encode_text, IsEncodedBy}
-use Rattle.uri_pct.proofs.Unicode.Characters.{bytes_of_char}
-use Rattle.uri_pct.proofs.EncodedTexts.Encodings.{print-append, encode_text-first, encode_char-kept}
-use Rattle.uri_pct.proofs.EncodedTexts.Encodings.{encode_char-octets, part_longer, encode_none}
-use Rattle.uri_pct.proofs.ValidTexts.Prefixes.{prefix_first, valid_prefix-after}
+use Rattle.uri_pct.proofs.Unicode.Characters.{char_has_encoding}
+use Rattle.uri_pct.proofs.EncodedTexts.Encodings.{print-append, encode_text-by-first-char}
+use Rattle.uri_pct.proofs.EncodedTexts.Encodings.{allowed_char_is_printed_literally}
+use Rattle.uri_pct.proofs.EncodedTexts.Encodings.{disallowed_char_is_encoded_as_octets}
+use Rattle.uri_pct.proofs.EncodedTexts.Encodings.{slice_with_one_more_char}
+use Rattle.uri_pct.proofs.EncodedTexts.Encodings.{empty_text_is_encoded_as_nothing}
+use Rattle.uri_pct.proofs.ValidTexts.Prefixes.{nothing_is_scanned_after_valid_prefix}
+use Rattle.uri_pct.proofs.ValidTexts.PrefixSteps.{valid_prefix_by_first_char}
 
 -- the set that allows the same characters, and no octets
-abbrev pub plain_set : TableSet → TableSet
-plain_set set = record set { pct_encoded = false }
+abbrev pub set_without_octets : TableSet → TableSet
+set_without_octets set = record set { pct_encoded = false }
 
--- the prefix of a text by its first character
-kept_first : (set : TableSet) (text rest : List ℕ) (c : ℕ) → IsUtf8 text
+-- encoding: how far literal characters reach that are kept as they are, by the first character
+literal_prefix_by_first_char : (set : TableSet) (text rest : List ℕ) (c : ℕ) → IsUtf8 text
     → text ≡ encode_utf8 c ++ rest
-    → valid_prefix (plain_set set) text
-    ≡ cond (allows set c) (valid_prefix (plain_set set) rest + len_utf8 c) 0
+    → valid_prefix (set_without_octets set) text
+    ≡ cond (allows set c) (valid_prefix (set_without_octets set) rest + len_utf8 c) 0
 unfolding allows_past_ascii
-kept_first set text rest c u e = prefix_first (plain_set set) text rest c u e refl
+literal_prefix_by_first_char set text rest c u e = valid_prefix_by_first_char
+    (set_without_octets set) text
+    rest c u e refl
 
 -- so many bytes are encoded as they are
 abbrev IsKept : TableSet → List ℕ → ℕ → Type 0
 IsKept set text n = print (encode_text set text)
     ≡ take n text ++ print (encode_text set (drop n text))
 
-some_kept : (set : TableSet) (c n : ℕ) (rest : List ℕ) → IsUtf8 (encode_utf8 c ++ rest)
+-- encoding: an allowed character before a prefix that is kept as it is lengthens that prefix
+kept_run_with_allowed_char_before_is_kept : (set : TableSet) (c n : ℕ) (rest : List ℕ)
+    → IsUtf8 (encode_utf8 c ++ rest)
     → allows set c ≡ true → IsKept set rest n → IsKept set (encode_utf8 c ++ rest) (n + len_utf8 c)
-some_kept set c n rest u allowed kept =
+kept_run_with_allowed_char_before_is_kept set c n rest u allowed kept =
     let text : List ℕ = encode_utf8 c ++ rest in
     let size : n + len_utf8 c ≡ length (encode_utf8 c) + n = omega (arith, length-encode c) in
-    let behind = print (encode_text set (drop n rest)) in
-    ap print (encode_text-first set text rest c u refl)
+    let suffix = print (encode_text set (drop n rest)) in
+    ap print (encode_text-by-first-char set text rest c u refl)
     ∙ print-append (encode_char set c) (encode_text set rest)
-    ∙ ap (λ x. x ++ print (encode_text set rest)) (encode_char-kept set c allowed)
-    ∙ ap (λ x. encode_utf8 c ++ x) kept ∙ sym (append_assoc (encode_utf8 c) (take n rest) behind)
-    ∙ ap (λ x. x ++ behind) (sym (take-append-add (encode_utf8 c) rest n))
+    ∙ ap (λ x. x ++ print (encode_text set rest)) (allowed_char_is_printed_literally set c allowed)
+    ∙ ap (λ x. encode_utf8 c ++ x) kept ∙ sym (append_assoc (encode_utf8 c) (take n rest) suffix)
+    ∙ ap (λ x. x ++ suffix) (sym (take-append-add (encode_utf8 c) rest n))
     ∙ ap (λ x. take (length (encode_utf8 c) + n) text ++ print (encode_text set x))
     (sym (drop-append-add (encode_utf8 c) rest n))
     ∙ ap (λ k. take k text ++ print (encode_text set (drop k text))) (sym size)
 
-kept_chars : (set : TableSet) (cs : List ℕ) → all_scalars cs ≡ true
-    → IsKept set (encode_utf8_all cs) (valid_prefix (plain_set set) (encode_utf8_all cs))
+-- encoding: the longest prefix of characters that the set has, without octets, is kept as it is
+literal_prefix_of_chars_is_kept : (set : TableSet) (cs : List ℕ) → all_scalars cs ≡ true
+    → IsKept set (encode_utf8_all cs) (valid_prefix (set_without_octets set) (encode_utf8_all cs))
 unfolding valid_prefix_from
-kept_chars set [] s = refl
-kept_chars set (c ∷ cs) s =
+literal_prefix_of_chars_is_kept set [] s = refl
+literal_prefix_of_chars_is_kept set (c ∷ cs) s =
     let rest : List ℕ = encode_utf8_all cs in
     let text : List ℕ = encode_utf8 c ++ rest in
     let u : IsUtf8 text = (c ∷ cs, (s, refl)) in
-    let first = kept_first set text rest c u refl in
+    let first = literal_prefix_by_first_char set text rest c u refl in
     ⊎_elim
     (λ a. subst (IsKept set text) (sym (first ∙ cond-true _ _ _ a))
-    (some_kept set c (valid_prefix (plain_set set) rest) rest u a
-    (kept_chars set cs (and_parts _ (all_scalars cs) s).1)))
+    (kept_run_with_allowed_char_before_is_kept set c (valid_prefix (set_without_octets set) rest)
+    rest u a
+    (literal_prefix_of_chars_is_kept set cs (and_parts _ (all_scalars cs) s).1)))
     (λ a. subst (IsKept set text) (sym (first ∙ cond-false _ _ _ a)) refl)
     (cases_Bool (allows set c))
 
--- what is scanned of a text is literal
-prefix_kept : (set : TableSet) (text : List ℕ) → IsUtf8 text
-    → IsKept set text (valid_prefix (plain_set set) text)
-prefix_kept set text u = subst (λ t. IsKept set t (valid_prefix (plain_set set) t)) u.1.1
-    (kept_chars set u.0 u.1.0)
+-- encoding: what is scanned of a text by a set without octets is kept as it is
+literal_prefix_of_text_is_kept : (set : TableSet) (text : List ℕ) → IsUtf8 text
+    → IsKept set text (valid_prefix (set_without_octets set) text)
+literal_prefix_of_text_is_kept set text u = subst
+    (λ t. IsKept set t (valid_prefix (set_without_octets set) t)) u.1.1
+    (literal_prefix_of_chars_is_kept set u.0 u.1.0)
 
--- the same at a place of a text
-pub kept_from : (set : TableSet) (text : List ℕ) (start end : ℕ) → IsUtf8 text
-    → IsCharBoundary text start → end ≡ start + valid_prefix (plain_set set) (drop start text)
+-- encoding: the run of allowed characters from `start` on is encoded as itself
+pub allowed_run_is_encoded_as_itself : (set : TableSet) (text : List ℕ) (start end : ℕ)
+    → IsUtf8 text
+    → IsCharBoundary text start → end
+    ≡ start + valid_prefix (set_without_octets set) (drop start text)
     → IsEncodedBy (λ bytes. bytes) set text start end
-kept_from set text start end u here e =
-    let n = valid_prefix (plain_set set) (drop start text) in
+allowed_run_is_encoded_as_itself set text start end u here e =
+    let n = valid_prefix (set_without_octets set) (drop start text) in
     let size : n ≡ end - start = omega (arith, e) in
-    prefix_kept set (drop start text) (IsUtf8-drop text start u here)
+    literal_prefix_of_text_is_kept set (drop start text) (IsUtf8-drop text start u here)
     ∙ ap (λ x. take n (drop start text) ++ print (encode_text set x))
     (drop-drop n start text ∙ ap (λ k. drop k text) (sym e))
     ∙ ap (λ k. take k (drop start text) ++ print (encode_text set (drop end text))) size
 
-len_some : (c : ℕ) → 0 < len_utf8 c
-len_some c =
-    let w = bytes_of_char c in
-    let n : len_utf8 c ≡ length w.more + 1 = sym (length-encode c) ∙ ap length w.spelt
+-- UTF-8: a character has a byte at least
+utf8_length_of_char_is_positive : (c : ℕ) → 0 < len_utf8 c
+utf8_length_of_char_is_positive c =
+    let w = char_has_encoding c in
+    let n : len_utf8 c ≡ length w.more + 1 = sym (length-encode c) ∙ ap length w.joined
     ∙ omega arith in
     omega arith
 
-none_more : (n k : ℕ) → 0 < k → n + k ≡ 0 → ⊥
-none_more n k h e = omega arith
+-- general fact on numbers, for lengths of characters
+sum_with_positive_is_not_zero : (n k : ℕ) → 0 < k → n + k ≡ 0 → ⊥
+sum_with_positive_is_not_zero n k h e = omega arith
 
--- what is after it is not allowed
-pub refused_behind : (set : TableSet) (text rest : List ℕ) (start end c : ℕ) → IsUtf8 text
-    → IsCharBoundary text end → end ≡ start + valid_prefix (plain_set set) (drop start text)
+-- encoding: the character after the run of allowed characters is not allowed
+pub char_after_allowed_run_is_not_allowed : (set : TableSet) (text rest : List ℕ) (start end c : ℕ)
+    → IsUtf8 text
+    → IsCharBoundary text end → end
+    ≡ start + valid_prefix (set_without_octets set) (drop start text)
     → drop end text ≡ encode_utf8 c ++ rest → allows set c ≡ false
-refused_behind set text rest start end c u here e spelt =
-    let n = valid_prefix (plain_set set) (drop start text) in
-    let none : valid_prefix (plain_set set) (drop end text) ≡ 0 =
-    ap (λ k. valid_prefix (plain_set set) (drop k text)) e
-    ∙ ap (valid_prefix (plain_set set)) (sym (drop-drop n start text))
-    ∙ valid_prefix-after (plain_set set) (drop start text) in
+char_after_allowed_run_is_not_allowed set text rest start end c u here e joined =
+    let n = valid_prefix (set_without_octets set) (drop start text) in
+    let none : valid_prefix (set_without_octets set) (drop end text) ≡ 0 =
+    ap (λ k. valid_prefix (set_without_octets set) (drop k text)) e
+    ∙ ap (valid_prefix (set_without_octets set)) (sym (drop-drop n start text))
+    ∙ nothing_is_scanned_after_valid_prefix (set_without_octets set) (drop start text) in
     ⊎_elim
-    (λ a. absurd (none_more (valid_prefix (plain_set set) rest) (len_utf8 c) (len_some c)
+    (λ a. absurd (sum_with_positive_is_not_zero (valid_prefix (set_without_octets set) rest)
+    (len_utf8 c) (utf8_length_of_char_is_positive c)
     (sym (cond-true _ _ _ a) ∙ sym
-    (kept_first set (drop end text) rest c (IsUtf8-drop text end u here) spelt) ∙ none)))
+    (literal_prefix_by_first_char set (drop end text) rest c (IsUtf8-drop text end u here) joined)
+    ∙ none)))
     (λ a. a)
     (cases_Bool (allows set c))
 
-octets : List ℕ → List ℕ
-octets bytes = print (map Octet bytes)
+-- encoding: the `%XX` of bytes
+printed_octets : List ℕ → List ℕ
+printed_octets bytes = print (map Octet bytes)
 
-octets_more : (xs ys : List ℕ) → octets (xs ++ ys) ≡ octets xs ++ octets ys
-unfolding octets
-octets_more xs ys = ap print (map-append Octet xs ys) ∙ print-append (map Octet xs) (map Octet ys)
+-- encoding: the `%XX` of joined bytes are those of each
+octets_of_joined_bytes : (xs ys : List ℕ) → printed_octets (xs ++ ys)
+    ≡ printed_octets xs ++ printed_octets ys
+unfolding printed_octets
+octets_of_joined_bytes xs ys = ap print (map-append Octet xs ys)
+    ∙ print-append (map Octet xs) (map Octet ys)
 
--- no character is rejected yet
-pub none_refused : (set : TableSet) (text : List ℕ) (start : ℕ)
+-- encoding: an empty run is encoded as its octets
+pub empty_run_is_encoded_as_octets : (set : TableSet) (text : List ℕ) (start : ℕ)
     → IsEncodedBy (λ bytes. print (map Octet bytes)) set text start start
-none_refused set text start = let none : start - start ≡ 0 = omega arith in rw none refl
+empty_run_is_encoded_as_octets set text start = let none : start - start
+    ≡ 0 = omega arith in rw none refl
 
--- one more rejected character
-pub refused_more : (set : TableSet) (text : List ℕ) (start end next c : ℕ) → IsUtf8 (drop end text)
+-- encoding: a run that is encoded as octets, with one more character (c) that is not allowed, is so
+pub longer_run_is_encoded_as_octets : (set : TableSet) (text : List ℕ) (start end next c : ℕ)
+    → IsUtf8 (drop end text)
     → start ≤ end → drop end text ≡ encode_utf8 c ++ drop (end + len_utf8 c) text
     → next ≡ end + len_utf8 c → allows set c ≡ false
     → IsEncodedBy (λ bytes. print (map Octet bytes)) set text start end
     → IsEncodedBy (λ bytes. print (map Octet bytes)) set text start next
-unfolding octets
-refused_more set text start end next c u ordered spelt place refused before =
+unfolding printed_octets
+longer_run_is_encoded_as_octets set text start end next c u ordered joined place refused before =
     let part : List ℕ = take (end - start) (drop start text) in
     let rest = print (encode_text set (drop (end + len_utf8 c) text)) in
-    let one : print (encode_text set (drop end text)) ≡ octets (encode_utf8 c) ++ rest =
-    ap print (encode_text-first set (drop end text) (drop (end + len_utf8 c) text) c u spelt)
+    let one : print (encode_text set (drop end text)) ≡ printed_octets (encode_utf8 c) ++ rest =
+    ap print (encode_text-by-first-char set (drop end text) (drop (end + len_utf8 c) text)
+    c u joined)
     ∙ print-append (encode_char set c) (encode_text set (drop (end + len_utf8 c) text))
-    ∙ ap (λ ts. print ts ++ rest) (encode_char-octets set c refused) in
-    before ∙ ap (λ x. octets part ++ x) one
-    ∙ sym (append_assoc (octets part) (octets (encode_utf8 c)) rest)
-    ∙ ap (λ x. x ++ rest) (sym (octets_more part (encode_utf8 c))
-    ∙ ap octets (sym (part_longer text start end c ordered spelt)))
-    ∙ ap (λ k. octets (take (k - start) (drop start text)) ++ print (encode_text set (drop k text)))
+    ∙ ap (λ ts. print ts ++ rest) (disallowed_char_is_encoded_as_octets set c refused) in
+    before ∙ ap (λ x. printed_octets part ++ x) one
+    ∙ sym (append_assoc (printed_octets part) (printed_octets (encode_utf8 c)) rest)
+    ∙ ap (λ x. x ++ rest) (sym (octets_of_joined_bytes part (encode_utf8 c))
+    ∙ ap printed_octets (sym (slice_with_one_more_char text start end c ordered joined)))
+    ∙ ap (λ k. printed_octets (take (k - start) (drop start text)) ++ print
+    (encode_text set (drop k text)))
     (sym place)
 
--- the first character is rejected, so at least one is
-pub some_refused : (set : TableSet) (text : List ℕ) (start end c : ℕ) → start ≤ end
+-- encoding: a run of characters that are encoded is not empty,
+-- as its first character is not allowed
+pub disallowed_run_is_not_empty : (set : TableSet) (text : List ℕ) (start end c : ℕ) → start ≤ end
     → drop end text ≡ encode_utf8 c ++ drop (end + len_utf8 c) text → allows set c ≡ true
     → ((d : ℕ) (rest : List ℕ) → drop start text ≡ encode_utf8 d ++ rest → allows set d ≡ false)
     → start < end
-some_refused set text start end c ordered spelt allowed first = ⊎_elim
+disallowed_run_is_not_empty set text start end c ordered joined allowed first = ⊎_elim
     (λ h. h)
     (λ h.
     let same : end ≡ start = omega arith in
     absurd
     (both_ways _ (first c (drop (end + len_utf8 c) text)
-    (ap (λ k. drop k text) (sym same) ∙ spelt)) allowed))
+    (ap (λ k. drop k text) (sym same) ∙ joined)) allowed))
     (cases_lt start end)
 
--- what is written after a run that is kept and one that is rejected
-pub run_step : (set : TableSet) (out mid new text all : List ℕ) (start end next : ℕ)
+-- encoding: after a run that is kept and one that is encoded, what was appended and the rest,
+-- encoded, still make the whole
+pub encoded_text_after_two_runs : (set : TableSet) (out mid new text all : List ℕ)
+    (start end next : ℕ)
     → IsEncodedBy (λ bytes. bytes) set text start end
     → IsEncodedBy (λ bytes. print (map Octet bytes)) set text end next
     → mid ≡ out ++ take (end - start) (drop start text)
     → new ≡ mid ++ print (map Octet (take (next - end) (drop end text)))
     → out ++ print (encode_text set (drop start text)) ≡ all
     → new ++ print (encode_text set (drop next text)) ≡ all
-run_step set out mid new text all start end next kept refused copied written whole =
+encoded_text_after_two_runs set out mid new text all start end next kept refused copied
+    written whole =
     let part : List ℕ = take (end - start) (drop start text) in
     let octets_of : List ℕ = print (map Octet (take (next - end) (drop end text))) in
     let rest : List ℕ = print (encode_text set (drop next text)) in
@@ -174,11 +205,11 @@ run_step set out mid new text all start end next kept refused copied written who
     ∙ append_assoc (out ++ part) octets_of rest ∙ append_assoc out part (octets_of ++ rest)
     ∙ ap (λ x. out ++ x) (ap (λ x. part ++ x) (sym refused) ∙ sym kept) ∙ whole
 
--- at the end of the text
-pub whole_written : (set : TableSet) (out text all : List ℕ) (done : ℕ) → length text ≤ done
+-- encoding: at the end of the text, what was appended is the whole encoded text
+pub encoded_text_at_end : (set : TableSet) (out text all : List ℕ) (done : ℕ) → length text ≤ done
     → out ++ print (encode_text set (drop done text)) ≡ all → out ≡ all
-whole_written set out text all done past whole =
+encoded_text_at_end set out text all done past whole =
     let none : print (encode_text set (drop done text)) ≡ [] =
     ap (λ x. print (encode_text set x)) (drop_all done text past)
-    ∙ encode_none set in
+    ∙ empty_text_is_encoded_as_nothing set in
     sym (append-nil out) ∙ ap (λ x. out ++ x) (sym none) ∙ whole

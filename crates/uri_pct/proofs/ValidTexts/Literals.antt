@@ -8,27 +8,31 @@ use Rattle.std.specs.List.{list_all}
 use Rattle.std.specs.Str.{chars, chars_after, continuation_len, lead_bits}
 use Rattle.std.proofs.lemmas.Bool.{cases_Bool, cond-true, cond-false, and_parts, and_from}
 use Rattle.uri_pct.specs.Sets.{TableSet, allows, allows_past_ascii, is_ucschar}
-use Rattle.uri_pct.specs.Tokens.{tokens_of, allows_token, is_pct_encoded, is_valid_for, IsValidFor}
-use Rattle.uri_pct.proofs.Readings.Printing.{char_first}
+use Rattle.uri_pct.specs.Tokens.{tokens_from_chars, allows_token, is_pct_encoded, is_valid_for}
+use Rattle.uri_pct.specs.Tokens.{IsValidFor}
+use Rattle.uri_pct.proofs.UnreservedDecoding.Printing.{char_but_percent_is_its_own_token}
 
--- the first range of `ucschar`, which has the letters of most scripts
-pub letter_is_allowed : (set : TableSet) (c : ℕ) → set.ucschar ≡ true
+-- sets: one with `ucschar` allows U+00A0 to U+D7FF, its first range,
+-- which has the letters of most scripts
+pub char_from_a0_to_d7ff_is_allowed : (set : TableSet) (c : ℕ) → set.ucschar ≡ true
     → is_in_range 0xA0 0xD7FF c ≡ true → allows_past_ascii set c ≡ true
 unfolding allows_past_ascii is_ucschar
-letter_is_allowed set c flag range = rw (flag, range) refl
+char_from_a0_to_d7ff_is_allowed set c flag range = rw (flag, range) refl
 
 -- the set allows the character, where it is ASCII or in that range
 abbrev pub is_literal_char : TableSet → ℕ → Bool
 is_literal_char set c = if nat_lt c 128 then set.ascii c else set.ucschar
     && is_in_range 0xA0 0xD7FF c
 
-literal_char : (set : TableSet) (c : ℕ) → is_literal_char set c ≡ true → allows set c ≡ true
-literal_char set c e = ⊎_elim
+-- literals: a character that passes the test of literals is in the set
+literal_char_is_allowed : (set : TableSet) (c : ℕ) → is_literal_char set c ≡ true
+    → allows set c ≡ true
+literal_char_is_allowed set c e = ⊎_elim
     (λ low. cond-true _ _ _ low ∙ sym (cond-true _ _ _ low) ∙ e)
     (λ high.
     let parts = and_parts set.ucschar (is_in_range 0xA0 0xD7FF c)
     (sym (cond-false _ _ _ high) ∙ e) in
-    cond-false _ _ _ high ∙ letter_is_allowed set c parts.0 parts.1)
+    cond-false _ _ _ high ∙ char_from_a0_to_d7ff_is_allowed set c parts.0 parts.1)
     (cases_Bool (nat_lt c 128))
 
 -- the characters represent what the set allows, each `%` with its two digits
@@ -43,28 +47,31 @@ are_literal_chars set (c ∷ high ∷ low ∷ rest) =
     && (is_ascii_hexdigit low && (set.pct_encoded && are_literal_chars set rest))
     else is_literal_char set c && are_literal_chars set (high ∷ low ∷ rest)
 
-literal_chars : (set : TableSet) (cs : List ℕ) → are_literal_chars set cs ≡ true
-    → list_all (allows_token set) (tokens_of cs) ≡ true
-unfolding tokens_of is_pct_encoded
-literal_chars set [] e = refl
-literal_chars set (c ∷ []) e =
-    and_from (allows set c) true (literal_char set c (and_parts (not (c == 37)) _ e).1) refl
-literal_chars set (c ∷ d ∷ []) e =
+-- literals: characters that pass the test of literals are tokens that the set allows
+literal_chars_are_allowed_tokens : (set : TableSet) (cs : List ℕ) → are_literal_chars set cs ≡ true
+    → list_all (allows_token set) (tokens_from_chars cs) ≡ true
+unfolding tokens_from_chars is_pct_encoded
+literal_chars_are_allowed_tokens set [] e = refl
+literal_chars_are_allowed_tokens set (c ∷ []) e =
+    and_from (allows set c) true (literal_char_is_allowed set c (and_parts (not (c == 37)) _ e).1)
+    refl
+literal_chars_are_allowed_tokens set (c ∷ d ∷ []) e =
     let parts = and_parts (is_literal_char set c) _ (and_parts (not (c == 37)) _ e).1 in
-    and_from (allows set c) _ (literal_char set c parts.0) (literal_chars set (d ∷ []) parts.1)
-literal_chars set (c ∷ high ∷ low ∷ rest) e = ⊎_elim
+    and_from (allows set c) _ (literal_char_is_allowed set c parts.0)
+    (literal_chars_are_allowed_tokens set (d ∷ []) parts.1)
+literal_chars_are_allowed_tokens set (c ∷ high ∷ low ∷ rest) e = ⊎_elim
     (λ percent.
     let first = and_parts (is_ascii_hexdigit high) _ (sym (cond-true _ _ _ percent) ∙ e) in
     let second = and_parts (is_ascii_hexdigit low) _ first.1 in
     let third = and_parts set.pct_encoded (are_literal_chars set rest) second.1 in
     ap (list_all (allows_token set))
     (cond-true _ _ _ (and_from (c == 37) _ percent (and_from _ _ first.0 second.0)))
-    ∙ and_from set.pct_encoded _ third.0 (literal_chars set rest third.1))
+    ∙ and_from set.pct_encoded _ third.0 (literal_chars_are_allowed_tokens set rest third.1))
     (λ other.
     let parts = and_parts (is_literal_char set c) _ (sym (cond-false _ _ _ other) ∙ e) in
-    ap (list_all (allows_token set)) (char_first c (high ∷ low ∷ rest) other)
-    ∙ and_from (allows set c) _ (literal_char set c parts.0)
-    (literal_chars set (high ∷ low ∷ rest) parts.1))
+    ap (list_all (allows_token set)) (char_but_percent_is_its_own_token c (high ∷ low ∷ rest) other)
+    ∙ and_from (allows set c) _ (literal_char_is_allowed set c parts.0)
+    (literal_chars_are_allowed_tokens set (high ∷ low ∷ rest) parts.1))
     (cases_Bool (c == 37))
 
 -- the characters of a text, which std's `chars` does not compute
@@ -72,14 +79,18 @@ abbrev pub literal_text_chars : List ℕ → List ℕ
 literal_text_chars [] = []
 literal_text_chars (b ∷ rest) = chars_after (continuation_len b) (lead_bits b) rest
 
-same_chars : (text : List ℕ) → chars text ≡ literal_text_chars text
+-- literals: the characters that are computed of a text are its characters
+literal_text_chars_are_its_chars : (text : List ℕ) → chars text ≡ literal_text_chars text
 unfolding chars
-same_chars [] = refl
-same_chars (b ∷ rest) = refl
+literal_text_chars_are_its_chars [] = refl
+literal_text_chars_are_its_chars (b ∷ rest) = refl
 
+-- literals: a text whose characters compute to ones of the set is valid,
+-- so that the condition of a call is met
 pub literal_text_is_valid : (set : TableSet) (text : List ℕ)
     → are_literal_chars set (literal_text_chars text) ≡ true → IsValidFor set text
 unfolding is_valid_for
 literal_text_is_valid set text e =
-    ap (λ cs. list_all (allows_token set) (tokens_of cs)) (same_chars text)
-    ∙ literal_chars set (literal_text_chars text) e
+    ap (λ cs. list_all (allows_token set) (tokens_from_chars cs))
+    (literal_text_chars_are_its_chars text)
+    ∙ literal_chars_are_allowed_tokens set (literal_text_chars text) e

@@ -5,11 +5,11 @@ use Rattle.std.specs.String.Boundary.{IsSplitPoint}
 use Rattle.std.proofs.lemmas.List.{length-take}
 use Rattle.std.proofs.lemmas.Str.{IsCharBoundary-from_take, IsUtf8-string_bytes}
 
--- a text may be cut after the text that it begins with
-pub split_kept : {Z : Type 0} (old new : String Z)
+-- owned texts: what was there before an append may be cut off again
+pub kept_text_ends_at_split_point : {Z : Type 0} (old new : String Z)
     → take (length (string_bytes old)) (string_bytes new) ≡ string_bytes old
     → IsSplitPoint (string_bytes new) (length (string_bytes old))
-split_kept old new e =
+kept_text_ends_at_split_point old new e =
     let n = length (string_bytes old) in
     let long : n ≤ length (string_bytes new) =
     omega (arith, length-take n (string_bytes new), ap length e) in

@@ -1,71 +1,48 @@
--- What the parts of a text leave in the bytes and in the lossy text that take them, one part after
--- the other: RFC 3986, section 2.1, and Unicode, section 3.9.
-use Rattle.std.proofs.Common.{◌≡◌, ℕ, Bool, true, false, List, [], ◌++◌, ◌&&◌, refl, sym, ap, ◌∙◌}
+-- What the parts of a text leave in the lossy text that takes them, one part after the other:
+-- Unicode, section 3.9.
+use Rattle.std.proofs.Common.{◌≡◌, ℕ, List, [], ◌++◌, sym, ap, ◌∙◌}
 use Rattle.std.proofs.Common.{append_assoc, string_bytes}
-use Rattle.std.specs.List.{list_all, flat_map}
+use Rattle.std.specs.List.{flat_map}
 use Rattle.std.proofs.lemmas.List.{append-nil}
 use Rattle.std.proofs.lemmas.List.Concat.{flat_map-append}
-use Rattle.std.proofs.lemmas.List.Folds.{list_all-append}
-use Rattle.uri_pct.specs.Parts.{Part, part_pieces, pieces_of}
-use Rattle.uri_pct.specs.Pieces.{Piece, is_well_formed, bytes_of_pieces, piece_bytes, lossy_piece}
-use Rattle.uri_pct.specs.declared.decode_text.Bytes.{Bytes}
+use Rattle.uri_pct.specs.Parts.{Part, part_pieces, pieces_of_parts}
+use Rattle.uri_pct.specs.Pieces.{Piece, lossy_piece}
 use Rattle.uri_pct.specs.declared.decode_text.LossyText.{LossyText}
 
--- their bytes are appended, and it is known whether one was ill-formed
-pub record TookBytes (s : Bytes) (ps : List Part) (t : Bytes) : Type 0 where
-  pub bytes : t.bytes.items ≡ s.bytes.items ++ bytes_of_pieces (pieces_of ps)
-  pub is_text : t.is_text ≡ (s.is_text && list_all is_well_formed (pieces_of ps))
-
--- their lossy text is appended
+-- the lossy text t is s after it took the parts: their text is appended, with U+FFFD for each
+-- ill-formed piece (Unicode, section 3.9)
 pub record TookText (s : LossyText) (ps : List Part) (t : LossyText) : Type 0 where
-  pub text : string_bytes t.text ≡ string_bytes s.text ++ flat_map lossy_piece (pieces_of ps)
+  pub text : string_bytes t.text ≡ string_bytes s.text ++ flat_map lossy_piece (pieces_of_parts ps)
 
-pieces_of-append : (ps qs : List Part) → pieces_of (ps ++ qs) ≡ pieces_of ps ++ pieces_of qs
-pieces_of-append ps qs = flat_map-append part_pieces ps qs
+-- the UTF-8 pieces of two lists of parts, joined, are those of the one and then those of the other
+pieces_of_joined_parts : (ps qs : List Part) → pieces_of_parts (ps ++ qs)
+    ≡ pieces_of_parts ps ++ pieces_of_parts qs
+pieces_of_joined_parts ps qs = flat_map-append part_pieces ps qs
 
--- what is appended for some parts and then for others
-put_behind : (of_piece : Piece → List ℕ) (s t u : List ℕ) (ps qs : List Part)
-    → t ≡ s ++ flat_map of_piece (pieces_of ps) → u ≡ t ++ flat_map of_piece (pieces_of qs)
-    → u ≡ s ++ flat_map of_piece (pieces_of (ps ++ qs))
-put_behind of_piece s t u ps qs first then =
-    let behind = flat_map of_piece in
-    let both = ap behind (pieces_of-append ps qs)
-    ∙ flat_map-append of_piece (pieces_of ps) (pieces_of qs) in
-    then ∙ ap (λ x. x ++ behind (pieces_of qs)) first
-    ∙ append_assoc s (behind (pieces_of ps)) (behind (pieces_of qs))
+-- what is appended for the parts ps and then for the parts qs is what is appended for all of them;
+-- of_piece: what is appended for a piece
+appended_parts_join : (of_piece : Piece → List ℕ) (s t u : List ℕ) (ps qs : List Part)
+    → t ≡ s ++ flat_map of_piece (pieces_of_parts ps) → u
+    ≡ t ++ flat_map of_piece (pieces_of_parts qs)
+    → u ≡ s ++ flat_map of_piece (pieces_of_parts (ps ++ qs))
+appended_parts_join of_piece s t u ps qs first then =
+    let suffix = flat_map of_piece in
+    let both = ap suffix (pieces_of_joined_parts ps qs)
+    ∙ flat_map-append of_piece (pieces_of_parts ps) (pieces_of_parts qs) in
+    then ∙ ap (λ x. x ++ suffix (pieces_of_parts qs)) first
+    ∙ append_assoc s (suffix (pieces_of_parts ps)) (suffix (pieces_of_parts qs))
     ∙ ap (λ x. s ++ x) (sym both)
 
-and_true : (b : Bool) → b ≡ (b && true)
-and_true true = refl
-and_true false = refl
+-- a lossy text that takes no parts stays as it is
+pub taking_no_parts_keeps_text : (s : LossyText) → TookText s [] s
+taking_no_parts_keeps_text s = record { text = sym (append-nil (string_bytes s.text)) }
 
-and_assoc : (a b c : Bool) → ((a && b) && c) ≡ (a && (b && c))
-and_assoc true b c = refl
-and_assoc false b c = refl
-
-pub took_nothing : (s : Bytes) → TookBytes s [] s
-took_nothing s = record { bytes = sym (append-nil s.bytes.items); is_text = and_true s.is_text }
-
-pub took_on : (s t u : Bytes) (ps qs : List Part) → TookBytes s ps t → TookBytes t qs u
-    → TookBytes s (ps ++ qs) u
-took_on s t u ps qs first then =
-    let all = list_all is_well_formed in
-    let both = ap all (pieces_of-append ps qs)
-    ∙ list_all-append is_well_formed (pieces_of ps) (pieces_of qs) in
-    record {
-      bytes = put_behind piece_bytes s.bytes.items t.bytes.items u.bytes.items ps qs
-          first.bytes then.bytes;
-      is_text = then.is_text ∙ ap (λ b. b && all (pieces_of qs)) first.is_text
-          ∙ and_assoc s.is_text (all (pieces_of ps)) (all (pieces_of qs))
-          ∙ ap (λ b. s.is_text && b) (sym both);
-    }
-
-pub lossy_nothing : (s : LossyText) → TookText s [] s
-lossy_nothing s = record { text = sym (append-nil (string_bytes s.text)) }
-
-pub lossy_on : (s t u : LossyText) (ps qs : List Part) → TookText s ps t → TookText t qs u
+-- a lossy text that takes the parts ps and then the parts qs has taken them joined
+pub text_taken_in_turn_is_taken_of_joined_parts : (s t u : LossyText) (ps qs : List Part)
+    → TookText s ps t → TookText t qs u
     → TookText s (ps ++ qs) u
-lossy_on s t u ps qs first then = record {
-  text = put_behind lossy_piece (string_bytes s.text) (string_bytes t.text) (string_bytes u.text)
+text_taken_in_turn_is_taken_of_joined_parts s t u ps qs first then = record {
+  text = appended_parts_join lossy_piece (string_bytes s.text) (string_bytes t.text)
+      (string_bytes u.text)
       ps qs first.text then.text;
 }

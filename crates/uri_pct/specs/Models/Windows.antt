@@ -2,5 +2,6 @@
 use Rattle.std.specs.Prelude.{ℕ, List, take}
 use Rattle.uri_pct.specs.declared.window.Window.{Window}
 
-abbrev pub held : Window → List ℕ
-held w = take w.len w.bytes
+-- the bytes that a `Window` on a run of percent-encoded octets holds: of its array the first `len`
+abbrev pub window_bytes : Window → List ℕ
+window_bytes w = take w.len w.bytes

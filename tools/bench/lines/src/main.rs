@@ -1,7 +1,9 @@
-//! What `urilines` does, by the original: `normalize KIND`, `resolve BASE` and `unique KIND` over
-//! the lines of standard input, with a buffer of 64 KiB either way. A kind is `uri` or `iri`.
+//! What `urilines` does, by the original: `normalize KIND`, `resolve BASE`, `check`, `parse`, `unique
+//! KIND` and `links BASE` over the lines of standard input, with a buffer of 64 KiB either way. A kind
+//! is `uri` or `iri`; `check` and `parse` take URIs.
+use fluent_uri::component::Host;
 use fluent_uri::{Iri, Uri, UriRef};
-use std::collections::HashSet;
+use std::collections::{HashMap, HashSet};
 use std::io::{self, BufRead, BufReader, BufWriter, Write};
 
 const CAPACITY: usize = 64 * 1024;
@@ -38,6 +40,49 @@ fn normal_form(kind: &str, text: &str) -> Result<String, fluent_uri::ParseError>
     } else {
         Ok(Uri::parse(text)?.normalize().into_string())
     }
+}
+
+fn push_member(line: &mut String, name: &str, text: &str) {
+    if line.len() > 1 {
+        line.push(',');
+    }
+    line.push('"');
+    line.push_str(name);
+    line.push_str("\":\"");
+    line.push_str(text);
+    line.push('"');
+}
+
+/// The components as a line of JSON.
+fn json(uri: Uri<&str>) -> String {
+    let mut line = String::from("{");
+    push_member(&mut line, "scheme", uri.scheme().as_str());
+    if let Some(authority) = uri.authority() {
+        push_member(&mut line, "authority", authority.as_str());
+        if let Some(userinfo) = authority.userinfo() {
+            push_member(&mut line, "userinfo", userinfo.as_str());
+        }
+        push_member(&mut line, "host", authority.host());
+        let kind = match authority.host_parsed() {
+            Host::Ipv4(_) => "ipv4",
+            Host::Ipv6(_) => "ipv6",
+            Host::IpvFuture { .. } => "ipvfuture",
+            Host::RegName(_) => "reg-name",
+        };
+        push_member(&mut line, "host_kind", kind);
+        if let Some(port) = authority.port() {
+            push_member(&mut line, "port", port.as_str());
+        }
+    }
+    push_member(&mut line, "path", uri.path().as_str());
+    if let Some(query) = uri.query() {
+        push_member(&mut line, "query", query.as_str());
+    }
+    if let Some(fragment) = uri.fragment() {
+        push_member(&mut line, "fragment", fragment.as_str());
+    }
+    line.push('}');
+    line
 }
 
 fn main() -> io::Result<()> {
@@ -79,6 +124,46 @@ fn main() -> io::Result<()> {
                 Err(error) => write(format!("error: {error}\n").as_bytes()),
             })
         }
-        _ => Err(io::Error::other("usage: normalize KIND | resolve BASE | unique KIND")),
+        ["check"] => each_line(|text, write| match Uri::parse(text) {
+            Ok(_) => {
+                write(text.as_bytes())?;
+                write(b"\n")
+            }
+            Err(_) => Ok(()),
+        }),
+        ["parse"] => each_line(|text, write| match Uri::parse(text) {
+            Ok(uri) => {
+                write(json(uri).as_bytes())?;
+                write(b"\n")
+            }
+            Err(error) => write(format!("error: {error}\n").as_bytes()),
+        }),
+        ["links", base] => {
+            let base = Uri::parse(base).expect("a base");
+            let mut met = HashMap::new();
+            each_line(|text, write| {
+                let target = match UriRef::parse(text) {
+                    Ok(reference) => reference.resolve_against(&base),
+                    Err(error) => return write(format!("error: reference: {error}\n").as_bytes()),
+                };
+                match target {
+                    Ok(target) => {
+                        let normal = target.normalize().into_string();
+                        let line = match met.get(&normal) {
+                            Some(id) => format!("known {id} {normal}\n"),
+                            None => {
+                                let id = met.len();
+                                let line = format!("new {id} {normal}\n");
+                                met.insert(normal, id);
+                                line
+                            }
+                        };
+                        write(line.as_bytes())
+                    }
+                    Err(error) => write(format!("error: {error}\n").as_bytes()),
+                }
+            })
+        }
+        _ => Err(io::Error::other("usage: normalize KIND | resolve BASE | check | parse | unique KIND | links BASE")),
     }
 }

@@ -2,13 +2,13 @@ use Rattle.std.proofs.Common.{◌≤◌, ap, arith, length, subst, sym, ◌∙�
 use Rattle.std.specs.Prelude.{IsOkAnd}
 use Rattle.fluent_uri.specs.Target.{resolution_of_texts}
 use Rattle.fluent_uri.specs.Uris.{uri_ref_text, uri_text}
-use Rattle.fluent_uri.proofs.Outcomes.{refused_with}
-use Rattle.cookbook.specs.Refusals.{IsRefusedLink}
+use Rattle.fluent_uri.proofs.Outcomes.{IfErr-of-only-error}
+use Rattle.cookbook.specs.Refusals.{IsErrorOfLink}
 use Rattle.cookbook.proofs.relative.short_link.Goals as goal
 
 pub returns-in_err-parse-clause-refused : goal.returns-in_err-parse-clause-refused
 returns-in_err-parse-clause-refused c =
-    refused_with (IsRefusedLink (uri_text c.args.page.now) c.args.link.now)
+    IfErr-of-only-error (IsErrorOfLink (uri_text c.args.page.now) c.args.link.now)
     c.from_residual.result _ c.from_residual.ensures.1
     (λ of_kind. cc (c.in_err-parse.ensures.accepts.1 of_kind))
 

@@ -2,9 +2,10 @@ use Rattle.std.proofs.Common.{◌≡◌, ◌∙◌, ℕ, Bool, true, false, List
 use Rattle.std.specs.Prelude.{Some, None, is_some}
 use Rattle.std.proofs.lemmas.Bool.{false≢true}
 use Rattle.fluent_uri.specs.AuthorityTexts.{authority_text}
-use Rattle.fluent_uri.specs.BuilderParts.{Adds, BuilderParts, as_components, no_parts, parts_text}
+use Rattle.fluent_uri.specs.BuilderParts.{AddsOrFails, BuilderParts, as_components, no_parts}
+use Rattle.fluent_uri.specs.BuilderParts.{parts_text}
 use Rattle.fluent_uri.specs.BuilderParts.{with_authority, with_path, with_query, with_scheme}
-use Rattle.fluent_uri.specs.BuilderStates.{held_of, parts_at}
+use Rattle.fluent_uri.specs.BuilderStates.{contents_of, parts_in_state}
 use Rattle.fluent_uri.specs.Built.{IsTextOfParts}
 use Rattle.fluent_uri.specs.Components.{Components, components}
 use Rattle.fluent_uri.specs.EncodedTexts.{text_of}
@@ -27,8 +28,8 @@ four scheme authority path query = record {
 }
 
 parts : (p0 p1 p2 p3 p4 : BuilderParts) (scheme authority path query : List ℕ) → p0 ≡ no_parts
-    → Adds (with_scheme scheme) p0 p1 → Adds (with_authority authority) p1 p2
-    → Adds (with_path path) p2 p3 → Adds (with_query query) p3 p4 → p4.failed ≡ false
+    → AddsOrFails (with_scheme scheme) p0 p1 → AddsOrFails (with_authority authority) p1 p2
+    → AddsOrFails (with_path path) p2 p3 → AddsOrFails (with_query query) p3 p4 → p4.failed ≡ false
     → as_components p4 ≡ four scheme authority path query
 parts p0 p1 p2 p3 p4 scheme authority path query e0 a1 a2 a3 a4 f4 =
     let e4 = a4 f4 in
@@ -42,8 +43,9 @@ parts p0 p1 p2 p3 p4 scheme authority path query e0 a1 a2 a3 a4 f4 =
 
 -- the components of what was built
 whole : (text : List ℕ) (p0 p1 p2 p3 p4 : BuilderParts) (scheme authority path query : List ℕ)
-    → p0 ≡ no_parts → Adds (with_scheme scheme) p0 p1 → Adds (with_authority authority) p1 p2
-    → Adds (with_path path) p2 p3 → Adds (with_query query) p3 p4 → p4.failed ≡ false
+    → p0 ≡ no_parts → AddsOrFails (with_scheme scheme) p0 p1
+    → AddsOrFails (with_authority authority) p1 p2
+    → AddsOrFails (with_path path) p2 p3 → AddsOrFails (with_query query) p3 p4 → p4.failed ≡ false
     → text ≡ parts_text p4 → IsTextOfParts uri p4
     → components text ≡ four scheme authority path query
 whole text p0 p1 p2 p3 p4 scheme authority path query e0 a1 a2 a3 a4 f4 value w =
@@ -52,11 +54,12 @@ whole text p0 p1 p2 p3 p4 scheme authority path query e0 a1 a2 a3 a4 f4 value w 
 
 pub returns-clause-scheme : goal.returns-clause-scheme
 returns-clause-scheme c =
-    let f = unmarked (parts_at (held_of c.query.result)).failed c.in_ok-made.ensures.failed in
+    let f = unmarked (parts_in_state (contents_of c.query.result)).failed
+    c.in_ok-made.ensures.failed in
     ap (λ (parts : Components). parts.scheme)
-    (whole (uri_text c.in_ok-made.made) (parts_at (held_of c.builder.result))
-    (parts_at (held_of c.scheme.result)) (parts_at (held_of c.authority.result))
-    (parts_at (held_of c.path.result)) (parts_at (held_of c.query.result))
+    (whole (uri_text c.in_ok-made.made) (parts_in_state (contents_of c.builder.result))
+    (parts_in_state (contents_of c.scheme.result)) (parts_in_state (contents_of c.authority.result))
+    (parts_in_state (contents_of c.path.result)) (parts_in_state (contents_of c.query.result))
     (scheme_text c.new_or_panic.result) (authority_text c.args.authority)
     (text_of c.args.path) (text_of c.args.query) c.builder.ensures c.scheme.ensures
     c.authority.ensures c.path.ensures c.query.ensures f c.in_ok-made.ensures.value
@@ -64,11 +67,12 @@ returns-clause-scheme c =
 
 pub returns-clause-authority : goal.returns-clause-authority
 returns-clause-authority c =
-    let f = unmarked (parts_at (held_of c.query.result)).failed c.in_ok-made.ensures.failed in
+    let f = unmarked (parts_in_state (contents_of c.query.result)).failed
+    c.in_ok-made.ensures.failed in
     ap (λ (parts : Components). parts.authority)
-    (whole (uri_text c.in_ok-made.made) (parts_at (held_of c.builder.result))
-    (parts_at (held_of c.scheme.result)) (parts_at (held_of c.authority.result))
-    (parts_at (held_of c.path.result)) (parts_at (held_of c.query.result))
+    (whole (uri_text c.in_ok-made.made) (parts_in_state (contents_of c.builder.result))
+    (parts_in_state (contents_of c.scheme.result)) (parts_in_state (contents_of c.authority.result))
+    (parts_in_state (contents_of c.path.result)) (parts_in_state (contents_of c.query.result))
     (scheme_text c.new_or_panic.result) (authority_text c.args.authority)
     (text_of c.args.path) (text_of c.args.query) c.builder.ensures c.scheme.ensures
     c.authority.ensures c.path.ensures c.query.ensures f c.in_ok-made.ensures.value
@@ -76,11 +80,12 @@ returns-clause-authority c =
 
 pub returns-clause-path : goal.returns-clause-path
 returns-clause-path c =
-    let f = unmarked (parts_at (held_of c.query.result)).failed c.in_ok-made.ensures.failed in
+    let f = unmarked (parts_in_state (contents_of c.query.result)).failed
+    c.in_ok-made.ensures.failed in
     ap (λ (parts : Components). parts.path)
-    (whole (uri_text c.in_ok-made.made) (parts_at (held_of c.builder.result))
-    (parts_at (held_of c.scheme.result)) (parts_at (held_of c.authority.result))
-    (parts_at (held_of c.path.result)) (parts_at (held_of c.query.result))
+    (whole (uri_text c.in_ok-made.made) (parts_in_state (contents_of c.builder.result))
+    (parts_in_state (contents_of c.scheme.result)) (parts_in_state (contents_of c.authority.result))
+    (parts_in_state (contents_of c.path.result)) (parts_in_state (contents_of c.query.result))
     (scheme_text c.new_or_panic.result) (authority_text c.args.authority)
     (text_of c.args.path) (text_of c.args.query) c.builder.ensures c.scheme.ensures
     c.authority.ensures c.path.ensures c.query.ensures f c.in_ok-made.ensures.value
@@ -88,11 +93,12 @@ returns-clause-path c =
 
 pub returns-clause-query : goal.returns-clause-query
 returns-clause-query c =
-    let f = unmarked (parts_at (held_of c.query.result)).failed c.in_ok-made.ensures.failed in
+    let f = unmarked (parts_in_state (contents_of c.query.result)).failed
+    c.in_ok-made.ensures.failed in
     ap (λ (parts : Components). parts.query)
-    (whole (uri_text c.in_ok-made.made) (parts_at (held_of c.builder.result))
-    (parts_at (held_of c.scheme.result)) (parts_at (held_of c.authority.result))
-    (parts_at (held_of c.path.result)) (parts_at (held_of c.query.result))
+    (whole (uri_text c.in_ok-made.made) (parts_in_state (contents_of c.builder.result))
+    (parts_in_state (contents_of c.scheme.result)) (parts_in_state (contents_of c.authority.result))
+    (parts_in_state (contents_of c.path.result)) (parts_in_state (contents_of c.query.result))
     (scheme_text c.new_or_panic.result) (authority_text c.args.authority)
     (text_of c.args.path) (text_of c.args.query) c.builder.ensures c.scheme.ensures
     c.authority.ensures c.path.ensures c.query.ensures f c.in_ok-made.ensures.value
@@ -100,11 +106,12 @@ returns-clause-query c =
 
 pub returns-clause-fragment : goal.returns-clause-fragment
 returns-clause-fragment c =
-    let f = unmarked (parts_at (held_of c.query.result)).failed c.in_ok-made.ensures.failed in
+    let f = unmarked (parts_in_state (contents_of c.query.result)).failed
+    c.in_ok-made.ensures.failed in
     ap (λ (parts : Components). parts.fragment)
-    (whole (uri_text c.in_ok-made.made) (parts_at (held_of c.builder.result))
-    (parts_at (held_of c.scheme.result)) (parts_at (held_of c.authority.result))
-    (parts_at (held_of c.path.result)) (parts_at (held_of c.query.result))
+    (whole (uri_text c.in_ok-made.made) (parts_in_state (contents_of c.builder.result))
+    (parts_in_state (contents_of c.scheme.result)) (parts_in_state (contents_of c.authority.result))
+    (parts_in_state (contents_of c.path.result)) (parts_in_state (contents_of c.query.result))
     (scheme_text c.new_or_panic.result) (authority_text c.args.authority)
     (text_of c.args.path) (text_of c.args.query) c.builder.ensures c.scheme.ensures
     c.authority.ensures c.path.ensures c.query.ensures f c.in_ok-made.ensures.value

@@ -1,29 +1,32 @@
-use Rattle.std.proofs.Common.{◌≡◌, ◌+◌, ◌<◌, ◌∙◌, ap, arith, suc, length, rules, below_more}
+use Rattle.std.proofs.Common.{◌+◌, ◌<◌, ◌∙◌, ap, length, rules, below_more}
 use Rattle.std.specs.Prelude.{is_some, option_and_then}
-use Rattle.fluent_uri_c.specs.Columns.{bytes_of, made_bytes, number_of_bool, result_at, text_at}
-use Rattle.fluent_uri_c.proofs.Batches.{column_step, end_step, is_some_mapped, some_is}
+use Rattle.fluent_uri_c.specs.Columns.{buffers, bytes_of, column_of, call_result_bytes}
+use Rattle.fluent_uri_c.specs.Columns.{number_of_bool}
+use Rattle.fluent_uri_c.specs.Columns.{result_in, text_in}
+use Rattle.fluent_uri_c.proofs.Batches.{IsColumn-of-one-more-result, end-of-one-more-result}
+use Rattle.fluent_uri_c.proofs.Batches.{is_some_mapped, equal-to-Some-is-some}
 use Rattle.fluent_uri_c.proofs.batch.fill.Goals as goal
 
 pub loop-index-preserved : goal.loop-index-preserved
 loop-index-preserved g c =
     let value = g.O.Offset.value in
     let call = (g.C.Call.definition c.args.call.now).result in
-    let at = result_at value call c.args.texts.now c.args.offsets.now in
+    let texts = column_of value g.O.Offset.limit c.args.texts.now c.args.offsets.now in
+    let at = result_in call texts in
     let n = c.loop-index.index in
     let before = c.loop-index.invariant in
     let made = c.in-Ok.ensures.made ∙ ap (option_and_then call) c.in-Some.ensures in
     let bytes = c.bytes_of.ensures ∙ ap bytes_of made in
-    let offset = c.in-Some-append.ensures.offset in
+    let append = c.in-Some-append.ensures in
     let bit = c.mark.ensures.marked ∙ ap number_of_bool (c.is_some.ensures
-    ∙ is_some_mapped made_bytes c.in-Ok.made ∙ ap is_some made) in
+    ∙ is_some_mapped call_result_bytes c.in-Ok.made ∙ ap is_some made) in
     let inside : n + 1 < length c.loop-index.ends = search rules in
-    let next : n + 1 ≡ suc n = omega arith in
-    let column = column_step value at n (n + 1) _ _ _ _ c.loop-index.ends _ _ _ _ _
-    offset.0 next before.0 before.1 bytes c.in-Some-append.ensures.written inside
-    (offset.1.0 ∙ c.in-Some-append.ensures.end) bit c.mark.ensures.others in (
-      rw offset.1.1 column,
-      end_step at n (n + 1) _ _ _ next before.1 bytes c.in-Some-append.ensures.end,
-      c.in-Some-append.ensures.inside,
-      below_more _ _ before.3
-          (some_is (text_at value c.args.texts.now c.args.offsets.now n) _ c.in-Some.ensures),
+    let now = buffers c.loop-index.out c.loop-index.ends c.loop-index.valid in
+    let column = IsColumn-of-one-more-result value at n _ now _ _ _ _ append.offset.0 before.0
+    before.1 bytes
+    append.written inside (append.offset.1.0 ∙ append.end) bit c.mark.ensures.others in (
+      rw append.offset.1.1 column,
+      end-of-one-more-result at n _ _ before.1 bytes _ append.end,
+      append.inside,
+      below_more _ _ before.3 (equal-to-Some-is-some (text_in texts n) _ c.in-Some.ensures),
     )

@@ -1,16 +1,16 @@
 use Rattle.std.proofs.Common.{◌+◌, drop, ◌∙◌, arith, ap, length-drop}
 use Rattle.std.specs.List.{position}
 use Rattle.fluent_uri_c.specs.Lines.{is_newline}
-use Rattle.fluent_uri_c.proofs.LinesOf.{from_position, line_length-le}
-use Rattle.fluent_uri_c.proofs.WrittenLines.{found_at, not_found}
+use Rattle.fluent_uri_c.proofs.LinesOf.{slice-from-position, line_length-le}
+use Rattle.fluent_uri_c.proofs.WrittenLines.{first-newline-found, no-newline-found}
 use Rattle.fluent_uri_c.proofs.lines.line_end.Goals as goal
 
 pub returns-in-Some : goal.returns-in-Some
 returns-in-Some c =
     let rest = drop c.args.start c.args.lines.now in
-    let found = found_at rest c.in-Some.length
+    let found = first-newline-found rest c.in-Some.length
     (c.in-Some.ensures ∙ ap (position is_newline)
-    (from_position c.args.lines.now c.args.start)) in
+    (slice-from-position c.args.lines.now c.args.start)) in
     let short = line_length-le rest in
     let long = length-drop c.args.start c.args.lines.now in
     record {
@@ -22,8 +22,8 @@ returns-in-Some c =
 pub returns-in-None : goal.returns-in-None
 returns-in-None c =
     let rest = drop c.args.start c.args.lines.now in
-    let past = not_found rest (c.in-None.ensures ∙ ap (position is_newline)
-    (from_position c.args.lines.now c.args.start)) in
+    let past = no-newline-found rest (c.in-None.ensures ∙ ap (position is_newline)
+    (slice-from-position c.args.lines.now c.args.start)) in
     let short = line_length-le rest in
     let long = length-drop c.args.start c.args.lines.now in
     record {

@@ -1,10 +1,10 @@
 use Rattle.std.proofs.Common.{arith}
 use Rattle.fluent_uri_c.specs.Lines.{newline}
-use Rattle.fluent_uri_c.proofs.WrittenLines.{two_writes}
+use Rattle.fluent_uri_c.proofs.WrittenLines.{two-writes-are-one}
 use Rattle.fluent_uri_c.proofs.lines.push_line.Goals as goal
 
 pub returns-clause-written : goal.returns-clause-written
 returns-clause-written c =
-    two_writes c.args.out.now c.write_at.new.out _ c.args.bytes.now c.args.at
+    two-writes-are-one c.args.out.now c.write_at.new.out _ c.args.bytes.now c.args.at
     c.in_ok-newline.newline newline (omega arith) (omega arith) c.write_at.ensures
     c.write_at-2.ensures

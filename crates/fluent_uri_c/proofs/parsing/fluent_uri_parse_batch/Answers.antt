@@ -1,17 +1,18 @@
-use Rattle.std.proofs.Common.{ℕ, ◌+◌, ◌<◌, length, refl, rules}
+use Rattle.std.proofs.Common.{◌<◌, length, rules}
+use Rattle.fluent_uri_c.specs.Columns.{column32}
 use Rattle.fluent_uri_c.specs.Kinds.{kind_numbered}
-use Rattle.fluent_uri_c.proofs.Batches.{others_step}
-use Rattle.fluent_uri_c.proofs.PartColumns.{parts_step}
+use Rattle.fluent_uri_c.proofs.Batches.{later-items-unchanged}
+use Rattle.fluent_uri_c.proofs.PartColumns.{parts-of-one-more-text}
 use Rattle.fluent_uri_c.proofs.parsing.fluent_uri_parse_batch.Goals as goal
 
 pub loop-index-preserved : goal.loop-index-preserved
 loop-index-preserved c =
     let n = c.loop-index.index in
     let before = c.loop-index.invariant in
+    let column = column32 c.args.texts.now c.args.offsets.now in
     let inside : n < length c.loop-index.parts = search rules in (
-      parts_step (λ (offset : ℕ). offset) (kind_numbered c.args.kind) c.args.texts.now
-          c.args.offsets.now c.loop-index.parts n (n + 1) _ c.parts_of_bytes.result refl
-          c.in-Some.ensures c.parts_of_bytes.ensures inside before.0,
-      others_step c.args.parts.now c.loop-index.parts n (n + 1) c.parts_of_bytes.result refl
-          before.1,
+      parts-of-one-more-text (kind_numbered c.args.kind) column c.loop-index.parts n _
+          c.parse.new.parts
+          c.in-Some.ensures c.parse.ensures inside before.0,
+      later-items-unchanged c.args.parts.now c.loop-index.parts n c.parse.new.parts before.1,
     )

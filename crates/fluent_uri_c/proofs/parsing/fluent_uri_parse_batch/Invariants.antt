@@ -1,4 +1,5 @@
 use Rattle.std.proofs.Common.{◌≡◌, ℕ, ◌<◌, drop}
+use Rattle.fluent_uri_c.specs.Columns.{column32}
 use Rattle.fluent_uri_c.specs.Kinds.{kind_numbered}
 use Rattle.fluent_uri_c.specs.PartColumns.{HasPartsAt}
 use Rattle.fluent_uri_c.proofs.parsing.fluent_uri_parse_batch.Given as goal
@@ -7,5 +8,5 @@ use Rattle.fluent_uri_c.proofs.parsing.fluent_uri_parse_batch.Given as goal
 abbrev pub invariant-loop-index : goal.invariant-loop-index
 invariant-loop-index l =
     ((i : ℕ) → i < l.index
-    → HasPartsAt (λ offset. offset) (kind_numbered l.kind) l.texts l.offsets l.parts i)
+    → HasPartsAt (kind_numbered l.kind) (column32 l.texts l.offsets) l.parts i)
     × (drop l.index l.parts ≡ drop l.index l.fn.parts)

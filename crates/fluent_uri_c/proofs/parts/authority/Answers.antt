@@ -1,8 +1,9 @@
-use Rattle.uri_parts.proofs.Splitting.PlacedComponents.{authority_place}
-use Rattle.fluent_uri_c.proofs.Places.{span_at}
+use Rattle.uri_parts.proofs.Splitting.ComponentPositions.{authority_is_at_positions}
+use Rattle.fluent_uri_c.proofs.Places.{IsSpan-of-positions}
 use Rattle.fluent_uri_c.proofs.parts.authority.Goals as goal
 
 pub returns-in-Some : goal.returns-in-Some
 returns-in-Some c =
-    span_at _ _ _ _ (authority_place c.args.text.now c.args.at c.utf8.text c.requires
+    IsSpan-of-positions _ _ _ _
+    (authority_is_at_positions c.args.text.now c.args.at c.utf8.text c.requires
     c.in-Some.inside c.in-Some.is)

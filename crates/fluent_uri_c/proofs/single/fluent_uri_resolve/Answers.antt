@@ -2,4 +2,6 @@ use Rattle.fluent_uri_c.specs.Results.{resolve_result}
 use Rattle.fluent_uri_c.proofs.single.fluent_uri_resolve.Goals as goal
 
 pub returns : goal.returns
-returns c = c.leave.ensures (resolve_result c.args.kind c.args.base.now c.args.reference.now) c.target.ensures
+returns c =
+    c.put_or_report.ensures (resolve_result c.args.kind c.args.base.now c.args.reference.now)
+    c.target.ensures

@@ -2,4 +2,7 @@ use Rattle.fluent_uri_c.specs.Results.{resolve_normalized_result}
 use Rattle.fluent_uri_c.proofs.single.fluent_uri_resolve_normalized.Goals as goal
 
 pub returns : goal.returns
-returns c = c.leave.ensures (resolve_normalized_result c.args.kind c.args.base.now c.args.reference.now) c.normal_target.ensures
+returns c =
+    c.put_or_report.ensures (resolve_normalized_result c.args.kind c.args.base.now
+    c.args.reference.now)
+    c.normal_target.ensures

@@ -2,4 +2,4 @@ use Rattle.fluent_uri_c.specs.Results.{to_uri_result}
 use Rattle.fluent_uri_c.proofs.single.fluent_uri_to_uri.Goals as goal
 
 pub returns : goal.returns
-returns c = c.leave.ensures (to_uri_result c.args.kind c.args.text.now) c.uri_text.ensures
+returns c = c.put_or_report.ensures (to_uri_result c.args.kind c.args.text.now) c.uri_text.ensures

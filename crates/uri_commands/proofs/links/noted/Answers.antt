@@ -3,16 +3,16 @@ use Rattle.fluent_uri.specs.Grammar.{uri}
 use Rattle.fluent_uri.specs.Uris.{uri_ref_text}
 use Rattle.fluent_uri.specs.Uris.{uri_text}
 use Rattle.uri_commands.specs.Commands.{Links, texts}
-use Rattle.uri_commands.specs.Refusals.{IsRefusalOf}
-use Rattle.uri_commands.specs.declared.refusal.Refusal.TheVariants.{Base}
-use Rattle.uri_commands.proofs.LinkLines.{lines_noted}
-use Rattle.uri_commands.proofs.Refusals.{mapped_refused}
+use Rattle.uri_commands.specs.Refusals.{IsErrorOfCommand}
+use Rattle.uri_commands.specs.declared.refusal.CommandError.TheVariants.{Base}
+use Rattle.uri_commands.proofs.LinkLines.{outcome_lines-are-link_lines}
+use Rattle.uri_commands.proofs.Refusals.{mapped-parse-error-is-of-text}
 use Rattle.uri_commands.proofs.links.noted.Goals as goal
 
 pub returns-in_err-base-clause-refused : goal.returns-in_err-base-clause-refused
 returns-in_err-base-clause-refused c =
-    mapped_refused
-    (IsRefusalOf (Links c.args.base.now c.args.reference.now (texts c.args.others.now))) Base
+    mapped-parse-error-is-of-text
+    (IsErrorOfCommand (Links c.args.base.now c.args.reference.now (texts c.args.others.now))) Base
     uri c.args.base.now c.parse.result c.map_err.result c.from_residual.result _
     (λ e is. is) c.parse.ensures.refused c.map_err.ensures.cases
     c.in_err-base.was c.from_residual.ensures.1
@@ -22,5 +22,6 @@ returns-clause-lines c =
     let base : uri_text c.in_ok-base.base ≡ c.args.base.now = search rules in
     let references : map uri_ref_text c.as_slice.result.now
     ≡ c.args.reference.now ∷ texts c.args.others.now = search rules in
-    lines_noted _ _ _ _ _ _ _ _ c.new-register.ensures.ports base c.new-register.ensures.empty
+    outcome_lines-are-link_lines _ _ _ _ _ _ _ _ c.new-register.ensures.ports base
+    c.new-register.ensures.empty
     references c.in_ok-outcomes.ensures.noted

@@ -1,11 +1,11 @@
 use Rattle.std.proofs.Common.{rules}
 use Rattle.uri_commands.specs.Commands.{texts}
-use Rattle.uri_commands.proofs.Outputs.{links_failed}
+use Rattle.uri_commands.proofs.Outputs.{failed-output-is-error-of-links}
 use Rattle.uri_commands.proofs.run.links.Goals as goal
 
 pub returns-in_err-write_lines-clause-refused : goal.returns-in_err-write_lines-clause-refused
 returns-in_err-write_lines-clause-refused g c =
-    links_failed c.args.base.now c.args.reference.now (texts c.args.others.now)
+    failed-output-is-error-of-links c.args.base.now c.args.reference.now (texts c.args.others.now)
     c.from_residual-in_err-write_lines.result c.in_ok-noted.ensures.base
     c.in_ok-noted.ensures.references c.from_residual-in_err-write_lines.ensures.1
 
@@ -15,5 +15,5 @@ returns-in_err-noted-clause-keeps g c = search rules
 pub returns-in_err-noted-clause-kept : goal.returns-in_err-noted-clause-kept
 returns-in_err-noted-clause-kept g c = search rules
 
-pub returns-clause-answered : goal.returns-clause-answered
-returns-clause-answered g c = search rules
+pub returns-clause-succeeded : goal.returns-clause-succeeded
+returns-clause-succeeded g c = search rules

@@ -1,10 +1,11 @@
 use Rattle.std.proofs.Common.{rules}
-use Rattle.uri_commands.proofs.Outputs.{normalize_failed}
+use Rattle.uri_commands.proofs.Outputs.{failed-output-is-error-of-normalize}
 use Rattle.uri_commands.proofs.run.normalize.Goals as goal
 
 pub returns-clause-refused : goal.returns-clause-refused
 returns-clause-refused g c =
-    normalize_failed c.args.kind c.args.text.now c.print_line.result c.in_ok-normal.ensures.of_kind
+    failed-output-is-error-of-normalize c.args.kind c.args.text.now c.print_line.result
+    c.in_ok-normal.ensures.of_kind
     c.print_line.ensures.failed
 
 pub returns-in_err-normal-clause-keeps : goal.returns-in_err-normal-clause-keeps

@@ -1,11 +1,12 @@
 use Rattle.std.proofs.Common.{rules}
-use Rattle.uri_commands.proofs.Outputs.{resolve_failed}
+use Rattle.uri_commands.proofs.Outputs.{failed-output-is-error-of-resolve}
 use Rattle.uri_commands.proofs.run.resolve.Goals as goal
 
 pub returns-clause-refused : goal.returns-clause-refused
 returns-clause-refused g c =
     let target = c.in_ok-target.ensures in
-    resolve_failed c.args.kind c.args.base.now c.args.reference.now _ c.print_line.result
+    failed-output-is-error-of-resolve c.args.kind c.args.base.now c.args.reference.now _
+    c.print_line.result
     target.base target.reference target.target c.print_line.ensures.failed
 
 pub returns-in_err-target-clause-keeps : goal.returns-in_err-target-clause-keeps

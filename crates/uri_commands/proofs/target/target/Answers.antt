@@ -1,24 +1,27 @@
 use Rattle.std.proofs.Common.{rules, sym, subst}
 use Rattle.fluent_uri.specs.Grammar.{IsOfKind, uri, uri_ref, iri, iri_ref}
-use Rattle.uri_commands.proofs.Refusals.{mapped_refused, mapped_parsed}
+use Rattle.uri_commands.proofs.Refusals.{mapped-parse-error-is-of-text, mapped-ok-is-of-kind}
 use Rattle.uri_commands.specs.Commands.{Resolve, kind_of_base, kind_of_references}
-use Rattle.uri_commands.specs.Refusals.{IsErrorOf, IsRefusalOf}
-use Rattle.uri_commands.specs.declared.refusal.Refusal.TheVariants.{Base, Reference}
+use Rattle.uri_commands.specs.Refusals.{IsErrorOf, IsErrorOfCommand}
+use Rattle.uri_commands.specs.declared.refusal.CommandError.TheVariants.{Base, Reference}
 use Rattle.uri_commands.proofs.target.target.Goals as goal
 
 pub returns-in_err-base-in-Uri-clause-refused : goal.returns-in_err-base-in-Uri-clause-refused
 returns-in_err-base-in-Uri-clause-refused c =
-    mapped_refused (IsRefusalOf (Resolve c.args.kind c.args.base.now c.args.reference.now)) Base uri
+    mapped-parse-error-is-of-text
+    (IsErrorOfCommand (Resolve c.args.kind c.args.base.now c.args.reference.now)) Base uri
     c.args.base.now c.parse.result c.map_err.result c.from_residual.result _
     (λ e is. subst (λ k. IsErrorOf (kind_of_base k) c.args.base.now e) (sym c.in-Uri.is) is)
     c.parse.ensures.refused c.map_err.ensures.cases c.in_err-base-in-Uri.was
     c.from_residual.ensures.1
 
-pub returns-in_err-reference-in-Uri-clause-refused : goal.returns-in_err-reference-in-Uri-clause-refused
+pub returns-in_err-reference-in-Uri-clause-refused
+    : goal.returns-in_err-reference-in-Uri-clause-refused
 returns-in_err-reference-in-Uri-clause-refused c =
-    let base = mapped_parsed uri c.args.base.now c.parse.result c.map_err.result _
+    let base = mapped-ok-is-of-kind uri c.args.base.now c.parse.result c.map_err.result _
     c.parse.ensures.accepts c.map_err.ensures.variant c.in_ok-base-in-Uri.was in
-    mapped_refused (IsRefusalOf (Resolve c.args.kind c.args.base.now c.args.reference.now))
+    mapped-parse-error-is-of-text
+    (IsErrorOfCommand (Resolve c.args.kind c.args.base.now c.args.reference.now))
     Reference uri_ref c.args.reference.now c.parse-in-Uri.result c.map_err-in-Uri.result
     c.from_residual-in_err-reference-in-Uri.result _
     (λ e is. subst (λ k. IsOfKind (kind_of_base k) c.args.base.now
@@ -28,18 +31,22 @@ returns-in_err-reference-in-Uri-clause-refused c =
 
 pub returns-in_err-base-in-Iri-clause-refused : goal.returns-in_err-base-in-Iri-clause-refused
 returns-in_err-base-in-Iri-clause-refused c =
-    mapped_refused (IsRefusalOf (Resolve c.args.kind c.args.base.now c.args.reference.now)) Base iri
+    mapped-parse-error-is-of-text
+    (IsErrorOfCommand (Resolve c.args.kind c.args.base.now c.args.reference.now)) Base iri
     c.args.base.now c.parse-in-Iri.result c.map_err-in-Iri.result
     c.from_residual-in_err-base-in-Iri.result _
     (λ e is. subst (λ k. IsErrorOf (kind_of_base k) c.args.base.now e) (sym c.in-Iri.is) is)
     c.parse-in-Iri.ensures.refused c.map_err-in-Iri.ensures.cases
     c.in_err-base-in-Iri.was c.from_residual-in_err-base-in-Iri.ensures.1
 
-pub returns-in_err-reference-in-Iri-clause-refused : goal.returns-in_err-reference-in-Iri-clause-refused
+pub returns-in_err-reference-in-Iri-clause-refused
+    : goal.returns-in_err-reference-in-Iri-clause-refused
 returns-in_err-reference-in-Iri-clause-refused c =
-    let base = mapped_parsed iri c.args.base.now c.parse-in-Iri.result c.map_err-in-Iri.result _
+    let base = mapped-ok-is-of-kind iri c.args.base.now c.parse-in-Iri.result
+    c.map_err-in-Iri.result _
     c.parse-in-Iri.ensures.accepts c.map_err-in-Iri.ensures.variant c.in_ok-base-in-Iri.was in
-    mapped_refused (IsRefusalOf (Resolve c.args.kind c.args.base.now c.args.reference.now))
+    mapped-parse-error-is-of-text
+    (IsErrorOfCommand (Resolve c.args.kind c.args.base.now c.args.reference.now))
     Reference iri_ref c.args.reference.now c.parse-in-Iri-2.result c.map_err-in-Iri-2.result
     c.from_residual-in_err-reference-in-Iri.result _
     (λ e is. subst (λ k. IsOfKind (kind_of_base k) c.args.base.now
@@ -47,10 +54,12 @@ returns-in_err-reference-in-Iri-clause-refused c =
     c.parse-in-Iri-2.ensures.refused c.map_err-in-Iri-2.ensures.cases
     c.in_err-reference-in-Iri.was c.from_residual-in_err-reference-in-Iri.ensures.1
 
-pub returns-in_err-uri_target-in-Uri-clause-refused : goal.returns-in_err-uri_target-in-Uri-clause-refused
+pub returns-in_err-uri_target-in-Uri-clause-refused
+    : goal.returns-in_err-uri_target-in-Uri-clause-refused
 returns-in_err-uri_target-in-Uri-clause-refused c = search rules
 
-pub returns-in_err-iri_target-in-Iri-clause-refused : goal.returns-in_err-iri_target-in-Iri-clause-refused
+pub returns-in_err-iri_target-in-Iri-clause-refused
+    : goal.returns-in_err-iri_target-in-Iri-clause-refused
 returns-in_err-iri_target-in-Iri-clause-refused c = search rules
 
 pub returns-clause-target : goal.returns-clause-target

@@ -2,50 +2,61 @@ use Rattle.std.proofs.Common.{◌≡◌, ◌+◌, ◌-◌, ◌∙◌, sym, ap, a
 use Rattle.std.proofs.lemmas.Grind.{common_steps}
 use Rattle.fluent_uri.specs.Uris.{uri_text}
 use Rattle.uri_links.specs.SearchTrees.{hash_of, leaf, search_from}
-use Rattle.uri_links.proofs.Searches.{taken_at, ended_at, gone_on_at, same_at, as_many, text_at}
+use Rattle.uri_links.proofs.Searches.{search_from-found-here-at, search_from-ends-here-at}
+use Rattle.uri_links.proofs.Searches.{search_from-descends-at, node-hash-is-text-hash}
+use Rattle.uri_links.proofs.Searches.{as-many-nodes-as-texts, get_or-of-mapped}
 use Rattle.uri_links.proofs.search_tree.search.Goals as goal
 
-pub is_of-requires-clause-own : goal.is_of-requires-clause-own
-is_of-requires-clause-own c =
-    let many = as_many c.args.nodes.now (map uri_text c.args.targets.now) c.requires.hashes in
-    same_at c.args.nodes.now (map uri_text c.args.targets.now) c.requires.hashes c.loop-depth.id
+pub has_text-requires-clause-own : goal.has_text-requires-clause-own
+has_text-requires-clause-own c =
+    let many = as-many-nodes-as-texts c.args.nodes.now (map uri_text c.args.targets.now)
+    c.requires.hashes in
+    node-hash-is-text-hash c.args.nodes.now (map uri_text c.args.targets.now) c.requires.hashes
+    c.loop-depth.id
     (leaf 0) [] (grind (arith, common_steps))
-    ∙ ap hash_of (text_at uri_text c.args.targets.now c.loop-depth.id c.index-targets-id.result
+    ∙ ap hash_of (get_or-of-mapped uri_text c.args.targets.now c.loop-depth.id
+    c.index-targets-id.result
     (grind (arith, common_steps, many)) c.index-targets-id.is)
 
-pub returns-then-is_of : goal.returns-then-is_of
-returns-then-is_of c =
-    let many = as_many c.args.nodes.now (map uri_text c.args.targets.now) c.requires.hashes in
-    let is = text_at uri_text c.args.targets.now c.loop-depth.id c.index-targets-id.result
+pub returns-then-has_text : goal.returns-then-has_text
+returns-then-has_text c =
+    let many = as-many-nodes-as-texts c.args.nodes.now (map uri_text c.args.targets.now)
+    c.requires.hashes in
+    let is = get_or-of-mapped uri_text c.args.targets.now c.loop-depth.id c.index-targets-id.result
     (grind (arith, common_steps, many)) c.index-targets-id.is in
-    sym (taken_at c.args.nodes.now (map uri_text c.args.targets.now) c.args.text.now
+    sym (search_from-found-here-at c.args.nodes.now (map uri_text c.args.targets.now)
+    c.args.text.now
     (length c.args.nodes.now - c.loop-depth.depth)
     (length c.args.nodes.now - (c.loop-depth.depth + 1)) c.loop-depth.id c.loop-depth.depth
-    (omega arith) (rw is (sym c.is_of.ensures ∙ c.if-is_of.true)))
+    (omega arith) (rw is (sym c.has_text.ensures ∙ c.if-has_text.true)))
     ∙ c.loop-depth.invariant.goes_on
 
 pub returns-then-child-eq0 : goal.returns-then-child-eq0
 returns-then-child-eq0 c =
-    let many = as_many c.args.nodes.now (map uri_text c.args.targets.now) c.requires.hashes in
-    let is = text_at uri_text c.args.targets.now c.loop-depth.id c.index-targets-id.result
+    let many = as-many-nodes-as-texts c.args.nodes.now (map uri_text c.args.targets.now)
+    c.requires.hashes in
+    let is = get_or-of-mapped uri_text c.args.targets.now c.loop-depth.id c.index-targets-id.result
     (grind (arith, common_steps, many)) c.index-targets-id.is in
-    let ends = ended_at c.args.nodes.now (map uri_text c.args.targets.now) c.args.text.now
+    let ends = search_from-ends-here-at c.args.nodes.now (map uri_text c.args.targets.now)
+    c.args.text.now
     (length c.args.nodes.now - c.loop-depth.depth)
     (length c.args.nodes.now - (c.loop-depth.depth + 1)) c.loop-depth.id c.loop-depth.depth
-    (omega arith) (rw is (sym c.is_of.ensures ∙ c.if-is_of.false))
+    (omega arith) (rw is (sym c.has_text.ensures ∙ c.if-has_text.false))
     (grind (arith, common_steps)) in
     grind (arith, ends)
 
 pub loop-depth-preserved : goal.loop-depth-preserved
 loop-depth-preserved c =
-    let many = as_many c.args.nodes.now (map uri_text c.args.targets.now) c.requires.hashes in
-    let is = text_at uri_text c.args.targets.now c.loop-depth.id c.index-targets-id.result
+    let many = as-many-nodes-as-texts c.args.nodes.now (map uri_text c.args.targets.now)
+    c.requires.hashes in
+    let is = get_or-of-mapped uri_text c.args.targets.now c.loop-depth.id c.index-targets-id.result
     (grind (arith, common_steps, many)) c.index-targets-id.is in
-    let child = c.requires.children c.loop-depth.id c.is_right-right.result in
-    let rest = gone_on_at c.args.nodes.now (map uri_text c.args.targets.now) c.args.text.now
+    let child = c.requires.children c.loop-depth.id c.descends_right-right.result in
+    let rest = search_from-descends-at c.args.nodes.now (map uri_text c.args.targets.now)
+    c.args.text.now
     (length c.args.nodes.now - c.loop-depth.depth)
     (length c.args.nodes.now - (c.loop-depth.depth + 1)) c.loop-depth.id c.loop-depth.depth
-    (omega arith) (rw is (sym c.is_of.ensures ∙ c.if-is_of.false))
+    (omega arith) (rw is (sym c.has_text.ensures ∙ c.if-has_text.false))
     (grind (arith, common_steps)) in
     record { within = grind (arith, child); goes_on = grind (arith, rest) }
 

@@ -3,13 +3,15 @@ use Rattle.std.specs.Char.{to_ascii_lowercase, is_ascii_lowercase}
 use Rattle.std.proofs.lemmas.Bool.{eqb-true, eqb-false}
 use Rattle.uri_parts.specs.SchemePorts.{port_ignoring_case}
 use Rattle.uri_parts.proofs.Authorities.SchemePorts.{row_of}
-use Rattle.uri_parts.proofs.Authorities.SchemeRows.{before, texts_of_rows, port_of_letter}
-use Rattle.uri_parts.proofs.Authorities.SchemeRows.{port_of_other, port_of_nothing}
+use Rattle.uri_parts.proofs.Authorities.SchemeRows.{before, map-of-slice-is-slice-of-map}
+use Rattle.uri_parts.proofs.Authorities.SchemeRows.{default-port-by-rows-of-first-letter}
+use Rattle.uri_parts.proofs.Authorities.SchemeRows.{no-default-port-without-first-letter}
+use Rattle.uri_parts.proofs.Authorities.SchemeRows.{empty-scheme-has-no-default-port}
 use Rattle.uri_parts.proofs.default_ports.of_scheme.Goals as goal
 
 pub returns-then-is_empty : goal.returns-then-is_empty
 returns-then-is_empty c =
-    sym (port_of_nothing c.args.scheme.now
+    sym (empty-scheme-has-no-default-port c.args.scheme.now
     (sym (ap length c.as_bytes-bytes.ensures.value)
     ∙ eqb-true _ 0 (sym c.is_empty.ensures ∙ c.if-is_empty.true)))
 
@@ -17,7 +19,7 @@ pub returns-then-not-is_ascii_lowercase : goal.returns-then-not-is_ascii_lowerca
 returns-then-not-is_ascii_lowercase c =
     let letter = c.to_ascii_lowercase-letter.ensures.value
     ∙ ap (λ x. to_ascii_lowercase (get_or x 0 0)) c.as_bytes-bytes.ensures.value in
-    sym (port_of_other c.args.scheme.now
+    sym (no-default-port-without-first-letter c.args.scheme.now
     (ap is_ascii_lowercase (sym letter) ∙ sym c.is_ascii_lowercase.ensures.value
     ∙ c.if-not-is_ascii_lowercase.true))
 
@@ -32,7 +34,9 @@ returns c =
     let some = eqb-false _ 0 (sym c.is_empty.ensures ∙ c.if-is_empty.false) in
     let same = ap length c.as_bytes-bytes.ensures.value in
     let long : 0 < length scheme = omega (arith, some, same) in
-    c.port_in.ensures
-    ∙ ap (λ rows. port_ignoring_case scheme (map row_of rows)) c.rows_of.ensures
-    ∙ ap (port_ignoring_case scheme) (texts_of_rows row_of _ (before nth) (before (nth + 1)))
-    ∙ port_of_letter scheme nth long low (c.from.ensures ∙ ap (λ x. x - 97) letter)
+    c.port_of_named_row.ensures
+    ∙ ap (λ rows. port_ignoring_case scheme (map row_of rows)) c.rows_of_letter.ensures
+    ∙ ap (port_ignoring_case scheme) (map-of-slice-is-slice-of-map row_of _ (before nth)
+    (before (nth + 1)))
+    ∙ default-port-by-rows-of-first-letter scheme nth long low (c.from.ensures
+    ∙ ap (λ x. x - 97) letter)

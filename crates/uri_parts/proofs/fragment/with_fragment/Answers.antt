@@ -2,7 +2,10 @@ use Rattle.std.proofs.Common.{Some, None, ap, sym, subst, ◌∙◌, ◌++◌, �
 use Rattle.std.specs.Prelude.{option_map, string_bytes}
 use Rattle.uri_pct.specs.EncodedTexts.{text_of}
 use Rattle.uri_parts.specs.Fragments.{IsWithFragment}
-use Rattle.uri_parts.proofs.Splitting.Fragments.{added, stays_with, stays_without, same_places}
+use Rattle.uri_parts.proofs.Splitting.Fragments.{appended_is_with_fragment}
+use Rattle.uri_parts.proofs.Splitting.Fragments.{stays_of_kind_with_fragment}
+use Rattle.uri_parts.proofs.Splitting.Fragments.{stays_of_kind_without_fragment}
+use Rattle.uri_parts.proofs.Splitting.Fragments.{positions_stay_with_fragment}
 use Rattle.uri_parts.proofs.fragment.with_fragment.Goals as goal
 
 -- the text that is made without a fragment, and with one
@@ -22,17 +25,19 @@ with g c =
     let fragment = c.as_str.result.now in
     let start = c.in_ok-push_str-2.ensures.bytes
     ∙ ap (λ t. t ++ kept) (c.reserve.ensures.bytes ∙ c.new-made.ensures.bytes) in
-    added c.args.text.now kept (string_bytes c.push_fragment.new.text) fragment
+    appended_is_with_fragment c.args.text.now kept (string_bytes c.push_fragment.new.text) fragment
     c.without_fragment-kept.ensures.fragment
     (c.in_ok-push_fragment.ensures.text ∙ ap (λ t. t ++ (35 ∷ fragment)) start)
 
 pub returns-in_default-clause-of_kind : goal.returns-in_default-clause-of_kind
 returns-in_default-clause-of_kind g c =
-    stays_without g.E.Encoder.set c.args.text.now (string_bytes c.push_str.new.self) (without g c)
+    stays_of_kind_without_fragment g.E.Encoder.set c.args.text.now
+    (string_bytes c.push_str.new.self) (without g c)
 
 pub returns-in_default-clause-at : goal.returns-in_default-clause-at
 returns-in_default-clause-at g c =
-    same_places c.args.text.now (string_bytes c.push_str.new.self) None c.args.positions.now
+    positions_stay_with_fragment c.args.text.now (string_bytes c.push_str.new.self) None
+    c.args.positions.now
     c.requires (without g c)
 
 pub returns-clause-fragment : goal.returns-clause-fragment
@@ -42,9 +47,10 @@ returns-clause-fragment g c =
     (with g c)
 
 pub returns-clause-of_kind : goal.returns-clause-of_kind
-returns-clause-of_kind g c = stays_with g.E.Encoder.set c.args.text.now
+returns-clause-of_kind g c = stays_of_kind_with_fragment g.E.Encoder.set c.args.text.now
     (string_bytes c.push_fragment.new.text) c.as_str.result.now c.as_str.ensures.valid (with g c)
 
 pub returns-clause-at : goal.returns-clause-at
-returns-clause-at g c = same_places c.args.text.now (string_bytes c.push_fragment.new.text)
+returns-clause-at g c = positions_stay_with_fragment c.args.text.now
+    (string_bytes c.push_fragment.new.text)
     (Some c.as_str.result.now) c.args.positions.now c.requires (with g c)

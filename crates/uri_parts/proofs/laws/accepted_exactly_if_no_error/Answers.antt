@@ -16,5 +16,8 @@ none_is (Err x) e = absurd (false≢true e)
 pub returns : goal.returns
 returns g c =
     let found = c.parse-parsed.ensures.refused in
-    let accepts = c.parse-parsed.ensures.accepts in
-    ((λ none. accepts.0 (ok_is _ (found ∙ none))), (λ of_kind. sym found ∙ none_is _ (accepts.1 of_kind)))
+    let accepts = c.parse-parsed.ensures.accepts in (
+      (λ none. accepts.0 (ok_is _ (found ∙ none))),
+      (λ of_kind. sym found
+          ∙ none_is _ (accepts.1 of_kind)),
+    )

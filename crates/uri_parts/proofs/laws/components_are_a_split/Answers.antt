@@ -1,5 +1,5 @@
-use Rattle.uri_parts.proofs.Theorems.{IsSplitOf-components}
+use Rattle.uri_parts.proofs.Theorems.{components-are-split-of-text}
 use Rattle.uri_parts.proofs.laws.components_are_a_split.Goals as goal
 
 pub returns : goal.returns
-returns c = IsSplitOf-components
+returns c = components-are-split-of-text

@@ -4,8 +4,9 @@ use Rattle.std.specs.Str.Chunks.{utf8_chunks_rest, utf8_chunk_valid, utf8_chunk_
 use Rattle.uri_pct.specs.Encoding.{encode_text}
 use Rattle.uri_pct.specs.Tables.{set_of}
 use Rattle.uri_pct.specs.Tokens.{Octet, print}
-use Rattle.uri_pct.proofs.EncodedTexts.Encodings.{kept_on, bytes_step, bytes_end}
-use Rattle.uri_pct.proofs.Unicode.Runs.{chunk_pieces}
+use Rattle.uri_pct.proofs.EncodedTexts.Encodings.{kept_prefix-transitive, encoded_bytes_after_chunk}
+use Rattle.uri_pct.proofs.EncodedTexts.Encodings.{encoded_bytes_at_end}
+use Rattle.uri_pct.proofs.Unicode.Runs.{utf8_pieces-of-std-chunk}
 use Rattle.uri_pct.proofs.encode.push_bytes.Goals as goal
 
 pub loop-chunk-preserved : goal.loop-chunk-preserved
@@ -23,17 +24,19 @@ loop-chunk-preserved c =
     ∙ ap (λ x. out ++ print (encode_text set x)) c.valid.ensures in
     let then : new ≡ mid ++ print (map Octet fault) = c.in_ok-push_octets.ensures.ok
     ∙ ap (λ x. mid ++ print (map Octet x)) c.invalid.ensures in
-    let pieces = chunk_pieces (utf8_chunks_rest c.loop-chunk.chunk-iterator) text fault rest steps.0
+    let pieces = utf8_pieces-of-std-chunk (utf8_chunks_rest c.loop-chunk.chunk-iterator) text fault
+    rest steps.0
     steps.3.0 steps.3.1 steps.2 in
     record {
-      total = bytes_step set out mid new _ text fault rest _
+      total = encoded_bytes_after_chunk set out mid new _ text fault rest _
           (subst IsUtf8 c.valid.ensures c.valid.utf8) pieces first
           then c.loop-chunk.invariant.total;
-      keeps = kept_on old mid new (kept_on old out mid c.loop-chunk.invariant.keeps
+      keeps = kept_prefix-transitive old mid new
+          (kept_prefix-transitive old out mid c.loop-chunk.invariant.keeps
           c.in_ok-push_text.ensures.keeps) c.in_ok-push_octets.ensures.keeps;
     }
 
 pub returns-clause-ok : goal.returns-clause-ok
-returns-clause-ok c = bytes_end (set_of c.args.table.now) (string_bytes c.loop-chunk.out)
+returns-clause-ok c = encoded_bytes_at_end (set_of c.args.table.now) (string_bytes c.loop-chunk.out)
     (utf8_chunks_rest c.loop-chunk.chunk-iterator) _ c.in-None.ensures.steps.0
     c.loop-chunk.invariant.total

@@ -3,8 +3,8 @@ use Rattle.std.proofs.Common.{string_bytes, take_all, map}
 use Rattle.std.proofs.lemmas.Str.{IsCharBoundary-start}
 use Rattle.uri_pct.specs.Tables.{set_of}
 use Rattle.uri_pct.specs.Tokens.{Octet, print}
-use Rattle.uri_pct.proofs.EncodedTexts.Encodings.{kept_more, kept_on}
-use Rattle.uri_pct.proofs.ValidTexts.KeptPrefixes.{run_step, whole_written}
+use Rattle.uri_pct.proofs.EncodedTexts.Encodings.{append_keeps_prefix, kept_prefix-transitive}
+use Rattle.uri_pct.proofs.ValidTexts.KeptPrefixes.{encoded_text_after_two_runs, encoded_text_at_end}
 use Rattle.uri_pct.proofs.encode.push_text.Goals as goal
 
 pub loop-done-init : goal.loop-done-init
@@ -21,16 +21,18 @@ returns-in_err-push_octets-clause-keeps c =
     let copied : string_bytes c.push_str.new.self
     ≡ string_bytes c.loop-done.out ++ c.range.result.now = c.in_ok-push_str.ensures.bytes in
     let mid = ap (take (length old)) copied
-    ∙ kept_more old (string_bytes c.loop-done.out) c.range.result.now c.loop-done.invariant.keeps in
-    kept_on old (string_bytes c.push_str.new.self) (string_bytes c.push_octets.new.out) mid
+    ∙ append_keeps_prefix old (string_bytes c.loop-done.out) c.range.result.now
+    c.loop-done.invariant.keeps in
+    kept_prefix-transitive old (string_bytes c.push_str.new.self)
+    (string_bytes c.push_octets.new.out) mid
     c.in_err-push_octets.ensures.keeps
 
 pub loop-done-preserved : goal.loop-done-preserved
 loop-done-preserved c =
     let text = c.args.text.now in
     let done = c.loop-done.done in
-    let end = c.kept_end-end.result in
-    let next = c.refused_end-next.result in
+    let end = c.allowed_end-end.result in
+    let next = c.disallowed_end-next.result in
     let old = string_bytes c.args.out.now in
     let out = string_bytes c.loop-done.out in
     let mid = string_bytes c.push_str.new.self in
@@ -43,16 +45,16 @@ loop-done-preserved c =
     ∙ ap (λ x. mid ++ print (map Octet (take (next - end) (drop end x))))
     c.as_bytes.ensures.value in
     record {
-      boundary = c.refused_end-next.ensures.boundary;
-      total = run_step (set_of c.args.table.now) out mid new text _ done end next
-          c.kept_end-end.ensures.kept c.refused_end-next.ensures.octets copied octets
+      boundary = c.disallowed_end-next.ensures.boundary;
+      total = encoded_text_after_two_runs (set_of c.args.table.now) out mid new text _ done end next
+          c.allowed_end-end.ensures.kept c.disallowed_end-next.ensures.octets copied octets
           c.loop-done.invariant.total;
-      keeps = kept_on old mid new (ap (take (length old)) pushed
-          ∙ kept_more old out c.range.result.now c.loop-done.invariant.keeps)
+      keeps = kept_prefix-transitive old mid new (ap (take (length old)) pushed
+          ∙ append_keeps_prefix old out c.range.result.now c.loop-done.invariant.keeps)
           c.in_ok-push_octets.ensures.keeps;
     }
 
 pub returns-clause-ok : goal.returns-clause-ok
-returns-clause-ok c = whole_written (set_of c.args.table.now) (string_bytes c.loop-done.out)
+returns-clause-ok c = encoded_text_at_end (set_of c.args.table.now) (string_bytes c.loop-done.out)
     c.args.text.now _ c.loop-done.done (omega (arith, c.loop-done-test.false))
     c.loop-done.invariant.total

@@ -2,7 +2,8 @@ use Rattle.std.proofs.Common.{◌≡◌, ◌-◌, ◌≤◌, ◌∙◌, sym, ap,
 use Rattle.std.specs.Int.{bit_at}
 use Rattle.std.proofs.lemmas.Nat.{and_mask}
 use Rattle.std.proofs.lemmas.Nat.Bits.{shr_and_one}
-use Rattle.uri_pct.proofs.TableSets.Masks.{has_low_bit, has_high_bit}
+use Rattle.uri_pct.proofs.TableSets.Masks.{has_bit_below_64_is_bit_of_low}
+use Rattle.uri_pct.proofs.TableSets.Masks.{has_bit_from_64_is_bit_of_high}
 use Rattle.uri_pct.proofs.lanes.has.Goals as goal
 use Rattle.uri_pct.proofs.lanes.has.Goals.{then-byte-lt64, else-byte-lt64}
 
@@ -16,10 +17,10 @@ returns c =
       | then-byte-lt64 w ↦
           let place : bit_and b 63 ≡ b = and_mask b 6 ∙ omega (arith, w.if-byte-lt64.true) in
           ap (λ k. eqb (bit_at mask k) 1) place ∙ ap (λ m. eqb (bit_at m b) 1) w.mask-is
-          ∙ sym (has_low_bit low high b w.if-byte-lt64.true)
+          ∙ sym (has_bit_below_64_is_bit_of_low low high b w.if-byte-lt64.true)
       | else-byte-lt64 w ↦
           let from : 64 ≤ b = omega (arith, w.if-byte-lt64.false) in
           let place : bit_and b 63 ≡ b - 64 = and_mask b 6 ∙ omega (arith, from, c.requires) in
           ap (λ k. eqb (bit_at mask k) 1) place ∙ ap (λ m. eqb (bit_at m (b - 64)) 1) w.mask-is
-          ∙ sym (has_high_bit low high b from c.requires)
+          ∙ sym (has_bit_from_64_is_bit_of_high low high b from c.requires)
     ]

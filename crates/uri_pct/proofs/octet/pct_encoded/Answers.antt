@@ -1,18 +1,19 @@
 use Rattle.std.proofs.Common.{◌≡◌, ◌+◌, ◌-◌, ◌*◌, arith}
 use Rattle.std.proofs.lemmas.Str.{IsCharBoundary-from_ascii}
 use Rattle.uri_pct.specs.declared.octet.TheConstants.{OCTETS}
-use Rattle.uri_pct.proofs.Decodings.OctetTexts.{octet_entry, octets_ascii}
+use Rattle.uri_pct.proofs.Decodings.OctetTexts.{octet_entry_is_printed_octet, octet_table_is_ascii}
 use Rattle.uri_pct.proofs.octet.pct_encoded.Goals as goal
 
 pub range-requires-clause-start_boundary : goal.range-requires-clause-start_boundary
 range-requires-clause-start_boundary c =
-    λ _. IsCharBoundary-from_ascii OCTETS.now _ octets_ascii (omega arith)
+    λ _. IsCharBoundary-from_ascii OCTETS.now _ octet_table_is_ascii (omega arith)
 
 pub range-requires-clause-end_boundary : goal.range-requires-clause-end_boundary
 range-requires-clause-end_boundary c =
-    IsCharBoundary-from_ascii OCTETS.now _ octets_ascii (omega arith)
+    IsCharBoundary-from_ascii OCTETS.now _ octet_table_is_ascii (omega arith)
 
 pub returns : goal.returns
 returns c =
     let three : c.from-start.result * 3 + 3 - c.from-start.result * 3 ≡ 3 = omega arith in
-    rw (c.range.ensures.value, three, c.from-start.ensures) (octet_entry c.args.byte (omega arith))
+    rw (c.range.ensures.value, three, c.from-start.ensures)
+    (octet_entry_is_printed_octet c.args.byte (omega arith))

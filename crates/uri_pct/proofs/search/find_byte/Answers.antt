@@ -1,7 +1,9 @@
 use Rattle.std.proofs.Common.{◌≡◌, ◌≤◌, ◌+◌, ◌==◌, ℕ, Bool, true, false, List, length, map, not}
 use Rattle.std.proofs.Common.{arith, refl, sym, ap, subst, ◌∙◌}
 use Rattle.std.specs.Simd.Lanes.{mask_l, chunk}
-use Rattle.uri_pct.proofs.LaneScans.LaneRuns.{LaneMarks, marks_of_load, goes_on, ends_there}
+use Rattle.uri_pct.proofs.LaneScans.LaneRuns.{MarksFailingLanes, load_mask_marks_failing_lanes}
+use Rattle.uri_pct.proofs.LaneScans.LaneRuns.{run_goes_on_past_unmarked_lanes}
+use Rattle.uri_pct.proofs.LaneScans.LaneRuns.{run_ends_at_first_marked_lane}
 use Rattle.uri_pct.proofs.search.find_byte.Goals as goal
 
 twice_not : (b : Bool) → b ≡ not (not b)
@@ -11,19 +13,19 @@ twice_not false = refl
 -- what the mask of sixteen bytes says
 block : (byte : ℕ) (bs : List ℕ) (i mask : ℕ) → i + 16 ≤ length bs
     → mask ≡ mask_l (map (λ b. b == byte) (chunk i 16 bs))
-    → LaneMarks (λ b. not (b == byte)) bs i 16 mask
+    → MarksFailingLanes (λ b. not (b == byte)) bs i 16 mask
 block byte bs i mask room e =
     let same = ap (λ f. mask_l (map f (chunk i 16 bs))) (λ i b. twice_not (b == byte) i) in
-    subst (LaneMarks (λ b. not (b == byte)) bs i 16) (sym (e ∙ same))
-    (marks_of_load (λ b. not (b == byte)) bs i 16 room)
+    subst (MarksFailingLanes (λ b. not (b == byte)) bs i 16) (sym (e ∙ same))
+    (load_mask_marks_failing_lanes (λ b. not (b == byte)) bs i 16 room)
 
 pub returns-then-mask-ne0 : goal.returns-then-mask-ne0
 returns-then-mask-ne0 c =
     let bs = c.args.bytes.now in
     let i = c.loop-i.i in
     let room : i + 16 ≤ length bs = omega (arith, c.loop-i.invariant.within, c.loop-i-test.true) in
-    let marks = block c.args.byte bs i _ room c.places_of-mask.ensures in
-    ends_there _ bs c.args.start i 16 _ marks c.loop-i.invariant.pass
+    let marks = block c.args.byte bs i _ room c.lanes_equal_to-mask.ensures in
+    run_ends_at_first_marked_lane _ bs c.args.start i 16 _ marks c.loop-i.invariant.pass
     (omega (arith, c.if-mask-ne0.true)) (omega arith) c.loop-i.invariant.from room
 
 pub loop-i-preserved : goal.loop-i-preserved
@@ -31,10 +33,10 @@ loop-i-preserved c =
     let bs = c.args.bytes.now in
     let i = c.loop-i.i in
     let room : i + 16 ≤ length bs = omega (arith, c.loop-i.invariant.within, c.loop-i-test.true) in
-    let marks = block c.args.byte bs i _ room c.places_of-mask.ensures in
+    let marks = block c.args.byte bs i _ room c.lanes_equal_to-mask.ensures in
     record {
       from = omega (arith, c.loop-i.invariant.from);
       within = room;
-      pass = goes_on _ bs c.args.start i 16 _ marks c.loop-i.invariant.pass
+      pass = run_goes_on_past_unmarked_lanes _ bs c.args.start i 16 _ marks c.loop-i.invariant.pass
           (omega (arith, c.if-mask-ne0.false));
     }

@@ -1,12 +1,13 @@
 use Rattle.std.proofs.Common.{arith}
-use Rattle.uri_ops.proofs.Paths.DotStarts.{in_window}
+use Rattle.uri_ops.proofs.Paths.DotStarts.{window-extends-dotless-prefix}
 use Rattle.uri_relative.proofs.dots.may_have_dots.Goals as goal
 
 pub loop-i-preserved : goal.loop-i-preserved
 loop-i-preserved c =
     let i = c.loop-i.i in
     let n = c.len_before_slash_dot.result in
-    let before = in_window c.args.bytes.now i i n (omega arith) c.loop-i.invariant.none
+    let before = window-extends-dotless-prefix c.args.bytes.now i i n
+    (omega arith) c.loop-i.invariant.none
     c.len_before_slash_dot.ensures.none in
     record {
       within = omega (arith, c.loop-i-test.true);

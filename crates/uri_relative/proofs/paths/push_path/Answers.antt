@@ -1,67 +1,88 @@
-use Rattle.std.proofs.Common.{◌≡◌, ◌+◌, ◌≤◌, false, length, drop, subst, sym, ap, ◌∙◌, arith}
+use Rattle.std.proofs.Common.{◌≡◌, ◌+◌, ◌<◌, ◌≤◌, false, length, drop, subst, sym, ap, ◌∙◌, arith}
 use Rattle.std.proofs.lemmas.Bool.{both_ways, not-true}
-use Rattle.std.specs.Prelude.{None}
+use Rattle.std.specs.Prelude.{None, OnOk}
+use Rattle.uri_pct.specs.Texts.{Pushes}
 use Rattle.std.proofs.lemmas.Bool.{not-false}
 use Rattle.uri_ops.specs.Target.{guarded}
 use Rattle.uri_relative.specs.Relative.{slashes, relative_path}
-use Rattle.uri_relative.proofs.Ways.{absolute_way, relative_way, way_pushed, boundary, rest_whole}
-use Rattle.uri_relative.proofs.Ways.{shared_as, relative_pushed, relative_fits}
-use Rattle.uri_relative.specs.Shortest.{IsShortestWay}
-use Rattle.uri_relative.proofs.ShortestPaths.{root_is_short, shared_of, shortest_way}
+use Rattle.uri_relative.proofs.Ways.{path-from-root-leads-to-path, relative-path-leads-to-path}
+use Rattle.uri_relative.proofs.Ways.{pushed-path-leads-to-path, boundary-after-last-slash}
+use Rattle.uri_relative.proofs.Ways.{take-all-of-suffix}
+use Rattle.uri_relative.proofs.Ways.{shared-prefix-of-equals, pushed-relative-path-leads-to-path}
+use Rattle.uri_relative.proofs.Ways.{relative-path-is-no-longer-than-from-root}
+use Rattle.uri_relative.specs.Shortest.{IsShortestPath}
+use Rattle.uri_relative.proofs.ShortestPaths.{path-from-root-is-shorter}
+use Rattle.uri_relative.proofs.ShortestPaths.{last-shared-slash-of-equals}
+use Rattle.uri_relative.proofs.ShortestPaths.{no-longer-than-both-paths-is-shortest}
+use Rattle.uri_relative.proofs.Rules.{relative-path-by-longest-prefix, relative-path-if-no-longer}
+use Rattle.uri_relative.proofs.Rules.{path-from-root-for-base-with-dots}
+use Rattle.uri_relative.proofs.Rules.{path-from-root-if-shorter}
 use Rattle.uri_relative.proofs.paths.push_path.Goals as goal
 
-pub returns-then-has_dot_segments : goal.returns-then-has_dot_segments
-returns-then-has_dot_segments c =
-    way_pushed _ _
+pub returns-then-has_dot_segments-clause-way : goal.returns-then-has_dot_segments-clause-way
+returns-then-has_dot_segments-clause-way c =
+    pushed-path-leads-to-path _ _
     (λ way. c.args.prefers_relative ≡ false → length way ≤ length (guarded None c.args.path.now))
-    (λ way. c.args.prefers_relative ≡ false → IsShortestWay c.args.base.now c.args.path.now way)
-    (guarded None c.args.path.now) c.args.base.now c.args.path.now c.push_absolute.ensures
-    (absolute_way c.args.base.now c.args.path.now c.requires.path c.requires.plain c.utf8.path)
+    (λ way. c.args.prefers_relative ≡ false → IsShortestPath c.args.base.now c.args.path.now way)
+    (guarded None c.args.path.now) c.args.base.now c.args.path.now c.push_guarded_path.ensures
+    (path-from-root-leads-to-path c.args.base.now c.args.path.now c.requires.path c.requires.dotless
+    c.utf8.path)
     (λ _. omega arith)
-    (λ _ plain. absurd (both_ways _
+    (λ _ dotless. absurd (both_ways _
     (not-true _ (sym c.has_dot_segments.ensures ∙ c.if-has_dot_segments.true))
-    (c.root_or-base.ensures.plain ∙ plain)))
+    (c.path_or_slash-base.ensures.dotless ∙ dotless)))
+
+pub returns-then-has_dot_segments-clause-text : goal.returns-then-has_dot_segments-clause-text
+returns-then-has_dot_segments-clause-text c =
+    subst (λ way. OnOk c.push_guarded_path.result
+    (Pushes c.args.out.now c.push_guarded_path.new.out way))
+    (path-from-root-for-base-with-dots c.args.prefers_relative c.args.base.now c.args.path.now
+    (sym c.path_or_slash-base.ensures.dotless
+    ∙ not-true _ (sym c.has_dot_segments.ensures ∙ c.if-has_dot_segments.true)))
+    c.push_guarded_path.ensures
 
 pub range_from-rest-requires : goal.range_from-rest-requires
 range_from-rest-requires c = λ _.
-    boundary c.args.path.now c.as_bytes-2.result.now c.last_shared_slash-last.result
+    boundary-after-last-slash c.args.path.now c.as_bytes-2.result.now
+    c.last_shared_slash-last.result
     c.as_bytes-2.ensures.value c.utf8.path c.last_shared_slash-last.ensures.in_path
     c.last_shared_slash-last.ensures.path_at
 
-pub returns-then-takes_relative : goal.returns-then-takes_relative
-returns-then-takes_relative c =
+pub returns-then-uses_relative_path-clause-way : goal.returns-then-uses_relative_path-clause-way
+returns-then-uses_relative_path-clause-way c =
     let n = c.last_shared_slash-last.result + 1 in
-    let base = c.root_or-base.result.now in
+    let base = c.path_or_slash-base.result.now in
     let path = c.args.path.now in
     let fits = λ (e : c.args.prefers_relative ≡ false).
-    relative_fits n path c.range_from-rest.result.now
-    (relative_path c.count_slashes-climbs.result c.range_from-rest.result.now)
+    relative-path-is-no-longer-than-from-root n path c.range_from-rest.result.now
+    (relative_path c.count_slashes-double_dots.result c.range_from-rest.result.now)
     c.guard_len-guard.result c.range_from-rest.ensures.value
     (let h : n ≤ length path =
     subst (λ t. n ≤ length t) c.as_bytes-2.ensures.value
     (omega (arith, c.last_shared_slash-last.ensures.in_path)) in h)
     c.guard_len-guard.ensures.length
-    (c.takes_relative.ensures.short c.if-takes_relative.true e) in
-    let climbs : c.count_slashes-climbs.result ≡ slashes (drop n base) =
-    c.count_slashes-climbs.ensures
-    ∙ ap (λ t. slashes t) (rest_whole n c.as_bytes-3.result.now)
+    (c.uses_relative_path.ensures.short c.if-uses_relative_path.true e) in
+    let double_dots : c.count_slashes-double_dots.result ≡ slashes (drop n base) =
+    c.count_slashes-double_dots.ensures
+    ∙ ap (λ t. slashes t) (take-all-of-suffix n c.as_bytes-3.result.now)
     ∙ ap (λ t. slashes (drop n t)) c.as_bytes-3.ensures.value in
-    relative_pushed _ _
+    pushed-relative-path-leads-to-path _ _
     (λ way. c.args.prefers_relative ≡ false → length way ≤ length (guarded None path))
-    (λ way. c.args.prefers_relative ≡ false → IsShortestWay c.args.base.now path way)
-    n base c.args.base.now path c.count_slashes-climbs.result c.range_from-rest.result.now
-    climbs c.range_from-rest.ensures.value c.push_relative.ensures
-    (relative_way n base c.args.base.now path c.root_or-base.ensures.directory
-    c.root_or-base.ensures.absolute
+    (λ way. c.args.prefers_relative ≡ false → IsShortestPath c.args.base.now path way)
+    n base c.args.base.now path c.count_slashes-double_dots.result c.range_from-rest.result.now
+    double_dots c.range_from-rest.ensures.value c.push_relative_path.ensures
+    (relative-path-leads-to-path n base c.args.base.now path c.path_or_slash-base.ensures.directory
+    c.path_or_slash-base.ensures.absolute
     (not-false _ (sym c.has_dot_segments.ensures ∙ c.if-has_dot_segments.false))
-    c.requires.path c.requires.plain c.utf8.path
-    (shared_as n _ _ _ _ c.as_bytes.ensures.value c.as_bytes-2.ensures.value
+    c.requires.path c.requires.dotless c.utf8.path
+    (shared-prefix-of-equals n _ _ _ _ c.as_bytes.ensures.value c.as_bytes-2.ensures.value
     c.last_shared_slash-last.ensures.shared))
     fits
-    (λ e. shortest_way c.args.base.now base path _ c.last_shared_slash-last.result
-    c.root_or-base.ensures.directory c.root_or-base.ensures.absolute
+    (λ e. no-longer-than-both-paths-is-shortest c.args.base.now base path _
+    c.last_shared_slash-last.result
+    c.path_or_slash-base.ensures.directory c.path_or_slash-base.ensures.absolute
     (not-false _ (sym c.has_dot_segments.ensures ∙ c.if-has_dot_segments.false))
-    (shared_of c.as_bytes.result.now base c.as_bytes-2.result.now path
+    (last-shared-slash-of-equals c.as_bytes.result.now base c.as_bytes-2.result.now path
     c.last_shared_slash-last.result c.as_bytes.ensures.value c.as_bytes-2.ensures.value
     (record {
       in_base = c.last_shared_slash-last.ensures.in_base;
@@ -73,35 +94,66 @@ returns-then-takes_relative c =
     (fits e)
     (omega (
       arith,
-      ap (λ m. length (relative_path m c.range_from-rest.result.now)) climbs,
+      ap (λ m. length (relative_path m c.range_from-rest.result.now)) double_dots,
       ap (λ t. length (relative_path (slashes (drop n base)) t))
           c.range_from-rest.ensures.value,
     )))
 
-pub returns : goal.returns
-returns c =
+pub returns-then-uses_relative_path-clause-text : goal.returns-then-uses_relative_path-clause-text
+returns-then-uses_relative_path-clause-text c =
     let n = c.last_shared_slash-last.result + 1 in
-    let base = c.root_or-base.result.now in
+    let base = c.path_or_slash-base.result.now in
     let path = c.args.path.now in
     let rest = c.range_from-rest.result.now in
-    let climbs : c.count_slashes-climbs.result ≡ slashes (drop n base) =
-    c.count_slashes-climbs.ensures
-    ∙ ap (λ t. slashes t) (rest_whole n c.as_bytes-3.result.now)
+    let double_dots : c.count_slashes-double_dots.result ≡ slashes (drop n base) =
+    c.count_slashes-double_dots.ensures
+    ∙ ap (λ t. slashes t) (take-all-of-suffix n c.as_bytes-3.result.now)
+    ∙ ap (λ t. slashes (drop n t)) c.as_bytes-3.ensures.value in
+    let found = relative-path-by-longest-prefix c.args.base.now base path c.as_bytes.result.now
+    c.as_bytes-2.result.now rest c.last_shared_slash-last.result c.count_slashes-double_dots.result
+    c.path_or_slash-base.ensures.root c.as_bytes.ensures.value c.as_bytes-2.ensures.value
+    c.last_shared_slash-last.ensures.in_base c.last_shared_slash-last.ensures.shared
+    c.last_shared_slash-last.ensures.longest double_dots c.range_from-rest.ensures.value in
+    let within : n ≤ length path =
+    subst (λ t. n ≤ length t) c.as_bytes-2.ensures.value
+    (omega (arith, c.last_shared_slash-last.ensures.in_path)) in
+    subst (λ way. OnOk c.push_relative_path.result
+    (Pushes c.args.out.now c.push_relative_path.new.out way))
+    (found ∙ relative-path-if-no-longer c.args.prefers_relative c.args.base.now path
+    (sym c.path_or_slash-base.ensures.dotless
+    ∙ not-false _ (sym c.has_dot_segments.ensures ∙ c.if-has_dot_segments.false))
+    (λ e. subst (λ way. length way ≤ length (guarded None path)) found
+    (relative-path-is-no-longer-than-from-root n path rest _ c.guard_len-guard.result
+    c.range_from-rest.ensures.value within
+    c.guard_len-guard.ensures.length
+    (c.uses_relative_path.ensures.short c.if-uses_relative_path.true e))))
+    c.push_relative_path.ensures
+
+pub returns-clause-way : goal.returns-clause-way
+returns-clause-way c =
+    let n = c.last_shared_slash-last.result + 1 in
+    let base = c.path_or_slash-base.result.now in
+    let path = c.args.path.now in
+    let rest = c.range_from-rest.result.now in
+    let double_dots : c.count_slashes-double_dots.result ≡ slashes (drop n base) =
+    c.count_slashes-double_dots.ensures
+    ∙ ap (λ t. slashes t) (take-all-of-suffix n c.as_bytes-3.result.now)
     ∙ ap (λ t. slashes (drop n t)) c.as_bytes-3.ensures.value in
     let within : n ≤ length path =
     subst (λ t. n ≤ length t) c.as_bytes-2.ensures.value
     (omega (arith, c.last_shared_slash-last.ensures.in_path)) in
-    way_pushed _ _
+    pushed-path-leads-to-path _ _
     (λ way. c.args.prefers_relative ≡ false → length way ≤ length (guarded None path))
-    (λ way. c.args.prefers_relative ≡ false → IsShortestWay c.args.base.now path way)
-    (guarded None path) c.args.base.now path c.push_absolute-2.ensures
-    (absolute_way c.args.base.now path c.requires.path c.requires.plain c.utf8.path)
+    (λ way. c.args.prefers_relative ≡ false → IsShortestPath c.args.base.now path way)
+    (guarded None path) c.args.base.now path c.push_guarded_path-2.ensures
+    (path-from-root-leads-to-path c.args.base.now path c.requires.path c.requires.dotless
+    c.utf8.path)
     (λ _. omega arith)
-    (λ _. shortest_way c.args.base.now base path (guarded None path)
-    c.last_shared_slash-last.result c.root_or-base.ensures.directory
-    c.root_or-base.ensures.absolute
+    (λ _. no-longer-than-both-paths-is-shortest c.args.base.now base path (guarded None path)
+    c.last_shared_slash-last.result c.path_or_slash-base.ensures.directory
+    c.path_or_slash-base.ensures.absolute
     (not-false _ (sym c.has_dot_segments.ensures ∙ c.if-has_dot_segments.false))
-    (shared_of c.as_bytes.result.now base c.as_bytes-2.result.now path
+    (last-shared-slash-of-equals c.as_bytes.result.now base c.as_bytes-2.result.now path
     c.last_shared_slash-last.result c.as_bytes.ensures.value c.as_bytes-2.ensures.value
     (record {
       in_base = c.last_shared_slash-last.ensures.in_base;
@@ -113,11 +165,40 @@ returns c =
     (omega arith)
     (omega (
       arith,
-      root_is_short n c.guard_len-guard.result path rest
-          (relative_path c.count_slashes-climbs.result rest) c.range_from-rest.ensures.value
+      path-from-root-is-shorter n c.guard_len-guard.result path rest
+          (relative_path c.count_slashes-double_dots.result rest) c.range_from-rest.ensures.value
           within c.guard_len-guard.ensures.length
-          (c.takes_relative.ensures.longer c.if-takes_relative.false),
-      ap (λ m. length (relative_path m rest)) climbs,
+          (c.uses_relative_path.ensures.longer c.if-uses_relative_path.false),
+      ap (λ m. length (relative_path m rest)) double_dots,
       ap (λ t. length (relative_path (slashes (drop n base)) t))
           c.range_from-rest.ensures.value,
     )))
+
+pub returns-clause-text : goal.returns-clause-text
+returns-clause-text c =
+    let n = c.last_shared_slash-last.result + 1 in
+    let base = c.path_or_slash-base.result.now in
+    let path = c.args.path.now in
+    let rest = c.range_from-rest.result.now in
+    let double_dots : c.count_slashes-double_dots.result ≡ slashes (drop n base) =
+    c.count_slashes-double_dots.ensures
+    ∙ ap (λ t. slashes t) (take-all-of-suffix n c.as_bytes-3.result.now)
+    ∙ ap (λ t. slashes (drop n t)) c.as_bytes-3.ensures.value in
+    let found = relative-path-by-longest-prefix c.args.base.now base path c.as_bytes.result.now
+    c.as_bytes-2.result.now rest c.last_shared_slash-last.result c.count_slashes-double_dots.result
+    c.path_or_slash-base.ensures.root c.as_bytes.ensures.value c.as_bytes-2.ensures.value
+    c.last_shared_slash-last.ensures.in_base c.last_shared_slash-last.ensures.shared
+    c.last_shared_slash-last.ensures.longest double_dots c.range_from-rest.ensures.value in
+    let within : n ≤ length path =
+    subst (λ t. n ≤ length t) c.as_bytes-2.ensures.value
+    (omega (arith, c.last_shared_slash-last.ensures.in_path)) in
+    subst (λ way. OnOk c.push_guarded_path-2.result
+    (Pushes c.args.out.now c.push_guarded_path-2.new.out way))
+    (path-from-root-if-shorter c.args.prefers_relative c.args.base.now path
+    (c.uses_relative_path.ensures.preferred c.if-uses_relative_path.false)
+    (subst (λ way. length (guarded None path) < length way) found
+    (path-from-root-is-shorter n c.guard_len-guard.result path rest _
+    c.range_from-rest.ensures.value within
+    c.guard_len-guard.ensures.length
+    (c.uses_relative_path.ensures.longer c.if-uses_relative_path.false))))
+    c.push_guarded_path-2.ensures

@@ -1,30 +1,31 @@
 use Rattle.std.proofs.Common.{sym, ap, drop, subst, ◌∙◌}
 use Rattle.uri_parts.specs.Components.{components}
 use Rattle.uri_parts.specs.CoreTexts.{core_text}
-use Rattle.uri_parts.proofs.Splitting.Recompose.{true_to}
+use Rattle.uri_parts.proofs.Splitting.Recompose.{equal-to-true-is-IsTrue}
 use Rattle.uri_relative.specs.Forms.{IsUnguarded, is_guarded}
-use Rattle.uri_relative.proofs.Settled.{guard_boundary, unguarded_cut, unguarded_some}
-use Rattle.uri_relative.proofs.Settled.{unguarded_whole}
+use Rattle.uri_relative.proofs.Settled.{guard-ends-at-character, path-without-guard-is-unguarded}
+use Rattle.uri_relative.proofs.Settled.{path-after-authority-is-unguarded}
+use Rattle.uri_relative.proofs.Settled.{path-that-needs-no-guard-is-unguarded}
 use Rattle.uri_relative.proofs.reference.without_guard.Goals as goal
 
 pub returns-then-has_authority : goal.returns-then-has_authority
 returns-then-has_authority g c =
     let t = components (core_text c.args.target) in
     subst (IsUnguarded t) (sym c.path-path.ensures)
-    (unguarded_some t (sym c.has_authority.ensures ∙ c.if-has_authority.true)
-    (true_to _ c.requires.absolute) c.requires.settled)
+    (path-after-authority-is-unguarded t (sym c.has_authority.ensures ∙ c.if-has_authority.true)
+    (equal-to-true-is-IsTrue _ c.requires.absolute) c.requires.settled)
 
 pub range_from-requires : goal.range_from-requires
 range_from-requires g c = λ _.
-    guard_boundary c.path-path.result.now c.path-path.utf8
+    guard-ends-at-character c.path-path.result.now c.path-path.utf8
     (sym (c.is_guarded.ensures ∙ ap is_guarded c.as_bytes.ensures.value) ∙ c.if-is_guarded.true)
 
 pub returns-then-is_guarded : goal.returns-then-is_guarded
 returns-then-is_guarded g c =
     let t = components (core_text c.args.target) in
     subst (IsUnguarded t) (sym (c.range_from.ensures.value ∙ ap (drop 2) c.path-path.ensures))
-    (unguarded_cut t (sym c.has_authority.ensures ∙ c.if-has_authority.false)
-    (true_to _ c.requires.absolute) c.requires.settled
+    (path-without-guard-is-unguarded t (sym c.has_authority.ensures ∙ c.if-has_authority.false)
+    (equal-to-true-is-IsTrue _ c.requires.absolute) c.requires.settled
     (sym (c.is_guarded.ensures
     ∙ ap is_guarded (c.as_bytes.ensures.value ∙ c.path-path.ensures)) ∙ c.if-is_guarded.true))
 
@@ -32,7 +33,8 @@ pub returns : goal.returns
 returns g c =
     let t = components (core_text c.args.target) in
     subst (IsUnguarded t) (sym c.path-path.ensures)
-    (unguarded_whole t (sym c.has_authority.ensures ∙ c.if-has_authority.false)
-    (true_to _ c.requires.absolute) c.requires.settled
+    (path-that-needs-no-guard-is-unguarded t (sym c.has_authority.ensures
+    ∙ c.if-has_authority.false)
+    (equal-to-true-is-IsTrue _ c.requires.absolute) c.requires.settled
     (sym (c.is_guarded.ensures
     ∙ ap is_guarded (c.as_bytes.ensures.value ∙ c.path-path.ensures)) ∙ c.if-is_guarded.false))

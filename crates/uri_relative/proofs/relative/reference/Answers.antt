@@ -2,22 +2,31 @@ use Rattle.std.proofs.Common.{◌++◌, ap, refl, string_bytes, sym, ◌∙◌}
 use Rattle.uri_parts.specs.Components.{components, recompose}
 use Rattle.uri_parts.specs.CoreTexts.{core_text}
 use Rattle.uri_parts.specs.Positions.{positions_of}
-use Rattle.uri_relative.proofs.Leading.{made_reference, reference_parts}
+use Rattle.uri_relative.proofs.Leading.{reference-text-is-reference, components-of-reference-text}
+use Rattle.uri_relative.specs.Rule.{reference_components}
 use Rattle.uri_relative.proofs.relative.reference.Goals as goal
 
 pub returns-clause-leads : goal.returns-clause-leads
 returns-clause-leads g c =
-    let found = c.in_ok-positions.ensures in
-    made_reference g.K.Kind.kind c.args.prefers_relative (components (core_text c.args.base))
+    let found = c.in_ok-positions.ensures.leads in
+    reference-text-is-reference g.K.Kind.kind c.args.prefers_relative
+    (components (core_text c.args.base))
     (components (core_text c.args.target)) found.0 (string_bytes c.push_reference.new.out)
     (string_bytes c.push_reference.new.out) found.3
     (found.1 ∙ ap (λ t. t ++ recompose found.0) c.in_ok-text.ensures.bytes) refl
 
 pub returns-clause-at : goal.returns-clause-at
 returns-clause-at g c =
-    let found = c.in_ok-positions.ensures in
+    let found = c.in_ok-positions.ensures.leads in
     found.2
     ∙ ap positions_of (sym (ap components
     (found.1 ∙ ap (λ t. t ++ recompose found.0) c.in_ok-text.ensures.bytes)
-    ∙ reference_parts g.K.Kind.kind c.args.prefers_relative
+    ∙ components-of-reference-text g.K.Kind.kind c.args.prefers_relative
     (components (core_text c.args.base)) (components (core_text c.args.target)) found.0 found.3))
+
+pub returns-clause-text : goal.returns-clause-text
+returns-clause-text g c =
+    c.in_ok-positions.ensures.text
+    ∙ ap (λ t. t ++ recompose (reference_components c.args.prefers_relative
+    (components (core_text c.args.base)) (components (core_text c.args.target))))
+    c.in_ok-text.ensures.bytes

@@ -1,10 +1,12 @@
-use Rattle.std.proofs.Common.{string_bytes, subst, sym, ◌∙◌}
+use Rattle.std.proofs.Common.{string_bytes, subst, sym, ap, ◌∙◌}
 use Rattle.uri_parts.specs.Components.{components}
 use Rattle.uri_parts.specs.CoreTexts.{core_text}
 use Rattle.uri_parts.specs.Grammar.{IsOfKind}
 use Rattle.fluent_uri.specs.References.{reference_text}
-use Rattle.uri_relative.proofs.Leading.{back_as, leads_as, no_longer_as, relative_as}
-use Rattle.uri_relative.proofs.ShortestTexts.{shortest_as}
+use Rattle.uri_relative.proofs.Leading.{reference-leads-back-to-target, reference-leads-to-target}
+use Rattle.uri_relative.proofs.Leading.{reference-is-no-longer-than-target, reference-is-relative}
+use Rattle.uri_relative.specs.Rule.{reference_to}
+use Rattle.uri_relative.proofs.ShortestTexts.{reference-is-shortest}
 use Rattle.uri_relative.proofs.relativize.relativized.Goals as goal
 
 pub new-requires-clause-of_kind : goal.new-requires-clause-of_kind
@@ -17,7 +19,7 @@ new-requires-clause-at g c = c.in_ok-made.ensures.at
 
 pub returns-clause-leads : goal.returns-clause-leads
 returns-clause-leads g c =
-    leads_as g.K.Kind.kind c.args.prefers_relative_path (core_text c.core.result)
+    reference-leads-to-target g.K.Kind.kind c.args.prefers_relative_path (core_text c.core.result)
     (core_text c.core-2.result) (string_bytes c.in_ok-made.made.text)
     (reference_text c.args.base.now) (reference_text c.args.target.now)
     (reference_text c.of_core.result) g.met.K.BaseKind.needs_scheme c.core-2.result.of_kind
@@ -26,7 +28,8 @@ returns-clause-leads g c =
 
 pub returns-clause-back : goal.returns-clause-back
 returns-clause-back g c =
-    back_as g.K.Kind.kind c.args.prefers_relative_path (core_text c.core.result)
+    reference-leads-back-to-target g.K.Kind.kind c.args.prefers_relative_path
+    (core_text c.core.result)
     (core_text c.core-2.result) (string_bytes c.in_ok-made.made.text)
     (reference_text c.args.base.now) (reference_text c.args.target.now)
     (reference_text c.of_core.result) g.met.K.BaseKind.needs_scheme c.core.result.of_kind
@@ -35,14 +38,15 @@ returns-clause-back g c =
 
 pub returns-clause-short : goal.returns-clause-short
 returns-clause-short g c = λ e.
-    no_longer_as g.K.Kind.kind c.args.prefers_relative_path (components (core_text c.core.result))
+    reference-is-no-longer-than-target g.K.Kind.kind c.args.prefers_relative_path
+    (components (core_text c.core.result))
     (core_text c.core-2.result) (string_bytes c.in_ok-made.made.text)
     (reference_text c.args.target.now) (reference_text c.of_core.result) e
     c.core-2.ensures.text (c.of_core.ensures ∙ c.new.ensures) c.in_ok-made.ensures.leads
 
 pub returns-clause-shortest : goal.returns-clause-shortest
 returns-clause-shortest g c = λ e.
-    shortest_as g.K.Kind.kind c.args.prefers_relative_path (core_text c.core.result)
+    reference-is-shortest g.K.Kind.kind c.args.prefers_relative_path (core_text c.core.result)
     (core_text c.core-2.result) (string_bytes c.in_ok-made.made.text)
     (reference_text c.args.base.now) (reference_text c.args.target.now)
     (reference_text c.of_core.result) g.met.K.BaseKind.needs_scheme c.core.result.of_kind
@@ -51,8 +55,16 @@ returns-clause-shortest g c = λ e.
 
 pub returns-clause-relative : goal.returns-clause-relative
 returns-clause-relative g c =
-    relative_as g.K.Kind.kind c.args.prefers_relative_path (core_text c.core.result)
+    reference-is-relative g.K.Kind.kind c.args.prefers_relative_path (core_text c.core.result)
     (core_text c.core-2.result) (string_bytes c.in_ok-made.made.text)
     (reference_text c.args.base.now) (reference_text c.args.target.now)
     (reference_text c.of_core.result) c.core.ensures.text c.core-2.ensures.text
     (c.of_core.ensures ∙ c.new.ensures) c.in_ok-made.ensures.leads
+
+pub returns-clause-text : goal.returns-clause-text
+unfolding reference_to
+returns-clause-text g c =
+    let prefers = c.args.prefers_relative_path in
+    c.of_core.ensures ∙ c.new.ensures ∙ c.in_ok-made.ensures.text
+    ∙ ap (λ base. reference_to prefers base (core_text c.core-2.result)) c.core.ensures.text
+    ∙ ap (reference_to prefers (reference_text c.args.base.now)) c.core-2.ensures.text

@@ -7,8 +7,8 @@ use Rattle.std.proofs.KnownBytes.{Keeps-trans}
 use Rattle.std.proofs.BufReadLemmas.{Consumes_through, IsAtEnd-of_take_through}
 use Rattle.std.proofs.lemmas.List.Elements.{All-nil, All-append}
 use Rattle.std.specs.Io.Buffered.{reader_remaining}
-use Rattle.uri_streams.proofs.Parts.{line_taken, on-err, take_more_parts}
-use Rattle.uri_streams.proofs.Returns.{return-more, return-last}
+use Rattle.uri_streams.proofs.Parts.{ReadsFirstLine-of-parts, OnErr-of-any, take-of-appended-part}
+use Rattle.uri_streams.proofs.Returns.{return_after-inner-part, return_after-last-part}
 use Rattle.uri_streams.specs.Lines.{return_after}
 use Rattle.uri_streams.proofs.lines.read_line.Goals as goal
 
@@ -31,12 +31,13 @@ loop-preserved g c =
     let (bs, long, more, stops, read', none', ends, end, is) = c.in_ok-part.ensures.taken in
     let lacks = none' (λ e. true≢false (sym e ∙ c.if-part.false)) in (
       done ++ bs,
-      take_more_parts c.args.limit done bs c.loop.line.items c.take_part.new.line.items kept more,
+      take-of-appended-part c.args.limit done bs c.loop.line.items c.take_part.new.line.items kept
+          more,
       All-append (λ x. x ≢ c.args.end) done bs none lacks,
       Consumes-trans _ _ _ _ _ read read',
       omega (arith, length-append done bs, c.saturating_add-count.ensures, long),
       Keeps-trans _ _ _ held c.in_ok-flush_before_read.ensures.keeps,
-      is ∙ return-more c.args.end c.loop.is_return done bs was lacks,
+      is ∙ return_after-inner-part c.args.end c.loop.is_return done bs was lacks,
       search rules,
       search rules,
     )
@@ -45,12 +46,12 @@ pub returns-in_err-flush_before_read-clause-stopped :
     goal.returns-in_err-flush_before_read-clause-stopped
 returns-in_err-flush_before_read-clause-stopped g c =
     let (done, kept, none, read, counted, held, was, reading, writing) = c.loop.invariant in
-    on-err c.from_residual.result _ (done, read, none)
+    OnErr-of-any c.from_residual.result _ (done, read, none)
 
 pub returns-in_err-part-clause-stopped : goal.returns-in_err-part-clause-stopped
 returns-in_err-part-clause-stopped g c =
     let (done, kept, none, read, counted, held, was, reading, writing) = c.loop.invariant in
-    on-err c.from_residual-in_err-part.result _
+    OnErr-of-any c.from_residual-in_err-part.result _
     (done, Consumes-kept _ _ _ done read c.in_err-part.ensures.kept, none)
 
 pub returns-then-count-eq0-clause-end : goal.returns-then-count-eq0-clause-end
@@ -76,9 +77,10 @@ returns-then-is_return-clause-line g c =
     let (bs, long, more, stops, read', none', ends, end, is) = c.in_ok-part.ensures.taken in
     let all = Consumes_through c.args.end _ _ _ done bs read none read' stops (ends
     c.if-part.true) (end c.if-part.true) in
-    let line = take_more_parts c.args.limit done bs c.loop.line.items c.take_part.new.line.items
+    let line = take-of-appended-part c.args.limit done bs c.loop.line.items
+    c.take_part.new.line.items
     kept more in
-    line_taken c.args.end c.args.limit _ _ (done ++ bs) _ _ all.0 all.1
+    ReadsFirstLine-of-parts c.args.end c.args.limit _ _ (done ++ bs) _ _ all.0 all.1
     (omega (
       arith,
       length-append done bs,
@@ -90,7 +92,7 @@ returns-then-is_return-clause-line g c =
     (ap (λ b. b && nat_lt 0 c.in_ok-part.part.count) (sym c.if-is_return.true)
     ∙ ap (λ b. b && nat_lt 0 c.in_ok-part.part.count) is
     ∙ ap (λ n. return_after c.args.end c.loop.is_return bs && nat_lt 0 n) (sym long)
-    ∙ return-last c.args.end c.loop.is_return done bs was none (ends c.if-part.true))
+    ∙ return_after-last-part c.args.end c.loop.is_return done bs was none (ends c.if-part.true))
 
 pub returns-then-is_return-clause-keeps : goal.returns-then-is_return-clause-keeps
 returns-then-is_return-clause-keeps g c =
@@ -102,9 +104,10 @@ returns-else-is_return-clause-line g c =
     let (bs, long, more, stops, read', none', ends, end, is) = c.in_ok-part.ensures.taken in
     let all = Consumes_through c.args.end _ _ _ done bs read none read' stops (ends
     c.if-part.true) (end c.if-part.true) in
-    let line = take_more_parts c.args.limit done bs c.loop.line.items c.take_part.new.line.items
+    let line = take-of-appended-part c.args.limit done bs c.loop.line.items
+    c.take_part.new.line.items
     kept more in
-    line_taken c.args.end c.args.limit _ _ (done ++ bs) _ _ all.0 all.1
+    ReadsFirstLine-of-parts c.args.end c.args.limit _ _ (done ++ bs) _ _ all.0 all.1
     (omega (
       arith,
       length-append done bs,
@@ -117,7 +120,7 @@ returns-else-is_return-clause-line g c =
     ∙ ap (λ b. b && nat_lt 0 c.in_ok-part.part.count) (sym c.if-is_return.false)
     ∙ ap (λ b. b && nat_lt 0 c.in_ok-part.part.count) is
     ∙ ap (λ n. return_after c.args.end c.loop.is_return bs && nat_lt 0 n) (sym long)
-    ∙ return-last c.args.end c.loop.is_return done bs was none (ends c.if-part.true))
+    ∙ return_after-last-part c.args.end c.loop.is_return done bs was none (ends c.if-part.true))
 
 pub returns-else-is_return-clause-keeps : goal.returns-else-is_return-clause-keeps
 returns-else-is_return-clause-keeps g c =

@@ -4,6 +4,6 @@ use Rattle.uri_streams.proofs.sink.write_whole.Given as goal
 
 -- what was taken so far, and what is left
 abbrev pub invariant-loop : goal.invariant-loop
-invariant-loop g l = (front : List ℕ)
-    × Appends (g.W.Write.contents l.initial.writer) (g.W.Write.contents l.writer) front
-    × (l.bytes ≡ front ++ l.rest)
+invariant-loop g l = (prefix : List ℕ)
+    × Appends (g.W.Write.contents l.initial.writer) (g.W.Write.contents l.writer) prefix
+    × (l.bytes ≡ prefix ++ l.rest)

@@ -4,12 +4,12 @@ use Rattle.fluent_uri.specs.Iris.{iri_ref_text}
 use Rattle.fluent_uri.specs.Iris.{iri_text}
 use Rattle.fluent_uri.specs.Resolving.{base_of}
 use Rattle.fluent_uri.specs.SchemePorts.{default_port}
-use Rattle.obligations.proofs.NormalOutcomes.{normal_form_of_target}
+use Rattle.obligations.proofs.NormalOutcomes.{normal-form-of-normal-target}
 use Rattle.obligations.proofs.laws.swapping.normal_target.Goals as goal
 
 pub returns-clause-target : goal.returns-clause-target
 returns-clause-target c =
-    normal_form_of_target iri iri_ref default_port
+    normal-form-of-normal-target iri iri_ref default_port
     (iri_text c.args.base) (iri_ref_text c.args.reference)
     (iri_text c.in_ok-normal_base.normal_base)
     (iri_ref_text c.in_ok-normal_reference.normal_reference)

@@ -2,13 +2,15 @@ use Rattle.std.specs.Prelude.{bytes_eq}
 use Rattle.std.proofs.Common.{rules, true, arith, ap, ℕ, List, [], get_or, length, ◌≡◌, ◌≢◌}
 use Rattle.std.proofs.Common.{MatchOption, codes, string_bytes, sym, ◌∙◌, subst}
 use borrow.Author.Tests.{ltb-true, ltb-false}
-use Rattle.uri_commands.specs.Asked.{asked}
+use Rattle.uri_commands.specs.Asked.{contract_command}
 use Rattle.uri_commands.specs.Commands.{Parse, Normalize, Resolve, IsCommand, word_of_base}
 use Rattle.uri_commands.specs.Commands.{words_of, texts}
 use Rattle.uri_commands.specs.declared.command.BaseName.{BaseName}
 use Rattle.uri_commands.specs.declared.command.KindName.{KindName}
-use Rattle.uri_commands.proofs.Commands.{texts_of_three, texts_of_four, length_of_words, not_a_base}
-use Rattle.uri_commands.proofs.Commands.{or_links}
+use Rattle.uri_commands.proofs.Commands.{bytes-of-three-words, bytes-of-four-words}
+use Rattle.uri_commands.proofs.Commands.{length-of-bytes-of-words}
+use Rattle.uri_commands.proofs.Commands.{resolve-without-base-kind-is-no-command}
+use Rattle.uri_commands.proofs.Commands.{links-or-no-command}
 use Rattle.uri_commands.proofs.command.Command.from_words.Goals as goal
 use Rattle.uri_commands.proofs.command.Command.from_words.Goals.{in_default-via-then-words-lt3}
 use Rattle.uri_commands.proofs.command.Command.from_words.Goals.{in_default-via-in-len3-2+else-eq-2}
@@ -17,7 +19,8 @@ use Rattle.uri_commands.proofs.command.Command.from_words.Goals.{in_default-via-
 
 pub returns-in_ok-kind_named-in-len3 : goal.returns-in_ok-kind_named-in-len3
 returns-in_ok-kind_named-in-len3 c =
-    let words = texts_of_three _ _ _ _ c.in-len3.len_at_least c.in-len3.len_below c.command-item.is
+    let words = bytes-of-three-words _ _ _ _ c.in-len3.len_at_least c.in-len3.len_below
+    c.command-item.is
     c.kind-item.is c.text-item.is in
     let command : string_bytes c.command-item.result ≡ codes "parse" = search rules in
     cc (
@@ -28,7 +31,7 @@ returns-in_ok-kind_named-in-len3 c =
 
 pub returns-in_ok-kind_named-in-len3-2 : goal.returns-in_ok-kind_named-in-len3-2
 returns-in_ok-kind_named-in-len3-2 c =
-    let words = texts_of_three _ _ _ _ c.in-len3.len_at_least c.in-len3.len_below
+    let words = bytes-of-three-words _ _ _ _ c.in-len3.len_at_least c.in-len3.len_below
     c.command-item-then-words-lt4.is c.kind-item-then-words-lt4.is
     c.text-item-then-words-lt4.is in
     let command : string_bytes c.command-item-then-words-lt4.result ≡ codes "normalize" =
@@ -41,7 +44,7 @@ returns-in_ok-kind_named-in-len3-2 c =
 
 pub returns-in_err-kind-in-len4 : goal.returns-in_err-kind-in-len4
 returns-in_err-kind-in-len4 c =
-    let words = texts_of_four _ _ _ _ _ c.in-len4.len_at_least c.in-len4.len_below
+    let words = bytes-of-four-words _ _ _ _ _ c.in-len4.len_at_least c.in-len4.len_below
     c.command-item-then-words-lt5.is c.kind-item-then-words-lt5.is c.base-item.is
     c.reference-item.is in
     let word = c.as_str-in-len4.result.now in
@@ -50,15 +53,15 @@ returns-in_err-kind-in-len4 c =
     c.in_err-kind-in-len4.was c.base_named.ensures in
     let command : string_bytes c.command-item-then-words-lt5.result ≡ codes "resolve" =
     search rules in
-    let no = not_a_base _ _ _ _ _ words command
+    let no = resolve-without-base-kind-is-no-command _ _ _ _ _ words command
     (λ k e. none k (c.as_str-in-len4.ensures.value ∙ e)) in
     subst (λ r. MatchOption r (Prim.¬◌ (IsCommand (texts c.args.words.now)))
-    (λ d. texts c.args.words.now ≡ words_of (asked d)))
+    (λ d. texts c.args.words.now ≡ words_of (contract_command d)))
     (sym c.from_residual-in_err-kind-in-len4.ensures) no
 
 pub returns-in_ok-kind-in-len4 : goal.returns-in_ok-kind-in-len4
 returns-in_ok-kind-in-len4 c =
-    let words = texts_of_four _ _ _ _ _ c.in-len4.len_at_least c.in-len4.len_below
+    let words = bytes-of-four-words _ _ _ _ _ c.in-len4.len_at_least c.in-len4.len_below
     c.command-item-then-words-lt5.is c.kind-item-then-words-lt5.is c.base-item.is
     c.reference-item.is in
     let command : string_bytes c.command-item-then-words-lt5.result ≡ codes "resolve" =
@@ -73,11 +76,11 @@ returns-in_ok-kind-in-len4 c =
 no_parse : (c : goal.After-links_from_words) (k : KindName) (t : List ℕ)
     → texts c.args.words.now ≢ words_of (Parse k t)
 no_parse c k t is =
-    let l : length c.args.words.now ≡ 3 = length_of_words c.args.words.now _ is in
+    let l : length c.args.words.now ≡ 3 = length-of-bytes-of-words c.args.words.now _ is in
     elim c.in_default.branch [
       | in_default-via-then-words-lt3 w ↦ absurd (omega (arith, ltb-true))
       | in_default-via-in-len3-2+else-eq-2 w ↦
-          let words = texts_of_three _ _ _ _ w.in-len3.len_at_least w.in-len3.len_below
+          let words = bytes-of-three-words _ _ _ _ w.in-len3.len_at_least w.in-len3.len_below
           w.command-item.is w.kind-item.is w.text-item.is in
           let head : string_bytes w.command-item.result ≡ codes "parse" =
           ap (λ l. get_or l 0 []) (sym words ∙ is) in
@@ -92,11 +95,11 @@ no_parse c k t is =
 no_normalize : (c : goal.After-links_from_words) (k : KindName) (t : List ℕ)
     → texts c.args.words.now ≢ words_of (Normalize k t)
 no_normalize c k t is =
-    let l : length c.args.words.now ≡ 3 = length_of_words c.args.words.now _ is in
+    let l : length c.args.words.now ≡ 3 = length-of-bytes-of-words c.args.words.now _ is in
     elim c.in_default.branch [
       | in_default-via-then-words-lt3 w ↦ absurd (omega (arith, ltb-true))
       | in_default-via-in-len3-2+else-eq-2 w ↦
-          let words = texts_of_three _ _ _ _ w.in-len3.len_at_least w.in-len3.len_below
+          let words = bytes-of-three-words _ _ _ _ w.in-len3.len_at_least w.in-len3.len_below
           w.command-item-then-words-lt4.is w.kind-item-then-words-lt4.is
           w.text-item-then-words-lt4.is in
           let head : string_bytes w.command-item-then-words-lt4.result ≡ codes "normalize" =
@@ -113,12 +116,12 @@ no_normalize c k t is =
 no_resolve : (c : goal.After-links_from_words) (k : BaseName) (b r : List ℕ)
     → texts c.args.words.now ≢ words_of (Resolve k b r)
 no_resolve c k b r is =
-    let l : length c.args.words.now ≡ 4 = length_of_words c.args.words.now _ is in
+    let l : length c.args.words.now ≡ 4 = length-of-bytes-of-words c.args.words.now _ is in
     elim c.in_default.branch [
       | in_default-via-then-words-lt3 w ↦ absurd (omega (arith, ltb-true))
       | in_default-via-in-len3-2+else-eq-2 w ↦ absurd (omega arith)
       | in_default-via-in-len4+else-eq-3 w ↦
-          let words = texts_of_four _ _ _ _ _ w.in-len4.len_at_least w.in-len4.len_below
+          let words = bytes-of-four-words _ _ _ _ _ w.in-len4.len_at_least w.in-len4.len_below
           w.command-item-then-words-lt5.is w.kind-item-then-words-lt5.is w.base-item.is
           w.reference-item.is in
           let head : string_bytes w.command-item-then-words-lt5.result ≡ codes "resolve" =
@@ -131,5 +134,6 @@ no_resolve c k b r is =
     ]
 
 pub returns-in_default : goal.returns-in_default
-returns-in_default c = or_links _ _ c.links_from_words.ensures (no_parse c) (no_normalize c)
+returns-in_default c = links-or-no-command _ _ c.links_from_words.ensures (no_parse c)
+    (no_normalize c)
     (no_resolve c)

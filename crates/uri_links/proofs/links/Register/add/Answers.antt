@@ -2,35 +2,36 @@ use Rattle.uri_links.proofs.links.Register.add.Goals as goal
 use Rattle.std.proofs.Common.{◌∙◌, ap, map, [], ◌∷◌}
 use Rattle.std.proofs.lemmas.List.{map-append}
 use Rattle.fluent_uri.specs.Uris.{uri_text}
-use Rattle.uri_links.proofs.FoundTexts.{tree_after, parent_within}
-use Rattle.uri_links.proofs.Texts.{uris_after, normal_after, distinct_after}
+use Rattle.uri_links.proofs.FoundTexts.{search-tree-after-adding, missing-parent-in-range}
+use Rattle.uri_links.proofs.Texts.{uris-after-adding, normal-after-adding, distinct-after-adding}
 
-pub grow-requires : goal.grow-requires
-grow-requires g c =
-    parent_within c.args.self.now.nodes.items (map uri_text c.args.self.now.targets.items)
+pub add_node-requires : goal.add_node-requires
+add_node-requires g c =
+    missing-parent-in-range c.args.self.now.nodes.items (map uri_text c.args.self.now.targets.items)
     c.args.self.now.tree (uri_text c.args.target) c.args.parent c.args.right c.requires.missing
 
 pub invariant_of-self-in-Ok-clause-uris : goal.invariant_of-self-in-Ok-clause-uris
 invariant_of-self-in-Ok-clause-uris g c =
     let e = ap (map uri_text) c.in_ok-push.ensures.items
     ∙ map-append uri_text c.args.self.now.targets.items (c.args.target ∷ []) in
-    uris_after _ _ _ e c.args.self.now.uris c.requires.uri
+    uris-after-adding _ _ _ e c.args.self.now.uris c.requires.uri
 
 pub invariant_of-self-in-Ok-clause-normal : goal.invariant_of-self-in-Ok-clause-normal
 invariant_of-self-in-Ok-clause-normal g c =
     let e = ap (map uri_text) c.in_ok-push.ensures.items
     ∙ map-append uri_text c.args.self.now.targets.items (c.args.target ∷ []) in
-    normal_after _ _ _ _ e c.args.self.now.normal c.requires.normal
+    normal-after-adding _ _ _ _ e c.args.self.now.normal c.requires.normal
 
 pub invariant_of-self-in-Ok-clause-distinct : goal.invariant_of-self-in-Ok-clause-distinct
 invariant_of-self-in-Ok-clause-distinct g c =
     let e = ap (map uri_text) c.in_ok-push.ensures.items
     ∙ map-append uri_text c.args.self.now.targets.items (c.args.target ∷ []) in
-    distinct_after _ _ _ e c.args.self.now.distinct c.requires.new
+    distinct-after-adding _ _ _ e c.args.self.now.distinct c.requires.new
 
 pub invariant_of-self-in-Ok-clause-tree : goal.invariant_of-self-in-Ok-clause-tree
 invariant_of-self-in-Ok-clause-tree g c =
     let e = ap (map uri_text) c.in_ok-push.ensures.items
     ∙ map-append uri_text c.args.self.now.targets.items (c.args.target ∷ []) in
-    tree_after _ c.grow.new.nodes.items c.args.hash c.args.parent c.args.right _ _ _
-    c.args.self.now.tree c.requires.missing c.requires.hash c.in-Ok.ensures.grown e
+    search-tree-after-adding _ c.add_node.new.nodes.items c.args.hash c.args.parent
+    c.args.right _ _ _
+    c.args.self.now.tree c.requires.missing c.requires.hash c.in-Ok.ensures.with_node_added e

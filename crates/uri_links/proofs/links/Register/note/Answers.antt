@@ -4,12 +4,14 @@ use Rattle.fluent_uri.specs.Grammar.{uri}
 use Rattle.fluent_uri.specs.Uris.{uri_ref_text}
 use Rattle.fluent_uri.specs.Uris.{uri_text}
 use Rattle.uri_links.specs.Registers.{port_function_of, texts_of}
-use Rattle.uri_links.proofs.InWords.{in_words}
-use Rattle.uri_links.proofs.Noted.{noted, own_normal_text, noted_refusal}
+use Rattle.uri_links.proofs.InWords.{outcome_of-is-outcome}
+use Rattle.uri_links.proofs.Noted.{noted, normal-target-is-its-own-normal-text}
+use Rattle.uri_links.proofs.Noted.{outcome_of-without-target}
 use Rattle.uri_links.proofs.links.Register.note.Goals as goal
 
 pub note_target-requires : goal.note_target-requires
-note_target-requires g c = own_normal_text uri (port_function_of c.args.self.now)
+note_target-requires g c = normal-target-is-its-own-normal-text uri
+    (port_function_of c.args.self.now)
     (uri_text c.args.base.now) (uri_ref_text c.args.reference.now) (uri_text c.in-Ok.target)
     c.in-Ok.ensures.target.target
 
@@ -26,7 +28,8 @@ returns-in-Ok-clause-noted g c =
 pub returns-in-Err-clause-noted : goal.returns-in-Err-clause-noted
 returns-in-Err-clause-noted g c =
     IfOk-weaker c.refused.result _ _
-    (λ outcome h. noted_refusal (port_function_of c.args.self.now) (uri_text c.args.base.now)
+    (λ outcome h. outcome_of-without-target (port_function_of c.args.self.now)
+    (uri_text c.args.base.now)
     (uri_ref_text c.args.reference.now) (texts_of c.args.self.now) c.in-Err.error
     c.in-Err.ensures.refusal h.1
     ∙ ap (λ o. (o, texts_of c.args.self.now)) (sym h.0))
@@ -35,7 +38,7 @@ returns-in-Err-clause-noted g c =
 pub returns-in-Ok-clause-meant : goal.returns-in-Ok-clause-meant
 returns-in-Ok-clause-meant g c =
     IfOk-weaker c.note_target.result _ _
-    (λ outcome. in_words c.meanings_are_equal_if_their_parts_are.ensures
+    (λ outcome. outcome_of-is-outcome c.meanings_are_equal_if_their_parts_are.ensures
     (port_function_of c.args.self.now) (uri_text c.args.base.now)
     (texts_of c.args.self.now) (uri_ref_text c.args.reference.now) outcome
     (texts_of c.note_target.new.self))
@@ -44,7 +47,7 @@ returns-in-Ok-clause-meant g c =
 pub returns-in-Err-clause-meant : goal.returns-in-Err-clause-meant
 returns-in-Err-clause-meant g c =
     IfOk-weaker c.refused.result _ _
-    (λ outcome. in_words c.meanings_are_equal_if_their_parts_are.ensures
+    (λ outcome. outcome_of-is-outcome c.meanings_are_equal_if_their_parts_are.ensures
     (port_function_of c.args.self.now) (uri_text c.args.base.now)
     (texts_of c.args.self.now) (uri_ref_text c.args.reference.now) outcome
     (texts_of c.args.self.now))

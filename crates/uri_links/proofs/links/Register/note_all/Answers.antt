@@ -2,19 +2,19 @@ use Rattle.std.proofs.Common.{◌+◌, ◌∙◌, ap, map, take, refl, sym}
 use Rattle.fluent_uri.specs.Uris.{uri_ref_text}
 use Rattle.fluent_uri.specs.Uris.{uri_text}
 use Rattle.uri_links.specs.Registers.{port_function_of, texts_of}
-use Rattle.uri_links.proofs.Ids.{ids}
-use Rattle.uri_links.proofs.Several.{front, next, none}
+use Rattle.uri_links.proofs.Ids.{ids-are-in-range}
+use Rattle.uri_links.proofs.Several.{prefix, first-outcomes-of-one-more, first-outcomes-of-none}
 use Rattle.uri_links.proofs.links.Register.note_all.Goals as goal
 
-pub returns-in_err-outcomes-clause-front : goal.returns-in_err-outcomes-clause-front
-returns-in_err-outcomes-clause-front g c =
-    front uri_ref_text _ _ c.args.references.now c.from_residual.result _ 0 _ _
-    (none uri_ref_text (uri_text c.args.base.now) (texts_of c.args.self.now)
+pub returns-in_err-outcomes-clause-prefix : goal.returns-in_err-outcomes-clause-prefix
+returns-in_err-outcomes-clause-prefix g c =
+    prefix uri_ref_text _ _ c.args.references.now c.from_residual.result _ 0 _ _
+    (first-outcomes-of-none uri_ref_text (uri_text c.args.base.now) (texts_of c.args.self.now)
     c.args.references.now (port_function_of c.args.self.now))
 
-pub returns-in_err-outcome-clause-front : goal.returns-in_err-outcome-clause-front
-returns-in_err-outcome-clause-front g c =
-    front uri_ref_text _ _ c.args.references.now c.from_residual-in_err-outcome.result _
+pub returns-in_err-outcome-clause-prefix : goal.returns-in_err-outcome-clause-prefix
+returns-in_err-outcome-clause-prefix g c =
+    prefix uri_ref_text _ _ c.args.references.now c.from_residual-in_err-outcome.result _
     c.loop-reference.reference-index _ _
     (c.loop-reference.invariant.noted
     ∙ ap (λ texts. (c.loop-reference.outcomes.items, texts))
@@ -23,16 +23,17 @@ returns-in_err-outcome-clause-front g c =
 pub loop-reference-init : goal.loop-reference-init
 loop-reference-init g c = record {
   ports = refl;
-  noted = none uri_ref_text (uri_text c.args.base.now) (texts_of c.args.self.now)
+  noted = first-outcomes-of-none uri_ref_text (uri_text c.args.base.now) (texts_of c.args.self.now)
       c.args.references.now (port_function_of c.args.self.now)
       ∙ ap (λ outcomes. (outcomes, texts_of c.args.self.now)) (sym c.in_ok-outcomes.ensures.items);
 }
 
-pub returns-in_err-push-clause-front : goal.returns-in_err-push-clause-front
-returns-in_err-push-clause-front g c =
-    front uri_ref_text _ _ c.args.references.now c.from_residual-in_err-push.result _
+pub returns-in_err-push-clause-prefix : goal.returns-in_err-push-clause-prefix
+returns-in_err-push-clause-prefix g c =
+    prefix uri_ref_text _ _ c.args.references.now c.from_residual-in_err-push.result _
     (c.loop-reference.reference-index + 1) _ _
-    (next uri_ref_text (uri_text c.args.base.now) (texts_of c.args.self.now) c.args.references.now
+    (first-outcomes-of-one-more uri_ref_text (uri_text c.args.base.now) (texts_of c.args.self.now)
+    c.args.references.now
     (port_function_of c.args.self.now) (port_function_of c.loop-reference.self)
     c.loop-reference.reference-index c.reference-item.result
     c.loop-reference.outcomes.items (texts_of c.loop-reference.self) (texts_of c.note.new.self)
@@ -43,7 +44,8 @@ returns-in_err-push-clause-front g c =
 pub loop-reference-preserved : goal.loop-reference-preserved
 loop-reference-preserved g c = record {
   ports = c.note.ensures.ports ∙ c.loop-reference.invariant.ports;
-  noted = next uri_ref_text (uri_text c.args.base.now) (texts_of c.args.self.now)
+  noted = first-outcomes-of-one-more uri_ref_text (uri_text c.args.base.now)
+      (texts_of c.args.self.now)
       c.args.references.now (port_function_of c.args.self.now)
       (port_function_of c.loop-reference.self) c.loop-reference.reference-index
       c.reference-item.result
@@ -56,7 +58,8 @@ loop-reference-preserved g c = record {
 
 pub returns-clause-ids : goal.returns-clause-ids
 returns-clause-ids g c =
-    ids (port_function_of c.args.self.now) (uri_text c.args.base.now) (texts_of c.args.self.now)
+    ids-are-in-range (port_function_of c.args.self.now) (uri_text c.args.base.now)
+    (texts_of c.args.self.now)
     (map uri_ref_text (take c.loop-reference.reference-index c.args.references.now))
     c.loop-reference.outcomes.items (texts_of c.loop-reference.self)
     c.loop-reference.invariant.noted

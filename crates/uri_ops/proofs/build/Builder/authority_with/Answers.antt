@@ -7,5 +7,5 @@ returns g c = (
   c.parts-done.result,
   c.with_authority_begun.ensures,
   c.parts-done.ensures,
-  c.holding.ensures ∙ c.taken.ensures.same,
+  c.from_draft.ensures ∙ c.into_draft.ensures.same,
 )

@@ -1,36 +1,42 @@
 use Rattle.std.proofs.Common.{refl, ap, ◌∙◌}
 use Rattle.uri_ops.specs.BuilderParts.{with_path}
 use Rattle.uri_ops.specs.Builders.{draft_parts, lacks_path}
-use Rattle.uri_ops.proofs.Builders.BuilderDrafts.{adds_to_held, text_from_encoder}
-use Rattle.uri_ops.proofs.Builders.DraftHosts.{kept_host}
-use Rattle.uri_ops.proofs.Builders.PartRules.{path_meets, path_stands, to_test}
+use Rattle.uri_ops.proofs.Builders.BuilderDrafts.{step-adds-to-contents}
+use Rattle.uri_ops.proofs.Builders.BuilderDrafts.{valid-utf8-is-text-for-encoder}
+use Rattle.uri_ops.proofs.Builders.DraftHosts.{host-range-stays-with-authority}
+use Rattle.uri_ops.proofs.Builders.PartRules.{parts-with-path-meet-rules}
+use Rattle.uri_ops.proofs.Builders.PartRules.{parts-with-path-are-in-order}
+use Rattle.uri_ops.proofs.Builders.PartRules.{in-order-parts-pass-the-test}
 use Rattle.uri_ops.proofs.build.Builder.path.Goals as goal
 
 pub with_path-requires : goal.with_path-requires
-with_path-requires g c = to_test lacks_path g.R.RiMaybeRef.kind.needs_scheme
-    (draft_parts c.taken.result) c.taken.ensures.before
+with_path-requires g c = in-order-parts-pass-the-test lacks_path g.R.RiMaybeRef.kind.needs_scheme
+    (draft_parts c.into_draft.result) c.into_draft.ensures.before
 
-pub holding-requires-clause-rules : goal.holding-requires-clause-rules
-holding-requires-clause-rules g c =
-    path_meets g.R.RiMaybeRef.kind g.R.RiMaybeRef.kind.needs_scheme (draft_parts c.taken.result)
+pub from_draft-requires-clause-rules : goal.from_draft-requires-clause-rules
+from_draft-requires-clause-rules g c =
+    parts-with-path-meet-rules g.R.RiMaybeRef.kind g.R.RiMaybeRef.kind.needs_scheme
+    (draft_parts c.into_draft.result)
     (draft_parts c.with_path.result) c.as_str.result.now c.with_path.ensures.adds
-    c.taken.ensures.rules
-    (text_from_encoder g.R.PathE.Encoder.set g.R.RiMaybeRef.kind.path
+    c.into_draft.ensures.rules
+    (valid-utf8-is-text-for-encoder g.R.PathE.Encoder.set g.R.RiMaybeRef.kind.path
     (g.met.R.Kind.Kind.path_set ∙ ap (λ kind. kind.path) g.met.R.RiMaybeRef.kind_is_its_own)
     c.as_str.result.now c.as_str.utf8 c.as_str.ensures.valid)
 
-pub holding-requires-clause-place : goal.holding-requires-clause-place
-holding-requires-clause-place g c =
-    path_stands g.R.RiMaybeRef.kind g.R.RiMaybeRef.kind.needs_scheme (draft_parts c.taken.result)
+pub from_draft-requires-clause-place : goal.from_draft-requires-clause-place
+from_draft-requires-clause-place g c =
+    parts-with-path-are-in-order g.R.RiMaybeRef.kind g.R.RiMaybeRef.kind.needs_scheme
+    (draft_parts c.into_draft.result)
     (draft_parts c.with_path.result) c.as_str.result.now c.with_path.ensures.adds
-    c.taken.ensures.before
+    c.into_draft.ensures.before
 
-pub holding-requires-clause-host : goal.holding-requires-clause-host
-holding-requires-clause-host g c =
-    kept_host (with_path c.as_str.result.now) c.taken.result c.with_path.result
-    c.with_path.ensures.adds refl refl c.with_path.ensures.host c.taken.ensures.host
+pub from_draft-requires-clause-host : goal.from_draft-requires-clause-host
+from_draft-requires-clause-host g c =
+    host-range-stays-with-authority (with_path c.as_str.result.now) c.into_draft.result
+    c.with_path.result
+    c.with_path.ensures.adds refl refl c.with_path.ensures.host c.into_draft.ensures.host
 
 pub returns : goal.returns
 returns g c =
-    adds_to_held with_path _ _ _ _ _ _ c.as_str.ensures.text c.taken.ensures.same
-    c.with_path.ensures.adds c.holding.ensures
+    step-adds-to-contents with_path _ _ _ _ _ _ c.as_str.ensures.text c.into_draft.ensures.same
+    c.with_path.ensures.adds c.from_draft.ensures

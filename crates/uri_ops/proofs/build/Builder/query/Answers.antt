@@ -1,36 +1,43 @@
 use Rattle.std.proofs.Common.{refl, ap, ◌∙◌}
 use Rattle.uri_ops.specs.BuilderParts.{with_query}
 use Rattle.uri_ops.specs.Builders.{draft_parts}
-use Rattle.uri_ops.proofs.Builders.BuilderDrafts.{adds_to_held, text_from_encoder}
-use Rattle.uri_ops.proofs.Builders.DraftHosts.{kept_host}
-use Rattle.uri_ops.proofs.Builders.PartRules.{query_meets, query_stands, to_unended}
+use Rattle.uri_ops.proofs.Builders.BuilderDrafts.{step-adds-to-contents}
+use Rattle.uri_ops.proofs.Builders.BuilderDrafts.{valid-utf8-is-text-for-encoder}
+use Rattle.uri_ops.proofs.Builders.DraftHosts.{host-range-stays-with-authority}
+use Rattle.uri_ops.proofs.Builders.PartRules.{parts-with-query-meet-rules}
+use Rattle.uri_ops.proofs.Builders.PartRules.{parts-with-query-are-in-order}
+use Rattle.uri_ops.proofs.Builders.PartRules.{path-last-lacks-query-and-fragment}
 use Rattle.uri_ops.proofs.build.Builder.query.Goals as goal
 
 pub with_query-requires : goal.with_query-requires
-with_query-requires g c = to_unended g.R.RiMaybeRef.kind.needs_scheme (draft_parts c.taken.result)
-    c.taken.ensures.before
+with_query-requires g c = path-last-lacks-query-and-fragment g.R.RiMaybeRef.kind.needs_scheme
+    (draft_parts c.into_draft.result)
+    c.into_draft.ensures.before
 
-pub holding-requires-clause-rules : goal.holding-requires-clause-rules
-holding-requires-clause-rules g c =
-    query_meets g.R.RiMaybeRef.kind g.R.RiMaybeRef.kind.needs_scheme (draft_parts c.taken.result)
+pub from_draft-requires-clause-rules : goal.from_draft-requires-clause-rules
+from_draft-requires-clause-rules g c =
+    parts-with-query-meet-rules g.R.RiMaybeRef.kind g.R.RiMaybeRef.kind.needs_scheme
+    (draft_parts c.into_draft.result)
     (draft_parts c.with_query.result) c.as_str.result.now c.with_query.ensures.adds
-    c.taken.ensures.rules
-    (text_from_encoder g.R.QueryE.Encoder.set g.R.RiMaybeRef.kind.query
+    c.into_draft.ensures.rules
+    (valid-utf8-is-text-for-encoder g.R.QueryE.Encoder.set g.R.RiMaybeRef.kind.query
     (g.met.R.Kind.Kind.query_set ∙ ap (λ kind. kind.query) g.met.R.RiMaybeRef.kind_is_its_own)
     c.as_str.result.now c.as_str.utf8 c.as_str.ensures.valid)
 
-pub holding-requires-clause-place : goal.holding-requires-clause-place
-holding-requires-clause-place g c =
-    query_stands g.R.RiMaybeRef.kind g.R.RiMaybeRef.kind.needs_scheme (draft_parts c.taken.result)
+pub from_draft-requires-clause-place : goal.from_draft-requires-clause-place
+from_draft-requires-clause-place g c =
+    parts-with-query-are-in-order g.R.RiMaybeRef.kind g.R.RiMaybeRef.kind.needs_scheme
+    (draft_parts c.into_draft.result)
     (draft_parts c.with_query.result) c.as_str.result.now c.with_query.ensures.adds
-    c.taken.ensures.before
+    c.into_draft.ensures.before
 
-pub holding-requires-clause-host : goal.holding-requires-clause-host
-holding-requires-clause-host g c =
-    kept_host (with_query c.as_str.result.now) c.taken.result c.with_query.result
-    c.with_query.ensures.adds refl refl c.with_query.ensures.host c.taken.ensures.host
+pub from_draft-requires-clause-host : goal.from_draft-requires-clause-host
+from_draft-requires-clause-host g c =
+    host-range-stays-with-authority (with_query c.as_str.result.now) c.into_draft.result
+    c.with_query.result
+    c.with_query.ensures.adds refl refl c.with_query.ensures.host c.into_draft.ensures.host
 
 pub returns : goal.returns
 returns g c =
-    adds_to_held with_query _ _ _ _ _ _ c.as_str.ensures.text c.taken.ensures.same
-    c.with_query.ensures.adds c.holding.ensures
+    step-adds-to-contents with_query _ _ _ _ _ _ c.as_str.ensures.text c.into_draft.ensures.same
+    c.with_query.ensures.adds c.from_draft.ensures

@@ -1,34 +1,41 @@
 use Rattle.std.proofs.Common.{refl}
 use Rattle.uri_ops.specs.BuilderParts.{with_scheme}
 use Rattle.uri_ops.specs.Builders.{draft_parts}
-use Rattle.uri_ops.proofs.Builders.BuilderDrafts.{adds_to_held, scheme_from}
-use Rattle.uri_ops.proofs.Builders.DraftHosts.{kept_host}
-use Rattle.uri_ops.proofs.Builders.PartRules.{at_start, scheme_meets, scheme_stands}
+use Rattle.uri_ops.proofs.Builders.BuilderDrafts.{step-adds-to-contents}
+use Rattle.uri_ops.proofs.Builders.BuilderDrafts.{scheme-rule-gives-scheme-text}
+use Rattle.uri_ops.proofs.Builders.DraftHosts.{host-range-stays-with-authority}
+use Rattle.uri_ops.proofs.Builders.PartRules.{fresh-builder-lacks-all-parts}
+use Rattle.uri_ops.proofs.Builders.PartRules.{parts-with-scheme-meet-rules}
+use Rattle.uri_ops.proofs.Builders.PartRules.{parts-with-scheme-are-in-order}
 use Rattle.uri_ops.proofs.build.Builder.scheme.Goals as goal
 
 pub with_scheme-requires : goal.with_scheme-requires
-with_scheme-requires g c = at_start g.R.RiMaybeRef.kind.needs_scheme (draft_parts c.taken.result)
-    c.taken.ensures.before
+with_scheme-requires g c = fresh-builder-lacks-all-parts g.R.RiMaybeRef.kind.needs_scheme
+    (draft_parts c.into_draft.result)
+    c.into_draft.ensures.before
 
-pub holding-requires-clause-rules : goal.holding-requires-clause-rules
-holding-requires-clause-rules g c =
-    scheme_meets g.R.RiMaybeRef.kind g.R.RiMaybeRef.kind.needs_scheme (draft_parts c.taken.result)
+pub from_draft-requires-clause-rules : goal.from_draft-requires-clause-rules
+from_draft-requires-clause-rules g c =
+    parts-with-scheme-meet-rules g.R.RiMaybeRef.kind g.R.RiMaybeRef.kind.needs_scheme
+    (draft_parts c.into_draft.result)
     (draft_parts c.with_scheme.result) c.as_str.result.now c.with_scheme.ensures.adds
-    c.taken.ensures.rules
-    (scheme_from c.as_str.result.now c.as_str.utf8 c.as_str.ensures.valid)
+    c.into_draft.ensures.rules
+    (scheme-rule-gives-scheme-text c.as_str.result.now c.as_str.utf8 c.as_str.ensures.valid)
 
-pub holding-requires-clause-place : goal.holding-requires-clause-place
-holding-requires-clause-place g c =
-    scheme_stands g.R.RiMaybeRef.kind g.R.RiMaybeRef.kind.needs_scheme (draft_parts c.taken.result)
+pub from_draft-requires-clause-place : goal.from_draft-requires-clause-place
+from_draft-requires-clause-place g c =
+    parts-with-scheme-are-in-order g.R.RiMaybeRef.kind g.R.RiMaybeRef.kind.needs_scheme
+    (draft_parts c.into_draft.result)
     (draft_parts c.with_scheme.result) c.as_str.result.now c.with_scheme.ensures.adds
-    c.taken.ensures.before
+    c.into_draft.ensures.before
 
-pub holding-requires-clause-host : goal.holding-requires-clause-host
-holding-requires-clause-host g c =
-    kept_host (with_scheme c.as_str.result.now) c.taken.result c.with_scheme.result
-    c.with_scheme.ensures.adds refl refl c.with_scheme.ensures.host c.taken.ensures.host
+pub from_draft-requires-clause-host : goal.from_draft-requires-clause-host
+from_draft-requires-clause-host g c =
+    host-range-stays-with-authority (with_scheme c.as_str.result.now) c.into_draft.result
+    c.with_scheme.result
+    c.with_scheme.ensures.adds refl refl c.with_scheme.ensures.host c.into_draft.ensures.host
 
 pub returns : goal.returns
 returns g c =
-    adds_to_held with_scheme _ _ _ _ _ _ c.as_str.ensures.text c.taken.ensures.same
-    c.with_scheme.ensures.adds c.holding.ensures
+    step-adds-to-contents with_scheme _ _ _ _ _ _ c.as_str.ensures.text c.into_draft.ensures.same
+    c.with_scheme.ensures.adds c.from_draft.ensures

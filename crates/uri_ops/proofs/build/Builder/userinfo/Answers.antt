@@ -1,49 +1,61 @@
 use Rattle.std.proofs.Common.{◌++◌, ap, sym, ◌∙◌, codes}
 use Rattle.std.specs.Prelude.{unwrap_or}
 use Rattle.uri_pct.specs.Tokens.{is_valid_for}
-use Rattle.uri_ops.specs.BuilderParts.{takes_host, with_userinfo}
+use Rattle.uri_ops.specs.BuilderParts.{lacks_host_and_port, with_userinfo}
 use Rattle.uri_ops.specs.Builders.{draft_parts}
 use Rattle.uri_ops.specs.Dots.{is_empty}
-use Rattle.uri_ops.proofs.Builders.BuilderGrowth.{userinfo_goes_on}
-use Rattle.uri_ops.proofs.Builders.DraftHosts.{more_host, userinfo_host}
-use Rattle.uri_ops.proofs.Builders.PartRules.{more_meets, more_stands, to_end}
-use Rattle.uri_ops.proofs.Builders.BuilderDrafts.{adds_to_held}
+use Rattle.uri_ops.proofs.Builders.BuilderGrowth.{userinfo-extends-authority}
+use Rattle.uri_ops.proofs.Builders.DraftHosts.{host-range-of-longer-authority}
+use Rattle.uri_ops.proofs.Builders.DraftHosts.{host-range-after-userinfo}
+use Rattle.uri_ops.proofs.Builders.PartRules.{parts-with-longer-authority-meet-rules}
+use Rattle.uri_ops.proofs.Builders.PartRules.{parts-with-longer-authority-are-in-order}
+use Rattle.uri_ops.proofs.Builders.PartRules.{in-order-parts-end-in-authority}
+use Rattle.uri_ops.proofs.Builders.BuilderDrafts.{step-adds-to-contents}
 use Rattle.uri_ops.proofs.build.Builder.userinfo.Goals as goal
 
 pub with_userinfo-requires : goal.with_userinfo-requires
-with_userinfo-requires g c = to_end is_empty g.R.RiMaybeRef.kind.needs_scheme
-    (draft_parts c.taken.result) c.taken.ensures.before
+with_userinfo-requires g c = in-order-parts-end-in-authority is_empty
+    g.R.RiMaybeRef.kind.needs_scheme
+    (draft_parts c.into_draft.result) c.into_draft.ensures.before
 
-pub holding-requires-clause-rules : goal.holding-requires-clause-rules
-holding-requires-clause-rules g c =
-    more_meets g.R.RiMaybeRef.kind g.R.RiMaybeRef.kind.needs_scheme (draft_parts c.taken.result)
-    (draft_parts c.with_userinfo.result) (c.as_str.result.now ++ codes "@") is_empty takes_host
-    c.with_userinfo.ensures.adds c.taken.ensures.rules c.taken.ensures.before
-    (λ _. userinfo_goes_on g.R.RiMaybeRef.kind g.met.R.RiMaybeRef.component_sets c.as_str.result.now
+pub from_draft-requires-clause-rules : goal.from_draft-requires-clause-rules
+from_draft-requires-clause-rules g c =
+    parts-with-longer-authority-meet-rules g.R.RiMaybeRef.kind g.R.RiMaybeRef.kind.needs_scheme
+    (draft_parts c.into_draft.result)
+    (draft_parts c.with_userinfo.result) (c.as_str.result.now ++ codes "@") is_empty
+    lacks_host_and_port
+    c.with_userinfo.ensures.adds c.into_draft.ensures.rules c.into_draft.ensures.before
+    (λ _. userinfo-extends-authority g.R.RiMaybeRef.kind g.met.R.RiMaybeRef.component_sets
+    c.as_str.result.now
     c.as_str.utf8
     (sym (ap (λ set. is_valid_for set c.as_str.result.now)
     (g.met.R.Kind.Kind.userinfo_set
     ∙ ap (λ kind. kind.userinfo) g.met.R.RiMaybeRef.kind_is_its_own))
     ∙ c.as_str.ensures.valid))
 
-pub holding-requires-clause-place : goal.holding-requires-clause-place
-holding-requires-clause-place g c =
-    more_stands g.R.RiMaybeRef.kind g.R.RiMaybeRef.kind.needs_scheme (draft_parts c.taken.result)
-    (draft_parts c.with_userinfo.result) (c.as_str.result.now ++ codes "@") is_empty takes_host
-    c.with_userinfo.ensures.adds c.taken.ensures.rules c.taken.ensures.before
-    (λ _. userinfo_goes_on g.R.RiMaybeRef.kind g.met.R.RiMaybeRef.component_sets c.as_str.result.now
+pub from_draft-requires-clause-place : goal.from_draft-requires-clause-place
+from_draft-requires-clause-place g c =
+    parts-with-longer-authority-are-in-order g.R.RiMaybeRef.kind g.R.RiMaybeRef.kind.needs_scheme
+    (draft_parts c.into_draft.result)
+    (draft_parts c.with_userinfo.result) (c.as_str.result.now ++ codes "@") is_empty
+    lacks_host_and_port
+    c.with_userinfo.ensures.adds c.into_draft.ensures.rules c.into_draft.ensures.before
+    (λ _. userinfo-extends-authority g.R.RiMaybeRef.kind g.met.R.RiMaybeRef.component_sets
+    c.as_str.result.now
     c.as_str.utf8
     (sym (ap (λ set. is_valid_for set c.as_str.result.now)
     (g.met.R.Kind.Kind.userinfo_set
     ∙ ap (λ kind. kind.userinfo) g.met.R.RiMaybeRef.kind_is_its_own))
     ∙ c.as_str.ensures.valid))
 
-pub holding-requires-clause-host : goal.holding-requires-clause-host
-holding-requires-clause-host g c =
-    more_host g.R.RiMaybeRef.kind g.R.RiMaybeRef.kind.needs_scheme c.taken.result
+pub from_draft-requires-clause-host : goal.from_draft-requires-clause-host
+from_draft-requires-clause-host g c =
+    host-range-of-longer-authority g.R.RiMaybeRef.kind g.R.RiMaybeRef.kind.needs_scheme
+    c.into_draft.result
     c.with_userinfo.result (c.as_str.result.now ++ codes "@") is_empty
-    c.with_userinfo.ensures.adds c.taken.ensures.rules c.taken.ensures.before
-    (λ _. userinfo_host g.R.RiMaybeRef.kind g.met.R.RiMaybeRef.component_sets c.taken.result.host
+    c.with_userinfo.ensures.adds c.into_draft.ensures.rules c.into_draft.ensures.before
+    (λ _. host-range-after-userinfo g.R.RiMaybeRef.kind g.met.R.RiMaybeRef.component_sets
+    c.into_draft.result.host
     c.with_userinfo.result.host (unwrap_or c.with_userinfo.result.lengths.authority 0)
     c.as_str.result.now c.as_str.utf8
     (sym (ap (λ set. is_valid_for set c.as_str.result.now)
@@ -51,9 +63,9 @@ holding-requires-clause-host g c =
     ∙ ap (λ kind. kind.userinfo) g.met.R.RiMaybeRef.kind_is_its_own))
     ∙ c.as_str.ensures.valid)
     c.with_userinfo.ensures.host.0 c.with_userinfo.ensures.host.1)
-    c.taken.ensures.host
+    c.into_draft.ensures.host
 
 pub returns : goal.returns
 returns g c =
-    adds_to_held with_userinfo _ _ _ _ _ _ c.as_str.ensures.text c.taken.ensures.same
-    c.with_userinfo.ensures.adds c.holding.ensures
+    step-adds-to-contents with_userinfo _ _ _ _ _ _ c.as_str.ensures.text c.into_draft.ensures.same
+    c.with_userinfo.ensures.adds c.from_draft.ensures

@@ -1,30 +1,37 @@
 use Rattle.std.proofs.Common.{[], ap}
 use Rattle.uri_ops.specs.Builders.{draft_parts, lacks_authority}
-use Rattle.uri_ops.proofs.Builders.BuilderAuthorities.{empty_authority}
-use Rattle.uri_ops.proofs.Builders.DraftHosts.{given_host, nothing_placed}
-use Rattle.uri_ops.proofs.Builders.PartRules.{authority_meets, begun_stands, to_test}
+use Rattle.uri_ops.proofs.Builders.BuilderAuthorities.{empty-text-is-authority}
+use Rattle.uri_ops.proofs.Builders.DraftHosts.{host-range-of-new-authority}
+use Rattle.uri_ops.proofs.Builders.DraftHosts.{empty-authority-has-host-range}
+use Rattle.uri_ops.proofs.Builders.PartRules.{parts-with-authority-meet-rules}
+use Rattle.uri_ops.proofs.Builders.PartRules.{parts-with-begun-authority-are-in-order}
+use Rattle.uri_ops.proofs.Builders.PartRules.{in-order-parts-pass-the-test}
 use Rattle.uri_ops.proofs.build.Builder.with_authority_begun.Goals as goal
 
 pub with_authority-requires : goal.with_authority-requires
-with_authority-requires g c = to_test lacks_authority g.R.RiMaybeRef.kind.needs_scheme
-    (draft_parts c.taken.result) c.taken.ensures.before
+with_authority-requires g c = in-order-parts-pass-the-test lacks_authority
+    g.R.RiMaybeRef.kind.needs_scheme
+    (draft_parts c.into_draft.result) c.into_draft.ensures.before
 
-pub holding-requires-clause-rules : goal.holding-requires-clause-rules
-holding-requires-clause-rules g c =
-    authority_meets g.R.RiMaybeRef.kind g.R.RiMaybeRef.kind.needs_scheme
-    (draft_parts c.taken.result) (draft_parts c.with_authority.result) []
-    c.with_authority.ensures.adds c.taken.ensures.rules
-    (empty_authority g.R.RiMaybeRef.kind)
+pub from_draft-requires-clause-rules : goal.from_draft-requires-clause-rules
+from_draft-requires-clause-rules g c =
+    parts-with-authority-meet-rules g.R.RiMaybeRef.kind g.R.RiMaybeRef.kind.needs_scheme
+    (draft_parts c.into_draft.result) (draft_parts c.with_authority.result) []
+    c.with_authority.ensures.adds c.into_draft.ensures.rules
+    (empty-text-is-authority g.R.RiMaybeRef.kind)
 
-pub holding-requires-clause-place : goal.holding-requires-clause-place
-holding-requires-clause-place g c =
-    g.met.S.Begins.begun g.R.RiMaybeRef.kind.needs_scheme (draft_parts c.with_authority.result)
-    (begun_stands g.R.RiMaybeRef.kind g.R.RiMaybeRef.kind.needs_scheme
-    (draft_parts c.taken.result) (draft_parts c.with_authority.result) []
-    c.with_authority.ensures.adds c.taken.ensures.before)
+pub from_draft-requires-clause-place : goal.from_draft-requires-clause-place
+from_draft-requires-clause-place g c =
+    g.met.S.BeginsAuthority.begun g.R.RiMaybeRef.kind.needs_scheme
+    (draft_parts c.with_authority.result)
+    (parts-with-begun-authority-are-in-order g.R.RiMaybeRef.kind g.R.RiMaybeRef.kind.needs_scheme
+    (draft_parts c.into_draft.result) (draft_parts c.with_authority.result) []
+    c.with_authority.ensures.adds c.into_draft.ensures.before)
 
-pub holding-requires-clause-host : goal.holding-requires-clause-host
-holding-requires-clause-host g c =
-    given_host [] c.taken.result c.with_authority.result c.with_authority.ensures.adds
-    (nothing_placed c.with_authority.result.host (ap (λ h. h.start) c.with_authority.ensures.host)
+pub from_draft-requires-clause-host : goal.from_draft-requires-clause-host
+from_draft-requires-clause-host g c =
+    host-range-of-new-authority [] c.into_draft.result c.with_authority.result
+    c.with_authority.ensures.adds
+    (empty-authority-has-host-range c.with_authority.result.host
+    (ap (λ h. h.start) c.with_authority.ensures.host)
     (ap (λ h. h.end) c.with_authority.ensures.host))

@@ -1,8 +1,8 @@
 use Rattle.std.proofs.Common.{◌≡◌, ◌+◌, length, sym, ap, ◌∙◌, arith, option_map}
 use Rattle.uri_pct.specs.EncodedTexts.{text_of}
 use Rattle.uri_parts.specs.AuthorityTexts.{authority_text}
-use Rattle.uri_parts.specs.Positions.{host_start_of, marked_length}
-use Rattle.uri_ops.proofs.Builders.DraftHosts.{placed}
+use Rattle.uri_parts.specs.Positions.{host_start_of, delimited_length}
+use Rattle.uri_ops.proofs.Builders.DraftHosts.{host-range-from-ends}
 use Rattle.uri_ops.proofs.build.places.host_place.Goals as goal
 use Rattle.uri_ops.proofs.build.places.host_place.Goals.{in-Some, in-None}
 
@@ -11,16 +11,16 @@ returns g c =
     let a = authority_text c.args.authority in
     let start : c.match-userinfo.start ≡ host_start_of a = elim c.match-userinfo.branch [
       | in-Some w ↦
-          let same = ap (marked_length 1)
+          let same = ap (delimited_length 1)
           (sym (ap (option_map text_of) w.in-Some.is) ∙ c.userinfo.ensures) in
           omega (arith, w.start-is, w.len.ensures, same)
       | in-None w ↦
-          let same = ap (marked_length 1)
+          let same = ap (delimited_length 1)
           (sym (ap (option_map text_of) w.in-None.is) ∙ c.userinfo.ensures) in
           omega (arith, w.start-is, same)
     ] in
     let host = ap length c.host-host_len.ensures in
-    placed g.U.Encoder.set g.N.Encoder.set
+    host-range-from-ends g.U.Encoder.set g.N.Encoder.set
     (record {
       start = c.match-userinfo.start;
       end =

@@ -1,16 +1,18 @@
 use Rattle.std.proofs.Common.{ap, sym, ◌∙◌}
 use Rattle.uri_parts.specs.Hosts.{host_kind}
 use Rattle.uri_parts.proofs.Authorities.AuthorityPlaces.{holds}
-use Rattle.uri_ops.proofs.Meanings.BracketedHosts.{name_written, future_written}
-use Rattle.uri_ops.proofs.Meanings.Decodable.{named_decodes}
+use Rattle.uri_ops.proofs.Meanings.BracketedHosts.{normal-name-is-lowered-decoded}
+use Rattle.uri_ops.proofs.Meanings.BracketedHosts.{normal-ipvfuture-is-lowered}
+use Rattle.uri_ops.proofs.Meanings.Decodable.{unbracketed-host-is-decodable}
 use Rattle.uri_ops.proofs.normalize.normal_authority.push_host.Goals as goal
 
-pub push_read_host-requires : goal.push_read_host-requires
-push_read_host-requires g c =
+pub push_decoded_host-requires : goal.push_decoded_host-requires
+push_decoded_host-requires g c =
     let w =
     (holds g.U.Encoder.set g.R.Encoder.set c.args.authority.text.now
     c.args.authority.valid).host in
-    named_decodes c.table.result g.R.Encoder.set c.host-host.result.now c.table.ensures
+    unbracketed-host-is-decodable c.table.result g.R.Encoder.set c.host-host.result.now
+    c.table.ensures
     (rw c.host-host.ensures w) (sym c.is_bracketed.ensures ∙ c.if-not-is_bracketed.true)
 
 pub returns-then-not-is_bracketed : goal.returns-then-not-is_bracketed
@@ -18,18 +20,18 @@ returns-then-not-is_bracketed g c =
     let host = c.host-host.result.now in
     rw (
       ← c.host-host.ensures,
-      name_written g.R.Encoder.set host
+      normal-name-is-lowered-decoded g.R.Encoder.set host
           (sym c.is_bracketed.ensures ∙ c.if-not-is_bracketed.true),
       ← c.table.ensures,
     )
-    c.push_read_host.ensures
+    c.push_decoded_host.ensures
 
 pub returns-in_default : goal.returns-in_default
 returns-in_default g c =
     let host = c.host-host.result.now in
     rw (
       ← c.host-host.ensures,
-      future_written c.host_parsed.result g.R.Encoder.set host
+      normal-ipvfuture-is-lowered c.host_parsed.result g.R.Encoder.set host
           c.in_default.not-Ipv6 (sym c.is_bracketed.ensures ∙ c.if-not-is_bracketed.false)
           (c.host_parsed.ensures.kind ∙ ap host_kind (sym c.host-host.ensures)),
     )

@@ -1,6 +1,7 @@
 use Rattle.std.proofs.Common.{◌<◌, ◌≤◌, get_or, subst, sym, ◌∙◌}
 use Rattle.std.proofs.lemmas.Bool.{ltb-true, ltb-false}
-use Rattle.uri_ops.proofs.Meanings.UnreservedCodes.{code_table, ascii_entry, other_entry}
+use Rattle.uri_ops.proofs.Meanings.UnreservedCodes.{code_table, ascii-entry-is-unreserved}
+use Rattle.uri_ops.proofs.Meanings.UnreservedCodes.{entry-past-ascii-is-not-unreserved}
 use Rattle.uri_ops.proofs.normalize.octets.unreserved.Goals as goal
 
 pub returns-then-is_ascii : goal.returns-then-is_ascii
@@ -9,7 +10,8 @@ returns-then-is_ascii c =
     let ascii = ltb-true _ _ (sym c.is_ascii.ensures ∙ c.if-is_ascii.true) in
     let of = subst (λ t. get_or t c.from.result 0 < 128) c.codes.ensures ascii in
     let at = subst (λ k. get_or (code_table lowers) k 0 < 128) c.from.ensures of in
-    rw (c.codes.ensures, c.from.ensures) (ascii_entry lowers c.args.value c.requires at)
+    rw (c.codes.ensures, c.from.ensures)
+    (ascii-entry-is-unreserved lowers c.args.value c.requires at)
 
 pub returns-else-is_ascii : goal.returns-else-is_ascii
 returns-else-is_ascii c =
@@ -17,4 +19,4 @@ returns-else-is_ascii c =
     let past = ltb-false _ _ (sym c.is_ascii.ensures ∙ c.if-is_ascii.false) in
     let of = subst (λ t. 128 ≤ get_or t c.from.result 0) c.codes.ensures past in
     let at = subst (λ k. 128 ≤ get_or (code_table lowers) k 0) c.from.ensures of in
-    other_entry lowers c.args.value c.requires at
+    entry-past-ascii-is-not-unreserved lowers c.args.value c.requires at

@@ -3,16 +3,17 @@ use Rattle.std.proofs.Common.{arith, refl, sym, ap, subst, ◌∙◌}
 use Rattle.std.specs.Str.{IsCharBoundary}
 use Rattle.std.proofs.lemmas.List.{drop-drop}
 use Rattle.std.proofs.lemmas.Str.{IsCharBoundary-from_rest}
-use Rattle.uri_pct.proofs.Unicode.Pieces.{take_two}
-use Rattle.uri_ops.specs.Models.Directories.{IsLeft}
-use Rattle.uri_ops.proofs.Paths.LeftPaths.{left_as, left_kept}
-use Rattle.uri_ops.proofs.Paths.PushedPaths.{root_left, root_place}
+use Rattle.uri_pct.proofs.Unicode.Pieces.{take_then_take_is_take_of_sum}
+use Rattle.uri_ops.specs.Models.Directories.{RemovalState}
+use Rattle.uri_ops.proofs.Paths.LeftPaths.{removal-state-of-equals, removal-passes-dotless-prefix}
+use Rattle.uri_ops.proofs.Paths.PushedPaths.{removal-begins-after-root}
+use Rattle.uri_ops.proofs.Paths.PushedPaths.{position-after-root-is-boundary}
 use Rattle.uri_ops.proofs.path.dot_segments.has_dot_segments.Goals as goal
 
 pub loop-done-init : goal.loop-done-init
 loop-done-init c = record {
-  place = root_place c.args.path.now c.utf8.path c.requires;
-  left = root_left c.args.path.now c.requires;
+  place = position-after-root-is-boundary c.args.path.now c.utf8.path c.requires;
+  left = removal-begins-after-root c.args.path.now c.requires;
 }
 
 pub loop-done-preserved : goal.loop-done-preserved
@@ -20,21 +21,23 @@ loop-done-preserved c =
     let path = c.args.path.now in
     let done = c.loop-done.done in
     let rest = c.range_from-rest.result.now in
-    let next = c.undotted_len-done.result in
+    let next = c.dotless_prefix_len-done.result in
     let is : rest ≡ drop done path = c.range_from-rest.ensures.value in
     let some : 0 < length rest =
     omega (arith, c.range_from-rest.ensures.len, c.loop-done-test.true) in
-    let held : IsLeft path (take done path) rest false
-    = subst (λ r. IsLeft path (take done path) r false) (sym is) c.loop-done.invariant.left in
-    let front = c.undotted_len-done.ensures.plain in
+    let holds : RemovalState path (take done path) rest false
+    = subst (λ r. RemovalState path (take done path) r false) (sym is) c.loop-done.invariant.left in
+    let prefix = c.dotless_prefix_len-done.ensures.dotless in
     let taken : take (done + next) path ≡ take done path ++ take next rest
-    = sym (ap (λ r. take done path ++ take next r) is ∙ take_two done next path) in
+    = sym (ap (λ r. take done path ++ take next r) is
+    ∙ take_then_take_is_take_of_sum done next path) in
     let left : drop (done + next) path ≡ drop next rest
     = sym (ap (drop next) is ∙ drop-drop next done path) in
     let place : IsCharBoundary (drop done path) next
-    = subst (λ r. IsCharBoundary r next) is c.undotted_len-done.ensures.place in
+    = subst (λ r. IsCharBoundary r next) is c.dotless_prefix_len-done.ensures.place in
     record {
       place = IsCharBoundary-from_rest path done next c.loop-done.invariant.place.0 place;
-      left = left_as path _ _ _ _ false false taken left refl
-          (left_kept path (take done path) rest false held some next front.plain front.closed);
+      left = removal-state-of-equals path _ _ _ _ false false taken left refl
+          (removal-passes-dotless-prefix path (take done path) rest false holds some next
+          prefix.dotless prefix.closed);
     }

@@ -1,12 +1,12 @@
 use Rattle.std.proofs.Common.{◌-◌, length, take, drop, false}
 use Rattle.std.specs.Str.{IsCharBoundary}
-use Rattle.uri_ops.specs.Models.Directories.{IsLeft}
+use Rattle.uri_ops.specs.Models.Directories.{RemovalState}
 use Rattle.uri_ops.proofs.path.dot_segments.has_dot_segments.Given as goal
 
 abbrev pub invariant-loop-done : goal.invariant-loop-done
 invariant-loop-done l = record {
   place : IsCharBoundary l.path l.done;
-  left : IsLeft l.path (take l.done l.path) (drop l.done l.path) false;
+  left : RemovalState l.path (take l.done l.path) (drop l.done l.path) false;
 }
 
 abbrev pub decreases-loop-done : goal.decreases-loop-done

@@ -1,7 +1,8 @@
 use Rattle.std.proofs.Common.{◌≡◌, ◌+◌, ◌-◌, length, take, ap, ◌∙◌, arith}
 use Rattle.std.proofs.lemmas.Str.{IsCharBoundary-after_ascii}
-use Rattle.uri_ops.proofs.Paths.LastSlashes.{popped, popped_slash}
-use Rattle.uri_ops.proofs.Paths.LeftPaths.{front_of}
+use Rattle.uri_ops.proofs.Paths.LastSlashes.{popped-directory-is-parent}
+use Rattle.uri_ops.proofs.Paths.LastSlashes.{slash-before-popped-segment}
+use Rattle.uri_ops.proofs.Paths.LeftPaths.{slice-from-zero-is-prefix}
 use Rattle.uri_ops.proofs.path.dot_segments.parent.Goals as goal
 
 pub range-requires-clause-end_boundary : goal.range-requires-clause-end_boundary
@@ -10,9 +11,10 @@ range-requires-clause-end_boundary c =
     let all = take (length text - 1) c.as_bytes.result.now in
     let all_is : all ≡ take (length text - 1) text =
     ap (take (length text - 1)) c.as_bytes.ensures.value in
-    let slash = popped_slash text 0 c.requires all all_is c.near_slash-slash.result
-    c.near_slash-slash.ensures.place in
-    IsCharBoundary-after_ascii text c.near_slash-slash.result c.utf8.directory slash.0
+    let slash = slash-before-popped-segment text 0 c.requires all all_is
+    c.last_slash_bytewise-slash.result
+    c.last_slash_bytewise-slash.ensures.place in
+    IsCharBoundary-after_ascii text c.last_slash_bytewise-slash.result c.utf8.directory slash.0
     (omega (arith, slash.1))
 
 pub returns : goal.returns
@@ -21,6 +23,8 @@ returns c =
     let all = take (length text - 1) c.as_bytes.result.now in
     let all_is : all ≡ take (length text - 1) text =
     ap (take (length text - 1)) c.as_bytes.ensures.value in
-    front_of text c.range.result.now (c.near_slash-slash.result + 1) c.range.ensures.value
-    ∙ popped text 0 c.requires all all_is c.near_slash-slash.result c.near_slash-slash.ensures.place
-    c.near_slash-slash.ensures.front
+    slice-from-zero-is-prefix text c.range.result.now (c.last_slash_bytewise-slash.result + 1)
+    c.range.ensures.value
+    ∙ popped-directory-is-parent text 0 c.requires all all_is c.last_slash_bytewise-slash.result
+    c.last_slash_bytewise-slash.ensures.place
+    c.last_slash_bytewise-slash.ensures.prefix

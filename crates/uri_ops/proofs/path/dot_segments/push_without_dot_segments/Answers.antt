@@ -1,55 +1,66 @@
 use Rattle.std.proofs.Common.{◌≡◌, ◌++◌, ap, length, rules, string_bytes, ◌∙◌}
-use Rattle.uri_ops.proofs.Paths.DotStarts.{no_dots}
-use Rattle.uri_ops.proofs.Paths.LeftPaths.{front_of}
-use Rattle.uri_ops.proofs.Paths.PushedPaths.{absolute_start, front_pushed, path_pushed}
-use Rattle.uri_ops.proofs.Paths.PushedPaths.{path_underflows, whole_plain}
+use Rattle.uri_ops.proofs.Paths.DotStarts.{path-without-leading-dot-begins-with-none}
+use Rattle.uri_ops.proofs.Paths.LeftPaths.{slice-from-zero-is-prefix}
+use Rattle.uri_ops.proofs.Paths.PushedPaths.{absolute-path-begins-with-no-dot}
+use Rattle.uri_ops.proofs.Paths.PushedPaths.{pushed-dotless-path-prefix-is-directory}
+use Rattle.uri_ops.proofs.Paths.PushedPaths.{pushed-path-loses-its-dots}
+use Rattle.uri_ops.proofs.Paths.PushedPaths.{pushed-rest-underflows-as-path}
+use Rattle.uri_ops.proofs.Paths.PushedPaths.{dotless-path-is-its-own-removal}
 use Rattle.uri_ops.proofs.path.dot_segments.push_without_dot_segments.Goals as goal
 
-pub undotted_len-plain-requires-clause-some : goal.undotted_len-plain-requires-clause-some
-undotted_len-plain-requires-clause-some c = (absolute_start c.args.path.now c.requires).1
+pub dotless_prefix_len-dotless-requires-clause-some
+    : goal.dotless_prefix_len-dotless-requires-clause-some
+dotless_prefix_len-dotless-requires-clause-some c =
+    (absolute-path-begins-with-no-dot c.args.path.now c.requires).1
 
-pub undotted_len-plain-requires-clause-first : goal.undotted_len-plain-requires-clause-first
-undotted_len-plain-requires-clause-first c =
-    no_dots c.args.path.now (absolute_start c.args.path.now c.requires).0
+pub dotless_prefix_len-dotless-requires-clause-first
+    : goal.dotless_prefix_len-dotless-requires-clause-first
+dotless_prefix_len-dotless-requires-clause-first c =
+    path-without-leading-dot-begins-with-none c.args.path.now
+    (absolute-path-begins-with-no-dot c.args.path.now c.requires).0
 
-pub returns-then-plain-path-clause-text : goal.returns-then-plain-path-clause-text
-returns-then-plain-path-clause-text c =
+pub returns-then-dotless-path-clause-text : goal.returns-then-dotless-path-clause-text
+returns-then-dotless-path-clause-text c =
     let path = c.args.path.now in
-    let n = c.undotted_len-plain.result in
+    let n = c.dotless_prefix_len-dotless.result in
     c.in_ok-push_str.ensures.bytes
     ∙ ap (λ t. string_bytes c.args.out.now ++ t)
-    (whole_plain path c.range.result.now n c.requires c.if-plain-path.true
-    c.undotted_len-plain.ensures.plain.plain
-    (front_of path c.range.result.now n c.range.ensures.value)).0
+    (dotless-path-is-its-own-removal path c.range.result.now n c.requires c.if-dotless-path.true
+    c.dotless_prefix_len-dotless.ensures.dotless.dotless
+    (slice-from-zero-is-prefix path c.range.result.now n c.range.ensures.value)).0
 
-pub returns-then-plain-path-clause-underflow : goal.returns-then-plain-path-clause-underflow
-returns-then-plain-path-clause-underflow c =
+pub returns-then-dotless-path-clause-underflow : goal.returns-then-dotless-path-clause-underflow
+returns-then-dotless-path-clause-underflow c =
     let path = c.args.path.now in
-    let n = c.undotted_len-plain.result in
-    (whole_plain path c.range.result.now n c.requires c.if-plain-path.true
-    c.undotted_len-plain.ensures.plain.plain
-    (front_of path c.range.result.now n c.range.ensures.value)).1
+    let n = c.dotless_prefix_len-dotless.result in
+    (dotless-path-is-its-own-removal path c.range.result.now n c.requires c.if-dotless-path.true
+    c.dotless_prefix_len-dotless.ensures.dotless.dotless
+    (slice-from-zero-is-prefix path c.range.result.now n c.range.ensures.value)).1
 
 pub push_segments-requires-clause-directory : goal.push_segments-requires-clause-directory
 push_segments-requires-clause-directory c =
     let at : c.len-start.result ≡ length (string_bytes c.args.out.now) = search rules in
     let path = c.args.path.now in
-    let n = c.undotted_len-plain.result in
-    front_pushed (string_bytes c.args.out.now) c.len-start.result at
+    let n = c.dotless_prefix_len-dotless.result in
+    pushed-dotless-path-prefix-is-directory (string_bytes c.args.out.now) c.len-start.result at
     (string_bytes c.push_str.new.self)
-    path c.requires n c.range.result.now (front_of path c.range.result.now n c.range.ensures.value)
+    path c.requires n c.range.result.now
+    (slice-from-zero-is-prefix path c.range.result.now n c.range.ensures.value)
     c.in_ok-push_str.ensures.bytes
-    c.undotted_len-plain.ensures.some c.undotted_len-plain.ensures.place.0 c.if-plain-path.false
-    c.undotted_len-plain.ensures.plain.plain c.undotted_len-plain.ensures.plain.closed
+    c.dotless_prefix_len-dotless.ensures.some c.dotless_prefix_len-dotless.ensures.place.0
+    c.if-dotless-path.false
+    c.dotless_prefix_len-dotless.ensures.dotless.dotless
+    c.dotless_prefix_len-dotless.ensures.dotless.closed
 
 pub returns-clause-text : goal.returns-clause-text
 returns-clause-text c =
     let at : c.len-start.result ≡ length (string_bytes c.args.out.now) = search rules in
     let path = c.args.path.now in
-    let n = c.undotted_len-plain.result in
-    path_pushed (string_bytes c.args.out.now) c.len-start.result at
+    let n = c.dotless_prefix_len-dotless.result in
+    pushed-path-loses-its-dots (string_bytes c.args.out.now) c.len-start.result at
     (string_bytes c.push_str.new.self)
-    path c.requires n c.range.result.now (front_of path c.range.result.now n c.range.ensures.value)
+    path c.requires n c.range.result.now
+    (slice-from-zero-is-prefix path c.range.result.now n c.range.ensures.value)
     c.in_ok-push_str.ensures.bytes
     c.range_from.result.now c.range_from.ensures.value (string_bytes c.push_segments.new.out)
     c.in_ok-underflowed.ensures.before c.in_ok-underflowed.ensures.text
@@ -58,10 +69,11 @@ pub returns-clause-underflow : goal.returns-clause-underflow
 returns-clause-underflow c =
     let at : c.len-start.result ≡ length (string_bytes c.args.out.now) = search rules in
     let path = c.args.path.now in
-    let n = c.undotted_len-plain.result in
-    path_underflows (string_bytes c.args.out.now) c.len-start.result at
+    let n = c.dotless_prefix_len-dotless.result in
+    pushed-rest-underflows-as-path (string_bytes c.args.out.now) c.len-start.result at
     (string_bytes c.push_str.new.self)
-    path c.requires n c.range.result.now (front_of path c.range.result.now n c.range.ensures.value)
+    path c.requires n c.range.result.now
+    (slice-from-zero-is-prefix path c.range.result.now n c.range.ensures.value)
     c.in_ok-push_str.ensures.bytes
     c.range_from.result.now c.range_from.ensures.value c.in_ok-underflowed.underflowed
     c.in_ok-underflowed.ensures.underflow

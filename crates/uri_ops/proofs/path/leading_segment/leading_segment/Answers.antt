@@ -1,7 +1,11 @@
 use Rattle.std.proofs.Common.{◌≡◌, ◌+◌, ◌<◌, drop, false, ap, ◌∙◌, arith}
 use Rattle.uri_ops.specs.Models.LeadingSegments.{dot_len, ends_segment}
-use Rattle.uri_ops.proofs.Paths.DotLengths.{dot_behind, double_told, end_behind, ends_rooted}
-use Rattle.uri_ops.proofs.Paths.DotLengths.{none_told, single_told}
+use Rattle.uri_ops.proofs.Paths.DotLengths.{dot_len-of-slice-is-of-drop}
+use Rattle.uri_ops.proofs.Paths.DotLengths.{two-dot-lengths-are-double-dot}
+use Rattle.uri_ops.proofs.Paths.DotLengths.{ends_segment-of-slice-is-of-drop}
+use Rattle.uri_ops.proofs.Paths.DotLengths.{path-that-ends-segment-is-abempty}
+use Rattle.uri_ops.proofs.Paths.DotLengths.{no-dot-lengths-no-dot-segment}
+use Rattle.uri_ops.proofs.Paths.DotLengths.{one-dot-length-is-single-dot}
 use Rattle.uri_ops.proofs.path.leading_segment.leading_segment.Goals as goal
 use Rattle.uri_ops.proofs.path.leading_segment.leading_segment.Goals.{then-end-eq0-via-then-end-eq0}
 use Rattle.uri_ops.proofs.path.leading_segment.leading_segment.Goals.{}
@@ -15,17 +19,18 @@ returns-then-end-eq0-clause-leading c =
     let value = c.as_bytes-bytes.ensures.value in
     let first_is : first ≡ dot_len path = c.dot_len-first.ensures.bytes ∙ ap dot_len value in
     let second_is : second ≡ dot_len (drop first path) =
-    dot_behind path c.as_bytes-bytes.result.now first value second
+    dot_len-of-slice-is-of-drop path c.as_bytes-bytes.result.now first value second
     c.dot_len-second.ensures.bytes in
     let none : 0 < first + second → ends_segment (drop (first + second) path) ≡ false =
     λ some. elim c.then-end-eq0.branch [
       | then-end-eq0-via-then-end-eq0 w ↦ absurd (omega (arith, w.if-end-eq0.true, some))
       | then-end-eq0-via-else-end-eq0+then-not-ends_segment w ↦
-          end_behind path c.as_bytes-bytes.result.now (first + second) value w.ends_segment.result
+          ends_segment-of-slice-is-of-drop path c.as_bytes-bytes.result.now (first + second) value
+          w.ends_segment.result
           w.ends_segment.ensures
           ∙ w.if-not-ends_segment.true
     ] in
-    none_told path first second first_is second_is none
+    no-dot-lengths-no-dot-segment path first second first_is second_is none
 
 pub returns-then-second-eq0-clause-leading : goal.returns-then-second-eq0-clause-leading
 returns-then-second-eq0-clause-leading c =
@@ -35,18 +40,20 @@ returns-then-second-eq0-clause-leading c =
     let value = c.as_bytes-bytes.ensures.value in
     let first_is : first ≡ dot_len path = c.dot_len-first.ensures.bytes ∙ ap dot_len value in
     let second_is : second ≡ dot_len (drop first path) =
-    dot_behind path c.as_bytes-bytes.result.now first value second
+    dot_len-of-slice-is-of-drop path c.as_bytes-bytes.result.now first value second
     c.dot_len-second.ensures.bytes in
-    let told = single_told path first second first_is second_is c.if-second-eq0.true
+    let shown = one-dot-length-is-single-dot path first second first_is second_is
+    c.if-second-eq0.true
     (omega (arith, c.if-end-eq0.false)) in
     record {
       end = first + second;
-      segment = told.0;
-      behind = ends_rooted (drop (first + second) path)
-          (end_behind path c.as_bytes-bytes.result.now (first + second) value c.ends_segment.result
+      segment = shown.0;
+      suffix = path-that-ends-segment-is-abempty (drop (first + second) path)
+          (ends_segment-of-slice-is-of-drop path c.as_bytes-bytes.result.now (first + second) value
+          c.ends_segment.result
           c.ends_segment.ensures ∙ c.if-not-ends_segment.false);
-      passes = told.1;
-      rest = c.next_segment-next.ensures.rest;
+      passes = shown.1;
+      rest = c.next_segment_start-next.ensures.rest;
     }
 
 pub returns-clause-leading : goal.returns-clause-leading
@@ -57,16 +64,17 @@ returns-clause-leading c =
     let value = c.as_bytes-bytes.ensures.value in
     let first_is : first ≡ dot_len path = c.dot_len-first.ensures.bytes ∙ ap dot_len value in
     let second_is : second ≡ dot_len (drop first path) =
-    dot_behind path c.as_bytes-bytes.result.now first value second
+    dot_len-of-slice-is-of-drop path c.as_bytes-bytes.result.now first value second
     c.dot_len-second.ensures.bytes in
-    let told = double_told path first second first_is second_is
+    let shown = two-dot-lengths-are-double-dot path first second first_is second_is
     (omega (arith, c.if-second-eq0.false)) in
     record {
       end = first + second;
-      segment = told.0;
-      behind = ends_rooted (drop (first + second) path)
-          (end_behind path c.as_bytes-bytes.result.now (first + second) value c.ends_segment.result
+      segment = shown.0;
+      suffix = path-that-ends-segment-is-abempty (drop (first + second) path)
+          (ends_segment-of-slice-is-of-drop path c.as_bytes-bytes.result.now (first + second) value
+          c.ends_segment.result
           c.ends_segment.ensures ∙ c.if-not-ends_segment.false);
-      passes = told.1;
-      rest = c.next_segment-next.ensures.rest;
+      passes = shown.1;
+      rest = c.next_segment_start-next.ensures.rest;
     }

@@ -2,11 +2,12 @@ use Rattle.std.proofs.Common.{◌≡◌, refl, sym, ap, subst, string_bytes}
 use Rattle.std.specs.Prelude.{is_ok}
 use Rattle.uri_parts.specs.Grammar.{IsOfKind}
 use Rattle.uri_ops.specs.Normalizers.{ports_of}
-use Rattle.uri_ops.specs.NormalTargets.{IsNormalTarget, IsRefusedAlike}
+use Rattle.uri_ops.specs.NormalTargets.{IsNormalTarget, IsNormalTargetError}
 use Rattle.uri_ops.specs.Resolving.{base_of}
-use Rattle.uri_ops.specs.declared.resolve.ResolveError.TheVariants.{OutOfMemory}
-use Rattle.uri_ops.proofs.Normal.NormalForms.{normal_is_of_kind, normal_form}
-use Rattle.uri_ops.proofs.Targeting.NormalTargets.{err_from, normal_target, refusal}
+use Rattle.uri_ops.specs.declared.resolve.error.ResolveError.TheVariants.{OutOfMemory}
+use Rattle.uri_ops.proofs.Normal.NormalForms.{normal-text-is-of-kind, normal-text-is-normal-form}
+use Rattle.uri_ops.proofs.Targeting.NormalTargets.{if-error-from-error-and}
+use Rattle.uri_ops.proofs.Targeting.NormalTargets.{normal-form-of-target-respects-meaning, refusal}
 use Rattle.uri_ops.proofs.resolve.Resolver.resolve_normalized.Goals as goal
 
 pub returns-in_err-target-clause-refusal : goal.returns-in_err-target-clause-refusal
@@ -15,16 +16,17 @@ returns-in_err-target-clause-refusal g c =
     let ports = g.P.DefaultPort.port_of (ports_of c.args.normalizer.now) in
     let base = g.R.RiMaybeRef.text (base_of c.args.self.now) in
     let reference = g.Q.RiMaybeRef.text c.args.reference.now in
-    err_from c.from_residual.result _ (IsRefusedAlike kind g.Q.RiMaybeRef.kind ports base reference)
-    (λ error h. subst (IsRefusedAlike kind g.Q.RiMaybeRef.kind ports base reference) (sym h)
+    if-error-from-error-and c.from_residual.result _
+    (IsNormalTargetError kind g.Q.RiMaybeRef.kind ports base reference)
+    (λ error h. subst (IsNormalTargetError kind g.Q.RiMaybeRef.kind ports base reference) (sym h)
     (refusal kind g.Q.RiMaybeRef.kind g.met.R.RiMaybeRef.component_sets g.met.R.Ri.needs_scheme
     g.met.Q.RefOf.same_tables ports base reference
-    c.resolved_text.ensures.base c.resolved_text.ensures.reference c.in_err-target.field-0.0
+    c.resolve_to_text.ensures.base c.resolve_to_text.ensures.reference c.in_err-target.field-0.0
     c.in_err-target.ensures.error))
     c.from_residual.ensures.1
 
-pub normal_form_of-requires-clause-of_kind : goal.normal_form_of-requires-clause-of_kind
-normal_form_of-requires-clause-of_kind g c =
+pub normalize_string-requires-clause-of_kind : goal.normalize_string-requires-clause-of_kind
+normalize_string-requires-clause-of_kind g c =
     subst (λ k. IsOfKind k (string_bytes c.in_ok-target.target.text))
     (sym g.met.R.RiMaybeRef.kind_is_its_own) c.in_ok-target.ensures.of_kind.grammar
 
@@ -34,22 +36,23 @@ returns-in_err-made-clause-refusal g c =
     let ports = g.P.DefaultPort.port_of (ports_of c.args.normalizer.now) in
     let base = g.R.RiMaybeRef.text (base_of c.args.self.now) in
     let reference = g.Q.RiMaybeRef.text c.args.reference.now in
-    err_from c.from_residual-in_err-made.result _
-    (IsRefusedAlike kind g.Q.RiMaybeRef.kind ports base reference)
-    (λ error h. subst (IsRefusedAlike kind g.Q.RiMaybeRef.kind ports base reference) (sym h)
+    if-error-from-error-and c.from_residual-in_err-made.result _
+    (IsNormalTargetError kind g.Q.RiMaybeRef.kind ports base reference)
+    (λ error h. subst (IsNormalTargetError kind g.Q.RiMaybeRef.kind ports base reference) (sym h)
     (refusal kind g.Q.RiMaybeRef.kind g.met.R.RiMaybeRef.component_sets g.met.R.Ri.needs_scheme
     g.met.Q.RefOf.same_tables ports base reference
-    c.resolved_text.ensures.base c.resolved_text.ensures.reference OutOfMemory
+    c.resolve_to_text.ensures.base c.resolve_to_text.ensures.reference OutOfMemory
     (ap is_ok c.in_ok-target.ensures.target.0)))
     c.from_residual-in_err-made.ensures.1
 
 pub make_owned-requires-clause-of_kind : goal.make_owned-requires-clause-of_kind
 make_owned-requires-clause-of_kind g c =
-    (normal_is_of_kind g.R.RiMaybeRef.kind g.R.Kind.Kind.kind g.met.R.RiMaybeRef.kind_is_its_own
+    (normal-text-is-of-kind g.R.RiMaybeRef.kind g.R.Kind.Kind.kind
+    g.met.R.RiMaybeRef.kind_is_its_own
     g.met.R.RiMaybeRef.component_sets (g.P.DefaultPort.port_of (ports_of c.args.normalizer.now))
     (string_bytes c.in_ok-target.target.text) (string_bytes c.in_ok-target.target.text)
     (string_bytes c.in_ok-made.made.text)
-    refl c.normal_form_of.ensures.utf8 c.in_ok-target.ensures.of_kind.grammar
+    refl c.normalize_string.ensures.utf8 c.in_ok-target.ensures.of_kind.grammar
     c.in_ok-made.ensures.text).grammar
 
 pub returns-clause-normal : goal.returns-clause-normal
@@ -61,14 +64,15 @@ returns-clause-normal g c =
     let owned : g.R.RiMaybeRef.owned_text c.make_owned.result
     ≡ string_bytes c.in_ok-made.made.text = c.make_owned.ensures in
     subst (IsNormalTarget kind g.Q.RiMaybeRef.kind ports base reference) (sym owned)
-    (normal_target kind g.Q.RiMaybeRef.kind g.met.R.RiMaybeRef.component_sets
+    (normal-form-of-target-respects-meaning kind g.Q.RiMaybeRef.kind
+    g.met.R.RiMaybeRef.component_sets
     g.met.R.Ri.needs_scheme g.met.Q.RefOf.same_tables ports base reference
-    c.resolved_text.ensures.base c.resolved_text.ensures.reference
+    c.resolve_to_text.ensures.base c.resolve_to_text.ensures.reference
     (string_bytes c.in_ok-target.target.text) (string_bytes c.in_ok-made.made.text)
     c.in_ok-target.ensures.target.0
-    (normal_form kind g.R.Kind.Kind.kind g.met.R.RiMaybeRef.kind_is_its_own
+    (normal-text-is-normal-form kind g.R.Kind.Kind.kind g.met.R.RiMaybeRef.kind_is_its_own
     g.met.R.RiMaybeRef.component_sets ports
     (string_bytes c.in_ok-target.target.text) (string_bytes c.in_ok-target.target.text)
     (string_bytes c.in_ok-made.made.text)
-    refl c.normal_form_of.ensures.utf8 c.in_ok-target.ensures.of_kind.grammar
+    refl c.normalize_string.ensures.utf8 c.in_ok-target.ensures.of_kind.grammar
     c.in_ok-made.ensures.text))

@@ -1,19 +1,21 @@
 use Rattle.std.proofs.Common.{rules, ◌≡◌, [], ◌++◌, ap, sym, ◌∙◌, string_bytes}
 use Rattle.uri_parts.specs.Components.{components, recompose}
 use Rattle.uri_parts.specs.Positions.{positions_of}
-use Rattle.uri_ops.specs.Resolving.{components_of, finished}
-use Rattle.uri_ops.specs.Target.{joined}
-use Rattle.uri_ops.proofs.Targeting.Targets.{target_components}
+use Rattle.uri_ops.specs.Resolving.{components_of, with_final_path}
+use Rattle.uri_ops.specs.Target.{dotted_target}
+use Rattle.uri_ops.proofs.Targeting.Targets.{target-text-has-target-components}
 use Rattle.uri_ops.proofs.resolve.target_text.target_text.Goals as goal
 
 pub returns-clause-at : goal.returns-clause-at
 returns-clause-at c =
-    let t = joined (components_of c.args.base.now) (components_of c.args.reference.now) in
+    let t = dotted_target (components_of c.args.base.now) (components_of c.args.reference.now) in
     let empty : string_bytes c.in_ok-text.text ≡ [] = search rules in
-    let text = c.in_ok-positions.ensures.text ∙ ap (λ x. x ++ recompose (finished t)) empty in
+    let text = c.in_ok-positions.ensures.text
+    ∙ ap (λ x. x ++ recompose (with_final_path t)) empty in
     c.in_ok-positions.ensures.places empty
     ∙ sym (ap positions_of
-    (ap components text ∙ target_components c.args.base.now.text.now c.args.reference.now.text.now
+    (ap components text ∙ target-text-has-target-components c.args.base.now.text.now
+    c.args.reference.now.text.now
     c.requires))
 
 pub returns-in-Some-clause-at : goal.returns-in-Some-clause-at
@@ -21,7 +23,17 @@ returns-in-Some-clause-at c =
     c.in_ok-target.ensures.places
     ∙ sym (ap positions_of
     (ap components c.in_ok-target.ensures.text
-    ∙ target_components c.args.base.now.text.now c.args.reference.now.text.now c.requires))
+    ∙ target-text-has-target-components c.args.base.now.text.now c.args.reference.now.text.now
+    c.requires))
 
-pub returns-then-is_refused-clause-error : goal.returns-then-is_refused-clause-error
-returns-then-is_refused-clause-error c = search rules
+pub returns-then-not-begins_with_slash-clause-at : goal.returns-then-not-begins_with_slash-clause-at
+returns-then-not-begins_with_slash-clause-at c =
+    c.in_ok-copy.ensures.places
+    ∙ sym (ap positions_of
+    (ap components c.in_ok-copy.ensures.text
+    ∙ target-text-has-target-components c.args.base.now.text.now c.args.reference.now.text.now
+    c.requires))
+
+pub returns-then-is_opaque_rejection-clause-error
+    : goal.returns-then-is_opaque_rejection-clause-error
+returns-then-is_opaque_rejection-clause-error c = search rules

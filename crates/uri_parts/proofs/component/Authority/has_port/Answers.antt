@@ -2,7 +2,7 @@ use Rattle.std.proofs.Common.{◌≡◌, ◌∙◌, length, not, eqb, ap, arith,
 use Rattle.std.specs.Prelude.{is_some}
 use Rattle.std.specs.Str.{IsUtf8}
 use Rattle.std.proofs.lemmas.Bool.{eq-eqb, ne_eqb}
-use Rattle.uri_parts.proofs.Authorities.AuthorityPlaces.{port_place}
+use Rattle.uri_parts.proofs.Authorities.AuthorityPlaces.{port_is_after_host}
 use Rattle.uri_parts.specs.Positions.{host_end_of}
 use Rattle.uri_parts.proofs.component.Authority.has_port.Goals as goal
 
@@ -17,4 +17,4 @@ returns g c =
     (λ w. ap not (eq-eqb _ _ w.0) ∙ ap is_some w.1)
     (λ w. ap not (ne_eqb (host_end_of text) (length text) (λ e. omega (arith, w.inside, e)))
     ∙ ap is_some w.is)
-    (port_place g.U.Encoder.set g.R.Encoder.set text c.args.self.valid u)
+    (port_is_after_host g.U.Encoder.set g.R.Encoder.set text c.args.self.valid u)

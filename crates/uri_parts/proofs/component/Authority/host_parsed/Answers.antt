@@ -3,8 +3,9 @@ use Rattle.std.specs.Prelude.{codes}
 use Rattle.uri_parts.specs.Addresses.{ipv4_octets, ipv6_segments}
 use Rattle.uri_parts.specs.Components.{starts, before_any}
 use Rattle.uri_parts.specs.Hosts.{host_kind, ipv4_value}
-use Rattle.uri_parts.proofs.Authorities.AuthorityPlaces.{holds, name_valid, name_kind_of}
-use Rattle.uri_parts.proofs.Authorities.AuthorityPlaces.{literal_kind_of}
+use Rattle.uri_parts.proofs.Authorities.AuthorityPlaces.{holds, reg_name_host_is_valid}
+use Rattle.uri_parts.proofs.Authorities.AuthorityPlaces.{kind_of_unbracketed_host}
+use Rattle.uri_parts.proofs.Authorities.AuthorityPlaces.{kind_of_bracketed_host}
 use Rattle.uri_parts.proofs.component.Authority.host_parsed.Goals as goal
 
 pub new_or_panic-requires : goal.new_or_panic-requires
@@ -13,7 +14,7 @@ new_or_panic-requires g c =
     let s : starts 91 host ≡ false = sym c.in-None.ensures.begins in
     let v : ipv4_value host ≡ None = sym c.in-None-parse-2.ensures in
     let w = (holds g.U.Encoder.set g.R.Encoder.set c.args.self.text.now c.args.self.valid).host in
-    name_valid g.R.Encoder.set host (rw c.host-host.ensures w) s v
+    reg_name_host_is_valid g.R.Encoder.set host (rw c.host-host.ensures w) s v
 
 pub returns-in-Some-parse-clause-kind : goal.returns-in-Some-parse-clause-kind
 returns-in-Some-parse-clause-kind g c =
@@ -22,7 +23,8 @@ returns-in-Some-parse-clause-kind g c =
     let a : c.cut_before.result.0.now ≡ before_any (codes "]") (drop 1 host) =
     c.cut_before.ensures.before
     ∙ ap (before_any (codes "]")) c.in-Some.ensures.rest in
-    literal_kind_of host c.cut_before.result.0.now (Some (ipv6_segments c.in-Some-parse.address)) s
+    kind_of_bracketed_host host c.cut_before.result.0.now
+    (Some (ipv6_segments c.in-Some-parse.address)) s
     a c.in-Some-parse.ensures
     ∙ ap host_kind c.host-host.ensures
 
@@ -33,18 +35,20 @@ returns-in-None-parse-clause-kind g c =
     let a : c.cut_before.result.0.now ≡ before_any (codes "]") (drop 1 host) =
     c.cut_before.ensures.before
     ∙ ap (before_any (codes "]")) c.in-Some.ensures.rest in
-    literal_kind_of host c.cut_before.result.0.now None s a c.in-None-parse.ensures
+    kind_of_bracketed_host host c.cut_before.result.0.now None s a c.in-None-parse.ensures
     ∙ ap host_kind c.host-host.ensures
 
 pub returns-in-Some-parse-2-clause-kind : goal.returns-in-Some-parse-2-clause-kind
 returns-in-Some-parse-2-clause-kind g c =
     let host = c.host-host.result.now in
     let s : starts 91 host ≡ false = sym c.in-None.ensures.begins in
-    name_kind_of host (Some (ipv4_octets c.in-Some-parse-2.address)) s c.in-Some-parse-2.ensures
+    kind_of_unbracketed_host host (Some (ipv4_octets c.in-Some-parse-2.address)) s
+    c.in-Some-parse-2.ensures
     ∙ ap host_kind c.host-host.ensures
 
 pub returns-in-None-parse-2-clause-kind : goal.returns-in-None-parse-2-clause-kind
 returns-in-None-parse-2-clause-kind g c =
     let host = c.host-host.result.now in
     let s : starts 91 host ≡ false = sym c.in-None.ensures.begins in
-    name_kind_of host None s c.in-None-parse-2.ensures ∙ ap host_kind c.host-host.ensures
+    kind_of_unbracketed_host host None s c.in-None-parse-2.ensures
+    ∙ ap host_kind c.host-host.ensures

@@ -2,7 +2,7 @@ use Rattle.std.proofs.Common.{◌≡◌, ◌∙◌, length, ap, sym, arith, ⊎_
 use Rattle.std.specs.Str.{IsUtf8}
 use Rattle.uri_pct.specs.Sets.{digit_set}
 use Rattle.uri_pct.specs.Tokens.{is_valid_for}
-use Rattle.uri_parts.proofs.Authorities.AuthorityPlaces.{port_place, with_port}
+use Rattle.uri_parts.proofs.Authorities.AuthorityPlaces.{port_is_after_host, port_follows_host}
 use Rattle.uri_parts.specs.Authority.{authority_parts}
 use Rattle.uri_parts.specs.Positions.{host_end_of}
 use Rattle.uri_parts.proofs.component.Authority.port.Goals as goal
@@ -14,12 +14,12 @@ returns-then-self-text g c =
     let e : host_end_of text ≡ length text = sym c.args.self.ends ∙ c.if-self-text.true
     ∙ ap length c.as_str-text.ensures.text in
     ⊎_elim (λ w. w.1) (λ w. absurd (omega (arith, w.inside, e)))
-    (port_place g.U.Encoder.set g.R.Encoder.set text c.args.self.valid u)
+    (port_is_after_host g.U.Encoder.set g.R.Encoder.set text c.args.self.valid u)
 
 pub overflow_add-self : goal.overflow_add-self
 overflow_add-self g c =
     let text = c.as_str-text.result.now in
-    let w = with_port g.U.Encoder.set g.R.Encoder.set text c.args.self.host_end
+    let w = port_follows_host g.U.Encoder.set g.R.Encoder.set text c.args.self.host_end
     c.as_str-text.ensures.valid c.as_str-text.utf8
     (c.args.self.ends ∙ ap host_end_of (sym c.as_str-text.ensures.text))
     c.if-self-text.false in
@@ -28,7 +28,7 @@ overflow_add-self g c =
 pub range_from-requires : goal.range_from-requires
 range_from-requires g c =
     let text = c.as_str-text.result.now in
-    λ _. (with_port g.U.Encoder.set g.R.Encoder.set text c.args.self.host_end
+    λ _. (port_follows_host g.U.Encoder.set g.R.Encoder.set text c.args.self.host_end
     c.as_str-text.ensures.valid c.as_str-text.utf8
     (c.args.self.ends ∙ ap host_end_of (sym c.as_str-text.ensures.text))
     c.if-self-text.false).cut
@@ -37,7 +37,7 @@ pub new_or_panic-requires : goal.new_or_panic-requires
 new_or_panic-requires g c =
     let text = c.as_str-text.result.now in
     ap (is_valid_for digit_set) c.range_from.ensures.value
-    ∙ (with_port g.U.Encoder.set g.R.Encoder.set text c.args.self.host_end
+    ∙ (port_follows_host g.U.Encoder.set g.R.Encoder.set text c.args.self.host_end
     c.as_str-text.ensures.valid c.as_str-text.utf8
     (c.args.self.ends ∙ ap host_end_of (sym c.as_str-text.ensures.text))
     c.if-self-text.false).valid
@@ -46,7 +46,7 @@ pub returns : goal.returns
 returns g c =
     let text = c.as_str-text.result.now in
     ap Some (c.new_or_panic.ensures ∙ c.range_from.ensures.value)
-    ∙ (with_port g.U.Encoder.set g.R.Encoder.set text c.args.self.host_end
+    ∙ (port_follows_host g.U.Encoder.set g.R.Encoder.set text c.args.self.host_end
     c.as_str-text.ensures.valid c.as_str-text.utf8
     (c.args.self.ends ∙ ap host_end_of (sym c.as_str-text.ensures.text))
     c.if-self-text.false).is

@@ -1,6 +1,6 @@
 use Rattle.std.proofs.Common.{◌≡◌, ◌<◌, ◌-◌, ◌∙◌, take, ap, arith}
 use Rattle.uri_pct.specs.Tokens.{is_valid_for}
-use Rattle.uri_parts.proofs.Authorities.AuthorityPlaces.{user_place}
+use Rattle.uri_parts.proofs.Authorities.AuthorityPlaces.{userinfo_is_before_host}
 use Rattle.uri_parts.specs.Positions.{host_start_of}
 use Rattle.uri_parts.proofs.component.Authority.userinfo.Goals as goal
 
@@ -11,4 +11,4 @@ new_or_panic-requires g c =
     let n : (c.args.self.host_start - 1) - 0 ≡ host_start_of text - 1 =
     omega (arith, c.args.self.starts) in
     ap (is_valid_for g.U.Encoder.set) (c.range.ensures.value ∙ ap (λ k. take k text) n)
-    ∙ (user_place g.U.Encoder.set g.R.Encoder.set text c.args.self.valid l).valid
+    ∙ (userinfo_is_before_host g.U.Encoder.set g.R.Encoder.set text c.args.self.valid l).valid

@@ -1,8 +1,8 @@
 use Rattle.std.proofs.Common.{◌≡◌, None, subst}
 use Rattle.uri_parts.specs.Hosts.{ipv4_value}
-use Rattle.uri_parts.proofs.HostForms.ParsedAddresses.{ipv4_refused}
+use Rattle.uri_parts.proofs.HostForms.ParsedAddresses.{text-of-no-ipv4-has-no-value}
 use Rattle.uri_parts.proofs.net.Ipv4Addr.parse.Goals as goal
 
 pub returns-in-Err : goal.returns-in-Err
 returns-in-Err c = subst (λ t. None ≡ ipv4_value t) c.as_bytes.ensures.value
-    (ipv4_refused _ c.in-Err.ensures)
+    (text-of-no-ipv4-has-no-value _ c.in-Err.ensures)

@@ -1,4 +1,4 @@
-use Rattle.uri_parts.proofs.Splitting.PlacedComponents.{has_fragment}
+use Rattle.uri_parts.proofs.Splitting.ComponentPositions.{has_fragment}
 use Rattle.uri_parts.proofs.positions.Positions.has_fragment.Goals as goal
 
 pub returns : goal.returns

@@ -1,26 +1,29 @@
 use Rattle.std.proofs.Common.{sym, ap, ◌∙◌, subst}
 use Rattle.std.specs.Str.{IsUtf8}
 use Rattle.uri_pct.specs.Pieces.{lossy_text}
-use Rattle.uri_pct.proofs.Unicode.Lossy.{lossy_of_text}
-use Rattle.uri_pct.proofs.Unicode.PartPieces.{token_bytes-unencoded, left_decoded}
-use Rattle.uri_pct.proofs.Decodings.Taking.{taken_text}
+use Rattle.uri_pct.proofs.Unicode.Lossy.{lossy_text_of_utf8_is_itself}
+use Rattle.uri_pct.proofs.Unicode.PartPieces.{unencoded_text_decodes_to_itself}
+use Rattle.uri_pct.proofs.Unicode.PartPieces.{bytes_left-is-decoded}
+use Rattle.uri_pct.proofs.Decodings.Taking.{parts_taken_give_lossy_text}
 use Rattle.uri_pct.proofs.decode.Decode.to_string_lossy.Goals as goal
 
 pub returns-then-is_unencoded-clause-text : goal.returns-then-is_unencoded-clause-text
 returns-then-is_unencoded-clause-text c =
-    sym (lossy_of_text c.as_str.result.now c.as_str.utf8)
+    sym (lossy_text_of_utf8_is_itself c.as_str.result.now c.as_str.utf8)
     ∙ ap lossy_text (c.as_str.ensures
-    ∙ sym (token_bytes-unencoded c.args.self.rest.now
+    ∙ sym (unencoded_text_decodes_to_itself c.args.self.rest.now
     (subst IsUtf8 c.as_str.ensures c.as_str.utf8)
     (sym c.is_unencoded.ensures ∙ c.if-is_unencoded.true)))
 
 pub returns-clause-text : goal.returns-clause-text
-returns-clause-text c = taken_text c.args.self.rest.now _ c.take_parts.new.taker c.args.self.whole
+returns-clause-text c = parts_taken_give_lossy_text c.args.self.rest.now _ c.take_parts.new.taker
+    c.args.self.whole
     c.in_ok-with_capacity.ensures.bytes c.in_ok-take_parts.ensures
 
 pub returns-then-is_unencoded-clause-left : goal.returns-then-is_unencoded-clause-left
 returns-then-is_unencoded-clause-left c = returns-then-is_unencoded-clause-text c
-    ∙ ap lossy_text (sym (left_decoded c.args.self))
+    ∙ ap lossy_text (sym (bytes_left-is-decoded c.args.self))
 
 pub returns-clause-left : goal.returns-clause-left
-returns-clause-left c = returns-clause-text c ∙ ap lossy_text (sym (left_decoded c.args.self))
+returns-clause-left c = returns-clause-text c
+    ∙ ap lossy_text (sym (bytes_left-is-decoded c.args.self))

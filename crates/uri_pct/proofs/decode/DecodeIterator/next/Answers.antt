@@ -5,8 +5,11 @@ use Rattle.std.specs.List.{position_or_len}
 use Rattle.std.specs.Str.{IsUtf8}
 use Rattle.uri_pct.specs.Chunks.{Byte, Text, chunks, widest_set}
 use Rattle.uri_pct.specs.Tokens.{IsValidFor}
-use Rattle.uri_pct.proofs.Decodings.Decoding.{octet_of_bytes, text_of_bytes, octet_boundary}
-use Rattle.uri_pct.proofs.Decodings.Decoding.{chunks-octet, chunks-nil}
+use Rattle.uri_pct.proofs.Decodings.Decoding.{bytes_from_percent_begin_with_octet}
+use Rattle.uri_pct.proofs.Decodings.Decoding.{bytes_begin_with_text_up_to_percent}
+use Rattle.uri_pct.proofs.Decodings.Decoding.{boundary_after_octet}
+use Rattle.uri_pct.proofs.Decodings.Decoding.{first_chunk_is_value_of_octet}
+use Rattle.uri_pct.proofs.Decodings.Decoding.{empty_text_has_no_chunks}
 use Rattle.std.proofs.lemmas.List.{nil_from_length}
 use Rattle.std.proofs.lemmas.Bool.{eqb-true}
 use Rattle.uri_pct.proofs.decode.DecodeIterator.next.Goals as goal
@@ -17,73 +20,76 @@ returns-then-is_empty-clause-steps c =
     ap chunks (sym c.as_bytes-bytes.ensures.value
     ∙ nil_from_length c.as_bytes-bytes.result.now
     (eqb-true _ 0 (sym c.is_empty.ensures ∙ c.if-is_empty.true)))
-    ∙ chunks-nil in
+    ∙ empty_text_has_no_chunks in
     (none, none)
 
 pub bounds-bytes-1 : goal.bounds-bytes-1
 bounds-bytes-1 c =
-    let o = octet_of_bytes c.as_bytes-bytes.result.now c.args.self.now.rest.now
+    let o = bytes_from_percent_begin_with_octet c.as_bytes-bytes.result.now c.args.self.now.rest.now
     c.as_bytes-bytes.ensures.value c.as_bytes-bytes.ensures.utf8 c.args.self.now.whole
     (sym c.is_empty.ensures ∙ c.if-is_empty.false) c.if-bytes-eq37.true in
-    let long = ap length (c.as_bytes-bytes.ensures.value ∙ o.spelt) in
+    let long = ap length (c.as_bytes-bytes.ensures.value ∙ o.joined) in
     omega arith
 
 pub bounds-bytes-2 : goal.bounds-bytes-2
 bounds-bytes-2 c =
-    let o = octet_of_bytes c.as_bytes-bytes.result.now c.args.self.now.rest.now
+    let o = bytes_from_percent_begin_with_octet c.as_bytes-bytes.result.now c.args.self.now.rest.now
     c.as_bytes-bytes.ensures.value c.as_bytes-bytes.ensures.utf8 c.args.self.now.whole
     (sym c.is_empty.ensures ∙ c.if-is_empty.false) c.if-bytes-eq37.true in
-    let long = ap length (c.as_bytes-bytes.ensures.value ∙ o.spelt) in
+    let long = ap length (c.as_bytes-bytes.ensures.value ∙ o.joined) in
     omega arith
 
 pub octet_value-value-requires-clause-high : goal.octet_value-value-requires-clause-high
 octet_value-value-requires-clause-high c =
-    let o = octet_of_bytes c.as_bytes-bytes.result.now c.args.self.now.rest.now
+    let o = bytes_from_percent_begin_with_octet c.as_bytes-bytes.result.now c.args.self.now.rest.now
     c.as_bytes-bytes.ensures.value c.as_bytes-bytes.ensures.utf8 c.args.self.now.whole
     (sym c.is_empty.ensures ∙ c.if-is_empty.false) c.if-bytes-eq37.true in
-    ap (λ (x : List ℕ). is_ascii_hexdigit (get_or x 1 0)) (c.as_bytes-bytes.ensures.value ∙ o.spelt)
+    ap (λ (x : List ℕ). is_ascii_hexdigit (get_or x 1 0)) (c.as_bytes-bytes.ensures.value
+    ∙ o.joined)
     ∙ o.high_digit
 
 pub octet_value-value-requires-clause-low : goal.octet_value-value-requires-clause-low
 octet_value-value-requires-clause-low c =
-    let o = octet_of_bytes c.as_bytes-bytes.result.now c.args.self.now.rest.now
+    let o = bytes_from_percent_begin_with_octet c.as_bytes-bytes.result.now c.args.self.now.rest.now
     c.as_bytes-bytes.ensures.value c.as_bytes-bytes.ensures.utf8 c.args.self.now.whole
     (sym c.is_empty.ensures ∙ c.if-is_empty.false) c.if-bytes-eq37.true in
-    ap (λ (x : List ℕ). is_ascii_hexdigit (get_or x 2 0)) (c.as_bytes-bytes.ensures.value ∙ o.spelt)
+    ap (λ (x : List ℕ). is_ascii_hexdigit (get_or x 2 0)) (c.as_bytes-bytes.ensures.value
+    ∙ o.joined)
     ∙ o.low_digit
 
 pub range_from-self-requires : goal.range_from-self-requires
 range_from-self-requires c =
-    let o = octet_of_bytes c.as_bytes-bytes.result.now c.args.self.now.rest.now
+    let o = bytes_from_percent_begin_with_octet c.as_bytes-bytes.result.now c.args.self.now.rest.now
     c.as_bytes-bytes.ensures.value c.as_bytes-bytes.ensures.utf8 c.args.self.now.whole
     (sym c.is_empty.ensures ∙ c.if-is_empty.false) c.if-bytes-eq37.true in
-    λ _. octet_boundary c.args.self.now.rest.now
+    λ _. boundary_after_octet c.args.self.now.rest.now
     (subst IsUtf8 c.as_bytes-bytes.ensures.value c.as_bytes-bytes.ensures.utf8) o
 
 pub invariant_of-self : goal.invariant_of-self
 invariant_of-self c =
-    let o = octet_of_bytes c.as_bytes-bytes.result.now c.args.self.now.rest.now
+    let o = bytes_from_percent_begin_with_octet c.as_bytes-bytes.result.now c.args.self.now.rest.now
     c.as_bytes-bytes.ensures.value c.as_bytes-bytes.ensures.utf8 c.args.self.now.whole
     (sym c.is_empty.ensures ∙ c.if-is_empty.false) c.if-bytes-eq37.true in
-    let behind : c.range_from-self.result.now ≡ o.behind = c.range_from-self.ensures.value
-    ∙ ap (drop 3) o.spelt in
-    record { whole = subst (IsValidFor widest_set) (sym behind) o.valid }
+    let suffix : c.range_from-self.result.now ≡ o.suffix = c.range_from-self.ensures.value
+    ∙ ap (drop 3) o.joined in
+    record { whole = subst (IsValidFor widest_set) (sym suffix) o.valid }
 
 octet_steps : (c : goal.After-self-1)
     → chunks c.args.self.now.rest.now
     ≡ Byte c.octet_value-value.result ∷ chunks c.range_from-self.result.now
 octet_steps c =
-    let o = octet_of_bytes c.as_bytes-bytes.result.now c.args.self.now.rest.now
+    let o = bytes_from_percent_begin_with_octet c.as_bytes-bytes.result.now c.args.self.now.rest.now
     c.as_bytes-bytes.ensures.value c.as_bytes-bytes.ensures.utf8 c.args.self.now.whole
     (sym c.is_empty.ensures ∙ c.if-is_empty.false) c.if-bytes-eq37.true in
-    let spelt = c.as_bytes-bytes.ensures.value ∙ o.spelt in
-    let behind : c.range_from-self.result.now ≡ o.behind = c.range_from-self.ensures.value
-    ∙ ap (drop 3) o.spelt in
+    let joined = c.as_bytes-bytes.ensures.value ∙ o.joined in
+    let suffix : c.range_from-self.result.now ≡ o.suffix = c.range_from-self.ensures.value
+    ∙ ap (drop 3) o.joined in
     let value : c.octet_value-value.result ≡ 16 * digit_value o.high + digit_value o.low =
     c.octet_value-value.ensures
-    ∙ ap (λ (x : List ℕ). 16 * digit_value (get_or x 1 0) + digit_value (get_or x 2 0)) spelt in
-    chunks-octet c.args.self.now.rest.now o ∙ ap (λ v. Byte v ∷ chunks o.behind) (sym value)
-    ∙ ap (λ x. Byte c.octet_value-value.result ∷ chunks x) (sym behind)
+    ∙ ap (λ (x : List ℕ). 16 * digit_value (get_or x 1 0) + digit_value (get_or x 2 0)) joined in
+    first_chunk_is_value_of_octet c.args.self.now.rest.now o ∙ ap (λ v. Byte v ∷ chunks o.suffix)
+    (sym value)
+    ∙ ap (λ x. Byte c.octet_value-value.result ∷ chunks x) (sym suffix)
 
 pub returns-then-bytes-eq37-clause-steps : goal.returns-then-bytes-eq37-clause-steps
 returns-then-bytes-eq37-clause-steps c = octet_steps c
@@ -93,7 +99,7 @@ returns-then-bytes-eq37-clause-goes c = let shorter = ap length (octet_steps c) 
 
 pub split_at-requires : goal.split_at-requires
 split_at-requires c =
-    let t = text_of_bytes c.as_bytes-bytes.result.now c.args.self.now.rest.now
+    let t = bytes_begin_with_text_up_to_percent c.as_bytes-bytes.result.now c.args.self.now.rest.now
     c.unencoded_len.result c.as_bytes-bytes.ensures.value c.as_bytes-bytes.ensures.utf8
     c.args.self.now.whole (sym c.is_empty.ensures ∙ c.if-is_empty.false)
     c.if-bytes-eq37.false (c.unencoded_len.ensures
@@ -102,7 +108,7 @@ split_at-requires c =
 
 pub invariant_of-self-2 : goal.invariant_of-self-2
 invariant_of-self-2 c =
-    let t = text_of_bytes c.as_bytes-bytes.result.now c.args.self.now.rest.now
+    let t = bytes_begin_with_text_up_to_percent c.as_bytes-bytes.result.now c.args.self.now.rest.now
     c.unencoded_len.result c.as_bytes-bytes.ensures.value c.as_bytes-bytes.ensures.utf8
     c.args.self.now.whole (sym c.is_empty.ensures ∙ c.if-is_empty.false)
     c.if-bytes-eq37.false (c.unencoded_len.ensures
@@ -113,7 +119,7 @@ text_steps : (c : goal.After-text-2-1)
     → chunks c.args.self.now.rest.now
     ≡ Text c.split_at.result.0.now ∷ chunks c.split_at.result.1.now
 text_steps c =
-    let t = text_of_bytes c.as_bytes-bytes.result.now c.args.self.now.rest.now
+    let t = bytes_begin_with_text_up_to_percent c.as_bytes-bytes.result.now c.args.self.now.rest.now
     c.unencoded_len.result c.as_bytes-bytes.ensures.value c.as_bytes-bytes.ensures.utf8
     c.args.self.now.whole (sym c.is_empty.ensures ∙ c.if-is_empty.false)
     c.if-bytes-eq37.false (c.unencoded_len.ensures

@@ -4,17 +4,19 @@ use Rattle.std.proofs.lemmas.Str.{encode_ascii}
 use Rattle.std.specs.Char.{encode_utf8}
 use Rattle.std.specs.Prelude.{string_bytes}
 use Rattle.uri_pct.specs.Pieces.{utf8_pieces}
-use Rattle.uri_pct.proofs.Decodings.Taking.{when_ok, lossy_took_text}
-use Rattle.uri_pct.proofs.Unicode.AsciiOctets.{ascii_text}
-use Rattle.uri_pct.proofs.Unicode.PartPieces.{read_pieces}
+use Rattle.uri_pct.proofs.Decodings.Taking.{OnOk-from-is_ok}
+use Rattle.uri_pct.proofs.Decodings.Taking.{appended_text_takes_lossy_text_of_parts}
+use Rattle.uri_pct.proofs.Unicode.AsciiOctets.{ascii_byte_is_utf8}
+use Rattle.uri_pct.proofs.Unicode.PartPieces.{decoded_parts_have_their_pieces}
 use Rattle.uri_pct.proofs.decode_text.LossyTextTakeParts.take_ascii.Goals as goal
 
 pub returns : goal.returns
-returns c = when_ok c.push.result (λ e.
+returns c = OnOk-from-is_ok c.push.result (λ e.
     let text = c.args.byte ∷ [] in
     let before = string_bytes c.args.self.now.text in
     let put = c.push.ensures.bytes ∙ cond-true _ _ _ e
     ∙ ap (λ ch. before ++ encode_utf8 ch) c.from.ensures
     ∙ ap (λ bytes. before ++ bytes) (encode_ascii c.args.byte c.requires) in
-    lossy_took_text c.args.self.now _ _ text (ascii_text c.args.byte c.requires)
-    (read_pieces (utf8_pieces text)) put)
+    appended_text_takes_lossy_text_of_parts c.args.self.now _ _ text
+    (ascii_byte_is_utf8 c.args.byte c.requires)
+    (decoded_parts_have_their_pieces (utf8_pieces text)) put)

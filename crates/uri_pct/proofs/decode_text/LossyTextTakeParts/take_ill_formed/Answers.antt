@@ -1,9 +1,10 @@
 use Rattle.std.proofs.Common.{◌∙◌}
 use Rattle.std.specs.Char.{encode_utf8}
 use Rattle.std.proofs.lemmas.Bool.{cond-true}
-use Rattle.uri_pct.proofs.Decodings.Taking.{when_ok}
+use Rattle.uri_pct.proofs.Decodings.Taking.{OnOk-from-is_ok}
 use Rattle.uri_pct.proofs.decode_text.LossyTextTakeParts.take_ill_formed.Goals as goal
 
 pub returns : goal.returns
 unfolding encode_utf8
-returns c = when_ok c.push.result (λ e. record { text = c.push.ensures.bytes ∙ cond-true _ _ _ e })
+returns c = OnOk-from-is_ok c.push.result
+    (λ e. record { text = c.push.ensures.bytes ∙ cond-true _ _ _ e })

@@ -3,8 +3,8 @@ use Rattle.uri_pct.specs.Encoding.{encode_bytes}
 use Rattle.uri_pct.specs.Tables.{set_of}
 use Rattle.uri_pct.specs.Tokens.{print}
 use Rattle.std.proofs.lemmas.Str.{IsUtf8-string_bytes}
-use Rattle.uri_pct.proofs.EncodedTexts.EncodedTokens.{all_small}
-use Rattle.uri_pct.proofs.ValidTexts.Growing.{by_bytes, valid_either}
+use Rattle.uri_pct.proofs.EncodedTexts.EncodedTokens.{bytes_below_256_are_eight_bit}
+use Rattle.uri_pct.proofs.ValidTexts.Growing.{grows_by_encoded_bytes, valid_after_ok_or_err}
 use Rattle.uri_pct.proofs.estring.EString.encode_bytes.Goals as goal
 
 pub invariant_of-self : goal.invariant_of-self
@@ -16,11 +16,13 @@ invariant_of-self g c =
     let new = string_bytes c.append_bytes.new.out in
     let more = print (encode_bytes (set_of c.table.result) c.args.bytes.now) in
     record {
-      valid = valid_either set old new more c.append_bytes.result c.append_bytes.ensures.ok
+      valid = valid_after_ok_or_err set old new more c.append_bytes.result c.append_bytes.ensures.ok
           c.append_bytes.ensures.err before.valid
-          (λ e. (by_bytes set sub old new c.args.bytes.now before.lacks_percent c.requires.subset
+          (λ e. (grows_by_encoded_bytes set sub old new c.args.bytes.now before.lacks_percent
+          c.requires.subset
           c.requires.octets (IsUtf8-string_bytes before.text)
-          (all_small c.args.bytes.now (λ i. (c.type_inv.bytes i).fits)) before.valid
+          (bytes_below_256_are_eight_bit c.args.bytes.now (λ i. (c.type_inv.bytes i).fits))
+          before.valid
           (e ∙ ap (λ s. old ++ print (encode_bytes s c.args.bytes.now)) c.table.ensures)).valid);
       lacks_percent = before.lacks_percent;
     }
@@ -31,8 +33,8 @@ returns-clause-tokens g c =
     let sub = g.SubE.Encoder.set in
     let before = c.args.self.now in
     let old = string_bytes before.text in
-    (by_bytes set sub old (string_bytes c.append_bytes.new.out) c.args.bytes.now
+    (grows_by_encoded_bytes set sub old (string_bytes c.append_bytes.new.out) c.args.bytes.now
     before.lacks_percent c.requires.subset c.requires.octets (IsUtf8-string_bytes before.text)
-    (all_small c.args.bytes.now (λ i. (c.type_inv.bytes i).fits)) before.valid
+    (bytes_below_256_are_eight_bit c.args.bytes.now (λ i. (c.type_inv.bytes i).fits)) before.valid
     (c.in_ok-append_bytes.ensures.ok
     ∙ ap (λ s. old ++ print (encode_bytes s c.args.bytes.now)) c.table.ensures)).tokens

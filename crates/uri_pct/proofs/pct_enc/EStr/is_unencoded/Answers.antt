@@ -1,8 +1,8 @@
 use Rattle.std.proofs.Common.{not, ap, ◌∙◌}
 use Rattle.uri_pct.specs.Texts.{is_unencoded}
-use Rattle.uri_pct.proofs.TableSets.Percent.{lacks_unless_found}
+use Rattle.uri_pct.proofs.TableSets.Percent.{byte_not_found_is_lacked}
 use Rattle.uri_pct.proofs.pct_enc.EStr.is_unencoded.Goals as goal
 
 pub returns : goal.returns
-returns g c = ap not c.contains.ensures.value ∙ lacks_unless_found 37 c.as_bytes.result.now
+returns g c = ap not c.contains.ensures.value ∙ byte_not_found_is_lacked 37 c.as_bytes.result.now
     ∙ ap is_unencoded c.as_bytes.ensures.value

@@ -2,15 +2,16 @@ use Rattle.std.proofs.Common.{◌≡◌, ◌<◌, ◌∷◌, [], length, get_or,
 use Rattle.std.proofs.lemmas.Bool.{not-false}
 use Rattle.std.proofs.lemmas.Str.{IsCharBoundary-after_ascii}
 use Rattle.uri_pct.specs.Texts.{is_absolute}
-use Rattle.uri_pct.proofs.ValidTexts.Delimiters.{absolute_text}
-use Rattle.uri_pct.proofs.ValidTexts.TokenCuts.{reserved_mark, slash_reserved, valid_after}
+use Rattle.uri_pct.proofs.ValidTexts.Delimiters.{absolute_path_begins_with_slash}
+use Rattle.uri_pct.proofs.ValidTexts.TokenCuts.{reserved_is_never_in_octet, slash_is_reserved}
+use Rattle.uri_pct.proofs.ValidTexts.TokenCuts.{valid_after_mark}
 use Rattle.uri_pct.proofs.pct_enc.EStr.segments_if_absolute.Goals as goal
 
 pub range_from-requires : goal.range_from-requires
 range_from-requires g c =
     let text = c.as_str.result.now in
     let begins : text ≡ 47 ∷ drop 1 text =
-    absolute_text text (ap is_absolute c.as_str.ensures.text
+    absolute_path_begins_with_slash text (ap is_absolute c.as_str.ensures.text
     ∙ not-false _ (sym c.is_rootless.ensures ∙ c.if-is_rootless.false)) in
     let there : get_or text 0 0 ≡ 47 = ap (λ (t : List ℕ). get_or t 0 0) begins in
     let some : 0 < length text = omega (arith, ap length begins) in
@@ -20,10 +21,10 @@ pub new_or_panic-rest-requires : goal.new_or_panic-rest-requires
 new_or_panic-rest-requires g c =
     let text = c.as_str.result.now in
     let begins : text ≡ 47 ∷ drop 1 text =
-    absolute_text text (ap is_absolute c.as_str.ensures.text
+    absolute_path_begins_with_slash text (ap is_absolute c.as_str.ensures.text
     ∙ not-false _ (sym c.is_rootless.ensures ∙ c.if-is_rootless.false)) in
-    rw c.range_from.ensures.value (valid_after g.E.Encoder.set text [] (drop 1 text) 47
-    c.as_str.ensures.valid begins (reserved_mark 47 slash_reserved) c.as_str.utf8)
+    rw c.range_from.ensures.value (valid_after_mark g.E.Encoder.set text [] (drop 1 text) 47
+    c.as_str.ensures.valid begins (reserved_is_never_in_octet 47 slash_is_reserved) c.as_str.utf8)
 
 pub split-requires : goal.split-requires
-split-requires g c = slash_reserved
+split-requires g c = slash_is_reserved

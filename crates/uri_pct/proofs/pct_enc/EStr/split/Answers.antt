@@ -4,8 +4,8 @@ use Rattle.std.proofs.lemmas.List.Splits.{join_with_byte-slice_split}
 use Rattle.std.proofs.lemmas.List.Sums.{AllPass-from_list_all}
 use Rattle.uri_pct.specs.EncodedTexts.{text_of}
 use Rattle.uri_pct.specs.Texts.{lacks}
-use Rattle.uri_pct.proofs.Decodings.Counts.{length-pieces}
-use Rattle.uri_pct.proofs.ValidTexts.Delimiters.{pieces_lack}
+use Rattle.uri_pct.proofs.Decodings.Counts.{split_pieces_are_at_most_length_plus_one}
+use Rattle.uri_pct.proofs.ValidTexts.Delimiters.{substrings_lack_delimiter}
 use Rattle.uri_pct.proofs.pct_enc.EStr.split.Goals as goal
 
 pub returns-clause-joined : goal.returns-clause-joined
@@ -13,14 +13,14 @@ returns-clause-joined g c = join_with_byte-slice_split c.args.delimiter _
 
 pub returns-clause-apart : goal.returns-clause-apart
 returns-clause-apart g c = AllPass-from_list_all (lacks c.args.delimiter) _
-    (pieces_lack c.args.delimiter _)
+    (substrings_lack_delimiter c.args.delimiter _)
 
 pub returns-clause-fits : goal.returns-clause-fits
 returns-clause-fits g c =
     let fits : length (slice_split (λ b. eqb b c.args.delimiter) (text_of c.args.self)) < 2 ^ 64 =
     omega (
       arith,
-      length-pieces (λ b. eqb b c.args.delimiter) (text_of c.args.self),
+      split_pieces_are_at_most_length_plus_one (λ b. eqb b c.args.delimiter) (text_of c.args.self),
       ap length
           c.as_str-text.ensures.text,
     ) in

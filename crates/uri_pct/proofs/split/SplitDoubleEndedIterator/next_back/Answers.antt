@@ -2,25 +2,28 @@ use Rattle.std.proofs.Common.{◌≡◌, ◌∷◌, ◌++◌, [], eqb, length, r
 use Rattle.std.specs.List.{slice_split}
 use Rattle.std.proofs.lemmas.List.{length-append}
 use Rattle.uri_pct.specs.EncodedTexts.{text_of}
-use Rattle.uri_pct.specs.EncodedTexts.{pieces_left}
-use Rattle.uri_pct.proofs.ValidTexts.Delimiters.{pieces_last, slice_split_lacks}
-use Rattle.uri_pct.proofs.Decodings.Splits.{pieces_left-at}
+use Rattle.uri_pct.specs.EncodedTexts.{substrings_left}
+use Rattle.uri_pct.proofs.ValidTexts.Delimiters.{split_piece_after_last_delimiter_is_last}
+use Rattle.uri_pct.proofs.ValidTexts.Delimiters.{text_without_delimiter_is_one_piece}
+use Rattle.uri_pct.proofs.Decodings.Splits.{substrings_left_are_split_of_rest}
 use Rattle.uri_pct.proofs.split.SplitDoubleEndedIterator.next_back.Goals as goal
 
 cut : (g : _) (c : goal.After-self-1 g)
-    → pieces_left c.args.self.now
+    → substrings_left c.args.self.now
     ≡ slice_split (λ b. eqb b c.args.self.now.delimiter) (text_of c.in-Some.rest)
     ++ text_of c.in-Some.piece ∷ []
 cut g c =
-    pieces_left-at c.args.self.now c.in_ok-text.text c.in_ok-text.was
-    ∙ pieces_last c.args.self.now.delimiter (text_of c.in_ok-text.text) (text_of c.in-Some.rest)
+    substrings_left_are_split_of_rest c.args.self.now c.in_ok-text.text c.in_ok-text.was
+    ∙ split_piece_after_last_delimiter_is_last c.args.self.now.delimiter (text_of c.in_ok-text.text)
+    (text_of c.in-Some.rest)
     (text_of c.in-Some.piece) c.in-Some.ensures
 
 whole : (g : _) (c : goal.After-self-in-None-1 g)
-    → pieces_left c.args.self.now ≡ text_of c.in_ok-text.text ∷ []
+    → substrings_left c.args.self.now ≡ text_of c.in_ok-text.text ∷ []
 whole g c =
-    pieces_left-at c.args.self.now c.in_ok-text.text c.in_ok-text.was
-    ∙ slice_split_lacks c.args.self.now.delimiter (text_of c.in_ok-text.text) c.in-None.ensures
+    substrings_left_are_split_of_rest c.args.self.now c.in_ok-text.text c.in_ok-text.was
+    ∙ text_without_delimiter_is_one_piece c.args.self.now.delimiter (text_of c.in_ok-text.text)
+    c.in-None.ensures
 
 pub returns-in-Some-clause-steps : goal.returns-in-Some-clause-steps
 returns-in-Some-clause-steps g c = cut g c

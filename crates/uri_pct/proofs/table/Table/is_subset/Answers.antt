@@ -1,12 +1,13 @@
 use Rattle.std.proofs.Common.{◌∙◌, sym}
 use Rattle.uri_pct.specs.Tables.{set_of}
-use Rattle.uri_pct.proofs.TableSets.Tables.{subset_if_empty, empty_if_subset}
+use Rattle.uri_pct.proofs.TableSets.Tables.{subset_if_difference_is_empty}
+use Rattle.uri_pct.proofs.TableSets.Tables.{difference_from_superset_is_empty}
 use Rattle.uri_pct.proofs.table.Table.is_subset.Goals as goal
 
 pub returns : goal.returns
 returns c =
     let s = set_of c.args.self.now in
     let t = set_of c.args.other.now in (
-      λ h. subset_if_empty s t (sym c.sub.ensures ∙ c.is_empty.ensures.0 h),
-      λ h. c.is_empty.ensures.1 (c.sub.ensures ∙ empty_if_subset s t h),
+      λ h. subset_if_difference_is_empty s t (sym c.sub.ensures ∙ c.is_empty.ensures.0 h),
+      λ h. c.is_empty.ensures.1 (c.sub.ensures ∙ difference_from_superset_is_empty s t h),
     )

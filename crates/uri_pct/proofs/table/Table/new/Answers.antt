@@ -3,14 +3,16 @@ use Rattle.std.proofs.lemmas.List.{take_all}
 use Rattle.std.proofs.lemmas.List.Folds.{list_any_more}
 use Rattle.uri_pct.specs.Sets.{is_one_of}
 use Rattle.uri_pct.specs.Masks.{has_bit}
-use Rattle.uri_pct.proofs.TableSets.Masks.{percent_bit, has_no_bits, has_bit_set_low}
-use Rattle.uri_pct.proofs.TableSets.Masks.{has_bit_set_high}
-use Rattle.uri_pct.proofs.TableSets.Tables.{not_one_of, plain_bytes}
+use Rattle.uri_pct.proofs.TableSets.Masks.{has_bit_of_percent_is_bit_of_low, has_bit-zero-masks}
+use Rattle.uri_pct.proofs.TableSets.Masks.{has_bit_after_low_bit_is_set}
+use Rattle.uri_pct.proofs.TableSets.Masks.{has_bit_after_high_bit_is_set}
+use Rattle.uri_pct.proofs.TableSets.Tables.{byte_unlike_all_is_not_one_of_them}
+use Rattle.uri_pct.proofs.TableSets.Tables.{unencoded_ascii_is_below_128_and_no_percent}
 use Rattle.uri_pct.proofs.table.Table.new.Goals as goal
 use Rattle.uri_pct.proofs.table.Table.new.Goals.{then-byte-lt64, else-byte-lt64}
 
 pub loop-byte-init : goal.loop-byte-init
-loop-byte-init c = has_no_bits
+loop-byte-init c = has_bit-zero-masks
 
 pub loop-byte-preserved : goal.loop-byte-preserved
 loop-byte-preserved c = λ code.
@@ -19,11 +21,14 @@ loop-byte-preserved c = λ code.
     ≡ (has_bit c.loop-byte.low c.loop-byte.high code || eqb here code) =
     elim c.if-byte-lt64.branch [
       | then-byte-lt64 w ↦ (λ i. has_bit (w.low-is i) (w.high-is i) code)
-          ∙ has_bit_set_low c.loop-byte.low c.loop-byte.high here code w.if-byte-lt64.true
+          ∙ has_bit_after_low_bit_is_set c.loop-byte.low c.loop-byte.high here code
+          w.if-byte-lt64.true
       | else-byte-lt64 w ↦
           (λ i. has_bit (w.low-is i) (w.high-is i) code)
-          ∙ has_bit_set_high c.loop-byte.low c.loop-byte.high here code w.if-byte-lt64.false
-          (plain_bytes c.args.bytes.now c.requires c.loop-byte.byte-index 0
+          ∙ has_bit_after_high_bit_is_set c.loop-byte.low c.loop-byte.high here code
+          w.if-byte-lt64.false
+          (unencoded_ascii_is_below_128_and_no_percent c.args.bytes.now c.requires
+          c.loop-byte.byte-index 0
           c.loop-byte-test.true).0
     ] in
     step ∙ ap (λ b. b || eqb here code) (c.loop-byte.invariant code)
@@ -36,8 +41,10 @@ invariant_of-result c =
     take_all c.loop-byte.byte-index c.args.bytes.now c.loop-byte-test.false in
     record {
       lacks_percent =
-          sym (percent_bit c.loop-byte.low c.loop-byte.high) ∙ c.loop-byte.invariant 37
+          sym (has_bit_of_percent_is_bit_of_low c.loop-byte.low c.loop-byte.high)
+          ∙ c.loop-byte.invariant 37
           ∙ ap (λ bs. is_one_of bs 37) all
-          ∙ not_one_of c.args.bytes.now 37
-          (λ k d within. (plain_bytes c.args.bytes.now c.requires k d within).1);
+          ∙ byte_unlike_all_is_not_one_of_them c.args.bytes.now 37
+          (λ k d within. (unencoded_ascii_is_below_128_and_no_percent c.args.bytes.now c.requires k
+          d within).1);
     }

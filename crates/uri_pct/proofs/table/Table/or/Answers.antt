@@ -1,9 +1,10 @@
 use Rattle.std.proofs.Common.{◌∙◌, sym, ◌||◌}
 use Rattle.std.proofs.lemmas.Bool.{or_from}
 use Rattle.uri_pct.specs.Masks.{has_bit}
-use Rattle.uri_pct.proofs.TableSets.Masks.{has_bit_or, percent_bit}
+use Rattle.uri_pct.proofs.TableSets.Masks.{has_bit_of_joined_masks_is_or}
+use Rattle.uri_pct.proofs.TableSets.Masks.{has_bit_of_percent_is_bit_of_low}
 use Rattle.uri_pct.proofs.TableSets.Percent.{lacks_percent}
-use Rattle.uri_pct.proofs.TableSets.Tables.{same_set}
+use Rattle.uri_pct.proofs.TableSets.Tables.{sets_equal_by_agreement}
 use Rattle.uri_pct.proofs.table.Table.or.Goals as goal
 
 pub invariant_of-result : goal.invariant_of-result
@@ -12,7 +13,8 @@ invariant_of-result c =
     let t = c.args.other.now in
     record {
       lacks_percent =
-          sym (percent_bit _ _) ∙ has_bit_or s.low s.high t.low t.high 37
+          sym (has_bit_of_percent_is_bit_of_low _ _)
+          ∙ has_bit_of_joined_masks_is_or s.low s.high t.low t.high 37
           ∙ or_from (has_bit s.low s.high 37) (has_bit t.low t.high 37) (lacks_percent s)
           (lacks_percent t);
     }
@@ -21,5 +23,5 @@ pub returns : goal.returns
 returns c =
     let s = c.args.self in
     let t = c.args.other.now in
-    same_set _ (λ code. has_bit s.low s.high code || has_bit t.low t.high code) _ _ _
-    (has_bit_or s.low s.high t.low t.high)
+    sets_equal_by_agreement _ (λ code. has_bit s.low s.high code || has_bit t.low t.high code) _ _ _
+    (has_bit_of_joined_masks_is_or s.low s.high t.low t.high)

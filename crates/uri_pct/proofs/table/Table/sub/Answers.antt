@@ -1,9 +1,10 @@
 use Rattle.std.proofs.Common.{◌∙◌, sym, ◌&&◌, not, arith}
 use Rattle.std.proofs.lemmas.Bool.{and_left}
 use Rattle.uri_pct.specs.Masks.{has_bit}
-use Rattle.uri_pct.proofs.TableSets.Masks.{has_bit_without, percent_bit}
+use Rattle.uri_pct.proofs.TableSets.Masks.{has_bit_of_mask_difference_is_and_not}
+use Rattle.uri_pct.proofs.TableSets.Masks.{has_bit_of_percent_is_bit_of_low}
 use Rattle.uri_pct.proofs.TableSets.Percent.{lacks_percent}
-use Rattle.uri_pct.proofs.TableSets.Tables.{same_set}
+use Rattle.uri_pct.proofs.TableSets.Tables.{sets_equal_by_agreement}
 use Rattle.uri_pct.proofs.table.Table.sub.Goals as goal
 
 pub invariant_of-result : goal.invariant_of-result
@@ -12,8 +13,9 @@ invariant_of-result c =
     let t = c.args.other.now in
     record {
       lacks_percent =
-          sym (percent_bit _ _)
-          ∙ has_bit_without s.low s.high t.low t.high 37 (omega arith) (omega arith)
+          sym (has_bit_of_percent_is_bit_of_low _ _)
+          ∙ has_bit_of_mask_difference_is_and_not s.low s.high t.low t.high 37 (omega arith)
+          (omega arith)
           ∙ and_left (has_bit s.low s.high 37) (not (has_bit t.low t.high 37)) (lacks_percent s);
     }
 
@@ -21,5 +23,7 @@ pub returns : goal.returns
 returns c =
     let s = c.args.self in
     let t = c.args.other.now in
-    same_set _ (λ code. has_bit s.low s.high code && not (has_bit t.low t.high code)) _ _ _
-    (λ code. has_bit_without s.low s.high t.low t.high code (omega arith) (omega arith))
+    sets_equal_by_agreement _ (λ code. has_bit s.low s.high code && not (has_bit t.low t.high code))
+    _ _ _
+    (λ code. has_bit_of_mask_difference_is_and_not s.low s.high t.low t.high code (omega arith)
+    (omega arith))

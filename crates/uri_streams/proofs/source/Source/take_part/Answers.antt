@@ -10,7 +10,7 @@ use Rattle.std.proofs.KnownBytes.{Consumes-nil, Consumes-kept}
 use Rattle.std.proofs.BufReadLemmas.{Consumes_shown, zero_unless_positive}
 use Rattle.std.proofs.Transfers.{StopsAt-take}
 use Rattle.std.proofs.Math.Seq.{take-nil}
-use Rattle.uri_streams.proofs.Parts.{take_room}
+use Rattle.uri_streams.proofs.Parts.{take-min}
 use Rattle.uri_streams.proofs.source.Source.take_part.Goals.{then-count-eq0, else-count-eq0}
 use Rattle.uri_streams.proofs.source.Source.take_part.Goals as goal
 
@@ -45,7 +45,7 @@ returns-clause-taken g c =
       take end.result shown,
       long,
       c.in_ok-extend_from_slice.ensures.items ∙ ap (λ l. c.args.line.now.items ++ l)
-          (take_room c.min-kept.result end.result (c.args.limit - length c.args.line.now.items)
+          (take-min c.min-kept.result end.result (c.args.limit - length c.args.line.now.items)
           shown end.ensures.bound (search rules)),
       StopsAt-take _ _ _ end.ensures.bound end.ensures.before,
       moved.0,

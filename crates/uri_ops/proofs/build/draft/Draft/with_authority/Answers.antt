@@ -1,16 +1,18 @@
 use Rattle.std.proofs.Common.{◌++◌, length, codes}
 use Rattle.std.specs.Prelude.{Some}
 use Rattle.uri_ops.specs.BuilderParts.{with_authority}
-use Rattle.uri_ops.proofs.Builders.BuilderDrafts.{adds_of, authority_draft}
+use Rattle.uri_ops.proofs.Builders.BuilderDrafts.{change-of-draft-by-appending}
+use Rattle.uri_ops.proofs.Builders.BuilderDrafts.{draft-with-authority}
 use Rattle.uri_ops.proofs.build.draft.Draft.with_authority.Goals as goal
 
 pub appended-requires : goal.appended-requires
-appended-requires c = λ e. (authority_draft c.args.self c.args.authority.now c.requires e).draft
+appended-requires c = λ e.
+    (draft-with-authority c.args.self c.args.authority.now c.requires e).draft
 
 pub returns-clause-adds : goal.returns-clause-adds
 returns-clause-adds c =
-    adds_of (with_authority c.args.authority.now) c.args.self c.appended.result
+    change-of-draft-by-appending (with_authority c.args.authority.now) c.args.self c.appended.result
     (record c.args.self.lengths { authority = Some (length c.args.authority.now) })
     (codes "//" ++ c.args.authority.now) c.appended.ensures.kept c.appended.ensures.lengths
     c.appended.ensures.text
-    (λ e. (authority_draft c.args.self c.args.authority.now c.requires e).parts)
+    (λ e. (draft-with-authority c.args.self c.args.authority.now c.requires e).parts)

@@ -1,7 +1,8 @@
 use Rattle.std.proofs.Common.{◌≡◌, ◌∙◌, false, string_bytes}
 use Rattle.uri_ops.specs.BuilderParts.{with_host}
-use Rattle.uri_ops.proofs.Builders.BuilderDrafts.{adds_from}
-use Rattle.uri_ops.proofs.Builders.BuilderGrowth.{more_draft, string_length}
+use Rattle.uri_ops.proofs.Builders.BuilderDrafts.{change-of-parts-unless-failed}
+use Rattle.uri_ops.proofs.Builders.BuilderGrowth.{draft-with-longer-authority}
+use Rattle.uri_ops.proofs.Builders.BuilderGrowth.{string_len-is-length-of-bytes}
 use Rattle.uri_ops.proofs.build.draft.Draft.with_host.Goals as goal
 
 pub invariant_of-result : goal.invariant_of-result
@@ -10,11 +11,12 @@ invariant_of-result g c =
     let kept = λ (e : c.append_host-failed.result ≡ false). c.append_host-failed.ensures.kept e in
     record {
       ok =
-          λ w. (more_draft c.args.self (g.H.AsHost.host_text c.args.host)
+          λ w. (draft-with-longer-authority c.args.self (g.H.AsHost.host_text c.args.host)
           (string_bytes c.append_host-failed.new.text) f kept c.len-old.result c.len.result
-          (c.len-old.ensures ∙ string_length c.args.self.text)
-          (c.len.ensures ∙ string_length c.append_host-failed.new.text) c.requires
-          c.grown-lengths.result c.grown-lengths.ensures
+          (c.len-old.ensures ∙ string_len-is-length-of-bytes c.args.self.text)
+          (c.len.ensures ∙ string_len-is-length-of-bytes c.append_host-failed.new.text) c.requires
+          c.lengths_with_longer_authority-lengths.result
+          c.lengths_with_longer_authority-lengths.ensures
           c.append_host-failed.ensures.text w).draft;
     }
 
@@ -24,10 +26,12 @@ returns-clause-adds g c =
     let kept = λ (e : c.append_host-failed.result ≡ false). c.append_host-failed.ensures.kept e in
     let x = g.H.AsHost.host_text c.args.host in
     let new = string_bytes c.append_host-failed.new.text in
-    adds_from (with_host x) c.args.self.lengths c.grown-lengths.result
+    change-of-parts-unless-failed (with_host x) c.args.self.lengths
+    c.lengths_with_longer_authority-lengths.result
     (string_bytes c.args.self.text) new c.args.self.failed f kept
-    (λ w. (more_draft c.args.self x new f kept c.len-old.result c.len.result
-    (c.len-old.ensures ∙ string_length c.args.self.text)
-    (c.len.ensures ∙ string_length c.append_host-failed.new.text) c.requires
-    c.grown-lengths.result c.grown-lengths.ensures c.append_host-failed.ensures.text
+    (λ w. (draft-with-longer-authority c.args.self x new f kept c.len-old.result c.len.result
+    (c.len-old.ensures ∙ string_len-is-length-of-bytes c.args.self.text)
+    (c.len.ensures ∙ string_len-is-length-of-bytes c.append_host-failed.new.text) c.requires
+    c.lengths_with_longer_authority-lengths.result c.lengths_with_longer_authority-lengths.ensures
+    c.append_host-failed.ensures.text
     w).parts)

@@ -1,9 +1,10 @@
 use Rattle.std.proofs.Common.{refl, subst}
 use Rattle.uri_pct.specs.Sets.{ireg_name_set}
 use Rattle.uri_ops.specs.HostParts.{IsHostText}
-use Rattle.uri_ops.proofs.Builders.BuilderHosts.{name_host}
+use Rattle.uri_ops.proofs.Builders.BuilderHosts.{valid-name-is-host}
 use Rattle.uri_ops.proofs.build.host_port.EStrIRegNameWithEncoderIRegName.push_host.Goals as goal
 
 pub returns-clause-host : goal.returns-clause-host
 returns-clause-host c = subst (IsHostText ireg_name_set) c.as_str.ensures.text
-    (name_host ireg_name_set refl refl c.as_str.result.now c.as_str.utf8 c.as_str.ensures.valid)
+    (valid-name-is-host ireg_name_set refl refl c.as_str.result.now c.as_str.utf8
+    c.as_str.ensures.valid)

@@ -3,20 +3,20 @@ use Rattle.std.specs.Prelude.{codes, slice_range}
 use Rattle.std.specs.Str.{IsCharBoundary}
 use Rattle.uri_parts.specs.Components.{components, marked}
 use Rattle.uri_ops.specs.Models.Places.{before_path}
-use Rattle.uri_ops.proofs.Targeting.PlacedTexts.{query_ends, unfragmented_piece}
+use Rattle.uri_ops.proofs.Targeting.TextViews.{query-end-is-boundary, slice-before-fragment}
 use Rattle.uri_ops.proofs.resolve.text_view.TextView.before_fragment.Goals as goal
 
 pub range-requires-clause-end_boundary : goal.range-requires-clause-end_boundary
 range-requires-clause-end_boundary c =
     subst (IsCharBoundary c.as_str-text.result.now) (sym c.before_fragment.ensures)
-    (query_ends c.as_str-text.result.now c.args.self.now.positions c.as_str-text.utf8
+    (query-end-is-boundary c.as_str-text.result.now c.args.self.now.positions c.as_str-text.utf8
     c.as_str-text.ensures.at)
 
 pub returns : goal.returns
 returns c =
     c.range.ensures.value
     ∙ ap (slice_range c.as_str-text.result.now 0) c.before_fragment.ensures
-    ∙ unfragmented_piece c.as_str-text.result.now c.args.self.now.positions c.as_str-text.utf8
+    ∙ slice-before-fragment c.as_str-text.result.now c.args.self.now.positions c.as_str-text.utf8
     c.as_str-text.ensures.at
     ∙ ap (λ t. (before_path (components t) ++ (components t).path) ++ marked (codes "?")
     (components t).query []) c.as_str-text.ensures.text

@@ -1,17 +1,17 @@
 use Rattle.std.proofs.Common.{ap, ◌∙◌}
 use Rattle.uri_parts.specs.Components.{components}
 use Rattle.uri_ops.specs.Models.Places.{before_path}
-use Rattle.uri_ops.proofs.Targeting.PlacedTexts.{front_cut, front_piece}
+use Rattle.uri_ops.proofs.Targeting.TextViews.{path_start-is-boundary, slice-before-path}
 use Rattle.uri_ops.proofs.resolve.text_view.TextView.before_path.Goals as goal
 
 pub range-requires-clause-end_boundary : goal.range-requires-clause-end_boundary
 range-requires-clause-end_boundary c =
-    front_cut c.as_str-text.result.now c.args.self.now.positions c.as_str-text.utf8
+    path_start-is-boundary c.as_str-text.result.now c.args.self.now.positions c.as_str-text.utf8
     c.as_str-text.ensures.at
 
 pub returns : goal.returns
 returns c =
     c.range.ensures.value
-    ∙ front_piece c.as_str-text.result.now c.args.self.now.positions c.as_str-text.utf8
+    ∙ slice-before-path c.as_str-text.result.now c.args.self.now.positions c.as_str-text.utf8
     c.as_str-text.ensures.at
     ∙ ap (λ t. before_path (components t)) c.as_str-text.ensures.text

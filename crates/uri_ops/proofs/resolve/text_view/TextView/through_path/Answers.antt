@@ -1,16 +1,16 @@
 use Rattle.std.proofs.Common.{ap, ◌++◌, ◌∙◌}
 use Rattle.uri_parts.specs.Components.{components}
 use Rattle.uri_ops.specs.Models.Places.{before_path}
-use Rattle.uri_ops.proofs.Targeting.PlacedTexts.{path_piece, query_starts}
+use Rattle.uri_ops.proofs.Targeting.TextViews.{slice-through-path, path_end-is-boundary}
 use Rattle.uri_ops.proofs.resolve.text_view.TextView.through_path.Goals as goal
 
 pub range-requires-clause-end_boundary : goal.range-requires-clause-end_boundary
-range-requires-clause-end_boundary c = query_starts c.as_str-text.result.now
+range-requires-clause-end_boundary c = path_end-is-boundary c.as_str-text.result.now
     c.args.self.now.positions c.as_str-text.utf8 c.as_str-text.ensures.at
 
 pub returns : goal.returns
 returns c =
     c.range.ensures.value
-    ∙ path_piece c.as_str-text.result.now c.args.self.now.positions c.as_str-text.utf8
+    ∙ slice-through-path c.as_str-text.result.now c.args.self.now.positions c.as_str-text.utf8
     c.as_str-text.ensures.at
     ∙ ap (λ t. before_path (components t) ++ (components t).path) c.as_str-text.ensures.text

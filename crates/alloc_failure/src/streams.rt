@@ -1,0 +1,118 @@
+//! `run` of `uri_streams`: if an allocation fails it says so, and wrote a prefix of its output;
+//! else
+//! it writes what it always does.
+use crate::awaits::ExpectedOutput;
+use crate::requests::{end, report};
+use crate::values::holds;
+use fluent_uri::Uri;
+use std::alloc::Global;
+use std::hash::RandomState;
+use std::io::BufReader;
+use std::process::Abort;
+use uri_streams::command::{Base, Command, KindName, LineCommand};
+use uri_streams::failure::Failure;
+use uri_streams::job::{Field, Job, OnError};
+use uri_streams::run::{Unwatched, run};
+use uri_streams::sink::Sink;
+use uri_streams::source::Source;
+
+/// Returns whether the command writes this text for the input. If not, checks that `run` reports
+/// the failed allocation, and wrote a prefix of the text.
+fn writes<R: Abort + Print>(rt: &R, alloc: Global, job: &Job<'_>, input: &str, text: &str) -> bool {
+    let Ok(reader) = BufReader::with_capacity(alloc, 16, input.as_bytes()) else {
+        report(rt, "a reader");
+        return false;
+    };
+    let mut out = Sink::new(ExpectedOutput::new(text));
+    let mut err = Sink::new(ExpectedOutput::new(""));
+    let mut reader = Source::new(reader);
+    match run(alloc, job, &mut reader, &mut out, &mut err, &mut Unwatched) {
+        Ok(_) => {
+            holds(rt, out.into_inner().lacks(""), text);
+            true
+        }
+        Err(failure) => {
+            holds(rt, matches!(failure, Failure::OutOfMemory), "a failure");
+            report(rt, "run");
+            holds(rt, out.into_inner().got_prefix(), text);
+            false
+        }
+    }
+}
+
+fn written<R: Abort + Print>(rt: &R, alloc: Global, command: Command<'_>, input: &str, text: &str) {
+    let job = Job {
+        command,
+        field: Some(Field {
+            before: 1,
+            delimiter: b' ',
+        }),
+        is_null: false,
+        max_line: 40,
+        errors: OnError::Line,
+    };
+    if !writes(rt, alloc, &job, input, text) {
+        holds(
+            rt,
+            writes(rt, alloc, &job, input, text),
+            "the output, with memory",
+        );
+    }
+    end(rt, alloc);
+}
+
+#[test]
+fn normalized_lines(rt: HostRuntime) {
+    let command = Command::Each(LineCommand::Normalize(KindName::Uri));
+    // The third line does not fit into the buffer.
+    let input = "a S:%7e b\n\nc s:0123456789012345 d\n";
+    let text = "a s:~ b\nerror: no field 2\nc s:0123456789012345 d\n";
+    written(&rt, rt.alloc(), command, input, text);
+}
+
+#[test]
+fn resolved_lines(rt: HostRuntime) {
+    let base = Uri::<&str>::parse("s:/a").expect(&rt, "base");
+    let command = Command::Each(LineCommand::Resolve(Base::Uri(base)));
+    written(&rt, rt.alloc(), command, "a b\na c\n", "a s:/b\na s:/c\n");
+}
+
+#[test]
+fn parsed_lines(rt: HostRuntime) {
+    let command = Command::Each(LineCommand::Parse(KindName::IriRef));
+    let text = "a {\"path\":\"b\",\"query\":\"c\"}\n";
+    written(&rt, rt.alloc(), command, "a b?c\n", text);
+}
+
+#[test]
+fn queried_lines(rt: HostRuntime) {
+    let command = Command::Each(LineCommand::Query(KindName::IriRef));
+    let text = "a [[\"b\",\"\\\"\"],[\"c\",\"\"]]\n";
+    written(&rt, rt.alloc(), command, "a ?b=%22&c\n", text);
+}
+
+#[test]
+fn checked_lines(rt: HostRuntime) {
+    let command = Command::Each(LineCommand::Check(KindName::Uri, true));
+    written(&rt, rt.alloc(), command, "a s:\na b\n", "a b\n");
+}
+
+#[test]
+fn unique_lines(rt: HostRuntime) {
+    let hasher = RandomState::new(&rt).expect(&rt, "random numbers");
+    let command = Command::Unique(KindName::Uri, hasher);
+    written(
+        &rt,
+        rt.alloc(),
+        command,
+        "a s:a\nb S:a\nc s:b\n",
+        "a s:a\nc s:b\n",
+    );
+}
+
+#[test]
+fn noted_lines(rt: HostRuntime) {
+    let base = Uri::<&str>::parse("s:/a").expect(&rt, "base");
+    let text = "a new 0 s:/b\na known 0 s:/b\n";
+    written(&rt, rt.alloc(), Command::Links(base), "a b\na %62\n", text);
+}

@@ -1,0 +1,32 @@
+//! Values that tests take, and what they compare them with.
+use fluent_uri::Reference;
+use fluent_uri::pct_enc::EStr;
+use fluent_uri::pct_enc::encoder::Encoder;
+use std::process::Abort;
+use test_support::equal;
+use uri_parts::kind::Kind;
+
+/// Parses a text of a kind.
+pub fn parsed<'a, R: Abort, K: Kind>(rt: &R, text: &'a str) -> Reference<K, &'a str> {
+    Reference::<K, &str>::parse(text).expect(rt, text)
+}
+
+/// Makes an encoded text.
+pub fn encoded<'a, R: Abort, E: Encoder>(rt: &R, text: &'a str) -> EStr<'a, E> {
+    EStr::new(text).expect(rt, text)
+}
+
+/// Compares two texts.
+pub fn is_text<R: Abort>(rt: &R, got: &str, wanted: &str) {
+    equal(got, wanted).expect(rt, wanted);
+}
+
+/// Compares an encoded text that must be present.
+pub fn is_encoded<R: Abort, E: Encoder>(rt: &R, got: Option<EStr<'_, E>>, wanted: &str) {
+    is_text(rt, got.expect(rt, wanted).as_str(), wanted);
+}
+
+/// Ends the test unless this holds.
+pub fn holds<R: Abort>(rt: &R, is_so: bool, what: &str) {
+    equal(is_so, true).expect(rt, what);
+}

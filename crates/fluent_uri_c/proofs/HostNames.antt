@@ -1,0 +1,43 @@
+-- A host that begins with neither a digit nor a `[` is a name.
+use Rattle.std.proofs.Common.{◌≡◌, ℕ, ◌<◌, ◌≤◌, ◌==◌, Bool, true, false, not, List, [], ◌∷◌}
+use Rattle.std.proofs.Common.{length, refl, arith, ⊎_elim, le-leb, lit≤}
+use Rattle.std.specs.Prelude.{None, IsTrue, slice_index}
+use Rattle.std.specs.Char.{digit_value, is_ascii_digit}
+use Rattle.std.specs.Int.{IsInRange}
+use Rattle.std.specs.Net.Reader.{read_ipv4, read_octet}
+use Rattle.std.proofs.NetLemmas.Numbers.{NoDigit, read_number_empty}
+use Rattle.std.proofs.lemmas.Bool.{and_from, both_ways, cases_lt, false≢true}
+use Rattle.std.proofs.lemmas.Str.Parse.{digit_from_value}
+use Rattle.uri_parts.specs.Hosts.{RegName, host_kind, ipv4_value}
+
+-- exports for C: a host that begins with no digit is no IPv4 address
+no_ipv4 : (host : List ℕ) → NoDigit 10 host → ipv4_value host ≡ None
+unfolding ipv4_value read_ipv4 read_octet
+no_ipv4 host h = rw (read_number_empty 10 255 host h)
+
+-- exports for C: a byte that is no ASCII digit has no value below 10
+no_digit : (c : ℕ) → is_ascii_digit c ≡ false → 10 ≤ digit_value c
+no_digit c e = ⊎_elim
+    (λ (small : digit_value c < 10). let digit : IsInRange 48 57 c = digit_from_value c small in
+    absurd (both_ways _ e (and_from _ _ (le-leb 48 c digit.0) (le-leb c 57 digit.1))))
+    (λ (large : 10 ≤ digit_value c). large)
+    (cases_lt (digit_value c) 10)
+
+-- general fact on booleans, for the C exports' test of a host
+is_not : (b : Bool) → IsTrue (not b) → b ≡ false
+is_not true h = absurd (false≢true h)
+is_not false h = refl
+
+-- exports for C: an empty host is a registered name
+pub empty_is_name : (host : List ℕ) → length host < 1 → host_kind host ≡ RegName
+unfolding host_kind
+empty_is_name [] h = rw (no_ipv4 [] (lit≤ tt))
+empty_is_name (c ∷ rest) h = absurd (omega arith)
+
+-- exports for C: a host that begins with neither a digit nor `[` (91) is a registered name
+pub begins_as_name : (host : List ℕ) → is_ascii_digit (slice_index host 0) ≡ false
+    → IsTrue (not (slice_index host 0 == 91)) → host_kind host ≡ RegName
+unfolding host_kind
+begins_as_name [] digit bracket = rw (no_ipv4 [] (lit≤ tt))
+begins_as_name (c ∷ rest) digit bracket =
+    rw (is_not _ bracket, no_ipv4 (c ∷ rest) (no_digit c digit))

@@ -1,0 +1,66 @@
+//! Normalisers and resolvers, with and without settings.
+#![tactic(auto)]
+
+use fluent_uri::normalize::{DefaultPort, NormalizeError, Normalizer};
+use fluent_uri::resolve::{ResolveError, Resolver};
+use fluent_uri::{Uri, UriRef};
+use std::alloc::Global;
+
+/// Returns the normal form of a URI.
+pub fn normal_form(alloc: Global, uri: &Uri<&str>) -> Result<Uri<String>, NormalizeError> {
+    let normalizer = Normalizer::new();
+    normalizer.normalize(alloc, uri)
+}
+
+/// Returns the normal form of a URI, if its dot segments do not underflow.
+pub fn normal_form_without_underflow(
+    alloc: Global,
+    uri: &Uri<&str>,
+) -> Result<Uri<String>, NormalizeError> {
+    let normalizer = Normalizer::new().allow_path_underflow(false);
+    normalizer.normalize(alloc, uri)
+}
+
+/// Returns the normal form of a URI under the default ports of a caller.
+pub fn normal_form_under<P: DefaultPort + Drop>(
+    alloc: Global,
+    uri: &Uri<&str>,
+    ports: P,
+) -> Result<Uri<String>, NormalizeError> {
+    let normalizer = Normalizer::new().default_port_with(ports);
+    normalizer.normalize(alloc, uri)
+}
+
+/// Returns the targets of two references against one base.
+pub fn both_targets(
+    alloc: Global,
+    base: Uri<&str>,
+    first: &UriRef<&str>,
+    second: &UriRef<&str>,
+) -> Result<(Uri<String>, Uri<String>), ResolveError> {
+    let resolver = Resolver::with_base(base);
+    Ok((
+        resolver.resolve(alloc, first)?,
+        resolver.resolve(alloc, second)?,
+    ))
+}
+
+/// Returns the target of a reference, if its dot segments do not underflow.
+pub fn target_without_underflow(
+    alloc: Global,
+    base: Uri<&str>,
+    reference: &UriRef<&str>,
+) -> Result<Uri<String>, ResolveError> {
+    let resolver = Resolver::with_base(base).allow_path_underflow(false);
+    resolver.resolve(alloc, reference)
+}
+
+/// Returns the normal form of the target of a reference.
+pub fn normal_target(
+    alloc: Global,
+    base: Uri<&str>,
+    reference: &UriRef<&str>,
+) -> Result<Uri<String>, ResolveError> {
+    let resolver = Resolver::with_base(base);
+    resolver.resolve_normalized(alloc, reference, &Normalizer::new())
+}

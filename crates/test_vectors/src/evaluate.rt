@@ -1,0 +1,227 @@
+//! The result of what a row asks.
+
+use crate::fields::{Fields, RowError, Words};
+use crate::operation::{Kind, Operation, PairOperation, SubstringOperation, ValueOperation};
+use crate::{conversions, encoded, references};
+use fluent_uri::component::Scheme;
+use fluent_uri::net::{IpAddr, Ipv4Addr, Ipv6Addr};
+use std::alloc::Global;
+use std::hash::{DefaultHasher, Hash, Hasher};
+use uri_parts::kind::{self, IriKind, IriRefKind, UriKind, UriRefKind};
+
+/// Returns the words of the result.
+pub(crate) fn evaluate(alloc: Global, asked: &str) -> Result<Words, RowError> {
+    let mut fields = Fields::new(alloc, asked);
+    let mut words = Words::new(alloc);
+    let operation = Operation::named(fields.word()?)?;
+    say(alloc, operation, &mut fields, &mut words)?;
+    if fields.is_at_end() {
+        Ok(words)
+    } else {
+        Err(RowError::FieldLeft)
+    }
+}
+
+/// Says the result of an operation.
+fn say(
+    alloc: Global,
+    operation: Operation,
+    fields: &mut Fields<'_>,
+    words: &mut Words,
+) -> Result<(), RowError> {
+    match operation {
+        Operation::ValueOperation(ask) => evaluate_value(alloc, ask, fields, words),
+        Operation::PairOperation(ask) => evaluate_pair(alloc, ask, fields, words),
+        Operation::PathOperation(ask) => encoded::say_decoded_path(
+            alloc,
+            ask,
+            fields.text()?.as_str(),
+            words,
+        ),
+        Operation::SubstringOperation(ask) => say_substrings(ask, fields, words),
+        Operation::IsValid => is_valid(fields, words),
+        Operation::Encode => encode(alloc, fields, words),
+        Operation::EncodeBytes => encode_bytes(alloc, fields, words),
+        Operation::Scheme => say_scheme(fields.text()?.as_str(), words),
+        Operation::SameScheme => same_scheme(fields, words),
+        Operation::DefaultPort => default_port(alloc, fields.text()?.as_str(), words),
+        Operation::Table => encoded::table(alloc, fields.word()?, words),
+        Operation::PrintIpv4 => print_ipv4(alloc, fields, words),
+        Operation::PrintIpv6 => print_ipv6(alloc, fields, words),
+    }
+}
+
+fn evaluate_value(
+    alloc: Global,
+    ask: ValueOperation,
+    fields: &mut Fields<'_>,
+    words: &mut Words,
+) -> Result<(), RowError> {
+    let kind = Kind::named(fields.word()?)?;
+    let text = fields.text()?;
+    match ask {
+        ValueOperation::Convert(to) => conversions::convert(alloc, kind, to, text.as_str(), words),
+        ValueOperation::ToUri => conversions::to_uri(alloc, kind, text.as_str(), words),
+        _ => match kind {
+            Kind::Uri => of_kind::<UriKind>(alloc, ask, text.as_str(), fields, words),
+            Kind::UriRef => of_kind::<UriRefKind>(alloc, ask, text.as_str(), fields, words),
+            Kind::Iri => of_kind::<IriKind>(alloc, ask, text.as_str(), fields, words),
+            Kind::IriRef => of_kind::<IriRefKind>(alloc, ask, text.as_str(), fields, words),
+        },
+    }
+}
+
+fn of_kind<K: kind::Kind>(
+    alloc: Global,
+    ask: ValueOperation,
+    text: &str,
+    fields: &mut Fields<'_>,
+    words: &mut Words,
+) -> Result<(), RowError> {
+    match ask {
+        ValueOperation::Error => references::error::<K>(alloc, text, words),
+        ValueOperation::StripFragment => conversions::strip_fragment::<K>(alloc, text, words),
+        ValueOperation::WithFragment => {
+            conversions::with_fragment::<K>(alloc, text, fields.text()?.as_str(), words)
+        }
+        _ => references::evaluate::<K>(alloc, ask, text, fields, words),
+    }
+}
+
+fn evaluate_pair(
+    alloc: Global,
+    ask: PairOperation,
+    fields: &mut Fields<'_>,
+    words: &mut Words,
+) -> Result<(), RowError> {
+    let kind = Kind::named(fields.word()?)?;
+    let (base, reference) = (fields.text()?, fields.text()?);
+    of_bases(alloc, ask, kind, (base.as_str(), reference.as_str()), words)
+}
+
+fn of_bases(
+    alloc: Global,
+    ask: PairOperation,
+    kind: Kind,
+    (base, reference): (&str, &str),
+    words: &mut Words,
+) -> Result<(), RowError> {
+    match (ask, kind) {
+        (PairOperation::Resolve(way), Kind::Uri) => {
+            references::resolve::<UriRefKind>(alloc, way, base, reference, words)
+        }
+        (PairOperation::Resolve(way), Kind::Iri) => {
+            references::resolve::<IriRefKind>(alloc, way, base, reference, words)
+        }
+        (PairOperation::Swap, Kind::Uri) => {
+            references::swap::<UriRefKind>(alloc, base, reference, words)
+        }
+        (PairOperation::Swap, Kind::Iri) => {
+            references::swap::<IriRefKind>(alloc, base, reference, words)
+        }
+        (PairOperation::SwapAsUris, Kind::Iri) => {
+            references::swap_as_uris(alloc, base, reference, words)
+        }
+        _ => Err(RowError::NotABase),
+    }
+}
+
+fn say_substrings(
+    ask: SubstringOperation,
+    fields: &mut Fields<'_>,
+    words: &mut Words,
+) -> Result<(), RowError> {
+    let (text, delimiter) = (fields.text()?, fields.word()?);
+    encoded::say_substrings(ask, text.as_str(), delimiter, words)
+}
+
+fn is_valid(fields: &mut Fields<'_>, words: &mut Words) -> Result<(), RowError> {
+    let (encoder, text) = (fields.word()?, fields.text()?);
+    let is_valid = encoded::is_valid(encoder, text.as_str())?;
+    Ok(words.verbatim(if is_valid { "yes" } else { "no" })?)
+}
+
+fn encode(alloc: Global, fields: &mut Fields<'_>, words: &mut Words) -> Result<(), RowError> {
+    let (encoder, text) = (fields.word()?, fields.text()?);
+    encoded::encode(alloc, encoder, text.as_str().as_bytes(), true, words)
+}
+
+fn encode_bytes(alloc: Global, fields: &mut Fields<'_>, words: &mut Words) -> Result<(), RowError> {
+    let (encoder, bytes) = (fields.word()?, fields.bytes()?);
+    encoded::encode(alloc, encoder, bytes.as_slice(), false, words)
+}
+
+fn say_scheme(text: &str, words: &mut Words) -> Result<(), RowError> {
+    Ok(match Scheme::new(text) {
+        Some(scheme) => words.text(scheme.as_str())?,
+        None => words.verbatim("none")?,
+    })
+}
+
+fn scheme(text: &str) -> Result<Scheme<'_>, RowError> {
+    Scheme::new(text).ok_or(RowError::NotAScheme)
+}
+
+fn hash_of(scheme: Scheme<'_>) -> u64 {
+    let mut state = DefaultHasher::new();
+    scheme.hash(&mut state);
+    state.finish()
+}
+
+fn same_scheme(fields: &mut Fields<'_>, words: &mut Words) -> Result<(), RowError> {
+    let (first, second) = (fields.text()?, fields.text()?);
+    compare_schemes(scheme(first.as_str())?, scheme(second.as_str())?, words)
+}
+
+fn compare_schemes(
+    first: Scheme<'_>,
+    second: Scheme<'_>,
+    words: &mut Words,
+) -> Result<(), RowError> {
+    let is_equal = first == second;
+    words.verbatim(if is_equal { "equal" } else { "different" })?;
+    let has_equal_hash = hash_of(first) == hash_of(second);
+    Ok(words.unless(has_equal_hash == is_equal, "by another hash")?)
+}
+
+fn default_port(alloc: Global, text: &str, words: &mut Words) -> Result<(), RowError> {
+    let port = scheme(text)?.default_port();
+    match port {
+        Some(port) => words.verbatim(format!(in alloc; "{port}")?.as_str())?,
+        None => words.verbatim("none")?,
+    }
+    let capitals = text.to_ascii_uppercase(alloc)?;
+    let is_same = scheme(capitals.as_str())?.default_port() == port;
+    Ok(words.unless(is_same, "but not in capitals")?)
+}
+
+/// Says what an `IpAddr` prints.
+fn say_address(alloc: Global, address: IpAddr, words: &mut Words) -> Result<(), RowError> {
+    Ok(words.unless_said("either", format!(in alloc; "{address}")?.as_str())?)
+}
+
+fn octet(fields: &mut Fields<'_>) -> Result<u8, RowError> {
+    match u8::try_from(fields.number()?) {
+        Ok(octet) => Ok(octet),
+        Err(_) => Err(RowError::OverAnOctet),
+    }
+}
+
+fn print_ipv4(alloc: Global, fields: &mut Fields<'_>, words: &mut Words) -> Result<(), RowError> {
+    let (a, b) = (octet(fields)?, octet(fields)?);
+    let (c, d) = (octet(fields)?, octet(fields)?);
+    let address = Ipv4Addr::new(a, b, c, d);
+    words.text(format!(in alloc; "{address}")?.as_str())?;
+    say_address(alloc, IpAddr::V4(address), words)
+}
+
+fn print_ipv6(alloc: Global, fields: &mut Fields<'_>, words: &mut Words) -> Result<(), RowError> {
+    let mut numbers = [0u16; 8];
+    for number in &mut numbers {
+        *number = fields.hexadecimal()?;
+    }
+    let [a, b, c, d, e, f, g, h] = numbers;
+    let address = Ipv6Addr::new(a, b, c, d, e, f, g, h);
+    words.text(format!(in alloc; "{address}")?.as_str())?;
+    say_address(alloc, IpAddr::V6(address), words)
+}

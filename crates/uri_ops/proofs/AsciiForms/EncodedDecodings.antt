@@ -1,0 +1,148 @@
+-- If a text is allowed, so is its form without characters past ASCII, and both decode to the same.
+use Rattle.std.proofs.Common.{◌≡◌, ℕ, true, List, [], ◌∷◌, ◌++◌, map, refl, sym, ap, ◌∙◌, ⊎_elim}
+use Rattle.std.proofs.Common.{append_assoc}
+use Rattle.std.specs.Char.{IsScalar, encode_utf8}
+use Rattle.std.specs.List.{list_all, flat_map}
+use Rattle.std.proofs.lemmas.List.{append-nil}
+use Rattle.std.proofs.lemmas.List.Concat.{flat_map-append}
+use Rattle.std.proofs.lemmas.List.Folds.{list_all-append}
+use Rattle.std.proofs.lemmas.Bool.{cases_lt, cond-true, cond-false, and_parts, and_from, or_right}
+use Rattle.std.proofs.lemmas.Bool.{lt-ltb, le-ltb}
+use Rattle.uri_pct.specs.Sets.{TableSet, allows, allows_past_ascii}
+use Rattle.uri_pct.specs.Tokens.{Token, Char, Octet, tokens, allows_token, is_valid_for}
+use Rattle.uri_pct.specs.Pieces.{WellFormed, utf8_pieces}
+use Rattle.uri_pct.specs.DecodeUnreserved.{is_decodable, decode_piece, decode_run, decode_after_run}
+use Rattle.uri_pct.specs.DecodeUnreserved.{decode_tokens}
+use Rattle.uri_pct.specs.DecodeUnreserved.{encode_formatting, decode_unreserved}
+use Rattle.uri_pct.proofs.ValidTexts.Validity.{ascii_char_is_allowed_iff_in_set}
+use Rattle.uri_pct.proofs.ValidTexts.Validity.{char_past_ascii_is_allowed_by_flags}
+use Rattle.uri_pct.proofs.ValidTexts.Allowed.{allowed_past_ascii_is_scalar}
+use Rattle.uri_pct.proofs.Unicode.CharacterPieces.{char_separates_utf8_pieces}
+use Rattle.uri_pct.proofs.Unicode.CharacterPieces.{char_of_utf8_is_the_char}
+use Rattle.uri_ops.specs.Encoded.{encode_past_ascii, ascii_set}
+use Rattle.uri_ops.proofs.Meanings.AllowedParts.{is_set_text, set-text-from-utf8, set-text-is-utf8}
+use Rattle.uri_ops.proofs.Meanings.AllowedParts.{set-text-is-valid}
+use Rattle.uri_ops.proofs.AsciiForms.EncodedTokens.{encoded_token, tokens-of-encoded-text}
+use Rattle.uri_ops.proofs.AsciiForms.EncodedTokens.{encoded-text-is-utf8}
+
+module _ (set : TableSet) (octets : set.pct_encoded ≡ true) where
+  ascii_set-allows-octets : (bytes : List ℕ)
+      → list_all (allows_token (ascii_set set)) (map Octet bytes) ≡ true
+  ascii_set-allows-octets [] = refl
+  ascii_set-allows-octets (b ∷ bytes) = and_from _ _ octets (ascii_set-allows-octets bytes)
+
+  ascii_set-allows-encoded-tokens : (ts : List Token) → list_all (allows_token set) ts ≡ true
+      → list_all (allows_token (ascii_set set)) (flat_map encoded_token ts) ≡ true
+  ascii_set-allows-encoded-tokens [] e = refl
+  ascii_set-allows-encoded-tokens (Octet value ∷ ts) e =
+      let p = and_parts set.pct_encoded (list_all (allows_token set) ts) e in
+      and_from _ _ octets (ascii_set-allows-encoded-tokens ts p.1)
+  ascii_set-allows-encoded-tokens (Char c ∷ ts) e =
+      let p = and_parts (allows set c) (list_all (allows_token set) ts) e in
+      list_all-append (allows_token (ascii_set set)) (encoded_token (Char c))
+      (flat_map encoded_token ts)
+      ∙ and_from _ _ (⊎_elim
+      (λ h.
+      ap (list_all (allows_token (ascii_set set))) (cond-true _ _ _ (lt-ltb c 128 h))
+      ∙ and_from _ true (ascii_char_is_allowed_iff_in_set (ascii_set set) c h
+      ∙ sym (ascii_char_is_allowed_iff_in_set set c h) ∙ p.0) refl)
+      (λ h. ap (list_all (allows_token (ascii_set set))) (cond-false _ _ _ (le-ltb c 128 h))
+      ∙ ascii_set-allows-octets (encode_utf8 c))
+      (cases_lt c 128)) (ascii_set-allows-encoded-tokens ts p.1)
+
+  pub encoded-part-is-valid-for-ascii_set : (text : List ℕ) → is_set_text set text ≡ true
+      → is_set_text (ascii_set set) (encode_past_ascii text) ≡ true
+  unfolding is_valid_for
+  encoded-part-is-valid-for-ascii_set text e =
+      let u = set-text-is-utf8 set text e in
+      set-text-from-utf8 (ascii_set set) (encode_past_ascii text) (encoded-text-is-utf8 text u)
+      (ap (list_all (allows_token (ascii_set set))) (tokens-of-encoded-text text u)
+      ∙ ascii_set-allows-encoded-tokens (tokens text) (set-text-is-valid set text e))
+
+module _ (set : TableSet) where
+  decode_after_run-takes-octets-into-run : (run bytes : List ℕ) (ts : List Token)
+      → decode_after_run set run (map Octet bytes ++ ts) ≡ decode_after_run set (run ++ bytes) ts
+  unfolding decode_after_run
+  decode_after_run-takes-octets-into-run run [] ts = ap (λ r. decode_after_run set r ts)
+      (sym (append-nil run))
+  decode_after_run-takes-octets-into-run run (b ∷ bytes) ts = decode_after_run-takes-octets-into-run
+      (run ++ b ∷ []) bytes ts
+      ∙ ap (λ r. decode_after_run set r ts) (append_assoc run (b ∷ []) bytes)
+
+  decode_piece-of-decodable-character : (c : ℕ) → IsScalar c → is_decodable set c ≡ true
+      → decode_piece set (WellFormed (encode_utf8 c)) ≡ Char c ∷ []
+  decode_piece-of-decodable-character c s e = cond-true _ _ _
+      (ap (is_decodable set) (char_of_utf8_is_the_char c s) ∙ e)
+      ∙ ap (λ d. Char d ∷ []) (char_of_utf8_is_the_char c s)
+
+  decode_run-splits-at-character : (run more : List ℕ) (c : ℕ) → IsScalar c
+      → is_decodable set c ≡ true
+      → decode_run set (run ++ (encode_utf8 c ++ more))
+      ≡ decode_run set run ++ Char c ∷ decode_run set more
+  unfolding decode_run
+  decode_run-splits-at-character run more c s e =
+      ap (flat_map (decode_piece set)) (char_separates_utf8_pieces run c more s)
+      ∙ flat_map-append (decode_piece set) (utf8_pieces run)
+      (WellFormed (encode_utf8 c) ∷ utf8_pieces more)
+      ∙ ap (λ t. flat_map (decode_piece set) (utf8_pieces run)
+      ++ (t ++ flat_map (decode_piece set) (utf8_pieces more)))
+      (decode_piece-of-decodable-character c s e)
+
+  -- the octets of a character separate the decoding as the character does
+  decode_after_run-splits-at-character : (run more : List ℕ) (c : ℕ) (ts : List Token) → IsScalar c
+      → is_decodable set c ≡ true
+      → decode_after_run set (run ++ (encode_utf8 c ++ more)) ts
+      ≡ decode_run set run ++ Char c ∷ decode_after_run set more ts
+  unfolding decode_after_run
+  decode_after_run-splits-at-character run more c [] s e = decode_run-splits-at-character
+      run more c s e
+  decode_after_run-splits-at-character run more c (Octet value ∷ ts) s e =
+      ap (λ r. decode_after_run set r ts) (append_assoc run (encode_utf8 c ++ more) (value ∷ [])
+      ∙ ap (λ t. run ++ t) (append_assoc (encode_utf8 c) more (value ∷ [])))
+      ∙ decode_after_run-splits-at-character run (more ++ value ∷ []) c ts s e
+  decode_after_run-splits-at-character run more c (Char d ∷ ts) s e =
+      ap (λ t. t ++ Char d ∷ decode_after_run set [] ts)
+      (decode_run-splits-at-character run more c s e)
+      ∙ append_assoc (decode_run set run) (Char c ∷ decode_run set more) (Char d
+      ∷ decode_after_run set [] ts)
+
+  allowed-past-ascii-is-decodable : (c : ℕ) → allows_past_ascii set c ≡ true
+      → is_decodable set c ≡ true
+  unfolding is_decodable
+  allowed-past-ascii-is-decodable c e = or_right _ _ e
+
+  decode_after_run-of-encoded-tokens : (run : List ℕ) (ts : List Token)
+      → list_all (allows_token set) ts
+      ≡ true
+      → decode_after_run set run (flat_map encoded_token ts) ≡ decode_after_run set run ts
+  unfolding decode_after_run
+  decode_after_run-of-encoded-tokens run [] e = refl
+  decode_after_run-of-encoded-tokens run (Octet value ∷ ts) e =
+      decode_after_run-of-encoded-tokens (run ++ value ∷ []) ts
+      (and_parts set.pct_encoded (list_all (allows_token set) ts) e).1
+  decode_after_run-of-encoded-tokens run (Char c ∷ ts) e =
+      let p = and_parts (allows set c) (list_all (allows_token set) ts) e in
+      let rest = decode_after_run-of-encoded-tokens [] ts p.1 in
+      ⊎_elim
+      (λ h. ap (λ t. decode_after_run set run (t ++ flat_map encoded_token ts))
+      (cond-true _ _ _ (lt-ltb c 128 h)) ∙ ap (λ t. decode_run set run ++ Char c ∷ t) rest)
+      (λ h.
+      let past = sym (char_past_ascii_is_allowed_by_flags set c h) ∙ p.0 in
+      ap (λ t. decode_after_run set run (t ++ flat_map encoded_token ts))
+      (cond-false _ _ _ (le-ltb c 128 h))
+      ∙ decode_after_run-takes-octets-into-run run (encode_utf8 c) (flat_map encoded_token ts)
+      ∙ ap (λ r. decode_after_run set (run ++ r) (flat_map encoded_token ts))
+      (sym (append-nil (encode_utf8 c)))
+      ∙ decode_after_run-splits-at-character run [] c (flat_map encoded_token ts)
+      (allowed_past_ascii_is_scalar set c past).1
+      (allowed-past-ascii-is-decodable c past)
+      ∙ ap (λ t. decode_run set run ++ Char c ∷ t) rest)
+      (cases_lt c 128)
+
+  pub decode_unreserved-of-encoded-text : (text : List ℕ) → is_set_text set text ≡ true
+      → decode_unreserved set (encode_past_ascii text) ≡ decode_unreserved set text
+  unfolding is_valid_for
+  decode_unreserved-of-encoded-text text e =
+      ap (encode_formatting set) (ap (decode_tokens set)
+      (tokens-of-encoded-text text (set-text-is-utf8 set text e))
+      ∙ decode_after_run-of-encoded-tokens [] (tokens text) (set-text-is-valid set text e))

@@ -1,0 +1,217 @@
+-- Decoding of characters, and of an octet, at the start of a text.
+use Rattle.std.proofs.Common.{◌≡◌, ℕ, ◌+◌, ◌*◌, ◌/◌, ◌%◌, ◌<◌, Bool, true}
+use Rattle.std.proofs.Common.{false, cond, eqb, ltb, not, List, [], ◌∷◌, ◌++◌, take}
+use Rattle.std.proofs.Common.{drop, map, refl, sym, ap, subst, ◌∙◌, arith, ◌&&◌}
+use Rattle.std.proofs.Common.{◌||◌, ⊎_elim, append_assoc}
+use Rattle.std.specs.List.{flat_map}
+use Rattle.std.specs.Char.{encode_utf8, digit_value, is_ascii_hexdigit}
+use Rattle.std.specs.Char.{IsScalar}
+use Rattle.std.specs.Fmt.{digit_glyph}
+use Rattle.std.proofs.Math.Bool.{or-false}
+use Rattle.std.proofs.Math.Utf8.{low_scalar}
+use Rattle.std.proofs.lemmas.Bool.{agree_below_at, cases_Bool, cond-false, and_parts}
+use Rattle.std.proofs.lemmas.Bool.{or_cases, eqb-true}
+use Rattle.std.proofs.lemmas.Bool.{ltb-true, false_from_ne_true}
+use Rattle.std.proofs.lemmas.List.{append-nil}
+use Rattle.std.proofs.lemmas.Str.{encode_ascii}
+use Rattle.uri_pct.specs.Parts.{Decoded}
+use Rattle.uri_pct.specs.Pieces.{WellFormed, utf8_pieces}
+use Rattle.uri_pct.specs.DecodeUnreserved.{LacksPastAscii, is_decodable, decode_octet, decode_piece}
+use Rattle.uri_pct.specs.DecodeUnreserved.{decode_run}
+use Rattle.uri_pct.specs.DecodeUnreserved.{decode_after_run, decode_tokens}
+use Rattle.uri_pct.specs.Sets.{TableSet, allows_past_ascii, is_unreserved}
+use Rattle.uri_pct.specs.Tokens.{Token, Char, Octet, tokens, text_of_token, print}
+use Rattle.uri_pct.proofs.Decodings.Decoding.{BeginsWithOctet}
+use Rattle.uri_pct.proofs.UnreservedDecoding.Formatting.{encode_formatting_without_flags_keeps_tokens}
+use Rattle.uri_pct.proofs.UnreservedDecoding.Octets.{text_is_decoded_octet_by_octet_in_uri}
+use Rattle.uri_pct.proofs.Unicode.CharacterPieces.{first_char_is_first_piece}
+use Rattle.uri_pct.proofs.Unicode.CharacterPieces.{char_of_utf8_is_the_char}
+use Rattle.uri_pct.proofs.ValidTexts.Allowed.{allowed_past_ascii_is_scalar}
+use Rattle.uri_ops.specs.Models.Decodings.{KeepsPrefixWhenDecoded, decoded_parts, lowered_if}
+use Rattle.uri_ops.specs.Models.Decodings.{cased_append}
+use Rattle.uri_ops.specs.Models.Decodings.{decoded_text}
+use Rattle.uri_ops.proofs.Meanings.DecodedParts.{decode_run-of-nil-is-nil, decoded_parts-of-run}
+
+-- normalising: characters before other tokens are not changed by decoding
+pub decode_tokens-after-chars : (set : TableSet) (cs : List ℕ) (us : List Token)
+    → decode_tokens set (map Char cs ++ us) ≡ map Char cs ++ decode_tokens set us
+unfolding decode_after_run
+decode_tokens-after-chars set [] us = refl
+decode_tokens-after-chars set (c ∷ cs) us = ap
+    (λ x. x ++ Char c ∷ decode_after_run set [] (map Char cs ++ us))
+    (decode_run-of-nil-is-nil set)
+    ∙ ap (λ ts. Char c ∷ ts) (decode_tokens-after-chars set cs us)
+
+-- normalising: a run of octets that begins with a whole character is decoded as that and the rest
+decode_run-of-leading-character : (set : TableSet) (c : ℕ) (more : List ℕ) → IsScalar c
+    → decode_run set (encode_utf8 c ++ more)
+    ≡ decode_piece set (WellFormed (encode_utf8 c)) ++ decode_run set more
+unfolding decode_run
+decode_run-of-leading-character set c more scalar = ap (flat_map (decode_piece set))
+    (first_char_is_first_piece c more scalar)
+
+-- normalising: after some octets (their bytes are more) and a character,
+-- decoding goes on with the character by itself
+decode_after_run-of-leading-character : (set : TableSet) (c : ℕ) (more : List ℕ) (ts : List Token)
+    → IsScalar c
+    → decode_after_run set (encode_utf8 c ++ more) ts
+    ≡ decode_piece set (WellFormed (encode_utf8 c)) ++ decode_after_run set more ts
+unfolding decode_after_run
+decode_after_run-of-leading-character set c more [] scalar = decode_run-of-leading-character set c
+    more scalar
+decode_after_run-of-leading-character set c more (Octet value ∷ ts) scalar =
+    ap (λ run. decode_after_run set run ts) (append_assoc (encode_utf8 c) more (value ∷ []))
+    ∙ decode_after_run-of-leading-character set c (more ++ value ∷ []) ts scalar
+decode_after_run-of-leading-character set c more (Char d ∷ ts) scalar =
+    ap (λ x. x ++ Char d ∷ decode_after_run set [] ts)
+    (decode_run-of-leading-character set c more scalar)
+    ∙ append_assoc (decode_piece set (WellFormed (encode_utf8 c))) (decode_run set more)
+    (Char d ∷ decode_after_run set [] ts)
+
+-- normalising: an ASCII octet is decoded exactly if its character is unreserved
+ascii-is-decodable-if-unreserved : (set : TableSet) (b : ℕ) → b < 128 → is_decodable set b
+    ≡ is_unreserved b
+unfolding is_decodable
+ascii-is-decodable-if-unreserved set b low =
+    let none : allows_past_ascii set b ≡ false =
+    false_from_ne_true _ (λ e. let p = allowed_past_ascii_is_scalar set b e in absurd
+    (omega arith)) in
+    ap (λ x. is_unreserved b || x) none ∙ or-false (is_unreserved b)
+
+-- normalising: an octet is decoded to its character if it is unreserved, else kept
+decode_octet-is-character-if-unreserved : (b : ℕ)
+    → cond (is_unreserved b) (Char b ∷ []) (Octet b ∷ []) ≡ decode_octet (Octet b) ∷ []
+decode_octet-is-character-if-unreserved b = ⊎_elim (λ e. rw e refl) (λ e. rw e refl)
+    (cases_Bool (is_unreserved b))
+
+-- normalising: a piece that is an ASCII character is decoded as its octet is
+ascii-piece-decodes-as-octet : (set : TableSet) (b : ℕ) → b < 128
+    → decode_piece set (WellFormed (encode_utf8 b)) ≡ decode_octet (Octet b) ∷ []
+ascii-piece-decodes-as-octet set b low =
+    let scalar = low_scalar b (omega arith) in
+    ap (λ c. cond (is_decodable set c) (Char c ∷ []) (map Octet (encode_utf8 b)))
+    (char_of_utf8_is_the_char b scalar)
+    ∙ ap (λ bytes. cond (is_decodable set b) (Char b ∷ []) (map Octet bytes)) (encode_ascii b low)
+    ∙ ap (λ t. cond t (Char b ∷ []) (Octet b ∷ [])) (ascii-is-decodable-if-unreserved set b low)
+    ∙ decode_octet-is-character-if-unreserved b
+
+-- normalising: an ASCII octet at the start is decoded alone
+leading-ascii-octet-decodes-alone : (set : TableSet) (b : ℕ) (us : List Token) → b < 128
+    → decode_tokens set (Octet b ∷ us) ≡ decode_octet (Octet b) ∷ decode_tokens set us
+unfolding decode_after_run
+leading-ascii-octet-decodes-alone set b us low =
+    let joined : encode_utf8 b ++ [] ≡ b ∷ [] = append-nil (encode_utf8 b) ∙ encode_ascii b low in
+    ap (λ run. decode_after_run set run us) (sym joined)
+    ∙ decode_after_run-of-leading-character set b [] us (low_scalar b (omega arith))
+    ∙ ap (λ ts. ts ++ decode_after_run set [] us) (ascii-piece-decodes-as-octet set b low)
+
+-- normalising: an octet of ASCII that is a part of a text is decoded by itself
+pub decoded-part-of-ascii-octet : (lowers : Bool) (set : TableSet) (b : ℕ) → b < 128
+    → print (lowered_if lowers (decoded_parts set (map Decoded (utf8_pieces (b ∷ [])))))
+    ≡ print (lowered_if lowers (decode_octet (Octet b) ∷ []))
+unfolding decode_run
+decoded-part-of-ascii-octet lowers set b low =
+    let joined : encode_utf8 b ++ [] ≡ b ∷ [] = append-nil (encode_utf8 b) ∙ encode_ascii b low in
+    let piece = decode_piece set (WellFormed (encode_utf8 b)) in
+    ap (λ ts. print (lowered_if lowers ts))
+    (decoded_parts-of-run set (utf8_pieces (b ∷ [])) ∙ ap (decode_run set) (sym joined)
+    ∙ decode_run-of-leading-character set b [] (low_scalar b (omega arith))
+    ∙ ap (λ ts. piece ++ ts) (decode_run-of-nil-is-nil set)
+    ∙ append-nil piece ∙ ascii-piece-decodes-as-octet set b low)
+
+-- normalising: where a set has no characters past ASCII, as of URIs,
+-- each octet is decoded by itself
+tokens-without-past-ascii-decode-alone : (set : TableSet) (text : List ℕ) → LacksPastAscii set
+    → decode_tokens set (tokens text) ≡ map decode_octet (tokens text)
+tokens-without-past-ascii-decode-alone set text none =
+    sym (encode_formatting_without_flags_keeps_tokens set (decode_tokens set (tokens text))
+    (ap (λ b. b && set.pct_encoded) none.0))
+    ∙ text_is_decoded_octet_by_octet_in_uri set text none
+
+-- the octet at the start of a text
+abbrev pub first_value : {text : List ℕ} → BeginsWithOctet text → ℕ
+first_value o = 16 * digit_value o.high + digit_value o.low
+
+-- normalising: an octet token at the start is decoded alone, if its byte is ASCII or the set lacks
+-- characters past ASCII (alone)
+leading-octet-token-decodes-alone : (set : TableSet) (text : List ℕ) (o : BeginsWithOctet text)
+    (alone : Bool)
+    → (alone ≡ true → LacksPastAscii set) → (alone || ltb (first_value o) 128) ≡ true
+    → decode_tokens set (tokens text)
+    ≡ decode_octet (Octet (first_value o)) ∷ decode_tokens set (tokens o.suffix)
+leading-octet-token-decodes-alone set text o alone none e = ⊎_elim
+    (λ a.
+    tokens-without-past-ascii-decode-alone set text (none a) ∙ ap (map decode_octet) o.first
+    ∙ ap (λ ts. decode_octet (Octet (first_value o))
+    ∷ ts) (sym (tokens-without-past-ascii-decode-alone set o.suffix (none a))))
+    (λ low. ap (decode_tokens set) o.first
+    ∙ leading-ascii-octet-decodes-alone set (first_value o) (tokens o.suffix) (ltb-true _ 128 low))
+    (or_cases alone (ltb (first_value o) 128) e)
+
+-- normalising: an octet at the start of a text is decoded by itself if its byte is ASCII, or if the
+-- set (as of URIs) lacks characters past ASCII: then alone holds
+pub leading-octet-is-decoded-alone : (lowers : Bool) (set : TableSet) (text : List ℕ)
+    (o : BeginsWithOctet text)
+    (alone : Bool)
+    → (alone ≡ true → LacksPastAscii set) → (alone || ltb (first_value o) 128) ≡ true
+    → decoded_text lowers set text
+    ≡ print (lowered_if lowers (decode_octet (Octet (first_value o)) ∷ []))
+    ++ decoded_text lowers set o.suffix
+leading-octet-is-decoded-alone lowers set text o alone none e =
+    ap (λ ts. print (lowered_if lowers ts))
+    (leading-octet-token-decodes-alone set text o alone none e)
+    ∙ cased_append lowers (decode_octet (Octet (first_value o)) ∷ [])
+    (decode_tokens set (tokens o.suffix))
+
+-- octets: the byte is a hexadecimal digit as it is written, in upper case
+is_glyph : ℕ → Bool
+is_glyph h = not (is_ascii_hexdigit h)
+    || (eqb (digit_glyph true (digit_value h)) h && ltb (digit_value h) 16)
+
+-- octets: a hexadecimal digit below `a` (97) is the digit that is written for its value
+uppercase-digit-is-its-glyph : (h : ℕ) → is_ascii_hexdigit h ≡ true → h < 97
+    → (digit_glyph true (digit_value h) ≡ h) × (digit_value h < 16)
+unfolding is_glyph
+uppercase-digit-is-its-glyph h digit upper =
+    let e : is_glyph h ≡ true = agree_below_at is_glyph (λ _. true) 97 h refl upper in
+    let p =
+    and_parts _ _
+    (sym
+    (ap
+    (λ b. not b || (eqb (digit_glyph true (digit_value h)) h
+    && ltb (digit_value h) 16)) digit) ∙ e) in
+    (eqb-true _ h p.0, ltb-true _ 16 p.1)
+
+-- octets: one with digits in upper case is written as it is
+uppercase-octet-prints-itself : (high low : ℕ) → is_ascii_hexdigit high ≡ true
+    → is_ascii_hexdigit low ≡ true
+    → high < 97 → low < 97
+    → text_of_token (Octet (16 * digit_value high + digit_value low)) ≡ 37 ∷ high ∷ low ∷ []
+uppercase-octet-prints-itself high low h l hu lu =
+    let p = uppercase-digit-is-its-glyph high h hu in
+    let q = uppercase-digit-is-its-glyph low l lu in
+    let above : (16 * digit_value high + digit_value low) / 16 ≡ digit_value high =
+    omega (arith, q.1) in
+    let below : (16 * digit_value high + digit_value low) % 16 ≡ digit_value low =
+    omega (arith, q.1) in
+    rw (above, below) (ap (λ x. 37 ∷ x ∷ digit_glyph true (digit_value low) ∷ []) p.0
+    ∙ ap (λ x. 37 ∷ high ∷ x ∷ []) q.0)
+
+-- normalising: an octet of a reserved character with digits in upper case is kept as it is;
+-- alone: the set lacks characters past ASCII
+pub uppercase-reserved-octet-stays : (set : TableSet) (text : List ℕ) (o : BeginsWithOctet text)
+    (high low : ℕ)
+    (alone : Bool)
+    → high ≡ o.high → low ≡ o.low → (ltb high 97 && ltb low 97) ≡ true
+    → is_unreserved (first_value o) ≡ false → (alone ≡ true → LacksPastAscii set)
+    → (alone || ltb (first_value o) 128) ≡ true → KeepsPrefixWhenDecoded false set text 3
+uppercase-reserved-octet-stays set text o high low alone is_high is_low upper reserved none itself =
+    let p = and_parts (ltb high 97) (ltb low 97) upper in
+    let above : o.high < 97 = subst (λ h. h < 97) is_high (ltb-true high 97 p.0) in
+    let below : o.low < 97 = subst (λ l. l < 97) is_low (ltb-true low 97 p.1) in
+    leading-octet-is-decoded-alone false set text o alone none itself
+    ∙ ap (λ t. (text_of_token t ++ [])
+    ++ decoded_text false set o.suffix) (cond-false _ _ _ reserved)
+    ∙ ap (λ x. (x ++ []) ++ decoded_text false set o.suffix)
+    (uppercase-octet-prints-itself o.high o.low o.high_digit o.low_digit above below)
+    ∙ sym (ap (λ x. take 3 x ++ decoded_text false set (drop 3 x)) o.joined)

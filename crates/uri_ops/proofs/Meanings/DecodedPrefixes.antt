@@ -1,0 +1,373 @@
+-- A prefix of a text is decoded by itself if it consists of characters and octets of ASCII. If the
+-- set has no characters past ASCII, every octet may be in it.
+use Rattle.std.proofs.Common.{◌≡◌, ℕ, take_all, ◌+◌, ◌*◌, ◌-◌, ◌<◌, Bool, true}
+use Rattle.std.proofs.Common.{◌&&◌, false, eqb, ltb, not, List, [], ◌∷◌, ◌++◌, length, get_or, take}
+use Rattle.std.proofs.Common.{drop, map, ◌≤◌, add-zero, refl, sym, ap, subst, ◌∙◌, arith}
+use Rattle.std.proofs.Common.{◌||◌, ⊎_elim, ◌⊎◌, append_assoc}
+use Rattle.std.specs.List.{list_all, position_or_len}
+use Rattle.std.specs.Char.{digit_value, is_ascii_hexdigit, to_ascii_lowercase}
+use Rattle.std.specs.Str.{chars, IsUtf8, IsCharBoundary}
+use Rattle.std.proofs.lemmas.Bool.{and_parts}
+use Rattle.std.proofs.lemmas.Bool.{ne_eqb, or_parts, or_left, or_right, lt-ltb}
+use Rattle.std.proofs.lemmas.Bool.{not-true}
+use Rattle.std.proofs.lemmas.Bool.Decides.{nat_tests}
+use Rattle.std.proofs.lemmas.List.{append-nil, take-append-drop, drop-drop, length-drop}
+use Rattle.std.proofs.lemmas.List.{get_or-drop, drop_all, drop_more, map-append}
+use Rattle.std.proofs.lemmas.List.Folds.{list_all-append}
+use Rattle.std.proofs.lemmas.Str.{IsUtf8-take, IsUtf8-drop, IsCharBoundary-from_rest}
+use Rattle.std.proofs.lemmas.Str.{IsCharBoundary-after_ascii}
+use Rattle.uri_pct.specs.Chunks.{widest_set}
+use Rattle.uri_pct.specs.DecodeUnreserved.{LacksPastAscii, decode_octet}
+use Rattle.uri_pct.specs.DecodeUnreserved.{decode_after_run, decode_tokens, lower_token}
+use Rattle.uri_pct.specs.Sets.{TableSet}
+use Rattle.uri_pct.specs.Texts.{lacks}
+use Rattle.uri_pct.specs.Tokens.{Char, Octet, tokens, tokens_from_chars, print}
+use Rattle.uri_pct.specs.Tokens.{allows_token, is_valid_for, IsValidFor}
+use Rattle.uri_pct.proofs.Decodings.Decoding.{BeginsWithOctet, bytes_from_percent_begin_with_octet}
+use Rattle.uri_pct.proofs.Decodings.Decoding.{boundary_after_octet}
+use Rattle.uri_pct.proofs.Decodings.Decoding.{tokens_after_unencoded_prefix}
+use Rattle.uri_pct.proofs.Decodings.Decoding.{first_percent_is_at_boundary}
+use Rattle.uri_pct.proofs.Decodings.Decoding.{prefix_len_bytes_pass}
+use Rattle.uri_pct.proofs.Unicode.Pieces.{take_then_take_is_take_of_sum}
+use Rattle.uri_ops.specs.Models.Decodings.{KeepsPrefixWhenDecoded, lowered_if, cased_append}
+use Rattle.uri_ops.specs.Models.Decodings.{lowered_text_if}
+use Rattle.uri_ops.specs.Models.Decodings.{decoded_text}
+use Rattle.uri_ops.proofs.Meanings.Cased.{print-lowers-characters}
+use Rattle.uri_ops.proofs.Meanings.DecodedParts.{decode_run-of-nil-is-nil}
+use Rattle.uri_ops.proofs.Meanings.DecodedOctets.{decode_tokens-after-chars, first_value}
+use Rattle.uri_ops.proofs.Meanings.DecodedOctets.{leading-octet-is-decoded-alone}
+
+-- normalising: a prefix without `%` (37) is its own decoded form, in lower case if lowers,
+-- before that of what follows
+literal-prefix-decodes-to-itself : (lowers : Bool) (set : TableSet) (prefix back : List ℕ)
+    → IsUtf8 prefix
+    → lacks 37 prefix ≡ true
+    → decoded_text lowers set (prefix ++ back) ≡ lowered_text_if lowers prefix
+    ++ decoded_text lowers set back
+literal-prefix-decodes-to-itself lowers set prefix back u e =
+    ap (λ ts. print (lowered_if lowers (decode_tokens set ts)))
+    (tokens_after_unencoded_prefix prefix back u e)
+    ∙ ap (λ ts. print (lowered_if lowers ts))
+    (decode_tokens-after-chars set (chars prefix) (tokens back))
+    ∙ cased_append lowers (map Char (chars prefix)) (decode_tokens set (tokens back))
+    ∙ ap (λ x. x ++ decoded_text lowers set back) (print-lowers-characters lowers prefix u)
+
+-- normalising: after a prefix without `%` (37), the rest of a valid text is valid
+text-after-literal-prefix-is-valid : (prefix back : List ℕ) → IsUtf8 prefix → lacks 37 prefix ≡ true
+    → IsValidFor widest_set (prefix ++ back) → IsValidFor widest_set back
+unfolding is_valid_for
+text-after-literal-prefix-is-valid prefix back u e v =
+    (and_parts _ _
+    (sym (list_all-append (allows_token widest_set) (map Char (chars prefix)) (tokens back))
+    ∙ sym (ap (list_all (allows_token widest_set)) (tokens_after_unencoded_prefix prefix back u e))
+    ∙ v)).1
+
+abbrev first_percent : List ℕ → ℕ
+first_percent text = position_or_len (λ b. eqb b 37) text
+
+-- the text before the first `%`
+pub record LiteralPrefix (text : List ℕ) (n : ℕ) : Type 0 where
+  pub boundary : IsCharBoundary text n
+  pub valid : IsValidFor widest_set (drop n text)
+  pub prefix : (lowers : Bool) (set : TableSet) → KeepsPrefixWhenDecoded lowers set text n
+
+-- normalising: the n bytes before the first `%` of a text are decoded as characters alone
+pub text-before-percent-is-literal-prefix : (text : List ℕ) (n : ℕ) → IsUtf8 text
+    → IsValidFor widest_set text
+    → n ≡ first_percent text → LiteralPrefix text n
+text-before-percent-is-literal-prefix text n u v e =
+    let boundary : IsCharBoundary text n =
+    subst (IsCharBoundary text) (sym e) (first_percent_is_at_boundary text) in
+    let utf8 : IsUtf8 (take n text) = IsUtf8-take text n u boundary in
+    let literal : lacks 37 (take n text) ≡ true = ap (λ k. lacks 37 (take k text)) e
+    ∙ prefix_len_bytes_pass (λ b. not (eqb b 37)) text in
+    let whole = take-append-drop n text in
+    record {
+      boundary = boundary;
+      valid = text-after-literal-prefix-is-valid (take n text) (drop n text) utf8 literal
+          (subst (IsValidFor widest_set) (sym whole) v);
+      prefix = λ lowers set. ap (decoded_text lowers set) (sym whole)
+          ∙ literal-prefix-decodes-to-itself lowers set (take n text) (drop n text) utf8 literal;
+    }
+
+-- normal forms: two texts in lower case, if lowers, are their join in lower case
+lowering-of-append-is-append : (lowers : Bool) (xs ys : List ℕ)
+    → lowered_text_if lowers (xs ++ ys) ≡ lowered_text_if lowers xs ++ lowered_text_if lowers ys
+lowering-of-append-is-append true xs ys = map-append to_ascii_lowercase xs ys
+lowering-of-append-is-append false xs ys = refl
+
+-- normalising: of a text, the empty prefix is copied
+pub empty-prefix-stays : (lowers : Bool) (set : TableSet) (text : List ℕ)
+    → KeepsPrefixWhenDecoded lowers set text 0
+empty-prefix-stays true set text = refl
+empty-prefix-stays false set text = refl
+
+-- normalising: two prefixes that are copied, one after the other, are one
+kept-prefixes-join : (lowers : Bool) (set : TableSet) (text : List ℕ) (n m : ℕ)
+    → KeepsPrefixWhenDecoded lowers set text n → KeepsPrefixWhenDecoded lowers set (drop n text) m
+    → KeepsPrefixWhenDecoded lowers set text (n + m)
+kept-prefixes-join lowers set text n m first next =
+    let prefix = take n text in
+    let more = take m (drop n text) in
+    let suffix = decoded_text lowers set (drop m (drop n text)) in
+    first ∙ ap (λ x. lowered_text_if lowers prefix ++ x) next
+    ∙ sym (append_assoc (lowered_text_if lowers prefix) (lowered_text_if lowers more) suffix)
+    ∙ ap (λ x. x ++ suffix) (sym (lowering-of-append-is-append lowers prefix more))
+    ∙ ap (λ x. lowered_text_if lowers x ++ suffix) (take_then_take_is_take_of_sum n m text)
+    ∙ ap (λ x. lowered_text_if lowers (take (n + m) text)
+    ++ decoded_text lowers set x) (drop-drop m n text)
+
+-- general fact on lists, for prefixes while normalising: a suffix of a suffix,
+-- by the positions of the text
+suffix-of-suffix-by-positions : (text : List ℕ) (done end : ℕ) → done ≤ end
+    → drop (end - done) (drop done text) ≡ drop end text
+suffix-of-suffix-by-positions text done end order = drop-drop (end - done) done text
+    ∙ ap (λ k. drop k text) (omega arith)
+
+-- normalising: after one prefix that is copied, the next one is; done, end: where the first begins
+-- and ends, m: the length of the next
+pub kept-prefix-grows : (lowers : Bool) (set : TableSet) (text : List ℕ) (done end m : ℕ)
+    → done ≤ end
+    → KeepsPrefixWhenDecoded lowers set (drop done text) (end - done)
+    → KeepsPrefixWhenDecoded lowers set (drop end text) m
+    → KeepsPrefixWhenDecoded lowers set (drop done text) (end + m - done)
+kept-prefix-grows lowers set text done end m order first next =
+    let count : end - done + m ≡ end + m - done = omega arith in
+    subst (KeepsPrefixWhenDecoded lowers set (drop done text)) count
+    (kept-prefixes-join lowers set (drop done text) (end - done) m first
+    (subst (λ x. KeepsPrefixWhenDecoded lowers set x m)
+    (sym (suffix-of-suffix-by-positions text done end order)) next))
+
+-- normalising: after a prefix that is copied (from done to end), what is appended and the rest,
+-- decoded, still make the whole
+pub kept-prefix-is-pushed : (lowers : Bool) (set : TableSet) (text out new whole : List ℕ)
+    (done end : ℕ)
+    → done ≤ end → KeepsPrefixWhenDecoded lowers set (drop done text) (end - done)
+    → new ≡ out ++ lowered_text_if lowers (take (end - done) (drop done text))
+    → out ++ decoded_text lowers set (drop done text) ≡ whole
+    → new ++ decoded_text lowers set (drop end text) ≡ whole
+kept-prefix-is-pushed lowers set text out new whole done end order prefix pushed total =
+    let written = lowered_text_if lowers (take (end - done) (drop done text)) in
+    let suffix = decoded_text lowers set (drop end text) in
+    let split : decoded_text lowers set (drop done text) ≡ written ++ suffix = prefix
+    ∙ ap (λ x. written ++ decoded_text lowers set x)
+    (suffix-of-suffix-by-positions text done end order) in
+    ap (λ x. x ++ suffix) pushed ∙ append_assoc out written suffix ∙ ap (λ x. out ++ x) (sym split)
+    ∙ total
+
+-- general fact on valid texts: what is valid after n and then m bytes is valid after n + m; used
+-- while decoding a component
+pub suffix-of-suffix-is-valid : (text : List ℕ) (n m : ℕ)
+    → IsValidFor widest_set (drop m (drop n text))
+    → IsValidFor widest_set (drop (n + m) text)
+suffix-of-suffix-is-valid text n m v = subst (IsValidFor widest_set) (drop-drop m n text) v
+
+-- octets: one at the start takes three bytes of the text
+octet-adds-three-to-length : (text : List ℕ) (o : BeginsWithOctet text) → length text
+    ≡ 3 + length o.suffix
+octet-adds-three-to-length text o = ap length o.joined ∙ omega arith
+
+-- octets: the digits of an octet at the start of a text are its next two bytes,
+-- and what is after it the rest
+octet-digits-are-next-two-bytes : (text : List ℕ) (o : BeginsWithOctet text)
+    → (get_or text 1 0 ≡ o.high) × ((get_or text 2 0 ≡ o.low) × (drop 3 text ≡ o.suffix))
+octet-digits-are-next-two-bytes text o =
+    (ap (λ x. get_or x 1 0) o.joined, (ap (λ x. get_or x 2 0) o.joined, ap (drop 3) o.joined))
+
+-- an octet within a text, and its digits, by the text's bytes
+pub record OctetAt (bytes text : List ℕ) (i : ℕ) : Type 0 where
+  pub octet : BeginsWithOctet (drop i text)
+  pub within : i + 2 < length bytes
+  pub high : get_or bytes (i + 1) 0 ≡ octet.high
+  pub low : get_or bytes (i + 2) 0 ≡ octet.low
+  pub high_digit : is_ascii_hexdigit (get_or bytes (i + 1) 0) ≡ true
+  pub low_digit : is_ascii_hexdigit (get_or bytes (i + 2) 0) ≡ true
+  pub value : 16 * digit_value (get_or bytes (i + 1) 0) + digit_value (get_or bytes (i + 2) 0)
+      ≡ first_value octet
+  pub boundary : IsCharBoundary text (i + 3)
+  pub suffix : drop (i + 3) text ≡ octet.suffix
+  pub valid : IsValidFor widest_set (drop (i + 3) text)
+
+-- normalising: a `%` (37) at index i of a valid text begins an octet
+pub percent-in-valid-text-begins-octet : (bytes text : List ℕ) (i : ℕ) → bytes ≡ text → IsUtf8 text
+    → IsCharBoundary text i
+    → IsValidFor widest_set (drop i text) → i < length bytes → get_or bytes i 0 ≡ 37
+    → OctetAt bytes text i
+percent-in-valid-text-begins-octet bytes text i same u b v inside percent =
+    let rest = drop i text in
+    let utf8 : IsUtf8 rest = IsUtf8-drop text i u b in
+    let long : length rest ≡ length text - i = length-drop i text in
+    let lengths : length bytes ≡ length text = ap length same in
+    let at : (k : ℕ) → get_or rest k 0 ≡ get_or bytes (i + k) 0 = λ k. get_or-drop i text k 0
+    ∙ ap (λ x. get_or x (i + k) 0) (sym same) in
+    let first : get_or rest 0 0 ≡ 37 = at 0 ∙ ap (λ k. get_or bytes k 0) (add-zero i) ∙ percent in
+    let o = bytes_from_percent_begin_with_octet rest rest refl utf8 v
+    (ne_eqb (length rest) 0 (λ e. omega (arith, long, lengths))) first in
+    let three = octet-adds-three-to-length rest o in
+    let digits = octet-digits-are-next-two-bytes rest o in
+    let high : get_or bytes (i + 1) 0 ≡ o.high = sym (at 1) ∙ digits.0 in
+    let low : get_or bytes (i + 2) 0 ≡ o.low = sym (at 2) ∙ digits.1.0 in
+    let suffix : drop (i + 3) text ≡ o.suffix = sym (drop-drop 3 i text) ∙ digits.1.1 in
+    record {
+      octet = o;
+      within = omega (arith, long, lengths, three);
+      high = high;
+      low = low;
+      high_digit = ap is_ascii_hexdigit high ∙ o.high_digit;
+      low_digit = ap is_ascii_hexdigit low ∙ o.low_digit;
+      value = ap (λ h. 16 * digit_value h + digit_value (get_or bytes (i + 2) 0)) high
+          ∙ ap (λ l. 16 * digit_value o.high + digit_value l) low;
+      boundary = IsCharBoundary-from_rest text i 3 (omega (arith, inside, lengths))
+          (boundary_after_octet rest utf8 o);
+      suffix = suffix;
+      valid = subst (IsValidFor widest_set) (sym suffix) o.valid;
+    }
+
+-- normalising: after an octet with this value is decoded and appended, what is appended and the
+-- rest, decoded, still make the whole
+pub decoded-octet-is-pushed : (lowers : Bool) (set : TableSet) (out new whole rest suffix : List ℕ)
+    (value : ℕ)
+    (o : BeginsWithOctet rest) (alone : Bool)
+    → (alone ≡ true → LacksPastAscii set) → (alone || ltb (first_value o) 128) ≡ true
+    → value ≡ first_value o → suffix ≡ o.suffix
+    → new ≡ out ++ print (lowered_if lowers (decode_octet (Octet value) ∷ []))
+    → out ++ decoded_text lowers set rest ≡ whole → new ++ decoded_text lowers set suffix ≡ whole
+decoded-octet-is-pushed lowers set out new whole rest suffix value o alone none itself same after
+    pushed total =
+    let decoded = print (lowered_if lowers (decode_octet (Octet value) ∷ [])) in
+    let split : decoded_text lowers set rest ≡ decoded ++ decoded_text lowers set suffix =
+    leading-octet-is-decoded-alone lowers set rest o alone none itself
+    ∙ ap (λ v. print (lowered_if lowers (decode_octet (Octet v) ∷ []))
+    ++ decoded_text lowers set o.suffix)
+    (sym same)
+    ∙ ap (λ x. decoded ++ decoded_text lowers set x) (sym after) in
+    ap (λ x. x ++ decoded_text lowers set suffix) pushed
+    ∙ append_assoc out decoded (decoded_text lowers set suffix) ∙ ap (λ x. out ++ x) (sym split)
+    ∙ total
+
+-- octets: one whose first digit is below `8` (56) is of an ASCII byte
+octet-with-digit-below-8-is-ascii : (high low : ℕ) → is_ascii_hexdigit high ≡ true
+    → is_ascii_hexdigit low ≡ true
+    → high < 56 → 16 * digit_value high + digit_value low < 128
+octet-with-digit-below-8-is-ascii high low h l small = grind (arith, nat_tests)
+
+-- normalising: an octet is decoded by itself if the set asks for it, or if its first digit is below
+-- `8` (56), so its byte is ASCII
+pub octet-is-decoded-alone : (bytes text : List ℕ) (i : ℕ) (at : OctetAt bytes text i)
+    (alone : Bool)
+    → (alone ≡ true) ⊎ (get_or bytes (i + 1) 0 < 56)
+    → (alone || ltb (first_value at.octet) 128) ≡ true
+octet-is-decoded-alone bytes text i at alone either = ⊎_elim
+    (λ a. or_left alone (ltb (first_value at.octet) 128) a)
+    (λ small.
+    let low = octet-with-digit-below-8-is-ascii (get_or bytes (i + 1) 0) (get_or bytes (i + 2) 0)
+    at.high_digit at.low_digit
+    small in
+    or_right alone (ltb (first_value at.octet) 128)
+    (lt-ltb (first_value at.octet) 128 (subst (λ v. v < 128) at.value low)))
+    either
+
+-- sets: one without the flags ucschar and iprivate has no characters past ASCII;
+-- some: whether it has either
+pub unset-flags-lack-past-ascii : (set : TableSet) (some : Bool) → some
+    ≡ (set.ucschar || set.iprivate)
+    → not some ≡ true → LacksPastAscii set
+unset-flags-lack-past-ascii set some e none = or_parts set.ucschar set.iprivate
+    (sym e ∙ not-true some none)
+
+-- normalising: the empty text has the empty decoded form
+decoded-empty-text-is-empty : (lowers : Bool) (set : TableSet) → decoded_text lowers set [] ≡ []
+unfolding tokens_from_chars chars decode_after_run
+decoded-empty-text-is-empty true set = ap (λ ts. print (map lower_token ts))
+    (decode_run-of-nil-is-nil set)
+decoded-empty-text-is-empty false set = ap print (decode_run-of-nil-is-nil set)
+
+-- normalising: a prefix of n bytes that is copied is one from 0 on
+pub kept-prefix-is-kept-from-zero : (lowers : Bool) (set : TableSet) (text : List ℕ) (n : ℕ)
+    → KeepsPrefixWhenDecoded lowers set text n
+    → KeepsPrefixWhenDecoded lowers set (drop 0 text) (n - 0)
+kept-prefix-is-kept-from-zero lowers set text n = subst (KeepsPrefixWhenDecoded lowers set text)
+    (omega arith)
+
+-- normalising: the last prefix that is copied completes what is appended;
+-- done, end: where it begins and ends
+pub last-prefix-is-pushed : (lowers : Bool) (set : TableSet) (text out new whole : List ℕ)
+    (done end : ℕ)
+    → done ≤ end → length text ≤ end → KeepsPrefixWhenDecoded lowers set (drop done text)
+    (end - done)
+    → new ≡ out ++ lowered_text_if lowers (drop done text)
+    → out ++ decoded_text lowers set (drop done text) ≡ whole → new ≡ whole
+last-prefix-is-pushed lowers set text out new whole done end order over prefix pushed total =
+    let rest = drop done text in
+    let all : take (end - done) rest ≡ rest =
+    take_all (end - done) rest (omega (arith, length-drop done text)) in
+    let none : drop end text ≡ [] = drop_all end text over in
+    sym (append-nil new) ∙ ap (λ x. new ++ x) (sym (decoded-empty-text-is-empty lowers set))
+    ∙ ap (λ x. new ++ decoded_text lowers set x) (sym none)
+    ∙ kept-prefix-is-pushed lowers set text out new whole done end order prefix
+    (pushed ∙ ap (λ x. out ++ lowered_text_if lowers x) (sym all)) total
+
+-- normalising: the first byte of a text is not `%` (37)
+lacks_first : (text : List ℕ) → eqb (get_or text 0 0) 37 ≡ false → lacks 37 (take 1 text) ≡ true
+lacks_first [] e = refl
+lacks_first (c ∷ text) e = ap (λ x. not x && true) e
+
+-- normalising: an ASCII character that is not `%` (37) is a prefix without octets
+ascii_prefix : (text : List ℕ) → IsUtf8 text → IsValidFor widest_set text → 0 < length text
+    → get_or text 0 0 < 128 → eqb (get_or text 0 0) 37 ≡ false → LiteralPrefix text 1
+ascii_prefix text u v inside small other =
+    let boundary : IsCharBoundary text 1 = IsCharBoundary-after_ascii text 0 u inside small in
+    let utf8 : IsUtf8 (take 1 text) = IsUtf8-take text 1 u boundary in
+    let literal = lacks_first text other in
+    let whole = take-append-drop 1 text in
+    record {
+      boundary = boundary;
+      valid = text-after-literal-prefix-is-valid (take 1 text) (drop 1 text) utf8 literal
+          (subst (IsValidFor widest_set) (sym whole) v);
+      prefix = λ lowers set. ap (decoded_text lowers set) (sym whole)
+          ∙ literal-prefix-decodes-to-itself lowers set (take 1 text) (drop 1 text) utf8 literal;
+    }
+
+-- such a character is written, and the next is looked at
+pub record CharacterStep (lowers : Bool) (set : TableSet) (text new whole : List ℕ) (i : ℕ) :
+    Type 0 where
+  pub boundary : IsCharBoundary text (i + 1)
+  pub valid : IsValidFor widest_set (drop (i + 1) text)
+  pub total : new ++ decoded_text lowers set (drop (i + 1) text) ≡ whole
+
+-- normalising byte by byte: an ASCII character that is not `%` is appended, in lower case if
+-- lowers, and the rest is left
+pub character_step : (lowers : Bool) (set : TableSet) (bytes text out new whole : List ℕ) (i : ℕ)
+    → bytes ≡ text → IsUtf8 text → IsCharBoundary text i → IsValidFor widest_set (drop i text)
+    → i < length bytes → get_or bytes i 0 < 128 → eqb (get_or bytes i 0) 37 ≡ false
+    → new ≡ out ++ lowered_text_if lowers (get_or bytes i 0 ∷ [])
+    → out ++ decoded_text lowers set (drop i text) ≡ whole
+    → CharacterStep lowers set text new whole i
+character_step lowers set bytes text out new whole i same u b v inside small other pushed total =
+    let rest = drop i text in
+    let below : i < length text = subst (λ x. i < length x) same inside in
+    let at : get_or bytes i 0 ≡ get_or text i 0 = ap (λ x. get_or x i 0) same in
+    let small_text : get_or text i 0 < 128 = subst (λ x. x < 128) at small in
+    let split : rest ≡ get_or text i 0 ∷ drop (i + 1) text = drop_more text i 0 below in
+    let first : get_or rest 0 0 ≡ get_or bytes i 0 = ap (λ x. get_or x 0 0) split ∙ sym at in
+    let p = ascii_prefix rest (IsUtf8-drop text i u b) v
+    (omega (arith, below, length-drop i text)) (subst (λ x. x < 128) (sym first) small)
+    (ap (λ x. eqb x 37) first ∙ other) in
+    let one : 1 ≡ i + 1 - i = omega arith in
+    let taken : take (i + 1 - i) rest ≡ get_or bytes i 0 ∷ [] =
+    ap (λ k. take k rest) (sym one) ∙ ap (take 1) split ∙ ap (λ x. x ∷ []) (sym at) in
+    record {
+      boundary = IsCharBoundary-after_ascii text i u below small_text;
+      valid = suffix-of-suffix-is-valid text i 1 p.valid;
+      total = kept-prefix-is-pushed lowers set text out new whole i (i + 1) (omega arith)
+          (subst (KeepsPrefixWhenDecoded lowers set rest) one (p.prefix lowers set))
+          (pushed ∙ ap (λ x. out ++ lowered_text_if lowers x) (sym taken)) total;
+    }
+
+-- normalising: at the end of a text nothing is left to append
+pub none_written : (lowers : Bool) (set : TableSet) (text new whole : List ℕ) (end : ℕ)
+    → end ≡ length text → new ++ decoded_text lowers set (drop end text) ≡ whole → new ≡ whole
+none_written lowers set text new whole end all total =
+    let none : drop end text ≡ [] = drop_all end text (omega (arith, all)) in
+    sym (append-nil new) ∙ ap (λ x. new ++ x) (sym (decoded-empty-text-is-empty lowers set))
+    ∙ ap (λ x. new ++ decoded_text lowers set x) (sym none) ∙ total

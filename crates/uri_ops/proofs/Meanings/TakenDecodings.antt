@@ -1,0 +1,83 @@
+-- What a `Decoding` takes.
+use Rattle.std.proofs.Common.{◌≡◌, ℕ, Bool, true, false, List, [], ◌∷◌, ◌++◌, map, sym, ap, ◌∙◌}
+use Rattle.std.proofs.Common.{string_bytes}
+use Rattle.std.specs.Str.{IsUtf8, chars}
+use Rattle.std.proofs.lemmas.List.{append-nil}
+use Rattle.uri_pct.specs.Chunks.{widest_set}
+use Rattle.uri_pct.specs.Encoding.{encode_text}
+use Rattle.uri_pct.specs.Parts.{ArePastAscii, Part, Literal, Decoded, parts}
+use Rattle.uri_pct.specs.Pieces.{IllFormed, utf8_pieces}
+use Rattle.uri_pct.specs.DecodeUnreserved.{decode_tokens, lower_token}
+use Rattle.uri_pct.specs.Sets.{TableSet}
+use Rattle.uri_pct.specs.Tables.{set_of}
+use Rattle.uri_pct.specs.Tokens.{Octet, Char, tokens, print, IsValidFor}
+use Rattle.uri_ops.specs.declared.normalize.decode_unreserved.Decoding.{Decoding}
+use Rattle.uri_ops.specs.Models.Decodings.{AppendsDecodedParts, decoded_parts, lowered_if}
+use Rattle.uri_ops.specs.Models.Decodings.{lowered_text_if}
+use Rattle.uri_ops.proofs.Meanings.Cased.{AllowsDecodable, print-lowers-characters}
+use Rattle.uri_ops.proofs.Meanings.Cased.{octets-stay-when-lowered, decoded-pieces-are-encoded-text}
+use Rattle.uri_ops.proofs.Meanings.Cased.{bytes-past-ascii-stay-when-lowered}
+use Rattle.uri_ops.proofs.Meanings.Cased.{lowered-pieces-are-encoded-lowered-text}
+use Rattle.uri_ops.proofs.Meanings.DecodedParts.{decoded_parts-of-run}
+use Rattle.uri_ops.proofs.Meanings.DecodedParts.{decoded_parts-are-decoded-tokens}
+
+-- normalising octets past ASCII: a literal part of a text is written in lower case if lowers
+pub literal-part-is-lowered : (lowers : Bool) (set : TableSet) (text : List ℕ) → IsUtf8 text
+    → print (lowered_if lowers (decoded_parts set (Literal text ∷ [])))
+    ≡ lowered_text_if lowers text
+literal-part-is-lowered lowers set text u = ap (λ ts. print (lowered_if lowers ts))
+    (append-nil (map Char (chars text)))
+    ∙ print-lowers-characters lowers text u
+
+-- normalising octets past ASCII: characters that octets decode to are written encoded,
+-- unless the set decodes them
+pub decoded-octets-past-ascii-are-encoded-text : (lowers : Bool) (decodable set : TableSet)
+    (text : List ℕ)
+    → AllowsDecodable decodable set → IsUtf8 text → ArePastAscii text
+    → print (lowered_if lowers (decoded_parts set (map Decoded (utf8_pieces text))))
+    ≡ print (encode_text decodable text)
+decoded-octets-past-ascii-are-encoded-text false decodable set text same u past = ap print
+    (decoded_parts-of-run set (utf8_pieces text)
+    ∙ decoded-pieces-are-encoded-text decodable set same text u)
+decoded-octets-past-ascii-are-encoded-text true decodable set text same u past = ap
+    (λ ts. print (map lower_token ts))
+    (decoded_parts-of-run set (utf8_pieces text))
+    ∙ ap print (lowered-pieces-are-encoded-lowered-text decodable set same text u)
+    ∙ ap (λ bytes. print (encode_text decodable bytes))
+    (bytes-past-ascii-stay-when-lowered text past)
+
+-- normalising octets past ASCII: ill-formed bytes stay octets
+pub ill-formed-octets-stay-octets : (lowers : Bool) (set : TableSet) (bytes : List ℕ)
+    → print (lowered_if lowers (decoded_parts set (Decoded (IllFormed bytes) ∷ [])))
+    ≡ print (map Octet bytes)
+ill-formed-octets-stay-octets lowers set bytes = ap (λ ts. print (lowered_if lowers ts))
+    (append-nil (map Octet bytes))
+    ∙ ap print (octets-stay-when-lowered lowers bytes)
+
+-- normalising octets past ASCII: a `Decoding` to which the decoded parts are appended has appended
+-- these parts; s, t: before and after
+pub appended-text-is-decoded-parts : (s t : Decoding) (ps : List Part) (more : List ℕ)
+    → set_of t.table ≡ set_of s.table
+    → t.lowers ≡ s.lowers → t.text.ghost_name ≡ s.text.ghost_name
+    → string_bytes t.text.now ≡ string_bytes s.text.now ++ more
+    → print (lowered_if s.lowers (decoded_parts (set_of s.table) ps)) ≡ more
+    → AppendsDecodedParts s ps t
+appended-text-is-decoded-parts s t ps more set lowers same written meant = record {
+  set = set;
+  lowers = lowers;
+  same = same;
+  text = written ∙ ap (λ x. string_bytes s.text.now ++ x) (sym meant);
+}
+
+-- normalising octets past ASCII: all parts of a text are written as its decoded tokens; s, t: the
+-- `Decoding` before and after
+pub all-parts-give-decoded-tokens : (text old : List ℕ) (s t : Decoding)
+    → IsValidFor widest_set text
+    → string_bytes s.text.now ≡ old → AppendsDecodedParts s (parts text) t
+    → string_bytes t.text.now
+    ≡ old ++ print (lowered_if s.lowers (decode_tokens (set_of s.table) (tokens text)))
+all-parts-give-decoded-tokens text old s t valid begun took =
+    took.text
+    ∙ ap (λ x. x ++ print (lowered_if s.lowers (decoded_parts (set_of s.table) (parts text)))) begun
+    ∙ ap (λ ts. old ++ print (lowered_if s.lowers ts))
+    (decoded_parts-are-decoded-tokens (set_of s.table) text valid)

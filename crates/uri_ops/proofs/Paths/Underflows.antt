@@ -1,0 +1,141 @@
+-- Which segments go above the root: a double dot where no segment is left.
+use Rattle.std.proofs.Common.{◌≡◌, ℕ, Bool, true, false, cond, List, [], ◌∷◌, ◌++◌, refl, sym}
+use Rattle.std.proofs.Common.{ap, ◌∙◌, ◌||◌}
+use Rattle.std.specs.List.{list_all}
+use Rattle.std.proofs.lemmas.Bool.{and_parts, or_parts, not-true}
+use Rattle.uri_ops.specs.Dots.{is_single_dot, is_double_dot}
+use Rattle.uri_ops.proofs.Paths.Segments.{is_none, step_of, steps, parent, AllPass, is_dotless}
+use Rattle.uri_ops.proofs.Paths.Segments.{steps-of-dotless-append-all, steps_are_dotless}
+
+-- a double dot meets an empty output, at this segment or before it
+unfoldable pub underflows_at : Bool → Bool → Bool → List (List ℕ) → Bool
+underflows_at true double before output = before
+underflows_at false true before output = before || is_none output
+underflows_at false false before output = before
+
+unfoldable pub underflows_over : Bool → List (List ℕ) → List (List ℕ) → Bool
+underflows_over before output [] = before
+underflows_over before output (s ∷ rest) =
+    underflows_over (underflows_at (is_single_dot s) (is_double_dot s) before output)
+    (step_of output s) rest
+
+-- dot segments: two lists of segments underflow if the first does, or the second after what the
+-- first leaves; before: an underflow before
+pub underflows_over-of-append : (before : Bool) (output xs ys : List (List ℕ))
+    → underflows_over before output (xs ++ ys) ≡ underflows_over (underflows_over before output xs)
+    (steps output xs) ys
+unfolding underflows_over steps
+underflows_over-of-append before output [] ys = refl
+underflows_over-of-append before output (x ∷ xs) ys =
+    underflows_over-of-append (underflows_at (is_single_dot x) (is_double_dot x) before output)
+    (step_of output x) xs ys
+
+-- dot segments: an empty segment makes no underflow; before: whether there was one before
+empty-segment-does-not-underflow : (before : Bool) (output : List (List ℕ))
+    → underflows_over before output ([] ∷ [])
+    ≡ before
+unfolding underflows_over underflows_at
+empty-segment-does-not-underflow before output = refl
+
+-- dot segments: an underflow that there was stays at the next segment;
+-- single, double: whether it is `.`, or `..`
+underflow-before-stays-at-segment : (single double : Bool) (output : List (List ℕ))
+    → underflows_at single double true output ≡ true
+unfolding underflows_at
+underflow-before-stays-at-segment true double output = refl
+underflow-before-stays-at-segment false true output = refl
+underflow-before-stays-at-segment false false output = refl
+
+-- dot segments: an underflow that there was stays over all segments after it
+underflow-before-stays-over-segments : (output segs : List (List ℕ))
+    → underflows_over true output segs ≡ true
+unfolding underflows_over
+underflow-before-stays-over-segments output [] = refl
+underflow-before-stays-over-segments output (s ∷ rest) =
+    ap (λ b. underflows_over b (step_of output s) rest)
+    (underflow-before-stays-at-segment (is_single_dot s) (is_double_dot s) output)
+    ∙ underflow-before-stays-over-segments (step_of output s) rest
+
+-- dot segments: segments underflow if there was an underflow before, or they do by themselves
+pub underflows_over_is_or : (before : Bool) (output segs : List (List ℕ))
+    → underflows_over before output segs ≡ (before || underflows_over false output segs)
+underflows_over_is_or true output segs = underflow-before-stays-over-segments output segs
+underflows_over_is_or false output segs = refl
+
+-- dot segments: a segment that is none makes no underflow; before: whether there was one before
+dotless-segment-does-not-underflow : (before : Bool) (output : List (List ℕ)) (s : List ℕ)
+    → is_dotless s ≡ true
+    → underflows_at (is_single_dot s) (is_double_dot s) before output ≡ before
+unfolding underflows_at
+dotless-segment-does-not-underflow before output s e =
+    let f = or_parts (is_single_dot s) (is_double_dot s) (not-true _ e) in
+    ap (λ b. underflows_at b (is_double_dot s) before output) f.0
+    ∙ ap (λ b. underflows_at false b before output) f.1
+
+-- dot segments: segments of which none is one make no underflow;
+-- before: whether there was one before
+pub dotless-segments-do-not-underflow : (before : Bool) (output xs : List (List ℕ))
+    → AllPass is_dotless xs
+    → underflows_over before output xs ≡ before
+unfolding underflows_over
+dotless-segments-do-not-underflow before output [] e = refl
+dotless-segments-do-not-underflow before output (s ∷ rest) e =
+    let f = and_parts (is_dotless s) (list_all is_dotless rest) e in
+    ap (λ b. underflows_over b (step_of output s) rest)
+    (dotless-segment-does-not-underflow before output s f.0)
+    ∙ dotless-segments-do-not-underflow before (step_of output s) rest f.1
+
+-- removing dot segments: some underflow if a prefix does,
+-- or what is left of the prefix does with the rest after it
+pub segments-underflow-as-prefix-or-remainder : (xs ys : List (List ℕ))
+    → underflows_over false [] (xs ++ ys)
+    ≡ (underflows_over false [] xs || underflows_over false [] (steps [] xs ++ ys))
+segments-underflow-as-prefix-or-remainder xs ys =
+    underflows_over-of-append false [] xs ys ∙ underflows_over_is_or (underflows_over false [] xs)
+    (steps [] xs) ys
+    ∙ ap (λ b. underflows_over false [] xs || b) (sym (
+    underflows_over-of-append false [] (steps [] xs) ys
+    ∙ ap (λ b. underflows_over b (steps [] (steps [] xs)) ys)
+    (dotless-segments-do-not-underflow false [] (steps [] xs) (steps_are_dotless xs))
+    ∙ ap (λ o. underflows_over false o ys)
+    (steps-of-dotless-append-all [] (steps [] xs) (steps_are_dotless xs))))
+
+-- dot segments: an empty segment at the end makes no underflow;
+-- before: whether there was one before
+pub trailing-slash-changes-no-underflow : (before : Bool) (output xs : List (List ℕ))
+    → underflows_over before output (xs ++ [] ∷ []) ≡ underflows_over before output xs
+trailing-slash-changes-no-underflow before output xs = underflows_over-of-append before output
+    xs ([] ∷ [])
+    ∙ empty-segment-does-not-underflow (underflows_over before output xs) (steps output xs)
+
+-- removing dot segments: only `..` underflows; single, double: whether a segment is `.`, or `..`
+only-double-dot-underflows : (single double before : Bool) (output : List (List ℕ))
+    → cond double (underflows_at single double before output) before
+    ≡ underflows_at single double before output
+unfolding underflows_at
+only-double-dot-underflows true true before output = refl
+only-double-dot-underflows true false before output = refl
+only-double-dot-underflows false true before output = refl
+only-double-dot-underflows false false before output = refl
+
+-- dot segments: one segment s, if b, or none makes the underflow that it makes at s, or none
+underflows_over-segment-if-double-dot : (b before : Bool) (output : List (List ℕ)) (s : List ℕ)
+    → underflows_over before output (cond b (s ∷ []) [])
+    ≡ cond b (underflows_at (is_single_dot s) (is_double_dot s) before output) before
+unfolding underflows_over
+underflows_over-segment-if-double-dot true before output s = refl
+underflows_over-segment-if-double-dot false before output s = refl
+
+-- resolving: a directory underflows exactly if the segments of its path do;
+-- before: whether there was an underflow before
+pub parent-underflows-as-segments : (before : Bool) (output segs : List (List ℕ))
+    → underflows_over before output (parent segs) ≡ underflows_over before output segs
+unfolding underflows_over parent
+parent-underflows-as-segments before output [] = refl
+parent-underflows-as-segments before output (s ∷ []) = underflows_over-segment-if-double-dot
+    (is_double_dot s) before output s
+    ∙ only-double-dot-underflows (is_single_dot s) (is_double_dot s) before output
+parent-underflows-as-segments before output (s ∷ t ∷ rest) =
+    parent-underflows-as-segments (underflows_at (is_single_dot s) (is_double_dot s) before output)
+    (step_of output s)
+    (t ∷ rest)

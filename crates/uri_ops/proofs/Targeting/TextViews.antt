@@ -1,0 +1,328 @@
+-- The substrings of a text between the positions of its components.
+use Rattle.std.proofs.Common.{◌≡◌, ℕ, ◌+◌, ◌≤◌, true, List, [], ◌∷◌, ◌++◌, length, take, drop, refl}
+use Rattle.std.proofs.Common.{sym, ap, subst, ◌∙◌, arith, append_assoc, length-append, option_map}
+use Rattle.std.specs.Prelude.{codes, Option, Some, None, IfSome, slice_range}
+use Rattle.std.specs.Str.{IsUtf8, IsCharBoundary}
+use Rattle.std.proofs.Math.Seq.{drop-append_seam, take-append_seam}
+use Rattle.std.proofs.lemmas.Option.{none-some, same_Some}
+use Rattle.uri_parts.specs.declared.positions.AuthorityPositions.{AuthorityPositions}
+use Rattle.uri_parts.specs.declared.positions.Positions.{Positions}
+use Rattle.uri_parts.specs.Components.{components, marked}
+use Rattle.uri_parts.specs.Grammar.{Kind, is_authority}
+use Rattle.uri_parts.specs.Positions.{ArePositionsOf, authority_at, before_fragment, host_end_of}
+use Rattle.uri_parts.specs.Positions.{host_start_of, delimited_length}
+use Rattle.uri_parts.proofs.Authorities.AuthorityPlaces.{host_is_at_positions}
+use Rattle.uri_parts.proofs.Splitting.Fragments.{slice_range-from-start, boundary-at-fragment-mark}
+use Rattle.uri_parts.proofs.Splitting.Marks.{fragment_text}
+use Rattle.uri_parts.proofs.Splitting.Places.{boundary_after_mark, before_hash}
+use Rattle.uri_parts.proofs.Splitting.Places.{split-text-is-before-fragment-and-fragment}
+use Rattle.uri_parts.proofs.Splitting.Places.{length-before_hash, slice-between-prefix-and-suffix}
+use Rattle.uri_parts.proofs.Splitting.ComponentPositions.{path_is_at_positions}
+use Rattle.uri_parts.proofs.Splitting.Recompose.{components-are-split-of-text, recompose-components}
+use Rattle.uri_ops.specs.Dots.{IsAbsolute}
+use Rattle.uri_ops.specs.Models.Places.{IsSlashOrStart, before_path}
+use Rattle.uri_parts.specs.Grammar.{IsTextOf}
+use Rattle.uri_ops.proofs.Normal.NormalTexts.{text-has-parts-of-kind}
+use Rattle.uri_ops.proofs.Normal.WrittenPlaces.{length-with-delimiter-before}
+use Rattle.uri_ops.proofs.Normal.WrittenPlaces.{length-before_path-is-path_start}
+use Rattle.uri_ops.proofs.Normal.WrittenPlaces.{length-with-delimiter-after}
+use Rattle.uri_ops.proofs.Paths.LastSlashes.{cut, slash-position-is-prefix-length}
+use Rattle.uri_ops.proofs.Paths.LastSlashes.{prefix-through-slash-ends-in-slash}
+
+-- positions: a host ends within its authority
+pub host-ends-within-authority : (kind : Kind) (text : List ℕ) → IsTextOf kind text → (a : List ℕ)
+    → (components text).authority ≡ Some a → host_end_of a ≤ length a
+host-ends-within-authority kind text w a e =
+    let h = subst (λ o. IfSome o (λ a. IsUtf8 a × (is_authority kind a ≡ true))) e
+    (text-has-parts-of-kind kind text w).authority in
+    (host_is_at_positions kind.userinfo kind.reg_name a h.1 h.0).ends.0
+
+-- the positions of an authority are in a text that ends with it
+pub record Within (text : List ℕ) (places : AuthorityPositions) : Type 0 where
+  pub start : places.start ≤ places.end
+  pub host_start : places.host_start ≤ places.end
+  pub host_end : places.host_end ≤ places.end
+  pub end : places.end ≡ length text
+
+-- positions: those of an authority are within the text of scheme and authority
+authority-positions-are-within-prefix-text : (scheme authority : Option (List ℕ))
+    (places : AuthorityPositions)
+    → ((a : List ℕ) → authority ≡ Some a → host_end_of a ≤ length a)
+    → Some places ≡ option_map (authority_at (delimited_length 1 scheme + 2)) authority
+    → Within (marked [] scheme (codes ":") ++ marked (codes "//") authority []) places
+authority-positions-are-within-prefix-text scheme None places host e = absurd
+    (none-some places (sym e))
+authority-positions-are-within-prefix-text scheme (Some a) places host e =
+    let h : host_end_of a ≤ length a = host a refl in
+    let prefix = marked [] scheme (codes ":") ++ marked (codes "//") (Some a) [] in
+    let n : length prefix ≡ delimited_length 1 scheme + delimited_length 2 (Some a) = omega (
+      arith,
+      length-append (marked [] scheme (codes ":")) (marked (codes "//") (Some a) []),
+      length-with-delimiter-after scheme 58,
+      length-with-delimiter-before (codes "//") (Some a),
+    ) in
+    subst (Within prefix) (sym (same_Some _ _ e))
+    (record {
+      start = omega arith;
+      host_start = omega (arith, h);
+      host_end = omega (arith, h);
+      end = omega (arith, n);
+    })
+
+-- positions: those of an authority are within the text before the path
+pub authority-positions-are-in-prefix : (text : List ℕ) (p : Positions)
+    (places : AuthorityPositions) → ArePositionsOf text p
+    → ((a : List ℕ) → (components text).authority ≡ Some a → host_end_of a ≤ length a)
+    → p.authority ≡ Some places → Within (before_path (components text)) places
+authority-positions-are-in-prefix text p places at host e =
+    authority-positions-are-within-prefix-text (components text).scheme (components text).authority
+    places host
+    (sym e ∙ ap (λ (q : Positions). q.authority) at)
+
+-- positions: those of an authority in a text without a scheme, moved by n, are those after a scheme
+-- of n bytes (with its `:`)
+moved-authority-positions-are-after-scheme : (n : ℕ) (authority : Option (List ℕ))
+    (places moved : AuthorityPositions)
+    → Some places ≡ option_map (authority_at 2) authority
+    → moved.start ≡ n + places.start → moved.host_start ≡ n + places.host_start
+    → moved.host_end ≡ n + places.host_end → moved.end ≡ n + places.end
+    → Some moved ≡ option_map (authority_at (n + 2)) authority
+moved-authority-positions-are-after-scheme n None places moved e start host_start host_end end =
+    absurd (none-some places (sym e))
+moved-authority-positions-are-after-scheme n (Some a) places moved e start host_start host_end end =
+    let f = same_Some _ _ e in
+    let a0 : moved.start ≡ n + 2 = start ∙ ap (λ (q : AuthorityPositions). n + q.start) f in
+    let a1 : moved.host_start ≡ n + 2 + host_start_of a = omega
+    (arith, host_start, ap (λ (q : AuthorityPositions). q.host_start) f) in
+    let a2 : moved.host_end ≡ n + 2 + host_end_of a = omega
+    (arith, host_end, ap (λ (q : AuthorityPositions). q.host_end) f) in
+    let a3 : moved.end ≡ n + 2 + length a = omega
+    (arith, end, ap (λ (q : AuthorityPositions). q.end) f) in
+    λ i. Some (record { start = a0 i; host_start = a1 i; host_end = a2 i; end = a3 i })
+
+-- positions: after a scheme of n bytes (with its `:`), an authority is n bytes further on;
+-- moved: its positions there
+pub authority-positions-after-scheme : (text : List ℕ) (p : Positions) (n : ℕ)
+    (places moved : AuthorityPositions)
+    → ArePositionsOf text p → (components text).scheme ≡ None → p.authority ≡ Some places
+    → moved.start ≡ n + places.start → moved.host_start ≡ n + places.host_start
+    → moved.host_end ≡ n + places.host_end → moved.end ≡ n + places.end
+    → Some moved ≡ option_map (authority_at (n + 2)) (components text).authority
+authority-positions-after-scheme text p n places moved at none e start host_start host_end end =
+    moved-authority-positions-are-after-scheme n (components text).authority places moved
+    (sym e ∙ ap (λ (q : Positions). q.authority) at
+    ∙ ap (λ s. option_map (authority_at (delimited_length 1 s + 2)) (components text).authority)
+    none) start host_start host_end end
+
+-- a scheme and its mark, at the start of a text
+pub record HasScheme (text : List ℕ) (scheme : Option (List ℕ)) (end : ℕ) : Type 0 where
+  pub cut : IsCharBoundary text (end + 1)
+  pub holds : take (end + 1) text ≡ marked [] scheme (codes ":")
+
+-- positions: a text begins with its scheme, which ends at the end of it
+text-begins-with-its-scheme : (text : List ℕ) (scheme : Option (List ℕ)) (rest : List ℕ)
+    → marked [] scheme (codes ":") ++ rest ≡ text → IsUtf8 text → (end : ℕ)
+    → Some end ≡ option_map length scheme → HasScheme text scheme end
+text-begins-with-its-scheme text None rest whole utf8 end e = absurd (none-some end (sym e))
+text-begins-with-its-scheme text (Some s) rest whole utf8 end e =
+    let n : end ≡ length s = same_Some _ _ e in
+    let m : end + 1 ≡ length (s ++ codes ":") = omega (arith, n, length-append s (codes ":")) in
+    let joined : s ++ (58 ∷ rest) ≡ text = sym (append_assoc s (codes ":") rest) ∙ whole in
+    record {
+      cut = subst (λ k. IsCharBoundary text (k + 1)) (sym n)
+          (subst (λ t. IsCharBoundary t (length s + 1)) joined
+          (boundary_after_mark s rest 58 (omega arith) (subst IsUtf8 (sym joined) utf8)));
+      holds = ap (λ k. take k text) m ∙ ap (take (length (s ++ codes ":"))) (sym whole)
+          ∙ take-append_seam (s ++ codes ":") rest;
+    }
+
+-- paths: after a `/` (47) in the middle of a path a character begins;
+-- the text up to it is prefix, left and `/`
+position-after-inner-slash-is-boundary : (text prefix path suffix left right : List ℕ)
+    (start slash : ℕ)
+    → text ≡ prefix ++ (path ++ suffix) → start ≡ length prefix → path ≡ left ++ 47 ∷ right
+    → slash ≡ length left → IsUtf8 text
+    → IsCharBoundary text (start + slash + 1)
+    × (take (start + slash + 1) text ≡ prefix ++ (left ++ codes "/"))
+position-after-inner-slash-is-boundary text prefix path suffix left right start slash whole
+    n e m utf8 =
+    let joined : text ≡ (prefix ++ left) ++ 47 ∷ (right ++ suffix) = whole
+    ∙ ap (λ t. prefix ++ (t ++ suffix)) e
+    ∙ ap (λ t. prefix ++ t) (append_assoc left (47 ∷ right) suffix)
+    ∙ sym (append_assoc prefix left (47 ∷ (right ++ suffix))) in
+    let k : start + slash + 1 ≡ length (prefix ++ left) + 1 = omega
+    (arith, n, m, length-append prefix left) in
+    let l : start + slash + 1 ≡ length ((prefix ++ left) ++ codes "/") = omega
+    (arith, k, length-append (prefix ++ left) (codes "/")) in (
+      subst (IsCharBoundary text) (sym k)
+          (subst (λ t. IsCharBoundary t (length (prefix ++ left) + 1)) (sym joined)
+          (boundary_after_mark (prefix ++ left) (right ++ suffix) 47 (omega arith)
+          (subst IsUtf8 joined utf8))),
+      ap (take (start + slash + 1))
+          (joined ∙ sym (append_assoc (prefix ++ left) (codes "/") (right ++ suffix)))
+          ∙ ap (λ j. take j (((prefix ++ left) ++ codes "/") ++ (right ++ suffix))) l
+          ∙ take-append_seam ((prefix ++ left) ++ codes "/") (right ++ suffix)
+          ∙ append_assoc prefix left (codes "/"),
+    )
+
+module _ (text : List ℕ) (p : Positions) (utf8 : IsUtf8 text) (at : ArePositionsOf text p) where
+  pub slice-of-scheme : (end : ℕ) → p.scheme_end ≡ Some end
+      → HasScheme text (components text).scheme end
+  slice-of-scheme end e =
+      text-begins-with-its-scheme text (components text).scheme _
+      (recompose-components text) utf8 end
+      (sym e ∙ ap (λ (q : Positions). q.scheme_end) at)
+
+  pub path_start-is-boundary : IsCharBoundary text p.path_start
+  path_start-is-boundary = (path_is_at_positions text p utf8 at).starts
+
+  pub slice-before-path : slice_range text 0 p.path_start ≡ before_path (components text)
+  slice-before-path =
+      let c = components text in
+      let suffix = c.path ++ (marked (codes "?") c.query [] ++ marked (codes "#") c.fragment []) in
+      slice_range-from-start text p.path_start
+      ∙ ap (λ k. take k text) (ap (λ (q : Positions). q.path_start) at
+      ∙ sym (length-before_path-is-path_start c))
+      ∙ ap (take (length (before_path c)))
+      (sym (append_assoc (marked [] c.scheme (codes ":")) (marked (codes "//") c.authority [])
+      suffix ∙ recompose-components text))
+      ∙ take-append_seam (before_path c) suffix
+
+  query-ends-after-its-length : before_fragment p
+      ≡ p.path_end + length (marked (codes "?") (components text).query [])
+  query-ends-after-its-length =
+      let c = components text in
+      ap before_fragment at ∙ sym (length-before_hash c)
+      ∙ omega (
+        arith,
+        length-append (before_path c ++ c.path) (marked (codes "?") c.query []),
+        length-append (before_path c) c.path,
+        length-before_path-is-path_start c,
+        ap
+            (λ (q : Positions). q.path_end) at,
+      )
+
+  pub path_end-is-boundary : IsCharBoundary text p.path_end
+  path_end-is-boundary = (path_is_at_positions text p utf8 at).ends
+
+  pub query-end-is-boundary : IsCharBoundary text (before_fragment p)
+  query-end-is-boundary = boundary-at-fragment-mark text p at (before_fragment p) refl
+
+  pub slice-of-query : slice_range text p.path_end (before_fragment p)
+      ≡ marked (codes "?") (components text).query []
+  slice-of-query =
+      let c = components text in
+      let prefix = before_path c ++ c.path in
+      let query = marked (codes "?") c.query [] in
+      let n : p.path_end ≡ length prefix = omega (
+        arith,
+        length-append (before_path c) c.path,
+        length-before_path-is-path_start c,
+        ap
+            (λ (q : Positions). q.path_end) at,
+      ) in
+      let m : before_fragment p ≡ length prefix + length query = omega
+      (arith, n, query-ends-after-its-length) in
+      let whole : text ≡ prefix ++ (query ++ fragment_text c.fragment) =
+      split-text-is-before-fragment-and-fragment text c
+      (components-are-split-of-text text)
+      ∙ append_assoc prefix query (fragment_text c.fragment) in
+      ap (λ k. slice_range text k (before_fragment p)) n ∙ ap (slice_range text (length prefix)) m
+      ∙ ap (λ t. slice_range t (length prefix) (length prefix + length query)) whole
+      ∙ slice-between-prefix-and-suffix prefix query (fragment_text c.fragment)
+
+  pub slice-of-fragment : drop (before_fragment p) text
+      ≡ marked (codes "#") (components text).fragment []
+  slice-of-fragment =
+      let c = components text in
+      ap (λ k. drop k text) (ap before_fragment at ∙ sym (length-before_hash c))
+      ∙ ap (drop (length (before_hash c))) (split-text-is-before-fragment-and-fragment text c
+      (components-are-split-of-text text))
+      ∙ drop-append_seam (before_hash c) (fragment_text c.fragment)
+
+  text-is-prefix-path-query-and-fragment : text
+      ≡ before_path (components text) ++
+      ((components text).path ++
+      (marked (codes "?") (components text).query [] ++ marked (codes "#")
+      (components text).fragment []))
+  text-is-prefix-path-query-and-fragment =
+      let c = components text in
+      sym (append_assoc (marked [] c.scheme (codes ":")) (marked (codes "//") c.authority [])
+      (c.path ++ (marked (codes "?") c.query [] ++ marked (codes "#") c.fragment []))
+      ∙ recompose-components text)
+
+  pub slice-after-path : drop p.path_end text
+      ≡ marked (codes "?") (components text).query [] ++ marked (codes "#")
+      (components text).fragment []
+  slice-after-path =
+      let c = components text in
+      let prefix = before_path c ++ c.path in
+      let suffix = marked (codes "?") c.query [] ++ marked (codes "#") c.fragment [] in
+      let n : p.path_end ≡ length prefix = omega (
+        arith,
+        length-append (before_path c) c.path,
+        length-before_path-is-path_start c,
+        ap
+            (λ (q : Positions). q.path_end) at,
+      ) in
+      ap (λ k. drop k text) n
+      ∙ ap (drop (length prefix)) (text-is-prefix-path-query-and-fragment
+      ∙ sym (append_assoc (before_path c) c.path suffix))
+      ∙ drop-append_seam prefix suffix
+
+  pub slice-through-path : slice_range text 0 p.path_end
+      ≡ before_path (components text) ++ (components text).path
+  slice-through-path =
+      let c = components text in
+      let prefix = before_path c ++ c.path in
+      let suffix = marked (codes "?") c.query [] ++ marked (codes "#") c.fragment [] in
+      let n : p.path_end ≡ length prefix = omega (
+        arith,
+        length-append (before_path c) c.path,
+        length-before_path-is-path_start c,
+        ap
+            (λ (q : Positions). q.path_end) at,
+      ) in
+      slice_range-from-start text p.path_end ∙ ap (λ k. take k text) n
+      ∙ ap (take (length prefix)) (text-is-prefix-path-query-and-fragment
+      ∙ sym (append_assoc (before_path c) c.path suffix))
+      ∙ take-append_seam prefix suffix
+
+  pub slice-before-fragment : slice_range text 0 (before_fragment p)
+      ≡ (before_path (components text) ++ (components text).path) ++ marked (codes "?")
+      (components text).query []
+  slice-before-fragment =
+      let c = components text in
+      let prefix = before_path c ++ c.path in
+      let query = marked (codes "?") c.query [] in
+      let n : before_fragment p ≡ length (prefix ++ query) = omega (
+        arith,
+        length-append prefix query,
+        length-append (before_path c) c.path,
+        length-before_path-is-path_start c,
+        ap (λ (q : Positions). q.path_end) at,
+        query-ends-after-its-length,
+      ) in
+      slice_range-from-start text (before_fragment p) ∙ ap (λ k. take k text) n
+      ∙ ap (take (length (prefix ++ query))) (split-text-is-before-fragment-and-fragment text c
+      (components-are-split-of-text text))
+      ∙ take-append_seam (prefix ++ query) (fragment_text c.fragment)
+
+  -- a text up to a `/` of its path is what is before the path, and the path up to that `/`
+  pub through_slash : (slash : ℕ) → IsAbsolute (components text).path
+      → IsSlashOrStart (components text).path 0 slash
+      → IsCharBoundary text (p.path_start + slash + 1)
+      × (take (p.path_start + slash + 1) text ≡ before_path (components text) ++ take (slash + 1)
+      (components text).path)
+  through_slash slash absolute place =
+      let c = components text in
+      let parted = position-after-inner-slash-is-boundary text (before_path c) c.path _
+      (take slash c.path)
+      (drop (slash + 1) c.path) p.path_start slash text-is-prefix-path-query-and-fragment
+      (ap (λ (q : Positions). q.path_start) at ∙ sym (length-before_path-is-path_start c))
+      (cut c.path slash absolute place)
+      (slash-position-is-prefix-length c.path slash absolute place) utf8 in (
+        parted.0,
+        parted.1 ∙ ap (λ t. before_path c ++ t)
+            (sym (prefix-through-slash-ends-in-slash c.path slash absolute place)),
+      )

@@ -1,0 +1,181 @@
+-- The texts that pass the tests of a kind are those of its grammar.
+use Rattle.std.proofs.Common.{◌≡◌, ℕ, Bool, true, false, not, List, refl, sym, ap, subst, ◌∙◌, ◌&&◌}
+use Rattle.std.proofs.Common.{◌||◌, inl, inr, ⊎_elim}
+use Rattle.std.specs.Prelude.{◌↔◌, ◌⊎◌, is_some}
+use Rattle.std.specs.Str.{IsUtf8}
+use Rattle.std.proofs.lemmas.Bool.{false≢true}
+use Rattle.uri_pct.specs.Sets.{TableSet}
+use Rattle.uri_parts.specs.Authority.{AuthorityParts, IsAuthorityFor, LackAuthorityDelimiters}
+use Rattle.uri_parts.specs.Authority.{authority_parts}
+use Rattle.uri_parts.specs.Components.{Components, components}
+use Rattle.uri_parts.specs.Grammar.{Kind, IsOfKind, is_scheme, is_authority}
+use Rattle.uri_parts.specs.Grammar.{has_colon_in_first_segment}
+use Rattle.uri_parts.specs.Grammar.{components_meet_rules, uri, uri_ref, iri, iri_ref}
+use Rattle.uri_parts.specs.GrammarInWords.{HasAuthorityParts, FollowsRules, IsInGrammar}
+use Rattle.uri_parts.specs.Hosts.{HostKind, IsHost, host_kind}
+use Rattle.uri_parts.proofs.Authorities.Authority.{is_authority_for-sound}
+use Rattle.uri_parts.proofs.Authorities.Authority.{is_authority_for-complete}
+use Rattle.uri_parts.proofs.Authorities.Authority.{authority_parts-are-unique}
+use Rattle.uri_parts.proofs.Authorities.Authority.{names_exclude_delimiters}
+use Rattle.uri_parts.proofs.HostForms.Hosts.{is_host-complete}
+use Rattle.uri_parts.proofs.Splitting.Recompose.{components-are-split-of-text}
+use Rattle.uri_parts.proofs.Splitting.Splits.{only-split-is-components}
+use Rattle.uri_ops.specs.ComponentSets.{HasComponentSets}
+use Rattle.uri_ops.proofs.Meanings.AuthorityMeanings.{kind-sets-lack-authority-delimiters}
+use Rattle.uri_ops.proofs.TextKinds.FourKinds.{uri-has-component-sets, uri_ref-has-component-sets}
+use Rattle.uri_ops.proofs.TextKinds.FourKinds.{iri-has-component-sets, iri_ref-has-component-sets}
+use Rattle.uri_ops.proofs.Meanings.AllowedParts.{is_set_text, set-text-from-utf8, set-text-is-valid}
+use Rattle.uri_pct.proofs.Tests.{IfSome-weaken, IfSome-combine}
+use Rattle.uri_ops.proofs.Meanings.TextParts.{ArePartsOfKind, AreUtf8, components-of-utf8-are-utf8}
+use Rattle.uri_ops.proofs.Meanings.TextParts.{grammar-gives-components-of-kind}
+use Rattle.uri_ops.proofs.Meanings.TextParts.{components-of-kind-meet-grammar}
+
+-- general fact on booleans, for the rule on schemes; s, n, a, c: a scheme is there, is needed, an
+-- authority is there, `:` is in the first segment
+scheme-rule-gives-its-cases : (s n a c : Bool) → (s || (not n && (a || not c))) ≡ true
+    → (s ≡ true) ⊎ ((n ≡ false) × ((a ≡ true) ⊎ (c ≡ false)))
+scheme-rule-gives-its-cases true n a c e = inl refl
+scheme-rule-gives-its-cases false true a c e = absurd (false≢true e)
+scheme-rule-gives-its-cases false false true c e = inr (refl, inl refl)
+scheme-rule-gives-its-cases false false false true e = absurd (false≢true e)
+scheme-rule-gives-its-cases false false false false e = inr (refl, inr refl)
+
+-- general fact on booleans, for the rule on `:`; a, c: an authority is there,
+-- `:` is in the first segment
+cases-give-colon-rule : (a c : Bool) → (a ≡ true) ⊎ (c ≡ false) → (a || not c) ≡ true
+cases-give-colon-rule true c h = refl
+cases-give-colon-rule false c h = ⊎_elim (λ e. absurd (false≢true e)) (λ e. ap not e) h
+
+-- general fact on booleans, for the rule on schemes; s, n, a, c: a scheme is there, is needed, an
+-- authority is there, `:` is in the first segment
+cases-give-scheme-rule : (s n a c : Bool) → (s ≡ true) ⊎ ((n ≡ false) × ((a ≡ true) ⊎ (c ≡ false)))
+    → (s || (not n && (a || not c))) ≡ true
+cases-give-scheme-rule true n a c h = refl
+cases-give-scheme-rule false true a c h = ⊎_elim (λ e. absurd (false≢true e))
+    (λ p. absurd (false≢true (sym p.0)))
+    h
+cases-give-scheme-rule false false a c h = ⊎_elim (λ e. absurd (false≢true e))
+    (λ p. cases-give-colon-rule a c p.1) h
+
+module _ (kind : Kind) (sets : HasComponentSets kind) where
+  text-of-kind-follows-rules : (text : List ℕ) → IsUtf8 text → IsOfKind kind text
+      → FollowsRules kind text (components text)
+  text-of-kind-follows-rules text u h =
+      let p = components text in
+      let parts = grammar-gives-components-of-kind kind p (components-of-utf8-are-utf8 text u) h in
+      record {
+        split = components-are-split-of-text text;
+        scheme = IfSome-weaken p.scheme (λ s. IsUtf8 s × (is_scheme s ≡ true))
+            (λ s. is_scheme s ≡ true)
+            (λ s w. w.1) parts.scheme;
+        authority = IfSome-weaken p.authority (λ a. IsUtf8 a × (is_authority kind a ≡ true))
+            (HasAuthorityParts kind)
+            (λ a w. (authority_parts a, is_authority_for-sound kind.userinfo kind.reg_name a w.1))
+            parts.authority;
+        path = set-text-is-valid kind.path p.path parts.path;
+        query = IfSome-weaken p.query (λ q. is_set_text kind.query q ≡ true) _
+            (λ q w. set-text-is-valid kind.query q w) parts.query;
+        fragment = IfSome-weaken p.fragment (λ q. is_set_text kind.fragment q ≡ true) _
+            (λ q w. set-text-is-valid kind.fragment q w) parts.fragment;
+        reference = scheme-rule-gives-its-cases (is_some p.scheme) kind.needs_scheme
+            (is_some p.authority)
+            (has_colon_in_first_segment p.path) parts.needs;
+      }
+
+  rules-give-components-of-kind : (text : List ℕ) (p : Components) → AreUtf8 p
+      → FollowsRules kind text p
+      → ArePartsOfKind kind p
+  rules-give-components-of-kind text p u g = record {
+    scheme = IfSome-combine p.scheme IsUtf8 (λ s. is_scheme s ≡ true) _ (λ s v w. (v, w)) u.scheme
+        g.scheme;
+    authority = IfSome-combine p.authority IsUtf8 (HasAuthorityParts kind) _
+        (λ a v w. (
+          v,
+          is_authority_for-complete kind.userinfo kind.reg_name
+              (kind-sets-lack-authority-delimiters kind sets)
+              a w.0 v w.1,
+        )) u.authority g.authority;
+    path = set-text-from-utf8 kind.path p.path u.path g.path;
+    query = IfSome-combine p.query IsUtf8 _ _ (λ q v w. set-text-from-utf8 kind.query q v w)
+        u.query g.query;
+    fragment = IfSome-combine p.fragment IsUtf8 _ _
+        (λ q v w. set-text-from-utf8 kind.fragment q v w) u.fragment
+        g.fragment;
+    needs = cases-give-scheme-rule (is_some p.scheme) kind.needs_scheme (is_some p.authority)
+        (has_colon_in_first_segment p.path) g.reference;
+  }
+
+  grammar-gives-text-of-kind : (text : List ℕ) → IsUtf8 text → IsInGrammar kind text
+      → IsOfKind kind text
+  grammar-gives-text-of-kind text u (p, g) =
+      let same = only-split-is-components text p g.split in
+      ap (components_meet_rules kind) same
+      ∙ components-of-kind-meet-grammar kind p
+      (rules-give-components-of-kind text p
+      (subst AreUtf8 same (components-of-utf8-are-utf8 text u)) g)
+
+  text-is-of-kind-if-in-grammar : (text : List ℕ) → IsUtf8 text
+      → (IsOfKind kind text ↔ IsInGrammar kind text)
+  text-is-of-kind-if-in-grammar text u =
+      (λ h. (components text, text-of-kind-follows-rules text u h), grammar-gives-text-of-kind text u)
+
+pub uris-are-texts-of-grammar : (text : List ℕ) → IsUtf8 text
+    → (IsOfKind uri text ↔ IsInGrammar uri text)
+uris-are-texts-of-grammar text u = text-is-of-kind-if-in-grammar uri uri-has-component-sets text u
+
+pub uri_refs-are-texts-of-grammar : (text : List ℕ) → IsUtf8 text
+    → (IsOfKind uri_ref text ↔ IsInGrammar uri_ref text)
+uri_refs-are-texts-of-grammar text u = text-is-of-kind-if-in-grammar uri_ref
+    uri_ref-has-component-sets text u
+
+pub iris-are-texts-of-grammar : (text : List ℕ) → IsUtf8 text
+    → (IsOfKind iri text ↔ IsInGrammar iri text)
+iris-are-texts-of-grammar text u = text-is-of-kind-if-in-grammar iri iri-has-component-sets text u
+
+pub iri_refs-are-texts-of-grammar : (text : List ℕ) → IsUtf8 text
+    → (IsOfKind iri_ref text ↔ IsInGrammar iri_ref text)
+iri_refs-are-texts-of-grammar text u = text-is-of-kind-if-in-grammar iri_ref
+    iri_ref-has-component-sets text u
+
+-- authorities: userinfo and host of a URI cannot contain what ends an authority
+uri-sets-lack-authority-delimiters : LackAuthorityDelimiters uri.userinfo uri.reg_name
+uri-sets-lack-authority-delimiters = kind-sets-lack-authority-delimiters uri uri-has-component-sets
+
+-- authorities: userinfo and host of an IRI cannot contain what ends an authority
+iri-sets-lack-authority-delimiters : LackAuthorityDelimiters iri.userinfo iri.reg_name
+iri-sets-lack-authority-delimiters = kind-sets-lack-authority-delimiters iri iri-has-component-sets
+
+-- parsing: the authority of a URI has one cut into userinfo, host and port (RFC 3986, section 3.2)
+pub uri-authority-splits-in-one-way : (text : List ℕ) (p : AuthorityParts) → IsUtf8 text
+    → IsAuthorityFor uri.userinfo uri.reg_name text p → authority_parts text ≡ p
+uri-authority-splits-in-one-way text p u h = authority_parts-are-unique uri.userinfo uri.reg_name
+    uri-sets-lack-authority-delimiters text p u h
+
+-- parsing: the authority of an IRI has one cut into userinfo, host and port (RFC 3986, section 3.2)
+pub iri-authority-splits-in-one-way : (text : List ℕ) (p : AuthorityParts) → IsUtf8 text
+    → IsAuthorityFor iri.userinfo iri.reg_name text p → authority_parts text ≡ p
+iri-authority-splits-in-one-way text p u h = authority_parts-are-unique iri.userinfo iri.reg_name
+    iri-sets-lack-authority-delimiters text p u h
+
+-- hosts: a text is a host of one kind: IP address, IPvFuture or name
+host-is-of-one-kind : (users names : TableSet) → LackAuthorityDelimiters users names
+    → (text : List ℕ) (host : HostKind)
+    → IsUtf8 text → IsHost names text host → host_kind text ≡ host
+host-is-of-one-kind users names apart text host u h =
+    (is_host-complete names apart.names_percent (names_exclude_delimiters users names apart)
+    text host u
+    h).kind
+
+-- parsing: a host of a URI is of one kind: IP address, IPvFuture or name
+pub uri-host-is-of-one-kind : (text : List ℕ) (host : HostKind) → IsUtf8 text
+    → IsHost uri.reg_name text host
+    → host_kind text ≡ host
+uri-host-is-of-one-kind text host u h = host-is-of-one-kind uri.userinfo uri.reg_name
+    uri-sets-lack-authority-delimiters text host u h
+
+-- parsing: a host of an IRI is of one kind: IP address, IPvFuture or name
+pub iri-host-is-of-one-kind : (text : List ℕ) (host : HostKind) → IsUtf8 text
+    → IsHost iri.reg_name text host
+    → host_kind text ≡ host
+iri-host-is-of-one-kind text host u h = host-is-of-one-kind iri.userinfo iri.reg_name
+    iri-sets-lack-authority-delimiters text host u h

@@ -1,0 +1,282 @@
+use Rattle.std.proofs.Common.{◌≡◌, ◌+◌, ◌*◌, ◌-◌, ◌++◌, ◌<◌, ◌≤◌, ◌⊎◌, inl, inr, false, true, not}
+use Rattle.std.proofs.Common.{eqb}
+use Rattle.std.proofs.Common.{get_or, length, drop, refl, sym, ap, ◌∙◌, subst, arith, string_bytes}
+use Rattle.std.specs.Char.{digit_value}
+use Rattle.std.specs.List.{position_or_len}
+use Rattle.std.proofs.lemmas.List.{length-drop}
+use Rattle.std.proofs.lemmas.Result.{on_ok_weaker}
+use Rattle.std.proofs.lemmas.Str.{IsUtf8-drop, IsCharBoundary-start, IsCharBoundary-from_rest}
+use Rattle.uri_pct.specs.Sets.{is_unreserved}
+use Rattle.uri_pct.specs.Tables.{set_of}
+use Rattle.uri_ops.specs.Models.Decodings.{KeepsPrefixWhenDecoded, lowered_text_if, decoded_text}
+use Rattle.uri_ops.proofs.Meanings.DecodedPrefixes.{LiteralPrefix, octet-is-decoded-alone}
+use Rattle.uri_ops.proofs.Meanings.DecodedPrefixes.{percent-in-valid-text-begins-octet}
+use Rattle.uri_ops.proofs.Meanings.DecodedPrefixes.{text-before-percent-is-literal-prefix}
+use Rattle.uri_ops.proofs.Meanings.DecodedPrefixes.{empty-prefix-stays, kept-prefix-grows}
+use Rattle.uri_ops.proofs.Meanings.DecodedPrefixes.{kept-prefix-is-pushed}
+use Rattle.uri_ops.proofs.Meanings.DecodedOctets.{uppercase-reserved-octet-stays}
+use Rattle.uri_ops.proofs.Meanings.DecodedPrefixes.{last-prefix-is-pushed}
+use Rattle.uri_ops.proofs.Meanings.DecodedPrefixes.{suffix-of-suffix-is-valid}
+use Rattle.uri_ops.proofs.Meanings.DecodedPrefixes.{decoded-octet-is-pushed}
+use Rattle.uri_ops.proofs.Meanings.DecodedPrefixes.{kept-prefix-is-kept-from-zero}
+use Rattle.uri_ops.proofs.Meanings.DecodedPrefixes.{unset-flags-lack-past-ascii}
+use Rattle.uri_ops.proofs.normalize.decode_unreserved.push_decoded_runs.Goals as goal
+use Rattle.uri_ops.proofs.normalize.decode_unreserved.push_decoded_runs.Goals.{else-high-ge56-via-then-high-ge56+else-not-alone}
+use Rattle.uri_ops.proofs.normalize.decode_unreserved.push_decoded_runs.Goals.{else-high-ge56-via-else-high-ge56}
+
+pub loop-end-init : goal.loop-end-init
+loop-end-init c =
+    let text = c.args.text.now in
+    let set = set_of c.args.table.now in
+    let p = text-before-percent-is-literal-prefix text c.args.first c.utf8.text c.requires.valid
+    c.requires.first in
+    record {
+      order = omega arith;
+      start = IsCharBoundary-start text c.utf8.text;
+      boundary = p.boundary;
+      valid = p.valid;
+      prefix = kept-prefix-is-kept-from-zero c.args.lowers set text c.args.first
+          (p.prefix c.args.lowers set);
+      total = refl;
+    }
+
+literal : (c : goal.After-unencoded_len-end)
+    → LiteralPrefix (drop c.loop-end.end c.args.text.now) c.unencoded_len-end.result
+literal c =
+    let holds = c.loop-end.invariant in
+    text-before-percent-is-literal-prefix (drop c.loop-end.end c.args.text.now)
+    c.unencoded_len-end.result
+    (IsUtf8-drop c.args.text.now c.loop-end.end c.utf8.text holds.boundary) holds.valid
+    (c.unencoded_len-end.ensures ∙ ap (position_or_len (λ b. eqb b 37)) c.range_from.ensures.value)
+
+pub overflow_add-end : goal.overflow_add-end
+overflow_add-end c =
+    let within = (literal c).boundary.0 in
+    let long = length-drop c.loop-end.end c.args.text.now in
+    omega (arith, within, long)
+
+pub loop-end-preserved-then-bytes-end-ne37 : goal.loop-end-preserved-then-bytes-end-ne37
+loop-end-preserved-then-bytes-end-ne37 c =
+    let text = c.args.text.now in
+    let end = c.loop-end.end in
+    let more = c.unencoded_len-end.result in
+    let holds = c.loop-end.invariant in
+    let p = literal c in
+    record {
+      order = omega (arith, holds.order);
+      start = holds.start;
+      boundary = IsCharBoundary-from_rest text end more holds.boundary.0 p.boundary;
+      valid = suffix-of-suffix-is-valid text end more p.valid;
+      prefix = kept-prefix-grows c.args.lowers (set_of c.args.table.now) text
+          c.loop-end.done end more
+          holds.order holds.prefix (p.prefix c.args.lowers (set_of c.args.table.now));
+      total = holds.total;
+    }
+
+pub bounds-bytes-end-in-loop-end : goal.bounds-bytes-end-in-loop-end
+bounds-bytes-end-in-loop-end c =
+    let holds = c.loop-end.invariant in
+    let at = percent-in-valid-text-begins-octet c.as_bytes-bytes.result.now c.args.text.now
+    c.loop-end.end
+    c.as_bytes-bytes.ensures.value c.utf8.text holds.boundary holds.valid c.loop-end-test.true
+    c.if-bytes-end-ne37.false in
+    omega (arith, at.within)
+
+pub bounds-bytes-end-in-loop-end-2 : goal.bounds-bytes-end-in-loop-end-2
+bounds-bytes-end-in-loop-end-2 c =
+    let holds = c.loop-end.invariant in
+    (percent-in-valid-text-begins-octet c.as_bytes-bytes.result.now c.args.text.now c.loop-end.end
+    c.as_bytes-bytes.ensures.value c.utf8.text holds.boundary holds.valid c.loop-end-test.true
+    c.if-bytes-end-ne37.false).within
+
+pub octet_value-requires-clause-high : goal.octet_value-requires-clause-high
+octet_value-requires-clause-high c =
+    let holds = c.loop-end.invariant in
+    (percent-in-valid-text-begins-octet c.as_bytes-bytes.result.now c.args.text.now c.loop-end.end
+    c.as_bytes-bytes.ensures.value c.utf8.text holds.boundary holds.valid c.loop-end-test.true
+    c.if-bytes-end-ne37.false).high_digit
+
+pub octet_value-requires-clause-low : goal.octet_value-requires-clause-low
+octet_value-requires-clause-low c =
+    let holds = c.loop-end.invariant in
+    (percent-in-valid-text-begins-octet c.as_bytes-bytes.result.now c.args.text.now c.loop-end.end
+    c.as_bytes-bytes.ensures.value c.utf8.text holds.boundary holds.valid c.loop-end-test.true
+    c.if-bytes-end-ne37.false).low_digit
+
+pub unreserved_of_octet-requires-clause-high : goal.unreserved_of_octet-requires-clause-high
+unreserved_of_octet-requires-clause-high c =
+    let holds = c.loop-end.invariant in
+    (percent-in-valid-text-begins-octet c.as_bytes-bytes.result.now c.args.text.now c.loop-end.end
+    c.as_bytes-bytes.ensures.value c.utf8.text holds.boundary holds.valid c.loop-end-test.true
+    c.if-bytes-end-ne37.false).high_digit
+
+pub unreserved_of_octet-requires-clause-low : goal.unreserved_of_octet-requires-clause-low
+unreserved_of_octet-requires-clause-low c =
+    let holds = c.loop-end.invariant in
+    (percent-in-valid-text-begins-octet c.as_bytes-bytes.result.now c.args.text.now c.loop-end.end
+    c.as_bytes-bytes.ensures.value c.utf8.text holds.boundary holds.valid c.loop-end-test.true
+    c.if-bytes-end-ne37.false).low_digit
+
+pub returns-then-not-alone : goal.returns-then-not-alone
+returns-then-not-alone c =
+    let text = c.args.text.now in
+    let lowers = c.args.lowers in
+    let set = set_of c.args.table.now in
+    let out = string_bytes c.loop-end.out in
+    let holds = c.loop-end.invariant in
+    let pushed = c.in_ok-push_literal-2.ensures
+    ∙ ap (λ x. out ++ lowered_text_if lowers x) c.range-then-not-alone.ensures.value in
+    let total = kept-prefix-is-pushed lowers set text out
+    (string_bytes c.push_literal-then-not-alone.new.out)
+    (string_bytes c.args.out.now ++ decoded_text lowers set text) c.loop-end.done c.loop-end.end
+    holds.order holds.prefix pushed holds.total in
+    on_ok_weaker c.push_decoded_parts.result
+    (λ decoded. decoded ∙ ap (λ x. string_bytes c.push_literal-then-not-alone.new.out
+    ++ decoded_text lowers set x) c.range_from-then-not-alone.ensures.value ∙ total)
+    c.push_decoded_parts.ensures
+
+pub loop-end-preserved-in-Some : goal.loop-end-preserved-in-Some
+loop-end-preserved-in-Some c =
+    let text = c.args.text.now in
+    let lowers = c.args.lowers in
+    let set = set_of c.args.table.now in
+    let alone = not c.allows_some_past_ascii-alone.result in
+    let end = c.loop-end.end in
+    let out = string_bytes c.loop-end.out in
+    let prefix = string_bytes c.push_literal.new.out in
+    let whole = string_bytes c.args.out.now ++ decoded_text lowers set text in
+    let holds = c.loop-end.invariant in
+    let at = percent-in-valid-text-begins-octet c.as_bytes-bytes.result.now c.args.text.now
+    c.loop-end.end
+    c.as_bytes-bytes.ensures.value c.utf8.text holds.boundary holds.valid c.loop-end-test.true
+    c.if-bytes-end-ne37.false in
+    let pushed = c.in_ok-push_literal.ensures
+    ∙ ap (λ x. out ++ lowered_text_if lowers x) c.range.ensures.value in
+    let total = kept-prefix-is-pushed lowers set text out prefix whole c.loop-end.done end
+    holds.order
+    holds.prefix pushed holds.total in
+    let either : (alone ≡ true) ⊎ (get_or c.as_bytes-bytes.result.now (end + 1) 0 < 56) =
+    inr c.in-Some.ensures.2 in
+    let itself = octet-is-decoded-alone c.as_bytes-bytes.result.now text end at alone either in
+    let none = unset-flags-lack-past-ascii set c.allows_some_past_ascii-alone.result
+    c.allows_some_past_ascii-alone.ensures in
+    let bytes = c.as_bytes-bytes.result.now in
+    let value = 16 * digit_value (get_or bytes (end + 1) 0)
+    + digit_value (get_or bytes (end + 2) 0) in
+    let nothing : 0 ≡ end + 3 - (end + 3) = omega arith in
+    record {
+      order = omega arith;
+      start = at.boundary;
+      boundary = at.boundary;
+      valid = at.valid;
+      prefix = subst (KeepsPrefixWhenDecoded lowers set (drop (end + 3) text)) nothing
+          (empty-prefix-stays lowers set (drop (end + 3) text));
+      total = decoded-octet-is-pushed lowers set prefix
+          (string_bytes c.push_unreserved.new.out) whole
+          (drop end text) (drop (end + 3) text) value at.octet alone none itself at.value at.suffix
+          (c.in_ok-push_unreserved.ensures lowers value c.in-Some.ensures.1 c.in-Some.ensures.0)
+          total;
+    }
+
+pub loop-end-preserved-then-are_uppercase_digits : goal.loop-end-preserved-then-are_uppercase_digits
+loop-end-preserved-then-are_uppercase_digits c =
+    let text = c.args.text.now in
+    let bytes = c.as_bytes-bytes.result.now in
+    let end = c.loop-end.end in
+    let set = set_of c.args.table.now in
+    let alone = not c.allows_some_past_ascii-alone.result in
+    let holds = c.loop-end.invariant in
+    let at = percent-in-valid-text-begins-octet c.as_bytes-bytes.result.now c.args.text.now
+    c.loop-end.end
+    c.as_bytes-bytes.ensures.value c.utf8.text holds.boundary holds.valid c.loop-end-test.true
+    c.if-bytes-end-ne37.false in
+    let either : (alone ≡ true) ⊎ (get_or bytes (end + 1) 0 < 56) =
+    elim c.else-high-ge56.branch [
+      | else-high-ge56-via-then-high-ge56+else-not-alone w ↦ inl
+          (ap not w.if-not-alone.false)
+      | else-high-ge56-via-else-high-ge56 w ↦ inr
+          w.if-high-ge56.false
+    ] in
+    let none = unset-flags-lack-past-ascii set c.allows_some_past_ascii-alone.result
+    c.allows_some_past_ascii-alone.ensures in
+    let octet : KeepsPrefixWhenDecoded false set (drop end text) 3 =
+    uppercase-reserved-octet-stays set (drop end text) at.octet (get_or bytes (end + 1) 0)
+    (get_or bytes (end + 2) 0)
+    alone at.high at.low (sym c.are_uppercase_digits.ensures ∙ c.if-are_uppercase_digits.true)
+    (ap is_unreserved (sym at.value) ∙ c.in_default.ensures) none
+    (octet-is-decoded-alone bytes text end at alone either) in
+    record {
+      order = omega (arith, holds.order);
+      start = holds.start;
+      boundary = at.boundary;
+      valid = at.valid;
+      prefix = kept-prefix-grows c.args.lowers set text c.loop-end.done end 3 holds.order
+          holds.prefix
+          (subst (λ lowers. KeepsPrefixWhenDecoded lowers set (drop end text) 3)
+          (sym c.if-not-lowers.true)
+          octet);
+      total = holds.total;
+    }
+
+pub loop-end-preserved : goal.loop-end-preserved
+loop-end-preserved c =
+    let text = c.args.text.now in
+    let lowers = c.args.lowers in
+    let set = set_of c.args.table.now in
+    let alone = not c.allows_some_past_ascii-alone.result in
+    let end = c.loop-end.end in
+    let out = string_bytes c.loop-end.out in
+    let prefix = string_bytes c.push_literal-in-loop-end.new.out in
+    let whole = string_bytes c.args.out.now ++ decoded_text lowers set text in
+    let holds = c.loop-end.invariant in
+    let at = percent-in-valid-text-begins-octet c.as_bytes-bytes.result.now c.args.text.now
+    c.loop-end.end
+    c.as_bytes-bytes.ensures.value c.utf8.text holds.boundary holds.valid c.loop-end-test.true
+    c.if-bytes-end-ne37.false in
+    let pushed = c.in_ok-push_literal-3.ensures
+    ∙ ap (λ x. out ++ lowered_text_if lowers x) c.range-in-loop-end.ensures.value in
+    let total = kept-prefix-is-pushed lowers set text out prefix whole c.loop-end.done end
+    holds.order
+    holds.prefix pushed holds.total in
+    let either : (alone ≡ true) ⊎ (get_or c.as_bytes-bytes.result.now (end + 1) 0 < 56) =
+    elim c.else-high-ge56.branch [
+      | else-high-ge56-via-then-high-ge56+else-not-alone w ↦ inl
+          (ap not w.if-not-alone.false)
+      | else-high-ge56-via-else-high-ge56 w ↦ inr
+          w.if-high-ge56.false
+    ] in
+    let itself = octet-is-decoded-alone c.as_bytes-bytes.result.now text end at alone either in
+    let none = unset-flags-lack-past-ascii set c.allows_some_past_ascii-alone.result
+    c.allows_some_past_ascii-alone.ensures in
+    let nothing : 0 ≡ end + 3 - (end + 3) = omega arith in
+    record {
+      order = omega arith;
+      start = at.boundary;
+      boundary = at.boundary;
+      valid = at.valid;
+      prefix = subst (KeepsPrefixWhenDecoded lowers set (drop (end + 3) text)) nothing
+          (empty-prefix-stays lowers set (drop (end + 3) text));
+      total = decoded-octet-is-pushed lowers set prefix (string_bytes c.push_octet.new.out) whole
+          (drop end text)
+          (drop (end + 3) text) c.octet_value.result at.octet alone none itself
+          (c.octet_value.ensures ∙ at.value) at.suffix (c.in_ok-push_octet.ensures lowers)
+          total;
+    }
+
+pub returns : goal.returns
+returns c =
+    let text = c.args.text.now in
+    let lowers = c.args.lowers in
+    let set = set_of c.args.table.now in
+    let done = c.loop-end.done in
+    let out = string_bytes c.loop-end.out in
+    let whole = string_bytes c.args.out.now ++ decoded_text lowers set text in
+    let holds = c.loop-end.invariant in
+    let over : length text ≤ c.loop-end.end =
+    omega (arith, c.loop-end-test.false, ap length c.as_bytes-bytes.ensures.value) in
+    on_ok_weaker c.push_literal-2.result
+    (λ pushed. last-prefix-is-pushed lowers set text out
+    (string_bytes c.push_literal-2.new.out) whole done
+    c.loop-end.end holds.order over holds.prefix
+    (pushed ∙ ap (λ x. out ++ lowered_text_if lowers x) c.range_from-2.ensures.value) holds.total)
+    c.push_literal-2.ensures

@@ -1,0 +1,34 @@
+use Rattle.std.proofs.Common.{◌≤◌, ◌++◌, refl, arith, length, string_bytes}
+use Rattle.std.proofs.lemmas.Result.{on_ok_weaker}
+use Rattle.uri_pct.specs.Tables.{set_of}
+use Rattle.uri_ops.specs.Models.Decodings.{decoded_text}
+use Rattle.uri_ops.proofs.Meanings.DecodedPrefixes.{text-before-percent-is-literal-prefix}
+use Rattle.uri_ops.proofs.Meanings.DecodedPrefixes.{kept-prefix-is-kept-from-zero}
+use Rattle.uri_ops.proofs.Meanings.DecodedPrefixes.{last-prefix-is-pushed}
+use Rattle.uri_ops.proofs.Meanings.DecodedPrefixes.{none_written}
+use Rattle.uri_ops.proofs.normalize.decode_unreserved.push_decoded_tokens.Goals as goal
+
+pub returns-then-first-text : goal.returns-then-first-text
+returns-then-first-text c =
+    let text = c.args.text.now in
+    let lowers = c.args.lowers in
+    let set = set_of c.args.table.now in
+    let first = c.unencoded_len-first.result in
+    let out = string_bytes c.args.out.now in
+    let literal = text-before-percent-is-literal-prefix text first c.utf8.text c.requires
+    c.unencoded_len-first.ensures in
+    let over : length text ≤ first = omega (arith, c.if-first-text.true) in
+    let prefix = kept-prefix-is-kept-from-zero lowers set text first (literal.prefix lowers set) in
+    let whole = out ++ decoded_text lowers set text in
+    let new = string_bytes c.push_literal.new.out in
+    on_ok_weaker c.push_literal.result
+    (λ pushed.
+    last-prefix-is-pushed lowers set text out new whole 0 first (omega arith) over prefix
+    pushed refl)
+    c.push_literal.ensures
+
+pub returns-then-end-text : goal.returns-then-end-text
+returns-then-end-text c =
+    none_written c.args.lowers (set_of c.args.table.now) c.args.text.now
+    (string_bytes c.push_short.new.out) _ c.in_ok-end.end c.if-end-text.true
+    c.in_ok-end.ensures.text

@@ -1,0 +1,36 @@
+use Rattle.std.proofs.Common.{◌≡◌, true, false, ◌||◌, sym, ap, ◌∙◌}
+use Rattle.std.specs.List.{list_any}
+use Rattle.std.specs.Str.{chars}
+use Rattle.std.specs.Str.Iter.{chars_rest}
+use Rattle.std.proofs.lemmas.Str.{IsUtf8-past_char, chars_past_char}
+use Rattle.uri_pct.specs.DecodeUnreserved.{is_bidi_formatting}
+use Rattle.uri_ops.proofs.Meanings.WrittenFormatting.{empty-text-has-no-characters}
+use Rattle.uri_ops.proofs.normalize.formatting.has_formatting_char.Goals as goal
+
+pub returns-then-is_bidi_formatting : goal.returns-then-is_bidi_formatting
+returns-then-is_bidi_formatting c =
+    let holds = c.loop-ch.invariant in
+    let rest = chars_rest c.next.new.self in
+    let step = chars_past_char _ _ c.in-Some.ch holds.0 c.in-Some.ensures.steps.0 in
+    let found : is_bidi_formatting c.in-Some.ch ≡ true = sym c.is_bidi_formatting.ensures
+    ∙ c.if-is_bidi_formatting.true in
+    sym (ap (λ b. b || list_any is_bidi_formatting (chars rest)) found)
+    ∙ sym (ap (list_any is_bidi_formatting) step) ∙ holds.1
+
+pub loop-ch-preserved : goal.loop-ch-preserved
+loop-ch-preserved c =
+    let holds = c.loop-ch.invariant in
+    let rest = chars_rest c.next.new.self in
+    let parts = c.in-Some.ensures.steps.0 in
+    let step = chars_past_char _ _ c.in-Some.ch holds.0 parts in
+    let other : is_bidi_formatting c.in-Some.ch ≡ false = sym c.is_bidi_formatting.ensures
+    ∙ c.if-is_bidi_formatting.false in (
+      IsUtf8-past_char _ _ c.in-Some.ch holds.0 parts,
+      sym (ap (λ b. b || list_any is_bidi_formatting (chars rest)) other)
+          ∙ sym (ap (list_any is_bidi_formatting) step) ∙ holds.1,
+    )
+
+pub returns : goal.returns
+returns c = sym (ap (list_any is_bidi_formatting)
+    (empty-text-has-no-characters _ c.in-None.ensures.steps.0.0))
+    ∙ c.loop-ch.invariant.1

@@ -1,0 +1,12 @@
+use Rattle.std.proofs.Common.{◌≡◌, ◌≤◌, ◌<◌, ◌+◌, ◌-◌, ℕ, true, get_or}
+use Rattle.uri_ops.specs.Models.Unchanged.{is_literal_byte}
+use Rattle.uri_ops.proofs.normalize.unchanged.is_literal.Given as goal
+
+abbrev pub invariant-loop-i : goal.invariant-loop-i
+invariant-loop-i l = record {
+  within : l.i ≤ l.last + 16;
+  literal : (k : ℕ) → k < l.i → is_literal_byte (get_or l.bytes k 0) ≡ true;
+}
+
+abbrev pub decreases-loop-i : goal.decreases-loop-i
+decreases-loop-i l = l.last - l.i

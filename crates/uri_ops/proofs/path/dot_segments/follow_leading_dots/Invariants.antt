@@ -1,0 +1,16 @@
+use Rattle.std.proofs.Common.{◌++◌, length}
+use Rattle.uri_ops.specs.Models.Directories.{RemovalState, IsDotlessDirectory}
+use Rattle.uri_ops.proofs.path.dot_segments.follow_leading_dots.Given as goal
+use denote.Shadow.{shadow}
+use denote.Text.{Utf8}
+
+abbrev pub invariant-loop-next : goal.invariant-loop-next
+invariant-loop-next l = record {
+  kept : IsDotlessDirectory l.kept;
+  left : RemovalState (l.directory ++ l.reference) l.kept l.rest l.underflowed;
+  utf8 : shadow (Utf8 l.rest);
+  utf8_kept : shadow (Utf8 l.kept);
+}
+
+abbrev pub decreases-loop-next : goal.decreases-loop-next
+decreases-loop-next l = length l.rest

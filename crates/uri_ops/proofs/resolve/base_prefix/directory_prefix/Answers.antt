@@ -1,0 +1,35 @@
+use Rattle.std.proofs.Common.{rules, ◌≡◌, ◌+◌, ap, drop, false, is_some, sym, take, true, ◌∙◌}
+use Rattle.uri_parts.proofs.Splitting.Fragments.{slice_range-from-start}
+use Rattle.uri_ops.specs.Dots.{IsAbsolute, has_slash, is_double_dot, lacks_dot_segments}
+use Rattle.uri_ops.specs.Models.Places.{IsSlashOrStart}
+use Rattle.uri_ops.specs.Resolving.{components_of}
+use Rattle.uri_ops.proofs.Paths.LastSlashes.{position-after-slash-is-boundary}
+use Rattle.uri_ops.proofs.Targeting.PrefixedTargets.{text-to-last-slash-is-up-to-directory}
+use Rattle.uri_ops.proofs.resolve.base_prefix.directory_prefix.Goals as goal
+
+pub range_from-requires : goal.range_from-requires
+range_from-requires c = λ _. position-after-slash-is-boundary c.path-path.result.now
+    c.last_slash-slash.result
+    (search rules) (search rules) c.path-path.utf8
+
+pub range-requires-clause-end_boundary : goal.range-requires-clause-end_boundary
+range-requires-clause-end_boundary c =
+    position-after-slash-is-boundary c.path-path.result.now c.last_slash-slash.result (search rules)
+    (search rules)
+    c.path-path.utf8
+
+pub returns-then-is_dotless : goal.returns-then-is_dotless
+returns-then-is_dotless c =
+    let b = components_of c.args.base.now in
+    let slash = c.last_slash-slash.result in
+    let absolute : IsAbsolute b.path = search rules in
+    let place : IsSlashOrStart b.path 0 slash = search rules in
+    let last : has_slash (drop (slash + 1) b.path) ≡ false = search rules in
+    let dots : is_double_dot (drop (slash + 1) b.path) ≡ false = search rules in
+    let some : is_some b.authority ≡ true = search rules in
+    text-to-last-slash-is-up-to-directory b slash c.through_slash.result.now absolute
+    place last dots
+    (ap lacks_dot_segments
+    (sym (c.range.ensures.value ∙ slice_range-from-start c.path-path.result.now (slash + 1)
+    ∙ ap (take (slash + 1)) c.path-path.ensures)) ∙ c.is_dotless.ensures c.if-is_dotless.true)
+    some c.through_slash.ensures

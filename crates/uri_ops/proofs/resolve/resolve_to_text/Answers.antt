@@ -1,0 +1,109 @@
+use Rattle.std.proofs.Common.{◌≡◌, true, subst, sym}
+use Rattle.std.specs.Prelude.{is_some, string_bytes}
+use Rattle.std.proofs.lemmas.Result.{IfOk-weaker, IfErr-weaker}
+use Rattle.uri_ops.proofs.Targeting.ResolvedTexts.{target-is-text-of-base-kind}
+use Rattle.uri_ops.proofs.Targeting.ResolvedTexts.{target-of-texts-is-target-of-encoded}
+use Rattle.uri_ops.proofs.Targeting.ResolvedTexts.{error-of-texts-is-error-for-encoded}
+use Rattle.uri_ops.proofs.Targeting.ResolvedTexts.{target-of-texts-respects-meaning}
+use Rattle.uri_ops.proofs.Targeting.ResolvedTexts.{error-of-texts-respects-meaning}
+use Rattle.uri_ops.specs.Resolving.{IsTargetOfEncoded, IsErrorForEncoded}
+use Rattle.uri_ops.specs.NormalTargets.{IsTargetOfMeanings, IsErrorOfMeanings}
+use Rattle.uri_ops.specs.Resolving.{IsTarget, IsErrorFor, components_of}
+use Rattle.uri_parts.specs.Grammar.{IsTextOf}
+use Rattle.uri_parts.specs.Components.{Components}
+use Rattle.uri_ops.proofs.Targeting.Swaps.{text-of-kind-has-needed-scheme}
+use Rattle.uri_ops.proofs.resolve.resolve_to_text.Goals as goal
+
+pub target_text-requires : goal.target_text-requires
+target_text-requires g c =
+    subst (λ (p : Components). is_some p.scheme ≡ true) (sym c.of.ensures.components)
+    (text-of-kind-has-needed-scheme g.B.RiMaybeRef.kind (g.B.RiMaybeRef.text c.args.base.now)
+    g.met.B.Ri.needs_scheme
+    (record { utf8 = c.of.ensures.utf8; grammar = c.of.ensures.of_kind }))
+
+pub returns-clause-of_kind : goal.returns-clause-of_kind
+returns-clause-of_kind g c =
+    let kind = g.B.RiMaybeRef.kind in
+    let p = components_of c.of.result in
+    let q = components_of c.of-2.result in
+    let base = g.B.RiMaybeRef.text c.args.base.now in
+    let reference = g.Q.RiMaybeRef.text c.args.reference.now in
+    IfOk-weaker c.target_text.result
+    (λ made. IsTarget c.args.allow_path_underflow p q (string_bytes made.text))
+    (λ made. IsTextOf kind (string_bytes made.text))
+    (λ made. target-is-text-of-base-kind kind g.Q.RiMaybeRef.kind g.met.B.RiMaybeRef.component_sets
+    g.met.B.Ri.needs_scheme g.met.Q.RefOf.same_tables c.args.allow_path_underflow p q base
+    reference
+    c.of.ensures.components c.of-2.ensures.components c.of.ensures.utf8 c.of-2.ensures.utf8
+    c.of.ensures.of_kind c.of-2.ensures.of_kind (string_bytes made.text))
+    c.target_text.ensures.target
+
+pub returns-clause-encoded : goal.returns-clause-encoded
+returns-clause-encoded g c =
+    let kind = g.B.RiMaybeRef.kind in
+    let p = components_of c.of.result in
+    let q = components_of c.of-2.result in
+    let base = g.B.RiMaybeRef.text c.args.base.now in
+    let reference = g.Q.RiMaybeRef.text c.args.reference.now in
+    IfOk-weaker c.target_text.result
+    (λ made. IsTarget c.args.allow_path_underflow p q (string_bytes made.text))
+    (λ made. IsTargetOfEncoded c.args.allow_path_underflow base reference
+    (string_bytes made.text))
+    (λ made. target-of-texts-is-target-of-encoded kind g.Q.RiMaybeRef.kind
+    g.met.B.RiMaybeRef.component_sets
+    g.met.B.Ri.needs_scheme g.met.Q.RefOf.same_tables c.args.allow_path_underflow p q base
+    reference
+    c.of.ensures.components c.of-2.ensures.components c.of.ensures.utf8 c.of-2.ensures.utf8
+    c.of.ensures.of_kind c.of-2.ensures.of_kind (string_bytes made.text))
+    c.target_text.ensures.target
+
+pub returns-clause-encoded_error : goal.returns-clause-encoded_error
+returns-clause-encoded_error g c =
+    let kind = g.B.RiMaybeRef.kind in
+    let p = components_of c.of.result in
+    let q = components_of c.of-2.result in
+    let base = g.B.RiMaybeRef.text c.args.base.now in
+    let reference = g.Q.RiMaybeRef.text c.args.reference.now in
+    IfErr-weaker c.target_text.result (IsErrorFor c.args.allow_path_underflow p q)
+    (IsErrorForEncoded c.args.allow_path_underflow base reference)
+    (error-of-texts-is-error-for-encoded kind g.Q.RiMaybeRef.kind g.met.B.RiMaybeRef.component_sets
+    g.met.B.Ri.needs_scheme g.met.Q.RefOf.same_tables c.args.allow_path_underflow p q base
+    reference
+    c.of.ensures.components c.of-2.ensures.components c.of.ensures.utf8 c.of-2.ensures.utf8
+    c.of.ensures.of_kind c.of-2.ensures.of_kind)
+    c.target_text.ensures.error
+
+pub returns-clause-alike : goal.returns-clause-alike
+returns-clause-alike g c =
+    let kind = g.B.RiMaybeRef.kind in
+    let p = components_of c.of.result in
+    let q = components_of c.of-2.result in
+    let base = g.B.RiMaybeRef.text c.args.base.now in
+    let reference = g.Q.RiMaybeRef.text c.args.reference.now in
+    IfOk-weaker c.target_text.result
+    (λ made. IsTarget c.args.allow_path_underflow p q (string_bytes made.text))
+    (λ made. IsTargetOfMeanings kind g.Q.RiMaybeRef.kind base reference
+    (string_bytes made.text))
+    (λ made. target-of-texts-respects-meaning kind g.Q.RiMaybeRef.kind
+    g.met.B.RiMaybeRef.component_sets
+    g.met.B.Ri.needs_scheme g.met.Q.RefOf.same_tables c.args.allow_path_underflow p q base
+    reference
+    c.of.ensures.components c.of-2.ensures.components c.of.ensures.utf8 c.of-2.ensures.utf8
+    c.of.ensures.of_kind c.of-2.ensures.of_kind (string_bytes made.text))
+    c.target_text.ensures.target
+
+pub returns-clause-alike_error : goal.returns-clause-alike_error
+returns-clause-alike_error g c =
+    let kind = g.B.RiMaybeRef.kind in
+    let p = components_of c.of.result in
+    let q = components_of c.of-2.result in
+    let base = g.B.RiMaybeRef.text c.args.base.now in
+    let reference = g.Q.RiMaybeRef.text c.args.reference.now in
+    IfErr-weaker c.target_text.result (IsErrorFor c.args.allow_path_underflow p q)
+    (IsErrorOfMeanings kind g.Q.RiMaybeRef.kind base reference)
+    (error-of-texts-respects-meaning kind g.Q.RiMaybeRef.kind g.met.B.RiMaybeRef.component_sets
+    g.met.B.Ri.needs_scheme
+    g.met.Q.RefOf.same_tables c.args.allow_path_underflow p q base reference
+    c.of.ensures.components c.of-2.ensures.components c.of.ensures.utf8 c.of-2.ensures.utf8
+    c.of.ensures.of_kind c.of-2.ensures.of_kind)
+    c.target_text.ensures.error

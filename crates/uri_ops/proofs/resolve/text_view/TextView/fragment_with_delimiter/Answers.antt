@@ -1,0 +1,19 @@
+use Rattle.std.proofs.Common.{ap, drop, sym, subst, [], ◌∙◌}
+use Rattle.std.specs.Prelude.{codes}
+use Rattle.std.specs.Str.{IsCharBoundary}
+use Rattle.uri_parts.specs.Components.{components, marked}
+use Rattle.uri_ops.proofs.Targeting.TextViews.{query-end-is-boundary, slice-of-fragment}
+use Rattle.uri_ops.proofs.resolve.text_view.TextView.fragment_with_delimiter.Goals as goal
+
+pub range_from-requires : goal.range_from-requires
+range_from-requires c =
+    λ _. subst (IsCharBoundary c.as_str-text.result.now) (sym c.before_fragment.ensures)
+    (query-end-is-boundary c.as_str-text.result.now c.args.self.now.positions c.as_str-text.utf8
+    c.as_str-text.ensures.at)
+
+pub returns : goal.returns
+returns c =
+    c.range_from.ensures.value ∙ ap (λ n. drop n c.as_str-text.result.now) c.before_fragment.ensures
+    ∙ slice-of-fragment c.as_str-text.result.now c.args.self.now.positions c.as_str-text.utf8
+    c.as_str-text.ensures.at
+    ∙ ap (λ t. marked (codes "#") (components t).fragment []) c.as_str-text.ensures.text

@@ -1,0 +1,85 @@
+-- The positions of an authority that is a host with what is after it, or userinfo and a host.
+use Rattle.std.proofs.Common.{◌≡◌, ℕ, ◌+◌, true, false, cond, List, ◌∷◌, ◌++◌}
+use Rattle.std.proofs.Common.{length, drop, refl, ap, ◌∙◌, arith}
+use Rattle.std.proofs.Common.{length-append}
+use Rattle.std.specs.Prelude.{codes, Some, None}
+use Rattle.std.proofs.lemmas.Bool.{cond-true, cond-false}
+use Rattle.uri_parts.specs.declared.positions.AuthorityPositions.{AuthorityPositions}
+use Rattle.uri_parts.specs.Components.{before_any, from_any, starts, Lacks}
+use Rattle.uri_parts.specs.Positions.{authority_at, host_start_of, host_end_of, delimited_length}
+use Rattle.uri_parts.specs.Authority.{authority_parts, leading_host}
+use Rattle.uri_parts.proofs.Authorities.Authority.{cut-of-text-without-marks}
+use Rattle.uri_parts.proofs.Authorities.AuthorityCuts.{suffix}
+use Rattle.uri_parts.proofs.Splitting.Cuts.{cut-at-end-of-text-without-marks}
+
+-- the positions of an authority that begins at a position, with a host at another
+abbrev pub places : ℕ → ℕ → List ℕ → List ℕ → AuthorityPositions
+places start host name suffix =
+    record {
+      start = start;
+      host_start = host;
+      host_end = host + length name;
+      end =
+          host + length (name ++ suffix);
+    }
+
+-- a host with what is after it, and userinfo before them
+module _ (host suffix : List ℕ) (at : Lacks (codes "@") (host ++ suffix))
+    (is_host : leading_host (host ++ suffix) ≡ host) where
+  abbrev pub bare : List ℕ
+  bare = host ++ suffix
+
+  host-and-suffix-have-no-at-sign : starts 64 (from_any (codes "@") bare) ≡ false
+  host-and-suffix-have-no-at-sign = ap (starts 64)
+      (cut-of-text-without-marks (codes "@") (host ++ suffix) at).1
+
+  pub authority_at-without-userinfo : (place : ℕ) → authority_at place bare
+      ≡ places place place host suffix
+  authority_at-without-userinfo place =
+      let first : host_start_of bare ≡ 0 =
+      ap (λ t. delimited_length 1 (cond t (Some (before_any (codes "@") bare)) None))
+      host-and-suffix-have-no-at-sign in
+      let host_is : (authority_parts bare).host
+      ≡ host = ap leading_host (cond-false _ _ _ host-and-suffix-have-no-at-sign)
+      ∙ is_host in
+      let s : place + host_start_of bare ≡ place = omega (arith, first) in
+      let e : place + host_end_of bare ≡ place + length host =
+      omega (arith, first, ap length host_is) in
+      λ i. record {
+        start = place;
+        host_start = s i;
+        host_end = e i;
+        end =
+            place + length (host ++ suffix);
+      }
+
+  module _ (user : List ℕ) (outside : Lacks (codes "@") user) where
+    abbrev text : List ℕ
+    text = user ++ (64 ∷ (host ++ suffix))
+
+    text-is-cut-at-first-at-sign : (before_any (codes "@") text ≡ user)
+        × (from_any (codes "@") text ≡ 64 ∷ (host ++ suffix))
+    text-is-cut-at-first-at-sign = cut-at-end-of-text-without-marks (codes "@") user
+        (64 ∷ (host ++ suffix)) outside refl
+
+    text-after-userinfo-begins-with-at-sign : starts 64 (from_any (codes "@") text) ≡ true
+    text-after-userinfo-begins-with-at-sign = ap (starts 64) text-is-cut-at-first-at-sign.1
+
+    pub authority_at-with-userinfo : (place : ℕ)
+        → authority_at place text ≡ places place (place + (length user + 1)) host suffix
+    authority_at-with-userinfo place =
+        let first : host_start_of text ≡ 1 + length user =
+        ap (λ t. delimited_length 1 (cond t (Some (before_any (codes "@") text)) None))
+        text-after-userinfo-begins-with-at-sign
+        ∙ ap (λ t. 1 + length t) text-is-cut-at-first-at-sign.0 in
+        let host_is : (authority_parts text).host ≡ host =
+        ap leading_host (cond-true _ _ _ text-after-userinfo-begins-with-at-sign
+        ∙ ap (drop 1) text-is-cut-at-first-at-sign.1)
+        ∙ is_host in
+        let l = length-append user (64 ∷ (host ++ suffix)) in
+        let s : place + host_start_of text ≡ place + (length user + 1) = omega (arith, first) in
+        let e : place + host_end_of text ≡ place + (length user + 1) + length host =
+        omega (arith, first, ap length host_is) in
+        let t : place + length text ≡ place + (length user + 1) + length (host ++ suffix) =
+        omega (arith, l) in
+        λ i. record { start = place; host_start = s i; host_end = e i; end = t i }

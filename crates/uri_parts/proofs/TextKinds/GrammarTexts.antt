@@ -1,0 +1,55 @@
+-- What a text that is valid for a set lacks, and UTF-8 on both sides of an ASCII character.
+use Rattle.std.proofs.Common.{◌≡◌, ℕ, ◌<◌, ◌≤◌, true, false, List, ◌∷◌, ◌++◌, length, get_or, drop}
+use Rattle.std.proofs.Common.{length-append, sym, subst, ◌∙◌, arith}
+use Rattle.std.specs.Str.{IsUtf8}
+use Rattle.std.proofs.Math.Seq.{get_or-append_seam, take-append_seam, drop-append_seam}
+use Rattle.std.proofs.lemmas.Str.{IsUtf8-take, IsUtf8-drop, IsCharBoundary-before_ascii}
+use Rattle.std.proofs.lemmas.List.{take_all}
+use Rattle.std.proofs.lemmas.Bool.{and_parts, eqb-true, not-true}
+use Rattle.uri_pct.specs.Sets.{TableSet, LacksPercent, is_one_of}
+use Rattle.uri_pct.specs.Tokens.{is_valid_for}
+use Rattle.uri_pct.specs.Prefixes.{valid_prefix}
+use Rattle.uri_pct.proofs.ValidTexts.Cuts.{excludes, valid_prefix-ends-by-mark}
+use Rattle.uri_pct.proofs.ValidTexts.Cuts.{is_valid_for_is_scanned_to_end}
+use Rattle.uri_pct.proofs.ValidTexts.MarksInTexts.{length_before_marks, test_holds_of_each}
+use Rattle.uri_parts.specs.Components.{Lacks, before_any}
+use Rattle.uri_parts.proofs.Splitting.Cuts.{text-is-cut-at-first-mark}
+use Rattle.uri_parts.proofs.Parsing.ScanStops.{utf8_after_ascii_byte}
+
+-- general fact on texts, for proofs by length: a prefix before a byte is shorter
+prefix-is-shorter-than-text : (xs : List ℕ) (c : ℕ) (ys : List ℕ)
+    → length xs < length (xs ++ c ∷ ys)
+prefix-is-shorter-than-text xs c ys = omega (arith, length-append xs (c ∷ ys))
+
+-- parsing: on both sides of an ASCII byte c, a text in UTF-8 is UTF-8
+pub utf8_around_ascii_byte : (xs : List ℕ) (c : ℕ) (ys : List ℕ) → c < 128 → IsUtf8 (xs ++ c ∷ ys)
+    → IsUtf8 xs × IsUtf8 ys
+utf8_around_ascii_byte xs c ys h u =
+    let text : List ℕ = xs ++ c ∷ ys in
+    let n = length xs in
+    let at : get_or text n 0 ≡ c = get_or-append_seam xs c ys 0 in
+    let rest : drop n text ≡ c ∷ ys = drop-append_seam xs (c ∷ ys) in
+    let inside : n < length text = prefix-is-shorter-than-text xs c ys in
+    let boundary = IsCharBoundary-before_ascii text n inside (omega arith) in (
+      subst IsUtf8 (take-append_seam xs (c ∷ ys)) (IsUtf8-take text n u boundary),
+      utf8_after_ascii_byte c ys h (subst IsUtf8 rest (IsUtf8-drop text n u boundary)),
+    )
+
+-- splitting: a delimiter is no character of a set that excludes it
+pub excluded_mark_is_no_char : (set : TableSet) (marks : List ℕ) → excludes set marks
+    ≡ true → (c : ℕ)
+    → is_one_of marks c ≡ true → set.ascii c ≡ false
+excluded_mark_is_no_char set marks outside c m =
+    not-true _ (and_parts _ _ (and_parts _ _ (test_holds_of_each _ marks outside c m)).1).0
+
+-- splitting: a valid text lacks the delimiters that the set excludes
+pub valid_text_lacks_excluded_marks : (set : TableSet) (marks : List ℕ) → LacksPercent set
+    → excludes set marks ≡ true
+    → (text : List ℕ) → IsUtf8 text → is_valid_for set text ≡ true → Lacks marks text
+valid_text_lacks_excluded_marks set marks lacks outside text u valid =
+    let scanned : valid_prefix set text ≡ length text =
+    eqb-true _ _ (sym (is_valid_for_is_scanned_to_end set text lacks u) ∙ valid) in
+    let le : valid_prefix set text ≤ length_before_marks marks text =
+    valid_prefix-ends-by-mark marks set lacks outside text u in
+    let whole : before_any marks text ≡ text = take_all _ text (omega arith) in
+    subst (Lacks marks) whole (text-is-cut-at-first-mark marks text).lacks

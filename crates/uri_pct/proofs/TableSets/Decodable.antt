@@ -1,0 +1,32 @@
+-- The set of the characters whose octets normalising decodes.
+use Rattle.std.proofs.Common.{◌≡◌, ℕ, ◌<◌, false, sym, ap, ◌∙◌, arith, ◌||◌, ⊎_elim}
+use Rattle.std.proofs.Math.Bool.{or-false}
+use Rattle.std.proofs.lemmas.Bool.{cond-true, cond-false, le-ltb, lt-ltb, false_from_ne_true}
+use Rattle.std.proofs.lemmas.Bool.{cases_lt}
+use Rattle.uri_pct.specs.DecodeUnreserved.{is_decodable}
+use Rattle.uri_pct.specs.Sets.{TableSet, allows, allows_past_ascii, is_unreserved}
+use Rattle.uri_pct.proofs.ValidTexts.Allowed.{allowed_past_ascii_is_scalar}
+use Rattle.uri_pct.proofs.TableSets.Constants.{unreserved_masks_are_unreserved_set}
+use Rattle.uri_pct.proofs.TableSets.Constants.{past_ascii_is_not_unreserved}
+use Rattle.uri_pct.proofs.TableSets.Tables.{set_of_masks}
+
+-- sets: an ASCII character is not allowed as one past ASCII
+ascii_is_not_allowed_past_ascii : (set : TableSet) (c : ℕ) → c < 128 → allows_past_ascii set c
+    ≡ false
+ascii_is_not_allowed_past_ascii set c below = false_from_ne_true _
+    (λ e. let p = allowed_past_ascii_is_scalar set c e in absurd (omega arith))
+
+-- normalising: the table of decodable characters,
+-- unreserved ones and those of the set past ASCII, allows exactly these
+pub decodable_table_allows_decodable : (set : TableSet) (c : ℕ)
+    → allows (set_of_masks 0x03FF600000000000 0x47FFFFFE87FFFFFE false set.ucschar set.iprivate) c
+    ≡ is_decodable set c
+unfolding is_decodable allows_past_ascii
+decodable_table_allows_decodable set c = ⊎_elim
+    (λ below. cond-true _ _ _ (lt-ltb c 128 below)
+    ∙ ap (λ (s : TableSet). s.ascii c) unreserved_masks_are_unreserved_set
+    ∙ sym (or-false (is_unreserved c))
+    ∙ ap (λ b. is_unreserved c || b) (sym (ascii_is_not_allowed_past_ascii set c below)))
+    (λ past. cond-false _ _ _ (le-ltb c 128 past)
+    ∙ ap (λ b. b || allows_past_ascii set c) (sym (past_ascii_is_not_unreserved c past)))
+    (cases_lt c 128)

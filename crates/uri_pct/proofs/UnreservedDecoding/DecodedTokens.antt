@@ -1,0 +1,341 @@
+-- What decoding unreserved octets keeps: the bytes, what the set allows, and what is on either side
+-- of a character.
+use Rattle.std.proofs.Common.{◌≡◌, ℕ, Bool, true, false, cond, List, [], ◌∷◌, ◌++◌, map, refl, sym}
+use Rattle.std.proofs.Common.{ap, ◌∙◌, ◌&&◌, ⊎_elim, append_assoc}
+use Rattle.std.specs.Char.{encode_utf8, IsScalar}
+use Rattle.std.specs.List.{list_all, list_any, flat_map, All}
+use Rattle.std.proofs.lemmas.List.{append-nil, map-append}
+use Rattle.std.proofs.lemmas.List.Concat.{flat_map-append}
+use Rattle.std.proofs.lemmas.List.Folds.{list_all-append}
+use Rattle.std.proofs.lemmas.List.Elements.{All-head, All-tail}
+use Rattle.std.proofs.lemmas.Bool.{cases_Bool, cond-true, cond-false, and_parts, and_from}
+use Rattle.uri_pct.specs.Sets.{TableSet, LacksPercent, IsSubset, unreserved_set}
+use Rattle.uri_pct.specs.Tokens.{Token, Char, Octet, tokens, bytes_decoded_from, bytes_of_one_token}
+use Rattle.uri_pct.specs.Tokens.{print}
+use Rattle.uri_pct.specs.Tokens.{allows_token, is_valid_for, IsValidFor}
+use Rattle.uri_pct.specs.Pieces.{Piece, WellFormed, IllFormed, char_of, piece_bytes}
+use Rattle.uri_pct.specs.Pieces.{bytes_of_pieces, utf8_pieces, IsOfCharacter}
+use Rattle.uri_pct.specs.DecodeUnreserved.{is_printable, is_decodable, decode_piece, decode_run}
+use Rattle.uri_pct.specs.DecodeUnreserved.{decode_after_run}
+use Rattle.uri_pct.specs.DecodeUnreserved.{decode_tokens, is_never_literal, is_literal_formatting}
+use Rattle.uri_pct.specs.DecodeUnreserved.{encode_formatting, decode_unreserved}
+use Rattle.uri_pct.proofs.Unicode.Pieces.{bytes_of_utf8_pieces_are_the_bytes}
+use Rattle.uri_pct.proofs.Unicode.CharacterPieces.{utf8_pieces-are-of-characters}
+use Rattle.uri_pct.proofs.Unicode.CharacterPieces.{char_separates_utf8_pieces}
+use Rattle.uri_pct.proofs.Unicode.CharacterPieces.{char_of_utf8_is_the_char}
+use Rattle.uri_pct.proofs.EncodedTexts.EncodedTokens.{octets_of_bytes_are_printable}
+use Rattle.uri_pct.proofs.EncodedTexts.EncodedTokens.{utf8_bytes_are_eight_bit}
+use Rattle.uri_pct.proofs.UnreservedDecoding.Printing.{printed_tokens_parse_to_themselves}
+use Rattle.uri_pct.proofs.UnreservedDecoding.Printing.{printed_tokens_are_valid_iff_allowed}
+use Rattle.uri_pct.proofs.ValidTexts.Allowed.{decodable_char_is_printable}
+use Rattle.uri_pct.proofs.ValidTexts.Allowed.{decodable_char_is_allowed}
+use Rattle.uri_pct.proofs.ValidTexts.Allowed.{valid_text_has_printable_tokens}
+use Rattle.uri_pct.proofs.UnreservedDecoding.Formatting.{never_literal_char_is_scalar_past_ascii}
+use Rattle.uri_pct.proofs.UnreservedDecoding.Formatting.{never_literal_char_is_decodable}
+use Rattle.uri_pct.proofs.UnreservedDecoding.Formatting.{encode_formatting_keeps_bytes}
+use Rattle.uri_pct.proofs.UnreservedDecoding.Formatting.{encode_formatting_keeps_tokens_printable}
+use Rattle.uri_pct.proofs.UnreservedDecoding.Formatting.{encode_formatting_keeps_tokens_allowed}
+use Rattle.uri_pct.proofs.UnreservedDecoding.Formatting.{encode_formatting_leaves_no_literal_formatting}
+use Rattle.uri_pct.proofs.EncodedTexts.Encodings.{octets_decode_to_their_bytes}
+
+-- normal forms: a piece of decoded bytes keeps its bytes
+decoded_piece_keeps_its_bytes : (set : TableSet) (p : Piece) → IsOfCharacter p
+    → bytes_decoded_from (decode_piece set p) ≡ piece_bytes p
+decoded_piece_keeps_its_bytes set (IllFormed bytes) h = octets_decode_to_their_bytes bytes
+decoded_piece_keeps_its_bytes set (WellFormed bytes) h = ⊎_elim
+    (λ e. rw e (append-nil (encode_utf8 (char_of bytes)) ∙ h.1))
+    (λ e. rw e (octets_decode_to_their_bytes bytes))
+    (cases_Bool (is_decodable set (char_of bytes)))
+
+-- normal forms: pieces of decoded bytes keep their bytes
+decoded_pieces_keep_their_bytes : (set : TableSet) (ps : List Piece) → All IsOfCharacter ps
+    → bytes_decoded_from (flat_map (decode_piece set) ps) ≡ bytes_of_pieces ps
+decoded_pieces_keep_their_bytes set [] h = refl
+decoded_pieces_keep_their_bytes set (p ∷ ps) h =
+    flat_map-append bytes_of_one_token (decode_piece set p) (flat_map (decode_piece set) ps)
+    ∙ ap (λ x. x ++ bytes_decoded_from (flat_map (decode_piece set) ps))
+    (decoded_piece_keeps_its_bytes set p (All-head IsOfCharacter p ps h))
+    ∙ ap (λ x. piece_bytes p ++ x)
+    (decoded_pieces_keep_their_bytes set ps (All-tail IsOfCharacter p ps h))
+
+-- decoding of unreserved octets: a run of octets keeps its bytes when it is decoded
+decode_run_keeps_bytes : (set : TableSet) (run : List ℕ)
+    → bytes_decoded_from (decode_run set run) ≡ run
+unfolding decode_run
+decode_run_keeps_bytes set run = decoded_pieces_keep_their_bytes set (utf8_pieces run)
+    (utf8_pieces-are-of-characters run)
+    ∙ bytes_of_utf8_pieces_are_the_bytes run
+
+-- normal forms: tokens after a run of octets keep their bytes when they are decoded
+decode_after_run_keeps_bytes : (set : TableSet) (run : List ℕ) (ts : List Token)
+    → bytes_decoded_from (decode_after_run set run ts) ≡ run ++ bytes_decoded_from ts
+unfolding decode_after_run
+decode_after_run_keeps_bytes set run [] = decode_run_keeps_bytes set run
+    ∙ sym (append-nil run)
+decode_after_run_keeps_bytes set run (Octet value ∷ ts) = decode_after_run_keeps_bytes
+    set (run ++ value
+    ∷ []) ts
+    ∙ append_assoc run (value ∷ []) (bytes_decoded_from ts)
+decode_after_run_keeps_bytes set run (Char c ∷ ts) =
+    flat_map-append bytes_of_one_token (decode_run set run) (Char c ∷ decode_after_run set [] ts)
+    ∙ ap (λ x. x ++ (encode_utf8 c ++ bytes_decoded_from (decode_after_run set [] ts)))
+    (decode_run_keeps_bytes set run)
+    ∙ ap (λ x. run ++ (encode_utf8 c ++ x)) (decode_after_run_keeps_bytes set [] ts)
+
+-- normal forms: decoding unreserved octets keeps the bytes that a text decodes to
+pub decode_unreserved_keeps_bytes : (set : TableSet) (text : List ℕ)
+    → bytes_decoded_from (decode_unreserved set text) ≡ bytes_decoded_from (tokens text)
+decode_unreserved_keeps_bytes set text = encode_formatting_keeps_bytes set
+    (decode_tokens set (tokens text))
+    ∙ decode_after_run_keeps_bytes set [] (tokens text)
+
+-- a test of tokens that each decodable character passes
+abbrev PassesDecodable : (Token → Bool) → TableSet → Type 0
+PassesDecodable test set = (c : ℕ) → is_decodable set c ≡ true → test (Char c) ≡ true
+
+-- general fact on lists of tokens, for what a set allows: two pass a test, joined
+test_holds_of_joined_lists : (test : Token → Bool) (xs ys : List Token) → list_all test xs ≡ true
+    → list_all test ys ≡ true → list_all test (xs ++ ys) ≡ true
+test_holds_of_joined_lists test xs ys e f = list_all-append test xs ys ∙ and_from _ _ e f
+
+-- general fact on lists of tokens, for what a set allows: both pass a test that they pass joined
+test_holds_of_both_lists : (test : Token → Bool) (xs ys : List Token) → list_all test (xs ++ ys)
+    ≡ true
+    → (list_all test xs ≡ true) × (list_all test ys ≡ true)
+test_holds_of_both_lists test xs ys e = and_parts (list_all test xs) (list_all test ys)
+    (sym (list_all-append test xs ys) ∙ e)
+
+-- normal forms: a decoded piece passes a test that decodable characters and its octets pass
+decoded_piece_passes_test : (test : Token → Bool) (set : TableSet) (p : Piece)
+    → PassesDecodable test set
+    → list_all test (map Octet (piece_bytes p)) ≡ true → list_all test (decode_piece set p) ≡ true
+decoded_piece_passes_test test set (IllFormed bytes) h e = e
+decoded_piece_passes_test test set (WellFormed bytes) h e = ⊎_elim
+    (λ r. rw r (and_from _ true (h (char_of bytes) r) refl))
+    (λ r. rw r e)
+    (cases_Bool (is_decodable set (char_of bytes)))
+
+-- normal forms: decoded pieces pass a test that decodable characters and their octets pass
+decoded_pieces_pass_test : (test : Token → Bool) (set : TableSet) (ps : List Piece)
+    → PassesDecodable test set
+    → list_all test (map Octet (bytes_of_pieces ps)) ≡ true
+    → list_all test (flat_map (decode_piece set) ps) ≡ true
+decoded_pieces_pass_test test set [] h e = refl
+decoded_pieces_pass_test test set (p ∷ ps) h e =
+    let parts = test_holds_of_both_lists test (map Octet (piece_bytes p))
+    (map Octet (bytes_of_pieces ps))
+    (ap (list_all test) (sym (map-append Octet (piece_bytes p) (bytes_of_pieces ps))) ∙ e) in
+    test_holds_of_joined_lists test (decode_piece set p) (flat_map (decode_piece set) ps)
+    (decoded_piece_passes_test test set p h parts.0)
+    (decoded_pieces_pass_test test set ps h parts.1)
+
+-- normal forms: a decoded run of octets passes a test that decodable characters and its octets pass
+decoded_run_passes_test : (test : Token → Bool) (set : TableSet) (run : List ℕ)
+    → PassesDecodable test set
+    → list_all test (map Octet run) ≡ true → list_all test (decode_run set run) ≡ true
+unfolding decode_run
+decoded_run_passes_test test set run h e = decoded_pieces_pass_test test set (utf8_pieces run) h
+    (ap (λ x. list_all test (map Octet x)) (bytes_of_utf8_pieces_are_the_bytes run) ∙ e)
+
+-- normal forms: a test that holds of tokens holds of the decoded ones, if decodable characters pass
+-- it; run: octets before them
+tokens_decoded_after_run_pass_test : (test : Token → Bool) (set : TableSet) (run : List ℕ)
+    (ts : List Token)
+    → PassesDecodable test set → list_all test (map Octet run) ≡ true → list_all test ts ≡ true
+    → list_all test (decode_after_run set run ts) ≡ true
+unfolding decode_after_run
+tokens_decoded_after_run_pass_test test set run [] h e f = decoded_run_passes_test test set run h e
+tokens_decoded_after_run_pass_test test set run (Octet value ∷ ts) h e f =
+    let p = and_parts (test (Octet value)) _ f in
+    tokens_decoded_after_run_pass_test test set (run ++ value ∷ []) ts h
+    (ap (list_all test) (map-append Octet run (value ∷ []))
+    ∙ test_holds_of_joined_lists test (map Octet run) (Octet value ∷ []) e
+    (and_from _ true p.0 refl)) p.1
+tokens_decoded_after_run_pass_test test set run (Char c ∷ ts) h e f =
+    let p = and_parts (test (Char c)) _ f in
+    test_holds_of_joined_lists test (decode_run set run) (Char c ∷ decode_after_run set [] ts)
+    (decoded_run_passes_test test set run h e)
+    (and_from _ _ p.0 (tokens_decoded_after_run_pass_test test set [] ts h refl p.1))
+
+-- normal forms: decoded tokens can be written
+pub decode_tokens_keeps_tokens_printable : (set : TableSet) (ts : List Token)
+    → list_all is_printable ts ≡ true
+    → list_all is_printable (decode_tokens set ts) ≡ true
+decode_tokens_keeps_tokens_printable set ts e =
+    tokens_decoded_after_run_pass_test is_printable set [] ts
+    (λ c h. decodable_char_is_printable set c h) refl e
+
+-- normal forms: decoding the unreserved octets of a text leaves tokens that can be written
+pub decode_unreserved_keeps_tokens_printable : (set : TableSet) (text : List ℕ)
+    → list_all is_printable (tokens text) ≡ true
+    → list_all is_printable (decode_unreserved set text) ≡ true
+decode_unreserved_keeps_tokens_printable set text e = encode_formatting_keeps_tokens_printable set
+    (decode_tokens set (tokens text))
+    (decode_tokens_keeps_tokens_printable set (tokens text) e)
+
+-- normal forms: if the set allows a text, it allows the decoded tokens
+pub decode_unreserved_keeps_tokens_allowed : (set : TableSet) (text : List ℕ)
+    → IsSubset unreserved_set set
+    → IsValidFor set text → list_all (allows_token set) (decode_unreserved set text) ≡ true
+unfolding is_valid_for
+decode_unreserved_keeps_tokens_allowed set text wide valid =
+    encode_formatting_keeps_tokens_allowed set (decode_tokens set (tokens text))
+    (tokens_decoded_after_run_pass_test (allows_token set) set [] (tokens text)
+    (λ c h. decodable_char_is_allowed set c wide h)
+    refl valid)
+
+-- normal forms: if the set allows a text, the decoded text is valid for it
+pub printed_decode_unreserved_stays_valid : (set : TableSet) (text : List ℕ) → LacksPercent set
+    → IsSubset unreserved_set set → IsValidFor set text
+    → IsValidFor set (print (decode_unreserved set text))
+printed_decode_unreserved_stays_valid set text lacks wide valid =
+    printed_tokens_are_valid_iff_allowed set (decode_unreserved set text)
+    (decode_unreserved_keeps_tokens_printable set text
+    (valid_text_has_printable_tokens set text lacks valid))
+    ∙ decode_unreserved_keeps_tokens_allowed set text wide valid
+
+-- normal forms: a literal character separates the decoding before it from that after it
+char_separates_decoding_after_run : (set : TableSet) (run : List ℕ) (ts : List Token) (c : ℕ)
+    (us : List Token)
+    → decode_after_run set run (ts ++ Char c ∷ us) ≡ decode_after_run set run ts ++ Char c
+    ∷ decode_tokens set us
+unfolding decode_after_run
+char_separates_decoding_after_run set run [] c us = refl
+char_separates_decoding_after_run set run (Octet value ∷ ts) c us =
+    char_separates_decoding_after_run set (run ++ value ∷ []) ts c us
+char_separates_decoding_after_run set run (Char d ∷ ts) c us =
+    ap (λ x. decode_run set run ++ Char d ∷ x) (char_separates_decoding_after_run set [] ts c us)
+    ∙ sym (append_assoc (decode_run set run) (Char d ∷ decode_after_run set [] ts)
+    (Char c ∷ decode_tokens set us))
+
+-- normal forms: a literal character parts the tokens before and after it,
+-- which are decoded each by themselves
+pub char_separates_decoded_tokens : (set : TableSet) (ts : List Token) (c : ℕ) (us : List Token)
+    → decode_tokens set (ts ++ Char c ∷ us) ≡ decode_tokens set ts ++ Char c ∷ decode_tokens set us
+char_separates_decoded_tokens set ts c us = char_separates_decoding_after_run set [] ts c us
+
+-- normal forms: the octets of a decodable character part a run as the character does
+decodable_char_octets_split_run : (set : TableSet) (run : List ℕ) (c : ℕ) (more : List ℕ)
+    → IsScalar c
+    → is_decodable set c ≡ true
+    → decode_run set (run ++ (encode_utf8 c ++ more)) ≡ decode_run set run ++ Char c
+    ∷ decode_run set more
+unfolding decode_run
+decodable_char_octets_split_run set run c more scalar decodable =
+    let same = char_of_utf8_is_the_char c scalar in
+    ap (flat_map (decode_piece set)) (char_separates_utf8_pieces run c more scalar)
+    ∙ flat_map-append (decode_piece set) (utf8_pieces run)
+    (WellFormed (encode_utf8 c) ∷ utf8_pieces more)
+    ∙ ap (λ x. flat_map (decode_piece set) (utf8_pieces run)
+    ++ (x ++ flat_map (decode_piece set) (utf8_pieces more)))
+    (ap (λ d. cond (is_decodable set d) (Char d ∷ []) (map Octet (encode_utf8 c))) same
+    ∙ cond-true _ _ _ decodable)
+
+-- normal forms: in a run, the octets of a decodable character decode to it, and it ends the run
+decodable_char_octets_split_decoding : (set : TableSet) (run : List ℕ) (c : ℕ) (more : List ℕ)
+    (ts : List Token)
+    → IsScalar c → is_decodable set c ≡ true
+    → decode_after_run set (run ++ (encode_utf8 c ++ more)) ts
+    ≡ decode_run set run ++ Char c ∷ decode_after_run set more ts
+unfolding decode_after_run
+decodable_char_octets_split_decoding set run c more [] scalar decodable =
+    decodable_char_octets_split_run set run c more scalar decodable
+decodable_char_octets_split_decoding set run c more (Octet value ∷ ts) scalar decodable =
+    ap (λ r. decode_after_run set r ts) (append_assoc run (encode_utf8 c ++ more) (value ∷ [])
+    ∙ ap (λ x. run ++ x) (append_assoc (encode_utf8 c) more (value ∷ [])))
+    ∙ decodable_char_octets_split_decoding set run c (more ++ value ∷ []) ts scalar decodable
+decodable_char_octets_split_decoding set run c more (Char d ∷ ts) scalar decodable =
+    ap (λ x. x ++ Char d ∷ decode_after_run set [] ts)
+    (decodable_char_octets_split_run set run c more scalar decodable)
+    ∙ append_assoc (decode_run set run) (Char c ∷ decode_run set more) (Char d
+    ∷ decode_after_run set [] ts)
+
+-- normal forms: octets (more) before tokens lengthen the run of octets before them
+octets_before_tokens_lengthen_run : (set : TableSet) (run more : List ℕ) (ts : List Token)
+    → decode_after_run set run (map Octet more ++ ts) ≡ decode_after_run set (run ++ more) ts
+unfolding decode_after_run
+octets_before_tokens_lengthen_run set run [] ts = ap (λ r. decode_after_run set r ts)
+    (sym (append-nil run))
+octets_before_tokens_lengthen_run set run (b ∷ more) ts = octets_before_tokens_lengthen_run set
+    (run ++ b ∷ []) more ts
+    ∙ ap (λ r. decode_after_run set r ts) (append_assoc run (b ∷ []) more)
+
+-- normal forms: after a run, the octets of a decodable character decode to it, in any context
+decodable_char_octets_decode_as_char_after_run : (set : TableSet) (run : List ℕ) (ts : List Token)
+    (c : ℕ) (us : List Token)
+    → IsScalar c → is_decodable set c ≡ true
+    → decode_after_run set run (ts ++ (map Octet (encode_utf8 c) ++ us))
+    ≡ decode_after_run set run (ts ++ Char c ∷ us)
+unfolding decode_after_run
+decodable_char_octets_decode_as_char_after_run set run [] c us scalar decodable =
+    octets_before_tokens_lengthen_run set run (encode_utf8 c) us
+    ∙ ap (λ x. decode_after_run set (run ++ x) us) (sym (append-nil (encode_utf8 c)))
+    ∙ decodable_char_octets_split_decoding set run c [] us scalar decodable
+decodable_char_octets_decode_as_char_after_run set run (Octet value ∷ ts) c us scalar decodable =
+    decodable_char_octets_decode_as_char_after_run set (run ++ value ∷ []) ts c us scalar decodable
+decodable_char_octets_decode_as_char_after_run set run (Char d ∷ ts) c us scalar decodable =
+    ap (λ x. decode_run set run ++ Char d ∷ x)
+    (decodable_char_octets_decode_as_char_after_run set [] ts c us scalar decodable)
+
+-- normal forms: the octets of a decodable character decode to the character, in any context
+pub decodable_char_octets_decode_as_char : (set : TableSet) (ts : List Token) (c : ℕ)
+    (us : List Token)
+    → IsScalar c
+    → is_decodable set c ≡ true
+    → decode_tokens set (ts ++ (map Octet (encode_utf8 c) ++ us))
+    ≡ decode_tokens set (ts ++ Char c ∷ us)
+decodable_char_octets_decode_as_char set ts c us scalar decodable =
+    decodable_char_octets_decode_as_char_after_run set [] ts c us scalar decodable
+
+-- bidirectional text: formatting characters decode to the same tokens as their octets
+pub octets_of_formatting_chars_decode_as_chars : (set : TableSet) (before ts : List Token)
+    → decode_tokens set (before ++ encode_formatting set ts) ≡ decode_tokens set (before ++ ts)
+octets_of_formatting_chars_decode_as_chars set before [] = refl
+octets_of_formatting_chars_decode_as_chars set before (Octet value ∷ ts) =
+    ap (decode_tokens set) (sym (append_assoc before (Octet value ∷ []) (encode_formatting set ts)))
+    ∙ octets_of_formatting_chars_decode_as_chars set (before ++ Octet value ∷ []) ts
+    ∙ ap (decode_tokens set) (append_assoc before (Octet value ∷ []) ts)
+octets_of_formatting_chars_decode_as_chars set before (Char c ∷ ts) =
+    let next =
+    ap (decode_tokens set) (sym (append_assoc before (Char c ∷ []) (encode_formatting set ts)))
+    ∙ octets_of_formatting_chars_decode_as_chars set (before ++ Char c ∷ []) ts
+    ∙ ap (decode_tokens set) (append_assoc before (Char c ∷ []) ts) in
+    ⊎_elim
+    (λ e.
+    ap (λ x. decode_tokens set (before ++ (x ++ encode_formatting set ts))) (cond-true _ _ _ e)
+    ∙ decodable_char_octets_decode_as_char set before c (encode_formatting set ts)
+    (never_literal_char_is_scalar_past_ascii set c e).1
+    (never_literal_char_is_decodable set c e)
+    ∙ next)
+    (λ e. ap (λ x. decode_tokens set (before
+    ++ (x ++ encode_formatting set ts))) (cond-false _ _ _ e)
+    ∙ next)
+    (cases_Bool (is_never_literal set c))
+
+-- normal forms: the octets of a decodable character, written, decode as the character does
+pub printed_octets_of_decodable_char_decode_as_char : (set : TableSet) (before : List Token) (c : ℕ)
+    (suffix : List Token)
+    → IsScalar c → is_decodable set c ≡ true
+    → list_all is_printable (before ++ Char c ∷ suffix) ≡ true
+    → decode_unreserved set (print (before ++ (map Octet (encode_utf8 c) ++ suffix)))
+    ≡ decode_unreserved set (print (before ++ Char c ∷ suffix))
+printed_octets_of_decodable_char_decode_as_char set before c suffix scalar decodable e =
+    let octets = map Octet (encode_utf8 c) in
+    let of : List Token → List Token = λ ts. encode_formatting set (decode_tokens set ts) in
+    let p = test_holds_of_both_lists is_printable before (Char c ∷ suffix) e in
+    let joined = test_holds_of_joined_lists is_printable octets suffix
+    (octets_of_bytes_are_printable (encode_utf8 c) (utf8_bytes_are_eight_bit c scalar))
+    (and_parts (is_printable (Char c)) _ p.1).1 in
+    ap of (printed_tokens_parse_to_themselves (before ++ (octets ++ suffix))
+    (test_holds_of_joined_lists is_printable before (octets ++ suffix) p.0 joined))
+    ∙ ap (encode_formatting set)
+    (decodable_char_octets_decode_as_char set before c suffix scalar decodable)
+    ∙ sym (ap of (printed_tokens_parse_to_themselves (before ++ Char c ∷ suffix) e))
+
+-- bidirectional text: no formatting character is literal after decoding
+pub decode_unreserved_leaves_no_literal_formatting : (set : TableSet) (text : List ℕ)
+    → (set.ucschar && set.pct_encoded) ≡ true
+    → list_any is_literal_formatting (decode_unreserved set text) ≡ false
+decode_unreserved_leaves_no_literal_formatting set text e =
+    encode_formatting_leaves_no_literal_formatting set
+    (decode_tokens set (tokens text)) e

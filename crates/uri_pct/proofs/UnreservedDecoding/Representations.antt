@@ -1,0 +1,161 @@
+-- A text represents at most one list of characters and octets: its tokens.
+use Rattle.std.proofs.Common.{◌≡◌, ℕ, ◌+◌, ◌*◌, true, eqb, List, [], ◌∷◌, ◌++◌, refl}
+use Rattle.std.proofs.Common.{sym, ap, subst, ◌∙◌, ⊎_elim, lit<}
+use Rattle.std.specs.Prelude.{◌↔◌}
+use Rattle.std.specs.List.{list_all}
+use Rattle.std.specs.Char.{IsScalar, encode_utf8, digit_value, is_ascii_hexdigit}
+use Rattle.std.specs.Str.{chars, encode_utf8_all, all_scalars, IsUtf8}
+use Rattle.std.proofs.lemmas.Str.{chars-append, chars-encodes, chars-nil, encode_ascii}
+use Rattle.std.proofs.lemmas.Str.{IsUtf8-encode}
+use Rattle.std.proofs.lemmas.Bool.{cases_Bool, cond-true, cond-false, and_parts, and_from, eqb-true}
+use Rattle.std.proofs.lemmas.Bool.{eqb-false, ne_eqb, not-true}
+use Rattle.std.proofs.lemmas.List.{append-nil}
+use Rattle.uri_pct.specs.Sets.{TableSet, LacksPercent}
+use Rattle.uri_pct.specs.DecodeUnreserved.{is_printable}
+use Rattle.uri_pct.specs.Representation.{RepresentsToken, Represents, RepresentsWithin}
+use Rattle.uri_pct.specs.Tokens.{Token, Char, Octet, tokens, tokens_from_chars, is_pct_encoded}
+use Rattle.uri_pct.specs.Tokens.{allows_token, is_valid_for, IsValidFor}
+use Rattle.uri_pct.proofs.UnreservedDecoding.Printing.{char_but_percent_is_its_own_token}
+use Rattle.uri_pct.proofs.Unicode.Characters.{hexdigit_is_ascii}
+use Rattle.uri_pct.proofs.ValidTexts.Allowed.{valid_text_has_printable_tokens}
+use Rattle.uri_pct.proofs.ValidTexts.TokenCuts.{ascii_byte_is_first_of_chars}
+
+-- tokens: a character before any bytes is the first of their characters
+first_encoded_char_is_first_of_chars : (c : ℕ) (rest : List ℕ) → IsScalar c
+    → chars (encode_utf8 c ++ rest) ≡ c ∷ chars rest
+first_encoded_char_is_first_of_chars c rest scalar = chars-append (encode_utf8 c) rest
+    (IsUtf8-encode c scalar)
+    ∙ ap (λ x. x ++ chars rest) (ap chars (sym (append-nil (encode_utf8 c)))
+    ∙ chars-encodes (c ∷ []) (and_from _ true scalar refl))
+
+-- tokens: a `%` and two hexadecimal digits at the start are an octet
+octet_text_is_first_token : (high low : ℕ) (rest : List ℕ) → is_ascii_hexdigit high ≡ true
+    → is_ascii_hexdigit low ≡ true
+    → tokens (37 ∷ high ∷ low ∷ rest)
+    ≡ Octet (16 * digit_value high + digit_value low) ∷ tokens rest
+unfolding tokens_from_chars is_pct_encoded
+octet_text_is_first_token high low rest h l =
+    ap tokens_from_chars (ascii_byte_is_first_of_chars 37 (high ∷ low ∷ rest) (lit< tt)
+    ∙ ap (λ x. 37 ∷ x) (ascii_byte_is_first_of_chars high (low ∷ rest) (hexdigit_is_ascii high h)
+    ∙ ap (λ x. high ∷ x) (ascii_byte_is_first_of_chars low rest (hexdigit_is_ascii low l))))
+    ∙ cond-true _ _ _ (and_from _ _ h l)
+
+-- tokens: a text that represents one, at the start, is read as it
+text_of_represented_token_is_first_token : (t : Token) (first rest : List ℕ)
+    → RepresentsToken first t
+    → tokens (first ++ rest) ≡ t ∷ tokens rest
+text_of_represented_token_is_first_token (Char c) first rest h = ap (λ x. tokens (x ++ rest)) h.2
+    ∙ ap tokens_from_chars (first_encoded_char_is_first_of_chars c rest h.0)
+    ∙ char_but_percent_is_its_own_token c (chars rest)
+    (ne_eqb c 37 h.1)
+text_of_represented_token_is_first_token (Octet value) first rest h = ap
+    (λ x. tokens (x ++ rest)) h.1.1.3
+    ∙ octet_text_is_first_token h.0 h.1.0 rest h.1.1.0 h.1.1.1
+    ∙ ap (λ n. Octet n ∷ tokens rest) (sym h.1.1.2)
+
+-- if a text represents some tokens, they are its tokens
+pub represented_tokens_are_tokens_of_text : (text : List ℕ) (ts : List Token) → Represents text ts
+    → tokens text ≡ ts
+unfolding Represents tokens_from_chars
+represented_tokens_are_tokens_of_text text [] e = ap tokens e ∙ ap tokens_from_chars chars-nil
+represented_tokens_are_tokens_of_text text (t ∷ ts) h = ap tokens h.1.1.0
+    ∙ text_of_represented_token_is_first_token t h.0 h.1.0 h.1.1.1
+    ∙ ap (λ r. t ∷ r) (represented_tokens_are_tokens_of_text h.1.0 ts h.1.1.2)
+
+-- a character other than `%` before the text of some tokens: the text represents it, and then them
+char_before_represented_text_is_represented : (c : ℕ) (cs : List ℕ) (ts : List Token)
+    → is_printable (Char c) ≡ true
+    → Represents (encode_utf8_all cs) ts → Represents (encode_utf8_all (c ∷ cs)) (Char c ∷ ts)
+unfolding Represents
+char_before_represented_text_is_represented c cs ts e rest =
+    let p = and_parts (all_scalars (c ∷ [])) _ e in (
+      encode_utf8 c,
+      (
+        encode_utf8_all cs,
+        (
+          refl,
+          (
+            (and_parts _ true p.0).0,
+            eqb-false c 37 (not-true _ p.1),
+            refl,
+          ),
+          rest,
+        ),
+      ),
+    )
+
+-- an octet, before characters that represent some tokens
+octet_before_represented_text_is_represented : (c high low : ℕ) (cs : List ℕ) (ts : List Token)
+    → is_pct_encoded c high low ≡ true → Represents (encode_utf8_all cs) ts
+    → Represents (encode_utf8_all (c ∷ high ∷ low ∷ cs))
+    (Octet (16 * digit_value high + digit_value low) ∷ ts)
+unfolding Represents is_pct_encoded
+octet_before_represented_text_is_represented c high low cs ts e rest =
+    let p = and_parts (eqb c 37) _ e in
+    let digits = and_parts (is_ascii_hexdigit high) (is_ascii_hexdigit low) p.1 in
+    let X = encode_utf8_all cs in
+    let text : encode_utf8_all (c ∷ high ∷ low ∷ cs) ≡ 37 ∷ high ∷ low ∷ X =
+    ap (λ n. encode_utf8 n ++ (encode_utf8 high ++ (encode_utf8 low ++ X))) (eqb-true c 37 p.0)
+    ∙ ap (λ x. x ++ (encode_utf8 high ++ (encode_utf8 low ++ X))) (encode_ascii 37 (lit< tt))
+    ∙ ap (λ x. 37 ∷ (x ++ (encode_utf8 low ++ X)))
+    (encode_ascii high (hexdigit_is_ascii high digits.0))
+    ∙ ap (λ x. 37 ∷ high ∷ (x ++ X)) (encode_ascii low (hexdigit_is_ascii low digits.1)) in
+    (37 ∷ high ∷ low ∷ [], (X, (text, (high, (low, (digits.0, digits.1, refl, refl))), rest)))
+
+-- characters represent their tokens, if these are printable
+chars_represent_their_tokens : (cs : List ℕ) → list_all is_printable (tokens_from_chars cs) ≡ true
+    → Represents (encode_utf8_all cs) (tokens_from_chars cs)
+unfolding tokens_from_chars Represents
+chars_represent_their_tokens [] e = refl
+chars_represent_their_tokens (c ∷ []) e = char_before_represented_text_is_represented c [] []
+    (and_parts _ true e).0 refl
+chars_represent_their_tokens (c ∷ d ∷ []) e =
+    let p = and_parts _ _ e in
+    char_before_represented_text_is_represented c (d ∷ []) (Char d ∷ []) p.0
+    (chars_represent_their_tokens (d ∷ []) p.1)
+chars_represent_their_tokens (c ∷ high ∷ low ∷ cs) e = ⊎_elim
+    (λ is.
+    let at : tokens_from_chars (c ∷ high ∷ low ∷ cs)
+    ≡ Octet (16 * digit_value high + digit_value low) ∷ tokens_from_chars cs = cond-true _ _ _ is in
+    let p = and_parts _ _ (sym (ap (list_all is_printable) at) ∙ e) in
+    subst (Represents (encode_utf8_all (c ∷ high ∷ low ∷ cs))) (sym at)
+    (octet_before_represented_text_is_represented c high low cs (tokens_from_chars cs) is
+    (chars_represent_their_tokens cs p.1)))
+    (λ is.
+    let at : tokens_from_chars (c ∷ high ∷ low ∷ cs) ≡ Char c ∷ tokens_from_chars (high ∷ low ∷ cs)
+    = cond-false _ _ _ is in
+    let p = and_parts _ _ (sym (ap (list_all is_printable) at) ∙ e) in
+    subst (Represents (encode_utf8_all (c ∷ high ∷ low ∷ cs))) (sym at)
+    (char_before_represented_text_is_represented c (high ∷ low ∷ cs) _ p.0
+    (chars_represent_their_tokens (high ∷ low ∷ cs) p.1)))
+    (cases_Bool (is_pct_encoded c high low))
+
+-- if two digits follow each `%`, a text represents its tokens
+pub text_represents_its_printable_tokens : (text : List ℕ) → IsUtf8 text
+    → list_all is_printable (tokens text) ≡ true
+    → Represents text (tokens text)
+text_represents_its_printable_tokens text u e =
+    let same = ap chars (sym u.1.1) ∙ chars-encodes u.0 u.1.0 in
+    let joined = chars_represent_their_tokens u.0
+    (ap (λ cs. list_all is_printable (tokens_from_chars cs)) (sym same)
+    ∙ e) in
+    subst (λ x. Represents x (tokens text)) u.1.1
+    (subst (λ cs. Represents (encode_utf8_all u.0) (tokens_from_chars cs)) (sym same) joined)
+
+-- a text is valid for a set exactly if it represents tokens that the set allows
+pub text_is_valid_iff_it_represents_allowed_tokens : (set : TableSet) (text : List ℕ)
+    → LacksPercent set → IsUtf8 text
+    → IsValidFor set text ↔ RepresentsWithin set text
+unfolding is_valid_for
+text_is_valid_iff_it_represents_allowed_tokens set text lacks u = (
+  λ e. (
+    tokens text,
+    (
+      text_represents_its_printable_tokens text u
+          (valid_text_has_printable_tokens set text lacks e),
+      e,
+    ),
+  ),
+  λ h. ap (list_all (allows_token set)) (represented_tokens_are_tokens_of_text text h.0 h.1.0)
+      ∙ h.1.1,
+)

@@ -1,0 +1,43 @@
+use Rattle.std.proofs.Common.{◌≡◌, ◌+◌, drop, sym, ap, ◌∙◌, subst, arith}
+use Rattle.std.specs.Char.{len_utf8}
+use Rattle.std.specs.Str.{IsCharBoundary}
+use Rattle.std.proofs.lemmas.Str.{IsCharBoundary-past_char, IsUtf8-drop}
+use Rattle.uri_pct.specs.Tables.{set_of}
+use Rattle.uri_pct.proofs.ValidTexts.KeptPrefixes.{empty_run_is_encoded_as_octets}
+use Rattle.uri_pct.proofs.ValidTexts.KeptPrefixes.{longer_run_is_encoded_as_octets}
+use Rattle.uri_pct.proofs.ValidTexts.KeptPrefixes.{disallowed_run_is_not_empty}
+use Rattle.uri_pct.proofs.encode.disallowed_end.Goals as goal
+
+pub loop-end-init : goal.loop-end-init
+loop-end-init c = record {
+  from = omega arith;
+  boundary = c.requires;
+  octets =
+      empty_run_is_encoded_as_octets (set_of c.args.table.now) c.args.text.now c.args.start;
+}
+
+pub loop-end-preserved : goal.loop-end-preserved
+loop-end-preserved c =
+    let text = c.args.text.now in
+    let end = c.loop-end.end in
+    let ch = c.char_at-ch.result in
+    let before = c.loop-end.invariant in
+    let u = IsUtf8-drop text end c.utf8.text before.boundary in
+    let place : end + c.len_utf8-end.result ≡ end + len_utf8 ch =
+    ap (λ n. end + n) c.len_utf8-end.ensures.value in
+    record {
+      from = omega (arith, before.from);
+      boundary = subst (IsCharBoundary text) (sym place)
+          (IsCharBoundary-past_char text (drop (end + len_utf8 ch) text) end ch (omega arith) u
+          c.char_at-ch.ensures);
+      octets = longer_run_is_encoded_as_octets (set_of c.args.table.now) text c.args.start end _ ch
+          u before.from
+          c.char_at-ch.ensures place (sym c.allows.ensures ∙ c.if-allows.false) before.octets;
+    }
+
+pub returns-then-allows-clause-goes : goal.returns-then-allows-clause-goes
+returns-then-allows-clause-goes c = λ inside first.
+    disallowed_run_is_not_empty (set_of c.args.table.now) c.args.text.now c.args.start
+    c.loop-end.end
+    c.char_at-ch.result c.loop-end.invariant.from c.char_at-ch.ensures
+    (sym c.allows.ensures ∙ c.if-allows.true) first

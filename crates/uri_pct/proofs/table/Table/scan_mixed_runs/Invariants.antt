@@ -1,0 +1,15 @@
+use Rattle.std.proofs.Common.{length, ◌-◌, ◌≡◌, ◌+◌, drop}
+use Rattle.std.specs.Str.{IsCharBoundary}
+use Rattle.uri_pct.specs.Prefixes.{valid_prefix}
+use Rattle.uri_pct.specs.Tables.{set_of}
+use Rattle.uri_pct.proofs.table.Table.scan_mixed_runs.Given as goal
+
+abbrev pub invariant-loop-i : goal.invariant-loop-i
+invariant-loop-i l = record {
+  boundary : IsCharBoundary l.bytes l.i;
+  total : l.i + valid_prefix (set_of l.self) (drop l.i l.bytes)
+      ≡ l.initial.i + valid_prefix (set_of l.self) (drop l.initial.i l.bytes);
+}
+
+abbrev pub decreases-loop-i : goal.decreases-loop-i
+decreases-loop-i l = length l.bytes - l.i

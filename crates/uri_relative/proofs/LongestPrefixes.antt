@@ -1,0 +1,122 @@
+-- Of the prefixes that two paths share, the longest one makes the shortest relative path.
+use Rattle.std.proofs.Common.{◌≡◌, ℕ, zero, suc, ◌+◌, ◌*◌, ◌<◌, ◌≤◌, Bool, true, false, cond, eqb}
+use Rattle.std.proofs.Common.{List, [], ◌∷◌, ◌++◌, length, take, drop, get_or, refl, sym, ap, ◌∙◌}
+use Rattle.std.proofs.Common.{arith, ⊎_elim, length-append, ◌⊎◌}
+use Rattle.std.specs.Prelude.{codes}
+use Rattle.std.proofs.lemmas.List.Recursion.{is_count_by}
+use Rattle.std.proofs.lemmas.List.{drop-append-le, drop_more, length-take-le, take-append-drop}
+use Rattle.std.proofs.lemmas.Bool.{cases_Bool}
+use Rattle.uri_ops.specs.Dots.{is_empty}
+use Rattle.uri_relative.specs.Relative.{needs_leading_dot, relative_from, relative_path, slashes}
+use Rattle.uri_relative.proofs.Lengths.{length-of-path-up-to-some, length-of-path-up-to-nothing}
+
+-- lengths of relative paths: one without `../` is two bytes longer than its rest at most;
+-- none, misread: whether it is `.`, or needs `./`
+path-without-double-dots-is-at-most-two-longer : (rest : List ℕ) (none misread : Bool)
+    → length (cond none (codes ".") (cond misread (codes "./" ++ rest) rest)) ≤ length rest + 2
+path-without-double-dots-is-at-most-two-longer rest true misread = omega arith
+path-without-double-dots-is-at-most-two-longer rest false true = omega arith
+path-without-double-dots-is-at-most-two-longer rest false false = omega arith
+
+-- lengths of relative paths: one with n `../` and a rest has two bytes more at most
+length-of-relative-path-is-bounded : (n : ℕ) (rest : List ℕ)
+    → length (relative_path n rest) ≤ 3 * n + length rest + 2
+length-of-relative-path-is-bounded zero rest =
+    let h : length (relative_path 0 rest) ≤ length rest + 2 =
+    path-without-double-dots-is-at-most-two-longer rest (is_empty rest) (needs_leading_dot rest) in
+    omega (arith, h)
+length-of-relative-path-is-bounded (suc n) rest = ⊎_elim
+    (λ e. omega (arith, length-of-path-up-to-nothing n rest e))
+    (λ e. omega (arith, length-of-path-up-to-some n rest e))
+    (cases_Bool (is_empty rest))
+
+-- relative paths: how many `/` a text has, counted byte by byte
+counted : List ℕ → ℕ
+counted [] = 0
+counted (c ∷ text) = cond (eqb c 47) (1 + counted text) (counted text)
+
+-- relative paths: slashes, as they are counted byte by byte
+counted-is-slashes : (text : List ℕ) → counted text ≡ slashes text
+unfolding counted
+counted-is-slashes = is_count_by counted (λ c. eqb c 47) refl (λ c text. refl)
+
+-- relative paths: two texts have the slashes of both, joined
+slashes-of-joined-texts-add-up : (a b : List ℕ) → counted (a ++ b) ≡ counted a + counted b
+unfolding counted
+slashes-of-joined-texts-add-up [] b = omega arith
+slashes-of-joined-texts-add-up (c ∷ a) b = more (eqb c 47) (slashes-of-joined-texts-add-up a b)
+  where
+    more : (e : Bool) → counted (a ++ b) ≡ counted a + counted b
+        → cond e (1 + counted (a ++ b)) (counted (a ++ b))
+        ≡ cond e (1 + counted a) (counted a) + counted b
+    more true ih = omega (arith, ih)
+    more false ih = ih
+
+-- relative paths: two texts joined by a `/` (47) have one slash more than both
+slash-between-adds-one-to-slashes : (a b : List ℕ) → slashes (a ++ 47 ∷ b)
+    ≡ suc (slashes a + slashes b)
+unfolding counted
+slash-between-adds-one-to-slashes a b =
+    let first : counted (47 ∷ b) ≡ 1 + counted b = refl in
+    omega (
+      arith,
+      first,
+      slashes-of-joined-texts-add-up a (47 ∷ b),
+      counted-is-slashes (a ++ 47 ∷ b),
+      counted-is-slashes a,
+      counted-is-slashes b,
+    )
+
+-- relative paths: what is from before a `/` (47) on is split at it
+text-from-before-slash-is-split : (text : List ℕ) (last m : ℕ) → last < length text
+    → get_or text last 0 ≡ 47
+    → m ≤ last → drop m text ≡ drop m (take last text) ++ 47 ∷ drop (last + 1) text
+text-from-before-slash-is-split text last m h e least =
+    ap (drop m) (sym (take-append-drop last text))
+    ∙ drop-append-le m (take last text) (drop last text)
+    (omega (arith, least, length-take-le last text (omega (arith, h))))
+    ∙ ap (λ t. drop m (take last text) ++ t)
+    (drop_more text last 0 h ∙ ap (λ c. c ∷ drop (last + 1) text) e)
+
+-- relative paths: a text with a `/` (47) is not empty
+text-with-slash-is-nonempty : (a b : List ℕ) → is_empty (a ++ 47 ∷ b) ≡ false
+text-with-slash-is-nonempty [] b = refl
+text-with-slash-is-nonempty (c ∷ a) b = refl
+
+-- relative paths: one that begins later is no longer: it goes up fewer times, and has less left
+later-prefix-gives-shorter-path : (a b u v : List ℕ)
+    → length (relative_path (slashes b) v)
+    ≤ length (relative_path (slashes (a ++ 47 ∷ b)) (u ++ 47 ∷ v))
+later-prefix-gives-shorter-path a b u v =
+    omega (
+      arith,
+      length-of-relative-path-is-bounded (slashes b) v,
+      ap (λ k. length (relative_path k (u ++ 47 ∷ v))) (slash-between-adds-one-to-slashes a b),
+      length-of-path-up-to-some (slashes a + slashes b) (u ++ 47 ∷ v)
+          (text-with-slash-is-nonempty u v),
+      length-append u (47 ∷ v),
+    )
+
+-- general fact on numbers, for positions in paths
+position-is-last-or-before : (m last : ℕ) → m ≤ last + 1 → (m ≡ last + 1) ⊎ (m ≤ last)
+position-is-last-or-before m last h = grind arith
+
+-- relative paths: one from the last shared slash is no longer than one from an earlier place m
+pub longer-shared-prefix-gives-shorter-path : (base path : List ℕ) (last m : ℕ) → last < length base
+    → last < length path
+    → get_or base last 0 ≡ 47 → get_or path last 0 ≡ 47 → m ≤ last + 1
+    → length (relative_from (last + 1) base path) ≤ length (relative_from m base path)
+longer-shared-prefix-gives-shorter-path base path last m in_base in_path base_at path_at h = ⊎_elim
+    (λ e. omega (arith, ap (λ k. length (relative_from k base path)) e))
+    (λ least. omega (
+      arith,
+      ap (λ t. length (relative_path (slashes t) (drop m path)))
+          (text-from-before-slash-is-split base last m in_base base_at least),
+      ap (λ t. length (relative_path (slashes (drop m (take last base) ++ 47
+          ∷ drop (last + 1) base)) t))
+          (text-from-before-slash-is-split path last m in_path path_at least),
+      later-prefix-gives-shorter-path (drop m (take last base)) (drop (last + 1) base)
+          (drop m (take last path))
+          (drop (last + 1) path),
+    ))
+    (position-is-last-or-before m last h)

@@ -1,0 +1,276 @@
+-- Each path that is joined to a base's and leads to a path: where it leads, and how short one is
+-- that leads there, where the base's path has no dot segment.
+use Rattle.std.proofs.Common.{◌≡◌, ◌⊎◌, ℕ, suc, ◌+◌, ◌*◌, ◌<◌, ◌≤◌, Bool, true, false, not, cond}
+use Rattle.std.proofs.Common.{eqb, List, [], ◌∷◌, ◌++◌, ◌||◌, length, take, drop, refl, sym}
+use Rattle.std.proofs.Common.{ap, subst, ◌∙◌, arith, append_assoc, inl, inr, ⊎_elim}
+use Rattle.std.specs.Prelude.{codes}
+use Rattle.std.specs.List.{list_any, prefix_len}
+use Rattle.std.proofs.lemmas.Bool.{cases_Bool, cond-true, false≢true, not_from_false, or_parts}
+use Rattle.std.proofs.lemmas.Bool.Decides.{nat_tests}
+use Rattle.uri_pct.specs.Sets.{is_one_of}
+use Rattle.uri_parts.specs.Components.{starts}
+use Rattle.uri_parts.specs.Grammar.{has_colon_in_first_segment}
+use Rattle.uri_ops.specs.Dots.{has_slash, is_empty, remove_dot_segments, segments}
+use Rattle.uri_ops.proofs.Paths.DotLaws.{path-after-slash-appends-its-segments}
+use Rattle.uri_ops.proofs.Paths.Segments.{AllPass, appended-segments-pass-test, dotless_of-append}
+use Rattle.uri_ops.proofs.Paths.Segments.{closing, is_none, is_dotless, steps}
+use Rattle.uri_ops.proofs.Paths.Segments.{steps-of-dotless-append-all}
+use Rattle.uri_ops.proofs.Paths.SlashedSegments.{NoSlashes, first-segment-and-rest-lack-slashes}
+use Rattle.uri_ops.proofs.Paths.SlashedSegments.{lacks_slash, remove-dots-by-segments}
+use Rattle.uri_ops.proofs.Paths.SlashedSegments.{segments-of-text-lack-slashes}
+use Rattle.uri_ops.proofs.Paths.SlashedSegments.{segments-of-text-are-not-none}
+use Rattle.uri_ops.proofs.Paths.SlashedSegments.{slashed, slashed-of-append, slashed-of-push}
+use Rattle.uri_ops.proofs.Paths.SlashedSegments.{slashed-of-segments-is-text-after-slash}
+use Rattle.uri_relative.specs.Relative.{needs_leading_dot, relative_path}
+use Rattle.uri_relative.proofs.Climbs.{dir}
+use Rattle.uri_relative.proofs.Lengths.{length-of-path-up-to-some, length-of-path-up-to-nothing}
+use Rattle.uri_relative.proofs.Shrinking.{segments_left}
+use Rattle.uri_relative.proofs.SharedSegments.{BeginWithSameSegment}
+use Rattle.uri_relative.proofs.SharedSegments.{segments-share-directory-prefix}
+
+-- relative paths: being one of the delimiter `/` is being 47
+one-of-slash-is-byte-47 : (c : ℕ) → is_one_of (codes "/") c ≡ eqb c 47
+one-of-slash-is-byte-47 c = grind (arith, nat_tests)
+
+-- relative paths: the first segment (s) of a path has a `:` (58) exactly if the path has one there
+colon-is-in-first-segment-alone : (s : List ℕ) (rest : List (List ℕ)) → has_slash s ≡ false
+    → has_colon_in_first_segment (s ++ slashed rest) ≡ list_any (λ c. eqb c 58) s
+unfolding slashed
+colon-is-in-first-segment-alone [] [] e = refl
+colon-is-in-first-segment-alone [] (t ∷ rest) e = refl
+colon-is-in-first-segment-alone (c ∷ s) rest e =
+    let p = or_parts (eqb c 47) (has_slash s) e in
+    let more : prefix_len (λ c. not (is_one_of (codes "/") c)) ((c ∷ s) ++ slashed rest)
+    ≡ suc (prefix_len (λ c. not (is_one_of (codes "/") c)) (s ++ slashed rest)) =
+    cond-true _ _ _ (not_from_false _ (one-of-slash-is-byte-47 c ∙ p.0)) ∙ omega arith in
+    ap (λ n. list_any (λ c. eqb c 58) (take n ((c ∷ s) ++ slashed rest))) more
+    ∙ ap (λ b. eqb c 58 || b) (colon-is-in-first-segment-alone s rest p.1)
+
+-- relative paths: if a text is parsed as a path, it needs no `./`,
+-- nor does one with the same first segment
+same-first-segment-needs-no-leading-dot : (s : List ℕ) (segs tail : List (List ℕ))
+    → has_slash s ≡ false
+    → is_empty (s ++ slashed segs) ≡ false → starts 47 (s ++ slashed segs) ≡ false
+    → has_colon_in_first_segment (s ++ slashed segs) ≡ false → needs_leading_dot (s ++ slashed tail)
+    ≡ false
+unfolding slashed
+same-first-segment-needs-no-leading-dot [] [] tail free some rootless colon = absurd
+    (false≢true (sym some))
+same-first-segment-needs-no-leading-dot [] (t ∷ segs) tail free some rootless colon = absurd
+    (false≢true (sym rootless))
+same-first-segment-needs-no-leading-dot (c ∷ s) segs tail free some rootless colon =
+    ap (λ b. b || has_colon_in_first_segment ((c ∷ s) ++ slashed tail)) rootless
+    ∙ colon-is-in-first-segment-alone (c ∷ s) tail free
+    ∙ sym (colon-is-in-first-segment-alone (c ∷ s) segs free) ∙ colon
+
+-- lengths of relative paths: one without `../` is no longer than x, if its rest is so;
+-- none, misread: whether it is `.`, or needs `./`
+path-without-double-dots-is-no-longer : (rest x : List ℕ) (none misread : Bool) → 0 < length x
+    → (none ≡ false → length rest ≤ length x)
+    → (none ≡ false → misread ≡ true → length rest + 2 ≤ length x)
+    → length (cond none (codes ".") (cond misread (codes "./" ++ rest) rest)) ≤ length x
+path-without-double-dots-is-no-longer rest x true misread some h room = omega (arith, some)
+path-without-double-dots-is-no-longer rest x false true some h room = omega (arith, room refl refl)
+path-without-double-dots-is-no-longer rest x false false some h room = h refl
+
+-- lengths of relative paths: one with k + 1 `../` and a rest is no longer than x,
+-- by a count; spare: a byte too many
+path-with-double-dots-is-no-longer : (k : ℕ) (rest x : List ℕ) (spare : ℕ) → spare ≤ 1
+    → (is_empty rest ≡ false → spare ≡ 0) → 3 * suc k + length rest ≤ length x + spare
+    → length (relative_path (suc k) rest) ≤ length x
+path-with-double-dots-is-no-longer k rest x spare few exact h = ⊎_elim
+    (λ e. omega (arith, length-of-path-up-to-nothing k rest e, few, h))
+    (λ e. omega (arith, length-of-path-up-to-some k rest e, exact e, h))
+    (cases_Bool (is_empty rest))
+
+-- general fact on texts, for relative paths
+nonempty-text-has-length : (x : List ℕ) → is_empty x ≡ false → 0 < length x
+nonempty-text-has-length [] e = absurd (false≢true (sym e))
+nonempty-text-has-length (c ∷ x) e = omega arith
+
+-- relative paths: segments, each after a `/` (47), are `/`, the first, and the others
+joined-segments-begin-with-slash : (d : List ℕ) (ds : List (List ℕ)) → slashed (d ∷ ds)
+    ≡ 47 ∷ d ++ slashed ds
+unfolding slashed
+joined-segments-begin-with-slash d ds = refl
+
+-- general fact on lists of segments, for relative paths
+equal-segments-have-equal-rest : (ds es : List (List ℕ)) → ds ≡ es → drop 1 (slashed ds)
+    ≡ drop 1 (slashed es)
+equal-segments-have-equal-rest ds es e = ap (λ t. drop 1 (slashed t)) e
+
+-- a reference's path that is joined to a directory leads to what a relative path does
+pub record IsReachedByShortPath (output : List (List ℕ)) (x path : List ℕ) : Type 0 where
+  pub prefix : List (List ℕ)
+  pub up : List (List ℕ)
+  pub rest : List ℕ
+  pub output_is : output ≡ prefix ++ up
+  pub path_is : path ≡ dir prefix ++ rest
+  pub short : length (relative_path (length up) rest) ≤ length x
+
+-- lengths of relative paths: if there is some rest below a directory, no byte is spare
+no-byte-is-spare-for-some-rest : (spare : ℕ) (d : List ℕ) (ds up : List (List ℕ))
+    → (spare ≡ 0) ⊎ ((d ∷ ds ≡ [] ∷ []) × (0 < length up))
+    → is_empty (d ++ slashed ds) ≡ false → spare ≡ 0
+unfolding slashed
+no-byte-is-spare-for-some-rest spare d ds up (inl e) some = e
+no-byte-is-spare-for-some-rest spare d ds up (inr h) some =
+    absurd (false≢true (sym some
+    ∙ ap is_empty (equal-segments-have-equal-rest (d ∷ ds) ([] ∷ []) h.0)))
+
+-- lengths of relative paths: if the rest below a directory needs
+-- a `./` before it, there is room for it
+room-for-leading-dot-or-not-needed : (s d : List ℕ) (segs ds : List (List ℕ)) (enough : Type 0)
+    → has_slash s ≡ false
+    → is_empty (s ++ slashed segs) ≡ false → starts 47 (s ++ slashed segs) ≡ false
+    → has_colon_in_first_segment (s ++ slashed segs) ≡ false
+    → (0 < 0) ⊎ ((d ∷ ds ≡ [] ∷ []) ⊎ (BeginWithSameSegment (s ∷ segs) (d ∷ ds) ⊎ enough))
+    → is_empty (d ++ slashed ds) ≡ false → needs_leading_dot (d ++ slashed ds) ≡ true → enough
+unfolding slashed BeginWithSameSegment
+room-for-leading-dot-or-not-needed s d segs ds enough free some rootless colon (inl h) e f = absurd
+    (omega (arith, h))
+room-for-leading-dot-or-not-needed s d segs ds enough free some rootless colon (inr (inl h)) e f =
+    absurd (false≢true (sym e ∙ ap is_empty (equal-segments-have-equal-rest (d ∷ ds) ([] ∷ []) h)))
+room-for-leading-dot-or-not-needed s d segs ds enough free some rootless colon
+    (inr (inr (inl h))) e f =
+    absurd (false≢true (sym (same-first-segment-needs-no-leading-dot s segs h.0 free some
+    rootless colon)
+    ∙ ap needs_leading_dot (sym (equal-segments-have-equal-rest (d ∷ ds) (s ∷ h.0) h.1)) ∙ f))
+room-for-leading-dot-or-not-needed s d segs ds enough free some rootless colon
+    (inr (inr (inr h))) e f = h
+
+-- relative paths: the segments that are left are a directory (of prefix) and a rest below it
+pub segments-left-are-directory-and-rest : (left prefix : List (List ℕ)) (d : List ℕ)
+    (ds : List (List ℕ))
+    → left ≡ prefix ++ d ∷ ds → slashed left ≡ dir prefix ++ (d ++ slashed ds)
+segments-left-are-directory-and-rest left prefix d ds e =
+    ap slashed e ∙ slashed-of-append prefix (d ∷ ds)
+    ∙ ap (λ t. slashed prefix ++ t) (joined-segments-begin-with-slash d ds)
+    ∙ sym (append_assoc (slashed prefix) (47 ∷ []) (d ++ slashed ds))
+    ∙ ap (λ t. t ++ (d ++ slashed ds)) (sym (slashed-of-push prefix []))
+
+-- relative paths: one that is no longer leads to what is left of segments, which share a prefix
+-- with a directory (output)
+parts-are-reached-by-short-path : (output left segs prefix up down : List (List ℕ)) (s : List ℕ)
+    (spare : ℕ)
+    → has_slash s ≡ false → is_empty (s ++ slashed segs) ≡ false
+    → starts 47 (s ++ slashed segs) ≡ false → has_colon_in_first_segment (s ++ slashed segs) ≡ false
+    → output ≡ prefix ++ up → left ≡ prefix ++ down → spare ≤ 1 → 0 < length down
+    → (spare ≡ 0) ⊎ ((down ≡ [] ∷ []) × (0 < length up))
+    → 3 * length up + length (slashed down) ≤ length (slashed (s ∷ segs)) + spare
+    → (0 < length up) ⊎ ((down ≡ [] ∷ []) ⊎ (BeginWithSameSegment (s ∷ segs) down
+    ⊎ (3 * length up + length (slashed down) + 2 ≤ length (slashed (s ∷ segs)) + spare)))
+    → IsReachedByShortPath output (s ++ slashed segs) (slashed left)
+parts-are-reached-by-short-path output left segs prefix up [] s spare free some rootless colon e f
+    few down why cost
+    first = absurd (omega (arith, down))
+parts-are-reached-by-short-path output left segs prefix [] (d ∷ ds) s spare free some rootless colon
+    e f few down why
+    cost first =
+    let x = s ++ slashed segs in
+    let rest = d ++ slashed ds in
+    let n : length (slashed (d ∷ ds))
+    ≡ 1 + length rest = ap length (joined-segments-begin-with-slash d ds) ∙ omega arith in
+    let m : length (slashed (s ∷ segs)) ≡ 1 + length x =
+    ap length (joined-segments-begin-with-slash s segs) ∙ omega arith in
+    record {
+      prefix = prefix;
+      up = [];
+      rest = rest;
+      output_is = e;
+      path_is = segments-left-are-directory-and-rest left prefix d ds f;
+      short = path-without-double-dots-is-no-longer rest x (is_empty rest) (needs_leading_dot rest)
+          (nonempty-text-has-length x some)
+          (λ h. omega (arith, n, m, cost, no-byte-is-spare-for-some-rest spare d ds [] why h))
+          (λ h g. omega (
+            arith,
+            n,
+            m,
+            no-byte-is-spare-for-some-rest spare d ds [] why h,
+            room-for-leading-dot-or-not-needed s d segs ds _ free some rootless colon first h g,
+          ));
+    }
+parts-are-reached-by-short-path output left segs prefix (u ∷ us) (d ∷ ds) s spare free some rootless
+    colon e f few down
+    why cost first =
+    let x = s ++ slashed segs in
+    let rest = d ++ slashed ds in
+    let n : length (slashed (d ∷ ds))
+    ≡ 1 + length rest = ap length (joined-segments-begin-with-slash d ds) ∙ omega arith in
+    let m : length (slashed (s ∷ segs)) ≡ 1 + length x =
+    ap length (joined-segments-begin-with-slash s segs) ∙ omega arith in
+    record {
+      prefix = prefix;
+      up = u ∷ us;
+      rest = rest;
+      output_is = e;
+      path_is = segments-left-are-directory-and-rest left prefix d ds f;
+      short = path-with-double-dots-is-no-longer (length us) rest x spare few
+          (no-byte-is-spare-for-some-rest spare d ds (u ∷ us) why)
+          (omega (arith, n, m, cost));
+    }
+
+-- relative paths: one that is no longer leads from a directory
+-- (output) to what is left of it and the segments
+segments-are-reached-by-short-path : (output segs : List (List ℕ)) (s : List ℕ)
+    → has_slash s ≡ false
+    → is_empty (s ++ slashed segs) ≡ false → starts 47 (s ++ slashed segs) ≡ false
+    → has_colon_in_first_segment (s ++ slashed segs) ≡ false
+    → IsReachedByShortPath output (s ++ slashed segs) (slashed (segments_left output (s ∷ segs)))
+segments-are-reached-by-short-path output segs s free some rootless colon =
+    let w = segments-share-directory-prefix s segs output in
+    parts-are-reached-by-short-path output (segments_left output (s ∷ segs)) segs w.prefix
+    w.up w.down s
+    w.spare free some
+    rootless colon w.output_is w.left_is w.few w.some w.why w.cost w.first
+
+-- relative paths: removing dot segments after a directory (output)
+-- leaves what its segments and the path's leave
+removal-after-directory-leaves-segments : (output segs : List (List ℕ)) (s : List ℕ)
+    → AllPass is_dotless output
+    → NoSlashes output → NoSlashes (s ∷ segs)
+    → remove_dot_segments (slashed (output ++ s ∷ segs)) ≡ slashed (segments_left output (s ∷ segs))
+unfolding segments_left
+removal-after-directory-leaves-segments output segs s dotless lack lacks =
+    remove-dots-by-segments (output ++ s ∷ segs)
+    (appended-segments-pass-test lacks_slash output (s ∷ segs) lack lacks)
+    ∙ ap slashed (dotless_of-append output s segs
+    ∙ ap (λ o. steps o (s ∷ segs) ++ closing (s ∷ segs))
+    (steps-of-dotless-append-all [] output dotless))
+
+-- relative paths: one that is no longer leads from a directory (output) to where a path x leads
+text-by-segments-is-reached-by-short-path : (output segs : List (List ℕ)) (s x : List ℕ)
+    → AllPass is_dotless output
+    → NoSlashes output → segments x ≡ s ∷ segs → is_empty x ≡ false → starts 47 x ≡ false
+    → has_colon_in_first_segment x ≡ false
+    → IsReachedByShortPath output x (remove_dot_segments (dir output ++ x))
+unfolding slashed
+text-by-segments-is-reached-by-short-path output segs s x dotless lack e some rootless colon =
+    let lacks = subst NoSlashes e (segments-of-text-lack-slashes x) in
+    let same : x ≡ s ++ slashed segs =
+    ap (λ t. drop 1 t) (sym (slashed-of-segments-is-text-after-slash x) ∙ ap slashed e) in
+    subst (λ t. IsReachedByShortPath output x t)
+    (sym (ap remove_dot_segments (path-after-slash-appends-its-segments output x
+    ∙ ap (λ t. slashed (output ++ t)) e)
+    ∙ removal-after-directory-leaves-segments output segs s dotless lack lacks))
+    (subst (λ t. IsReachedByShortPath output t (slashed (segments_left output (s ∷ segs))))
+    (sym same)
+    (segments-are-reached-by-short-path output segs s
+    (first-segment-and-rest-lack-slashes s segs lacks).0 (sym (ap is_empty same) ∙ some)
+    (sym (ap (starts 47) same) ∙ rootless) (sym (ap has_colon_in_first_segment same) ∙ colon)))
+
+-- general fact on lists of segments, for relative paths: some segments have a first
+pub nonempty-segments-have-first : (segs : List (List ℕ)) → is_none segs ≡ false
+    → (s : List ℕ) × (rest : List (List ℕ)) × (segs ≡ s ∷ rest)
+unfolding is_none
+nonempty-segments-have-first [] e = absurd (false≢true (sym e))
+nonempty-segments-have-first (s ∷ rest) e = (s, rest, refl)
+
+-- relative paths: a path x after a directory (output) can be
+-- replaced by a relative path that is no longer
+pub leads : (output : List (List ℕ)) (x : List ℕ) → AllPass is_dotless output → NoSlashes output
+    → is_empty x ≡ false → starts 47 x ≡ false → has_colon_in_first_segment x ≡ false
+    → IsReachedByShortPath output x (remove_dot_segments (dir output ++ x))
+leads output x dotless lack some rootless colon =
+    let f = nonempty-segments-have-first (segments x) (segments-of-text-are-not-none x) in
+    text-by-segments-is-reached-by-short-path output f.1 f.0 x dotless lack f.2 some rootless colon

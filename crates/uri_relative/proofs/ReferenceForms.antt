@@ -1,0 +1,160 @@
+-- The forms of a reference by what it leads to: with a scheme, with an authority, or a path. RFC
+-- 3986, sections 4.2 and 5.2.2.
+use Rattle.std.proofs.Common.{◌≡◌, ℕ, ◌+◌, ◌≤◌, Bool, true, false, cond, List, [], ◌++◌}
+use Rattle.std.proofs.Common.{length, refl, sym, ap, ◌∙◌, arith, ⊎_elim, length-append}
+use Rattle.std.specs.Prelude.{codes, Option, is_some}
+use Rattle.std.proofs.lemmas.Bool.{cases_Bool, cond-false, cond-true}
+use Rattle.uri_pct.specs.Delimiters.{slash}
+use Rattle.uri_parts.specs.Components.{Components, marked, recompose, starts}
+use Rattle.uri_parts.specs.Grammar.{Kind}
+use Rattle.uri_ops.specs.Dots.{is_empty}
+use Rattle.uri_ops.specs.Resolving.{with_final_path}
+use Rattle.uri_ops.specs.Target.{dotless_if_absolute, guarded}
+use Rattle.uri_ops.specs.Target.{dotted_target, merged, query_or, target_of}
+use Rattle.uri_relative.specs.Forms.{after_path}
+use Rattle.uri_relative.specs.Relative.{joined_path}
+use Rattle.uri_relative.specs.Shortest.{IsReferenceFrom}
+use Rattle.uri_relative.proofs.Shrinking.{target-is-no-longer-with-final-path, length-of-recompose}
+
+-- forms of references: one (o) with a scheme is no shorter than the target t
+pub reference-with-scheme-is-no-shorter : (kind : Kind) (b t o : Components)
+    → IsReferenceFrom kind b t o
+    → is_some o.scheme ≡ true
+    → length (recompose t) ≤ length (recompose o)
+reference-with-scheme-is-no-shorter kind b t o l e =
+    let j : dotted_target b o ≡ o = cond-true _ _ _ e in
+    omega (
+      arith,
+      target-is-no-longer-with-final-path o l.split.no_authority,
+      ap (λ c. length (recompose c)) (sym l.leads ∙ ap with_final_path j),
+    )
+
+-- what holds of a reference with an authority and no scheme that leads to the target
+pub record ByAuthority (b t o : Components) : Type 0 where
+  pub scheme : b.scheme ≡ t.scheme
+  pub authority : o.authority ≡ t.authority
+  pub short : length (recompose t) ≤ length (marked [] t.scheme (codes ":")) + length (recompose o)
+
+-- forms of references: one (o) with an authority and no scheme has the target's authority, and is
+-- shorter by the scheme at most
+reference-with-authority-lacks-only-scheme : (kind : Kind) (b t o : Components)
+    → IsReferenceFrom kind b t o
+    → is_some o.scheme ≡ false → is_some o.authority ≡ true → ByAuthority b t o
+reference-with-authority-lacks-only-scheme kind b t o l none some =
+    let c : Components = record o { scheme = b.scheme } in
+    let j : dotted_target b o ≡ c = cond-false _ _ _ none ∙ cond-true _ _ _ some in
+    let same : with_final_path c ≡ t = sym (ap with_final_path j) ∙ l.leads in
+    record {
+      scheme = ap (λ (d : Components). d.scheme) same;
+      authority = ap (λ (d : Components). d.authority) same;
+      short = omega (
+        arith,
+        target-is-no-longer-with-final-path c l.split.no_authority,
+        length-of-recompose c,
+        length-of-recompose o,
+        ap (λ d. length (recompose d)) same,
+        ap (λ (d : Components). length (marked [] d.scheme (codes ":"))) same,
+      );
+    }
+
+-- what holds of a reference without scheme and authority that leads to the target
+pub record IsPathForm (b t o : Components) : Type 0 where
+  pub scheme : b.scheme ≡ t.scheme
+  pub authority : b.authority ≡ t.authority
+  pub path : guarded b.authority (dotless_if_absolute (joined_path b.path o.path)) ≡ t.path
+  pub query : cond (is_empty o.path) (query_or b.query o.query) o.query ≡ t.query
+  pub fragment : o.fragment ≡ t.fragment
+
+-- resolving: components of a case are those of each field by the case; empty, rooted: whether the
+-- reference's path is empty, begins with `/`
+components-joined-field-by-field : (b : Components) (empty rooted : Bool) (p m : List ℕ)
+    (q r f : Option (List ℕ))
+    → cond empty (let c : Components = record b { query = q; fragment = f } in c)
+    (cond rooted (let c : Components = record b { path = p; query = r; fragment = f } in c)
+    (let c : Components = record b { path = m; query = r; fragment = f } in c))
+    ≡ record b {
+      path = cond empty b.path (cond rooted p m);
+      query = cond empty q r;
+      fragment = f;
+    }
+components-joined-field-by-field b true rooted p m q r f = refl
+components-joined-field-by-field b false true p m q r f = refl
+components-joined-field-by-field b false false p m q r f = refl
+
+-- forms of references: one (o) without a scheme and an authority
+-- leads to t by its path, query and fragment
+pub reference-without-authority-is-path-form : (b t o : Components) → target_of b o ≡ t
+    → is_some o.scheme ≡ false
+    → is_some o.authority ≡ false → IsPathForm b t o
+reference-without-authority-is-path-form b t o leads none none' =
+    let c : Components = record b {
+      path = joined_path b.path o.path;
+      query = cond (is_empty o.path) (query_or b.query o.query) o.query;
+      fragment = o.fragment;
+    } in
+    let j : dotted_target b o ≡ c =
+    cond-false _ _ _ none ∙ cond-false _ _ _ none'
+    ∙ components-joined-field-by-field b (is_empty o.path) (starts slash o.path) o.path
+    (merged b.path o.path)
+    (query_or b.query o.query) o.query o.fragment in
+    let same : with_final_path c ≡ t = sym (ap with_final_path j) ∙ leads in
+    record {
+      scheme = ap (λ (d : Components). d.scheme) same;
+      authority = ap (λ (d : Components). d.authority) same;
+      path = ap (λ (d : Components). d.path) same;
+      query = ap (λ (d : Components). d.query) same;
+      fragment = ap (λ (d : Components). d.fragment) same;
+    }
+
+-- forms of references: one (o) has a scheme, or an authority alone, or neither
+pub reference-is-of-one-form : (kind : Kind) (b t o : Components) (P : Type 0)
+    → IsReferenceFrom kind b t o
+    → (is_some o.scheme ≡ true → P)
+    → (is_some o.scheme ≡ false → is_some o.authority ≡ true → ByAuthority b t o → P)
+    → (is_some o.scheme ≡ false → is_some o.authority ≡ false → IsPathForm b t o → P) → P
+reference-is-of-one-form kind b t o P l scheme authority path = ⊎_elim
+    scheme
+    (λ e. ⊎_elim
+    (λ f. authority e f (reference-with-authority-lacks-only-scheme kind b t o l e f))
+    (λ f. path e f (reference-without-authority-is-path-form b t o l.leads e f))
+    (cases_Bool (is_some o.authority)))
+    (cases_Bool (is_some o.scheme))
+
+-- lengths of references: the text after a path is its query and fragment with their delimiters
+pub length-of-query-and-fragment : (c : Components) → length (after_path c)
+    ≡ length (marked (codes "?") c.query []) + length (marked (codes "#") c.fragment [])
+length-of-query-and-fragment c = length-append (marked (codes "?") c.query [])
+    (marked (codes "#") c.fragment [])
+
+-- the text after the path is the target's, or the target has the base's query
+pub record HasEnd (t o : Components) : Type 0 where
+  pub query : o.query ≡ t.query
+  pub fragment : o.fragment ≡ t.fragment
+
+-- forms of references: target and reference with the same query
+-- and fragment have as long a text after the path
+pub equal-ends-have-equal-length : (t o : Components) → HasEnd t o → length (after_path t)
+    ≡ length (after_path o)
+equal-ends-have-equal-length t o h =
+    ap (λ q. length (marked (codes "?") q [] ++ marked (codes "#") t.fragment [])) (sym h.query)
+    ∙ ap (λ f. length (marked (codes "?") o.query [] ++ marked (codes "#") f [])) (sym h.fragment)
+
+-- forms of references: one (o) without a scheme and an authority has the target's query and
+-- fragment, or takes the base's query
+pub path-form-has-end-or-inherits-query : (b t o : Components) → IsPathForm b t o → (P : Type 0)
+    → (is_empty o.path ≡ true → is_some o.query ≡ false → b.query ≡ t.query → P)
+    → (is_empty o.path ≡ true → is_some o.query ≡ true → HasEnd t o → P)
+    → (is_empty o.path ≡ false → HasEnd t o → P) → P
+path-form-has-end-or-inherits-query b t o w P alone query path = ⊎_elim
+    (λ e. ⊎_elim
+    (λ f. query e f (record {
+      query = sym (cond-true _ _ _ e ∙ cond-true _ _ _ f) ∙ w.query;
+      fragment = w.fragment;
+    }))
+    (λ f. alone e f (sym (cond-true _ _ _ e ∙ cond-false _ _ _ f) ∙ w.query))
+    (cases_Bool (is_some o.query)))
+    (λ e. path e (record {
+      query = sym (cond-false _ _ _ e) ∙ w.query;
+      fragment = w.fragment;
+    }))
+    (cases_Bool (is_empty o.path))

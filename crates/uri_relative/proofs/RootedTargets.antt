@@ -1,0 +1,103 @@
+-- Which targets need an authority in their reference, and which bases have a rooted path: RFC 3986,
+-- section 5.2.2.
+use Rattle.std.proofs.Common.{◌≡◌, ◌≢◌, ℕ, Bool, true, false, List, []}
+use Rattle.std.proofs.Common.{◌&&◌, ◌||◌, ◌∷◌, refl, sym, ap, ◌∙◌, inl, inr, ⊎_elim}
+use Rattle.std.specs.Prelude.{codes, Option, None, Some, IfSome, is_some, is_none}
+use Rattle.std.proofs.lemmas.Bool.{and_from, both_ways, cases_Bool}
+use Rattle.std.proofs.lemmas.Bool.{false≢true, not-false, not_from_false}
+use Rattle.uri_pct.specs.Delimiters.{slash}
+use Rattle.uri_parts.specs.Components.{Components, IsAbemptyPath, Lacks, components, starts}
+use Rattle.uri_parts.specs.Grammar.{Kind}
+use Rattle.uri_pct.proofs.Tests.{not_some_is_none, eq_true_from_IsTrue}
+use Rattle.uri_parts.proofs.Splitting.Recompose.{components-are-split-of-text}
+use Rattle.uri_parts.proofs.Splitting.Recompose.{equal-to-true-is-IsTrue}
+use Rattle.uri_ops.specs.Dots.{is_empty}
+use Rattle.uri_ops.specs.Target.{is_opaque}
+use Rattle.uri_relative.specs.Forms.{NeedsPath}
+use Rattle.uri_relative.specs.Leading.{is_rootless, has_emptied_path, needs_authority}
+use Rattle.uri_relative.proofs.Forms.{IsDotlessTargetOf, or-holds-if-first-does}
+
+-- targets: a path that may be after an authority, and does not begin with `/`, is empty
+abempty-path-without-slash-is-empty : (path : List ℕ) → IsAbemptyPath path → starts slash path
+    ≡ false → path ≡ []
+abempty-path-without-slash-is-empty path (inl e) h = e
+abempty-path-without-slash-is-empty path (inr e) h = absurd
+    (both_ways _ h (eq_true_from_IsTrue _ e))
+
+-- general fact on texts, for paths of targets
+empty-test-means-empty-text : (path : List ℕ) → is_empty path ≡ true → path ≡ []
+empty-test-means-empty-text [] e = refl
+empty-test-means-empty-text (c ∷ path) e = absurd (false≢true e)
+
+-- references to a target: if the target has no query, and another than the base, the base has one
+base-has-query-that-target-lacks : (base t : Option (List ℕ)) → is_none t ≡ true → base ≢ t
+    → is_some base ≡ true
+base-has-query-that-target-lacks None None e other = absurd (other refl)
+base-has-query-that-target-lacks None (Some q) e other = absurd (false≢true e)
+base-has-query-that-target-lacks (Some p) t e other = refl
+
+-- references to a target: one without authority and a leading
+-- `/` needs a reference with a scheme or an authority
+rootless-path-without-authority-needs-one : (base t : Components) → is_some t.authority ≡ false
+    → starts slash t.path ≡ false → needs_authority base t ≡ true
+rootless-path-without-authority-needs-one base t none e =
+    or-holds-if-first-does (is_rootless t) _ (and_from _ _ (not_some_is_none t.authority none)
+    (not_from_false _ e))
+
+-- general fact on booleans, for targets
+or-holds-if-second-does : (a b : Bool) → b ≡ true → (a || b) ≡ true
+or-holds-if-second-does true b e = refl
+or-holds-if-second-does false b e = e
+
+-- references to a target: one with an empty path, if the base has another,
+-- needs a reference with a scheme or an authority
+empty-path-after-authority-needs-authority : (base t : Components) → NeedsPath base t
+    → base.authority ≡ t.authority
+    → is_opaque base ≡ false → is_some t.authority ≡ true → t.path ≡ []
+    → needs_authority base t ≡ true
+empty-path-after-authority-needs-authority base t n a opaque some e =
+    let none : is_empty t.path ≡ true = ap is_empty e in
+    or-holds-if-second-does (is_rootless t) _
+    (⊎_elim
+    (λ h. let same : base.path ≡ t.path = empty-test-means-empty-text base.path h ∙ sym e in
+    let no = n.no_query a same opaque in
+    or-holds-if-second-does (has_emptied_path base t) _
+    (and_from _ _ (and_from _ _ (and_from _ _ none h) no)
+    (base-has-query-that-target-lacks base.query t.query no (n.other_query a same))))
+    (λ h. or-holds-if-first-does (has_emptied_path base t) _
+    (and_from _ _ (and_from _ _ some none) (not_from_false _ h)))
+    (cases_Bool (is_empty base.path)))
+
+-- targets: the path after an authority (a) is empty or begins with `/`
+path-after-authority-is-abempty : (a : Option (List ℕ)) (path : List ℕ) → is_some a ≡ true
+    → IfSome a (λ x. Lacks (codes "/?#") x × IsAbemptyPath path) → IsAbemptyPath path
+path-after-authority-is-abempty None path e h = absurd (false≢true e)
+path-after-authority-is-abempty (Some a) path e h = h.1
+
+-- references to a target: one without a leading `/` in its path
+-- needs a reference with a scheme or an authority
+pub rootless-target-needs-authority : (kind : Kind) (base t : Components) → IsDotlessTargetOf kind t
+    → NeedsPath base t
+    → base.authority ≡ t.authority → is_opaque base ≡ false → starts slash t.path ≡ false
+    → needs_authority base t ≡ true
+rootless-target-needs-authority kind base t w n a opaque e = ⊎_elim
+    (λ some. empty-path-after-authority-needs-authority base t n a opaque some
+    (abempty-path-without-slash-is-empty t.path
+    (path-after-authority-is-abempty t.authority t.path some w.split.authority) e))
+    (λ none. rootless-path-without-authority-needs-one base t none e)
+    (cases_Bool (is_some t.authority))
+
+-- references to a target: the path of a base that is not opaque is empty or begins with `/`
+pub base-that-is-not-opaque-is-rooted : (text : List ℕ) → is_opaque (components text) ≡ false
+    → IsAbemptyPath (components text).path
+base-that-is-not-opaque-is-rooted text e =
+    let b = components text in
+    ⊎_elim
+    (λ some. path-after-authority-is-abempty b.authority b.path some
+    (components-are-split-of-text text).authority)
+    (λ none. inr (equal-to-true-is-IsTrue _ (not-false _
+    (and_right_of (is_none b.authority) _ (not_some_is_none b.authority none) e))))
+    (cases_Bool (is_some b.authority))
+  where
+    and_right_of : (a c : Bool) → a ≡ true → (a && c) ≡ false → c ≡ false
+    and_right_of a c h e = sym (ap (λ d. d && c) h) ∙ e

@@ -1,0 +1,205 @@
+-- Which reference is chosen.
+use Rattle.std.proofs.Common.{◌≡◌, ℕ, ◌<◌, ◌≤◌, Bool, true, false, not, ◌&&◌, List, [], length}
+use Rattle.std.proofs.Common.{◌+◌, ◌++◌, drop, refl, sym, ap, ◌∙◌, ⊎_elim, arith}
+use Rattle.std.specs.Prelude.{Option, None, Some, bytes_eq, codes, is_none, is_some}
+use Rattle.std.specs.Bool.{Decides}
+use Rattle.std.specs.Option.{option_eq}
+use Rattle.std.proofs.lemmas.Bool.{and_from, and_left, and_parts, and_right, both_ways}
+use Rattle.std.proofs.lemmas.Bool.{cases_Bool, cond-false, cond-true, cond_both}
+use Rattle.std.proofs.lemmas.Bool.{false_from_ne_true, le-leb}
+use Rattle.std.proofs.lemmas.Bool.{lt-leb, not_from_false, not_from_true, or_from, or_left}
+use Rattle.std.proofs.lemmas.Bool.{or_right}
+use Rattle.std.proofs.lemmas.Bool.Decides.{Decides-like}
+use Rattle.std.proofs.lemmas.Slice.Eq.{bytes_eq-Decides}
+use Rattle.uri_pct.specs.Delimiters.{slash}
+use Rattle.uri_parts.specs.Components.{Components, has_authority, starts}
+use Rattle.uri_ops.specs.Dots.{lacks_dot_segments, or_slash, remove_dot_segments}
+use Rattle.uri_ops.specs.Target.{guarded, is_opaque}
+use Rattle.uri_ops.proofs.Paths.DotLaws.{remove-dots-of-dotless}
+use Rattle.uri_relative.specs.Forms.{IsUnguarded, NeedsPath, from_authority}
+use Rattle.uri_relative.specs.Relative.{IsLongestPrefix, IsSharedPrefix, relative_from}
+use Rattle.uri_relative.specs.Relative.{relative_path, slashes}
+use Rattle.uri_relative.specs.Rule.{has_same_authority, has_same_query, has_same_scheme}
+use Rattle.uri_relative.specs.Rule.{path_from_base, reference_components}
+use Rattle.uri_relative.specs.Rule.{shortest_or_preferred_path}
+use Rattle.uri_relative.specs.Rule.{has_same_authority_and_path}
+use Rattle.uri_relative.specs.Rule.{shared_directory_len}
+use Rattle.uri_relative.proofs.Climbs.{remove_dot_segments-follows-dots}
+use Rattle.uri_relative.proofs.SharedLengths.{longest-shared-prefix-has-shared_directory_len}
+use Rattle.uri_relative.proofs.Ways.{guard-counts-as-no-segment}
+
+-- references to a target: the path from the root is chosen for a base with dot segments
+pub path-from-root-for-base-with-dots : (prefers : Bool) (base path : List ℕ)
+    → lacks_dot_segments base ≡ false
+    → guarded None path ≡ shortest_or_preferred_path prefers base path
+unfolding shortest_or_preferred_path
+path-from-root-for-base-with-dots prefers base path e = sym (cond-false _ _ _ (and_left _ _ e))
+
+-- references to a target: the path from the root is chosen where it is shorter,
+-- unless a relative one is preferred
+pub path-from-root-if-shorter : (prefers : Bool) (base path : List ℕ) → prefers ≡ false
+    → length (guarded None path) < length (path_from_base base path)
+    → guarded None path ≡ shortest_or_preferred_path prefers base path
+unfolding shortest_or_preferred_path
+path-from-root-if-shorter prefers base path e h =
+    sym (cond-false _ _ _ (and_right _ _ (or_from prefers _ e (lt-leb _ _ h))))
+
+-- references to a target: the relative path is chosen where it is no longer, or preferred
+pub relative-path-if-no-longer : (prefers : Bool) (base path : List ℕ) → lacks_dot_segments base
+    ≡ true
+    → (prefers ≡ false → length (path_from_base base path) ≤ length (guarded None path))
+    → path_from_base base path ≡ shortest_or_preferred_path prefers base path
+unfolding shortest_or_preferred_path
+relative-path-if-no-longer prefers base path dotless h =
+    sym (cond-true _ _ _ (and_from _ _ dotless (⊎_elim (λ e. or_left prefers _ e)
+    (λ e. or_right prefers _ (le-leb _ _ (h e))) (cases_Bool prefers))))
+
+-- references to a target: the path that is relative to the base's,
+-- by the shared prefix that the code finds
+pub relative-path-by-longest-prefix : (given base path bytes others rest : List ℕ)
+    (last double_dots : ℕ)
+    → base ≡ or_slash given → bytes ≡ base → others ≡ path → last < length bytes
+    → IsSharedPrefix (last + 1) bytes others → IsLongestPrefix (last + 1) bytes others
+    → double_dots ≡ slashes (drop (last + 1) base) → rest ≡ drop (last + 1) path
+    → relative_path double_dots rest ≡ path_from_base given path
+relative-path-by-longest-prefix given base path bytes others rest last double_dots root e f h shared
+    longest g k =
+    ap (λ m. relative_path m rest) g
+    ∙ ap (λ t. relative_path (slashes (drop (last + 1) base)) t) k
+    ∙ ap (λ n. relative_from n base path)
+    (longest-shared-prefix-has-shared_directory_len bytes others (last + 1)
+    (omega (arith, h)) shared longest
+    ∙ ap (λ t. shared_directory_len t others) e ∙ ap (shared_directory_len base) f)
+    ∙ ap (λ b. relative_from (shared_directory_len b path) b path) root
+
+-- targets: a path without its guard is the target's path without dot segments
+pub unguarded-path-is-without-dots : (t : Components) (path : List ℕ) → IsUnguarded t path
+    → path ≡ remove_dot_segments t.path
+unguarded-path-is-without-dots t path u =
+    let dotless = remove-dots-of-dotless path u.absolute u.dotless in
+    let clean : remove_dot_segments (guarded t.authority path) ≡ path =
+    cond_both (is_none t.authority && has_authority path) (codes "/." ++ path) path
+    (λ p. remove_dot_segments p ≡ path)
+    (λ _. guard-counts-as-no-segment remove_dot_segments remove_dot_segments-follows-dots path
+    u.absolute ∙ dotless) (λ _. dotless) in
+    sym clean ∙ ap remove_dot_segments u.guards
+
+-- references to a target: comparing two components decides whether they are equal
+option-test-decides-equality : (p q : Option (List ℕ)) → Decides (option_eq bytes_eq p q) (p ≡ q)
+option-test-decides-equality None None = (λ _. refl, λ _. refl)
+option-test-decides-equality None (Some b) = (λ e. cc, λ e. cc)
+option-test-decides-equality (Some a) None = (λ e. cc, λ e. cc)
+option-test-decides-equality (Some a) (Some b) = Decides-like _ (ap Some) (λ e. cc)
+    (bytes_eq-Decides a b)
+
+-- general fact on booleans, for the choice of a reference: a test of what is refuted fails
+refuted-test-is-false : (b : Bool) (P : Type 0) → Decides b P → (P → ⊥) → b ≡ false
+refuted-test-is-false b P d other = false_from_ne_true b (λ e. other (d.0 e))
+
+module _ (prefers : Bool) (base t : Components) where
+  equal-schemes-pass-test : base.scheme ≡ t.scheme → not (has_same_scheme base t) ≡ false
+  equal-schemes-pass-test s = not_from_true _
+      ((option-test-decides-equality base.scheme t.scheme).1 s)
+
+  equal-authority-and-path-pass-test : base.authority ≡ t.authority → base.path ≡ t.path
+      → has_same_authority_and_path base t
+      ≡ true
+  equal-authority-and-path-pass-test a p = and_from _ _
+      ((option-test-decides-equality base.authority t.authority).1 a)
+      ((bytes_eq-Decides base.path t.path).1 p)
+
+  other_query : (base.query ≡ t.query → ⊥)
+      → (has_same_authority_and_path base t && has_same_query base t) ≡ false
+  other_query other = and_right (has_same_authority_and_path base t) _
+      (refuted-test-is-false _ (base.query ≡ t.query)
+      (option-test-decides-equality base.query t.query) other)
+
+  target-that-needs-path-differs : NeedsPath base t
+      → (has_same_authority_and_path base t && has_same_query base t)
+      ≡ false
+  target-that-needs-path-differs n = false_from_ne_true _ (λ e.
+      let both = and_parts (has_same_authority_and_path base t) _ e in
+      let place = and_parts (has_same_authority base t) _ both.0 in
+      n.other_query ((option-test-decides-equality base.authority t.authority).0 place.0)
+      ((bytes_eq-Decides base.path t.path).0 place.1)
+      ((option-test-decides-equality base.query t.query).0 both.1))
+
+  target-that-needs-path-has-no-query-form : NeedsPath base t → is_opaque base ≡ false
+      → (has_same_authority_and_path base t && is_some t.query) ≡ false
+  target-that-needs-path-has-no-query-form n opaque = false_from_ne_true _ (λ e.
+      let both = and_parts (has_same_authority_and_path base t) _ e in
+      let place = and_parts (has_same_authority base t) _ both.0 in
+      none_or_some t.query (n.no_query
+      ((option-test-decides-equality base.authority t.authority).0 place.0)
+      ((bytes_eq-Decides base.path t.path).0 place.1) opaque) both.1)
+    where
+      none_or_some : (o : Option (List ℕ)) → is_none o ≡ true → is_some o ≡ true → ⊥
+      none_or_some None e f = cc
+      none_or_some (Some q) e f = cc
+
+  pub rule-gives-target-for-other-scheme : (base.scheme ≡ t.scheme → ⊥) → t
+      ≡ reference_components prefers base t
+  unfolding reference_components
+  rule-gives-target-for-other-scheme other =
+      sym (cond-true _ _ _ (not_from_false _ (refuted-test-is-false _ (base.scheme ≡ t.scheme)
+      (option-test-decides-equality base.scheme t.scheme) other)))
+
+  pub rule-gives-fragment-for-same-query : base.scheme ≡ t.scheme → base.authority ≡ t.authority
+      → base.path ≡ t.path → base.query ≡ t.query
+      → record t { scheme = None; authority = None; path = []; query = None }
+      ≡ reference_components prefers base t
+  unfolding reference_components
+  rule-gives-fragment-for-same-query s a p q =
+      sym (cond-false _ _ _ (equal-schemes-pass-test s)
+      ∙ cond-true _ _ _ (and_from _ _ (equal-authority-and-path-pass-test a p)
+      ((option-test-decides-equality base.query t.query).1 q)))
+
+  pub rule-gives-target-for-opaque-base : base.scheme ≡ t.scheme → NeedsPath base t
+      → is_opaque base ≡ true
+      → t ≡ reference_components prefers base t
+  unfolding reference_components
+  rule-gives-target-for-opaque-base s n opaque =
+      sym (cond-false _ _ _ (equal-schemes-pass-test s)
+      ∙ cond-false _ _ _ (target-that-needs-path-differs n)
+      ∙ cond-true _ _ _ opaque)
+
+  pub rule-gives-query-for-same-path : base.scheme ≡ t.scheme → base.authority ≡ t.authority
+      → base.path ≡ t.path
+      → (base.query ≡ t.query → ⊥) → is_opaque base ≡ false → is_some t.query ≡ true
+      → record t { scheme = None; authority = None; path = [] }
+      ≡ reference_components prefers base t
+  unfolding reference_components
+  rule-gives-query-for-same-path s a p other opaque some =
+      sym (cond-false _ _ _ (equal-schemes-pass-test s) ∙ cond-false _ _ _ (other_query other)
+      ∙ cond-false _ _ _ opaque
+      ∙ cond-true _ _ _ (and_from _ _ (equal-authority-and-path-pass-test a p) some))
+
+  pub rule-gives-authority : base.scheme ≡ t.scheme → NeedsPath base t → is_opaque base ≡ false
+      → (base.authority ≡ t.authority → starts slash t.path ≡ false)
+      → from_authority t ≡ reference_components prefers base t
+  unfolding reference_components
+  rule-gives-authority s n opaque rootless =
+      sym (cond-false _ _ _ (equal-schemes-pass-test s)
+      ∙ cond-false _ _ _ (target-that-needs-path-differs n)
+      ∙ cond-false _ _ _ opaque
+      ∙ cond-false _ _ _ (target-that-needs-path-has-no-query-form n opaque)
+      ∙ cond-false _ _ _ (false_from_ne_true _ (λ e.
+      let both = and_parts (has_same_authority base t) _ e in
+      both_ways _ (rootless ((option-test-decides-equality base.authority t.authority).0 both.0))
+      both.1)))
+
+  pub rule-gives-path-for-same-authority : base.scheme ≡ t.scheme → base.authority ≡ t.authority
+      → NeedsPath base t
+      → is_opaque base ≡ false → starts slash t.path ≡ true → (way : List ℕ)
+      → way ≡ shortest_or_preferred_path prefers base.path (remove_dot_segments t.path)
+      → record t { scheme = None; authority = None; path = way }
+      ≡ reference_components prefers base t
+  unfolding reference_components
+  rule-gives-path-for-same-authority s a n opaque absolute way e =
+      ap (λ w. record t { scheme = None; authority = None; path = w }) e
+      ∙ sym (cond-false _ _ _ (equal-schemes-pass-test s)
+      ∙ cond-false _ _ _ (target-that-needs-path-differs n)
+      ∙ cond-false _ _ _ opaque
+      ∙ cond-false _ _ _ (target-that-needs-path-has-no-query-form n opaque)
+      ∙ cond-true _ _ _
+      (and_from _ _ ((option-test-decides-equality base.authority t.authority).1 a) absolute))

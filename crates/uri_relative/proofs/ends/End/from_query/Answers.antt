@@ -1,5 +1,0 @@
-use Rattle.std.proofs.Common.{[], refl}
-use Rattle.uri_relative.proofs.ends.End.from_query.Goals as goal
-
-pub returns-clause-at : goal.returns-clause-at
-returns-clause-at g c = c.positions_with_path.ensures [] refl

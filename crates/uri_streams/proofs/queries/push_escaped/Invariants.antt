@@ -1,0 +1,10 @@
+-- What was written is what the characters so far come to.
+use Rattle.std.proofs.Common.{◌≡◌, ◌++◌, length, string_bytes, take}
+use Rattle.std.specs.List.{flat_map}
+use Rattle.std.specs.Str.{chars}
+use Rattle.uri_streams.specs.Queries.{escaped_char}
+use Rattle.uri_streams.proofs.queries.push_escaped.Given as goal
+
+abbrev pub invariant-loop-character : goal.invariant-loop-character
+invariant-loop-character l =
+    string_bytes l.out ≡ string_bytes l.initial.out ++ flat_map escaped_char l.yielded

@@ -1,0 +1,15 @@
+use Rattle.std.proofs.Common.{◌≡◌, ◌∙◌, ap, cond, rules, false, string_bytes, true}
+use Rattle.std.specs.HashSet.{contains_text}
+use Rattle.std.specs.Prelude.{bytes_eq}
+use Rattle.uri_streams.proofs.Uniques.{text_if_new-of-new}
+use Rattle.uri_streams.proofs.task.text_if_new.Goals as goal
+
+pub returns : goal.returns
+returns c = λ known has.
+    let same : string_bytes c.in_ok-key.key ≡ string_bytes c.args.normal = search rules in
+    let unknown : contains_text c.args.met.now.texts (string_bytes c.args.normal) ≡ false =
+    search rules in
+    text_if_new-of-new c.args.met.now c.note.new.self known (string_bytes c.args.normal) has
+    (λ other. c.in_ok-note.ensures other
+    ∙ ap (λ k. cond (bytes_eq k other) true (contains_text c.args.met.now.texts other)) same)
+    unknown

@@ -1,0 +1,136 @@
+-- The result of the text of a line under a command, whatever the other lines are.
+use Rattle.std.specs.Prelude.{ℕ, List, [], ◌++◌, codes, Bool, false, not, Result, Ok, Err}
+use Rattle.std.specs.Prelude.{unwrap_or}
+use Rattle.std.specs.Prelude.{option_map, if◌then◌else◌}
+use Rattle.fluent_uri.specs.Components.{components}
+use Rattle.fluent_uri.specs.Grammar.{Kind, uri, uri_ref, iri, iri_ref, is_of_kind}
+use Rattle.fluent_uri.specs.Iris.{iri_text}
+use Rattle.fluent_uri.specs.Meaning.{meaning_of}
+use Rattle.fluent_uri.specs.Normal.{normal_text}
+use Rattle.fluent_uri.specs.Refusals.{refusal}
+use Rattle.fluent_uri.specs.SchemePorts.{default_port}
+use Rattle.fluent_uri.specs.Target.{TargetError, BaseWithFragment}
+use Rattle.fluent_uri.specs.Target.{InvalidReferenceAgainstOpaqueBase}
+use Rattle.fluent_uri.specs.Target.{resolution_of}
+use Rattle.fluent_uri.specs.Uris.{uri_text}
+use Rattle.fluent_uri.specs.declared.resolve.ResolveError.TheVariants as resolve_errors
+use Rattle.uri_commands.specs.Messages.{error_text, resolve_error_text}
+use Rattle.uri_relative.specs.Rule.{reference_to}
+use Rattle.uri_streams.specs.Json.{json_of}
+use Rattle.uri_streams.specs.Queries.{query_json}
+use Rattle.uri_streams.specs.declared.command.Base.{Base}
+use Rattle.uri_streams.specs.declared.command.Base.TheVariants as bases
+use Rattle.uri_streams.specs.declared.command.LineCommand.{LineCommand}
+use Rattle.uri_streams.specs.declared.command.LineCommand.TheVariants.{Normalize, Resolve, Check}
+use Rattle.uri_streams.specs.declared.command.LineCommand.TheVariants.{Relativize}
+use Rattle.uri_streams.specs.declared.command.LineCommand.TheVariants.{Parse, Query}
+use Rattle.uri_streams.specs.declared.command.KindName.{KindName}
+use Rattle.uri_streams.specs.declared.command.KindName.TheVariants as kinds
+
+-- the result of a line of an input: a text, no line, or an error with its message
+pub data LineResult : Type 0 where
+  Text : List ℕ → LineResult
+  NoLine : LineResult
+  Error : List ℕ → LineResult
+
+-- the kind that a name on the command line of `urilines` stands for
+abbrev pub kind_named : KindName → Kind
+kind_named kinds.Uri = uri
+kind_named kinds.UriRef = uri_ref
+kind_named kinds.Iri = iri
+kind_named kinds.IriRef = iri_ref
+
+-- the text of a base that is given on the command line of `urilines`
+abbrev pub base_text : Base → List ℕ
+base_text (bases.Uri base) = uri_text base
+base_text (bases.Iri base) = iri_text base
+
+-- the kind of the references to a base of `urilines`
+abbrev pub reference_kind : Base → Kind
+reference_kind (bases.Uri base) = uri_ref
+reference_kind (bases.Iri base) = iri_ref
+
+-- the kind of the targets from a base of `urilines`
+abbrev pub target_kind : Base → Kind
+target_kind (bases.Uri base) = uri
+target_kind (bases.Iri base) = iri
+
+-- the message of the parse error of a text that is not of the kind
+abbrev pub parse_message : Kind → List ℕ → List ℕ
+parse_message kind text = unwrap_or (option_map error_text (refusal kind text)) []
+
+-- the normal form of a text of the kind, under the default ports of schemes (section 6.2.2)
+unfoldable pub normal_form_of : Kind → List ℕ → List ℕ
+normal_form_of kind text = normal_text (meaning_of kind default_port text)
+
+-- the result of `urilines normalize` for a line: the normal form of a text of the kind, or the
+-- parse error
+unfoldable pub normalize_result : Kind → List ℕ → LineResult
+normalize_result kind text =
+    if is_of_kind kind text then Text (normal_form_of kind text)
+    else Error (parse_message kind text)
+
+-- the result of `urilines resolve` for a line whose reference has this resolution: the target, or
+-- why there is none
+abbrev pub resolution_result : Result (List ℕ) TargetError → LineResult
+resolution_result (Ok target) = Text target
+resolution_result (Err BaseWithFragment) =
+    Error (resolve_error_text resolve_errors.BaseWithFragment)
+resolution_result (Err InvalidReferenceAgainstOpaqueBase) =
+    Error (resolve_error_text resolve_errors.InvalidReferenceAgainstOpaqueBase)
+
+-- the result of `urilines resolve` for a base and a reference, in this order: the target, or why
+-- there is none (section 5.2)
+unfoldable pub target_result : List ℕ → List ℕ → LineResult
+target_result base reference =
+    resolution_result (resolution_of (components base) (components reference))
+
+-- the result of `urilines resolve` for a base and a line, in this order: the target, if the line is
+-- a reference of the kind
+unfoldable pub resolve_result : Kind → List ℕ → List ℕ → LineResult
+resolve_result kind base text =
+    if is_of_kind kind text then target_result base text
+    else Error (codes "reference: " ++ parse_message kind text)
+
+-- the result of `urilines relativize` for a base and a line, in this order: a reference that leads
+-- from the base to the line, if that is of the kind
+unfoldable pub relativize_result : Kind → List ℕ → List ℕ → LineResult
+relativize_result kind base text =
+    if is_of_kind kind text then Text (reference_to false base text)
+    else Error (codes "target: " ++ parse_message kind text)
+
+-- whether `urilines check` keeps a line: it is of the kind, or with `--invert`, which the Bool is,
+-- it is not
+unfoldable pub passes_check : Kind → Bool → List ℕ → Bool
+passes_check kind is_inverted text =
+    if is_inverted then not (is_of_kind kind text) else is_of_kind kind text
+
+-- the result of `urilines check` for a line: the line itself, or no line; the Bool is whether
+-- `--invert` is given
+abbrev pub check_result : Kind → Bool → List ℕ → LineResult
+check_result kind is_inverted text = if passes_check kind is_inverted text then Text text
+    else NoLine
+
+-- the result of `urilines parse` for a line: the components of a text of the kind as JSON, or the
+-- parse error
+unfoldable pub parse_result : Kind → List ℕ → LineResult
+parse_result kind text =
+    if is_of_kind kind text then Text (json_of (components text))
+    else Error (parse_message kind text)
+
+-- the result of `urilines query` for a line: the decoded pairs of its query as JSON, if it is a
+-- text of the kind
+unfoldable pub query_result : Kind → List ℕ → LineResult
+query_result kind text =
+    if is_of_kind kind text then Text (query_json (components text).query)
+    else Error (parse_message kind text)
+
+-- the result of a line under a command of `urilines` that does the same with each line
+abbrev pub command_result : LineCommand → List ℕ → LineResult
+command_result (Normalize kind) text = normalize_result (kind_named kind) text
+command_result (Resolve base) text = resolve_result (reference_kind base) (base_text base) text
+command_result (Relativize base) text =
+    relativize_result (target_kind base) (base_text base) text
+command_result (Check kind is_inverted) text = check_result (kind_named kind) is_inverted text
+command_result (Parse kind) text = parse_result (kind_named kind) text
+command_result (Query kind) text = query_result (kind_named kind) text

@@ -1,0 +1,232 @@
+//! Writing the output of a line.
+ghost use Rattle.std.specs.Prelude.{◌≡◌, ◌||◌, ◌++◌, IfErr, IfOk, OnOk};
+ghost use Rattle.std.specs.Prelude.{◌&&◌, IsTrue, false, not, true};
+ghost use Rattle.std.specs.Str.{IsAscii};
+ghost use Rattle.std.specs.Io.KnownBytes.{Appends};
+ghost use Rattle.uri_commands.specs.Prefixes.{AppendsPrefix};
+ghost use Rattle.uri_streams.specs.Causes.{caused_by_input, caused_by_output};
+ghost use Rattle.uri_streams.specs.Outputs.{error_output, is_stop, result_output};
+ghost use Rattle.uri_streams.specs.Returned.{result_in, line_error_message};
+ghost use Rattle.uri_streams.specs.Models.{WritesLineOutput, WritesOutputPrefix, WritesResult};
+
+use crate::cut::{Cut, line_cut, whole_text};
+use crate::failure::Cause;
+use crate::fault::LineError;
+use crate::job::{Job, OnError};
+use crate::results::LineResult;
+use crate::sink::{Sink, put_both};
+use crate::source::Line;
+use crate::task::Task;
+use std::alloc::{AllocError, Global};
+use std::io::Write;
+
+/// What a step of a run did: whether there was a line, whether it was an error, and whether the run
+/// ends with it.
+#[derive(Clone, Copy)]
+pub(crate) struct StepResult {
+    /// Whether there was a line, and not the end of the input.
+    pub is_line: bool,
+    /// Whether the line was an error.
+    pub is_error: bool,
+    /// Whether the run ends with this step.
+    pub is_last: bool,
+}
+
+/// Writes the output of a line under a job, and `end` after it. `number` is that of the line, for
+/// the message of an error.
+#[inline(always)]
+pub(crate) fn write_line<W: Write, E: Write>(
+    alloc: Global,
+    job: &Job<'_>,
+    task: &mut Task<'_>,
+    line: Line<'_>,
+    end: &[u8],
+    number: u64,
+    writer: &mut Sink<W>,
+    err: &mut Sink<E>,
+) -> Result<StepResult, Cause>
+    requires { IsTrue line.is_ascii → IsAscii line.bytes.now }
+    ensures whole { IfOk result (WritesLineOutput job.now task.old line.entry.bytes.now end.now
+        (W.contents writer.old.writer) (W.contents writer.new.writer) task.new) }
+    ensures prefix { IfErr result (WritesOutputPrefix job.now task.old line.entry.bytes.now end.now
+        (W.contents writer.old.writer) (W.contents writer.new.writer)) }
+    ensures writing { writer.new.has_failed ≡ (caused_by_output result || writer.old.has_failed) }
+{
+    let Some(text) = whole_text(job, line.bytes) else {
+        return write_cut(alloc, job, task, line.bytes, end, number, writer, err);
+    };
+    let line_result = task.bytes_result(alloc, text, line.is_ascii)?;
+    let around = Around {
+        before: b"",
+        after: b"",
+        end,
+    };
+    write_result(alloc, job.errors, line_result, around, number, writer, err)
+}
+
+/// Writes the output of a line that `line_cut` cuts: the command gets one field of it, or it may be
+/// too long.
+#[cold]
+#[inline(never)]
+fn write_cut<W: Write, E: Write>(
+    alloc: Global,
+    job: &Job<'_>,
+    task: &mut Task<'_>,
+    line: &[u8],
+    end: &[u8],
+    number: u64,
+    writer: &mut Sink<W>,
+    err: &mut Sink<E>,
+) -> Result<StepResult, Cause>
+    ensures whole { IfOk result (WritesLineOutput job.now task.old line.now end.now
+        (W.contents writer.old.writer) (W.contents writer.new.writer) task.new) }
+    ensures prefix { IfErr result (WritesOutputPrefix job.now task.old line.now end.now
+        (W.contents writer.old.writer) (W.contents writer.new.writer)) }
+    ensures writing { writer.new.has_failed ≡ (caused_by_output result || writer.old.has_failed) }
+{
+    let Cut {
+        before,
+        text,
+        after,
+    } = line_cut(job, line);
+    let line_result = task.result_for(alloc, text)?;
+    let around = Around { before, after, end };
+    write_result(alloc, job.errors, line_result, around, number, writer, err)
+}
+
+/// Returns whether a line that is an error ends the run, as `--errors stop` asks.
+#[inline(always)]
+fn stops_at_error(errors: OnError) -> bool
+    ensures { result ≡ is_stop errors }
+{
+    matches!(errors, OnError::Stop)
+}
+
+/// What is before and after the result of a line in the output.
+#[derive(Clone, Copy)]
+struct Around<'a> {
+    /// The fields before the one that the command gets, each with its delimiter.
+    before: &'a [u8],
+    /// The fields after the one that the command gets, each after a delimiter.
+    after: &'a [u8],
+    /// What ends the output of the line.
+    end: &'a [u8],
+}
+
+/// Writes the result of a line, with what is around it. `number` is that of the line, for the
+/// message of an error.
+#[inline(always)]
+fn write_result<W: Write, E: Write>(
+    alloc: Global,
+    errors: OnError,
+    line_result: LineResult,
+    around: Around<'_>,
+    number: u64,
+    writer: &mut Sink<W>,
+    err: &mut Sink<E>,
+) -> Result<StepResult, Cause>
+    ensures whole { IfOk result (WritesResult errors around.entry.before.now
+        (result_in line_result) (around.entry.after.now ++ around.entry.end.now)
+        (W.contents writer.old.writer) (W.contents writer.new.writer)) }
+    ensures prefix { AppendsPrefix (W.contents writer.old.writer)
+        (W.contents writer.new.writer) (result_output errors around.entry.before.now
+        (result_in line_result) (around.entry.after.now ++ around.entry.end.now)) }
+    ensures reading { caused_by_input result ≡ false }
+    ensures writing { writer.new.has_failed ≡ (caused_by_output result || writer.old.has_failed) }
+{
+    match line_result {
+        LineResult::Text(text) => {
+            if put_around(writer, text.as_bytes(), around) {
+                Ok(StepResult::of_line(false, errors))
+            } else {
+                Err(Cause::Output)
+            }
+        }
+        LineResult::NoLine => Ok(StepResult::of_line(false, errors)),
+        LineResult::Error(fault) => {
+            write_error(alloc, errors, fault, around, number, writer, err)?;
+            Ok(StepResult::of_line(true, errors))
+        }
+    }
+}
+
+impl StepResult {
+    /// Returns what a step of a run did that processed a line: `is_error` is whether the line was
+    /// an error, and `errors` what happens then.
+    #[inline(always)]
+    fn of_line(is_error: bool, errors: OnError) -> StepResult
+        ensures line { result.is_line ≡ true }
+        ensures error { result.is_error ≡ is_error }
+        ensures last { result.is_last ≡ (is_error && is_stop errors) }
+    {
+        StepResult {
+            is_line: true,
+            is_error,
+            is_last: is_error && stops_at_error(errors),
+        }
+    }
+}
+
+/// Writes a text with what is around it in the output of a line. Returns whether all of it was
+/// written.
+#[inline(always)]
+fn put_around<W: Write>(writer: &mut Sink<W>, text: &[u8], around: Around<'_>) -> bool
+    ensures whole { IsTrue result → Appends (W.contents writer.old.writer)
+        (W.contents writer.new.writer) ((around.entry.before.now ++ text.now)
+        ++ (around.entry.after.now ++ around.entry.end.now)) }
+    ensures prefix { AppendsPrefix (W.contents writer.old.writer)
+        (W.contents writer.new.writer) ((around.entry.before.now ++ text.now)
+        ++ (around.entry.after.now ++ around.entry.end.now)) }
+    ensures failed { writer.new.has_failed ≡ (not result || writer.old.has_failed) }
+{
+    put_both(writer, around.before, text) && put_both(writer, around.after, around.end)
+}
+
+/// Writes the message of a line that is an error, where `errors` asks for it: in place of the line,
+/// to the error output, or nowhere.
+#[cold]
+#[inline(never)]
+fn write_error<W: Write, E: Write>(
+    alloc: Global,
+    errors: OnError,
+    fault: LineError,
+    around: Around<'_>,
+    number: u64,
+    writer: &mut Sink<W>,
+    err: &mut Sink<E>,
+) -> Result<(), Cause>
+    ensures whole { OnOk result (Appends (W.contents writer.old.writer)
+        (W.contents writer.new.writer) (error_output errors around.entry.before.now
+        (line_error_message fault) (around.entry.after.now ++ around.entry.end.now))) }
+    ensures prefix { AppendsPrefix (W.contents writer.old.writer)
+        (W.contents writer.new.writer) (error_output errors around.entry.before.now
+        (line_error_message fault) (around.entry.after.now ++ around.entry.end.now)) }
+    ensures reading { caused_by_input result ≡ false }
+    ensures writing { writer.new.has_failed ≡ (caused_by_output result || writer.old.has_failed) }
+{
+    match errors {
+        OnError::Line => {
+            let text = format!(in alloc; "error: {fault}")?;
+            if put_around(writer, text.as_bytes(), around) {
+                Ok(())
+            } else {
+                Err(Cause::Output)
+            }
+        }
+        OnError::Drop => Ok(()),
+        OnError::Stderr => Ok(show_error(alloc, fault, number, err)?),
+        OnError::Stop => Ok(show_error(alloc, fault, number, err)?),
+    }
+}
+
+/// Writes the message of a line that is an error to the error output, with the number of the line.
+fn show_error<E: Write>(
+    alloc: Global,
+    fault: LineError,
+    number: u64,
+    err: &mut Sink<E>,
+) -> Result<(), AllocError> {
+    let message = format!(in alloc; "error: line {number}: {fault}\n")?;
+    err.show(message.as_str());
+    Ok(())
+}

@@ -1,0 +1,332 @@
+//! The result of the text of a line, whatever the other lines are.
+ghost use Rattle.std.specs.Prelude.{◌≡◌, ◌↔◌, IfErr, IfOk, IsOk, Some, false, ◌≢◌};
+ghost use Rattle.fluent_uri.specs.Grammar as test;
+ghost use Rattle.fluent_uri.specs.Grammar.{IsOfKind};
+ghost use Rattle.fluent_uri.specs.Iris.{iri_ref_text, iri_text};
+ghost use Rattle.fluent_uri.specs.Refusals.{refusal};
+ghost use Rattle.fluent_uri.specs.Uris.{uri_ref_text, uri_text};
+ghost use Rattle.uri_relative.specs.Rule.{reference_to};
+ghost use Rattle.uri_streams.specs.Results as results;
+ghost use Rattle.uri_streams.specs.Results.{base_text, check_result};
+ghost use Rattle.uri_streams.specs.Results.{passes_check};
+ghost use Rattle.uri_streams.specs.Results.{kind_named, normalize_result, parse_result};
+ghost use Rattle.uri_streams.specs.Results.{query_result};
+ghost use Rattle.uri_streams.specs.Results.{reference_kind, relativize_result, target_kind};
+ghost use Rattle.uri_streams.specs.Results.{resolve_result, target_result};
+ghost use Rattle.uri_streams.specs.Returned.{result_in};
+
+use crate::command::{Base, KindName, LineCommand};
+use crate::fault::LineError;
+use crate::json::json;
+use crate::queries::query_json;
+use fluent_uri::resolve::ResolveError;
+use fluent_uri::{Iri, IriRef, ParseError, Uri, UriRef};
+use std::alloc::{AllocError, Global};
+use uri_commands::refusal::CommandError;
+use uri_relative::Relativize;
+
+/// The result of a line of an input: a text, no line, or an error.
+#[derive(Drop)]
+pub(crate) enum LineResult {
+    /// This text replaces that of the line.
+    Text(String),
+    /// The line has no output.
+    NoLine,
+    /// The line is an error.
+    Error(LineError),
+}
+
+/// Returns the result of a text under a command that remembers nothing of earlier lines.
+///
+/// # Errors
+///
+/// Only if allocation fails.
+#[inline(always)]
+pub(crate) fn command_result(
+    alloc: Global,
+    command: &LineCommand<'_>,
+    text: &str,
+) -> Result<LineResult, AllocError>
+    ensures { IfOk result (λ line_result.
+        result_in line_result ≡ results.command_result command.now text.now) }
+{
+    match command {
+        LineCommand::Normalize(kind) => normalize(alloc, *kind, text),
+        LineCommand::Resolve(base) => resolve(alloc, base, text),
+        LineCommand::Relativize(base) => relativize(alloc, base, text),
+        LineCommand::Check(kind, is_inverted) => check(alloc, *kind, *is_inverted, text),
+        LineCommand::Parse(kind) => parse(alloc, *kind, text),
+        LineCommand::Query(kind) => query(alloc, *kind, text),
+    }
+}
+
+/// Returns the result of `urilines normalize` for a text: its normal form, or an error if it is not
+/// of the kind.
+#[inline(always)]
+pub(crate) fn normalize(alloc: Global, kind: KindName, text: &str) -> Result<LineResult, AllocError>
+    ensures { IfOk result (λ line_result.
+        result_in line_result ≡ normalize_result (kind_named kind) text.now) }
+{
+    match kind {
+        KindName::Uri => normalize_uri(alloc, text),
+        KindName::UriRef => normalize_uri_ref(alloc, text),
+        KindName::Iri => normalize_iri(alloc, text),
+        KindName::IriRef => normalize_iri_ref(alloc, text),
+    }
+}
+
+/// Returns the result of `urilines normalize uri` for a text: its normal form, or an error if it is
+/// not a URI.
+fn normalize_uri(alloc: Global, text: &str) -> Result<LineResult, AllocError>
+    ensures { IfOk result (λ line. result_in line ≡ normalize_result test.uri text.now) }
+{
+    match Uri::<&str>::parse(text) {
+        Ok(uri) => Ok(LineResult::Text(uri.normalize(alloc)?.into_string())),
+        Err(error) => Ok(not_of_kind(error)),
+    }
+}
+
+/// Returns the result of `urilines normalize uri-ref` for a text: its normal form, or an error if
+/// it is not a URI reference.
+fn normalize_uri_ref(alloc: Global, text: &str) -> Result<LineResult, AllocError>
+    ensures { IfOk result (λ line. result_in line ≡ normalize_result test.uri_ref text.now) }
+{
+    match UriRef::<&str>::parse(text) {
+        Ok(uri_ref) => Ok(LineResult::Text(uri_ref.normalize(alloc)?.into_string())),
+        Err(error) => Ok(not_of_kind(error)),
+    }
+}
+
+/// Returns the result of `urilines normalize iri` for a text: its normal form, or an error if it is
+/// not an IRI.
+fn normalize_iri(alloc: Global, text: &str) -> Result<LineResult, AllocError>
+    ensures { IfOk result (λ line. result_in line ≡ normalize_result test.iri text.now) }
+{
+    match Iri::<&str>::parse(text) {
+        Ok(iri) => Ok(LineResult::Text(iri.normalize(alloc)?.into_string())),
+        Err(error) => Ok(not_of_kind(error)),
+    }
+}
+
+/// Returns the result of `urilines normalize iri-ref` for a text: its normal form, or an error if
+/// it is not an IRI reference.
+fn normalize_iri_ref(alloc: Global, text: &str) -> Result<LineResult, AllocError>
+    ensures { IfOk result (λ line. result_in line ≡ normalize_result test.iri_ref text.now) }
+{
+    match IriRef::<&str>::parse(text) {
+        Ok(iri_ref) => Ok(LineResult::Text(iri_ref.normalize(alloc)?.into_string())),
+        Err(error) => Ok(not_of_kind(error)),
+    }
+}
+
+/// Returns the result for a text that is not of the kind: its parse error.
+fn not_of_kind(error: ParseError) -> LineResult
+    ensures { result ≡ LineResult.Error (LineError.Refused (CommandError.Text error)) }
+{
+    LineResult::Error(LineError::Refused(CommandError::Text(error)))
+}
+
+/// Returns the result of `urilines resolve` for a text: its target against the base, or why it has
+/// none.
+fn resolve(alloc: Global, base: &Base<'_>, text: &str) -> Result<LineResult, AllocError>
+    ensures { IfOk result (λ line. result_in line
+        ≡ resolve_result (reference_kind base.now) (base_text base.now) text.now) }
+{
+    match base {
+        Base::Uri(base) => match UriRef::<&str>::parse(text) {
+            Ok(reference) => resolve_uri(alloc, base, &reference),
+            Err(error) => Ok(reference_error_result(error)),
+        },
+        Base::Iri(base) => match IriRef::<&str>::parse(text) {
+            Ok(reference) => resolve_iri(alloc, base, &reference),
+            Err(error) => Ok(reference_error_result(error)),
+        },
+    }
+}
+
+/// Returns the result of `urilines resolve` for a text that is not a reference: its parse error.
+fn reference_error_result(error: ParseError) -> LineResult
+    ensures { result ≡ LineResult.Error (LineError.Refused (CommandError.Reference error)) }
+{
+    LineResult::Error(LineError::Refused(CommandError::Reference(error)))
+}
+
+/// Returns the result of `urilines resolve uri` for a reference: its target against the base, or
+/// why it has none (RFC 3986, section 5.2).
+fn resolve_uri(
+    alloc: Global,
+    base: &Uri<&str>,
+    reference: &UriRef<&str>,
+) -> Result<LineResult, AllocError>
+    ensures { IfOk result (λ line. result_in line
+        ≡ target_result (uri_text base.now) (uri_ref_text reference.now)) }
+{
+    match reference.resolve_against(alloc, base) {
+        Ok(target) => Ok(LineResult::Text(target.into_string())),
+        Err(error) => resolve_error_result(error),
+    }
+}
+
+/// Returns the result of `urilines resolve iri` for a reference: its target against the base, or
+/// why it has none (RFC 3986, section 5.2).
+fn resolve_iri(
+    alloc: Global,
+    base: &Iri<&str>,
+    reference: &IriRef<&str>,
+) -> Result<LineResult, AllocError>
+    ensures { IfOk result (λ line. result_in line
+        ≡ target_result (iri_text base.now) (iri_ref_text reference.now)) }
+{
+    match reference.resolve_against(alloc, base) {
+        Ok(target) => Ok(LineResult::Text(target.into_string())),
+        Err(error) => resolve_error_result(error),
+    }
+}
+
+/// Returns the result of `urilines resolve` for a reference that has no target: the error of
+/// resolving, unless that is a failed allocation.
+fn resolve_error_result(error: ResolveError) -> Result<LineResult, AllocError>
+    ensures output { IfOk result (λ line_result.
+        line_result ≡ LineResult.Error (LineError.Refused (CommandError.Target error))) }
+    ensures memory { IfOk result (λ _. error ≢ ResolveError.OutOfMemory) }
+{
+    match error {
+        ResolveError::OutOfMemory => Err(AllocError),
+        error => Ok(LineResult::Error(LineError::Refused(CommandError::Target(error)))),
+    }
+}
+
+/// Returns the result of `urilines relativize` for a text: a reference that leads to it from the
+/// base, or an error if it is not of the base's kind.
+fn relativize(alloc: Global, base: &Base<'_>, text: &str) -> Result<LineResult, AllocError>
+    ensures { IfOk result (λ line. result_in line
+        ≡ relativize_result (target_kind base.now) (base_text base.now) text.now) }
+{
+    match base {
+        Base::Uri(base) => match Uri::<&str>::parse(text) {
+            Ok(target) => relativize_uri(alloc, base, target),
+            Err(error) => Ok(target_error_result(error)),
+        },
+        Base::Iri(base) => match Iri::<&str>::parse(text) {
+            Ok(target) => relativize_iri(alloc, base, target),
+            Err(error) => Ok(target_error_result(error)),
+        },
+    }
+}
+
+/// Returns the result of `urilines relativize` for a text that is not a target: its parse error.
+fn target_error_result(error: ParseError) -> LineResult
+    ensures { result ≡ LineResult.Error (LineError.Target error) }
+{
+    LineResult::Error(LineError::Target(error))
+}
+
+/// Returns the result of `urilines relativize uri` for a target: a reference that leads to it from
+/// the base.
+fn relativize_uri(
+    alloc: Global,
+    base: &Uri<&str>,
+    target: Uri<&str>,
+) -> Result<LineResult, AllocError>
+    ensures { IfOk result (λ line. result_in line
+        ≡ results.Text (reference_to false (uri_text base.now) (uri_text target.entry))) }
+{
+    let uri_ref = base.relativize(alloc, &target)?;
+    Ok(LineResult::Text(uri_ref.into_string()))
+}
+
+/// Returns the result of `urilines relativize iri` for a target: a reference that leads to it from
+/// the base.
+fn relativize_iri(
+    alloc: Global,
+    base: &Iri<&str>,
+    target: Iri<&str>,
+) -> Result<LineResult, AllocError>
+    ensures { IfOk result (λ line. result_in line
+        ≡ results.Text (reference_to false (iri_text base.now) (iri_text target.entry))) }
+{
+    let iri_ref = base.relativize(alloc, &target)?;
+    Ok(LineResult::Text(iri_ref.into_string()))
+}
+
+/// Returns the result of `urilines check` for a text: the text itself, or no line.
+fn check(
+    alloc: Global,
+    kind: KindName,
+    is_inverted: bool,
+    text: &str,
+) -> Result<LineResult, AllocError>
+    ensures { IfOk result (λ line_result.
+        result_in line_result ≡ check_result (kind_named kind) is_inverted text.now) }
+{
+    if passes_check(kind, is_inverted, text) {
+        return Ok(LineResult::Text(String::from_str(alloc, text)?));
+    }
+    Ok(LineResult::NoLine)
+}
+
+/// Returns whether `urilines check` passes a text on: it is of the kind or, if `is_inverted`, it is
+/// not.
+#[tactic(auto, unfolding(crate::specs::Results::passes_check))]
+fn passes_check(kind: KindName, is_inverted: bool, text: &str) -> bool
+    ensures { result ≡ passes_check (kind_named kind) is_inverted text.now }
+{
+    let is_of_kind = is_of_kind(kind, text);
+    if is_inverted { !is_of_kind } else { is_of_kind }
+}
+
+/// Returns whether a text is of the kind.
+fn is_of_kind(kind: KindName, text: &str) -> bool
+    ensures { result ≡ test.is_of_kind (kind_named kind) text.now }
+{
+    match parse_as_iri_ref(kind, text) {
+        Ok(_) => true,
+        Err(_) => false,
+    }
+}
+
+/// Returns the result of `urilines parse` for a text: its components as JSON, or an error if it is
+/// not of the kind.
+fn parse(alloc: Global, kind: KindName, text: &str) -> Result<LineResult, AllocError>
+    ensures { IfOk result (λ line. result_in line ≡ parse_result (kind_named kind) text.now) }
+{
+    match parse_as_iri_ref(kind, text) {
+        Ok(reference) => Ok(LineResult::Text(json(alloc, reference)?)),
+        Err(error) => Ok(not_of_kind(error)),
+    }
+}
+
+/// Returns the result of `urilines query` for a text: the decoded pairs of its query as JSON, or an
+/// error if it is not of the kind.
+fn query(alloc: Global, kind: KindName, text: &str) -> Result<LineResult, AllocError>
+    ensures { IfOk result (λ line_result.
+        result_in line_result ≡ query_result (kind_named kind) text.now) }
+{
+    match parse_as_iri_ref(kind, text) {
+        Ok(reference) => Ok(LineResult::Text(query_json(alloc, reference.query())?)),
+        Err(error) => Ok(not_of_kind(error)),
+    }
+}
+
+/// Parses the text as the kind, and returns it as an IRI reference.
+fn parse_as_iri_ref(kind: KindName, text: &str) -> Result<IriRef<&str>, ParseError>
+    ensures accepts { IsOk result ↔ IsOfKind (kind_named kind) text.now }
+    ensures text { IfOk result (λ reference. iri_ref_text reference ≡ text.now) }
+    ensures refused { IfErr result (λ error. refusal (kind_named kind) text.now ≡ Some error) }
+{
+    match kind {
+        KindName::Uri => match Uri::<&str>::parse(text) {
+            Ok(uri) => Ok(IriRef::from(uri)),
+            Err(error) => Err(error),
+        },
+        KindName::UriRef => match UriRef::<&str>::parse(text) {
+            Ok(uri_ref) => Ok(IriRef::from(uri_ref)),
+            Err(error) => Err(error),
+        },
+        KindName::Iri => match Iri::<&str>::parse(text) {
+            Ok(iri) => Ok(IriRef::from(iri)),
+            Err(error) => Err(error),
+        },
+        KindName::IriRef => IriRef::<&str>::parse(text),
+    }
+}

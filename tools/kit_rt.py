@@ -1,0 +1,14 @@
+"""The kit's own `rt`, as a module: it knows how a crate is checked and how a mutant is read."""
+import importlib.machinery
+import importlib.util
+import pathlib
+import subprocess
+
+
+def load_rt():
+    said = subprocess.run(["rt", "doc"], check=True, capture_output=True, text=True).stdout
+    path = str(pathlib.Path(said.strip()).parent / "bin" / "rt")
+    loader = importlib.machinery.SourceFileLoader("rt", path)
+    made = importlib.util.module_from_spec(importlib.util.spec_from_loader("rt", loader))
+    loader.exec_module(made)
+    return made
