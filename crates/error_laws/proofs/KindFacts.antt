@@ -20,12 +20,12 @@ use Rattle.uri_ops.specs.ComponentSets.{HasComponentSets}
 use Rattle.uri_ops.proofs.TextKinds.FourKinds.{uri-has-component-sets, uri_ref-has-component-sets}
 use Rattle.uri_ops.proofs.TextKinds.FourKinds.{iri-has-component-sets, iri_ref-has-component-sets}
 
--- a set has what another has, but for characters that are one of these
+-- error law: a set has what another has, but for characters that are one of these
 abbrev pub HasAllBut : List ℕ → TableSet → TableSet → Type 0
 HasAllBut marks small great = (b : ℕ) (bs : List ℕ) → is_one_of marks b ≡ false
     → allows_first small b bs ≡ false → allows_first great b bs ≡ false
 
--- what holds of the sets of each of the four kinds
+-- error law: what it needs of the sets of each of the four kinds
 pub record Facts (kind : Kind) : Type 0 where
   pub sets : HasComponentSets kind
   pub apart : SeparatesComponents (first_segment_set kind) kind

@@ -30,13 +30,13 @@ pub valid-utf8-is-text-for-set : (set : TableSet) (text : List ℕ) → IsUtf8 t
 unfolding is_text_for
 valid-utf8-is-text-for-set set text u v = and_from _ _ (is_utf8-from_IsUtf8 text u) v
 
--- what may follow where a fragment may begin
+-- error law: what may follow where a fragment may begin
 pub record IsFragmentTail (kind : Kind) (tail : List ℕ) : Type 0 where
   pub fragment : Option (List ℕ)
   pub joined : marked (codes "#") fragment [] ≡ tail
   pub valid : absent_or_passes fragment (is_text_for kind.fragment) ≡ true
 
--- what may follow where a query may begin
+-- error law: what may follow where a query may begin
 pub record IsQueryTail (kind : Kind) (tail : List ℕ) : Type 0 where
   pub query : Option (List ℕ)
   pub suffix : List ℕ
@@ -44,7 +44,7 @@ pub record IsQueryTail (kind : Kind) (tail : List ℕ) : Type 0 where
   pub valid : absent_or_passes query (is_text_for kind.query) ≡ true
   pub more : IsFragmentTail kind suffix
 
--- what may follow where a path begins: after a scheme, an authority, or neither
+-- error law: what may follow where a path begins: after a scheme, an authority, or neither
 pub record IsPathTail (kind : Kind) (scheme authority : Bool) (tail : List ℕ) : Type 0 where
   pub path : List ℕ
   pub suffix : List ℕ
@@ -53,7 +53,7 @@ pub record IsPathTail (kind : Kind) (scheme authority : Bool) (tail : List ℕ) 
   pub allowed : build_error_of_path scheme authority path ≡ None
   pub more : IsQueryTail kind suffix
 
--- what may follow where a port may begin
+-- error law: what may follow where a port may begin
 pub record IsPortTail (kind : Kind) (scheme : Bool) (tail : List ℕ) : Type 0 where
   pub port : Option (List ℕ)
   pub suffix : List ℕ
@@ -62,7 +62,7 @@ pub record IsPortTail (kind : Kind) (scheme : Bool) (tail : List ℕ) : Type 0 w
   pub valid : IfSome port (IsValidFor digit_set)
   pub more : IsPathTail kind scheme true suffix
 
--- what may follow where a host begins
+-- error law: what may follow where a host begins
 pub record IsHostTail (kind : Kind) (scheme : Bool) (tail : List ℕ) : Type 0 where
   pub host : List ℕ
   pub suffix : List ℕ
@@ -70,7 +70,7 @@ pub record IsHostTail (kind : Kind) (scheme : Bool) (tail : List ℕ) : Type 0 w
   pub is : IsHostText kind.reg_name host
   pub more : IsPortTail kind scheme suffix
 
--- what may follow where an authority begins, after its `//`
+-- error law: what may follow where an authority begins, after its `//`
 pub record IsAuthorityTail (kind : Kind) (scheme : Bool) (tail : List ℕ) : Type 0 where
   pub userinfo : Option (List ℕ)
   pub suffix : List ℕ

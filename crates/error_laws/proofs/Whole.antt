@@ -49,7 +49,8 @@ use Rattle.error_laws.proofs.BuiltPaths.{first-segment-lacks-colon}
 use Rattle.error_laws.proofs.BuiltPaths.{rooted-prefix-is-empty-or-begins-with-slash}
 use Rattle.error_laws.proofs.BuiltPaths.{path-goes-on-after-segment-with-slash}
 
--- a scheme
+-- error law: a text in UTF-8 that begins with a letter and is valid for a scheme's set passes the
+-- test of a scheme
 valid-scheme-is-scheme-text : (x : List ℕ) → IsUtf8 x → is_ascii_alphabetic (slice_index x 0) ≡ true
     → IsValidFor scheme_set x → is_scheme_text x ≡ true
 unfolding is_scheme_text

@@ -12,11 +12,12 @@ use Rattle.uri_parts.specs.Grammar.{Kind, IsTextOf}
 use Rattle.uri_parts.specs.LiteralErrors.{ipv6_end, literal}
 use Rattle.uri_parts.specs.Scanning.{ScanResult, is_next, is_at_end, scan_end}
 
--- the prefix begins some text of the kind: it is one with something appended
+-- the prefix before an error begins some text of the kind: it is one with something appended
 abbrev pub IsViablePrefix : Kind → List ℕ → Type 0
 IsViablePrefix kind prefix = (more : List ℕ) × IsTextOf kind (prefix ++ more)
 
--- a scan succeeded, and the test holds for the index where it ended
+-- for the law of viable prefixes: whether a scan succeeded, and the test holds for the index where
+-- it ended
 abbrev pub holds_at_end : (ℕ → Bool) → ScanResult → Bool
 holds_at_end test (Ok end) = test end
 holds_at_end test (Err e) = false

@@ -6,10 +6,12 @@ use Rattle.std.specs.Simd.Lanes.{chunk, zip2, mask_l, top}
 use Rattle.std.proofs.lemmas.List.{length-map}
 use Rattle.std.proofs.lemmas.Simd.{get_or-chunk, length-chunk, length-zip2, mask_l-mod}
 
--- a lane of the comparison, whose top bit is set where the byte is past ASCII
+-- for the C exports' test of ASCII: a lane of the comparison, whose top bit is set where the byte
+-- is past ASCII
 abbrev compared_lane : ℕ → ℕ → ℕ
 compared_lane limit byte = cond (leb limit byte) 255 0
 
+-- for the C exports' test of ASCII: for each lane whether its byte is past ASCII
 abbrev lanes_past_ascii : ℕ → List ℕ → List Bool
 lanes_past_ascii n block = map (top 7) (zip2 compared_lane (replicate n 128) block)
 

@@ -111,13 +111,13 @@ module _ {O : Type 0} (value : O → ℕ) (at : ℕ → Option (List ℕ)) where
         other_bits = λ i above. others i (λ e. omega arith) ∙ is.other_bits i (omega arith);
       }
 
--- general fact on options, for batches of texts: mapping keeps whether there is a value
+-- general fact on options, for batches for C: mapping keeps whether there is a value
 pub is_some_mapped : {A B : Type 0} (f : A → B) (o : Option A)
     → is_some o ≡ is_some (option_map f o)
 is_some_mapped f None = refl
 is_some_mapped f (Some x) = refl
 
--- general fact on options, for batches of texts: a value that equals Some is there
+-- general fact on options, for batches for C: a value that equals Some is there
 pub equal-to-Some-is-some : {A : Type 0} (o : Option A) (x : A) → Some x ≡ o → IsSome o
 equal-to-Some-is-some o x e = sym (ap is_some e)
 

@@ -11,7 +11,7 @@ use Rattle.std.proofs.lemmas.List.Sums.{fails_before_first, prefix_len-le-length
 use Rattle.std.proofs.lemmas.Option.{slice_get_read}
 use Rattle.fluent_uri_c.specs.Lines.{is_newline, lines_of}
 
--- general fact on lists, for lines of an input: what is left of a list from an item on
+-- general fact on lists, for lines for C: what is left of a list from an item on
 drop-at-item : {A : Type 0} (items more : List A) (n : ℕ) (item : A) → drop n items ≡ item ∷ more
     → (n < length items) × (slice_get items n ≡ Some item) × (drop (n + 1) items ≡ more)
 drop-at-item items more n item e =
@@ -24,6 +24,7 @@ drop-at-item items more n item e =
       sym (drop-drop 1 n items) ∙ ap (drop 1) e,
     )
 
+-- lines for C: the length of the first line of what is left of the input
 abbrev pub line_length : List ℕ → ℕ
 line_length rest = position_or_len is_newline rest
 
@@ -31,7 +32,7 @@ line_length rest = position_or_len is_newline rest
 pub line_length-le : (rest : List ℕ) → line_length rest ≤ length rest
 line_length-le rest = prefix_len-le-length (λ byte. not (is_newline byte)) rest
 
--- general fact on slices, for lines of an input: the slice from a position on is what is left there
+-- general fact on slices, for lines for C: the slice from a position on is what is left there
 pub slice-from-position : (input : List ℕ) (start : ℕ)
     → take (length input - start) (drop start input) ≡ drop start input
 slice-from-position input start =
@@ -44,8 +45,8 @@ last_line rest past =
     slice_split_none is_newline rest
     (λ k d inside. fails_before_first is_newline rest k d (omega arith))
 
--- A line of an input, from one position to another, and what is after it. So many lines are before
--- it.
+-- lines for C: a line of an input, from one position to another, and what is after it; so many
+-- lines are before it
 pub record IsLine (input : List ℕ) (n start end : ℕ) : Type 0 where
   pub inside : end ≤ length input
   pub more : n < length (lines_of input)

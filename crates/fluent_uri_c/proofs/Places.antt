@@ -48,9 +48,11 @@ within text part start end at ends i j inside =
     ∙ sym (between_is (take (length part) rest) i j)
     ∙ ap (λ p. slice_range p i j) whole
 
+-- parts for C: the userinfo of an authority with its `@`, or nothing
 abbrev user_text : Option (List ℕ) → List ℕ
 user_text userinfo = marked [] userinfo (codes "@")
 
+-- parts for C: the port of an authority with its `:`, or nothing
 abbrev port_text : Option (List ℕ) → List ℕ
 port_text port = marked (codes ":") port []
 
@@ -176,7 +178,7 @@ module _ (text authority : List ℕ) (start end : ℕ) (at : slice_range text st
         length-append digits [],
       ))
 
--- an authority of a text, with its positions
+-- parts for C: an authority of a text, with its positions
 record Inside (text : List ℕ) (a : AuthorityPositions) : Type 0 where
   authority : List ℕ
   is : (components text).authority ≡ Some authority

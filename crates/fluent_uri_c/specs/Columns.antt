@@ -63,7 +63,7 @@ abbrev pub result_in : {O : Type 0} → (List ℕ → Option (List ℕ)) → Tex
     → Option (List ℕ)
 result_in result column i = option_and_then result (text_in column i)
 
--- the bytes of the result of a call, or no bytes if there is none
+-- the bytes of the result of a batch's call, or no bytes if there is none
 abbrev pub bytes_of : Option (List ℕ) → List ℕ
 bytes_of result = unwrap_or result []
 
@@ -73,11 +73,11 @@ abbrev pub joined_results : (ℕ → Option (List ℕ)) → ℕ → List ℕ
 joined_results at zero = []
 joined_results at (suc n) = joined_results at n ++ bytes_of (at n)
 
--- the bit at an index of bytes, as 0 or 1: eight to a byte, the lowest first
+-- the bit at an index of the bits that a batch writes, as 0 or 1: eight to a byte, the lowest first
 abbrev pub bit_of : List ℕ → ℕ → ℕ
 bit_of bytes i = bit_at (slice_index bytes (i / 8)) (i % 8)
 
--- the bit for a Bool: 1 for true, and 0 for false
+-- the bit that a batch writes for a Bool: 1 for true, and 0 for false
 abbrev pub number_of_bool : Bool → ℕ
 number_of_bool b = if b then 1 else 0
 
@@ -148,7 +148,7 @@ pub record LeavesColumn {O : Type 0} (call : SingleCall) (column : TextColumn O)
   pub done : IsTrue call.is_valid → EndsAndBitsFit (count_of column) old.ends old.valid
       → HasDoneTexts call column old new outcome number
 
--- the bytes of the result of a call on a text: a part of it, or a text of its own
+-- the bytes of the result of a batch's call on a text: a part of it, or a text of its own
 abbrev pub call_result_bytes : CallResult → List ℕ
 call_result_bytes (Part bytes) = bytes.now
 call_result_bytes (Text text) = string_bytes text

@@ -13,24 +13,23 @@ use Rattle.fluent_uri_c.specs.Errors.{in_reference, rejected}
 use Rattle.fluent_uri_c.specs.Outcomes.{outcome_of, outcome_of_text, written}
 use Rattle.fluent_uri_c.specs.Results.{first_rejection, text_error}
 
--- The reference leads from the base to the target: resolved against the base, it is the settled
--- target.
--- It is no longer than that, and has neither scheme nor authority where it needs none.
+-- The reference that the call for C makes leads from the base to the target: resolved against the
+-- base, it is the settled target. It is no longer than that, and has neither scheme nor authority
+-- where it needs none.
 pub record IsReferenceToTarget (base target reference : List ℕ) : Type 0 where
   pub leads : LeadsTo base target reference
   pub short : IsNoLonger target reference
   pub relative : IsRelativeTo (components base) (settled target) (components reference)
 
--- Why a base and a target, in this order, are rejected as texts of the kind, if they are: the base
--- comes first.
--- If there is no such kind, that is why.
+-- Why a call for C rejects a base and a target, in this order, as texts of the kind, if it does:
+-- the base comes first. If there is no such kind, that is why.
 abbrev pub base_or_target_error : Option Kind → List ℕ → List ℕ → Option Rejection
 base_or_target_error None base target = Some (rejected InvalidArgument)
 base_or_target_error (Some kind) base target =
     first_rejection (text_error kind base) (option_map in_reference (text_error kind target))
 
--- a call returns a reference that leads from the base to the target, in this order, or why there is
--- none, or out of memory
+-- a call for C returns a reference that leads from the base to the target, in this order, or why
+-- there is none, or out of memory
 abbrev pub IsReferenceReturned : {Z : _} → Option Kind → List ℕ → List ℕ
     → Result (String Z) Rejection → Type 0
 IsReferenceReturned kind base target (Ok made) =

@@ -42,15 +42,15 @@ abbrev pub with_valid_number : {A : Type 0} → Option A → (A → Returned) �
 with_valid_number None result = Err (rejected Of.InvalidArgument)
 with_valid_number (Some it) result = result it
 
--- why bytes are rejected as a text, if they are not UTF-8: the index is after the longest prefix
--- that is
+-- why a call for C rejects bytes as a text, if they are not UTF-8: the index is after the longest
+-- prefix that is
 abbrev pub utf8_error : List ℕ → Option Rejection
 utf8_error bytes =
     if nat_lt (utf8_valid_len bytes) (length bytes)
     then Some (rejected_at Of.NotUtf8 (utf8_valid_len bytes)) else None
 
--- why bytes are rejected as a text of the kind, if they are: they are not UTF-8, or have a parse
--- error
+-- why a call for C rejects bytes as a text of the kind, if it does: they are not UTF-8, or have a
+-- parse error
 abbrev pub text_error : Kind → List ℕ → Option Rejection
 text_error kind bytes =
     if nat_lt (utf8_valid_len bytes) (length bytes) then utf8_error bytes
@@ -60,12 +60,13 @@ text_error kind bytes =
 unfoldable pub normal_form_of : Kind → List ℕ → List ℕ
 normal_form_of kind text = normal_text (meaning_of kind default_port text)
 
--- the result of normalising bytes as a text of the kind: its normal form, or why they are rejected
+-- the result of a call for C that normalises bytes as a text of the kind: its normal form, or why
+-- they are rejected
 abbrev pub normal_result : Kind → List ℕ → Returned
 normal_result kind text = rejection_or_result (text_error kind text) (Ok (normal_form_of kind text))
 
--- the result of converting an IRI, of the kind, to a URI: characters past ASCII are percent-encoded
--- (RFC 3987, section 3.1)
+-- the result of a call for C that converts an IRI, of the kind, to a URI: characters past ASCII are
+-- percent-encoded (RFC 3987, section 3.1)
 abbrev pub encoded_result : Kind → List ℕ → Returned
 encoded_result kind text = rejection_or_result (text_error kind text) (Ok (encode_past_ascii text))
 
@@ -86,25 +87,28 @@ unfoldable pub normal_resolution : Kind → List ℕ → List ℕ → Returned
 normal_resolution kind base reference =
     result_map_both (normal_form_of kind) (λ why. why) (resolution base reference)
 
--- why a base of the kind and a reference, in this order, are rejected as texts of their kinds, if
--- they are: the base comes first
+-- why a call for C rejects a base of the kind and a reference, in this order, as texts of their
+-- kinds, if it does: the base comes first
 abbrev pub base_or_reference_error : Kind → List ℕ → List ℕ → Option Rejection
 base_or_reference_error kind base reference =
     first_rejection (text_error kind base)
     (option_map in_reference (text_error (reference_kind kind) reference))
 
--- the result of resolving a reference against a base of the kind; the base comes first
+-- the result of a call for C that resolves a reference against a base of the kind; the base comes
+-- first
 abbrev pub target_result : Kind → List ℕ → List ℕ → Returned
 target_result kind base reference =
     rejection_or_result (base_or_reference_error kind base reference) (resolution base reference)
 
--- the result of resolving a reference against a base of the kind, normalised; the base comes first
+-- the result of a call for C that resolves a reference against a base of the kind, normalised; the
+-- base comes first
 abbrev pub normal_target_result : Kind → List ℕ → List ℕ → Returned
 normal_target_result kind base reference =
     rejection_or_result (base_or_reference_error kind base reference)
     (normal_resolution kind base reference)
 
--- the result of decoding a component that is valid for the set (section 2.1), or why it is rejected
+-- the result of a call for C that decodes a component that is valid for the set (section 2.1), or
+-- why it is rejected
 abbrev pub decoded_result : TableSet → List ℕ → Returned
 decoded_result set text =
     rejection_or_result (utf8_error text)

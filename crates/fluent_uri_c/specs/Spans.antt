@@ -16,8 +16,8 @@ use Rattle.fluent_uri_c.specs.Results.{text_error}
 abbrev pub absent : Span
 absent = record { start = 2 ^ 64 - 1; end = 2 ^ 64 - 1 }
 
--- a component of a text, if it is present, is between the offsets of the span; if it is absent, so
--- is the span
+-- a component of a text is between the offsets of the span that C gets, if it is present; if it is
+-- absent, so is the span
 abbrev pub IsSpan : List ℕ → Option (List ℕ) → Span → Type 0
 IsSpan text None span = span ≡ absent
 IsSpan text (Some part) span =
@@ -37,15 +37,17 @@ authority_host_number None = 0
 authority_host_number (Some authority) = host_number
     (Hosts.host_kind (authority_parts authority).host)
 
--- the userinfo of an authority, if there is an authority and it has one (section 3.2.1)
+-- the userinfo, of which C gets the span, of an authority, if there is an authority and it has one
+-- (section 3.2.1)
 abbrev pub userinfo_of : Option (List ℕ) → Option (List ℕ)
 userinfo_of authority = option_and_then (λ a. (authority_parts a).userinfo) authority
 
--- the host of an authority, if there is an authority (section 3.2.2)
+-- the host, of which C gets the span, of an authority, if there is an authority (section 3.2.2)
 abbrev pub host_of : Option (List ℕ) → Option (List ℕ)
 host_of authority = option_map (λ a. (authority_parts a).host) authority
 
--- the port of an authority, if there is an authority and it has one (section 3.2.3)
+-- the port, of which C gets the span, of an authority, if there is an authority and it has one
+-- (section 3.2.3)
 abbrev pub port_of : Option (List ℕ) → Option (List ℕ)
 port_of authority = option_and_then (λ a. (authority_parts a).port) authority
 
@@ -79,7 +81,7 @@ rejected_parts why = record {
   fragment = absent;
 }
 
--- why bytes are rejected as a text of the kind, if they are, or that there is no such kind
+-- why a call for C rejects bytes as a text of the kind, if it does, or that there is no such kind
 abbrev pub parse_error : Option Kind → List ℕ → Option Rejection
 parse_error None bytes = Some (rejected InvalidArgument)
 parse_error (Some kind) bytes = text_error kind bytes

@@ -7,7 +7,7 @@ use std::simd::prelude::*;
 /// How many bytes are in a block.
 const LANES: usize = 32;
 
-/// Returns whether the 32 bytes from `at` on are ASCII.
+/// Returns whether the block of 32 bytes from `at` on, of a text that C hands over, is ASCII.
 #[inline(always)]
 fn is_ascii_block(bytes: &[u8], at: usize) -> bool
     requires { at + LANES ≤ length bytes.now }
@@ -18,7 +18,8 @@ fn is_ascii_block(bytes: &[u8], at: usize) -> bool
     block.simd_ge(u8x32::splat(128)).to_bitmask() == 0
 }
 
-/// Returns whether the bytes are ASCII and fill a block. The last block may overlap the one before.
+/// Returns whether the bytes that C hands over are ASCII and fill a block. The last block may
+/// overlap the one before.
 #[inline(always)]
 pub fn is_ascii(bytes: &[u8]) -> bool
     ensures { IsTrue result → IsAscii bytes.now }

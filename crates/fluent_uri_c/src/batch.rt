@@ -24,18 +24,18 @@ pub trait Call {
 
     ghost definition: { Self → SingleCall };
 
-    /// Returns whether the numbers among the arguments of a call are valid.
+    /// Returns whether the numbers among the arguments of a batch's call are valid.
     fn is_valid(&self) -> bool
         ensures { result ≡ (definition self.now).is_valid };
 
-    /// Returns the result of a text, if that has one.
+    /// Returns the result of a text of a batch, if that has one.
     fn call<'a>(&self, alloc: Global, text: &'a [u8]) -> Result<Option<CallResult<'a>>, AllocError>
         ensures made { IfOk result (λ made.
             option_map call_result_bytes made ≡ (definition self.now).result text.now) }
         ensures memory { IfErr result (λ _. IsTrue (definition self.now).takes_memory) };
 }
 
-/// Returns the bytes of a result, or no bytes if there is none.
+/// Returns the bytes of a result of a batch, or no bytes if there is none.
 fn bytes_of<'a>(made: &'a Option<CallResult<'a>>) -> &'a [u8]
     ensures { result.now ≡ bytes_of (option_map call_result_bytes made.now) }
 {
@@ -46,7 +46,7 @@ fn bytes_of<'a>(made: &'a Option<CallResult<'a>>) -> &'a [u8]
     }
 }
 
-/// Appends the result of the text at an index, and where it ends, if both fit.
+/// Appends the result of a batch's text at an index, and where it ends, if both fit.
 fn append<O: Offset>(
     bytes: &[u8],
     index: usize,
@@ -77,7 +77,8 @@ fn append<O: Offset>(
     Some(end)
 }
 
-/// Reports an error, how many texts are done, and how long their results are. Returns the error.
+/// Reports an error of a batch, how many texts are done, and how long their results are. Returns
+/// the error.
 pub fn report_progress(error: u32, done: usize, length: usize, outcome: &mut Outcome) -> u32
     ensures number { result ≡ error }
     ensures outcome { outcome.new

@@ -15,7 +15,7 @@ use fluent_uri::pct_enc::encoder::{
 use fluent_uri::pct_enc::{CowSlice, EStr, EString};
 use std::alloc::Global;
 
-/// Decodes a component that is valid for the encoder's set.
+/// Decodes bytes that C hands over as a component that is valid for the encoder's set.
 fn decoded_as<'a, E: Encoder>(alloc: Global, bytes: &'a [u8]) -> Result<CowSlice<'a, u8>, Rejection>
     requires { IsTrue (E.set).pct_encoded }
     ensures { IsReturnedAs cow_items (decoded_result E.set bytes.now) result }
@@ -26,7 +26,7 @@ fn decoded_as<'a, E: Encoder>(alloc: Global, bytes: &'a [u8]) -> Result<CowSlice
     }
 }
 
-/// Decodes the component with this number.
+/// Decodes bytes that C hands over as the component with this number of the header.
 pub fn decoded<'a>(
     alloc: Global,
     component: u32,
@@ -44,7 +44,7 @@ pub fn decoded<'a>(
     }
 }
 
-/// Percent-encodes bytes by the encoder's set.
+/// Percent-encodes bytes that C hands over by the encoder's set.
 fn encoded_as<E: Encoder>(alloc: Global, bytes: &[u8]) -> Result<String, Rejection>
     requires { IsTrue (E.set).pct_encoded }
     ensures { IsReturned (Ok (print (encode_bytes E.set bytes.now))) result }
@@ -54,7 +54,7 @@ fn encoded_as<E: Encoder>(alloc: Global, bytes: &[u8]) -> Result<String, Rejecti
     Ok(text.into_string())
 }
 
-/// Percent-encodes bytes as data of the component with this number.
+/// Percent-encodes bytes that C hands over as data of the component with this number of the header.
 pub fn encoded(alloc: Global, component: u32, bytes: &[u8]) -> Result<String, Rejection>
     ensures { IsReturned (encode_result component bytes.now) result }
 {

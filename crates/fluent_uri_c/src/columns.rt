@@ -85,7 +85,7 @@ pub fn text_at<'a, O: Offset>(texts: &'a [u8], offsets: &[O], index: usize) -> O
     }
 }
 
-/// Writes the bit that says whether the text at an index has a result.
+/// Writes the bit that says whether the text at an index of a column has a result.
 pub fn mark(valid: &mut [u8], index: usize, is_valid: bool)
     requires { index / 8 < length valid.old }
     ensures marked { bit_of valid.new index ≡ number_of_bool is_valid }

@@ -17,7 +17,7 @@ use fluent_uri::pct_enc::Encoder;
 use std::alloc::{AllocError, Global};
 use uri_parts::kind::{IriKind, IriRefKind, Kind, UriKind, UriRefKind};
 
-/// Returns the component of an authority with this number, or the whole authority.
+/// Returns the component of an authority with this number of the header, or the whole authority.
 fn authority_component<'a, U: Encoder, R: Encoder>(
     authority: Authority<'a, U, R>,
     component: u32,
@@ -40,7 +40,7 @@ fn authority_component<'a, U: Encoder, R: Encoder>(
     }
 }
 
-/// Returns the component of a value with this number, if there is one.
+/// Returns the component of a value with this number of the header, if there is one.
 fn component_in<'a, K: Kind>(value: Reference<K, &'a str>, component: u32) -> Option<&'a str>
     ensures { option_copied result
         ≡ component_numbered component (reference_text value.entry) }
@@ -66,7 +66,8 @@ fn component_in<'a, K: Kind>(value: Reference<K, &'a str>, component: u32) -> Op
     }
 }
 
-/// Returns the component with this number of bytes that are a text of the kind, if there is one.
+/// Returns the component with this number of the header, of bytes that are a text of the kind, if
+/// there is one.
 fn component_as<'a, K: Kind>(bytes: &'a [u8], component: u32) -> Option<&'a [u8]>
     ensures { option_copied result ≡ component_result (Some K.kind) component bytes.now }
 {
@@ -79,7 +80,8 @@ fn component_as<'a, K: Kind>(bytes: &'a [u8], component: u32) -> Option<&'a [u8]
     }
 }
 
-/// Returns the component with this number of a text of the kind with that number, if there is one.
+/// Returns the component of a text, by the numbers of the header for the kind and the component, if
+/// there is one.
 fn component_of<'a>(kind: u32, component: u32, bytes: &'a [u8]) -> Option<&'a [u8]>
     ensures { option_copied result ≡ component_result (kind_numbered kind) component bytes.now }
 {
@@ -102,7 +104,7 @@ struct Component {
 impl Call for Component {
     ghost definition = { λ call. taking_component call.kind call.component };
 
-    /// Returns whether the numbers are those of a kind and a component.
+    /// Returns whether the numbers are those of a kind and a component in the header.
     fn is_valid(&self) -> bool {
         self.kind <= 3 && self.component < 8
     }

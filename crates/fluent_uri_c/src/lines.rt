@@ -14,14 +14,14 @@ use crate::numbered;
 use crate::outcome::Outcome;
 use std::alloc::{AllocError, Global};
 
-/// Returns where the first newline is, if there is one.
+/// Returns where the first newline of the lines that C hands over is, if there is one.
 fn newline_in(bytes: &[u8]) -> Option<usize>
     ensures { result ≡ position is_newline bytes.now }
 {
     bytes.iter().position(|byte| *byte == b'\n')
 }
 
-/// Returns where the line ends that begins at a position.
+/// Returns where the line of a batch ends that begins at a position.
 fn line_end(lines: &[u8], start: usize) -> usize
     requires { start ≤ length lines.now }
     ensures end { result ≡ start + position_or_len is_newline (drop start lines.now) }
@@ -34,7 +34,7 @@ fn line_end(lines: &[u8], start: usize) -> usize
     }
 }
 
-/// Writes bytes to a buffer, from a position on.
+/// Writes bytes of a line to the buffer of a batch over lines, from a position on.
 fn write_at(bytes: &[u8], at: usize, out: &mut [u8])
     requires { at + length bytes.now ≤ length out.old }
     ensures { out.new ≡ take at out.old ++ (bytes.now ++ drop (at + length bytes.now) out.old) }
@@ -42,7 +42,8 @@ fn write_at(bytes: &[u8], at: usize, out: &mut [u8])
     out[at..at + bytes.len()].copy_from_slice(bytes);
 }
 
-/// Writes bytes and a newline at a position, if they fit there, and returns where they end.
+/// Writes a line of a batch over lines, bytes and a newline, at a position, if they fit there, and
+/// returns where they end.
 fn push_line(bytes: &[u8], at: usize, out: &mut [u8]) -> Option<usize>
     requires { at ≤ length out.old }
     ensures end { IfSome result (λ end. end ≡ at + length (bytes.now ++ newline ∷ [])) }
@@ -68,8 +69,8 @@ struct Line {
     number: u8,
 }
 
-/// Returns the normal form of a line that is a text of the kind, or an empty text and the number of
-/// the error.
+/// Returns what a batch writes for a line: the normal form if it is a text of the kind, or an empty
+/// text and the number of the error.
 fn normal_line(alloc: Global, kind: u32, text: &[u8]) -> Result<Line, AllocError>
     ensures text { IfOk result (λ line. string_bytes line.text
         ≡ bytes_of (result_ok (normalize_result kind text.now))) }

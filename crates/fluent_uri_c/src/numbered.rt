@@ -10,7 +10,7 @@ use crate::texts;
 use std::alloc::Global;
 use uri_parts::kind::{IriKind, IriRefKind, UriKind, UriRefKind};
 
-/// Returns the normal form of a text of the kind.
+/// Returns the normal form of a text of the kind with this number of the header.
 pub fn normalize_text(alloc: Global, kind: u32, text: &[u8]) -> Result<String, Rejection>
     ensures { IsReturned (normalize_result kind text.now) result }
 {
@@ -23,7 +23,7 @@ pub fn normalize_text(alloc: Global, kind: u32, text: &[u8]) -> Result<String, R
     }
 }
 
-/// Returns a text of a kind of IRIs as a URI or a URI reference.
+/// Returns a text of the kind of IRIs with this number of the header as a URI or a URI reference.
 pub fn uri_text(alloc: Global, kind: u32, text: &[u8]) -> Result<String, Rejection>
     ensures { IsReturned (to_uri_result kind text.now) result }
 {
@@ -34,7 +34,7 @@ pub fn uri_text(alloc: Global, kind: u32, text: &[u8]) -> Result<String, Rejecti
     }
 }
 
-/// Returns the target of a reference against a base of the kind.
+/// Returns the target of a reference against a base of the kind with this number of the header.
 pub fn target(alloc: Global, kind: u32, base: &[u8], reference: &[u8]) -> Result<String, Rejection>
     ensures { IsReturned (resolve_result kind base.now reference.now) result }
 {
@@ -45,7 +45,8 @@ pub fn target(alloc: Global, kind: u32, base: &[u8], reference: &[u8]) -> Result
     }
 }
 
-/// Returns the normal form of the target of a reference against a base of the kind.
+/// Returns the normal form of the target of a reference against a base of the kind with this number
+/// of the header.
 pub fn normal_target(
     alloc: Global,
     kind: u32,
@@ -61,7 +62,8 @@ pub fn normal_target(
     }
 }
 
-/// Returns a reference that leads from a base of the kind to a target of the kind.
+/// Returns a reference that leads from a base to a target, both of the kind with this number of the
+/// header.
 pub fn reference(alloc: Global, kind: u32, base: &[u8], target: &[u8]) -> Result<String, Rejection>
     ensures { IsReferenceReturned (base_numbered kind) base.now target.now result }
 {

@@ -17,7 +17,7 @@ pub struct Outcome {
     pub length: usize,
 }
 
-/// Reports an error, and returns its number.
+/// Reports an error of a call in the outcome that its caller in C gets, and returns its number.
 pub fn report(why: Rejection, outcome: &mut Outcome) -> u32
     ensures number { result ≡ number_of why.error }
     ensures outcome { outcome.new ≡ outcome_of why }
@@ -29,7 +29,8 @@ pub fn report(why: Rejection, outcome: &mut Outcome) -> u32
     outcome.error
 }
 
-/// Reports the length of a text, and writes it to the buffer if that is long enough.
+/// Reports the length of a text in the outcome that the caller in C gets, and writes it to the
+/// buffer if that is long enough.
 pub fn put(text: &[u8], out: &mut [u8], outcome: &mut Outcome)
     ensures outcome { outcome.new ≡ outcome_of_text text.now }
     ensures written { out.new ≡ written text.now out.old }
@@ -43,8 +44,8 @@ pub fn put(text: &[u8], out: &mut [u8], outcome: &mut Outcome)
     }
 }
 
-/// Writes a text that a call made, or reports why there is none. Returns the number of the error,
-/// or 0.
+/// Writes a text that a call for C made, or reports why there is none. Returns the number of the
+/// error, or 0.
 pub fn put_or_report(made: Result<String, Rejection>, out: &mut [u8], outcome: &mut Outcome) -> u32
     ensures { (returned : Returned) → IsReturned returned made
         → LeavesText returned out.old out.new outcome.new result }

@@ -45,7 +45,7 @@ pub struct Parts {
     pub fragment: Span,
 }
 
-/// Returns the span of a component that is absent.
+/// Returns the span, in the parts that C gets, of a component that is absent.
 pub fn absent() -> Span
     ensures { result ≡ absent }
 {
@@ -55,7 +55,7 @@ pub fn absent() -> Span
     }
 }
 
-/// Writes the parts of a text that is rejected: the error, and no component.
+/// Writes the parts that C gets of a text that is rejected: the error, and no component.
 fn write_rejected_parts(why: Rejection, parts: &mut Parts)
     ensures { parts.new ≡ rejected_parts why }
 {
@@ -74,7 +74,8 @@ fn write_rejected_parts(why: Rejection, parts: &mut Parts)
     };
 }
 
-/// Returns whether the first byte of a host shows that it is a registered name.
+/// Returns whether the first byte of a host shows that it is a registered name, so that C gets that
+/// number.
 #[inline(always)]
 fn begins_as_a_name(host: &str) -> bool
     ensures { IsTrue result → host_kind host.now ≡ RegName }
@@ -85,7 +86,8 @@ fn begins_as_a_name(host: &str) -> bool
     }
 }
 
-/// Returns the number of the kind of an authority's host. Most hosts are names by their first byte.
+/// Returns the number, in the header, of the kind of an authority's host. Most hosts are names by
+/// their first byte.
 #[inline(always)]
 fn host_number<'a, U: Encoder, R: Encoder>(authority: Authority<'a, U, R>) -> u32
     ensures { result
@@ -102,7 +104,7 @@ fn host_number<'a, U: Encoder, R: Encoder>(authority: Authority<'a, U, R>) -> u3
     }
 }
 
-/// Returns the number of the kind of a value's host, or 0 if it has no authority.
+/// Returns the number, in the header, of the kind of a value's host, or 0 if it has no authority.
 fn host_kind<K: Kind>(value: &Reference<K, &str>) -> u32
     ensures { result ≡ authority_host_number (components (reference_text value.now)).authority }
 {
@@ -112,7 +114,7 @@ fn host_kind<K: Kind>(value: &Reference<K, &str>) -> u32
     }
 }
 
-/// Returns the span of the scheme of a text with these positions.
+/// Returns the span, for C, of the scheme of a text with these positions.
 fn scheme(text: &str, at: Positions) -> Span
     requires { ArePositionsOf text.now at }
     ensures { IsSpan text.now (components text.now).scheme result }
@@ -123,7 +125,7 @@ fn scheme(text: &str, at: Positions) -> Span
     }
 }
 
-/// Returns the span of the authority of a text with these positions.
+/// Returns the span, for C, of the authority of a text with these positions.
 fn authority(text: &str, at: Positions) -> Span
     requires { ArePositionsOf text.now at }
     ensures { IsSpan text.now (components text.now).authority result }
@@ -137,7 +139,7 @@ fn authority(text: &str, at: Positions) -> Span
     }
 }
 
-/// Returns the span of the userinfo of a text with these positions.
+/// Returns the span, for C, of the userinfo of a text with these positions.
 fn userinfo<K: Kind>(text: &str, at: Positions) -> Span
     requires at { ArePositionsOf text.now at }
     requires of_kind { IsOfKind K.kind text.now }
@@ -158,7 +160,7 @@ fn userinfo<K: Kind>(text: &str, at: Positions) -> Span
     }
 }
 
-/// Returns the span of the host of a text with these positions.
+/// Returns the span, for C, of the host of a text with these positions.
 fn host<K: Kind>(text: &str, at: Positions) -> Span
     requires at { ArePositionsOf text.now at }
     requires of_kind { IsOfKind K.kind text.now }
@@ -173,7 +175,7 @@ fn host<K: Kind>(text: &str, at: Positions) -> Span
     }
 }
 
-/// Returns the span of the port of a text with these positions.
+/// Returns the span, for C, of the port of a text with these positions.
 fn port<K: Kind>(text: &str, at: Positions) -> Span
     requires at { ArePositionsOf text.now at }
     requires of_kind { IsOfKind K.kind text.now }
@@ -194,7 +196,7 @@ fn port<K: Kind>(text: &str, at: Positions) -> Span
     }
 }
 
-/// Returns the span of the path of a text with these positions.
+/// Returns the span, for C, of the path of a text with these positions.
 fn path(text: &str, at: Positions) -> Span
     requires { ArePositionsOf text.now at }
     ensures { IsSpan text.now (Some (components text.now).path) result }
@@ -205,7 +207,7 @@ fn path(text: &str, at: Positions) -> Span
     }
 }
 
-/// Returns the span of the query of a text with these positions.
+/// Returns the span, for C, of the query of a text with these positions.
 fn query(text: &str, at: Positions) -> Span
     requires { ArePositionsOf text.now at }
     ensures { IsSpan text.now (components text.now).query result }
@@ -219,7 +221,7 @@ fn query(text: &str, at: Positions) -> Span
     }
 }
 
-/// Returns the span of the fragment of a text with these positions.
+/// Returns the span, for C, of the fragment of a text with these positions.
 fn fragment(text: &str, at: Positions) -> Span
     requires { ArePositionsOf text.now at }
     ensures { IsSpan text.now (components text.now).fragment result }
@@ -235,7 +237,7 @@ fn fragment(text: &str, at: Positions) -> Span
     }
 }
 
-/// Writes the spans of a parsed value's components.
+/// Writes the parts that C gets of a parsed value: the spans of its components.
 #[inline(always)]
 fn write_parts<K: Kind>(value: &Reference<K, &str>, parts: &mut Parts)
     ensures error { parts.new.error ≡ 0 }
@@ -258,7 +260,8 @@ fn write_parts<K: Kind>(value: &Reference<K, &str>, parts: &mut Parts)
     };
 }
 
-/// Parses the bytes as a text of the kind, and writes its parts, or the error and its index.
+/// Parses the bytes as a text of the kind, and writes the parts that C gets, or the error and its
+/// index.
 fn parse_as<K: Kind>(bytes: &[u8], parts: &mut Parts)
     ensures { ArePartsOf (Some K.kind) bytes.now parts.new }
 {
@@ -268,8 +271,8 @@ fn parse_as<K: Kind>(bytes: &[u8], parts: &mut Parts)
     }
 }
 
-/// Parses the bytes as a text of the kind with this number, and writes its parts, or the error and
-/// its index.
+/// Parses the bytes as a text of the kind with this number, and writes the parts that C gets, or
+/// the error and its index.
 pub fn parse(kind: u32, bytes: &[u8], parts: &mut Parts)
     ensures { ArePartsOf (kind_numbered kind) bytes.now parts.new }
 {

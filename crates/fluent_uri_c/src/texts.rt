@@ -22,7 +22,8 @@ use uri_parts::parse::parse;
 use uri_relative::Relativizer;
 use uri_relative::relative::RelativeKind;
 
-/// Returns bytes as a text, if they are UTF-8. Most are ASCII, which is tested in blocks.
+/// Returns bytes that C hands over as a text, if they are UTF-8. Most are ASCII, which is tested in
+/// blocks.
 pub fn utf8_text(bytes: &[u8]) -> Result<&str, Rejection>
     ensures accepts { IsOk result ↔ IsUtf8 bytes.now }
     ensures text { IfOk result (λ text. text.now ≡ bytes.now) }
@@ -41,7 +42,7 @@ pub fn utf8_text(bytes: &[u8]) -> Result<&str, Rejection>
     }
 }
 
-/// Parses bytes as a text of the kind.
+/// Parses bytes that C hands over as a text of the kind.
 #[inline(always)]
 pub fn parsed<'a, K: Kind>(bytes: &'a [u8]) -> Result<Reference<K, &'a str>, Rejection>
     ensures accepts { IsOk result ↔ IsTextOf K.kind bytes.now }
@@ -55,14 +56,14 @@ pub fn parsed<'a, K: Kind>(bytes: &'a [u8]) -> Result<Reference<K, &'a str>, Rej
     }
 }
 
-/// Returns the normal form of a text of the kind.
+/// Returns the normal form of bytes that are a text of the kind.
 pub fn normalize_text<K: Kind>(alloc: Global, bytes: &[u8]) -> Result<String, Rejection>
     ensures { IsReturned (normal_result K.kind bytes.now) result }
 {
     Ok(parsed::<K>(bytes)?.normalize(alloc)?.into_string())
 }
 
-/// Returns an IRI as a URI.
+/// Returns bytes that are an IRI as a URI.
 pub fn uri_of_iri(alloc: Global, bytes: &[u8]) -> Result<String, Rejection>
     ensures { IsReturned (encoded_result iri bytes.now) result }
 {
@@ -70,7 +71,7 @@ pub fn uri_of_iri(alloc: Global, bytes: &[u8]) -> Result<String, Rejection>
     Ok(value.to_uri(alloc)?.into_string())
 }
 
-/// Returns an IRI reference as a URI reference.
+/// Returns bytes that are an IRI reference as a URI reference.
 pub fn uri_ref_of_iri_ref(alloc: Global, bytes: &[u8]) -> Result<String, Rejection>
     ensures { IsReturned (encoded_result iri_ref bytes.now) result }
 {
@@ -78,7 +79,7 @@ pub fn uri_ref_of_iri_ref(alloc: Global, bytes: &[u8]) -> Result<String, Rejecti
     Ok(value.to_uri_ref(alloc)?.into_string())
 }
 
-/// Returns the target of a reference against a base, both parsed.
+/// Returns the target of a reference against a base, both parsed from bytes.
 fn resolve_text<K: RefKind>(
     alloc: Global,
     base: &Reference<K::Base, &str>,
@@ -93,7 +94,7 @@ fn resolve_text<K: RefKind>(
     }
 }
 
-/// Returns the normal form of the target of a reference against a base, both parsed.
+/// Returns the normal form of the target of a reference against a base, both parsed from bytes.
 fn resolve_normalized_text<K: RefKind>(
     alloc: Global,
     base: Reference<K::Base, &str>,
@@ -109,7 +110,7 @@ fn resolve_normalized_text<K: RefKind>(
     }
 }
 
-/// Returns the target of a reference against a base.
+/// Returns the target of a reference against a base, both as bytes.
 pub fn target<K: RefKind>(alloc: Global, base: &[u8], reference: &[u8]) -> Result<String, Rejection>
     ensures { IsReturned (target_result K.Base.kind base.now reference.now) result }
 {
@@ -120,7 +121,7 @@ pub fn target<K: RefKind>(alloc: Global, base: &[u8], reference: &[u8]) -> Resul
     }
 }
 
-/// Returns the normal form of the target of a reference against a base.
+/// Returns the normal form of the target of a reference against a base, both as bytes.
 pub fn normal_target<K: RefKind>(
     alloc: Global,
     base: &[u8],
@@ -135,7 +136,7 @@ pub fn normal_target<K: RefKind>(
     }
 }
 
-/// Returns a reference that leads from a base to a target, both texts of the kind.
+/// Returns a reference that leads from a base to a target, both bytes that are texts of the kind.
 pub fn reference<K: RelativeKind>(
     alloc: Global,
     base: &[u8],

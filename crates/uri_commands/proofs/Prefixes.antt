@@ -6,8 +6,8 @@ use Rattle.std.specs.Io.KnownBytes.{Appends, Keeps}
 use Rattle.uri_commands.specs.Prefixes.{AppendsPrefix}
 use lib.Seq.{take-append_seam}
 
--- writers: one that got a prefix of the text has a prefix of it appended;
--- a, b: what it holds before and after
+-- commands: a writer that got a prefix of the text has a prefix of it appended; a, b: what it holds
+-- before and after
 pub AppendsPrefix-of-appended : (a b : Option (List ℕ)) (prefix rest text : List ℕ)
     → Appends a b prefix
     → text ≡ prefix ++ rest → AppendsPrefix a b text
@@ -17,16 +17,16 @@ AppendsPrefix-of-appended a b prefix rest text p e = (
       (sym (ap (take (length prefix)) e ∙ take-append_seam prefix rest)) p,
 )
 
--- writers: a failure that keeps what the writer holds leaves it
--- with a prefix of the text; a, b, c: what it holds
+-- commands: a failure that keeps what a writer holds leaves it with a prefix of the text; a, b, c:
+-- what it holds
 pub AppendsPrefix-of-appended-then-kept : (a b c : Option (List ℕ)) (prefix rest text : List ℕ)
     → Appends a b prefix
     → Keeps b c → text ≡ prefix ++ rest → AppendsPrefix a c text
 AppendsPrefix-of-appended-then-kept a b c prefix rest text p q e =
     AppendsPrefix-of-appended a c prefix rest text (Appends-kept a b c prefix p q) e
 
--- writers: after one more write of n bytes it has got more of the text,
--- and less of it is left; a, b, c: what it holds
+-- commands: after one more write of n bytes a writer has got more of the text, and less of it is
+-- left; a, b, c: what it holds
 pub Appends-of-one-more-write : (a b c : Option (List ℕ)) (n : ℕ) (prefix rest text : List ℕ)
     → Appends a b prefix
     → Appends b c (take n rest) → text ≡ prefix ++ rest

@@ -15,8 +15,8 @@ pub if_err-of-equal-error : {A B : Type 0} (P : B → Type 0) (result : Result A
 if_err-of-equal-error P (Ok a) e is p = tt
 if_err-of-equal-error P (Err x) e is p = subst P (sym is) p
 
--- commands: the error of a text, as it is returned;
--- `kind` is how the text was parsed and `named` what the words name
+-- commands: the error of a text, as a command returns it; `kind` is how the text was parsed and
+-- `named` what the words name
 pub parse-error-is-of-text : {A B : Type 0} (P : B → Type 0) (shown : ParseError → B)
     (named kind : Kind) (text : List ℕ) (result : Result A B) (e : ParseError)
     → ((x : ParseError) → IsErrorOf named text x → P (shown x))

@@ -70,7 +70,7 @@ normal_form_of kind text = normal_text (meaning_of kind default_port text)
 unfoldable pub target_text : List ℕ → List ℕ → Option (List ℕ)
 target_text base reference = result_ok (resolution_of (components base) (components reference))
 
--- whether each of the texts is of the kind
+-- whether each of the texts is of the kind, as the references of `uritool links`
 abbrev pub are_of_kind : Kind → List (List ℕ) → Bool
 are_of_kind kind texts = list_all (is_of_kind kind) texts
 
@@ -89,7 +89,7 @@ output_of (Links base reference others) =
     if is_of_kind uri base && are_of_kind uri_ref (reference ∷ others)
     then Some (link_lines base (reference ∷ others)) else None
 
--- the bytes of the words of a command line
+-- the bytes of the words of a command line of `uritool`
 abbrev pub texts : {Z : Type 0} → List (String Z) → List (List ℕ)
 texts words = map string_bytes words
 

@@ -21,8 +21,8 @@ IsFailure words out out_new status =
     (command : Command) → words ≡ words_of command → output_of command ≡ None
     → (status ≡ 1) × Keeps out out_new
 
--- a writer got the line, or a prefix of it if the result is that the write failed; the Options are
--- its bytes before and after
+-- a writer of `uritool` got the line, or a prefix of it if the result is that the write failed; the
+-- Options are its bytes before and after
 abbrev pub WritesLineOrPrefix : {A E : Type 0} → Option (List ℕ) → Option (List ℕ) → List ℕ
     → Result A E → Type 0
 WritesLineOrPrefix old new line shown = AppendsPrefix old new line

@@ -10,7 +10,7 @@ use Rattle.uri_commands.specs.Messages.{resolve_error_text}
 abbrev pub target_line : List ℕ → ℕ → List ℕ → List ℕ
 target_line word id text = word ++ codes " " ++ decimal id ++ codes " " ++ text ++ codes "\n"
 
--- the text with this id in a register of links
+-- the text with this id in the register of `uritool links`
 abbrev pub text_at : List (List ℕ) → ℕ → List ℕ
 text_at registered id = unwrap_or (slice_get registered id) []
 

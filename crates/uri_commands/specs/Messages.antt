@@ -8,17 +8,17 @@ use Rattle.fluent_uri.specs.declared.ParseErrorKind.TheVariants.{UnexpectedChar,
 use Rattle.fluent_uri.specs.declared.resolve.ResolveError.{ResolveError}
 use Rattle.fluent_uri.specs.declared.resolve.ResolveError.TheVariants as resolve_errors
 
--- what a kind of parse error prints, without its index
+-- what an error line of `uritool` says of a kind of parse error, without its index
 abbrev pub error_kind_text : ParseErrorKind → List ℕ
 error_kind_text InvalidPctEncodedOctet = codes "invalid percent-encoded octet"
 error_kind_text UnexpectedChar = codes "unexpected character"
 error_kind_text InvalidIpv6Addr = codes "invalid IPv6 address"
 
--- what a parse error prints: its kind and its index
+-- what an error line of `uritool` says of a parse error: its kind and its index
 abbrev pub error_text : ParseError → List ℕ
 error_text e = error_kind_text (error_kind_of e) ++ codes " at index " ++ decimal (error_index e)
 
--- what an error of resolving prints: why a reference has no target
+-- what an error line of `uritool` says of an error of resolving: why a reference has no target
 abbrev pub resolve_error_text : ResolveError → List ℕ
 resolve_error_text resolve_errors.BaseWithFragment = codes "base should not have fragment"
 resolve_error_text resolve_errors.InvalidReferenceAgainstOpaqueBase =

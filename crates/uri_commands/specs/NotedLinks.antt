@@ -5,7 +5,8 @@ use Rattle.uri_links.specs.Registers.{texts_of}
 use Rattle.uri_commands.specs.Links.{outcome_lines}
 use Rattle.uri_commands.specs.declared.links.NotedLinks.{NotedLinks}
 
--- the id of each outcome of noted links is that of a target in their register
+-- the id of each outcome of the noted links of `uritool links` is that of a target in their
+-- register
 abbrev pub EachIdHasTarget : NotedLinks → Type 0
 EachIdHasTarget noted = All (IdIsInRange (texts_of noted.register)) noted.outcomes.items
 

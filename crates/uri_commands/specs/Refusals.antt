@@ -30,11 +30,12 @@ error_line why = codes "error: " ++ command_error_text why ++ codes "\n"
 abbrev pub usage_line : List ℕ
 usage_line = codes "usage: uritool parse KIND TEXT | normalize KIND TEXT | resolve uri|iri BASE REF | links BASE REF...\n"
 
--- the text is not of the kind, and this is its parse error
+-- a text of a command of `uritool` is not of the kind, and this is its parse error
 abbrev pub IsErrorOf : Kind → List ℕ → ParseError → Type 0
 IsErrorOf kind text e = refusal kind text ≡ Some e
 
--- one of the texts is not of the kind, and this is the parse error of the first such text
+-- one of the texts of a command of `uritool` is not of the kind, and this is the parse error of the
+-- first such text
 abbrev pub IsErrorOfFirst : Kind → List (List ℕ) → ParseError → Type 0
 IsErrorOfFirst kind texts e = (n : ℕ) × (text : List ℕ)
     × (slice_get texts n ≡ Some text) × (are_of_kind kind (take n texts) ≡ true)

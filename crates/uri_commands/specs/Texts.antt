@@ -3,7 +3,7 @@ use Rattle.std.specs.Prelude.{option_map}
 use Rattle.fluent_uri.specs.Components.{Components}
 use Rattle.uri_commands.specs.declared.lines.Texts.{Texts}
 
--- the components of a text, as bytes, that `Texts` borrows from it
+-- the components of a text of `uritool parse`, as bytes, that `Texts` borrows from it
 abbrev pub components_in : Texts → Components
 components_in texts = record {
   scheme = option_map (λ t. t.now) texts.scheme;

@@ -75,7 +75,7 @@ fn links_from_words(words: &[String]) -> Option<Command<'_>>
     }
 }
 
-/// Returns the kind with this name, if there is one.
+/// Returns the kind that a word of the command line names, if there is one.
 fn kind_named(word: &str) -> Option<KindName>
     ensures { MatchOption result ((k : _) → word.now ≢ word_of_kind k)
         (λ k. word.now ≡ word_of_kind k) }
@@ -89,7 +89,7 @@ fn kind_named(word: &str) -> Option<KindName>
     }
 }
 
-/// Returns the kind of base with this name, if there is one.
+/// Returns the kind of base that a word of the command line names, if there is one.
 fn base_named(word: &str) -> Option<BaseName>
     ensures { MatchOption result ((k : _) → word.now ≢ word_of_base k)
         (λ k. word.now ≡ word_of_base k) }

@@ -28,7 +28,7 @@ impl<'a> From<IriRef<&'a str>> for Texts<'a> {
     ghost from_gives = { λ reference texts.
         components_in texts ≡ components (iri_ref_text reference) };
 
-    /// Returns the texts of the components of an IRI reference.
+    /// Returns the texts of the components of an IRI reference, of which `parse` prints lines.
     fn from(iri_ref: IriRef<&'a str>) -> Texts<'a> {
         Texts {
             scheme: iri_ref.scheme().map(Scheme::as_str),
@@ -41,7 +41,7 @@ impl<'a> From<IriRef<&'a str>> for Texts<'a> {
 }
 
 impl Texts<'_> {
-    /// Writes a line for each component that is present.
+    /// Writes a line of `parse` for each component that is present.
     pub fn write_lines<O: Write>(self, out: &mut O) -> io::Result<()>
         ensures { OnOk result (Appends (O.contents out.old) (O.contents out.new)
             (component_lines (components_in self.entry))) }
@@ -55,7 +55,7 @@ impl Texts<'_> {
     }
 }
 
-/// Writes the line of a component: its name, `=` and its text.
+/// Writes the line of `parse` for a component: its name, `=` and its text.
 fn write_line<O: Write>(out: &mut O, name: &str, text: &str) -> io::Result<()>
     ensures { OnOk result (Appends (O.contents out.old) (O.contents out.new)
         (line name.now text.now)) }
@@ -63,7 +63,7 @@ fn write_line<O: Write>(out: &mut O, name: &str, text: &str) -> io::Result<()>
     writeln!(out, "{name}={text}")
 }
 
-/// Writes the line of a component, if it is present.
+/// Writes the line of `parse` for a component, if it is present.
 fn write_optional<O: Write>(out: &mut O, name: &str, text: Option<&str>) -> io::Result<()>
     ensures { OnOk result (Appends (O.contents out.old) (O.contents out.new)
         (optional_line name.now (option_map (λ t. t.now) text.entry))) }

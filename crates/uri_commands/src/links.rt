@@ -28,7 +28,8 @@ pub struct NotedLinks {
     outcomes: Vec<Outcome>,
 }
 
-/// Notes the first reference and the others against the base, in order, in a new register.
+/// Notes the first reference of `links` and the others against the base, in order, in a new
+/// register.
 ///
 /// # Errors
 ///
@@ -57,7 +58,7 @@ pub fn noted(
     Ok(NotedLinks { register, outcomes })
 }
 
-/// Parses the first reference and the others, each as a URI reference.
+/// Parses the first reference of `links` and the others, each as a URI reference.
 ///
 /// # Errors
 ///
@@ -87,7 +88,7 @@ fn parse_references<'a>(
     Ok(references)
 }
 
-/// Parses a word as a URI reference.
+/// Parses a word of `links` as a URI reference.
 fn parse_reference(word: &str) -> Result<UriRef<&str>, CommandError>
     ensures of_kind { IfOk result (λ _. IsOfKind uri_ref word.now) }
     ensures text { IfOk result (λ reference. uri_ref_text reference ≡ word.now) }
@@ -98,7 +99,7 @@ fn parse_reference(word: &str) -> Result<UriRef<&str>, CommandError>
 }
 
 impl NotedLinks {
-    /// Writes a line for each reference that was noted.
+    /// Writes a line of `links` for each reference that was noted.
     pub fn write_lines<O: Write>(&self, out: &mut O) -> io::Result<()>
         requires { EachIdHasTarget self.now }
         ensures { OnOk result
@@ -111,7 +112,7 @@ impl NotedLinks {
     }
 }
 
-/// Writes the line of an outcome of noting a reference.
+/// Writes the line of `links` for an outcome of noting a reference.
 fn write_outcome<O: Write>(
     out: &mut O,
     register: &Register<SchemeDefaults>,
@@ -128,7 +129,7 @@ fn write_outcome<O: Write>(
     }
 }
 
-/// Writes the line of a target: a word, its id and its text.
+/// Writes the line of `links` for a target: a word, its id and its text.
 fn write_target<O: Write>(
     out: &mut O,
     word: &str,

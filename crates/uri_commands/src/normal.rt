@@ -9,7 +9,7 @@ use crate::refusal::CommandError;
 use fluent_uri::{Iri, IriRef, Uri, UriRef};
 use std::alloc::Global;
 
-/// Parses the text as the kind, and returns its normal form.
+/// Parses the text of `normalize` as the kind, and returns its normal form.
 ///
 /// # Errors
 ///

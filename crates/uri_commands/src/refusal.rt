@@ -34,8 +34,8 @@ pub enum CommandError {
 }
 
 impl CommandError {
-    /// Writes the line of an error: `error: `, its text and a newline. If the writer fails, it got
-    /// a prefix of the line.
+    /// Writes the line of a command's error: `error: `, its text and a newline. If the writer
+    /// fails, it got a prefix of the line.
     pub fn show<E: io::Write>(self, err: &mut E) -> io::Result<()>
         ensures whole { OnOk result
             (Appends (E.contents err.old) (E.contents err.new) (error_line self)) }
@@ -47,7 +47,7 @@ impl CommandError {
         }
     }
 
-    /// Returns the line of the error: `error: `, its text and a newline.
+    /// Returns the line of a command's error: `error: `, its text and a newline.
     fn line(self) -> Result<ArrayString<LINE_CAPACITY>, fmt::Error>
         ensures { IfOk result (λ line. line.bytes ≡ error_line self) }
     {
@@ -87,7 +87,7 @@ impl Display for PrintedParseError {
 
     ghost output = { λ fault. Some (error_text fault.0) };
 
-    /// Prints a parse error: its kind and its index.
+    /// Prints a parse error in the line of a command's error: its kind and its index.
     fn fmt<W: fmt::Write>(&self, f: &mut fmt::Formatter<W>) -> fmt::Result {
         write!(
             f,
@@ -110,7 +110,7 @@ fn error_kind_message(kind: ParseErrorKind) -> &'static str
     }
 }
 
-/// Returns the text of an error of resolving.
+/// Returns what an error line of a command says of an error of resolving.
 pub(crate) fn resolve_message(error: ResolveError) -> &'static str
     ensures { result.now ≡ resolve_error_text error }
 {

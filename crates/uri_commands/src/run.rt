@@ -97,7 +97,7 @@ fn run_command<O: Write>(
     }
 }
 
-/// Parses a text, and writes a line `NAME=TEXT` for each component that is present.
+/// Runs `parse`: parses a text, and writes a line `NAME=TEXT` for each component that is present.
 fn parse<O: Write>(kind: KindName, text: &str, out: &mut O) -> Result<(), CommandError>
     ensures succeeded { OnOk result
         (Prints (O.contents out.old) (O.contents out.new) (Parse kind text.now)) }
@@ -110,7 +110,7 @@ fn parse<O: Write>(kind: KindName, text: &str, out: &mut O) -> Result<(), Comman
     Ok(parse_components(kind, text)?.write_lines(out)?)
 }
 
-/// Writes the normal form of a text as a line.
+/// Runs `normalize`: writes the normal form of a text as a line.
 fn normalize<O: Write>(
     alloc: Global,
     kind: KindName,
@@ -129,7 +129,7 @@ fn normalize<O: Write>(
     print_line(out, normal.as_str())
 }
 
-/// Writes the target of a reference against a base as a line.
+/// Runs `resolve`: writes the target of a reference against a base as a line.
 fn resolve<O: Write>(
     alloc: Global,
     kind: BaseName,
@@ -149,7 +149,7 @@ fn resolve<O: Write>(
     print_line(out, target.as_str())
 }
 
-/// Notes references against a base, and writes a line for each.
+/// Runs `links`: notes references against a base, and writes a line for each.
 fn links<O: Write>(
     alloc: Global,
     base: &str,
@@ -170,7 +170,7 @@ fn links<O: Write>(
     Ok(noted.write_lines(out)?)
 }
 
-/// Writes a text and a newline.
+/// Writes the output of a command that runs: a text and a newline.
 fn print_line<O: Write>(out: &mut O, text: &str) -> Result<(), CommandError>
     ensures printed { OnOk result
         (Appends (O.contents out.old) (O.contents out.new) (text.now ++ codes "\n")) }
@@ -179,7 +179,7 @@ fn print_line<O: Write>(out: &mut O, text: &str) -> Result<(), CommandError>
     Ok(writeln!(out, "{text}")?)
 }
 
-/// Parses a text as the kind, and returns the texts of its components.
+/// Parses a text as the kind, for the run of `parse`, and returns the texts of its components.
 fn parse_components(kind: KindName, text: &str) -> Result<Texts<'_>, ParseError>
     ensures accepts { IsOk result ↔ IsOfKind (kind_named kind) text.now }
     ensures texts { IfOk result (λ texts. components_in texts ≡ components text.now) }

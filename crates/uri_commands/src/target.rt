@@ -17,7 +17,8 @@ use fluent_uri::resolve::ResolveError;
 use fluent_uri::{Iri, IriRef, Uri, UriRef};
 use std::alloc::Global;
 
-/// Parses the base and the reference, and returns the target. Path underflow is not an error.
+/// Parses the base and the reference of `resolve`, and returns the target. Path underflow is not an
+/// error.
 ///
 /// # Errors
 ///
@@ -50,7 +51,7 @@ pub fn target(
     })
 }
 
-/// Returns the target of a URI reference against a URI.
+/// Returns the target that `resolve uri` prints, of a URI reference against a URI.
 fn uri_target(
     alloc: Global,
     base: Uri<&str>,
@@ -64,7 +65,7 @@ fn uri_target(
     reference.resolve_against(alloc, &base)
 }
 
-/// Returns the target of an IRI reference against an IRI.
+/// Returns the target that `resolve iri` prints, of an IRI reference against an IRI.
 fn iri_target(
     alloc: Global,
     base: Iri<&str>,

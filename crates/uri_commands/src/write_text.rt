@@ -10,7 +10,7 @@ use std::io::{self, ErrorKind, Write};
 const USAGE: &str =
     "usage: uritool parse KIND TEXT | normalize KIND TEXT | resolve uri|iri BASE REF | links BASE REF...\n";
 
-/// Writes the usage line. If the writer fails, it got a prefix of the line.
+/// Writes the usage line of `uritool`. If the writer fails, it got a prefix of the line.
 pub fn show_usage<E: Write>(err: &mut E) -> io::Result<()>
     ensures whole { OnOk result (Appends (E.contents err.old) (E.contents err.new) usage_line) }
     ensures prefix { AppendsPrefix (E.contents err.old) (E.contents err.new) usage_line }
@@ -18,8 +18,8 @@ pub fn show_usage<E: Write>(err: &mut E) -> io::Result<()>
     put(err, USAGE)
 }
 
-/// Writes the text. If the writer fails, it got a prefix of the text: the contract of `write_all`
-/// does not say so.
+/// Writes the text to a writer that may fail part way: then it got a prefix of the text. The
+/// contract of `write_all` does not say so.
 pub fn put<E: Write>(err: &mut E, text: &str) -> io::Result<()>
     ensures whole { OnOk result (Appends (E.contents err.old) (E.contents err.new) text.now) }
     ensures prefix { AppendsPrefix (E.contents err.old) (E.contents err.new) text.now }
@@ -35,7 +35,8 @@ pub fn put<E: Write>(err: &mut E, text: &str) -> io::Result<()>
     Err(io::Error::from(ErrorKind::WriteZero))
 }
 
-/// Writes once, and returns how many bytes were taken: 0 if the write was interrupted.
+/// Writes once to a writer that may fail part way, and returns how many bytes were taken: 0 if the
+/// write was interrupted.
 fn write_once<E: Write>(err: &mut E, bytes: &[u8]) -> io::Result<usize>
     ensures bound { WritesAtMost result bytes.now }
     ensures bytes { WriteAppends (E.contents err.old) (E.contents err.new) result bytes.now }

@@ -40,7 +40,8 @@ pub leaf-has-no-child : (hash : ℕ) (side : Bool) → child (leaf hash) side �
 leaf-has-no-child hash true = refl
 leaf-has-no-child hash false = refl
 
--- the id of a child of the node with this id, which comes after it and before n
+-- register of links: the id of a child of the search tree's node with this id, which comes after it
+-- and before n
 abbrev IsChild : ℕ → ℕ → ℕ → Type 0
 IsChild n id at = at ≢ 0 → (id < at) × (at < n)
 

@@ -18,7 +18,8 @@ use Rattle.uri_links.specs.OutcomesInWords.{IdIsInRange}
 use Rattle.uri_links.specs.declared.links.Outcome.{Outcome}
 use Rattle.uri_links.specs.declared.links.Outcome.TheVariants.{New, Known, Refused}
 
--- an outcome's id is below the number of texts that come with it, and these are no fewer
+-- register of links: an outcome's id is below the number of texts that come with it, and these are
+-- no fewer
 abbrev IsInRangeAfter : List (List ℕ) → Outcome × List (List ℕ) → Type 0
 IsInRangeAfter texts o = IdIsInRange o.1 o.0 × (length texts ≤ length o.1)
 

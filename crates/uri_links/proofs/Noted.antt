@@ -26,7 +26,8 @@ use Rattle.uri_links.specs.declared.links.Outcome.{Outcome}
 use Rattle.uri_links.specs.declared.links.Outcome.TheVariants.{Refused}
 use Rattle.uri_links.proofs.Places.{position-of-equal-tests}
 
--- `same_meaning` decides equality, by `laws::meanings_are_equal_if_their_parts_are`
+-- register of links: `same_meaning` decides equality, by
+-- `laws::meanings_are_equal_if_their_parts_are`
 abbrev pub ComparesMeanings : Type 0
 ComparesMeanings = (m n : Meaning) → Decides (same_meaning m n) (m ≡ n)
 

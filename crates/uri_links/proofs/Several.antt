@@ -7,7 +7,7 @@ use Rattle.fluent_uri.specs.Ports.{PortFunction}
 use Rattle.uri_links.specs.Outcomes.{outcome_of, outcomes_of}
 use Rattle.uri_links.specs.declared.links.Outcome.{Outcome}
 
--- the outcomes and texts after one more reference
+-- register of links: the outcomes and texts after one more reference
 abbrev with_one : PortFunction → List ℕ → List ℕ → List Outcome × List (List ℕ)
     → List Outcome × List (List ℕ)
 with_one ports base reference before = let last = outcome_of ports base before.1 reference in

@@ -15,7 +15,7 @@ use Rattle.fluent_uri.specs.Ports.{PortFunction}
 use Rattle.uri_links.specs.Registered.{AreNormal, AreUris, is_uri_text}
 use Rattle.uri_links.proofs.Places.{position-None-no-element-passes}
 
--- register of links: without texts, no text is there twice
+-- register of links: if it has no texts, none is there twice
 pub no-texts-are-distinct : (texts : List (List ℕ)) → texts ≡ [] → IsDistinct bytes_eq texts
 unfolding IsDistinct
 no-texts-are-distinct texts e = rw e tt

@@ -16,7 +16,7 @@ use Rattle.uri_links.specs.declared.links.Outcome.{Outcome}
 use Rattle.uri_links.specs.declared.links.Outcome.TheVariants.{New, Known, Refused}
 use Rattle.fluent_uri.specs.SameMeanings.{same_meaning}
 
--- the public error of resolving for the reason that a reference has no target
+-- the error in a register's outcome for the reason that a reference has no target
 abbrev pub resolve_error_of : TargetError → ResolveError
 resolve_error_of BaseWithFragment = Of.BaseWithFragment
 resolve_error_of InvalidReferenceAgainstOpaqueBase = Of.InvalidReferenceAgainstOpaqueBase

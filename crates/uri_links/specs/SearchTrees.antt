@@ -14,7 +14,8 @@ use Rattle.uri_links.specs.declared.search_tree.SearchEnd.TheVariants.{Found, Mi
 unfoldable pub hash_of : List ℕ → ℕ
 hash_of text = folding.finish (fold folding.write folding.initial (str text))
 
--- the bit of a number, the first argument, at an index from the lowest
+-- the bit by which a search in the tree turns left or right: that of a number, the first argument,
+-- at an index from the lowest
 abbrev pub bit : ℕ → ℕ → Bool
 bit number index = nat_eq (bit_and (number / 2 ^ index) 1) 1
 
@@ -47,8 +48,8 @@ with_child node right id = record {
 abbrev pub node_at : List Node → ℕ → Node
 node_at nodes id = get_or nodes id (leaf 0)
 
--- the child that a search for the text goes to from the node of this index at this depth, in this
--- order, or 0
+-- the child in the tree that a search for the text goes to from the node of this index at this
+-- depth, in this order, or 0
 abbrev pub next_node : List Node → List ℕ → ℕ → ℕ → ℕ
 next_node nodes text id depth = child (node_at nodes id) (descends_right text depth)
 
@@ -66,12 +67,12 @@ search_from (suc steps) nodes texts text id depth =
 abbrev pub search : List Node → List (List ℕ) → List ℕ → SearchEnd
 search nodes texts text = search_from (length nodes) nodes texts text 0 0
 
--- the index of a text that a search found, if it found one
+-- the index of a text that a search in the tree found, if it found one
 abbrev pub found_id : SearchEnd → Option ℕ
 found_id (Found id) = Some id
 found_id (Missing parent right) = None
 
--- the search for each text of the register ends at the node of its index
+-- the search in the tree for each text of the register ends at the node of its index
 abbrev pub FindsEach : List Node → List (List ℕ) → Type 0
 FindsEach nodes texts = (id : ℕ) → id < length texts
     → search nodes texts (get_or texts id []) ≡ Found id

@@ -89,7 +89,7 @@ fn refused(error: ResolveError) -> Result<Outcome, AllocError>
     }
 }
 
-/// Returns the text of a target, which is a URI.
+/// Returns the text of a target in the register, which is a URI.
 fn text_of(target: &Uri<String>) -> &str
     ensures text { result.now ≡ uri_text target.now }
     ensures uri { IsTextOf uri (uri_text target.now) }

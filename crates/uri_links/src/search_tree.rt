@@ -30,7 +30,7 @@ pub enum SearchEnd {
     Missing(usize, bool),
 }
 
-/// Returns the hash of a text.
+/// Returns the hash by which the search tree finds a target's text.
 #[tactic(auto, unfolding(crate::specs::SearchTrees::hash_of))]
 pub fn hash_of(text: &str) -> u64
     ensures { result ≡ hash_of text.now }
@@ -38,7 +38,7 @@ pub fn hash_of(text: &str) -> u64
     BuildHasherDefault::<FoldHasher>::new().hash_one(text)
 }
 
-/// Returns whether a search for a text goes to the right of a node at this depth.
+/// Returns whether a search for a text in the tree goes to the right of a node at this depth.
 #[tactic(auto, unfolding(crate::specs::SearchTrees::descends_right))]
 fn descends_right(text: &str, hash: u64, depth: usize) -> bool
     requires { hash ≡ hash_of text.now }
@@ -62,7 +62,7 @@ impl Node {
         if right { self.right } else { self.left }
     }
 
-    /// Returns whether the node's text, which is `own`, is `text`.
+    /// Returns whether the node is that of `text`: it has the hash, and the target's text is `own`.
     fn has_text(&self, own: &Uri<String>, text: &str, hash: u64) -> bool
         requires own { self.now.hash ≡ hash_of (uri_text own.now) }
         requires hash { hash ≡ hash_of text.now }
@@ -72,7 +72,7 @@ impl Node {
     }
 }
 
-/// Searches for a text, whose hash is given, among the targets.
+/// Searches the tree for a text, whose hash is given, among the targets.
 pub fn search(nodes: &[Node], targets: &[Uri<String>], text: &str, hash: u64) -> SearchEnd
     requires hash { hash ≡ hash_of text.now }
     requires hashes { HaveHashes nodes.now (map uri_text targets.now) }
@@ -95,7 +95,8 @@ pub fn search(nodes: &[Node], targets: &[Uri<String>], text: &str, hash: u64) ->
     SearchEnd::Missing(id, false)
 }
 
-/// Adds the node of a text with this hash, as the child at which the search for it ended.
+/// Adds the node of a text with this hash to the search tree, as the child at which the search for
+/// it ended.
 ///
 /// # Errors
 ///

@@ -6,15 +6,16 @@ use Rattle.uri_pct.specs.Delimiters.{slash}
 use Rattle.uri_pct.specs.Sets.{TableSet, LacksPercent, IsSubset, unreserved_set}
 use Rattle.uri_parts.specs.Grammar.{Kind}
 
--- the set is one of a component: it has the unreserved characters and percent-encoded octets, and
--- neither `%` by itself nor one of the marks, which end the component
+-- what laws of normal forms ask of a component's set: it has the unreserved characters and
+-- percent-encoded octets, and neither `%` by itself nor one of the marks, which end the component
 pub record IsComponentSet (marks : List ℕ) (set : TableSet) : Type 0 where
   pub unreserved : IsSubset unreserved_set set
   pub percent : LacksPercent set
   pub octets : set.pct_encoded ≡ true
   pub ends : list_any set.ascii marks ≡ false
 
--- each set of the kind is that of a component, and lacks the delimiters that end the component
+-- what laws of normal forms ask of a kind: each of its sets is that of a component, and lacks the
+-- delimiters that end the component
 pub record HasComponentSets (kind : Kind) : Type 0 where
   pub userinfo : IsComponentSet (codes "/?#[]@") kind.userinfo
   pub reg_name : IsComponentSet (codes "/?#[]@:") kind.reg_name
@@ -23,8 +24,8 @@ pub record HasComponentSets (kind : Kind) : Type 0 where
   pub query : IsComponentSet (codes "#[]") kind.query
   pub fragment : IsComponentSet (codes "#[]") kind.fragment
 
--- what the first kind allows the second does: its sets are wider, and it needs a scheme only if the
--- first does
+-- what a kind allows a wider one does, as each URI is an IRI: the second kind's sets are wider, and
+-- it needs a scheme only if the first does
 pub record IsWithin (kind wide : Kind) : Type 0 where
   pub userinfo : IsSubset kind.userinfo wide.userinfo
   pub reg_name : IsSubset kind.reg_name wide.reg_name

@@ -10,7 +10,7 @@ use Rattle.uri_parts.specs.Grammar.{Kind, IsOfKind}
 use Rattle.uri_ops.specs.declared.convert.ConvertError.{ConvertError}
 use Rattle.uri_ops.specs.declared.convert.ConvertError.TheVariants.{NoScheme, NotAscii}
 
--- whether a byte is one of a character past ASCII: it is at least 128
+-- whether a byte is one of a character past ASCII, for which a conversion fails: it is at least 128
 abbrev pub is_past_ascii : ℕ → Bool
 is_past_ascii b = not (nat_lt b 128)
 

@@ -31,21 +31,21 @@ segments path = slice_split (λ c. c == slash) path
 abbrev pub lacks_dot_segments : List ℕ → Bool
 lacks_dot_segments path = list_all (λ segment. not (is_dot_segment segment)) (segments path)
 
--- whether a text has no bytes
+-- whether a path, or another text, has no bytes
 abbrev pub is_empty : List ℕ → Bool
 is_empty [] = true
 is_empty (c ∷ rest) = false
 
--- whether a `/` is in the text
+-- whether a `/` is in the text of a path
 abbrev pub has_slash : List ℕ → Bool
 has_slash text = list_any (λ c. c == slash) text
 
--- the text before its last `/`, or nothing where it has none
+-- the text of a path before its last `/`, or nothing where it has none
 abbrev pub before_last_slash : List ℕ → List ℕ
 before_last_slash [] = []
 before_last_slash (c ∷ rest) = if has_slash rest then c ∷ before_last_slash rest else []
 
--- the text up to and with its last `/`, or nothing where it has none
+-- the text of a path up to and with its last `/`, or nothing where it has none
 abbrev pub up_to_last_slash : List ℕ → List ℕ
 up_to_last_slash text = if has_slash text then before_last_slash text ++ codes "/" else []
 
@@ -114,10 +114,10 @@ directory path =
     else (if is_double_dot (last_segment path) then path ++ codes "/"
     else up_to_last_slash path)
 
--- the path begins with `/`
+-- the path begins with `/`, as one whose dot segments are removed
 abbrev pub IsAbsolute : List ℕ → Type 0
 IsAbsolute path = IsTrue (starts slash path)
 
--- the path ends in `/`
+-- the path ends in `/`, as a directory does
 abbrev pub EndsInSlash : List ℕ → Type 0
 EndsInSlash path = (prefix : List ℕ) × (path ≡ prefix ++ codes "/")

@@ -14,7 +14,8 @@ pub record IsHostText (names : TableSet) (text : List ℕ) : Type 0 where
   pub utf8 : IsUtf8 text
   pub host : (kind : HostKind) × IsHost names text kind
 
--- the text of an IP address as a host: an IPv6 address is in brackets (section 3.2.2)
+-- the text of an IP address as the host of a builder: an IPv6 address is in brackets (section
+-- 3.2.2)
 abbrev pub ip_host : IpAddr → List ℕ
 ip_host (V4 a) = ipv4_text (ipv4_octets a)
 ip_host (V6 a) = bracketed (ipv6_text (ipv6_segments a))

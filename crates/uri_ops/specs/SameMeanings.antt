@@ -6,13 +6,13 @@ use Rattle.uri_pct.specs.Tokens.{Token, Char, Octet}
 use Rattle.uri_ops.specs.Meaning.{HostMeaning, Address, FutureAddress, Name, AuthorityMeaning}
 use Rattle.uri_ops.specs.Meaning.{Meaning}
 
--- whether two tokens are equal: both literal or both percent-encoded, and of one code
+-- whether two tokens of meanings are equal: both literal or both percent-encoded, and of one code
 abbrev pub same_token : Token → Token → Bool
 same_token (Char c) (Char d) = c == d
 same_token (Octet c) (Octet d) = c == d
 same_token _ _ = false
 
--- whether two lists of tokens are equal
+-- whether two lists of tokens are equal, as those of two paths' meanings
 abbrev pub same_tokens : List Token → List Token → Bool
 same_tokens = pointwise same_token
 

@@ -58,9 +58,8 @@ dotless_if_absolute path =
     -- Not in the RFC: a path that does not begin with `/` keeps them, such as that of `foo:a/../b`.
     else path
 
--- The path, with the guard `/.` before it if it begins with `//` and the authority, the Option, is
--- absent.
--- Not in the RFC: the path would be parsed as an authority.
+-- A target's path, with the guard `/.` before it if it begins with `//` and the authority, the
+-- Option, is absent. Not in the RFC: the path would be parsed as an authority.
 abbrev pub guarded : Option (List ℕ) → List ℕ → List ℕ
 guarded authority path =
     if is_none authority && has_authority path then codes "/." ++ path else path

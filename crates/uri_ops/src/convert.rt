@@ -35,7 +35,8 @@ pub enum ConvertError {
     },
 }
 
-/// Returns where the first character past ASCII begins, if there is one.
+/// Returns where the first character past ASCII begins, if there is one, for the error of a
+/// conversion.
 #[tactic(auto, unfolding(crate::specs::Conversions::first_past_ascii))]
 fn first_past_ascii(text: &str) -> Option<usize>
     ensures { result ≡ first_past_ascii text.now }
@@ -95,7 +96,8 @@ pub fn check_is_uri(text: &str, has_scheme: bool) -> Result<(), ConvertError>
     }
 }
 
-/// A reference is a URI, or an IRI, exactly if it has a scheme (RFC 3986, sections 3 and 4.1).
+/// Conversions rely on this law: a reference is a URI, or an IRI, exactly if it has a scheme (RFC
+/// 3986, sections 3 and 4.1).
 #[doc(hidden)]
 pub fn references_with_a_scheme_are_uris()
     ensures uri { (text : List ℕ) → IsOfKind uri_ref text
@@ -104,8 +106,8 @@ pub fn references_with_a_scheme_are_uris()
         → (missing_scheme_error text ≡ None ↔ IsOfKind iri text) }
 {}
 
-/// An IRI is a URI, and an IRI reference a URI reference, exactly if it has no character past
-/// ASCII (RFC 3987, section 3.1).
+/// Conversions rely on this law: an IRI is a URI, and an IRI reference a URI reference, exactly if
+/// it has no character past ASCII (RFC 3987, section 3.1).
 #[doc(hidden)]
 pub fn ascii_iris_are_uris()
     ensures uri { (text : List ℕ) → IsUtf8 text → IsOfKind iri text
@@ -116,7 +118,8 @@ pub fn ascii_iris_are_uris()
         → (uri_conversion_error text ≡ None ↔ IsOfKind uri text) }
 {}
 
-/// A URI is an IRI, and a URI reference an IRI reference (RFC 3987, section 3.1).
+/// Conversions rely on this law: a URI is an IRI, and a URI reference an IRI reference (RFC 3987,
+/// section 3.1).
 #[doc(hidden)]
 pub fn uris_are_iris()
     ensures uri { (text : List ℕ) → IsUtf8 text → IsOfKind uri text → IsOfKind iri text }

@@ -191,7 +191,8 @@ pub trait RefOf<B: Ri>: RiMaybeRef {
     ghost same_tables: { Self.kind ≡ record B.kind { needs_scheme = false } };
 }
 
-/// Returns the text of a value with the positions of its components.
+/// Returns the value that the trait is of as a `Core`: its text with the positions of its
+/// components.
 fn core_of<R: RiMaybeRef>(value: &R) -> Core<R::Kind, &str>
     ensures text { core_text result ≡ R.text value.now }
     ensures of_kind { IsOfKind R.kind (R.text value.now) }

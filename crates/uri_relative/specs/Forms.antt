@@ -13,11 +13,12 @@ use Rattle.uri_ops.specs.Target.{target_underflows}
 use Rattle.uri_relative.specs.Leading.{IsRelativeTo}
 use Rattle.uri_relative.specs.Shortest.{Shortest}
 
--- the text after the path of these components: the query and the fragment with their delimiters
+-- the text after the path of a target that is relativized: the query and the fragment with their
+-- delimiters
 abbrev pub after_path : Components → List ℕ
 after_path p = marked (codes "?") p.query [] ++ marked (codes "#") p.fragment []
 
--- the text after the scheme of these components and its `:`
+-- the text of a target that is relativized after its scheme and `:`
 abbrev pub after_scheme : Components → List ℕ
 after_scheme p = marked (codes "//") p.authority [] ++ (p.path ++ after_path p)
 
@@ -68,14 +69,14 @@ pub record NeedsRelativePath (base target : Components) : Type 0 where
   pub absolute : starts slash target.path ≡ true
   pub needs : NeedsPath base target
 
--- the path is the target's without a guard `/.`: with its guard, if it needs one, it is the
--- target's (section 5.2.2)
+-- the path that a reference leads to is the target's without a guard `/.`: with its guard, if it
+-- needs one, it is the target's (section 5.2.2)
 pub record IsUnguarded (target : Components) (path : List ℕ) : Type 0 where
   pub absolute : IsAbsolute path
   pub dotless : lacks_dot_segments path ≡ true
   pub guards : guarded target.authority path ≡ target.path
 
--- whether a path begins with the guard `/.` and `//` (section 4.2)
+-- whether a target's path begins with the guard `/.` and `//` (section 4.2)
 abbrev pub is_guarded : List ℕ → Bool
 is_guarded path =
     slice_index path 0 == slash && slice_index path 1 == full_stop

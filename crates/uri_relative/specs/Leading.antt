@@ -7,8 +7,8 @@ use Rattle.uri_ops.specs.Dots.{is_empty}
 use Rattle.uri_ops.specs.Resolving.{with_final_path}
 use Rattle.uri_ops.specs.Target.{is_opaque, resolution_of, resolution_of_texts, target_underflows}
 
--- the components of a base without its fragment, of which a base is stripped before use (section
--- 5.1)
+-- the components of the base that a reference leads from: without its fragment, of which a base is
+-- stripped before use (section 5.1)
 abbrev pub without_fragment : Components → Components
 without_fragment base = record base { fragment = None }
 
@@ -43,21 +43,19 @@ pub record IsNoLonger (target reference : List ℕ) : Type 0 where
 -- The targets that no reference without a scheme and an authority leads to, if the base has the
 -- same scheme and authority, and is not opaque.
 
--- Whether a target has no authority, and a path that does not begin with `/`.
--- Each path that a reference has, or takes from the base, begins with `/` in the target (section
--- 5.2.3).
+-- Whether a target to relativize has no authority, and a path that does not begin with `/`. Each
+-- path that a reference has, or takes from the base, begins with `/` in the target (section 5.2.3).
 abbrev pub is_rootless : Components → Bool
 is_rootless target = is_none target.authority && not (starts slash target.path)
 
--- Whether the target has an authority and an empty path, and the base, the first argument, a path
--- that is not empty.
--- A reference without a path takes the base's (section 5.2.2).
+-- Whether a target to relativize has an authority and an empty path, and the base, the first
+-- argument, a path that is not empty. A reference without a path takes the base's (section 5.2.2).
 abbrev pub has_emptied_path : Components → Components → Bool
 has_emptied_path base target =
     is_some target.authority && is_empty target.path && not (is_empty base.path)
 
--- Whether base and target, in this order, have empty paths, and only the base has a query.
--- A reference without a path takes the query, too (section 5.2.2).
+-- Whether base and target of a relativizer, in this order, have empty paths, and only the base has
+-- a query. A reference without a path takes the query, too (section 5.2.2).
 abbrev pub would_inherit_query : Components → Components → Bool
 would_inherit_query base target =
     is_empty target.path && is_empty base.path && is_none target.query && is_some base.query

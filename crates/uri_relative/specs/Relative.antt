@@ -11,7 +11,8 @@ use Rattle.uri_ops.specs.ComponentSets.{IsComponentSet}
 use Rattle.uri_ops.specs.Dots.{is_empty, EndsInSlash, remove_dot_segments, underflows}
 use Rattle.uri_ops.specs.Target.{merged}
 
--- how many `/` are in a text: in a path after a directory, how many directories it goes down
+-- how many `/` are in a text: in the rest of a base's path, how many `../` a relative path begins
+-- with
 abbrev pub slashes : List ℕ → ℕ
 slashes text = count_by (λ c. c == slash) text
 
@@ -34,12 +35,14 @@ relative_path n rest =
     else (if needs_leading_dot rest then codes "./" ++ rest else rest))
     else (if is_empty rest then double_dots (n - 1) ++ codes ".." else double_dots n ++ rest)
 
--- two paths share the prefix of length n, which ends in `/`: a directory that both are in
+-- the paths of a base and a target share the prefix of length n, which ends in `/`: a directory
+-- that both are in
 pub record IsSharedPrefix (n : ℕ) (base path : List ℕ) : Type 0 where
   pub same : take n base ≡ take n path
   pub closed : EndsInSlash (take n base)
 
--- the number is at least the length of each prefix that the two paths share and that ends in `/`
+-- the number is at least the length of each prefix that the paths of a base and a target share and
+-- that ends in `/`
 abbrev pub IsLongestPrefix : ℕ → List ℕ → List ℕ → Type 0
 IsLongestPrefix n base path =
     (m : ℕ) → m ≤ length base → m ≤ length path → IsSharedPrefix m base path → m ≤ n
@@ -49,8 +52,8 @@ IsLongestPrefix n base path =
 abbrev pub relative_from : ℕ → List ℕ → List ℕ → List ℕ
 relative_from n base path = relative_path (slashes (drop n base)) (drop n path)
 
--- the target's path before dot segments are removed, by the paths of a base and of a reference
--- (section 5.2.2)
+-- what a path of a relativizer's reference leads to from the base's path, before dot segments are
+-- removed (section 5.2.2)
 abbrev pub joined_path : List ℕ → List ℕ → List ℕ
 joined_path base path =
     if is_empty path then base else (if starts slash path then path else merged base path)

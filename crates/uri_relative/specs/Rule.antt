@@ -34,20 +34,22 @@ shortest_or_preferred_path prefers base path =
     && (prefers || nat_le (length (path_from_base base path)) (length (guarded None path)))
     then path_from_base base path else guarded None path
 
--- whether base and target have the same scheme, byte for byte
+-- whether the base and the target of a relativizer have the same scheme, byte for byte
 abbrev pub has_same_scheme : Components → Components → Bool
 has_same_scheme base target = option_eq bytes_eq base.scheme target.scheme
 
--- whether base and target have the same authority, byte for byte, or both have none
+-- whether the base and the target of a relativizer have the same authority, byte for byte, or both
+-- have none
 abbrev pub has_same_authority : Components → Components → Bool
 has_same_authority base target = option_eq bytes_eq base.authority target.authority
 
--- whether base and target have the same authority and the same path, byte for byte
+-- whether the base and the target of a relativizer have the same authority and path, byte for byte
 abbrev pub has_same_authority_and_path : Components → Components → Bool
 has_same_authority_and_path base target = has_same_authority base target
     && bytes_eq base.path target.path
 
--- whether base and target have the same query, byte for byte, or both have none
+-- whether the base and the target of a relativizer have the same query, byte for byte, or both have
+-- none
 abbrev pub has_same_query : Components → Components → Bool
 has_same_query base target = option_eq bytes_eq base.query target.query
 

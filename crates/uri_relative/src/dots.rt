@@ -7,14 +7,15 @@ ghost use Rattle.uri_ops.specs.Models.LeadingSegments.{IsPrefixToSlashDot};
 use uri_pct::lanes::LANES;
 use uri_pct::search::len_before_slash_dot;
 
-/// Returns whether a segment is `.`, also percent-encoded.
+/// Returns whether a segment of a path that is relativized is `.`, also percent-encoded.
 fn is_single_dot(segment: &str) -> bool
     ensures { result ≡ is_single_dot segment.now }
 {
     segment == "." || segment == "%2E" || segment == "%2e"
 }
 
-/// Returns whether a segment is `..`. Each dot may be percent-encoded.
+/// Returns whether a segment of a path that is relativized is `..`. Each dot may be
+/// percent-encoded.
 fn is_double_dot(segment: &str) -> bool
     ensures { result ≡ is_double_dot segment.now }
 {
@@ -29,15 +30,16 @@ fn is_double_dot(segment: &str) -> bool
         || segment == "%2e%2e"
 }
 
-/// Returns whether a segment is `.` or `..`, where each dot may be percent-encoded.
+/// Returns whether a segment of a path that is relativized is `.` or `..`, also percent-encoded.
 fn is_dot_segment(segment: &str) -> bool
     ensures { result ≡ is_dot_segment segment.now }
 {
     is_single_dot(segment) || is_double_dot(segment)
 }
 
-/// Returns whether a `/` is followed by `.` or `%`. In a path that begins with `/`, every dot
-/// segment is preceded by a `/`, and begins with one of the two.
+/// Returns whether a path that is relativized may have dot segments: a `/` is followed by `.` or
+/// `%`. In a path that begins with `/`, every dot segment is preceded by a `/`, and begins with one
+/// of the two.
 fn may_have_dots(bytes: &[u8]) -> bool
     requires { 0 < length bytes.now }
     ensures { result ≡ false → IsPrefixToSlashDot bytes.now (length bytes.now) }
@@ -58,7 +60,7 @@ fn may_have_dots(bytes: &[u8]) -> bool
     false
 }
 
-/// Returns whether a path that begins with `/` has a dot segment.
+/// Returns whether a path that is relativized, and begins with `/`, has a dot segment.
 pub(crate) fn has_dot_segments(path: &str) -> bool
     requires { IsAbsolute path.now }
     ensures { result ≡ not (lacks_dot_segments path.now) }

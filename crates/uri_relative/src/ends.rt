@@ -19,7 +19,7 @@ pub(crate) struct TargetSuffix<'a> {
 }
 
 impl<'a> TargetSuffix<'a> {
-    /// Returns all of the target's text.
+    /// Returns the reference that is all of the target's text.
     #[inline(always)]
     pub(crate) fn whole<K: Kind>(target: Core<K, &'a str>) -> TargetSuffix<'a>
         ensures text { result.text.now ≡ core_text target.entry }
@@ -31,7 +31,8 @@ impl<'a> TargetSuffix<'a> {
         }
     }
 
-    /// Returns the target's text without its scheme if it has an authority, or else all of it.
+    /// Returns the reference that is the target's text without its scheme if it has an authority,
+    /// or else all of it.
     #[inline(always)]
     pub(crate) fn from_authority<K: Kind>(target: Core<K, &'a str>) -> TargetSuffix<'a>
         ensures text { result.text.now
@@ -48,7 +49,7 @@ impl<'a> TargetSuffix<'a> {
         TargetSuffix::whole(target)
     }
 
-    /// Returns the target's query and fragment with their delimiters.
+    /// Returns the reference that is the target's query and fragment with their delimiters.
     #[inline(always)]
     pub(crate) fn from_query<K: Kind>(target: Core<K, &'a str>) -> TargetSuffix<'a>
         ensures text { let t = components (core_text target.entry) in result.text.now
@@ -62,7 +63,7 @@ impl<'a> TargetSuffix<'a> {
         }
     }
 
-    /// Returns the target's fragment with its `#`, or nothing.
+    /// Returns the reference that is the target's fragment with its `#`, or empty without one.
     #[inline(always)]
     pub(crate) fn from_fragment<K: Kind>(target: Core<K, &'a str>) -> TargetSuffix<'a>
         ensures text { let t = components (core_text target.entry) in result.text.now

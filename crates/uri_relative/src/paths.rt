@@ -19,7 +19,7 @@ use crate::dots::has_dot_segments;
 use std::alloc::AllocError;
 use uri_ops::path::slashes::{begins_with_slash, begins_with_two_slashes};
 
-/// Returns the length of the longest prefix that two texts share.
+/// Returns the length of the longest prefix that the paths of a base and a target share.
 fn shared_prefix_len(one: &[u8], other: &[u8]) -> usize
     ensures in_one { result ≤ length one.now }
     ensures in_other { result ≤ length other.now }
@@ -34,7 +34,7 @@ fn shared_prefix_len(one: &[u8], other: &[u8]) -> usize
     i
 }
 
-/// Returns the position of the last `/` before `end`, in a text that begins with one.
+/// Returns the position of the last `/` before `end` in a base's path, which begins with one.
 fn last_slash(text: &[u8], end: usize) -> usize
     requires absolute { IsAbsolute text.now }
     requires some { 0 < end }
@@ -50,7 +50,8 @@ fn last_slash(text: &[u8], end: usize) -> usize
     i
 }
 
-/// Returns the position of the last `/` in the longest prefix that two paths share.
+/// Returns the position of the last `/` in the longest prefix that the paths of a base and a target
+/// share.
 fn last_shared_slash(base: &[u8], path: &[u8]) -> usize
     requires base { IsAbsolute base.now }
     requires path { IsAbsolute path.now }
@@ -64,14 +65,14 @@ fn last_shared_slash(base: &[u8], path: &[u8]) -> usize
     last_slash(base, shared_prefix_len(base, path))
 }
 
-/// Returns how many slashes a text has.
+/// Returns how many slashes are in the rest of a base's path: a relative path goes up as often.
 fn count_slashes(text: &[u8]) -> usize
     ensures { result ≡ slashes text.now }
 {
     text.iter().filter(|byte| **byte == b'/').count()
 }
 
-/// Returns whether the first segment of a path has a `:`.
+/// Returns whether the first segment of a relative path has a `:`.
 fn has_colon_in_first_segment(path: &[u8]) -> bool
     ensures { result ≡ has_colon_in_first_segment path.now }
 {
@@ -88,7 +89,7 @@ fn needs_leading_dot(path: &[u8]) -> bool
     begins_with_slash(path) || has_colon_in_first_segment(path)
 }
 
-/// Appends this many `../`.
+/// Appends the beginning of a relative path: this many `../`.
 fn push_double_dots(double_dots: usize, out: &mut String) -> Result<(), AllocError>
     ensures { OnOk result (Pushes out.old out.new (double_dots_text double_dots)) }
 {
@@ -98,7 +99,7 @@ fn push_double_dots(double_dots: usize, out: &mut String) -> Result<(), AllocErr
     Ok(())
 }
 
-/// Returns whether a text is empty.
+/// Returns whether the rest of a relative path, after its `../`, is empty.
 fn is_empty(text: &[u8]) -> bool
     ensures { result ≡ is_empty text.now }
 {
@@ -120,7 +121,7 @@ fn push_relative_path(double_dots: usize, rest: &str, out: &mut String) -> Resul
     out.push_str(rest)
 }
 
-/// Appends the shortest path that goes to the rest, and up by no directory.
+/// Appends the shortest relative path that goes to the rest, and up by no directory.
 fn push_path_without_double_dots(rest: &str, out: &mut String) -> Result<(), AllocError>
     ensures { OnOk result (Pushes out.old out.new (relative_path 0 rest.now)) }
 {
@@ -133,7 +134,7 @@ fn push_path_without_double_dots(rest: &str, out: &mut String) -> Result<(), All
     out.push_str(rest)
 }
 
-/// Appends an absolute path, with the guard `/.` if it begins with `//`.
+/// Appends the path from the root to a reference, with the guard `/.` if it begins with `//`.
 fn push_guarded_path(path: &str, out: &mut String) -> Result<(), AllocError>
     ensures { OnOk result (Pushes out.old out.new (guarded None path.now)) }
 {
@@ -143,7 +144,7 @@ fn push_guarded_path(path: &str, out: &mut String) -> Result<(), AllocError>
     out.push_str(path)
 }
 
-/// Returns the length of the guard that an absolute path needs.
+/// Returns the length of the guard that a reference's path from the root needs.
 fn guard_len(path: &str) -> usize
     ensures within { result ≤ 2 }
     ensures length { length (guarded None path.now) ≡ result + length path.now }
@@ -155,8 +156,8 @@ fn guard_len(path: &str) -> usize
     }
 }
 
-/// Returns whether the path that goes up by this many directories, and from there to the rest, is
-/// no longer than the path from the root, which has `prefix` bytes before the rest.
+/// Returns whether the relative path that goes up by this many directories, and from there to the
+/// rest, is no longer than the path from the root, which has `prefix` bytes before the rest.
 fn is_relative_no_longer(double_dots: usize, rest: &str, prefix: usize) -> bool
     requires some { 0 < prefix }
     requires fits { prefix ≤ 2 ^ 63 + 2 }
@@ -188,7 +189,7 @@ fn uses_relative_path(prefers_relative: bool, double_dots: usize, rest: &str, pr
     prefers_relative || is_relative_no_longer(double_dots, rest, prefix)
 }
 
-/// Returns the path, or `/` if it is empty, which has the same directory.
+/// Returns the base's path, or `/` if it is empty: a relative path leads from the same directory.
 fn path_or_slash(path: &str) -> &str
     requires { IsAbemptyPath path.now }
     ensures root { result.now ≡ or_slash path.now }

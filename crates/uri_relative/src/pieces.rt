@@ -11,7 +11,7 @@ use uri_ops::path::slashes::begins_with_slash;
 use uri_parts::core_text::Core;
 use uri_parts::kind::Kind;
 
-/// Returns the path of a text.
+/// Returns the path of a base or a target.
 #[inline(always)]
 pub(crate) fn path<'a, K: Kind>(core: Core<K, &'a str>) -> &'a str
     ensures { result.now ≡ (components (core_text core.entry)).path }
@@ -19,7 +19,7 @@ pub(crate) fn path<'a, K: Kind>(core: Core<K, &'a str>) -> &'a str
     core.positions().path(core.as_str())
 }
 
-/// Returns the text after the scheme and its `:`, or all of it if there is no scheme.
+/// Returns a target's text after the scheme and its `:`, or all of it if there is no scheme.
 #[inline(always)]
 pub(crate) fn after_scheme<'a, K: Kind>(core: Core<K, &'a str>) -> &'a str
     ensures { result.now ≡ after_scheme (components (core_text core.entry)) }
@@ -31,7 +31,7 @@ pub(crate) fn after_scheme<'a, K: Kind>(core: Core<K, &'a str>) -> &'a str
     }
 }
 
-/// Returns the text after the path: the query and the fragment with their delimiters.
+/// Returns a target's text after the path: the query and the fragment with their delimiters.
 #[inline(always)]
 pub(crate) fn after_path<'a, K: Kind>(core: Core<K, &'a str>) -> &'a str
     ensures { result.now ≡ after_path (components (core_text core.entry)) }
@@ -40,7 +40,7 @@ pub(crate) fn after_path<'a, K: Kind>(core: Core<K, &'a str>) -> &'a str
     &text[core.positions().path_end..]
 }
 
-/// Returns the query with its `?`, or nothing.
+/// Returns a target's query with its `?`, or nothing.
 #[inline(always)]
 pub(crate) fn query_with_delimiter<'a, K: Kind>(core: Core<K, &'a str>) -> &'a str
     ensures { result.now ≡ marked (codes "?") (components (core_text core.entry)).query [] }
@@ -50,7 +50,7 @@ pub(crate) fn query_with_delimiter<'a, K: Kind>(core: Core<K, &'a str>) -> &'a s
     &text[positions.path_end..positions.before_fragment()]
 }
 
-/// Returns the fragment with its `#`, or nothing.
+/// Returns a target's fragment with its `#`, or nothing.
 #[inline(always)]
 pub(crate) fn fragment_with_delimiter<'a, K: Kind>(core: Core<K, &'a str>) -> &'a str
     ensures { result.now ≡ marked (codes "#") (components (core_text core.entry)).fragment [] }
@@ -59,7 +59,8 @@ pub(crate) fn fragment_with_delimiter<'a, K: Kind>(core: Core<K, &'a str>) -> &'
     &text[core.positions().before_fragment()..]
 }
 
-/// Returns whether a base is opaque: of references without a scheme, it takes only fragments.
+/// Returns whether the base of a relativizer is opaque: of references without a scheme, it takes
+/// only fragments.
 #[inline(always)]
 pub(crate) fn is_opaque<K: Kind>(base: Core<K, &str>) -> bool
     ensures { result ≡ is_opaque (components (core_text base.entry)) }
@@ -67,7 +68,7 @@ pub(crate) fn is_opaque<K: Kind>(base: Core<K, &str>) -> bool
     !base.has_authority() && !begins_with_slash(path(base).as_bytes())
 }
 
-/// Returns whether two components are equal, or both are absent.
+/// Returns whether a component of a base and that of a target are equal, or both are absent.
 #[inline(always)]
 fn are_equal_components(one: Option<&str>, other: Option<&str>) -> bool
     ensures { (result ≡ true)
@@ -125,7 +126,7 @@ pub(crate) fn have_same_query<K: Kind>(base: Core<K, &str>, target: Core<K, &str
     )
 }
 
-/// Returns the text before the path: the scheme and the authority with their delimiters.
+/// Returns a target's text before the path: the scheme and the authority with their delimiters.
 #[inline(always)]
 pub(crate) fn before_path<'a, K: Kind>(core: Core<K, &'a str>) -> &'a str
     ensures { result.now ≡ before_path (components (core_text core.entry)) }

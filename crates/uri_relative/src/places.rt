@@ -11,7 +11,8 @@ use uri_parts::core_text::Core;
 use uri_parts::kind::Kind;
 use uri_parts::positions::{AuthorityPositions, Positions};
 
-/// Returns a position in a text without its first `start` bytes.
+/// Returns a position of a target in the reference that is its text without the first `start`
+/// bytes.
 #[inline(always)]
 fn shift_position_back(start: usize, position: Option<usize>) -> Option<usize>
     requires { IfSome position (λ p. start ≤ p) }
@@ -23,7 +24,8 @@ fn shift_position_back(start: usize, position: Option<usize>) -> Option<usize>
     }
 }
 
-/// Returns the positions of an authority in a text without its first `start` bytes.
+/// Returns the positions of a target's authority in the reference that is its text without the
+/// first `start` bytes.
 #[inline(always)]
 fn shift_authority_back(start: usize, authority: AuthorityPositions) -> AuthorityPositions
     requires start { start ≤ authority.start }
@@ -43,8 +45,8 @@ fn shift_authority_back(start: usize, authority: AuthorityPositions) -> Authorit
     }
 }
 
-/// Returns the positions of the authority in a text without its scheme and `:`, which end at
-/// `start`.
+/// Returns the positions of the authority in a reference that is the target's text without its
+/// scheme and `:`, which end at `start`.
 #[inline(always)]
 fn authority_after_scheme<K: Kind>(core: Core<K, &str>, start: usize) -> Option<AuthorityPositions>
     requires { start ≡ delimited_length 1 (components (core_text core)).scheme }
@@ -57,7 +59,7 @@ fn authority_after_scheme<K: Kind>(core: Core<K, &str>, start: usize) -> Option<
     }
 }
 
-/// Returns the positions in a text without its scheme.
+/// Returns the positions in a reference that is the target's text without its scheme.
 #[inline(always)]
 pub(crate) fn positions_after_scheme<K: Kind>(core: Core<K, &str>) -> Positions
     ensures { let t = components (core_text core.entry) in
@@ -79,7 +81,7 @@ pub(crate) fn positions_after_scheme<K: Kind>(core: Core<K, &str>) -> Positions
     }
 }
 
-/// Returns the end of the query, if there is one, after a path of this length.
+/// Returns the end of the query, if there is one, in a reference whose path has this length.
 #[inline(always)]
 fn query_end_after<K: Kind>(core: Core<K, &str>, path_len: usize) -> Option<usize>
     requires { path_len ≤ 2 ^ 63 }

@@ -23,7 +23,8 @@ use uri_ops::path::slashes::begins_with_slash;
 use uri_parts::core_text::Core;
 use uri_parts::positions::Positions;
 
-/// Returns whether a base and a target have equal authorities, and equal paths too.
+/// Returns whether a base and a target have equal authorities, and equal paths too, so that the
+/// reference needs neither.
 #[inline(always)]
 fn have_same_authority_and_path<K: BaseKind>(base: Core<K, &str>, target: Core<K, &str>) -> bool
     ensures same { result ≡ true → ((components (core_text base.entry)).authority
@@ -133,7 +134,7 @@ fn target_suffix<'a, K: BaseKind>(
     }
 }
 
-/// Returns whether a path begins with `/.//`.
+/// Returns whether a target's path has the guard: it begins with `/.//`.
 #[inline(always)]
 fn is_guarded(path: &[u8]) -> bool
     ensures { result ≡ is_guarded path.now }
@@ -141,7 +142,8 @@ fn is_guarded(path: &[u8]) -> bool
     matches!(path, [b'/', b'.', b'/', b'/', ..])
 }
 
-/// Returns the path of a target without a guard `/.` (RFC 3986, section 5.2.2).
+/// Returns the path that a reference leads to: the target's without a guard `/.` (RFC 3986, section
+/// 5.2.2).
 #[inline(always)]
 fn without_guard<'a, K: BaseKind>(target: Core<K, &'a str>) -> &'a str
     requires settled { let t = components (core_text target) in with_final_path t ≡ t }

@@ -53,8 +53,8 @@ impl RelativeKind for IriKind {
     ghost same_tables = { refl };
 }
 
-/// Inserts `/.` before the path in `out` from `start` on, if that begins with `//` and would be
-/// parsed as an authority.
+/// Inserts `/.` before the path of a settled target in `out` from `start` on, if that begins with
+/// `//` and would be parsed as an authority.
 fn guard_path(start: usize, out: &mut String) -> Result<(), AllocError>
     requires { IsCharBoundary (string_bytes out.old) start }
     ensures { OnOk result (string_bytes out.new
@@ -66,7 +66,7 @@ fn guard_path(start: usize, out: &mut String) -> Result<(), AllocError>
     Ok(())
 }
 
-/// Appends the path of a target without its dot segments, as resolving writes it.
+/// Appends the path of a target to relativize without its dot segments, as resolving writes it.
 fn push_path_without_removable_dots<K: BaseKind>(
     target: Core<K, &str>,
     out: &mut String,
@@ -83,7 +83,7 @@ fn push_path_without_removable_dots<K: BaseKind>(
     Ok(())
 }
 
-/// Returns the text of a target without its dot segments, as resolving writes it.
+/// Returns the text of a target to relativize without its dot segments, as resolving writes it.
 fn text_without_removable_dots<K: BaseKind>(
     alloc: Global,
     target: Core<K, &str>,
@@ -129,7 +129,7 @@ fn reference<K: BaseKind>(
     Ok(MadeReference { text, positions })
 }
 
-/// Returns whether a target has no dot segment that resolving removes.
+/// Returns whether a target to relativize has no dot segment that resolving removes.
 #[inline(always)]
 fn is_without_removable_dots<K: BaseKind>(target: Core<K, &str>) -> bool
     ensures settled { result ≡ true → let t = components (core_text target.entry) in

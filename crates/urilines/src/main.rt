@@ -22,7 +22,8 @@ use uri_streams::source::Source;
 /// The capacity of the buffers of standard input and standard output, in bytes.
 const CAPACITY: usize = 64 * 1024;
 
-/// Runs the command that the words of the command line make, and returns its exit status.
+/// Runs the command that the words of the command line of `urilines` make, and returns its exit
+/// status.
 fn main(rt: HostRuntime) -> ExitCode {
     let alloc = rt.alloc();
     let words = match words(&rt, alloc) {
@@ -54,7 +55,8 @@ fn main(rt: HostRuntime) -> ExitCode {
     }
 }
 
-/// Processes the lines of standard input under a job, and returns the exit status.
+/// Processes the lines of the standard input of `urilines` under a job, and returns the exit
+/// status.
 fn process(rt: &HostRuntime, alloc: Global, job: &Job<'_>, shows_progress: bool) -> ExitCode {
     let Ok(reader) = BufReader::with_capacity(alloc, CAPACITY, rt.stdin()) else {
         return failed(rt, "out of memory");
@@ -88,13 +90,13 @@ fn process(rt: &HostRuntime, alloc: Global, job: &Job<'_>, shows_progress: bool)
     }
 }
 
-/// Writes to the error output why the program failed, and returns its exit status.
+/// Writes to the error output why `urilines` failed, and returns its exit status.
 fn failed(rt: &HostRuntime, why: &str) -> ExitCode {
     let _ = eprintln!(rt; "error: {why}");
     ExitCode::from(1)
 }
 
-/// Returns the words of the command line.
+/// Returns the words of the command line of `urilines`.
 fn words(rt: &HostRuntime, alloc: Global) -> io::Result<Vec<String>> {
     let mut words = Vec::new(alloc);
     for word in env::args(rt)? {

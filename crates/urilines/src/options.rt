@@ -189,7 +189,7 @@ fn invert<'a>(alloc: Global) -> Arg<'a> {
         .help("Pass on the lines that are not of the kind")
 }
 
-/// Returns the argument for the kind of a base, for the parser of the command line.
+/// Returns the argument of `urilines` for the kind of a base, for the parser of the command line.
 fn base_kind<'a>(alloc: Global) -> Arg<'a> {
     Arg::new(alloc, "kind")
         .value_name("KIND")
@@ -198,7 +198,7 @@ fn base_kind<'a>(alloc: Global) -> Arg<'a> {
         .help("The kind of the base")
 }
 
-/// Returns the argument for the text of a base, for the parser of the command line.
+/// Returns the argument of `urilines` for the text of a base, for the parser of the command line.
 fn base_text<'a>(alloc: Global) -> Arg<'a> {
     Arg::new(alloc, "base")
         .value_name("BASE")
@@ -206,7 +206,8 @@ fn base_text<'a>(alloc: Global) -> Arg<'a> {
         .help("The base, without a fragment")
 }
 
-/// Returns the argument for the kind of each line, for the parser of the command line.
+/// Returns the argument of `urilines` for the kind of each line, for the parser of the command
+/// line.
 fn kind<'a>(alloc: Global) -> Arg<'a> {
     Arg::new(alloc, "kind")
         .value_name("KIND")
@@ -215,7 +216,7 @@ fn kind<'a>(alloc: Global) -> Arg<'a> {
         .help("What a line is")
 }
 
-/// Returns whether the command line has the option `--progress`.
+/// Returns whether the command line of `urilines` has the option `--progress`.
 pub fn shows_progress(matches: &ArgMatches<'_>) -> bool {
     match matches.subcommand() {
         Some((_, words)) => words.get_flag("progress"),
@@ -304,13 +305,13 @@ fn field_named(words: &ArgMatches<'_>) -> Result<Option<Field>, CommandLineError
     }
 }
 
-/// Returns the base on the command line, parsed as a URI.
+/// Returns the base on the command line of `urilines`, parsed as a URI.
 fn uri_base<'a>(words: &ArgMatches<'a>) -> Result<Uri<&'a str>, CommandError> {
     let text = words.get_str("base").unwrap_or("");
     Uri::<&str>::parse(text).map_err(CommandError::Base)
 }
 
-/// Returns the kind with this name on the command line.
+/// Returns the kind with this name on the command line of `urilines`.
 fn kind_named(word: &str) -> KindName {
     match word {
         "uri" => KindName::Uri,
@@ -320,7 +321,7 @@ fn kind_named(word: &str) -> KindName {
     }
 }
 
-/// Returns the base on the command line, parsed as the kind that is given for it.
+/// Returns the base on the command line of `urilines`, parsed as the kind that is given for it.
 fn base<'a>(words: &ArgMatches<'a>) -> Result<Base<'a>, CommandError> {
     Ok(match words.get_str("kind").unwrap_or("uri") {
         "iri" => {

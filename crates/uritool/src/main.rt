@@ -13,30 +13,32 @@ use uri_commands::run::run;
 struct Arguments<'a>(&'a HostRuntime);
 
 impl Env for Arguments<'_> {
-    /// Fills `buf` with the argument at an index, where the program's name is left out.
+    /// Fills `buf` with the argument of `uritool` at an index, where the program's name is left
+    /// out.
     fn arg(&self, i: usize, buf: &mut [u8]) -> Result<usize, FillError> {
         let place = i.checked_add(1).ok_or(FillError::NotPresent)?;
         self.0.arg(place, buf)
     }
 
-    /// Fills `buf` with the environment variable of this name.
+    /// Fills `buf` with the environment variable of `uritool` that has this name.
     fn var(&self, name: &str, buf: &mut [u8]) -> Result<usize, FillError> {
         self.0.var(name, buf)
     }
 
-    /// Fills `buf` with the environment variable at an index.
+    /// Fills `buf` with the environment variable of `uritool` at an index.
     fn var_at(&self, i: usize, buf: &mut [u8]) -> Result<usize, FillError> {
         self.0.var_at(i, buf)
     }
 }
 
-/// Writes the line to the error output, and returns status 1.
+/// Writes the line to the error output of `uritool`, and returns status 1.
 fn report_error<E: Write>(err: &mut E, line: &str) -> ExitCode {
     let _ = err.write_all(line.as_bytes());
     ExitCode::from(1)
 }
 
-/// Runs the command that the words of the command line make, and returns its exit status.
+/// Runs the command that the words of the command line of `uritool` make, and returns its exit
+/// status.
 fn main(rt: HostRuntime) -> ExitCode {
     let alloc = rt.alloc();
     let mut err = rt.stderr();
@@ -57,7 +59,7 @@ fn main(rt: HostRuntime) -> ExitCode {
     ExitCode::from(status)
 }
 
-/// Returns the words of the command line after the program's name.
+/// Returns the words of the command line of `uritool` after the program's name.
 fn words(rt: &HostRuntime, alloc: Global) -> io::Result<Vec<String>> {
     let mut words = Vec::new(alloc);
     for word in env::args(&(Arguments(rt), alloc))? {

@@ -29,8 +29,8 @@ abbrev pub delimited_len : ℕ → Option ℕ → ℕ
 delimited_len marks None = 0
 delimited_len marks (Some n) = marks + n
 
--- the positions of an authority's components: it begins at the first number, its host is in the
--- range, and its length is the last number
+-- the positions of a built authority's components: it begins at the first number, its host is in
+-- the range, and its length is the last number
 abbrev pub authority_positions_from_length : ℕ → HostRange → ℕ → AuthorityPositions
 authority_positions_from_length place host len = record {
   start = place;

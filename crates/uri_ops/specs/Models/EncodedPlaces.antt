@@ -32,15 +32,15 @@ positions_in_encoded text p = record {
   query_end = option_map (position_in_encoded text) p.query_end;
 }
 
--- the positions of an authority's components are in order, and it ends at `path_start`, where the
--- path begins
+-- the positions of an authority's components in an IRI that is converted are in order, and it ends
+-- at `path_start`, where the path begins
 pub record AreAuthorityPositionsOrdered (path_start : ℕ) (p : AuthorityPositions) : Type 0 where
   pub userinfo : p.start ≤ p.host_start
   pub host : p.host_start ≤ p.host_end
   pub port : p.host_end ≤ p.end
   pub end : p.end ≡ path_start
 
--- the positions of the components of a text of length `len` are in order
+-- the positions of the components of an IRI that is converted, of length `len`, are in order
 pub record ArePositionsOrdered (len : ℕ) (p : Positions) : Type 0 where
   pub authority : IfSome p.authority (AreAuthorityPositionsOrdered p.path_start)
   pub path : p.path_start ≤ p.path_end

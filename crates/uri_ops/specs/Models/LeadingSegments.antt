@@ -16,19 +16,20 @@ abbrev pub begins_with_dot : List ℕ → Bool
 begins_with_dot [] = false
 begins_with_dot (c ∷ rest) = c == full_stop || c == percent_sign
 
--- the length of the dot that a text begins with: 1 of `.`, 3 of `%2E`, or 0 if there is none
+-- the length of the dot that a path's leading segment begins with: 1 of `.`, 3 of `%2E`, or 0 if
+-- there is none
 abbrev pub dot_len : List ℕ → ℕ
 dot_len text =
     if slice_index text 0 == full_stop then 1
     else (if slice_index text 0 == percent_sign && (slice_index text 1 == 50
     && (slice_index text 2 == 69 || slice_index text 2 == 101)) then 3 else 0)
 
--- whether a segment of a path ends before this text: it is empty or begins with `/`
+-- whether the leading segment of a path ends before this text: it is empty or begins with `/`
 abbrev pub ends_segment : List ℕ → Bool
 ends_segment [] = true
 ends_segment (c ∷ rest) = c == slash
 
--- the first segment of the path is no dot segment (section 3.3)
+-- the leading segment of the path is no dot segment (section 3.3)
 abbrev pub BeginsWithoutDotSegment : List ℕ → Type 0
 BeginsWithoutDotSegment path =
     (end : ℕ) → has_slash (take end path) ≡ false → IsAbemptyPath (drop end path)
@@ -48,7 +49,8 @@ pub record IsPrefixToSlashDot (bytes : List ℕ) (n : ℕ) : Type 0 where
   pub none : (k : ℕ) → k + 1 < n → has_slash_dot_at bytes k ≡ false
   pub ends : n < length bytes → slice_index bytes (n - 1) ≡ slash
 
--- the first segment of the path passes the test, and has n bytes with the `/` after it
+-- the leading segment of the path passes the test, as of being `..`, and has n bytes with the `/`
+-- after it
 pub record IsFirstSegment (test : List ℕ → Bool) (path : List ℕ) (n : ℕ) : Type 0 where
   pub end : ℕ
   pub segment : has_slash (take end path) ≡ false

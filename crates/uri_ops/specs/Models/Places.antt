@@ -3,7 +3,7 @@ use Rattle.std.specs.Prelude.{◌≡◌, ℕ, ◌<◌, ◌≤◌, ◌⊎◌, Lis
 use Rattle.uri_pct.specs.Delimiters.{slash}
 use Rattle.uri_parts.specs.Components.{Components, marked}
 
--- what is before the path of these components: scheme and authority, with their delimiters
+-- what a base or a reference has before its path: scheme and authority, with their delimiters
 abbrev pub before_path : Components → List ℕ
 before_path p = marked [] p.scheme (codes ":") ++ marked (codes "//") p.authority []
 

@@ -9,7 +9,7 @@ use Rattle.uri_ops.specs.ComponentSets.{IsComponentSet}
 use Rattle.uri_ops.specs.declared.path.segment_mode.SegmentMode.{SegmentMode}
 use Rattle.uri_ops.specs.declared.path.segment_mode.SegmentMode.TheVariants.{Copied, Decoded}
 
--- the text is valid for the set of a path, which has `/`
+-- the text of segments is valid for the set of a path, which has `/`, so that it may be decoded
 pub record IsValidForPathSet (set : TableSet) (text : List ℕ) : Type 0 where
   pub component : IsComponentSet (codes "?#[]") set
   pub slash : set.ascii slash ≡ true

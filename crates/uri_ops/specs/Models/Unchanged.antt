@@ -10,8 +10,8 @@ use Rattle.uri_ops.specs.Meaning.{dotless_path}
 use Rattle.uri_ops.specs.Normal.{normal_scheme}
 use Rattle.uri_ops.specs.Normal.{path_underflows}
 
--- whether a byte begins neither a percent-encoded octet nor a formatting character of bidirectional
--- text
+-- whether a text with this byte may be unchanged: the byte begins neither a percent-encoded octet
+-- nor a formatting character of bidirectional text
 abbrev pub is_literal_byte : ℕ → Bool
 is_literal_byte b = not (b == percent_sign || b == 0xE2)
 

@@ -6,8 +6,8 @@ use Rattle.uri_parts.specs.Authority.{AuthorityParts, recompose_authority}
 use Rattle.uri_parts.specs.Components.{Components}
 use Rattle.uri_parts.specs.Positions.{delimited_length, positions_of}
 
--- the positions of an authority's components, where it begins at the position `place` of the text
--- that is written
+-- the positions of an authority's components, where it begins at the position `place` of a text, as
+-- a normal one, that is written
 abbrev pub authority_parts_at : ℕ → AuthorityParts → AuthorityPositions
 authority_parts_at place p =
     let host = delimited_length 1 p.userinfo in
@@ -18,8 +18,8 @@ authority_parts_at place p =
       end = place + length (recompose_authority p);
     }
 
--- the positions of components in the text that is recomposed of them, where the authority has these
--- parts, the Option
+-- the positions of components in a text, as a normal one, that is recomposed of them, where the
+-- authority has these parts, the Option
 abbrev pub positions_by_authority_parts : Components → Option AuthorityParts → Positions
 positions_by_authority_parts p parts =
     let place = delimited_length 1 p.scheme + 2 in

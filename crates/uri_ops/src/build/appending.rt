@@ -13,8 +13,8 @@ use uri_pct::encoder::Encoder;
 /// The capacity that a builder's text gets at first, so that most builders allocate once.
 const FIRST_CAPACITY: usize = 120;
 
-/// Reserves `additional` bytes, and at least `FIRST_CAPACITY`. Returns whether the allocation
-/// failed.
+/// Reserves `additional` bytes in a builder's text, and at least `FIRST_CAPACITY`. Returns whether
+/// the allocation failed.
 #[inline(never)]
 fn reserve_fails(text: &mut String, additional: usize) -> bool
     ensures { string_bytes text.new ≡ string_bytes text.old }

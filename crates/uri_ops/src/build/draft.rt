@@ -286,7 +286,8 @@ impl Draft {
     }
 }
 
-/// Returns the text after a part and its delimiters, if the part is present.
+/// Returns what is after a part and its delimiters in a builder's text, or all of it without the
+/// part.
 fn after_part(text: &[u8], marks: usize, part: Option<usize>) -> &[u8]
     requires { IfSome part (λ len. marks + len ≤ length text.now) }
     ensures { result.now ≡ after_part marks part text.now }
@@ -297,7 +298,7 @@ fn after_part(text: &[u8], marks: usize, part: Option<usize>) -> &[u8]
     }
 }
 
-/// Returns whether a `:` is in the first segment of a path.
+/// Returns whether a `:` is in the first segment of a path that a builder holds.
 fn has_colon_in_first_segment(path: &[u8]) -> bool
     ensures { result ≡ has_colon_in_first_segment path.now }
 {

@@ -17,7 +17,7 @@ pub struct HostRange {
     pub end: usize,
 }
 
-/// Returns where the host of an authority is in it.
+/// Returns where the host is in an authority that a builder gets as a whole.
 pub(crate) fn host_place<U: Encoder, N: Encoder>(authority: Authority<'_, U, N>) -> HostRange
     ensures { IsHostAt result (authority_text authority.entry) }
 {
@@ -32,7 +32,8 @@ pub(crate) fn host_place<U: Encoder, N: Encoder>(authority: Authority<'_, U, N>)
     }
 }
 
-/// Returns the position after a part and its delimiters, or the same position without the part.
+/// Returns the position after a part of a builder's text and its delimiters, or the same position
+/// without the part.
 #[inline(always)]
 fn suffix(place: usize, marks: usize, part: Option<usize>, text: &str) -> usize
     requires { place + delimited_len marks part ≤ length text.now }
@@ -44,7 +45,7 @@ fn suffix(place: usize, marks: usize, part: Option<usize>, text: &str) -> usize
     }
 }
 
-/// Returns the positions of an authority by its start, its length and where its host is.
+/// Returns the positions of a built authority by its start, its length and where its host is.
 #[inline(always)]
 fn authority_positions_from_length(
     start: usize,

@@ -17,7 +17,7 @@ use uri_parts::positions::{AuthorityPositions, Positions};
 use uri_pct::lanes::{LANES, ascii_end};
 use uri_pct::octet::pct_encoded;
 
-/// Returns how many bytes are before the first one past ASCII, or before the end.
+/// Returns how many bytes of an IRI are before its first one past ASCII, or before its end.
 #[tactic(auto, using(crate::proofs::AsciiForms::EncodedRuns::encoded_runs))]
 fn ascii_prefix_len(bytes: &[u8]) -> usize
     ensures inside { result ≤ length bytes.now }
@@ -34,7 +34,7 @@ fn ascii_prefix_len(bytes: &[u8]) -> usize
     i
 }
 
-/// Counts the bytes past ASCII: for each the encoded text has two more.
+/// Counts the bytes past ASCII of an IRI: for each its URI has two bytes more.
 fn count_past_ascii(bytes: &[u8]) -> usize
     ensures { length (encode_past_ascii bytes.now) ≡ length bytes.now + 2 * result }
 {
@@ -47,7 +47,7 @@ fn count_past_ascii(bytes: &[u8]) -> usize
     count
 }
 
-/// Appends the bytes, one by one if they are few.
+/// Appends bytes to the URI of an IRI as they are, one by one if they are few.
 #[inline(always)]
 fn push_run(bytes: &[u8], out: &mut Vec<u8>) -> Result<(), AllocError>
     ensures { OnOk result (out.new.items ≡ out.old.items ++ bytes.now) }
@@ -61,7 +61,7 @@ fn push_run(bytes: &[u8], out: &mut Vec<u8>) -> Result<(), AllocError>
     Ok(())
 }
 
-/// Appends a byte as an octet.
+/// Appends a byte of an IRI to its URI as an octet.
 #[inline(always)]
 fn push_octet(byte: u8, out: &mut Vec<u8>) -> Result<(), AllocError>
     ensures { OnOk result (out.new.items ≡ out.old.items ++ text_of_token (Octet byte)) }
@@ -69,7 +69,7 @@ fn push_octet(byte: u8, out: &mut Vec<u8>) -> Result<(), AllocError>
     push_run(pct_encoded(byte).as_bytes(), out)
 }
 
-/// Appends the bytes, each one past ASCII as an octet.
+/// Appends bytes of an IRI to its URI, each one past ASCII as an octet.
 #[tactic(auto, using(crate::proofs::AsciiForms::EncodedRuns::encoded_runs))]
 fn push_past_ascii_encoded(bytes: &[u8], out: &mut Vec<u8>) -> Result<(), AllocError>
     ensures { OnOk result (out.new.items ≡ out.old.items ++ encode_past_ascii bytes.now) }
@@ -89,8 +89,8 @@ fn push_past_ascii_encoded(bytes: &[u8], out: &mut Vec<u8>) -> Result<(), AllocE
     Ok(())
 }
 
-/// Appends the bytes between two positions, each one past ASCII as an octet. `out` has those before
-/// the first position. Returns the position of the end in `out`.
+/// Appends an IRI's bytes between two positions, each one past ASCII as an octet. `out` has those
+/// before the first position. Returns the position of the end in `out`.
 fn push_encoded_between(
     bytes: &[u8],
     start: usize,
@@ -107,8 +107,8 @@ fn push_encoded_between(
     Ok(out.len())
 }
 
-/// Appends the bytes up to the end of this authority, each one past ASCII as an octet. Returns the
-/// positions of the authority in `out`.
+/// Appends an IRI's bytes up to the end of this authority, each one past ASCII as an octet. Returns
+/// the positions of the authority in `out`.
 fn push_encoded_to_authority_end(
     bytes: &[u8],
     authority: AuthorityPositions,
@@ -133,8 +133,8 @@ fn push_encoded_to_authority_end(
     })
 }
 
-/// Appends the bytes before the path, each one past ASCII as an octet. Returns the positions of the
-/// authority in `out`, if there is one.
+/// Appends an IRI's bytes before the path, each one past ASCII as an octet. Returns the positions
+/// of the authority in `out`, if there is one.
 fn push_encoded_to_path(
     bytes: &[u8],
     positions: &Positions,
@@ -156,8 +156,8 @@ fn push_encoded_to_path(
     }
 }
 
-/// Appends the text with these components, each byte past ASCII as an octet. Returns the positions
-/// of the components in `out`.
+/// Appends an IRI with these components, each byte past ASCII as an octet. Returns the positions of
+/// the components in `out`.
 fn push_encoded_components(
     bytes: &[u8],
     positions: &Positions,

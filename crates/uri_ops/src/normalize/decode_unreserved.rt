@@ -45,30 +45,32 @@ impl<'a> TakeParts for Decoding<'a> {
 
     ghost takes_appended_parts = { took_on };
 
-    /// Appends literal text, with its letters lowered if the decoding lowers them.
+    /// Appends literal text to a normal component, with its letters lowered if the decoding lowers
+    /// them.
     fn take_unencoded(&mut self, text: &str) -> Result<(), AllocError> {
         push_literal(self.lowers, text, self.text)
     }
 
-    /// Appends characters past ASCII that octets decode to: the decodable ones as they are, and
-    /// else as octets.
+    /// Appends characters past ASCII that octets decode to, to a normal component: the decodable
+    /// ones as they are, and else as octets.
     fn take_well_formed(&mut self, text: &str) -> Result<(), AllocError> {
         push_text(&self.table.decodable(), text, self.text)
     }
 
-    /// Appends an octet of an ASCII character, which is decoded if the character is unreserved.
+    /// Appends an octet of an ASCII character to a normal component, decoded if the character is
+    /// unreserved.
     fn take_ascii(&mut self, byte: u8) -> Result<(), AllocError> {
         push_decoded_octet(self.lowers, byte, self.text)
     }
 
-    /// Appends a maximal ill-formed part of a run of octets, as octets.
+    /// Appends a maximal ill-formed part of a run of octets to a normal component, as octets.
     fn take_ill_formed(&mut self, bytes: &[u8]) -> Result<(), AllocError> {
         push_octets(bytes, self.text)
     }
 }
 
-/// Returns whether the table allows formatting characters of bidirectional text, and octets for
-/// them.
+/// Returns whether a component decoded by the table gets octets for its formatting characters of
+/// bidirectional text: the table allows both.
 #[tactic(auto, using(crate::proofs::Meanings::WrittenFormatting::set_allows_formatting_by_ucschar))]
 fn encodes_formatting(table: &Table) -> bool
     ensures { result ≡ ((set_of table.now).ucschar && (set_of table.now).pct_encoded) }

@@ -9,7 +9,7 @@ ghost use Rattle.uri_ops.specs.Models.Decodings.{lowered_text_if};
 
 use std::alloc::AllocError;
 
-/// Appends the text. An empty one and one of a byte cost no call.
+/// Appends a run without octets to a normal text. An empty one and one of a byte cost no call.
 #[inline(always)]
 pub(crate) fn push_short_str(text: &str, out: &mut String) -> Result<(), AllocError>
     ensures { OnOk result (Pushes out.old out.new text.now) }
@@ -24,7 +24,7 @@ pub(crate) fn push_short_str(text: &str, out: &mut String) -> Result<(), AllocEr
     out.push_str(text)
 }
 
-/// Returns how far the text has no ASCII letter in upper case.
+/// Returns how long the run without upper-case ASCII letters is that a text begins with.
 #[inline(always)]
 fn lowercase_prefix_len(text: &str) -> usize
     ensures { result ≡ position_or_len is_ascii_uppercase text.now }
@@ -54,7 +54,7 @@ pub(crate) fn push_lower(text: &str, out: &mut String) -> Result<(), AllocError>
     }
 }
 
-/// Appends the text, with its letters lowered if `lowers`. An empty one costs no call.
+/// Appends a run without octets, with its letters lowered if `lowers`. An empty one costs no call.
 #[inline(always)]
 pub(crate) fn push_literal(lowers: bool, text: &str, out: &mut String) -> Result<(), AllocError>
     ensures { OnOk result (Pushes out.old out.new (lowered_text_if lowers text.now)) }

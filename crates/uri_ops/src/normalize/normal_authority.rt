@@ -99,7 +99,8 @@ pub fn push_host<U: Encoder, R: Encoder>(
     }
 }
 
-/// Returns whether the host is an address in brackets.
+/// Returns whether a host is in brackets, so that its normal form is an address or all in lower
+/// case.
 pub(crate) fn is_bracketed(host: &str) -> bool
     ensures { result ≡ starts left_bracket host.now }
 {

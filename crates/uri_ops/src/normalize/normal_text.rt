@@ -37,7 +37,7 @@ use uri_parts::positions::{AuthorityPositions, Positions};
 use uri_pct::encoder::{Encoder, PathEncoder};
 use uri_pct::pct_enc::EStr;
 
-/// Appends the scheme in lower case, and its `:`, and returns where it ends.
+/// Appends the scheme of a normal text, in lower case, and its `:`, and returns where it ends.
 fn push_scheme(scheme: Option<Scheme<'_>>, out: &mut String) -> Result<Option<usize>, AllocError>
     ensures text { OnOk result (Pushes out.old out.new
         (marked [] (normal_scheme (option_map scheme_text scheme.entry)) (codes ":"))) }
@@ -84,7 +84,8 @@ fn push_authority_with_delimiter<U: Encoder, R: Encoder, P: DefaultPort>(
     Ok(Some(places))
 }
 
-/// Appends a query or a fragment, decoded, after its mark, and returns where it ends.
+/// Appends a query or a fragment of a normal text, decoded, after its mark, and returns where it
+/// ends.
 fn push_with_delimiter<E: Encoder>(
     mark: char,
     part: Option<EStr<'_, E>>,
@@ -105,8 +106,8 @@ fn push_with_delimiter<E: Encoder>(
     Ok(Some(out.len()))
 }
 
-/// Returns what comes before a path under a scheme: `/.` if the path would otherwise be parsed as
-/// an authority, and else nothing.
+/// Returns what a normal text has before a path under a scheme: `/.` if the path would otherwise be
+/// parsed as an authority, and else nothing.
 fn guard_before(follows_authority: bool, path: &str) -> &'static str
     ensures { (authority : Option (List ℕ)) → is_some authority ≡ follows_authority
         → (text : List ℕ) → has_authority text ≡ has_authority path.now
@@ -119,7 +120,8 @@ fn guard_before(follows_authority: bool, path: &str) -> &'static str
     }
 }
 
-/// Appends a path, decoded, after `/.` if it would otherwise be parsed as an authority.
+/// Appends the path of a normal text, decoded, after `/.` if it would otherwise be parsed as an
+/// authority.
 fn push_decoded_guarded<E: Encoder>(
     follows_authority: bool,
     path: &str,
@@ -135,8 +137,8 @@ fn push_decoded_guarded<E: Encoder>(
     push_decoded(&E::table(), path, out)
 }
 
-/// Appends a path, decoded and without its dot segments, after `/.` if it would otherwise be parsed
-/// as an authority. Returns whether a double dot had nothing left to remove.
+/// Appends the path of a normal text, decoded and without its dot segments, after `/.` if it would
+/// otherwise be parsed as an authority. Returns whether a double dot had nothing left to remove.
 fn push_decoded_without_dot_segments<E: Encoder>(
     has_authority: bool,
     path: EStr<'_, E>,
@@ -159,8 +161,8 @@ fn push_decoded_without_dot_segments<E: Encoder>(
     Ok(underflowed)
 }
 
-/// Appends a path that is under a scheme and begins with `/`, decoded and without its dot segments.
-/// Returns whether a double dot had nothing left to remove.
+/// Appends the path of a normal text that is under a scheme and begins with `/`, decoded and
+/// without its dot segments. Returns whether a double dot had nothing left to remove.
 fn push_normal_absolute_path<E: Encoder>(
     has_authority: bool,
     path: EStr<'_, E>,

@@ -38,7 +38,8 @@ const LOWERED_CODES: &[u8; 128] = &[
     112, 113, 114, 115, 116, 117, 118, 119, 120, 121, 122, 128, 128, 128, 126, 128, // 70
 ];
 
-/// Returns the codes of the unreserved characters, with letters lowered if `lowers`.
+/// Returns the codes that single octets of unreserved characters decode to, with letters lowered if
+/// `lowers`.
 #[inline(always)]
 fn codes(lowers: bool) -> &'static [u8; 128]
     ensures { result.now ≡ (if lowers then LOWERED_CODES.now else UNRESERVED_CODES.now) }
@@ -50,8 +51,8 @@ fn codes(lowers: bool) -> &'static [u8; 128]
     }
 }
 
-/// Returns the code of the unreserved character of this value, if there is one, with a letter
-/// lowered if `lowers`.
+/// Returns the code that a single octet of this value decodes to if its character is unreserved,
+/// with a letter lowered if `lowers`.
 #[inline(always)]
 fn unreserved(lowers: bool, value: u8) -> Option<u8>
     requires { value < 128 }
@@ -79,7 +80,8 @@ pub(crate) fn unreserved_of_octet(lowers: bool, high: u8, low: u8) -> Option<u8>
     Some(ch)
 }
 
-/// Returns whether both hexadecimal digits are in upper case.
+/// Returns whether both hexadecimal digits of a single octet are in upper case, as in a normal
+/// form.
 #[inline(always)]
 pub(crate) fn are_uppercase_digits(high: u8, low: u8) -> bool
     ensures { result ≡ (nat_lt high 97 && nat_lt low 97) }

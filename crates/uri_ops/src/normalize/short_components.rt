@@ -12,7 +12,7 @@ use std::alloc::AllocError;
 use uri_pct::octet::octet_value;
 use uri_pct::table::Table;
 
-/// Appends an ASCII character, lowered if `lowers`.
+/// Appends an ASCII character of a short component, lowered if `lowers`.
 #[inline(always)]
 fn push_ascii(lowers: bool, byte: u8, out: &mut String) -> Result<(), AllocError>
     requires { byte < 128 }
@@ -26,8 +26,8 @@ fn push_ascii(lowers: bool, byte: u8, out: &mut String) -> Result<(), AllocError
     out.push(char::from(ch))
 }
 
-/// Appends the tokens of the text with decodable octets decoded, and with letters lowered if
-/// `lowers`, one by one, and returns the position after the last. It stops at the first that is
+/// Appends the tokens of a short component with decodable octets decoded, and with letters lowered
+/// if `lowers`, one by one, and returns the position after the last. It stops at the first that is
 /// past ASCII, but for octets of a URI.
 ///
 /// If a text is short, this takes fewer instructions than to find and copy its runs.

@@ -26,16 +26,16 @@ use uri_pct::encoder::Encoder;
 use uri_pct::lanes::{LANES, lanes_equal_to};
 use uri_pct::search::len_before_slash_dot;
 
-/// Returns whether the byte begins neither an octet nor a formatting character of bidirectional
-/// text.
+/// Returns whether a text with this byte may be unchanged: the byte begins neither an octet nor a
+/// formatting character of bidirectional text.
 fn is_literal_byte(byte: u8) -> bool
     ensures { result ≡ is_literal_byte byte }
 {
     byte != b'%' && byte != 0xE2
 }
 
-/// Returns whether none of the sixteen bytes from `at` on begins an octet or a formatting
-/// character.
+/// Returns whether a text may be unchanged by the sixteen bytes from `at` on: none begins an octet
+/// or a formatting character.
 #[inline(always)]
 fn is_literal_block(bytes: &[u8], at: usize) -> bool
     requires { at + LANES ≤ length bytes.now }
@@ -46,8 +46,8 @@ fn is_literal_block(bytes: &[u8], at: usize) -> bool
     found == 0
 }
 
-/// Returns whether no byte begins an octet or a formatting character. The last sixteen bytes
-/// overlap those before.
+/// Returns whether a text may be unchanged: no byte begins an octet or a formatting character. The
+/// last sixteen bytes overlap those before.
 fn is_literal(bytes: &[u8]) -> bool
     ensures { result ≡ true → IsLiteral bytes.now }
 {
@@ -65,7 +65,7 @@ fn is_literal(bytes: &[u8]) -> bool
     is_literal_block(bytes, last)
 }
 
-/// Returns whether no ASCII letter is in upper case.
+/// Returns whether a scheme or a host may be unchanged: no ASCII letter is in upper case.
 fn is_lower(text: &str) -> bool
     ensures { result ≡ true → str_to_ascii_lowercase text.now ≡ text.now }
 {
@@ -128,7 +128,7 @@ pub(crate) fn is_unchanged<K: Kind>(core: Core<K, &str>) -> bool
     is_path_unchanged(core.has_scheme(), path)
 }
 
-/// Returns a copy of the text with its positions.
+/// Returns a copy of a text that is its own normal text, with its positions.
 pub(crate) fn copy_unchanged<K: Kind>(
     alloc: Global,
     core: Core<K, &str>,

@@ -21,8 +21,8 @@ use crate::path::segment_mode::SegmentMode;
 use std::alloc::AllocError;
 use uri_pct::lanes::{LANES, lanes_equal_to};
 
-/// Returns the end of the last block of sixteen bytes that has a `/`, or of the bytes that are left
-/// at `start`. Blocks are counted from the end of the text back to `start`.
+/// Returns the end of the last block of sixteen bytes of a path that has a `/`, or of the bytes
+/// that are left at `start`. Blocks are counted from the end of the text back to `start`.
 fn end_of_last_block_with_slash(bytes: &[u8], start: usize) -> usize
     requires { start ≤ length bytes.now }
     ensures from { start ≤ result }
@@ -39,8 +39,8 @@ fn end_of_last_block_with_slash(bytes: &[u8], start: usize) -> usize
     left
 }
 
-/// Returns the position of the last `/` that is not before `start`, or `start` if there is none.
-/// The text has none from `limit` on.
+/// Returns the position of a path's last `/` that is not before `start`, or `start` if there is
+/// none. The text has none from `limit` on.
 #[inline(always)]
 fn last_slash_before(bytes: &[u8], start: usize, limit: usize) -> usize
     requires from { start ≤ limit }
@@ -61,8 +61,8 @@ fn last_slash_before(bytes: &[u8], start: usize, limit: usize) -> usize
     start
 }
 
-/// Returns the position of the last `/` that is not before `start`, or `start` if there is none. It
-/// searches sixteen bytes at a time.
+/// Returns the position of a path's last `/` that is not before `start`, or `start` if there is
+/// none. It searches sixteen bytes at a time.
 pub(crate) fn last_slash(bytes: &[u8], start: usize) -> usize
     requires { start ≤ length bytes.now }
     ensures prefix { take result bytes.now
@@ -73,8 +73,8 @@ pub(crate) fn last_slash(bytes: &[u8], start: usize) -> usize
     last_slash_before(bytes, start, end_of_last_block_with_slash(bytes, start))
 }
 
-/// Returns the position of the last `/` that is not before `start`, or `start` if there is none. It
-/// searches byte by byte, since most segments are short.
+/// Returns the position of a path's last `/` that is not before `start`, or `start` if there is
+/// none. It searches byte by byte, since most segments are short.
 fn last_slash_bytewise(bytes: &[u8], start: usize) -> usize
     requires { start ≤ length bytes.now }
     ensures prefix { take result bytes.now

@@ -15,7 +15,7 @@ ghost use Rattle.uri_ops.specs.Dots.{is_double_dot};
 use uri_pct::lanes::LANES;
 use uri_pct::search::len_before_slash_dot;
 
-/// Returns how many bytes the dot takes that a text begins with, which may be percent-encoded;
+/// Returns how many bytes the dot takes that a segment begins with, which may be percent-encoded;
 /// without a dot none.
 #[inline(always)]
 fn dot_len(text: &[u8]) -> usize
@@ -29,14 +29,15 @@ fn dot_len(text: &[u8]) -> usize
     }
 }
 
-/// Returns whether a segment ends before the text: it is empty or begins with `/`.
+/// Returns whether the leading segment of a path ends before this text: it is empty or begins with
+/// `/`.
 fn ends_segment(text: &[u8]) -> bool
     ensures { result ≡ ends_segment text.now }
 {
     matches!(text, [] | [b'/', ..])
 }
 
-/// Returns whether a segment is `..`, where each dot may be percent-encoded.
+/// Returns whether a segment of a base's path is `..`, where each dot may be percent-encoded.
 pub(crate) fn is_double_dot(segment: &str) -> bool
     ensures { result ≡ is_double_dot segment.now }
 {
@@ -64,7 +65,7 @@ fn is_dot_start(byte: u8) -> bool
     byte == b'.' || byte == b'%'
 }
 
-/// Returns the length up to and with the first `/` that has a dot or an octet after it.
+/// Returns the length of a path up to and with the first `/` that has a dot or an octet after it.
 ///
 /// The last window ends with the text and overlaps those before, which have no such `/`.
 fn long_dotless_prefix_len(bytes: &[u8]) -> usize
@@ -84,8 +85,8 @@ fn long_dotless_prefix_len(bytes: &[u8]) -> usize
     last + dotless + 1
 }
 
-/// Returns the length up to and with the first `/` that has a dot or an octet after it, of a text
-/// that may be short.
+/// Returns the length of a path, which may be short, up to and with the first `/` that has a dot or
+/// an octet after it.
 fn short_dotless_prefix_len(bytes: &[u8]) -> usize
     requires { 0 < length bytes.now }
     ensures { IsPrefixToSlashDot bytes.now result }
@@ -158,7 +159,7 @@ fn leading_segment(path: &str) -> LeadingDots
     LeadingDots::DoubleDot(next)
 }
 
-/// Returns whether the first segment is `.`.
+/// Returns whether the leading segment of a path is `.`.
 fn begins_with_single_dot_segment(path: &[u8]) -> bool
     ensures { result ≡ (slice_index path.now 0 == full_stop
         && (length path.now == 1 || slice_index path.now 1 == slash)) }
@@ -166,7 +167,7 @@ fn begins_with_single_dot_segment(path: &[u8]) -> bool
     matches!(path, [b'.'] | [b'.', b'/', ..])
 }
 
-/// Returns whether the first segment is `..`.
+/// Returns whether the leading segment of a path is `..`.
 fn begins_with_double_dot_segment(path: &[u8]) -> bool
     ensures { result ≡ (slice_index path.now 0 == full_stop && slice_index path.now 1 == full_stop
         && (length path.now == 2 || slice_index path.now 2 == slash)) }

@@ -12,7 +12,7 @@ use crate::normalize::decode_unreserved::push_decoded;
 use std::alloc::AllocError;
 use uri_pct::table::Table;
 
-/// Returns whether a text is `/` alone.
+/// Returns whether a piece of a path that is to be decoded is `/` alone.
 fn is_slash(text: &[u8]) -> bool
     ensures { result ≡ (length text.now == 1 && slice_index text.now 0 == slash) }
 {

@@ -10,7 +10,8 @@ use crate::path::leading_segment::{begins_with_dot, dotless_prefix_len, is_doubl
 use crate::path::slashes::begins_with_slash;
 use crate::resolve::text_view::TextView;
 
-/// Returns whether no segment of a path begins with a dot or an octet, as each dot segment does.
+/// Returns whether no segment of a base's or a reference's path begins with a dot or an octet, as
+/// each dot segment does.
 fn is_dotless(path: &str) -> bool
     requires { 0 < length path.now }
     ensures { result ≡ true → lacks_dot_segments path.now ≡ true }

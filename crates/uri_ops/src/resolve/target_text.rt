@@ -28,7 +28,8 @@ pub(crate) struct Target {
     pub(crate) positions: Positions,
 }
 
-/// Returns whether a text is empty or begins with `#`.
+/// Returns whether a reference's text is empty or begins with `#`, as one that an opaque base
+/// takes.
 fn is_empty_or_fragment(text: &[u8]) -> bool
     ensures { result ≡ (is_empty text.now || starts number_sign text.now) }
 {
@@ -97,8 +98,8 @@ fn push_scheme_and_authority(
     out.push_str(base.before_path())
 }
 
-/// Appends a path without its dot segments, if it begins with `/`, and returns whether their
-/// removal underflows.
+/// Appends a target's path, without its dot segments if it begins with `/`, and returns whether
+/// their removal underflows.
 fn push_without_dots_if_absolute(path: &str, out: &mut String) -> Result<bool, AllocError>
     ensures text { OnOk result (Pushes out.old out.new (dotless_if_absolute path.now)) }
     ensures underflow { IfOk result (λ underflowed. underflowed ≡ underflows_if_absolute path.now) }
@@ -164,7 +165,8 @@ fn push_guarded_target_path(
     Ok(underflowed)
 }
 
-/// Appends the query of a text with its `?`, if it has one, and returns where it ends.
+/// Appends the query of a base or a reference with its `?` to a target, if it has one, and returns
+/// where it ends.
 fn push_query_with_delimiter(
     source: &TextView<'_>,
     out: &mut String,
@@ -182,7 +184,7 @@ fn push_query_with_delimiter(
     Ok(None)
 }
 
-/// Appends the fragment of a text with its `#`, if it is present.
+/// Appends the fragment of a reference with its `#` to a target, if it is present.
 fn push_fragment_with_delimiter(source: &TextView<'_>, out: &mut String) -> Result<(), AllocError>
     ensures { OnOk result (Pushes out.old out.new
         (marked (codes "#") (components_of source.now).fragment [])) }
@@ -193,8 +195,8 @@ fn push_fragment_with_delimiter(source: &TextView<'_>, out: &mut String) -> Resu
     Ok(())
 }
 
-/// Appends the query and the fragment of a text with their marks, and returns where the query ends,
-/// if there is one.
+/// Appends the query and the fragment of a reference with their marks to a target, and returns
+/// where the query ends, if there is one.
 fn push_query_and_fragment(
     source: &TextView<'_>,
     out: &mut String,

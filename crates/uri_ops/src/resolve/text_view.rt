@@ -27,7 +27,7 @@ impl<'a> TextView<'a> {
     ghost use Rattle.uri_ops.specs.Models.Places.{IsSlashOrStart, before_path};
     ghost use Rattle.uri_ops.specs.Resolving.{components_of};
 
-    /// The text of a value of a kind.
+    /// Returns the text of a value of a kind, viewed with its positions.
     pub(crate) fn of<R: RiMaybeRef>(value: &'a R) -> TextView<'a>
         ensures components { components_of result ≡ components (R.text value.now) }
         ensures of_kind { IsOfKind R.kind (R.text value.now) }
@@ -193,7 +193,8 @@ impl<'a> TextView<'a> {
     }
 }
 
-/// Returns where an authority is that ends a text, when that is after a scheme with its `:`.
+/// Returns where the authority is that ends this text, once it is in a target after this scheme
+/// with its `:`.
 fn shift_authority(places: AuthorityPositions, text: &str, scheme: &str) -> AuthorityPositions
     requires start { places.start ≤ places.end }
     requires host_start { places.host_start ≤ places.end }
