@@ -25,7 +25,8 @@ use Rattle.uri_streams.specs.declared.job.Job.{Job}
 use Rattle.uri_streams.specs.declared.run.Tally.{Tally}
 use Rattle.uri_streams.specs.declared.task.Task.{Task}
 
--- writers: a prefix of a text is one of a longer text; a, b: what is held before and after
+-- writers of `urilines`: a prefix of a text is one of a longer text; a, b: what is held before and
+-- after
 pub AppendsPrefix-of-longer : (a b : Option (List ℕ)) (text more : List ℕ) → AppendsPrefix a b text
     → AppendsPrefix a b (text ++ more)
 AppendsPrefix-of-longer a b text more (n, p) = at (nat_lt (length text) n) refl
@@ -39,8 +40,8 @@ AppendsPrefix-of-longer a b text more (n, p) = at (nat_lt (length text) n) refl
         let within : n ≤ length text = ltb-false (length text) n is in
         (n, subst (Appends a b) (sym (take-append-le n text more within)) p)
 
--- writers: a prefix of a text that comes after one that was
--- written is a prefix of both; a, b, c: what is held
+-- writers of `urilines`: a prefix of a text that comes after one that was written is a prefix of
+-- both; a, b, c: what is held
 pub AppendsPrefix-after-Appends : (a b c : Option (List ℕ)) (text more : List ℕ) → Appends a b text
     → AppendsPrefix b c more → AppendsPrefix a c (text ++ more)
 AppendsPrefix-after-Appends a b c text more whole (n, p) = (
@@ -49,20 +50,22 @@ AppendsPrefix-after-Appends a b c text more whole (n, p) = (
       (Appends-trans a b c text (take n more) whole p),
 )
 
--- writers: what is appended whole is a prefix of itself; a, b: what is held before and after
+-- writers of `urilines`: what is appended whole is a prefix of itself; a, b: what is held before
+-- and after
 AppendsPrefix-of-whole : (a b : Option (List ℕ)) (text : List ℕ) → Appends a b text
     → AppendsPrefix a b text
 AppendsPrefix-of-whole a b text p = AppendsPrefix-of-appended a b text [] text p
     (sym (append-nil text))
 
--- writers: where nothing is written, the empty prefix is; a, b: what is held before and after
+-- writers of `urilines`: where nothing is written, the empty prefix is; a, b: what is held before
+-- and after
 pub AppendsPrefix-of-kept : (a b : Option (List ℕ)) (text : List ℕ) → Keeps a b
     → AppendsPrefix a b text
 AppendsPrefix-of-kept a b text kept = AppendsPrefix-of-appended-then-kept a a b [] text text
     (Appends-nil a) kept refl
 
--- writers: a write after a failure that kept what was held leaves
--- a prefix appended; a, b, c: what is held
+-- writers of `urilines`: a write after a failure that kept what was held leaves a prefix appended;
+-- a, b, c: what is held
 pub AppendsPrefix-after-Keeps : (a b c : Option (List ℕ)) (text : List ℕ) → Keeps a b
     → AppendsPrefix b c text
     → AppendsPrefix a c text
@@ -72,7 +75,7 @@ AppendsPrefix-after-Keeps (Some xs) (Some ys) None text k p = absurd p.1
 AppendsPrefix-after-Keeps (Some xs) (Some ys) (Some zs) text k p =
     (p.0, p.1 ∙ ap (λ l. l ++ take p.0 text) k)
 
--- writers: what is appended after nothing was is appended; a, b, c: what is held
+-- writers of `urilines`: what is appended after nothing was is appended; a, b, c: what is held
 pub Appends-after-Keeps : (a b c : Option (List ℕ)) (bs : List ℕ) → Keeps a b → Appends b c bs
     → Appends a c bs
 Appends-after-Keeps None b c bs k p = tt

@@ -18,12 +18,13 @@ use Rattle.uri_streams.specs.Fields.{fields_before_delimiters}
 use Rattle.uri_streams.specs.Fields.{field_cut, fields_of, cut_at_field, cut_without_other_fields}
 use Rattle.uri_streams.specs.Fields.{no_field_message}
 
--- general fact on booleans, for fields of lines
+-- general fact on booleans, for fields of `urilines`: what is not true is false
 is_false : (b : Bool) → (b ≡ true → ⊥) → b ≡ false
 is_false true h = absurd (h refl)
 is_false false h = refl
 
--- general fact on lists, for fields: what is left after k elements begins with this one
+-- general fact on lists, for fields of `urilines`: what is left after k elements begins with this
+-- one
 head_at : {X : Type 0} (k n : ℕ) (fs : List X) (x : X) (ys : List X) → n ≡ suc k
     → drop k fs ≡ x ∷ ys
     → (take n fs ≡ take k fs ++ x ∷ []) × (drop n fs ≡ ys) × (slice_get fs k ≡ Some x)

@@ -8,7 +8,7 @@ use Rattle.uri_streams.specs.Results.{Error}
 use Rattle.uri_streams.specs.Tasks.{Known, bytes_result, text_result}
 use Rattle.uri_streams.specs.declared.command.Command.{Command}
 
--- general fact on booleans, for results of lines
+-- general fact on booleans, for results of lines: what is not true is false
 is_false : (b : Bool) → (b ≡ true → ⊥) → b ≡ false
 is_false true h = absurd (h refl)
 is_false false h = refl

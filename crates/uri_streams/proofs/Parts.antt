@@ -85,13 +85,14 @@ Consumes-buffered false buffer (Some xs) new n within drops = at new (drops with
         ∙ ap (λ l. l ++ drop n (buffer ++ xs)) (take-append-le n buffer xs within)
         ∙ ap (λ l. take n buffer ++ l) (sym same)
 
--- general fact on results: what follows from what holds after a success holds then
+-- general fact on results, for lines read in parts: what follows from what holds after a success
+-- holds then
 pub on-ok : {T E : Type 0} (result : Result T E) (P Q : Type 0) → (P → Q) → OnOk result P
     → OnOk result Q
 on-ok (Ok value) P Q more p = more p
 on-ok (Err error) P Q more p = tt
 
--- general fact on results: what holds always holds after an error
+-- general fact on results, for lines read in parts: what holds always holds after an error
 pub OnErr-of-any : {T E : Type 0} (result : Result T E) (P : Type 0) → P → OnErr result P
 OnErr-of-any (Ok value) P p = tt
 OnErr-of-any (Err error) P p = p

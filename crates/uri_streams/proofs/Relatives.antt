@@ -21,7 +21,7 @@ relativize_result_if base text kind of_kind =
     if of_kind then Text (reference_to false base text)
     else Error (codes "target: " ++ parse_message kind text)
 
--- lines: what `relativize` writes of a target is the result that is defined for it
+-- lines: what `urilines relativize` writes of a target is the result that is defined for it
 pub relativize_result-of-target : {E : Type 0} (base : Base) (base_is : List ℕ) (kind : Kind)
     (text target : List ℕ) (result : Result Returned E) → base_text base ≡ base_is
     → target_kind base ≡ kind → IsOfKind kind text → target ≡ text
@@ -39,7 +39,8 @@ relativize_result-of-target base base_is kind text target (Err failure) same_bas
     same_text is =
     tt
 
--- lines: what `relativize` writes of a text that is no target is the error that is defined for it
+-- lines: what `urilines relativize` writes of a text that is no target is the error that is defined
+-- for it
 pub relativize_result-of-error : (base : Base) (kind : Kind) (text : List ℕ) (e : ParseError)
     → target_kind base ≡ kind → ¬ (IsOfKind kind text) → refusal kind text ≡ Some e
     → Error (codes "target: " ++ error_text e)

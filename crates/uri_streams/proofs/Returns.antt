@@ -12,7 +12,7 @@ use Rattle.std.proofs.lemmas.List.Elements.{All-get_or}
 use Rattle.uri_streams.specs.Lines.{end_byte, ends_with_return, has_return, return_after}
 use Rattle.uri_streams.specs.Outputs.{line_ending}
 
--- general fact on booleans, for ends of lines
+-- general fact on booleans, for ends of lines: what is not true is false
 is_false : (b : Bool) → (b ≡ true → ⊥) → b ≡ false
 is_false true h = absurd (h refl)
 is_false false h = refl

@@ -48,7 +48,7 @@ ReadsFirstLine-of-read left left_new end end_is limit line line_is read is_retur
     (subst (λ b. ReadsFirstLine left left_new end limit b is_return) l
     (subst (λ o. IfSome o (ReadsFirstLine left left_new end limit line)) r taken))
 
--- the first line of known bytes is taken, and its bytes are cut as these are
+-- lines: the first line of known bytes is taken, and its bytes are cut as these are
 abbrev pub HasLine : Job → Option (List ℕ) → Option (List ℕ) → List ℕ → Bool → Type 0
 HasLine job left left_new line is_return = IfSome left (λ xs. (0 < length xs)
     × (line_cut job line ≡ line_cut job (take_through (end_byte job.is_null) xs))

@@ -31,7 +31,7 @@ pub IsResult-that-remembers-the-same : (command : Command) (next : LineResult ×
 IsResult-that-remembers-the-same command next known returned task e remembers =
     subst (λ n. IsResult command n returned task) e (refl, remembers)
 
--- the results of a text under each command
+-- lines: a call returned the result of a text under the command of a task, if it returned one
 abbrev pub GivesText : {E : Type 0} → Task → Task → List ℕ → Result Returned E → Type 0
 GivesText task task_new text result = (command : Command) (known : Known)
     → Remembers task command known
@@ -70,7 +70,7 @@ GivesText-of-unique own own_new task task_new text (Ok line_result) e e_new is k
     (Links base) known remembers =
     absurd (subst (λ t. Remembers t (Links base) known) e remembers)
 
--- lines: what `unique` writes is decided by the normal form, or the error
+-- lines: what `urilines unique` writes is decided by the normal form, or the error
 pub unique_result-of-normalize_result : (kind : Kind) (known : Known) (text : List ℕ)
     (line_result : LineResult)
     → line_result ≡ normalize_result kind text → text_if_new known line_result
@@ -78,7 +78,8 @@ pub unique_result-of-normalize_result : (kind : Kind) (known : Known) (text : Li
 unfolding unique_result
 unique_result-of-normalize_result kind known text line_result is = ap (text_if_new known) is
 
--- lines: what `links` writes of a reference is the outcome that the register of links defines
+-- lines: what `urilines links` writes of a reference is the outcome that the register of links
+-- defines
 pub link_result-of-outcome : {E : Type 0} (base : List ℕ) (known known_new : Known)
     (text reference : List ℕ)
     (ports : PortFunction) (result : Result Returned E) → ports ≡ default_port
@@ -95,7 +96,8 @@ link_result-of-outcome base known known_new text reference ports
     ∙ sym (ap (λ b. if b then noted_result (outcome_of default_port base known text)
     else (Error (codes "reference: " ++ parse_message uri_ref text), known)) of_kind)
 
--- lines: what `links` writes of a text that is no reference is the error that is defined for it
+-- lines: what `urilines links` writes of a text that is no reference is the error that is defined
+-- for it
 pub link_result-of-error : (base : List ℕ) (known : Known) (text : List ℕ) (e : ParseError)
     → ¬ (IsOfKind uri_ref text) → refusal uri_ref text ≡ Some e
     → (Error (codes "reference: " ++ error_text e), known) ≡ link_result base known text

@@ -32,7 +32,7 @@ normal_form_is : (kind : Kind) (text normal : List ℕ)
 unfolding normal_form_of
 normal_form_is kind text normal is = is.text.text
 
--- lines: what `normalize` writes of a text of the kind is its normal form
+-- lines: what `urilines normalize` writes of a text of the kind is its normal form
 pub normalize_result-of-kind : (kind : Kind) (text normal : List ℕ) → IsOfKind kind text
     → IsNormalForm kind default_port text normal → Text normal ≡ normalize_result kind text
 unfolding normalize_result
@@ -48,12 +48,12 @@ pub error_text-is-parse_message : (kind : Kind) (text : List ℕ) (e : ParseErro
 error_text-is-parse_message kind text e is = sym
     (ap (λ o. unwrap_or (option_map error_text o) []) is)
 
--- general fact on booleans, for tests of a text
+-- general fact on booleans, for results of lines: what is not true is false
 pub not-true-is-false : (b : Bool) → (b ≡ true → ⊥) → b ≡ false
 not-true-is-false true h = absurd (h refl)
 not-true-is-false false h = refl
 
--- lines: what `normalize` writes of a text that is not of the kind is its error
+-- lines: what `urilines normalize` writes of a text that is not of the kind is its error
 pub normalize_result-of-error : (kind : Kind) (text : List ℕ) (e : ParseError)
     → ¬ (IsOfKind kind text)
     → refusal kind text ≡ Some e → Error (error_text e) ≡ normalize_result kind text
@@ -63,7 +63,7 @@ normalize_result-of-error kind text e not_of_kind is =
     ∙ sym (ap (λ b. if b then Text (normal_form_of kind text) else Error (parse_message kind text))
     (not-true-is-false (is_of_kind kind text) not_of_kind))
 
--- lines: what `parse` writes of a text is its components as JSON
+-- lines: what `urilines parse` writes of a text is its components as JSON
 pub parse_result-of-kind : (kind : Kind) (text line : List ℕ) → IsOfKind kind text → line
     ≡ json_of (components
     text)
@@ -74,7 +74,7 @@ parse_result-of-kind kind text line of_kind is =
     ∙ sym (ap (λ b. if b then Text (json_of (components text)) else Error (parse_message kind text))
     of_kind)
 
--- lines: what `parse` writes of a text that is not of the kind is its error
+-- lines: what `urilines parse` writes of a text that is not of the kind is its error
 pub parse_result-of-error : (kind : Kind) (text : List ℕ) (e : ParseError) → ¬ (IsOfKind kind text)
     → refusal kind text ≡ Some e → Error (error_text e) ≡ parse_result kind text
 unfolding parse_result
@@ -83,7 +83,7 @@ parse_result-of-error kind text e not_of_kind is =
     ∙ sym (ap (λ b. if b then Text (json_of (components text)) else Error (parse_message kind text))
     (not-true-is-false (is_of_kind kind text) not_of_kind))
 
--- lines: what `query` writes of a text is the pairs of its query as JSON
+-- lines: what `urilines query` writes of a text is the pairs of its query as JSON
 pub query_result-of-kind : (kind : Kind) (text line : List ℕ) → IsOfKind kind text
     → line ≡ query_json (components text).query → Text line ≡ query_result kind text
 unfolding query_result
@@ -92,7 +92,7 @@ query_result-of-kind kind text line of_kind is =
     ∙ sym (ap (λ b. if b then Text (query_json (components text).query)
     else Error (parse_message kind text)) of_kind)
 
--- lines: what `query` writes of a text that is not of the kind is its error
+-- lines: what `urilines query` writes of a text that is not of the kind is its error
 pub query_result-of-error : (kind : Kind) (text : List ℕ) (e : ParseError) → ¬ (IsOfKind kind text)
     → refusal kind text ≡ Some e → Error (error_text e) ≡ query_result kind text
 unfolding query_result
@@ -101,7 +101,7 @@ query_result-of-error kind text e not_of_kind is =
     ∙ sym (ap (λ b. if b then Text (query_json (components text).query)
     else Error (parse_message kind text)) (not-true-is-false (is_of_kind kind text) not_of_kind))
 
--- lines: what `resolve` writes of a reference is the result for base and reference
+-- lines: what `urilines resolve` writes of a reference is the result for base and reference
 resolve_result-of-reference : (kind : Kind) (base text : List ℕ) (line_result : LineResult)
     → IsOfKind kind text
     → line_result ≡ target_result base text → line_result ≡ resolve_result kind base text
@@ -110,7 +110,8 @@ resolve_result-of-reference kind base text line_result of_kind is =
     is ∙ sym (ap (λ b. if b then target_result base text
     else Error (codes "reference: " ++ parse_message kind text)) of_kind)
 
--- lines: what `resolve` writes of a text that is no reference is the error that is defined for it
+-- lines: what `urilines resolve` writes of a text that is no reference is the error that is defined
+-- for it
 resolve_result-of-error : (kind : Kind) (base text : List ℕ) (e : ParseError)
     → ¬ (IsOfKind kind text)
     → refusal kind text ≡ Some e
@@ -123,14 +124,15 @@ resolve_result-of-error kind base text e not_of_kind is =
     (not-true-is-false (is_of_kind kind text)
     not_of_kind))
 
--- lines: what `resolve` writes of a target is its text
+-- lines: what `urilines resolve` writes of a target is its text
 pub target_result-of-target : (base reference target : List ℕ) → resolution_of_texts base reference
     ≡ Ok target
     → Text target ≡ target_result base reference
 unfolding target_result
 target_result-of-target base reference target is = ap resolution_result (sym is)
 
--- lines: what `resolve` writes of an error is the one that is defined for base and reference
+-- lines: what `urilines resolve` writes of an error is the one that is defined for base and
+-- reference
 target_result-of-error : (base reference : List ℕ) (e : ResolveError)
     → IsErrorWithUnderflowAllowed (components base) (components reference) e
     → e ≢ errors.OutOfMemory
@@ -155,8 +157,8 @@ target_result-of-returned-error base reference e (Ok line_result) is error some 
     ap result_in error ∙ target_result-of-error base reference e is some
 target_result-of-returned-error base reference e (Err failure) is error some = tt
 
--- lines: what `resolve` writes of a reference is the result that is defined for it,
--- for a base that is a URI or an IRI
+-- lines: what `urilines resolve` writes of a reference is the result that is defined for it, for a
+-- base that is a URI or an IRI
 pub resolve_result-of-either-base : {E : Type 0} (base : Base) (base_is : List ℕ) (kind : Kind)
     (text reference : List ℕ) (result : Result Returned E) → base_text base ≡ base_is
     → reference_kind base ≡ kind
@@ -175,7 +177,8 @@ resolve_result-of-either-base base base_is kind text reference (Err failure) sam
     same_kind of_kind
     same_text is = tt
 
--- lines: what `resolve` writes of a text that is no reference is the error that is defined for it
+-- lines: what `urilines resolve` writes of a text that is no reference is the error that is defined
+-- for it
 pub resolve_result-of-either-base-error : (base : Base) (kind : Kind) (text : List ℕ)
     (e : ParseError)
     → reference_kind base ≡ kind → ¬ (IsOfKind kind text) → refusal kind text ≡ Some e

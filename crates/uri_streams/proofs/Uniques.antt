@@ -27,14 +27,14 @@ bytes_eq-sym xs ys =
     same_from_decides {P = xs ≡ ys} _ _ (bytes_eq-Decides xs ys)
     (Decides-like _ (λ e. sym e) (λ e. sym e) (bytes_eq-Decides ys xs))
 
--- general fact on booleans, for `unique`
+-- general fact on booleans, for `unique`: a test or another is one that is tried if the other fails
 or-as-cond : (a b : Bool) → cond a true b ≡ (b || a)
 or-as-cond true true = refl
 or-as-cond true false = refl
 or-as-cond false true = refl
 or-as-cond false false = refl
 
--- general fact on booleans, for `unique`
+-- general fact on booleans, for `unique`: a test or false is the test
 or-false : (a : Bool) → (a || false) ≡ a
 or-false true = refl
 or-false false = refl
@@ -48,7 +48,7 @@ has_met-more known text other =
     ∙ ap (λ b. has_met known other || b) (bytes_eq-sym other text)
     ∙ sym (or-as-cond (bytes_eq text other) (has_met known other))
 
--- a new text
+-- lines: what `unique` writes of a text that it has not met is the text, and it has met it then
 pub text_if_new-of-new : (met met_new : MetTexts) (known : Known) (normal : List ℕ)
     → HasMet met known
     → ((other : List ℕ) → bag.contains_text met_new.texts other

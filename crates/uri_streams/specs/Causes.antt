@@ -25,22 +25,22 @@ abbrev pub writing_failed : {T : Type 0} → Result T Failure → Bool
 writing_failed (Ok value) = false
 writing_failed (Err failure) = is_output failure
 
--- whether the reader failed
+-- whether the cause of a run's early end is that its reader failed
 abbrev pub is_input_cause : Cause → Bool
 is_input_cause causes.Input = true
 is_input_cause cause = false
 
--- whether the writer failed
+-- whether the cause of a run's early end is that its writer failed
 abbrev pub is_output_cause : Cause → Bool
 is_output_cause causes.Output = true
 is_output_cause cause = false
 
--- whether a call returned that the reader failed, which then keeps its error
+-- whether a call of a run returned that its reader failed, which then keeps its error
 abbrev pub caused_by_input : {T : Type 0} → Result T Cause → Bool
 caused_by_input (Ok value) = false
 caused_by_input (Err cause) = is_input_cause cause
 
--- whether a call returned that the writer failed, which then keeps its error
+-- whether a call of a run returned that its writer failed, which then keeps its error
 abbrev pub caused_by_output : {T : Type 0} → Result T Cause → Bool
 caused_by_output (Ok value) = false
 caused_by_output (Err cause) = is_output_cause cause

@@ -18,7 +18,7 @@ lines_of end [] = []
 lines_of end (x ∷ xs) =
     if x == end then (x ∷ []) ∷ lines_of end xs else prepend_to_first_line x (lines_of end xs)
 
--- whether the byte, the first argument, ends the line and has a `\r` before it
+-- whether the byte, the first argument, ends the line of an input and has a `\r` before it
 abbrev pub ends_with_return : ℕ → List ℕ → Bool
 ends_with_return end line = ends_with_byte end line && ends_with_byte 13 (strip_last end line)
 
@@ -29,12 +29,13 @@ return_after end was part =
     let bytes = strip_last end part in
     if nat_lt 0 (length bytes) then ends_with_byte 13 bytes else was
 
--- whether a newline ends the line and has a `\r` before it; the Bool is whether NUL ends lines
--- instead
+-- whether a newline ends the line of an input and has a `\r` before it; the Bool is whether NUL
+-- ends lines instead
 abbrev pub has_return : Bool → List ℕ → Bool
 has_return is_null line = not is_null && ends_with_return 10 line
 
--- the text of a line, without what ends it; the Bool is whether NUL ends lines, and else a newline
+-- the text of a line of an input, without what ends it; the Bool is whether NUL ends lines, and
+-- else a newline
 abbrev pub line_text : Bool → List ℕ → List ℕ
 line_text is_null line =
     let text = strip_last (end_byte is_null) line in

@@ -29,12 +29,12 @@ line_ending is_null is_return = if is_return then codes "\r\n" else end_byte is_
 abbrev pub line_end : Job → List ℕ → List ℕ
 line_end job line = line_ending job.is_null (has_return job.is_null line)
 
--- whether the result of a line is an error
+-- whether the result of a line of an input is an error
 abbrev pub is_error : LineResult → Bool
 is_error (Error message) = true
 is_error other = false
 
--- whether an error ends the run, as `--errors stop` asks
+-- whether the error of a line ends the run, as `--errors stop` asks
 abbrev pub is_stop : OnError → Bool
 is_stop errors.Stop = true
 is_stop mode = false

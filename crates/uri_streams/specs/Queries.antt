@@ -5,7 +5,7 @@ use Rattle.std.specs.List.{flat_map}
 use Rattle.std.specs.Str.{chars}
 use Rattle.cookbook.specs.Pairs.{NameAndValue, decode_pairs}
 
--- the code of the hexadecimal digit of a number below 16, in lower case
+-- the code of the hexadecimal digit of a number below 16, in lower case, for an escape in JSON
 abbrev pub hex_digit : ℕ → ℕ
 hex_digit n = if nat_lt n 10 then 48 + n else 87 + n
 

@@ -55,7 +55,7 @@ abbrev pub target_kind : Base → Kind
 target_kind (bases.Uri base) = uri
 target_kind (bases.Iri base) = iri
 
--- the message of the parse error of a text that is not of the kind
+-- the message of the parse error of a line's text that is not of the kind
 abbrev pub parse_message : Kind → List ℕ → List ℕ
 parse_message kind text = unwrap_or (option_map error_text (refusal kind text)) []
 

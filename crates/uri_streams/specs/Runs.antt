@@ -43,7 +43,8 @@ StopsAfterPrefix job left left_new held held_new has_reader_failed = IfSome left
     AppendsPrefix held held_new (output_of job (processed_in job xs))
     × (has_reader_failed ≡ true → WritesWholeLines job xs left_new held held_new))
 
--- a run that fails
+-- a run fails early: what the writer holds grows by a prefix of the output, as for
+-- `StopsAfterPrefix`
 abbrev pub FailsAfterPrefix : Job → Option (List ℕ) → Option (List ℕ) → Option (List ℕ)
     → Option (List ℕ) → Failure → Type 0
 FailsAfterPrefix job left left_new held held_new failure =

@@ -88,11 +88,11 @@ abbrev pub cut_result : Command → Known → Result (List ℕ) (List ℕ) → L
 cut_result command known (Ok bytes) = bytes_result command known bytes
 cut_result command known (Err message) = (Error message, known)
 
--- the set of texts that a task met has exactly the texts that are known
+-- the set of texts that the task of a run met has exactly the texts that are known
 abbrev pub HasMet : MetTexts → Known → Type 0
 HasMet met known = (text : List ℕ) → contains_text met.texts text ≡ has_met known text
 
--- the task is that of the command, and remembers what is known from earlier lines
+-- the task of a run is that of the command, and remembers what is known from earlier lines
 abbrev pub Remembers : Task → Command → Known → Type 0
 Remembers (tasks.Each own) (Each command) known = own ≡ command
 Remembers (tasks.Unique own) (Unique kind hasher) known =

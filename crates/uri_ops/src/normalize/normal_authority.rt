@@ -99,8 +99,7 @@ pub fn push_host<U: Encoder, R: Encoder>(
     }
 }
 
-/// Returns whether a host is in brackets, so that its normal form is an address or all in lower
-/// case.
+/// Returns whether a host is in brackets, so that normalising decodes nothing in it.
 pub(crate) fn is_bracketed(host: &str) -> bool
     ensures { result ≡ starts left_bracket host.now }
 {
