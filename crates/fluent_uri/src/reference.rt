@@ -33,6 +33,7 @@ impl<K: Kind, T: AsStr + Copy> Clone for Reference<K, T> {
 
     ghost is_infallible = { λ _. ⊤ };
 
+    /// Returns the same reference, over the same text.
     fn clone(&self) -> Result<Self, AllocError> {
         Ok(Reference {
             core: self.core.clone()?,

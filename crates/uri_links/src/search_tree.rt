@@ -62,7 +62,7 @@ impl Node {
         if right { self.right } else { self.left }
     }
 
-    /// Returns whether the node is that of `text`: it has the hash, and the target's text is `own`.
+    /// Returns whether `text`, which has this hash, is the text of the node's target, `own`.
     fn has_text(&self, own: &Uri<String>, text: &str, hash: u64) -> bool
         requires own { self.now.hash ≡ hash_of (uri_text own.now) }
         requires hash { hash ≡ hash_of text.now }

@@ -180,8 +180,8 @@ pub fn kinds_match_the_rfc_grammars()
         → (IsOfKind iri_ref text ↔ IsInGrammar iri_ref text) }
 {}
 
-/// An authority has one cut into userinfo, host and port, and a host is of one kind (RFC 3986,
-/// sections 3.2 and 3.2.2; RFC 3987, section 2.2).
+/// By the grammars of the RFCs, an authority has one cut into userinfo, host and port, and a host
+/// is of one kind (RFC 3986, sections 3.2 and 3.2.2; RFC 3987, section 2.2).
 ///
 /// # Examples
 ///

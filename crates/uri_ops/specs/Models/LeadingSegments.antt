@@ -41,8 +41,8 @@ has_slash_dot_at bytes k =
     slice_index bytes k == slash
     && (slice_index bytes (k + 1) == full_stop || slice_index bytes (k + 1) == percent_sign)
 
--- the first n bytes end in the first `/` that has a dot or a `%` after it, as a dot segment would,
--- or are all bytes
+-- the first n bytes of a path end in the first `/` that has a dot or a `%` after it, as a dot
+-- segment would, or are all bytes
 pub record IsPrefixToSlashDot (bytes : List ℕ) (n : ℕ) : Type 0 where
   pub some : 0 < n
   pub within : n ≤ length bytes

@@ -60,7 +60,7 @@ pub fn push_authority<U: Encoder, R: Encoder, P: DefaultPort>(
     })
 }
 
-/// Appends the userinfo, decoded, and its `@`.
+/// Appends the userinfo of a normal authority, decoded, and its `@`.
 fn push_userinfo<U: Encoder, R: Encoder>(
     authority: Authority<'_, U, R>,
     out: &mut String,
@@ -106,7 +106,8 @@ pub(crate) fn is_bracketed(host: &str) -> bool
     matches!(host.as_bytes(), [b'[', ..])
 }
 
-/// Appends the port's `:` and its digits, unless it is empty or the scheme's default.
+/// Appends the port of a normal authority, `:` and digits, unless it is empty or the scheme's
+/// default.
 fn push_port<U: Encoder, R: Encoder, P: DefaultPort>(
     authority: Authority<'_, U, R>,
     scheme: Option<Scheme<'_>>,
@@ -125,8 +126,8 @@ fn push_port<U: Encoder, R: Encoder, P: DefaultPort>(
     out.push_str(digits)
 }
 
-/// Returns the port's digits, unless there are none or they write the default. A port over 65535 is
-/// no default.
+/// Returns the port's digits in a normal authority, unless there are none or they write the
+/// default. A port over 65535 is no default.
 fn port_unless_default<'a, U: Encoder, R: Encoder>(
     authority: Authority<'a, U, R>,
     default: Option<u16>,
@@ -145,8 +146,8 @@ fn port_unless_default<'a, U: Encoder, R: Encoder>(
     }
 }
 
-/// Returns the default port of the scheme. It calls `ports` only if there is a port that isn't
-/// empty.
+/// Returns the default port of the scheme, which a normal authority leaves out. It calls `ports`
+/// only if there is a port that isn't empty.
 fn default_for_port<U: Encoder, R: Encoder, P: DefaultPort>(
     authority: Authority<'_, U, R>,
     scheme: Option<Scheme<'_>>,
@@ -163,7 +164,8 @@ fn default_for_port<U: Encoder, R: Encoder, P: DefaultPort>(
     ports.default_port(scheme?)
 }
 
-/// Returns whether there is a default port, and it is this number.
+/// Returns whether a normal authority leaves out a port of this number: there is a default port,
+/// and it is this number.
 fn is_default_number(default: Option<u16>, number: u16) -> bool
     ensures { result ≡ option_map_or (λ port. number == port) default false }
 {

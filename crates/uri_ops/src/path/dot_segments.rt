@@ -99,8 +99,8 @@ fn pop_segment(start: usize, out: &mut String) -> bool
     end == start
 }
 
-/// Returns whether a path that begins with `/` has a dot segment (RFC 3986, section 3.3). A dot
-/// counts percent-encoded too.
+/// Returns whether a path that begins with `/` has a dot segment to remove (RFC 3986, section 3.3).
+/// A dot counts percent-encoded too.
 pub(crate) fn has_dot_segments(path: &str) -> bool
     requires { IsAbsolute path.now }
     ensures { result ≡ false → lacks_dot_segments path.now ≡ true }
@@ -198,7 +198,7 @@ fn directory_end(path: &str) -> usize
     slash + 1
 }
 
-/// Returns the path, or `/` for an empty one, which has the same directory.
+/// Returns the base's path, or `/` for an empty one, which has the same directory.
 fn path_or_slash(path: &str) -> &str
     requires { IsAbemptyPath path.now }
     ensures absolute { IsAbsolute result.now }
@@ -207,8 +207,8 @@ fn path_or_slash(path: &str) -> &str
     if path.is_empty() { "/" } else { path }
 }
 
-/// Returns `true` only if a path is a directory without dot segments. It looks only at where
-/// segments begin.
+/// Returns `true` only if a prefix of a base's path is a directory without dot segments. It looks
+/// only at where segments begin.
 fn is_dotless_directory(path: &str) -> bool
     requires { IsAbsolute path.now }
     ensures { result ≡ true → IsDotlessDirectory path.now }
@@ -216,7 +216,7 @@ fn is_dotless_directory(path: &str) -> bool
     path.as_bytes()[path.len() - 1] == b'/' && dotless_prefix_len(path) == path.len()
 }
 
-/// Returns the parent of a directory; that of `/` is `/`.
+/// Returns the parent of a directory, which a `..` leads to; that of `/` is `/`.
 fn parent(directory: &str) -> &str
     requires { IsDotlessDirectory directory.now }
     ensures { result.now ≡ parent_directory directory.now }

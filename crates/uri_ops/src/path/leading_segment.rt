@@ -58,7 +58,7 @@ pub(crate) fn begins_with_dot(path: &[u8]) -> bool
     matches!(path, [b'.' | b'%', ..])
 }
 
-/// Returns whether a dot segment begins with this byte.
+/// Returns whether a leading dot segment begins with this byte.
 fn is_dot_start(byte: u8) -> bool
     ensures { result ≡ (byte == full_stop || byte == percent_sign) }
 {
@@ -104,8 +104,8 @@ fn short_dotless_prefix_len(bytes: &[u8]) -> usize
     bytes.len()
 }
 
-/// Returns how many bytes come before the first segment that begins with a dot or an octet, as each
-/// dot segment does. The first segment is no dot segment.
+/// Returns how many bytes of a path come before the first segment that begins with a dot or an
+/// octet, as each dot segment does. The leading segment is no dot segment.
 pub(crate) fn dotless_prefix_len(path: &str) -> usize
     requires some { 0 < length path.now }
     requires first { BeginsWithoutDotSegment path.now }
@@ -116,8 +116,8 @@ pub(crate) fn dotless_prefix_len(path: &str) -> usize
     short_dotless_prefix_len(path.as_bytes())
 }
 
-/// Returns where the second segment begins, or the end of the path: after the `/` that may be at
-/// `end`.
+/// Returns where the segment after the leading one begins, or the end of the path: after the `/`
+/// that may be at `end`.
 #[inline(always)]
 fn next_segment_start(path: &str, end: usize) -> usize
     requires within { end ≤ length path.now }

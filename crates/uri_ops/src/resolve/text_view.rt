@@ -193,8 +193,8 @@ impl<'a> TextView<'a> {
     }
 }
 
-/// Returns where the authority is that ends this text, once it is in a target after this scheme
-/// with its `:`.
+/// Returns where the authority that ends this text is in a target that has the text after this
+/// scheme with its `:`.
 fn shift_authority(places: AuthorityPositions, text: &str, scheme: &str) -> AuthorityPositions
     requires start { places.start ≤ places.end }
     requires host_start { places.host_start ≤ places.end }
