@@ -16,7 +16,7 @@ use Rattle.uri_pct.specs.Tokens.{tokens, bytes_decoded_from, IsValidFor}
 use Rattle.uri_pct.proofs.Unicode.Lossy.{lossy_text_of_utf8_is_itself}
 use Rattle.uri_pct.proofs.Unicode.PartPieces.{parts_have_pieces_of_decoded_bytes}
 
--- general fact on results: a fact of a call that succeeded holds if it returned Ok
+-- general fact on results, for decoding: what holds if a call succeeds holds if it returned Ok
 pub OnOk-from-is_ok : {T E P : Type 0} (r : Result T E) → (is_ok r ≡ true → P) → OnOk r P
 OnOk-from-is_ok (Ok x) f = f refl
 OnOk-from-is_ok (Err e) f = tt

@@ -14,7 +14,7 @@ use Rattle.std.proofs.lemmas.List.{get_or_default, length-map}
 use Rattle.std.proofs.Math.ListN.{get_or-map}
 use Rattle.uri_pct.proofs.LaneScans.LaneRuns.{MarksFailingLanes}
 
--- the bit is set
+-- bits, for scans: the bit of the number is set
 abbrev pub is_set_bit : ℕ → ℕ → Bool
 is_set_bit n k = eqb (bit_at n k) 1
 

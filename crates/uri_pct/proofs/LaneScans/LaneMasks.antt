@@ -43,7 +43,7 @@ bit_of_byte_is_bit_of_number x j k h =
     ∙ ap (λ b. min (bit_at m k) b) (bit_at_ones 8 k h) ∙ omega arith
     ∙ ap (λ y. y % 2) (shr-shr x (8 * j) k)
 
--- tables: the bit of an ASCII character in the two words as one number
+-- sixteen bytes at a time: the bit of an ASCII character in the two words as one number
 has_bit_is_bit_of_joined_masks : (low high c : ℕ) → low < 2 ^ 64 → c < 128
     → has_bit low high c ≡ eqb (bit_at (low + 2 ^ 64 * high) c) 1
 has_bit_is_bit_of_joined_masks low high c fits below =
@@ -146,6 +146,7 @@ pub swizzle_reads_mask_byte : (xs : List ℕ) (b : ℕ) → b < 256
 swizzle_reads_mask_byte xs b h = cond-false _ _ _
     (agree_below_at (λ c. zeroes 16 w8 (c / 8 % 16)) (λ c. false) 256 b refl h)
 
+-- sixteen bytes at a time: the vector that has the bit of a byte by its three lowest bits
 abbrev pub swizzle_bits : List ℕ
 swizzle_bits = 1 ∷ 2 ∷ 4 ∷ 8 ∷ 16 ∷ 32 ∷ 64 ∷ 128 ∷ 0 ∷ 0 ∷ 0 ∷ 0 ∷ 0 ∷ 0 ∷ 0 ∷ 0 ∷ []
 

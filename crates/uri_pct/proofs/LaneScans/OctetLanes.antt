@@ -90,11 +90,12 @@ module _ (bs : List ℕ) (i percents others : ℕ)
             (ap (λ m. is_ascii_hexdigit (get_or bs m 0)) (omega arith) ∙ at_2),
       )
 
--- the lanes of octets, and those that are or_parts these nor passed
+-- sixteen bytes at a time: the lanes of the octets that begin at the lanes of `begun`
 abbrev pub lanes_covered_by_octets : ℕ → ℕ
 lanes_covered_by_octets begun = bit_or (bit_or begun (begun * 2 ^ 1 % 2 ^ 64))
     (begun * 2 ^ 2 % 2 ^ 64)
 
+-- sixteen bytes at a time: the lanes of `misses` that are in no octet
 abbrev pub lanes_left_uncovered : ℕ → ℕ → ℕ
 lanes_left_uncovered misses begun = bit_and misses (bit_not w64 (lanes_covered_by_octets begun))
 
