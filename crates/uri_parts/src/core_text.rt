@@ -52,6 +52,7 @@ impl<K: Kind, T: AsStr + Copy> Clone for Core<K, T> {
 
     ghost is_infallible = { λ _. ⊤ };
 
+    /// Returns the same text with the same positions.
     fn clone(&self) -> Result<Self, AllocError> {
         Ok(Core {
             text: self.text,

@@ -13,7 +13,7 @@ use crate::lanes::{
 use crate::table::Table;
 use crate::utf8::char_at;
 
-/// Returns whether two hexadecimal digits are after the byte at `index`.
+/// Returns whether a scan finds the two hexadecimal digits of a `%XX` after the byte at `index`.
 #[tactic(auto, unfolding(crate::specs::Texts::has_hex_digits_after))]
 fn has_octet_digits(bytes: &[u8], index: usize) -> bool
     requires { index < length bytes.now }
