@@ -262,7 +262,7 @@ stays_of_kind_with_fragment set text made fragment valid w = record {
       (ap (λ s. is_valid_for s fragment) (sym e) ∙ valid) w;
 }
 
--- replacing a fragment leaves the positions of the other components
+-- replacing a fragment: the positions of the other components stay
 pub positions_stay_with_fragment : (text made : List ℕ) (fragment : Option (List ℕ)) (p : Positions)
     → ArePositionsOf text p
     → IsWithFragment text fragment made → ArePositionsOf made p

@@ -26,7 +26,7 @@ pub literal_part_has_utf8_pieces_of_its_text : (text : List ℕ) → pieces_of_p
     ≡ utf8_pieces text
 literal_part_has_utf8_pieces_of_its_text text = append-nil (utf8_pieces text)
 
--- decoding lossily: where text is appended,
+-- decoding, parts taken: where text is appended,
 -- the text so far has taken the parts that decode to it; s, t: before and after
 pub appended_text_takes_lossy_text_of_parts : (s t : LossyText) (ps : List Part) (text : List ℕ)
     → IsUtf8 text
@@ -38,7 +38,7 @@ appended_text_takes_lossy_text_of_parts s t ps text u pieces bytes =
           (sym (ap (flat_map lossy_piece) pieces ∙ lossy_text_of_utf8_is_itself text u));
     }
 
--- decoding lossily: what is taken of a whole text is the lossy text of its decoded bytes
+-- decoding, parts taken: what is taken of a whole text is the lossy text of its decoded bytes
 pub parts_taken_give_lossy_text : (text : List ℕ) (s t : LossyText) → IsValidFor widest_set text
     → string_bytes s.text ≡ [] → TookText s (parts text) t
     → string_bytes t.text ≡ lossy_text (bytes_decoded_from (tokens text))

@@ -172,7 +172,7 @@ ill_formed_piece_is_encoded_as_octets : (set : TableSet) (bytes : List ℕ)
 ill_formed_piece_is_encoded_as_octets set [] = refl
 ill_formed_piece_is_encoded_as_octets set (b ∷ bytes) = append-nil (map Octet (b ∷ bytes))
 
--- encoding bytes: after a chunk and its ill-formed part (fault),
+-- encoding: after a chunk and its ill-formed part (fault),
 -- what is left to append are the bytes after them
 pub encoded_bytes_after_chunk : (set : TableSet) (out mid new bytes text fault rest all : List ℕ)
     → IsUtf8 text

@@ -176,7 +176,7 @@ example_of_ill_formed_octets : (bytes_decoded_from (tokens (codes "%F0%90%8Cx%80
 unfolding chars encode_utf8 tokens_from_chars is_pct_encoded pieces_from following_ranges
 example_of_ill_formed_octets = (refl, refl, refl)
 
--- examples of decoding as lossy texts: a surrogate,
+-- examples beside those of unreserved octets, lossy texts: a surrogate,
 -- a prefix that `A` does not finish, a form too long, and one past the last plane
 examples_of_lossy_text : (lossy_text (0xED ∷ 0xA0 ∷ 0x80 ∷ [])
     ≡ replacement_bytes ++ replacement_bytes

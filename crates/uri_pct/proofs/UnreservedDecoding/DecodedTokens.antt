@@ -58,7 +58,7 @@ decoded_pieces_keep_their_bytes set (p ∷ ps) h =
     ∙ ap (λ x. piece_bytes p ++ x)
     (decoded_pieces_keep_their_bytes set ps (All-tail IsOfCharacter p ps h))
 
--- decoding of unreserved octets: a run of octets keeps its bytes when it is decoded
+-- unreserved octets: a run of octets keeps its bytes when it is decoded
 decode_run_keeps_bytes : (set : TableSet) (run : List ℕ)
     → bytes_decoded_from (decode_run set run) ≡ run
 unfolding decode_run
