@@ -24,9 +24,11 @@ unfoldable pub slashed : List (List ℕ) → List ℕ
 slashed [] = []
 slashed (s ∷ rest) = 47 ∷ s ++ slashed rest
 
+-- paths: the segment has no `/`
 abbrev pub lacks_slash : List ℕ → Bool
 lacks_slash s = not (has_slash s)
 
+-- paths: none of the segments has a `/`
 abbrev pub NoSlashes : List (List ℕ) → Type 0
 NoSlashes segs = AllPass lacks_slash segs
 
@@ -103,11 +105,12 @@ unfolding slashed is_none
 slashed-is-empty-if-no-segments [] = refl
 slashed-is-empty-if-no-segments (s ∷ rest) = refl
 
--- one step of section 5.2.4 takes one segment
+-- removing dot segments: the two buffers of section 5.2.4, and whether there was an underflow
 abbrev buffers : List ℕ → List ℕ → Bool → Buffers
 buffers input output underflowed =
     record { input = input; output = output; underflowed = underflowed }
 
+-- removing dot segments: what follows a segment, or the empty one that a last dot leaves
 abbrev or_empty_segment : Bool → List (List ℕ) → List (List ℕ)
 or_empty_segment dot [] = end_of dot
 or_empty_segment dot (t ∷ rest) = t ∷ rest
@@ -124,6 +127,7 @@ no-dot-leaves-segments-as-they-are : (rest : List (List ℕ)) → rest ≡ or_em
 no-dot-leaves-segments-as-they-are [] = refl
 no-dot-leaves-segments-as-they-are (t ∷ rest) = refl
 
+-- removing dot segments: the buffers by texts, after one segment, are those by segments
 buffers-after-one-segment : (single double : Bool) (s : List ℕ) (rest output : List (List ℕ))
     (before : Bool)
     → NoSlashes output →
@@ -151,6 +155,7 @@ buffers-after-one-segment false false s rest output before e =
     ∙ ap (λ o. buffers (slashed (or_empty_segment false rest)) o before)
     (sym (slashed-of-push output s))
 
+-- removing dot segments: the buffers after the step of section 5.2.4 for a segment
 buffers_after_cut : List ℕ → List ℕ → List (List ℕ) → Bool → Buffers
 buffers_after_cut segment rest output before =
     cond (is_single_dot segment) (buffers (or_slash rest) (slashed output) before)
@@ -217,6 +222,7 @@ run-takes-all-segments (suc n) (s ∷ t ∷ rest) output before e f h =
     (next_output-passes-test lacks_slash (is_single_dot s) (is_double_dot s) output s f
     (λ d. not_from_false _ g.0)) (omega arith)
 
+-- removing dot segments: a last dot segment leaves one empty segment at most
 closing-has-at-most-one-segment : (segs : List (List ℕ)) → length (closing segs) ≤ 1
 unfolding closing
 closing-has-at-most-one-segment [] = omega arith
@@ -227,12 +233,14 @@ closing-has-at-most-one-segment (s ∷ []) = end_short (is_dot_segment s)
     end_short false = omega arith
 closing-has-at-most-one-segment (s ∷ t ∷ rest) = closing-has-at-most-one-segment (t ∷ rest)
 
+-- paths: a path has as many bytes as segments at least
 slashed-is-no-shorter-than-segments : (segs : List (List ℕ)) → length segs ≤ length (slashed segs)
 unfolding slashed
 slashed-is-no-shorter-than-segments [] = omega arith
 slashed-is-no-shorter-than-segments (s ∷ rest) = omega
     (arith, slashed-is-no-shorter-than-segments rest, length-append s (slashed rest))
 
+-- removing dot segments: the loop of section 5.2.4 leaves what is left of the segments
 run-of-path-leaves-dotless_of-segments : (segs : List (List ℕ)) → NoSlashes segs
     → run (length (slashed segs) + 1) (buffers (slashed segs) [] false)
     ≡ buffers [] (slashed (dotless_of segs)) (underflows_over false [] segs)
@@ -241,13 +249,13 @@ run-of-path-leaves-dotless_of-segments segs e = run-takes-all-segments (length (
     segs [] false e refl
     (omega (arith, slashed-is-no-shorter-than-segments segs, closing-has-at-most-one-segment segs))
 
--- removing dot segments of a path is removing them of the list of its segments
+-- removing dot segments: of a path, it is removing them of the list of its segments
 pub remove-dots-by-segments : (segs : List (List ℕ)) → NoSlashes segs
     → remove_dot_segments (slashed segs) ≡ slashed (dotless_of segs)
 unfolding remove_dot_segments
 remove-dots-by-segments segs e = ap (λ b. b.output) (run-of-path-leaves-dotless_of-segments segs e)
 
--- a path underflows exactly if the list of its segments does, from an empty output
+-- dot segments: a path underflows exactly if the list of its segments does, from an empty output
 pub underflows-by-segments : (segs : List (List ℕ)) → NoSlashes segs
     → underflows (slashed segs) ≡ underflows_over false [] segs
 unfolding underflows
@@ -261,20 +269,24 @@ last_segment-of-append [] t e = refl
 last_segment-of-append (c ∷ s) t e = cond-true _ _ _ (slash-in-suffix-is-in-append s t e)
     ∙ last_segment-of-append s t e
 
+-- general fact on texts, for directories of paths: a case of two with a common prefix
 common-prefix-leaves-cond : (b : Bool) (s x y : List ℕ) → cond b (s ++ x) (s ++ y) ≡ s ++ cond b x y
 common-prefix-leaves-cond true s x y = refl
 common-prefix-leaves-cond false s x y = refl
 
+-- paths: a last `..`, kept in the directory, and a `/` after it, as text and as segments
 slashed-of-segment-if-double-dot : (b : Bool) (s : List ℕ)
     → cond b (slashed (s ∷ []) ++ 47 ∷ []) (47 ∷ []) ≡ slashed (cond b (s ∷ []) []) ++ 47 ∷ []
 unfolding slashed
 slashed-of-segment-if-double-dot true s = refl
 slashed-of-segment-if-double-dot false s = refl
 
+-- paths: the directory (5.2.3), by the last segment, the path, and what is before its last `/`
 directory_text_of : List ℕ → List ℕ → List ℕ → List ℕ
 directory_text_of segment whole prefix = cond (is_double_dot segment) (whole ++ 47 ∷ [])
     (prefix ++ 47 ∷ [])
 
+-- paths: the directory by the text is all segments but the last, and a `/`
 directory-text-of-slashed-segments : (s : List ℕ) (rest : List (List ℕ)) → NoSlashes (s ∷ rest)
     → directory_text_of (last_segment (slashed (s ∷ rest))) (slashed (s ∷ rest))
     (slashed (pop (s ∷ rest)))
@@ -301,7 +313,7 @@ directory-text-of-slashed-segments s (t ∷ rest) e =
     (first-segment-and-rest-lack-slashes s (t ∷ rest) e).1)
     ∙ sym (append_assoc (47 ∷ s) (slashed (parent (t ∷ rest))) (47 ∷ []))
 
--- resolving: the directory of a path is all its segments but the last, and an empty one (5.2.3)
+-- paths: the directory of a path is all its segments but the last, and an empty one (5.2.3)
 pub directory-by-segments : (s : List ℕ) (rest : List (List ℕ)) → NoSlashes (s ∷ rest)
     → directory (slashed (s ∷ rest)) ≡ slashed (parent (s ∷ rest) ++ [] ∷ [])
 unfolding directory slashed directory_text_of
@@ -327,6 +339,7 @@ parent-segments-pass-test p (s ∷ t ∷ rest) e = let f = and_parts (p s) (list
 equal-lists-after-slash-have-equal-tails : (xs ys : List ℕ) → 47 ∷ xs ≡ 47 ∷ ys → xs ≡ ys
 equal-lists-after-slash-have-equal-tails xs ys e = cc
 
+-- paths: a character c put before the first segment is after the first `/` of the text
 slashed-of-onto_first : (c : ℕ) (parts : List (List ℕ)) (text : List ℕ) → slashed parts ≡ 47 ∷ text
     → slashed (onto_first c parts) ≡ 47 ∷ c ∷ text
 unfolding slashed
@@ -346,6 +359,7 @@ slashed-of-segments-is-text-after-slash (c ∷ text) = ⊎_elim
     ∙ slashed-of-onto_first c (segments text) text (slashed-of-segments-is-text-after-slash text))
     (cases_Bool (eqb c 47))
 
+-- paths: a character before the first segment adds no `/`, if it is none
 onto_first-adds-no-slash : (c : ℕ) (parts : List (List ℕ)) → eqb c 47 ≡ false → NoSlashes parts
     → NoSlashes (onto_first c parts)
 onto_first-adds-no-slash c [] e f = and_from _ _ (not_from_false _ (ap (λ t. t || false) e)) refl
@@ -362,6 +376,7 @@ segments-of-text-lack-slashes (c ∷ text) = ⊎_elim
     ∙ onto_first-adds-no-slash c (segments text) e (segments-of-text-lack-slashes text))
     (cases_Bool (eqb c 47))
 
+-- paths: there is a segment after a character is put before the first
 onto_first-is-not-none : (c : ℕ) (parts : List (List ℕ)) → is_none (onto_first c parts) ≡ false
 unfolding is_none
 onto_first-is-not-none c [] = refl
