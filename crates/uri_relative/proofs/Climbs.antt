@@ -134,8 +134,8 @@ empty-test-means-empty-text (c ∷ text) e = cc
 equal-lists-have-equal-tails : (xs ys : List (List ℕ)) → [] ∷ xs ≡ [] ∷ ys → xs ≡ ys
 equal-lists-have-equal-tails xs ys e = cc
 
--- general fact on texts, for directories of relativized paths of relativized paths: one that ends
--- in `/` is not empty
+-- general fact on texts, for directories of relativized paths of relativized paths of relativized
+-- paths of relativized paths: one that ends in `/` is not empty
 text-with-slash-is-not-empty : (prefix : List ℕ) → [] ≡ prefix ++ codes "/" → ⊥
 text-with-slash-is-not-empty [] e = cc
 text-with-slash-is-not-empty (c ∷ prefix) e = cc
@@ -180,8 +180,7 @@ path-below-directory-has-its-segments-first xs zs last below lack_xs lack_zs e =
     sym (pop-undoes-push zs last) ∙ ap pop same ∙ pop-removes-from-last-part xs (segments below)
     (segments-of-text-are-not-none below)
 
--- general fact on lists of segments, for relativized paths: some segments are all but the last, and
--- the last
+-- general fact on lists of segments, for relativized paths: all are all but the last, and the last
 pub segments-are-all-but-last-and-last : (s : List ℕ) (rest : List (List ℕ)) → (last : List ℕ)
     × (s ∷ rest ≡ pop (s ∷ rest) ++ last ∷ [])
 unfolding pop

@@ -98,8 +98,7 @@ scheme-adds-two-bytes-at-least (Some s) rest e h = omega (
   length-append s (codes ":"),
 )
 
--- targets to relativize: what holds of a path with its guard holds without, if the guard does not
--- matter
+-- targets to relativize: what holds of a path with a guard that does not matter holds without
 property-holds-without-guard : (P : List ℕ → Type 0) (a : Option (List ℕ)) (path whole : List ℕ)
     → guarded a path ≡ whole → (P (codes "/." ++ path) → P path) → P whole → P path
 property-holds-without-guard P a path whole e back h =

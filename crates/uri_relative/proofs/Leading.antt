@@ -67,8 +67,7 @@ resolves : (base r : Components) (t : Components) → target_of base r ≡ t
     → resolution_of (without_fragment base) r ≡ Ok (recompose t)
 resolves base r t e f = cond-false _ _ _ f ∙ ap (λ c. Ok (recompose c)) e
 
--- relativized references: a target with a scheme resolves to itself, without dot segments, against
--- any base
+-- relativized references: a target with a scheme resolves to itself, without dot segments
 itself : (base t : Components) → is_some t.scheme ≡ true
     → resolution_of (without_fragment base) t ≡ Ok (recompose (with_final_path t))
 itself base t e =
@@ -96,8 +95,7 @@ pub pushed-path-and-tail-are-appended : (old mid new way tail tail' : List ℕ) 
 pushed-path-and-tail-are-appended old mid new way tail tail' e f h =
     f ∙ ap (λ t. t ++ tail) e ∙ append_assoc old way tail ∙ ap (λ t. old ++ (way ++ t)) h
 
--- targets to relativize: one with a scheme, as a reference, has itself as its target, without dot
--- segments
+-- targets to relativize: one with a scheme is its own target, without dot segments
 target_of-whole-target-is-final : (base t : Components) → is_some t.scheme ≡ true → target_of base t
     ≡ with_final_path t
 target_of-whole-target-is-final base t e = let j : dotted_target base t
@@ -120,8 +118,7 @@ pub components-of-settled-text : (text made : List ℕ) → is_some (components 
 components-of-settled-text text made some e = ap components e
     ∙ settled-text-has-settled-components text some
 
--- relativized references: a text made as the target without removable dot segments has none left to
--- remove
+-- relativized references: a text made as the target without removable dot segments has none left
 pub settled-text-stays-settled : (text made : List ℕ) → is_some (components text).scheme ≡ true
     → made ≡ recompose (settled text) → with_final_path (components made) ≡ components made
 settled-text-stays-settled text made some e =

@@ -97,8 +97,7 @@ later-prefix-gives-shorter-path a b u v =
       length-append u (47 ∷ v),
     )
 
--- general fact on numbers, for positions in relativized paths: one up to last + 1 is that, or up to
--- last
+-- general fact on numbers, for positions in relativized paths: one up to last + 1 is that, or less
 position-is-last-or-before : (m last : ℕ) → m ≤ last + 1 → (m ≡ last + 1) ⊎ (m ≤ last)
 position-is-last-or-before m last h = grind arith
 

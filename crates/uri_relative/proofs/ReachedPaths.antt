@@ -100,8 +100,7 @@ equal-segments-have-equal-rest : (ds es : List (List ℕ)) → ds ≡ es → dro
     ≡ drop 1 (slashed es)
 equal-segments-have-equal-rest ds es e = ap (λ t. drop 1 (slashed t)) e
 
--- relativized paths: a relative path that is no longer than x leads from a directory (output) to
--- the path
+-- relativized paths: a relative path no longer than x leads from a directory (output) to the path
 pub record IsReachedByShortPath (output : List (List ℕ)) (x path : List ℕ) : Type 0 where
   pub prefix : List (List ℕ)
   pub up : List (List ℕ)
@@ -120,8 +119,7 @@ no-byte-is-spare-for-some-rest spare d ds up (inr h) some =
     absurd (false≢true (sym some
     ∙ ap is_empty (equal-segments-have-equal-rest (d ∷ ds) ([] ∷ []) h.0)))
 
--- lengths of relativized paths: if the rest below a directory needs a `./` before it, there is room
--- for it
+-- lengths of relativized paths: there is room for a `./` if the rest below a directory needs one
 room-for-leading-dot-or-not-needed : (s d : List ℕ) (segs ds : List (List ℕ)) (enough : Type 0)
     → has_slash s ≡ false
     → is_empty (s ++ slashed segs) ≡ false → starts 47 (s ++ slashed segs) ≡ false
@@ -268,8 +266,7 @@ unfolding is_none
 nonempty-segments-have-first [] e = absurd (false≢true (sym e))
 nonempty-segments-have-first (s ∷ rest) e = (s, rest, refl)
 
--- relativized paths: a path x after a directory (output) can be replaced by a relative path that is
--- no longer
+-- relativized paths: a relative path no longer than x can replace x after a directory (output)
 pub leads : (output : List (List ℕ)) (x : List ℕ) → AllPass is_dotless output → NoSlashes output
     → is_empty x ≡ false → starts 47 x ≡ false → has_colon_in_first_segment x ≡ false
     → IsReachedByShortPath output x (remove_dot_segments (dir output ++ x))

@@ -92,8 +92,8 @@ option-test-decides-equality (Some a) None = (λ e. cc, λ e. cc)
 option-test-decides-equality (Some a) (Some b) = Decides-like _ (ap Some) (λ e. cc)
     (bytes_eq-Decides a b)
 
--- general fact on booleans, for the choice of a reference, in relativizing, in relativizing: a test
--- of what is refuted fails
+-- general fact on booleans, for the choice of a reference, in relativizing, in relativizing, in
+-- relativizing, in relativizing: a test of what is refuted fails
 refuted-test-is-false : (b : Bool) (P : Type 0) → Decides b P → (P → ⊥) → b ≡ false
 refuted-test-is-false b P d other = false_from_ne_true b (λ e. other (d.0 e))
 

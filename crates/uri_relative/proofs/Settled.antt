@@ -68,8 +68,7 @@ guarded-path-does-not-underflow path true h e = guard-counts-as-no-segment under
 guarded-path-does-not-underflow path false h e = ap (λ u. starts slash path && u) e
     ∙ and-false-is-false (starts slash path)
 
--- targets to relativize: an absolute path without dot segments, guarded, does not underflow; a: the
--- authority
+-- targets to relativize: an absolute path without dot segments, guarded, does not underflow
 finished-absolute-path-does-not-underflow : (a : Option (List ℕ)) (path : List ℕ) → IsAbsolute path
     → underflows_if_absolute (finish a path) ≡ false
 finished-absolute-path-does-not-underflow a path h =
@@ -138,8 +137,7 @@ guarded-dotless-path-is-the-path t h done =
     ap (guarded t.authority) (sym (cond-true _ _ _ (eq_true_from_IsTrue _ h)))
     ∙ ap (λ (c : Components). c.path) done
 
--- targets to relativize: a path without dot segments, and without need of a guard, has none to
--- leave out
+-- targets to relativize: a path without dot segments that needs no guard has none to leave out
 path-without-dots-is-unguarded : (t : Components) → IsAbsolute t.path → remove_dot_segments t.path
     ≡ t.path
     → guarded t.authority t.path ≡ t.path → IsUnguarded t t.path
@@ -167,8 +165,7 @@ path-after-authority-is-unguarded t some h done =
     path-without-dots-is-unguarded t h e
     (path-after-authority-gets-no-guard t.authority t.path some)
 
--- targets to relativize: without an authority, a path is guarded as it is for None; a: the
--- authority
+-- targets to relativize: without an authority (a), a path is guarded as it is for None
 guard-is-that-without-authority : (a : Option (List ℕ)) (path : List ℕ) → is_some a ≡ false
     → guarded a path ≡ guarded None path
 guard-is-that-without-authority None path e = refl

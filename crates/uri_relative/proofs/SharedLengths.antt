@@ -99,8 +99,7 @@ shared-prefix-is-within-shared_directory_len (a ∷ base) (b ∷ path) (suc m) h
     omega (arith, more (or_right _ _ (lt-ltb 0 n (omega (arith, ih, longer.0, len)))), ih))
     (prefix-to-slash-without-first-byte a (take m base) s.closed.0 s.closed.1)
 
--- relativized paths: the longest shared prefix that ends in `/` has the length
--- `shared_directory_len`
+-- relativized paths: the longest shared prefix to a `/` has the length `shared_directory_len`
 pub longest-shared-prefix-has-shared_directory_len : (base path : List ℕ) (n : ℕ) → n ≤ length base
     → IsSharedPrefix n base path → IsLongestPrefix n base path → n ≡ shared_directory_len base path
 longest-shared-prefix-has-shared_directory_len base path n h s longest =

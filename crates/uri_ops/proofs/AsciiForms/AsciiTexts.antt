@@ -131,8 +131,7 @@ host-for-ascii_set-is-ascii names lacks text (Ipv4 octets) u dotted = dotted-dec
 host-for-ascii_set-is-ascii names lacks text RegName u (valid, other) = text-for-ascii_set-is-ascii
     names lacks text u valid
 
--- IRIs as URIs: a component that is absent or ASCII, with ASCII delimiters (before, suffix), is
--- ASCII
+-- IRIs as URIs: an ASCII component, or none, with ASCII delimiters (before, suffix) is ASCII
 delimited-ascii-component-is-ascii : (before suffix : List ℕ) (o : Option (List ℕ))
     → ascii before ≡ true
     → ascii suffix ≡ true → IfSome o (λ x. ascii x ≡ true) → ascii (marked before o suffix) ≡ true

@@ -125,8 +125,7 @@ recomposed-authority-is-utf8 p u = IsUtf8-append (marked [] p.userinfo (codes "@
     (IsUtf8-append p.host (marked (codes ":") p.port []) u.host
     (port-with-colon-is-utf8 p.port u.port))
 
--- meanings of authorities: a userinfo with its `@`, if there is one, has no delimiter that ends an
--- authority
+-- meanings of authorities: a userinfo with its `@`, if there is one, has no `/`, `?` or `#`
 userinfo-with-at-sign-lacks-authority-ends : (userinfo : Option (List ℕ))
     → IfSome userinfo (Lacks (codes "/?#"))
     → Lacks (codes "/?#") (marked [] userinfo (codes "@"))
@@ -136,8 +135,7 @@ userinfo-with-at-sign-lacks-authority-ends (Some user) h = joined-texts-lack-mar
     (codes "/?#") user (codes "@") h
     (test-of-delimiters-gives-lacks (codes "/?#") (codes "@") refl)
 
--- meanings of authorities: a port with its `:`, if there is one, has no delimiter that ends an
--- authority
+-- meanings of authorities: a port with its `:`, if there is one, has no `/`, `?` or `#`
 port-with-colon-lacks-authority-ends : (port : Option (List ℕ)) → IfSome port (Lacks (codes "/?#"))
     → Lacks (codes "/?#") (marked (codes ":") port [])
 port-with-colon-lacks-authority-ends None h = test-of-delimiters-gives-lacks (codes "/?#") [] refl
@@ -158,8 +156,7 @@ authority-text-lacks-its-ends p user host port =
     (joined-texts-lack-marks (codes "/?#") p.host (marked (codes ":") p.port []) host
     (port-with-colon-lacks-authority-ends p.port port))
 
--- meanings of ports: what holds of a port, if there is one, holds of the port that its meaning
--- keeps
+-- meanings of ports: what holds of a port, if there is one, holds of the one that its meaning keeps
 port_meaning-keeps-property : (default : Option ℕ) (port : Option (List ℕ)) (P : List ℕ → Type 0)
     → IfSome port P
     → IfSome (port_meaning default port) P
@@ -294,8 +291,7 @@ module _ (kind : Kind) (sets : HasComponentSets kind) (default : Option ℕ) (a 
       normal-authority-parts-are-utf8.port
       normal-authority-follows-grammar.port)
 
--- meanings of authorities: an authority that is written from its meaning is one and has that
--- meaning
+-- meanings of authorities: an authority written from its meaning is one, and has that meaning
 pub normal-authorities-are-authorities : (kind : Kind) → HasComponentSets kind
     → NormalAuthoritiesKeepMeaning kind
 normal-authorities-are-authorities kind sets = record {

@@ -23,8 +23,7 @@ use Rattle.uri_ops.specs.ComponentSets.{HasComponentSets}
 abbrev pub is_outside_octets : ℕ → Bool
 is_outside_octets c = nat_lt c 128 && (not (is_ascii_hexdigit c) && not (eqb c 37))
 
--- meanings of components: delimiters that a set lacks, and no octet contains, are excluded from its
--- texts
+-- meanings of components: delimiters that a set lacks, and no octet has, are not in its texts
 pub ends-are-excluded-from-set : (marks : List ℕ) (set : TableSet)
     → list_all is_outside_octets marks ≡ true
     → list_any set.ascii marks ≡ false → excludes set marks ≡ true

@@ -328,8 +328,7 @@ ascii_prefix text u v inside small other =
           ∙ literal-prefix-decodes-to-itself lowers set (take 1 text) (drop 1 text) utf8 literal;
     }
 
--- meanings, decoded byte by byte: after the character at i the rest is valid, and completes what is
--- appended
+-- meanings, decoded byte by byte: after one character the rest is valid, and completes the whole
 pub record CharacterStep (lowers : Bool) (set : TableSet) (text new whole : List ℕ) (i : ℕ) :
     Type 0 where
   pub boundary : IsCharBoundary text (i + 1)

@@ -81,8 +81,7 @@ prefix-before-uppercase-is-lower-prefix text n e =
       upper = upper;
     }
 
--- meanings of schemes and hosts: the first letter in upper case, after a prefix without any, is
--- ASCII
+-- meanings of schemes and hosts: the first upper-case letter, after a prefix without any, is ASCII
 pub byte-after-lower-prefix-is-ascii : (text : List ℕ) (n : ℕ) → LowerPrefix text n
     → n < length text
     → get_or text n 0 < 128
@@ -119,8 +118,7 @@ lowered-letter-is-pushed text out mid new whole n prefix below run letter total 
     ∙ ap (λ x. x ++ low ∷ suffix) (run-from-zero-is-prefix text out mid n run)
     ∙ append_assoc out kept (low ∷ suffix) ∙ ap (λ x. out ++ x) (sym split) ∙ total
 
--- meanings of schemes and hosts: a lower-case prefix that is the whole text completes what is
--- appended
+-- meanings of schemes and hosts: a whole text in lower case completes what is appended
 pub last-lowercase-run-is-pushed : (text out new whole : List ℕ) (n : ℕ) → LowerPrefix text n → n
     ≡ length text
     → new ≡ out ++ take (n - 0) text → out ++ str_to_ascii_lowercase text ≡ whole → new ≡ whole

@@ -90,8 +90,7 @@ authority-meanings-are-bare-with_default kind default other e (Some authority) =
 with_authority : Meaning → Option AuthorityMeaning → Meaning
 with_authority m authority = record m { authority = authority }
 
--- meanings of ports: the meaning of components is their meaning without default ports, with these
--- left out
+-- meanings of ports: the meaning of components is theirs without default ports, less these ports
 components_meaning-is-bare-under-ports : (kind : Kind) (ports : PortFunction) (p : Components)
     → components_meaning kind ports p ≡ under ports (components_meaning kind no_defaults p)
 unfolding with_authority

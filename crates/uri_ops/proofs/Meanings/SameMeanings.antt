@@ -11,8 +11,7 @@ use Rattle.uri_pct.specs.Tokens.{Token, Char, Octet}
 use Rattle.uri_ops.specs.SameMeanings.{same_token, same_tokens, same_host, same_authority}
 use Rattle.uri_ops.specs.SameMeanings.{same_meaning}
 
--- equal meanings: comparing two options decides whether they are equal, if E decides it for their
--- values
+-- equal meanings: comparing two options decides whether they are equal, if E does for values
 option_eq-decides-equality : {A : Type 0} (E : A → A → Bool) → ((a b : A) → Decides (E a b) (a ≡ b))
     → (p q : Option A) → Decides (option_eq E p q) (p ≡ q)
 option_eq-decides-equality E d None None = (λ _. refl, λ _. refl)

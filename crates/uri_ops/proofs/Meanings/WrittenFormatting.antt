@@ -90,8 +90,7 @@ characters-without-formatting-stay (c ∷ cs) e =
     ap (λ x. x ++ flat_map encoded_formatting_char cs) (cond-false _ _ _ p.0)
     ∙ ap (λ x. encode_utf8 c ++ x) (characters-without-formatting-stay cs p.1)
 
--- meanings, bidirectional text: a text without formatting characters stays when these are
--- percent-encoded
+-- meanings, bidirectional text: a text without formatting characters stays when they are encoded
 pub text-without-formatting-stays : (text : List ℕ) → IsUtf8 text
     → list_any is_bidi_formatting (chars text) ≡ false → encoded_formatting_text text ≡ text
 text-without-formatting-stays text u e = characters-without-formatting-stay (chars text) e
@@ -108,8 +107,7 @@ printable-octet-has-no-formatting v e =
     or_from _ _ (ascii_char_is_no_formatting_char 37 (lit< tt))
     (or_from _ _ high (or_from _ _ low refl))
 
--- meanings, bidirectional text: in the text of a token, a formatting character is encoded as in the
--- token
+-- meanings, bidirectional text: the text of a token has formatting characters encoded as the token
 printed-token-has-formatting-encoded : (set : TableSet) (t : Token)
     → (set.ucschar && set.pct_encoded) ≡ true
     → is_printable t ≡ true
@@ -125,8 +123,7 @@ printed-token-has-formatting-encoded set (Char c) both e = ⊎_elim
     ∙ sym (ap print (cond-false _ _ _ (never_literal_is_formatting_if_both_flags set c both ∙ h))))
     (cases_Bool (is_bidi_formatting c))
 
--- meanings, bidirectional text: in the text of tokens, formatting characters are encoded as in the
--- tokens
+-- meanings, bidirectional text: the text of tokens has formatting characters encoded as they have
 printed-tokens-have-formatting-encoded : (set : TableSet) (ts : List Token)
     → (set.ucschar && set.pct_encoded) ≡ true
     → list_all is_printable ts ≡ true
@@ -142,8 +139,7 @@ printed-tokens-have-formatting-encoded set (t ∷ ts) both e =
     (printed-tokens-have-formatting-encoded set ts both p.1)
     ∙ sym (flat_map-append text_of_token (formatting_as_octets set t) (encode_formatting set ts))
 
--- meanings, bidirectional text: encoding the formatting characters of tokens and writing them may
--- swap
+-- meanings, bidirectional text: encoding formatting characters and writing the tokens may swap
 encoding-formatting-and-printing-swap : (set : TableSet) (ts : List Token)
     → (set.ucschar && set.pct_encoded) ≡ true
     → list_all is_printable ts ≡ true → encoded_formatting_text (print ts)
@@ -163,8 +159,7 @@ formatting-encoded-after-prefix old more new start e f =
     (take-append_seam old more) ∙ ap (λ x. old ++ encoded_formatting_text x)
     (drop-append_seam old more))
 
--- meanings, bidirectional text: percent-encoding formatting characters and lower case, if lowers,
--- may swap
+-- meanings, bidirectional text: encoding formatting characters and lower case, if lowers, may swap
 encoding-formatting-and-lowering-swap : (lowers : Bool) (set : TableSet) (ts : List Token)
     → encode_formatting set (lowered_if lowers ts) ≡ lowered_if lowers (encode_formatting set ts)
 encoding-formatting-and-lowering-swap true set ts = sym
@@ -218,15 +213,14 @@ decoding-without-formatting-is-complete lowers set text none =
     ap (λ ts. print (lowered_if lowers ts))
     (sym (encode_formatting_without_flags_keeps_tokens set (decode_tokens set (tokens text)) none))
 
--- general fact on booleans, for formatting characters: a set holds `ucschar` where it holds U+200E
+-- general fact on booleans, for meanings of bidirectional text: `ucschar` decides on U+200E
 second-flag-does-not-matter : (u p : Bool) → ((u && true) || (p && false)) ≡ u
 second-flag-does-not-matter true true = refl
 second-flag-does-not-matter true false = refl
 second-flag-does-not-matter false true = refl
 second-flag-does-not-matter false false = refl
 
--- meanings, bidirectional text: a set allows a formatting character such as U+200E if it has
--- `ucschar`
+-- meanings, bidirectional text: a set allows a formatting character, as U+200E, if it has `ucschar`
 pub set_allows_formatting_by_ucschar : (set : TableSet) → allows set 0x200E ≡ set.ucschar
 unfolding allows_past_ascii is_ucschar is_iprivate
 set_allows_formatting_by_ucschar set = second-flag-does-not-matter set.ucschar set.iprivate

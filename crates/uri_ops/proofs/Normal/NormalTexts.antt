@@ -24,8 +24,7 @@ use Rattle.uri_ops.proofs.Normal.NormalComponents.{normal-components-have-same-m
 use Rattle.uri_ops.proofs.Meanings.AuthorityMeanings.{normal-authorities-are-authorities}
 use Rattle.uri_pct.proofs.Tests.{IfSome-weaken}
 
--- normal texts: a component in UTF-8, if there is one, with its delimiters (before, suffix) is
--- UTF-8
+-- normal texts: a component in UTF-8, or none, with its delimiters (before, suffix) is UTF-8
 delimited-utf8-component-is-utf8 : (before suffix : List ℕ) (o : Option (List ℕ)) → IsUtf8 before
     → IsUtf8 suffix
     → IfSome o IsUtf8 → IsUtf8 (marked before o suffix)

@@ -264,8 +264,7 @@ next_output-of-double-dot-is-popped false true output s only = sym (pop-undoes-p
 next_output-of-double-dot-is-popped false false output s only =
     sym (ap pop (append-nil (output ++ s ∷ [])) ∙ pop-undoes-push output s)
 
--- removing dot segments: the steps over all segments but the last leave what all leave, without the
--- last
+-- dot segments: the steps over all segments but the last leave what all leave, without the last
 steps-of-parent-are-popped-steps : (output : List (List ℕ)) (s : List ℕ) (rest : List (List ℕ))
     → steps output (parent (s ∷ rest)) ≡ pop (steps output (s ∷ rest) ++ closing (s ∷ rest))
 unfolding steps parent closing step_of

@@ -335,7 +335,7 @@ parent-segments-pass-test p (s ∷ []) e = passes (is_double_dot s)
 parent-segments-pass-test p (s ∷ t ∷ rest) e = let f = and_parts (p s) (list_all p (t ∷ rest)) e in
     and_from _ _ f.0 (parent-segments-pass-test p (t ∷ rest) f.1)
 
--- general fact on lists, for segments: texts that are equal after a `/` are equal
+-- general fact on lists, for segments of paths: texts that are equal after a `/` are equal
 equal-lists-after-slash-have-equal-tails : (xs ys : List ℕ) → 47 ∷ xs ≡ 47 ∷ ys → xs ≡ ys
 equal-lists-after-slash-have-equal-tails xs ys e = cc
 

@@ -151,8 +151,7 @@ pushed-query-ends-at-length (Some q) o3 o4 end some e n =
       length-append (codes "?") q,
     ))
 
--- positions in a target: a query that is appended with what follows it ends where the fragment
--- begins
+-- positions in a target: a query that is appended with what follows it ends where that begins
 pub pushed-query-ends-before-fragment : (query fragment : Option (List ℕ))
     (o3 o4 suffix last : List ℕ) (end : ℕ)
     → is_some query ≡ true

@@ -110,8 +110,7 @@ whole-ascii-prefix-means-ascii-text (c ∷ text) h = ⊎_elim
 some-index-is-not-none : (index : ℕ) → Some index ≡ None → ⊥
 some-index-is-not-none index e = absurd (cc e)
 
--- general fact on options, for conversions: without an error there is no index of a character past
--- ASCII
+-- general fact on options, for errors of conversions: without an error there is no index
 absent-mapped-index-is-absent : (place : Option ℕ) → option_map (λ index. NotAscii index) place
     ≡ None → place ≡ None
 absent-mapped-index-is-absent None e = refl

@@ -54,8 +54,7 @@ tested-characters-are-component-set marks test past private within percent ends 
   ends = ends;
 }
 
--- sets of the four kinds: the kind whose sets have ucschar, or iprivate, and which needs a scheme,
--- or not
+-- sets of the four kinds: the kind by its flags for ucschar, iprivate and the need of a scheme
 kind_with : (past private needs : Bool) → Kind
 kind_with past private needs = record {
   userinfo = component_table is_userinfo_char past false;
