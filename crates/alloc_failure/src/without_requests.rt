@@ -52,7 +52,7 @@ fn version_of<U: Encoder, N: Encoder>(authority: Authority<'_, U, N>) -> u8 {
     }
 }
 
-/// Tests that reading hosts and ports makes no request for memory.
+/// Tests that `host_parsed` and `port_to_u16` make no request for memory.
 #[test]
 fn hosts_and_ports(rt: HostRuntime) {
     for (text, wanted) in [("//127.0.0.1:80", 4), ("//[::1]:80", 6), ("//[v1.a]:80", 7)] {

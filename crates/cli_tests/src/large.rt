@@ -8,7 +8,7 @@ const LENGTH: usize = 10_000_000;
 /// A prefix, and the unit that is repeated after it.
 type Large = (&'static str, &'static str);
 
-/// Makes a text of a prefix and so many units, as large a one as tests of `uritool` take.
+/// Makes a large text for a test of `uritool`: a prefix, and a unit so many times.
 fn repeated(alloc: Global, (prefix, unit): Large, times: usize) -> Result<String, AllocError> {
     let units = unit.repeat(alloc, times)?;
     format!(in alloc; "{prefix}{units}")

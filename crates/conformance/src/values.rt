@@ -18,6 +18,7 @@ fn converts_from_text(rt: HostRuntime) {
     UriRef::try_from("a b").err().expect(&rt, "a b");
 }
 
+/// Tests that the path of a value outlives the URI reference that it is taken from.
 #[test]
 fn path_outlives_its_reference(rt: HostRuntime) {
     let text = String::from_str(rt.alloc(), "/a?b").expect(&rt, "memory");
@@ -63,6 +64,7 @@ fn presence_of_schemes(rt: HostRuntime) {
     }
 }
 
+/// Tests a scheme of a literal: it keeps its case, also in what it prints.
 #[test]
 fn schemes_keep_their_case(rt: HostRuntime) {
     let text = "HtTp";

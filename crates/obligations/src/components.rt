@@ -78,17 +78,17 @@ pub fn name_of_an_ihost(host: IHost<'_>) -> Table
     host_table(host)
 }
 
-/// A caller gets the scheme of a `Uri`, which has one.
+/// A caller gets the scheme of a `Uri`, which has one, by the public name `Scheme`.
 pub fn scheme_of_a_uri<'a>(uri: Uri<&'a str>) -> Scheme<'a> {
     uri.scheme()
 }
 
-/// A caller gets the scheme of an `Iri`, which has one.
+/// A caller gets the scheme of an `Iri`, which has one, by the public name `Scheme`.
 pub fn scheme_of_an_iri<'a>(iri: Iri<&'a str>) -> Scheme<'a> {
     iri.scheme()
 }
 
-/// A caller gets the scheme of a `UriRef`, if it has one.
+/// A caller gets the scheme of a `UriRef`, if it has one, by the public name `Scheme`.
 pub fn scheme_of_a_reference<'a>(reference: UriRef<&'a str>) -> Option<Scheme<'a>>
     ensures { option_map scheme_text result ≡ (components (uri_ref_text reference.entry)).scheme }
 {
@@ -116,7 +116,7 @@ pub fn fragment_of_a_reference<'a>(reference: UriRef<&'a str>) -> Option<EStr<'a
     reference.fragment()
 }
 
-/// A caller gets the scheme of an `IriRef`, if it has one.
+/// A caller gets the scheme of an `IriRef`, if it has one, by the public name `Scheme`.
 pub fn scheme_of_an_iri_reference<'a>(reference: IriRef<&'a str>) -> Option<Scheme<'a>>
     ensures { option_map scheme_text result ≡ (components (iri_ref_text reference.entry)).scheme }
 {

@@ -113,14 +113,14 @@ pub fn empty_iri_ref<'a>() -> IriRef<&'a str>
     IriRef::<&str>::default()
 }
 
-/// A caller gets the scheme of an IRI, which has one.
+/// A caller calls `scheme` of an IRI, which has one.
 pub fn scheme_of_iri<'a>(value: Iri<&'a str>) -> Scheme<'a>
     ensures { Some (scheme_text result) ≡ (components (iri_text value.entry)).scheme }
 {
     value.scheme()
 }
 
-/// A caller gets the scheme of an IRI reference, if it has one.
+/// A caller calls `scheme` of an IRI reference, which may have one.
 pub fn scheme_of_iri_ref(value: &IriRef<String>) -> Option<Scheme<'_>>
     ensures { option_map scheme_text result ≡ (components (iri_ref_text value.now)).scheme }
 {
@@ -137,7 +137,7 @@ pub fn has_all_parts(value: &Uri<String>) -> bool {
     value.has_authority() && value.has_query() && value.has_fragment()
 }
 
-/// A caller gets the authority of a URI, and that of an IRI that owns its text.
+/// A caller calls `authority` of a URI, and of an IRI that owns its text.
 pub fn authorities<'a>(
     value: Uri<&'a str>,
     other: &'a Iri<String>,
@@ -145,12 +145,12 @@ pub fn authorities<'a>(
     (value.authority(), other.authority())
 }
 
-/// A caller gets the path and the query of a URI reference.
+/// A caller calls `path` and `query` of a URI reference.
 pub fn path_and_query(value: &UriRef<String>) -> (EStr<'_, Path>, Option<EStr<'_, Query>>) {
     (value.path(), value.query())
 }
 
-/// A caller gets the path and the fragment of an IRI reference, which outlive it.
+/// A caller calls `path` and `fragment` of an IRI reference, whose results outlive it.
 pub fn path_and_fragment<'a>(
     value: IriRef<&'a str>,
 ) -> (EStr<'a, IPath>, Option<EStr<'a, IFragment>>) {
@@ -199,7 +199,7 @@ pub fn remove_fragment(value: &mut IriRef<String>) -> Result<(), AllocError>
     value.set_fragment(None)
 }
 
-/// A caller gets the normal form of an IRI reference that owns its text.
+/// A caller calls `normalize` of an IRI reference that owns its text.
 pub fn normalized(alloc: Global, value: &IriRef<String>) -> Result<IriRef<String>, AllocError>
     ensures { IfOk result (λ normal.
         IsNormalForm iri_ref default_port (iri_ref_text value.now) (iri_ref_text normal)) }
