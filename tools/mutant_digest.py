@@ -185,8 +185,9 @@ class Items:
     def function(self, start, at, block):
         attributes, words = self.head(start, at)
         body, end = self.body(at), self.past_function(at)
-        # (a caller's check may prove a trait's default again, or compute what is const or inline)
-        kept = block == "trait" or "const" in words or {"inline", "cycle"} & {*attributes}
+        # (a caller's check may prove a trait's default again, or compute what is const; `inline`
+        # is a hint to LLVM, which changes no proof)
+        kept = block == "trait" or "const" in words or "cycle" in attributes
         public = block or any(
             it == "pub" and after != "(" for it, after in zip(words, [*words[1:], ""])
         )

@@ -9,7 +9,7 @@ pub struct ExpectedOutput<'a> {
 }
 
 impl<'a> ExpectedOutput<'a> {
-    /// Returns a writer that expects this text.
+    /// Returns a writer for tests of denied memory, which compares what it gets with this text.
     pub fn new(text: &'a str) -> ExpectedOutput<'a> {
         ExpectedOutput {
             rest: text.as_bytes(),
@@ -17,18 +17,20 @@ impl<'a> ExpectedOutput<'a> {
         }
     }
 
-    /// Returns whether it got the expected text but for the end of it, which is as long as this.
+    /// Returns whether a test of denied memory got the expected text but for an end as long as
+    /// this.
     pub fn lacks(&self, text: &str) -> bool {
         !self.is_other && self.rest.len() == text.len()
     }
 
-    /// Returns whether it got a prefix of the expected text.
+    /// Returns whether a test of denied memory got a prefix of the expected text.
     pub fn got_prefix(&self) -> bool {
         !self.is_other
     }
 }
 
 impl Write for ExpectedOutput<'_> {
+    /// Compares what a run with denied memory writes with the expected text, and does not allocate.
     fn write(&mut self, buf: &[u8]) -> io::Result<usize> {
         match self.rest.strip_prefix(buf) {
             Some(rest) => self.rest = rest,
@@ -37,6 +39,7 @@ impl Write for ExpectedOutput<'_> {
         Ok(buf.len())
     }
 
+    /// Does nothing, since this writer for tests of denied memory has no buffer.
     fn flush(&mut self) -> io::Result<()> {
         Ok(())
     }

@@ -19,14 +19,17 @@ const QUERY: &str = "012345678901234567890123456789";
 
 const FRAGMENT: &str = "012345678901234567890123456789012345678901234567890123456789";
 
+/// Makes an encoded text of a literal, for a builder in a test of denied memory, or ends the test.
 fn part<'a, R: Abort, E: Encoder>(rt: &R, text: &'a str) -> EStr<'a, E> {
     EStr::new(text).expect(rt, text)
 }
 
+/// Makes a scheme of a literal, for a builder in a test of denied memory, or ends the test.
 fn scheme<'a, R: Abort>(rt: &R, text: &'a str) -> Scheme<'a> {
     Scheme::new(text).expect(rt, text)
 }
 
+/// Checks in a test of denied memory that a builder returned this text, or `OutOfMemory`.
 fn is_built<R: Abort + Print, V: RiMaybeRef + Drop>(
     rt: &R,
     built: &Result<V, BuildError>,
@@ -37,7 +40,7 @@ fn is_built<R: Abort + Print, V: RiMaybeRef + Drop>(
     }
 }
 
-/// Checks that `build` returns this error, or `OutOfMemory`.
+/// Checks in a test of denied memory that a builder returned this error, or `OutOfMemory`.
 fn is_rejected<R: Abort + Print, V: RiMaybeRef + Drop>(
     rt: &R,
     built: Result<V, BuildError>,
@@ -49,6 +52,7 @@ fn is_rejected<R: Abort + Print, V: RiMaybeRef + Drop>(
     }
 }
 
+/// Tests a builder of a URI with all parts while memory is denied.
 #[test]
 fn uri_of_all_parts(rt: HostRuntime) {
     let other = Uri::<&str>::parse("s://01234567").expect(&rt, "a URI");
@@ -67,6 +71,7 @@ fn uri_of_all_parts(rt: HostRuntime) {
     end(&rt, rt.alloc());
 }
 
+/// Tests a builder of a URI reference with an optional query while memory is denied.
 #[test]
 fn reference_of_optional_parts(rt: HostRuntime) {
     let built = UriRef::<String>::builder(rt.alloc())
@@ -82,6 +87,7 @@ fn reference_of_optional_parts(rt: HostRuntime) {
     end(&rt, rt.alloc());
 }
 
+/// Tests a builder of userinfo, a host and a port while memory is denied.
 #[test]
 fn parts_of_an_authority(rt: HostRuntime) {
     let user: EStr<'_, Userinfo> = part(&rt, NAME);
@@ -96,6 +102,7 @@ fn parts_of_an_authority(rt: HostRuntime) {
     end(&rt, rt.alloc());
 }
 
+/// Tests builders with IP addresses as hosts and numbers as ports while memory is denied.
 #[test]
 fn addresses_and_numbers(rt: HostRuntime) {
     let built = UriRef::<String>::builder(rt.alloc())
@@ -113,6 +120,7 @@ fn addresses_and_numbers(rt: HostRuntime) {
     end(&rt, rt.alloc());
 }
 
+/// Tests builders of an IRI and of an IRI reference while memory is denied.
 #[test]
 fn international_parts(rt: HostRuntime) {
     let name: EStr<'_, IRegName> = part(&rt, "é");
@@ -131,7 +139,8 @@ fn international_parts(rt: HostRuntime) {
     end(&rt, rt.alloc());
 }
 
-/// `build` of a marked builder returns `OutOfMemory`, whatever else it would reject.
+/// Tests that a builder that was denied memory returns `OutOfMemory`, whatever else it would
+/// reject.
 #[test]
 fn mark_before_another_error(rt: HostRuntime) {
     let built = UriRef::<String>::builder(rt.alloc())
@@ -149,6 +158,7 @@ fn mark_before_another_error(rt: HostRuntime) {
     end(&rt, rt.alloc());
 }
 
+/// Tests that a builder that was denied memory in its authority returns that error at `build`.
 #[test]
 fn mark_through_an_authority(rt: HostRuntime) {
     let name: EStr<'_, RegName> = part(&rt, NAME);

@@ -10,12 +10,13 @@ use uri_commands::run::run;
 
 const OUT_OF_MEMORY: &str = "error: out of memory\n";
 
+/// Copies an argument of `uritool` for a test of denied memory, a second time if that is denied.
 fn word<R: Abort + Print>(rt: &R, alloc: Global, text: &str) -> String {
     tried!(rt; "a word", String::from_str(alloc, text))
 }
 
-/// Returns whether the words print this text. If not, checks that `run` reports the failed
-/// allocation and prints nothing.
+/// Returns whether `uritool` prints this text for the words. If not, checks that `run` reports
+/// denied memory and prints nothing.
 fn prints<R: Abort + Print>(rt: &R, alloc: Global, words: &[String], text: &str) -> bool {
     let (mut out, mut err) = (
         ExpectedOutput::new(text),
@@ -38,6 +39,7 @@ fn prints<R: Abort + Print>(rt: &R, alloc: Global, words: &[String], text: &str)
     true
 }
 
+/// Checks that `uritool` prints this text for the words, or in a second run if memory is denied.
 fn answered<R: Abort + Print>(rt: &R, alloc: Global, words: &[String], text: &str) {
     if !prints(rt, alloc, words, text) {
         holds(
@@ -49,6 +51,7 @@ fn answered<R: Abort + Print>(rt: &R, alloc: Global, words: &[String], text: &st
     end(rt, alloc);
 }
 
+/// Tests `uritool parse` while memory is denied.
 #[test]
 fn parse(rt: HostRuntime) {
     let alloc = rt.alloc();
@@ -56,6 +59,7 @@ fn parse(rt: HostRuntime) {
     answered(&rt, alloc, &words, "scheme=s\npath=a\n");
 }
 
+/// Tests `uritool normalize` while memory is denied.
 #[test]
 fn normalize(rt: HostRuntime) {
     let alloc = rt.alloc();
@@ -63,6 +67,7 @@ fn normalize(rt: HostRuntime) {
     answered(&rt, alloc, &words, "s:~\n");
 }
 
+/// Tests `uritool resolve` while memory is denied.
 #[test]
 fn resolve(rt: HostRuntime) {
     let alloc = rt.alloc();
@@ -70,6 +75,7 @@ fn resolve(rt: HostRuntime) {
     answered(&rt, alloc, &words, "s:/b\n");
 }
 
+/// Tests `uritool links` while memory is denied.
 #[test]
 fn links(rt: HostRuntime) {
     let alloc = rt.alloc();

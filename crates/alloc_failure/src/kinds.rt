@@ -13,6 +13,7 @@ use uri_parts::kind::{IriKind, IriRefKind, Kind, UriKind, UriRefKind};
 /// Longer than what any text here has room for.
 const FRAGMENT: &str = "0123456789012345678901234567890123456789";
 
+/// Copies a value of any kind in a test of denied memory, a second time if that is denied.
 fn copied<R: Abort + Print, K: Kind>(
     rt: &R,
     alloc: Global,
@@ -21,7 +22,7 @@ fn copied<R: Abort + Print, K: Kind>(
     tried!(rt; "to_owned", value.to_owned(alloc))
 }
 
-/// Checks the text of a copy that has the fragment.
+/// Checks the text that `with_fragment` returns while memory is denied.
 fn is_given_fragment<R: Abort + Print, K: Kind, T: AsStr>(
     rt: &R,
     alloc: Global,
@@ -33,7 +34,7 @@ fn is_given_fragment<R: Abort + Print, K: Kind, T: AsStr>(
     is_text(rt, made.as_str(), wanted);
 }
 
-/// Replaces the fragment `f`. If the allocation fails, the text is unchanged.
+/// Replaces a fragment by `set_fragment`. If memory is denied, checks that the text is unchanged.
 fn replaces_fragment<R: Abort + Print, K: Kind>(
     rt: &R,
     value: &mut Reference<K, String>,
@@ -50,7 +51,7 @@ fn replaces_fragment<R: Abort + Print, K: Kind>(
     is_text(rt, value.as_str(), wanted);
 }
 
-/// Gives the fragment to a value and its copy, and then replaces that of the copy.
+/// Checks other fragments of a value of any kind and of its copy while memory is denied.
 fn has_fragments<R: Abort + Print, K: Kind>(rt: &R, alloc: Global, text: &str, wanted: &str) {
     let value = parsed::<_, K>(rt, text);
     is_given_fragment(rt, alloc, &value, wanted);
@@ -61,31 +62,35 @@ fn has_fragments<R: Abort + Print, K: Kind>(rt: &R, alloc: Global, text: &str, w
     end(rt, alloc);
 }
 
+/// Tests other fragments of a URI while memory is denied.
 #[test]
 fn fragments_of_uris(rt: HostRuntime) {
     let wanted = "s:a#0123456789012345678901234567890123456789";
     has_fragments::<_, UriKind>(&rt, rt.alloc(), "s:a#f", wanted);
 }
 
+/// Tests other fragments of a URI reference while memory is denied.
 #[test]
 fn fragments_of_uri_references(rt: HostRuntime) {
     let wanted = "a#0123456789012345678901234567890123456789";
     has_fragments::<_, UriRefKind>(&rt, rt.alloc(), "a#f", wanted);
 }
 
+/// Tests other fragments of an IRI while memory is denied.
 #[test]
 fn fragments_of_iris(rt: HostRuntime) {
     let wanted = "s:é#0123456789012345678901234567890123456789";
     has_fragments::<_, IriKind>(&rt, rt.alloc(), "s:é#f", wanted);
 }
 
+/// Tests other fragments of an IRI reference while memory is denied.
 #[test]
 fn fragments_of_iri_references(rt: HostRuntime) {
     let wanted = "é#0123456789012345678901234567890123456789";
     has_fragments::<_, IriRefKind>(&rt, rt.alloc(), "é#f", wanted);
 }
 
-/// Checks the text of the normal form.
+/// Checks the normal form of a value of any kind while memory is denied.
 fn is_normalized<R: Abort + Print, K: Kind, T: AsStr>(
     rt: &R,
     alloc: Global,
@@ -96,7 +101,7 @@ fn is_normalized<R: Abort + Print, K: Kind, T: AsStr>(
     is_text(rt, normal.as_str(), wanted);
 }
 
-/// Normalises a value and its copy.
+/// Checks the normal forms of a value of any kind and of its copy while memory is denied.
 fn has_normal_form<R: Abort + Print, K: Kind>(rt: &R, alloc: Global, text: &str, wanted: &str) {
     let value = parsed::<_, K>(rt, text);
     is_normalized(rt, alloc, &value, wanted);
@@ -104,6 +109,7 @@ fn has_normal_form<R: Abort + Print, K: Kind>(rt: &R, alloc: Global, text: &str,
     end(rt, alloc);
 }
 
+/// Tests the normal form of a URI while memory is denied.
 #[test]
 fn normal_uris(rt: HostRuntime) {
     let uri = parsed::<_, UriKind>(&rt, "HTTP://H/a/../%7e");
@@ -111,6 +117,7 @@ fn normal_uris(rt: HostRuntime) {
     end(&rt, rt.alloc());
 }
 
+/// Tests the normal form of a URI that owns its text while memory is denied.
 #[test]
 fn normal_forms_of_owned_uris(rt: HostRuntime) {
     let alloc = rt.alloc();
@@ -119,22 +126,25 @@ fn normal_forms_of_owned_uris(rt: HostRuntime) {
     end(&rt, alloc);
 }
 
+/// Tests the normal form of a URI reference while memory is denied.
 #[test]
 fn normal_uri_references(rt: HostRuntime) {
     has_normal_form::<_, UriRefKind>(&rt, rt.alloc(), "%7e", "~");
 }
 
+/// Tests the normal form of an IRI while memory is denied.
 #[test]
 fn normal_iris(rt: HostRuntime) {
     has_normal_form::<_, IriKind>(&rt, rt.alloc(), "S:%c3%a9", "s:é");
 }
 
+/// Tests the normal form of an IRI reference while memory is denied.
 #[test]
 fn normal_iri_references(rt: HostRuntime) {
     has_normal_form::<_, IriRefKind>(&rt, rt.alloc(), "%c3%a9", "é");
 }
 
-/// Formatting characters of bidirectional text are searched for in the decoded text.
+/// Tests `Normalizer::normalize` of an IRI with a formatting character while memory is denied.
 #[test]
 fn normal_forms_by_a_normalizer(rt: HostRuntime) {
     let alloc = rt.alloc();
@@ -145,6 +155,7 @@ fn normal_forms_by_a_normalizer(rt: HostRuntime) {
     end(&rt, alloc);
 }
 
+/// Tests the conversions of an IRI and an IRI reference to URIs while memory is denied.
 #[test]
 fn uris_of_iris(rt: HostRuntime) {
     let alloc = rt.alloc();
@@ -157,6 +168,7 @@ fn uris_of_iris(rt: HostRuntime) {
     end(&rt, alloc);
 }
 
+/// Tests `socket_target` of a name with percent-encoded octets while memory is denied.
 #[test]
 fn where_to_connect(rt: HostRuntime) {
     let alloc = rt.alloc();

@@ -8,6 +8,7 @@ use std::process::Abort;
 use test_support::equal;
 use uri_links::links::{Outcome, Register};
 
+/// Checks in a test of denied memory that the register of links has these targets.
 fn has_targets<R: Abort, P: DefaultPort>(rt: &R, register: &Register<P>, targets: &[&str]) {
     equal(register.len(), targets.len()).expect(rt, "how many targets");
     for (id, &wanted) in targets.iter().enumerate() {
@@ -16,15 +17,18 @@ fn has_targets<R: Abort, P: DefaultPort>(rt: &R, register: &Register<P>, targets
     }
 }
 
+/// Parses a literal URI, the base of links, for a test of denied memory, or ends the test.
 fn uri<'a, R: Abort>(rt: &R, text: &'a str) -> Uri<&'a str> {
     Uri::<&str>::parse(text).expect(rt, text)
 }
 
+/// Parses a literal URI reference, a link, for a test of denied memory, or ends the test.
 fn reference<'a, R: Abort>(rt: &R, text: &'a str) -> UriRef<&'a str> {
     UriRef::<&str>::parse(text).expect(rt, text)
 }
 
-/// Notes a reference, and checks the outcome. Before it the register has the targets `held`.
+/// Notes a link in a register, and checks the outcome. If memory is denied, the register still has
+/// the targets `held`, and notes the link again.
 fn notes<R: Abort + Print, P: DefaultPort>(
     rt: &R,
     register: &mut Register<P>,
@@ -45,6 +49,7 @@ fn notes<R: Abort + Print, P: DefaultPort>(
     equal(outcome, wanted).expect(rt, text);
 }
 
+/// Tests a register that notes a first link while memory is denied.
 #[test]
 fn new_link(rt: HostRuntime) {
     let mut register = Register::new(rt.alloc(), Normalizer::new());
@@ -53,6 +58,7 @@ fn new_link(rt: HostRuntime) {
     end(&rt, rt.alloc());
 }
 
+/// Tests a register that notes a link that it has while memory is denied.
 #[test]
 fn known_link(rt: HostRuntime) {
     let mut register = Register::new(rt.alloc(), Normalizer::new());
@@ -62,6 +68,7 @@ fn known_link(rt: HostRuntime) {
     end(&rt, rt.alloc());
 }
 
+/// Tests a register that notes a second link while memory is denied.
 #[test]
 fn second_link(rt: HostRuntime) {
     let mut register = Register::new(rt.alloc(), Normalizer::new());
@@ -71,7 +78,7 @@ fn second_link(rt: HostRuntime) {
     end(&rt, rt.alloc());
 }
 
-/// If an allocation fails, a prefix of the references was noted.
+/// Tests a register that notes links together: if memory is denied, it noted a prefix of them.
 #[test]
 fn links_together(rt: HostRuntime) {
     let base = uri(&rt, "s:/a");

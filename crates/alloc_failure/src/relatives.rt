@@ -4,6 +4,7 @@ use crate::values::is_text;
 use fluent_uri::{Iri, Uri};
 use uri_relative::{Relativize, Relativizer};
 
+/// Tests `Uri::relativize` while memory is denied.
 #[test]
 fn references_between_uris(rt: HostRuntime) {
     let alloc = rt.alloc();
@@ -23,6 +24,7 @@ fn references_between_uris(rt: HostRuntime) {
     end(&rt, alloc);
 }
 
+/// Tests `Iri::relativize` while memory is denied.
 #[test]
 fn references_between_iris(rt: HostRuntime) {
     let alloc = rt.alloc();
@@ -34,6 +36,7 @@ fn references_between_iris(rt: HostRuntime) {
     end(&rt, alloc);
 }
 
+/// Tests `Relativizer::relativize` to a relative path that is long while memory is denied.
 #[test]
 fn references_longer_than_their_targets(rt: HostRuntime) {
     let alloc = rt.alloc();

@@ -10,60 +10,67 @@ use std::process::Abort;
 
 /// An error that may say that an allocation failed.
 pub trait MayBeOutOfMemory {
+    /// Returns whether the error of a call in a test of denied memory is `OutOfMemory`.
     fn is_out_of_memory(&self) -> bool;
 }
 
 impl MayBeOutOfMemory for AllocError {
+    /// Returns true, since a call in a test of denied memory returns this error for no other cause.
     fn is_out_of_memory(&self) -> bool {
         true
     }
 }
 
 impl MayBeOutOfMemory for BuildError {
+    /// Returns whether the error of a builder in a test of denied memory is `OutOfMemory`.
     fn is_out_of_memory(&self) -> bool {
         matches!(*self, BuildError::OutOfMemory)
     }
 }
 
 impl MayBeOutOfMemory for DecodeError {
+    /// Returns whether the error of decoding in a test of denied memory is `OutOfMemory`.
     fn is_out_of_memory(&self) -> bool {
         matches!(self, DecodeError::OutOfMemory)
     }
 }
 
 impl MayBeOutOfMemory for NormalizeError {
+    /// Returns whether the error of normalising in a test of denied memory is `OutOfMemory`.
     fn is_out_of_memory(&self) -> bool {
         matches!(*self, NormalizeError::OutOfMemory)
     }
 }
 
 impl MayBeOutOfMemory for ResolveError {
+    /// Returns whether the error of resolving in a test of denied memory is `OutOfMemory`.
     fn is_out_of_memory(&self) -> bool {
         matches!(*self, ResolveError::OutOfMemory)
     }
 }
 
 impl MayBeOutOfMemory for SocketError {
+    /// Returns whether the error of `socket_target` in a test of denied memory is `OutOfMemory`.
     fn is_out_of_memory(&self) -> bool {
         matches!(*self, SocketError::OutOfMemory)
     }
 }
 
-/// Prints that an allocation failed in a call.
+/// Prints, in a test of denied memory, which call was denied it.
 pub fn report<R: Print>(rt: &R, call: &str) {
     let _ = println!(rt; "refused: {call}");
 }
 
-/// Makes the allocation after those of a test's calls, with which each test ends. If it is the one
-/// that fails, the calls met no failure, and the test prints so.
+/// Ends a test of denied memory by one more request. If that is the one that is denied, none of the
+/// calls was denied memory, and the test prints so.
 pub fn end<R: Print>(rt: &R, alloc: Global) {
     if String::from_str(alloc, "after the calls").is_err() {
         let _ = println!(rt; "refused none");
     }
 }
 
-/// Returns whether a call succeeded. If not, checks that its error is "out of memory", and prints
-/// so.
+/// Returns whether a call in a test of denied memory succeeded. If not, checks that its error is
+/// `OutOfMemory`, and prints so.
 pub fn succeeds<R: Abort + Print, T: Drop, E: MayBeOutOfMemory>(
     rt: &R,
     call: &str,
@@ -78,7 +85,7 @@ pub fn succeeds<R: Abort + Print, T: Drop, E: MayBeOutOfMemory>(
     }
 }
 
-/// Checks that the error of a call is "out of memory", and prints so.
+/// Checks that the error of a call in a test of denied memory is `OutOfMemory`, and prints so.
 pub fn assert_out_of_memory<R: Abort + Print, E: MayBeOutOfMemory>(rt: &R, call: &str, error: &E) {
     assert!(rt; error.is_out_of_memory(), "{call} returns another error");
     report(rt, call);

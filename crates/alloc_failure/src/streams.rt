@@ -16,8 +16,8 @@ use uri_streams::run::{Unwatched, run};
 use uri_streams::sink::Sink;
 use uri_streams::source::Source;
 
-/// Returns whether the command writes this text for the input. If not, checks that `run` reports
-/// the failed allocation, and wrote a prefix of the text.
+/// Returns whether `urilines` writes this text for the input. If not, checks that `run` reports
+/// denied memory and wrote a prefix of the text.
 fn writes<R: Abort + Print>(rt: &R, alloc: Global, job: &Job<'_>, input: &str, text: &str) -> bool {
     let Ok(reader) = BufReader::with_capacity(alloc, 16, input.as_bytes()) else {
         report(rt, "a reader");
@@ -40,6 +40,7 @@ fn writes<R: Abort + Print>(rt: &R, alloc: Global, job: &Job<'_>, input: &str, t
     }
 }
 
+/// Checks that `urilines` writes this text for the input, or in a second run if memory is denied.
 fn written<R: Abort + Print>(rt: &R, alloc: Global, command: Command<'_>, input: &str, text: &str) {
     let job = Job {
         command,
@@ -61,6 +62,7 @@ fn written<R: Abort + Print>(rt: &R, alloc: Global, command: Command<'_>, input:
     end(rt, alloc);
 }
 
+/// Tests `urilines normalize` while memory is denied.
 #[test]
 fn normalized_lines(rt: HostRuntime) {
     let command = Command::Each(LineCommand::Normalize(KindName::Uri));
@@ -70,6 +72,7 @@ fn normalized_lines(rt: HostRuntime) {
     written(&rt, rt.alloc(), command, input, text);
 }
 
+/// Tests `urilines resolve` while memory is denied.
 #[test]
 fn resolved_lines(rt: HostRuntime) {
     let base = Uri::<&str>::parse("s:/a").expect(&rt, "base");
@@ -77,6 +80,7 @@ fn resolved_lines(rt: HostRuntime) {
     written(&rt, rt.alloc(), command, "a b\na c\n", "a s:/b\na s:/c\n");
 }
 
+/// Tests `urilines parse` while memory is denied.
 #[test]
 fn parsed_lines(rt: HostRuntime) {
     let command = Command::Each(LineCommand::Parse(KindName::IriRef));
@@ -84,6 +88,7 @@ fn parsed_lines(rt: HostRuntime) {
     written(&rt, rt.alloc(), command, "a b?c\n", text);
 }
 
+/// Tests `urilines query` while memory is denied.
 #[test]
 fn queried_lines(rt: HostRuntime) {
     let command = Command::Each(LineCommand::Query(KindName::IriRef));
@@ -91,12 +96,14 @@ fn queried_lines(rt: HostRuntime) {
     written(&rt, rt.alloc(), command, "a ?b=%22&c\n", text);
 }
 
+/// Tests `urilines check` while memory is denied.
 #[test]
 fn checked_lines(rt: HostRuntime) {
     let command = Command::Each(LineCommand::Check(KindName::Uri, true));
     written(&rt, rt.alloc(), command, "a s:\na b\n", "a b\n");
 }
 
+/// Tests `urilines unique` while memory is denied.
 #[test]
 fn unique_lines(rt: HostRuntime) {
     let hasher = RandomState::new(&rt).expect(&rt, "random numbers");
@@ -110,6 +117,7 @@ fn unique_lines(rt: HostRuntime) {
     );
 }
 
+/// Tests `urilines links` while memory is denied.
 #[test]
 fn noted_lines(rt: HostRuntime) {
     let base = Uri::<&str>::parse("s:/a").expect(&rt, "base");

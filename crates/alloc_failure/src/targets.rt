@@ -10,7 +10,7 @@ use std::convert::AsStr;
 use std::process::Abort;
 use uri_parts::kind::{IriRefKind, UriRefKind};
 
-/// Checks the text of the target.
+/// Checks the target that `resolve_against` returns while memory is denied.
 fn is_resolved<R: Abort + Print, K: RefKind, T: AsStr>(
     rt: &R,
     alloc: Global,
@@ -22,7 +22,7 @@ fn is_resolved<R: Abort + Print, K: RefKind, T: AsStr>(
     is_text(rt, target.as_str(), wanted);
 }
 
-/// Resolves a reference and its copy.
+/// Checks the targets of a reference and of its copy while memory is denied.
 fn has_target<R: Abort + Print, K: RefKind>(rt: &R, alloc: Global, text: &str, wanted: &str) {
     let base = Reference::<K::Base, &str>::parse("s://h/a/b").expect(rt, "a base");
     let reference = Reference::<K, &str>::parse(text).expect(rt, text);
@@ -32,16 +32,19 @@ fn has_target<R: Abort + Print, K: RefKind>(rt: &R, alloc: Global, text: &str, w
     end(rt, alloc);
 }
 
+/// Tests the target of a URI reference while memory is denied.
 #[test]
 fn targets_of_uri_references(rt: HostRuntime) {
     has_target::<_, UriRefKind>(&rt, rt.alloc(), "../c?q", "s://h/c?q");
 }
 
+/// Tests the target of an IRI reference while memory is denied.
 #[test]
 fn targets_of_iri_references(rt: HostRuntime) {
     has_target::<_, IriRefKind>(&rt, rt.alloc(), "../é?q", "s://h/é?q");
 }
 
+/// Tests the target that `Resolver::resolve` returns while memory is denied.
 #[test]
 fn targets_by_a_resolver(rt: HostRuntime) {
     let alloc = rt.alloc();
@@ -53,6 +56,7 @@ fn targets_by_a_resolver(rt: HostRuntime) {
     end(&rt, alloc);
 }
 
+/// Tests the target that `Resolver::resolve_normalized` returns while memory is denied.
 #[test]
 fn normal_targets(rt: HostRuntime) {
     let alloc = rt.alloc();

@@ -7,16 +7,18 @@ use std::alloc::AllocError;
 use std::process::Abort;
 use test_support::equal;
 
+/// Makes a percent-encoded path of a literal for a test of denied memory, or ends the test.
 fn path<'a, R: Abort>(rt: &R, text: &'a str) -> EStr<'a, Path> {
     EStr::new(text).expect(rt, text)
 }
 
-/// Checks that a failed growth left the text as it was.
+/// Prints that a call that appends was denied memory, and checks that it left the text as it was.
 fn assert_unchanged<R: Abort + Print>(rt: &R, call: &str, text: &EString<Path>, left: &str) {
     report(rt, call);
     is_text(rt, text.as_str(), left);
 }
 
+/// Tests new texts that are percent-encoded, and what is pushed to one, while memory is denied.
 #[test]
 fn new_and_pushed_texts(rt: HostRuntime) {
     let alloc = rt.alloc();
@@ -40,7 +42,7 @@ fn new_and_pushed_texts(rt: HostRuntime) {
     end(&rt, alloc);
 }
 
-/// Each growth that fails leaves the text as it was, though some of it had been appended.
+/// Tests that `encode_str` leaves the text as it was if memory is denied after some was appended.
 #[test]
 fn encoded_texts(rt: HostRuntime) {
     let mut text = EString::<Path>::new(rt.alloc());
@@ -54,6 +56,7 @@ fn encoded_texts(rt: HostRuntime) {
     end(&rt, rt.alloc());
 }
 
+/// Tests that `encode_bytes` leaves the text as it was if memory is denied.
 #[test]
 fn encoded_bytes(rt: HostRuntime) {
     let mut text = EString::<Path>::new(rt.alloc());
@@ -66,6 +69,7 @@ fn encoded_bytes(rt: HostRuntime) {
     end(&rt, rt.alloc());
 }
 
+/// Tests a path that is decoded to bytes while memory is denied.
 #[test]
 fn decoded_bytes(rt: HostRuntime) {
     let alloc = rt.alloc();
@@ -78,6 +82,7 @@ fn decoded_bytes(rt: HostRuntime) {
     end(&rt, alloc);
 }
 
+/// Tests a path that is decoded to a text while memory is denied.
 #[test]
 fn decoded_texts(rt: HostRuntime) {
     let alloc = rt.alloc();
@@ -89,6 +94,7 @@ fn decoded_texts(rt: HostRuntime) {
     end(&rt, alloc);
 }
 
+/// Tests a path that is decoded by `to_string_lossy` while memory is denied.
 #[test]
 fn lossy_texts(rt: HostRuntime) {
     let alloc = rt.alloc();
@@ -98,7 +104,8 @@ fn lossy_texts(rt: HostRuntime) {
     end(&rt, alloc);
 }
 
-/// A text that is not UTF-8 gives an error with all of its bytes, or `OutOfMemory`.
+/// Tests that decoding what is not UTF-8 returns all of its bytes, or `OutOfMemory` if memory is
+/// denied.
 #[test]
 fn bytes_that_are_not_utf8(rt: HostRuntime) {
     let text = path(&rt, "0123456%FF8%C3%A9%FF");

@@ -6,27 +6,27 @@ use std::process::Abort;
 use test_support::equal;
 use uri_parts::kind::Kind;
 
-/// Parses a text of a kind.
+/// Parses a literal text of any kind for a test of denied memory, or ends the test.
 pub fn parsed<'a, R: Abort, K: Kind>(rt: &R, text: &'a str) -> Reference<K, &'a str> {
     Reference::<K, &str>::parse(text).expect(rt, text)
 }
 
-/// Makes an encoded text.
+/// Makes an encoded text of a literal for a test of denied memory, or ends the test.
 pub fn encoded<'a, R: Abort, E: Encoder>(rt: &R, text: &'a str) -> EStr<'a, E> {
     EStr::new(text).expect(rt, text)
 }
 
-/// Compares two texts.
+/// Ends a test of denied memory unless two texts are equal.
 pub fn is_text<R: Abort>(rt: &R, got: &str, wanted: &str) {
     equal(got, wanted).expect(rt, wanted);
 }
 
-/// Compares an encoded text that must be present.
+/// Ends a test of denied memory unless an encoded text is present and equal to a literal.
 pub fn is_encoded<R: Abort, E: Encoder>(rt: &R, got: Option<EStr<'_, E>>, wanted: &str) {
     is_text(rt, got.expect(rt, wanted).as_str(), wanted);
 }
 
-/// Ends the test unless this holds.
+/// Ends a test of denied memory unless this holds.
 pub fn holds<R: Abort>(rt: &R, is_so: bool, what: &str) {
     equal(is_so, true).expect(rt, what);
 }

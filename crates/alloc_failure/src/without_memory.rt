@@ -16,6 +16,7 @@ use uri_parts::kind::{IriKind, IriRefKind, Kind, UriKind, UriRefKind};
 
 const TEXT: &str = "s://u@h:1/a/b?q#f";
 
+/// Tests that parsing and the components request no memory.
 #[test]
 fn parsed_texts(rt: HostRuntime) {
     let uri = parsed::<_, UriKind>(&rt, TEXT);
@@ -33,11 +34,12 @@ fn parsed_texts(rt: HostRuntime) {
     end(&rt, rt.alloc());
 }
 
-/// Returns whether the empty text is of the kind.
+/// Returns whether the empty text is of the kind, for a test of calls that request no memory.
 fn is_empty_of_kind<K: Kind>(alloc: Global) -> bool {
     Reference::<K, String>::parse(String::new(alloc)).is_ok()
 }
 
+/// Tests that parsing and converting a text that is owned requests no memory.
 #[test]
 fn owned_texts(rt: HostRuntime) {
     let alloc = rt.alloc();
@@ -55,6 +57,7 @@ fn owned_texts(rt: HostRuntime) {
     end(&rt, alloc);
 }
 
+/// Tests that conversions to other kinds that fail request no memory.
 #[test]
 fn conversions(rt: HostRuntime) {
     let refused = Uri::try_from(parsed::<_, IriKind>(&rt, "s:é")).err();
@@ -64,6 +67,7 @@ fn conversions(rt: HostRuntime) {
     end(&rt, rt.alloc());
 }
 
+/// Tests that decoding to a text requests no memory if nothing is percent-encoded.
 #[test]
 fn texts_without_octets(rt: HostRuntime) {
     let alloc = rt.alloc();
@@ -76,6 +80,7 @@ fn texts_without_octets(rt: HostRuntime) {
     end(&rt, alloc);
 }
 
+/// Tests that decoding to bytes requests no memory if nothing is percent-encoded.
 #[test]
 fn bytes_without_octets(rt: HostRuntime) {
     let alloc = rt.alloc();
@@ -84,6 +89,7 @@ fn bytes_without_octets(rt: HostRuntime) {
     end(&rt, alloc);
 }
 
+/// Tests that encoding and decoding a single octet requests no memory.
 #[test]
 fn octets(rt: HostRuntime) {
     is_text(&rt, EStr::<Path>::encode_byte(255).as_str(), "%FF");
@@ -94,6 +100,7 @@ fn octets(rt: HostRuntime) {
     end(&rt, rt.alloc());
 }
 
+/// Tests that `socket_target` requests no memory for a name without percent-encoded octets.
 #[test]
 fn where_to_connect(rt: HostRuntime) {
     let alloc = rt.alloc();
@@ -111,6 +118,7 @@ fn where_to_connect(rt: HostRuntime) {
     end(&rt, alloc);
 }
 
+/// Tests that `socket_target` requests no memory for an invalid port, nor `default_port` any.
 #[test]
 fn ports(rt: HostRuntime) {
     let far = parsed::<_, UriRefKind>(&rt, "//%41:65536").authority();
@@ -127,6 +135,7 @@ const REFUSED: &[(&str, ResolveError)] = &[
     ("s:/a#f", ResolveError::BaseWithFragment),
 ];
 
+/// Tests that `resolve_against` requests no memory for a reference that has no target.
 #[test]
 fn references_without_a_target(rt: HostRuntime) {
     let alloc = rt.alloc();
@@ -142,6 +151,7 @@ fn references_without_a_target(rt: HostRuntime) {
     end(&rt, alloc);
 }
 
+/// Tests that a `Resolver` requests no memory for a reference that has no target.
 #[test]
 fn resolvers_without_a_target(rt: HostRuntime) {
     let alloc = rt.alloc();
@@ -155,6 +165,7 @@ fn resolvers_without_a_target(rt: HostRuntime) {
     end(&rt, alloc);
 }
 
+/// Tests that a register of links requests no memory for a reference that has no target.
 #[test]
 fn links_without_a_target(rt: HostRuntime) {
     let reference = parsed::<_, UriRefKind>(&rt, "//g");
@@ -167,6 +178,7 @@ fn links_without_a_target(rt: HostRuntime) {
     end(&rt, rt.alloc());
 }
 
+/// Tests that builders of an empty reference request no memory.
 #[test]
 fn builders_of_nothing(rt: HostRuntime) {
     let alloc = rt.alloc();

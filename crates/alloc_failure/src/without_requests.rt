@@ -15,12 +15,14 @@ use uri_parts::kind::{IriKind, IriRefKind, Kind, UriKind, UriRefKind};
 
 const TEXT: &str = "s://u@h:1/a/b?q#f";
 
-/// Returns whether a value of each kind has an authority, a query and a fragment.
+/// Returns whether a value of the kind has an authority, a query and a fragment, by calls that make
+/// no request for memory.
 fn has_components<R: Abort, K: Kind>(rt: &R) -> bool {
     let value = parsed::<_, K>(rt, TEXT);
     value.has_authority() && value.has_query() && value.has_fragment()
 }
 
+/// Tests that calls such as `has_query` make no request for memory.
 #[test]
 fn presence_of_components(rt: HostRuntime) {
     holds(&rt, has_components::<_, UriKind>(&rt), "Uri");
@@ -40,7 +42,7 @@ fn presence_of_components(rt: HostRuntime) {
     end(&rt, rt.alloc());
 }
 
-/// Returns the version of the address in brackets or of the IPv4 address, or 0.
+/// Returns the version of a host's address, or 0, by calls that make no request for memory.
 fn version_of<U: Encoder, N: Encoder>(authority: Authority<'_, U, N>) -> u8 {
     match authority.host_parsed() {
         HostOf::Ipv4(_) => 4,
@@ -50,6 +52,7 @@ fn version_of<U: Encoder, N: Encoder>(authority: Authority<'_, U, N>) -> u8 {
     }
 }
 
+/// Tests that `host_parsed` and `port_to_u16` make no request for memory.
 #[test]
 fn hosts_and_ports(rt: HostRuntime) {
     for (text, wanted) in [("//127.0.0.1:80", 4), ("//[::1]:80", 6), ("//[v1.a]:80", 7)] {
@@ -62,6 +65,7 @@ fn hosts_and_ports(rt: HostRuntime) {
     end(&rt, rt.alloc());
 }
 
+/// Tests that cutting an encoded text and widening its encoder make no request for memory.
 #[test]
 fn texts_of_encoders(rt: HostRuntime) {
     let path = encoded::<_, Path>(&rt, "a/b");
@@ -75,6 +79,7 @@ fn texts_of_encoders(rt: HostRuntime) {
     end(&rt, rt.alloc());
 }
 
+/// Tests that empty texts make no request for memory.
 #[test]
 fn empty_texts(rt: HostRuntime) {
     let empty = EString::<Path>::new(rt.alloc());
@@ -87,6 +92,7 @@ fn empty_texts(rt: HostRuntime) {
     end(&rt, rt.alloc());
 }
 
+/// Tests that making and combining tables makes no request for memory.
 #[test]
 fn tables(rt: HostRuntime) {
     let letters = Table::new(b"ab")
@@ -101,6 +107,7 @@ fn tables(rt: HostRuntime) {
     end(&rt, rt.alloc());
 }
 
+/// Tests that the calls of IP addresses make no request for memory.
 #[test]
 fn addresses(rt: HostRuntime) {
     let (v4, v6) = (
@@ -115,6 +122,7 @@ fn addresses(rt: HostRuntime) {
     end(&rt, rt.alloc());
 }
 
+/// Tests that the setters of resolvers and normalisers make no request for memory.
 #[test]
 fn setters(rt: HostRuntime) {
     let base = Uri::<&str>::parse("s:/a").expect(&rt, "a base");

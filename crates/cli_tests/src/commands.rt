@@ -18,6 +18,7 @@ const WHOLE: &[&str] = &[
     "foo://example.com/over/there?name=ferret#nose",
 ];
 
+/// Runs `uritool` with these words over two writers, and returns its status.
 fn run_words<O: Write, E: Write>(
     alloc: Global,
     words: &[&str],
@@ -31,6 +32,7 @@ fn run_words<O: Write, E: Write>(
     Ok(run(alloc, owned.as_slice(), out, err).status)
 }
 
+/// Checks the status that `uritool` ends with for these words, and its two outputs.
 fn ends_with<R: Abort>(rt: &R, alloc: Global, words: &[&str], status: u8, out: &str, err: &str) {
     let (mut got_out, mut got_err) = (Vec::new(alloc), Vec::new(alloc));
     let got = run_words(alloc, words, &mut got_out, &mut got_err).expect(rt, "memory");
@@ -121,6 +123,7 @@ const SUCCESSES: &[(&[&str], &str)] = &[
     ),
 ];
 
+/// Tests what `uritool` prints for commands that succeed.
 #[test]
 fn prints_outputs(rt: HostRuntime) {
     for &(words, out) in SUCCESSES {
@@ -220,6 +223,7 @@ const REJECTIONS: &[(&[&str], &str)] = &[
     ),
 ];
 
+/// Tests the error line that `uritool` prints for a text that it rejects.
 #[test]
 fn prints_why_words_are_rejected(rt: HostRuntime) {
     for &(words, err) in REJECTIONS {
@@ -237,6 +241,7 @@ const RESOLVE_ERRORS: &[ResolveError] = &[
     ResolveError::OutOfMemory,
 ];
 
+/// Tests that the messages of `uritool` have the texts that the library's errors print.
 #[test]
 fn says_what_the_errors_say(rt: HostRuntime) {
     let alloc = rt.alloc();
@@ -274,6 +279,7 @@ const OTHERS: &[&[&str]] = &[
     &["link", "http://x/", "a"],
 ];
 
+/// Tests that `uritool` prints its usage for words that are no command.
 #[test]
 fn shows_usage(rt: HostRuntime) {
     for &words in OTHERS {
@@ -281,7 +287,7 @@ fn shows_usage(rt: HostRuntime) {
     }
 }
 
-/// That the output fails after so many writes, and that this is said.
+/// Checks that `uritool` reports an output that fails after so many writes.
 fn output_fails<R: Abort>(rt: &R, alloc: Global, words: &[&str], writes: usize) {
     let mut err = Vec::new(alloc);
     let status = run_words(alloc, words, &mut FailsAfter(writes), &mut err).expect(rt, "memory");
@@ -289,6 +295,7 @@ fn output_fails<R: Abort>(rt: &R, alloc: Global, words: &[&str], writes: usize) 
     equal(err.as_slice(), b"error: output failed\n".as_slice()).expect(rt, "error output");
 }
 
+/// Tests that `uritool` reports that its output failed.
 #[test]
 fn says_that_the_output_failed(rt: HostRuntime) {
     let alloc = rt.alloc();
@@ -304,8 +311,8 @@ fn says_that_the_output_failed(rt: HostRuntime) {
     equal(status.expect(&rt, "memory"), 0).expect(&rt, "status");
 }
 
-/// Returns whether the words succeed if the output takes this many writes. If not, the error line
-/// says that the output failed.
+/// Returns whether `uritool` succeeds if its output takes this many writes. If not, checks that it
+/// reports that the output failed.
 fn succeeds_with_writes<R: Abort>(rt: &R, alloc: Global, words: &[&str], writes: usize) -> bool {
     let mut err = Vec::new(alloc);
     let status = run_words(alloc, words, &mut FailsAfter(writes), &mut err).expect(rt, "memory");
@@ -319,7 +326,7 @@ fn succeeds_with_writes<R: Abort>(rt: &R, alloc: Global, words: &[&str], writes:
     status == 0
 }
 
-/// Each write of each command fails in turn, up to a run in which none does.
+/// Tests `uritool` while each write of each command fails in turn, up to a run in which none does.
 #[test]
 fn each_write_fails(rt: HostRuntime) {
     let alloc = rt.alloc();
@@ -355,6 +362,7 @@ const WITHOUT_ERRORS: &[(&[&str], u8)] = &[
     (&["parse", "url", "a"], 2),
 ];
 
+/// Tests that `uritool` ends with the same status if its error output fails.
 #[test]
 fn status_is_the_same_if_error_output_fails(rt: HostRuntime) {
     let alloc = rt.alloc();
@@ -367,6 +375,7 @@ fn status_is_the_same_if_error_output_fails(rt: HostRuntime) {
     equal(status.expect(&rt, "memory"), 1).expect(&rt, "status");
 }
 
+/// Tests that `uritool` goes on after writes that are short or interrupted.
 #[test]
 fn goes_on_after_short_and_interrupted_writes(rt: HostRuntime) {
     let alloc = rt.alloc();

@@ -8,12 +8,13 @@ const LENGTH: usize = 10_000_000;
 /// A prefix, and the unit that is repeated after it.
 type Large = (&'static str, &'static str);
 
+/// Makes a large text for a test of `uritool`: a prefix, and a unit so many times.
 fn repeated(alloc: Global, (prefix, unit): Large, times: usize) -> Result<String, AllocError> {
     let units = unit.repeat(alloc, times)?;
     format!(in alloc; "{prefix}{units}")
 }
 
-/// What the words and then a text of so many units end with, and what they have printed.
+/// Runs `uritool` with a text of so many units after the words, and returns its status and outputs.
 fn run_on(
     alloc: Global,
     words: &[&str],
@@ -45,6 +46,7 @@ const SUCCESSES: &[(&[&str], Large, Large)] = &[
     ),
 ];
 
+/// Tests what `uritool` prints for texts of 10 MB.
 #[test]
 fn prints_outputs(rt: HostRuntime) {
     let alloc = rt.alloc();
@@ -83,6 +85,7 @@ const REJECTIONS: &[(&[&str], Large, &str)] = &[
     ),
 ];
 
+/// Tests the error line that `uritool` prints for a text of 10 MB that it rejects.
 #[test]
 fn prints_why_texts_are_rejected(rt: HostRuntime) {
     for &(words, text, line) in REJECTIONS {

@@ -15,6 +15,7 @@ use std::collections::BTreeMap;
 use std::process::Abort;
 use test_support::{equal, prints};
 
+/// Copies literal words for a test of the programs of `cookbook`.
 fn owned(alloc: Global, words: &[&str]) -> Result<Vec<String>, AllocError> {
     let mut owned = Vec::new(alloc);
     for word in words {
@@ -33,7 +34,7 @@ enum Printing<'a> {
     Pairs,
 }
 
-/// Returns what is printed for the lines, and how many are rejected.
+/// Returns what a program of `cookbook` prints for the lines, and how many it rejects.
 fn run(
     alloc: Global,
     printing: &Printing<'_>,
@@ -93,6 +94,7 @@ const RUNS: &[(Printing<'static>, &[&str], &str, usize)] = &[
     ),
 ];
 
+/// Tests what the programs of `cookbook` print for stored lines.
 #[test]
 fn prints_what_stored_lines_come_to(rt: HostRuntime) {
     for (printing, lines, out, rejected) in RUNS {
@@ -102,6 +104,7 @@ fn prints_what_stored_lines_come_to(rt: HostRuntime) {
     }
 }
 
+/// Tests the parts that `cookbook` takes from a reference.
 #[test]
 fn takes_a_reference_apart(rt: HostRuntime) {
     let got = parts_of("foo://user@example.com:8042/over/there?name=ferret#nose");
@@ -111,6 +114,7 @@ fn takes_a_reference_apart(rt: HostRuntime) {
     equal(got.path, "/over/there").expect(&rt, "path");
 }
 
+/// Tests the URI that `cookbook` builds of segments and a pair that a user typed.
 #[test]
 fn builds_from_what_was_typed(rt: HostRuntime) {
     let alloc = rt.alloc();
@@ -139,6 +143,7 @@ fn builds_from_what_was_typed(rt: HostRuntime) {
     .expect(&rt, "dots");
 }
 
+/// Tests that `cookbook` counts visits of equivalent URIs together.
 #[test]
 fn counts_visits(rt: HostRuntime) {
     let alloc = rt.alloc();
@@ -158,6 +163,7 @@ const PORTS: &[(&str, Option<u16>)] = &[
     ("mailto:a@b", None),
 ];
 
+/// Tests at which port `cookbook` reaches a URI.
 #[test]
 fn finds_where_to_connect_to(rt: HostRuntime) {
     let alloc = rt.alloc();

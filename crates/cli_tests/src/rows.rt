@@ -7,6 +7,7 @@ use test_support::equal;
 use test_vectors::run::run;
 use test_vectors::{Row, push_rows};
 
+/// Checks the status that `vectors` ends with for these rows, and the lines that it prints.
 fn prints<R: Abort>(rt: &R, alloc: Global, text: &str, status: u8, lines: &str) {
     let mut rows: Vec<Row<'_>> = Vec::new(alloc);
     push_rows(alloc, "f", text.as_bytes(), &mut rows).expect(rt, text);
@@ -27,6 +28,7 @@ resolve uri s:/a/b ../c -> s:/c
 to-string-lossy a%20b -> owned a\\sb
 ";
 
+/// Tests that `vectors` counts the rows that hold.
 #[test]
 fn rows_that_hold_are_counted(rt: HostRuntime) {
     prints(&rt, rt.alloc(), HOLD, 0, "rows 6 failed 0\n");
@@ -58,6 +60,7 @@ fail f:9: expected error BaseWithFragment, got error InvalidReferenceAgainstOpaq
 rows 9 failed 8
 ";
 
+/// Tests that `vectors` prints a line for each row that differs.
 #[test]
 fn rows_that_differ_are_named(rt: HostRuntime) {
     prints(&rt, rt.alloc(), DIFFER, 1, DIFFERENCES);
@@ -90,11 +93,13 @@ fail f:10: a text is not of its kind
 rows 9 failed 9
 ";
 
+/// Tests that `vectors` prints a line for each malformed row.
 #[test]
 fn malformed_rows_are_named(rt: HostRuntime) {
     prints(&rt, rt.alloc(), MALFORMED, 1, FAULTS);
 }
 
+/// Tests that `vectors` ends with status 1 if a write fails.
 #[test]
 fn failing_write_is_status_one(rt: HostRuntime) {
     let alloc = rt.alloc();

@@ -6,6 +6,7 @@ use std::io::{self, ErrorKind, Write};
 pub struct FailsAfter(pub usize);
 
 impl Write for FailsAfter {
+    /// Takes what `uritool` or `vectors` writes, and fails after so many writes.
     fn write(&mut self, buf: &[u8]) -> io::Result<usize> {
         if self.0 == 0 {
             return Err(io::Error::from(ErrorKind::BrokenPipe));
@@ -14,6 +15,7 @@ impl Write for FailsAfter {
         Ok(buf.len())
     }
 
+    /// Does nothing, since this writer for tests of `uritool` and `vectors` has no buffer.
     fn flush(&mut self) -> io::Result<()> {
         Ok(())
     }
@@ -27,6 +29,7 @@ pub struct Slow {
 }
 
 impl Write for Slow {
+    /// Takes one byte of what `uritool` writes, and is interrupted before each.
     fn write(&mut self, buf: &[u8]) -> io::Result<usize> {
         self.is_interrupted = !self.is_interrupted;
         if self.is_interrupted {
@@ -35,6 +38,7 @@ impl Write for Slow {
         self.taken.write(&buf[..buf.len().min(1)])
     }
 
+    /// Does nothing, since this slow writer for tests of `uritool` has no buffer.
     fn flush(&mut self) -> io::Result<()> {
         Ok(())
     }

@@ -19,6 +19,8 @@ fn addresses_are_ordered_by_their_numbers(rt: HostRuntime) {
     equal(small == same, true).expect(&rt, "the same numbers");
 }
 
+/// Tests that an authority prints as it is written, and the IPv6 address in it in its canonical
+/// form.
 #[test]
 fn authorities_print_unchanged(rt: HostRuntime) {
     let alloc = rt.alloc();
@@ -36,12 +38,13 @@ fn authorities_print_unchanged(rt: HostRuntime) {
     }
 }
 
-/// Checks that an address is this one of std.
+/// Checks in a test that an IP address is this one of std.
 fn is_address<R: Abort>(rt: &R, ours: IpAddr, theirs: net::IpAddr) {
     equal(ours.to_std(), theirs).expect(rt, "to_std");
     equal(IpAddr::from(theirs), ours).expect(rt, "from");
 }
 
+/// Tests that IPv4 addresses are those of std.
 #[test]
 fn ipv4_addresses_of_std(rt: HostRuntime) {
     let localhost = net::IpAddr::V4(net::Ipv4Addr::new(127, 0, 0, 1));
@@ -50,6 +53,7 @@ fn ipv4_addresses_of_std(rt: HostRuntime) {
     is_address(&rt, IpAddr::V4(Ipv4Addr::UNSPECIFIED), unspecified);
 }
 
+/// Tests that IPv6 addresses are those of std.
 #[test]
 fn ipv6_addresses_of_std(rt: HostRuntime) {
     let localhost = net::IpAddr::V6(net::Ipv6Addr::new(0, 0, 0, 0, 0, 0, 0, 1));

@@ -9,23 +9,28 @@ use fluent_uri::{Iri, IriRef, RiMaybeRef, Uri, UriRef};
 use std::process::Abort;
 use test_support::equal;
 
+/// Makes an encoded text of a literal for a test of what builders make, or ends the test.
 fn part<'a, R: Abort, E: Encoder>(rt: &R, text: &'a str) -> EStr<'a, E> {
     EStr::new(text).expect(rt, text)
 }
 
+/// Makes a scheme of a literal for a test of what builders make, or ends the test.
 fn scheme<'a, R: Abort>(rt: &R, text: &'a str) -> Scheme<'a> {
     Scheme::new(text).expect(rt, text)
 }
 
+/// Checks in a test that a builder returned this text.
 fn is_built<A: Abort, R: RiMaybeRef + Drop>(rt: &A, built: Result<R, BuildError>, wanted: &str) {
     equal(built.expect(rt, wanted).as_str(), wanted).expect(rt, wanted);
 }
 
+/// Checks in a test that a builder returned this error.
 fn is_rejected<R: Abort>(rt: &R, built: Result<UriRef<String>, BuildError>, wanted: BuildError) {
     equal(built.err(), Some(wanted)).expect(rt, "a refusal");
 }
 
-/// RFC 3986, section 3.3: without an authority a path doesn't begin with `//`.
+/// Tests that a builder without an authority rejects a path that begins with `//` (RFC 3986,
+/// section 3.3).
 #[test]
 fn path_with_two_slashes(rt: HostRuntime) {
     let built = UriRef::<String>::builder(rt.alloc())
@@ -34,7 +39,8 @@ fn path_with_two_slashes(rt: HostRuntime) {
     is_rejected(&rt, built, BuildError::PathStartsWithDoubleSlash);
 }
 
-/// RFC 3986, section 4.2: a relative path has no `:` in its first segment.
+/// Tests that a builder rejects a `:` in the first segment of a relative path (RFC 3986, section
+/// 4.2).
 #[test]
 fn colon_in_the_first_segment(rt: HostRuntime) {
     let built = UriRef::<String>::builder(rt.alloc())
@@ -47,6 +53,7 @@ fn colon_in_the_first_segment(rt: HostRuntime) {
     is_built(&rt, dotted, "./a:b");
 }
 
+/// Tests that a builder with a scheme takes a `:` in the first segment of a path.
 #[test]
 fn colon_after_a_scheme(rt: HostRuntime) {
     let built = Uri::<String>::builder(rt.alloc())
@@ -56,6 +63,7 @@ fn colon_after_a_scheme(rt: HostRuntime) {
     is_built(&rt, built, "foo:a:b");
 }
 
+/// Tests a builder with an optional query and an optional fragment.
 #[test]
 fn optional_parts(rt: HostRuntime) {
     let built = UriRef::<String>::builder(rt.alloc())
@@ -66,7 +74,7 @@ fn optional_parts(rt: HostRuntime) {
     is_built(&rt, built, "foo?bar");
 }
 
-/// `optional` returns the builder that its closure returns.
+/// Tests that `optional` of a builder returns the builder that its closure returns.
 #[test]
 fn another_builder_for_an_optional_part(rt: HostRuntime) {
     let alloc = rt.alloc();
@@ -81,6 +89,7 @@ fn another_builder_for_an_optional_part(rt: HostRuntime) {
     is_built(&rt, built, "/y");
 }
 
+/// Tests builders of an IRI and an IRI reference with characters past ASCII.
 #[test]
 fn international_parts(rt: HostRuntime) {
     let iri = Iri::<String>::builder(rt.alloc())
@@ -97,6 +106,7 @@ fn international_parts(rt: HostRuntime) {
     is_built(&rt, reference, "#é");
 }
 
+/// Tests a builder with an empty authority.
 #[test]
 fn empty_authority(rt: HostRuntime) {
     let built = Uri::<String>::builder(rt.alloc())
@@ -107,6 +117,7 @@ fn empty_authority(rt: HostRuntime) {
     is_built(&rt, built, "file:///path/to/file");
 }
 
+/// Tests a builder with the authority of another URI.
 #[test]
 fn authority_of_another_uri(rt: HostRuntime) {
     let text = "foo://user@example.com:8042";
@@ -119,8 +130,8 @@ fn authority_of_another_uri(rt: HostRuntime) {
     is_built(&rt, built, "http://user@example.com:8042");
 }
 
-/// A name with the form of an IPv4 address is one (RFC 3986, section 3.2.2), and the default port
-/// is left out.
+/// Tests a builder with a name that has the form of an IPv4 address, and is one (RFC 3986, section
+/// 3.2.2), and with a default port, which is left out.
 #[test]
 fn address_from_a_registered_name(rt: HostRuntime) {
     let name: EStr<'_, RegName> = part(&rt, "127.0.0.1");
@@ -142,6 +153,7 @@ fn address_from_a_registered_name(rt: HostRuntime) {
     equal(rootless.err(), Some(BuildError::NonemptyRootlessPath)).expect(&rt, "a refusal");
 }
 
+/// Tests a builder with an IPv6 address as host and a number as port.
 #[test]
 fn ipv6_address_and_a_port(rt: HostRuntime) {
     let built = UriRef::<String>::builder(rt.alloc())
@@ -153,6 +165,7 @@ fn ipv6_address_and_a_port(rt: HostRuntime) {
     is_built(&rt, built, "//[::1]:0");
 }
 
+/// Tests a builder with an empty port.
 #[test]
 fn empty_port(rt: HostRuntime) {
     let name: EStr<'_, RegName> = part(&rt, "h");
@@ -163,6 +176,7 @@ fn empty_port(rt: HostRuntime) {
     is_built(&rt, built, "//h:");
 }
 
+/// Tests that a builder writes a port that is not the default one.
 #[test]
 fn port_that_is_not_the_default(rt: HostRuntime) {
     let name: EStr<'_, RegName> = part(&rt, "h");
@@ -174,7 +188,7 @@ fn port_that_is_not_the_default(rt: HostRuntime) {
     is_built(&rt, built, "http://h:8080/");
 }
 
-/// The example of RFC 3986, section 3, with userinfo.
+/// Tests a builder with each part, on the example of RFC 3986, section 3, with userinfo.
 #[test]
 fn each_part(rt: HostRuntime) {
     let user: EStr<'_, Userinfo> = part(&rt, "user");
@@ -193,7 +207,8 @@ fn each_part(rt: HostRuntime) {
     );
 }
 
-/// Userinfo and port may each be optional, and an IRI has its own names.
+/// Tests builders with an `IpAddr` as host and optional userinfo and port, and with a name of an
+/// IRI.
 #[test]
 fn address_of_either_version(rt: HostRuntime) {
     let reference = IriRef::<String>::builder(rt.alloc())
@@ -214,7 +229,7 @@ fn address_of_either_version(rt: HostRuntime) {
     is_built(&rt, named, "//é");
 }
 
-/// RFC 3986, section 3.3: after an authority a path is empty or begins with `/`.
+/// Tests that a builder rejects a rootless path after an authority (RFC 3986, section 3.3).
 #[test]
 fn rootless_path_after_an_authority(rt: HostRuntime) {
     let built = UriRef::<String>::builder(rt.alloc())
@@ -224,7 +239,7 @@ fn rootless_path_after_an_authority(rt: HostRuntime) {
     is_rejected(&rt, built, BuildError::NonemptyRootlessPath);
 }
 
-/// `authority_with` returns the builder that its closure returns.
+/// Tests that `authority_with` of a builder returns the builder that its closure returns.
 #[test]
 fn another_builder_for_the_authority(rt: HostRuntime) {
     let alloc = rt.alloc();

@@ -8,11 +8,13 @@ use std::fmt::Debug;
 use std::process::Abort;
 use test_support::equal;
 
+/// Checks in a test what `{:?}` prints of a value.
 fn prints<R: Abort, D: Debug>(rt: &R, alloc: Global, value: &D, wanted: &str) {
     let printed = format!(in alloc; "{value:?}").expect(rt, wanted);
     equal(printed.as_str(), wanted).expect(rt, wanted);
 }
 
+/// Tests what `{:?}` prints of a URI with all components.
 #[test]
 fn uri_of_all_components(rt: HostRuntime) {
     let uri = Uri::<&str>::parse("a://u@b:1/p?q#f").expect(&rt, "a URI");
@@ -23,6 +25,7 @@ fn uri_of_all_components(rt: HostRuntime) {
     prints(&rt, rt.alloc(), &uri, wanted);
 }
 
+/// Tests what `{:?}` prints of a URI reference that owns its text.
 #[test]
 fn owned_uri_reference(rt: HostRuntime) {
     let reference = UriRef::<&str>::parse("//1.2.3.4").expect(&rt, "a URI reference");
@@ -33,6 +36,7 @@ fn owned_uri_reference(rt: HostRuntime) {
     prints(&rt, rt.alloc(), &owned, wanted);
 }
 
+/// Tests what `{:?}` prints of an IRI without an authority.
 #[test]
 fn iri_without_an_authority(rt: HostRuntime) {
     let iri = Iri::<&str>::parse("a:é").expect(&rt, "an IRI");
@@ -40,6 +44,7 @@ fn iri_without_an_authority(rt: HostRuntime) {
     prints(&rt, rt.alloc(), &iri, wanted);
 }
 
+/// Tests what `{:?}` prints of an IRI reference whose host is an address.
 #[test]
 fn iri_reference_with_an_address(rt: HostRuntime) {
     let reference = IriRef::<&str>::parse("//[::1]:").expect(&rt, "an IRI reference");
@@ -49,6 +54,7 @@ fn iri_reference_with_an_address(rt: HostRuntime) {
     prints(&rt, rt.alloc(), &reference, wanted);
 }
 
+/// Tests what `{:?}` prints of an encoded text and of an IP address.
 #[test]
 fn encoded_text_and_address(rt: HostRuntime) {
     prints(&rt, rt.alloc(), &EString::<Path>::new(rt.alloc()), "\"\"");

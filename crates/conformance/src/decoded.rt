@@ -6,7 +6,7 @@ use std::alloc::Global;
 use std::process::Abort;
 use test_support::equal;
 
-/// Decodes to bytes, and makes them owned.
+/// Checks in a test the decoded bytes, whether they are borrowed, and the same bytes made owned.
 fn has_bytes<R: Abort>(rt: &R, alloc: Global, decode: Decode<'_>, wanted: &str, is_borrowed: bool) {
     let decoded = decode.to_bytes(alloc).expect(rt, wanted);
     equal(decoded.as_slice(), wanted.as_bytes()).expect(rt, wanted);
@@ -15,7 +15,7 @@ fn has_bytes<R: Abort>(rt: &R, alloc: Global, decode: Decode<'_>, wanted: &str, 
     equal(owned.as_slice(), wanted.as_bytes()).expect(rt, wanted);
 }
 
-/// Decodes to a text, and makes it owned.
+/// Checks in a test the decoded text, whether it is borrowed, and the same text made owned.
 fn has_text<R: Abort>(rt: &R, alloc: Global, decode: Decode<'_>, wanted: &str, is_borrowed: bool) {
     let decoded = decode.to_string(alloc).expect(rt, wanted);
     equal(decoded.as_str(), wanted).expect(rt, wanted);
@@ -24,6 +24,7 @@ fn has_text<R: Abort>(rt: &R, alloc: Global, decode: Decode<'_>, wanted: &str, i
     equal(owned.as_str(), wanted).expect(rt, wanted);
 }
 
+/// Tests that decoded bytes and texts, borrowed or not, can be made owned.
 #[test]
 fn decoded_texts_become_owned(rt: HostRuntime) {
     for (text, wanted, is_borrowed) in [("a/b", "a/b", true), ("%C3%A9", "é", false)] {
@@ -34,6 +35,7 @@ fn decoded_texts_become_owned(rt: HostRuntime) {
     }
 }
 
+/// Tests the length and the segments of an encoded path that owns its text.
 #[test]
 fn owned_path(rt: HostRuntime) {
     let path = valid::<_, Path>(&rt, "/a%20/b").to_owned(rt.alloc());
@@ -48,6 +50,7 @@ fn owned_path(rt: HostRuntime) {
     equal(first.map(EStr::as_str), Some("a%20")).expect(&rt, "first");
 }
 
+/// Tests that a clone of the segments of a path goes on by itself.
 #[test]
 fn clones_go_on_by_themselves(rt: HostRuntime) {
     let path = valid::<_, Path>(&rt, "/a%20/b");

@@ -9,13 +9,14 @@ use std::alloc::Global;
 use std::process::Abort;
 use test_support::{equal, prints};
 
-/// Whether the value of the text, if there is one, is as the text.
+/// Returns whether the `EStr` of a text has this text, or `None` if the encoder does not allow it.
 fn keeps<E: Encoder>(text: &str) -> Option<bool> {
     let valid = EStr::<E>::new(text)?;
     let as_long = valid.len() == text.len() && valid.is_empty() == text.is_empty();
     Some(valid.as_str() == text && as_long)
 }
 
+/// Tests which texts the encoders of a caller allow.
 #[test]
 fn encoders_of_a_caller(rt: HostRuntime) {
     let kept = [
@@ -27,6 +28,7 @@ fn encoders_of_a_caller(rt: HostRuntime) {
     equal(kept, [Some(true), None, Some(true), None]).expect(&rt, "encoders");
 }
 
+/// Tests the `EStr` of a literal text, and the empty one.
 #[test]
 fn given_texts(rt: HostRuntime) {
     equal(EStr::<Path>::EMPTY.is_empty(), true).expect(&rt, "EMPTY");
@@ -35,7 +37,7 @@ fn given_texts(rt: HostRuntime) {
     equal(EStr::<Path>::new_or_panic("a/b").as_str(), "a/b").expect(&rt, "new_or_panic");
 }
 
-/// The text, and whether it is borrowed.
+/// Returns a decoded text, and whether it is borrowed, for a test to compare.
 fn decoded<'a>(text: &'a CowStr<'_>) -> (&'a str, bool) {
     match text {
         CowStr::Borrowed(text) => (text, true),
@@ -53,6 +55,7 @@ const CHUNKS: &[Option<DecodedChunk<'static>>] = &[
     None,
 ];
 
+/// Tests the chunks that an encoded text decodes to.
 #[test]
 fn chunks(rt: HostRuntime) {
     let mut chunks = valid::<_, Path>(&rt, "ab%20%2fc").decode();
@@ -61,7 +64,7 @@ fn chunks(rt: HostRuntime) {
     }
 }
 
-/// What is left after a part was taken.
+/// Tests that what is left of an encoded text after its first chunk is decoded.
 #[test]
 fn remaining_text_is_decoded(rt: HostRuntime) {
     let mut chunks = valid::<_, Path>(&rt, "%FFab").decode();
@@ -70,6 +73,7 @@ fn remaining_text_is_decoded(rt: HostRuntime) {
     equal(decoded(&string), ("ab", true)).expect(&rt, "the rest");
 }
 
+/// Tests the substrings between the `/` of a path, taken from both ends.
 #[test]
 fn substrings_from_both_ends(rt: HostRuntime) {
     let mut pieces = valid::<_, Path>(&rt, "a/b/c").split('/');
@@ -81,7 +85,7 @@ fn substrings_from_both_ends(rt: HostRuntime) {
     equal(prefix.is_none() && back.is_none(), true).expect(&rt, "no piece");
 }
 
-/// Checks that a substring decodes to the name, `=` and the value.
+/// Checks in a test that a substring of a query decodes to the name, `=` and the value.
 fn is_pair<R: Abort>(rt: &R, alloc: Global, piece: EStr<'_, Query>, name: &str, value: &str) {
     let (before, after) = piece.split_once('=').expect(rt, name);
     let before = before.decode().to_string_lossy(alloc).expect(rt, name);
@@ -90,6 +94,7 @@ fn is_pair<R: Abort>(rt: &R, alloc: Global, piece: EStr<'_, Query>, name: &str, 
     equal(decoded(&after), (value, false)).expect(rt, name);
 }
 
+/// Tests a query that is cut into pairs, which are decoded.
 #[test]
 fn pairs_of_a_query(rt: HostRuntime) {
     let text = "?name=%E5%BC%A0%E4%B8%89&speech=%C2%A1Ol%C3%A9%21";
@@ -102,7 +107,7 @@ fn pairs_of_a_query(rt: HostRuntime) {
     equal(pieces.next().is_none(), true).expect(&rt, "no piece");
 }
 
-/// RFC 3986, section 2.1.
+/// Tests bytes that are encoded as `%XX` (RFC 3986, section 2.1).
 #[test]
 fn encoded_bytes(rt: HostRuntime) {
     assert!(rt; Path::table().allows_pct_encoded());
@@ -112,6 +117,7 @@ fn encoded_bytes(rt: HostRuntime) {
     equal(valid::<_, Path>(&rt, "a/b").is_unencoded(), true).expect(&rt, "a/b");
 }
 
+/// Tests encoded texts that become texts of an encoder that allows more.
 #[test]
 fn upcast_texts(rt: HostRuntime) {
     assert!(rt; Path::table().is_subset(&Query::table()));
@@ -121,6 +127,7 @@ fn upcast_texts(rt: HostRuntime) {
     equal(EStr::<Nothing>::EMPTY.upcast::<Private>().as_str(), "").expect(&rt, "nothing");
 }
 
+/// Tests that `EStr`s compare by their bytes.
 #[test]
 fn texts_compare_by_bytes(rt: HostRuntime) {
     let (first, second) = (valid::<_, Path>(&rt, "%41"), valid::<_, Path>(&rt, "A"));
@@ -130,7 +137,7 @@ fn texts_compare_by_bytes(rt: HostRuntime) {
     prints(rt.alloc(), &second, "A").expect(&rt, "A");
 }
 
-/// The calls at an encoder of octets alone.
+/// Tests the calls of `EStr` at a caller's encoder that allows percent-encoded octets alone.
 #[test]
 fn an_encoder_of_octets(rt: HostRuntime) {
     let octets = valid::<_, Octets>(&rt, "%61%ff");
@@ -140,7 +147,7 @@ fn an_encoder_of_octets(rt: HostRuntime) {
     equal(last, Some("%61%ff")).expect(&rt, "split");
 }
 
-/// The calls at an encoder of private use alone.
+/// Tests the calls of `EStr` at a caller's encoder that allows private-use characters alone.
 #[test]
 fn an_encoder_of_private_use(rt: HostRuntime) {
     let text = "\u{F8FF}\u{F0000}";
@@ -153,7 +160,7 @@ fn an_encoder_of_private_use(rt: HostRuntime) {
     equal(owned.as_estr() == private, true).expect(&rt, text);
 }
 
-/// The calls at an encoder of nothing.
+/// Tests the calls of `EStr` at a caller's encoder that allows nothing.
 #[test]
 fn an_encoder_of_nothing(rt: HostRuntime) {
     let nothing = valid::<_, Nothing>(&rt, "");

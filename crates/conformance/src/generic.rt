@@ -7,7 +7,7 @@ use std::alloc::Global;
 use std::process::Abort;
 use test_support::equal;
 
-/// Holds the components of the normal form, with `-` for what is absent, to those that are wanted.
+/// Checks by generic code the components of a normal form, with `-` for what is absent.
 fn normalizes<R: WithOwned, A: Abort>(rt: &A, alloc: Global, value: &R, wanted: &str)
 where
     R::Owned: RiMaybeRef,
@@ -16,6 +16,7 @@ where
     has_components(rt, alloc, &normal, wanted);
 }
 
+/// Checks by generic code the components of a value, with `-` for what is absent.
 fn has_components<R: RiMaybeRef, A: Abort>(rt: &A, alloc: Global, value: &R, wanted: &str) {
     let scheme = value.scheme_opt().map_or("-", Scheme::as_str);
     let authority = value.authority().map_or("-", Authority::as_str);
@@ -26,7 +27,7 @@ fn has_components<R: RiMaybeRef, A: Abort>(rt: &A, alloc: Global, value: &R, wan
     equal(parts.expect(rt, wanted).as_str(), wanted).expect(rt, wanted);
 }
 
-/// RFC 3986, section 6.2.2.
+/// Tests generic code on normal forms of URIs and a URI reference (RFC 3986, section 6.2.2).
 #[test]
 fn components_of_normal_uris(rt: HostRuntime) {
     let alloc = rt.alloc();
@@ -38,7 +39,7 @@ fn components_of_normal_uris(rt: HostRuntime) {
     normalizes(&rt, alloc, &reference, "- - ../a - -");
 }
 
-/// RFC 3987, section 5.3.2.
+/// Tests generic code on normal forms of an IRI and an IRI reference (RFC 3987, section 5.3.2).
 #[test]
 fn components_of_normal_iris(rt: HostRuntime) {
     let iri = Iri::<&str>::parse("A:%C3%A9#%C3%A9").expect(&rt, "an IRI");

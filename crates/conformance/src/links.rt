@@ -51,6 +51,7 @@ const ROWS: &[Row] = &[
     },
 ];
 
+/// Checks in a test that a register of links has these targets, and no further one.
 fn has_targets<R: Abort, P: DefaultPort>(rt: &R, register: &Register<P>, targets: &[&str]) {
     equal(register.len(), targets.len()).expect(rt, "how many targets");
     for (id, &wanted) in targets.iter().enumerate() {
@@ -60,6 +61,7 @@ fn has_targets<R: Abort, P: DefaultPort>(rt: &R, register: &Register<P>, targets
     equal(register.target(targets.len()).is_none(), true).expect(rt, "no further target");
 }
 
+/// Tests the outcomes of links that a register notes together.
 #[test]
 fn noted_together(rt: HostRuntime) {
     let alloc = rt.alloc();
@@ -79,8 +81,8 @@ fn noted_together(rt: HostRuntime) {
     }
 }
 
-/// Notes a reference. If an allocation fails the register keeps what it had, and notes it next
-/// time.
+/// Notes a link in a test of outcomes. If an allocation fails, checks that the register keeps what
+/// it had, and notes the link again.
 fn noted<R: Abort, P: DefaultPort>(
     rt: &R,
     register: &mut Register<P>,
@@ -99,7 +101,7 @@ fn noted<R: Abort, P: DefaultPort>(
     }
 }
 
-/// Holds too if one allocation fails, whichever it is.
+/// Tests the outcomes of links that a register notes one by one, also if one allocation fails.
 #[test]
 fn noted_one_by_one(rt: HostRuntime) {
     for row in ROWS {

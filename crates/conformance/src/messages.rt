@@ -10,6 +10,7 @@ use std::fmt::Display;
 use std::process::Abort;
 use test_support::prints;
 
+/// Checks in a test that each error prints its message.
 fn print<R: Abort, E: Display>(rt: &R, alloc: Global, messages: &[(E, &str)]) {
     for (error, message) in messages {
         prints(alloc, error, message).expect(rt, message);

@@ -14,6 +14,7 @@ pub(crate) struct Nothing;
 impl Encoder for Nothing {
     ghost set = { characters_only (is_one_of []) };
 
+    /// Returns the table of a caller's encoder, in tests, that allows nothing.
     fn table() -> Table {
         Table::new(b"")
     }
@@ -27,6 +28,7 @@ pub(crate) struct Octets;
 impl Encoder for Octets {
     ghost set = { record (characters_only (is_one_of [])) { pct_encoded = true } };
 
+    /// Returns the table of a caller's encoder, in tests, that allows percent-encoded octets alone.
     fn table() -> Table {
         Nothing::table().or_pct_encoded()
     }
@@ -40,6 +42,7 @@ pub(crate) struct Private;
 impl Encoder for Private {
     ghost set = { record (characters_only (is_one_of [])) { iprivate = true } };
 
+    /// Returns the table of a caller's encoder, in tests, that allows private-use characters alone.
     fn table() -> Table {
         Nothing::table().or_iprivate()
     }
@@ -53,6 +56,8 @@ struct Segment;
 impl Encoder for Segment {
     ghost set = { difference path_set (characters_only (is_one_of (47 ∷ []))) };
 
+    /// Returns the table of a caller's encoder, in tests, that allows what a path does, but not
+    /// `/`.
     fn table() -> Table {
         Path::table().sub(&Table::new(b"/"))
     }
@@ -60,36 +65,42 @@ impl Encoder for Segment {
     ghost lacks_percent = { refl };
 }
 
-/// The value where there is one, which the test asks for.
+/// Makes an encoded text of a literal for a test of encoders, or ends the test.
 pub(crate) fn valid<'a, R: Abort, E: Encoder>(rt: &R, text: &'a str) -> EStr<'a, E> {
     EStr::new(text).expect(rt, text)
 }
 
+/// Appends a character to an `EString` after testing its table, or ends the test of encoders.
 fn push<R: Abort, E: Encoder>(rt: &R, text: &mut EString<E>, ch: char) {
     assert!(rt; E::table().allows(ch));
     text.push(ch).expect(rt, "memory");
 }
 
+/// Appends a text, percent-encoded, to an `EString` after testing the tables, or ends the test.
 fn encode_str<R: Abort, E: Encoder, SubE: Encoder>(rt: &R, text: &mut EString<E>, more: &str) {
     assert!(rt; SubE::table().is_subset(&E::table()));
     assert!(rt; SubE::table().allows_pct_encoded());
     text.encode_str::<SubE>(more).expect(rt, more);
 }
 
+/// Appends bytes, percent-encoded, to an `EString` after testing the tables, or ends the test.
 fn encode_bytes<R: Abort, E: Encoder, SubE: Encoder>(rt: &R, text: &mut EString<E>, more: &[u8]) {
     assert!(rt; SubE::table().is_subset(&E::table()));
     assert!(rt; SubE::table().allows_pct_encoded());
     text.encode_bytes::<SubE>(more).expect(rt, "memory");
 }
 
+/// Appends a literal that is encoded already to an `EString`, or ends the test of encoders.
 fn push_estr<R: Abort, E: Encoder>(rt: &R, text: &mut EString<E>, more: &str) {
     text.push_estr(valid(rt, more)).expect(rt, more);
 }
 
+/// Checks in a test of encoders the text of an `EString`.
 fn is_text<R: Abort, E: Encoder>(rt: &R, text: &EString<E>, wanted: &str) {
     equal(text.as_estr().as_str(), wanted).expect(rt, wanted);
 }
 
+/// Tests an `EString` to which the pairs of a query are appended, percent-encoded.
 #[test]
 fn pairs_of_a_query(rt: HostRuntime) {
     let mut query = EString::<Query>::new(rt.alloc());
@@ -106,6 +117,7 @@ fn pairs_of_a_query(rt: HostRuntime) {
     equal(query.into_string().as_str(), wanted).expect(&rt, wanted);
 }
 
+/// Tests that a caller's encoder percent-encodes the `/` in a segment.
 #[test]
 fn a_slash_in_a_segment(rt: HostRuntime) {
     let mut path = EString::<Path>::new(rt.alloc());
@@ -114,7 +126,7 @@ fn a_slash_in_a_segment(rt: HostRuntime) {
     is_text(&rt, &path, "/foo%2Fbar");
 }
 
-/// RFC 3986, section 2.4: a `%` of the data is encoded too.
+/// Tests that a `%` of the data is percent-encoded too (RFC 3986, section 2.4).
 #[test]
 fn percent_of_the_data(rt: HostRuntime) {
     let mut path = EString::<Path>::new(rt.alloc());
@@ -123,7 +135,7 @@ fn percent_of_the_data(rt: HostRuntime) {
     is_text(&rt, &path, "%2541%41");
 }
 
-/// RFC 3986, section 2.3, and RFC 3987, section 2.2.
+/// Tests what `Data` and `IData` percent-encode (RFC 3986, section 2.3, and RFC 3987, section 2.2).
 #[test]
 fn encoders_of_data(rt: HostRuntime) {
     let mut data = EString::<Data>::new(rt.alloc());
@@ -137,6 +149,7 @@ fn encoders_of_data(rt: HostRuntime) {
     equal(others.is_subset(&Octets::table()), true).expect(&rt, "octets");
 }
 
+/// Tests what the encoders of a caller append to an `EString`.
 #[test]
 fn own_encoders(rt: HostRuntime) {
     let mut octets = EString::<Octets>::new(rt.alloc());
@@ -153,6 +166,7 @@ fn own_encoders(rt: HostRuntime) {
     equal(nothing.into_string().as_str(), "").expect(&rt, "nothing");
 }
 
+/// Tests which texts the encoders of a caller reject.
 #[test]
 fn texts_that_own_encoders_reject(rt: HostRuntime) {
     let refused = [
@@ -168,6 +182,7 @@ fn texts_that_own_encoders_reject(rt: HostRuntime) {
     equal(refused, [true; 8]).expect(&rt, "refused");
 }
 
+/// Tests an `EString` that is cleared, keeps its capacity, and grows again.
 #[test]
 fn cleared_texts(rt: HostRuntime) {
     let mut path = EString::<Segment>::new(rt.alloc());
@@ -181,6 +196,7 @@ fn cleared_texts(rt: HostRuntime) {
     is_text(&rt, &path, "b");
 }
 
+/// Tests that `EString`s compare by their bytes.
 #[test]
 fn owned_texts_compare_by_bytes(rt: HostRuntime) {
     let (a, b) = (
@@ -197,6 +213,7 @@ fn owned_texts_compare_by_bytes(rt: HostRuntime) {
     prints(rt.alloc(), &second, "ab").expect(&rt, "Display");
 }
 
+/// Tests that an `EString` with a capacity that cannot be allocated is an error.
 #[test]
 fn capacity_that_cannot_be_allocated(rt: HostRuntime) {
     let text = EString::<Path>::with_capacity(rt.alloc(), usize::MAX);

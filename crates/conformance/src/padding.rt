@@ -11,12 +11,14 @@ use std::fmt::Display;
 use std::process::Abort;
 use test_support::equal;
 
-/// The value on the right, on the left and in the middle of eight characters, and cut to three.
+/// Checks in a test what a value prints on the right, on the left and in the middle of eight
+/// characters, and cut to three.
 fn prints<R: Abort, D: Display>(rt: &R, alloc: Global, value: &D, wanted: &str) {
     let printed = format!(in alloc; "[{value:>8}] [{value:8}] [{value:*^8}] [{value:.3}]");
     equal(printed.expect(rt, wanted).as_str(), wanted).expect(rt, wanted);
 }
 
+/// Tests what encoded and decoded texts print in a given width.
 #[test]
 fn encoded_and_decoded_texts(rt: HostRuntime) {
     let alloc = rt.alloc();
@@ -32,6 +34,7 @@ fn encoded_and_decoded_texts(rt: HostRuntime) {
     prints(&rt, alloc, &CowStr::Borrowed("ab"), wanted);
 }
 
+/// Tests what a scheme and an authority print in a given width.
 #[test]
 fn schemes_and_authorities(rt: HostRuntime) {
     let scheme = Scheme::new("http").expect(&rt, "a scheme");
@@ -43,6 +46,7 @@ fn schemes_and_authorities(rt: HostRuntime) {
     prints(&rt, rt.alloc(), &authority, wanted);
 }
 
+/// Tests what a URI and a URI reference print in a given width.
 #[test]
 fn uris_and_their_references(rt: HostRuntime) {
     let alloc = rt.alloc();
@@ -58,6 +62,7 @@ fn uris_and_their_references(rt: HostRuntime) {
     );
 }
 
+/// Tests what an IRI and an IRI reference print in a given width.
 #[test]
 fn iris_and_their_references(rt: HostRuntime) {
     let wanted = "[   e:été] [e:été   ] [*e:été**] [e:é]";
@@ -67,6 +72,7 @@ fn iris_and_their_references(rt: HostRuntime) {
     prints(&rt, rt.alloc(), &reference, wanted);
 }
 
+/// Tests what IP addresses print in a given width.
 #[test]
 fn addresses(rt: HostRuntime) {
     let wanted = "[ 1.2.3.4] [1.2.3.4 ] [1.2.3.4*] [1.2]";

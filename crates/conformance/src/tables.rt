@@ -3,7 +3,7 @@ use fluent_uri::pct_enc::Table;
 use std::process::Abort;
 use test_support::equal;
 
-/// The table has these characters, and no others up to 127, nor `é`.
+/// Checks in a test that the table has these characters, and no others up to 127, nor `é`.
 fn has_characters<R: Abort>(rt: &R, table: &Table, characters: &str) {
     for code in 0..128u8 {
         let ch = char::from(code);
@@ -13,6 +13,7 @@ fn has_characters<R: Abort>(rt: &R, table: &Table, characters: &str) {
     equal(table.allows('é'), false).expect(rt, characters);
 }
 
+/// Tests tables that are combined, and which of them are subsets.
 #[test]
 fn tables_combine(rt: HostRuntime) {
     let (ab, bc) = (Table::new(b"ab"), Table::new(b"bc"));
@@ -36,6 +37,7 @@ fn tables_combine(rt: HostRuntime) {
     equal(past_ascii, [true, false, true, false]).expect(&rt, "past ASCII");
 }
 
+/// Tests of which lists of bytes `Table::try_new` makes a table.
 #[test]
 fn lists_are_tested(rt: HostRuntime) {
     let tested = [

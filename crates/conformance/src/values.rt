@@ -10,6 +10,7 @@ use std::process::Abort;
 use test_support::{equal, prints};
 use uri_parts::kind::{IriKind, IriRefKind, Kind, UriKind, UriRefKind};
 
+/// Tests `TryFrom` of a text to a URI reference.
 #[test]
 fn converts_from_text(rt: HostRuntime) {
     let reference: UriRef<&str> = "/a".try_into().expect(&rt, "/a");
@@ -17,6 +18,7 @@ fn converts_from_text(rt: HostRuntime) {
     UriRef::try_from("a b").err().expect(&rt, "a b");
 }
 
+/// Tests that the path of a value outlives the URI reference that it is taken from.
 #[test]
 fn path_outlives_its_reference(rt: HostRuntime) {
     let text = String::from_str(rt.alloc(), "/a?b").expect(&rt, "memory");
@@ -27,7 +29,7 @@ fn path_outlives_its_reference(rt: HostRuntime) {
     equal(path.as_str(), "/a").expect(&rt, "/a?b");
 }
 
-/// Checks which components are present, as the calls of a kind say.
+/// Checks in a test whether a value of any kind has an authority, a query and a fragment.
 fn has_components<R: Abort, K: Kind>(rt: &R, text: &str, wanted: bool) {
     let value = Reference::<K, &str>::parse(text).expect(rt, text);
     let has = [
@@ -38,6 +40,7 @@ fn has_components<R: Abort, K: Kind>(rt: &R, text: &str, wanted: bool) {
     equal(has, [wanted; 3]).expect(rt, text);
 }
 
+/// Tests which components values of the four kinds have.
 #[test]
 fn presence_of_components(rt: HostRuntime) {
     for (text, wanted) in [("s://h?q#f", true), ("s:/p", false)] {
@@ -50,6 +53,7 @@ fn presence_of_components(rt: HostRuntime) {
     }
 }
 
+/// Tests whether a URI reference and an IRI reference have a scheme.
 #[test]
 fn presence_of_schemes(rt: HostRuntime) {
     for (text, wanted) in [("s://h?q#f", true), ("/p", false)] {
@@ -60,6 +64,7 @@ fn presence_of_schemes(rt: HostRuntime) {
     }
 }
 
+/// Tests a scheme of a literal: it keeps its case, also in what it prints.
 #[test]
 fn schemes_keep_their_case(rt: HostRuntime) {
     let text = "HtTp";
@@ -70,6 +75,7 @@ fn schemes_keep_their_case(rt: HostRuntime) {
     prints(rt.alloc(), &scheme, text).expect(&rt, text);
 }
 
+/// Checks in a test the target that `resolve_against` returned.
 fn is_target<A: Abort, R: RiMaybeRef + Drop>(
     rt: &A,
     target: Result<R, ResolveError>,
@@ -78,7 +84,7 @@ fn is_target<A: Abort, R: RiMaybeRef + Drop>(
     equal(target.expect(rt, wanted).as_str(), wanted).expect(rt, wanted);
 }
 
-/// RFC 3987, section 6.5.
+/// Tests targets of an IRI reference, borrowed and owned (RFC 3987, section 6.5).
 #[test]
 fn targets_of_iri_references(rt: HostRuntime) {
     let alloc = rt.alloc();
@@ -90,7 +96,7 @@ fn targets_of_iri_references(rt: HostRuntime) {
     is_target(&rt, reference.resolve_against(alloc, &base), "http://é/ü");
 }
 
-/// RFC 3987, section 3.1.
+/// Tests the target of an IRI reference that is a URI reference first (RFC 3987, section 3.1).
 #[test]
 fn targets_of_encoded_references(rt: HostRuntime) {
     let alloc = rt.alloc();
@@ -102,7 +108,7 @@ fn targets_of_encoded_references(rt: HostRuntime) {
     is_target(&rt, target, "http://%C3%A9/%C3%BC");
 }
 
-/// Returns the fragment, or none: `None` removes a fragment.
+/// Makes a fragment of a literal for a test of values, or returns none, which removes a fragment.
 fn fragment_of<'a, R: Abort, E: Encoder>(rt: &R, text: Option<&'a str>) -> Option<EStr<'a, E>> {
     Some(EStr::new(text?).expect(rt, "a fragment"))
 }
@@ -116,7 +122,7 @@ const ONE_AFTER_ANOTHER: &[(Option<&str>, &str)] = &[
     (None, "//h/p?q"),
 ];
 
-/// The others of its components stay.
+/// Tests a URI reference that is given one fragment after another: its other components stay.
 #[test]
 fn one_fragment_after_another(rt: HostRuntime) {
     let reference = UriRef::<&str>::parse("//h/p?q").expect(&rt, "//h/p?q");
@@ -129,13 +135,14 @@ fn one_fragment_after_another(rt: HostRuntime) {
     }
 }
 
-/// Checks the text that an owned value is turned into.
+/// Checks in a test the `String` that an owned value of any kind becomes.
 fn has_text<R: Abort, K: Kind>(rt: &R, alloc: Global, text: &str) {
     let value = Reference::<K, &str>::parse(text).expect(rt, text);
     let owned = value.to_owned(alloc).expect(rt, text);
     equal(String::from(owned).as_str(), text).expect(rt, text);
 }
 
+/// Tests the texts that owned values of the four kinds become.
 #[test]
 fn texts_of_each_kind(rt: HostRuntime) {
     has_text::<_, UriKind>(&rt, rt.alloc(), "http://example.com/?q#f");

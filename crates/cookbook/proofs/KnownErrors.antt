@@ -6,7 +6,8 @@ use Rattle.fluent_uri.specs.Grammar.{Kind}
 use Rattle.fluent_uri.specs.Refusals.{refusal}
 use Rattle.fluent_uri.specs.declared.ParseError.{ParseError}
 
--- where the refusal of a text computes to e, as of a literal, the error of a call can only be e
+-- cookbook, the error of a literal text: where the refusal of a text computes to e, the error of a
+-- call can only be e
 pub returned-error-is-this : {A : Type 0} (kind : Kind) (text : List ℕ) (e : ParseError)
     (result : Result A ParseError)
     → IfErr result (λ x. refusal kind text ≡ Some x) → refusal kind text ≡ Some e

@@ -11,6 +11,7 @@ use Rattle.cookbook.specs.declared.frontier.Frontier.{Frontier}
 abbrev pub has_met : Frontier → List ℕ → Bool
 has_met f text = contains_text f.seen text
 
--- the normal form of a URI, under the default ports of the schemes (section 6.2.2)
+-- the normal form by which a caller's program keeps a URI that it met or that was visited, under
+-- the default ports of the schemes (section 6.2.2)
 abbrev pub normal_of : List ℕ → List ℕ
 normal_of text = normal_text (meaning_of uri default_port text)

@@ -5,7 +5,8 @@ use Rattle.std.specs.Str.{str_to_ascii_lowercase}
 use Rattle.fluent_uri.specs.Components.{Components}
 use Rattle.fluent_uri.specs.SchemePorts.{default_port}
 
--- the default port of the components' scheme, or another port, the number, if it has none
+-- the port at which a caller's program reaches a URI that has none: the default port of its scheme,
+-- or this number
 abbrev pub default_port_or : Components → ℕ → ℕ
 default_port_or p other =
     unwrap_or (option_and_then (λ s. default_port (str_to_ascii_lowercase s)) p.scheme) other

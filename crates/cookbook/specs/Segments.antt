@@ -5,11 +5,11 @@ use Rattle.fluent_uri.specs.Encoding.{encode_text}
 use Rattle.fluent_uri.specs.Sets.{data_set}
 use Rattle.fluent_uri.specs.Tokens.{print}
 
--- whether a segment of a path, before it is percent-encoded, is `.` or `..`
+-- whether a segment that a user typed, before it is percent-encoded, is `.` or `..`
 abbrev pub is_dot_segment : {Z : Type 0} → String Z → Bool
 is_dot_segment s = bytes_eq (string_bytes s) (codes ".") || bytes_eq (string_bytes s) (codes "..")
 
--- a path with more segments at its end, each percent-encoded as data after a `/`
+-- a path with more segments that a user typed at its end, each percent-encoded as data after a `/`
 abbrev pub path_from : {Z : Type 0} → List ℕ → List (String Z) → List ℕ
 path_from path [] = path
 path_from path (segment ∷ segments) =

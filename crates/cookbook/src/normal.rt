@@ -10,7 +10,7 @@ use crate::refusal::Failure;
 use fluent_uri::Uri;
 use std::alloc::Global;
 
-/// Returns the normal form of a URI (RFC 3986, section 6.2.2).
+/// Parses a text as a URI, and returns its normal form (RFC 3986, section 6.2.2).
 ///
 /// # Errors
 ///

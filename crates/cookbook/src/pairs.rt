@@ -60,7 +60,7 @@ fn pair_of<E: Encoder>(alloc: Global, piece: EStr<'_, E>) -> Result<Pair, AllocE
     })
 }
 
-/// Returns what is before the first `=` of a substring, and what is after it.
+/// Returns what is before the first `=` of a substring of a query, the name, and what is after it.
 #[tactic(auto, using(fluent_uri::proofs::Calling::calling, crate::proofs::Cuts::cuts))]
 fn name_and_value<E: Encoder>(piece: EStr<'_, E>) -> (EStr<'_, E>, EStr<'_, E>)
     ensures name { text_of result.0 ≡ text_before_equals (text_of piece.entry) }
@@ -72,7 +72,7 @@ fn name_and_value<E: Encoder>(piece: EStr<'_, E>) -> (EStr<'_, E>, EStr<'_, E>)
     }
 }
 
-/// Returns the text that a substring decodes to.
+/// Returns the text that the name or the value of a pair of a query decodes to.
 fn decoded<E: Encoder>(alloc: Global, piece: EStr<'_, E>) -> Result<String, AllocError>
     requires { IsTrue (E.set).pct_encoded }
     ensures { IfOk result (λ text. string_bytes text ≡ decode_text (text_of piece.entry)) }
@@ -126,7 +126,7 @@ pub fn print_pairs<O: Write>(alloc: Global, text: &str, out: &mut O) -> Result<(
     Ok(())
 }
 
-/// Returns a line for each pair, `name is value`.
+/// Returns a line for each pair of a query, `name is value`.
 fn lines_of(alloc: Global, pairs: &[Pair]) -> Result<String, AllocError>
     ensures { IfOk result (λ lines. string_bytes lines ≡ lines_text (map pair_texts pairs.now)) }
 {

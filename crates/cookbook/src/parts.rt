@@ -16,7 +16,7 @@ pub struct Parts<'a> {
     pub path: &'a str,
 }
 
-/// Returns the parts of a reference.
+/// Parses a text as a reference, and returns its scheme, host and path.
 ///
 /// # Errors
 ///

@@ -32,7 +32,7 @@ pub enum Failure {
 impl From<ParseError> for Failure {
     ghost from_gives = { λ error refusal. refusal ≡ Text error };
 
-    /// Returns the failure of a line for a parse error.
+    /// Returns the failure of a caller's program for a parse error.
     fn from(error: ParseError) -> Failure {
         Failure::Text(error)
     }
@@ -41,7 +41,7 @@ impl From<ParseError> for Failure {
 impl From<ResolveError> for Failure {
     ghost from_gives = { λ error refusal. refusal ≡ Target error };
 
-    /// Returns the failure of a line for an error of resolving.
+    /// Returns the failure of a caller's program for an error of resolving.
     fn from(error: ResolveError) -> Failure {
         Failure::Target(error)
     }
@@ -50,7 +50,7 @@ impl From<ResolveError> for Failure {
 impl From<AllocError> for Failure {
     ghost from_gives = { λ _ refusal. refusal ≡ OutOfMemory };
 
-    /// Returns the failure of a line for a failed allocation.
+    /// Returns the failure of a caller's program for a failed allocation.
     fn from(_: AllocError) -> Failure {
         Failure::OutOfMemory
     }
@@ -59,7 +59,7 @@ impl From<AllocError> for Failure {
 impl<T: Drop> From<AllocFailed<T>> for Failure {
     ghost from_gives = { λ _ refusal. refusal ≡ OutOfMemory };
 
-    /// Returns the failure of a line for a failed allocation that gave a value back.
+    /// Returns the failure of a caller's program for a failed allocation that gave a value back.
     fn from(_: AllocFailed<T>) -> Failure {
         Failure::OutOfMemory
     }
@@ -68,7 +68,7 @@ impl<T: Drop> From<AllocFailed<T>> for Failure {
 impl From<io::Error> for Failure {
     ghost from_gives = { λ _ refusal. refusal ≡ OutputFailed };
 
-    /// Returns the failure of a line for an error of the writer.
+    /// Returns the failure of a caller's program for an error of its writer.
     fn from(_: io::Error) -> Failure {
         Failure::OutputFailed
     }

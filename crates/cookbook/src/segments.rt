@@ -22,14 +22,14 @@ pub enum PathError {
 }
 
 impl From<AllocError> for PathError {
-    /// Returns the error `OutOfMemory` of building a path for a failed allocation.
+    /// Returns the error `OutOfMemory` of a path of typed segments for a failed allocation.
     fn from(_: AllocError) -> PathError {
         PathError::OutOfMemory
     }
 }
 
-/// Returns the path of the segments, whatever characters they have: each one percent-encoded as
-/// data, after a `/`.
+/// Returns the path of segments that a user typed, whatever characters they have: each one
+/// percent-encoded as data, after a `/`.
 ///
 /// # Errors
 ///
@@ -48,14 +48,14 @@ pub fn path_of(alloc: Global, segments: &[String]) -> Result<EString<Path>, Path
     Ok(joined(alloc, segments)?)
 }
 
-/// Returns whether one of the segments is `.` or `..`.
+/// Returns whether one of the segments that a user typed is `.` or `..`.
 fn has_dot_segment(segments: &[String]) -> bool
     ensures { result ≡ list_any is_dot_segment segments.now }
 {
     segments.iter().any(|segment| segment.as_str() == "." || segment.as_str() == "..")
 }
 
-/// Returns the path of the segments, each percent-encoded as data after a `/`.
+/// Returns the path of segments that a user typed, each percent-encoded as data after a `/`.
 fn joined(alloc: Global, segments: &[String]) -> Result<EString<Path>, AllocError>
     ensures { IfOk result (λ path. owned_text path ≡ path_from [] segments.now) }
 {

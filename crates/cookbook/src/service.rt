@@ -12,8 +12,8 @@ use fluent_uri::pct_enc::EStr;
 use fluent_uri::pct_enc::encoder::{Path, Query};
 use std::alloc::Global;
 
-/// Returns the URI at an authority, under `https`, with this path and query, and with no fragment
-/// (RFC 3986, section 5.3).
+/// Returns the URI of a service at an authority, under `https`, with this path and query, and with
+/// no fragment (RFC 3986, section 5.3).
 ///
 /// # Errors
 ///

@@ -13,18 +13,19 @@ use Rattle.fluent_uri.specs.Ports.{PortFunction}
 use Rattle.fluent_uri.specs.Target.{TargetError, resolution_of}
 use Rattle.fluent_uri.proofs.Outcomes.{same-meaning-same-normal-form}
 
--- a base and a reference resolve to one target at most
+-- obligations, normalising a target: a base and a reference resolve to one target at most
 resolution-is-unique : (r : Result (List ℕ) TargetError) (t u : List ℕ) → r ≡ Ok t → r
     ≡ Ok u → t ≡ u
 resolution-is-unique r t u e f = cc
 
--- a normal form of a text is of its kind and has its meaning
+-- obligations, normalising a target: a normal form of a text is of its kind and has its meaning
 normal-form-has-meaning : (kind : Kind) (ports : PortFunction) (text normal : List ℕ)
     → IsTextOf kind normal
     → IsNormalForm kind ports text normal → HasMeaningOf kind ports text normal
 normal-form-has-meaning kind ports text normal w h = record { of_kind = w; meaning = h.meaning }
 
--- a text that has the meaning of a target is normalised to what the target is
+-- obligations, normalising a target: a text that has the meaning of a target is normalised to what
+-- the target is
 normal-form-of-target-meaning : (kind : Kind) (ports : PortFunction)
     (base reference target text m n : List ℕ)
     → HasTargetMeaning kind ports base reference text
@@ -36,7 +37,8 @@ normal-form-of-target-meaning kind ports base reference target text m n t e v w 
     e in
     v.text.text ∙ ap normal_text (sym t.1.1 ∙ ap (meaning_of kind ports) same) ∙ sym w.text.text
 
--- the normal form of a target is that of the target of the normal forms
+-- obligations, normalising a target: the normal form of a target is that of the target of the
+-- normal forms
 pub same_normal_form : (kind of_reference : Kind) (ports : PortFunction)
     (base reference given target b r held other n m : List ℕ)
     → IsTextOf kind b → IsTextOf of_reference r → given ≡ base → held ≡ b
@@ -54,7 +56,8 @@ same_normal_form kind of_reference ports base reference given target b r held ot
     (a.alike ports b r means reference_means) resolved
     x y
 
--- the normal form of the target of normal forms is one of the target
+-- obligations, normalising a target: the normal form of the target of normal forms is one of the
+-- target
 pub normal-form-of-normal-target : (kind of_reference : Kind) (ports : PortFunction)
     (base reference b r held target normal : List ℕ)
     → IsTextOf kind base → IsTextOf of_reference reference → held ≡ b

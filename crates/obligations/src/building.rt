@@ -13,8 +13,8 @@ use fluent_uri::pct_enc::EStr;
 use fluent_uri::pct_enc::encoder::{Path, Query, RegName};
 use std::alloc::Global;
 
-/// Builds a reference of a path, and of a query if there is one, which `optional` hands to its
-/// step.
+/// A caller builds a reference of a path, and of a query if there is one, which `optional` hands to
+/// its step.
 pub fn with_the_query_if_any(
     alloc: Global,
     path: EStr<'_, Path>,
@@ -26,8 +26,8 @@ pub fn with_the_query_if_any(
         .build()
 }
 
-/// Builds a reference of a path without an authority: `authority_with` gets a closure that returns
-/// another builder.
+/// A caller builds a reference of a path without an authority: `authority_with` gets a closure that
+/// returns another builder.
 pub fn with_no_authority(
     alloc: Global,
     path: EStr<'_, Path>,
@@ -38,7 +38,8 @@ pub fn with_no_authority(
         .build()
 }
 
-/// Gives a builder a host that is an address: the text of the address, an IPv6 address in brackets.
+/// A caller gives a builder a host that is an address: the text of the address, an IPv6 address in
+/// brackets.
 pub fn with_address(
     begun: Builder<UriRef<String>, AuthorityStart>,
     address: IpAddr,
@@ -49,7 +50,7 @@ pub fn with_address(
     begun.host(address)
 }
 
-/// Gives a builder a host and a port of any type that a builder takes.
+/// A caller gives a builder a host and a port of any type that a builder takes.
 pub fn with_host_and_port<H: AsHost + WithEncoder<RegName>, P: AsPort>(
     alloc: Global,
     host: H,

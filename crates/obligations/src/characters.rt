@@ -5,32 +5,32 @@ use fluent_uri::pct_enc::EString;
 use fluent_uri::pct_enc::encoder::{Encoder, IPath, Path, Query, Userinfo};
 use std::alloc::AllocError;
 
-/// Appends `/` to the path of a URI.
+/// A caller appends the literal character `/` to the path of a URI, which allows it.
 pub fn begin_a_segment(path: &mut EString<Path>) -> Result<(), AllocError> {
     path.push('/')
 }
 
-/// Appends `/` to the path of an IRI.
+/// A caller appends the literal character `/` to the path of an IRI, which allows it.
 pub fn begin_a_segment_of_an_iri(path: &mut EString<IPath>) -> Result<(), AllocError> {
     path.push('/')
 }
 
-/// Appends `&` to a query.
+/// A caller appends the literal character `&` to a query, which allows it.
 pub fn begin_a_pair(query: &mut EString<Query>) -> Result<(), AllocError> {
     query.push('&')
 }
 
-/// Appends `=` to a query.
+/// A caller appends the literal character `=` to a query, which allows it.
 pub fn begin_a_value(query: &mut EString<Query>) -> Result<(), AllocError> {
     query.push('=')
 }
 
-/// Appends `:` to userinfo.
+/// A caller appends the literal character `:` to userinfo, which allows it.
 pub fn begin_a_password(userinfo: &mut EString<Userinfo>) -> Result<(), AllocError> {
     userinfo.push(':')
 }
 
-/// Appends a character that the table of any encoder allows.
+/// A caller appends a character to any encoded text after testing that the table allows it.
 pub fn push_if_allowed<E: Encoder>(text: &mut EString<E>, ch: char) -> Result<(), AllocError> {
     if E::table().allows(ch) {
         text.push(ch)?;
@@ -38,7 +38,7 @@ pub fn push_if_allowed<E: Encoder>(text: &mut EString<E>, ch: char) -> Result<()
     Ok(())
 }
 
-/// Appends a character that the table of `Query` allows.
+/// A caller appends a character to a query after testing that the table of `Query` allows it.
 pub fn push_if_in_a_query(query: &mut EString<Query>, ch: char) -> Result<(), AllocError> {
     if Query::table().allows(ch) {
         query.push(ch)?;

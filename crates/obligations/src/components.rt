@@ -15,129 +15,129 @@ use fluent_uri::pct_enc::encoder::{Encoder, Fragment, IFragment, IPath, IQuery, 
 use fluent_uri::pct_enc::{EStr, Table};
 use fluent_uri::{Iri, IriRef, Uri, UriRef};
 
-/// Returns the table of the encoder of an authority's userinfo.
+/// A caller gets the table of the userinfo of an authority of any encoders.
 fn userinfo_table<U: Encoder, R: Encoder>(_authority: Authority<'_, U, R>) -> Table
     ensures { set_of result ≡ U.set }
 {
     U::table()
 }
 
-/// Returns the table of the encoder of an authority's registered name.
+/// A caller gets the table of the registered name of an authority of any encoders.
 fn name_table<U: Encoder, R: Encoder>(_authority: Authority<'_, U, R>) -> Table
     ensures { set_of result ≡ R.set }
 {
     R::table()
 }
 
-/// Returns the table of the encoder of a host that is a registered name.
+/// A caller gets the table of a host that is a registered name, of any encoder.
 fn host_table<R: Encoder>(_host: HostOf<EStr<'_, R>>) -> Table
     ensures { set_of result ≡ R.set }
 {
     R::table()
 }
 
-/// Returns the table of the userinfo of an `Authority`.
+/// A caller gets the table of the userinfo of an `Authority`.
 pub fn userinfo_of_an_authority(authority: Authority<'_>) -> Table
     ensures { set_of result ≡ userinfo_set }
 {
     userinfo_table(authority)
 }
 
-/// Returns the table of the registered name of an `Authority`.
+/// A caller gets the table of the registered name of an `Authority`.
 pub fn name_of_an_authority(authority: Authority<'_>) -> Table
     ensures { set_of result ≡ reg_name_set }
 {
     name_table(authority)
 }
 
-/// Returns the table of the userinfo of an `IAuthority`.
+/// A caller gets the table of the userinfo of an `IAuthority`.
 pub fn userinfo_of_an_iauthority(authority: IAuthority<'_>) -> Table
     ensures { set_of result ≡ iuserinfo_set }
 {
     userinfo_table(authority)
 }
 
-/// Returns the table of the registered name of an `IAuthority`.
+/// A caller gets the table of the registered name of an `IAuthority`.
 pub fn name_of_an_iauthority(authority: IAuthority<'_>) -> Table
     ensures { set_of result ≡ ireg_name_set }
 {
     name_table(authority)
 }
 
-/// Returns the table of the registered name of a `Host`.
+/// A caller gets the table of the registered name of a `Host`.
 pub fn name_of_a_host(host: Host<'_>) -> Table
     ensures { set_of result ≡ reg_name_set }
 {
     host_table(host)
 }
 
-/// Returns the table of the registered name of an `IHost`.
+/// A caller gets the table of the registered name of an `IHost`.
 pub fn name_of_an_ihost(host: IHost<'_>) -> Table
     ensures { set_of result ≡ ireg_name_set }
 {
     host_table(host)
 }
 
-/// Returns the scheme of a `Uri`, which has one.
+/// A caller gets the scheme of a `Uri`, which has one, by the public name `Scheme`.
 pub fn scheme_of_a_uri<'a>(uri: Uri<&'a str>) -> Scheme<'a> {
     uri.scheme()
 }
 
-/// Returns the scheme of an `Iri`, which has one.
+/// A caller gets the scheme of an `Iri`, which has one, by the public name `Scheme`.
 pub fn scheme_of_an_iri<'a>(iri: Iri<&'a str>) -> Scheme<'a> {
     iri.scheme()
 }
 
-/// Returns the scheme of a `UriRef`, if it has one.
+/// A caller gets the scheme of a `UriRef`, if it has one, by the public name `Scheme`.
 pub fn scheme_of_a_reference<'a>(reference: UriRef<&'a str>) -> Option<Scheme<'a>>
     ensures { option_map scheme_text result ≡ (components (uri_ref_text reference.entry)).scheme }
 {
     reference.scheme()
 }
 
-/// Returns the path of a `UriRef`, which is over `Path`.
+/// A caller gets the path of a `UriRef`, which is over `Path`.
 pub fn path_of_a_reference<'a>(reference: UriRef<&'a str>) -> EStr<'a, Path>
     ensures { text_of result ≡ (components (uri_ref_text reference.entry)).path }
 {
     reference.path()
 }
 
-/// Returns the query of a `UriRef`, which is over `Query`.
+/// A caller gets the query of a `UriRef`, which is over `Query`.
 pub fn query_of_a_reference<'a>(reference: UriRef<&'a str>) -> Option<EStr<'a, Query>>
     ensures { option_map text_of result ≡ (components (uri_ref_text reference.entry)).query }
 {
     reference.query()
 }
 
-/// Returns the fragment of a `UriRef`, which is over `Fragment`.
+/// A caller gets the fragment of a `UriRef`, which is over `Fragment`.
 pub fn fragment_of_a_reference<'a>(reference: UriRef<&'a str>) -> Option<EStr<'a, Fragment>>
     ensures { option_map text_of result ≡ (components (uri_ref_text reference.entry)).fragment }
 {
     reference.fragment()
 }
 
-/// Returns the scheme of an `IriRef`, if it has one.
+/// A caller gets the scheme of an `IriRef`, if it has one, by the public name `Scheme`.
 pub fn scheme_of_an_iri_reference<'a>(reference: IriRef<&'a str>) -> Option<Scheme<'a>>
     ensures { option_map scheme_text result ≡ (components (iri_ref_text reference.entry)).scheme }
 {
     reference.scheme()
 }
 
-/// Returns the path of an `IriRef`, which is over `IPath`.
+/// A caller gets the path of an `IriRef`, which is over `IPath`.
 pub fn path_of_an_iri_reference<'a>(reference: IriRef<&'a str>) -> EStr<'a, IPath>
     ensures { text_of result ≡ (components (iri_ref_text reference.entry)).path }
 {
     reference.path()
 }
 
-/// Returns the query of an `IriRef`, which is over `IQuery`.
+/// A caller gets the query of an `IriRef`, which is over `IQuery`.
 pub fn query_of_an_iri_reference<'a>(reference: IriRef<&'a str>) -> Option<EStr<'a, IQuery>>
     ensures { option_map text_of result ≡ (components (iri_ref_text reference.entry)).query }
 {
     reference.query()
 }
 
-/// Returns the fragment of an `IriRef`, which is over `IFragment`.
+/// A caller gets the fragment of an `IriRef`, which is over `IFragment`.
 pub fn fragment_of_an_iri_reference<'a>(reference: IriRef<&'a str>) -> Option<EStr<'a, IFragment>>
     ensures { option_map text_of result ≡ (components (iri_ref_text reference.entry)).fragment }
 {

@@ -9,14 +9,14 @@ ghost use Rattle.fluent_uri.specs.EncodedTexts.{text_of};
 use fluent_uri::pct_enc::EStr;
 use fluent_uri::pct_enc::encoder::{Path, Query};
 
-/// Returns how many substrings are between the `&` of a query.
+/// A caller counts the substrings between the `&` of a query.
 pub fn pair_count(query: EStr<'_, Query>) -> usize
     ensures { result ≡ length (slice_split (λ b. b == 38) (text_of query.entry)) }
 {
     query.split('&').count()
 }
 
-/// Returns how many segments an absolute path has.
+/// A caller counts the segments of an absolute path.
 pub fn segment_count(path: EStr<'_, Path>) -> usize {
     match path.segments_if_absolute() {
         Some(segments) => segments.count(),
@@ -24,7 +24,7 @@ pub fn segment_count(path: EStr<'_, Path>) -> usize {
     }
 }
 
-/// Returns how many parts a path decodes to.
+/// A caller counts the chunks that a path decodes to.
 pub fn decoded_chunk_count(path: EStr<'_, Path>) -> usize
     ensures { result ≡ length (chunks (text_of path.entry)) }
 {

@@ -4,32 +4,32 @@
 use fluent_uri::pct_enc::encoder::{IPath, Path, Query};
 use fluent_uri::pct_enc::{EStr, Split};
 
-/// Cuts the path of a URI at each `/`.
+/// A caller cuts the path of a URI at each `/`, a literal delimiter.
 pub fn segments(path: EStr<'_, Path>) -> Split<'_, Path> {
     path.split('/')
 }
 
-/// Cuts the path of an IRI at each `/`.
+/// A caller cuts the path of an IRI at each `/`, a literal delimiter.
 pub fn segments_of_an_iri(path: EStr<'_, IPath>) -> Split<'_, IPath> {
     path.split('/')
 }
 
-/// Cuts a query at each `&`.
+/// A caller cuts a query at each `&`, a literal delimiter.
 pub fn pairs(query: EStr<'_, Query>) -> Split<'_, Query> {
     query.split('&')
 }
 
-/// Cuts a segment of a path at each `;`.
+/// A caller cuts a segment of a path at each `;`, a literal delimiter.
 pub fn parameters(segment: EStr<'_, Path>) -> Split<'_, Path> {
     segment.split(';')
 }
 
-/// Cuts a name and its value, of a query, at the first `=`.
+/// A caller cuts a name and its value, of a query, at the first `=`, a literal delimiter.
 pub fn name_and_value(pair: EStr<'_, Query>) -> Option<(EStr<'_, Query>, EStr<'_, Query>)> {
     pair.split_once('=')
 }
 
-/// Cuts a path at the last `/`.
+/// A caller cuts a path at the last `/`, a literal delimiter.
 pub fn directory_and_name(path: EStr<'_, Path>) -> Option<(EStr<'_, Path>, EStr<'_, Path>)> {
     path.rsplit_once('/')
 }

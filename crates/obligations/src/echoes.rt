@@ -7,7 +7,8 @@ use fluent_uri::pct_enc::encoder::{Data, IData, IQuery, Path, Query};
 use fluent_uri::pct_enc::{CowSlice, CowStr, DecodeError, EStr, EString};
 use std::alloc::{AllocError, Global};
 
-/// Percent-encodes a text as data of the query of a URI, and decodes it again: it is the same text.
+/// A caller percent-encodes a text as data of the query of a URI, and decodes it again, and knows
+/// that it is the same text.
 pub fn echoed(alloc: Global, text: &str) -> Result<String, DecodeError>
     ensures { IfOk result (λ s. string_bytes s ≡ text.now) }
 {
@@ -19,8 +20,8 @@ pub fn echoed(alloc: Global, text: &str) -> Result<String, DecodeError>
     }
 }
 
-/// Percent-encodes a text as data of the query of an IRI, and decodes it again: it is the same
-/// text.
+/// A caller percent-encodes a text as data of the query of an IRI, and decodes it again, and knows
+/// that it is the same text.
 pub fn echoed_in_an_iri(alloc: Global, text: &str) -> Result<String, DecodeError>
     ensures { IfOk result (λ s. string_bytes s ≡ text.now) }
 {
@@ -32,8 +33,8 @@ pub fn echoed_in_an_iri(alloc: Global, text: &str) -> Result<String, DecodeError
     }
 }
 
-/// Percent-encodes a text as data of a query, and decodes it again: by the law alone it is the same
-/// text.
+/// A caller percent-encodes a text as data of a query, and decodes it again: by the law alone it is
+/// the same text.
 #[tactic(auto)]
 pub fn echoed_by_the_law(alloc: Global, text: &str) -> Result<String, DecodeError>
     ensures { IfOk result (λ s. string_bytes s ≡ text.now) }

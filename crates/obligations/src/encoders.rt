@@ -13,91 +13,91 @@ use fluent_uri::pct_enc::encoder::{
     PathEncoder, Port, Query, RegName, Userinfo,
 };
 
-/// Returns the table of the encoder `Userinfo`.
+/// A caller gets the table of the encoder `Userinfo` by its public name, and knows its set.
 pub fn userinfo() -> Table
     ensures { set_of result ≡ userinfo_set }
 {
     Userinfo::table()
 }
 
-/// Returns the table of the encoder `RegName`.
+/// A caller gets the table of the encoder `RegName` by its public name, and knows its set.
 pub fn reg_name() -> Table
     ensures { set_of result ≡ reg_name_set }
 {
     RegName::table()
 }
 
-/// Returns the table of the encoder `Port`.
+/// A caller gets the table of the encoder `Port` by its public name, and knows its set.
 pub fn port() -> Table
     ensures { set_of result ≡ digit_set }
 {
     Port::table()
 }
 
-/// Returns the table of the encoder `Path`.
+/// A caller gets the table of the encoder `Path` by its public name, and knows its set.
 pub fn path() -> Table
     ensures { set_of result ≡ path_set }
 {
     Path::table()
 }
 
-/// Returns the table of the encoder `Query`.
+/// A caller gets the table of the encoder `Query` by its public name, and knows its set.
 pub fn query() -> Table
     ensures { set_of result ≡ query_set }
 {
     Query::table()
 }
 
-/// Returns the table of the encoder `Fragment`.
+/// A caller gets the table of the encoder `Fragment` by its public name, and knows its set.
 pub fn fragment() -> Table
     ensures { set_of result ≡ fragment_set }
 {
     Fragment::table()
 }
 
-/// Returns the table of the encoder `IUserinfo`.
+/// A caller gets the table of the encoder `IUserinfo` by its public name, and knows its set.
 pub fn iuserinfo() -> Table
     ensures { set_of result ≡ iuserinfo_set }
 {
     IUserinfo::table()
 }
 
-/// Returns the table of the encoder `IRegName`.
+/// A caller gets the table of the encoder `IRegName` by its public name, and knows its set.
 pub fn ireg_name() -> Table
     ensures { set_of result ≡ ireg_name_set }
 {
     IRegName::table()
 }
 
-/// Returns the table of the encoder `IPath`.
+/// A caller gets the table of the encoder `IPath` by its public name, and knows its set.
 pub fn ipath() -> Table
     ensures { set_of result ≡ ipath_set }
 {
     IPath::table()
 }
 
-/// Returns the table of the encoder `IQuery`.
+/// A caller gets the table of the encoder `IQuery` by its public name, and knows its set.
 pub fn iquery() -> Table
     ensures { set_of result ≡ iquery_set }
 {
     IQuery::table()
 }
 
-/// Returns the table of the encoder `IFragment`.
+/// A caller gets the table of the encoder `IFragment` by its public name, and knows its set.
 pub fn ifragment() -> Table
     ensures { set_of result ≡ ifragment_set }
 {
     IFragment::table()
 }
 
-/// Returns the table of the encoder `Data`.
+/// A caller gets the table of the encoder `Data` by its public name, and knows its set.
 pub fn data() -> Table
     ensures { set_of result ≡ data_set }
 {
     Data::table()
 }
 
-/// Returns the table of the encoder `IData`.
+/// A caller gets the table of the encoder `IData` by its public name, and knows its set.
 pub fn idata() -> Table
     ensures { set_of result ≡ idata_set }
 {

@@ -7,32 +7,33 @@ use fluent_uri::pct_enc::encoder::{
 use fluent_uri::pct_enc::{Decode, EStr, EString};
 use std::alloc::AllocError;
 
-/// Appends data to a path, percent-encoded.
+/// A caller appends data to a path, percent-encoded.
 pub fn encode_for_a_path(path: &mut EString<Path>, text: &str) -> Result<(), AllocError> {
     path.encode_str::<Data>(text)
 }
 
-/// Appends data to a query, percent-encoded.
+/// A caller appends data to a query, percent-encoded.
 pub fn encode_for_a_query(query: &mut EString<Query>, text: &str) -> Result<(), AllocError> {
     query.encode_str::<Data>(text)
 }
 
-/// Appends data to a registered name, percent-encoded.
+/// A caller appends data to a registered name, percent-encoded.
 pub fn encode_for_a_name(name: &mut EString<RegName>, text: &str) -> Result<(), AllocError> {
     name.encode_str::<Data>(text)
 }
 
-/// Appends data to the query of an IRI, percent-encoded.
+/// A caller appends data to the query of an IRI, percent-encoded.
 pub fn encode_for_an_iri(query: &mut EString<IQuery>, text: &str) -> Result<(), AllocError> {
     query.encode_str::<IData>(text)
 }
 
-/// Appends a text to a path, percent-encoded but for what a path allows: it keeps its delimiters.
+/// A caller appends a text to a path, percent-encoded but for what a path allows: it keeps its
+/// delimiters.
 pub fn encode_a_path(path: &mut EString<Path>, text: &str) -> Result<(), AllocError> {
     path.encode_str::<Path>(text)
 }
 
-/// Appends bytes to a query, percent-encoded.
+/// A caller appends bytes to a query, percent-encoded.
 pub fn encode_bytes_for_a_query(
     query: &mut EString<Query>,
     bytes: &[u8],
@@ -40,7 +41,7 @@ pub fn encode_bytes_for_a_query(
     query.encode_bytes::<Data>(bytes)
 }
 
-/// Appends a text, percent-encoded, for any encoders whose tables pass the tests.
+/// A caller appends a text, percent-encoded, for any encoders whose tables pass the tests.
 pub fn encode_if_allowed<E: Encoder, SubE: Encoder>(
     text: &mut EString<E>,
     given: &str,
@@ -51,7 +52,7 @@ pub fn encode_if_allowed<E: Encoder, SubE: Encoder>(
     Ok(())
 }
 
-/// Appends bytes, percent-encoded, for any encoders whose tables pass the tests.
+/// A caller appends bytes, percent-encoded, for any encoders whose tables pass the tests.
 pub fn encode_bytes_if_allowed<E: Encoder, SubE: Encoder>(
     text: &mut EString<E>,
     given: &[u8],
@@ -62,22 +63,22 @@ pub fn encode_bytes_if_allowed<E: Encoder, SubE: Encoder>(
     Ok(())
 }
 
-/// Converts a path to a query.
+/// A caller converts a path to a query.
 pub fn path_as_query(path: EStr<'_, Path>) -> EStr<'_, Query> {
     path.upcast()
 }
 
-/// Converts a path of a URI to one of an IRI.
+/// A caller converts a path of a URI to one of an IRI.
 pub fn path_of_a_uri(path: EStr<'_, Path>) -> EStr<'_, IPath> {
     path.upcast()
 }
 
-/// Converts a query to a fragment.
+/// A caller converts a query to a fragment.
 pub fn query_as_fragment(query: EStr<'_, Query>) -> EStr<'_, Fragment> {
     query.upcast()
 }
 
-/// Returns the text for another encoder, whose table passes the test.
+/// A caller gets the text for another encoder, whose table passes the test.
 pub fn widened_if_allowed<E: Encoder, SuperE: Encoder>(
     text: EStr<'_, E>,
 ) -> Option<EStr<'_, SuperE>> {
@@ -88,12 +89,12 @@ pub fn widened_if_allowed<E: Encoder, SuperE: Encoder>(
     }
 }
 
-/// Returns the percent-encoded octet of `/`.
+/// A caller gets the percent-encoded octet of `/`.
 pub fn slash() -> EStr<'static, Userinfo> {
     EStr::encode_byte(b'/')
 }
 
-/// Returns a byte as a percent-encoded octet, for any encoder whose table passes the test.
+/// A caller gets a byte as a percent-encoded octet, for any encoder whose table passes the test.
 pub fn octet_if_allowed<E: Encoder>(byte: u8) -> Option<EStr<'static, E>> {
     if E::table().allows_pct_encoded() {
         Some(EStr::encode_byte(byte))
@@ -102,12 +103,12 @@ pub fn octet_if_allowed<E: Encoder>(byte: u8) -> Option<EStr<'static, E>> {
     }
 }
 
-/// Returns the parts that a path decodes to.
+/// A caller gets the parts that a path decodes to.
 pub fn decode_a_path(path: EStr<'_, Path>) -> Decode<'_> {
     path.decode()
 }
 
-/// Returns the parts that a text decodes to, for any encoder whose table passes the test.
+/// A caller gets the parts that a text decodes to, for any encoder whose table passes the test.
 pub fn decode_if_allowed<E: Encoder>(text: EStr<'_, E>) -> Option<Decode<'_>> {
     if E::table().allows_pct_encoded() {
         Some(text.decode())

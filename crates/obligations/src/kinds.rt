@@ -27,63 +27,63 @@ use std::convert::{TryFrom, TryInto};
 use std::fmt;
 use std::hash::{Hash, Hasher};
 
-/// Returns the text of a URI, by `String::from`.
+/// A caller gets the text of a URI, by `String::from`.
 pub fn string_of_uri(value: Uri<String>) -> String
     ensures { string_bytes result ≡ uri_text value }
 {
     String::from(value)
 }
 
-/// Returns the text of a URI reference, by `String::from`.
+/// A caller gets the text of a URI reference, by `String::from`.
 pub fn string_of_uri_ref(value: UriRef<String>) -> String
     ensures { string_bytes result ≡ uri_ref_text value }
 {
     String::from(value)
 }
 
-/// Returns the text of an IRI, by `String::from`.
+/// A caller gets the text of an IRI, by `String::from`.
 pub fn string_of_iri(value: Iri<String>) -> String
     ensures { string_bytes result ≡ iri_text value }
 {
     String::from(value)
 }
 
-/// Returns the text of an IRI reference, by `String::from`.
+/// A caller gets the text of an IRI reference, by `String::from`.
 pub fn string_of_iri_ref(value: IriRef<String>) -> String
     ensures { string_bytes result ≡ iri_ref_text value }
 {
     String::from(value)
 }
 
-/// Returns the text of a URI, by `into`.
+/// A caller gets the text of a URI, by `into`.
 pub fn uri_into_string(value: Uri<String>) -> String
     ensures { string_bytes result ≡ uri_text value }
 {
     value.into()
 }
 
-/// Returns the text of a URI reference, by `into`.
+/// A caller gets the text of a URI reference, by `into`.
 pub fn uri_ref_into_string(value: UriRef<String>) -> String
     ensures { string_bytes result ≡ uri_ref_text value }
 {
     value.into()
 }
 
-/// Returns the text of an IRI, by `into`.
+/// A caller gets the text of an IRI, by `into`.
 pub fn iri_into_string(value: Iri<String>) -> String
     ensures { string_bytes result ≡ iri_text value }
 {
     value.into()
 }
 
-/// Returns the text of an IRI reference, by `into`.
+/// A caller gets the text of an IRI reference, by `into`.
 pub fn iri_ref_into_string(value: IriRef<String>) -> String
     ensures { string_bytes result ≡ iri_ref_text value }
 {
     value.into()
 }
 
-/// Parses a text as a URI, by `try_from`.
+/// A caller parses a text as a URI, by `try_from`.
 pub fn uri_of_text(text: &str) -> Result<Uri<&str>, ParseError>
     ensures accepts { IsOk result ↔ IsOfKind uri text.now }
     ensures text { IfOk result (λ value. uri_text value ≡ text.now) }
@@ -91,7 +91,7 @@ pub fn uri_of_text(text: &str) -> Result<Uri<&str>, ParseError>
     Uri::try_from(text)
 }
 
-/// Parses a `String` as an IRI reference over the text itself, by `try_from`.
+/// A caller parses a `String` as an IRI reference over the text itself, by `try_from`.
 pub fn iri_ref_of_string(text: String) -> Result<IriRef<String>, (ParseError, String)>
     ensures accepts { IsOk result ↔ IsOfKind iri_ref (string_bytes text) }
     ensures back { IfErr result (λ rejected. string_bytes rejected.1 ≡ string_bytes text) }
@@ -99,45 +99,45 @@ pub fn iri_ref_of_string(text: String) -> Result<IriRef<String>, (ParseError, St
     IriRef::try_from(text)
 }
 
-/// Returns the empty URI reference, by `default`.
+/// A caller gets the empty URI reference, by `default`.
 pub fn empty_uri_ref<'a>() -> UriRef<&'a str>
     ensures { uri_ref_text result ≡ [] }
 {
     UriRef::<&str>::default()
 }
 
-/// Returns the empty IRI reference, by `default`.
+/// A caller gets the empty IRI reference, by `default`.
 pub fn empty_iri_ref<'a>() -> IriRef<&'a str>
     ensures { iri_ref_text result ≡ [] }
 {
     IriRef::<&str>::default()
 }
 
-/// Returns the scheme of an IRI, which has one.
+/// A caller calls `scheme` of an IRI, which has one.
 pub fn scheme_of_iri<'a>(value: Iri<&'a str>) -> Scheme<'a>
     ensures { Some (scheme_text result) ≡ (components (iri_text value.entry)).scheme }
 {
     value.scheme()
 }
 
-/// Returns the scheme of an IRI reference, if it has one.
+/// A caller calls `scheme` of an IRI reference, which may have one.
 pub fn scheme_of_iri_ref(value: &IriRef<String>) -> Option<Scheme<'_>>
     ensures { option_map scheme_text result ≡ (components (iri_ref_text value.now)).scheme }
 {
     value.scheme()
 }
 
-/// Returns whether a URI reference has no scheme, by `has_scheme`.
+/// A caller asks whether a URI reference has no scheme, by `has_scheme`.
 pub fn is_relative(value: &UriRef<String>) -> bool {
     !value.has_scheme()
 }
 
-/// Returns whether a URI has an authority, a query and a fragment.
+/// A caller asks whether a URI has an authority, a query and a fragment.
 pub fn has_all_parts(value: &Uri<String>) -> bool {
     value.has_authority() && value.has_query() && value.has_fragment()
 }
 
-/// Returns the authority of a URI, and that of an IRI that owns its text.
+/// A caller calls `authority` of a URI, and of an IRI that owns its text.
 pub fn authorities<'a>(
     value: Uri<&'a str>,
     other: &'a Iri<String>,
@@ -145,40 +145,41 @@ pub fn authorities<'a>(
     (value.authority(), other.authority())
 }
 
-/// Returns the path and the query of a URI reference.
+/// A caller calls `path` and `query` of a URI reference.
 pub fn path_and_query(value: &UriRef<String>) -> (EStr<'_, Path>, Option<EStr<'_, Query>>) {
     (value.path(), value.query())
 }
 
-/// Returns the path and the fragment of an IRI reference, which outlive it.
+/// A caller calls `path` and `fragment` of an IRI reference, whose results outlive it.
 pub fn path_and_fragment<'a>(
     value: IriRef<&'a str>,
 ) -> (EStr<'a, IPath>, Option<EStr<'a, IFragment>>) {
     (value.path(), value.fragment())
 }
 
-/// Returns a copy of an IRI that owns its text: `to_owned` of what is borrowed.
+/// A caller gets a copy of an IRI that owns its text: `to_owned` of what is borrowed.
 pub fn copy_of(alloc: Global, value: &Iri<String>) -> Result<Iri<String>, AllocError>
     ensures { IfOk result (λ copy. iri_text copy ≡ iri_text value.now) }
 {
     value.borrow().to_owned(alloc)
 }
 
-/// Returns the text of an IRI reference, by `into_string`.
+/// A caller gets the text of an IRI reference, by `into_string`.
 pub fn text_of_iri_ref(value: IriRef<String>) -> String
     ensures { string_bytes result ≡ iri_ref_text value }
 {
     value.into_string()
 }
 
-/// Returns a URI without its fragment, by `strip_fragment`.
+/// A caller gets a URI without its fragment, by `strip_fragment`.
 pub fn without_fragment(value: &Uri<String>) -> Uri<&str>
     ensures { IsWithFragment (uri_text value.now) None (uri_text result) }
 {
     value.strip_fragment()
 }
 
-/// Returns a copy of a URI with another fragment, by `with_fragment` over a `&str`, which is kept.
+/// A caller gets a copy of a URI with another fragment, by `with_fragment` over a `&str`, which is
+/// kept.
 pub fn with_fragment(
     alloc: Global,
     value: Uri<&str>,
@@ -190,14 +191,15 @@ pub fn with_fragment(
     value.with_fragment(alloc, Some(fragment))
 }
 
-/// Removes the fragment of an IRI reference, by `set_fragment` with `None`, which never fails.
+/// A caller removes the fragment of an IRI reference, by `set_fragment` with `None`, which never
+/// fails.
 pub fn remove_fragment(value: &mut IriRef<String>) -> Result<(), AllocError>
     ensures { IsOk result }
 {
     value.set_fragment(None)
 }
 
-/// Returns the normal form of an IRI reference that owns its text.
+/// A caller calls `normalize` of an IRI reference that owns its text.
 pub fn normalized(alloc: Global, value: &IriRef<String>) -> Result<IriRef<String>, AllocError>
     ensures { IfOk result (λ normal.
         IsNormalForm iri_ref default_port (iri_ref_text value.now) (iri_ref_text normal)) }
@@ -205,17 +207,17 @@ pub fn normalized(alloc: Global, value: &IriRef<String>) -> Result<IriRef<String
     value.normalize(alloc)
 }
 
-/// Converts an IRI to a URI, by `to_uri`.
+/// A caller converts an IRI to a URI, by `to_uri`.
 pub fn encoded(alloc: Global, value: &Iri<String>) -> Result<Uri<String>, AllocError> {
     value.to_uri(alloc)
 }
 
-/// Converts an IRI reference to a URI reference, by `to_uri_ref`.
+/// A caller converts an IRI reference to a URI reference, by `to_uri_ref`.
 pub fn encoded_ref(alloc: Global, value: IriRef<&str>) -> Result<UriRef<String>, AllocError> {
     value.to_uri_ref(alloc)
 }
 
-/// Returns a URI as each wider kind, by `From`.
+/// A caller gets a URI as each wider kind, by `From`.
 pub fn wider<'a>(value: Uri<&'a str>) -> (UriRef<&'a str>, Iri<&'a str>, IriRef<&'a str>)
     ensures uri_ref { uri_ref_text result.0 ≡ uri_text value.entry }
     ensures iri { iri_text result.1 ≡ uri_text value.entry }
@@ -224,7 +226,7 @@ pub fn wider<'a>(value: Uri<&'a str>) -> (UriRef<&'a str>, Iri<&'a str>, IriRef<
     (UriRef::from(value), Iri::from(value), IriRef::from(value))
 }
 
-/// Returns a URI reference, and an IRI, as the widest kind, by `From`.
+/// A caller gets a URI reference, and an IRI, as the widest kind, by `From`.
 pub fn widest(value: UriRef<String>, other: Iri<String>) -> (IriRef<String>, IriRef<String>)
     ensures uri_ref { iri_ref_text result.0 ≡ uri_ref_text value }
     ensures iri { iri_ref_text result.1 ≡ iri_text other }
@@ -232,7 +234,7 @@ pub fn widest(value: UriRef<String>, other: Iri<String>) -> (IriRef<String>, Iri
     (value.into(), other.into())
 }
 
-/// Returns an IRI as a URI, the narrower kind, by `TryFrom`.
+/// A caller gets an IRI as a URI, the narrower kind, by `TryFrom`.
 pub fn narrower(value: Iri<&str>) -> Result<Uri<&str>, ConvertError>
     ensures accepts { IsOk result ↔ IsOfKind uri (iri_text value.entry) }
     ensures text { IfOk result (λ made. uri_text made ≡ iri_text value.entry) }
@@ -240,52 +242,52 @@ pub fn narrower(value: Iri<&str>) -> Result<Uri<&str>, ConvertError>
     Uri::try_from(value)
 }
 
-/// Converts an IRI reference, the widest kind, to a URI, the narrowest, by `try_into`; an error
-/// gives the value back.
+/// A caller converts an IRI reference, the widest kind, to a URI, the narrowest, by `try_into`; an
+/// error gives the value back.
 pub fn narrowest(value: IriRef<String>) -> Result<Uri<String>, (ConvertError, IriRef<String>)>
     ensures { IsOk result ↔ IsOfKind uri (iri_ref_text value) }
 {
     value.try_into()
 }
 
-/// Returns a clone of a URI reference that is `Copy`: it is the same value.
+/// A caller gets a clone of a URI reference that is `Copy`: it is the same value.
 pub fn clone_of<'a>(value: &UriRef<&'a str>) -> Result<UriRef<&'a str>, AllocError>
     ensures { IfOk result (λ copy. copy ≡ value.now) }
 {
     value.clone()
 }
 
-/// Returns an IRI over a `&str` twice: it is copied.
+/// A caller gets an IRI over a `&str` twice: it is copied.
 pub fn twice(value: Iri<&str>) -> (Iri<&str>, Iri<&str>) {
     (value, value)
 }
 
-/// Returns whether an IRI is equal to another or less, by `==` and `<`.
+/// A caller asks whether an IRI is equal to another or less, by `==` and `<`.
 pub fn is_equal_or_less(value: &Iri<String>, other: &Iri<String>) -> bool {
     value == other || value < other
 }
 
-/// Compares two URI references, by `cmp`.
+/// A caller compares two URI references, by `cmp`.
 pub fn order_of(value: UriRef<&str>, other: UriRef<&str>) -> Ordering {
     value.cmp(&other)
 }
 
-/// Hashes a URI that owns its text.
+/// A caller hashes a URI that owns its text.
 pub fn feed_hash<H: Hasher>(value: &Uri<String>, state: &mut H) {
     value.hash(state)
 }
 
-/// Prints an IRI by `{:?}`.
+/// A caller prints an IRI by `{:?}`.
 pub fn write_parts<W: fmt::Write>(out: &mut W, value: Iri<&str>) -> fmt::Result {
     write!(out, "{value:?}")
 }
 
-/// Prints an IRI reference by `{}`.
+/// A caller prints an IRI reference by `{}`.
 pub fn write_text<W: fmt::Write>(out: &mut W, value: &IriRef<String>) -> fmt::Result {
     write!(out, "{value}")
 }
 
-/// Returns the target of an IRI reference against an IRI, the kind of its base, by
+/// A caller gets the target of an IRI reference against an IRI, the kind of its base, by
 /// `resolve_against`.
 pub fn target_of(
     alloc: Global,
@@ -298,7 +300,7 @@ pub fn target_of(
     value.resolve_against(alloc, base)
 }
 
-/// Builds an IRI, beginning with its scheme.
+/// A caller builds an IRI, beginning with its scheme.
 pub fn built_iri(
     alloc: Global,
     scheme: Scheme<'_>,
@@ -310,7 +312,7 @@ pub fn built_iri(
         .build()
 }
 
-/// Builds an IRI reference, beginning with its path.
+/// A caller builds an IRI reference, beginning with its path.
 pub fn built_iri_ref(alloc: Global, path: EStr<'_, IPath>) -> Result<IriRef<String>, BuildError> {
     IriRef::<String>::builder(alloc).path(path).build()
 }

@@ -6,13 +6,14 @@ use fluent_uri::resolve::{ResolveError, Resolver};
 use fluent_uri::{Uri, UriRef};
 use std::alloc::Global;
 
-/// Returns the normal form of a URI.
+/// A caller gets the normal form of a URI by a `Normalizer` without settings.
 pub fn normal_form(alloc: Global, uri: &Uri<&str>) -> Result<Uri<String>, NormalizeError> {
     let normalizer = Normalizer::new();
     normalizer.normalize(alloc, uri)
 }
 
-/// Returns the normal form of a URI, if its dot segments do not underflow.
+/// A caller gets the normal form of a URI by a `Normalizer` that rejects dot segments that
+/// underflow.
 pub fn normal_form_without_underflow(
     alloc: Global,
     uri: &Uri<&str>,
@@ -21,7 +22,7 @@ pub fn normal_form_without_underflow(
     normalizer.normalize(alloc, uri)
 }
 
-/// Returns the normal form of a URI under the default ports of a caller.
+/// A caller gets the normal form of a URI by a `Normalizer` under default ports of its own.
 pub fn normal_form_under<P: DefaultPort + Drop>(
     alloc: Global,
     uri: &Uri<&str>,
@@ -31,7 +32,7 @@ pub fn normal_form_under<P: DefaultPort + Drop>(
     normalizer.normalize(alloc, uri)
 }
 
-/// Returns the targets of two references against one base.
+/// A caller gets the targets of two references by one `Resolver`.
 pub fn both_targets(
     alloc: Global,
     base: Uri<&str>,
@@ -45,7 +46,8 @@ pub fn both_targets(
     ))
 }
 
-/// Returns the target of a reference, if its dot segments do not underflow.
+/// A caller gets the target of a reference by a `Resolver` that rejects dot segments that
+/// underflow.
 pub fn target_without_underflow(
     alloc: Global,
     base: Uri<&str>,
@@ -55,7 +57,7 @@ pub fn target_without_underflow(
     resolver.resolve(alloc, reference)
 }
 
-/// Returns the normal form of the target of a reference.
+/// A caller gets the normal form of the target of a reference by a `Resolver` and a `Normalizer`.
 pub fn normal_target(
     alloc: Global,
     base: Uri<&str>,

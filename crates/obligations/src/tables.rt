@@ -9,17 +9,17 @@ ghost use Rattle.fluent_uri.specs.Tables.{set_of};
 
 use fluent_uri::pct_enc::Table;
 
-/// Returns the table of some letters.
+/// A caller makes a table of some letters, which are a literal list.
 pub fn vowels() -> Table {
     Table::new(b"aeiouAEIOU")
 }
 
-/// Returns the table of no character.
+/// A caller makes a table of no character, which is a literal list.
 pub fn none() -> Table {
     Table::new(b"")
 }
 
-/// Returns the table of characters that pass the test, which `new` asks for.
+/// A caller makes a table of a list of characters by `new`, after testing the list by `try_new`.
 pub fn table_if_unencoded(bytes: &[u8]) -> Option<Table> {
     if Table::try_new(bytes).is_some() {
         Some(Table::new(bytes))
@@ -28,7 +28,7 @@ pub fn table_if_unencoded(bytes: &[u8]) -> Option<Table> {
     }
 }
 
-/// Returns the table of exactly these characters, by `try_new`, if each is ASCII and not `%`.
+/// A caller makes a table of exactly these characters by `try_new`, if each is ASCII and not `%`.
 pub fn table_of(bytes: &[u8]) -> Option<Table>
     ensures some { IsSome result ↔ IsTrue (list_all is_unencoded_ascii bytes.now) }
     ensures table { IfSome result (λ table. set_of table ≡ characters_only (is_one_of bytes.now)) }

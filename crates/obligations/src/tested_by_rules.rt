@@ -4,7 +4,7 @@ use fluent_uri::pct_enc::encoder::{Path, Query};
 use fluent_uri::pct_enc::{EStr, EString, Split, table};
 use std::alloc::AllocError;
 
-/// Cuts a query at each occurrence of a character, if `RESERVED` allows it.
+/// A caller cuts a query at each occurrence of a character, if the constant `RESERVED` allows it.
 pub fn pieces(query: EStr<'_, Query>, delimiter: char) -> Option<Split<'_, Query>> {
     if table::RESERVED.allows(delimiter) {
         Some(query.split(delimiter))
@@ -13,7 +13,8 @@ pub fn pieces(query: EStr<'_, Query>, delimiter: char) -> Option<Split<'_, Query
     }
 }
 
-/// Cuts a query at the first occurrence of a character, if `RESERVED` allows it.
+/// A caller cuts a query at the first occurrence of a character, if the constant `RESERVED` allows
+/// it.
 pub fn cut_at_the_first(
     query: EStr<'_, Query>,
     delimiter: char,
@@ -25,7 +26,8 @@ pub fn cut_at_the_first(
     }
 }
 
-/// Cuts a path at the last occurrence of a character, if `RESERVED` allows it.
+/// A caller cuts a path at the last occurrence of a character, if the constant `RESERVED` allows
+/// it.
 pub fn cut_at_the_last(
     path: EStr<'_, Path>,
     delimiter: char,
@@ -37,7 +39,7 @@ pub fn cut_at_the_last(
     }
 }
 
-/// Appends a character that `QUERY` allows.
+/// A caller appends a character to a query after testing that the constant `QUERY` allows it.
 pub fn push_if_in_a_query(query: &mut EString<Query>, ch: char) -> Result<(), AllocError> {
     if table::QUERY.allows(ch) {
         query.push(ch)?;

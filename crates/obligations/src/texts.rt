@@ -9,7 +9,8 @@ use fluent_uri::component::{Authority, Scheme};
 use fluent_uri::pct_enc::EStr;
 use fluent_uri::pct_enc::encoder::{Encoder, Path};
 
-/// Returns the text if it is valid for the encoder, which may be any, and else the empty one.
+/// A caller makes an encoded text after testing that it is valid for the encoder, and else the
+/// empty one.
 pub fn valid_or_empty<E: Encoder>(text: &str) -> EStr<'_, E> {
     if EStr::<E>::new(text).is_some() {
         EStr::new_or_panic(text)
@@ -18,21 +19,21 @@ pub fn valid_or_empty<E: Encoder>(text: &str) -> EStr<'_, E> {
     }
 }
 
-/// Returns the empty text, of any encoder.
+/// A caller makes the empty text, of any encoder, by `default`.
 pub fn empty<E: Encoder>() -> EStr<'static, E>
     ensures { text_of result ≡ [] }
 {
     EStr::default()
 }
 
-/// Returns the empty authority.
+/// A caller makes the empty authority by `new_empty`.
 pub fn empty_authority() -> Authority<'static>
     ensures { authority_text result ≡ [] }
 {
     Authority::new_empty()
 }
 
-/// Returns the text if it is valid for `Path`, and else the empty one.
+/// A caller makes a path after testing that the text is valid for `Path`, and else the empty one.
 pub fn path_or_empty(text: &str) -> EStr<'_, Path> {
     if EStr::<Path>::new(text).is_some() {
         EStr::new_or_panic(text)
@@ -41,7 +42,7 @@ pub fn path_or_empty(text: &str) -> EStr<'_, Path> {
     }
 }
 
-/// Returns the text as a scheme, if it is one.
+/// A caller makes a scheme after testing that the text is one.
 pub fn scheme_if_one(text: &str) -> Option<Scheme<'_>> {
     if Scheme::new(text).is_some() {
         Some(Scheme::new_or_panic(text))

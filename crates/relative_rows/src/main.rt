@@ -11,7 +11,8 @@ use std::alloc::{AllocError, Global};
 use std::io::{self, BufRead, BufReader, BufWriter, Write};
 use uri_relative::Relativizer;
 
-/// Returns a reference that leads from a URI to another, or `None` if a text is not a URI.
+/// Returns the reference that leads from a URI to another, for a row to compare, or `None` if a
+/// text is not a URI.
 fn relativize_uris(
     alloc: Global,
     prefers: bool,
@@ -26,7 +27,8 @@ fn relativize_uris(
     Ok(Some(reference.into_string()))
 }
 
-/// Returns a reference that leads from an IRI to another, or `None` if a text is not an IRI.
+/// Returns the reference that leads from an IRI to another, for a row to compare, or `None` if a
+/// text is not an IRI.
 fn relativize_iris(
     alloc: Global,
     prefers: bool,
@@ -41,7 +43,7 @@ fn relativize_iris(
     Ok(Some(reference.into_string()))
 }
 
-/// Returns whether a row has the reference that is returned. A malformed row has not.
+/// Returns whether a row has the reference that `uri_relative` returns. A malformed row has not.
 fn row_holds(alloc: Global, row: &str) -> Result<bool, AllocError> {
     let Some((asked, expected)) = row.split_once(" -> ") else {
         return Ok(false);
@@ -64,8 +66,8 @@ fn row_holds(alloc: Global, row: &str) -> Result<bool, AllocError> {
     }
 }
 
-/// Returns whether the URI at `http://a/` with the path `base` leads to that with the path `target`
-/// by the expected reference.
+/// Returns whether a long row holds: from the URI at `http://a/` with the path `base` to that with
+/// the path `target` leads the expected reference.
 fn leads(
     alloc: Global,
     prefers: bool,
@@ -81,7 +83,7 @@ fn leads(
     }
 }
 
-/// Returns how many of the five long rows do not have the reference that is returned.
+/// Returns how many of the five long rows do not have the reference that `uri_relative` returns.
 fn long_rows(alloc: Global) -> Result<u64, AllocError> {
     let segments = "x/".repeat(alloc, 50_000)?;
     let ups = "../".repeat(alloc, 50_000)?;

@@ -14,7 +14,7 @@ use uri_streams::source::Source;
 
 const CAPACITY: usize = 64;
 
-/// The command, with the options that are there where none is given.
+/// Returns the job of a test of `urilines`: the command on whole lines of up to 40 bytes.
 fn with_defaults(command: LineCommand<'_>) -> Job<'_> {
     Job {
         command: Command::Each(command),
@@ -25,7 +25,7 @@ fn with_defaults(command: LineCommand<'_>) -> Job<'_> {
     }
 }
 
-/// What is written for the input, with a tally, or why the run ended.
+/// Returns the tally of a run of `urilines` and what it wrote, or why the run ended.
 fn written<R: Read + Drop>(
     alloc: Global,
     job: &Job<'_>,
@@ -45,7 +45,7 @@ fn written<R: Read + Drop>(
     Ok((tally, out.into_inner()))
 }
 
-/// The same, with the error output.
+/// Returns what a run of `urilines` wrote to its output and its error output, or why the run ended.
 fn both_outputs(alloc: Global, job: &Job<'_>, input: &[u8]) -> Result<(Vec<u8>, Vec<u8>), Failure> {
     let reader = BufReader::with_capacity(alloc, CAPACITY, input).map_err(Failure::Input)?;
     let mut out = Sink::new(Vec::new(alloc));
@@ -71,6 +71,7 @@ const PIECES: [&[u8]; 6] = [
     b"x:y?0123456789012345678901234567890123456789\r\n",
 ];
 
+/// Returns the input with this number for a test of `urilines`: a sequence of three pieces.
 fn input(alloc: Global, number: usize) -> Result<Vec<u8>, AllocError> {
     let mut bytes = Vec::new(alloc);
     let mut rest = number;
@@ -81,6 +82,7 @@ fn input(alloc: Global, number: usize) -> Result<Vec<u8>, AllocError> {
     Ok(bytes)
 }
 
+/// Tests that `urilines` writes the same wherever a first read ends.
 #[test]
 fn reads_may_end_anywhere(rt: HostRuntime) {
     let alloc = rt.alloc();
@@ -118,6 +120,7 @@ const NORMALIZED: &[(&[u8], &[u8])] = &[
     ),
 ];
 
+/// Tests that `urilines normalize` writes a line for each line.
 #[test]
 fn writes_a_line_for_each(rt: HostRuntime) {
     let alloc = rt.alloc();
@@ -128,6 +131,7 @@ fn writes_a_line_for_each(rt: HostRuntime) {
     }
 }
 
+/// Tests the outputs of commands and options of `urilines`.
 #[test]
 fn each_command_and_option_has_its_output(rt: HostRuntime) {
     let alloc = rt.alloc();
@@ -188,6 +192,7 @@ const QUERIES: &[(KindName, &str, &str)] = &[
     ),
 ];
 
+/// Tests that `urilines query` writes the pairs of a query as JSON.
 #[test]
 fn queries_are_pairs_of_json(rt: HostRuntime) {
     let alloc = rt.alloc();
@@ -215,6 +220,7 @@ const FIELDS: &[(OnError, &[u8], &[u8])] = &[
     ),
 ];
 
+/// Tests that `urilines` changes no more of a line than the field that it works on.
 #[test]
 fn a_field_is_worked_on_alone(rt: HostRuntime) {
     let alloc = rt.alloc();
@@ -230,6 +236,7 @@ fn a_field_is_worked_on_alone(rt: HostRuntime) {
     }
 }
 
+/// Tests that `urilines unique` and `urilines links` know lines that are repeated.
 #[test]
 fn repeated_lines_are_known(rt: HostRuntime) {
     let alloc = rt.alloc();
@@ -255,7 +262,7 @@ fn repeated_lines_are_known(rt: HostRuntime) {
     .expect(&rt, "links");
 }
 
-/// A run that may be denied memory writes a prefix of its output.
+/// Tests that a run of `urilines` that may be denied memory writes a prefix of its output.
 #[test]
 fn denied_memory_leaves_a_prefix(rt: HostRuntime) {
     let alloc = rt.alloc();
@@ -296,6 +303,7 @@ fn denied_memory_leaves_a_prefix(rt: HostRuntime) {
 struct FailsAfter(usize);
 
 impl Write for FailsAfter {
+    /// Takes what `urilines` writes, and fails after so many writes.
     fn write(&mut self, buf: &[u8]) -> io::Result<usize> {
         if self.0 == 0 {
             return Err(io::Error::from(ErrorKind::BrokenPipe));
@@ -304,6 +312,7 @@ impl Write for FailsAfter {
         Ok(buf.len())
     }
 
+    /// Does nothing, since this writer for tests of `urilines` has no buffer.
     fn flush(&mut self) -> io::Result<()> {
         Ok(())
     }
@@ -314,11 +323,13 @@ impl Write for FailsAfter {
 struct Fails;
 
 impl Read for Fails {
+    /// Fails, as the input of `urilines` does in a test of failed reads.
     fn read(&mut self, _: &mut [u8]) -> io::Result<usize> {
         Err(io::Error::from(ErrorKind::BrokenPipe))
     }
 }
 
+/// Tests that a failed read and a failed write end a run of `urilines`.
 #[test]
 fn a_failed_read_and_a_failed_write_end_the_run(rt: HostRuntime) {
     let alloc = rt.alloc();

@@ -16,7 +16,7 @@ pub struct Differ<T> {
     pub wanted: T,
 }
 
-/// Compares two values.
+/// Compares two values for a test, which ends by `expect` of the result.
 ///
 /// # Errors
 ///
@@ -46,12 +46,13 @@ impl From<AllocError> for Misprint {
 
     ghost from_gives = { λ _ misprint. misprint ≡ OutOfMemory };
 
+    /// Returns `OutOfMemory` for an allocation that fails where a test prints a value.
     fn from(_: AllocError) -> Misprint {
         Misprint::OutOfMemory
     }
 }
 
-/// Prints a value, and compares what that gives with a text.
+/// Prints a value for a test, and compares what that gives with a text.
 ///
 /// # Errors
 ///

@@ -9,7 +9,7 @@ use fluent_uri::{ConvertError, Iri, IriRef, Reference, Uri, UriRef};
 use std::alloc::{AllocError, Global};
 use uri_parts::kind::{self, IriKind, IriRefKind};
 
-/// Says the text as another kind, borrowed and, where it differs, owned.
+/// Appends to a row's result the text as another kind, borrowed and, where it differs, owned.
 pub(crate) fn convert(
     alloc: Global,
     from: Kind,
@@ -25,6 +25,7 @@ pub(crate) fn convert(
     }
 }
 
+/// Appends to a row's result a URI as a wider kind.
 fn convert_uri(
     alloc: Global,
     value: Uri<&str>,
@@ -40,6 +41,7 @@ fn convert_uri(
     }
 }
 
+/// Appends to a row's result a URI reference as another kind, or the error.
 fn convert_uri_ref(
     alloc: Global,
     value: UriRef<&str>,
@@ -60,6 +62,7 @@ fn convert_uri_ref(
     }
 }
 
+/// Appends to a row's result an IRI as another kind, or the error.
 fn convert_iri(
     alloc: Global,
     value: Iri<&str>,
@@ -80,6 +83,7 @@ fn convert_iri(
     }
 }
 
+/// Appends to a row's result an IRI reference as another kind, or the error.
 fn convert_iri_ref(
     alloc: Global,
     value: IriRef<&str>,
@@ -115,7 +119,7 @@ fn convert_iri_ref(
     }
 }
 
-/// Says the text of a conversion that never fails.
+/// Appends to a row's result the text of a conversion that never fails.
 fn widened<K: kind::Kind>(
     value: Reference<K, &str>,
     owned: Reference<K, String>,
@@ -125,7 +129,8 @@ fn widened<K: kind::Kind>(
     Ok(words.unless_said("owned", owned.as_str())?)
 }
 
-/// Says the text of a conversion or its error, and what differs where the value is owned.
+/// Appends to a row's result the text of a conversion or its error, and what differs where the
+/// value is owned.
 fn narrowed<S: kind::Kind, K: kind::Kind>(
     alloc: Global,
     value: Reference<S, &str>,
@@ -143,6 +148,7 @@ fn narrowed<S: kind::Kind, K: kind::Kind>(
     }
 }
 
+/// Appends to a row's result the error of a conversion, and whether that of an owned value differs.
 fn refused(
     alloc: Global,
     error: ConvertError,
@@ -153,7 +159,8 @@ fn refused(
     Ok(words.unless(is_same, "but not of an owned value")?)
 }
 
-/// Says the URI, or the URI reference, of an IRI or an IRI reference, borrowed and owned.
+/// Appends to a row's result the URI, or the URI reference, of an IRI or an IRI reference, borrowed
+/// and owned.
 pub(crate) fn to_uri(
     alloc: Global,
     kind: Kind,
@@ -177,15 +184,17 @@ pub(crate) fn to_uri(
     }
 }
 
+/// Returns the URI of an owned copy of an IRI, which a row compares with that of the IRI.
 fn uri_of_owned(alloc: Global, value: Iri<&str>) -> Result<Uri<String>, AllocError> {
     value.to_owned(alloc)?.to_uri(alloc)
 }
 
+/// Returns the URI reference of an owned copy of an IRI reference, for a row to compare.
 fn uri_ref_of_owned(alloc: Global, value: IriRef<&str>) -> Result<UriRef<String>, AllocError> {
     value.to_owned(alloc)?.to_uri_ref(alloc)
 }
 
-/// Says the text without a fragment.
+/// Appends to a row's result the text without a fragment.
 pub(crate) fn strip_fragment<K: kind::Kind>(
     alloc: Global,
     text: &str,
@@ -197,7 +206,8 @@ pub(crate) fn strip_fragment<K: kind::Kind>(
     Ok(words.unless_said("owned", owned.strip_fragment().as_str())?)
 }
 
-/// Says the text with another fragment, given as `#` and its text, or with `none`.
+/// Appends to a row's result the text with another fragment, given as `#` and its text, or with
+/// `none`.
 pub(crate) fn with_fragment<K: kind::Kind>(
     alloc: Global,
     text: &str,
@@ -212,7 +222,7 @@ pub(crate) fn with_fragment<K: kind::Kind>(
     replace_fragment(alloc, value, fragment, words)
 }
 
-/// A copy of the owned value with another fragment.
+/// Returns a copy of an owned value with another fragment, for a row to compare.
 fn copied<K: kind::Kind>(
     alloc: Global,
     value: Reference<K, &str>,
@@ -221,7 +231,7 @@ fn copied<K: kind::Kind>(
     value.to_owned(alloc)?.with_fragment(alloc, fragment)
 }
 
-/// Says what differs where the fragment of an owned value is replaced.
+/// Appends to a row's result what differs where the fragment of an owned value is replaced.
 fn replace_fragment<K: kind::Kind>(
     alloc: Global,
     value: Reference<K, &str>,
@@ -235,6 +245,7 @@ fn replace_fragment<K: kind::Kind>(
     Ok(words.unless(has_both, "but not its components")?)
 }
 
+/// Returns the fragment that a row gives as `#` and its text, or none.
 fn fragment<E: Encoder>(given: &str) -> Result<Option<EStr<'_, E>>, RowError> {
     match given.strip_prefix('#') {
         Some(text) => Ok(Some(EStr::new(text).ok_or(RowError::NotAFragment)?)),

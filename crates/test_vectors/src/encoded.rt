@@ -11,11 +11,12 @@ use fluent_uri::pct_enc::{CowSlice, CowStr, DecodeError, EStr, EString, Table, t
 use std::alloc::{AllocError, Global};
 use uri_parts::kind::IriRefKind;
 
+/// Makes a percent-encoded path of a row's text, or returns why the row is malformed.
 fn path(text: &str) -> Result<EStr<'_, IPath>, RowError> {
     EStr::new(text).ok_or(RowError::NotAPath)
 }
 
-/// Says the bytes as hexadecimal numbers.
+/// Appends to a row's result bytes as hexadecimal numbers.
 fn say_bytes(alloc: Global, bytes: &[u8], words: &mut Words) -> Result<(), AllocError> {
     for byte in bytes {
         words.verbatim(format!(in alloc; "{byte:02X}")?.as_str())?;
@@ -23,7 +24,7 @@ fn say_bytes(alloc: Global, bytes: &[u8], words: &mut Words) -> Result<(), Alloc
     Ok(())
 }
 
-/// Says what a path decodes to.
+/// Appends to a row's result what a path decodes to, or its segments.
 pub(crate) fn say_decoded_path(
     alloc: Global,
     ask: PathOperation,
@@ -43,7 +44,7 @@ pub(crate) fn say_decoded_path(
     }
 }
 
-/// Says the bytes, and whether they are borrowed.
+/// Appends to a row's result decoded bytes, and whether they are borrowed.
 fn say_decoded(
     alloc: Global,
     bytes: &CowSlice<'_, u8>,
@@ -61,6 +62,7 @@ fn say_decoded(
     }
 }
 
+/// Appends to a row's result the decoded bytes that are not UTF-8.
 fn say_undecoded(alloc: Global, error: DecodeError, words: &mut Words) -> Result<(), RowError> {
     match error {
         DecodeError::NotUtf8(bytes) => {
@@ -71,6 +73,7 @@ fn say_undecoded(alloc: Global, error: DecodeError, words: &mut Words) -> Result
     }
 }
 
+/// Appends to a row's result the segments of an absolute path, or `none`.
 fn say_segments(path: EStr<'_, IPath>, words: &mut Words) -> Result<(), AllocError> {
     let Some(segments) = path.segments_if_absolute() else {
         return words.verbatim("none");
@@ -81,8 +84,8 @@ fn say_segments(path: EStr<'_, IPath>, words: &mut Words) -> Result<(), AllocErr
     Ok(())
 }
 
-/// Says the normal form of a path as an IRI reference, whether its bytes are a text, and the text
-/// that it decodes to, with U+FFFD for what is ill-formed.
+/// Appends to a row's result the normal form of a path as an IRI reference, whether its bytes are a
+/// text, and that text, with U+FFFD for what is ill-formed.
 fn say_decodings(alloc: Global, text: &str, words: &mut Words) -> Result<(), RowError> {
     let path = path(text)?;
     words.text(parsed::<IriRefKind>(text)?.normalize(alloc)?.as_str())?;
@@ -91,7 +94,8 @@ fn say_decodings(alloc: Global, text: &str, words: &mut Words) -> Result<(), Row
     Ok(words.text(lossy.as_str())?)
 }
 
-/// Says whether a path decodes to a text or to bytes, and what differs from the lossy text.
+/// Appends to a row's result whether a path decodes to a text or to bytes, and what differs from
+/// the lossy text.
 fn compare_decoded(
     alloc: Global,
     decoded: Result<CowStr<'_>, DecodeError>,
@@ -112,7 +116,7 @@ fn compare_decoded(
     }
 }
 
-/// Appends the substrings of a path that a row asks for.
+/// Appends to a row's result the substrings of a path that the row asks for.
 pub(crate) fn say_substrings(
     ask: SubstringOperation,
     text: &str,
@@ -145,7 +149,7 @@ pub(crate) fn say_substrings(
     }
 }
 
-/// Whether an encoder allows a text.
+/// Returns whether the encoder that a row names allows a text.
 pub(crate) fn is_valid(encoder: &str, text: &str) -> Result<bool, RowError> {
     Ok(match encoder {
         "userinfo" => keeps::<Userinfo>(text),
@@ -159,7 +163,7 @@ pub(crate) fn is_valid(encoder: &str, text: &str) -> Result<bool, RowError> {
     })
 }
 
-/// Whether the text has a value, which keeps it.
+/// Returns whether the encoder of a row allows a text, and its `EStr` keeps it.
 fn keeps<E: Encoder>(text: &str) -> bool {
     match EStr::<E>::new(text) {
         Some(value) => value.as_str() == text && value.len() == text.len(),
@@ -167,7 +171,7 @@ fn keeps<E: Encoder>(text: &str) -> bool {
     }
 }
 
-/// Says bytes as an encoder writes them.
+/// Appends to a row's result bytes or a text as the encoder that it names writes them.
 pub(crate) fn encode(
     alloc: Global,
     encoder: &str,
@@ -184,6 +188,7 @@ pub(crate) fn encode(
     }
 }
 
+/// Appends to a row's result bytes or a text, percent-encoded by an encoder.
 fn say_encoded<E: Encoder>(
     alloc: Global,
     bytes: &[u8],
@@ -201,6 +206,7 @@ fn say_encoded<E: Encoder>(
     Ok(words.text(text.as_str())?)
 }
 
+/// Returns the constant table that a row names.
 fn named_table(name: &str) -> Result<Table, RowError> {
     Ok(match name {
         "alpha" => table::ALPHA,
@@ -223,7 +229,8 @@ fn named_table(name: &str) -> Result<Table, RowError> {
     })
 }
 
-/// Says the ASCII characters of a table, and whether it has percent-encoded octets.
+/// Appends to a row's result the ASCII characters of a table, and whether it has percent-encoded
+/// octets.
 pub(crate) fn table(alloc: Global, name: &str, words: &mut Words) -> Result<(), RowError> {
     let table = named_table(name)?;
     let mut characters = String::new(alloc);

@@ -9,7 +9,7 @@ use std::alloc::Global;
 use std::hash::{DefaultHasher, Hash, Hasher};
 use uri_parts::kind::{self, IriKind, IriRefKind, UriKind, UriRefKind};
 
-/// Returns the words of the result.
+/// Returns the words of a row's result: what its operation gives of its fields.
 pub(crate) fn evaluate(alloc: Global, asked: &str) -> Result<Words, RowError> {
     let mut fields = Fields::new(alloc, asked);
     let mut words = Words::new(alloc);
@@ -22,7 +22,7 @@ pub(crate) fn evaluate(alloc: Global, asked: &str) -> Result<Words, RowError> {
     }
 }
 
-/// Says the result of an operation.
+/// Appends to a row's result what its operation gives of its fields.
 fn say(
     alloc: Global,
     operation: Operation,
@@ -51,6 +51,7 @@ fn say(
     }
 }
 
+/// Takes a kind and a text from a row's fields, and appends what the row asks of them.
 fn evaluate_value(
     alloc: Global,
     ask: ValueOperation,
@@ -71,6 +72,7 @@ fn evaluate_value(
     }
 }
 
+/// Appends to a row's result what the row asks of a text of this kind.
 fn of_kind<K: kind::Kind>(
     alloc: Global,
     ask: ValueOperation,
@@ -88,6 +90,7 @@ fn of_kind<K: kind::Kind>(
     }
 }
 
+/// Takes a kind, a base and a reference from a row's fields, and appends what the row asks of them.
 fn evaluate_pair(
     alloc: Global,
     ask: PairOperation,
@@ -99,6 +102,7 @@ fn evaluate_pair(
     of_bases(alloc, ask, kind, (base.as_str(), reference.as_str()), words)
 }
 
+/// Appends to a row's result what the row asks of a base of this kind and a reference.
 fn of_bases(
     alloc: Global,
     ask: PairOperation,
@@ -126,6 +130,7 @@ fn of_bases(
     }
 }
 
+/// Takes a path and a delimiter from a row's fields, and appends the substrings that it asks for.
 fn say_substrings(
     ask: SubstringOperation,
     fields: &mut Fields<'_>,
@@ -135,22 +140,26 @@ fn say_substrings(
     encoded::say_substrings(ask, text.as_str(), delimiter, words)
 }
 
+/// Takes an encoder and a text from a row's fields, and appends whether it allows the text.
 fn is_valid(fields: &mut Fields<'_>, words: &mut Words) -> Result<(), RowError> {
     let (encoder, text) = (fields.word()?, fields.text()?);
     let is_valid = encoded::is_valid(encoder, text.as_str())?;
     Ok(words.verbatim(if is_valid { "yes" } else { "no" })?)
 }
 
+/// Takes an encoder and a text from a row's fields, and appends the text as it writes it.
 fn encode(alloc: Global, fields: &mut Fields<'_>, words: &mut Words) -> Result<(), RowError> {
     let (encoder, text) = (fields.word()?, fields.text()?);
     encoded::encode(alloc, encoder, text.as_str().as_bytes(), true, words)
 }
 
+/// Takes an encoder and bytes from a row's fields, and appends the bytes as it writes them.
 fn encode_bytes(alloc: Global, fields: &mut Fields<'_>, words: &mut Words) -> Result<(), RowError> {
     let (encoder, bytes) = (fields.word()?, fields.bytes()?);
     encoded::encode(alloc, encoder, bytes.as_slice(), false, words)
 }
 
+/// Appends to a row's result the text if it is a scheme, or `none`.
 fn say_scheme(text: &str, words: &mut Words) -> Result<(), RowError> {
     Ok(match Scheme::new(text) {
         Some(scheme) => words.text(scheme.as_str())?,
@@ -158,21 +167,25 @@ fn say_scheme(text: &str, words: &mut Words) -> Result<(), RowError> {
     })
 }
 
+/// Makes a scheme of a row's text, or returns why the row is malformed.
 fn scheme(text: &str) -> Result<Scheme<'_>, RowError> {
     Scheme::new(text).ok_or(RowError::NotAScheme)
 }
 
+/// Returns the hash of a scheme, for a row that compares two.
 fn hash_of(scheme: Scheme<'_>) -> u64 {
     let mut state = DefaultHasher::new();
     scheme.hash(&mut state);
     state.finish()
 }
 
+/// Takes two schemes from a row's fields, and appends whether they are equal.
 fn same_scheme(fields: &mut Fields<'_>, words: &mut Words) -> Result<(), RowError> {
     let (first, second) = (fields.text()?, fields.text()?);
     compare_schemes(scheme(first.as_str())?, scheme(second.as_str())?, words)
 }
 
+/// Appends to a row's result whether two schemes are equal, and whether their hashes say otherwise.
 fn compare_schemes(
     first: Scheme<'_>,
     second: Scheme<'_>,
@@ -184,6 +197,7 @@ fn compare_schemes(
     Ok(words.unless(has_equal_hash == is_equal, "by another hash")?)
 }
 
+/// Appends to a row's result the default port of a scheme, and whether it differs in capitals.
 fn default_port(alloc: Global, text: &str, words: &mut Words) -> Result<(), RowError> {
     let port = scheme(text)?.default_port();
     match port {
@@ -195,11 +209,12 @@ fn default_port(alloc: Global, text: &str, words: &mut Words) -> Result<(), RowE
     Ok(words.unless(is_same, "but not in capitals")?)
 }
 
-/// Says what an `IpAddr` prints.
+/// Appends to a row's result what an `IpAddr` prints, unless the address printed the same.
 fn say_address(alloc: Global, address: IpAddr, words: &mut Words) -> Result<(), RowError> {
     Ok(words.unless_said("either", format!(in alloc; "{address}")?.as_str())?)
 }
 
+/// Takes the next field of a row as a decimal number up to 255.
 fn octet(fields: &mut Fields<'_>) -> Result<u8, RowError> {
     match u8::try_from(fields.number()?) {
         Ok(octet) => Ok(octet),
@@ -207,6 +222,7 @@ fn octet(fields: &mut Fields<'_>) -> Result<u8, RowError> {
     }
 }
 
+/// Takes the numbers of an IPv4 address from a row's fields, and appends its text.
 fn print_ipv4(alloc: Global, fields: &mut Fields<'_>, words: &mut Words) -> Result<(), RowError> {
     let (a, b) = (octet(fields)?, octet(fields)?);
     let (c, d) = (octet(fields)?, octet(fields)?);
@@ -215,6 +231,7 @@ fn print_ipv4(alloc: Global, fields: &mut Fields<'_>, words: &mut Words) -> Resu
     say_address(alloc, IpAddr::V4(address), words)
 }
 
+/// Takes the numbers of an IPv6 address from a row's fields, and appends its text.
 fn print_ipv6(alloc: Global, fields: &mut Fields<'_>, words: &mut Words) -> Result<(), RowError> {
     let mut numbers = [0u16; 8];
     for number in &mut numbers {

@@ -35,18 +35,21 @@ pub(crate) enum RowError {
 }
 
 impl From<AllocError> for RowError {
+    /// Returns why a row has no result, for a failed allocation.
     fn from(_: AllocError) -> RowError {
         RowError::OutOfMemory
     }
 }
 
 impl From<ResolveError> for RowError {
+    /// Returns why a row has no result, for a reference without a target.
     fn from(_: ResolveError) -> RowError {
         RowError::NoTarget
     }
 }
 
 impl fmt::Display for RowError {
+    /// Writes why a row has no result.
     fn fmt<W: fmt::Write>(&self, f: &mut fmt::Formatter<W>) -> fmt::Result {
         f.write_str(match *self {
             RowError::OutOfMemory => "out of memory",
@@ -86,6 +89,7 @@ pub(crate) struct Fields<'a> {
 }
 
 impl<'a> Fields<'a> {
+    /// Returns the fields of what a row asks, of which none is taken.
     pub(crate) fn new(alloc: Global, asked: &'a str) -> Fields<'a> {
         Fields {
             alloc,
@@ -93,7 +97,7 @@ impl<'a> Fields<'a> {
         }
     }
 
-    /// Takes the next field as it is written.
+    /// Takes the next field of a row as it is written.
     pub(crate) fn word(&mut self) -> Result<&'a str, RowError> {
         if self.rest.is_empty() {
             return Err(RowError::FieldMissing);
@@ -111,13 +115,13 @@ impl<'a> Fields<'a> {
         }
     }
 
-    /// Takes the next field and unescapes its text.
+    /// Takes the next field of a row, and returns its text without escapes.
     pub(crate) fn text(&mut self) -> Result<String, RowError> {
         let word = self.word()?;
         unescaped(self.alloc, word)
     }
 
-    /// Takes the next field as a decimal number.
+    /// Takes the next field of a row as a decimal number.
     pub(crate) fn number(&mut self) -> Result<u16, RowError> {
         match self.word()?.parse::<u16>() {
             Ok(number) => Ok(number),
@@ -125,7 +129,7 @@ impl<'a> Fields<'a> {
         }
     }
 
-    /// Takes the next field as a hexadecimal number.
+    /// Takes the next field of a row as a hexadecimal number.
     pub(crate) fn hexadecimal(&mut self) -> Result<u16, RowError> {
         match u16::from_str_radix(self.word()?, 16) {
             Ok(number) => Ok(number),
@@ -133,7 +137,7 @@ impl<'a> Fields<'a> {
         }
     }
 
-    /// Takes the bytes of the next field: hexadecimal numbers with a comma between two.
+    /// Takes the bytes of the next field of a row: hexadecimal numbers with a comma between two.
     pub(crate) fn bytes(&mut self) -> Result<Vec<u8>, RowError> {
         let mut bytes = Vec::new(self.alloc);
         for pair in self.word()?.split(',') {
@@ -145,13 +149,13 @@ impl<'a> Fields<'a> {
         Ok(bytes)
     }
 
-    /// Whether no field is left.
+    /// Returns whether no field of a row is left.
     pub(crate) fn is_at_end(&self) -> bool {
         self.rest.is_empty()
     }
 }
 
-/// The text that a field writes.
+/// Returns the text that a field of a row writes, perhaps with escapes.
 pub(crate) fn unescaped(alloc: Global, word: &str) -> Result<String, RowError> {
     let mut text = String::new(alloc);
     if word == "\"\"" {
@@ -169,7 +173,7 @@ pub(crate) fn unescaped(alloc: Global, word: &str) -> Result<String, RowError> {
     Ok(text)
 }
 
-/// Appends what an escape, given without its `\`, writes, and the text that follows it.
+/// Appends what an escape in a row, given without its `\`, writes, and the text that follows it.
 fn push_escaped(alloc: Global, piece: &str, text: &mut String) -> Result<(), RowError> {
     if let Some(rest) = piece.strip_prefix('s') {
         text.push(' ')?;
@@ -194,7 +198,7 @@ fn push_escaped(alloc: Global, piece: &str, text: &mut String) -> Result<(), Row
     Ok(())
 }
 
-/// The character with this number, in hexadecimal digits.
+/// Returns the character whose number an escape in a row has in hexadecimal digits.
 fn character(digits: &str) -> Result<char, RowError> {
     match u32::from_str_radix(digits, 16) {
         Ok(number) => char::from_u32(number).ok_or(RowError::NoCharacter),
@@ -210,6 +214,7 @@ pub(crate) struct Words {
 }
 
 impl Words {
+    /// Returns the result of a row, which has no words yet.
     pub(crate) fn new(alloc: Global) -> Words {
         Words {
             alloc,
@@ -217,10 +222,12 @@ impl Words {
         }
     }
 
+    /// Returns the words of a row's result, with a space between two of them.
     pub(crate) fn as_str(&self) -> &str {
         self.text.as_str()
     }
 
+    /// Appends a space to a row's result if it has a word.
     fn begin(&mut self) -> Result<(), AllocError> {
         if !self.text.is_empty() {
             self.text.push(' ')?;
@@ -228,13 +235,13 @@ impl Words {
         Ok(())
     }
 
-    /// Appends words as they are.
+    /// Appends words to a row's result as they are.
     pub(crate) fn verbatim(&mut self, words: &str) -> Result<(), AllocError> {
         self.begin()?;
         self.text.push_str(words)
     }
 
-    /// Appends a text as one word.
+    /// Appends a text to a row's result as one word.
     pub(crate) fn text(&mut self, text: &str) -> Result<(), AllocError> {
         self.begin()?;
         if text.is_empty() {
@@ -243,7 +250,7 @@ impl Words {
         self.escaped(text)
     }
 
-    /// Appends a name and a text, if there is one, as one word.
+    /// Appends a name and a text, if there is one, to a row's result as one word.
     pub(crate) fn named(&mut self, name: &str, text: Option<&str>) -> Result<(), AllocError> {
         let Some(text) = text else {
             return Ok(());
@@ -254,7 +261,7 @@ impl Words {
         self.escaped(text)
     }
 
-    /// Appends a name and a text as one word, unless the text is all that was said.
+    /// Appends a name and a text to a row's result as one word, unless the text is all that it has.
     pub(crate) fn unless_said(&mut self, name: &str, text: &str) -> Result<(), AllocError> {
         let mut alone = Words::new(self.alloc);
         alone.text(text)?;
@@ -264,7 +271,8 @@ impl Words {
         self.named(name, Some(text))
     }
 
-    /// Appends a text as one word if nothing was said, and otherwise does as `unless_said`.
+    /// Appends a text to a row's result as one word if it has none, and otherwise does as
+    /// `unless_said`.
     pub(crate) fn or_same(&mut self, name: &str, text: &str) -> Result<(), AllocError> {
         if self.text.is_empty() {
             return self.text(text);
@@ -272,7 +280,7 @@ impl Words {
         self.unless_said(name, text)
     }
 
-    /// Appends a message unless something holds.
+    /// Appends a message to a row's result unless something holds.
     pub(crate) fn unless(&mut self, holds: bool, message: &str) -> Result<(), AllocError> {
         if holds {
             return Ok(());
@@ -280,6 +288,7 @@ impl Words {
         self.verbatim(message)
     }
 
+    /// Appends a text to a row's result, with escapes for spaces, `\` and control characters.
     fn escaped(&mut self, text: &str) -> Result<(), AllocError> {
         if !text.contains(is_escaped) {
             return self.text.push_str(text);
@@ -297,7 +306,7 @@ impl Words {
     }
 }
 
-/// Whether a text that is printed has the character as an escape.
+/// Returns whether a row's result has the character as an escape.
 fn is_escaped(ch: char) -> bool {
     ch == ' ' || ch == '\\' || ch.is_control()
 }

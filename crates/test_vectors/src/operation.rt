@@ -12,6 +12,7 @@ pub(crate) enum Kind {
 }
 
 impl Kind {
+    /// Returns the kind that a row names by this word.
     pub(crate) fn named(word: &str) -> Result<Kind, RowError> {
         match word {
             "uri" => Ok(Kind::Uri),
@@ -231,6 +232,7 @@ const OPERATIONS: &[(&str, Operation)] = &[
 ];
 
 impl Operation {
+    /// Returns the operation that a row names by its first word.
     pub(crate) fn named(word: &str) -> Result<Operation, RowError> {
         for &(name, operation) in OPERATIONS {
             if name == word {

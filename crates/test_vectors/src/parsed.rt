@@ -8,7 +8,7 @@ use fluent_uri::{ParseErrorKind, Reference, RiMaybeRef};
 use std::alloc::{AllocError, Global};
 use uri_parts::kind::Kind;
 
-/// Says the components that are present (RFC 3986, section 3).
+/// Appends to a row's result the components that are present (RFC 3986, section 3).
 pub(crate) fn say_components<R: RiMaybeRef>(
     value: &R,
     words: &mut Words,
@@ -20,7 +20,7 @@ pub(crate) fn say_components<R: RiMaybeRef>(
     words.named("fragment", value.fragment().map(EStr::as_str))
 }
 
-/// Says the components of an authority (RFC 3986, section 3.2).
+/// Appends to a row's result the components of an authority (RFC 3986, section 3.2).
 pub(crate) fn say_authority<U: Encoder, R: Encoder>(
     authority: Authority<'_, U, R>,
     words: &mut Words,
@@ -34,7 +34,7 @@ pub(crate) fn say_authority<U: Encoder, R: Encoder>(
     words.unless(authority.has_port() == has_port, "has_port")
 }
 
-/// Says what the host of an authority is (RFC 3986, section 3.2.2).
+/// Appends to a row's result what the host of an authority is (RFC 3986, section 3.2.2).
 pub(crate) fn say_host<U: Encoder, R: Encoder>(
     alloc: Global,
     authority: Authority<'_, U, R>,
@@ -63,7 +63,7 @@ pub(crate) fn say_host<U: Encoder, R: Encoder>(
     }
 }
 
-/// Says the port as a number (RFC 3986, section 3.2.3).
+/// Appends to a row's result the port as a number (RFC 3986, section 3.2.3).
 pub(crate) fn say_port<U: Encoder, R: Encoder>(
     alloc: Global,
     authority: Authority<'_, U, R>,
@@ -76,7 +76,7 @@ pub(crate) fn say_port<U: Encoder, R: Encoder>(
     }
 }
 
-/// Says where to connect, at the default port 80.
+/// Appends to a row's result where to connect, at the default port 80.
 pub(crate) fn say_socket<U: Encoder, R: Encoder>(
     alloc: Global,
     authority: Authority<'_, U, R>,
@@ -97,7 +97,7 @@ pub(crate) fn say_socket<U: Encoder, R: Encoder>(
     }
 }
 
-/// Says a text, and whether it is borrowed.
+/// Appends to a row's result a text, and whether it is borrowed.
 pub(crate) fn say_cow(text: &CowStr<'_>, words: &mut Words) -> Result<(), AllocError> {
     match text {
         CowStr::Borrowed(text) => {
@@ -111,7 +111,7 @@ pub(crate) fn say_cow(text: &CowStr<'_>, words: &mut Words) -> Result<(), AllocE
     }
 }
 
-/// The name of a kind of error.
+/// Returns the name that rows have for a kind of parse error.
 pub(crate) fn name_of(kind: ParseErrorKind) -> &'static str {
     match kind {
         ParseErrorKind::InvalidPctEncodedOctet => "InvalidPctEncodedOctet",
@@ -120,7 +120,7 @@ pub(crate) fn name_of(kind: ParseErrorKind) -> &'static str {
     }
 }
 
-/// The authority of a value that has one.
+/// Returns the authority of a value, or that the row is malformed if it has none.
 pub(crate) fn authority_of<K: Kind>(
     value: Reference<K, &str>,
 ) -> Result<Authority<'_, K::UserinfoE, K::RegNameE>, RowError> {

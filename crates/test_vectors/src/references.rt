@@ -17,7 +17,7 @@ use std::convert::{AsStr, TryFrom};
 use std::fmt::Debug;
 use uri_parts::kind::{IriKind, IriRefKind, Kind, UriRefKind};
 
-/// The value of a text that is to be of its kind.
+/// Parses a row's text as its kind, or returns why the row is malformed.
 pub(crate) fn parsed<K: Kind>(text: &str) -> Result<Reference<K, &str>, RowError> {
     match Reference::<K, &str>::parse(text) {
         Ok(value) => Ok(value),
@@ -25,7 +25,7 @@ pub(crate) fn parsed<K: Kind>(text: &str) -> Result<Reference<K, &str>, RowError
     }
 }
 
-/// Says what a value of a text returns, or the error of the text.
+/// Appends to a row's result what a value of the text returns, or the error of the text.
 pub(crate) fn evaluate<K: Kind>(
     alloc: Global,
     ask: ValueOperation,
@@ -42,6 +42,7 @@ pub(crate) fn evaluate<K: Kind>(
     }
 }
 
+/// Appends to a row's result what the row asks of a parsed value.
 fn of_parsed<K: Kind>(
     alloc: Global,
     ask: ValueOperation,
@@ -59,6 +60,7 @@ fn of_parsed<K: Kind>(
     }
 }
 
+/// Appends to a row's result what the row asks of an authority.
 fn of_authority<U: Encoder, R: Encoder>(
     alloc: Global,
     ask: ValueOperation,
@@ -78,6 +80,7 @@ fn of_authority<U: Encoder, R: Encoder>(
     }
 }
 
+/// Appends to a row's result the normal form of a value by a normaliser with the row's setting.
 fn normalize<K: Kind>(
     alloc: Global,
     setting: Setting,
@@ -104,7 +107,7 @@ fn normalize<K: Kind>(
     }
 }
 
-/// Says the normal form, and that of the normal form where it is another.
+/// Appends to a row's result the normal form, and that of the normal form where it is another.
 fn normalized<K: Kind, P: DefaultPort>(
     alloc: Global,
     normalizer: &Normalizer<P>,
@@ -120,6 +123,7 @@ fn normalized<K: Kind, P: DefaultPort>(
     }
 }
 
+/// Appends to a row's result the normal form of a normal form where it is another.
 fn normalized_again<K: Kind, P: DefaultPort>(
     alloc: Global,
     normalizer: &Normalizer<P>,
@@ -132,6 +136,7 @@ fn normalized_again<K: Kind, P: DefaultPort>(
     }
 }
 
+/// Appends to a row's result the error of normalising.
 fn say_normalize_error(
     alloc: Global,
     error: NormalizeError,
@@ -143,6 +148,7 @@ fn say_normalize_error(
     }
 }
 
+/// Appends to a row's result the word `error` and the name of the error.
 pub(crate) fn say_error<E: Debug>(
     alloc: Global,
     error: &E,
@@ -152,7 +158,8 @@ pub(crate) fn say_error<E: Debug>(
     Ok(())
 }
 
-/// Says the kind and the index of the error of a text, and what differs where the text is owned.
+/// Appends to a row's result the kind and the index of the error of a text, and what differs where
+/// the text is owned.
 pub(crate) fn error<K: Kind>(alloc: Global, text: &str, words: &mut Words) -> Result<(), RowError> {
     let Err(error) = Reference::<K, &str>::try_from(text) else {
         return Ok(words.verbatim("none")?);
@@ -167,7 +174,7 @@ pub(crate) fn error<K: Kind>(alloc: Global, text: &str, words: &mut Words) -> Re
     Ok(words.unless(is_same, "but not of an owned text")?)
 }
 
-/// Says the target of a reference, or the error.
+/// Appends to a row's result the target of a reference, or the error.
 pub(crate) fn resolve<K: RefKind>(
     alloc: Global,
     way: Setting,
@@ -185,6 +192,7 @@ pub(crate) fn resolve<K: RefKind>(
     say_target(alloc, target, words)
 }
 
+/// Appends to a row's result the target that a resolver returned, or the error.
 fn say_target<K: Kind>(
     alloc: Global,
     target: Result<Reference<K, String>, ResolveError>,
@@ -197,8 +205,8 @@ fn say_target<K: Kind>(
     }
 }
 
-/// Says the normal form of the target: of the target that is normalised, at once, and, where they
-/// are others, of the target of the normal forms, by each of these.
+/// Appends to a row's result the normal form of the target, and what differs if it is made at once
+/// or of normal forms.
 pub(crate) fn swap<K: RefKind>(
     alloc: Global,
     base: &str,
@@ -211,8 +219,8 @@ pub(crate) fn swap<K: RefKind>(
     say_normal_targets(alloc, base, &reference, words)
 }
 
-/// Says the normal form of the target, of the target that is normalised and at once, where they
-/// are others than what was said.
+/// Appends to a row's result the normal form of the target, made of the target and at once, where
+/// it is not what the result has.
 fn say_normal_targets<K: RefKind, B: AsStr + Drop, T: AsStr>(
     alloc: Global,
     base: Reference<K::Base, B>,
@@ -226,7 +234,8 @@ fn say_normal_targets<K: RefKind, B: AsStr + Drop, T: AsStr>(
     Ok(words.or_same("at-once", target.as_str())?)
 }
 
-/// Does so of the URIs that the base and the reference are converted to.
+/// Appends to a row's result what `swap` gives of the URIs that base and reference are converted
+/// to.
 pub(crate) fn swap_as_uris(
     alloc: Global,
     base: &str,

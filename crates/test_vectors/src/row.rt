@@ -50,13 +50,14 @@ pub(crate) enum Difference {
 }
 
 impl From<RowError> for Difference {
+    /// Returns what is wrong with a row that has no result.
     fn from(fault: RowError) -> Difference {
         Difference::RowError(fault)
     }
 }
 
 impl Row<'_> {
-    /// Compares the result with the expected one.
+    /// Compares the result of a row with the expected one.
     pub(crate) fn check(&self, alloc: Global) -> Result<(), Difference> {
         let Some((asked, wanted)) = self.text.split_once(" -> ") else {
             return Err(Difference::RowError(RowError::NoArrow));
@@ -71,7 +72,7 @@ impl Row<'_> {
     }
 }
 
-/// Returns the words with one space between two of them, each escaped as results are.
+/// Returns the expected words of a row with one space between two of them, escaped as results are.
 fn canonical(alloc: Global, wanted: &str) -> Result<Words, RowError> {
     let mut words = Words::new(alloc);
     for word in wanted.split(' ') {

@@ -23,7 +23,7 @@ pub fn run<O: Write>(alloc: Global, rows: &[Row<'_>], out: &mut O) -> u8
     }
 }
 
-/// Writes the lines, and returns how many rows differ.
+/// Writes the lines of a run of rows, and returns how many rows differ.
 fn report<O: Write>(alloc: Global, rows: &[Row<'_>], out: &mut O) -> io::Result<usize>
     ensures { result ≡ Ok 0 → Appends (O.contents out.old) (O.contents out.new)
         (summary (length rows.now) 0) }

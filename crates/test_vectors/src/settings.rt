@@ -18,6 +18,7 @@ impl DefaultPort for OnePort<'_> {
     ghost port_of = { λ ports scheme.
         if pointwise ◌==◌ (lowered_scheme ports.scheme) scheme then Some ports.port else None };
 
+    /// Returns the port that a row gives for one scheme, and none for others.
     fn default_port(&self, scheme: Scheme<'_>) -> Option<u16> {
         if self.scheme == scheme {
             Some(self.port)
@@ -36,6 +37,7 @@ impl DefaultPort for Always {
 
     ghost port_of = { λ ports _. Some ports.0 };
 
+    /// Returns the port that a row gives for every scheme.
     fn default_port(&self, _scheme: Scheme<'_>) -> Option<u16> {
         Some(self.0)
     }

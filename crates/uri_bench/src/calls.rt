@@ -102,7 +102,7 @@ pub fn decode<'a>(alloc: Global, path: EStr<'a, IPath>) -> Option<CowStr<'a>> {
     path.decode().to_string(alloc).ok()
 }
 
-/// Percent-encodes a text as data of a path. `None` if an allocation fails.
+/// A counted call: percent-encodes a text as data of a path. `None` if an allocation fails.
 #[inline(never)]
 pub fn encode(alloc: Global, text: &str) -> Option<EString<Path>> {
     let mut path = EString::<Path>::new(alloc);

@@ -59,8 +59,8 @@ pub extern "C" fn bench(alloc: Global, work: u32, text: &[u8], base: &[u8], roun
     }
 }
 
-/// Resolves a URI reference against a URI in so many rounds, and returns the length of the target,
-/// or `REJECTED`.
+/// Resolves a URI reference against a URI in so many counted rounds, and returns the length of the
+/// target, or `REJECTED`.
 fn resolve_values(alloc: Global, base: &str, reference: &str, rounds: u64) -> u64 {
     let Ok(base) = Uri::<&str>::parse(base) else {
         return REJECTED;
@@ -71,7 +71,8 @@ fn resolve_values(alloc: Global, base: &str, reference: &str, rounds: u64) -> u6
     length_of!(rounds, call::resolve_values(alloc, base, reference))
 }
 
-/// Decodes the path of an IRI in so many rounds, and returns the length of the text, or `REJECTED`.
+/// Decodes the path of an IRI in so many counted rounds, and returns the length of the text, or
+/// `REJECTED`.
 fn decode(alloc: Global, text: &str, rounds: u64) -> u64 {
     let Ok(value) = Iri::<&str>::parse(text) else {
         return REJECTED;
@@ -79,7 +80,7 @@ fn decode(alloc: Global, text: &str, rounds: u64) -> u64 {
     length_of!(rounds, call::decode(alloc, value.path()))
 }
 
-/// Builds a URI of the components of another in so many rounds, and returns its length, or
+/// Builds a URI of the components of another in so many counted rounds, and returns its length, or
 /// `REJECTED`.
 fn build(alloc: Global, text: &str, rounds: u64) -> u64 {
     let Ok(value) = Uri::<&str>::parse(text) else {
@@ -88,7 +89,8 @@ fn build(alloc: Global, text: &str, rounds: u64) -> u64 {
     length_of!(rounds, call::build(alloc, value))
 }
 
-/// Notes each line in a new register, and returns how many targets that has then.
+/// Notes each line in a new register in so many counted rounds, and returns how many targets it has
+/// then, or `REJECTED`.
 fn links(alloc: Global, base: &str, lines: &str, rounds: u64) -> u64 {
     let Ok(base) = Uri::<&str>::parse(base) else {
         return REJECTED;

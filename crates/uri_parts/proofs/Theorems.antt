@@ -26,8 +26,7 @@ pub use Rattle.uri_parts.proofs.Authorities.Authority.{is_authority_for-sound}
 -- A host is of one kind, and passes its test exactly where it is of that: RFC 3986, section 3.2.2.
 pub use Rattle.uri_parts.proofs.HostForms.Hosts.{is_host-complete, is_host-sound}
 
--- parsing: tables that represent a kind's sets are such that
--- each component ends where the next begins
+-- main theorem on kinds: by tables of a kind's sets, each component ends where the next begins
 pub tables_of_kind_separate : (kind tables : Kind) (segment : TableSet)
     → kind ≡ kind_by_flags kind.path.ucschar kind.needs_scheme → tables ≡ kind
     → segment ≡ first_segment_set kind → SeparatesComponents segment tables
@@ -36,7 +35,7 @@ tables_of_kind_separate kind tables segment known k s = subst (λ v. SeparatesCo
     (subst (SeparatesComponents (first_segment_set kind)) (sym k)
     (each_kind_separates_components kind known))
 
--- a text is parsed exactly if it is of the kind
+-- main theorem on parsing: a text is parsed exactly if it is of the kind
 pub parses-exactly-texts-of-kind : (kind tables : Kind) (segment : TableSet)
     → kind ≡ kind_by_flags kind.path.ucschar kind.needs_scheme → tables ≡ kind
     → segment ≡ first_segment_set kind
@@ -46,7 +45,7 @@ parses-exactly-texts-of-kind kind tables segment known k s text u =
     u
     ∙ ap (λ v. is_of_kind v text) k
 
--- the positions that are parsed are those of the text's components
+-- main theorem on parsing: the positions that are parsed are those of the text's components
 pub parsed_positions-are-positions_of : (kind tables : Kind) (segment : TableSet)
     → kind ≡ kind_by_flags kind.path.ucschar kind.needs_scheme → tables ≡ kind
     → segment ≡ first_segment_set kind
@@ -56,8 +55,8 @@ parsed_positions-are-positions_of kind tables segment known k s =
     parsed_positions-are-those-of-components segment tables
     (tables_of_kind_separate kind tables segment known k s)
 
--- parsing: a result that is Ok exactly if the text is parsed, and has the parsed positions,
--- has those of the components
+-- main theorem on parsing: a result that is Ok exactly if the text is parsed,
+-- and has the parsed positions, has those of the components
 pub parse_result_is_right : {E : Type 0} (segment : TableSet) (tables : Kind) (text : List ℕ)
     (result : Result Positions E)
     → is_ok result ≡ parses segment tables text

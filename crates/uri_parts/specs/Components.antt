@@ -28,7 +28,7 @@ recompose p =
     marked [] p.scheme (codes ":") ++ (marked (codes "//") p.authority [] ++ (p.path
     ++ (marked (codes "?") p.query [] ++ marked (codes "#") p.fragment [])))
 
--- the text begins with the character mark
+-- the text begins with the character mark, as what is left does with a component's delimiter
 abbrev pub starts : ℕ → List ℕ → Bool
 starts mark [] = false
 starts mark (c ∷ rest) = c == mark
@@ -38,12 +38,13 @@ unfoldable pub is_end : List ℕ → Bool
 is_end [] = true
 is_end (c ∷ rest) = false
 
--- the text before the first of the characters marks, or all of it if it has none of them
+-- the text before the first of the characters marks,
+-- where a component ends, or all of it if it has none of them
 abbrev pub before_any : List ℕ → List ℕ → List ℕ
 before_any marks text = take (prefix_len (λ c. not (is_one_of marks c)) text) text
 
--- what is left of the text from the first of the characters marks on, or nothing if it has none of
--- them
+-- what is left of the text from the first of the characters marks on,
+-- where a component ends, or nothing if it has none of them
 abbrev pub from_any : List ℕ → List ℕ → List ℕ
 from_any marks text = drop (prefix_len (λ c. not (is_one_of marks c)) text) text
 
@@ -56,7 +57,7 @@ has_scheme text = starts colon (from_any (codes ":/?#") text) && not (starts col
 abbrev pub has_authority : List ℕ → Bool
 has_authority rest = slice_index rest 0 == slash && slice_index rest 1 == slash
 
--- none of the characters marks is in the text
+-- none of the characters marks, which would end a component, is in the text
 abbrev pub Lacks : List ℕ → List ℕ → Type 0
 Lacks marks text = All (λ c. is_one_of marks c ≡ false) text
 
@@ -75,7 +76,7 @@ pub record IsSplitOf (text : List ℕ) (p : Components) : Type 0 where
   pub no_scheme : IfNone p.scheme (has_scheme text ≡ false)
   pub no_authority : IfNone p.authority (has_authority p.path ≡ false)
 
--- x if the test is true, and `None` if it is false
+-- the component x if the test is true, and an absent one, `None`, if it is false
 abbrev pub when : {A : Type 0} → Bool → A → Option A
 when test x = if test then Some x else None
 

@@ -78,7 +78,7 @@ is_authority kind text = is_authority_for kind.userinfo kind.reg_name text
 abbrev pub has_colon_in_first_segment : List ℕ → Bool
 has_colon_in_first_segment path = list_any (λ c. c == colon) (before_any (codes "/") path)
 
--- the component is absent, or passes the test
+-- the component is absent, or passes the test, as that of its rule in the grammar
 abbrev pub absent_or_passes : Option (List ℕ) → (List ℕ → Bool) → Bool
 absent_or_passes None test = true
 absent_or_passes (Some part) test = test part

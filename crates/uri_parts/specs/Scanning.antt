@@ -8,7 +8,7 @@ use Rattle.uri_parts.specs.Components.{starts, is_end}
 use Rattle.uri_parts.specs.Errors.{stray_percent, unexpected}
 use Rattle.uri_parts.specs.declared.error.ParseError.{ParseError}
 
--- the index where something ends in a text, or the error if it is not there
+-- the index where the parser finds the end of something, or the parse error if it is not there
 abbrev pub ScanResult : Type 0
 ScanResult = Result ℕ ParseError
 

@@ -5,7 +5,7 @@ ghost use Rattle.std.specs.Prelude.{◌≡◌, ◌≤◌, ◌<◌, IfSome, lengt
 ghost use Rattle.std.specs.Prelude.{slice_index};
 ghost use Rattle.uri_parts.specs.Models.Literals.{AreLeadingHexDigits, AreCountedGroups};
 
-/// Returns what follows this byte, if the text begins with it.
+/// Returns what follows this byte of an IPv6 address, if the text begins with it.
 #[inline(always)]
 pub(crate) fn after_byte(text: &[u8], byte: u8) -> Option<&[u8]>
     ensures { option_copied result ≡ numbers.read_byte byte text.now }
@@ -28,8 +28,8 @@ pub(crate) fn after_separator(text: &[u8], is_first: bool) -> Option<&[u8]>
     }
 }
 
-/// Returns the decimal number that the text begins with, and how many digits it has, leading zeros
-/// too. `None` exactly if there is no digit, or the number is above 255.
+/// Returns the decimal number, one of an IPv4 address, at the start, and how many digits it has,
+/// leading zeros too. `None` exactly if there is no digit, or the number is above 255.
 fn decimal_up_to_255(text: &[u8]) -> Option<(u32, usize)>
     ensures value { result ≡ numbers.read_number 10 255 text.now }
     ensures fits { IfSome result (λ n. (n.0 ≤ 255) × (0 < n.1) × (n.1 ≤ length text.now)) }
@@ -54,8 +54,8 @@ fn decimal_up_to_255(text: &[u8]) -> Option<(u32, usize)>
     }
 }
 
-/// Parses a decimal number of at most 255 without leading zeros, and returns it and what follows
-/// it.
+/// Parses a number of an IPv4 address,
+/// of at most 255 without leading zeros. Returns it and what follows it.
 #[tactic(auto, unfolding(std::specs::Net::Reader::read_octet))]
 fn parse_octet(text: &[u8]) -> Option<(u32, &[u8])>
     ensures { numbers.read_view (λ n. n) result ≡ numbers.read_octet text.now }
@@ -100,7 +100,7 @@ pub(crate) const DIGIT_VALUES: &[u8; 256] = &[
     16, 16, 16, 16, 16, 16, 16, 16, 16, 16, 16, 16, 16, 16, 16, 16, // F0
 ];
 
-/// Returns whether a hexadecimal digit is at `index`.
+/// Returns whether a hexadecimal digit of an IPv6 address is at `index`.
 #[inline(always)]
 fn is_digit_at(text: &[u8], index: usize) -> bool
     ensures { result ≡ is_digit (slice_index text.now index) 16 }
@@ -108,7 +108,7 @@ fn is_digit_at(text: &[u8], index: usize) -> bool
     index < text.len() && DIGIT_VALUES[usize::from(text[index])] < 16
 }
 
-/// Returns how many hexadecimal digits come first, of which five at most are counted.
+/// Returns how many hexadecimal digits of a group come first, of which five at most are counted.
 ///
 /// There is no loop, since one takes more instructions.
 #[inline(always)]

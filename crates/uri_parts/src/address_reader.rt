@@ -9,7 +9,7 @@ ghost use Rattle.uri_parts.specs.Models.Literals.{AreLeadingHexDigits};
 
 use crate::address_parser::{DIGIT_VALUES, after_byte, after_group, after_separator, hex_digits};
 
-/// Returns the value of a group of so many hexadecimal digits.
+/// Returns the number that a group of an IPv6 address writes in so many hexadecimal digits.
 #[inline(always)]
 fn group_value(text: &[u8], digits: usize) -> u16
     requires digits { AreLeadingHexDigits text.now digits }
@@ -23,7 +23,7 @@ fn group_value(text: &[u8], digits: usize) -> u16
     value
 }
 
-/// Returns whether a `.` is at `index`.
+/// Returns whether a `.` is at `index`, as in an IPv4 address at the end of an IPv6 address.
 #[inline(always)]
 fn has_dot_at(text: &[u8], index: usize) -> bool
     ensures { result ≡ (slice_index text.now index == full_stop) }
@@ -31,8 +31,8 @@ fn has_dot_at(text: &[u8], index: usize) -> bool
     index < text.len() && text[index] == b'.'
 }
 
-/// Fills the first of `segments` from groups with `:` between them. Returns how many it filled, and
-/// what follows, or `None` at a `.`, where an IPv4 address may be.
+/// Reads groups of an IPv6 address, with `:` between them, into the first of `segments`.
+/// Returns how many it filled, and what follows, or `None` at a `.`, where an IPv4 address may be.
 #[inline(always)]
 fn read_groups<'a>(text: &'a [u8], segments: &mut [u16]) -> Option<(usize, &'a [u8])>
     ensures value { IfSome result (λ r.
@@ -59,8 +59,8 @@ fn read_groups<'a>(text: &'a [u8], segments: &mut [u16]) -> Option<(usize, &'a [
     Some((room, rest))
 }
 
-/// Returns the segments of the address that the whole text is. It returns `None` for other texts,
-/// and if a `.` follows a group.
+/// Returns the segments of the IPv6 address that the whole text is.
+/// It returns `None` for other texts, and if a `.` follows a group.
 #[tactic(auto, unfolding(crate::specs::Hosts::ipv6_value, std::specs::Net::Reader::read_ipv6))]
 pub(crate) fn ipv6_without_ipv4(text: &[u8]) -> Option<[u16; 8]>
     ensures { IfSome result (λ segments. ipv6_value text.now ≡ Some segments) }

@@ -16,7 +16,7 @@ use std::fmt::Write;
 /// The hexadecimal digits.
 const DIGITS: &[u8; 16] = b"0123456789abcdef";
 
-/// Appends a hexadecimal digit, unless it is a leading zero.
+/// Appends a hexadecimal digit of an IPv6 address, unless it is a leading zero.
 #[inline(always)]
 fn push_digit(digit: u16, is_leading: bool, out: &mut String) -> Result<(), AllocError>
     requires { digit < 16 }
@@ -29,7 +29,7 @@ fn push_digit(digit: u16, is_leading: bool, out: &mut String) -> Result<(), Allo
     out.push(char::from(DIGITS[usize::from(digit)]))
 }
 
-/// Appends a segment in hexadecimal digits, without leading zeros.
+/// Appends a segment of an IPv6 address in hexadecimal digits, without leading zeros.
 fn push_segment(segment: u16, out: &mut String) -> Result<(), AllocError>
     ensures { OnOk result (Pushes out.old out.new (addresses.hex segment)) }
 {
@@ -39,7 +39,7 @@ fn push_segment(segment: u16, out: &mut String) -> Result<(), AllocError>
     push_digit(segment % 16, false, out)
 }
 
-/// Appends segments with `:` between them.
+/// Appends segments of an IPv6 address with `:` between them.
 fn push_segments(segments: &[u16], out: &mut String) -> Result<(), AllocError>
     ensures { OnOk result (Pushes out.old out.new (addresses.groups_text segments.now)) }
 {
@@ -54,7 +54,7 @@ fn push_segments(segments: &[u16], out: &mut String) -> Result<(), AllocError>
     Ok(())
 }
 
-/// Returns where the first longest run of zeros begins, and its length.
+/// Returns where the first longest run of zero segments of an IPv6 address begins, and its length.
 fn longest_zero_run(segments: &[u16]) -> (usize, usize)
     ensures value { result ≡ addresses.longest_zero_run segments.now }
     ensures within { result.0 + result.1 ≤ length segments.now }
@@ -72,7 +72,8 @@ fn longest_zero_run(segments: &[u16]) -> (usize, usize)
     (start, longest)
 }
 
-/// Appends the segments, with `::` in place of the longest run of two or more zeros.
+/// Appends the segments of an IPv6 address,
+/// with `::` in place of the longest run of two or more zeros.
 #[tactic(auto, unfolding(std::specs::Net::Text::hex_groups_text))]
 fn push_compressed(segments: &[u16], out: &mut String) -> Result<(), AllocError>
     ensures { OnOk result (Pushes out.old out.new (addresses.hex_groups_text segments.now)) }

@@ -35,7 +35,7 @@ use crate::kind_tables::KindTables;
 use crate::positions::AuthorityPositions;
 use uri_pct::table::DIGIT;
 
-/// Passes a port with its mark, if one is next.
+/// Passes the port of an authority with its `:`, if one is next.
 #[tactic(auto, using(crate::proofs::Steps::ports), unfolding(crate::proofs::Steps::name))]
 #[inline(always)]
 fn pass_port(cursor: &mut Cursor<'_>)
@@ -95,7 +95,7 @@ fn error_of_left_over(cursor: Cursor<'_>, tables: &KindTables) -> ParseError
     }
 }
 
-/// Returns the position of the last `:` from `start` to `end`, if there is one.
+/// Returns the position of the last `:` of an authority from `start` to `end`, if there is one.
 #[tactic(auto, using(crate::proofs::Steps::colons))]
 fn last_colon(text: &str, start: usize, end: usize) -> Option<usize>
     requires order { start ≤ end }
@@ -139,7 +139,7 @@ fn error_after_name(start: Cursor<'_>, end: Cursor<'_>, tables: &KindTables) -> 
     }
 }
 
-/// Passes an address in brackets, of which the `[` is next.
+/// Passes the host of an authority that is in brackets, of which the `[` is next.
 #[tactic(auto, using(crate::proofs::Refusals::LiteralEnds::literal_ends))]
 #[inline(always)]
 fn pass_literal(cursor: &mut Cursor<'_>) -> Result<(), ParseError>

@@ -37,6 +37,7 @@ impl<'a, U: Encoder, R: Encoder> Clone for Authority<'a, U, R> {
 
     ghost is_infallible = { λ _. ⊤ };
 
+    /// Returns the same authority, over the same text.
     fn clone(&self) -> Result<Self, AllocError> {
         Ok(*self)
     }

@@ -109,7 +109,7 @@ impl<'a, U: Encoder, R: Encoder> Authority<'a, U, R> {
     }
 }
 
-/// Returns the text that a registered name decodes to.
+/// Returns the name to connect to: the text that a registered name decodes to.
 fn decoded_name<'a, R: Encoder>(alloc: Global, name: EStr<'a, R>) -> Result<CowStr<'a>, SocketError>
     ensures text { IfOk result (λ text.
         (cow_text text ≡ name_bytes (text_of name.entry))

@@ -23,7 +23,7 @@ use std::convert::AsStr;
 use std::marker::PhantomData;
 use uri_pct::pct_enc::EStr;
 
-/// Returns the positions of the components of a text that is known to be of the kind.
+/// Returns the positions for the `Core` of a text that is known to be of the kind.
 pub(crate) fn positions_in<K: Kind>(text: &str) -> Positions
     requires { IsOfKind K.kind text.now }
     ensures { ArePositionsOf text.now result }
@@ -52,6 +52,7 @@ impl<K: Kind, T: AsStr + Copy> Clone for Core<K, T> {
 
     ghost is_infallible = { λ _. ⊤ };
 
+    /// Returns the same text with the same positions.
     fn clone(&self) -> Result<Self, AllocError> {
         Ok(Core {
             text: self.text,

@@ -22,6 +22,7 @@ impl<'a> Clone for Cursor<'a> {
 
     ghost is_infallible = { λ _. ⊤ };
 
+    /// Returns a cursor at the same position in the same text.
     fn clone(&self) -> Result<Self, AllocError> {
         Ok(*self)
     }

@@ -14,7 +14,7 @@ use std::alloc::{AllocError, Global};
 use uri_pct::encoder::Encoder;
 use uri_pct::pct_enc::EStr;
 
-/// Appends a `#` and the fragment.
+/// Appends a `#` and the fragment that the text is given.
 fn push_fragment(text: &mut String, fragment: &str) -> Result<(), AllocError>
     ensures text { OnOk result (Pushes text.old text.new (number_sign ∷ fragment.now)) }
     ensures full { OnErr result

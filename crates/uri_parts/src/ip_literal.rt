@@ -20,7 +20,7 @@ use crate::address_parser::after_ipv6;
 use crate::error::{ParseError, ParseErrorKind};
 use uri_pct::table::{HEXDIG, IPV_FUTURE, Table};
 
-/// Returns whether this ASCII character is at `index`.
+/// Returns whether this ASCII character of a host in brackets is at `index`.
 #[tactic(auto, using(crate::proofs::Parsing::NextBytes::starts_at_position))]
 fn next_is(text: &str, index: usize, byte: u8) -> bool
     requires { byte < 128 }
@@ -39,7 +39,8 @@ fn starts_ipvfuture(text: &str, index: usize) -> bool
     next_is(text, index, b'v') || next_is(text, index, b'V')
 }
 
-/// Returns where the digits at `start` end. It passes `most` of them at most.
+/// Returns where the digits of an address in brackets end
+/// that begin at `start`. It passes `most` of them at most.
 #[tactic(auto, using(crate::proofs::Steps::digits))]
 fn digits_end(text: &str, start: usize, radix: u32, most: usize) -> usize
     requires boundary { IsCharBoundary text.now start }
@@ -57,8 +58,8 @@ fn digits_end(text: &str, start: usize, radix: u32, most: usize) -> usize
     end
 }
 
-/// Returns where the decimal number at `start`, of at most 255, ends, or `None` if there is none.
-/// A `0` is a number by itself.
+/// Returns where the number of an IPv4 address at `start`, of at most 255,
+/// ends, or `None` if there is none. A `0` is a number by itself.
 #[tactic(auto, unfolding(crate::specs::LiteralErrors::octet_end))]
 fn octet_end(text: &str, start: usize) -> Option<usize>
     requires { IsCharBoundary text.now start }
@@ -73,7 +74,7 @@ fn octet_end(text: &str, start: usize) -> Option<usize>
     if is_octet { Some(end) } else { None }
 }
 
-/// Returns where the IPv4 address at `start` ends, or `None` if there is none.
+/// Returns where the IPv4 address at `start`, in an IPv6 address, ends, or `None` if there is none.
 #[tactic(auto, using(crate::proofs::Steps::octets))]
 fn ipv4_end(text: &str, start: usize) -> Option<usize>
     requires { IsCharBoundary text.now start }
@@ -100,7 +101,7 @@ enum GroupsEnd {
     Malformed,
 }
 
-/// Returns the position after the `:` at `start`, or `start` if none is there.
+/// Returns the position after the `:` of an IPv6 address at `start`, or `start` if none is there.
 #[inline]
 fn after_colon(text: &str, start: usize) -> usize
     requires { IsCharBoundary text.now start }
@@ -114,7 +115,7 @@ fn after_colon(text: &str, start: usize) -> usize
     }
 }
 
-/// Returns whether one to three digits were passed, at the end of the text.
+/// Returns whether one to three digits of an IPv6 address were passed, at the end of the text.
 #[tactic(auto, using(crate::proofs::Parsing::NextBytes::text_ends_where_position_is_length))]
 fn is_short_group_at_end(text: &str, first: usize, last: usize) -> bool
     requires order { first ≤ last }
@@ -124,7 +125,7 @@ fn is_short_group_at_end(text: &str, first: usize, last: usize) -> bool
     last - first < 4 && last == text.len()
 }
 
-/// Returns whether one to three digits were passed, and `.` is next.
+/// Returns whether one to three digits of an IPv6 address were passed, and `.` is next.
 fn is_short_group_before_dot(text: &str, first: usize, last: usize) -> bool
     requires { first ≤ last }
     ensures { result ≡ (nat_lt last (first + 4) && starts full_stop (drop last text.now)) }
@@ -132,7 +133,7 @@ fn is_short_group_before_dot(text: &str, first: usize, last: usize) -> bool
     last - first < 4 && next_is(text, last, b'.')
 }
 
-/// Returns whether the first group has a `:` before it, or another group has none.
+/// Returns whether the first group of an IPv6 address has a `:` before it, or another has none.
 fn has_misplaced_colon(has_colon: bool, is_first: bool) -> bool
     ensures { result ≡ (has_colon && is_first || not has_colon && not is_first) }
 {
@@ -222,7 +223,8 @@ fn cannot_begin_ipv6(text: &str, start: usize) -> bool
     last == start || is_short_group_before_dot(text, start, last)
 }
 
-/// Returns the error from `start` on, where neither a `v` nor an address with its `]` begins.
+/// Returns the error of an IP literal from `start` on,
+/// where neither a `v` nor an address with its `]` begins.
 fn refusal(text: &str, start: usize) -> ParseError
     requires boundary { IsCharBoundary text.now start }
     requires refused { is_ok (literal text.now start) ≡ false }
@@ -241,8 +243,8 @@ fn refusal(text: &str, start: usize) -> ParseError
     }
 }
 
-/// Returns the position after one or more characters of the table at `start` and the `mark` after
-/// them. The error is where one of these is missing.
+/// Returns the position after one or more characters of an IPvFuture address at `start`,
+/// of the table, and the `mark` after them. The error is where one of these is missing.
 fn end_after_mark(text: &str, start: usize, table: &Table, mark: u8) -> Result<usize, ParseError>
     requires boundary { IsCharBoundary text.now start }
     requires ascii { mark < 128 }

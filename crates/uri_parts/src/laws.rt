@@ -86,7 +86,7 @@ pub fn ipv6_constants_are_their_addresses()
     ensures unspecified { ipv6_segments Ipv6Addr.UNSPECIFIED ≡ 0 ∷ 0 ∷ 0 ∷ 0 ∷ 0 ∷ 0 ∷ 0 ∷ 0 ∷ [] }
 {}
 
-/// IPv4 addresses are compared by their octets, first to last.
+/// States that IPv4 addresses are compared by their octets, first to last.
 ///
 /// # Examples
 ///
@@ -97,7 +97,7 @@ pub fn ipv4_addresses_compare_by_octets(a: &Ipv4Addr, b: &Ipv4Addr) -> Ordering
     a.cmp(b)
 }
 
-/// IPv6 addresses are compared by their segments, first to last.
+/// States that IPv6 addresses are compared by their segments, first to last.
 ///
 /// # Examples
 ///
@@ -108,7 +108,7 @@ pub fn ipv6_addresses_compare_by_segments(a: &Ipv6Addr, b: &Ipv6Addr) -> Orderin
     a.cmp(b)
 }
 
-/// An IPv4 address is less than an IPv6 address.
+/// States that an IPv4 address is less than an IPv6 address.
 ///
 /// # Examples
 ///
@@ -119,7 +119,7 @@ pub fn ipv4_is_less_than_ipv6(a: Ipv4Addr, b: Ipv6Addr) -> Ordering
     IpAddr::V4(a).cmp(&IpAddr::V6(b))
 }
 
-/// IPv4 addresses are compared by their octets as IP addresses, too.
+/// States that IPv4 addresses are compared by their octets as IP addresses, too.
 ///
 /// # Examples
 ///
@@ -130,7 +130,7 @@ pub fn ipv4_as_ip_addresses_compare_by_octets(a: Ipv4Addr, b: Ipv4Addr) -> Order
     IpAddr::V4(a).cmp(&IpAddr::V4(b))
 }
 
-/// IPv6 addresses are compared by their segments as IP addresses, too.
+/// States that IPv6 addresses are compared by their segments as IP addresses, too.
 ///
 /// # Examples
 ///
@@ -181,7 +181,7 @@ pub fn authority_test_is_the_grammar()
         ↔ IsAuthorityFor users names text (authority_parts text)) }
 {}
 
-/// Some example texts have the errors that their rows give.
+/// The example texts of `docs/PARSE_ERRORS.md` have the parse errors that their rows give.
 #[doc(hidden)]
 pub fn example_texts_have_their_errors()
     ensures references { map (λ row. refusal uri_ref row.0) uri_ref_rows

@@ -147,6 +147,7 @@ impl<'a> PartialEq for Scheme<'a> {
 
     ghost laws = { Prim.search (comparing, rules) };
 
+    /// Returns whether the schemes are equal. ASCII case makes no difference.
     fn eq(&self, other: &Self) -> bool {
         self.as_str().eq_ignore_ascii_case(other.as_str())
     }
@@ -169,6 +170,7 @@ impl<'a> Hash for Scheme<'a> {
 
     ghost respects_eq = { Prim.search (hashing, rules) };
 
+    /// Hashes the scheme in lower case, so that equal schemes have equal hashes.
     fn hash<H: Hasher>(&self, state: &mut H) {
         let bytes = self.text.as_bytes();
         state.write_usize(bytes.len());

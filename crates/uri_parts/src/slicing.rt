@@ -4,14 +4,14 @@ ghost use Rattle.std.specs.List.{list_all, prefix_len};
 ghost use Rattle.uri_pct.specs.Sets.{is_one_of};
 ghost use Rattle.uri_parts.specs.Components.{starts, before_any, from_any};
 
-/// Returns whether a byte is one of the marks.
+/// Returns whether a byte is one of the marks, such as the `]` after an address in a host.
 fn is_one_of(marks: &[u8], byte: u8) -> bool
     ensures { result ≡ is_one_of marks.now byte }
 {
     marks.iter().any(|mark| *mark == byte)
 }
 
-/// Returns how many bytes come before the first of the marks, or before the end.
+/// Returns how many bytes of a host come before the first of the marks, or before the end.
 fn length_before(bytes: &[u8], marks: &[u8]) -> usize
     ensures { result ≡ prefix_len (λ c. not (is_one_of marks.now c)) bytes.now }
 {
@@ -22,7 +22,8 @@ fn length_before(bytes: &[u8], marks: &[u8]) -> usize
     i
 }
 
-/// Returns the text before the first of these ASCII characters, and from it on.
+/// Cuts an address out of a host: returns the text before
+/// the first of these ASCII characters, and from it on.
 pub(crate) fn cut_before<'a>(text: &'a str, marks: &[u8]) -> (&'a str, &'a str)
     requires { IsTrue (list_all (λ b. nat_lt b 128) marks.now) }
     ensures before { result.0.now ≡ before_any marks.now text.now }
@@ -31,7 +32,8 @@ pub(crate) fn cut_before<'a>(text: &'a str, marks: &[u8]) -> (&'a str, &'a str)
     text.split_at(length_before(text.as_bytes(), marks))
 }
 
-/// Returns what follows this ASCII character, if the text begins with it.
+/// Returns what follows this ASCII character of a host,
+/// such as its `[`, if the text begins with it.
 pub(crate) fn after_mark(text: &str, mark: u8) -> Option<&str>
     requires { mark < 128 }
     ensures begins { is_some result ≡ starts mark text.now }

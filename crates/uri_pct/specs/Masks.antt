@@ -9,6 +9,6 @@ unfoldable pub has_bit : ℕ → ℕ → ℕ → Bool
 has_bit low high c =
     if nat_lt c 64 then bit_at low c == 1 else (nat_lt c 128 && bit_at high (c - 64) == 1)
 
--- the character is one of ASCII other than `%`
+-- the character may be in a table: it is one of ASCII other than `%`
 abbrev pub is_unencoded_ascii : ℕ → Bool
 is_unencoded_ascii c = nat_lt c 128 && not (c == percent_sign)

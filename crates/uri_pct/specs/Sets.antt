@@ -6,7 +6,7 @@ use Rattle.std.specs.List.{list_any}
 use Rattle.std.specs.Char.{is_ascii_alphabetic, is_ascii_digit, is_ascii_hexdigit}
 use Rattle.uri_pct.specs.Delimiters.{at_sign, colon, percent_sign, slash}
 
--- the character c is one of the characters of the text, which is of ASCII and comes first
+-- the character c is in the set of the characters of the text, which is of ASCII and comes first
 abbrev pub is_one_of : List ℕ → ℕ → Bool
 is_one_of text c = list_any (λ x. x == c) text
 

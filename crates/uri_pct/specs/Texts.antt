@@ -6,7 +6,7 @@ use Rattle.std.specs.Char.{is_ascii_hexdigit}
 use Rattle.std.specs.declared.string.String.{String}
 use Rattle.uri_pct.specs.Delimiters.{percent_sign, slash}
 
--- the byte is nowhere in the text
+-- the byte, such as a delimiter at which texts are split, is nowhere in the text
 abbrev pub lacks : ℕ → List ℕ → Bool
 lacks byte text = list_all (λ b. not (b == byte)) text
 
@@ -14,15 +14,17 @@ lacks byte text = list_all (λ b. not (b == byte)) text
 abbrev pub is_unencoded : List ℕ → Bool
 is_unencoded text = lacks percent_sign text
 
--- the path begins with `/` (RFC 3986, section 3.3)
+-- the path, a percent-encoded text, begins with `/` (RFC 3986, section 3.3)
 abbrev pub is_absolute : List ℕ → Bool
 is_absolute text = slice_index text 0 == slash
 
--- the text is cut at the first such byte into what is before it and what is after it
+-- the text is cut as `split_once` does: at the first such byte,
+-- into what is before it and what is after it
 abbrev pub IsCutAtFirst : ℕ → List ℕ → List ℕ → List ℕ → Type 0
 IsCutAtFirst byte text before after = (text ≡ before ++ byte ∷ after) × IsTrue (lacks byte before)
 
--- the text is cut at the last such byte into what is before it and what is after it
+-- the text is cut as `rsplit_once` does: at the last such byte,
+-- into what is before it and what is after it
 abbrev pub IsCutAtLast : ℕ → List ℕ → List ℕ → List ℕ → Type 0
 IsCutAtLast byte text before after = (text ≡ before ++ byte ∷ after) × IsTrue (lacks byte after)
 
@@ -39,6 +41,6 @@ pub record IsStrayPercent (text : List ℕ) (i : ℕ) : Type 0 where
   pub percent : slice_index text i ≡ percent_sign
   pub stray : has_hex_digits_after text i ≡ false
 
--- the new string is the old one with this text appended
+-- the new string is the old one with this text appended, as after a call that pushes it
 abbrev pub Pushes : {A : Type 0} → String A → String A → List ℕ → Type 0
 Pushes old new text = string_bytes new ≡ string_bytes old ++ text

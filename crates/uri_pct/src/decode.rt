@@ -40,7 +40,7 @@ pub struct Decode<'a> {
     pub ghost whole: { IsValidFor widest_set rest.now },
 }
 
-/// Returns the byte offset of the first `%`, or the length if there is none.
+/// Returns the byte offset of the first `%`, where decoding begins, or the length if there is none.
 #[doc(hidden)]
 pub fn unencoded_len(text: &str) -> usize
     ensures { result ≡ position_or_len (λ b. b == percent_sign) text.now }
@@ -123,6 +123,7 @@ impl<'a> Clone for Decode<'a> {
 
     ghost is_infallible = { λ _. ⊤ };
 
+    /// Returns a decoder with the same text left.
     fn clone(&self) -> Result<Self, AllocError> {
         Ok(Decode::of_text(self.rest))
     }

@@ -26,7 +26,8 @@ pub fn push_octets(bytes: &[u8], out: &mut String) -> Result<(), AllocError>
     Ok(())
 }
 
-/// Returns where the characters end, from `start` on, that the table allows.
+/// Returns where the characters end, from `start` on,
+/// that are encoded as they are: the table allows them.
 #[inline(always)]
 fn allowed_end(table: &Table, text: &str, start: usize) -> usize
     requires { IsCharBoundary text.now start }
@@ -39,7 +40,8 @@ fn allowed_end(table: &Table, text: &str, start: usize) -> usize
     table.without_octets().scan(text, start)
 }
 
-/// Returns where the characters end, from `start` on, that the table does not allow.
+/// Returns where the characters end, from `start` on,
+/// that are encoded as octets: the table does not allow them.
 #[inline(always)]
 fn disallowed_end(table: &Table, text: &str, start: usize) -> usize
     requires { IsCharBoundary text.now start }
@@ -63,7 +65,7 @@ fn disallowed_end(table: &Table, text: &str, start: usize) -> usize
     end
 }
 
-/// Appends the text: each character as it is where the table allows it, and else as octets.
+/// Appends the text percent-encoded: characters that the table allows stay, others become octets.
 ///
 /// After an error, part of it may have been appended.
 #[doc(hidden)]
@@ -85,8 +87,8 @@ pub fn push_text(table: &Table, text: &str, out: &mut String) -> Result<(), Allo
     Ok(())
 }
 
-/// Appends the bytes: each character that the table allows as it is, and each other byte as an
-/// octet.
+/// Appends the bytes percent-encoded: characters
+/// that the table allows stay, and other bytes become octets.
 ///
 /// After an error, part of it may have been appended.
 pub(crate) fn push_bytes(table: &Table, bytes: &[u8], out: &mut String) -> Result<(), AllocError>
@@ -103,8 +105,8 @@ pub(crate) fn push_bytes(table: &Table, bytes: &[u8], out: &mut String) -> Resul
     Ok(())
 }
 
-/// Appends the text: each character that the table allows as it is, and each other one as octets.
-/// After an error `out` is as it was.
+/// Appends the text percent-encoded: characters that the table allows stay,
+/// others become octets. After an error `out` is as it was.
 pub(crate) fn append_text(table: &Table, text: &str, out: &mut String) -> Result<(), AllocError>
     ensures ok { OnOk result
         (string_bytes out.new ≡ string_bytes out.old
@@ -119,8 +121,8 @@ pub(crate) fn append_text(table: &Table, text: &str, out: &mut String) -> Result
     Ok(())
 }
 
-/// Appends the bytes: each character that the table allows as it is, and each other byte as an
-/// octet. After an error `out` is as it was.
+/// Appends the bytes percent-encoded: characters that the table allows stay,
+/// and other bytes become octets. After an error `out` is as it was.
 pub(crate) fn append_bytes(table: &Table, bytes: &[u8], out: &mut String) -> Result<(), AllocError>
     ensures ok { OnOk result
         (string_bytes out.new ≡ string_bytes out.old

@@ -342,6 +342,7 @@ impl<E: Encoder> PartialEq for EString<E> {
 
     ghost laws = { Prim.search (comparing, rules) };
 
+    /// Returns whether the texts are equal, byte by byte: `%2f` is not equal to `%2F`.
     fn eq(&self, other: &Self) -> bool {
         self.text.as_str() == other.text.as_str()
     }
@@ -365,6 +366,7 @@ impl<E: Encoder> Ord for EString<E> {
 
     ghost matches_eq = { Prim.search (comparing, rules) };
 
+    /// Compares the texts byte by byte.
     fn cmp(&self, other: &Self) -> Ordering {
         self.text.as_str().cmp(other.text.as_str())
     }
@@ -379,6 +381,7 @@ impl<E: Encoder> PartialOrd for EString<E> {
     ghost laws = { partial_order_from_own_ties (Prim.search (comparing, rules))
         (Prim.search (comparing, rules)) };
 
+    /// Compares the texts as `cmp` does.
     fn partial_cmp(&self, other: &Self) -> Option<Ordering> {
         Some(self.cmp(other))
     }
@@ -392,6 +395,7 @@ impl<E: Encoder> Hash for EString<E> {
 
     ghost respects_eq = { Prim.search (hashing, rules) };
 
+    /// Hashes the text.
     fn hash<H: Hasher>(&self, state: &mut H) {
         self.text.as_str().hash(state);
     }

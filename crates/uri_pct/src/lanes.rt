@@ -27,7 +27,7 @@ pub fn lanes_equal_to(byte: u8, bytes: &[u8], at: usize) -> u64
     lanes.simd_eq(u8x16::splat(byte)).to_bitmask()
 }
 
-/// Returns the bits of the codes below 64, of those from 64 on, and of those that are not ASCII.
+/// Returns the two words of a set of ASCII, and two empty words for bytes past ASCII.
 #[inline]
 pub fn words(low: u64, high: u64) -> [u64; 4]
     ensures low { slice_index result 0 ≡ low }
@@ -38,7 +38,7 @@ pub fn words(low: u64, high: u64) -> [u64; 4]
     [low, high, 0, 0]
 }
 
-/// Returns whether the bit of the code `byte` is set in the words, of which the last two are empty.
+/// Returns whether the set of these words has the byte. The last two words, past ASCII, are empty.
 #[inline]
 pub fn holds(words: &[u64; 4], byte: u8) -> bool
     requires third { slice_index words.now 2 ≡ 0 }
@@ -48,7 +48,7 @@ pub fn holds(words: &[u64; 4], byte: u8) -> bool
     (words[(byte >> 6) as usize] >> (byte & 63)) & 1 == 1
 }
 
-/// Returns whether the bit of the code `byte` of ASCII is set.
+/// Returns whether the set of these two words has the byte, which is ASCII.
 #[inline(always)]
 pub fn has(low: u64, high: u64, byte: u8) -> bool
     requires { byte < 128 }
@@ -77,8 +77,8 @@ fn bits_of_lanes(lanes: u8x16) -> u8x16
     bits.swizzle_dyn_within::<16>(lanes & u8x16::splat(0x87))
 }
 
-/// Returns which of the sixteen bytes from `at` on are outside the set: bit k is of `at + k`.
 // With `always` the parsers, which have many scans, would be too large to be inlined.
+/// Returns which of the sixteen bytes from `at` on are outside the set: bit k is of `at + k`.
 #[inline]
 fn outside(low: u64, high: u64, bytes: &[u8], at: usize) -> u64
     requires { at + LANES ≤ length bytes.now }
@@ -89,7 +89,8 @@ fn outside(low: u64, high: u64, bytes: &[u8], at: usize) -> u64
     given.simd_eq(u8x16::splat(0)).to_bitmask()
 }
 
-/// Returns where the longest run of bytes of the set ends that begins at `start`.
+/// Returns where the longest run of bytes of the set
+/// that begins at `start` ends; sixteen at a time.
 ///
 /// At the end the last sixteen bytes are scanned again, and what was passed of them is shifted out.
 #[inline(always)]
@@ -116,7 +117,7 @@ pub fn run_end(low: u64, high: u64, bytes: &[u8], start: usize) -> usize
     i + mask.trailing_zeros() as usize
 }
 
-/// Returns where the longest run of ASCII characters ends that begins at `start`.
+/// Returns where the longest run of ASCII that begins at `start` ends; sixteen bytes at a time.
 #[inline(always)]
 pub fn ascii_end(bytes: &[u8], start: usize) -> usize
     requires within { start ≤ length bytes.now }

@@ -43,7 +43,7 @@ const DIGIT_VALUES: &[u8; 112] = &[
     0, 10, 11, 12, 13, 14, 15, 0, 0, 0, 0, 0, 0, 0, 0, 0, // 60
 ];
 
-/// Returns the value of a hexadecimal digit.
+/// Returns the value of a hexadecimal digit of a `%XX`.
 fn digit_value(digit: u8) -> u8
     requires { IsTrue (is_ascii_hexdigit digit) }
     ensures value { result ≡ digit_value digit }

@@ -41,6 +41,7 @@ impl<'a, E: Encoder> Clone for EStr<'a, E> {
 
     ghost is_infallible = { λ _. ⊤ };
 
+    /// Returns the same text.
     fn clone(&self) -> Result<Self, AllocError> {
         Ok(*self)
     }
@@ -283,6 +284,7 @@ impl<'a, E: Encoder> PartialEq for EStr<'a, E> {
 
     ghost laws = { Prim.search (comparing, rules) };
 
+    /// Returns whether the texts are equal, byte by byte: `%2f` is not equal to `%2F`.
     fn eq(&self, other: &Self) -> bool {
         self.text == other.text
     }
@@ -310,6 +312,7 @@ impl<'a, E: Encoder> Ord for EStr<'a, E> {
 
     ghost matches_eq = { Prim.search (comparing, rules) };
 
+    /// Compares the texts byte by byte.
     fn cmp(&self, other: &Self) -> Ordering {
         self.text.cmp(other.text)
     }
@@ -328,6 +331,7 @@ impl<'a, E: Encoder> PartialOrd for EStr<'a, E> {
     ghost laws = { partial_order_from_own_ties (Prim.search (comparing, rules))
         (Prim.search (comparing, rules)) };
 
+    /// Compares the texts as `cmp` does.
     fn partial_cmp(&self, other: &Self) -> Option<Ordering> {
         Some(self.cmp(other))
     }
@@ -343,6 +347,7 @@ impl<'a, E: Encoder> Hash for EStr<'a, E> {
 
     ghost respects_eq = { Prim.search (hashing, rules) };
 
+    /// Hashes the text.
     fn hash<H: Hasher>(&self, state: &mut H) {
         self.text.hash(state);
     }

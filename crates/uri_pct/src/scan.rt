@@ -13,7 +13,7 @@ use crate::lanes::{
 use crate::table::Table;
 use crate::utf8::char_at;
 
-/// Returns whether two hexadecimal digits are after the byte at `index`.
+/// Returns whether a scan finds the two hexadecimal digits of a `%XX` after the byte at `index`.
 #[tactic(auto, unfolding(crate::specs::Texts::has_hex_digits_after))]
 fn has_octet_digits(bytes: &[u8], index: usize) -> bool
     requires { index < length bytes.now }
@@ -128,7 +128,8 @@ impl Table {
         self.pass_ascii(text, start)
     }
 
-    /// Returns whether the table allows octets, or characters past ASCII, and the byte begins one.
+    /// Returns whether a scan may go on at the byte: it begins an octet
+    /// or a character past ASCII, and the table allows some of these.
     #[tactic(auto, using(std::proofs::lemmas::Bool::Decides::nat_tests), unfolding(crate::specs::Models::Scans::may_begin_octet_or_past_ascii))]
     #[inline(always)]
     fn may_begin_octet_or_past_ascii(&self, byte: u8) -> bool
@@ -141,8 +142,8 @@ impl Table {
         }
     }
 
-    /// Returns the length of the character past ASCII at `index`, or 0 where the table does not
-    /// allow it.
+    /// Returns how many bytes a scan passes for the character past ASCII
+    /// at `index`: its length, or 0 where the table does not allow it.
     #[inline(always)]
     fn past_ascii_len(&self, text: &str, index: usize) -> usize
         requires here { IsCharBoundary text.now index }
@@ -242,7 +243,8 @@ impl Table {
         i
     }
 
-    /// Returns whether the table allows each character and octet of the text.
+    /// Returns whether a scan passes the whole text:
+    /// the table allows each character and octet of it.
     #[tactic(auto, using(crate::proofs::ValidTexts::Cuts::is_valid_for_is_scanned_to_end, crate::proofs::TableSets::Percent::lacks_percent))]
     #[doc(hidden)]
     pub fn allows_text(&self, text: &str) -> bool

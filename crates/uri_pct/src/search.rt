@@ -25,8 +25,8 @@ pub fn find_byte(byte: u8, bytes: &[u8], start: usize) -> usize
     i
 }
 
-/// Returns how many of the sixteen bytes from `at` on are before the first `/` that has a `.` or a
-/// `%` after it.
+/// Returns how many of sixteen bytes from `at` on come before the first `/`
+/// that a dot segment may follow: one with a `.` or a `%` after it.
 #[inline(always)]
 pub fn len_before_slash_dot(bytes: &[u8], at: usize) -> usize
     requires { at + LANES < length bytes.now }

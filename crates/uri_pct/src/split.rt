@@ -32,6 +32,7 @@ impl<'a, E: Encoder> Clone for Split<'a, E> {
 
     ghost is_infallible = { λ _. ⊤ };
 
+    /// Returns an iterator with the same substrings left.
     fn clone(&self) -> Result<Self, AllocError> {
         Ok(Split {
             rest: self.rest,

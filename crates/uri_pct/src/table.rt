@@ -301,7 +301,7 @@ impl Table {
     }
 }
 
-/// Returns whether each byte is ASCII and not `%`.
+/// Returns whether a table may have each of the bytes: it is ASCII and not `%`.
 fn are_unencoded_ascii(bytes: &[u8]) -> bool
     ensures { result ≡ list_all is_unencoded_ascii bytes.now }
 {

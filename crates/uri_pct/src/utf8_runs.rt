@@ -42,7 +42,7 @@ pub trait TakeParts {
         → took s ps t → took t qs u → took s (ps ++ qs) u };
 }
 
-/// Passes characters to the taker, if there are any.
+/// Passes characters past ASCII of a run of octets to the taker, if there are any.
 fn take_text<T: TakeParts>(text: &str, taker: &mut T) -> Result<(), AllocError>
     requires { ArePastAscii text.now }
     ensures { OnOk result (T.took taker.old (map Decoded (utf8_pieces text.now)) taker.new) }
@@ -53,7 +53,8 @@ fn take_text<T: TakeParts>(text: &str, taker: &mut T) -> Result<(), AllocError>
     taker.take_well_formed(text)
 }
 
-/// Passes the pieces of a text to the taker, and the ill-formed part after it, if there is one.
+/// Passes a chunk of a run of octets to the taker: the pieces of a text,
+/// and the ill-formed part after it, if there is one.
 fn take_chunk<T: TakeParts>(text: &str, fault: &[u8], taker: &mut T) -> Result<(), AllocError>
     requires { ArePastAscii text.now }
     ensures { OnOk result

@@ -78,8 +78,7 @@ impl Window {
     }
 }
 
-/// Returns how many bytes follow the first one of a character; none follow what begins no
-/// character.
+/// Returns how many bytes follow the first of a character in a window, or 0 if it begins none.
 fn following_byte_count(first: u8) -> usize
     ensures { result ≡ following_byte_count first }
 {
@@ -91,7 +90,7 @@ fn following_byte_count(first: u8) -> usize
     }
 }
 
-/// Returns how many bytes at the end begin a character that calls for more of them.
+/// Returns how many bytes at the end of a window begin a character that calls for more of them.
 pub(crate) fn unfinished_len(bytes: &[u8]) -> usize
     requires { 3 ≤ length bytes.now }
     ensures value { result ≡ unfinished_len bytes.now }

@@ -32,7 +32,7 @@ use Rattle.uri_relative.specs.Relative.{double_dots, slashes, relative_path, rel
 use Rattle.uri_relative.specs.Relative.{needs_leading_dot}
 use Rattle.uri_relative.specs.Relative.{IsSharedPrefix}
 
--- relative paths: one `../` more, before or after the others
+-- relativized paths: one `../` more, before or after the others
 double-dot-moves-past-others : (n : ℕ) (q : List ℕ) → double_dots n ++ (codes "../" ++ q)
     ≡ double_dots (suc n) ++ q
 unfolding double_dots
@@ -40,11 +40,11 @@ double-dot-moves-past-others zero q = refl
 double-dot-moves-past-others (suc n) q = ap (λ t. codes "../" ++ t)
     (double-dot-moves-past-others n q)
 
--- general fact on numbers, for counts of `../`
+-- general fact on numbers, for counts of `../` in relativized paths: n + 1 is not 0
 successor-is-not-zero : (n : ℕ) → eqb (suc n) 0 ≡ false
 successor-is-not-zero n = grind (arith, nat_tests)
 
--- relative paths: one that goes n + 1 directories up ends in `..`, or in `../` and the rest
+-- relativized paths: one that goes n + 1 directories up ends in `..`, or in `../` and the rest
 pub relative_path-of-some-climbs : (n : ℕ) (rest : List ℕ) → relative_path (suc n) rest
     ≡ cond (is_empty rest) (double_dots n ++ codes "..") (double_dots (suc n) ++ rest)
 relative_path-of-some-climbs n rest =
@@ -52,33 +52,33 @@ relative_path-of-some-climbs n rest =
     ∙ ap (λ m. cond (is_empty rest) (double_dots m ++ codes "..") (double_dots (suc n) ++ rest))
     (let e : suc n - 1 ≡ n = omega arith in e)
 
--- general fact on lists of segments: what holds of all holds of the first of them
+-- general fact on lists of segments, for relativized paths: what all pass, the first of them pass
 pub prefix-all-pass : (p : List ℕ → Bool) (xs ys : List (List ℕ)) → AllPass p (xs ++ ys)
     → AllPass p xs
 prefix-all-pass p xs ys e = (and_parts _ _ (sym (list_all-append p xs ys) ∙ e)).0
 
--- general fact on lists of segments, for relative paths: one in the middle may go to either side
+-- general fact on lists of segments, for relativized paths: one in the middle may go to either side
 pushed-segment-joins-the-rest : (xs ys : List (List ℕ)) (y : List ℕ) → (xs ++ y ∷ []) ++ ys
     ≡ xs ++ y ∷ ys
 pushed-segment-joins-the-rest xs ys y = append_assoc xs (y ∷ []) ys
 
--- a directory as its segments
+-- relativized paths: the text of a directory by its segments
 abbrev pub dir : List (List ℕ) → List ℕ
 dir xs = slashed (xs ++ [] ∷ [])
 
--- relative paths: the segment `..` takes the last segment of a directory away
+-- relativized paths: the segment `..` takes the last segment of a directory away
 double-dot-removes-last-segment : (xs : List (List ℕ)) (y : List ℕ)
     → step_of (xs ++ y ∷ []) (codes "..") ≡ xs
 unfolding step_of next_output
 double-dot-removes-last-segment xs y = pop-undoes-push xs y
 
--- relative paths: the segment `.` leaves the directory as it is
+-- relativized paths: the segment `.` leaves the directory as it is
 single-dot-keeps-segments : (xs : List (List ℕ)) → step_of xs (codes ".") ≡ xs
 unfolding step_of next_output
 single-dot-keeps-segments xs = refl
 
--- what a path leaves, or whether it underflows: behind a directory without dot segments `..` counts
--- as its parent, and `.` as nothing
+-- relativized paths: a function takes `..` after a directory without dot segments for its parent,
+-- and `.` for nothing
 pub record FollowsDotsFromDirectory {X : Type 0} (f : List ℕ → X) : Type 0 where
   pub up : (xs : List (List ℕ)) (y rest : List ℕ) → AllPass is_dotless (xs ++ y ∷ [])
       → NoSlashes (xs ++ y ∷ []) → IsAbemptyPath rest
@@ -86,8 +86,8 @@ pub record FollowsDotsFromDirectory {X : Type 0} (f : List ℕ → X) : Type 0 w
   pub stay : (xs : List (List ℕ)) (rest : List ℕ) → AllPass is_dotless xs → NoSlashes xs
       → IsAbemptyPath rest → f (dir xs ++ (codes "." ++ rest)) ≡ f (dir xs ++ drop 1 rest)
 
--- relative paths: removing dot segments is a function that
--- follows each `../` from a directory to its parent
+-- relativized paths: removing dot segments is a function that follows each `../` from a directory
+-- to its parent
 pub remove_dot_segments-follows-dots : FollowsDotsFromDirectory remove_dot_segments
 remove_dot_segments-follows-dots = record {
   up = λ xs y rest dotless lack h. removing-dots-after-directory (xs ++ y
@@ -98,19 +98,19 @@ remove_dot_segments-follows-dots = record {
       ∙ ap (λ s. remove_dot_segments (dir s ++ drop 1 rest)) (single-dot-keeps-segments xs);
 }
 
--- relative paths: the segment `..` does not underflow after another (y)
+-- relativized paths: the segment `..` does not underflow after another (y)
 double-dot-after-segment-does-not-underflow : (xs : List (List ℕ)) (y : List ℕ)
     → underflows_at false true false (xs ++ y ∷ []) ≡ false
 unfolding underflows_at
 double-dot-after-segment-does-not-underflow xs y = pushed-segments-are-not-none xs y
 
--- relative paths: the segment `.` does not underflow
+-- relativized paths: the segment `.` does not underflow
 single-dot-does-not-underflow : (xs : List (List ℕ)) → underflows_at true false false xs ≡ false
 unfolding underflows_at
 single-dot-does-not-underflow xs = refl
 
--- relative paths: the underflow of a path is a function that
--- follows each `../` from a directory to its parent
+-- relativized paths: the underflow of a path is a function that follows each `../` from a directory
+-- to its parent
 pub underflows-follows-dots : FollowsDotsFromDirectory underflows
 underflows-follows-dots = record {
   up = λ xs y rest dotless lack h.
@@ -125,21 +125,22 @@ underflows-follows-dots = record {
       ∙ ap (λ s. underflows (dir s ++ drop 1 rest)) (single-dot-keeps-segments xs);
 }
 
--- general fact on texts, for relative paths: one that passes the test of emptiness is empty
+-- general fact on texts, for relativized paths: one that passes the test of emptiness is empty
 empty-test-means-empty-text : (text : List ℕ) → is_empty text ≡ true → text ≡ []
 empty-test-means-empty-text [] e = refl
 empty-test-means-empty-text (c ∷ text) e = cc
 
--- general fact on lists of segments, for relative paths
+-- general fact on lists of segments, for relativized paths: equal lists have equal tails
 equal-lists-have-equal-tails : (xs ys : List (List ℕ)) → [] ∷ xs ≡ [] ∷ ys → xs ≡ ys
 equal-lists-have-equal-tails xs ys e = cc
 
--- general fact on texts, for directories: one that ends in `/` is not empty
+-- general fact on texts, for directories of relativized paths of relativized paths of relativized
+-- paths of relativized paths: one that ends in `/` is not empty
 text-with-slash-is-not-empty : (prefix : List ℕ) → [] ≡ prefix ++ codes "/" → ⊥
 text-with-slash-is-not-empty [] e = cc
 text-with-slash-is-not-empty (c ∷ prefix) e = cc
 
--- relative paths: the last segment of two lists is that of the second
+-- relativized paths: the last segment of two lists is that of the second
 pop-removes-from-last-part : (xs ys : List (List ℕ)) → is_none ys ≡ false → pop (xs ++ ys)
     ≡ xs ++ pop ys
 unfolding pop is_none
@@ -149,7 +150,7 @@ pop-removes-from-last-part (x ∷ []) (y ∷ ys) e = refl
 pop-removes-from-last-part (x ∷ z ∷ xs) (y ∷ ys) e = ap (λ t. x ∷ t)
     (pop-removes-from-last-part (z ∷ xs) (y ∷ ys) e)
 
--- relative paths: one `..` takes one segment away
+-- relativized paths: one `..` takes one segment away
 pop-removes-one-segment : (ys : List (List ℕ)) → is_none ys ≡ false → length (pop ys) + 1
     ≡ length ys
 unfolding pop is_none
@@ -158,14 +159,14 @@ pop-removes-one-segment (y ∷ []) e = refl
 pop-removes-one-segment (y ∷ z ∷ ys) e =
     let ih = pop-removes-one-segment (z ∷ ys) refl in omega arith
 
--- relative paths: a text has as many slashes as segments but one
+-- relativized paths: a text has as many slashes as segments but one
 pub slashes-count-segments : (text : List ℕ) → slashes text ≡ length (pop (segments text))
 slashes-count-segments text =
     let a = length-slice_split (λ c. eqb c 47) text in
     let b = pop-removes-one-segment (segments text) (segments-of-text-are-not-none text) in
     omega arith
 
--- relative paths: a path below a directory has the directory's segments first
+-- relativized paths: a path below a directory has the directory's segments first
 pub path-below-directory-has-its-segments-first : (xs zs : List (List ℕ)) (last below : List ℕ)
     → NoSlashes xs
     → NoSlashes (zs ++ last ∷ [])
@@ -179,7 +180,7 @@ path-below-directory-has-its-segments-first xs zs last below lack_xs lack_zs e =
     sym (pop-undoes-push zs last) ∙ ap pop same ∙ pop-removes-from-last-part xs (segments below)
     (segments-of-text-are-not-none below)
 
--- general fact on lists of segments: some segments are all but the last, and the last
+-- general fact on lists of segments, for relativized paths: all are all but the last, and the last
 pub segments-are-all-but-last-and-last : (s : List ℕ) (rest : List (List ℕ)) → (last : List ℕ)
     × (s ∷ rest ≡ pop (s ∷ rest) ++ last ∷ [])
 unfolding pop
@@ -187,13 +188,13 @@ segments-are-all-but-last-and-last s [] = (s, refl)
 segments-are-all-but-last-and-last s (t ∷ rest) =
     let ih = segments-are-all-but-last-and-last t rest in (ih.0, ap (λ r. s ∷ r) ih.1)
 
--- relative paths: the directory of a path without dot segments is all its segments but the last
+-- relativized paths: the directory of a path without dot segments is all its segments but the last
 pub directory-of-dotless-segments : (s : List ℕ) (rest : List (List ℕ)) → NoSlashes (s ∷ rest)
     → AllPass is_dotless (s ∷ rest) → directory (slashed (s ∷ rest)) ≡ dir (pop (s ∷ rest))
 directory-of-dotless-segments s rest lack dotless =
     directory-by-segments s rest lack ∙ ap dir (parent-of-dotless-is-pop (s ∷ rest) dotless)
 
--- relative paths: a directory at the start of an absolute path is absolute
+-- relativized paths: a directory at the start of an absolute path is absolute
 prefix-of-absolute-path-is-absolute : (prefix below : List ℕ) → EndsInSlash prefix
     → IsAbsolute (prefix ++ below)
     → IsAbsolute prefix
@@ -320,7 +321,7 @@ module _ {X : Type 0} (f : List ℕ → X) (by : FollowsDotsFromDirectory f) whe
       ∙ ap (λ t. f (t ++ drop n path)) s.same
       ∙ ap f (take-append-drop n path)
 
--- relative paths: one that is merged with the base's, and without its dot segments, is the path
+-- relativized paths: one that is merged with the base's, and without its dot segments, is the path
 pub merged-relative-path-leads-to-path : (n : ℕ) (base path : List ℕ) → IsAbsolute base
     → lacks_dot_segments base ≡ true → IsAbsolute path → lacks_dot_segments path ≡ true
     → IsSharedPrefix n base path
@@ -330,7 +331,7 @@ merged-relative-path-leads-to-path n base path base_absolute base_dotless absolu
     base path base_absolute base_dotless s
     ∙ remove-dots-of-dotless path absolute dotless
 
--- relative paths: one that is merged with the base's has no `..` too many
+-- relativized paths: one that is merged with the base's has no `..` too many
 pub merged-relative-path-does-not-underflow : (n : ℕ) (base path : List ℕ) → IsAbsolute base
     → lacks_dot_segments base ≡ true → IsAbsolute path → lacks_dot_segments path ≡ true
     → IsSharedPrefix n base path

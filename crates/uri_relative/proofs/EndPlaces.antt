@@ -10,14 +10,14 @@ use Rattle.uri_parts.specs.Components.{Components, marked}
 use Rattle.uri_parts.specs.Positions.{authority_at, host_end_of, host_start_of, delimited_length}
 use Rattle.uri_parts.specs.Positions.{positions_of}
 
--- an authority's positions, where so many bytes are before its `//`
+-- relativized references: an authority's positions are all from n on
 pub record AuthorityBeginsAfter (n : ℕ) (places : AuthorityPositions) : Type 0 where
   pub start : n ≤ places.start
   pub host_start : n ≤ places.host_start
   pub host_end : n ≤ places.host_end
   pub end : n ≤ places.end
 
--- references to a target: positions of an authority after a scheme of n bytes begin after its `//`
+-- relativized references: positions of an authority after a scheme of n bytes begin after its `//`
 pub authority-begins-after-scheme : (n : ℕ) (authority : Option (List ℕ))
     (places : AuthorityPositions)
     → Some places ≡ option_map (authority_at (n + 2)) authority → AuthorityBeginsAfter n places
@@ -31,7 +31,7 @@ authority-begins-after-scheme n (Some a) places e =
       end = omega arith;
     })
 
--- references to a target: the positions of an authority, moved back by n, are those in a text
+-- relativized references: the positions of an authority, moved back by n, are those in a text
 -- without the bytes before its `//`
 pub authority-positions-without-scheme : (n : ℕ) (authority : Option (List ℕ))
     (places moved : AuthorityPositions)
@@ -53,8 +53,8 @@ authority-positions-without-scheme n (Some a) places moved e start host_start ho
     (arith, end, ap (λ (q : AuthorityPositions). q.end) f) in
     λ i. Some (record { start = a0 i; host_start = a1 i; host_end = a2 i; end = a3 i })
 
--- references to a target: an authority begins n + 2 bytes into
--- a text with a scheme of n bytes (with its `:`)
+-- relativized references: an authority begins n + 2 bytes into a text with a scheme of n bytes
+-- (with its `:`)
 pub authority-positions-of-components : (t : Components) (p : Positions) (n : ℕ)
     (places : AuthorityPositions)
     → p ≡ positions_of t → n ≡ delimited_length 1 t.scheme → p.authority ≡ Some places
@@ -63,14 +63,14 @@ authority-positions-of-components t p n places at m e =
     sym e ∙ ap (λ (q : Positions). q.authority) at
     ∙ ap (λ k. option_map (authority_at (k + 2)) t.authority) (sym m)
 
--- references to a target: without an authority there are no positions of one, wherever it would be
+-- relativized references: without an authority there are no positions of one, wherever it would be
 absent-authority-has-no-positions : (n m : ℕ) (authority : Option (List ℕ)) → None
     ≡ option_map (authority_at n) authority
     → None ≡ option_map (authority_at m) authority
 absent-authority-has-no-positions n m None e = refl
 absent-authority-has-no-positions n m (Some a) e = absurd (none-some (authority_at n a) e)
 
--- references to a target: without positions of an authority there is none
+-- relativized references: without positions of an authority there is none
 pub no-authority-positions-no-authority : (t : Components) (p : Positions) → p ≡ positions_of t
     → p.authority ≡ None
     → None ≡ option_map (authority_at 2) t.authority
@@ -78,7 +78,7 @@ no-authority-positions-no-authority t p at e =
     absent-authority-has-no-positions (delimited_length 1 t.scheme + 2) 2 t.authority
     (sym e ∙ ap (λ (q : Positions). q.authority) at)
 
--- references to a target: the position after a scheme and its `:`
+-- relativized references: the position after a scheme and its `:`
 pub scheme-end-is-scheme-length : (t : Components) (p : Positions) (end : ℕ) → p ≡ positions_of t
     → p.scheme_end ≡ Some end → end + 1 ≡ delimited_length 1 t.scheme
 scheme-end-is-scheme-length t p end at e =
@@ -89,21 +89,21 @@ scheme-end-is-scheme-length t p end at e =
     marked_at None f = absurd (none-some end (sym f))
     marked_at (Some s) f = omega (arith, same_Some _ _ f)
 
--- references to a target: without an end of a scheme there is none
+-- relativized references: without an end of a scheme there is none
 absent-scheme-end-means-no-scheme : (scheme : Option (List ℕ)) → None ≡ option_map length scheme
     → None ≡ scheme
 absent-scheme-end-means-no-scheme None e = refl
 absent-scheme-end-means-no-scheme (Some s) e = absurd (none-some (length s) e)
 
--- references to a target: without a scheme, the positions are as they are
+-- relativized references: without a scheme, the positions are as they are
 pub positions-of-text-without-scheme-stay : (t : Components) (p : Positions) → p ≡ positions_of t
     → p.scheme_end ≡ None → p ≡ positions_of (record t { scheme = None })
 positions-of-text-without-scheme-stay t p at e =
     at ∙ sym (ap (λ s. let c : Components = record t { scheme = s } in positions_of c)
     (absent-scheme-end-means-no-scheme t.scheme (sym e ∙ ap (λ (q : Positions). q.scheme_end) at)))
 
--- references to a target: leaving out a scheme of n bytes moves
--- the positions n bytes back; start, end: of the path
+-- relativized references: leaving out a scheme of n bytes moves the positions n bytes back; start,
+-- end: of the path
 pub positions-without-scheme : (t : Components) (p : Positions) (n : ℕ)
     (authority : Option AuthorityPositions) (start end : ℕ) (query : Option ℕ)
     → p ≡ positions_of t → n ≡ delimited_length 1 t.scheme
@@ -141,13 +141,13 @@ positions-without-scheme t p n authority start end query at m a s e q =
     query_back None = refl
     query_back (Some q) = ap Some (omega (arith, m))
 
--- references to a target: a query after n bytes ends at n, its `?` and its length
+-- relativized references: a query after n bytes ends at n, its `?` and its length
 pub query-end-by-length : (n : ℕ) (query : Option (List ℕ)) → is_some query ≡ true
     → Some (n + length (marked (codes "?") query [])) ≡ option_map (λ q. n + 1 + length q) query
 query-end-by-length n None e = absurd (false≢true e)
 query-end-by-length n (Some q) e = ap Some (omega (arith, length-append q []))
 
--- references to a target: without a query there is no end of one
+-- relativized references: without a query there is no end of one
 pub no-query-no-query-end : (n : ℕ) (query : Option (List ℕ)) → is_some query ≡ false
     → None ≡ option_map (λ q. n + 1 + length q) query
 no-query-no-query-end n None e = refl

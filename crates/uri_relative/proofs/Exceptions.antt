@@ -24,26 +24,26 @@ use Rattle.uri_relative.proofs.JoinedPaths.{path-joined-to-absolute-is-absolute}
 use Rattle.uri_relative.proofs.Leading.{settled-text-has-settled-components}
 use Rattle.uri_relative.proofs.ReferenceForms.{IsPathForm, reference-without-authority-is-path-form}
 
--- references to a target: a path that may be after an authority, and is not empty, begins with `/`
+-- relativized references: a path that may be after an authority, and is not empty, begins with `/`
 nonempty-abempty-path-is-absolute : (path : List ℕ) → IsAbemptyPath path → is_empty path ≡ false
     → IsAbsolute path
 nonempty-abempty-path-is-absolute path (inl e) h = absurd (both_ways _ h (ap is_empty e))
 nonempty-abempty-path-is-absolute path (inr e) h = e
 
--- references to a target: a path that begins with `/` is not empty
+-- relativized references: a path that begins with `/` is not empty
 path-with-slash-is-not-empty : (path : List ℕ) → starts slash path ≡ true → is_empty path ≡ true → ⊥
 path-with-slash-is-not-empty [] e h = cc
 path-with-slash-is-not-empty (c ∷ path) e h = cc
 
--- references to a target: a query that is the base's is there if the base has one
+-- relativized references: a query that is the base's is there if the base has one
 inherited-query-is-present : (base query : Option (List ℕ)) → is_some base ≡ true
     → is_none (query_or base query) ≡ true → ⊥
 inherited-query-is-present None query e h = cc
 inherited-query-is-present (Some b) None e h = cc
 inherited-query-is-present (Some b) (Some q) e h = cc
 
--- references to a target: a base that is not opaque, without an authority,
--- has an absolute path; t: the target
+-- relativized references: a base that is not opaque, without an authority, has an absolute path; t:
+-- the target
 base-without-authority-has-absolute-path : (b t : Components) → is_opaque b ≡ false → b.authority
     ≡ t.authority
     → is_none t.authority ≡ true → IsAbsolute b.path
@@ -100,7 +100,7 @@ module _ (b t o : Components) (rooted : IsAbemptyPath b.path) (w : IsPathForm b 
       (or_cases (has_emptied_path b t) (would_inherit_query b t) h))
       (or_cases (is_rootless t) (has_emptied_path b t || would_inherit_query b t) e)
 
--- references to a target: for some targets each has a scheme or an authority
+-- relativized references: to some targets, each has a scheme or an authority
 pub target_reference_needs_scheme_or_authority : (base target : List ℕ)
     → is_some (components base).scheme ≡ true
     → is_some (components target).scheme ≡ true → is_opaque (components base) ≡ false

@@ -40,14 +40,15 @@ use Rattle.uri_relative.proofs.Settled.{and-false-is-false, settled-target-does-
 use Rattle.uri_relative.proofs.ShortestForms.{fragment-form-is-shortest, path-form-is-shortest}
 use Rattle.uri_relative.proofs.ShortestForms.{query-form-is-shortest}
 
--- a target of which no dot segment is removed, of a kind that needs a scheme
+-- targets to relativize: the components are a target of which no dot segment is removed, of a kind
+-- that needs a scheme
 pub record IsDotlessTargetOf (kind : Kind) (t : Components) : Type 0 where
   pub split : IsSplitOf (recompose t) t
   pub meets : components_meet_rules kind t ≡ true
   pub scheme : is_some t.scheme ≡ true
   pub settled : with_final_path t ≡ t
 
--- the rules of its components
+-- targets to relativize: each component is absent or meets its rule of the grammar
 pub record MeetsRules (kind : Kind) (t : Components) : Type 0 where
   pub scheme : absent_or_passes t.scheme is_scheme ≡ true
   pub authority : absent_or_passes t.authority (is_authority kind) ≡ true
@@ -55,7 +56,7 @@ pub record MeetsRules (kind : Kind) (t : Components) : Type 0 where
   pub query : absent_or_passes t.query (is_valid_for kind.query) ≡ true
   pub fragment : absent_or_passes t.fragment (is_valid_for kind.fragment) ≡ true
 
--- components that pass the tests of a kind meet its rules, one by one
+-- targets to relativize: components that pass the tests of a kind meet its rules, one by one
 pub components-of-kind-meet-rules : (kind : Kind) (t : Components) → components_meet_rules kind t
     ≡ true → MeetsRules kind t
 components-of-kind-meet-rules kind t e =
@@ -66,7 +67,7 @@ components-of-kind-meet-rules kind t e =
     let f = and_parts _ _ d.0 in
     record { scheme = f.0; authority = f.1; path = d.1; query = c.1; fragment = b.1 }
 
--- references to a target: components that meet the rules of a kind, and on schemes and `:`, pass
+-- relativized references: components that meet the rules of a kind, and on schemes and `:`, pass
 -- the tests of its references
 reference-components-meet-rules : (kind : Kind) (r : Components) → MeetsRules kind r
     → (is_some r.scheme || (is_some r.authority || not (has_colon_in_first_segment r.path))) ≡ true
@@ -75,17 +76,17 @@ reference-components-meet-rules kind r m needs =
     and_from _ _ (and_from _ _ (and_from _ _ (and_from _ _
     (and_from _ _ m.scheme m.authority) m.path) m.query) m.fragment) needs
 
--- general fact on booleans, for the rules of references
+-- general fact on booleans, for the rules of relativized references: or holds if the first does
 pub or-holds-if-first-does : (a b : Bool) → a ≡ true → (a || b) ≡ true
 or-holds-if-first-does a b e = ap (λ c. c || b) e
 
--- references to a target: one that has neither scheme nor authority is relative
+-- relativized references: one that has neither scheme nor authority is relative
 reference-without-authority-is-relative : (base t r : Components) → r.scheme ≡ None → r.authority
     ≡ None → IsRelativeTo base t r
 reference-without-authority-is-relative base t r s a = λ _. λ _. λ _. λ _. (s, a)
 
--- lengths of references: a text with a scheme and its `:` is
--- two bytes longer at least than the rest
+-- lengths of relativized references: a text with a scheme and its `:` is two bytes longer at least
+-- than the rest
 scheme-adds-two-bytes-at-least : (o : Option (List ℕ)) (rest : List ℕ) → is_some o ≡ true
     → IfSome o (λ s. (0 < length s) × Lacks (codes ":/?#") s)
     → 2 + length rest ≤ length (marked [] o (codes ":") ++ rest)
@@ -97,14 +98,14 @@ scheme-adds-two-bytes-at-least (Some s) rest e h = omega (
   length-append s (codes ":"),
 )
 
--- targets: what holds of a path with its guard holds without, if the guard does not matter
+-- targets to relativize: what holds of a path with a guard that does not matter holds without
 property-holds-without-guard : (P : List ℕ → Type 0) (a : Option (List ℕ)) (path whole : List ℕ)
     → guarded a path ≡ whole → (P (codes "/." ++ path) → P path) → P whole → P path
 property-holds-without-guard P a path whole e back h =
     cond_both (is_none a && has_authority path) (codes "/." ++ path) path (λ t. P t → P path)
     (λ _. back) (λ _. λ k. k) (subst P (sym e) h)
 
--- targets: a path before a guard is added has neither `?` nor `#`, as the target's
+-- targets to relativize: a path before a guard is added has neither `?` nor `#`, as the target's
 path-without-guard-lacks-marks : (t : Components) (path : List ℕ) → guarded t.authority path
     ≡ t.path
     → Lacks (codes "?#") t.path → Lacks (codes "?#") path
@@ -113,12 +114,12 @@ path-without-guard-lacks-marks t path e h =
     (λ k. test-of-delimiters-gives-lacks (codes "?#") path
     (lacked-delimiters-fail-test (codes "?#") (codes "/." ++ path) k)) h
 
--- validity: the empty text is valid for each set
+-- targets to relativize: the empty text is valid for each set
 empty-text-is-valid-for-set : (set : TableSet) → is_valid_for set [] ≡ true
 unfolding is_valid_for tokens_from_chars chars
 empty-text-is-valid-for-set set = refl
 
--- targets: a path that is valid with the guard `/.` is valid without
+-- targets to relativize: a path that is valid with the guard `/.` is valid without
 path-after-guard-is-valid : (set : TableSet) (rest : List ℕ)
     → is_valid_for set (codes "/." ++ 47 ∷ rest) ≡ true
     → is_valid_for set (47 ∷ rest) ≡ true
@@ -129,7 +130,7 @@ path-after-guard-is-valid set rest e =
     validity-splits-at-slash set [] rest IsUtf8-nil
     ∙ and_from _ _ (empty-text-is-valid-for-set set) p.1
 
--- targets: a path before a guard is added is valid, as the target's
+-- targets to relativize: a path before a guard is added is valid, as the target's
 path-without-guard-is-valid : (set : TableSet) (t : Components) (path : List ℕ) → IsAbsolute path
     → guarded t.authority path ≡ t.path → is_valid_for set t.path ≡ true
     → is_valid_for set path ≡ true
@@ -139,8 +140,8 @@ path-without-guard-is-valid set t path absolute e h =
     (sym (absolute-path-is-slash-and-rest path absolute))
     (path-after-guard-is-valid set (drop 1 path))) h
 
--- lengths of references: a path (way) that is no longer than the one from the root is two bytes
--- longer than the target's at most
+-- lengths of relativized references: a path (way) that is no longer than the one from the root is
+-- two bytes longer than the target's at most
 path-is-at-most-two-longer-than-target : (t : Components) (path way : List ℕ)
     → guarded t.authority path ≡ t.path
     → length way ≤ length (guarded None path) → length way ≤ length t.path + 2

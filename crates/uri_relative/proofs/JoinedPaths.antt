@@ -12,8 +12,8 @@ use Rattle.uri_ops.proofs.Paths.MergedPaths.{merged-path-is-absolute}
 use Rattle.uri_ops.proofs.Paths.PathMeanings.{removing-dots-keeps-leading-slash}
 use Rattle.uri_relative.specs.Relative.{joined_path}
 
--- targets: a path without its dot segments, and guarded,
--- begins with `/` where it did; a: the authority
+-- targets to relativize: a path without its dot segments, and guarded, begins with `/` where it
+-- did; a: the authority
 pub target-path-stays-absolute : (a : Option (List ℕ)) (path : List ℕ) → IsAbsolute path
     → starts slash (guarded a (dotless_if_absolute path)) ≡ true
 target-path-stays-absolute a path h =
@@ -22,7 +22,7 @@ target-path-stays-absolute a path h =
     (dotless_if_absolute path) (λ p. starts slash p ≡ true) (λ _. refl)
     (λ _. removing-dots-keeps-leading-slash path ∙ eq_true_from_IsTrue _ h)
 
--- references to a target: a path that is joined to an absolute one is absolute
+-- relativized references: a path that is joined to an absolute one is absolute
 pub path-joined-to-absolute-is-absolute : (base way : List ℕ) → IsAbemptyPath base → IsAbsolute base
     → IsAbsolute (joined_path base way)
 path-joined-to-absolute-is-absolute base way rooted h =
@@ -31,8 +31,8 @@ path-joined-to-absolute-is-absolute base way rooted h =
     (λ _. cond_both (starts slash way) way (merged base way) IsAbsolute (equal-to-true-is-IsTrue _)
     (λ _. merged-path-is-absolute base way rooted))
 
--- references to a target: a path that is not empty,
--- and is joined to one that is empty or begins with `/`, is absolute
+-- relativized references: a path that is not empty, and is joined to one that is empty or begins
+-- with `/`, is absolute
 pub nonempty-joined-path-is-absolute : (base way : List ℕ) → IsAbemptyPath base
     → is_empty way ≡ false
     → IsAbsolute (joined_path base way)

@@ -28,22 +28,22 @@ use Rattle.uri_relative.proofs.Returning.{reference-leads-back-to-resolved-targe
 use Rattle.uri_relative.proofs.Settled.{final-path-is-idempotent, and-false-is-false}
 use Rattle.uri_relative.proofs.Shrinking.{settled-text-is-no-longer}
 
--- general fact on booleans, for the rule on schemes: where one is needed it is there
+-- general fact on booleans, for the scheme of a target to relativize: one that is needed is there
 needs : (scheme : Bool) (needed : Bool) (other : Bool) → needed ≡ true
     → (scheme || (not needed && other)) ≡ true → scheme ≡ true
 needs true needed other e h = refl
 needs false true other e h = h
 needs false false other e h = e
 
--- references to a target: a text of a kind that needs a scheme has one
+-- relativized references: a text of a kind that needs a scheme has one
 pub kind-needs-scheme : (kind : Kind) (text : List ℕ) → kind.needs_scheme ≡ true
     → IsOfKind kind text
     → is_some (components text).scheme ≡ true
 kind-needs-scheme kind text e h =
     needs (is_some (components text).scheme) kind.needs_scheme _ e (and_parts _ _ h).1
 
--- references to a target: a text of a kind with a scheme is a possible target,
--- if it has no dot segments left to remove
+-- relativized references: a text of a kind with a scheme is a possible target, if it has no dot
+-- segments left to remove
 pub dotless-text-is-target : (kind : Kind) (text : List ℕ) → kind.needs_scheme ≡ true
     → IsOfKind kind text
     → with_final_path (components text) ≡ components text → IsDotlessTargetOf kind (components text)
@@ -55,20 +55,19 @@ dotless-text-is-target kind text e h done = record {
   settled = done;
 }
 
--- references to a target: the text that is written of one has its components
+-- relativized references: the text that is written of one has its components
 pub components-of-reference-text : (kind : Kind) (prefers : Bool) (base target r : Components)
     → IsReferenceTo kind prefers base target r → components (recompose r) ≡ r
 components-of-reference-text kind prefers base target r w = only-split-is-components
     (recompose r) r w.split
 
--- references to a target: one that is not rejected resolves to the text of its target
+-- relativized references: one that is not rejected resolves to the text of its target
 resolves : (base r : Components) (t : Components) → target_of base r ≡ t
     → (is_opaque base && not (is_some r.scheme || is_fragment_only r)) ≡ false
     → resolution_of (without_fragment base) r ≡ Ok (recompose t)
 resolves base r t e f = cond-false _ _ _ f ∙ ap (λ c. Ok (recompose c)) e
 
--- references to a target: a target with a scheme resolves to itself,
--- without dot segments, against any base
+-- relativized references: a target with a scheme resolves to itself, without dot segments
 itself : (base t : Components) → is_some t.scheme ≡ true
     → resolution_of (without_fragment base) t ≡ Ok (recompose (with_final_path t))
 itself base t e =
@@ -77,7 +76,7 @@ itself base t e =
     (ap (λ b. is_opaque base && not (b || is_fragment_only t)) e
     ∙ and-false-is-false (is_opaque base))
 
--- references to a target: the text of one leads to the target that its components lead to
+-- relativized references: the text of one leads to the target that its components lead to
 reference-text-leads-to-target : (kind : Kind) (prefers : Bool) (base target reference : List ℕ)
     → is_some (components target).scheme ≡ true
     → IsReferenceTo kind prefers (components base) (settled target) (components reference)
@@ -88,7 +87,7 @@ reference-text-leads-to-target kind prefers base target reference e w = record {
   below = w.below;
 }
 
--- references to a target: a path and then its query and fragment are appended; old, mid, new: the
+-- relativized references: a path and then its query and fragment are appended; old, mid, new: the
 -- text before, between and after
 pub pushed-path-and-tail-are-appended : (old mid new way tail tail' : List ℕ) → mid ≡ old ++ way
     → new ≡ mid ++ tail
@@ -96,14 +95,14 @@ pub pushed-path-and-tail-are-appended : (old mid new way tail tail' : List ℕ) 
 pushed-path-and-tail-are-appended old mid new way tail tail' e f h =
     f ∙ ap (λ t. t ++ tail) e ∙ append_assoc old way tail ∙ ap (λ t. old ++ (way ++ t)) h
 
--- targets: one with a scheme, as a reference, has itself as its target, without dot segments
+-- targets to relativize: one with a scheme is its own target, without dot segments
 target_of-whole-target-is-final : (base t : Components) → is_some t.scheme ≡ true → target_of base t
     ≡ with_final_path t
 target_of-whole-target-is-final base t e = let j : dotted_target base t
     ≡ t = cond-true _ _ _ e in ap with_final_path j
 
--- references to a target: the text of a target without removable
--- dot segments has that target's components
+-- relativized references: the text of a target without removable dot segments has that target's
+-- components
 pub settled-text-has-settled-components : (text : List ℕ) → is_some (components text).scheme ≡ true
     → components (recompose (settled text)) ≡ settled text
 settled-text-has-settled-components text some =
@@ -112,22 +111,21 @@ settled-text-has-settled-components text some =
     sym (ap (λ x. components (recompose x)) t) ∙ target-text-has-target-components text text some
     ∙ t
 
--- references to a target: a text made as the target without
--- removable dot segments has that target's components
+-- relativized references: a text made as the target without removable dot segments has that
+-- target's components
 pub components-of-settled-text : (text made : List ℕ) → is_some (components text).scheme ≡ true
     → made ≡ recompose (settled text) → components made ≡ settled text
 components-of-settled-text text made some e = ap components e
     ∙ settled-text-has-settled-components text some
 
--- references to a target: a text made as the target without
--- removable dot segments has none left to remove
+-- relativized references: a text made as the target without removable dot segments has none left
 pub settled-text-stays-settled : (text made : List ℕ) → is_some (components text).scheme ≡ true
     → made ≡ recompose (settled text) → with_final_path (components made) ≡ components made
 settled-text-stays-settled text made some e =
     let same = components-of-settled-text text made some e in
     ap with_final_path same ∙ final-path-is-idempotent (components text) ∙ sym same
 
--- targets: the text of one without removable dot segments is of the kind
+-- targets to relativize: the text of one without removable dot segments is of the kind
 pub settled-text-is-of-kind : (kind : Kind) (text : List ℕ) → HasComponentSets kind
     → kind.needs_scheme ≡ true → IsUtf8 text → IsOfKind kind text
     → IsOfKind kind (recompose (settled text))
@@ -146,8 +144,8 @@ settled-text-is-of-kind kind text sets e utf8 h =
     (ap (λ b. b || (not kind.needs_scheme && (is_some c.authority
     || not (has_colon_in_first_segment (settled text).path)))) some))
 
--- references to a target: the text of four pieces that were appended one after the other;
--- o0 to o3: the text between them
+-- relativized references: the text of four pieces that were appended one after the other; o0 to o3:
+-- the text between them
 pub pushed-pieces-are-text : (scheme authority path rest old : List ℕ) (o0 o1 o2 o3 : List ℕ) → o0
     ≡ []
     → o1 ≡ o0 ++ (scheme ++ authority) → o2 ≡ o1 ++ path → o3 ≡ o2 ++ rest
@@ -156,7 +154,7 @@ pushed-pieces-are-text scheme authority path rest old o0 o1 o2 o3 e f g h =
     h ∙ ap (λ t. t ++ rest) (g ∙ ap (λ t. t ++ path) (f ∙ ap (λ t. t ++ (scheme ++ authority)) e))
     ∙ append_assoc (scheme ++ authority) path rest ∙ append_assoc scheme authority (path ++ rest)
 
--- references to a target: the text that is made is one, if it is the text of one's components
+-- relativized references: the text that is made is one, if it is the text of one's components
 pub reference-text-is-reference : (kind : Kind) (prefers : Bool) (base target r : Components)
     (made text : List ℕ) → IsReferenceTo kind prefers base target r → text ≡ recompose r
     → made ≡ text → IsReferenceTo kind prefers base target (components made)
@@ -164,8 +162,8 @@ reference-text-is-reference kind prefers base target r made text w e f =
     subst (IsReferenceTo kind prefers base target)
     (sym (ap components (f ∙ e) ∙ components-of-reference-text kind prefers base target r w)) w
 
--- references to a target: the reference made leads to the target;
--- primed texts are those of the call's clause
+-- relativized references: the reference made leads to the target; primed texts are those of the
+-- call's clause
 pub reference-leads-to-target : (kind : Kind) (prefers : Bool)
     (base target made base' target' made' : List ℕ)
     → kind.needs_scheme ≡ true → IsOfKind kind target → base ≡ base' → target ≡ target'
@@ -178,8 +176,8 @@ reference-leads-to-target kind prefers base target made base' target' made' need
     (reference-text-leads-to-target kind prefers base target made
     (kind-needs-scheme kind target needs of_kind) w)))
 
--- if the target is what some reference resolves to against the base, so does the reference made;
--- primed texts are those of the call's clause
+-- relativized references: if a reference resolves to the target against the base, so does the one
+-- made; primed texts are those of the call's clause
 pub reference-leads-back-to-target : (kind : Kind) (prefers : Bool)
     (base target made base' target' made' : List ℕ)
     → kind.needs_scheme ≡ true → IsOfKind kind base → IsOfKind kind target → base ≡ base'
@@ -195,7 +193,7 @@ reference-leads-back-to-target kind prefers base target made base' target' made'
     (reference-leads-to-target kind prefers base target made base' target' made' needs
     of_kind e f h w)
 
--- references to a target: the reference made is no longer than the target, if relative ones are not
+-- relativized references: the reference made is no longer than the target, if relative ones are not
 -- preferred; primed texts are those of the call's clause
 pub reference-is-no-longer-than-target : (kind : Kind) (prefers : Bool) (base : Components)
     (target made target' made' : List ℕ) → prefers ≡ false → target ≡ target' → made' ≡ made
@@ -209,7 +207,7 @@ reference-is-no-longer-than-target kind prefers base target made target' made' e
       than_given = settled-text-is-no-longer target;
     }))
 
--- references to a target: the reference made is relative where the contract says so; primed texts
+-- relativized references: the reference made is relative where the contract says so; primed texts
 -- are those of the call's clause
 pub reference-is-relative : (kind : Kind) (prefers : Bool)
     (base target made base' target' made' : List ℕ)

@@ -11,38 +11,38 @@ use Rattle.uri_ops.specs.Dots.{is_empty}
 use Rattle.uri_relative.specs.Relative.{double_dots, relative_path}
 use Rattle.uri_relative.proofs.Climbs.{relative_path-of-some-climbs}
 
--- lengths of relative paths: n `../` have 3 * n bytes
+-- lengths of relativized paths: n `../` have 3 * n bytes
 length-of-double-dots-is-threefold : (n : ℕ) → length (double_dots n) ≡ 3 * n
 unfolding double_dots
 length-of-double-dots-is-threefold zero = refl
 length-of-double-dots-is-threefold (suc n) = omega (arith, length-of-double-dots-is-threefold n)
 
--- lengths of relative paths: n `../` and a rest
+-- lengths of relativized paths: n `../` and a rest
 length-of-double-dots-and-rest : (n : ℕ) (rest : List ℕ) → length (double_dots n ++ rest)
     ≡ 3 * n + length rest
 length-of-double-dots-and-rest n rest = omega
     (arith, length-append (double_dots n) rest, length-of-double-dots-is-threefold n)
 
--- lengths of relative paths: one that goes n + 1 directories up, to some rest
+-- lengths of relativized paths: one that goes n + 1 directories up, to some rest
 pub length-of-path-up-to-some : (n : ℕ) (rest : List ℕ) → is_empty rest ≡ false
     → length (relative_path (suc n) rest) ≡ 3 * suc n + length rest
 length-of-path-up-to-some n rest e =
     ap length (relative_path-of-some-climbs n rest ∙ cond-false _ _ _ e)
     ∙ length-of-double-dots-and-rest (suc n) rest
 
--- relative paths: one that goes n + 1 directories up, and adds nothing, has 3 * n + 2 bytes
+-- relativized paths: one that goes n + 1 directories up, and adds nothing, has 3 * n + 2 bytes
 pub length-of-path-up-to-nothing : (n : ℕ) (rest : List ℕ) → is_empty rest ≡ true
     → length (relative_path (suc n) rest) ≡ 3 * n + 2
 length-of-path-up-to-nothing n rest e =
     ap length (relative_path-of-some-climbs n rest ∙ cond-true _ _ _ e)
     ∙ length-of-double-dots-and-rest n (codes "..")
 
--- lengths of relative paths: an empty text has length 0
+-- lengths of relativized paths: an empty text has length 0
 empty-text-has-length-zero : (rest : List ℕ) → is_empty rest ≡ true → length rest ≡ 0
 empty-text-has-length-zero [] e = refl
 empty-text-has-length-zero (c ∷ rest) e = absurd (false≢true e)
 
--- lengths of relative paths: by the code's test, a division by 3, one that goes up is no longer
+-- lengths of relativized paths: by the code's test, a division by 3, one that goes up is no longer
 -- than the path from the root
 pub relative-path-fits-by-division : (n prefix : ℕ) (rest : List ℕ) (none : Bool) → 0 < n → none
     ≡ is_empty rest
@@ -68,7 +68,7 @@ relative-path-fits-by-division (suc m) prefix rest false some e h =
       length-of-path-up-to-some m rest (sym e),
     )
 
--- relative paths: one that goes up n times is longer than a path from the root, if n exceeds a
+-- relativized paths: one that goes up n times is longer than a path from the root, if n exceeds a
 -- third of the shared prefix; none: whether the rest is empty
 pub relative-path-is-longer-by-division : (n prefix : ℕ) (rest : List ℕ) (none : Bool) → 0 < n
     → none ≡ is_empty rest

@@ -10,15 +10,15 @@ use Rattle.uri_ops.specs.Dots.{is_empty}
 use Rattle.uri_relative.specs.Relative.{needs_leading_dot, relative_from, relative_path, slashes}
 use Rattle.uri_relative.proofs.Lengths.{length-of-path-up-to-some, length-of-path-up-to-nothing}
 
--- lengths of relative paths: one without `../` is two bytes longer than its rest at most;
--- none, misread: whether it is `.`, or needs `./`
+-- lengths of relativized paths: one without `../` is two bytes longer than its rest at most; none,
+-- misread: whether it is `.`, or needs `./`
 path-without-double-dots-is-at-most-two-longer : (rest : List ℕ) (none misread : Bool)
     → length (cond none (codes ".") (cond misread (codes "./" ++ rest) rest)) ≤ length rest + 2
 path-without-double-dots-is-at-most-two-longer rest true misread = omega arith
 path-without-double-dots-is-at-most-two-longer rest false true = omega arith
 path-without-double-dots-is-at-most-two-longer rest false false = omega arith
 
--- lengths of relative paths: one with n `../` and a rest has two bytes more at most
+-- lengths of relativized paths: one with n `../` and a rest has two bytes more at most
 length-of-relative-path-is-bounded : (n : ℕ) (rest : List ℕ)
     → length (relative_path n rest) ≤ 3 * n + length rest + 2
 length-of-relative-path-is-bounded zero rest =
@@ -30,17 +30,17 @@ length-of-relative-path-is-bounded (suc n) rest = ⊎_elim
     (λ e. omega (arith, length-of-path-up-to-some n rest e))
     (cases_Bool (is_empty rest))
 
--- relative paths: how many `/` a text has, counted byte by byte
+-- relativized paths: how many `/` a text has, counted byte by byte
 counted : List ℕ → ℕ
 counted [] = 0
 counted (c ∷ text) = cond (eqb c 47) (1 + counted text) (counted text)
 
--- relative paths: slashes, as they are counted byte by byte
+-- relativized paths: slashes, as they are counted byte by byte
 counted-is-slashes : (text : List ℕ) → counted text ≡ slashes text
 unfolding counted
 counted-is-slashes = is_count_by counted (λ c. eqb c 47) refl (λ c text. refl)
 
--- relative paths: two texts have the slashes of both, joined
+-- relativized paths: two texts have the slashes of both, joined
 slashes-of-joined-texts-add-up : (a b : List ℕ) → counted (a ++ b) ≡ counted a + counted b
 unfolding counted
 slashes-of-joined-texts-add-up [] b = omega arith
@@ -52,7 +52,7 @@ slashes-of-joined-texts-add-up (c ∷ a) b = more (eqb c 47) (slashes-of-joined-
     more true ih = omega (arith, ih)
     more false ih = ih
 
--- relative paths: two texts joined by a `/` (47) have one slash more than both
+-- relativized paths: two texts joined by a `/` (47) have one slash more than both
 slash-between-adds-one-to-slashes : (a b : List ℕ) → slashes (a ++ 47 ∷ b)
     ≡ suc (slashes a + slashes b)
 unfolding counted
@@ -67,7 +67,7 @@ slash-between-adds-one-to-slashes a b =
       counted-is-slashes b,
     )
 
--- relative paths: what is from before a `/` (47) on is split at it
+-- relativized paths: what is from before a `/` (47) on is split at it
 text-from-before-slash-is-split : (text : List ℕ) (last m : ℕ) → last < length text
     → get_or text last 0 ≡ 47
     → m ≤ last → drop m text ≡ drop m (take last text) ++ 47 ∷ drop (last + 1) text
@@ -78,12 +78,12 @@ text-from-before-slash-is-split text last m h e least =
     ∙ ap (λ t. drop m (take last text) ++ t)
     (drop_more text last 0 h ∙ ap (λ c. c ∷ drop (last + 1) text) e)
 
--- relative paths: a text with a `/` (47) is not empty
+-- relativized paths: a text with a `/` (47) is not empty
 text-with-slash-is-nonempty : (a b : List ℕ) → is_empty (a ++ 47 ∷ b) ≡ false
 text-with-slash-is-nonempty [] b = refl
 text-with-slash-is-nonempty (c ∷ a) b = refl
 
--- relative paths: one that begins later is no longer: it goes up fewer times, and has less left
+-- relativized paths: one that begins later is no longer: it goes up fewer times, and has less left
 later-prefix-gives-shorter-path : (a b u v : List ℕ)
     → length (relative_path (slashes b) v)
     ≤ length (relative_path (slashes (a ++ 47 ∷ b)) (u ++ 47 ∷ v))
@@ -97,11 +97,11 @@ later-prefix-gives-shorter-path a b u v =
       length-append u (47 ∷ v),
     )
 
--- general fact on numbers, for positions in paths
+-- general fact on numbers, for positions in relativized paths: one up to last + 1 is that, or less
 position-is-last-or-before : (m last : ℕ) → m ≤ last + 1 → (m ≡ last + 1) ⊎ (m ≤ last)
 position-is-last-or-before m last h = grind arith
 
--- relative paths: one from the last shared slash is no longer than one from an earlier place m
+-- relativized paths: one from the last shared slash is no longer than one from an earlier place m
 pub longer-shared-prefix-gives-shorter-path : (base path : List ℕ) (last m : ℕ) → last < length base
     → last < length path
     → get_or base last 0 ≡ 47 → get_or path last 0 ≡ 47 → m ≤ last + 1

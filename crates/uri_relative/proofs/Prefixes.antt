@@ -9,13 +9,13 @@ use Rattle.uri_ops.specs.Dots.{EndsInSlash, IsAbsolute}
 use Rattle.uri_ops.proofs.Paths.TakenSegments.{absolute-path-is-slash-and-rest}
 use Rattle.uri_relative.specs.Relative.{IsLongestPrefix, IsSharedPrefix, double_dots}
 
--- relative paths: a shorter prefix of a shared one is shared
+-- relativized paths: a shorter prefix of a shared one is shared
 shorter-prefix-is-shared-too : (m n : ℕ) (a b : List ℕ) → m ≤ n → take n a ≡ take n b
     → take m a ≡ take m b
 shorter-prefix-is-shared-too m n a b h e = sym (take-take m n a h) ∙ ap (take m) e
     ∙ take-take m n b h
 
--- relative paths: two paths with equal first n bytes share the prefix up to a `/` (47) among them
+-- relativized paths: two paths with equal first n bytes share the prefix up to a `/` (47) in these
 pub shared-prefix-to-slash : (base path : List ℕ) (last n : ℕ) → last < n → n ≤ length base
     → get_or base last 0 ≡ 47 → take n base ≡ take n path → IsSharedPrefix (last + 1) base path
 shared-prefix-to-slash base path last n h within e same = record {
@@ -26,20 +26,20 @@ shared-prefix-to-slash base path last n h within e same = record {
   );
 }
 
--- relative paths: two texts with equal first n bytes have the same byte at each index below n
+-- relativized paths: two texts with equal first n bytes have the same byte at each index below n
 shared-prefix-has-same-bytes : (n i : ℕ) (a b : List ℕ) → i < n → take n a ≡ take n b → get_or a i 0
     ≡ get_or b i 0
 shared-prefix-has-same-bytes n i a b h e =
     sym (get_or-take n a i 0 h) ∙ ap (λ t. get_or t i 0) e ∙ get_or-take n b i 0 h
 
--- relative paths: a slash (47) of the base before the end n of the shared prefix is one of the path
+-- relativized paths: a slash (47) of the base before the end n of the shared prefix is in the path
 pub shared-prefix-has-same-slash : (base path : List ℕ) (last n : ℕ) → last < n
     → get_or base last 0 ≡ 47
     → take n base ≡ take n path → get_or path last 0 ≡ 47
 shared-prefix-has-same-slash base path last n h e same = sym
     (shared-prefix-has-same-bytes n last base path h same) ∙ e
 
--- relative paths: the first byte of an absolute path is `/` (47)
+-- relativized paths: the first byte of an absolute path is `/` (47)
 absolute-path-begins-with-slash-byte : (path : List ℕ) → IsAbsolute path → (get_or path 0 0 ≡ 47)
     × (0 < length path)
 absolute-path-begins-with-slash-byte path h =
@@ -48,7 +48,7 @@ absolute-path-begins-with-slash-byte path h =
       omega (arith, ap length e),
     )
 
--- relative paths: two absolute paths share their first `/`; n: where they first differ
+-- relativized paths: two absolute paths share their first `/`; n: where they first differ
 pub absolute-paths-share-a-byte : (base path : List ℕ) (n : ℕ) → IsAbsolute base → IsAbsolute path
     → (n < length base → n < length path → get_or base n 0 ≡ get_or path n 0 → ⊥) → 0 < n
 absolute-paths-share-a-byte base path zero h k most =
@@ -57,7 +57,7 @@ absolute-paths-share-a-byte base path zero h k most =
     absurd (most p.1 q.1 (p.0 ∙ sym q.0))
 absolute-paths-share-a-byte base path (suc n) h k most = omega arith
 
--- relative paths: the last byte of a shared prefix is `/` (47)
+-- relativized paths: the last byte of a shared prefix is `/` (47)
 prefix-to-slash-has-slash-last : (text : List ℕ) (m : ℕ) → m ≤ length text
     → EndsInSlash (take m text)
     → (0 < m) × (get_or text (m - 1) 0 ≡ 47)
@@ -76,12 +76,12 @@ prefix-to-slash-has-slash-last text m h closed =
           ∙ ap (λ k. get_or (prefix ++ codes "/") k 0) at ∙ get_or-append_seam prefix 47 [] 0,
     )
 
--- general fact on numbers, for positions in paths
+-- general fact on numbers, for positions in relativized paths: one is at most another, or after it
 at-most-or-greater : (m n : ℕ) → (m ≤ n) ⊎ (n < m)
 at-most-or-greater m n = grind arith
 
--- relative paths: the prefix up to the last shared slash is the longest that the two paths share;
--- n: where they first differ
+-- relativized paths: the prefix up to the last shared slash is the longest that the two paths
+-- share; n: where they first differ
 pub prefix-to-last-shared-slash-is-longest : (base path : List ℕ) (last n : ℕ) → last < n
     → take n base ≡ take n path
     → (n < length base → n < length path → get_or base n 0 ≡ get_or path n 0 → ⊥)
@@ -98,7 +98,7 @@ prefix-to-last-shared-slash-is-longest base path last n h same most none =
     (at-most-or-greater m n))
     (at-most-or-greater m (last + 1))
 
--- relative paths: one `../` more is before or after the others
+-- relativized paths: one `../` more is before or after the others
 double-dot-before-or-after-others : (n : ℕ) → double_dots n ++ codes "../"
     ≡ codes "../" ++ double_dots n
 unfolding double_dots
@@ -106,8 +106,8 @@ double-dot-before-or-after-others zero = refl
 double-dot-before-or-after-others (suc n) = ap (λ t. codes "../" ++ t)
     (double-dot-before-or-after-others n)
 
--- relative paths: one more `../` is appended; old, before, new: the text before all,
--- before the last and after it
+-- relativized paths: one more `../` is appended; old, before, new: the text before all, before the
+-- last and after it
 pub one-more-double-dot-is-pushed : (old before new : List ℕ) (n : ℕ) → before
     ≡ old ++ double_dots n
     → new ≡ before ++ codes "../" → new ≡ old ++ double_dots (n + 1)
@@ -117,7 +117,7 @@ one-more-double-dot-is-pushed old before new n e f =
     ∙ ap (λ t. old ++ t) (double-dot-before-or-after-others n)
     ∙ ap (λ m. old ++ double_dots m) (let s : suc n ≡ n + 1 = omega arith in s)
 
--- relative paths: at first no `../` is appended
+-- relativized paths: at first no `../` is appended
 pub no-double-dots-are-pushed : (old : List ℕ) → old ≡ old ++ double_dots 0
 unfolding double_dots
 no-double-dots-are-pushed old = sym (append-nil old)

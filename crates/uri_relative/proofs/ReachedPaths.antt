@@ -28,11 +28,12 @@ use Rattle.uri_relative.proofs.Shrinking.{segments_left}
 use Rattle.uri_relative.proofs.SharedSegments.{BeginWithSameSegment}
 use Rattle.uri_relative.proofs.SharedSegments.{segments-share-directory-prefix}
 
--- relative paths: being one of the delimiter `/` is being 47
+-- relativized paths: being one of the delimiter `/` is being 47
 one-of-slash-is-byte-47 : (c : ℕ) → is_one_of (codes "/") c ≡ eqb c 47
 one-of-slash-is-byte-47 c = grind (arith, nat_tests)
 
--- relative paths: the first segment (s) of a path has a `:` (58) exactly if the path has one there
+-- relativized paths: the first segment (s) of a path has a `:` (58) exactly if the path has one
+-- there
 colon-is-in-first-segment-alone : (s : List ℕ) (rest : List (List ℕ)) → has_slash s ≡ false
     → has_colon_in_first_segment (s ++ slashed rest) ≡ list_any (λ c. eqb c 58) s
 unfolding slashed
@@ -46,8 +47,8 @@ colon-is-in-first-segment-alone (c ∷ s) rest e =
     ap (λ n. list_any (λ c. eqb c 58) (take n ((c ∷ s) ++ slashed rest))) more
     ∙ ap (λ b. eqb c 58 || b) (colon-is-in-first-segment-alone s rest p.1)
 
--- relative paths: if a text is parsed as a path, it needs no `./`,
--- nor does one with the same first segment
+-- relativized paths: if a text is parsed as a path, it needs no `./`, nor does one with the same
+-- first segment
 same-first-segment-needs-no-leading-dot : (s : List ℕ) (segs tail : List (List ℕ))
     → has_slash s ≡ false
     → is_empty (s ++ slashed segs) ≡ false → starts 47 (s ++ slashed segs) ≡ false
@@ -63,8 +64,8 @@ same-first-segment-needs-no-leading-dot (c ∷ s) segs tail free some rootless c
     ∙ colon-is-in-first-segment-alone (c ∷ s) tail free
     ∙ sym (colon-is-in-first-segment-alone (c ∷ s) segs free) ∙ colon
 
--- lengths of relative paths: one without `../` is no longer than x, if its rest is so;
--- none, misread: whether it is `.`, or needs `./`
+-- lengths of relativized paths: one without `../` is no longer than x, if its rest is so; none,
+-- misread: whether it is `.`, or needs `./`
 path-without-double-dots-is-no-longer : (rest x : List ℕ) (none misread : Bool) → 0 < length x
     → (none ≡ false → length rest ≤ length x)
     → (none ≡ false → misread ≡ true → length rest + 2 ≤ length x)
@@ -73,8 +74,8 @@ path-without-double-dots-is-no-longer rest x true misread some h room = omega (a
 path-without-double-dots-is-no-longer rest x false true some h room = omega (arith, room refl refl)
 path-without-double-dots-is-no-longer rest x false false some h room = h refl
 
--- lengths of relative paths: one with k + 1 `../` and a rest is no longer than x,
--- by a count; spare: a byte too many
+-- lengths of relativized paths: one with k + 1 `../` and a rest is no longer than x, by a count;
+-- spare: a byte too many
 path-with-double-dots-is-no-longer : (k : ℕ) (rest x : List ℕ) (spare : ℕ) → spare ≤ 1
     → (is_empty rest ≡ false → spare ≡ 0) → 3 * suc k + length rest ≤ length x + spare
     → length (relative_path (suc k) rest) ≤ length x
@@ -83,23 +84,23 @@ path-with-double-dots-is-no-longer k rest x spare few exact h = ⊎_elim
     (λ e. omega (arith, length-of-path-up-to-some k rest e, exact e, h))
     (cases_Bool (is_empty rest))
 
--- general fact on texts, for relative paths
+-- general fact on texts, for relativized paths: one that is not empty has a length above 0
 nonempty-text-has-length : (x : List ℕ) → is_empty x ≡ false → 0 < length x
 nonempty-text-has-length [] e = absurd (false≢true (sym e))
 nonempty-text-has-length (c ∷ x) e = omega arith
 
--- relative paths: segments, each after a `/` (47), are `/`, the first, and the others
+-- relativized paths: segments, each after a `/` (47), are `/`, the first, and the others
 joined-segments-begin-with-slash : (d : List ℕ) (ds : List (List ℕ)) → slashed (d ∷ ds)
     ≡ 47 ∷ d ++ slashed ds
 unfolding slashed
 joined-segments-begin-with-slash d ds = refl
 
--- general fact on lists of segments, for relative paths
+-- general fact on lists of segments, for relativized paths: equal lists have equal rests, as texts
 equal-segments-have-equal-rest : (ds es : List (List ℕ)) → ds ≡ es → drop 1 (slashed ds)
     ≡ drop 1 (slashed es)
 equal-segments-have-equal-rest ds es e = ap (λ t. drop 1 (slashed t)) e
 
--- a reference's path that is joined to a directory leads to what a relative path does
+-- relativized paths: a relative path no longer than x leads from a directory (output) to the path
 pub record IsReachedByShortPath (output : List (List ℕ)) (x path : List ℕ) : Type 0 where
   pub prefix : List (List ℕ)
   pub up : List (List ℕ)
@@ -108,7 +109,7 @@ pub record IsReachedByShortPath (output : List (List ℕ)) (x path : List ℕ) :
   pub path_is : path ≡ dir prefix ++ rest
   pub short : length (relative_path (length up) rest) ≤ length x
 
--- lengths of relative paths: if there is some rest below a directory, no byte is spare
+-- lengths of relativized paths: if there is some rest below a directory, no byte is spare
 no-byte-is-spare-for-some-rest : (spare : ℕ) (d : List ℕ) (ds up : List (List ℕ))
     → (spare ≡ 0) ⊎ ((d ∷ ds ≡ [] ∷ []) × (0 < length up))
     → is_empty (d ++ slashed ds) ≡ false → spare ≡ 0
@@ -118,8 +119,7 @@ no-byte-is-spare-for-some-rest spare d ds up (inr h) some =
     absurd (false≢true (sym some
     ∙ ap is_empty (equal-segments-have-equal-rest (d ∷ ds) ([] ∷ []) h.0)))
 
--- lengths of relative paths: if the rest below a directory needs
--- a `./` before it, there is room for it
+-- lengths of relativized paths: there is room for a `./` if the rest below a directory needs one
 room-for-leading-dot-or-not-needed : (s d : List ℕ) (segs ds : List (List ℕ)) (enough : Type 0)
     → has_slash s ≡ false
     → is_empty (s ++ slashed segs) ≡ false → starts 47 (s ++ slashed segs) ≡ false
@@ -139,7 +139,7 @@ room-for-leading-dot-or-not-needed s d segs ds enough free some rootless colon
 room-for-leading-dot-or-not-needed s d segs ds enough free some rootless colon
     (inr (inr (inr h))) e f = h
 
--- relative paths: the segments that are left are a directory (of prefix) and a rest below it
+-- relativized paths: the segments that are left are a directory (of prefix) and a rest below it
 pub segments-left-are-directory-and-rest : (left prefix : List (List ℕ)) (d : List ℕ)
     (ds : List (List ℕ))
     → left ≡ prefix ++ d ∷ ds → slashed left ≡ dir prefix ++ (d ++ slashed ds)
@@ -149,7 +149,7 @@ segments-left-are-directory-and-rest left prefix d ds e =
     ∙ sym (append_assoc (slashed prefix) (47 ∷ []) (d ++ slashed ds))
     ∙ ap (λ t. t ++ (d ++ slashed ds)) (sym (slashed-of-push prefix []))
 
--- relative paths: one that is no longer leads to what is left of segments, which share a prefix
+-- relativized paths: one that is no longer leads to what is left of segments, which share a prefix
 -- with a directory (output)
 parts-are-reached-by-short-path : (output left segs prefix up down : List (List ℕ)) (s : List ℕ)
     (spare : ℕ)
@@ -210,8 +210,8 @@ parts-are-reached-by-short-path output left segs prefix (u ∷ us) (d ∷ ds) s 
           (omega (arith, n, m, cost));
     }
 
--- relative paths: one that is no longer leads from a directory
--- (output) to what is left of it and the segments
+-- relativized paths: one that is no longer leads from a directory (output) to what is left of it
+-- and the segments
 segments-are-reached-by-short-path : (output segs : List (List ℕ)) (s : List ℕ)
     → has_slash s ≡ false
     → is_empty (s ++ slashed segs) ≡ false → starts 47 (s ++ slashed segs) ≡ false
@@ -224,8 +224,8 @@ segments-are-reached-by-short-path output segs s free some rootless colon =
     w.spare free some
     rootless colon w.output_is w.left_is w.few w.some w.why w.cost w.first
 
--- relative paths: removing dot segments after a directory (output)
--- leaves what its segments and the path's leave
+-- relativized paths: removing dot segments after a directory (output) leaves what its segments and
+-- the path's leave
 removal-after-directory-leaves-segments : (output segs : List (List ℕ)) (s : List ℕ)
     → AllPass is_dotless output
     → NoSlashes output → NoSlashes (s ∷ segs)
@@ -238,7 +238,7 @@ removal-after-directory-leaves-segments output segs s dotless lack lacks =
     ∙ ap (λ o. steps o (s ∷ segs) ++ closing (s ∷ segs))
     (steps-of-dotless-append-all [] output dotless))
 
--- relative paths: one that is no longer leads from a directory (output) to where a path x leads
+-- relativized paths: one that is no longer leads from a directory (output) to where a path x leads
 text-by-segments-is-reached-by-short-path : (output segs : List (List ℕ)) (s x : List ℕ)
     → AllPass is_dotless output
     → NoSlashes output → segments x ≡ s ∷ segs → is_empty x ≡ false → starts 47 x ≡ false
@@ -259,15 +259,14 @@ text-by-segments-is-reached-by-short-path output segs s x dotless lack e some ro
     (first-segment-and-rest-lack-slashes s segs lacks).0 (sym (ap is_empty same) ∙ some)
     (sym (ap (starts 47) same) ∙ rootless) (sym (ap has_colon_in_first_segment same) ∙ colon)))
 
--- general fact on lists of segments, for relative paths: some segments have a first
+-- general fact on lists of segments, for relativized paths: some segments have a first
 pub nonempty-segments-have-first : (segs : List (List ℕ)) → is_none segs ≡ false
     → (s : List ℕ) × (rest : List (List ℕ)) × (segs ≡ s ∷ rest)
 unfolding is_none
 nonempty-segments-have-first [] e = absurd (false≢true (sym e))
 nonempty-segments-have-first (s ∷ rest) e = (s, rest, refl)
 
--- relative paths: a path x after a directory (output) can be
--- replaced by a relative path that is no longer
+-- relativized paths: a relative path no longer than x can replace x after a directory (output)
 pub leads : (output : List (List ℕ)) (x : List ℕ) → AllPass is_dotless output → NoSlashes output
     → is_empty x ≡ false → starts 47 x ≡ false → has_colon_in_first_segment x ≡ false
     → IsReachedByShortPath output x (remove_dot_segments (dir output ++ x))

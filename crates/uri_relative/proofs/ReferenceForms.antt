@@ -16,7 +16,7 @@ use Rattle.uri_relative.specs.Relative.{joined_path}
 use Rattle.uri_relative.specs.Shortest.{IsReferenceFrom}
 use Rattle.uri_relative.proofs.Shrinking.{target-is-no-longer-with-final-path, length-of-recompose}
 
--- forms of references: one (o) with a scheme is no shorter than the target t
+-- forms of references, for relativizing: one (o) with a scheme is no shorter than the target t
 pub reference-with-scheme-is-no-shorter : (kind : Kind) (b t o : Components)
     → IsReferenceFrom kind b t o
     → is_some o.scheme ≡ true
@@ -29,14 +29,15 @@ reference-with-scheme-is-no-shorter kind b t o l e =
       ap (λ c. length (recompose c)) (sym l.leads ∙ ap with_final_path j),
     )
 
--- what holds of a reference with an authority and no scheme that leads to the target
+-- forms of references, for relativizing: what holds of one (o) with an authority and no scheme that
+-- leads to t
 pub record ByAuthority (b t o : Components) : Type 0 where
   pub scheme : b.scheme ≡ t.scheme
   pub authority : o.authority ≡ t.authority
   pub short : length (recompose t) ≤ length (marked [] t.scheme (codes ":")) + length (recompose o)
 
--- forms of references: one (o) with an authority and no scheme has the target's authority, and is
--- shorter by the scheme at most
+-- forms of references, for relativizing: one (o) with an authority and no scheme has the target's
+-- authority, and is shorter by the scheme at most
 reference-with-authority-lacks-only-scheme : (kind : Kind) (b t o : Components)
     → IsReferenceFrom kind b t o
     → is_some o.scheme ≡ false → is_some o.authority ≡ true → ByAuthority b t o
@@ -57,7 +58,8 @@ reference-with-authority-lacks-only-scheme kind b t o l none some =
       );
     }
 
--- what holds of a reference without scheme and authority that leads to the target
+-- forms of references, for relativizing: what holds of one (o) without scheme and authority that
+-- leads to t
 pub record IsPathForm (b t o : Components) : Type 0 where
   pub scheme : b.scheme ≡ t.scheme
   pub authority : b.authority ≡ t.authority
@@ -65,8 +67,8 @@ pub record IsPathForm (b t o : Components) : Type 0 where
   pub query : cond (is_empty o.path) (query_or b.query o.query) o.query ≡ t.query
   pub fragment : o.fragment ≡ t.fragment
 
--- resolving: components of a case are those of each field by the case; empty, rooted: whether the
--- reference's path is empty, begins with `/`
+-- relativized references, resolved: components of a case are those of each field by the case;
+-- empty, rooted: whether the reference's path is empty, begins with `/`
 components-joined-field-by-field : (b : Components) (empty rooted : Bool) (p m : List ℕ)
     (q r f : Option (List ℕ))
     → cond empty (let c : Components = record b { query = q; fragment = f } in c)
@@ -81,8 +83,8 @@ components-joined-field-by-field b true rooted p m q r f = refl
 components-joined-field-by-field b false true p m q r f = refl
 components-joined-field-by-field b false false p m q r f = refl
 
--- forms of references: one (o) without a scheme and an authority
--- leads to t by its path, query and fragment
+-- forms of references, for relativizing: one (o) without a scheme and an authority leads to t by
+-- its path, query and fragment
 pub reference-without-authority-is-path-form : (b t o : Components) → target_of b o ≡ t
     → is_some o.scheme ≡ false
     → is_some o.authority ≡ false → IsPathForm b t o
@@ -106,7 +108,7 @@ reference-without-authority-is-path-form b t o leads none none' =
       fragment = ap (λ (d : Components). d.fragment) same;
     }
 
--- forms of references: one (o) has a scheme, or an authority alone, or neither
+-- forms of references, for relativizing: one (o) has a scheme, or an authority alone, or neither
 pub reference-is-of-one-form : (kind : Kind) (b t o : Components) (P : Type 0)
     → IsReferenceFrom kind b t o
     → (is_some o.scheme ≡ true → P)
@@ -120,27 +122,28 @@ reference-is-of-one-form kind b t o P l scheme authority path = ⊎_elim
     (cases_Bool (is_some o.authority)))
     (cases_Bool (is_some o.scheme))
 
--- lengths of references: the text after a path is its query and fragment with their delimiters
+-- lengths of relativized references: the text after a path is its query and fragment with their
+-- delimiters
 pub length-of-query-and-fragment : (c : Components) → length (after_path c)
     ≡ length (marked (codes "?") c.query []) + length (marked (codes "#") c.fragment [])
 length-of-query-and-fragment c = length-append (marked (codes "?") c.query [])
     (marked (codes "#") c.fragment [])
 
--- the text after the path is the target's, or the target has the base's query
+-- forms of references, for relativizing: one (o) has the query and the fragment of the target t
 pub record HasEnd (t o : Components) : Type 0 where
   pub query : o.query ≡ t.query
   pub fragment : o.fragment ≡ t.fragment
 
--- forms of references: target and reference with the same query
--- and fragment have as long a text after the path
+-- forms of references, for relativizing: target and reference with the same query and fragment have
+-- as long a text after the path
 pub equal-ends-have-equal-length : (t o : Components) → HasEnd t o → length (after_path t)
     ≡ length (after_path o)
 equal-ends-have-equal-length t o h =
     ap (λ q. length (marked (codes "?") q [] ++ marked (codes "#") t.fragment [])) (sym h.query)
     ∙ ap (λ f. length (marked (codes "?") o.query [] ++ marked (codes "#") f [])) (sym h.fragment)
 
--- forms of references: one (o) without a scheme and an authority has the target's query and
--- fragment, or takes the base's query
+-- forms of references, for relativizing: one (o) without a scheme and an authority has the target's
+-- query and fragment, or takes the base's query
 pub path-form-has-end-or-inherits-query : (b t o : Components) → IsPathForm b t o → (P : Type 0)
     → (is_empty o.path ≡ true → is_some o.query ≡ false → b.query ≡ t.query → P)
     → (is_empty o.path ≡ true → is_some o.query ≡ true → HasEnd t o → P)

@@ -14,7 +14,7 @@ use Rattle.uri_ops.specs.Resolving.{with_final_path}
 use Rattle.uri_ops.proofs.Paths.MergedPaths.{merged-path-is-absolute}
 use Rattle.uri_relative.specs.Relative.{IsPathTo, joined_path}
 
--- general fact on records: components are equal if each is
+-- general fact on records, for relativized references: components are equal if each is
 equal-parts-make-equal-components : (c d : Components) → c.scheme ≡ d.scheme → c.authority
     ≡ d.authority
     → c.path ≡ d.path → c.query ≡ d.query → c.fragment ≡ d.fragment → c ≡ d
@@ -27,7 +27,7 @@ equal-parts-make-equal-components c d s a p q f =
     let by_f : Option (List ℕ) → Components = λ x. record d { fragment = x } in
     ap by_s s ∙ ap by_a a ∙ ap by_p p ∙ ap by_q q ∙ ap by_f f
 
--- references to a target: the path of the target is that of base and reference joined, without dot
+-- relativized references: the path of the target is that of base and reference joined, without dot
 -- segments and guarded; a: the authority
 joined-path-is-target-path : (a : Option (List ℕ)) (base way joins path whole : List ℕ)
     → IsPathTo base path way → joined_path base way ≡ joins → starts slash joins ≡ true
@@ -35,7 +35,7 @@ joined-path-is-target-path : (a : Option (List ℕ)) (base way joins path whole 
 joined-path-is-target-path a base way joins path whole w e rooted g =
     ap (guarded a) (cond-true _ _ _ rooted ∙ ap remove_dot_segments (sym e) ∙ w.leads) ∙ g
 
--- references to a target: a reference that is a path (way) alone leads to the target t, if base b
+-- relativized references: a reference that is a path (way) alone leads to the target t, if base b
 -- and target have the same scheme and authority
 pub target_of-path-form : (b t : Components) (path way : List ℕ) → b.scheme ≡ t.scheme
     → b.authority ≡ t.authority → IsAbemptyPath b.path → guarded t.authority path ≡ t.path
@@ -59,7 +59,7 @@ target_of-path-form b t path way s a rooted g w =
     (eq_true_from_IsTrue _ (merged-path-is-absolute b.path way rooted)) whole) refl refl)
     (cases_Bool (starts slash way))
 
--- references to a target: one that begins with `//` leads to a target with an authority
+-- relativized references: one that begins with `//` leads to a target with an authority
 pub target_of-authority-form : (b t : Components) → b.scheme ≡ t.scheme → is_some t.authority ≡ true
     → with_final_path t ≡ t → target_of b (record t { scheme = None }) ≡ t
 target_of-authority-form b t s some done =
@@ -69,7 +69,7 @@ target_of-authority-form b t s some done =
     let by_s : Option (List ℕ) → Components = λ x. record t { scheme = x } in
     ap with_final_path j ∙ ap with_final_path (ap by_s s) ∙ done
 
--- references to a target: one of a fragment alone, or empty, leads to a target that differs from
+-- relativized references: one of a fragment alone, or empty, leads to a target that differs from
 -- the base in the fragment only
 pub target_of-fragment-form : (b t : Components) → b.scheme ≡ t.scheme → b.authority ≡ t.authority
     → b.path ≡ t.path → b.query ≡ t.query → with_final_path t ≡ t
@@ -78,8 +78,8 @@ target_of-fragment-form b t s a p q done =
     let c : Components = record b { fragment = t.fragment } in
     ap with_final_path (equal-parts-make-equal-components c t s a p q refl) ∙ done
 
--- references to a target: one that begins with `?` leads to a
--- target with a query and the base's path
+-- relativized references: one that begins with `?` leads to a target with a query and the base's
+-- path
 pub target_of-query-form : (b t : Components) → b.scheme ≡ t.scheme → b.authority ≡ t.authority
     → b.path ≡ t.path → is_some t.query ≡ true → with_final_path t ≡ t
     → target_of b (record t { scheme = None; authority = None; path = [] }) ≡ t
@@ -89,13 +89,13 @@ target_of-query-form b t s a p some done =
     (cond-true _ _ _ some) refl)
     ∙ done
 
--- references to a target: the whole target leads to itself
+-- relativized references: the whole target leads to itself
 pub target_of-whole-target : (b t : Components) → is_some t.scheme ≡ true → with_final_path t ≡ t
     → target_of b t ≡ t
 target_of-whole-target b t some done =
     let j : dotted_target b t ≡ t = cond-true _ _ _ some in ap with_final_path j ∙ done
 
--- references to a target: one that is a path that leads to the target doesn't underflow
+-- relativized references: one that is a path that leads to the target doesn't underflow
 pub path-form-does-not-underflow : (b t : Components) (path way : List ℕ) → IsAbemptyPath b.path
     → IsPathTo b.path path way
     → target_underflows b (record t { scheme = None; authority = None; path = way }) ≡ false

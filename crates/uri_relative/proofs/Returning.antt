@@ -12,8 +12,8 @@ use Rattle.uri_ops.proofs.Targeting.Targets.{target-text-has-target-components}
 use Rattle.uri_relative.specs.Leading.{LeadsTo, without_fragment, settled}
 use Rattle.uri_relative.proofs.Settled.{final-path-is-idempotent}
 
--- references to a target: where base and reference resolve, the base has no fragment;
--- fragment, opaque: whether it has one, is opaque
+-- relativized references: where base and reference resolve, the base has no fragment; fragment,
+-- opaque: whether it has one, is opaque
 outcome-without-error-has-no-fragment : (fragment opaque : Bool) (x y : List ℕ)
     → result_or_target_error fragment opaque x ≡ Ok y
     → fragment ≡ false
@@ -21,13 +21,13 @@ unfolding result_or_target_error
 outcome-without-error-has-no-fragment true opaque x y e = cc
 outcome-without-error-has-no-fragment false opaque x y e = refl
 
--- references to a target: components without a fragment stay when it is left out
+-- relativized references: components without a fragment stay when it is left out
 components-without-fragment-stay : (c : Components) → c.fragment ≡ None → without_fragment c ≡ c
 components-without-fragment-stay c e = ap (λ f. let b : Components = record c { fragment = f } in b)
     (sym e)
 
--- references to a target: where base and reference resolve, the base has no fragment,
--- and the result is their target
+-- relativized references: where base and reference resolve, the base has no fragment, and the
+-- result is their target
 outcome-is-target-of-base-without-fragment : (base reference target : List ℕ)
     → resolution_of_texts base reference ≡ Ok target
     → (is_some (components base).fragment ≡ false)
@@ -44,7 +44,7 @@ outcome-is-target-of-base-without-fragment base reference target e =
           e).1,
     )
 
--- references to a target: a target that was resolved has no dot segments left to remove
+-- relativized references: a target that was resolved has no dot segments left to remove
 pub resolved-target-is-settled : (base reference target : List ℕ) → is_some (components base).scheme
     ≡ true
     → resolution_of_texts base reference ≡ Ok target → recompose (settled target) ≡ target
@@ -57,7 +57,7 @@ resolved-target-is-settled base reference target some e =
     ap (λ c. recompose (with_final_path c)) parts
     ∙ ap recompose (final-path-is-idempotent (dotted_target b r)) ∙ same
 
--- references to a target: if it was resolved, each reference that leads to it resolves to it again
+-- relativized references: each that leads to a target that was resolved resolves to it again
 pub reference-leads-back-to-resolved-target : (base reference target short : List ℕ)
     → is_some (components base).scheme ≡ true → resolution_of_texts base reference ≡ Ok target
     → LeadsTo base target short → resolution_of_texts base short ≡ Ok target

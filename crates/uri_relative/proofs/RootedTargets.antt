@@ -17,40 +17,40 @@ use Rattle.uri_relative.specs.Forms.{NeedsPath}
 use Rattle.uri_relative.specs.Leading.{is_rootless, has_emptied_path, needs_authority}
 use Rattle.uri_relative.proofs.Forms.{IsDotlessTargetOf, or-holds-if-first-does}
 
--- targets: a path that may be after an authority, and does not begin with `/`, is empty
+-- targets to relativize: a path after an authority that does not begin with `/` is empty
 abempty-path-without-slash-is-empty : (path : List ℕ) → IsAbemptyPath path → starts slash path
     ≡ false → path ≡ []
 abempty-path-without-slash-is-empty path (inl e) h = e
 abempty-path-without-slash-is-empty path (inr e) h = absurd
     (both_ways _ h (eq_true_from_IsTrue _ e))
 
--- general fact on texts, for paths of targets
+-- general fact on texts, for paths of targets to relativize: a text that is found empty is empty
 empty-test-means-empty-text : (path : List ℕ) → is_empty path ≡ true → path ≡ []
 empty-test-means-empty-text [] e = refl
 empty-test-means-empty-text (c ∷ path) e = absurd (false≢true e)
 
--- references to a target: if the target has no query, and another than the base, the base has one
+-- targets to relativize: if the target has no query, and another than the base, the base has one
 base-has-query-that-target-lacks : (base t : Option (List ℕ)) → is_none t ≡ true → base ≢ t
     → is_some base ≡ true
 base-has-query-that-target-lacks None None e other = absurd (other refl)
 base-has-query-that-target-lacks None (Some q) e other = absurd (false≢true e)
 base-has-query-that-target-lacks (Some p) t e other = refl
 
--- references to a target: one without authority and a leading
--- `/` needs a reference with a scheme or an authority
+-- targets to relativize: one without authority and a leading `/` needs a reference with a scheme or
+-- an authority
 rootless-path-without-authority-needs-one : (base t : Components) → is_some t.authority ≡ false
     → starts slash t.path ≡ false → needs_authority base t ≡ true
 rootless-path-without-authority-needs-one base t none e =
     or-holds-if-first-does (is_rootless t) _ (and_from _ _ (not_some_is_none t.authority none)
     (not_from_false _ e))
 
--- general fact on booleans, for targets
+-- general fact on booleans, for targets to relativize: or holds if the second does
 or-holds-if-second-does : (a b : Bool) → b ≡ true → (a || b) ≡ true
 or-holds-if-second-does true b e = refl
 or-holds-if-second-does false b e = e
 
--- references to a target: one with an empty path, if the base has another,
--- needs a reference with a scheme or an authority
+-- targets to relativize: one with an empty path, if the base has another, needs a reference with a
+-- scheme or an authority
 empty-path-after-authority-needs-authority : (base t : Components) → NeedsPath base t
     → base.authority ≡ t.authority
     → is_opaque base ≡ false → is_some t.authority ≡ true → t.path ≡ []
@@ -68,14 +68,14 @@ empty-path-after-authority-needs-authority base t n a opaque some e =
     (and_from _ _ (and_from _ _ some none) (not_from_false _ h)))
     (cases_Bool (is_empty base.path)))
 
--- targets: the path after an authority (a) is empty or begins with `/`
+-- targets to relativize: the path after an authority (a) is empty or begins with `/`
 path-after-authority-is-abempty : (a : Option (List ℕ)) (path : List ℕ) → is_some a ≡ true
     → IfSome a (λ x. Lacks (codes "/?#") x × IsAbemptyPath path) → IsAbemptyPath path
 path-after-authority-is-abempty None path e h = absurd (false≢true e)
 path-after-authority-is-abempty (Some a) path e h = h.1
 
--- references to a target: one without a leading `/` in its path
--- needs a reference with a scheme or an authority
+-- targets to relativize: one without a leading `/` in its path needs a reference with a scheme or
+-- an authority
 pub rootless-target-needs-authority : (kind : Kind) (base t : Components) → IsDotlessTargetOf kind t
     → NeedsPath base t
     → base.authority ≡ t.authority → is_opaque base ≡ false → starts slash t.path ≡ false
@@ -87,7 +87,7 @@ rootless-target-needs-authority kind base t w n a opaque e = ⊎_elim
     (λ none. rootless-path-without-authority-needs-one base t none e)
     (cases_Bool (is_some t.authority))
 
--- references to a target: the path of a base that is not opaque is empty or begins with `/`
+-- relativized references: the path of a base that is not opaque is empty or begins with `/`
 pub base-that-is-not-opaque-is-rooted : (text : List ℕ) → is_opaque (components text) ≡ false
     → IsAbemptyPath (components text).path
 base-that-is-not-opaque-is-rooted text e =

@@ -28,15 +28,15 @@ use Rattle.uri_relative.proofs.Climbs.{remove_dot_segments-follows-dots}
 use Rattle.uri_relative.proofs.SharedLengths.{longest-shared-prefix-has-shared_directory_len}
 use Rattle.uri_relative.proofs.Ways.{guard-counts-as-no-segment}
 
--- references to a target: the path from the root is chosen for a base with dot segments
+-- relativized references: the path from the root is chosen for a base with dot segments
 pub path-from-root-for-base-with-dots : (prefers : Bool) (base path : List ℕ)
     → lacks_dot_segments base ≡ false
     → guarded None path ≡ shortest_or_preferred_path prefers base path
 unfolding shortest_or_preferred_path
 path-from-root-for-base-with-dots prefers base path e = sym (cond-false _ _ _ (and_left _ _ e))
 
--- references to a target: the path from the root is chosen where it is shorter,
--- unless a relative one is preferred
+-- relativized references: the path from the root is chosen where it is shorter, unless a relative
+-- one is preferred
 pub path-from-root-if-shorter : (prefers : Bool) (base path : List ℕ) → prefers ≡ false
     → length (guarded None path) < length (path_from_base base path)
     → guarded None path ≡ shortest_or_preferred_path prefers base path
@@ -44,7 +44,7 @@ unfolding shortest_or_preferred_path
 path-from-root-if-shorter prefers base path e h =
     sym (cond-false _ _ _ (and_right _ _ (or_from prefers _ e (lt-leb _ _ h))))
 
--- references to a target: the relative path is chosen where it is no longer, or preferred
+-- relativized references: the relative path is chosen where it is no longer, or preferred
 pub relative-path-if-no-longer : (prefers : Bool) (base path : List ℕ) → lacks_dot_segments base
     ≡ true
     → (prefers ≡ false → length (path_from_base base path) ≤ length (guarded None path))
@@ -54,8 +54,8 @@ relative-path-if-no-longer prefers base path dotless h =
     sym (cond-true _ _ _ (and_from _ _ dotless (⊎_elim (λ e. or_left prefers _ e)
     (λ e. or_right prefers _ (le-leb _ _ (h e))) (cases_Bool prefers))))
 
--- references to a target: the path that is relative to the base's,
--- by the shared prefix that the code finds
+-- relativized references: the path that is relative to the base's, by the shared prefix that the
+-- code finds
 pub relative-path-by-longest-prefix : (given base path bytes others rest : List ℕ)
     (last double_dots : ℕ)
     → base ≡ or_slash given → bytes ≡ base → others ≡ path → last < length bytes
@@ -72,7 +72,7 @@ relative-path-by-longest-prefix given base path bytes others rest last double_do
     ∙ ap (λ t. shared_directory_len t others) e ∙ ap (shared_directory_len base) f)
     ∙ ap (λ b. relative_from (shared_directory_len b path) b path) root
 
--- targets: a path without its guard is the target's path without dot segments
+-- targets to relativize: a path without its guard is the target's path without dot segments
 pub unguarded-path-is-without-dots : (t : Components) (path : List ℕ) → IsUnguarded t path
     → path ≡ remove_dot_segments t.path
 unguarded-path-is-without-dots t path u =
@@ -84,7 +84,7 @@ unguarded-path-is-without-dots t path u =
     u.absolute ∙ dotless) (λ _. dotless) in
     sym clean ∙ ap remove_dot_segments u.guards
 
--- references to a target: comparing two components decides whether they are equal
+-- relativized references: comparing two components decides whether they are equal
 option-test-decides-equality : (p q : Option (List ℕ)) → Decides (option_eq bytes_eq p q) (p ≡ q)
 option-test-decides-equality None None = (λ _. refl, λ _. refl)
 option-test-decides-equality None (Some b) = (λ e. cc, λ e. cc)
@@ -92,7 +92,8 @@ option-test-decides-equality (Some a) None = (λ e. cc, λ e. cc)
 option-test-decides-equality (Some a) (Some b) = Decides-like _ (ap Some) (λ e. cc)
     (bytes_eq-Decides a b)
 
--- general fact on booleans, for the choice of a reference: a test of what is refuted fails
+-- general fact on booleans, for the choice of a reference, in relativizing, in relativizing, in
+-- relativizing, in relativizing: a test of what is refuted fails
 refuted-test-is-false : (b : Bool) (P : Type 0) → Decides b P → (P → ⊥) → b ≡ false
 refuted-test-is-false b P d other = false_from_ne_true b (λ e. other (d.0 e))
 

@@ -25,31 +25,33 @@ use Rattle.uri_relative.specs.Forms.{IsUnguarded, is_guarded}
 use Rattle.uri_relative.proofs.Climbs.{underflows-follows-dots}
 use Rattle.uri_relative.proofs.Ways.{guard-counts-as-no-segment, rootless-path-has-no-authority}
 
--- general fact on booleans, for targets
+-- general fact on booleans, for targets to relativize: and with false is false
 pub and-false-is-false : (b : Bool) → (b && false) ≡ false
 and-false-is-false true = refl
 and-false-is-false false = refl
 
--- a path that is cleaned and guarded stays as it is
+-- targets to relativize: the path without dot segments and guarded; a: the authority
 abbrev finish : Option (List ℕ) → List ℕ → List ℕ
 finish a p = guarded a (dotless_if_absolute p)
 
--- targets: removing dot segments and guarding the path, twice, is doing so once; a: the authority
+-- targets to relativize: removing dot segments and guarding the path, twice, is doing so once; a:
+-- the authority
 finish-is-idempotent : (a : Option (List ℕ)) (path : List ℕ) → finish a (finish a path)
     ≡ finish a path
 finish-is-idempotent a path =
     ap (guarded a) (guard-is-removed-as-dot-segment a (dotless_if_absolute path)
     ∙ dotless_if_absolute-is-idempotent path)
 
--- targets: removing dot segments from a target's path, and guarding it, twice is doing so once
+-- targets to relativize: removing dot segments from a target's path, and guarding it, twice is
+-- doing so once
 pub final-path-is-idempotent : (t : Components) → with_final_path (with_final_path t)
     ≡ with_final_path t
 final-path-is-idempotent t =
     let g : List ℕ → Components = λ p. record t { path = p } in
     ap g (finish-is-idempotent t.authority t.path)
 
--- targets: a path that doesn't begin with `/` keeps its dot
--- segments and gets no guard; a: the authority
+-- targets to relativize: a path that doesn't begin with `/` keeps its dot segments and gets no
+-- guard; a: the authority
 pub finish-keeps-rootless-path : (a : Option (List ℕ)) (path : List ℕ) → starts slash path ≡ false
     → finish a path ≡ path
 finish-keeps-rootless-path a path e =
@@ -57,7 +59,7 @@ finish-keeps-rootless-path a path e =
     ∙ cond-false _ _ _ (ap (λ b. is_none a && b) (rootless-path-has-no-authority path e)
     ∙ and-false-is-false (is_none a))
 
--- targets: nothing is left to remove of a path without dot segments that is guarded
+-- targets to relativize: nothing is left to remove of a path without dot segments that is guarded
 guarded-path-does-not-underflow : (path : List ℕ) (guard : Bool) → IsAbsolute path
     → underflows path ≡ false
     → underflows_if_absolute (cond guard (codes "/." ++ path) path) ≡ false
@@ -66,7 +68,7 @@ guarded-path-does-not-underflow path true h e = guard-counts-as-no-segment under
 guarded-path-does-not-underflow path false h e = ap (λ u. starts slash path && u) e
     ∙ and-false-is-false (starts slash path)
 
--- targets: an absolute path without dot segments, guarded, does not underflow; a: the authority
+-- targets to relativize: an absolute path without dot segments, guarded, does not underflow
 finished-absolute-path-does-not-underflow : (a : Option (List ℕ)) (path : List ℕ) → IsAbsolute path
     → underflows_if_absolute (finish a path) ≡ false
 finished-absolute-path-does-not-underflow a path h =
@@ -78,7 +80,7 @@ finished-absolute-path-does-not-underflow a path h =
     (dotless-path-does-not-underflow q (removing-dots-keeps-absolute path h)
     (removing-dots-leaves-no-dot-segment path h))
 
--- targets: a path without dot segments, guarded, does not underflow; a: the authority
+-- targets to relativize: a path without dot segments, guarded, does not underflow; a: the authority
 finished-path-does-not-underflow : (a : Option (List ℕ)) (path : List ℕ)
     → underflows_if_absolute (finish a path) ≡ false
 finished-path-does-not-underflow a path = ⊎_elim
@@ -86,22 +88,22 @@ finished-path-does-not-underflow a path = ⊎_elim
     (λ e. ap underflows_if_absolute (finish-keeps-rootless-path a path e)
     ∙ ap (λ b. b && underflows path) e) (cases_Bool (starts slash path))
 
--- targets: one without removable dot segments has no underflow
+-- targets to relativize: one without removable dot segments has no underflow
 pub settled-target-does-not-underflow : (t : Components) → with_final_path t ≡ t
     → underflows_if_absolute t.path ≡ false
 settled-target-does-not-underflow t done =
     ap (λ (c : Components). underflows_if_absolute c.path) (sym done)
     ∙ finished-path-does-not-underflow t.authority t.path
 
--- targets: a path after an authority, or without `//` at its start,
--- needs no guard; a: the authority
+-- targets to relativize: a path after an authority, or without `//` at its start, needs no guard;
+-- a: the authority
 path-without-slashes-needs-no-guard : (a : Option (List ℕ)) (path : List ℕ)
     → IfNone a (has_authority path ≡ false)
     → guarded a path ≡ path
 path-without-slashes-needs-no-guard None path e = cond-false _ _ _ e
 path-without-slashes-needs-no-guard (Some a) path e = refl
 
--- targets: an absolute path without dot segments stays; a: the authority
+-- targets to relativize: an absolute path without dot segments stays; a: the authority
 finish-keeps-dotless-path : (a : Option (List ℕ)) (path : List ℕ)
     → IfNone a (has_authority path ≡ false)
     → IsAbsolute path → lacks_dot_segments path ≡ true → finish a path ≡ path
@@ -110,32 +112,32 @@ finish-keeps-dotless-path a path none absolute dotless =
     ∙ remove-dots-of-dotless path absolute dotless)
     ∙ path-without-slashes-needs-no-guard a path none
 
--- targets: if the path stays when dot segments are removed, so does the target
+-- targets to relativize: if the path stays when dot segments are removed, so does the target
 target-with-finished-path-is-settled : (t : Components) → finish t.authority t.path ≡ t.path
     → with_final_path t ≡ t
 target-with-finished-path-is-settled t e = let g : List ℕ
     → Components = λ p. record t { path = p } in ap g e
 
--- targets: one with an absolute path without dot segments has none to remove
+-- targets to relativize: one with an absolute path without dot segments has none to remove
 pub dotless-target-is-settled : (t : Components) → IfNone t.authority (has_authority t.path ≡ false)
     → IsAbsolute t.path → lacks_dot_segments t.path ≡ true → with_final_path t ≡ t
 dotless-target-is-settled t none absolute dotless = target-with-finished-path-is-settled t
     (finish-keeps-dotless-path t.authority t.path none absolute dotless)
 
--- targets: one with a path that does not begin with `/` has no dot segments to remove
+-- targets to relativize: one with a path that does not begin with `/` has no dot segments to remove
 pub rootless-target-is-settled : (t : Components) → starts slash t.path ≡ false
     → with_final_path t ≡ t
 rootless-target-is-settled t e = target-with-finished-path-is-settled t
     (finish-keeps-rootless-path t.authority t.path e)
 
--- targets: a path with its guard put back is the target's path
+-- targets to relativize: a path with its guard put back is the target's path
 guarded-dotless-path-is-the-path : (t : Components) → IsAbsolute t.path → with_final_path t ≡ t
     → guarded t.authority (remove_dot_segments t.path) ≡ t.path
 guarded-dotless-path-is-the-path t h done =
     ap (guarded t.authority) (sym (cond-true _ _ _ (eq_true_from_IsTrue _ h)))
     ∙ ap (λ (c : Components). c.path) done
 
--- targets: a path without dot segments, and without need of a guard, has none to leave out
+-- targets to relativize: a path without dot segments that needs no guard has none to leave out
 path-without-dots-is-unguarded : (t : Components) → IsAbsolute t.path → remove_dot_segments t.path
     ≡ t.path
     → guarded t.authority t.path ≡ t.path → IsUnguarded t t.path
@@ -146,13 +148,13 @@ path-without-dots-is-unguarded t h e guards = record {
   guards = guards;
 }
 
--- targets: a path after an authority gets no guard `/.`; a: the authority
+-- targets to relativize: a path after an authority gets no guard `/.`; a: the authority
 path-after-authority-gets-no-guard : (a : Option (List ℕ)) (path : List ℕ) → is_some a ≡ true
     → guarded a path ≡ path
 path-after-authority-gets-no-guard None path e = absurd (false≢true e)
 path-after-authority-gets-no-guard (Some a) path e = refl
 
--- targets: the path after an authority has no guard `/.` to leave out
+-- targets to relativize: the path after an authority has no guard `/.` to leave out
 pub path-after-authority-is-unguarded : (t : Components) → is_some t.authority ≡ true
     → IsAbsolute t.path
     → with_final_path t ≡ t → IsUnguarded t t.path
@@ -163,17 +165,17 @@ path-after-authority-is-unguarded t some h done =
     path-without-dots-is-unguarded t h e
     (path-after-authority-gets-no-guard t.authority t.path some)
 
--- targets: without an authority, a path is guarded as it is for None; a: the authority
+-- targets to relativize: without an authority (a), a path is guarded as it is for None
 guard-is-that-without-authority : (a : Option (List ℕ)) (path : List ℕ) → is_some a ≡ false
     → guarded a path ≡ guarded None path
 guard-is-that-without-authority None path e = refl
 guard-is-that-without-authority (Some a) path e = absurd (false≢true (sym e))
 
--- targets: the guard `/.` at the start of a path is a dot segment
+-- targets to relativize: the guard `/.` at the start of a path is a dot segment
 guard-is-dot-segment : (rest : List ℕ) → lacks_dot_segments (codes "/." ++ 47 ∷ rest) ≡ false
 guard-is-dot-segment rest = refl
 
--- targets: the guard `/.` is a dot segment
+-- targets to relativize: the guard `/.` is a dot segment
 guarded-path-has-dot-segment : (rest : List ℕ) → has_authority rest ≡ true
     → lacks_dot_segments (codes "/." ++ rest) ≡ false
 guarded-path-has-dot-segment rest e =
@@ -182,7 +184,7 @@ guarded-path-has-dot-segment rest e =
     (equal-to-true-is-IsTrue _ (two-slashes-begin-with-slash rest e)))
     ∙ guard-is-dot-segment (drop 1 rest)
 
--- targets: without an authority, the path with the guard `/.` is that of the rest
+-- targets to relativize: without an authority, the path with the guard `/.` is that of the rest
 path-after-guard-is-unguarded : (t : Components) (rest : List ℕ) → is_some t.authority ≡ false
     → IsAbsolute t.path → with_final_path t ≡ t → t.path ≡ codes "/." ++ rest
     → has_authority rest ≡ true → IsUnguarded t rest
@@ -204,8 +206,8 @@ path-after-guard-is-unguarded t rest none h done whole double =
       guards = ap (guarded t.authority) (sym same) ∙ guarded-dotless-path-is-the-path t h done;
     }
 
--- targets: without an authority, a path that does not begin with
--- the guard `/.` has none to leave out
+-- targets to relativize: without an authority, a path that does not begin with the guard `/.` has
+-- none to leave out
 path-without-guard-is-itself-unguarded : (t : Components) → is_some t.authority ≡ false
     → IsAbsolute t.path
     → with_final_path t ≡ t
@@ -223,7 +225,7 @@ path-without-guard-is-itself-unguarded t none h done other =
     path-without-dots-is-unguarded t h same (ap (guarded t.authority) (sym same)
     ∙ guarded-dotless-path-is-the-path t h done)
 
--- targets: a path that begins with `/.//` is a guard and a path that begins with `//`
+-- targets to relativize: a path that begins with `/.//` is a guard and a path that begins with `//`
 guarded-path-is-guard-and-path : (path : List ℕ) → is_guarded path ≡ true
     → (path ≡ codes "/." ++ drop 2 path) × (has_authority (drop 2 path) ≡ true)
 guarded-path-is-guard-and-path [] e = absurd (false≢true e)
@@ -238,14 +240,14 @@ guarded-path-is-guard-and-path (a ∷ b ∷ rest) e =
       and_from _ _ q.1 p.1,
     )
 
--- targets: `/.` before `//` is a guard
+-- targets to relativize: `/.` before `//` is a guard
 guard-before-slashes-is-guarded : (rest : List ℕ) → has_authority rest ≡ true
     → is_guarded (codes "/." ++ rest) ≡ true
 guard-before-slashes-is-guarded rest e =
     let p = and_parts (eqb (get_or rest 0 0) 47) (eqb (get_or rest 1 0) 47) e in
     and_from _ _ (and_from true _ refl p.0) p.1
 
--- targets: without an authority, a path with the guard `/.` is the rest without it
+-- targets to relativize: without an authority, a path with the guard `/.` is the rest without it
 pub path-without-guard-is-unguarded : (t : Components) → is_some t.authority ≡ false
     → IsAbsolute t.path
     → with_final_path t ≡ t → is_guarded t.path ≡ true → IsUnguarded t (drop 2 t.path)
@@ -253,7 +255,8 @@ path-without-guard-is-unguarded t none h done e =
     let g = guarded-path-is-guard-and-path t.path e in
     path-after-guard-is-unguarded t (drop 2 t.path) none h done g.0 g.1
 
--- targets: without an authority, a path that begins with no guard `/.` is its own path without one
+-- targets to relativize: without an authority, a path that begins with no guard `/.` is its own
+-- path without one
 pub path-that-needs-no-guard-is-unguarded : (t : Components) → is_some t.authority ≡ false
     → IsAbsolute t.path
     → with_final_path t ≡ t → is_guarded t.path ≡ false → IsUnguarded t t.path
@@ -262,7 +265,7 @@ path-that-needs-no-guard-is-unguarded t none h done e =
     (λ rest whole. false_from_ne_true _ (λ double.
     both_ways _ e (ap is_guarded whole ∙ guard-before-slashes-is-guarded rest double)))
 
--- targets: a character begins after the guard `/.` of a path
+-- targets to relativize: a character begins after the guard `/.` of a path
 pub guard-ends-at-character : (path : List ℕ) → IsUtf8 path → is_guarded path ≡ true
     → IsCharBoundary path 2
 guard-ends-at-character path utf8 e =

@@ -10,14 +10,14 @@ use Rattle.uri_ops.specs.Dots.{EndsInSlash}
 use Rattle.uri_relative.specs.Relative.{IsLongestPrefix, IsSharedPrefix}
 use Rattle.uri_relative.specs.Rule.{shared_directory_len}
 
--- a prefix of both paths that ends in `/`
+-- relativized paths: base and path share their first n bytes, which end in `/` and are within both
 record IsShared (n : ℕ) (base path : List ℕ) : Type 0 where
   prefix : IsSharedPrefix n base path
   in_base : n ≤ length base
   in_path : n ≤ length path
 
--- relative paths: an equal first byte makes the shared prefix one byte longer,
--- if it ends in `/` (47) still
+-- relativized paths: an equal first byte makes the shared prefix one byte longer, if it ends in `/`
+-- (47) still
 same-first-byte-extends-shared-prefix : (a b : ℕ) (base path : List ℕ) (n : ℕ) → a ≡ b
     → (eqb a 47 || nat_lt 0 n) ≡ true
     → (0 < n → IsShared n base path) → IsShared (suc n) (a ∷ base) (b ∷ path)
@@ -44,7 +44,7 @@ same-first-byte-extends-shared-prefix a b base path (suc n) e k shared =
       in_path = omega (arith, s.in_path);
     }
 
--- relative paths: the prefix of the length `shared_directory_len` is shared and ends in `/`
+-- relativized paths: the prefix of the length `shared_directory_len` is shared and ends in `/`
 shared : (base path : List ℕ) → 0 < shared_directory_len base path
     → IsShared (shared_directory_len base path) base path
 unfolding shared_directory_len
@@ -59,7 +59,7 @@ shared (a ∷ base) (b ∷ path) h =
     (shared base path))
     (λ _ none. absurd (omega (arith, none))) h
 
--- relative paths: a prefix that ends in `/`, without its first byte (a), is empty or ends in `/`
+-- relativized paths: a prefix that ends in `/`, without its first byte (a), is empty or ends in `/`
 prefix-to-slash-without-first-byte : (a : ℕ) (rest prefix : List ℕ) → a ∷ rest ≡ prefix ++ codes "/"
     → ((a ≡ 47) × (rest ≡ [])) ⊎ ((0 < length rest) × EndsInSlash rest)
 prefix-to-slash-without-first-byte a rest [] e = inl (cc, cc)
@@ -67,7 +67,7 @@ prefix-to-slash-without-first-byte a rest (c ∷ prefix) e =
     let same : rest ≡ prefix ++ codes "/" = cc in
     inr (omega (arith, ap length same, length-append prefix (codes "/")), (prefix, same))
 
--- relative paths: a shared prefix that ends in `/` is no longer than `shared_directory_len`
+-- relativized paths: a shared prefix that ends in `/` is no longer than `shared_directory_len`
 shared-prefix-is-within-shared_directory_len : (base path : List ℕ) (m : ℕ) → m ≤ length base
     → IsSharedPrefix m base path
     → m ≤ shared_directory_len base path
@@ -99,7 +99,7 @@ shared-prefix-is-within-shared_directory_len (a ∷ base) (b ∷ path) (suc m) h
     omega (arith, more (or_right _ _ (lt-ltb 0 n (omega (arith, ih, longer.0, len)))), ih))
     (prefix-to-slash-without-first-byte a (take m base) s.closed.0 s.closed.1)
 
--- relative paths: the longest shared prefix that ends in `/` has the length `shared_directory_len`
+-- relativized paths: the longest shared prefix to a `/` has the length `shared_directory_len`
 pub longest-shared-prefix-has-shared_directory_len : (base path : List ℕ) (n : ℕ) → n ≤ length base
     → IsSharedPrefix n base path → IsLongestPrefix n base path → n ≡ shared_directory_len base path
 longest-shared-prefix-has-shared_directory_len base path n h s longest =

@@ -19,9 +19,8 @@ unfoldable pub BeginWithSameSegment : List (List ℕ) → List (List ℕ) → Ty
 BeginWithSameSegment [] down = ⊥
 BeginWithSameSegment (s ∷ segs) down = (tail : List (List ℕ)) × (down ≡ s ∷ tail)
 
--- What segments make of a directory shares a front with it, from which they lead up to the
--- directory's end, or down. They are no shorter than `../` for each step up, and what is down: but
--- for one byte where nothing but the directory is named, since `..` needs no `/` at the end.
+-- relativized paths: segments lead from a directory (output) to what is left of it, which shares a
+-- prefix with it, and are no shorter than `../` for each step up, and the way down
 pub record SharesDirectoryPrefix (output left segs : List (List ℕ)) : Type 0 where
   pub prefix : List (List ℕ)
   pub up : List (List ℕ)
@@ -36,24 +35,24 @@ pub record SharesDirectoryPrefix (output left segs : List (List ℕ)) : Type 0 w
   pub first : (0 < length up) ⊎ ((down ≡ [] ∷ []) ⊎ (BeginWithSameSegment segs down
       ⊎ (3 * length up + length (slashed down) + 2 ≤ length (slashed segs) + spare)))
 
--- dot segments: `.` has a byte at least
+-- relativized paths: `.` has a byte at least
 single-dot-segment-is-nonempty : (s : List ℕ) → is_single_dot s ≡ true → 0 < length s
 single-dot-segment-is-nonempty [] e = absurd (false≢true e)
 single-dot-segment-is-nonempty (c ∷ s) e = omega arith
 
--- relative paths: a single byte is not `..`
+-- relativized paths: a single byte is not `..`
 one-byte-is-no-double-dot : (c : ℕ) → is_double_dot (c ∷ []) ≡ false
 one-byte-is-no-double-dot c = simp and-false-is-false
 
--- relative paths: the segment `..` has two bytes at least
+-- relativized paths: the segment `..` has two bytes at least
 double-dot-segment-has-two-bytes : (s : List ℕ) → is_double_dot s ≡ true → 1 < length s
 double-dot-segment-has-two-bytes [] e = absurd (false≢true e)
 double-dot-segment-has-two-bytes (c ∷ []) e = absurd
     (false≢true (sym (one-byte-is-no-double-dot c) ∙ e))
 double-dot-segment-has-two-bytes (c ∷ d ∷ s) e = omega arith
 
--- relative paths: what the last segment makes of a directory shares a prefix with it;
--- single, double: whether it is `.`, or `..`
+-- relativized paths: what the last segment makes of a directory shares a prefix with it; single,
+-- double: whether it is `.`, or `..`
 last-segment-shares-directory-prefix : (single double : Bool) (s : List ℕ) (output : List (List ℕ))
     → (single ≡ true → 0 < length s) → (double ≡ true → 1 < length s)
     → SharesDirectoryPrefix output (next_output single double output s ++ end_of (single || double))
@@ -132,15 +131,15 @@ last-segment-shares-directory-prefix false false s output one two = record {
   first = inr (inr (inl ([], refl)));
 }
 
--- relative paths: without a segment to go up no byte is spare
+-- relativized paths: without a segment to go up no byte is spare
 no-byte-is-spare-without-climb : (spare : ℕ) (down : List (List ℕ)) → (spare ≡ 0)
     ⊎ ((down ≡ [] ∷ []) × (0 < 0))
     → spare ≡ 0
 no-byte-is-spare-without-climb spare down (inl e) = e
 no-byte-is-spare-without-climb spare down (inr h) = absurd (omega (arith, h.1))
 
--- relative paths: if the rest of a path, after segment s, goes up from s or stays in it, the path
--- shares a prefix with the directory; spare: a byte too many
+-- relativized paths: if the rest of a path, after segment s, goes up from s or stays in it, the
+-- path shares a prefix with the directory; spare: a byte too many
 pushed-segment-shares-directory-prefix : (s : List ℕ)
     (output left segs prefix up down : List (List ℕ)) (spare : ℕ)
     → output ++ s ∷ [] ≡ prefix ++ up → left ≡ prefix ++ down → spare ≤ 1 → 0 < length down
@@ -195,7 +194,7 @@ pushed-segment-shares-directory-prefix s output left segs prefix (u ∷ us) down
           (arith, cost, few, fewer, length-of-first-segment-and-rest s segs))));
     }
 
--- relative paths: whether a byte is spare stays with one more segment to go up
+-- relativized paths: whether a byte is spare stays with one more segment to go up
 spare-byte-stays-with-one-more-climb : (spare : ℕ) (up down : List (List ℕ)) (last : List ℕ)
     → (spare ≡ 0) ⊎ ((down ≡ [] ∷ []) × (0 < length up))
     → (spare ≡ 0) ⊎ ((down ≡ [] ∷ []) × (0 < length (up ++ last ∷ [])))
@@ -203,8 +202,8 @@ spare-byte-stays-with-one-more-climb spare up down last (inl e) = inl e
 spare-byte-stays-with-one-more-climb spare up down last (inr h) =
     inr (h.0, omega (arith, length-append up (last ∷ [])))
 
--- relative paths: what holds of the prefix shared after a segment does so before it;
--- single, double: whether it is `.`, or `..`
+-- relativized paths: what holds of the prefix shared after a segment does so before it; single,
+-- double: whether it is `.`, or `..`
 next-segment-shares-directory-prefix : (single double : Bool) (s : List ℕ)
     (output left segs : List (List ℕ))
     → (single ≡ true → 0 < length s) → (double ≡ true → 1 < length s)
@@ -266,8 +265,8 @@ next-segment-shares-directory-prefix false false s output left segs one two w =
     w.output_is w.left_is w.few
     w.some w.why w.cost
 
--- relative paths: what the segments leave of a directory shares a prefix with it;
--- output: the directory's segments
+-- relativized paths: what the segments leave of a directory shares a prefix with it; output: the
+-- directory's segments
 pub segments-share-directory-prefix : (s : List ℕ) (rest output : List (List ℕ))
     → SharesDirectoryPrefix output (segments_left output (s ∷ rest)) (s ∷ rest)
 unfolding segments_left steps step_of closing

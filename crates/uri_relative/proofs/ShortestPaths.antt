@@ -28,7 +28,7 @@ use Rattle.uri_relative.proofs.Shrinking.{target-path-is-no-longer}
 use Rattle.uri_relative.proofs.ReachedPaths.{segments-left-are-directory-and-rest}
 use Rattle.uri_relative.proofs.ReachedPaths.{nonempty-segments-have-first, leads}
 
--- a shared prefix, by which the relative path is no longer
+-- relativized paths: base and path share a prefix, by which the relative path is no longer than x
 record SharesPrefix (base path x : List ℕ) : Type 0 where
   pub len : ℕ
   pub shared : IsSharedPrefix len base path
@@ -36,7 +36,7 @@ record SharesPrefix (base path x : List ℕ) : Type 0 where
   pub in_path : len ≤ length path
   pub short : length (relative_from len base path) ≤ length x
 
--- relative paths: two paths below the same directory (prefix) share a prefix, from which a short
+-- relativized paths: two paths below the same directory (prefix) share a prefix, from which a short
 -- path leads, if x is no shorter
 joined-directory-is-shared-prefix : (prefix : List (List ℕ)) (base path below rest x : List ℕ)
     (n : ℕ)
@@ -64,8 +64,8 @@ joined-directory-is-shared-prefix prefix base path below rest x n e f m short =
       );
     }
 
--- relative paths: below a directory, a base's text has as many
--- slashes as there are segments to go up
+-- relativized paths: below a directory, a base's text has as many slashes as there are segments to
+-- go up
 text-below-directory-counts-climbs : (prefix up : List (List ℕ)) (last : List ℕ)
     → NoSlashes (prefix ++ up)
     → NoSlashes ((prefix ++ up) ++ last ∷ [])
@@ -91,7 +91,7 @@ text-below-directory-counts-climbs prefix up last lack lacks =
       ),
     )
 
--- relative paths: a path's segments and where x leads from them share a prefix, from which a
+-- relativized paths: a path's segments and where x leads from them share a prefix, from which a
 -- relative path is no longer than x
 target-shares-prefix-with-segments : (s : List ℕ) (segs : List (List ℕ)) (x : List ℕ)
     → NoSlashes (s ∷ segs)
@@ -117,8 +117,8 @@ target-shares-prefix-with-segments s segs x lack dotless some rootless colon =
     ∙ w.path_is) b.2
     w.short
 
--- relative paths: a base and where x leads from it share a prefix,
--- from which a relative path is no longer than x
+-- relativized paths: a base and where x leads from it share a prefix, from which a relative path is
+-- no longer than x
 target-shares-prefix-with-base : (base x : List ℕ) → IsAbsolute base → lacks_dot_segments base
     ≡ true
     → is_empty x ≡ false → starts 47 x ≡ false → has_colon_in_first_segment x ≡ false
@@ -130,7 +130,7 @@ target-shares-prefix-with-base base x absolute dotless some rootless colon =
     (segments-of-dotless-path-are-dotless (s ∷ segs) lack p) some rootless
     colon) base absolute dotless
 
--- the shared prefix that the code finds
+-- relativized paths: the longest prefix that base and path share ends in the `/` at this index
 pub record IsLastSharedSlash (base path : List ℕ) (last : ℕ) : Type 0 where
   pub in_base : last < length base
   pub in_path : last < length path
@@ -138,15 +138,15 @@ pub record IsLastSharedSlash (base path : List ℕ) (last : ℕ) : Type 0 where
   pub path_at : get_or path last 0 ≡ 47
   pub longest : IsLongestPrefix (last + 1) base path
 
--- relative paths: equal texts have the same last shared slash
+-- relativized paths: equal texts have the same last shared slash
 pub last-shared-slash-of-equals : (bytes base others path : List ℕ) (last : ℕ) → bytes ≡ base
     → others ≡ path
     → IsLastSharedSlash bytes others last → IsLastSharedSlash base path last
 last-shared-slash-of-equals bytes base others path last e f w =
     subst (λ t. IsLastSharedSlash base t last) f (subst (λ t. IsLastSharedSlash t others last) e w)
 
--- relative paths: no path without a leading `/` is shorter than
--- the relative path by the longest shared prefix
+-- relativized paths: no path without a leading `/` is shorter than the relative path by the longest
+-- shared prefix
 relative-path-is-shortest-rootless-path : (given base path x : List ℕ) (last : ℕ) → directory base
     ≡ directory given
     → IsAbsolute base → lacks_dot_segments base ≡ true → IsLastSharedSlash base path last
@@ -168,7 +168,7 @@ relative-path-is-shortest-rootless-path given base path x last same absolute dot
           (w.longest f.len f.in_base f.in_path f.shared),
     )
 
--- relative paths: no path with a leading `/` is shorter than the path from the root
+-- relativized paths: no path with a leading `/` is shorter than the path from the root
 path-from-root-is-shortest-absolute-path : (given path x : List ℕ) → is_empty x ≡ false
     → starts slash x ≡ true
     → has_authority x ≡ false → remove_dot_segments (joined_path given x) ≡ path
@@ -179,8 +179,8 @@ path-from-root-is-shortest-absolute-path given path x some rooted none leads =
     ∙ ap remove_dot_segments (sym (cond-false _ _ _ some ∙ cond-true _ _ _ rooted)) ∙ leads in
     omega (arith, target-path-is-no-longer None x none, ap (λ t. length (guarded None t)) same)
 
--- relative paths: one (way) that is no longer than the relative
--- path and the one from the root is the shortest
+-- relativized paths: one (way) that is no longer than the relative path and the one from the root
+-- is the shortest
 pub no-longer-than-both-paths-is-shortest : (given base path way : List ℕ) (last : ℕ)
     → directory base ≡ directory given
     → IsAbsolute base → lacks_dot_segments base ≡ true → IsLastSharedSlash base path last
@@ -203,7 +203,7 @@ no-longer-than-both-paths-is-shortest given base path way last same absolute dot
     ))
     (cases_Bool (starts slash x))
 
--- lengths of paths: the one from the root is shorter than a longer relative one;
+-- lengths of paths to relativize: the one from the root is shorter than a longer relative one;
 -- guard: the length of its guard
 pub path-from-root-is-shorter : (n guard : ℕ) (path rest way : List ℕ) → rest ≡ drop n path
     → n ≤ length path → length (guarded None path) ≡ guard + length path

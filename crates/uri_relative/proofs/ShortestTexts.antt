@@ -13,8 +13,8 @@ use Rattle.uri_relative.specs.Leading.{without_fragment, settled}
 use Rattle.uri_relative.specs.Shortest.{IsShortest}
 use Rattle.uri_relative.proofs.Leading.{kind-needs-scheme, settled-text-has-settled-components}
 
--- references to a target: the text of the reference made is the shortest that leads there, if
--- relative ones are not preferred
+-- relativized references: the text made is the shortest that leads to the target, if relative ones
+-- are not preferred
 reference-text-is-shortest : (kind : Kind) (prefers : Bool) (base target made : List ℕ)
     → is_some (components base).scheme ≡ true → is_some (components target).scheme ≡ true
     → prefers ≡ false
@@ -39,8 +39,8 @@ reference-text-is-shortest kind prefers base target made of_base of_target e w =
     }) in
     omega (arith, n, ap length (recompose-components made), ap length (recompose-components other))
 
--- references to a target: none is shorter than the one made;
--- primed texts are those of the call's clause
+-- relativized references: none is shorter than the one made; primed texts are those of the call's
+-- clause
 pub reference-is-shortest : (kind : Kind) (prefers : Bool)
     (base target made base' target' made' : List ℕ)
     → kind.needs_scheme ≡ true → IsOfKind kind base → IsOfKind kind target → base ≡ base'

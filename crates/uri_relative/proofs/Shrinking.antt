@@ -24,24 +24,24 @@ use Rattle.uri_ops.proofs.Paths.SlashedSegments.{slashed-of-append}
 use Rattle.uri_relative.specs.Leading.{settled}
 use Rattle.uri_relative.proofs.Settled.{finish-keeps-rootless-path}
 
--- lengths of paths: the text of two lists of segments is as long as both
+-- lengths of paths to relativize: the text of two lists of segments is as long as both
 length-of-joined-segments-adds-up : (xs ys : List (List ℕ))
     → length (slashed (xs ++ ys)) ≡ length (slashed xs) + length (slashed ys)
 length-of-joined-segments-adds-up xs ys = ap length (slashed-of-append xs ys)
     ∙ length-append (slashed xs) (slashed ys)
 
--- lengths of paths: a `/`, the first segment and the text of the others
+-- lengths of paths to relativize: a `/`, the first segment and the text of the others
 pub length-of-first-segment-and-rest : (s : List ℕ) (rest : List (List ℕ))
     → length (slashed (s ∷ rest)) ≡ 1 + length s + length (slashed rest)
 unfolding slashed
 length-of-first-segment-and-rest s rest = omega (arith, length-append s (slashed rest))
 
--- lengths of paths: no segments have no text
+-- lengths of paths to relativize: no segments have no text
 pub no-segments-have-length-zero : length (slashed []) ≡ 0
 unfolding slashed
 no-segments-have-length-zero = refl
 
--- lengths of paths: without the last segment, a path is no longer
+-- lengths of paths to relativize: without the last segment, a path is no longer
 pop-is-no-longer : (xs : List (List ℕ)) → length (slashed (pop xs)) ≤ length (slashed xs)
 unfolding pop
 pop-is-no-longer [] = omega arith
@@ -57,7 +57,7 @@ pop-is-no-longer (s ∷ t ∷ rest) = omega (
 unfoldable pub segments_left : List (List ℕ) → List (List ℕ) → List (List ℕ)
 segments_left output segs = steps output segs ++ closing segs
 
--- lengths of paths: removing dot segments makes a path no longer
+-- lengths of paths to relativize: removing dot segments makes a path no longer
 removal-of-dots-is-no-longer : (s : List ℕ) (rest : List (List ℕ)) → NoSlashes (s ∷ rest)
     → length (slashed (segments_left [] (s ∷ rest))) ≤ length (slashed (s ∷ rest))
 unfolding segments_left dotless_of slashed
@@ -67,22 +67,23 @@ removal-of-dots-is-no-longer s rest lack = omega (
   ap length (remove-dots-by-segments (s ∷ rest) lack),
 )
 
--- lengths of paths: removing dot segments makes a list of segments no longer
+-- lengths of paths to relativize: removing dot segments makes a list of segments no longer
 cleaned-segments-are-no-longer : (segs : List (List ℕ)) → NoSlashes segs
     → length (slashed (segments_left [] segs)) ≤ length (slashed segs)
 unfolding segments_left steps closing
 cleaned-segments-are-no-longer [] lack = omega arith
 cleaned-segments-are-no-longer (s ∷ rest) lack = removal-of-dots-is-no-longer s rest lack
 
--- lengths of paths: the first segment of the output is kept by the others, or two bytes are gone
+-- lengths of paths to relativize: the first segment of the output is kept by the others, or two
+-- bytes are gone
 Keeps : List ℕ → List (List ℕ) → List (List ℕ) → Type 0
 Keeps s output segs =
     ((tail : List (List ℕ)) × (segments_left output segs ≡ s ∷ tail))
     ⊎ (length (slashed (segments_left output segs)) + 2
     ≤ length (slashed output) + length (slashed segs))
 
--- lengths of paths: the last segment (t) keeps the first (s), or leaves two bytes less;
--- single, double: whether it is `.`, or `..`
+-- lengths of paths to relativize: the last segment (t) keeps the first (s), or leaves two bytes
+-- less; single, double: whether it is `.`, or `..`
 last-segment-keeps-first-or-leaves-room : (single double : Bool) (s t : List ℕ)
     (output : List (List ℕ)) → 0 < length s
     → ((tail : List (List ℕ))
@@ -105,8 +106,8 @@ last-segment-keeps-first-or-leaves-room false true s t (u ∷ output) some = inl
 last-segment-keeps-first-or-leaves-room false false s t output some = inl
     ((output ++ t ∷ []) ++ [], refl)
 
--- lengths of paths: if the first segment is kept or two bytes are gone,
--- it is so within a greater length n
+-- lengths of paths to relativize: if the first segment is kept or two bytes are gone, it is so
+-- within a greater length n
 kept-first-or-room-within-greater-length : (s : List ℕ) (output segs : List (List ℕ)) (n : ℕ)
     → Keeps s output segs
     → length (slashed output) + length (slashed segs) ≤ n
@@ -116,8 +117,8 @@ unfolding Keeps
 kept-first-or-room-within-greater-length s output segs n (inl kept) h = inl kept
 kept-first-or-room-within-greater-length s output segs n (inr room) h = inr (omega (arith, room, h))
 
--- lengths of paths: one segment (t) after the first (s), which isn't empty, keeps it or leaves two
--- bytes less; single, double: whether it is `.`, or `..`
+-- lengths of paths to relativize: one segment (t) after the first (s), which isn't empty, keeps it
+-- or leaves two bytes less; single, double: whether it is `.`, or `..`
 next-segment-keeps-first-or-leaves-room : (single double : Bool) (s t : List ℕ)
     (output segs : List (List ℕ)) → 0 < length s
     → ((output : List (List ℕ)) → Keeps s (s ∷ output) segs) → NoSlashes segs
@@ -155,8 +156,8 @@ next-segment-keeps-first-or-leaves-room false false s t output segs some ih lack
       length-of-first-segment-and-rest t segs,
     ))
 
--- lengths of paths: removing dot segments keeps the first segment,
--- if it isn't empty, or leaves two bytes less
+-- lengths of paths to relativize: removing dot segments keeps the first segment, if it isn't empty,
+-- or leaves two bytes less
 removal-keeps-first-segment-or-leaves-room : (segs : List (List ℕ)) (s : List ℕ)
     (output : List (List ℕ)) → 0 < length s
     → NoSlashes segs → Keeps s (s ∷ output) segs
@@ -171,7 +172,7 @@ removal-keeps-first-segment-or-leaves-room (t ∷ u ∷ rest) s output some lack
     (first-segment-and-rest-lack-slashes t (u ∷ rest) lack).1)
     (first-segment-and-rest-lack-slashes t (u ∷ rest) lack).1
 
--- paths: one whose first segment is not empty begins with one `/`
+-- paths to relativize: one whose first segment is not empty begins with one `/`
 nonempty-first-segment-has-no-double-slash : (c : ℕ) (s : List ℕ) (tail : List (List ℕ))
     → has_slash (c ∷ s) ≡ false
     → has_authority (slashed ((c ∷ s) ∷ tail)) ≡ false
@@ -184,8 +185,8 @@ LeavesRoomForGuard path = has_authority path ≡ false → has_authority (remove
     ≡ true
     → length (remove_dot_segments path) + 2 ≤ length path
 
--- lengths of paths: if `//` is first after dot segments are removed, two bytes are gone;
--- single, double: whether the first segment is `.`, or `..`
+-- lengths of paths to relativize: if `//` is first after dot segments are removed, two bytes are
+-- gone; single, double: whether the first segment is `.`, or `..`
 double-slash-after-first-segment-leaves-room : (single double : Bool) (c : ℕ) (s : List ℕ)
     (segs : List (List ℕ))
     → has_slash (c ∷ s) ≡ false → NoSlashes segs
@@ -224,8 +225,8 @@ double-slash-after-first-segment-leaves-room false false c s segs free lack e =
         (ap (λ t. has_authority (slashed t)) (sym kept.1) ∙ e))
     kept_or (inr room) = room
 
--- targets: one segment does not begin with `//` without its dots;
--- single, double: whether it is `.`, or `..`
+-- targets to relativize: one segment does not begin with `//` without its dots; single, double:
+-- whether it is `.`, or `..`
 one-segment-has-no-double-slash : (single double : Bool) (c : ℕ) (s : List ℕ)
     → has_slash (c ∷ s) ≡ false
     → has_authority (slashed (next_output single double [] (c ∷ s) ++ end_of (single || double)))
@@ -235,8 +236,8 @@ one-segment-has-no-double-slash true double c s free = refl
 one-segment-has-no-double-slash false true c s free = refl
 one-segment-has-no-double-slash false false c s free = (or_parts (eqb c 47) (has_slash s) free).0
 
--- lengths of paths: if removing dot segments makes `//` first, two bytes are gone,
--- as many as the guard `/.` takes
+-- lengths of paths to relativize: if removing dot segments makes `//` first, two bytes are gone, as
+-- many as the guard `/.` takes
 removing-dots-of-segments-leaves-room : (s : List ℕ) (rest : List (List ℕ)) → NoSlashes (s ∷ rest)
     → has_authority (slashed (s ∷ rest)) ≡ false
     → has_authority (slashed (dotless_of (s ∷ rest))) ≡ true
@@ -255,8 +256,8 @@ removing-dots-of-segments-leaves-room (c ∷ s) (t ∷ rest) lack single double 
     (first-segment-and-rest-lack-slashes (c ∷ s) (t ∷ rest) lack).0
     (first-segment-and-rest-lack-slashes (c ∷ s) (t ∷ rest) lack).1 double
 
--- lengths of paths: if a path needs the guard `/.` once its dot
--- segments are removed, it is no longer with it
+-- lengths of paths to relativize: if a path needs the guard `/.` once its dot segments are removed,
+-- it is no longer with it
 removing-dots-leaves-room-for-guard : (path : List ℕ) → IsAbsolute path → LeavesRoomForGuard path
 unfolding LeavesRoomForGuard
 removing-dots-leaves-room-for-guard = property-of-absolute-path-by-segments LeavesRoomForGuard
@@ -266,8 +267,8 @@ removing-dots-leaves-room-for-guard = property-of-absolute-path-by-segments Leav
     ∙ double) in
     omega (arith, h, ap length same))
 
--- lengths of paths: a guarded path q is no longer than p,
--- if p has two bytes more where q needs the guard
+-- lengths of paths to relativize: a guarded path q is no longer than p, if p has two bytes more
+-- where q needs the guard
 guarded-path-is-no-longer-with-room : (a : Option (List ℕ)) (p q : List ℕ) → length q ≤ length p
     → (has_authority q ≡ true → length q + 2 ≤ length p) → length (guarded a q) ≤ length p
 guarded-path-is-no-longer-with-room a p q h room =
@@ -275,22 +276,22 @@ guarded-path-is-no-longer-with-room a p q h room =
     (λ e. omega (arith, room (and_parts (is_none a) (has_authority q) e).1))
     (λ _. h)
 
--- lengths of paths: a path q after an authority a needs no guard, and is no longer
+-- lengths of paths to relativize: a path q after an authority a needs no guard, and is no longer
 path-after-authority-is-no-longer : (a : Option (List ℕ)) (p q : List ℕ) → is_some a ≡ true
     → length q ≤ length p
     → length (guarded a q) ≤ length p
 path-after-authority-is-no-longer None p q e h = absurd (false≢true e)
 path-after-authority-is-no-longer (Some a) p q e h = h
 
--- lengths of targets: without an authority the path has no `//` at its start
+-- lengths of targets to relativize: without an authority the path has no `//` at its start
 pub no-slashes-without-authority : (a : Option (List ℕ)) (p : List ℕ)
     → IfNone a (has_authority p ≡ false)
     → is_some a ≡ false → has_authority p ≡ false
 no-slashes-without-authority None p h e = h
 no-slashes-without-authority (Some a) p h e = absurd (false≢true (sym e))
 
--- lengths of targets: the path with its dot segments removed
--- and a guard added is no longer; a: the authority
+-- lengths of targets to relativize: the path with its dot segments removed and a guard added is no
+-- longer; a: the authority
 pub target-path-is-no-longer : (a : Option (List ℕ)) (p : List ℕ)
     → IfNone a (has_authority p ≡ false)
     → length (guarded a (dotless_if_absolute p)) ≤ length p
@@ -309,7 +310,7 @@ target-path-is-no-longer a p none = ⊎_elim
     (λ h. omega (arith, ap length (finish-keeps-rootless-path a p h)))
     (cases_Bool (starts 47 p))
 
--- lengths of targets: a text is as long as its components with their delimiters
+-- lengths of targets to relativize: a text is as long as its components with their delimiters
 pub length-of-recompose : (c : Components) → length (recompose c)
     ≡ length (marked [] c.scheme (codes ":")) + (length (marked (codes "//") c.authority [])
     + (length c.path + length (marked (codes "?") c.query [] ++ marked (codes "#") c.fragment [])))
@@ -322,7 +323,7 @@ length-of-recompose c = omega (
   length-append c.path (marked (codes "?") c.query [] ++ marked (codes "#") c.fragment []),
 )
 
--- lengths of targets: one with its dot segments removed is no longer
+-- lengths of targets to relativize: one with its dot segments removed is no longer
 pub target-is-no-longer-with-final-path : (c : Components)
     → IfNone c.authority (has_authority c.path ≡ false)
     → length (recompose (with_final_path c)) ≤ length (recompose c)
@@ -333,7 +334,7 @@ target-is-no-longer-with-final-path c none = omega (
   length-of-recompose (with_final_path c),
 )
 
--- lengths of targets: the text of one with its dot segments removed is no longer
+-- lengths of targets to relativize: the text of one with its dot segments removed is no longer
 pub settled-text-is-no-longer : (text : List ℕ) → length (recompose (settled text)) ≤ length text
 settled-text-is-no-longer text = omega (
   arith,

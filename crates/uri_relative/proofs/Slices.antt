@@ -12,7 +12,7 @@ use Rattle.uri_parts.proofs.Splitting.Recompose.{recompose-components}
 use Rattle.uri_ops.proofs.Targeting.TextViews.{slice-of-scheme}
 use Rattle.uri_relative.specs.Forms.{after_scheme}
 
--- references to a target: what is after the scheme and its `:` is the rest of the text
+-- relativized references: what is after the scheme and its `:` is the rest of the text
 text-after-scheme-and-colon-is-rest : (scheme : Option (List ℕ)) (rest text : List ℕ) (end : ℕ)
     → marked [] scheme (codes ":") ++ rest ≡ text → Some end ≡ option_map length scheme
     → drop (end + 1) text ≡ rest
@@ -23,7 +23,7 @@ text-after-scheme-and-colon-is-rest (Some s) rest text end whole e =
     ap (λ k. drop k text) m ∙ ap (drop (length (s ++ codes ":"))) (sym whole)
     ∙ drop-append_seam (s ++ codes ":") rest
 
--- references to a target: without a scheme the text is all after it
+-- relativized references: without a scheme the text is all after it
 text-without-scheme-is-rest : (scheme : Option (List ℕ)) (rest text : List ℕ)
     → marked [] scheme (codes ":") ++ rest ≡ text → None ≡ option_map length scheme
     → text ≡ rest

@@ -37,13 +37,13 @@ use Rattle.uri_relative.proofs.Climbs.{underflows-follows-dots, merged-relative-
 use Rattle.uri_relative.proofs.Climbs.{merged-relative-path-does-not-underflow}
 use Rattle.uri_relative.proofs.Climbs.{relative_path-of-some-climbs}
 
--- what a path is that is joined to the base's directory
+-- relativized paths: the path is not empty, has no leading `/`, and no `:` in its first segment
 record IsRelative (way : List ℕ) : Type 0 where
   some : is_empty way ≡ false
   rootless : starts slash way ≡ false
   no_scheme : has_colon_in_first_segment way ≡ false
 
--- relative paths: a rest that needs no `./` before it is a relative path
+-- relativized paths: a rest that needs no `./` before it is a relative path
 rest-without-leading-dot-is-relative : (rest : List ℕ) → is_empty rest ≡ false
     → needs_leading_dot rest ≡ false
     → IsRelative rest
@@ -51,7 +51,7 @@ rest-without-leading-dot-is-relative rest some read =
     let p = or_parts (starts slash rest) (has_colon_in_first_segment rest) read in
     record { some = some; rootless = p.0; no_scheme = p.1 }
 
--- relative paths: one without `../` is `.`, or the rest, after `./` if it would be misread;
+-- relativized paths: one without `../` is `.`, or the rest, after `./` if it would be misread;
 -- none: whether the rest is empty
 path-without-double-dots-is-relative : (rest : List ℕ) (none misread : Bool) → is_empty rest ≡ none
     → needs_leading_dot rest ≡ misread
@@ -63,8 +63,8 @@ path-without-double-dots-is-relative rest false true e f =
 path-without-double-dots-is-relative rest false false e f =
     rest-without-leading-dot-is-relative rest e f
 
--- relative paths: one with n + 1 `../` is relative;
--- none: whether the rest is empty, then the last has no `/`
+-- relativized paths: one with n + 1 `../` is relative; none: whether the rest is empty, then the
+-- last has no `/`
 path-with-double-dots-is-relative : (n : ℕ) (rest : List ℕ) (none : Bool)
     → IsRelative (cond none (double_dots n ++ codes "..") (double_dots (suc n) ++ rest))
 unfolding double_dots
@@ -75,7 +75,7 @@ path-with-double-dots-is-relative (suc n) rest true =
 path-with-double-dots-is-relative n rest false =
     record { some = refl; rootless = refl; no_scheme = refl }
 
--- relative paths: one that is made is relative
+-- relativized paths: one that is made is relative
 relative_path-is-relative : (n : ℕ) (rest : List ℕ) → IsRelative (relative_path n rest)
 relative_path-is-relative zero rest = path-without-double-dots-is-relative rest (is_empty rest)
     (needs_leading_dot rest) refl refl
@@ -83,19 +83,19 @@ relative_path-is-relative (suc n) rest =
     subst IsRelative (sym (relative_path-of-some-climbs n rest))
     (path-with-double-dots-is-relative n rest (is_empty rest))
 
--- relative paths: one that does not begin with `/` does not begin with `//`
+-- relativized paths: one that does not begin with `/` does not begin with `//`
 pub rootless-path-has-no-authority : (way : List ℕ) → starts slash way ≡ false
     → has_authority way ≡ false
 rootless-path-has-no-authority [] e = refl
 rootless-path-has-no-authority (c ∷ way) e = ap (λ b. b && eqb (get_or way 0 0) 47) e
 
--- relative paths: one is resolved by merging it with the base's path
+-- relativized paths: one is resolved by merging it with the base's path
 relative-path-is-merged : (base way : List ℕ) → IsRelative way → joined_path base way
     ≡ merged base way
 relative-path-is-merged base way r = cond-false _ _ _ r.some ∙ cond-false _ _ _ r.rootless
 
--- relative paths: what holds of each form that one may have,
--- `.` or `./` or `../` and a rest, holds of each
+-- relativized paths: what holds of each form that one may have, `.` or `./` or `../` and a rest,
+-- holds of each
 property-of-each-case-holds-of-relative-path : (P : List ℕ → Type 0) (rest : List ℕ) → P (codes ".")
     → P (codes "./" ++ rest)
     → P rest → ((n : ℕ) → P (double_dots n ++ codes "..")) → ((n : ℕ) → P (double_dots n ++ rest))
@@ -107,18 +107,18 @@ property-of-each-case-holds-of-relative-path P rest dot guard here up down n =
     (λ _. cond_both (needs_leading_dot rest) _ _ P (λ _. guard) (λ _. here)))
     (λ _. cond_both (is_empty rest) _ _ P (λ _. up (n - 1)) (λ _. down n))
 
--- marks that are neither a dot nor `/`
+-- relativized paths: the text has neither `?` nor `#`
 abbrev lacking : List ℕ → Bool
 lacking text = list_all (λ c. not (is_one_of (codes "?#") c)) text
 
--- relative paths: n `../` add neither `?` nor `#`
+-- relativized paths: n `../` add neither `?` nor `#`
 double-dots-lack-marks : (n : ℕ) (rest : List ℕ) → lacking rest ≡ true
     → lacking (double_dots n ++ rest) ≡ true
 unfolding double_dots
 double-dots-lack-marks zero rest e = e
 double-dots-lack-marks (suc n) rest e = double-dots-lack-marks n rest e
 
--- relative paths: what is left of a path has neither `?` nor `#`
+-- relativized paths: what is left of a path has neither `?` nor `#`
 rest-of-path-lacks-marks : (n : ℕ) (path : List ℕ) → lacking path ≡ true
     → lacking (drop n path) ≡ true
 rest-of-path-lacks-marks n path e =
@@ -127,7 +127,7 @@ rest-of-path-lacks-marks n path e =
     (sym (list_all-append p (take n path) (drop n path))
     ∙ ap (list_all p) (take-append-drop n path) ∙ e)).1
 
--- relative paths: one of a rest without `?` and `#` has none
+-- relativized paths: one of a rest without `?` and `#` has none
 relative-path-lacks-marks : (n : ℕ) (rest : List ℕ) → lacking rest ≡ true
     → lacking (relative_path n rest) ≡ true
 relative-path-lacks-marks n rest e =
@@ -135,7 +135,7 @@ relative-path-lacks-marks n rest e =
     (λ m. double-dots-lack-marks m (codes "..") refl)
     (λ m. double-dots-lack-marks m rest e) n
 
--- references to a target: the guard `/.` adds neither `?` nor `#`
+-- relativized references: the guard `/.` adds neither `?` nor `#`
 guarded-path-lacks-marks : (path : List ℕ) → lacking path ≡ true → lacking (guarded None path)
     ≡ true
 guarded-path-lacks-marks path e =
@@ -200,8 +200,8 @@ module _ (set : TableSet) (w : IsComponentSet (codes "?#[]") set)
       set-text-is-valid set _ (guarded-set-text-is-set-text set w slash None path
       (set-text-from-utf8 set path utf8 e))
 
--- relative paths: the one after the first n bytes, which base and path share,
--- leads from the base to the path
+-- relativized paths: the one after the first n bytes, which base and path share, leads from the
+-- base to the path
 pub relative-path-leads-to-path : (n : ℕ) (base given path : List ℕ) → directory base
     ≡ directory given
     → IsAbsolute base → lacks_dot_segments base ≡ true → IsAbsolute path
@@ -229,7 +229,7 @@ relative-path-leads-to-path n base given path same base_absolute base_dotless ab
       valid = λ set w slash e. relative-path-is-valid-for-set set w slash n base path utf8 s e;
     }
 
--- relative paths: the guard `/.` before a path from the root counts as no segment
+-- relativized paths: the guard `/.` before a path from the root counts as no segment
 pub guard-counts-as-no-segment : {X : Type 0} (f : List ℕ → X) → FollowsDotsFromDirectory f
     → (path : List ℕ)
     → IsAbsolute path → f (codes "/." ++ path) ≡ f path
@@ -237,7 +237,8 @@ unfolding slashed
 guard-counts-as-no-segment f by path h = by.stay [] path refl refl (inr h)
     ∙ ap f (sym (absolute-path-is-slash-and-rest path h))
 
--- what is left to say of a path from the root
+-- relativized paths: a path from the root leads from the base (given) to the path, and is parsed as
+-- a path
 record IsRootedWay (given path way : List ℕ) : Type 0 where
   some : is_empty way ≡ false
   leads : remove_dot_segments (joined_path given way) ≡ path
@@ -245,7 +246,7 @@ record IsRootedWay (given path way : List ℕ) : Type 0 where
   no_authority : has_authority way ≡ false
   no_scheme : has_colon_in_first_segment way ≡ false
 
--- references to a target: a path from the root, guarded if it begins with `//` (double), leads from
+-- relativized references: a path from the root, guarded if it begins with `//` (double), leads from
 -- any base (given) to itself
 path-from-root-is-rooted-way : (given rest : List ℕ) (double : Bool) → has_authority (47 ∷ rest)
     ≡ double
@@ -269,7 +270,7 @@ path-from-root-is-rooted-way given rest false e dotless = record {
   no_scheme = refl;
 }
 
--- references to a target: the path from the root, guarded, leads from each base (given) to the path
+-- relativized references: the path from the root, guarded, leads from each base (given) to the path
 pub path-from-root-leads-to-path : (given path : List ℕ) → IsAbsolute path → lacks_dot_segments path
     ≡ true
     → IsUtf8 path → IsPathTo given path (guarded None path)
@@ -289,7 +290,7 @@ path-from-root-leads-to-path given path h dotless utf8 =
       valid = λ set w slash e. path-from-root-is-valid-for-set set w slash path utf8 e;
     }
 
--- references to a target: the path that was appended leads to the path, is as short as short says,
+-- relativized references: the path that was appended leads to the path, is as short as short says,
 -- and the least as least says
 pub pushed-path-leads-to-path : {A E : Type 0} (result : Result A E)
     (pushes short least : List ℕ → Type 0)
@@ -299,7 +300,7 @@ pub pushed-path-leads-to-path : {A E : Type 0} (result : Result A E)
 pushed-path-leads-to-path (Ok a) pushes short least way given path e w s l = (way, e, w, s, l)
 pushed-path-leads-to-path (Err a) pushes short least way given path e w s l = tt
 
--- relative paths: a character begins after the last shared slash (47)
+-- relativized paths: a character begins after the last shared slash (47)
 pub boundary-after-last-slash : (path bytes : List ℕ) (last : ℕ) → bytes ≡ path → IsUtf8 path
     → last < length bytes → get_or bytes last 0 ≡ 47 → IsCharBoundary path (last + 1)
 boundary-after-last-slash path bytes last e utf8 within at =
@@ -308,19 +309,19 @@ boundary-after-last-slash path bytes last e utf8 within at =
     (let h : get_or path last 0 ≡ 47 = subst (λ t. get_or t last 0 ≡ 47) e at in
     let k : get_or path last 0 < 128 = omega arith in k)
 
--- general fact on lists, for relative paths: all of what is left after n is taken
+-- general fact on lists, for relativized paths: all of what is left after n is taken
 pub take-all-of-suffix : (n : ℕ) (l : List ℕ) → take (length l - n) (drop n l) ≡ drop n l
 take-all-of-suffix n l = ap (λ m. take m (drop n l)) (sym (length-drop n l))
     ∙ take-length (drop n l)
 
--- relative paths: equal texts share the same prefix
+-- relativized paths: equal texts share the same prefix
 pub shared-prefix-of-equals : (n : ℕ) (a b p q : List ℕ) → a ≡ b → p ≡ q → IsSharedPrefix n a p
     → IsSharedPrefix n b q
 shared-prefix-of-equals n a b p q e f h = subst (λ t. IsSharedPrefix n t q) e
     (subst (IsSharedPrefix n a) f h)
 
--- relative paths: the one that was appended leads to the path, is as short as short says, and the
--- least as least says; double_dots: how many `../` it begins with
+-- relativized paths: the one that was appended leads to the path, is as short as short says, and
+-- the least as least says; double_dots: how many `../` it begins with
 pub pushed-relative-path-leads-to-path : {A E : Type 0} (result : Result A E)
     (pushes short least : List ℕ → Type 0) (n : ℕ) (base given path : List ℕ) (double_dots : ℕ)
     (rest : List ℕ) → double_dots ≡ slashes (drop n base)
@@ -336,8 +337,8 @@ pushed-relative-path-leads-to-path result pushes short least n base given path d
     pushed-path-leads-to-path result pushes short least (relative_from n base path) given path
     (subst (λ t. OnOk result (pushes t)) same h) way (subst short same s) (subst least same l)
 
--- relative paths: one that goes up n times is no longer than the path from the root,
--- by its length; guard: that of the guard
+-- relativized paths: one that goes up n times is no longer than the path from the root, by its
+-- length; guard: that of the guard
 pub relative-path-is-no-longer-than-from-root : (n : ℕ) (path rest way : List ℕ) (guard : ℕ) → rest
     ≡ drop n path
     → n ≤ length path → length (guarded None path) ≡ guard + length path

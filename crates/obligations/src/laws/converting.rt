@@ -12,7 +12,7 @@ use fluent_uri::resolve::{ResolveError, Resolver};
 use fluent_uri::{Iri, IriRef, Uri};
 use std::alloc::{AllocError, Global};
 
-/// Returns whether an IRI and its URI, as an IRI, have the same normal form: they have.
+/// A caller proves that an IRI and its URI, as an IRI, have the same normal form, and returns true.
 ///
 /// # Errors
 ///
@@ -24,8 +24,8 @@ pub fn same_normal_form(alloc: Global, iri: &Iri<String>) -> Result<bool, AllocE
     Ok(converted.normalize(alloc)? == iri.normalize(alloc)?)
 }
 
-/// Returns whether an IRI reference and its URI reference, as an IRI reference, have the same
-/// normal form: they have.
+/// A caller proves that an IRI reference and its URI reference, as an IRI reference, have the same
+/// normal form, and returns true.
 ///
 /// # Errors
 ///
@@ -37,8 +37,8 @@ pub fn same_normal_reference(alloc: Global, reference: &IriRef<String>) -> Resul
     Ok(converted.normalize(alloc)? == reference.normalize(alloc)?)
 }
 
-/// Returns the target of a reference against a base, converted: it is the target of the two
-/// converted.
+/// A caller proves that the target of a base and a reference, converted to a URI, is the target of
+/// the two converted.
 ///
 /// # Errors
 ///
@@ -59,8 +59,8 @@ pub fn target_as_uri(
     Ok(resolver.resolve(alloc, &reference)?.to_uri(alloc)?)
 }
 
-/// Returns whether a base and a reference that are converted first come to the converted target:
-/// they do.
+/// A caller proves that a base and a reference that are converted to URIs first come to the
+/// converted target, and returns true.
 ///
 /// # Errors
 ///

@@ -9,7 +9,8 @@ use fluent_uri::pct_enc::encoder::Path;
 use fluent_uri::pct_enc::{CowSlice, EStr};
 use std::alloc::{AllocError, Global};
 
-/// Returns the bytes after the first item: those of the items that are left.
+/// A caller proves that, after the first chunk of a path is taken, the rest decodes to the bytes of
+/// the chunks that are left.
 ///
 /// # Errors
 ///

@@ -8,7 +8,8 @@ use fluent_uri::component::Authority;
 use fluent_uri::pct_enc::EStr;
 use std::alloc::Global;
 
-/// Returns the reference with an empty authority, path, query and fragment: it is `//?#`.
+/// A caller proves that a reference built of an empty authority, path, query and fragment is
+/// `//?#`.
 ///
 /// # Errors
 ///

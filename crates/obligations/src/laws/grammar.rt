@@ -8,7 +8,8 @@ use fluent_uri::component::Authority;
 use fluent_uri::pct_enc::encoder::{RegName, Userinfo};
 use fluent_uri::{Iri, ParseError, laws};
 
-/// Returns the text if it is an IRI: it follows the grammar.
+/// A caller proves that a text follows the grammar in the words of the RFC if it is parsed as an
+/// IRI.
 ///
 /// # Errors
 ///
@@ -20,7 +21,7 @@ pub fn follows_grammar(text: &str) -> Result<&str, ParseError>
     Ok(Iri::<&str>::parse(text)?.as_str())
 }
 
-/// A text of any kind whose texts are IRI references is an IRI reference.
+/// A caller proves that a text of any kind whose texts are IRI references is an IRI reference.
 pub fn widened(text: &str)
     ensures { (kind : Kind) → IsWithin kind iri_ref → IsTextOf kind text.now
         → IsTextOf iri_ref text.now }
@@ -29,7 +30,7 @@ pub fn widened(text: &str)
     laws::texts_are_of_wider_kinds_too();
 }
 
-/// Returns the text of the empty authority: it is empty.
+/// A caller proves that the text of the empty authority is empty.
 pub fn empty_authority() -> &'static str
     ensures { result.now ≡ [] }
 {

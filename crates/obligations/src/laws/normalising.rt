@@ -13,7 +13,7 @@ ghost use Rattle.fluent_uri.specs.SchemePorts.{default_port};
 use fluent_uri::{Iri, laws};
 use std::alloc::{AllocError, Global};
 
-/// Returns whether a normal form is its own normal form: it is.
+/// A caller proves that a normal form is its own normal form, and returns true.
 ///
 /// # Errors
 ///
@@ -25,7 +25,8 @@ pub fn same_when_normalised_twice(alloc: Global, given: Iri<&str>) -> Result<boo
     Ok(normal.normalize(alloc)? == normal)
 }
 
-/// A text of any kind with sets such as those of the four kinds is equivalent to its normal text.
+/// A caller proves that a text of any kind with sets such as those of the four kinds is equivalent
+/// to its normal text.
 pub fn normal_text_means_the_same(text: &str)
     ensures { (kind : Kind) (ports : PortFunction) → HasComponentSets kind
         → IsTextOf kind text.now
@@ -35,7 +36,7 @@ pub fn normal_text_means_the_same(text: &str)
     laws::normal_texts_are_canonical();
 }
 
-/// Texts whose meanings have equal parts have one normal text.
+/// A caller proves that texts whose meanings have equal parts have one normal text.
 pub fn normal_text_of_equal_parts(text: &str, other: &str)
     requires { same_meaning (meaning_of iri default_port text.now)
         (meaning_of iri default_port other.now) ≡ true }
@@ -45,7 +46,7 @@ pub fn normal_text_of_equal_parts(text: &str, other: &str)
     laws::meanings_are_equal_if_their_parts_are();
 }
 
-/// Returns the normal form after parsing its text again, which never fails.
+/// A caller proves that parsing the text of a normal form again never fails, and returns that form.
 ///
 /// # Errors
 ///

@@ -10,7 +10,8 @@ ghost use Rattle.fluent_uri.specs.Tokens.{IsValidFor};
 use fluent_uri::roles::RefKind;
 use fluent_uri::{ParseError, Reference, laws};
 
-/// The error of a text is the one that `parse` returns, and where it has none it is parsed.
+/// A caller proves that `parse` returns the defined error of a text, and accepts it where it has
+/// none.
 pub fn parsed_or_its_error<K: RefKind>(text: &str) -> Result<Reference<K, &str>, ParseError>
     ensures { result_err result ≡ refusal K.kind text.now }
 {
@@ -18,7 +19,8 @@ pub fn parsed_or_its_error<K: RefKind>(text: &str) -> Result<Reference<K, &str>,
     Reference::<K, &str>::parse(text)
 }
 
-/// No prefix that is valid for a path is longer than the one that a scan passes.
+/// A caller proves that no prefix that is valid for a path is longer than the one that a scan
+/// passes.
 pub fn scan_passes_the_longest(text: &str)
     ensures { (n : ℕ) → IsCharBoundary text.now n → IsValidFor path_set (take n text.now)
         → n ≤ valid_prefix path_set text.now }

@@ -11,7 +11,7 @@ use fluent_uri::laws;
 use fluent_uri::pct_enc::EStr;
 use fluent_uri::pct_enc::encoder::IPath;
 
-/// Removing dot segments twice is the same as removing them once.
+/// A caller proves that removing dot segments twice is the same as removing them once.
 pub fn dots_removed_twice(path: &str)
     requires { IsAbsolute path.now }
     ensures { remove_dot_segments (remove_dot_segments path.now) ≡ remove_dot_segments path.now }
@@ -19,7 +19,8 @@ pub fn dots_removed_twice(path: &str)
     laws::removing_dot_segments_is_idempotent();
 }
 
-/// The base's dot segments may be removed before a reference's path is merged with it.
+/// A caller proves that the base's dot segments may be removed before a reference's path is merged
+/// with it.
 pub fn base_dots_removed_before_merging(base: &str, reference: &str)
     requires { IsAbemptyPath base.now }
     ensures { remove_dot_segments (directory base.now ++ reference.now)
@@ -28,7 +29,7 @@ pub fn base_dots_removed_before_merging(base: &str, reference: &str)
     laws::base_dots_may_be_removed_before_merging();
 }
 
-/// Dot segments may be removed before or after unreserved octets are decoded.
+/// A caller proves that dot segments may be removed before or after unreserved octets are decoded.
 pub fn dots_removed_before_decoding(path: EStr<'_, IPath>)
     requires { IsAbsolute (text_of path) }
     ensures { remove_dot_segments (print (decode_unreserved ipath_set (text_of path.entry)))

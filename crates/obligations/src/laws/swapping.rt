@@ -11,8 +11,8 @@ use fluent_uri::resolve::{ResolveError, Resolver};
 use fluent_uri::{Iri, IriRef};
 use std::alloc::Global;
 
-/// Returns the normal form of the target of the normal forms of a base and a reference: it is the
-/// normal form of the target of the two.
+/// A caller proves that the target of the normal forms of a base and a reference has the normal
+/// form of their target, and returns it.
 ///
 /// # Errors
 ///
@@ -36,8 +36,8 @@ pub fn normal_target(
     Ok(target.normalize(alloc)?)
 }
 
-/// Returns whether the target of the normal forms of a base and a reference has the normal form of
-/// the target: it has.
+/// A caller proves that the target of the normal forms of a base and a reference has the normal
+/// form of the target, and returns true.
 ///
 /// # Errors
 ///

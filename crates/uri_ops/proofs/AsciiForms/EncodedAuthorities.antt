@@ -121,7 +121,7 @@ dotted-decimal-is-ascii text octets h =
     below c (inl range) = grind (arith, nat_tests)
     below c (inr dot) = grind (arith, nat_tests)
 
--- a host
+-- IRIs as URIs: the encoded host is a host, in ASCII characters, with the same meaning
 record EncodingKeepsHost (names : TableSet) (text : List ℕ) : Type 0 where
   pub host : (h : HostKind) × IsHost (ascii_set names) (encode_past_ascii text) h
   pub meaning : host_meaning names (encode_past_ascii text) (host_kind (encode_past_ascii text))
@@ -193,7 +193,7 @@ module _ (names : TableSet) (w : IsComponentSet (codes "/?#[]@:") names)
   encoding-keeps-hosts text RegName u (valid, other) = encoding-keeps-names text
       (set-text-from-utf8 names text u valid)
 
--- an authority
+-- IRIs as URIs: userinfo, host and port of an authority, each encoded
 abbrev pub encoded_authority_parts : AuthorityParts → AuthorityParts
 encoded_authority_parts p = record {
   userinfo = option_map encode_past_ascii p.userinfo;

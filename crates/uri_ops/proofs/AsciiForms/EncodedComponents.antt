@@ -25,6 +25,7 @@ use Rattle.uri_pct.proofs.Tests.{eq_true_from_IsTrue}
 use Rattle.uri_ops.proofs.Paths.DotRuns.{not-empty-has-length}
 use Rattle.uri_ops.proofs.Paths.Piecewise.{text-with-bytes-is-not-empty}
 
+-- IRIs as URIs: the components, each with its characters past ASCII percent-encoded
 abbrev pub encoded_components : Components → Components
 encoded_components p = record {
   scheme = option_map encode_past_ascii p.scheme;

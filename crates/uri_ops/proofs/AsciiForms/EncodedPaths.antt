@@ -84,7 +84,7 @@ ascii-text-is-its-own-encoding (c ∷ text) e =
     encoding-starts-with-ascii-byte c text (ltb-true c 128 p.0)
     ∙ ap (λ t. c ∷ t) (ascii-text-is-its-own-encoding text p.1)
 
--- a text in UTF-8 is a list of bytes
+-- IRIs as URIs: a text in UTF-8 is a list of bytes
 utf8-text-is-bytes : (text : List ℕ) → IsUtf8 text → list_all is_byte text ≡ true
 utf8-text-is-bytes text u = ap (list_all is_byte) (sym u.1.1) ∙ char_bytes u.0 u.1.0
   where
@@ -229,7 +229,7 @@ encoding-of-slashed-is-by-segment (s ∷ rest) = encoding-starts-with-ascii-byte
     ∙ ap (λ t. 47 ∷ t) (encoding-of-append-is-append s (slashed rest)
     ∙ ap (λ t. encode_past_ascii s ++ t) (encoding-of-slashed-is-by-segment rest))
 
--- paths: each segment of a text in UTF-8 is UTF-8
+-- IRIs as URIs, paths: each segment of a text in UTF-8 is UTF-8
 segments-of-joined-utf8-are-utf8 : (s : List ℕ) (rest : List (List ℕ)) → IsUtf8 (s ++ slashed rest)
     → AllPass is_utf8 (s ∷ rest)
 unfolding slashed
@@ -239,7 +239,7 @@ segments-of-joined-utf8-are-utf8 s (t ∷ rest) u = let p = utf8_around_ascii_by
     (t ++ slashed rest) (lit< tt) u in
     and_from _ _ (is_utf8-from_IsUtf8 s p.0) (segments-of-joined-utf8-are-utf8 t rest p.1)
 
--- paths: each segment of a path in UTF-8 is UTF-8
+-- IRIs as URIs, paths: each segment of a path in UTF-8 is UTF-8
 pub segments-of-utf8-path-are-utf8 : (s : List ℕ) (rest : List (List ℕ))
     → IsUtf8 (slashed (s ∷ rest))
     → AllPass is_utf8 (s ∷ rest)

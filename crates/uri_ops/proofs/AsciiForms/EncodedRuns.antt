@@ -120,11 +120,11 @@ text-as-long-as-its-encoding-is-it (c ∷ text) e = ⊎_elim
 pub encoding-of-empty-text-is-empty : encode_past_ascii [] ≡ []
 encoding-of-empty-text-is-empty = encoding-of-nil-is-nil
 
--- the bytes from a place on, as they are sliced
+-- IRIs as URIs: the bytes to encode from index i on, as they are sliced
 abbrev slice_from : List ℕ → ℕ → List ℕ
 slice_from bytes i = take (length bytes - i) (drop i bytes)
 
--- general fact on slices, for the bytes to encode: what is from i on is what is left after i bytes
+-- general fact on slices, for IRIs as URIs: what is from i on is what is left after i bytes
 slice_from-is-drop : (bytes : List ℕ) (i : ℕ) → slice_from bytes i ≡ drop i bytes
 slice_from-is-drop bytes i = let d : length (drop i bytes)
     ≡ length bytes - i = length-drop i bytes in

@@ -48,7 +48,7 @@ use Rattle.uri_ops.proofs.Targeting.RefusalOrder.{rejected-results-are-equal}
 use Rattle.uri_ops.proofs.Targeting.RefusalOrder.{ok-result-has-no-opaque-rejection}
 use Rattle.uri_pct.proofs.Tests.{is_none-option_map, is_some-option_map, not_some_is_none}
 
--- paths: segments in UTF-8, of which all but the first have a `/` before them, are UTF-8 together
+-- IRIs as URIs, paths: segments in UTF-8, all but the first after a `/`, are UTF-8 together
 joined-utf8-segments-are-utf8 : (s : List ℕ) (rest : List (List ℕ)) → AllPass is_utf8 (s ∷ rest)
     → IsUtf8 (s ++ slashed rest)
 unfolding slashed
@@ -59,7 +59,7 @@ joined-utf8-segments-are-utf8 s (t ∷ rest) e =
     utf8-joined-at-slash-is-utf8 s (t ++ slashed rest) (IsUtf8-from_is_utf8 s p.0)
     (joined-utf8-segments-are-utf8 t rest p.1)
 
--- paths: segments in UTF-8, each after a `/`, are UTF-8
+-- IRIs as URIs, paths: segments in UTF-8, each after a `/`, are UTF-8
 slashed-utf8-segments-are-utf8 : (segs : List (List ℕ)) → AllPass is_utf8 segs
     → IsUtf8 (slashed segs)
 unfolding slashed
@@ -68,7 +68,7 @@ slashed-utf8-segments-are-utf8 (s ∷ rest) e =
     utf8-joined-at-slash-is-utf8 [] (s ++ slashed rest) IsUtf8-nil
     (joined-utf8-segments-are-utf8 s rest e)
 
--- resolving: the directory of a path in UTF-8 is UTF-8
+-- IRIs as URIs, targets: the directory of a path in UTF-8 is UTF-8
 directory-of-utf8-is-utf8 : (path : List ℕ) → IsAbemptyPath path → IsUtf8 path
     → IsUtf8 (directory path)
 unfolding directory
@@ -144,7 +144,7 @@ dotted_target-of-encoded-components base None None p q f u rooted =
     dotted_target-of-encoded-without-authority base p q f u
     (rooted refl)
 
--- resolving: the path of a target, before its dot segments are removed, is UTF-8
+-- IRIs as URIs, targets: the path of a target, before its dot segments are removed, is UTF-8
 dotted_target-path-is-utf8 : (base r : Components) → AreUtf8 base → AreUtf8 r
     → (is_none r.scheme ≡ true → is_empty r.path ≡ false → IsAbemptyPath base.path)
     → IsUtf8 (dotted_target base r).path
@@ -214,7 +214,7 @@ encoding-keeps-opaque-rejection base r =
     (is_some r.scheme || (((is_none r.scheme && is_none r.authority) && is_empty r.path) && x)))
     (is_none-option_map encode_past_ascii r.query)
 
--- resolving: the path of a base with which a path is merged is empty or begins with `/`
+-- IRIs as URIs, targets: the path of a base with which a path is merged is empty or begins with `/`
 accepting-base-path-is-rooted : (b t : List ℕ) → is_opaque_rejection (components b) (components t)
     ≡ false
     → is_none (components t).scheme ≡ true → is_empty (components t).path ≡ false
@@ -304,7 +304,7 @@ target-is-target-of-encoded allowed b t target u v h = (
   λ no. encoding-keeps-target-underflow b t target u v h.0 ∙ h.1 no,
 )
 
--- general fact on results, for resolving: one that is Ok has a target
+-- general fact on results, for targets of IRIs as URIs: one that is Ok has a target
 ok-result-has-target : (r : Result (List ℕ) TargetError) → is_ok r ≡ true → (target : List ℕ)
     × (r ≡ Ok target)
 ok-result-has-target (Ok target) e = (target, refl)

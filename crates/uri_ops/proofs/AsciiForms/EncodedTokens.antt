@@ -28,7 +28,7 @@ use Rattle.uri_pct.proofs.TableSets.Constants.{past_ascii_is_no_hexdigit}
 use Rattle.uri_pct.proofs.EncodedTexts.Encodings.{octets_decode_to_their_bytes}
 use Rattle.uri_pct.proofs.ValidTexts.Validity.{chars_not_pct_encoded_begin_no_octet}
 
--- the digits of a byte are two hexadecimal digits of its value
+-- IRIs as URIs: the digits that a byte is written with are hexadecimal, and have its value
 abbrev has_two_hex_digits : ℕ → Bool
 has_two_hex_digits v =
     let high = digit_glyph true (v / 16) in
@@ -40,10 +40,11 @@ has_two_hex_digits v =
 pub byte-digits-have-its-value : (v : ℕ) → v < 256 → has_two_hex_digits v ≡ true
 byte-digits-have-its-value v h = agree_below_at has_two_hex_digits (λ _. true) 256 v refl h
 
--- a character, and an octet of it
+-- IRIs as URIs: the `%XX` of a byte
 abbrev pub octet_text : ℕ → List ℕ
 octet_text b = text_of_token (Octet b)
 
+-- IRIs as URIs: the text of a character, percent-encoded if it is past ASCII
 abbrev encoded_char : ℕ → List ℕ
 encoded_char c = cond (ltb c 128) (c ∷ []) (flat_map octet_text (encode_utf8 c))
 
@@ -51,11 +52,12 @@ encoded_char c = cond (ltb c 128) (c ∷ []) (flat_map octet_text (encode_utf8 c
 encoded_chars : List ℕ → List ℕ
 encoded_chars cs = flat_map encoded_char cs
 
+-- IRIs as URIs: the tokens of a token, which are octets if it is a character past ASCII
 abbrev pub encoded_token : Token → List Token
 encoded_token (Char c) = cond (ltb c 128) (Char c ∷ []) (map Octet (encode_utf8 c))
 encoded_token (Octet value) = Octet value ∷ []
 
--- UTF-8: the bytes of a character past ASCII are all past ASCII
+-- IRIs as URIs: the bytes of a character past ASCII are all past ASCII
 character-past-ascii-has-no-ascii-byte : (c : ℕ) → 128 ≤ c
     → list_all is_no_ascii_byte (encode_utf8 c) ≡ true
 character-past-ascii-has-no-ascii-byte c h =
@@ -67,14 +69,14 @@ character-past-ascii-has-no-ascii-byte c h =
     high : (b : ℕ) → 128 ≤ b → is_no_ascii_byte b ≡ true
     high b h = grind (arith, nat_tests)
 
--- a Unicode scalar value is below 0x110000, for its UTF-8
+-- IRIs as URIs: a Unicode scalar value is below 0x110000, for its UTF-8
 scalar-is-below-0x110000 : (c : ℕ) → IsScalar c → c < 0x110000
 scalar-is-below-0x110000 c s = grind (arith, nat_tests)
 
 unfoldable pub is_byte : ℕ → Bool
 is_byte b = ltb b 256
 
--- general fact on numbers, for octets: one below 256 is a byte
+-- general fact on numbers, for IRIs as URIs: one below 256 is a byte
 number-below-256-is-byte : (b : ℕ) → b < 256 → is_byte b ≡ true
 unfolding is_byte
 number-below-256-is-byte b h = lt-ltb b 256 h
@@ -139,13 +141,14 @@ encoding-is-character-by-character (c ∷ cs) =
     (encoding-of-character-bytes c)
     ∙ ap (λ t. encoded_char c ++ t) (encoding-is-character-by-character cs)
 
--- octets: the digits that one is written with are ASCII
+-- IRIs as URIs: the digits that an octet is written with are ASCII
 hex-digit-glyphs-are-ascii : (v : ℕ) → v < 256
     → (ltb (digit_glyph true (v / 16)) 128 && ltb (digit_glyph true (v % 16)) 128) ≡ true
 hex-digit-glyphs-are-ascii v h = agree_below_at
     (λ v. ltb (digit_glyph true (v / 16)) 128 && ltb (digit_glyph true (v % 16)) 128) (λ _. true)
     256 v refl h
 
+-- IRIs as URIs: the byte is ASCII
 abbrev is_ascii_byte : ℕ → Bool
 is_ascii_byte c = ltb c 128
 
@@ -192,7 +195,7 @@ pub encoded-text-is-utf8 : (text : List ℕ) → IsUtf8 text → IsUtf8 (encode_
 encoded-text-is-utf8 text u = ascii-bytes-are-utf8 (encode_past_ascii text)
     (encoded-text-is-ascii text u)
 
--- tokens: a character that begins no percent-encoded octet is a token by itself
+-- IRIs as URIs, tokens: a character that begins no percent-encoded octet is a token by itself
 tokens-begin-with-literal-character : (c : ℕ) (cs : List ℕ)
     → (eqb c 37 && begins_with_hex_digits cs) ≡ false
     → tokens_from_chars (c ∷ cs) ≡ Char c ∷ tokens_from_chars cs
@@ -201,7 +204,7 @@ tokens-begin-with-literal-character c [] e = refl
 tokens-begin-with-literal-character c (d ∷ []) e = refl
 tokens-begin-with-literal-character c (h ∷ l ∷ cs) e = cond-false _ _ _ e
 
--- tokens: a `%XX` at the start is the octet of its byte
+-- IRIs as URIs, tokens: a `%XX` at the start is the octet of its byte
 tokens-begin-with-octet : (b : ℕ) (cs : List ℕ) → is_byte b ≡ true
     → tokens_from_chars (octet_text b ++ cs) ≡ Octet b ∷ tokens_from_chars cs
 unfolding is_byte tokens_from_chars is_pct_encoded
@@ -209,7 +212,7 @@ tokens-begin-with-octet b cs e =
     let p = and_parts _ _ (byte-digits-have-its-value b (ltb-true b 256 e)) in
     cond-true _ _ _ p.0 ∙ ap (λ n. Octet n ∷ tokens_from_chars cs) (eqb-true _ b p.1)
 
--- tokens: a run of `%XX` at the start is the octets of its bytes
+-- IRIs as URIs, tokens: a run of `%XX` at the start is the octets of its bytes
 tokens-begin-with-octets : (bs cs : List ℕ) → list_all is_byte bs ≡ true
     → tokens_from_chars (flat_map octet_text bs ++ cs) ≡ map Octet bs ++ tokens_from_chars cs
 tokens-begin-with-octets [] cs e = refl
@@ -282,19 +285,19 @@ tokens-of-encoded-character c cs s e ih =
     (cond-false _ _ _ (le-ltb c 128 h))))
     (cases_lt c 128)
 
--- tokens: an octet is `%` (37) and two hexadecimal digits
+-- IRIs as URIs, tokens: an octet is `%` (37) and two hexadecimal digits
 pct-encoded-is-percent-and-hex-digits : (c h l : ℕ) → is_pct_encoded c h l ≡ true
     → (eqb c 37 && (is_ascii_hexdigit h && is_ascii_hexdigit l)) ≡ true
 unfolding is_pct_encoded
 pct-encoded-is-percent-and-hex-digits c h l e = e
 
--- tokens: the empty text does not begin with two hexadecimal digits
+-- IRIs as URIs, tokens: the empty text does not begin with two hexadecimal digits
 empty-text-begins-with-no-hex-digits : (cs : List ℕ) → cs ≡ [] → begins_with_hex_digits cs ≡ false
 unfolding begins_with_hex_digits
 empty-text-begins-with-no-hex-digits [] e = refl
 empty-text-begins-with-no-hex-digits (c ∷ cs) e = cc
 
--- tokens: a single character is not two hexadecimal digits
+-- IRIs as URIs, tokens: a single character is not two hexadecimal digits
 one-character-is-not-two-hex-digits : (d : ℕ) → begins_with_hex_digits (d ∷ []) ≡ false
 unfolding begins_with_hex_digits
 one-character-is-not-two-hex-digits d = and_right _ _ refl

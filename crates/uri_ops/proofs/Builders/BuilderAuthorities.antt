@@ -64,7 +64,7 @@ pub authority-text-from-encoders : (kind : Kind) (users names : TableSet) → us
 authority-text-from-encoders kind users names u n text utf8 e =
     authority-text-from-rule kind text utf8 (sym (λ i. is_authority_for (u i) (n i) text) ∙ e)
 
--- an authority of which only the userinfo is built has the empty text as its host
+-- building: an authority of which only the userinfo is built has the empty text as its host
 empty-text-is-host : (names : TableSet) → (h : HostKind) × IsHost names [] h
 empty-text-is-host names =
     (is_authority_for-sound names names [] (empty_is_authority names names)).host
@@ -73,7 +73,7 @@ empty-text-is-host names =
 port-that-is-none-is-None : (p : AuthorityParts) → is_none p.port ≡ true → p.port ≡ None
 port-that-is-none-is-None p e = None-from-is_none p.port e
 
--- a text with these parts is an authority, and these are its parts
+-- building: the text is an authority that a builder may write, and these are its parts
 pub record IsAuthorityOfParts (kind : Kind) (text : List ℕ) (p : AuthorityParts) : Type 0 where
   pub rule : is_authority_text kind text ≡ true
   pub parts : authority_parts text ≡ p

@@ -31,7 +31,7 @@ use Rattle.uri_ops.proofs.Builders.BuilderAuthorities.{userinfo-begins-authority
 use Rattle.uri_ops.proofs.Builders.BuilderSteps.{text-with-more-authority-is-draft}
 use Rattle.uri_ops.proofs.Builders.Drafting.{IsDraftOfParts, absent-part-has-no-length}
 
--- a longer authority is an authority, and its next part may follow
+-- building: an authority that passes the test `takes`, with x appended, is one, and passes `then`
 abbrev pub ExtendsAuthority : Kind → (List ℕ → Bool) → (List ℕ → Bool) → List ℕ → Type 0
 ExtendsAuthority kind takes then x = (a : List ℕ) → is_authority_text kind a ≡ true → takes a ≡ true
     → (is_authority_text kind (a ++ x) ≡ true) × (then (a ++ x) ≡ true)
@@ -74,8 +74,7 @@ port-extends-open-authority kind sets digits d =
       refl,
     )
 
--- general fact on strings: their length is that of their bytes;
--- used for the positions in a builder's draft
+-- general fact on strings, for positions in a builder's draft: a length is that of the bytes
 pub string_len-is-length-of-bytes : {Z : Type 0} (s : String Z) → string_len s
     ≡ length (string_bytes s)
 string_len-is-length-of-bytes s = s.bytes.ok.0

@@ -32,7 +32,7 @@ use Rattle.uri_ops.proofs.Meanings.AllowedParts.{set-text-is-utf8, set-text-is-v
 use Rattle.uri_ops.proofs.Meanings.AsciiCharacters.{is_ascii_in, ascii-in-test-is-set-text}
 use Rattle.uri_ops.proofs.Meanings.AsciiCharacters.{ascii-in-test-is-utf8}
 
--- hosts: the test that every character passes
+-- building: the test that every character passes
 any_ascii : ℕ → Bool
 any_ascii c = ltb c 128
 

@@ -14,7 +14,7 @@ use Rattle.uri_ops.proofs.Builders.Drafting.{recompose-with-path-appended}
 use Rattle.uri_ops.proofs.Builders.Drafting.{recompose-with-query-appended}
 use Rattle.uri_ops.proofs.Builders.Drafting.{text-of-parts-is-their-draft}
 
--- the text of five components, each with its delimiters
+-- building: the text of five components, each with its delimiters
 abbrev whole : Option (List ℕ) → Option (List ℕ) → List ℕ → Option (List ℕ) → Option (List ℕ)
     → List ℕ
 whole scheme authority path query fragment =

@@ -81,7 +81,7 @@ passing-path-is-set-text : (set : TableSet) (o : Option (List ℕ))
 passing-path-is-set-text set None h = empty-text-is-set-text set
 passing-path-is-set-text set (Some x) h = text-for-set-is-set-text set x h
 
--- the paths that are not rejected
+-- building: the path may follow the scheme and the authority without any of the three errors
 record IsAcceptedPath (scheme authority : Option (List ℕ)) (path : List ℕ) : Type 0 where
   rooted : IfSome authority (λ a. IsAbemptyPath path)
   no_authority : IfNone authority (has_authority path ≡ false)
@@ -96,7 +96,7 @@ first_build_error scheme authority path =
     (cond (not (is_some scheme) && has_colon_in_first_segment path)
     (Some FirstPathSegmentContainsColon) None))
 
--- general fact on options, for a builder's error
+-- general fact on options, for a builder's error: one that is there is not None
 some-is-not-none : {A : Type 0} {x : A} → Some x ≡ None → ⊥
 some-is-not-none e = false≢true (sym (ap is_some e))
 

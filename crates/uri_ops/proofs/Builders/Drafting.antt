@@ -42,7 +42,7 @@ path-is-component-without-delimiters : (o : Option (List ℕ)) → unwrap_or o [
 path-is-component-without-delimiters None = refl
 path-is-component-without-delimiters (Some x) = sym (append-nil x)
 
--- general fact on records: parts of a builder are equal if each component is
+-- general fact on records, for a builder's parts: they are equal if each component is
 builder-parts-of-equal-components : {s1 s2 a1 a2 p1 p2 q1 q2 f1 f2 : Option (List ℕ)}
     {failed : Bool} → s1 ≡ s2 → a1 ≡ a2
     → p1 ≡ p2 → q1 ≡ q2 → f1 ≡ f2
@@ -116,7 +116,7 @@ text-of-parts-is-draft p lengths text f n t =
       counted = ap lengths_of same ∙ sym n;
     }
 
--- a step from a draft: the text and the lengths become those of the parts so changed
+-- building: the text and the lengths are a builder's draft, and these are its parts
 pub record IsDraftOfParts (p : BuilderParts) (lengths : Lengths) (text : List ℕ) : Type 0 where
   pub draft : IsDraft lengths text
   pub parts : parts_in lengths text false ≡ p
@@ -131,7 +131,7 @@ text-of-parts-is-their-draft p lengths text f n t = record {
   parts = ap (parts_in lengths text) (sym f) ∙ parts-from-their-lengths-and-text p lengths text n t;
 }
 
--- each part with its rule
+-- building: each of a builder's parts is absent or meets its rule
 pub record MeetsEachRule (kind : Kind) (p : BuilderParts) : Type 0 where
   pub scheme : absent_or_passes p.scheme is_scheme_text ≡ true
   pub authority : absent_or_passes p.authority (is_authority_text kind) ≡ true

@@ -14,11 +14,11 @@ use Rattle.std.proofs.lemmas.List.{get_or_past, length-replicate}
 use Rattle.std.proofs.lemmas.List.Elements.{All-nil, All-cons, All-append, All-replicate}
 use Rattle.std.proofs.lemmas.List.Elements.{All-get_or}
 
--- every number has 16 bits
+-- meanings of hosts: every number of an IPv6 address has 16 bits
 abbrev Fit16Bits : List ℕ → Type 0
 Fit16Bits segments = All (λ n. n < 2 ^ 16) segments
 
--- normal hosts: a group of an IPv6 address has 16 bits
+-- meanings of hosts: a group of an IPv6 address has 16 bits
 group-fits-16-bits : (group : List ℕ) (s : ℕ) → IsGroup group s → s < 2 ^ 16
 group-fits-16-bits group s h =
     let value = digits_value-lt 16 group h.0.0.1 in
@@ -26,7 +26,7 @@ group-fits-16-bits group s h =
     let same : 16 ^ 4 ≡ 2 ^ 16 = refl in
     omega (arith, value, most, same, h.0.1)
 
--- normal hosts: an IPv4 address at the end of an IPv6 address makes groups of 16 bits
+-- meanings of hosts: an IPv4 address at the end of an IPv6 address makes groups of 16 bits
 ipv4-segments-fit-16-bits : (text octets : List ℕ) → IsDotted text octets
     → Fit16Bits (segments_of octets)
 ipv4-segments-fit-16-bits text octets h =
@@ -39,7 +39,7 @@ ipv4-segments-fit-16-bits text octets h =
     two : (a b : ℕ) → a < 256 → b < 256 → a * 256 + b < 2 ^ 16
     two a b p q = let same : 65536 ≡ 2 ^ 16 = refl in omega arith
 
--- normal hosts: the groups of an IPv6 address have 16 bits; ipv4: whether an IPv4 address ends
+-- meanings of hosts: the groups of an IPv6 address have 16 bits; ipv4: whether an IPv4 address ends
 -- them, lead: what is before each
 groups-fit-16-bits : (ipv4 : Bool) (lead text segments : List ℕ)
     → IsGroupsAfter ipv4 lead text segments
@@ -51,11 +51,11 @@ groups-fit-16-bits ipv4 lead text (s ∷ segments) (inl (group, rest, e, is_grou
 groups-fit-16-bits ipv4 lead text (s ∷ segments) (inr (last, octets, allowed, e, dotted, same)) =
     subst Fit16Bits (sym same) (ipv4-segments-fit-16-bits last octets dotted)
 
--- normal hosts: the groups that `::` stands for have 16 bits
+-- meanings of hosts: the groups that `::` stands for have 16 bits
 zeros-fit-16-bits : (n : ℕ) → Fit16Bits (replicate n 0)
 zeros-fit-16-bits n = All-replicate (λ n. n < 2 ^ 16) n 0 (lit< tt)
 
--- normal hosts: the numbers of an IPv6 address have 16 bits
+-- meanings of hosts: the numbers of an IPv6 address have 16 bits
 ipv6-segments-fit-16-bits : (text segments : List ℕ) → IsColonHex text segments → Fit16Bits segments
 ipv6-segments-fit-16-bits text segments (inl h) = groups-fit-16-bits true [] text segments h.0
 ipv6-segments-fit-16-bits text segments (inr h) =
@@ -66,7 +66,7 @@ ipv6-segments-fit-16-bits text segments (inr h) =
     (zeros-fit-16-bits (8 - length h.head - length h.tail)))
     (groups-fit-16-bits true [] h.tail_text h.tail h.tail_groups))
 
--- normal hosts: an IPv6 address has eight numbers
+-- meanings of hosts: an IPv6 address has eight numbers
 ipv6-text-has-eight-segments : (text segments : List ℕ) → IsColonHex text segments
     → length segments ≡ 8
 ipv6-text-has-eight-segments text segments (inl h) = h.1
@@ -82,7 +82,7 @@ ipv6-text-has-eight-segments text segments (inr h) =
       h.room,
     )
 
--- normal hosts: the text of an IPv6 address by RFC 5952 has the same eight numbers
+-- meanings of hosts: the text of an IPv6 address by RFC 5952 has the same eight numbers
 pub ipv6_text-has-its-segments : (text segments : List ℕ) → IsColonHex text segments
     → IsColonHex (ipv6_text segments) segments
 ipv6_text-has-its-segments text segments h =

@@ -33,24 +33,24 @@ use Rattle.uri_pct.proofs.UnreservedDecoding.DecodedTwice.{decode_unreserved_is_
 unfoldable pub is_set_text : TableSet → List ℕ → Bool
 is_set_text set text = is_utf8 text && is_valid_for set text
 
--- normal forms: a valid text in UTF-8 passes the test `is_set_text` of the set
+-- meanings of components: a valid text in UTF-8 passes the test `is_set_text` of the set
 pub set-text-from-utf8 : (set : TableSet) (text : List ℕ) → IsUtf8 text → IsValidFor set text
     → is_set_text set text ≡ true
 unfolding is_set_text
 set-text-from-utf8 set text u v = and_from _ _ (is_utf8-from_IsUtf8 text u) v
 
--- normal forms: a text that passes the test `is_set_text` is UTF-8
+-- meanings of components: a text that passes the test `is_set_text` is UTF-8
 pub set-text-is-utf8 : (set : TableSet) (text : List ℕ) → is_set_text set text ≡ true → IsUtf8 text
 unfolding is_set_text
 set-text-is-utf8 set text e = IsUtf8-from_is_utf8 text (and_parts (is_utf8 text) _ e).0
 
--- normal forms: a text that passes the test `is_set_text` is valid for the set
+-- meanings of components: a text that passes the test `is_set_text` is valid for the set
 pub set-text-is-valid : (set : TableSet) (text : List ℕ) → is_set_text set text ≡ true
     → IsValidFor set text
 unfolding is_set_text
 set-text-is-valid set text e = (and_parts (is_utf8 text) _ e).1
 
--- normal forms: the empty text is UTF-8, and valid for each set
+-- meanings of components: the empty text is UTF-8, and valid for each set
 pub empty-text-is-set-text : (set : TableSet) → is_set_text set [] ≡ true
 unfolding is_valid_for tokens_from_chars chars
 empty-text-is-set-text set = set-text-from-utf8 set [] IsUtf8-nil refl
@@ -59,7 +59,7 @@ empty-text-is-set-text set = set-text-from-utf8 set [] IsUtf8-nil refl
 unfoldable pub print_decoded : TableSet → List ℕ → List ℕ
 print_decoded set text = print (decode_unreserved set text)
 
--- normal forms: the empty text decodes to the empty text
+-- meanings of components: the empty text decodes to the empty text
 pub print_decoded-of-nil-is-nil : (set : TableSet) → print_decoded set [] ≡ []
 unfolding print_decoded chars tokens_from_chars decode_after_run decode_run pieces_from
 print_decoded-of-nil-is-nil set = refl
@@ -107,20 +107,20 @@ module _ (set : TableSet) (lacks : LacksPercent set) where
       (decoded-text-is-utf8 text e)
       (printed_decode_unreserved_stays_valid set text lacks wide (set-text-is-valid set text e))
 
--- tokens: `/` (47) is no first digit of an octet
+-- meanings, by tokens: `/` (47) is no first digit of an octet
 slash-is-no-first-hex-digit : (c d : ℕ) → is_pct_encoded c 47 d ≡ false
 unfolding is_pct_encoded
 slash-is-no-first-hex-digit c d = and_right (eqb c 37) (is_ascii_hexdigit 47 && is_ascii_hexdigit d)
     refl
 
--- tokens: `/` (47) is no second digit of an octet
+-- meanings, by tokens: `/` (47) is no second digit of an octet
 slash-is-no-second-hex-digit : (c d : ℕ) → is_pct_encoded c d 47 ≡ false
 unfolding is_pct_encoded
 slash-is-no-second-hex-digit c d = and_right (eqb c 37)
     (is_ascii_hexdigit d && is_ascii_hexdigit 47)
     (and_right (is_ascii_hexdigit d) false refl)
 
--- tokens: those of characters with a `/` (47) are those on each side of it, and it
+-- meanings, by tokens: those of characters with a `/` (47) are those on each side of it, and it
 tokens_from_chars-splits-at-slash : (cs ds : List ℕ)
     → tokens_from_chars (cs ++ 47 ∷ ds) ≡ tokens_from_chars cs ++ Char 47 ∷ tokens_from_chars ds
 unfolding tokens_from_chars
@@ -138,13 +138,13 @@ tokens_from_chars-splits-at-slash (c ∷ h ∷ l ∷ cs) ds = ⊎_elim
     (λ e. rw e (ap (λ ts. Char c ∷ ts) (tokens_from_chars-splits-at-slash (h ∷ l ∷ cs) ds)))
     (cases_Bool (is_pct_encoded c h l))
 
--- paths: the first character of a text that begins with `/` (47) is `/`
+-- meanings of paths: the first character of a text that begins with `/` (47) is `/`
 chars-of-leading-slash : (y : List ℕ) → chars (47 ∷ y) ≡ 47 ∷ chars y
 unfolding chars
 chars-of-leading-slash [] = refl
 chars-of-leading-slash (b ∷ y) = refl
 
--- tokens: those of a text with a `/` (47) are those on each side of it, and it
+-- meanings, by tokens: those of a text with a `/` (47) are those on each side of it, and it
 tokens-split-at-slash : (x y : List ℕ) → IsUtf8 x → tokens (x ++ 47 ∷ y)
     ≡ tokens x ++ Char 47 ∷ tokens y
 tokens-split-at-slash x y u =
@@ -152,7 +152,7 @@ tokens-split-at-slash x y u =
     ∙ ap (λ cs. chars x ++ cs) (chars-of-leading-slash y))
     ∙ tokens_from_chars-splits-at-slash (chars x) (chars y)
 
--- normal paths: what is before a `/` (47) and what is after it are decoded separately
+-- meanings of paths: what is before a `/` (47) and what is after it are decoded separately
 decode_unreserved-splits-at-slash : (set : TableSet) (x y : List ℕ) → IsUtf8 x
     → decode_unreserved set (x ++ 47 ∷ y) ≡ decode_unreserved set x ++ Char 47
     ∷ decode_unreserved set y
@@ -163,21 +163,21 @@ decode_unreserved-splits-at-slash set x y u =
     (decode_tokens set (tokens y))
     (lit< tt)
 
--- tokens: what is written with a `/` (47) is what is written on each side of it, and it
+-- meanings, by tokens: tokens are written on each side of a `/` (47) by themselves
 print-splits-at-slash : (ts us : List Token) → print (ts ++ Char 47 ∷ us)
     ≡ print ts ++ 47 ∷ print us
 print-splits-at-slash ts us =
     let slash : encode_utf8 47 ≡ 47 ∷ [] = encode_ascii 47 (lit< tt) in
     flat_map-append text_of_token ts (Char 47 ∷ us) ∙ ap (λ t. print ts ++ (t ++ print us)) slash
 
--- normal forms: a path is decoded on each side of a `/` (47) by itself
+-- meanings of paths: a path is decoded on each side of a `/` (47) by itself
 pub decoding-splits-at-slash : (set : TableSet) (x y : List ℕ) → IsUtf8 x
     → print_decoded set (x ++ 47 ∷ y) ≡ print_decoded set x ++ 47 ∷ print_decoded set y
 unfolding print_decoded
 decoding-splits-at-slash set x y u = ap print (decode_unreserved-splits-at-slash set x y u)
     ∙ print-splits-at-slash (decode_unreserved set x) (decode_unreserved set y)
 
--- paths: a text with a `/` (47) is valid exactly if the set has `/`, and both sides are valid
+-- meanings of paths: a text with a `/` (47) is valid exactly if `/` and both sides are
 pub validity-splits-at-slash : (set : TableSet) (x y : List ℕ) → IsUtf8 x
     → is_valid_for set (x ++ 47 ∷ y) ≡ (is_valid_for set x && (allows set 47 && is_valid_for set y))
 unfolding is_valid_for

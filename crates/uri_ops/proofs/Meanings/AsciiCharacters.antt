@@ -19,7 +19,7 @@ use Rattle.uri_parts.specs.Grammar.{is_scheme}
 pub use Rattle.uri_parts.proofs.TextKinds.AsciiSets.{is_ascii_in, valid_ascii_text}
 use Rattle.uri_ops.proofs.Meanings.AllowedParts.{is_set_text, set-text-from-utf8}
 
--- schemes and the like: characters that pass an ASCII test are ASCII
+-- meanings of schemes: characters that pass an ASCII test are ASCII
 ascii-in-test-is-ascii : (test : ℕ → Bool) (text : List ℕ) → list_all (is_ascii_in test) text ≡ true
     → IsAscii text
 ascii-in-test-is-ascii test [] e i = omega arith
@@ -28,17 +28,17 @@ ascii-in-test-is-ascii test (b ∷ bs) e zero =
 ascii-in-test-is-ascii test (b ∷ bs) e (suc i) = ascii-in-test-is-ascii test bs
     (and_parts (is_ascii_in test b) _ e).1 i
 
--- schemes and the like: ASCII characters that pass a test are UTF-8
+-- meanings of schemes: ASCII characters that pass a test are UTF-8
 pub ascii-in-test-is-utf8 : (test : ℕ → Bool) (text : List ℕ) → list_all (is_ascii_in test) text
     ≡ true
     → IsUtf8 text
 ascii-in-test-is-utf8 test text e = IsUtf8-from_ascii text (ascii-in-test-is-ascii test text e)
 
--- schemes and the like: the test that every character passes
+-- meanings of schemes: the test that every character passes
 any_char : ℕ → Bool
 any_char c = true
 
--- schemes and the like: ASCII bytes pass the ASCII test that each character passes
+-- meanings of schemes: ASCII bytes pass the ASCII test that each character passes
 ascii-bytes-are-ascii-in-any_char : (text : List ℕ) → list_all (λ c. ltb c 128) text ≡ true
     → list_all (is_ascii_in any_char) text ≡ true
 unfolding any_char
@@ -47,18 +47,18 @@ ascii-bytes-are-ascii-in-any_char (c ∷ text) e = let p = and_parts (ltb c 128)
     (list_all (λ c. ltb c 128) text) e in
     and_from _ _ (and_from _ true p.0 refl) (ascii-bytes-are-ascii-in-any_char text p.1)
 
--- schemes and the like: bytes below 128 are an ASCII text
+-- meanings of schemes: bytes below 128 are an ASCII text
 pub ascii-bytes-are-ascii-text : (text : List ℕ) → list_all (λ c. ltb c 128) text ≡ true
     → IsAscii text
 ascii-bytes-are-ascii-text text e = ascii-in-test-is-ascii any_char text
     (ascii-bytes-are-ascii-in-any_char text e)
 
--- a text of ASCII bytes is UTF-8
+-- meanings of schemes: a text of ASCII bytes is UTF-8
 pub ascii-bytes-are-utf8 : (text : List ℕ) → list_all (λ c. ltb c 128) text ≡ true → IsUtf8 text
 ascii-bytes-are-utf8 text e = ascii-in-test-is-utf8 any_char text
     (ascii-bytes-are-ascii-in-any_char text e)
 
--- schemes and the like: ASCII characters that pass a test are valid for each set that has them all
+-- meanings of schemes: ASCII characters that pass a test are valid for each set that has them all
 ascii-in-test-is-valid-for-set : (set : TableSet) (test : ℕ → Bool) → test 37 ≡ false
     → ((c : ℕ) → test c ≡ true → set.ascii c ≡ true) → (bs : List ℕ)
     → list_all (is_ascii_in test) bs ≡ true → valid_from set 0 bs ≡ true
@@ -75,7 +75,7 @@ ascii-in-test-is-valid-for-set set test lacks within (b ∷ bs) e =
     (ap (λ n. valid_from set n bs) (cond-true _ _ _ (lt-ltb b 128 low))
     ∙ ascii-in-test-is-valid-for-set set test lacks within bs p.1)
 
--- schemes and the like: ASCII characters that pass a test are valid for a set that has them all
+-- meanings of schemes: ASCII characters that pass a test are valid for a set that has them all
 pub ascii-in-test-is-set-text : (set : TableSet) (test : ℕ → Bool) → LacksPercent set
     → test 37 ≡ false
     → ((c : ℕ) → test c ≡ true → set.ascii c ≡ true) → (text : List ℕ)
@@ -85,7 +85,7 @@ ascii-in-test-is-set-text set test percent lacks within text e =
     set-text-from-utf8 set text u (validity_of_tokens_is_validity_of_bytes set percent text u
     ∙ ascii-in-test-is-valid-for-set set test lacks within text e)
 
--- schemes and the like: characters that pass one ASCII test pass a wider one
+-- meanings of schemes: characters that pass one ASCII test pass a wider one
 pub ascii-passes-wider-test : (test wide : ℕ → Bool) → ((c : ℕ) → test c ≡ true → wide c ≡ true)
     → (text : List ℕ) → list_all (is_ascii_in test) text ≡ true
     → list_all (is_ascii_in wide) text ≡ true
@@ -96,7 +96,7 @@ ascii-passes-wider-test test wide within (c ∷ text) e =
     and_from _ _ (and_from _ _ q.0 (within c q.1))
     (ascii-passes-wider-test test wide within text p.1)
 
--- schemes and the like: a text passes an ASCII test in lower case, if each lowered character does
+-- meanings of schemes: a text passes an ASCII test in lower case, if each lowered character does
 pub lowered-ascii-passes-test : (test : ℕ → Bool)
     → ((c : ℕ) → test c ≡ true → test (to_ascii_lowercase c) ≡ true)
     → (text : List ℕ) → list_all (is_ascii_in test) text ≡ true
@@ -108,7 +108,7 @@ lowered-ascii-passes-test test keeps (c ∷ text) e =
     and_from _ _ (and_from _ _ (lt-ltb _ 128 (lowercase_ascii c (ltb-true c 128 q.0)))
     (keeps c q.1)) (lowered-ascii-passes-test test keeps text p.1)
 
--- normal schemes and hosts: lower case twice is lower case once
+-- meanings of schemes and hosts: lower case twice is lower case once
 pub lowering-is-idempotent : (text : List ℕ)
     → str_to_ascii_lowercase (str_to_ascii_lowercase text) ≡ str_to_ascii_lowercase text
 lowering-is-idempotent [] = refl
@@ -117,28 +117,28 @@ lowering-is-idempotent (c ∷ text) = ap
     (lowercase-lowercase c)
     ∙ ap (λ t. to_ascii_lowercase c ∷ t) (lowering-is-idempotent text)
 
--- schemes: a character of a scheme is one in lower case
+-- meanings of schemes: a character of a scheme is one in lower case
 lowered-scheme-character-is-scheme-character : (c : ℕ) → is_scheme_char c ≡ true
     → is_scheme_char (to_ascii_lowercase c) ≡ true
 lowered-scheme-character-is-scheme-character c e = grind (arith, nat_tests)
 
--- schemes: a letter in lower case is a letter
+-- meanings of schemes: a letter in lower case is a letter
 lowered-letter-is-letter : (c : ℕ) → is_ascii_alphabetic c ≡ true
     → is_ascii_alphabetic (to_ascii_lowercase c) ≡ true
 lowered-letter-is-letter c e = grind (arith, nat_tests)
 
--- schemes: a text whose first byte is a letter has one in lower case too
+-- meanings of schemes: a text whose first byte is a letter has one in lower case too
 lowered-text-keeps-leading-letter : (text : List ℕ) → is_ascii_alphabetic (slice_index text 0)
     ≡ true
     → is_ascii_alphabetic (slice_index (str_to_ascii_lowercase text) 0) ≡ true
 lowered-text-keeps-leading-letter [] e = e
 lowered-text-keeps-leading-letter (c ∷ text) e = lowered-letter-is-letter c e
 
--- schemes: `%` (37) is not a character of a scheme
+-- meanings of schemes: `%` (37) is not a character of a scheme
 pub percent-is-no-scheme-character : is_scheme_char 37 ≡ false
 percent-is-no-scheme-character = refl
 
--- normal schemes: a scheme in lower case is a scheme
+-- meanings of schemes: a scheme in lower case is a scheme
 pub lowered-scheme-is-scheme : (text : List ℕ) → IsUtf8 text → is_scheme text ≡ true
     → is_scheme (str_to_ascii_lowercase text) ≡ true
 lowered-scheme-is-scheme text u e =
@@ -150,7 +150,7 @@ lowered-scheme-is-scheme text u e =
     (valid_ascii_text is_scheme_char percent-is-no-scheme-character (str_to_ascii_lowercase text)
     (ascii-in-test-is-utf8 is_scheme_char (str_to_ascii_lowercase text) all) ∙ all)
 
--- normal schemes: a scheme in lower case is UTF-8
+-- meanings of schemes: a scheme in lower case is UTF-8
 pub lowered-scheme-is-utf8 : (text : List ℕ) → IsUtf8 text → is_scheme text ≡ true
     → IsUtf8 (str_to_ascii_lowercase text)
 lowered-scheme-is-utf8 text u e =

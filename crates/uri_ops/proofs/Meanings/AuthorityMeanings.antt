@@ -44,7 +44,7 @@ use Rattle.uri_ops.proofs.Normal.NormalComponents.{normal-component-decodes-as-c
 use Rattle.uri_ops.proofs.Normal.NormalComponents.{part-lacks-excluded-characters}
 use Rattle.uri_pct.proofs.Tests.{IfSome-combine, IfSome-weaken}
 
--- authorities: a set that has none of some delimiters excludes each of them
+-- meanings of authorities: a set that has none of some delimiters excludes each of them
 no-delimiter-allowed-excludes-each : (set : TableSet) (marks : List ℕ) → list_any set.ascii marks
     ≡ false
     → list_all (λ c. not (set.ascii c)) marks ≡ true
@@ -53,7 +53,7 @@ no-delimiter-allowed-excludes-each set (m ∷ marks) e = let p = or_parts (set.a
     (list_any set.ascii marks) e in
     and_from _ _ (not_from_false _ p.0) (no-delimiter-allowed-excludes-each set marks p.1)
 
--- authorities: a set that excludes some delimiters excludes some of them
+-- meanings of authorities: a set that excludes some delimiters excludes some of them
 fewer-delimiters-are-excluded-too : (set : TableSet) (all some : List ℕ)
     → list_all (is_one_of all) some ≡ true
     → list_any set.ascii all ≡ false → list_any set.ascii some ≡ false
@@ -64,7 +64,7 @@ fewer-delimiters-are-excluded-too set all (m ∷ some) within e =
     (no-delimiter-allowed-excludes-each set all e) m p.0))
     (fewer-delimiters-are-excluded-too set all some p.1 e)
 
--- normal authorities: userinfo and host of a kind cannot contain what ends an authority
+-- meanings of authorities: userinfo and host of a kind cannot contain what ends an authority
 pub kind-sets-lack-authority-delimiters : (kind : Kind) → HasComponentSets kind
     → LackAuthorityDelimiters kind.userinfo kind.reg_name
 kind-sets-lack-authority-delimiters kind sets = record {
@@ -76,13 +76,13 @@ kind-sets-lack-authority-delimiters kind sets = record {
       (codes "@:[") refl sets.reg_name.ends;
 }
 
--- the parts of an authority in UTF-8 are
+-- meanings of authorities: userinfo, host and port are UTF-8
 pub record PartsUtf8 (p : AuthorityParts) : Type 0 where
   pub userinfo : IfSome p.userinfo IsUtf8
   pub host : IsUtf8 p.host
   pub port : IfSome p.port IsUtf8
 
--- authorities: host and port of a text in UTF-8 are UTF-8
+-- meanings of authorities: host and port of a text in UTF-8 are UTF-8
 host-and-port-of-utf8-are-utf8 : (host : List ℕ) (port : Option (List ℕ))
     → IsUtf8 (host ++ marked (codes ":") port [])
     → IsUtf8 host × IfSome port IsUtf8
@@ -91,7 +91,7 @@ host-and-port-of-utf8-are-utf8 host (Some digits) u =
     let apart = utf8_around_ascii_byte host 58 (digits ++ []) (omega arith) u in
     (apart.0, subst IsUtf8 (append-nil digits) apart.1)
 
--- authorities: userinfo, host and port of an authority in UTF-8 are UTF-8
+-- meanings of authorities: userinfo, host and port of an authority in UTF-8 are UTF-8
 pub authority-parts-are-utf8 : (userinfo port : Option (List ℕ)) (host : List ℕ)
     → IsUtf8 (marked [] userinfo (codes "@") ++ (host ++ marked (codes ":") port []))
     → PartsUtf8 (record { userinfo = userinfo; host = host; port = port })
@@ -104,28 +104,28 @@ authority-parts-are-utf8 (Some user) port host u =
     let suffix = host-and-port-of-utf8-are-utf8 host port apart.1 in
     record { userinfo = apart.0; host = suffix.0; port = suffix.1 }
 
--- authorities: a port with its `:`, if there is one, is UTF-8
+-- meanings of authorities: a port with its `:`, if there is one, is UTF-8
 port-with-colon-is-utf8 : (port : Option (List ℕ)) → IfSome port IsUtf8
     → IsUtf8 (marked (codes ":") port [])
 port-with-colon-is-utf8 None u = IsUtf8-nil
 port-with-colon-is-utf8 (Some digits) u = IsUtf8-append (58 ∷ digits) []
     (IsUtf8-append (codes ":") digits (ascii-bytes-are-utf8 (codes ":") refl) u) IsUtf8-nil
 
--- authorities: a userinfo with its `@`, if there is one, is UTF-8
+-- meanings of authorities: a userinfo with its `@`, if there is one, is UTF-8
 userinfo-with-at-sign-is-utf8 : (userinfo : Option (List ℕ)) → IfSome userinfo IsUtf8
     → IsUtf8 (marked [] userinfo (codes "@"))
 userinfo-with-at-sign-is-utf8 None u = IsUtf8-nil
 userinfo-with-at-sign-is-utf8 (Some user) u = IsUtf8-append user (codes "@") u
     (ascii-bytes-are-utf8 (codes "@") refl)
 
--- authorities: the text of components in UTF-8 is UTF-8
+-- meanings of authorities: the text of components in UTF-8 is UTF-8
 recomposed-authority-is-utf8 : (p : AuthorityParts) → PartsUtf8 p → IsUtf8 (recompose_authority p)
 recomposed-authority-is-utf8 p u = IsUtf8-append (marked [] p.userinfo (codes "@"))
     (p.host ++ marked (codes ":") p.port []) (userinfo-with-at-sign-is-utf8 p.userinfo u.userinfo)
     (IsUtf8-append p.host (marked (codes ":") p.port []) u.host
     (port-with-colon-is-utf8 p.port u.port))
 
--- authorities: a userinfo with its `@`, if there is one, has no delimiter that ends an authority
+-- meanings of authorities: a userinfo with its `@`, if there is one, has no `/`, `?` or `#`
 userinfo-with-at-sign-lacks-authority-ends : (userinfo : Option (List ℕ))
     → IfSome userinfo (Lacks (codes "/?#"))
     → Lacks (codes "/?#") (marked [] userinfo (codes "@"))
@@ -135,7 +135,7 @@ userinfo-with-at-sign-lacks-authority-ends (Some user) h = joined-texts-lack-mar
     (codes "/?#") user (codes "@") h
     (test-of-delimiters-gives-lacks (codes "/?#") (codes "@") refl)
 
--- authorities: a port with its `:`, if there is one, has no delimiter that ends an authority
+-- meanings of authorities: a port with its `:`, if there is one, has no `/`, `?` or `#`
 port-with-colon-lacks-authority-ends : (port : Option (List ℕ)) → IfSome port (Lacks (codes "/?#"))
     → Lacks (codes "/?#") (marked (codes ":") port [])
 port-with-colon-lacks-authority-ends None h = test-of-delimiters-gives-lacks (codes "/?#") [] refl
@@ -145,7 +145,7 @@ port-with-colon-lacks-authority-ends (Some digits) h =
     (test-of-delimiters-gives-lacks (codes "/?#") (codes ":") refl)
     h) (test-of-delimiters-gives-lacks (codes "/?#") [] refl)
 
--- authorities: if no component has a `/`, `?` or `#`, the recomposed authority has none
+-- meanings of authorities: if no component has a `/`, `?` or `#`, the recomposed authority has none
 pub authority-text-lacks-its-ends : (p : AuthorityParts) → IfSome p.userinfo (Lacks (codes "/?#"))
     → Lacks (codes "/?#") p.host → IfSome p.port (Lacks (codes "/?#"))
     → Lacks (codes "/?#") (recompose_authority p)
@@ -156,7 +156,7 @@ authority-text-lacks-its-ends p user host port =
     (joined-texts-lack-marks (codes "/?#") p.host (marked (codes ":") p.port []) host
     (port-with-colon-lacks-authority-ends p.port port))
 
--- default ports: what holds of a port, if there is one, holds of the port that its meaning keeps
+-- meanings of ports: what holds of a port, if there is one, holds of the one that its meaning keeps
 port_meaning-keeps-property : (default : Option ℕ) (port : Option (List ℕ)) (P : List ℕ → Type 0)
     → IfSome port P
     → IfSome (port_meaning default port) P
@@ -168,8 +168,8 @@ port_meaning-keeps-property default (Some digits) P h = kept
     kept true = tt
     kept false = h
 
--- default ports: a port that is kept is its own meaning without a default;
--- t: whether it is left out
+-- meanings of ports: a port that is kept is its own meaning without a default; t: whether it is
+-- left out
 kept-port-is-its-bare-meaning : (default : Option ℕ) (digits : List ℕ) (t : Bool)
     → (is_empty digits || is_default default digits) ≡ t
     → port_meaning None (cond t None (Some digits)) ≡ cond t None (Some digits)
@@ -177,7 +177,7 @@ kept-port-is-its-bare-meaning default digits true e = refl
 kept-port-is-its-bare-meaning default [] false e = cc
 kept-port-is-its-bare-meaning default (d ∷ digits) false e = refl
 
--- default ports: the meaning of a port under a default is its own meaning without one
+-- meanings of ports: the meaning of a port under a default is its own meaning without one
 port_meaning-is-its-own-bare-meaning : (default : Option ℕ) (port : Option (List ℕ))
     → port_meaning None (port_meaning default port) ≡ port_meaning default port
 port_meaning-is-its-own-bare-meaning default None = refl
@@ -291,7 +291,7 @@ module _ (kind : Kind) (sets : HasComponentSets kind) (default : Option ℕ) (a 
       normal-authority-parts-are-utf8.port
       normal-authority-follows-grammar.port)
 
--- normal authorities: an authority that is written from its meaning is one and has that meaning
+-- meanings of authorities: an authority written from its meaning is one, and has that meaning
 pub normal-authorities-are-authorities : (kind : Kind) → HasComponentSets kind
     → NormalAuthoritiesKeepMeaning kind
 normal-authorities-are-authorities kind sets = record {

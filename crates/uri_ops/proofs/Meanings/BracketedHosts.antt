@@ -16,14 +16,14 @@ use Rattle.uri_parts.specs.declared.net.Ipv6Addr.{Ipv6Addr}
 use Rattle.uri_ops.specs.Meaning.{host_meaning}
 use Rattle.uri_ops.specs.Normal.{host_text}
 
--- normal hosts: an IPv4 address is written as a name is, decoded and in lower case
+-- meanings of hosts: an IPv4 address is written as a name is, decoded and in lower case
 name_kind-prints-lowered-decoded-name : (names : TableSet) (host : List ℕ) (value : Option (List ℕ))
     → host_text (host_meaning names host (name_kind value))
     ≡ print (map lower_token (decode_unreserved names host))
 name_kind-prints-lowered-decoded-name names host None = refl
 name_kind-prints-lowered-decoded-name names host (Some octets) = refl
 
--- normal hosts: a host without `[` (91) is written decoded and in lower case
+-- meanings of hosts: a host without `[` (91) is written decoded and in lower case
 pub normal-name-is-lowered-decoded : (names : TableSet) (host : List ℕ) → starts 91 host ≡ false
     → host_text (host_meaning names host (host_kind host))
     ≡ print (map lower_token (decode_unreserved names host))
@@ -32,7 +32,7 @@ normal-name-is-lowered-decoded names host s = ap (λ k. host_text (host_meaning 
     (cond-false _ _ _ s)
     ∙ name_kind-prints-lowered-decoded-name names host (ipv4_value host)
 
--- hosts: what is in brackets, and is no IPv6 address, is an IPvFuture address
+-- meanings of hosts: what is in brackets, and is no IPv6 address, is an IPvFuture address
 literal-without-ipv6-is-ipvfuture : {N : Type 0} (h : HostOf N) (value : Option (List ℕ))
     → ((x : Ipv6Addr) → h ≡ Of.Ipv6 x → ⊥) → host_kind_of h ≡ literal_kind value
     → literal_kind value ≡ IpvFuture
@@ -43,7 +43,7 @@ literal-without-ipv6-is-ipvfuture Of.IpvFuture value other e = sym e
 literal-without-ipv6-is-ipvfuture (Of.RegName name) None other e = cc
 literal-without-ipv6-is-ipvfuture (Of.RegName name) (Some segments) other e = absurd (cc)
 
--- normal hosts: a host in brackets that is no IPv6 address is written in lower case
+-- meanings of hosts: a host in brackets that is no IPv6 address is written in lower case
 pub normal-ipvfuture-is-lowered : {N : Type 0} (h : HostOf N) (names : TableSet) (host : List ℕ)
     → ((x : Ipv6Addr) → h ≡ Of.Ipv6 x → ⊥) → starts 91 host ≡ true → host_kind_of h ≡ host_kind host
     → host_text (host_meaning names host (host_kind host)) ≡ str_to_ascii_lowercase host

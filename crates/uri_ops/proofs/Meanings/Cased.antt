@@ -26,19 +26,19 @@ use Rattle.uri_ops.specs.Models.Decodings.{lowered_if, lowered_text_if}
 use Rattle.uri_pct.proofs.UnreservedDecoding.Formatting.{lowering_keeps_octets}
 use Rattle.uri_pct.proofs.UnreservedDecoding.Formatting.{lowercase_keeps_char_past_ascii}
 
--- tokens: literal characters are written as their UTF-8
+-- meanings in lower case: literal tokens are written as the UTF-8 of their characters
 print-of-characters-is-their-utf8 : (cs : List ℕ) → print (map Char cs) ≡ encode_utf8_all cs
 print-of-characters-is-their-utf8 [] = refl
 print-of-characters-is-their-utf8 (c ∷ cs) = ap (λ x. encode_utf8 c ++ x)
     (print-of-characters-is-their-utf8 cs)
 
--- normal forms: the characters of a text, written as tokens, are the text
+-- meanings in lower case: the characters of a text, written as tokens, are the text
 pub print-of-characters-is-text : (text : List ℕ) → IsUtf8 text → print (map Char (chars text))
     ≡ text
 print-of-characters-is-text text u = print-of-characters-is-their-utf8 (chars text)
     ∙ encodes-chars text u
 
--- normal forms: bytes past ASCII have no letters to lower
+-- meanings in lower case: bytes past ASCII have no letters to lower
 pub bytes-past-ascii-stay-when-lowered : (bytes : List ℕ) → ArePastAscii bytes
     → str_to_ascii_lowercase bytes ≡ bytes
 bytes-past-ascii-stay-when-lowered [] past = refl
@@ -48,7 +48,7 @@ bytes-past-ascii-stay-when-lowered (b ∷ bytes) past =
     ∙ ap (λ x. b ∷ x) (bytes-past-ascii-stay-when-lowered bytes
     (All-tail (λ x. 128 ≤ x) b bytes past))
 
--- normal forms: bytes without ASCII are past ASCII
+-- meanings in lower case: bytes without ASCII are past ASCII
 bytes-without-ascii-are-past-ascii : (bytes : List ℕ) → list_all is_no_ascii_byte bytes ≡ true
     → ArePastAscii bytes
 bytes-without-ascii-are-past-ascii [] e = All-nil (λ x. 128 ≤ x)
@@ -57,7 +57,7 @@ bytes-without-ascii-are-past-ascii (b ∷ bytes) e =
     All-cons (λ x. 128 ≤ x) b bytes (leb-true 128 b p.0)
     (bytes-without-ascii-are-past-ascii bytes p.1)
 
--- normal forms: a character past ASCII stays in lower case
+-- meanings in lower case: a character past ASCII stays in lower case
 character-past-ascii-stays-when-lowered : (c : ℕ) → 128 ≤ c → map to_ascii_lowercase (encode_utf8 c)
     ≡ encode_utf8 c
 character-past-ascii-stays-when-lowered c h =
@@ -70,7 +70,7 @@ character-past-ascii-stays-when-lowered c h =
     (bytes-without-ascii-are-past-ascii w.more w.high))
     ∙ sym w.joined
 
--- normal forms: lowering a character and writing it in UTF-8 may swap
+-- meanings in lower case: lowering a character and writing it in UTF-8 may swap
 lowering-and-utf8-swap-for-character : (c : ℕ)
     → encode_utf8 (to_ascii_lowercase c) ≡ map to_ascii_lowercase (encode_utf8 c)
 lowering-and-utf8-swap-for-character c = ⊎_elim
@@ -80,7 +80,7 @@ lowering-and-utf8-swap-for-character c = ⊎_elim
     ∙ sym (character-past-ascii-stays-when-lowered c h))
     (cases_lt c 128)
 
--- normal forms: lowering characters and writing them in UTF-8 may swap
+-- meanings in lower case: lowering characters and writing them in UTF-8 may swap
 lowering-and-utf8-swap : (cs : List ℕ)
     → encode_utf8_all (map to_ascii_lowercase cs) ≡ str_to_ascii_lowercase (encode_utf8_all cs)
 lowering-and-utf8-swap [] = refl
@@ -90,14 +90,15 @@ lowering-and-utf8-swap (c ∷ cs) =
     ∙ ap (λ x. map to_ascii_lowercase (encode_utf8 c) ++ x) (lowering-and-utf8-swap cs)
     ∙ sym (map-append to_ascii_lowercase (encode_utf8 c) (encode_utf8_all cs))
 
--- normal forms: lowering literal tokens lowers their characters
+-- meanings in lower case: lowering literal tokens lowers their characters
 lowering-tokens-lowers-characters : (cs : List ℕ) → map lower_token (map Char cs)
     ≡ map Char (map to_ascii_lowercase cs)
 lowering-tokens-lowers-characters [] = refl
 lowering-tokens-lowers-characters (c ∷ cs) = ap (λ ts. Char (to_ascii_lowercase c) ∷ ts)
     (lowering-tokens-lowers-characters cs)
 
--- normal forms: the characters of a text as lowered tokens are written as the text in lower case
+-- meanings in lower case: the characters of a text as lowered tokens are written as the text in
+-- lower case
 print-of-lowered-characters-is-lowered : (text : List ℕ) → IsUtf8 text
     → print (map lower_token (map Char (chars text))) ≡ str_to_ascii_lowercase text
 print-of-lowered-characters-is-lowered text u =
@@ -105,19 +106,19 @@ print-of-lowered-characters-is-lowered text u =
     ∙ print-of-characters-is-their-utf8 (map to_ascii_lowercase (chars text))
     ∙ lowering-and-utf8-swap (chars text) ∙ ap str_to_ascii_lowercase (encodes-chars text u)
 
--- normal forms: the characters of a text, in lower case if lowers,
--- are written as the text in lower case
+-- meanings in lower case: the characters of a text, in lower case if lowers, are written as the
+-- text in lower case
 pub print-lowers-characters : (lowers : Bool) (text : List ℕ) → IsUtf8 text
     → print (lowered_if lowers (map Char (chars text))) ≡ lowered_text_if lowers text
 print-lowers-characters true text u = print-of-lowered-characters-is-lowered text u
 print-lowers-characters false text u = print-of-characters-is-text text u
 
--- normal forms: a Unicode scalar value is one in lower case
+-- meanings in lower case: a Unicode scalar value is one in lower case
 lowered-scalar-is-scalar : (c : ℕ) → all_scalars (c ∷ []) ≡ true
     → all_scalars (to_ascii_lowercase c ∷ []) ≡ true
 lowered-scalar-is-scalar c e = grind (arith, nat_tests)
 
--- normal forms: Unicode scalar values are so in lower case
+-- meanings in lower case: Unicode scalar values are so in lower case
 lowered-scalars-are-scalars : (cs : List ℕ) → all_scalars cs ≡ true
     → all_scalars (map to_ascii_lowercase cs) ≡ true
 lowered-scalars-are-scalars [] e = refl
@@ -126,7 +127,7 @@ lowered-scalars-are-scalars (c ∷ cs) e =
     and_from _ _ (and_parts _ true (lowered-scalar-is-scalar c (and_from _ true p.0 refl))).0
     (lowered-scalars-are-scalars cs p.1)
 
--- normal forms: the characters of a text in lower case are its characters in lower case
+-- meanings in lower case: the characters of a text in lower case are its characters in lower case
 chars-of-lowered-text-are-lowered : (text : List ℕ) → IsUtf8 text
     → chars (str_to_ascii_lowercase text) ≡ map to_ascii_lowercase (chars text)
 chars-of-lowered-text-are-lowered text u =
@@ -135,21 +136,21 @@ chars-of-lowered-text-are-lowered text u =
     ∙ chars-encodes (map to_ascii_lowercase (chars text))
     (lowered-scalars-are-scalars (chars text) (scalars-chars text u))
 
--- a set allows what is decodable, and nothing else
+-- meanings, decoded: a set allows what is decodable in another, and nothing else
 abbrev pub AllowsDecodable : TableSet → TableSet → Type 0
 AllowsDecodable decodable set = (c : ℕ) → allows decodable c ≡ is_decodable set c
 
--- normal forms: a character that is not unreserved stays in lower case
+-- meanings in lower case: a character that is not unreserved stays in lower case
 not-unreserved-stays-when-lowered : (c : ℕ) → is_unreserved c ≡ false → to_ascii_lowercase c ≡ c
 not-unreserved-stays-when-lowered c e = grind (arith, nat_tests)
 
--- normal forms: an unreserved character is one in lower case
+-- meanings in lower case: an unreserved character is one in lower case
 lowered-unreserved-is-unreserved : (c : ℕ) → is_unreserved c ≡ true
     → is_unreserved (to_ascii_lowercase c) ≡ true
 lowered-unreserved-is-unreserved c e = grind (arith, nat_tests)
 
--- normal forms: percent-encoded octets have no letters to lower;
--- lowers: whether letters are lowered
+-- meanings in lower case: percent-encoded octets have no letters to lower; lowers: whether letters
+-- are lowered
 pub octets-stay-when-lowered : (lowers : Bool) (bytes : List ℕ)
     → lowered_if lowers (map Octet bytes) ≡ map Octet bytes
 octets-stay-when-lowered true bytes = lowering_keeps_octets bytes

@@ -19,12 +19,11 @@ use Rattle.uri_parts.proofs.Splitting.Relative.{question_or_hash_ends_scheme}
 use Rattle.uri_parts.proofs.Splitting.Relative.{question_or_hash_is_no_colon}
 use Rattle.uri_ops.specs.ComponentSets.{HasComponentSets}
 
--- the marks of a component are excluded from its set
+-- meanings of components: an ASCII character other than `%` and hexadecimal digits, as a delimiter
 abbrev pub is_outside_octets : ℕ → Bool
 is_outside_octets c = nat_lt c 128 && (not (is_ascii_hexdigit c) && not (eqb c 37))
 
--- parts of a reference: marks that the set lacks as characters
--- are excluded from its texts, if no octet contains one
+-- meanings of components: delimiters that a set lacks, and no octet has, are not in its texts
 pub ends-are-excluded-from-set : (marks : List ℕ) (set : TableSet)
     → list_all is_outside_octets marks ≡ true
     → list_any set.ascii marks ≡ false → excludes set marks ≡ true
@@ -36,7 +35,7 @@ ends-are-excluded-from-set (m ∷ marks) set e f =
     and_from _ _ (and_from _ _ q.0 (and_from _ _ (not_from_false _ r.0) q.1))
     (ends-are-excluded-from-set marks set p.1 r.1)
 
--- parts of a reference: a set that excludes some marks and more excludes the former
+-- meanings of components: a set that excludes some characters and more excludes the former
 pub fewer-characters-are-excluded-too : (some more : List ℕ) (set : TableSet)
     → excludes set (some ++ more) ≡ true
     → excludes set some ≡ true
@@ -45,8 +44,8 @@ fewer-characters-are-excluded-too (m ∷ some) more set e = let p = and_parts _
     (excludes set (some ++ more)) e in
     and_from _ _ p.0 (fewer-characters-are-excluded-too some more set p.1)
 
--- recomposing: in a path without `:` in its first segment, and `?` or `#` after it,
--- `:` is not the first delimiter
+-- recomposing meanings: in a path without `:` in its first segment, and `?` or `#` after it, `:` is
+-- not the first delimiter
 path-without-colon-meets-no-colon-first : (path tail : List ℕ) → has_colon_in_first_segment path
     ≡ false
     → IsEmptyOrMarked (codes "?#") tail
@@ -90,8 +89,8 @@ path-without-colon-meets-no-colon-first (c ∷ path) tail e begins = ⊎_elim
         (λ h. h)
         (cases_Bool (eqb c 58))
 
--- recomposing: a path whose first segment has no `:` has no scheme,
--- whatever query or fragment follows it
+-- recomposing meanings: a path whose first segment has no `:` has no scheme, whatever query or
+-- fragment follows it
 pub no_scheme : (path tail : List ℕ) → has_colon_in_first_segment path ≡ false
     → IsEmptyOrMarked (codes "?#") tail
     → has_scheme (path ++ tail) ≡ false

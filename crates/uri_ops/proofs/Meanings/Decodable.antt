@@ -23,7 +23,7 @@ use Rattle.uri_parts.proofs.HostForms.Futures.{ipv4-text-is-digits-and-dots}
 use Rattle.uri_ops.proofs.Meanings.AllowedParts.{set-text-is-valid}
 use Rattle.uri_ops.proofs.Meanings.AsciiCharacters.{is_ascii_in, ascii-in-test-is-set-text}
 
--- normalising: a text that a table allows is one in which each `%` begins an octet
+-- meanings, decoded: in a text that a table allows each `%` begins an octet
 pub valid-text-is-decodable : (table : Table) (set : TableSet) (text : List ℕ) → set_of table ≡ set
     → IsValidFor set text → IsValidFor widest_set text
 valid-text-is-decodable table set text e valid =
@@ -31,16 +31,16 @@ valid-text-is-decodable table set text e valid =
     (every_set_is_subset_of_widest set (subst LacksPercent e (lacks_percent table)))
     valid
 
--- digits and dots
+-- meanings of hosts: the character is not `%`, as in an IPv4 address
 abbrev is_no_percent : ℕ → Bool
 is_no_percent c = not (eqb c 37)
 
--- hosts: the characters of an IPv4 address are not `%`
+-- meanings of hosts: the characters of an IPv4 address are not `%`
 digit-or-dot-is-no-percent : (c : ℕ) → IsDigitOrDot c → is_ascii_in is_no_percent c ≡ true
 digit-or-dot-is-no-percent c (inl range) = grind (arith, nat_tests)
 digit-or-dot-is-no-percent c (inr dot) = grind (arith, nat_tests)
 
--- hosts: an IPv4 address may be decoded, as it has no `%`
+-- meanings of hosts: an IPv4 address may be decoded, as it has no `%`
 dotted-decimal-is-decodable : (text octets : List ℕ) → IsDotted text octets
     → IsValidFor widest_set text
 dotted-decimal-is-decodable text octets h =
@@ -51,8 +51,8 @@ dotted-decimal-is-decodable text octets h =
     (λ c d. digit-or-dot-is-no-percent c d) text
     (ipv4-text-is-digits-and-dots text octets h))))
 
--- hosts: in one that doesn't begin with `[` (91),
--- an IPv4 address or a name, each `%` begins an octet
+-- meanings of hosts: each `%` begins an octet in a host that doesn't begin with `[` (91), so in an
+-- IPv4 address or a name
 pub unbracketed-host-is-decodable : (table : Table) (names : TableSet) (host : List ℕ)
     → set_of table ≡ names
     → is_host names host ≡ true → starts 91 host ≡ false → IsValidFor widest_set host

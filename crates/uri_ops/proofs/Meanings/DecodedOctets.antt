@@ -32,7 +32,7 @@ use Rattle.uri_ops.specs.Models.Decodings.{cased_append}
 use Rattle.uri_ops.specs.Models.Decodings.{decoded_text}
 use Rattle.uri_ops.proofs.Meanings.DecodedParts.{decode_run-of-nil-is-nil, decoded_parts-of-run}
 
--- normalising: characters before other tokens are not changed by decoding
+-- meanings, decoded: characters before other tokens are not changed by decoding
 pub decode_tokens-after-chars : (set : TableSet) (cs : List ℕ) (us : List Token)
     → decode_tokens set (map Char cs ++ us) ≡ map Char cs ++ decode_tokens set us
 unfolding decode_after_run
@@ -42,7 +42,7 @@ decode_tokens-after-chars set (c ∷ cs) us = ap
     (decode_run-of-nil-is-nil set)
     ∙ ap (λ ts. Char c ∷ ts) (decode_tokens-after-chars set cs us)
 
--- normalising: a run of octets that begins with a whole character is decoded as that and the rest
+-- meanings, decoded: a run of octets with a character first is decoded as that and the rest
 decode_run-of-leading-character : (set : TableSet) (c : ℕ) (more : List ℕ) → IsScalar c
     → decode_run set (encode_utf8 c ++ more)
     ≡ decode_piece set (WellFormed (encode_utf8 c)) ++ decode_run set more
@@ -50,8 +50,8 @@ unfolding decode_run
 decode_run-of-leading-character set c more scalar = ap (flat_map (decode_piece set))
     (first_char_is_first_piece c more scalar)
 
--- normalising: after some octets (their bytes are more) and a character,
--- decoding goes on with the character by itself
+-- meanings, decoded: after some octets (their bytes are more) and a character, decoding goes on
+-- with the character by itself
 decode_after_run-of-leading-character : (set : TableSet) (c : ℕ) (more : List ℕ) (ts : List Token)
     → IsScalar c
     → decode_after_run set (encode_utf8 c ++ more) ts
@@ -68,7 +68,7 @@ decode_after_run-of-leading-character set c more (Char d ∷ ts) scalar =
     ∙ append_assoc (decode_piece set (WellFormed (encode_utf8 c))) (decode_run set more)
     (Char d ∷ decode_after_run set [] ts)
 
--- normalising: an ASCII octet is decoded exactly if its character is unreserved
+-- meanings, decoded: an ASCII octet is decoded exactly if its character is unreserved
 ascii-is-decodable-if-unreserved : (set : TableSet) (b : ℕ) → b < 128 → is_decodable set b
     ≡ is_unreserved b
 unfolding is_decodable
@@ -78,13 +78,13 @@ ascii-is-decodable-if-unreserved set b low =
     (omega arith)) in
     ap (λ x. is_unreserved b || x) none ∙ or-false (is_unreserved b)
 
--- normalising: an octet is decoded to its character if it is unreserved, else kept
+-- meanings, decoded: an octet is decoded to its character if it is unreserved, else kept
 decode_octet-is-character-if-unreserved : (b : ℕ)
     → cond (is_unreserved b) (Char b ∷ []) (Octet b ∷ []) ≡ decode_octet (Octet b) ∷ []
 decode_octet-is-character-if-unreserved b = ⊎_elim (λ e. rw e refl) (λ e. rw e refl)
     (cases_Bool (is_unreserved b))
 
--- normalising: a piece that is an ASCII character is decoded as its octet is
+-- meanings, decoded: a piece that is an ASCII character is decoded as its octet is
 ascii-piece-decodes-as-octet : (set : TableSet) (b : ℕ) → b < 128
     → decode_piece set (WellFormed (encode_utf8 b)) ≡ decode_octet (Octet b) ∷ []
 ascii-piece-decodes-as-octet set b low =
@@ -95,7 +95,7 @@ ascii-piece-decodes-as-octet set b low =
     ∙ ap (λ t. cond t (Char b ∷ []) (Octet b ∷ [])) (ascii-is-decodable-if-unreserved set b low)
     ∙ decode_octet-is-character-if-unreserved b
 
--- normalising: an ASCII octet at the start is decoded alone
+-- meanings, decoded: an ASCII octet at the start is decoded alone
 leading-ascii-octet-decodes-alone : (set : TableSet) (b : ℕ) (us : List Token) → b < 128
     → decode_tokens set (Octet b ∷ us) ≡ decode_octet (Octet b) ∷ decode_tokens set us
 unfolding decode_after_run
@@ -105,7 +105,7 @@ leading-ascii-octet-decodes-alone set b us low =
     ∙ decode_after_run-of-leading-character set b [] us (low_scalar b (omega arith))
     ∙ ap (λ ts. ts ++ decode_after_run set [] us) (ascii-piece-decodes-as-octet set b low)
 
--- normalising: an octet of ASCII that is a part of a text is decoded by itself
+-- meanings, decoded: an octet of ASCII that is a part of a text is decoded by itself
 pub decoded-part-of-ascii-octet : (lowers : Bool) (set : TableSet) (b : ℕ) → b < 128
     → print (lowered_if lowers (decoded_parts set (map Decoded (utf8_pieces (b ∷ [])))))
     ≡ print (lowered_if lowers (decode_octet (Octet b) ∷ []))
@@ -119,8 +119,7 @@ decoded-part-of-ascii-octet lowers set b low =
     ∙ ap (λ ts. piece ++ ts) (decode_run-of-nil-is-nil set)
     ∙ append-nil piece ∙ ascii-piece-decodes-as-octet set b low)
 
--- normalising: where a set has no characters past ASCII, as of URIs,
--- each octet is decoded by itself
+-- meanings, decoded: each octet by itself, where a set has no characters past ASCII, as of URIs
 tokens-without-past-ascii-decode-alone : (set : TableSet) (text : List ℕ) → LacksPastAscii set
     → decode_tokens set (tokens text) ≡ map decode_octet (tokens text)
 tokens-without-past-ascii-decode-alone set text none =
@@ -128,12 +127,12 @@ tokens-without-past-ascii-decode-alone set text none =
     (ap (λ b. b && set.pct_encoded) none.0))
     ∙ text_is_decoded_octet_by_octet_in_uri set text none
 
--- the octet at the start of a text
+-- meanings, decoded: the byte of the octet at the start of a text
 abbrev pub first_value : {text : List ℕ} → BeginsWithOctet text → ℕ
 first_value o = 16 * digit_value o.high + digit_value o.low
 
--- normalising: an octet token at the start is decoded alone, if its byte is ASCII or the set lacks
--- characters past ASCII (alone)
+-- meanings, decoded: an octet token at the start is decoded alone, if its byte is ASCII or the set
+-- lacks characters past ASCII (alone)
 leading-octet-token-decodes-alone : (set : TableSet) (text : List ℕ) (o : BeginsWithOctet text)
     (alone : Bool)
     → (alone ≡ true → LacksPastAscii set) → (alone || ltb (first_value o) 128) ≡ true
@@ -148,8 +147,8 @@ leading-octet-token-decodes-alone set text o alone none e = ⊎_elim
     ∙ leading-ascii-octet-decodes-alone set (first_value o) (tokens o.suffix) (ltb-true _ 128 low))
     (or_cases alone (ltb (first_value o) 128) e)
 
--- normalising: an octet at the start of a text is decoded by itself if its byte is ASCII, or if the
--- set (as of URIs) lacks characters past ASCII: then alone holds
+-- meanings, decoded: an octet at the start of a text is decoded by itself if its byte is ASCII, or
+-- if the set (as of URIs) lacks characters past ASCII: then alone holds
 pub leading-octet-is-decoded-alone : (lowers : Bool) (set : TableSet) (text : List ℕ)
     (o : BeginsWithOctet text)
     (alone : Bool)
@@ -163,12 +162,12 @@ leading-octet-is-decoded-alone lowers set text o alone none e =
     ∙ cased_append lowers (decode_octet (Octet (first_value o)) ∷ [])
     (decode_tokens set (tokens o.suffix))
 
--- octets: the byte is a hexadecimal digit as it is written, in upper case
+-- meanings, decoded: the byte is a hexadecimal digit as it is written, in upper case
 is_glyph : ℕ → Bool
 is_glyph h = not (is_ascii_hexdigit h)
     || (eqb (digit_glyph true (digit_value h)) h && ltb (digit_value h) 16)
 
--- octets: a hexadecimal digit below `a` (97) is the digit that is written for its value
+-- meanings, decoded: a hexadecimal digit below `a` (97) is the digit that is written for its value
 uppercase-digit-is-its-glyph : (h : ℕ) → is_ascii_hexdigit h ≡ true → h < 97
     → (digit_glyph true (digit_value h) ≡ h) × (digit_value h < 16)
 unfolding is_glyph
@@ -182,7 +181,7 @@ uppercase-digit-is-its-glyph h digit upper =
     && ltb (digit_value h) 16)) digit) ∙ e) in
     (eqb-true _ h p.0, ltb-true _ 16 p.1)
 
--- octets: one with digits in upper case is written as it is
+-- meanings, decoded: an octet with digits in upper case is written as it is
 uppercase-octet-prints-itself : (high low : ℕ) → is_ascii_hexdigit high ≡ true
     → is_ascii_hexdigit low ≡ true
     → high < 97 → low < 97
@@ -197,7 +196,7 @@ uppercase-octet-prints-itself high low h l hu lu =
     rw (above, below) (ap (λ x. 37 ∷ x ∷ digit_glyph true (digit_value low) ∷ []) p.0
     ∙ ap (λ x. 37 ∷ high ∷ x ∷ []) q.0)
 
--- normalising: an octet of a reserved character with digits in upper case is kept as it is;
+-- meanings, decoded: an octet of a reserved character with digits in upper case is kept as it is;
 -- alone: the set lacks characters past ASCII
 pub uppercase-reserved-octet-stays : (set : TableSet) (text : List ℕ) (o : BeginsWithOctet text)
     (high low : ℕ)

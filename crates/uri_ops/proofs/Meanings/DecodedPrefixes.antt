@@ -37,7 +37,7 @@ use Rattle.uri_ops.proofs.Meanings.DecodedParts.{decode_run-of-nil-is-nil}
 use Rattle.uri_ops.proofs.Meanings.DecodedOctets.{decode_tokens-after-chars, first_value}
 use Rattle.uri_ops.proofs.Meanings.DecodedOctets.{leading-octet-is-decoded-alone}
 
--- normalising: a prefix without `%` (37) is its own decoded form, in lower case if lowers,
+-- meanings, decoded: a prefix without `%` (37) is its own decoded form, in lower case if lowers,
 -- before that of what follows
 literal-prefix-decodes-to-itself : (lowers : Bool) (set : TableSet) (prefix back : List ℕ)
     → IsUtf8 prefix
@@ -52,7 +52,7 @@ literal-prefix-decodes-to-itself lowers set prefix back u e =
     ∙ cased_append lowers (map Char (chars prefix)) (decode_tokens set (tokens back))
     ∙ ap (λ x. x ++ decoded_text lowers set back) (print-lowers-characters lowers prefix u)
 
--- normalising: after a prefix without `%` (37), the rest of a valid text is valid
+-- meanings, decoded: after a prefix without `%` (37), the rest of a valid text is valid
 text-after-literal-prefix-is-valid : (prefix back : List ℕ) → IsUtf8 prefix → lacks 37 prefix ≡ true
     → IsValidFor widest_set (prefix ++ back) → IsValidFor widest_set back
 unfolding is_valid_for
@@ -62,16 +62,17 @@ text-after-literal-prefix-is-valid prefix back u e v =
     ∙ sym (ap (list_all (allows_token widest_set)) (tokens_after_unencoded_prefix prefix back u e))
     ∙ v)).1
 
+-- meanings, decoded: where the first `%` of a text is, or its length
 abbrev first_percent : List ℕ → ℕ
 first_percent text = position_or_len (λ b. eqb b 37) text
 
--- the text before the first `%`
+-- meanings, decoded: the first n bytes of a text are copied, and the rest is valid
 pub record LiteralPrefix (text : List ℕ) (n : ℕ) : Type 0 where
   pub boundary : IsCharBoundary text n
   pub valid : IsValidFor widest_set (drop n text)
   pub prefix : (lowers : Bool) (set : TableSet) → KeepsPrefixWhenDecoded lowers set text n
 
--- normalising: the n bytes before the first `%` of a text are decoded as characters alone
+-- meanings, decoded: the n bytes before the first `%` of a text are decoded as characters alone
 pub text-before-percent-is-literal-prefix : (text : List ℕ) (n : ℕ) → IsUtf8 text
     → IsValidFor widest_set text
     → n ≡ first_percent text → LiteralPrefix text n
@@ -90,19 +91,19 @@ text-before-percent-is-literal-prefix text n u v e =
           ∙ literal-prefix-decodes-to-itself lowers set (take n text) (drop n text) utf8 literal;
     }
 
--- normal forms: two texts in lower case, if lowers, are their join in lower case
+-- meanings in lower case: two texts in lower case, if lowers, are their join in lower case
 lowering-of-append-is-append : (lowers : Bool) (xs ys : List ℕ)
     → lowered_text_if lowers (xs ++ ys) ≡ lowered_text_if lowers xs ++ lowered_text_if lowers ys
 lowering-of-append-is-append true xs ys = map-append to_ascii_lowercase xs ys
 lowering-of-append-is-append false xs ys = refl
 
--- normalising: of a text, the empty prefix is copied
+-- meanings, decoded: of a text, the empty prefix is copied
 pub empty-prefix-stays : (lowers : Bool) (set : TableSet) (text : List ℕ)
     → KeepsPrefixWhenDecoded lowers set text 0
 empty-prefix-stays true set text = refl
 empty-prefix-stays false set text = refl
 
--- normalising: two prefixes that are copied, one after the other, are one
+-- meanings, decoded: two prefixes that are copied, one after the other, are one
 kept-prefixes-join : (lowers : Bool) (set : TableSet) (text : List ℕ) (n m : ℕ)
     → KeepsPrefixWhenDecoded lowers set text n → KeepsPrefixWhenDecoded lowers set (drop n text) m
     → KeepsPrefixWhenDecoded lowers set text (n + m)
@@ -117,15 +118,14 @@ kept-prefixes-join lowers set text n m first next =
     ∙ ap (λ x. lowered_text_if lowers (take (n + m) text)
     ++ decoded_text lowers set x) (drop-drop m n text)
 
--- general fact on lists, for prefixes while normalising: a suffix of a suffix,
--- by the positions of the text
+-- general fact on lists, for decoding meanings: a suffix of a suffix, by the positions of the text
 suffix-of-suffix-by-positions : (text : List ℕ) (done end : ℕ) → done ≤ end
     → drop (end - done) (drop done text) ≡ drop end text
 suffix-of-suffix-by-positions text done end order = drop-drop (end - done) done text
     ∙ ap (λ k. drop k text) (omega arith)
 
--- normalising: after one prefix that is copied, the next one is; done, end: where the first begins
--- and ends, m: the length of the next
+-- meanings, decoded: after one prefix that is copied, the next one is; done, end: where the first
+-- begins and ends, m: the length of the next
 pub kept-prefix-grows : (lowers : Bool) (set : TableSet) (text : List ℕ) (done end m : ℕ)
     → done ≤ end
     → KeepsPrefixWhenDecoded lowers set (drop done text) (end - done)
@@ -138,8 +138,8 @@ kept-prefix-grows lowers set text done end m order first next =
     (subst (λ x. KeepsPrefixWhenDecoded lowers set x m)
     (sym (suffix-of-suffix-by-positions text done end order)) next))
 
--- normalising: after a prefix that is copied (from done to end), what is appended and the rest,
--- decoded, still make the whole
+-- meanings, decoded: after a prefix that is copied (from done to end), what is appended and the
+-- rest, decoded, still make the whole
 pub kept-prefix-is-pushed : (lowers : Bool) (set : TableSet) (text out new whole : List ℕ)
     (done end : ℕ)
     → done ≤ end → KeepsPrefixWhenDecoded lowers set (drop done text) (end - done)
@@ -155,26 +155,26 @@ kept-prefix-is-pushed lowers set text out new whole done end order prefix pushed
     ap (λ x. x ++ suffix) pushed ∙ append_assoc out written suffix ∙ ap (λ x. out ++ x) (sym split)
     ∙ total
 
--- general fact on valid texts: what is valid after n and then m bytes is valid after n + m; used
--- while decoding a component
+-- general fact on valid texts, for decoding meanings: what is valid after n and then m bytes is
+-- valid after n + m
 pub suffix-of-suffix-is-valid : (text : List ℕ) (n m : ℕ)
     → IsValidFor widest_set (drop m (drop n text))
     → IsValidFor widest_set (drop (n + m) text)
 suffix-of-suffix-is-valid text n m v = subst (IsValidFor widest_set) (drop-drop m n text) v
 
--- octets: one at the start takes three bytes of the text
+-- meanings, decoded: an octet at the start takes three bytes of the text
 octet-adds-three-to-length : (text : List ℕ) (o : BeginsWithOctet text) → length text
     ≡ 3 + length o.suffix
 octet-adds-three-to-length text o = ap length o.joined ∙ omega arith
 
--- octets: the digits of an octet at the start of a text are its next two bytes,
--- and what is after it the rest
+-- meanings, decoded: the digits of an octet at the start of a text are its next two bytes, and what
+-- is after it the rest
 octet-digits-are-next-two-bytes : (text : List ℕ) (o : BeginsWithOctet text)
     → (get_or text 1 0 ≡ o.high) × ((get_or text 2 0 ≡ o.low) × (drop 3 text ≡ o.suffix))
 octet-digits-are-next-two-bytes text o =
     (ap (λ x. get_or x 1 0) o.joined, (ap (λ x. get_or x 2 0) o.joined, ap (drop 3) o.joined))
 
--- an octet within a text, and its digits, by the text's bytes
+-- meanings, decoded: an octet is at index i of a text, and its digits are those of the bytes
 pub record OctetAt (bytes text : List ℕ) (i : ℕ) : Type 0 where
   pub octet : BeginsWithOctet (drop i text)
   pub within : i + 2 < length bytes
@@ -188,7 +188,7 @@ pub record OctetAt (bytes text : List ℕ) (i : ℕ) : Type 0 where
   pub suffix : drop (i + 3) text ≡ octet.suffix
   pub valid : IsValidFor widest_set (drop (i + 3) text)
 
--- normalising: a `%` (37) at index i of a valid text begins an octet
+-- meanings, decoded: a `%` (37) at index i of a valid text begins an octet
 pub percent-in-valid-text-begins-octet : (bytes text : List ℕ) (i : ℕ) → bytes ≡ text → IsUtf8 text
     → IsCharBoundary text i
     → IsValidFor widest_set (drop i text) → i < length bytes → get_or bytes i 0 ≡ 37
@@ -223,8 +223,8 @@ percent-in-valid-text-begins-octet bytes text i same u b v inside percent =
       valid = subst (IsValidFor widest_set) (sym suffix) o.valid;
     }
 
--- normalising: after an octet with this value is decoded and appended, what is appended and the
--- rest, decoded, still make the whole
+-- meanings, decoded: after an octet with this value is decoded and appended, what is appended and
+-- the rest, decoded, still make the whole
 pub decoded-octet-is-pushed : (lowers : Bool) (set : TableSet) (out new whole rest suffix : List ℕ)
     (value : ℕ)
     (o : BeginsWithOctet rest) (alone : Bool)
@@ -245,14 +245,14 @@ decoded-octet-is-pushed lowers set out new whole rest suffix value o alone none 
     ∙ append_assoc out decoded (decoded_text lowers set suffix) ∙ ap (λ x. out ++ x) (sym split)
     ∙ total
 
--- octets: one whose first digit is below `8` (56) is of an ASCII byte
+-- meanings, decoded: an octet whose first digit is below `8` (56) is of an ASCII byte
 octet-with-digit-below-8-is-ascii : (high low : ℕ) → is_ascii_hexdigit high ≡ true
     → is_ascii_hexdigit low ≡ true
     → high < 56 → 16 * digit_value high + digit_value low < 128
 octet-with-digit-below-8-is-ascii high low h l small = grind (arith, nat_tests)
 
--- normalising: an octet is decoded by itself if the set asks for it, or if its first digit is below
--- `8` (56), so its byte is ASCII
+-- meanings, decoded: an octet is decoded by itself if the set asks for it, or if its first digit is
+-- below `8` (56), so its byte is ASCII
 pub octet-is-decoded-alone : (bytes text : List ℕ) (i : ℕ) (at : OctetAt bytes text i)
     (alone : Bool)
     → (alone ≡ true) ⊎ (get_or bytes (i + 1) 0 < 56)
@@ -267,7 +267,7 @@ octet-is-decoded-alone bytes text i at alone either = ⊎_elim
     (lt-ltb (first_value at.octet) 128 (subst (λ v. v < 128) at.value low)))
     either
 
--- sets: one without the flags ucschar and iprivate has no characters past ASCII;
+-- meanings, decoded: a set without the flags ucschar and iprivate has no characters past ASCII;
 -- some: whether it has either
 pub unset-flags-lack-past-ascii : (set : TableSet) (some : Bool) → some
     ≡ (set.ucschar || set.iprivate)
@@ -275,22 +275,22 @@ pub unset-flags-lack-past-ascii : (set : TableSet) (some : Bool) → some
 unset-flags-lack-past-ascii set some e none = or_parts set.ucschar set.iprivate
     (sym e ∙ not-true some none)
 
--- normalising: the empty text has the empty decoded form
+-- meanings, decoded: the empty text has the empty decoded form
 decoded-empty-text-is-empty : (lowers : Bool) (set : TableSet) → decoded_text lowers set [] ≡ []
 unfolding tokens_from_chars chars decode_after_run
 decoded-empty-text-is-empty true set = ap (λ ts. print (map lower_token ts))
     (decode_run-of-nil-is-nil set)
 decoded-empty-text-is-empty false set = ap print (decode_run-of-nil-is-nil set)
 
--- normalising: a prefix of n bytes that is copied is one from 0 on
+-- meanings, decoded: a prefix of n bytes that is copied is one from 0 on
 pub kept-prefix-is-kept-from-zero : (lowers : Bool) (set : TableSet) (text : List ℕ) (n : ℕ)
     → KeepsPrefixWhenDecoded lowers set text n
     → KeepsPrefixWhenDecoded lowers set (drop 0 text) (n - 0)
 kept-prefix-is-kept-from-zero lowers set text n = subst (KeepsPrefixWhenDecoded lowers set text)
     (omega arith)
 
--- normalising: the last prefix that is copied completes what is appended;
--- done, end: where it begins and ends
+-- meanings, decoded: the last prefix that is copied completes what is appended; done, end: where it
+-- begins and ends
 pub last-prefix-is-pushed : (lowers : Bool) (set : TableSet) (text out new whole : List ℕ)
     (done end : ℕ)
     → done ≤ end → length text ≤ end → KeepsPrefixWhenDecoded lowers set (drop done text)
@@ -307,12 +307,12 @@ last-prefix-is-pushed lowers set text out new whole done end order over prefix p
     ∙ kept-prefix-is-pushed lowers set text out new whole done end order prefix
     (pushed ∙ ap (λ x. out ++ lowered_text_if lowers x) (sym all)) total
 
--- normalising: the first byte of a text is not `%` (37)
+-- meanings, decoded: if the first byte of a text is not `%` (37), the prefix of one byte has none
 lacks_first : (text : List ℕ) → eqb (get_or text 0 0) 37 ≡ false → lacks 37 (take 1 text) ≡ true
 lacks_first [] e = refl
 lacks_first (c ∷ text) e = ap (λ x. not x && true) e
 
--- normalising: an ASCII character that is not `%` (37) is a prefix without octets
+-- meanings, decoded: an ASCII character that is not `%` (37) is a prefix without octets
 ascii_prefix : (text : List ℕ) → IsUtf8 text → IsValidFor widest_set text → 0 < length text
     → get_or text 0 0 < 128 → eqb (get_or text 0 0) 37 ≡ false → LiteralPrefix text 1
 ascii_prefix text u v inside small other =
@@ -328,14 +328,14 @@ ascii_prefix text u v inside small other =
           ∙ literal-prefix-decodes-to-itself lowers set (take 1 text) (drop 1 text) utf8 literal;
     }
 
--- such a character is written, and the next is looked at
+-- meanings, decoded byte by byte: after one character the rest is valid, and completes the whole
 pub record CharacterStep (lowers : Bool) (set : TableSet) (text new whole : List ℕ) (i : ℕ) :
     Type 0 where
   pub boundary : IsCharBoundary text (i + 1)
   pub valid : IsValidFor widest_set (drop (i + 1) text)
   pub total : new ++ decoded_text lowers set (drop (i + 1) text) ≡ whole
 
--- normalising byte by byte: an ASCII character that is not `%` is appended, in lower case if
+-- meanings, decoded byte by byte: an ASCII character that is not `%` is appended, in lower case if
 -- lowers, and the rest is left
 pub character_step : (lowers : Bool) (set : TableSet) (bytes text out new whole : List ℕ) (i : ℕ)
     → bytes ≡ text → IsUtf8 text → IsCharBoundary text i → IsValidFor widest_set (drop i text)
@@ -364,7 +364,7 @@ character_step lowers set bytes text out new whole i same u b v inside small oth
           (pushed ∙ ap (λ x. out ++ lowered_text_if lowers x) (sym taken)) total;
     }
 
--- normalising: at the end of a text nothing is left to append
+-- meanings, decoded byte by byte: at the end of a text nothing is left to append
 pub none_written : (lowers : Bool) (set : TableSet) (text new whole : List ℕ) (end : ℕ)
     → end ≡ length text → new ++ decoded_text lowers set (drop end text) ≡ whole → new ≡ whole
 none_written lowers set text new whole end all total =

@@ -60,14 +60,14 @@ use Rattle.uri_ops.proofs.Meanings.ComponentEnds.{ends-are-excluded-from-set}
 use Rattle.uri_ops.proofs.Meanings.ComponentEnds.{fewer-characters-are-excluded-too}
 use Rattle.uri_parts.proofs.HostForms.Futures.{ipv4-text-is-digits-and-dots}
 
--- what is known of a text that is printed from the meaning of a host
+-- meanings of hosts: the text printed from a meaning is a host with it, and ends no authority
 pub record IsHostWithMeaning (names : TableSet) (m : HostMeaning) (text : List ℕ) : Type 0 where
   pub utf8 : IsUtf8 text
   pub host : (h : HostKind) × IsHost names text h
   pub meaning : host_meaning names text (host_kind text) ≡ m
   pub lacks : Lacks (codes "/?#") text
 
--- hosts: an address in brackets lacks the delimiters that the address lacks
+-- meanings of hosts: an address in brackets lacks the delimiters that the address lacks
 pub bracketed-address-lacks-delimiters : (address : List ℕ) → Lacks (codes "/?#") address
     → Lacks (codes "/?#") (bracketed address)
 bracketed-address-lacks-delimiters address h =
@@ -76,7 +76,7 @@ bracketed-address-lacks-delimiters address h =
     (joined-texts-lack-marks (codes "/?#") address (codes "]") h
     (test-of-delimiters-gives-lacks (codes "/?#") (codes "]") refl))
 
--- hosts: an address in UTF-8 is UTF-8 in its brackets
+-- meanings of hosts: an address in UTF-8 is UTF-8 in its brackets
 pub bracketed-utf8-is-utf8 : (address : List ℕ) → IsUtf8 address → IsUtf8 (bracketed address)
 bracketed-utf8-is-utf8 address u =
     IsUtf8-append (codes "[") (address ++ codes "]")
@@ -84,12 +84,12 @@ bracketed-utf8-is-utf8 address u =
     (IsUtf8-append address (codes "]") u (ascii-bytes-are-utf8 (codes "]")
     refl))
 
--- hosts: a character of an IP address is ASCII
+-- meanings of hosts: a character of an IP address is ASCII
 address-character-is-ascii : (c : ℕ) → is_address_char c ≡ true → ltb c 128 ≡ true
 unfolding is_address_char
 address-character-is-ascii c e = grind (arith, nat_tests)
 
--- hosts: the characters of an IP address are ASCII ones
+-- meanings of hosts: the characters of an IP address are ASCII ones
 pub address-characters-are-ascii : (text : List ℕ) → list_all is_address_char text ≡ true
     → list_all (is_ascii_in is_address_char) text ≡ true
 address-characters-are-ascii [] e = refl
@@ -98,45 +98,46 @@ address-characters-are-ascii (c ∷ text) e =
     and_from _ _ (and_from _ _ (address-character-is-ascii c p.0) p.0)
     (address-characters-are-ascii text p.1)
 
--- hosts: the text of an IP address is UTF-8
+-- meanings of hosts: the text of an IP address is UTF-8
 pub address-text-is-utf8 : (text : List ℕ) → is_address_text text ≡ true → IsUtf8 text
 unfolding is_address_text
 address-text-is-utf8 text e = ascii-in-test-is-utf8 is_address_char text
     (address-characters-are-ascii text e)
 
--- hosts: a hexadecimal digit, as of an IPvFuture address, is one in lower case
+-- meanings of hosts: a hexadecimal digit, as of an IPvFuture address, is one in lower case
 lowered-hex-digit-is-hex-digit : (c : ℕ) → is_ascii_hexdigit c ≡ true
     → is_ascii_hexdigit (to_ascii_lowercase c) ≡ true
 lowered-hex-digit-is-hex-digit c e = grind (arith, nat_tests)
 
--- hosts: a character of userinfo is one in lower case
+-- meanings of hosts: a character of userinfo is one in lower case
 lowered-userinfo-character-is-userinfo-character : (c : ℕ) → is_userinfo_char c ≡ true
     → is_userinfo_char (to_ascii_lowercase c) ≡ true
 lowered-userinfo-character-is-userinfo-character c e = grind (arith, nat_tests)
 
--- hosts: the `v` of an IPvFuture address is one in lower case
+-- meanings of hosts: the `v` of an IPvFuture address is one in lower case
 lowered-v-is-v : (c : ℕ) → is_one_of (codes "vV") c ≡ true
     → is_one_of (codes "vV") (to_ascii_lowercase c) ≡ true
 lowered-v-is-v c e = grind (arith, nat_tests)
 
--- hosts: the `v` of an IPvFuture address is a character of userinfo
+-- meanings of hosts: the `v` of an IPvFuture address is a character of userinfo
 v-is-userinfo-character : (c : ℕ) → is_one_of (codes "vV") c ≡ true
     → is_ascii_in is_userinfo_char c ≡ true
 v-is-userinfo-character c e = grind (arith, nat_tests)
 
--- hosts: `%` (37) is no literal character of userinfo
+-- meanings of hosts: `%` (37) is no literal character of userinfo
 percent-is-no-userinfo-character : is_userinfo_char 37 ≡ false
 percent-is-no-userinfo-character = refl
 
--- hosts: the `.` (46) of an IPvFuture address is a character of userinfo
+-- meanings of hosts: the `.` (46) of an IPvFuture address is a character of userinfo
 dot-is-userinfo-character : is_ascii_in is_userinfo_char 46 ≡ true
 dot-is-userinfo-character = refl
 
+-- meanings of hosts: both parts of an IPvFuture address, around its `.`, are ASCII
 pub record AsciiParts (text : List ℕ) (h : IsIpvFuture text) : Type 0 where
   pub version : list_all (is_ascii_in is_ascii_hexdigit) h.version ≡ true
   pub address : list_all (is_ascii_in is_userinfo_char) h.address ≡ true
 
--- hosts: the two parts of an IPvFuture address, around its `.`, are ASCII
+-- meanings of hosts: the two parts of an IPvFuture address, around its `.`, are ASCII
 pub ipvfuture-has-ascii-parts : (text : List ℕ) → IsUtf8 text → (h : IsIpvFuture text)
     → AsciiParts text h
 ipvfuture-has-ascii-parts text u h =
@@ -154,7 +155,7 @@ ipvfuture-has-ascii-parts text u h =
           ∙ h.address_chars.1;
     }
 
--- hosts: an IPvFuture address has only characters of userinfo
+-- meanings of hosts: an IPvFuture address has only characters of userinfo
 pub ipvfuture-is-userinfo-characters : (text : List ℕ) (h : IsIpvFuture text) → AsciiParts text h
     → list_all (is_ascii_in is_userinfo_char) text ≡ true
 ipvfuture-is-userinfo-characters text h w =
@@ -165,7 +166,7 @@ ipvfuture-is-userinfo-characters text h w =
     hexdigit_is_userinfo_char h.version w.version)
     (and_from _ _ dot-is-userinfo-character w.address))
 
--- normal hosts: an IPvFuture address in lower case is one
+-- meanings of hosts: an IPvFuture address in lower case is one
 lowered-ipvfuture-is-ipvfuture : (text : List ℕ) (h : IsIpvFuture text) → AsciiParts text h
     → IsIpvFuture (str_to_ascii_lowercase text)
 lowered-ipvfuture-is-ipvfuture text h w =
@@ -200,11 +201,11 @@ lowered-ipvfuture-is-ipvfuture text h w =
       );
     }
 
--- hosts: an IPvFuture address has neither `/`, `?` nor `#`, so it ends no authority
+-- meanings of hosts: an IPvFuture address has no `/`, `?` or `#`, so it ends no authority
 pub ipv_future_set-excludes-delimiters : excludes ipv_future_set (codes "/?#") ≡ true
 ipv_future_set-excludes-delimiters = refl
 
--- hosts: a valid text that does not begin with `[` (91) is a host: an IPv4 address or a name
+-- meanings of hosts: a valid text without `[` (91) first is a host: an IPv4 address or a name
 pub unbracketed-valid-text-is-host : (names : TableSet) (text : List ℕ) → starts 91 text ≡ false
     → is_valid_for names text ≡ true → is_host names text ≡ true
 unfolding is_host

@@ -23,11 +23,11 @@ use Rattle.uri_ops.proofs.Meanings.AllowedParts.{is_set_text, set-text-from-utf8
 use Rattle.uri_ops.proofs.Meanings.AllowedParts.{set-text-is-valid}
 use Rattle.uri_ops.proofs.Meanings.AllowedParts.{print_decoded, decoded-set-text-is-set-text}
 
--- the text has none of the marks
+-- meanings of components: the text has none of these delimiters
 abbrev pub lacks_any : List ℕ → List ℕ → Bool
 lacks_any marks text = list_all (λ c. not (is_one_of marks c)) text
 
--- normal forms: a valid text has no character that the set excludes
+-- meanings of components: a valid text has no character that the set excludes
 set-text-lacks-excluded-characters : (marks : List ℕ) (set : TableSet) → LacksPercent set
     → excludes set marks ≡ true
     → (text : List ℕ) → is_set_text set text ≡ true → lacks_any marks text ≡ true
@@ -36,7 +36,7 @@ set-text-lacks-excluded-characters marks set lacks outside text e =
     (valid_text_lacks_excluded_marks set marks lacks outside text (set-text-is-utf8 set text e)
     (set-text-is-valid set text e))
 
--- the set without one of its characters
+-- meanings of components: the set without one of its characters
 abbrev set_without : ℕ → TableSet → TableSet
 set_without m set = record {
   ascii = λ c. not (eqb c m) && set.ascii c;
@@ -46,11 +46,11 @@ set_without m set = record {
   iprivate = set.iprivate;
 }
 
--- the text has the character
+-- meanings of components: the text has the character
 abbrev pub has_character : ℕ → List ℕ → Bool
 has_character m text = list_any (λ c. eqb c m) text
 
--- normal forms: a set without the character m allows any other first byte as the set does
+-- meanings of components: a set without the character m allows any other first byte as the set does
 set_without-allows-other-first-bytes : (m : ℕ) (set : TableSet) (b : ℕ) (rest : List ℕ)
     → eqb b m ≡ false
     → allows_first (set_without m set) b rest ≡ allows_first set b rest
@@ -61,8 +61,8 @@ set_without-allows-other-first-bytes m set b rest e = ⊎_elim
     (λ h. cond-false _ _ _ (le-ltb b 128 h) ∙ sym (cond-false _ _ _ (le-ltb b 128 h)))
     (cases_lt b 128)
 
--- normal forms: a text without the character m is valid for a set without m exactly if it is for
--- the set; k: bytes to skip
+-- meanings of components: a text without the character m is valid for a set without m exactly if it
+-- is for the set; k: bytes to skip
 text-stays-valid-for-set_without : (m : ℕ) (set : TableSet) (k : ℕ) (bs : List ℕ)
     → has_character m bs ≡ false
     → valid_from (set_without m set) k bs ≡ valid_from set k bs
@@ -86,13 +86,13 @@ text-stays-valid-for-set_without m set zero (b ∷ rest) e =
     (allows_first set b rest && t))
     (text-stays-valid-for-set_without m set (continuation_len b) rest p.1)
 
--- normal forms: a set without a character m lacks `%` too
+-- meanings of components: a set without a character m lacks `%` too
 set_without-lacks-percent : (m : ℕ) (set : TableSet) → LacksPercent set
     → LacksPercent (set_without m set)
 set_without-lacks-percent m set lacks = ⊎_elim (λ e. ap (λ t. not t && set.ascii 37) e)
     (λ e. ap (λ t. not t && set.ascii 37) e ∙ lacks) (cases_Bool (eqb 37 m))
 
--- normal forms: a valid text without the character m is valid for the set without m
+-- meanings of components: a valid text without the character m is valid for the set without m
 text-without-character-is-for-set_without : (m : ℕ) (set : TableSet) → LacksPercent set
     → (text : List ℕ)
     → is_set_text set text ≡ true → has_character m text ≡ false
@@ -106,22 +106,22 @@ text-without-character-is-for-set_without m set lacks text e f =
     ∙ sym (validity_of_tokens_is_validity_of_bytes set lacks text u)
     ∙ set-text-is-valid set text e)
 
--- normal forms: a piece of bytes is decoded in the same way for a set without a character m
+-- meanings of components: a set without a character m decodes a piece of bytes in the same way
 decode_piece-for-set_without : (m : ℕ) (set : TableSet) (p : Piece)
     → decode_piece (set_without m set) p ≡ decode_piece set p
 unfolding is_decodable allows_past_ascii
 decode_piece-for-set_without m set (WellFormed bytes) = refl
 decode_piece-for-set_without m set (IllFormed bytes) = refl
 
--- normal forms: a run of octets is decoded in the same way for a set without a character m
+-- meanings of components: a set without a character m decodes a run of octets in the same way
 decode_run-for-set_without : (m : ℕ) (set : TableSet) (run : List ℕ)
     → decode_run (set_without m set) run ≡ decode_run set run
 unfolding decode_run
 decode_run-for-set_without m set run = ap (λ f. flat_map f (utf8_pieces run))
     (λ i p. decode_piece-for-set_without m set p i)
 
--- normal forms: tokens after a run of octets are decoded in the
--- same way for a set without a character m
+-- meanings of components: tokens after a run of octets are decoded in the same way for a set
+-- without a character m
 decode_after_run-for-set_without : (m : ℕ) (set : TableSet) (run : List ℕ) (ts : List Token)
     → decode_after_run (set_without m set) run ts ≡ decode_after_run set run ts
 unfolding decode_after_run
@@ -133,22 +133,22 @@ decode_after_run-for-set_without m set run (Char c ∷ ts) =
     (decode_run-for-set_without m set run)
     ∙ ap (λ x. decode_run set run ++ Char c ∷ x) (decode_after_run-for-set_without m set [] ts)
 
--- bidirectional text: a formatting character is encoded in the
--- same way for a set without a character m
+-- meanings, bidirectional text: a formatting character is encoded in the same way for a set without
+-- a character m
 formatting_as_octets-for-set_without : (m : ℕ) (set : TableSet) (t : Token)
     → formatting_as_octets (set_without m set) t ≡ formatting_as_octets set t
 unfolding is_never_literal
 formatting_as_octets-for-set_without m set (Char c) = refl
 formatting_as_octets-for-set_without m set (Octet value) = refl
 
--- bidirectional text: formatting characters are encoded in the
--- same way for a set without a character m
+-- meanings, bidirectional text: formatting characters are encoded in the same way for a set without
+-- a character m
 encode_formatting-for-set_without : (m : ℕ) (set : TableSet) (ts : List Token)
     → encode_formatting (set_without m set) ts ≡ encode_formatting set ts
 encode_formatting-for-set_without m set ts = ap (λ f. flat_map f ts)
     (λ i t. formatting_as_octets-for-set_without m set t i)
 
--- normal forms: a text has the same decoded form for a set without a character m
+-- meanings of components: a text has the same decoded form for a set without a character m
 print_decoded-for-set_without : (m : ℕ) (set : TableSet) (text : List ℕ)
     → print_decoded (set_without m set) text ≡ print_decoded set text
 unfolding print_decoded
@@ -157,7 +157,7 @@ print_decoded-for-set_without m set text =
     (decode_after_run (set_without m set) [] (tokens text))
     ∙ ap (encode_formatting set) (decode_after_run-for-set_without m set [] (tokens text)))
 
--- sets: without a character m that is reserved, a set has the unreserved ones still
+-- meanings of components: a set without a reserved character m still has the unreserved ones
 set_without-reserved-has-unreserved : (m : ℕ) (set : TableSet) → is_unreserved m ≡ false
     → IsSubset unreserved_set set
     → IsSubset unreserved_set (set_without m set)
@@ -171,11 +171,11 @@ set_without-reserved-has-unreserved m set reserved wide = record {
   iprivate = wide.iprivate;
 }
 
--- splitting: being one of one delimiter is being equal to it
+-- meanings of components: being one of a single delimiter is being equal to it
 is_one_of-one-is-equality : (c m : ℕ) → is_one_of (m ∷ []) c ≡ eqb c m
 is_one_of-one-is-equality c m = grind (arith, nat_tests)
 
--- normal forms: a text that lacks any of one mark lacks this character
+-- meanings of components: a text that lacks all of one delimiter lacks this character
 pub lacks_any-gives-lacks : (m : ℕ) (text : List ℕ) → lacks_any (m ∷ []) text ≡ true
     → has_character m text ≡ false
 lacks_any-gives-lacks m [] e = refl
@@ -184,7 +184,7 @@ lacks_any-gives-lacks m (c ∷ text) e =
     or_from _ _ (sym (is_one_of-one-is-equality c m) ∙ not-true _ p.0)
     (lacks_any-gives-lacks m text p.1)
 
--- normal forms: a text that lacks a character lacks any of this one mark
+-- meanings of components: a text that lacks a character lacks all of this one delimiter
 pub lacks-gives-lacks_any : (m : ℕ) (text : List ℕ) → has_character m text ≡ false
     → lacks_any (m ∷ []) text
     ≡ true

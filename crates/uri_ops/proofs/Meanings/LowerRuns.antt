@@ -15,22 +15,24 @@ use Rattle.std.proofs.lemmas.Str.{IsCharBoundary-before_ascii}
 use Rattle.std.proofs.lemmas.Str.{IsCharBoundary-end, encode_ascii}
 use Rattle.std.proofs.lemmas.Str.Ascii.{lowercase_ascii}
 
+-- meanings of schemes and hosts: the byte is no ASCII letter in upper case
 abbrev is_no_uppercase : ℕ → Bool
 is_no_uppercase b = not (is_ascii_uppercase b)
 
--- what is before the first letter in upper case
+-- meanings of schemes and hosts: the first n bytes of a text are those before its first letter in
+-- upper case, or all
 pub record LowerPrefix (text : List ℕ) (n : ℕ) : Type 0 where
   pub within : n ≤ length text
   pub boundary : IsCharBoundary text n
   pub same : str_to_ascii_lowercase (take n text) ≡ take n text
   pub upper : n < length text → is_ascii_uppercase (get_or text n 0) ≡ true
 
--- normal schemes and hosts: a byte that is no letter in upper case stays in lower case
+-- meanings of schemes and hosts: a byte that is no letter in upper case stays in lower case
 byte-that-is-no-uppercase-stays-lowered : (b : ℕ) → is_no_uppercase b ≡ true
     → to_ascii_lowercase b ≡ b
 byte-that-is-no-uppercase-stays-lowered b kept = grind (arith, nat_tests)
 
--- normal schemes and hosts: what is before the first letter in upper case stays in lower case
+-- meanings of schemes and hosts: what is before the first letter in upper case stays in lower case
 prefix-before-uppercase-stays-lowered : (text : List ℕ)
     → str_to_ascii_lowercase (take (prefix_len is_no_uppercase text) text)
     ≡ take (prefix_len is_no_uppercase text) text
@@ -47,11 +49,11 @@ prefix-before-uppercase-stays-lowered (b ∷ text) =
     (λ e. rw e refl)
     (cases_Bool (is_no_uppercase b))
 
--- normal schemes and hosts: a letter in upper case is ASCII
+-- meanings of schemes and hosts: a letter in upper case is ASCII
 uppercase-letter-is-ascii : (b : ℕ) → is_ascii_uppercase b ≡ true → b < 128
 uppercase-letter-is-ascii b upper = grind (arith, nat_tests)
 
--- normal schemes and hosts: a character begins at a letter in upper case, or the text ends
+-- meanings of schemes and hosts: a character begins at a letter in upper case, or the text ends
 uppercase-or-end-is-boundary : (text : List ℕ) (n : ℕ) → n ≤ length text
     → (n < length text → is_ascii_uppercase (get_or text n 0) ≡ true) → IsCharBoundary text n
 uppercase-or-end-is-boundary text n within upper = ⊎_elim
@@ -59,8 +61,7 @@ uppercase-or-end-is-boundary text n within upper = ⊎_elim
     (λ below. IsCharBoundary-before_ascii text n below (uppercase-letter-is-ascii _ (upper below)))
     (eq-or-lt_of_le within)
 
--- normalising schemes and hosts: what is before the first letter
--- in upper case stays when it is lowered
+-- meanings of schemes and hosts: what is before the first upper-case letter stays when lowered
 pub prefix-before-uppercase-is-lower-prefix : (text : List ℕ) (n : ℕ) → n
     ≡ position_or_len is_ascii_uppercase text
     → LowerPrefix text n
@@ -80,20 +81,20 @@ prefix-before-uppercase-is-lower-prefix text n e =
       upper = upper;
     }
 
--- normal schemes and hosts: the byte after a prefix without letters in upper case is ASCII
+-- meanings of schemes and hosts: the first upper-case letter, after a prefix without any, is ASCII
 pub byte-after-lower-prefix-is-ascii : (text : List ℕ) (n : ℕ) → LowerPrefix text n
     → n < length text
     → get_or text n 0 < 128
 byte-after-lower-prefix-is-ascii text n prefix below = uppercase-letter-is-ascii _
     (prefix.upper below)
 
--- general fact on prefixes: what is appended of a run from 0 on is a prefix
+-- general fact on prefixes, for meanings of hosts: what is appended of a run from 0 on is a prefix
 run-from-zero-is-prefix : (text out mid : List ℕ) (n : ℕ) → mid ≡ out ++ take (n - 0) text
     → mid ≡ out ++ take n text
 run-from-zero-is-prefix text out mid n = subst (λ k. mid ≡ out ++ take k text) (omega arith)
 
--- normal schemes and hosts: after a lower-case prefix, and the next letter in lower case,
--- the rest is left to append
+-- meanings of schemes and hosts: after a lower-case prefix, and the next letter in lower case, the
+-- rest is left to append
 pub lowered-letter-is-pushed : (text out mid new whole : List ℕ) (n : ℕ) → LowerPrefix text n
     → n < length text
     → mid ≡ out ++ take (n - 0) text
@@ -117,7 +118,7 @@ lowered-letter-is-pushed text out mid new whole n prefix below run letter total 
     ∙ ap (λ x. x ++ low ∷ suffix) (run-from-zero-is-prefix text out mid n run)
     ∙ append_assoc out kept (low ∷ suffix) ∙ ap (λ x. out ++ x) (sym split) ∙ total
 
--- normal schemes and hosts: a lower-case prefix that is the whole text completes what is appended
+-- meanings of schemes and hosts: a whole text in lower case completes what is appended
 pub last-lowercase-run-is-pushed : (text out new whole : List ℕ) (n : ℕ) → LowerPrefix text n → n
     ≡ length text
     → new ≡ out ++ take (n - 0) text → out ++ str_to_ascii_lowercase text ≡ whole → new ≡ whole
@@ -127,8 +128,8 @@ last-lowercase-run-is-pushed text out new whole n prefix all run total =
     ap str_to_ascii_lowercase (sym is_whole) ∙ prefix.same ∙ is_whole in
     run-from-zero-is-prefix text out new n run ∙ ap (λ x. out ++ x) (is_whole ∙ sym lower) ∙ total
 
--- normal schemes and hosts: the first letter in upper case, as an option,
--- is at its position, or else at the length
+-- meanings of schemes and hosts: the first letter in upper case, as an option, is at its position,
+-- or else at the length
 pub first-uppercase-or-length : (text : List ℕ) (found : Option ℕ)
     → (let n = position_or_len is_ascii_uppercase text in
     found ≡ cond (ltb n (length text)) (Some n) None)

@@ -29,7 +29,7 @@ ports scheme = cond (bytes_eq scheme (codes "http")) (Some 80)
 IsNormalOf : Kind → List ℕ → List ℕ → Type 0
 IsNormalOf kind text normal = normal_text (meaning_of kind ports text) ≡ normal
 
--- examples of normal forms: case, octets that are unreserved, and digits in upper case
+-- examples of meanings, by normal forms: case, octets that are unreserved, and digits in upper case
 normal-forms-of-case-and-octets :
     IsNormalOf uri_ref (codes "FOO://%55se%72@EXamp%4ce%2ecom:8042/%4b%2f?%4c%2b#%24%4d")
     (codes "foo://User@example.com:8042/K%2F?L%2B#%24M")
@@ -48,8 +48,8 @@ unfolding IsNormalOf ports chars encode_utf8 digits hex hex_groups_text ipv6_tex
 normal-forms-of-case-and-octets =
     (refl, refl, refl, refl, refl)
 
--- examples of normal forms: hosts, as addresses by their numbers,
--- and names that decode to addresses
+-- examples of meanings, by normal forms: hosts, as addresses by their numbers, and names that
+-- decode to addresses
 normal-forms-of-hosts :
     IsNormalOf uri_ref (codes "//[0:0:0:0:0:ffff:192.0.2.1]") (codes "//[::ffff:192.0.2.1]")
     × IsNormalOf uri_ref (codes "//[::192.0.2.1]") (codes "//[::c000:201]")
@@ -71,7 +71,7 @@ unfolding IsNormalOf ports chars encode_utf8 digits hex hex_groups_text ipv6_tex
 normal-forms-of-hosts =
     (refl, refl, refl, refl, refl, refl, refl, refl, refl)
 
--- examples of normal forms: in an IRI, runs of octets are decoded as UTF-8
+-- examples of meanings, by normal forms: in an IRI, runs of octets are decoded as UTF-8
 normal-forms-of-octets-in-iris :
     IsNormalOf iri_ref (codes "/%C3%41%A9%C3%A9") (codes "/%C3A%A9" ++ (0xC3 ∷ 0xA9 ∷ []))
     × IsNormalOf iri_ref (codes "/%C3A%A9" ++ (0xC3 ∷ 0xA9 ∷ []))
@@ -101,7 +101,7 @@ unfolding IsNormalOf ports chars encode_utf8 digits hex hex_groups_text ipv6_tex
 normal-forms-of-octets-in-iris =
     (refl, refl, refl, refl, refl, refl, refl, refl, refl, refl, refl)
 
--- examples of normal forms: ports, and the dot segments of absolute paths under a scheme
+-- examples of meanings, by normal forms: ports, and dot segments of absolute paths under a scheme
 normal-forms-of-ports-and-dot-segments :
     IsNormalOf uri (codes "http://h:0080/") (codes "http://h/")
     × IsNormalOf uri (codes "http://h:65616/") (codes "http://h:65616/")
@@ -125,20 +125,19 @@ unfolding IsNormalOf ports chars encode_utf8 digits hex hex_groups_text ipv6_tex
 normal-forms-of-ports-and-dot-segments =
     (refl, refl, refl, refl, refl, refl, refl, refl, refl, refl, refl, refl, refl)
 
--- example by computation: a host whose decoded form is an IPv4 address is a registered name
+-- example of meanings: a host whose decoded form is an IPv4 address is a registered name
 host-kind-before-and-after-decoding : (host_kind (codes "127.0.0.%31") ≡ RegName)
     × (host_kind (codes "127.0.0.1") ≡ Ipv4 (127 ∷ 0 ∷ 0 ∷ 1 ∷ []))
 unfolding host_kind ipv4_value read_ipv4 read_octet read_number
 host-kind-before-and-after-decoding = (refl, refl)
 
--- examples of targets: base, reference, the target, and its normal form
+-- examples of meanings, of targets: base, reference, the target, and its normal form
 HasTargetWithNormalForm : List ℕ → List ℕ → List ℕ → List ℕ → Type 0
 HasTargetWithNormalForm base reference target normal =
     (resolution_of (components base) (components reference) ≡ Ok target)
     × IsNormalOf uri target normal
 
--- examples of targets that have normal forms, by computation: base, reference,
--- target and its normal form
+-- examples of meanings, of targets, by computation: base, reference, target and its normal form
 example-targets-have-normal-forms :
     HasTargetWithNormalForm (codes "foo:/bar/..") (codes ".") (codes "foo:/") (codes "foo:/")
     × HasTargetWithNormalForm (codes "foo:/") (codes ".//@@") (codes "foo:/.//@@")

@@ -12,25 +12,25 @@ use Rattle.uri_ops.specs.Dots.{is_empty}
 use Rattle.uri_ops.specs.Meaning.{AuthorityMeaning, Meaning, port_meaning, authority_meaning}
 use Rattle.uri_ops.specs.Meaning.{components_meaning, meaning_of, bare_meaning_of, under}
 
--- default ports: leaving out an empty port, and then the default, is leaving out either
+-- meanings of ports: leaving out an empty port, and then the default, is leaving out either
 port_meaning-of-bare-port_meaning : (default : Option ℕ) (port : Option (List ℕ))
     → port_meaning default (port_meaning None port) ≡ port_meaning default port
 port_meaning-of-bare-port_meaning default None = refl
 port_meaning-of-bare-port_meaning default (Some []) = refl
 port_meaning-of-bare-port_meaning default (Some (d ∷ digits)) = refl
 
--- default ports: the function without default ports returns None for each scheme
+-- meanings of ports: the function without default ports returns None for each scheme
 no_defaults-gives-no-default : (scheme : Option (List ℕ)) → option_and_then no_defaults scheme
     ≡ None
 no_defaults-gives-no-default None = refl
 no_defaults-gives-no-default (Some scheme) = refl
 
--- the authority's meaning with its port under this default
+-- meanings of ports: the authority's meaning with its port under this default
 abbrev pub with_default : Option ℕ → AuthorityMeaning → AuthorityMeaning
 with_default default a = record a { port = port_meaning default a.port }
 
--- default ports: the meaning of an authority under a default
--- port is its meaning without one, with that port left out
+-- meanings of ports: the meaning of an authority under a default port is its meaning without one,
+-- with that port left out
 pub bare-authority-meaning-with_default : (kind : Kind) (default : Option ℕ) (authority : List ℕ)
     → with_default default (authority_meaning kind None authority)
     ≡ authority_meaning kind default authority
@@ -41,29 +41,29 @@ bare-authority-meaning-with_default kind default authority =
           (authority_parts authority).port i;
     }
 
--- default ports: a port that is kept is its own meaning under the default;
--- t: whether it is left out
+-- meanings of ports: a port that is kept is its own meaning under the default; t: whether it is
+-- left out
 kept-port-is-its-port_meaning : (default : Option ℕ) (digits : List ℕ) (t : Bool)
     → (is_empty digits || is_default default digits) ≡ t
     → port_meaning default (cond t None (Some digits)) ≡ cond t None (Some digits)
 kept-port-is-its-port_meaning default digits true e = refl
 kept-port-is-its-port_meaning default digits false e = cond-false _ _ _ e
 
--- default ports: leaving a default port out twice is leaving it out once
+-- meanings of ports: leaving a default port out twice is leaving it out once
 port_meaning-is-idempotent : (default : Option ℕ) (port : Option (List ℕ))
     → port_meaning default (port_meaning default port) ≡ port_meaning default port
 port_meaning-is-idempotent default None = refl
 port_meaning-is-idempotent default (Some digits) =
     kept-port-is-its-port_meaning default digits (is_empty digits || is_default default digits) refl
 
--- default ports: leaving a default port out of an authority's meaning twice is leaving it out once
+-- meanings of ports: twice without a default port, an authority's meaning is as once without it
 with_default-is-idempotent : (default : Option ℕ) (a : AuthorityMeaning)
     → with_default default (with_default default a) ≡ with_default default a
 with_default-is-idempotent default a =
     λ i. record a { port = port_meaning-is-idempotent default a.port i }
 
--- default ports: an authority whose meaning without a default
--- is another's under it has the same under it
+-- meanings of ports: an authority whose meaning without a default is another's under it has the
+-- same under it
 pub authority_meaning-from-bare-meaning : (kind : Kind) (default : Option ℕ)
     (text authority : List ℕ)
     → authority_meaning kind None text ≡ authority_meaning kind default authority
@@ -75,7 +75,7 @@ authority_meaning-from-bare-meaning kind default text authority e =
     ∙ with_default-is-idempotent default (authority_meaning kind None authority)
     ∙ bare-authority-meaning-with_default kind default authority
 
--- default ports: the meaning of an authority, if there is one, is its meaning without a default
+-- meanings of ports: the meaning of an authority, if there is one, is its meaning without a default
 -- (other), with that port left out
 authority-meanings-are-bare-with_default : (kind : Kind) (default other : Option ℕ) → other ≡ None
     → (authority : Option (List ℕ))
@@ -86,12 +86,11 @@ authority-meanings-are-bare-with_default kind default other e (Some authority) =
     ap Some (sym (ap (λ d. with_default default (authority_meaning kind d authority)) e
     ∙ bare-authority-meaning-with_default kind default authority))
 
--- default ports: a meaning with another authority
+-- meanings of ports: a meaning with another authority
 with_authority : Meaning → Option AuthorityMeaning → Meaning
 with_authority m authority = record m { authority = authority }
 
--- default ports: the meaning of components is their meaning
--- without default ports, with these left out
+-- meanings of ports: the meaning of components is theirs without default ports, less these ports
 components_meaning-is-bare-under-ports : (kind : Kind) (ports : PortFunction) (p : Components)
     → components_meaning kind ports p ≡ under ports (components_meaning kind no_defaults p)
 unfolding with_authority
@@ -102,8 +101,8 @@ components_meaning-is-bare-under-ports kind ports p =
     (option_and_then no_defaults scheme)
     (no_defaults-gives-no-default scheme) p.authority)
 
--- default ports: the meaning of a text under a port function is its meaning without one,
--- with these ports left out
+-- meanings of ports: the meaning of a text under a port function is its meaning without one, with
+-- these ports left out
 pub meaning_of-from-bare-meaning : (kind : Kind) (ports : PortFunction) (text : List ℕ)
     → meaning_of kind ports text ≡ under ports (bare_meaning_of kind text)
 meaning_of-from-bare-meaning kind ports text = components_meaning-is-bare-under-ports kind ports

@@ -11,8 +11,7 @@ use Rattle.uri_pct.specs.Tokens.{Token, Char, Octet}
 use Rattle.uri_ops.specs.SameMeanings.{same_token, same_tokens, same_host, same_authority}
 use Rattle.uri_ops.specs.SameMeanings.{same_meaning}
 
--- equivalence: comparing two options decides whether they are equal,
--- if E decides it for their values
+-- equal meanings: comparing two options decides whether they are equal, if E does for values
 option_eq-decides-equality : {A : Type 0} (E : A → A → Bool) → ((a b : A) → Decides (E a b) (a ≡ b))
     → (p q : Option A) → Decides (option_eq E p q) (p ≡ q)
 option_eq-decides-equality E d None None = (λ _. refl, λ _. refl)
@@ -20,7 +19,7 @@ option_eq-decides-equality E d None (Some b) = (λ e. cc, λ e. cc)
 option_eq-decides-equality E d (Some a) None = (λ e. cc, λ e. cc)
 option_eq-decides-equality E d (Some a) (Some b) = Decides-like (E a b) (ap Some) (λ e. cc) (d a b)
 
--- equivalence: comparing two tokens decides whether they are equal
+-- equal meanings: comparing two tokens decides whether they are equal
 same_token-decides-equality : (a b : Token) → Decides (same_token a b) (a ≡ b)
 same_token-decides-equality (Char a) (Char b) = Decides-like _ (ap Char) (λ e. cc) (Decides-eqb a b)
 same_token-decides-equality (Octet a) (Octet b) = Decides-like _ (ap Octet) (λ e. cc)
@@ -28,12 +27,12 @@ same_token-decides-equality (Octet a) (Octet b) = Decides-like _ (ap Octet) (λ 
 same_token-decides-equality (Char a) (Octet b) = (λ e. cc, λ e. cc)
 same_token-decides-equality (Octet a) (Char b) = (λ e. cc, λ e. cc)
 
--- equivalence: comparing two lists of tokens decides whether they are equal
+-- equal meanings: comparing two lists of tokens decides whether they are equal
 same_tokens-decides-equality : (a b : List Token) → Decides (same_tokens a b) (a ≡ b)
 same_tokens-decides-equality a b = slice_eq-Decides same_token-decides-equality a b
     (same_tokens a b) refl
 
--- equivalence: comparing the meanings of two hosts decides whether they are equal
+-- equal meanings: comparing the meanings of two hosts decides whether they are equal
 host : (a b : HostMeaning) → Decides (same_host a b) (a ≡ b)
 host (Address a) (Address b) = Decides-like _ (ap Address) (λ e. cc) (bytes_eq-Decides a b)
 host (FutureAddress a) (FutureAddress b) =
@@ -46,7 +45,7 @@ host (FutureAddress a) (Name b) = (λ e. cc, λ e. cc)
 host (Name a) (Address b) = (λ e. cc, λ e. cc)
 host (Name a) (FutureAddress b) = (λ e. cc, λ e. cc)
 
--- equivalence: comparing the meanings of two authorities decides whether they are equal
+-- equal meanings: comparing the meanings of two authorities decides whether they are equal
 authority : (a b : AuthorityMeaning) → Decides (same_authority a b) (a ≡ b)
 authority a b =
     Decides-like _ (λ e. λ i. record { userinfo = e.0 i; host = e.1.0 i; port = e.1.1 i })
@@ -59,7 +58,7 @@ authority a b =
     (Decides-and _ _ (host a.host b.host)
     (option_eq-decides-equality bytes_eq bytes_eq-Decides a.port b.port)))
 
--- equivalence: the test of two meanings for equality returns true exactly if they are equal
+-- equal meanings: the test of two meanings for equality returns true exactly if they are equal
 pub same_meaning-decides-equality : (m n : Meaning) → Decides (same_meaning m n) (m ≡ n)
 unfolding same_meaning
 same_meaning-decides-equality m n =

@@ -21,7 +21,7 @@ use Rattle.uri_ops.proofs.Meanings.Cased.{lowered-pieces-are-encoded-lowered-tex
 use Rattle.uri_ops.proofs.Meanings.DecodedParts.{decoded_parts-of-run}
 use Rattle.uri_ops.proofs.Meanings.DecodedParts.{decoded_parts-are-decoded-tokens}
 
--- normalising octets past ASCII: a literal part of a text is written in lower case if lowers
+-- meanings, decoded past ASCII: a literal part of a text is written in lower case if lowers
 pub literal-part-is-lowered : (lowers : Bool) (set : TableSet) (text : List ℕ) → IsUtf8 text
     → print (lowered_if lowers (decoded_parts set (Literal text ∷ [])))
     ≡ lowered_text_if lowers text
@@ -29,8 +29,8 @@ literal-part-is-lowered lowers set text u = ap (λ ts. print (lowered_if lowers 
     (append-nil (map Char (chars text)))
     ∙ print-lowers-characters lowers text u
 
--- normalising octets past ASCII: characters that octets decode to are written encoded,
--- unless the set decodes them
+-- meanings, decoded past ASCII: characters that octets decode to are written encoded, unless the
+-- set decodes them
 pub decoded-octets-past-ascii-are-encoded-text : (lowers : Bool) (decodable set : TableSet)
     (text : List ℕ)
     → AllowsDecodable decodable set → IsUtf8 text → ArePastAscii text
@@ -46,7 +46,7 @@ decoded-octets-past-ascii-are-encoded-text true decodable set text same u past =
     ∙ ap (λ bytes. print (encode_text decodable bytes))
     (bytes-past-ascii-stay-when-lowered text past)
 
--- normalising octets past ASCII: ill-formed bytes stay octets
+-- meanings, decoded past ASCII: ill-formed bytes stay octets
 pub ill-formed-octets-stay-octets : (lowers : Bool) (set : TableSet) (bytes : List ℕ)
     → print (lowered_if lowers (decoded_parts set (Decoded (IllFormed bytes) ∷ [])))
     ≡ print (map Octet bytes)
@@ -54,7 +54,7 @@ ill-formed-octets-stay-octets lowers set bytes = ap (λ ts. print (lowered_if lo
     (append-nil (map Octet bytes))
     ∙ ap print (octets-stay-when-lowered lowers bytes)
 
--- normalising octets past ASCII: a `Decoding` to which the decoded parts are appended has appended
+-- meanings, decoded past ASCII: a `Decoding` to which the decoded parts are appended has appended
 -- these parts; s, t: before and after
 pub appended-text-is-decoded-parts : (s t : Decoding) (ps : List Part) (more : List ℕ)
     → set_of t.table ≡ set_of s.table
@@ -69,7 +69,7 @@ appended-text-is-decoded-parts s t ps more set lowers same written meant = recor
   text = written ∙ ap (λ x. string_bytes s.text.now ++ x) (sym meant);
 }
 
--- normalising octets past ASCII: all parts of a text are written as its decoded tokens; s, t: the
+-- meanings, decoded past ASCII: all parts of a text are written as its decoded tokens; s, t: the
 -- `Decoding` before and after
 pub all-parts-give-decoded-tokens : (text old : List ℕ) (s t : Decoding)
     → IsValidFor widest_set text

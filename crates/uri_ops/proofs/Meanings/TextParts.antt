@@ -19,7 +19,7 @@ use Rattle.uri_pct.proofs.Tests.{IfSome-combine}
 use Rattle.uri_parts.proofs.Parsing.WholeTexts.{utf8_after_authority, utf8_after_scheme}
 use Rattle.uri_parts.proofs.Authorities.NamesAndPorts.{utf8_before_marks}
 
--- the grammar of a kind, each component with its rule
+-- meanings of components: each component is UTF-8 and meets its rule of the grammar of a kind
 pub record ArePartsOfKind (kind : Kind) (p : Components) : Type 0 where
   pub scheme : IfSome p.scheme (λ s. IsUtf8 s × (is_scheme s ≡ true))
   pub authority : IfSome p.authority (λ a. IsUtf8 a × (is_authority kind a ≡ true))
@@ -31,22 +31,22 @@ pub record ArePartsOfKind (kind : Kind) (p : Components) : Type 0 where
       && (is_some p.authority || not (has_colon_in_first_segment p.path))))
       ≡ true
 
--- general fact on options, for components:
--- a component that is absent or passes a test passes it, if there is one
+-- general fact on options, for meanings of components: a component that is absent or passes a test
+-- passes it, if there is one
 passing-option-passes-if-some : (o : Option (List ℕ)) (test : List ℕ → Bool)
     → absent_or_passes o test ≡ true
     → IfSome o (λ x. test x ≡ true)
 passing-option-passes-if-some None test e = tt
 passing-option-passes-if-some (Some x) test e = e
 
--- general fact on options, for components:
--- a component passes the test that its property implies, or is absent
+-- general fact on options, for meanings of components: a component passes the test that its
+-- property implies, or is absent
 property-if-some-passes-test : (o : Option (List ℕ)) (P : List ℕ → Type 0) (test : List ℕ → Bool)
     → ((x : List ℕ) → P x → test x ≡ true) → IfSome o P → absent_or_passes o test ≡ true
 property-if-some-passes-test None P test f h = refl
 property-if-some-passes-test (Some x) P test f h = f x h
 
--- components of a kind, each in UTF-8 and valid, meet the rules of its grammar
+-- meanings of components: those of a kind meet the rules of its grammar
 pub components-of-kind-meet-grammar : (kind : Kind) (p : Components) → ArePartsOfKind kind p
     → components_meet_rules kind p ≡ true
 components-of-kind-meet-grammar kind p w =
@@ -65,7 +65,7 @@ components-of-kind-meet-grammar kind p w =
     (λ f h. set-text-is-valid kind.fragment f h) w.fragment))
     w.needs
 
--- UTF-8
+-- meanings of components: each component is UTF-8
 pub record AreUtf8 (p : Components) : Type 0 where
   pub scheme : IfSome p.scheme IsUtf8
   pub authority : IfSome p.authority IsUtf8
@@ -73,7 +73,7 @@ pub record AreUtf8 (p : Components) : Type 0 where
   pub query : IfSome p.query IsUtf8
   pub fragment : IfSome p.fragment IsUtf8
 
--- splitting: after an ASCII byte c at its start, a text in UTF-8 is UTF-8
+-- meanings of components: after an ASCII byte c at its start, a text in UTF-8 is UTF-8
 utf8-after-leading-ascii-is-utf8 : (c : ℕ) (text : List ℕ) → c < 128 → starts c text ≡ true
     → IsUtf8 text
     → IsUtf8 (drop 1 text)
@@ -81,29 +81,29 @@ utf8-after-leading-ascii-is-utf8 c [] h e u = u
 utf8-after-leading-ascii-is-utf8 c (b ∷ rest) h e u = utf8_after_ascii_byte b rest
     (let d = eqb-true b c e in omega arith) u
 
--- splitting: a component that is found if a test passes is UTF-8
+-- meanings of components: a component that is found if a test passes is UTF-8
 optional-text-is-utf8 : (test : Bool) (text : List ℕ) → (test ≡ true → IsUtf8 text)
     → IfSome (when test text) IsUtf8
 optional-text-is-utf8 true text u = u refl
 optional-text-is-utf8 false text u = tt
 
--- schemes: the delimiters at which the parser ends one are ASCII
+-- meanings of components: the delimiters that end a scheme are ASCII
 pub scheme-ends-are-ascii : AreAscii (codes ":/?#")
 scheme-ends-are-ascii = AreAscii-by-test (codes ":/?#") refl
 
--- splitting: the delimiters that end an authority are ASCII
+-- meanings of components: the delimiters that end an authority are ASCII
 authority-ends-are-ascii : AreAscii (codes "/?#")
 authority-ends-are-ascii = AreAscii-by-test (codes "/?#") refl
 
--- splitting: the delimiters that end a path are ASCII
+-- meanings of components: the delimiters that end a path are ASCII
 path-ends-are-ascii : AreAscii (codes "?#")
 path-ends-are-ascii = AreAscii-by-test (codes "?#") refl
 
--- splitting: the delimiter that ends a query is ASCII
+-- meanings of components: the delimiter that ends a query is ASCII
 query-ends-are-ascii : AreAscii (codes "#")
 query-ends-are-ascii = AreAscii-by-test (codes "#") refl
 
--- splitting: what is after the query in a text is UTF-8
+-- meanings of components: what is after the query in a text is UTF-8
 text-after-query-is-utf8 : (end : List ℕ) → IsUtf8 end → IsUtf8 (after_query end)
 text-after-query-is-utf8 end u = ⊎_elim
     (λ e.
@@ -112,7 +112,7 @@ text-after-query-is-utf8 end u = ⊎_elim
     (λ e. rw e u)
     (cases_Bool (starts 63 end))
 
--- the components of a text in UTF-8 are UTF-8
+-- meanings of components: those of a text in UTF-8 are UTF-8
 pub components-of-utf8-are-utf8 : (text : List ℕ) → IsUtf8 text → AreUtf8 (components text)
 components-of-utf8-are-utf8 text u =
     let rest = utf8_after_scheme text u in
@@ -147,7 +147,7 @@ components-of-utf8-are-utf8 text u =
           (after_authority (after_scheme text))) end));
     }
 
--- components in UTF-8 that meet the rules of the grammar are components of the kind
+-- meanings of components: those in UTF-8 that meet the rules of the grammar are of the kind
 pub grammar-gives-components-of-kind : (kind : Kind) (p : Components) → AreUtf8 p
     → components_meet_rules kind p ≡ true
     → ArePartsOfKind kind p

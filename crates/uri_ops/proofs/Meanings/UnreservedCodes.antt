@@ -10,28 +10,31 @@ use Rattle.uri_pct.specs.Tokens.{Octet, print}
 use Rattle.uri_ops.specs.declared.normalize.octets.TheConstants.{LOWERED_CODES, UNRESERVED_CODES}
 use Rattle.uri_ops.specs.Models.Decodings.{lowered_if, lowered_code_if}
 
+-- meanings, decoded by a table: the constant with the code of each ASCII byte that is unreserved
 abbrev pub code_table : Bool → List ℕ
 code_table lowers = cond lowers LOWERED_CODES.now UNRESERVED_CODES.now
 
+-- meanings, decoded by a table: the entry of the byte is its code if it is unreserved, and else 128
 abbrev is_entry : Bool → ℕ → Bool
 is_entry lowers b =
     eqb (get_or (code_table lowers) b 0) (cond (is_unreserved b) (lowered_code_if lowers b) 128)
 
--- decoding by its table: each entry passes the test of entries; lowers: whether letters are lowered
+-- meanings, decoded by a table: each entry passes the test of entries; lowers: whether letters are
+-- lowered
 code_table-entries-pass-test : (lowers : Bool) (b : ℕ) → b < 128 → is_entry lowers b ≡ true
 code_table-entries-pass-test true b small = agree_below_at (is_entry true)
     (λ _. true) 128 b refl small
 code_table-entries-pass-test false b small = agree_below_at (is_entry false)
     (λ _. true) 128 b refl small
 
--- decoding by its table: an entry is the code of an unreserved character, and else 128
+-- meanings, decoded by a table: an entry is the code of an unreserved character, and else 128
 code_table-entry-of-ascii : (lowers : Bool) (b : ℕ) → b < 128
     → get_or (code_table lowers) b 0 ≡ cond (is_unreserved b) (lowered_code_if lowers b) 128
 code_table-entry-of-ascii lowers b small = eqb-true _ _
     (code_table-entries-pass-test lowers b small)
 
--- decoding by its table: an entry that is ASCII is the code of
--- an unreserved character, in lower case if lowers
+-- meanings, decoded by a table: an entry that is ASCII is the code of an unreserved character, in
+-- lower case if lowers
 pub ascii-entry-is-unreserved : (lowers : Bool) (b : ℕ) → b < 128
     → get_or (code_table lowers) b 0 < 128
     → (get_or (code_table lowers) b 0 ≡ lowered_code_if lowers b) × (is_unreserved b ≡ true)
@@ -42,12 +45,12 @@ ascii-entry-is-unreserved lowers b small ascii = ⊎_elim
     absurd (omega (arith, other, ascii)))
     (cases_Bool (is_unreserved b))
 
--- decoding: an ASCII character is ASCII in lower case
+-- meanings, decoded: an ASCII character is ASCII in lower case
 lowered-code-of-ascii-is-ascii : (lowers : Bool) (b : ℕ) → b < 128 → lowered_code_if lowers b < 128
 lowered-code-of-ascii-is-ascii true b small = lowercase_ascii b small
 lowered-code-of-ascii-is-ascii false b small = small
 
--- decoding by its table: an entry past ASCII is of a character that is not unreserved
+-- meanings, decoded by a table: an entry past ASCII is of a character that is not unreserved
 pub entry-past-ascii-is-not-unreserved : (lowers : Bool) (b : ℕ) → b < 128
     → 128 ≤ get_or (code_table lowers) b 0
     → is_unreserved b ≡ false
@@ -59,8 +62,8 @@ entry-past-ascii-is-not-unreserved lowers b small past = ⊎_elim
     (λ e. e)
     (cases_Bool (is_unreserved b))
 
--- normalising: the octet of an unreserved character is written
--- as the character, in lower case if lowers
+-- meanings, decoded: the octet of an unreserved character is written as the character, in lower
+-- case if lowers
 pub unreserved-octet-prints-its-code : (lowers : Bool) (value : ℕ) → is_unreserved value ≡ true
     → print (lowered_if lowers (decode_octet (Octet value) ∷ []))
     ≡ encode_utf8 (lowered_code_if lowers value)

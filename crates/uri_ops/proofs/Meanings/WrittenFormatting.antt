@@ -33,22 +33,22 @@ use Rattle.uri_pct.proofs.UnreservedDecoding.DecodedTokens.{decode_tokens_keeps_
 use Rattle.uri_pct.specs.DecodeUnreserved.{encoded_formatting_char, encoded_formatting_text}
 use Rattle.uri_ops.specs.Models.Decodings.{lowered_if}
 
--- the empty text has no characters; used for formatting characters of bidirectional text
+-- meanings, bidirectional text: the empty text has no characters
 pub empty-text-has-no-characters : (text : List ℕ) → length text ≡ 0 → chars text ≡ []
 empty-text-has-no-characters text none = ap chars (nil_from_length text none) ∙ chars-nil
 
--- bidirectional text: a formatting character is from U+200E to U+202E,
--- so it begins with the byte E2
+-- meanings, bidirectional text: a formatting character is from U+200E to U+202E, so it begins with
+-- the byte E2
 formatting-is-from-200E-to-202E : (c : ℕ) → is_bidi_formatting c ≡ true → (0x200E ≤ c)
     × (c ≤ 0x202E)
 unfolding is_bidi_formatting
 formatting-is-from-200E-to-202E c e = (grind (arith, nat_tests), grind (arith, nat_tests))
 
--- bidirectional text: the byte is E2, with which formatting characters begin
+-- meanings, bidirectional text: the byte is E2, with which formatting characters begin
 is_byte_E2 : ℕ → Bool
 is_byte_E2 b = eqb b 0xE2
 
--- bidirectional text: a formatting character has the byte E2
+-- meanings, bidirectional text: a formatting character has the byte E2
 formatting-character-has-byte-E2 : (c : ℕ) → is_bidi_formatting c ≡ true
     → list_any is_byte_E2 (encode_utf8 c) ≡ true
 unfolding encode_utf8 is_byte_E2
@@ -61,7 +61,7 @@ formatting-character-has-byte-E2 c e =
     ∙ cond-true _ _ _ (lt-ltb c 65536 (omega (arith, within.1))))
     ∙ ap (λ b. list_any is_byte_E2 (b ∷ rest)) first
 
--- bidirectional text: characters without the byte E2 are no formatting characters
+-- meanings, bidirectional text: characters without the byte E2 are no formatting characters
 characters-without-byte-E2-are-no-formatting : (cs : List ℕ)
     → list_any is_byte_E2 (encode_utf8_all cs) ≡ false
     → list_any is_bidi_formatting cs ≡ false
@@ -73,7 +73,7 @@ characters-without-byte-E2-are-no-formatting (c ∷ cs) e =
     or_from _ _ (false_from_ne_true _ (λ h. both_ways _ p.0 (formatting-character-has-byte-E2 c h)))
     (characters-without-byte-E2-are-no-formatting cs p.1)
 
--- bidirectional text: without a byte E2 there is no formatting character
+-- meanings, bidirectional text: without a byte E2 there is no formatting character
 pub no-byte-E2-no-formatting : (text : List ℕ) → IsUtf8 text → list_any (λ b. eqb b 0xE2) text
     ≡ false
     → list_any is_bidi_formatting (chars text) ≡ false
@@ -81,7 +81,7 @@ unfolding is_byte_E2
 no-byte-E2-no-formatting text u e = characters-without-byte-E2-are-no-formatting (chars text)
     (ap (list_any is_byte_E2) (encodes-chars text u) ∙ e)
 
--- bidirectional text: characters without formatting characters stay as they are
+-- meanings, bidirectional text: characters without formatting characters stay as they are
 characters-without-formatting-stay : (cs : List ℕ) → list_any is_bidi_formatting cs ≡ false
     → flat_map encoded_formatting_char cs ≡ encode_utf8_all cs
 characters-without-formatting-stay [] e = refl
@@ -90,13 +90,13 @@ characters-without-formatting-stay (c ∷ cs) e =
     ap (λ x. x ++ flat_map encoded_formatting_char cs) (cond-false _ _ _ p.0)
     ∙ ap (λ x. encode_utf8 c ++ x) (characters-without-formatting-stay cs p.1)
 
--- bidirectional text: a text without formatting characters stays when these are percent-encoded
+-- meanings, bidirectional text: a text without formatting characters stays when they are encoded
 pub text-without-formatting-stays : (text : List ℕ) → IsUtf8 text
     → list_any is_bidi_formatting (chars text) ≡ false → encoded_formatting_text text ≡ text
 text-without-formatting-stays text u e = characters-without-formatting-stay (chars text) e
     ∙ encodes-chars text u
 
--- bidirectional text: the text of an octet has no formatting character
+-- meanings, bidirectional text: the text of an octet has no formatting character
 printable-octet-has-no-formatting : (v : ℕ) → is_printable (Octet v) ≡ true
     → list_any is_bidi_formatting (chars_of_token (Octet v)) ≡ false
 printable-octet-has-no-formatting v e =
@@ -107,7 +107,7 @@ printable-octet-has-no-formatting v e =
     or_from _ _ (ascii_char_is_no_formatting_char 37 (lit< tt))
     (or_from _ _ high (or_from _ _ low refl))
 
--- bidirectional text: in the text of a token, a formatting character is encoded as in the token
+-- meanings, bidirectional text: the text of a token has formatting characters encoded as the token
 printed-token-has-formatting-encoded : (set : TableSet) (t : Token)
     → (set.ucschar && set.pct_encoded) ≡ true
     → is_printable t ≡ true
@@ -123,7 +123,7 @@ printed-token-has-formatting-encoded set (Char c) both e = ⊎_elim
     ∙ sym (ap print (cond-false _ _ _ (never_literal_is_formatting_if_both_flags set c both ∙ h))))
     (cases_Bool (is_bidi_formatting c))
 
--- bidirectional text: in the text of tokens, formatting characters are encoded as in the tokens
+-- meanings, bidirectional text: the text of tokens has formatting characters encoded as they have
 printed-tokens-have-formatting-encoded : (set : TableSet) (ts : List Token)
     → (set.ucschar && set.pct_encoded) ≡ true
     → list_all is_printable ts ≡ true
@@ -139,7 +139,7 @@ printed-tokens-have-formatting-encoded set (t ∷ ts) both e =
     (printed-tokens-have-formatting-encoded set ts both p.1)
     ∙ sym (flat_map-append text_of_token (formatting_as_octets set t) (encode_formatting set ts))
 
--- bidirectional text: encoding the formatting characters of tokens and writing them may swap
+-- meanings, bidirectional text: encoding formatting characters and writing the tokens may swap
 encoding-formatting-and-printing-swap : (set : TableSet) (ts : List Token)
     → (set.ucschar && set.pct_encoded) ≡ true
     → list_all is_printable ts ≡ true → encoded_formatting_text (print ts)
@@ -148,8 +148,8 @@ encoding-formatting-and-printing-swap set ts both e = ap (flat_map encoded_forma
     (chars_of_printed_tokens ts e)
     ∙ printed-tokens-have-formatting-encoded set ts both e
 
--- bidirectional text: formatting characters are encoded in the
--- text that was appended, and not before it
+-- meanings, bidirectional text: formatting characters are encoded in the text that was appended,
+-- and not before it
 pub formatting-encoded-after-prefix : (old more new : List ℕ) (start : ℕ) → start ≡ length old → new
     ≡ old ++ more
     → take start new ++ encoded_formatting_text (drop start new)
@@ -159,21 +159,22 @@ formatting-encoded-after-prefix old more new start e f =
     (take-append_seam old more) ∙ ap (λ x. old ++ encoded_formatting_text x)
     (drop-append_seam old more))
 
--- bidirectional text: percent-encoding formatting characters and lower case, if lowers, may swap
+-- meanings, bidirectional text: encoding formatting characters and lower case, if lowers, may swap
 encoding-formatting-and-lowering-swap : (lowers : Bool) (set : TableSet) (ts : List Token)
     → encode_formatting set (lowered_if lowers ts) ≡ lowered_if lowers (encode_formatting set ts)
 encoding-formatting-and-lowering-swap true set ts = sym
     (encode_formatting_commutes_with_lowering set ts)
 encoding-formatting-and-lowering-swap false set ts = refl
 
--- normal forms: tokens that can be written can be in lower case; lowers: whether they are lowered
+-- meanings, decoded: tokens that can be written can be in lower case; lowers: whether they are
+-- lowered
 lowered-printable-tokens-are-printable : (lowers : Bool) (ts : List Token)
     → list_all is_printable ts ≡ true
     → list_all is_printable (lowered_if lowers ts) ≡ true
 lowered-printable-tokens-are-printable true ts e = lowered_tokens_are_printable ts e
 lowered-printable-tokens-are-printable false ts e = e
 
--- normal forms: the decoded tokens of a valid text can be written, in lower case too
+-- meanings, decoded: the decoded tokens of a valid text can be written, in lower case too
 lowered-decoded-tokens-are-printable : (lowers : Bool) (set : TableSet) (text : List ℕ)
     → IsValidFor widest_set text
     → list_all is_printable (lowered_if lowers (decode_tokens set (tokens text))) ≡ true
@@ -182,7 +183,7 @@ lowered-decoded-tokens-are-printable lowers set text valid =
     (decode_tokens_keeps_tokens_printable set (tokens text)
     (valid_text_has_printable_tokens widest_set text refl valid))
 
--- normal forms: a component of a valid text, decoded and in lower case if lowers, is UTF-8
+-- meanings, decoded: a component of a valid text, decoded and in lower case if lowers, is UTF-8
 pub printed-lowered-decoding-is-utf8 : (lowers : Bool) (set : TableSet) (text : List ℕ)
     → IsValidFor widest_set text
     → IsUtf8 (print (lowered_if lowers (decode_tokens set (tokens text))))
@@ -190,8 +191,8 @@ printed-lowered-decoding-is-utf8 lowers set text valid =
     printed_tokens_are_utf8 (lowered_if lowers (decode_tokens set (tokens text)))
     (lowered-decoded-tokens-are-printable lowers set text valid)
 
--- bidirectional text: percent-encoding the formatting characters
--- of a decoded component completes its normal form
+-- meanings, bidirectional text: percent-encoding the formatting characters of a decoded component
+-- completes its normal form
 pub encoding-formatting-completes-decoding : (lowers : Bool) (set : TableSet) (text : List ℕ)
     → (set.ucschar && set.pct_encoded) ≡ true → IsValidFor widest_set text
     → encoded_formatting_text (print (lowered_if lowers (decode_tokens set (tokens text))))
@@ -202,8 +203,8 @@ encoding-formatting-completes-decoding lowers set text both valid =
     (lowered-decoded-tokens-are-printable lowers set text valid)
     ∙ ap print (encoding-formatting-and-lowering-swap lowers set (decode_tokens set (tokens text)))
 
--- bidirectional text: a set without octets or characters past ASCII needs no formatting character
--- encoded in its normal form
+-- meanings, bidirectional text: a set without octets or characters past ASCII needs no formatting
+-- character encoded in its normal form
 pub decoding-without-formatting-is-complete : (lowers : Bool) (set : TableSet) (text : List ℕ)
     → (set.ucschar && set.pct_encoded) ≡ false
     → print (lowered_if lowers (decode_tokens set (tokens text)))
@@ -212,14 +213,14 @@ decoding-without-formatting-is-complete lowers set text none =
     ap (λ ts. print (lowered_if lowers ts))
     (sym (encode_formatting_without_flags_keeps_tokens set (decode_tokens set (tokens text)) none))
 
--- general fact on booleans, for formatting characters: a set holds `ucschar` where it holds U+200E
+-- general fact on booleans, for meanings of bidirectional text: `ucschar` decides on U+200E
 second-flag-does-not-matter : (u p : Bool) → ((u && true) || (p && false)) ≡ u
 second-flag-does-not-matter true true = refl
 second-flag-does-not-matter true false = refl
 second-flag-does-not-matter false true = refl
 second-flag-does-not-matter false false = refl
 
--- bidirectional text: a set allows a formatting character such as U+200E if it has `ucschar`
+-- meanings, bidirectional text: a set allows a formatting character, as U+200E, if it has `ucschar`
 pub set_allows_formatting_by_ucschar : (set : TableSet) → allows set 0x200E ≡ set.ucschar
 unfolding allows_past_ascii is_ucschar is_iprivate
 set_allows_formatting_by_ucschar set = second-flag-does-not-matter set.ucschar set.iprivate

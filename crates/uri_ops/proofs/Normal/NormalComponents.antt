@@ -49,8 +49,8 @@ use Rattle.uri_parts.proofs.Splitting.Recompose.{equal-to-true-is-IsTrue}
 use Rattle.uri_ops.proofs.Meanings.ComponentEnds.{path-set-excludes-its-ends}
 use Rattle.uri_ops.proofs.Meanings.ComponentEnds.{query-set-excludes-its-end}
 
--- an authority that is printed from its meaning is one, lacks the marks that would end it, and has
--- that meaning
+-- normal texts: an authority that is printed from its meaning is one, lacks the delimiters that
+-- would end it, and has that meaning
 pub record NormalAuthoritiesKeepMeaning (kind : Kind) : Type 0 where
   pub utf8 : (default : Option ℕ) (a : List ℕ) → IsUtf8 a → is_authority kind a ≡ true
       → IsUtf8 (normal_authority (authority_meaning kind default a))
@@ -62,24 +62,24 @@ pub record NormalAuthoritiesKeepMeaning (kind : Kind) : Type 0 where
       → authority_meaning kind None (normal_authority (authority_meaning kind default a))
       ≡ authority_meaning kind default a
 
--- the scheme
+-- normal texts: the text is a scheme in UTF-8
 abbrev IsSchemePart : List ℕ → Type 0
 IsSchemePart s = IsUtf8 s × (is_scheme s ≡ true)
 
--- normal schemes: a scheme, if there is one, is one in lower case
+-- normal texts: a scheme, if there is one, is one in lower case
 lowered-scheme-part-is-scheme-part : (scheme : Option (List ℕ)) → IfSome scheme IsSchemePart
     → IfSome (option_map str_to_ascii_lowercase scheme) IsSchemePart
 lowered-scheme-part-is-scheme-part None h = tt
 lowered-scheme-part-is-scheme-part (Some s) h =
     (lowered-scheme-is-utf8 s h.0 h.1, lowered-scheme-is-scheme s h.0 h.1)
 
--- schemes: a text whose first byte is a letter is not empty
+-- normal texts: a text whose first byte is a letter is not empty
 pub text-with-first-letter-is-not-empty : (s : List ℕ) → is_ascii_alphabetic (slice_index s 0)
     ≡ true → 0 < length s
 text-with-first-letter-is-not-empty [] e = absurd (false≢true e)
 text-with-first-letter-is-not-empty (c ∷ s) e = omega arith
 
--- normal schemes: a scheme, if there is one, is not empty and has no delimiter that ends it
+-- normal texts: a scheme, if there is one, is not empty and has no delimiter that ends it
 scheme-part-is-not-empty-and-lacks-ends : (scheme : Option (List ℕ)) → IfSome scheme IsSchemePart
     → IfSome scheme (λ s. (0 < length s) × Lacks (codes ":/?#") s)
 scheme-part-is-not-empty-and-lacks-ends None h = tt
@@ -90,7 +90,7 @@ scheme-part-is-not-empty-and-lacks-ends (Some s) h =
           (codes ":/?#") scheme_set_lacks_percent scheme_set_excludes_delimiters s h.0 q.1,
     )
 
--- normal schemes: lower case twice is lower case once
+-- normal texts: a scheme, if there is one, in lower case twice is in lower case once
 lowering-scheme-is-idempotent : (scheme : Option (List ℕ))
     → option_map str_to_ascii_lowercase (option_map str_to_ascii_lowercase scheme)
     ≡ option_map str_to_ascii_lowercase scheme
@@ -123,7 +123,7 @@ module _ (set : TableSet) (marks : List ℕ) (w : IsComponentSet marks set) wher
       valid_text_lacks_excluded_marks set some w.percent outside x (set-text-is-utf8 set x h)
       (set-text-is-valid set x h)
 
--- the path
+-- normal texts: the path, without dot segments and decoded, after its guard if there is a scheme
 abbrev normal_path_of : TableSet → Option (List ℕ) → Option (List ℕ) → List ℕ → List ℕ
 normal_path_of set scheme authority path =
     cond (is_some (option_map str_to_ascii_lowercase scheme))

@@ -68,8 +68,7 @@ path-with-dots-is-normal-when-decoded set w (Some s) authority path utf8 valid e
     ∙ path-without-two-slashes-has-no-guard authority (print (decode_unreserved set path))
     (decoded-path-keeps-two-slashes set w path utf8 valid ∙ no-leading-slash-no-two-slashes path e)
 
--- general fact on options: a value that is mapped twice is there if it was;
--- for components of a normal text
+-- general fact on options, for components of a normal text: a value mapped twice is there if it was
 pub is_some-of-mapped-twice : {A B C : Type 0} (f : A → B) (h : B → C) (o : Option A)
     → is_some (option_map h (option_map f o)) ≡ is_some o
 is_some-of-mapped-twice f h None = refl
@@ -86,7 +85,7 @@ five-appended-texts-are-one old s a p q f o1 o2 o3 o4 new e1 e2 e3 e4 e5 =
     ∙ ap (λ t. t ++ (p ++ (q ++ f))) e2 ∙ append_assoc o1 a (p ++ (q ++ f))
     ∙ ap (λ t. t ++ (a ++ (p ++ (q ++ f)))) e1 ∙ append_assoc old s (a ++ (p ++ (q ++ f)))
 
--- normal forms: the normal path of a text is the one of its meaning
+-- normal texts: the normal path of a text is the one of its meaning
 pub normal_path-by-components : (kind : Kind) (ports : PortFunction) (text : List ℕ)
     → (let p = components text in let m = meaning_of kind ports text in
     normal_path_text kind.path p.scheme (option_map normal_authority m.authority) p.path
@@ -98,7 +97,7 @@ normal_path-by-components kind ports text =
     ap (λ (b : Bool). cond b (guarded (option_map normal_authority m.authority) path) path)
     (sym (is_some-option_map str_to_ascii_lowercase p.scheme))
 
--- normal forms: the five components, appended one after the other, are the normal text; old, o1 to
+-- normal texts: the five components, appended one after the other, are the normal text; old, o1 to
 -- o4, new: the text between them
 pub pushed-components-are-normal-text : (kind : Kind) (ports : PortFunction) (text : List ℕ)
     (old o1 o2 o3 o4 new : List ℕ)
@@ -118,12 +117,12 @@ pushed-components-are-normal-text kind ports text old o1 o2 o3 o4 new e1 e2 e3 e
     five-appended-texts-are-one old _ _ _ _ _ o1 o2 o3 o4 new e1 e2
     (e3 ∙ ap (λ t. o2 ++ t) (normal_path-by-components kind ports text)) e4 e5
 
--- general fact on booleans, for the tests of a normal text
+-- general fact on booleans, for the tests of a normal text: and with false is false
 pub and-with-false-is-false : (b c : Bool) → c ≡ false → (b && c) ≡ false
 and-with-false-is-false false c e = refl
 and-with-false-is-false true c e = e
 
--- paths: beginning with `/` (47) is being absolute
+-- normal paths: beginning with `/` (47) is being absolute
 pub absolute-is-leading-slash : (path : List ℕ) → starts 47 path ≡ is_absolute path
 absolute-is-leading-slash [] = refl
 absolute-is-leading-slash (c ∷ path) = refl

@@ -24,7 +24,7 @@ use Rattle.uri_ops.proofs.Normal.NormalComponents.{normal-components-have-same-m
 use Rattle.uri_ops.proofs.Meanings.AuthorityMeanings.{normal-authorities-are-authorities}
 use Rattle.uri_pct.proofs.Tests.{IfSome-weaken}
 
--- recomposing: a component in UTF-8 with its delimiters (before, suffix), if there is one, is UTF-8
+-- normal texts: a component in UTF-8, or none, with its delimiters (before, suffix) is UTF-8
 delimited-utf8-component-is-utf8 : (before suffix : List ℕ) (o : Option (List ℕ)) → IsUtf8 before
     → IsUtf8 suffix
     → IfSome o IsUtf8 → IsUtf8 (marked before o suffix)
@@ -32,7 +32,7 @@ delimited-utf8-component-is-utf8 before suffix None u v h = IsUtf8-nil
 delimited-utf8-component-is-utf8 before suffix (Some x) u v h =
     IsUtf8-append (before ++ x) suffix (IsUtf8-append before x u h) v
 
--- normal forms: the text of components of a kind is UTF-8
+-- normal texts: the text of components of a kind is UTF-8
 pub recomposed-components-are-utf8 : (kind : Kind) (p : Components) → ArePartsOfKind kind p
     → IsUtf8 (recompose p)
 recomposed-components-are-utf8 kind p parts =
@@ -57,7 +57,7 @@ recomposed-components-are-utf8 kind p parts =
     (IfSome-weaken p.fragment (λ f. is_set_text kind.fragment f ≡ true) IsUtf8
     (λ f h. set-text-is-utf8 kind.fragment f h) parts.fragment)))))
 
--- the components of a text of a kind are components of the kind
+-- normal texts: the components of a text of a kind, each in UTF-8, meet their rules
 pub text-has-parts-of-kind : (kind : Kind) (text : List ℕ) → IsTextOf kind text
     → ArePartsOfKind kind (components text)
 text-has-parts-of-kind kind text w = grammar-gives-components-of-kind kind (components text)

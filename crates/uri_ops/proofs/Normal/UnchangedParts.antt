@@ -45,7 +45,8 @@ encode_formatting-keeps-literal-characters set (c ∷ cs) e =
     (cond-false _ _ _ (and_right (set.ucschar && set.pct_encoded) (is_bidi_formatting c) p.0))
     ∙ ap (λ us. Char c ∷ us) (encode_formatting-keeps-literal-characters set cs p.1)
 
--- unchanged texts: a text without octets and formatting characters is decoded to its characters
+-- unchanged texts: the decoded tokens of a text without octets and formatting characters are its
+-- characters
 literal-text-has-tokens-decoded : (set : TableSet) (text : List ℕ) → IsUtf8 text → IsLiteral text
     → decode_tokens set (tokens text) ≡ map Char (chars text)
 unfolding tokens_from_chars chars decode_after_run
@@ -57,7 +58,8 @@ literal-text-has-tokens-decoded set text u e =
     ∙ ap (λ ts. map Char (chars text) ++ ts) (decode_run-of-nil-is-nil set)
     ∙ append-nil (map Char (chars text))
 
--- a text without octets and formatting characters decodes to its characters
+-- unchanged texts: a text without octets and formatting characters has its characters as its
+-- decoded form
 literal-text-decodes-to-characters : (set : TableSet) (text : List ℕ) → IsUtf8 text → IsLiteral text
     → decode_unreserved set text ≡ map Char (chars text)
 literal-text-decodes-to-characters set text u e = ap (encode_formatting set)
@@ -87,7 +89,7 @@ literal-text-prints-lowered set text u e = ap (λ ts. print (map lower_token ts)
     (literal-text-decodes-to-characters set text u e)
     ∙ print-lowers-characters true text u
 
--- hosts: one without `[` (91) is an IPv4 address or a name
+-- unchanged texts: a host without `[` (91) is an IPv4 address or a name
 unbracketed-host-is-of-name_kind : (host : List ℕ) → starts 91 host ≡ false → host_kind host
     ≡ name_kind (ipv4_value host)
 unfolding host_kind

@@ -26,7 +26,7 @@ use Rattle.uri_ops.proofs.Normal.UnchangedParts.{unchanged-authority-is-its-norm
 use Rattle.uri_ops.proofs.Normal.UnchangedParts.{literal-decodes-to-itself}
 use Rattle.uri_ops.proofs.Normal.UnchangedParts.{literal-option-decodes-to-itself}
 
--- the components of a text in which nothing asks for more
+-- unchanged texts: authority, path, query and fragment have neither `%` nor the byte E2
 record AreLiteral (p : Components) : Type 0 where
   authority : IfSome p.authority IsLiteral
   path : IsLiteral p.path

@@ -63,8 +63,8 @@ pushed-authority-parts-have-positions p o0 o1 o2 o3 e1 e2 e3 =
     ) in
     λ i. record { start = length o0; host_start = n1 i; host_end = n2 i; end = n3 i }
 
--- positions in a normal text: those of an authority by its parts
--- are those by its text, if it splits into them
+-- positions in a normal text: the positions of an authority by its parts are those by its text, if
+-- it splits into them
 pub positions-of-parts-are-of-text : (place : ℕ) (p : AuthorityParts)
     → authority_parts (recompose_authority p) ≡ p
     → authority_parts_at place p ≡ authority_at place (recompose_authority p)
@@ -78,7 +78,8 @@ positions-of-parts-are-of-text place p cut = ap
       end = place + length (recompose_authority p);
     } in x) (sym cut)
 
--- positions in a normal text: those by the parts of the authority are those of the components
+-- positions in a normal text: the positions by the parts of the authority are those of the
+-- components
 pub positions-with-parts-are-of-components : (c : Components) (parts : Option AuthorityParts)
     → option_map (authority_parts_at (delimited_length 1 c.scheme + 2)) parts
     ≡ option_map (authority_at (delimited_length 1 c.scheme + 2)) c.authority
@@ -92,7 +93,7 @@ pub option_map-adding-zero-is-unchanged : (part : Option (List ℕ))
 option_map-adding-zero-is-unchanged None = refl
 option_map-adding-zero-is-unchanged (Some s) = ap Some (omega arith)
 
--- positions: the path begins where the text before it ends
+-- positions in a normal text: the path begins where the text before it ends
 pub length-before_path-is-path_start : (p : Components) → length (before_path p)
     ≡ (positions_of p).path_start
 length-before_path-is-path_start p = omega (
@@ -102,7 +103,7 @@ length-before_path-is-path_start p = omega (
   length-with-delimiter-before (codes "//") p.authority,
 )
 
--- where a path, and the query after it, are written
+-- positions in a normal text: those of its path, and of the end of the query, are these
 record EndsAt (p : Components) (start stop : ℕ) (query : Option ℕ) : Type 0 where
   pub starts : start ≡ (positions_of p).path_start
   pub stops : stop ≡ (positions_of p).path_end
@@ -178,8 +179,8 @@ pushed-components-have-positions p parts o0 o1 o2 o3 start stop end query author
       query_end = w.queries i;
     }
 
--- positions in a target: a prefix, a path and a query that are appended have the positions of
--- these; o0, o2, o3: the text between them
+-- positions in a normal text or target: a prefix, a path and a query that are appended have the
+-- positions of these; o0, o2, o3: the text between them
 pub pushed-prefix-and-path-have-positions : (p : Components) (o0 o2 o3 : List ℕ) (start stop : ℕ)
     (end query : Option ℕ)
     (authority : Option AuthorityPositions)
@@ -211,7 +212,7 @@ pushed-prefix-and-path-have-positions p o0 o2 o3 start stop end query authority 
       query_end = w.queries i;
     }
 
--- general fact on options: three functions, one after the other
+-- general fact on options, for positions in a normal text: three functions, one after the other
 option_map-of-three-functions-splits : {A B C D : Type 0} (f : C → D) (h : B → C) (k : A → B)
     (o : Option A)
     → option_map (λ a. f (h (k a))) o ≡ option_map f (option_map h (option_map k o))

@@ -40,8 +40,8 @@ path-with-last-byte-slash-ends-in-slash path some last =
           ∙ ap (λ c. prefix ++ c ∷ []) last,
     )
 
--- resolving: an absolute path of n bytes that ends in `/` (47)
--- is a directory without dot segments, if it has none
+-- paths: an absolute path of n bytes that ends in `/` (47) is a directory without dot segments, if
+-- it has none
 pub dotless-path-ending-in-slash-is-directory : (path : List ℕ) (n : ℕ) → IsAbsolute path
     → get_or path (length path - 1) 0 ≡ 47 → n ≡ length path
     → lacks_dot_segments (take n path) ≡ true → IsDotlessDirectory path

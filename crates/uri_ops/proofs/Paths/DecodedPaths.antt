@@ -106,7 +106,7 @@ slashed-set-texts-are-set-text set slash (s ∷ rest) e =
     set-texts-join-at-slash set slash [] (s ++ slashed rest) (empty-text-is-set-text set)
     (joined-set-texts-are-set-text set slash s rest e)
 
--- normal paths: segments, all but the first after a `/`, are decoded one by one
+-- decoded paths: segments, all but the first after a `/`, are decoded one by one
 decoding-joined-segments-is-by-segment : (set : TableSet) (s : List ℕ) (rest : List (List ℕ))
     → AllPass (is_set_text set) (s ∷ rest)
     → print_decoded set (s ++ slashed rest)
@@ -120,13 +120,13 @@ decoding-joined-segments-is-by-segment set s (t ∷ rest) e =
     ∙ ap (λ x. print_decoded set s ++ 47 ∷ x)
     (decoding-joined-segments-is-by-segment set t rest p.1)
 
--- normal paths: decoding leaves a `/` (47) at the start
+-- decoded paths: decoding leaves a `/` (47) at the start
 pub decoding-keeps-first-slash : (set : TableSet) (y : List ℕ) → print_decoded set (47 ∷ y)
     ≡ 47 ∷ print_decoded set y
 decoding-keeps-first-slash set y = decoding-splits-at-slash set [] y IsUtf8-nil
     ∙ ap (λ x. x ++ 47 ∷ print_decoded set y) (print_decoded-of-nil-is-nil set)
 
--- normal paths: a path is decoded segment by segment
+-- decoded paths: a path is decoded segment by segment
 decoding-slashed-segments-is-by-segment : (set : TableSet) (segs : List (List ℕ))
     → AllPass (is_set_text set) segs
     → print_decoded set (slashed segs) ≡ slashed (map (print_decoded set) segs)

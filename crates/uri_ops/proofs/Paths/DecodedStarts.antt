@@ -23,7 +23,7 @@ use Rattle.uri_ops.proofs.Paths.DecodedPaths.{decoding-adds-no-slash, set-text-s
 use Rattle.uri_ops.proofs.Paths.DecodedPaths.{decoding-keeps-first-slash}
 use Rattle.uri_parts.proofs.Splitting.Marks.{cons_is_not_nil}
 
--- a text without `/`, or its first segment with what follows
+-- paths: the text is its first segment, a `/` (47) and what follows it
 record FirstSegment (text : List ℕ) : Type 0 where
   pub segment : List ℕ
   pub rest : List ℕ
@@ -57,7 +57,7 @@ text-lacks-slash-or-has-first-segment (c ∷ text) = ⊎_elim
     (text-lacks-slash-or-has-first-segment text))
     (cases_Bool (eqb c 47))
 
--- decoding: the empty text decodes to no bytes
+-- dot segments: the empty text decodes to no bytes
 empty-text-decodes-to-no-bytes : bytes_decoded_from (tokens []) ≡ []
 unfolding chars tokens_from_chars
 empty-text-decodes-to-no-bytes = refl

@@ -16,7 +16,7 @@ use Rattle.uri_ops.specs.Dots.{dots, is_single_dot, is_double_dot}
 use Rattle.uri_ops.proofs.Paths.Segments.{equal-bytes-are-equal}
 use Rattle.uri_pct.proofs.ValidTexts.Allowed.{hexdigit_value_is_below_16}
 
--- one of the forms of a dot
+-- dot segments: the text is one of the forms of a dot, `.`, `%2E` and `%2e`
 pub record IsDot (text : List ℕ) : Type 0 where
   pub joined : (text ≡ codes ".") ⊎ ((text ≡ codes "%2E") ⊎ (text ≡ codes "%2e"))
 
@@ -78,7 +78,7 @@ double-dot-segment-decodes-to-two-dots s e =
     ap (λ t. bytes_decoded_from (tokens t)) (equal-bytes-are-equal s (v.0 ++ w.0) w.1.1)
     ∙ two-dots-decode-to-bytes-46 v.0 w.0 v.1.0 w.1.0
 
--- characters that decode to a first byte 46 begin with a dot
+-- dot segments: the characters are a dot and a rest, which decodes to these bytes
 record BeginsWithDot (cs bytes : List ℕ) : Type 0 where
   dot : List ℕ
   rest : List ℕ
@@ -158,7 +158,7 @@ character-decoding-to-46-is-dot c rest bytes e =
       suffix = s.1;
     }
 
--- UTF-8: a character has bytes, so that a text that decodes to none is empty
+-- dot segments: a character has bytes, so that a text that decodes to none is empty
 utf8-of-character-is-not-empty : (c : ℕ) (more : List ℕ) → encode_utf8 c ++ more ≡ [] → ⊥
 utf8-of-character-is-not-empty c more e = omega
     (arith, ap length e, length-append (encode_utf8 c) more, length-encode c, (len_utf8_bounds c).0)
@@ -184,7 +184,7 @@ text-decoding-to-first-46-begins-with-dot (c ∷ h ∷ l ∷ rest) bytes e = ⊎
     (sym (ap bytes_decoded_from (cond-false _ _ _ o)) ∙ e))
     (cases_Bool (is_pct_encoded c h l))
 
--- decoding: characters that decode to no bytes are none
+-- dot segments: characters that decode to no bytes are none
 text-decoding-to-no-bytes-has-no-characters : (cs : List ℕ)
     → bytes_decoded_from (tokens_from_chars cs) ≡ [] → cs ≡ []
 unfolding tokens_from_chars
@@ -282,7 +282,7 @@ double-dot-by-decoded-bytes s t u v e = tests-that-imply-each-other-are-equal (i
     (λ h. text-decoding-to-two-dots-is-double-dot s u
     (e ∙ double-dot-segment-decodes-to-two-dots t h))
 
--- decoding: a text that decodes to no bytes is empty
+-- dot segments: a text that decodes to no bytes is empty
 pub text-decoding-to-no-bytes-is-empty : (s : List ℕ) → IsUtf8 s → bytes_decoded_from (tokens s)
     ≡ [] → s ≡ []
 text-decoding-to-no-bytes-is-empty s u e = sym (encodes-chars s u)

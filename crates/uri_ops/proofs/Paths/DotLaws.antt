@@ -30,8 +30,7 @@ use Rattle.uri_ops.proofs.Paths.SlashedSegments.{segments-of-text-are-not-none}
 use Rattle.uri_ops.proofs.Paths.SlashedSegments.{segments-of-slashed-segments}
 use Rattle.uri_pct.proofs.Tests.{eq_true_from_IsTrue}
 
--- paths: what holds of `/` before each of some segments holds
--- of any list of segments but the empty one
+-- paths: what holds of `/` before each of some segments holds of any list of one segment or more
 property-of-slashed-segments-not-none : (P : List ℕ → Type 0)
     → ((s : List ℕ) (rest : List (List ℕ)) → NoSlashes (s ∷ rest) → P (slashed (s ∷ rest)))
     → (segs : List (List ℕ)) → is_none segs ≡ false → NoSlashes segs → P (slashed segs)
@@ -50,7 +49,7 @@ property-of-absolute-path-by-segments P each (c ∷ rest) h =
     (property-of-slashed-segments-not-none P each (segments rest)
     (segments-of-text-are-not-none rest) (segments-of-text-lack-slashes rest))
 
--- what holds of each path of segments that ends in `/` holds of each absolute one that does
+-- paths: what holds of each path of segments that ends in `/` holds of each absolute one that does
 property-of-prefix-with-slash-by-segments : (P : List ℕ → Type 0)
     → ((segs : List (List ℕ)) → NoSlashes segs → P (slashed (segs ++ [] ∷ []))) → (prefix : List ℕ)
     → IsAbsolute (prefix ++ codes "/") → P (prefix ++ codes "/")
@@ -62,8 +61,7 @@ property-of-prefix-with-slash-by-segments P each (c ∷ prefix) h =
     ∙ ap (λ d. d ∷ prefix) (sym (eqb-true c 47 (eq_true_from_IsTrue _ h)))))
     (each (segments prefix) (segments-of-text-lack-slashes prefix))
 
--- dot segments: what holds of a list of segments and a last `/`
--- holds of any absolute path that ends in `/`
+-- paths: what holds of segments and a last `/` holds of any absolute path that ends in `/`
 pub property-of-path-to-slash-by-segments : (P : List ℕ → Type 0)
     → ((segs : List (List ℕ)) → NoSlashes segs → P (slashed (segs ++ [] ∷ []))) → (path : List ℕ)
     → IsAbsolute path → EndsInSlash path → P path
@@ -96,8 +94,7 @@ segments-after-steps-lack-slashes : (segs : List (List ℕ)) → NoSlashes segs
 segments-after-steps-lack-slashes segs e = segments-after-steps-pass-test lacks_slash lacks_slash
     (λ s f d. f) [] segs refl e
 
--- removing dot segments: the segments that are left,
--- with the empty one that a last dot segment leaves, have no `/`
+-- removing dot segments: all that is left, also an empty last segment, has no `/`
 dotless_of-segments-lack-slashes : (segs : List (List ℕ)) → NoSlashes segs
     → NoSlashes (dotless_of segs)
 dotless_of-segments-lack-slashes segs e = dotless_of-pass-test lacks_slash lacks_slash
@@ -110,7 +107,7 @@ segments-of-dotless-path-are-dotless segs e f =
     (and_parts true (list_all is_dotless segs)
     (sym (ap (list_all is_dotless) (segments-of-slashed-segments segs e)) ∙ f)).1
 
--- removing the dot segments of a path that has none returns the path (RFC 3986, section 5.2.4)
+-- removing dot segments: a path that has none stays (RFC 3986, section 5.2.4)
 pub remove-dots-of-dotless : (path : List ℕ) → IsAbsolute path → lacks_dot_segments path ≡ true
     → remove_dot_segments path ≡ path
 remove-dots-of-dotless =
@@ -120,6 +117,7 @@ remove-dots-of-dotless =
     ∙ ap slashed (dotless_of-of-dotless (s ∷ rest)
     (segments-of-dotless-path-are-dotless (s ∷ rest) e f)))
 
+-- dot segments: a path that has none does not underflow
 pub dotless-path-does-not-underflow : (path : List ℕ) → IsAbsolute path → lacks_dot_segments path
     ≡ true
     → underflows path ≡ false
@@ -138,6 +136,7 @@ unfolding is_none slashed
 slashed-segments-are-absolute [] e = absurd (false≢true (sym e))
 slashed-segments-are-absolute (s ∷ rest) e = search rules
 
+-- removing dot segments: none is left in an absolute path
 pub removing-dots-leaves-no-dot-segment : (path : List ℕ) → IsAbsolute path
     → lacks_dot_segments (remove_dot_segments path) ≡ true
 removing-dots-leaves-no-dot-segment = property-of-absolute-path-by-segments
@@ -148,11 +147,12 @@ removing-dots-leaves-no-dot-segment = property-of-absolute-path-by-segments
     (dotless_of-segments-lack-slashes (s ∷ rest) e))
     ∙ dotless_of-is-dotless (s ∷ rest))
 
--- general fact on lists of segments: one with a first is not empty
+-- general fact on lists of segments, for dot segments: one with a first is not empty
 cons-is-not-none : (s : List ℕ) (rest : List (List ℕ)) → is_none (s ∷ rest) ≡ false
 unfolding is_none
 cons-is-not-none s rest = refl
 
+-- removing dot segments: an absolute path stays absolute
 pub removing-dots-keeps-absolute : (path : List ℕ) → IsAbsolute path
     → IsAbsolute (remove_dot_segments path)
 removing-dots-keeps-absolute = property-of-absolute-path-by-segments
@@ -161,14 +161,14 @@ removing-dots-keeps-absolute = property-of-absolute-path-by-segments
     (slashed-segments-are-absolute (dotless_of (s ∷ rest))
     (dotless_of-is-not-empty (s ∷ rest) (cons-is-not-none s rest))))
 
--- removing dot segments twice is removing them once
+-- removing dot segments: twice is the same as once
 pub removing_dots_is_idempotent : (path : List ℕ) → IsAbsolute path
     → remove_dot_segments (remove_dot_segments path) ≡ remove_dot_segments path
 removing_dots_is_idempotent path h = remove-dots-of-dotless (remove_dot_segments path)
     (removing-dots-keeps-absolute path h)
     (removing-dots-leaves-no-dot-segment path h)
 
--- resolving: the directory of a path is all its segments but the last, and an empty one
+-- paths: the directory of a path is all its segments but the last, and an empty one
 directory-of-slashed-segments-is-parent : (segs : List (List ℕ)) → is_none segs ≡ false
     → NoSlashes segs
     → directory (slashed segs) ≡ slashed (parent segs ++ [] ∷ [])
@@ -181,6 +181,7 @@ pub rooted : (P : List ℕ → Type 0) → P [] → ((path : List ℕ) → IsAbs
     → (path : List ℕ) → IsAbemptyPath path → P path
 rooted P none each path h = ⊎_elim (λ e. subst P (sym e) none) (each path) h
 
+-- paths: the directory of a path that is empty or begins with `/` is absolute
 pub directory-is-absolute : (path : List ℕ) → IsAbemptyPath path → IsAbsolute (directory path)
 unfolding directory
 directory-is-absolute = rooted (λ path. IsAbsolute (directory path)) (search rules)
@@ -189,6 +190,7 @@ directory-is-absolute = rooted (λ path. IsAbsolute (directory path)) (search ru
     (slashed-segments-are-absolute (parent (s ∷ rest) ++ [] ∷ [])
     (pushed-segments-are-not-none (parent (s ∷ rest)) []))))
 
+-- paths: a directory ends in `/`
 pub directory-ends-in-slash : (path : List ℕ) → IsAbemptyPath path → EndsInSlash (directory path)
 unfolding directory
 directory-ends-in-slash = rooted (λ path. EndsInSlash (directory path)) ([], refl)
@@ -199,7 +201,7 @@ directory-ends-in-slash = rooted (λ path. EndsInSlash (directory path)) ([], re
           ∙ slashed-of-push (parent (s ∷ rest)) [],
     )))
 
--- resolving: a directory's dot segments may be removed before the last segment or after
+-- paths: a directory's dot segments may be removed before the last segment or after
 pub removing-dots-and-directory-swap : (path : List ℕ) → IsAbemptyPath path
     → remove_dot_segments (directory path) ≡ directory (remove_dot_segments path)
 unfolding remove_dot_segments directory run
@@ -218,7 +220,7 @@ removing-dots-and-directory-swap = rooted (λ path. remove_dot_segments (directo
     (dotless_of-is-not-empty (s ∷ rest) (cons-is-not-none s rest))
     (dotless_of-segments-lack-slashes (s ∷ rest) e))))
 
--- if a prefix of a path ends in `/`, its dot segments may be removed first
+-- removing dot segments: those of a prefix that ends in `/` may be removed first
 pub prefix-dots-may-be-removed-first : (prefix q : List ℕ) → IsAbsolute prefix → EndsInSlash prefix
     → remove_dot_segments (prefix ++ q) ≡ remove_dot_segments (remove_dot_segments prefix ++ q)
 prefix-dots-may-be-removed-first prefix q = property-of-path-to-slash-by-segments
@@ -236,7 +238,7 @@ prefix-dots-may-be-removed-first prefix q = property-of-path-to-slash-by-segment
     (appended-segments-lack-slashes (steps [] segs) q (segments-after-steps-lack-slashes segs e))))
     prefix
 
--- a base's dot segments may be removed before its path is merged (5.2.3)
+-- removing dot segments: a base's may be removed before its path is merged (5.2.3)
 pub base-dots-may-be-removed-before-merging : (path q : List ℕ) → IsAbemptyPath path
     → remove_dot_segments (directory path ++ q)
     ≡ remove_dot_segments (directory (remove_dot_segments path) ++ q)
@@ -245,7 +247,7 @@ base-dots-may-be-removed-before-merging path q h =
     (directory-ends-in-slash path h)
     ∙ ap (λ t. remove_dot_segments (t ++ q)) (removing-dots-and-directory-swap path h)
 
--- resolving: a directory underflows exactly if its path does
+-- paths: a directory underflows exactly if its path does
 pub directory-underflows-as-path : (path : List ℕ) → IsAbemptyPath path
     → underflows (directory path) ≡ underflows path
 unfolding underflows directory run
@@ -260,8 +262,8 @@ directory-underflows-as-path = rooted (λ path. underflows (directory path) ≡ 
     ∙ parent-underflows-as-segments false [] (s ∷ rest)
     ∙ sym (underflows-by-segments (s ∷ rest) e)))
 
--- resolving: a directory and a path q after it underflow if the directory does, or if both do after
--- its dot segments are removed
+-- dot segments: a directory and a path q after it underflow if the directory does, or if both do
+-- after its dot segments are removed
 pub path-underflows-as-prefix-or-remainder : (prefix q : List ℕ) → IsAbsolute prefix
     → EndsInSlash prefix
     → underflows (prefix ++ q) ≡ (underflows prefix || underflows (remove_dot_segments prefix ++ q))
@@ -285,8 +287,8 @@ path-underflows-as-prefix-or-remainder prefix q =
     (appended-segments-lack-slashes (steps [] segs) q (segments-after-steps-lack-slashes segs e)))))
     prefix
 
--- resolving: base path and reference q, merged, underflow if the base does, or if the merged path
--- does after the base's dot segments are removed
+-- merged paths: base path and reference q underflow if the base does, or if both do after the
+-- base's dot segments are removed
 pub merged-path-underflows-as-base-or-remainder : (path q : List ℕ) → IsAbemptyPath path
     → underflows (directory path ++ q)
     ≡ (underflows path || underflows (directory (remove_dot_segments path) ++ q))
@@ -297,7 +299,7 @@ merged-path-underflows-as-base-or-remainder path q h =
     (directory-underflows-as-path path h)
     ∙ ap (λ t. underflows path || underflows (t ++ q)) (removing-dots-and-directory-swap path h)
 
--- lengths of paths: two lists of segments, each segment after a `/`, are as long as both texts
+-- paths: two lists of segments, each segment after a `/`, are as long as both texts
 length-of-slashed-append-is-sum : (xs ys : List (List ℕ))
     → length (slashed (xs ++ ys)) ≡ length (slashed xs) + length (slashed ys)
 length-of-slashed-append-is-sum xs ys = ap length (slashed-of-append xs ys)
@@ -322,13 +324,13 @@ dot-segment-is-not-empty : (s : List ℕ) → is_dot_segment s ≡ true → 0 < 
 dot-segment-is-not-empty [] e = absurd (false≢true e)
 dot-segment-is-not-empty (c ∷ s) e = omega arith
 
--- lengths of paths: a segment with its `/` has one byte more
+-- paths: a segment with its `/` has one byte more
 slashed-segment-is-one-longer : (s : List ℕ) → length (slashed (s ∷ [])) ≡ length s + 1
 unfolding slashed
 slashed-segment-is-one-longer s = omega (arith, length-append s [])
 
--- removing dot segments: one more segment makes the output no longer than it was with the segment;
--- single, double: whether it is `.`, or `..`
+-- removing dot segments: after one more segment the output is no longer than with it; single,
+-- double: whether it is `.`, or `..`
 next_output-is-no-longer : (single double : Bool) (output : List (List ℕ)) (s : List ℕ)
     → ((single || double) ≡ true → 0 < length s) →
     length (slashed (next_output single double output s ++ end_of (single || double)))
@@ -360,13 +362,13 @@ next_output-is-no-longer false false output s h =
           (s ∷ []),
     )
 
--- removing dot segments: the empty segment that a dot segment
--- at the end leaves makes the text no shorter
+-- removing dot segments: the empty segment that a last dot segment leaves shortens no text
 segments-with-end_of-are-no-shorter : (xs : List (List ℕ)) (dot : Bool)
     → length (slashed xs) ≤ length (slashed (xs ++ end_of dot))
 segments-with-end_of-are-no-shorter xs dot = omega
     (arith, length-of-slashed-append-is-sum xs (end_of dot))
 
+-- removing dot segments: the segments that are left are no longer than all were
 segments-after-steps-are-no-longer : (output segs : List (List ℕ))
     → length (slashed (steps output segs ++ closing segs))
     ≤ length (slashed output) + length (slashed segs)
@@ -384,6 +386,7 @@ segments-after-steps-are-no-longer output (s ∷ t ∷ rest) = omega (
   length-of-slashed-append-is-sum (s ∷ []) (t ∷ rest),
 )
 
+-- removing dot segments: a path gets no longer
 pub removing-dots-lengthens-no-path : (path : List ℕ) → IsAbsolute path
     → length (remove_dot_segments path) ≤ length path
 unfolding dotless_of slashed

@@ -135,7 +135,7 @@ lacks_dot_segments-of-example-paths : (lacks_dot_segments (codes "/a/...//b.%2e"
     × (lacks_dot_segments (codes "/a/b/%2e.") ≡ false) × (lacks_dot_segments (codes "/..") ≡ false)
 lacks_dot_segments-of-example-paths = (refl, refl, refl, refl)
 
--- a full-width dot (U+FF0E) is no dot, as itself or as octets
+-- example of dot segments: a full-width dot (U+FF0E) is no dot, as itself or as octets
 full-width-dot-is-no-dot-segment : LosesDotsTo
     (codes "/a/" ++ (0xEF ∷ 0xBC ∷ 0x8E ∷ 0xEF ∷ 0xBC ∷ 0x8E ∷ []))
     (codes "/a/" ++ (0xEF ∷ 0xBC ∷ 0x8E ∷ 0xEF ∷ 0xBC ∷ 0x8E ∷ []))

@@ -48,7 +48,7 @@ segment-with-bytes-has-longer-input : (n : ℕ) (input : List ℕ) → 0 < lengt
 segment-with-bytes-has-longer-input n input some = omega
     (arith, length-take n (drop 1 input), length-drop 1 input)
 
--- each step of the loop of section 5.2.4 makes its input shorter
+-- removing dot segments: each step of the loop of RFC 3986, section 5.2.4, shortens its input
 step-shortens-input : (b : Buffers) → is_empty b.input ≡ false
     → length (step b).input < length b.input
 step-shortens-input b e =

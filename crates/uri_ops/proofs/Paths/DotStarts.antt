@@ -24,7 +24,7 @@ use Rattle.uri_ops.proofs.Paths.SlashedSegments.{first-segment-and-rest-lack-sla
 use Rattle.uri_ops.proofs.Paths.SlashedSegments.{segments-of-text-lack-slashes}
 use Rattle.uri_ops.proofs.Paths.SlashedSegments.{slashed, slashed-of-segments-is-text-after-slash}
 
--- what each dot segment begins with
+-- dot segments: the byte is `.` or `%`, with which each dot segment begins
 abbrev is_dot_start : ℕ → Bool
 is_dot_start c = c == 46 || c == 37
 
@@ -39,6 +39,7 @@ segment-without-dot-start-is-dotless : (c : ℕ) (s : List ℕ) → is_dot_start
     → is_dot_segment (c ∷ s) ≡ false
 segment-without-dot-start-is-dotless c s e = grind (arith, nat_tests)
 
+-- dot segments: none begins after a `/` in the text; suffix: whether a `/` is before the text
 record HasNoDotStartAfter (text : List ℕ) : Type 0 where
   -- if no dot segment begins in a text, none begins in a suffix of it
   suffix : Bool

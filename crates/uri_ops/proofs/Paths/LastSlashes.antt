@@ -98,8 +98,7 @@ slashless-suffix-stays-slashless bytes start none = sym (ap has_slash (drop-drop
 last_segment-after-slash : (x y : List ℕ) → has_slash y ≡ false → last_segment (x ++ 47 ∷ y) ≡ y
 last_segment-after-slash x y e = last_segment-of-append x (47 ∷ y) refl ∙ cond-false _ _ _ e
 
--- resolving: the directory of a path ends at its last `/` (47),
--- or after its last segment if that is `..`
+-- paths: the directory ends at the last `/` (47), or after the last segment if that is `..`
 directory-by-last-slash : (x y : List ℕ) → has_slash y ≡ false
     → directory (x ++ 47 ∷ y) ≡ cond (is_double_dot y) ((x ++ 47 ∷ y) ++ codes "/") (x ++ codes "/")
 unfolding directory
@@ -166,7 +165,7 @@ module _ (path : List ℕ) (slash : ℕ) (absolute : IsAbsolute path)
       → is_double_dot (drop (slash + 1) path) ≡ true → directory path ≡ path ++ codes "/"
   directory-of-double-dot-adds-slash last e = directory-by-slash-position last ∙ cond-true _ _ _ e
 
--- resolving: an empty base path has `/` as its directory (RFC 3986, section 5.2.3)
+-- paths: an empty base path has `/` as its directory (RFC 3986, section 5.2.3)
 pub empty-path-has-root-directory : (path : List ℕ) → (length path == 0) ≡ true → directory path
     ≡ codes "/"
 unfolding directory
@@ -214,8 +213,7 @@ pub before_last_slash-of-directory : (path : List ℕ) → (d : EndsInSlash path
 before_last_slash-of-directory path d = ap before_last_slash d.1
     ∙ before_last_slash-of-slashless-tail d.0 [] refl
 
--- resolving: a path that ends in `/` has one byte more than the
--- text before that `/`, which its proof holds
+-- paths: one that ends in `/` has one byte more than the text before that `/`
 pub length-of-directory : (path : List ℕ) → (d : EndsInSlash path) → length path ≡ length d.0 + 1
 length-of-directory path d = ap length d.1 ∙ length-append d.0 (codes "/")
 
@@ -326,7 +324,7 @@ byte-after-segment-is-slash path end h within = ⊎_elim
     ∙ absolute-path-has-slash-first (drop end path) e)
     h
 
--- resolving: the directory of `/` is `/`
+-- paths: the directory of `/` is `/`
 pub directory-of-root : directory (codes "/") ≡ codes "/"
 unfolding directory
 directory-of-root = refl

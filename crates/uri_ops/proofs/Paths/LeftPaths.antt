@@ -146,7 +146,8 @@ slashed-dotless-segments-are-directory xs e f = record {
       (appended-segments-pass-test is_dotless xs ([] ∷ []) f refl);
 }
 
--- a dot segment leaves a directory in place of what was kept
+-- removing dot segments, segment by segment: a segment s after what is kept leaves the directory
+-- `left` in its place, and underflows if meets_none
 record LeavesDirectory (kept s rest left : List ℕ) (meets_none : Bool) : Type 0 where
   removed : remove_dot_segments (kept ++ (s ++ rest)) ≡ remove_dot_segments (left ++ drop 1 rest)
   underflow : underflows (kept ++ (s ++ rest)) ≡ (meets_none || underflows (left ++ drop 1 rest))

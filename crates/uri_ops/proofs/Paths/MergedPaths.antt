@@ -28,13 +28,13 @@ use Rattle.uri_ops.proofs.Paths.PathMeanings.{path-without-dots-is-set-text}
 use Rattle.uri_ops.proofs.Normal.NormalComponents.{decoded-abempty-path-is-abempty}
 use Rattle.uri_pct.proofs.Tests.{eq_true_from_IsTrue}
 
--- resolving: the directory of a path with any text after it begins with `/`
+-- merged paths: the directory of a path with any text after it begins with `/`
 pub merged-path-is-absolute : (path y : List ℕ) → IsAbemptyPath path
     → IsAbsolute (directory path ++ y)
 merged-path-is-absolute path y h = appended-absolute-path-is-absolute (directory path) y
     (directory-is-absolute path h)
 
--- resolving: dot segments of the base's path may be removed before it is merged with y
+-- merged paths: dot segments of the base's path may be removed before it is merged with y
 base-dots-do-not-change-merged-path : (path y : List ℕ) → IsAbemptyPath path
     → remove_dot_segments (directory path ++ y)
     ≡ remove_dot_segments (directory (dotless_if_absolute path) ++ y)
@@ -52,7 +52,7 @@ guarded-abempty-path-is-abempty authority path h =
     cond_both (is_none authority && has_authority path) (codes "/." ++ path) path IsAbemptyPath
     (λ e. inr (search rules)) (λ e. h)
 
--- resolving: a guard before the base's path makes no difference to the path merged with y
+-- merged paths: a guard before the base's path makes no difference to the path merged with y
 base-guard-does-not-change-merged-path : (authority : Option (List ℕ)) (path y : List ℕ)
     → IsAbemptyPath path
     → remove_dot_segments (directory (guarded authority path) ++ y)

@@ -24,8 +24,7 @@ slashed-passes-if-segments-pass p slash (s ∷ rest) =
     ap (λ b. b && list_all p (s ++ slashed rest)) slash ∙ list_all-append p s (slashed rest)
     ∙ ap (λ b. list_all p s && b) (slashed-passes-if-segments-pass p slash rest)
 
--- removing dot segments adds no byte: those that are left pass
--- a test that `/` (47) and the path's pass
+-- removing dot segments: the bytes left pass a test that `/` (47) and all of the path pass
 path-without-dots-passes-test : (p : ℕ → Bool) → p 47 ≡ true → (path : List ℕ) → IsAbsolute path
     → list_all p path ≡ true → list_all p (remove_dot_segments path) ≡ true
 path-without-dots-passes-test p slash =
@@ -53,7 +52,7 @@ text-with-last-slash-passes-test : (p : ℕ → Bool) → p 47 ≡ true → (tex
 text-with-last-slash-passes-test p slash text e = list_all-append p text (47 ∷ [])
     ∙ and_from _ _ e (and_from _ _ slash refl)
 
--- resolving: the bytes of a directory pass a test that `/` (47) and the path's pass
+-- paths: the bytes of a directory pass a test that `/` (47) and the path's pass
 directory-passes-test : (p : ℕ → Bool) → p 47 ≡ true → (path : List ℕ) → list_all p path ≡ true
     → list_all p (directory path) ≡ true
 unfolding directory
@@ -83,7 +82,7 @@ test-of-delimiters-gives-lacks marks text h = All-weaker (λ c. not (is_one_of m
     (λ c. is_one_of marks c ≡ false) (λ c e. not-true _ e) text
     (AllPass-from_list_all (λ c. not (is_one_of marks c)) text h)
 
--- removing dot segments gives a path no delimiter that it lacked, such as `?`
+-- removing dot segments: a path gets no delimiter that it lacked, such as `?`
 pub removing-dots-adds-no-character : (marks : List ℕ) → is_one_of marks 47 ≡ false
     → (path : List ℕ)
     → IsAbsolute path → Lacks marks path → Lacks marks (remove_dot_segments path)
@@ -92,7 +91,7 @@ removing-dots-adds-no-character marks slash path h e =
     (path-without-dots-passes-test (λ c. not (is_one_of marks c)) (not_from_false _ slash) path h
     (lacked-delimiters-fail-test marks path e))
 
--- resolving: the directory of a path has no delimiter that the path lacks, such as `?`
+-- paths: the directory of a path has no delimiter that the path lacks, such as `?`
 pub directory-adds-no-character : (marks : List ℕ) → is_one_of marks 47 ≡ false → (path : List ℕ)
     → Lacks marks path → Lacks marks (directory path)
 directory-adds-no-character marks slash path e =

@@ -41,7 +41,7 @@ removing-dots-keeps-leading-slash path =
     (λ e. eq_true_from_IsTrue _ (removing-dots-keeps-absolute path (equal-to-true-is-IsTrue _ e))
     ∙ sym e) (λ e. refl)
 
--- removing the dot segments of an absolute path twice is removing them once; any other path stays
+-- removing dot segments: twice is the same as once for an absolute path; any other path stays
 pub dotless_if_absolute-is-idempotent : (path : List ℕ)
     → dotless_if_absolute (dotless_if_absolute path) ≡ dotless_if_absolute path
 dotless_if_absolute-is-idempotent path = ⊎_elim
@@ -57,7 +57,7 @@ dotless_of-leading-dot-drops-it : (s : List ℕ) (rest : List (List ℕ))
 unfolding is_none steps step_of next_output
 dotless_of-leading-dot-drops-it s rest = dotless_of-prefix-first (codes "." ∷ []) (s ∷ rest) refl
 
--- removing dot segments removes the guard `/.` too
+-- removing dot segments: the guard `/.` is removed too
 removing-dots-removes-guard : (path : List ℕ) → IsAbsolute path
     → remove_dot_segments (codes "/." ++ path) ≡ remove_dot_segments path
 unfolding slashed
@@ -74,7 +74,7 @@ pub two-slashes-begin-with-slash : (path : List ℕ) → has_authority path ≡ 
 two-slashes-begin-with-slash [] e = e
 two-slashes-begin-with-slash (c ∷ path) e = (and_parts (eqb c 47) _ e).0
 
--- normal paths: the guard `/.` is itself removed as a dot segment
+-- removing dot segments: the guard `/.` is removed as one
 pub guard-is-removed-as-dot-segment : (authority : Option (List ℕ)) (path : List ℕ)
     → dotless_if_absolute (guarded authority path) ≡ dotless_if_absolute path
 guard-is-removed-as-dot-segment authority path =

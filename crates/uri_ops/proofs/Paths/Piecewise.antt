@@ -36,7 +36,7 @@ use Rattle.uri_ops.proofs.Paths.SegmentMaps.{KeepsDots}
 use Rattle.uri_pct.proofs.Tests.{eq_true_from_IsTrue}
 use Rattle.uri_ops.proofs.Paths.DotRuns.{not-empty-has-length}
 
--- a change of texts that goes from `/` to `/`, and keeps which segments are dots
+-- paths: a change that goes from `/` to `/`, and keeps which segments are dots, such as decoding
 pub record KeepsSlashesAndDots (change : List ℕ → List ℕ) (among : List ℕ → Bool) : Type 0 where
   pub nothing : change [] ≡ []
   pub none : among [] ≡ true

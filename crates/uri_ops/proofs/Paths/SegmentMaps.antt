@@ -38,7 +38,7 @@ module _ (f : List ℕ → List ℕ) where
       (is_none-of-mapped-segments output)
   underflows_at-of-mapped-segments false false before output = refl
 
--- which segments are dots
+-- dot segments: a change f of segments keeps whether the segment s is `.`, or `..`
 pub record KeepsDots (f : List ℕ → List ℕ) (s : List ℕ) : Type 0 where
   pub single : is_single_dot (f s) ≡ is_single_dot s
   pub double : is_double_dot (f s) ≡ is_double_dot s

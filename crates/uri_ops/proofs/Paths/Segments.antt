@@ -33,7 +33,7 @@ unfoldable pub steps : List (List ℕ) → List (List ℕ) → List (List ℕ)
 steps output [] = output
 steps output (s ∷ rest) = steps (step_of output s) rest
 
--- a dot segment at the end leaves an empty segment
+-- removing dot segments: the empty segment that a dot segment at the end leaves, or none
 abbrev pub end_of : Bool → List (List ℕ)
 end_of dot = cond dot ([] ∷ []) []
 
@@ -52,10 +52,11 @@ parent [] = []
 parent (s ∷ []) = cond (is_double_dot s) (s ∷ []) []
 parent (s ∷ t ∷ rest) = s ∷ parent (t ∷ rest)
 
+-- paths: each of the segments passes the test
 abbrev pub AllPass : (List ℕ → Bool) → List (List ℕ) → Type 0
 AllPass p segs = list_all p segs ≡ true
 
--- no dot segment
+-- dot segments: the segment is none
 abbrev pub is_dotless : List ℕ → Bool
 is_dotless s = not (is_dot_segment s)
 
@@ -102,14 +103,14 @@ pub dotless_of-with-empty-last : (xs : List (List ℕ)) → dotless_of (xs ++ []
 unfolding steps step_of next_output closing
 dotless_of-with-empty-last xs = dotless_of-append xs [] [] ∙ append-nil (steps [] xs ++ [] ∷ [])
 
--- general fact on lists of segments: `pop` undoes a push
+-- general fact on lists of segments, for dot segments: `pop` undoes a push
 pub pop-undoes-push : (xs : List (List ℕ)) (y : List ℕ) → pop (xs ++ y ∷ []) ≡ xs
 unfolding pop
 pop-undoes-push [] y = refl
 pop-undoes-push (x ∷ []) y = refl
 pop-undoes-push (x ∷ z ∷ xs) y = ap (λ t. x ∷ t) (pop-undoes-push (z ∷ xs) y)
 
--- general fact on lists of segments: all but the last pass a test that all pass
+-- general fact on lists of segments, for dot segments: all but the last pass a test that all pass
 pub popped-segments-pass-test : (p : List ℕ → Bool) (xs : List (List ℕ)) → AllPass p xs
     → AllPass p (pop xs)
 unfolding pop
@@ -118,7 +119,7 @@ popped-segments-pass-test p (s ∷ []) e = refl
 popped-segments-pass-test p (s ∷ t ∷ rest) e = let f = and_parts (p s) (list_all p (t ∷ rest)) e in
     and_from _ _ f.0 (popped-segments-pass-test p (t ∷ rest) f.1)
 
--- general fact on lists of segments: two whose segments pass a test do so joined
+-- general fact on lists of segments, for dot segments: two whose segments pass a test do so joined
 pub appended-segments-pass-test : (p : List ℕ → Bool) (xs ys : List (List ℕ)) → AllPass p xs
     → AllPass p ys
     → AllPass p (xs ++ ys)
@@ -210,7 +211,7 @@ unfolding dotless_of
 dotless_of-of-dotless xs e = ap (λ t. t ++ closing xs) (steps-of-dotless-append-all [] xs e)
     ∙ ap (λ t. xs ++ t) (closing-of-dotless-is-empty xs e) ∙ append-nil xs
 
--- general fact on lists of segments: each passes the test that all pass
+-- general fact on lists of segments, for dot segments: each passes the test that all pass
 segments-pass-true-test : (xs : List (List ℕ)) → AllPass (λ s. true) xs
 segments-pass-true-test [] = refl
 segments-pass-true-test (s ∷ rest) = segments-pass-true-test rest
@@ -242,7 +243,7 @@ dotless_of-prefix-first xs (y ∷ ys) e =
     ∙ ap (λ o. steps o (y ∷ ys) ++ closing (y ∷ ys))
     (steps-of-dotless-append-all [] (steps [] xs) (steps_are_dotless xs)))
 
--- resolving: the steps over a last segment if it is `..` are a step, and else nothing
+-- removing dot segments: the steps over a last segment if it is `..` are a step, and else nothing
 steps-of-segment-if-double-dot : (b : Bool) (output : List (List ℕ)) (s : List ℕ)
     → steps output (cond b (s ∷ []) []) ≡ cond b (step_of output s) output
 unfolding steps
@@ -263,7 +264,7 @@ next_output-of-double-dot-is-popped false true output s only = sym (pop-undoes-p
 next_output-of-double-dot-is-popped false false output s only =
     sym (ap pop (append-nil (output ++ s ∷ [])) ∙ pop-undoes-push output s)
 
--- resolving: the steps over all segments but the last leave what all leave, without the last
+-- dot segments: the steps over all segments but the last leave what all leave, without the last
 steps-of-parent-are-popped-steps : (output : List (List ℕ)) (s : List ℕ) (rest : List (List ℕ))
     → steps output (parent (s ∷ rest)) ≡ pop (steps output (s ∷ rest) ++ closing (s ∷ rest))
 unfolding steps parent closing step_of
@@ -274,7 +275,7 @@ steps-of-parent-are-popped-steps output s [] = steps-of-segment-if-double-dot
 steps-of-parent-are-popped-steps output s (t ∷ rest) = steps-of-parent-are-popped-steps
     (step_of output s) t rest
 
--- resolving: the directory of segments that are no dot segments is all but the last
+-- paths: the directory of segments that are no dot segments is all but the last
 pub parent-of-dotless-is-pop : (segs : List (List ℕ)) → AllPass is_dotless segs
     → parent segs ≡ pop segs
 unfolding parent pop
@@ -287,7 +288,7 @@ parent-of-dotless-is-pop (s ∷ t ∷ rest) e =
     (parent-of-dotless-is-pop (t ∷ rest)
     (and_parts (is_dotless s) (list_all is_dotless (t ∷ rest)) e).1)
 
--- resolving: dot segments may be removed from a directory or from its path
+-- paths: dot segments may be removed from a directory or from its path
 pub dotless_of-of-directory : (s : List ℕ) (rest : List (List ℕ))
     → dotless_of (parent (s ∷ rest) ++ [] ∷ []) ≡ parent (dotless_of (s ∷ rest)) ++ [] ∷ []
 unfolding dotless_of
@@ -296,7 +297,7 @@ dotless_of-of-directory s rest =
     ∙ ap (λ t. t ++ [] ∷ []) (steps-of-parent-are-popped-steps [] s rest
     ∙ sym (parent-of-dotless-is-pop (dotless_of (s ∷ rest)) (dotless_of-is-dotless (s ∷ rest))))
 
--- general fact on lists of segments: one with a last is not empty
+-- general fact on lists of segments, for dot segments: one with a last is not empty
 pub pushed-segments-are-not-none : (xs : List (List ℕ)) (y : List ℕ) → is_none (xs ++ y ∷ [])
     ≡ false
 unfolding is_none

@@ -30,31 +30,26 @@ lacks_slash s = not (has_slash s)
 abbrev pub NoSlashes : List (List ℕ) → Type 0
 NoSlashes segs = AllPass lacks_slash segs
 
--- paths: if no segment has a `/`, neither has the first, nor one of the rest
 pub first-segment-and-rest-lack-slashes : (s : List ℕ) (rest : List (List ℕ)) → NoSlashes (s ∷ rest)
     → (has_slash s ≡ false) × NoSlashes rest
 first-segment-and-rest-lack-slashes s rest e = let f = and_parts (lacks_slash s)
     (list_all lacks_slash rest) e in
     (not-true _ f.0, f.1)
 
--- paths: the text of two lists of segments, each after a `/`, is that of one and of the other
 pub slashed-of-append : (xs ys : List (List ℕ)) → slashed (xs ++ ys) ≡ slashed xs ++ slashed ys
 unfolding slashed
 slashed-of-append [] ys = refl
 slashed-of-append (x ∷ xs) ys = ap (λ t. 47 ∷ t)
     (ap (λ t. x ++ t) (slashed-of-append xs ys) ∙ sym (append_assoc x (slashed xs) (slashed ys)))
 
--- paths: one more segment appends a `/` (47) and its text
 pub slashed-of-push : (xs : List (List ℕ)) (s : List ℕ) → slashed (xs ++ s ∷ [])
     ≡ slashed xs ++ 47 ∷ s
 unfolding slashed
 slashed-of-push xs s = slashed-of-append xs (s ∷ []) ∙ ap (λ t. slashed xs ++ 47 ∷ t) (append-nil s)
 
--- paths: being one of the delimiter `/` is being 47
 is_one_of-slash-is-equality : (c : ℕ) → is_one_of (codes "/") c ≡ eqb c 47
 is_one_of-slash-is-equality c = grind (arith, nat_tests)
 
--- paths: the first `/` of a text is before its second segment
 text-splits-before-next-slash : (s : List ℕ) (rest : List (List ℕ)) → has_slash s ≡ false
     → (before_any (codes "/") (s ++ slashed rest) ≡ s)
     × (from_any (codes "/") (s ++ slashed rest) ≡ slashed rest)
@@ -97,17 +92,17 @@ before_last_slash-of-slashed-is-popped (s ∷ t ∷ rest) e = before_last_slash-
     ∙ ap (λ r. 47 ∷ s ++ r) (before_last_slash-of-slashed-is-popped (t ∷ rest)
     (first-segment-and-rest-lack-slashes s (t ∷ rest) e).1)
 
--- paths: the text of a list of segments is empty exactly if there is none
 pub slashed-is-empty-if-no-segments : (xs : List (List ℕ)) → is_empty (slashed xs) ≡ is_none xs
 unfolding slashed is_none
 slashed-is-empty-if-no-segments [] = refl
 slashed-is-empty-if-no-segments (s ∷ rest) = refl
 
--- one step of section 5.2.4 takes one segment
+-- removing dot segments: the two buffers of section 5.2.4, and whether there was an underflow
 abbrev buffers : List ℕ → List ℕ → Bool → Buffers
 buffers input output underflowed =
     record { input = input; output = output; underflowed = underflowed }
 
+-- removing dot segments: what follows a segment, or the empty one that a last dot leaves
 abbrev or_empty_segment : Bool → List (List ℕ) → List (List ℕ)
 or_empty_segment dot [] = end_of dot
 or_empty_segment dot (t ∷ rest) = t ∷ rest
@@ -124,6 +119,7 @@ no-dot-leaves-segments-as-they-are : (rest : List (List ℕ)) → rest ≡ or_em
 no-dot-leaves-segments-as-they-are [] = refl
 no-dot-leaves-segments-as-they-are (t ∷ rest) = refl
 
+-- removing dot segments: the buffers by texts, after one segment, are those by segments
 buffers-after-one-segment : (single double : Bool) (s : List ℕ) (rest output : List (List ℕ))
     (before : Bool)
     → NoSlashes output →
@@ -151,6 +147,7 @@ buffers-after-one-segment false false s rest output before e =
     ∙ ap (λ o. buffers (slashed (or_empty_segment false rest)) o before)
     (sym (slashed-of-push output s))
 
+-- removing dot segments: the buffers after the step of section 5.2.4 for a segment
 buffers_after_cut : List ℕ → List ℕ → List (List ℕ) → Bool → Buffers
 buffers_after_cut segment rest output before =
     cond (is_single_dot segment) (buffers (or_slash rest) (slashed output) before)
@@ -217,6 +214,7 @@ run-takes-all-segments (suc n) (s ∷ t ∷ rest) output before e f h =
     (next_output-passes-test lacks_slash (is_single_dot s) (is_double_dot s) output s f
     (λ d. not_from_false _ g.0)) (omega arith)
 
+-- removing dot segments: a last dot segment leaves one empty segment at most
 closing-has-at-most-one-segment : (segs : List (List ℕ)) → length (closing segs) ≤ 1
 unfolding closing
 closing-has-at-most-one-segment [] = omega arith
@@ -233,6 +231,7 @@ slashed-is-no-shorter-than-segments [] = omega arith
 slashed-is-no-shorter-than-segments (s ∷ rest) = omega
     (arith, slashed-is-no-shorter-than-segments rest, length-append s (slashed rest))
 
+-- removing dot segments: the loop of section 5.2.4 leaves what is left of the segments
 run-of-path-leaves-dotless_of-segments : (segs : List (List ℕ)) → NoSlashes segs
     → run (length (slashed segs) + 1) (buffers (slashed segs) [] false)
     ≡ buffers [] (slashed (dotless_of segs)) (underflows_over false [] segs)
@@ -241,13 +240,13 @@ run-of-path-leaves-dotless_of-segments segs e = run-takes-all-segments (length (
     segs [] false e refl
     (omega (arith, slashed-is-no-shorter-than-segments segs, closing-has-at-most-one-segment segs))
 
--- removing dot segments of a path is removing them of the list of its segments
+-- removing dot segments: of a path, it is removing them of the list of its segments
 pub remove-dots-by-segments : (segs : List (List ℕ)) → NoSlashes segs
     → remove_dot_segments (slashed segs) ≡ slashed (dotless_of segs)
 unfolding remove_dot_segments
 remove-dots-by-segments segs e = ap (λ b. b.output) (run-of-path-leaves-dotless_of-segments segs e)
 
--- a path underflows exactly if the list of its segments does, from an empty output
+-- dot segments: a path underflows exactly if the list of its segments does, from an empty output
 pub underflows-by-segments : (segs : List (List ℕ)) → NoSlashes segs
     → underflows (slashed segs) ≡ underflows_over false [] segs
 unfolding underflows
@@ -261,20 +260,24 @@ last_segment-of-append [] t e = refl
 last_segment-of-append (c ∷ s) t e = cond-true _ _ _ (slash-in-suffix-is-in-append s t e)
     ∙ last_segment-of-append s t e
 
+-- general fact on texts, for directories of paths: a case of two with a common prefix
 common-prefix-leaves-cond : (b : Bool) (s x y : List ℕ) → cond b (s ++ x) (s ++ y) ≡ s ++ cond b x y
 common-prefix-leaves-cond true s x y = refl
 common-prefix-leaves-cond false s x y = refl
 
+-- paths: a last `..`, kept in the directory, and a `/` after it, as text and as segments
 slashed-of-segment-if-double-dot : (b : Bool) (s : List ℕ)
     → cond b (slashed (s ∷ []) ++ 47 ∷ []) (47 ∷ []) ≡ slashed (cond b (s ∷ []) []) ++ 47 ∷ []
 unfolding slashed
 slashed-of-segment-if-double-dot true s = refl
 slashed-of-segment-if-double-dot false s = refl
 
+-- paths: the directory (5.2.3), by the last segment, the path, and what is before its last `/`
 directory_text_of : List ℕ → List ℕ → List ℕ → List ℕ
 directory_text_of segment whole prefix = cond (is_double_dot segment) (whole ++ 47 ∷ [])
     (prefix ++ 47 ∷ [])
 
+-- paths: the directory by the text is all segments but the last, and a `/`
 directory-text-of-slashed-segments : (s : List ℕ) (rest : List (List ℕ)) → NoSlashes (s ∷ rest)
     → directory_text_of (last_segment (slashed (s ∷ rest))) (slashed (s ∷ rest))
     (slashed (pop (s ∷ rest)))
@@ -301,7 +304,7 @@ directory-text-of-slashed-segments s (t ∷ rest) e =
     (first-segment-and-rest-lack-slashes s (t ∷ rest) e).1)
     ∙ sym (append_assoc (47 ∷ s) (slashed (parent (t ∷ rest))) (47 ∷ []))
 
--- resolving: the directory of a path is all its segments but the last, and an empty one (5.2.3)
+-- paths: the directory of a path is all its segments but the last, and an empty one (5.2.3)
 pub directory-by-segments : (s : List ℕ) (rest : List (List ℕ)) → NoSlashes (s ∷ rest)
     → directory (slashed (s ∷ rest)) ≡ slashed (parent (s ∷ rest) ++ [] ∷ [])
 unfolding directory slashed directory_text_of
@@ -323,10 +326,11 @@ parent-segments-pass-test p (s ∷ []) e = passes (is_double_dot s)
 parent-segments-pass-test p (s ∷ t ∷ rest) e = let f = and_parts (p s) (list_all p (t ∷ rest)) e in
     and_from _ _ f.0 (parent-segments-pass-test p (t ∷ rest) f.1)
 
--- general fact on lists, for segments: texts that are equal after a `/` are equal
+-- general fact on lists, for segments of paths: texts that are equal after a `/` are equal
 equal-lists-after-slash-have-equal-tails : (xs ys : List ℕ) → 47 ∷ xs ≡ 47 ∷ ys → xs ≡ ys
 equal-lists-after-slash-have-equal-tails xs ys e = cc
 
+-- paths: a character c put before the first segment is after the first `/` of the text
 slashed-of-onto_first : (c : ℕ) (parts : List (List ℕ)) (text : List ℕ) → slashed parts ≡ 47 ∷ text
     → slashed (onto_first c parts) ≡ 47 ∷ c ∷ text
 unfolding slashed
@@ -353,7 +357,6 @@ onto_first-adds-no-slash c (s ∷ parts) e f = let g = first-segment-and-rest-la
     s parts f in
     and_from _ _ (not_from_false _ (ap (λ t. t || has_slash s) e ∙ g.0)) g.1
 
--- paths: a segment of a text has no `/`
 pub segments-of-text-lack-slashes : (text : List ℕ) → NoSlashes (segments text)
 segments-of-text-lack-slashes [] = refl
 segments-of-text-lack-slashes (c ∷ text) = ⊎_elim
@@ -367,7 +370,6 @@ unfolding is_none
 onto_first-is-not-none c [] = refl
 onto_first-is-not-none c (s ∷ parts) = refl
 
--- paths: a text has a segment at least, the empty one
 pub segments-of-text-are-not-none : (text : List ℕ) → is_none (segments text) ≡ false
 unfolding is_none
 segments-of-text-are-not-none [] = refl

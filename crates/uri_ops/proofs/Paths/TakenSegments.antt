@@ -87,7 +87,7 @@ module _ (xs : List (List ℕ)) (dotless : AllPass is_dotless xs) (s : List ℕ)
       ∙ ap (λ b. segment-underflows || b) (ap (underflows_over false []) (append-nil (step_of xs s))
       ∙ sym (trailing-slash-changes-no-underflow false [] (step_of xs s)))
 
--- removing dot segments after a directory is removing them from its segments and the text's
+-- removing dot segments: after a directory, they are removed from its segments and the text's
 removing-dots-after-segments-and-slash : (xs : List (List ℕ)) (q : List ℕ) → NoSlashes xs
     → remove_dot_segments (slashed (xs ++ [] ∷ []) ++ q) ≡ slashed (dotless_of (xs ++ segments q))
 removing-dots-after-segments-and-slash xs q e = ap remove_dot_segments
@@ -102,7 +102,7 @@ underflow-after-segments-and-slash xs q e = ap underflows
     (path-after-slash-appends-its-segments xs q)
     ∙ underflows-by-segments (xs ++ segments q) (appended-segments-lack-slashes xs q e)
 
--- paths: a segment without `/` before segments without any
+-- paths: a segment without `/`, before segments without any, has none with them
 slashless-segment-and-rest-lack-slashes : (s : List ℕ) (rest : List (List ℕ)) → has_slash s ≡ false
     → NoSlashes rest
     → NoSlashes (s ∷ rest)
@@ -212,6 +212,7 @@ last-dot-segment-leaves-closing-slash xs y dot =
     ap (λ t. steps [] (xs ++ y ∷ []) ++ t) (closing-of-append xs y [] ∙ ap end_of dot)
     ∙ sym (dotless_of-with-empty-last (xs ++ y ∷ []))
 
+-- paths: the prefix is a list of segments, each after a `/`
 record IsOfSlashedSegments (prefix : List ℕ) : Type 0 where
   segs : List (List ℕ)
   whole : slashed segs ≡ prefix

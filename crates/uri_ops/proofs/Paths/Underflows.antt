@@ -126,8 +126,8 @@ unfolding underflows_over
 underflows_over-segment-if-double-dot true before output s = refl
 underflows_over-segment-if-double-dot false before output s = refl
 
--- resolving: a directory underflows exactly if the segments of its path do;
--- before: whether there was an underflow before
+-- paths: a directory underflows exactly if the segments of its path do; before: whether there was
+-- an underflow before
 pub parent-underflows-as-segments : (before : Bool) (output segs : List (List ℕ))
     → underflows_over before output (parent segs) ≡ underflows_over before output segs
 unfolding underflows_over parent

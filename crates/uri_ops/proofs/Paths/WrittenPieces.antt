@@ -26,13 +26,12 @@ use Rattle.uri_ops.proofs.Paths.DecodedPaths.{decoding-keeps-underflow}
 use Rattle.uri_ops.proofs.Paths.SlashedSegments.{slashed}
 use Rattle.uri_ops.proofs.Paths.TakenSegments.{absolute-path-is-slash-and-rest}
 
--- which texts may be appended so
+-- paths, copied or decoded: the text may be a piece of a path that is appended in this mode
 abbrev pub is_text_for_mode : SegmentMode → List ℕ → Bool
 is_text_for_mode Copied text = true
 is_text_for_mode (Decoded table) text = is_set_text (set_of table.now) text
 
--- normalising and resolving paths: both ways to append a path, copied or decoded,
--- keep its slashes and dot segments
+-- paths, copied or decoded: either way to append a path keeps its slashes and dot segments
 pub segment-mode-keeps-slashes-and-dots : (pieces : SegmentMode) (path : List ℕ)
     → IsTextForMode pieces path
     → KeepsSlashesAndDots (text_by_mode pieces) (is_text_for_mode pieces)
@@ -41,7 +40,7 @@ segment-mode-keeps-slashes-and-dots Copied path h = identity-keeps-slashes-and-d
 segment-mode-keeps-slashes-and-dots (Decoded table) path h = decoding-keeps-slashes-and-dots
     (set_of table.now) h.component h.slash
 
--- normalising and resolving paths: a whole path passes the test of the mode, copied or decoded
+-- paths, copied or decoded: a whole path passes the test of the mode
 pub whole-path-is-for-mode : (pieces : SegmentMode) (path : List ℕ) → IsUtf8 path
     → IsTextForMode pieces path
     → is_text_for_mode pieces path ≡ true
@@ -49,8 +48,7 @@ whole-path-is-for-mode Copied path u h = refl
 whole-path-is-for-mode (Decoded table) path u h = set-text-from-utf8
     (set_of table.now) path u h.valid
 
--- normalising and resolving paths: a piece of a path may be
--- appended in the mode that the path is, copied or decoded
+-- paths, copied or decoded: a piece of a path may be appended in the mode that the path may
 pub part-of-path-is-for-mode : (pieces : SegmentMode) (path piece : List ℕ)
     → IsTextForMode pieces path
     → is_text_for_mode pieces piece ≡ true → IsTextForMode pieces piece
@@ -71,7 +69,7 @@ text-of-one-byte-slash-is-slash (c ∷ d ∷ text) e = absurd
     (false≢true (sym (ne_eqb (length (c ∷ d ∷ text)) 1 (λ h. omega (arith, h)))
     ∙ (and_parts _ _ e).0))
 
--- normal paths: `/` is its own decoded form
+-- decoded paths: `/` is its own decoded form
 pub slash-decodes-to-slash : (set : TableSet) → print (decode_unreserved set (codes "/"))
     ≡ codes "/"
 unfolding print_decoded

@@ -10,7 +10,7 @@ use Rattle.uri_ops.specs.Target.{dotless_if_absolute, underflows_if_absolute, gu
 use Rattle.uri_ops.specs.Target.{is_fragment_only}
 use Rattle.uri_ops.specs.Target.{is_opaque, is_opaque_rejection, dotted_target}
 
--- paths: one that does not begin with `/` (47) does not begin with `//`
+-- targets: a path that does not begin with `/` (47) does not begin with `//`
 rootless : (path : List ℕ) → starts 47 path ≡ false → has_authority path ≡ false
 rootless [] h = refl
 rootless (c ∷ path) h = ap (λ x. x && eqb (get_or (c ∷ path) 1 0) 47) h

@@ -39,6 +39,7 @@ use Rattle.uri_ops.proofs.Meanings.AuthorityMeanings.{normal-authorities-are-aut
 use Rattle.uri_ops.proofs.Paths.MergedPaths.{merged-normal-paths-decode-as-merged}
 use Rattle.uri_pct.proofs.Tests.{is_none-option_map}
 
+-- targets: the components of which these are the five
 abbrev pub components_of_parts : Option (List ℕ) → Option (List ℕ) → List ℕ → Option (List ℕ)
     → Option (List ℕ)
     → Components
@@ -52,7 +53,7 @@ components_of_parts scheme authority path query fragment =
           fragment;
     }
 
--- what holds of all components with `Some` scheme holds of components that have a scheme
+-- targets: what holds of all components with a scheme (s) holds of components that have one
 pub with_scheme : (P : Components → Type 0)
     → ((s : List ℕ) (a : Option (List ℕ)) (p : List ℕ) (q f : Option (List ℕ))
     → P (components_of_parts (Some s) a p q f))

@@ -134,7 +134,7 @@ prefix-path-and-suffix-recompose t o0 o1 o2 e1 e2 =
     ∙ ap (λ x. o0 ++ x) (append_assoc (before_path t) t.path suffix
     ∙ append_assoc scheme authority (t.path ++ suffix))
 
--- positions of a target: a query that is appended after its `?` ends where the text does
+-- positions in a target: a query that is appended after its `?` ends where the text does
 pub pushed-query-ends-at-length : (query : Option (List ℕ)) (o3 o4 : List ℕ) (end : ℕ)
     → is_some query ≡ true
     → o4 ≡ o3 ++ marked (codes "?") query [] → end ≡ length o4
@@ -151,8 +151,7 @@ pushed-query-ends-at-length (Some q) o3 o4 end some e n =
       length-append (codes "?") q,
     ))
 
--- positions of a target: a query that is appended with what
--- follows it ends where the fragment begins
+-- positions in a target: a query that is appended with what follows it ends where that begins
 pub pushed-query-ends-before-fragment : (query fragment : Option (List ℕ))
     (o3 o4 suffix last : List ℕ) (end : ℕ)
     → is_some query ≡ true

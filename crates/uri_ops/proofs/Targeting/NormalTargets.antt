@@ -75,7 +75,7 @@ module _ {A : Type 0} (f : List ℕ → A) where
   equal-mapped-results-have-equal-errors (Err w) y z e h = ap Err
       (equal-err-results-have-equal-errors w z (mapped y) (sym e) (ap mapped h))
 
--- normalising: a text with the same meaning has the same normal form
+-- targets: a text with the same meaning has the same normal form
 pub same-meaning-same-normal-form : (kind : Kind) (ports : PortFunction)
     (text other normal : List ℕ)
     → meaning_of kind ports other ≡ meaning_of kind ports text → IsNormalForm kind ports text normal

@@ -58,7 +58,7 @@ dotless-path-after-authority-stays authority path some absolute dotless =
     ∙ cond-true (starts 47 path) _ _ (eq_true_from_IsTrue _ absolute)
     ∙ remove-dots-of-dotless path absolute dotless
 
--- recomposing: the text of a reference without scheme and authority begins with its path
+-- targets: the text of a reference without scheme and authority begins with its path
 text-without-prefix-is-path-and-suffix : (r : Components) → r.scheme ≡ None → r.authority ≡ None
     → recompose r ≡ r.path ++ (marked (codes "?") r.query [] ++ marked (codes "#") r.fragment [])
 text-without-prefix-is-path-and-suffix r s a = λ i. marked [] (s i) (codes ":") ++
@@ -81,13 +81,13 @@ path-or-query-is-not-fragment-only r e h =
     let path = and_parts (is_none r.scheme && is_none r.authority) (is_empty r.path) query.0 in
     sym e ∙ and_from _ _ path.1 query.1
 
--- positions: the text up to the end of the path is as long as the positions say
+-- positions in a target: the text up to the end of the path is as long as the positions say
 pub length-through-path-is-path_end : (r : Components) → length (before_path r ++ r.path) ≡
     (positions_of r).path_end
 length-through-path-is-path_end r = omega
     (arith, length-append (before_path r) r.path, length-before_path-is-path_start r)
 
--- positions of a target: with a query, the query ends where the text up to it does
+-- positions in a target: with a query, the query ends where the text up to it does
 pub length-through-query-is-query_end : (r : Components) → is_some r.query ≡ true
     → Some (length ((before_path r ++ r.path) ++ marked (codes "?") r.query [])) ≡
     (positions_of r).query_end
@@ -109,7 +109,7 @@ length-through-query-is-query_end r some = of_query r.query (before_path r ++ r.
           length-append (codes "?") q,
         ))
 
--- positions of a target: the end of a query moves with its path by n bytes
+-- positions in a target: the end of a query moves with its path by n bytes
 query-end-moves-with-path : (query : Option (List ℕ)) (n m k : ℕ) → n + m ≡ k
     → option_map (λ e. n + e) (option_map (λ q. m + 1 + length q) query)
     ≡ option_map (λ q. k + 1 + length q) query

@@ -46,14 +46,14 @@ dotted_target-has-scheme-as-base base r some =
     (λ _. cond_both (starts 47 r.path) _ _ (λ (t : Components). is_some t.scheme ≡ true) (λ _. some)
     (λ _. some))))
 
--- a text of a kind that needs a scheme has one
+-- resolving: a text of a kind that needs a scheme, as a base, has one
 pub text-of-kind-has-needed-scheme : (kind : Kind) (b : List ℕ) → kind.needs_scheme ≡ true
     → IsTextOf kind b
     → is_some (components b).scheme ≡ true
 text-of-kind-has-needed-scheme kind b needs w =
     scheme_where_needed kind.needs_scheme _ _ needs (text-has-parts-of-kind kind b w).needs
 
--- general fact on options, for components: what is absent is not there
+-- general fact on options, for components of a target: what is absent is not there
 none-is-not-some : (o : Option (List ℕ)) → is_none o ≡ true → is_some o ≡ false
 none-is-not-some None e = refl
 none-is-not-some (Some x) e = absurd (false≢true e)

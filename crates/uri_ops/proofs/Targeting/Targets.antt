@@ -21,7 +21,7 @@ use Rattle.uri_ops.proofs.Paths.PathCharacters.{directory-adds-no-character}
 use Rattle.uri_pct.proofs.Tests.{None-from-is_none}
 use Rattle.uri_ops.proofs.Paths.DotRuns.{empty-text-is-nil}
 
--- components with a scheme, each of which lacks the characters that end it
+-- targets: components have a scheme, and each lacks the characters that would end it
 record IsSplittable (c : Components) : Type 0 where
   pub some : is_some c.scheme ≡ true
   pub scheme : IfSome c.scheme (λ s. (0 < length s) × Lacks (codes ":/?#") s)
@@ -29,14 +29,14 @@ record IsSplittable (c : Components) : Type 0 where
   pub path : Lacks (codes "?#") c.path
   pub query : IfSome c.query (λ q. Lacks (codes "#") q)
 
--- paths: an absolute path with any text after it is absolute
+-- targets: an absolute path with any text after it is absolute
 pub appended-absolute-path-is-absolute : (path q : List ℕ) → IsAbsolute path
     → IsAbsolute (path ++ q)
 appended-absolute-path-is-absolute [] q h = absurd (false≢true (search rules))
 appended-absolute-path-is-absolute (c ∷ path) q h = h
 
--- general fact on options, for authorities:
--- what is known of the path after one implies another property of it
+-- general fact on options, for authorities of a target: what is known of the path after one implies
+-- another property of it
 authority-property-implies-other-if-some : (o : Option (List ℕ)) (P Q : Type 0) → (P → Q)
     → IfSome o (λ a. Lacks (codes "/?#") a × P) → IfSome o (λ a. Lacks (codes "/?#") a × Q)
 authority-property-implies-other-if-some None P Q f h = tt
@@ -146,8 +146,8 @@ guarded-path-without-authority-has-no-two-slashes None path = cond_both (has_aut
     (λ p. has_authority p ≡ false) (λ e. refl) (λ e. e)
 guarded-path-without-authority-has-no-two-slashes (Some a) path = tt
 
--- general fact on options, for components:
--- one that is there makes each statement on its absence true
+-- general fact on options, for components of a target: one that is there makes each statement on
+-- its absence true
 option-that-is-some-has-no-none : (o : Option (List ℕ)) (P : Type 0) → is_some o ≡ true → IfNone o P
 option-that-is-some-has-no-none None P h = absurd (false≢true h)
 option-that-is-some-has-no-none (Some x) P h = tt

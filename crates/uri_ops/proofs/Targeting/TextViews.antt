@@ -29,7 +29,7 @@ use Rattle.uri_ops.proofs.Normal.WrittenPlaces.{length-with-delimiter-after}
 use Rattle.uri_ops.proofs.Paths.LastSlashes.{cut, slash-position-is-prefix-length}
 use Rattle.uri_ops.proofs.Paths.LastSlashes.{prefix-through-slash-ends-in-slash}
 
--- positions: a host ends within its authority
+-- positions in a target: a host ends within its authority
 pub host-ends-within-authority : (kind : Kind) (text : List ℕ) → IsTextOf kind text → (a : List ℕ)
     → (components text).authority ≡ Some a → host_end_of a ≤ length a
 host-ends-within-authority kind text w a e =
@@ -37,14 +37,14 @@ host-ends-within-authority kind text w a e =
     (text-has-parts-of-kind kind text w).authority in
     (host_is_at_positions kind.userinfo kind.reg_name a h.1 h.0).ends.0
 
--- the positions of an authority are in a text that ends with it
+-- positions in a target: those of an authority are in the text, and the authority ends with it
 pub record Within (text : List ℕ) (places : AuthorityPositions) : Type 0 where
   pub start : places.start ≤ places.end
   pub host_start : places.host_start ≤ places.end
   pub host_end : places.host_end ≤ places.end
   pub end : places.end ≡ length text
 
--- positions: those of an authority are within the text of scheme and authority
+-- positions in a target: those of an authority are within the text of scheme and authority
 authority-positions-are-within-prefix-text : (scheme authority : Option (List ℕ))
     (places : AuthorityPositions)
     → ((a : List ℕ) → authority ≡ Some a → host_end_of a ≤ length a)
@@ -69,7 +69,7 @@ authority-positions-are-within-prefix-text scheme (Some a) places host e =
       end = omega (arith, n);
     })
 
--- positions: those of an authority are within the text before the path
+-- positions in a target: those of an authority are within the text before the path
 pub authority-positions-are-in-prefix : (text : List ℕ) (p : Positions)
     (places : AuthorityPositions) → ArePositionsOf text p
     → ((a : List ℕ) → (components text).authority ≡ Some a → host_end_of a ≤ length a)
@@ -79,8 +79,8 @@ authority-positions-are-in-prefix text p places at host e =
     places host
     (sym e ∙ ap (λ (q : Positions). q.authority) at)
 
--- positions: those of an authority in a text without a scheme, moved by n, are those after a scheme
--- of n bytes (with its `:`)
+-- positions in a target: those of an authority in a text without a scheme, moved by n, are those
+-- after a scheme of n bytes (with its `:`)
 moved-authority-positions-are-after-scheme : (n : ℕ) (authority : Option (List ℕ))
     (places moved : AuthorityPositions)
     → Some places ≡ option_map (authority_at 2) authority
@@ -100,8 +100,8 @@ moved-authority-positions-are-after-scheme n (Some a) places moved e start host_
     (arith, end, ap (λ (q : AuthorityPositions). q.end) f) in
     λ i. Some (record { start = a0 i; host_start = a1 i; host_end = a2 i; end = a3 i })
 
--- positions: after a scheme of n bytes (with its `:`), an authority is n bytes further on;
--- moved: its positions there
+-- positions in a target: after a scheme of n bytes (with its `:`), an authority is n bytes further
+-- on; moved: its positions there
 pub authority-positions-after-scheme : (text : List ℕ) (p : Positions) (n : ℕ)
     (places moved : AuthorityPositions)
     → ArePositionsOf text p → (components text).scheme ≡ None → p.authority ≡ Some places
@@ -114,12 +114,12 @@ authority-positions-after-scheme text p n places moved at none e start host_star
     ∙ ap (λ s. option_map (authority_at (delimited_length 1 s + 2)) (components text).authority)
     none) start host_start host_end end
 
--- a scheme and its mark, at the start of a text
+-- positions in a target: the text begins with a scheme, which ends at `end`, and its `:`
 pub record HasScheme (text : List ℕ) (scheme : Option (List ℕ)) (end : ℕ) : Type 0 where
   pub cut : IsCharBoundary text (end + 1)
   pub holds : take (end + 1) text ≡ marked [] scheme (codes ":")
 
--- positions: a text begins with its scheme, which ends at the end of it
+-- positions in a target: a text begins with its scheme, which ends at the end of it
 text-begins-with-its-scheme : (text : List ℕ) (scheme : Option (List ℕ)) (rest : List ℕ)
     → marked [] scheme (codes ":") ++ rest ≡ text → IsUtf8 text → (end : ℕ)
     → Some end ≡ option_map length scheme → HasScheme text scheme end
@@ -136,8 +136,8 @@ text-begins-with-its-scheme text (Some s) rest whole utf8 end e =
           ∙ take-append_seam (s ++ codes ":") rest;
     }
 
--- paths: after a `/` (47) in the middle of a path a character begins;
--- the text up to it is prefix, left and `/`
+-- targets: after a `/` (47) in the middle of a path a character begins; the text up to it is
+-- prefix, left and `/`
 position-after-inner-slash-is-boundary : (text prefix path suffix left right : List ℕ)
     (start slash : ℕ)
     → text ≡ prefix ++ (path ++ suffix) → start ≡ length prefix → path ≡ left ++ 47 ∷ right

@@ -26,7 +26,7 @@ use Rattle.uri_ops.proofs.AsciiForms.EncodedPaths.{ascii-text-is-its-own-encodin
 use Rattle.uri_ops.proofs.TextKinds.FourKinds.{iri-has-component-sets, iri_ref-has-component-sets}
 use Rattle.uri_ops.proofs.TextKinds.WiderKinds.{text-is-of-wider-kind, ascii_kind-is-within-kind}
 
--- general fact on options, for errors of conversion
+-- general fact on options, for errors of conversions: an error that is there is not None
 some-error-is-not-none : (error : ConvertError) → Some error ≡ None → ⊥
 some-error-is-not-none error e = absurd (cc e)
 
@@ -77,7 +77,7 @@ iri_ref_with_scheme_is_iri text h = (
       (iri_has_scheme text w),
 )
 
--- characters past ASCII
+-- conversions: the byte is ASCII
 abbrev is_ascii_code : ℕ → Bool
 is_ascii_code b = not (is_past_ascii b)
 
@@ -106,11 +106,11 @@ whole-ascii-prefix-means-ascii-text (c ∷ text) h = ⊎_elim
     absurd (omega arith))
     (cases_Bool (ltb c 128))
 
--- general fact on options, for the index of a character past ASCII
+-- general fact on options, for conversions: the index of a character past ASCII is not None
 some-index-is-not-none : (index : ℕ) → Some index ≡ None → ⊥
 some-index-is-not-none index e = absurd (cc e)
 
--- general fact on options, for the index of a character past ASCII: no error comes from no index
+-- general fact on options, for errors of conversions: without an error there is no index
 absent-mapped-index-is-absent : (place : Option ℕ) → option_map (λ index. NotAscii index) place
     ≡ None → place ≡ None
 absent-mapped-index-is-absent None e = refl
@@ -162,13 +162,13 @@ pub ascii_iri_ref_is_uri_ref : (text : List ℕ) → IsUtf8 text → IsOfKind ir
 ascii_iri_ref_is_uri_ref text u h = text-of-kind-is-ascii-if-of-ascii_kind iri_ref
     iri_ref-has-component-sets text u h
 
--- general fact on options, for the first of two errors: if there is none, there is neither
+-- general fact on options, for the first of two errors of a conversion: if it is None, both are
 option_or-is-none-if-both-are : {A : Type 0} (a b : Option A) → option_or a b ≡ None → (a ≡ None)
     × (b ≡ None)
 option_or-is-none-if-both-are None b e = (refl, e)
 option_or-is-none-if-both-are (Some x) b e = absurd (cc e)
 
--- general fact on options, for the first of two errors: if there is neither, there is none
+-- general fact on options, for the first of two errors of a conversion: if both are None, it is
 both-none-give-option_or-none : {A : Type 0} (a b : Option A) → a ≡ None → b ≡ None
     → option_or a b ≡ None
 both-none-give-option_or-none a b e f = ap (λ o. option_or o b) e ∙ f
@@ -187,7 +187,7 @@ ascii_iri_ref_with_scheme_is_uri text u h = (
       ((ascii_iri_ref_is_uri_ref text u h).1 reference),
 )
 
--- a URI is an IRI
+-- conversions: each URI is an IRI
 pub uri_is_iri : (text : List ℕ) → IsUtf8 text → IsOfKind uri text → IsOfKind iri text
 uri_is_iri text u h =
     (text-is-of-wider-kind uri iri iri-has-component-sets (ascii_kind-is-within-kind iri) text
@@ -240,12 +240,14 @@ encoded-iri_ref-is-uri_ref text encoded e u h = encoded-text-is-of-ascii-kind ir
     iri_ref-has-component-sets text
     encoded e u h
 
+-- conversions: an IRI and the URI that it is percent-encoded as are equivalent
 pub encoded-iri-is-equivalent : (text encoded : List ℕ) → encoded ≡ encode_past_ascii text
     → IsUtf8 text
     → IsOfKind iri text → AreEquivalent iri encoded text
 encoded-iri-is-equivalent text encoded e u h = encoded-text-is-equivalent iri iri-has-component-sets
     text encoded e u h
 
+-- conversions: an IRI reference and its URI reference are equivalent
 pub encoded-iri_ref-is-equivalent : (text encoded : List ℕ) → encoded ≡ encode_past_ascii text
     → IsUtf8 text
     → IsOfKind iri_ref text → AreEquivalent iri_ref encoded text
@@ -253,6 +255,7 @@ encoded-iri_ref-is-equivalent text encoded e u h = encoded-text-is-equivalent ir
     iri_ref-has-component-sets text
     encoded e u h
 
+-- conversions: an IRI and its URI have the same meaning under any default ports
 pub encoded-iri-has-same-meaning : (text encoded : List ℕ) → encoded ≡ encode_past_ascii text
     → IsUtf8 text
     → IsOfKind iri text → (ports : PortFunction)
@@ -261,6 +264,7 @@ encoded-iri-has-same-meaning text encoded e u h ports = encoded-text-has-same-me
     iri-has-component-sets text
     encoded e u h ports
 
+-- conversions: an IRI reference and its URI reference have the same meaning under any default ports
 pub encoded-iri_ref-has-same-meaning : (text encoded : List ℕ) → encoded ≡ encode_past_ascii text
     → IsUtf8 text
     → IsOfKind iri_ref text → (ports : PortFunction)

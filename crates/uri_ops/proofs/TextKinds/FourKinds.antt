@@ -8,29 +8,34 @@ use Rattle.uri_pct.specs.Sets.{is_pchar, is_path_char, is_query_char}
 use Rattle.uri_parts.specs.Grammar.{Kind, kind_by_flags, uri, uri_ref, iri, iri_ref}
 use Rattle.uri_ops.specs.ComponentSets.{IsComponentSet, HasComponentSets}
 
+-- sets of the four kinds: an unreserved character may be in a registered name
 unreserved-is-reg_name-character : (c : ℕ) → is_unreserved c ≡ true → is_reg_name_char c ≡ true
 unreserved-is-reg_name-character c e = or_left _ _ e
 
+-- sets of the four kinds: an unreserved character may be in userinfo
 unreserved-is-userinfo-character : (c : ℕ) → is_unreserved c ≡ true → is_userinfo_char c ≡ true
 unreserved-is-userinfo-character c e = or_left _ _ (unreserved-is-reg_name-character c e)
 
+-- sets of the four kinds: an unreserved character may be in a segment of a path (`pchar`)
 unreserved-is-pchar : (c : ℕ) → is_unreserved c ≡ true → is_pchar c ≡ true
 unreserved-is-pchar c e = or_left _ _ (unreserved-is-reg_name-character c e)
 
+-- sets of the four kinds: an unreserved character may be in a path
 unreserved-is-path-character : (c : ℕ) → is_unreserved c ≡ true → is_path_char c ≡ true
 unreserved-is-path-character c e = or_left _ _ (unreserved-is-pchar c e)
 
+-- sets of the four kinds: an unreserved character may be in a query
 unreserved-is-query-character : (c : ℕ) → is_unreserved c ≡ true → is_query_char c ≡ true
 unreserved-is-query-character c e = or_left _ _ (unreserved-is-pchar c e)
 
--- sets: the one of a component whose ASCII characters pass the test;
--- past, private: whether it has ucschar, iprivate
+-- sets of the four kinds: that of a component whose ASCII characters pass the test; past, private:
+-- whether it has ucschar, iprivate
 component_table : (test : ℕ → Bool) (past private : Bool) → TableSet
 component_table test past private =
     record { ascii = test; pct_encoded = true; ucschar = past; iprivate = private }
 
--- sets: a set of characters by a test is a component's, if it has the unreserved ones, and neither
--- `%` (37) nor the delimiters; past, private: whether it has ucschar, iprivate
+-- sets of the four kinds: a set by a test is a component's if it has the unreserved characters, and
+-- neither `%` (37) nor the delimiters
 tested-characters-are-component-set : (marks : List ℕ) (test : ℕ → Bool) (past private : Bool)
     → ((c : ℕ) → is_unreserved c ≡ true → test c ≡ true) → test 37 ≡ false
     → list_any test marks ≡ false
@@ -49,7 +54,7 @@ tested-characters-are-component-set marks test past private within percent ends 
   ends = ends;
 }
 
--- the kind whose sets have ucschar, or iprivate, or neither, and which needs a scheme or not
+-- sets of the four kinds: the kind by its flags for ucschar, iprivate and the need of a scheme
 kind_with : (past private needs : Bool) → Kind
 kind_with past private needs = record {
   userinfo = component_table is_userinfo_char past false;
@@ -60,8 +65,8 @@ kind_with past private needs = record {
   needs_scheme = needs;
 }
 
--- sets: those of a kind have unreserved characters and octets, and lack what ends each component;
--- past, private: whether they have ucschar, iprivate
+-- sets of the four kinds: they have unreserved characters and octets, and lack what ends each
+-- component; past, private: whether they have ucschar, iprivate
 kind_with-has-component-sets : (past private needs : Bool)
     → HasComponentSets (kind_with past private needs)
 unfolding kind_with component_table
@@ -79,30 +84,32 @@ kind_with-has-component-sets past private needs = record {
       unreserved-is-query-character refl refl;
 }
 
--- the sets of a URI's components have unreserved characters and octets, and lack what ends each
+-- sets of the four kinds: those of a URI have unreserved characters and octets, and lack what ends
+-- each component
 pub uri-has-component-sets : HasComponentSets uri
 unfolding kind_with component_table
 uri-has-component-sets = kind_with-has-component-sets false false true
 
--- the sets of a URI reference have unreserved characters and octets,
--- and lack what ends each component
+-- sets of the four kinds: those of a URI reference have unreserved characters and octets, and lack
+-- what ends each component
 pub uri_ref-has-component-sets : HasComponentSets uri_ref
 unfolding kind_with component_table
 uri_ref-has-component-sets = kind_with-has-component-sets false false false
 
--- the sets of an IRI's components have unreserved characters and octets, and lack what ends each
+-- sets of the four kinds: those of an IRI have unreserved characters and octets, and lack what ends
+-- each component
 pub iri-has-component-sets : HasComponentSets iri
 unfolding kind_with component_table
 iri-has-component-sets = kind_with-has-component-sets true true true
 
--- the sets of an IRI reference have unreserved characters and octets,
--- and lack what ends each component
+-- sets of the four kinds: those of an IRI reference have unreserved characters and octets, and lack
+-- what ends each component
 pub iri_ref-has-component-sets : HasComponentSets iri_ref
 unfolding kind_with component_table
 iri_ref-has-component-sets = kind_with-has-component-sets true true false
 
--- sets: those of the four kinds have unreserved characters and octets,
--- and lack what ends each component
+-- sets of the four kinds: by its flags, each has unreserved characters and octets, and lacks what
+-- ends a component
 kind_by_flags-has-component-sets : (international needs_scheme : Bool)
     → HasComponentSets (kind_by_flags international needs_scheme)
 kind_by_flags-has-component-sets false false = uri_ref-has-component-sets
@@ -110,8 +117,8 @@ kind_by_flags-has-component-sets false true = uri-has-component-sets
 kind_by_flags-has-component-sets true false = iri_ref-has-component-sets
 kind_by_flags-has-component-sets true true = iri-has-component-sets
 
--- the sets of a kind that is one of the four have unreserved characters and octets,
--- and lack what ends each component
+-- sets of the four kinds: a kind that is one of them has unreserved characters and octets, and
+-- lacks what ends each component
 pub one-of-four-kinds-has-sets : (kind : Kind) → kind
     ≡ kind_by_flags kind.path.ucschar kind.needs_scheme
     → HasComponentSets kind

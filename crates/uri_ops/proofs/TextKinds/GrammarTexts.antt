@@ -30,8 +30,8 @@ use Rattle.uri_ops.proofs.Meanings.TextParts.{ArePartsOfKind, AreUtf8, component
 use Rattle.uri_ops.proofs.Meanings.TextParts.{grammar-gives-components-of-kind}
 use Rattle.uri_ops.proofs.Meanings.TextParts.{components-of-kind-meet-grammar}
 
--- general fact on booleans, for the rule on schemes; s, n, a, c: a scheme is there, is needed, an
--- authority is there, `:` is in the first segment
+-- general fact on booleans, for the grammar of the four kinds; s, n, a, c: a scheme is there, is
+-- needed, an authority is there, `:` is in the first segment
 scheme-rule-gives-its-cases : (s n a c : Bool) → (s || (not n && (a || not c))) ≡ true
     → (s ≡ true) ⊎ ((n ≡ false) × ((a ≡ true) ⊎ (c ≡ false)))
 scheme-rule-gives-its-cases true n a c e = inl refl
@@ -119,45 +119,49 @@ module _ (kind : Kind) (sets : HasComponentSets kind) where
   text-is-of-kind-if-in-grammar text u =
       (λ h. (components text, text-of-kind-follows-rules text u h), grammar-gives-text-of-kind text u)
 
+-- grammar of the four kinds: URIs are exactly the texts of the grammar of RFC 3986
 pub uris-are-texts-of-grammar : (text : List ℕ) → IsUtf8 text
     → (IsOfKind uri text ↔ IsInGrammar uri text)
 uris-are-texts-of-grammar text u = text-is-of-kind-if-in-grammar uri uri-has-component-sets text u
 
+-- grammar of the four kinds: URI references are exactly the texts of the grammar of RFC 3986
 pub uri_refs-are-texts-of-grammar : (text : List ℕ) → IsUtf8 text
     → (IsOfKind uri_ref text ↔ IsInGrammar uri_ref text)
 uri_refs-are-texts-of-grammar text u = text-is-of-kind-if-in-grammar uri_ref
     uri_ref-has-component-sets text u
 
+-- grammar of the four kinds: IRIs are exactly the texts of the grammar of RFC 3987
 pub iris-are-texts-of-grammar : (text : List ℕ) → IsUtf8 text
     → (IsOfKind iri text ↔ IsInGrammar iri text)
 iris-are-texts-of-grammar text u = text-is-of-kind-if-in-grammar iri iri-has-component-sets text u
 
+-- grammar of the four kinds: IRI references are exactly the texts of the grammar of RFC 3987
 pub iri_refs-are-texts-of-grammar : (text : List ℕ) → IsUtf8 text
     → (IsOfKind iri_ref text ↔ IsInGrammar iri_ref text)
 iri_refs-are-texts-of-grammar text u = text-is-of-kind-if-in-grammar iri_ref
     iri_ref-has-component-sets text u
 
--- authorities: userinfo and host of a URI cannot contain what ends an authority
+-- grammar of the four kinds: userinfo and host of a URI cannot contain what ends an authority
 uri-sets-lack-authority-delimiters : LackAuthorityDelimiters uri.userinfo uri.reg_name
 uri-sets-lack-authority-delimiters = kind-sets-lack-authority-delimiters uri uri-has-component-sets
 
--- authorities: userinfo and host of an IRI cannot contain what ends an authority
+-- grammar of the four kinds: userinfo and host of an IRI cannot contain what ends an authority
 iri-sets-lack-authority-delimiters : LackAuthorityDelimiters iri.userinfo iri.reg_name
 iri-sets-lack-authority-delimiters = kind-sets-lack-authority-delimiters iri iri-has-component-sets
 
--- parsing: the authority of a URI has one cut into userinfo, host and port (RFC 3986, section 3.2)
+-- grammar of the four kinds: the authority of a URI is cut in one way (RFC 3986, section 3.2)
 pub uri-authority-splits-in-one-way : (text : List ℕ) (p : AuthorityParts) → IsUtf8 text
     → IsAuthorityFor uri.userinfo uri.reg_name text p → authority_parts text ≡ p
 uri-authority-splits-in-one-way text p u h = authority_parts-are-unique uri.userinfo uri.reg_name
     uri-sets-lack-authority-delimiters text p u h
 
--- parsing: the authority of an IRI has one cut into userinfo, host and port (RFC 3986, section 3.2)
+-- grammar of the four kinds: the authority of an IRI is cut in one way (RFC 3986, section 3.2)
 pub iri-authority-splits-in-one-way : (text : List ℕ) (p : AuthorityParts) → IsUtf8 text
     → IsAuthorityFor iri.userinfo iri.reg_name text p → authority_parts text ≡ p
 iri-authority-splits-in-one-way text p u h = authority_parts-are-unique iri.userinfo iri.reg_name
     iri-sets-lack-authority-delimiters text p u h
 
--- hosts: a text is a host of one kind: IP address, IPvFuture or name
+-- grammar of the four kinds: a text is a host of one kind: IP address, IPvFuture or name
 host-is-of-one-kind : (users names : TableSet) → LackAuthorityDelimiters users names
     → (text : List ℕ) (host : HostKind)
     → IsUtf8 text → IsHost names text host → host_kind text ≡ host
@@ -166,14 +170,14 @@ host-is-of-one-kind users names apart text host u h =
     text host u
     h).kind
 
--- parsing: a host of a URI is of one kind: IP address, IPvFuture or name
+-- grammar of the four kinds: a host of a URI is of one kind: IP address, IPvFuture or name
 pub uri-host-is-of-one-kind : (text : List ℕ) (host : HostKind) → IsUtf8 text
     → IsHost uri.reg_name text host
     → host_kind text ≡ host
 uri-host-is-of-one-kind text host u h = host-is-of-one-kind uri.userinfo uri.reg_name
     uri-sets-lack-authority-delimiters text host u h
 
--- parsing: a host of an IRI is of one kind: IP address, IPvFuture or name
+-- grammar of the four kinds: a host of an IRI is of one kind: IP address, IPvFuture or name
 pub iri-host-is-of-one-kind : (text : List ℕ) (host : HostKind) → IsUtf8 text
     → IsHost iri.reg_name text host
     → host_kind text ≡ host

@@ -142,7 +142,7 @@ ascii_set-is-subset-of-set set = record {
   iprivate = λ e. absurd (false≢true e);
 }
 
--- IRIs as URIs: the sets of the kind without characters past ASCII are within those of the kind
+-- conversions: the sets of the kind without characters past ASCII are within those of the kind
 pub ascii_kind-is-within-kind : (kind : Kind) → IsWithin (ascii_kind kind) kind
 ascii_kind-is-within-kind kind = record {
   userinfo = ascii_set-is-subset-of-set kind.userinfo;

@@ -35,12 +35,12 @@ use Rattle.uri_parts.proofs.HostForms.Hosts.{is_host-sound}
 use Rattle.uri_parts.proofs.HostForms.Hosts.{is_host-complete}
 use Rattle.uri_parts.proofs.HostForms.Hosts.{reg_name_set-excludes-host-delimiters}
 
--- general fact on booleans, for tests of delimiters
+-- general fact on booleans, for cutting authorities
 or-false-gives-both-false : (a b : Bool) → (a || b) ≡ false → (a ≡ false) × (b ≡ false)
 or-false-gives-both-false false b e = (refl, e)
 or-false-gives-both-false true b e = absurd (true≢false e)
 
--- splitting: a set excludes ASCII delimiters that are neither its characters nor in an octet
+-- cutting authorities: a set excludes ASCII delimiters that are in neither it nor an octet
 set-excludes-marks-outside-it : (set : TableSet) (marks : List ℕ)
     → list_all (λ b. ltb b 128 && (not (is_ascii_hexdigit b) && not (eqb b 37))) marks ≡ true
     → list_any set.ascii marks ≡ false → excludes set marks ≡ true
@@ -52,7 +52,7 @@ set-excludes-marks-outside-it set (b ∷ marks) h e =
     and_from _ _ (and_from _ _ r.0 (and_from _ _ (ap not q.0) r.1))
     (set-excludes-marks-outside-it set marks p.1 q.1)
 
--- splitting: a text that lacks some delimiters lacks any of these
+-- cutting authorities: a text that lacks some delimiters lacks any of these
 pub Lacks-of-fewer-marks : (some all : List ℕ)
     → ((c : ℕ) → is_one_of some c ≡ true → is_one_of all c ≡ true)
     → (text : List ℕ) → Lacks all text → Lacks some text
@@ -61,11 +61,11 @@ Lacks-of-fewer-marks some all more text h k d l = ⊎_elim
     (λ e. e)
     (cases_Bool (is_one_of some _))
 
--- splitting: the empty text lacks all delimiters
+-- cutting authorities: the empty text lacks all delimiters
 pub empty-text-lacks-marks : (marks : List ℕ) → Lacks marks []
 empty-text-lacks-marks marks k d l = absurd (omega arith)
 
--- splitting: a text without some delimiters is cut at its end
+-- cutting authorities: a text without some delimiters is cut at its end
 pub cut-of-text-without-marks : (marks text : List ℕ) → Lacks marks text
     → (before_any marks text ≡ text) × (from_any marks text ≡ [])
 cut-of-text-without-marks marks text h =
@@ -93,7 +93,7 @@ unfolding port_text
 port-is-found-in-port_text None = refl
 port-is-found-in-port_text (Some digits) = ap Some (append-nil digits)
 
--- a host in brackets, or with no mark in it
+-- authorities: the text is a host in brackets, or has no delimiter of an authority in it
 abbrev pub HasHostShape : List ℕ → Type 0
 HasHostShape host = ((address : List ℕ) × (host ≡ bracketed address) × Lacks (codes "]") address)
     ⊎ Lacks (codes "@:[") host
@@ -138,7 +138,7 @@ host-is-cut-where-it-ends host tail (inr lacks) begins =
     begins in
     (cond-false _ _ _ s ∙ cut.0, cond-false _ _ _ s ∙ cut.1)
 
--- hosts: an IPvFuture address has neither `]` nor `@`
+-- authorities: an IPvFuture address has neither `]` nor `@`
 ipv_future_set-excludes-bracket-and-at-sign : (excludes ipv_future_set (codes "]") ≡ true)
     × (excludes ipv_future_set (codes "@") ≡ true)
 ipv_future_set-excludes-bracket-and-at-sign = (refl, refl)
@@ -202,7 +202,7 @@ is_authority_for-sound users names text t =
       port = part-that-passes-test-is-valid digit_set p.port c.1;
     }
 
--- the UTF-8 of the parts
+-- authorities: userinfo, host and port are UTF-8
 record AreUtf8 (p : AuthorityParts) : Type 0 where
   userinfo : IfSome p.userinfo IsUtf8
   host : IsUtf8 p.host

@@ -25,7 +25,7 @@ use Rattle.uri_parts.proofs.Splitting.Places.{slice-between-prefix-and-suffix, g
 use Rattle.uri_parts.proofs.Splitting.Places.{boundary_after_mark}
 use Rattle.std.proofs.lemmas.List.{drop-drop}
 
--- what the test of an authority says of its parts
+-- authorities: what the test of one says of its components
 pub record AuthorityMeetsRules (users names : TableSet) (text : List ℕ) : Type 0 where
   pub whole : recompose_authority (authority_parts text) ≡ text
   pub userinfo : option_map_or (is_valid_for users) (authority_parts text).userinfo true ≡ true
@@ -49,7 +49,7 @@ holds users names text t =
       port = c.1;
     }
 
--- positions: a character begins at an ASCII byte c after a prefix
+-- authorities, positions: a character begins at an ASCII byte c after a prefix
 boundary-before-ascii-byte : (prefix rest : List ℕ) (c : ℕ) → c < 128
     → IsCharBoundary (prefix ++ (c ∷ rest)) (length prefix)
 boundary-before-ascii-byte prefix rest c ascii =
@@ -58,28 +58,28 @@ boundary-before-ascii-byte prefix rest c ascii =
     IsCharBoundary-before_ascii (prefix ++ (c ∷ rest)) (length prefix)
     (omega (arith, length-append prefix (c ∷ rest))) at
 
--- the text of a port with its `:`, or nothing
+-- authorities, positions: the text of a port with its `:`, or nothing
 abbrev port_text : Option (List ℕ) → List ℕ
 port_text port = marked (codes ":") port []
 
--- the text of userinfo with its `@`, or nothing
+-- authorities, positions: the text of userinfo with its `@`, or nothing
 abbrev user_text : Option (List ℕ) → List ℕ
 user_text userinfo = marked [] userinfo (codes "@")
 
--- positions: a userinfo with its `@` is one byte longer, or nothing
+-- authorities, positions: a userinfo with its `@` is one byte longer, or nothing
 length-of-userinfo-with-at-sign : (userinfo : Option (List ℕ))
     → length (user_text userinfo) ≡ delimited_length 1 userinfo
 length-of-userinfo-with-at-sign None = refl
 length-of-userinfo-with-at-sign (Some user) = omega (arith, length-append user (codes "@"))
 
--- a part, from a position to another
+-- authorities, positions: the component is from start to end in the text
 pub record IsBetween (text : List ℕ) (start end : ℕ) (part : List ℕ) : Type 0 where
   pub ordered : start ≤ end
   pub starts : IsCharBoundary text start
   pub ends : IsCharBoundary text end
   pub holds : slice_range text start end ≡ part
 
--- positions: a character begins where the host does, after userinfo and `@`
+-- authorities, positions: a character begins where the host does, after userinfo and `@`
 host-begins-at-boundary-after-userinfo : (userinfo : Option (List ℕ)) (rest text : List ℕ)
     → user_text userinfo ++ rest ≡ text
     → IsUtf8 text → IsCharBoundary text (delimited_length 1 userinfo)
@@ -90,7 +90,8 @@ host-begins-at-boundary-after-userinfo (Some user) rest text whole u =
     subst (IsCharBoundary text) n (subst (λ t. IsCharBoundary t (length user + 1)) e
     (boundary_after_mark user rest 64 (lit< tt) (subst IsUtf8 (sym e) u)))
 
--- positions: a character begins where the host ends, before the `:` of a port or at the end
+-- authorities, positions: a character begins where the host ends,
+-- before the `:` of a port or at the end
 host-ends-at-boundary : (prefix : List ℕ) (port : Option (List ℕ)) (text : List ℕ)
     → prefix ++ port_text port ≡ text → IsCharBoundary text (length prefix)
 host-ends-at-boundary prefix None text whole =
@@ -100,7 +101,7 @@ host-ends-at-boundary prefix (Some digits) text whole =
     subst (λ t. IsCharBoundary t (length prefix)) whole
     (boundary-before-ascii-byte prefix (digits ++ []) 58 (lit< tt))
 
--- positions: the host is between userinfo and port
+-- authorities, positions: the host is between userinfo and port
 host-is-between-userinfo-and-port : (userinfo port : Option (List ℕ)) (host text : List ℕ)
     → user_text userinfo ++ (host ++ port_text port) ≡ text → IsUtf8 text
     → IsBetween text (delimited_length 1 userinfo) (delimited_length 1 userinfo + length host) host
@@ -125,7 +126,7 @@ host-is-between-userinfo-and-port userinfo port host text whole u =
           ∙ slice-between-prefix-and-suffix (user_text userinfo) host (port_text port);
     }
 
--- authorities: the host is between its positions
+-- authorities, positions: the host is between its positions
 pub host_is_at_positions : (users names : TableSet) (text : List ℕ)
     → is_authority_for users names text ≡ true
     → IsUtf8 text → IsBetween text (host_start_of text) (host_end_of text)
@@ -135,14 +136,14 @@ host_is_at_positions users names text t u =
     host-is-between-userinfo-and-port p.userinfo p.port p.host text
     (holds users names text t).whole u
 
--- the userinfo before the host
+-- authorities, positions: the userinfo is before the host, which begins at start
 pub record HasUserinfoBefore (users : TableSet) (text : List ℕ) (start : ℕ)
     (userinfo : Option (List ℕ)) : Type 0 where
   pub cut : IsCharBoundary text (start - 1)
   pub valid : IsValidFor users (take (start - 1) text)
   pub is : Some (take (start - 1) text) ≡ userinfo
 
--- positions: a userinfo with its `@` is before the host, and is valid for its set (users)
+-- authorities, positions: userinfo with its `@` is before the host, and valid for its set (users)
 user_lies : (users : TableSet) (userinfo : Option (List ℕ)) (rest text : List ℕ)
     → user_text userinfo ++ rest ≡ text → option_map_or (is_valid_for users) userinfo true ≡ true
     → 0 < delimited_length 1 userinfo
@@ -177,14 +178,14 @@ pub userinfo_where_host_starts_later : (userinfo : Option (List ℕ))
 userinfo_where_host_starts_later None = refl
 userinfo_where_host_starts_later (Some user) = ap not (ne_eqb _ 0 (λ e. omega arith))
 
--- the port after the host
+-- authorities, positions: the port is after the host, which ends at end
 pub record HasPortAfter (text : List ℕ) (end : ℕ) (port : Option (List ℕ)) : Type 0 where
   pub inside : end < length text
   pub cut : IsCharBoundary text (end + 1)
   pub valid : IsValidFor digit_set (drop (end + 1) text)
   pub is : Some (drop (end + 1) text) ≡ port
 
--- positions: where the host ends, the text does, or a valid port follows
+-- authorities, positions: where the host ends, the text does, or a valid port follows
 text-ends-or-port-follows-prefix : (prefix : List ℕ) (port : Option (List ℕ)) (text : List ℕ)
     → prefix ++ port_text port ≡ text → IsUtf8 text
     → option_map_or (is_valid_for digit_set) port true ≡ true
@@ -206,7 +207,7 @@ text-ends-or-port-follows-prefix prefix (Some digits) text whole u h =
       is = ap Some part;
     })
 
--- authorities: the host ends it, or a port follows the host
+-- authorities, positions: the host ends the authority, or a port follows the host
 pub port_is_after_host : (users names : TableSet) (text : List ℕ)
     → is_authority_for users names text ≡ true
     → IsUtf8 text
@@ -233,27 +234,27 @@ unfolding is_authority_for is_host is_valid_for tokens_from_chars chars ipv4_val
 empty_is_authority users names = and_from (is_some (ipv4_value []) || true) true
     (or_right (is_some (ipv4_value [])) true refl) refl
 
--- hosts: a name that is no IPv4 address is valid for the set of names
+-- authorities: a name that is no IPv4 address is valid for the set of names
 pub reg_name_host_is_valid : (names : TableSet) (host : List ℕ) → is_host names host ≡ true
     → starts 91 host ≡ false → ipv4_value host ≡ None → IsValidFor names host
 unfolding is_host
 reg_name_host_is_valid names host h s v = sym (ap (λ o. is_some o || is_valid_for names host) v)
     ∙ sym (cond-false _ _ _ s) ∙ h
 
--- hosts: a host without `[` (91) is an IPv4 address if it has the value o of one, else a name
+-- authorities: a host without `[` (91) is an IPv4 address if it has the value o of one, else a name
 pub kind_of_unbracketed_host : (host : List ℕ) (o : Option (List ℕ)) → starts 91 host ≡ false
     → o ≡ ipv4_value host → name_kind o ≡ host_kind host
 unfolding host_kind
 kind_of_unbracketed_host host o s v = ap name_kind v ∙ sym (cond-false _ _ _ s)
 
--- hosts: a host in brackets is an IPv6 address if it has the value o of one, else IPvFuture
+-- authorities: a host in brackets is an IPv6 address if it has the value o of one, else IPvFuture
 pub kind_of_bracketed_host : (host address : List ℕ) (o : Option (List ℕ)) → starts 91 host ≡ true
     → address ≡ literal_of host → o ≡ ipv6_value address → literal_kind o ≡ host_kind host
 unfolding host_kind
 kind_of_bracketed_host host address o s a v = ap literal_kind (v ∙ ap ipv6_value a)
     ∙ sym (cond-true _ _ _ s)
 
--- authorities: where the host does not end it, a port follows
+-- authorities, positions: where the host does not end the authority, a port follows
 pub port_follows_host : (users names : TableSet) (text : List ℕ) (end : ℕ)
     → is_authority_for users names text ≡ true → IsUtf8 text → end ≡ host_end_of text
     → (end ≡ length text → ⊥) → HasPortAfter text end (authority_parts text).port

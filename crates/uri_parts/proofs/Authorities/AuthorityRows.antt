@@ -12,31 +12,37 @@ use Rattle.uri_parts.specs.Hosts.{Ipv4, Ipv6, IpvFuture, RegName, host_kind, is_
 use Rattle.uri_parts.specs.Hosts.{ipv6_value, is_ipv_future}
 use Rattle.uri_parts.specs.Authority.{authority_parts, is_authority_for}
 
+-- examples of authorities: the components of `u@h:80` are userinfo, host and port
 user_host_port : authority_parts (codes "u@h:80")
     ≡ record { userinfo = Some (codes "u"); host = codes "h"; port = Some (codes "80") }
 user_host_port = refl
 
+-- examples of authorities: `@:` has empty userinfo, an empty host and an empty port
 lone-marks-give-empty-userinfo-host-and-port : authority_parts (codes "@:")
     ≡ record { userinfo = Some []; host = []; port = Some [] }
 lone-marks-give-empty-userinfo-host-and-port = refl
 
+-- examples of authorities: the empty one has an empty host, without userinfo and port
 empty-authority-has-empty-host-alone : authority_parts []
     ≡ record { userinfo = None; host = []; port = None }
 empty-authority-has-empty-host-alone = refl
 
+-- examples of authorities: `u:p@h` has the userinfo `u:p`
 userinfo-may-hold-colon : authority_parts (codes "u:p@h")
     ≡ record { userinfo = Some (codes "u:p"); host = codes "h"; port = None }
 userinfo-may-hold-colon = refl
 
+-- examples of authorities: an IPv6 address in brackets, with an empty port after it
 parts-of-ipv6-host-with-empty-port : authority_parts (codes "[::ffff:192.0.2.1]:")
     ≡ record { userinfo = None; host = codes "[::ffff:192.0.2.1]"; port = Some [] }
 parts-of-ipv6-host-with-empty-port = refl
 
+-- examples of authorities: an IPv6 address in brackets, between userinfo and a port
 parts-of-ipv6-host-after-userinfo : authority_parts (codes "u@[::1]:8")
     ≡ record { userinfo = Some (codes "u"); host = codes "[::1]"; port = Some (codes "8") }
 parts-of-ipv6-host-after-userinfo = refl
 
--- examples of hosts and their kinds, by computation: each is of the first kind that fits
+-- examples of authorities, their hosts: each has the first kind that fits, by computation
 example-hosts-have-their-kinds : map host_kind (
     codes "127.0.0.1" ∷ codes "127.0.0.001" ∷ codes "127.1" ∷ codes "256.0.0.1" ∷ codes ""
     ∷ codes "1.2.3.4.5"
@@ -53,6 +59,7 @@ unfolding host_kind ipv4_value read_ipv4 read_octet read_number ipv6_value read_
     read_segment
 example-hosts-have-their-kinds = refl
 
+-- examples of authorities: these texts pass the test of one in a URI
 example-authorities-are-accepted : list_all (is_authority_for userinfo_set reg_name_set) (
     codes "" ∷ codes "@:" ∷ codes "u@h:80" ∷ codes "u:p@h" ∷ codes "h:" ∷ codes "a%20b"
     ∷ codes "127.0.0.001" ∷ codes "user%40x@[v1F.a:b]:8080"
@@ -64,6 +71,7 @@ unfolding is_authority_for Tokens.is_valid_for tokens_from_chars chars Tokens.is
     read_segment
 example-authorities-are-accepted = refl
 
+-- examples of authorities: these texts fail the test of one in a URI
 malformed-authorities-are-rejected : list_any (is_authority_for userinfo_set reg_name_set) (
     codes "[1:2:3:4::5:6:7:8]" ∷ codes "[1:2:3:4:5:6:7:8:9]" ∷ codes "[44:55::66::77]"
     ∷ codes "[1.2.3.4]" ∷ codes "[::01.1.1.1]" ∷ codes "[::12345]"

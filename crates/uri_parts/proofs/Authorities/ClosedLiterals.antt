@@ -26,7 +26,7 @@ use Rattle.uri_parts.proofs.TextKinds.GrammarTexts.{utf8_around_ascii_byte}
 use Rattle.uri_parts.proofs.Splitting.Recompose.{text-with-mark-is-mark-and-rest}
 use Rattle.uri_parts.proofs.Authorities.NamesAndPorts.{or-of-two-false-is-false, utf8_before_marks}
 
--- hosts: the address in brackets has no delimiter that an IPvFuture address cannot have
+-- authorities, brackets: the address lacks the delimiters that an IPvFuture address cannot have
 pub literal-lacks-excluded-marks : (marks : List ℕ) → excludes ipv_future_set marks ≡ true
     → (address : List ℕ)
     → IsUtf8 address → is_literal address ≡ true → Lacks marks address
@@ -39,7 +39,7 @@ literal-lacks-excluded-marks marks outside address u h = ⊎_elim
     (ipv6_value-sound address segments s))
     (option-is-none-or-some (ipv6_value address))
 
--- what is after a `[` has a `]` before the authority ends
+-- authorities, brackets: what is after a `[` has a `]` before the authority ends
 pub record IsClosed (rest : List ℕ) : Type 0 where
   pub address : List ℕ
   pub tail : List ℕ
@@ -49,7 +49,7 @@ pub record IsClosed (rest : List ℕ) : Type 0 where
   pub short : before_any (codes "]/?#") rest ≡ address
   pub long : from_any (codes "]/?#") rest ≡ 93 ∷ tail
 
--- parsing IP literals: if `]` (93) comes before `/`, `?` and `#`, the brackets are closed there
+-- authorities, brackets: if `]` (93) comes before `/`, `?` and `#`, the brackets are closed there
 pub bracket-before-marks-closes-literal : (rest : List ℕ) → starts 93 (from_any (codes "]/?#") rest)
     ≡ true → IsClosed rest
 bracket-before-marks-closes-literal rest e =
@@ -72,7 +72,7 @@ bracket-before-marks-closes-literal rest e =
       long = long;
     }
 
--- parsing IP literals: what is parsed as one has its `]` (93) before `/`, `?` and `#`
+-- authorities, brackets: what is parsed as an IP literal has its `]` (93) before `/`, `?` and `#`
 pub parsed-literal-has-closing-bracket : (rest : List ℕ) → IsUtf8 rest → parses_literal rest ≡ true
     → starts 93 (from_any (codes "]/?#") rest) ≡ true
 unfolding parses_literal is_literal

@@ -53,7 +53,7 @@ use Rattle.uri_parts.proofs.Authorities.UserinfoLengths.{host_offset-is-after-us
 use Rattle.uri_parts.proofs.Authorities.UserinfoLengths.{text_from_host-is-after-at-sign}
 use Rattle.uri_parts.proofs.Authorities.UserinfoLengths.{passes_user-is-at-sign-after-userinfo}
 
--- what is found agrees with what is cut
+-- authorities, parsed: what the parser finds agrees with what is cut out of the text
 pub record IsFound (kind : Kind) (rest : List ℕ) : Type 0 where
   pub len : found_authority_length kind rest ≡ length (before_any (codes "/?#") rest)
   pub found : (place : ℕ)

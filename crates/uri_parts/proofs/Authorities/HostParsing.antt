@@ -55,7 +55,7 @@ use Rattle.uri_parts.proofs.Authorities.ClosedLiterals.{literal-length-is-bracke
 use Rattle.uri_parts.proofs.Authorities.ClosedLiterals.{text-after-literal-is-tail}
 use Rattle.uri_parts.proofs.Authorities.ClosedLiterals.{address-and-tail-are-utf8}
 
--- a host that is parsed, with what is after it
+-- authorities, parsed: a host that is passed, with what is after it in the authority
 pub record FoundHost (kind : Kind) (rest : List ℕ) : Type 0 where
   pub host : List ℕ
   pub suffix : List ℕ

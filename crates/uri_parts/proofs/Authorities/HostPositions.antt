@@ -12,7 +12,7 @@ use Rattle.uri_parts.proofs.Authorities.Authority.{cut-of-text-without-marks}
 use Rattle.uri_parts.proofs.Authorities.AuthorityCuts.{suffix}
 use Rattle.uri_parts.proofs.Splitting.Cuts.{cut-at-end-of-text-without-marks}
 
--- the positions of an authority that begins at a position, with a host at another
+-- authorities, positions: those of an authority that begins at start, and its host at host
 abbrev pub places : ℕ → ℕ → List ℕ → List ℕ → AuthorityPositions
 places start host name suffix =
     record {

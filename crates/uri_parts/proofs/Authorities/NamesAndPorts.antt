@@ -46,8 +46,8 @@ or-holds-if-first-does : (x y : Bool) → (x || false) ≡ true → (x || y) ≡
 or-holds-if-first-does true y a = refl
 or-holds-if-first-does false y a = absurd (false≢true a)
 
--- splitting: cutting at some delimiters, and at one more in what is before them,
--- is cutting at all in either order
+-- cutting authorities: cutting at some delimiters,
+-- and at one more in what is before them, is cutting at all in either order
 pub cut_at_further_mark : (mark : ℕ) (marks bs : List ℕ) →
     (before_any (mark ∷ []) (before_any marks bs) ≡ before_any (mark ∷ marks) bs)
     × (from_any (mark ∷ []) (before_any marks bs) ≡ before_any marks (from_any (mark ∷ marks) bs))
@@ -84,7 +84,8 @@ cut_at_further_mark mark marks (b ∷ bs) = ⊎_elim
     (cases_Bool (is_one_of (mark ∷ []) b)))
     (cases_Bool (is_one_of marks b))
 
--- splitting: a text cut at delimiters begins with another byte (mark) exactly if the text does
+-- cutting authorities: a text cut at delimiters begins
+-- with another byte (mark) exactly if the text does
 pub cut-text-begins-with-same-other-byte : (mark : ℕ) (marks : List ℕ) → is_one_of marks mark
     ≡ false → (bs : List ℕ)
     → starts mark (before_any marks bs) ≡ starts mark bs
@@ -97,19 +98,19 @@ cut-text-begins-with-same-other-byte mark marks none (b ∷ bs) = ⊎_elim
     (λ o. ap (starts mark) (before_any-past-other marks b bs o))
     (cases_Bool (is_one_of marks b))
 
--- splitting: what is before the first ASCII delimiter of a text in UTF-8 is UTF-8
+-- cutting authorities: what is before the first ASCII delimiter of a text in UTF-8 is UTF-8
 pub utf8_before_marks : (marks bs : List ℕ) → AreAscii marks → IsUtf8 bs
     → IsUtf8 (before_any marks bs)
 utf8_before_marks marks bs ascii u = IsUtf8-take bs _ u (first_mark_is_at_boundary marks ascii bs)
 
--- splitting: a text that is empty or begins with a delimiter passes the test for it
+-- cutting authorities: a text that is empty or begins with a delimiter passes the test for it
 marked-text-is-empty-or-begins-with-any : (marks rest : List ℕ) → IsEmptyOrMarked marks rest
     → is_empty_or_begins_with_any marks rest ≡ true
 unfolding is_empty_or_begins_with_any
 marked-text-is-empty-or-begins-with-any marks [] b = refl
 marked-text-is-empty-or-begins-with-any marks (c ∷ rest) b = b
 
--- parsing authorities: a scan by a set that excludes some
+-- authorities, parsed: a scan by a set that excludes some
 -- delimiters ends at one exactly if what is before it is valid
 scan-ends-at-mark-iff-cut-is-valid : (marks : List ℕ) (set : TableSet) → LacksPercent set
     → excludes set marks ≡ true
@@ -125,15 +126,15 @@ scan-ends-at-mark-iff-cut-is-valid marks set lacks outside bs u = ⊎_elim
     ∙ sym (cut marks set lacks outside bs u ∙ ne_eqb _ _ w.apart))
     (scan-stops-at-first-mark-or-within marks set lacks outside bs u)
 
--- parsing authorities: `:` (58) does not end an authority
+-- authorities, parsed: `:` (58) does not end an authority
 colon-ends-no-authority : (b : ℕ) → eqb b 58 ≡ true → is_one_of (codes "/?#") b ≡ false
 colon-ends-no-authority b e = ap (is_one_of (codes "/?#")) (eqb-true b 58 e)
 
--- parsing authorities: `:` (58) is ASCII
+-- authorities, parsed: `:` (58) is ASCII
 colon-is-ascii : (b : ℕ) → eqb b 58 ≡ true → b < 128
 colon-is-ascii b e = let d = eqb-true b 58 e in omega arith
 
--- parsing authorities: digits after `:` end at a delimiter
+-- authorities, parsed: digits after `:` end at a delimiter
 -- exactly if what is cut out there is a port
 pub port-ends-at-mark-iff-cut-is-port : (bs : List ℕ) → IsUtf8 bs
     → is_empty_or_begins_with_any (codes "/?#") (drop (port_length bs) bs)
@@ -159,8 +160,7 @@ port-ends-at-mark-iff-cut-is-port (b ∷ bs) u = ⊎_elim
     (cases_Bool (is_one_of (codes "/?#") b)))
     (cases_Bool (eqb b 58))
 
--- parsing authorities: where a port ends the authority,
--- what is parsed is the whole of what is cut out
+-- authorities, parsed: where a port ends the authority, the parsed port is all that is cut out
 pub port_length-of-whole-port : (bs : List ℕ) → IsUtf8 bs
     → is_empty_or_begins_with_any (codes "/?#") (drop (port_length bs) bs) ≡ true
     → port_length bs ≡ length (before_any (codes "/?#") bs)
@@ -193,7 +193,7 @@ port_length-of-whole-port (b ∷ bs) u h = ⊎_elim
     none ∙ sym (ap length (before_any-at-mark (codes "/?#") b bs o)))
     (cases_Bool (eqb b 58))
 
--- parsing authorities: a byte that is neither `:` nor a delimiter is not passed as a port
+-- authorities, parsed: a byte that is neither `:` nor a delimiter is not passed as a port
 pub other_byte_begins_no_port : (b : ℕ) (bs : List ℕ) → is_one_of (codes ":/?#") b ≡ false
     → is_empty_or_begins_with_any (codes "/?#") (drop (port_length (b ∷ bs)) (b ∷ bs)) ≡ false
 unfolding is_empty_or_begins_with_any port_length
@@ -203,7 +203,7 @@ other_byte_begins_no_port b bs o =
     ap (λ n. is_empty_or_begins_with_any (codes "/?#") (drop n (b ∷ bs))) (cond-false _ _ _ p.0)
     ∙ p.1
 
--- parsing authorities: a port is nothing, or begins with `:`
+-- authorities, parsed: a port is nothing, or begins with `:`
 pub port-is-empty-or-begins-with-colon : (bs : List ℕ) → is_empty_or_port bs ≡ true
     → IsEmptyOrMarked (codes ":") bs
 unfolding is_empty_or_port
@@ -211,7 +211,7 @@ port-is-empty-or-begins-with-colon [] h = tt
 port-is-empty-or-begins-with-colon (b ∷ bs) h = ap (is_one_of (codes ":"))
     (eqb-true b 58 (and_parts _ _ h).0)
 
--- parsing authorities: a port has no `@`
+-- authorities, parsed: a port has no `@`
 pub port-lacks-at-sign : (bs : List ℕ) → IsUtf8 bs → is_empty_or_port bs ≡ true
     → Lacks (codes "@") bs
 unfolding is_empty_or_port
@@ -223,12 +223,12 @@ port-lacks-at-sign (b ∷ bs) u h =
     (valid_text_lacks_excluded_marks digit_set (codes "@") refl refl bs
     (utf8_after_ascii_byte b bs (colon-is-ascii b p.0) u) p.1)
 
--- scanning: a set allows nothing of the empty text
+-- authorities, parsed: in the empty text, as where a name or a port is missing, nothing is passed
 pub valid_prefix-of-empty-text : (set : TableSet) → valid_prefix set [] ≡ 0
 unfolding valid_prefix_from
 valid_prefix-of-empty-text set = refl
 
--- hosts: the characters of an IPv4 address are ASCII
+-- authorities, parsed: the characters of an IPv4 address are ASCII
 digit-or-dot-is-ascii : (c : ℕ) → IsDigitOrDot c → c < 128
 digit-or-dot-is-ascii c (inl range) = grind (arith, nat_tests)
 digit-or-dot-is-ascii c (inr dot) = grind (arith, nat_tests)

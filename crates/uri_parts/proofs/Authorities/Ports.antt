@@ -68,13 +68,13 @@ nonempty-digits-are-numeral : (digits : List ℕ) → AllDigits 10 digits → 0 
 nonempty-digits-are-numeral digits d some = subst (IsNumeral 10)
     (sym (digits-have-no-leading-plus digits d)) (some, d)
 
--- a port that is not empty is parsed as its number, or rejected because that is too great
+-- ports: one that is not empty is parsed as its number, or rejected because that is too great
 pub record IsPortParsed (port : Option (List ℕ)) (r : Result ℕ ParseIntError) : Type 0 where
   pub ok : (n : ℕ) → r ≡ Ok n → FitsPort (port_number port) × (Some n ≡ port_number port)
   pub err : (e : ParseIntError) → r ≡ Err e
       → ¬ (FitsPort (port_number port)) × (error_kind e ≡ PosOverflow)
 
--- std parses the digits exactly if there are some and their number is below 65536
+-- ports: std parses the digits exactly if there are some and their number is below 65536
 abbrev IsParsed : List ℕ → Result ℕ ParseIntError → Type 0
 IsParsed digits r = OkIff r ((0 < length digits) × (port_value digits < 2 ^ 16)) (port_value digits)
 

@@ -4,15 +4,15 @@ use Rattle.std.proofs.Common.{sym, ◌∙◌, Option, Some, None, option_map, Bo
 use Rattle.std.specs.Str.{str_to_ascii_lowercase, str_eq_ignore_ascii_case}
 use Rattle.uri_parts.specs.SchemePorts.{scheme_ports, default_port, port_ignoring_case}
 
--- a row of the constant: a scheme and its default port
+-- default ports: a row of the constant, which is a scheme and its port
 abbrev pub Row : Type 0
 Row = Bor (List ℕ) × ℕ
 
--- a row of the constant as one of the table
+-- default ports: a row of the constant as one of the table
 abbrev pub row_of : Row → List ℕ × ℕ
 row_of row = (row.0.now, row.1)
 
--- the row is of this scheme, whatever its case
+-- default ports: the row is of this scheme, whatever its case
 abbrev pub is_named : List ℕ → Row → Bool
 is_named name row = str_eq_ignore_ascii_case row.0.now name
 

@@ -15,19 +15,19 @@ use Rattle.uri_parts.specs.SchemePorts.{scheme_ports, default_port, port_ignorin
 use Rattle.uri_parts.proofs.Authorities.SchemePorts.{port_ignoring_case-is-default_port}
 use Rattle.uri_parts.specs.declared.default_ports.TheConstants.{ROWS_BEFORE}
 
--- a row of the table: a scheme and its default port
+-- default ports: a row of the table, which is a scheme and its port
 abbrev Row : Type 0
 Row = List ℕ × ℕ
 
--- how many rows begin with an earlier letter
+-- default ports: how many rows begin with an earlier letter
 abbrev pub before : ℕ → ℕ
 before nth = get_or ROWS_BEFORE.now nth 0
 
--- the row is of this scheme, whatever its case
+-- default ports: the row is of this scheme, whatever its case
 abbrev is_named : List ℕ → Row → Bool
 is_named name row = str_eq_ignore_ascii_case row.0 name
 
--- the row does not begin with the letter
+-- default ports: the row does not begin with the letter
 abbrev differs : ℕ → Row → Bool
 differs letter row = not (eqb (to_ascii_lowercase (get_or row.0 0 0)) letter)
 
@@ -64,12 +64,12 @@ find-in-middle-of-three-parts p prefix rows back none nothing =
     ∙ find-append p rows back ∙ ap (option_or (find p rows)) nothing
     ∙ option-or-none-is-itself (find p rows)
 
--- no row but those between begins with the letter
+-- default ports: no row begins with the letter but those between
 abbrev outer_differ : ℕ → Bool
 outer_differ nth = list_all (differs (97 + nth)) (take (before nth) scheme_ports)
     && list_all (differs (97 + nth)) (drop (before (nth + 1)) scheme_ports)
 
--- the rows of a letter begin and end within the table
+-- default ports: the rows of a letter begin and end within the table
 abbrev is_within : ℕ → Bool
 is_within nth = ltb (before nth) (before (nth + 1) + 1) && ltb (before (nth + 1)) 45
 
@@ -120,7 +120,7 @@ port-is-in-rows-of-letter b bs nth small letter =
     ap (option_map (λ row. row.1))
     (sym found ∙ ap (λ rows. find (is_named (b ∷ bs)) rows) whole)
 
--- the row begins with a letter
+-- default ports: the row begins with a lower-case letter
 abbrev begins_low : Row → Bool
 begins_low row = is_ascii_lowercase (to_ascii_lowercase (get_or row.0 0 0))
 
@@ -162,7 +162,7 @@ lower-case-letter-is-97-to-122 : (letter : ℕ) → is_ascii_lowercase letter �
     × (letter ≤ 122)
 lower-case-letter-is-97-to-122 letter low = (grind (arith, nat_tests), grind (arith, nat_tests))
 
--- the default port of a scheme is in the rows that begin with its first letter
+-- default ports: that of a scheme is in the rows that begin with its first letter
 pub default-port-by-rows-of-first-letter : (scheme : List ℕ) (nth : ℕ) → 0 < length scheme
     → is_ascii_lowercase (to_ascii_lowercase (get_or scheme 0 0)) ≡ true
     → nth ≡ to_ascii_lowercase (get_or scheme 0 0) - 97

@@ -44,16 +44,16 @@ parses_whole_authority users names text = cond (starts 64 (from_any (codes "@") 
     && parses_host_and_port names (drop 1 (from_any (codes "@") text)))
     (parses_host_and_port names text)
 
--- general fact on texts, for brackets around a host: equal ones pass the test of equality
+-- general fact on texts, for authorities with brackets: equal ones pass the test of equality
 equal-texts-pass-bytes_eq : (xs ys : List ℕ) → xs ≡ ys → bytes_eq xs ys ≡ true
 equal-texts-pass-bytes_eq xs ys e = (bytes_eq-Decides xs ys).1 e
 
--- general fact on texts, for brackets around a host: different ones fail the test of equality
+-- general fact on texts, for authorities with brackets: different ones fail the test of equality
 different_texts_fail_bytes_eq : (xs ys : List ℕ) → (xs ≡ ys → ⊥) → bytes_eq xs ys ≡ false
 different_texts_fail_bytes_eq xs ys apart = false_from_ne_true _
     (λ t. apart ((bytes_eq-Decides xs ys).0 t))
 
--- general fact on texts, for brackets around a host: a common prefix changes no test of equality
+-- general fact on texts, for authorities with brackets: a common prefix changes no test of equality
 bytes_eq-ignores-common-prefix : (xs ys zs : List ℕ) → bytes_eq (xs ++ ys) (xs ++ zs)
     ≡ bytes_eq ys zs
 bytes_eq-ignores-common-prefix [] ys zs = refl
@@ -123,21 +123,21 @@ host_test-of-known-cut names host suffix rest whole h b =
     (option_map_or (is_valid_for digit_set) (port_of suffix) true)
     ∙ ap (λ x. is_host names host && x) (suffix-test-is-is_empty_or_port suffix)
 
--- hosts: the test of one without `[` (91) is that of an IPv4 address or a name
+-- authorities, hosts: the test of one without `[` (91) is that of an IPv4 address or a name
 unbracketed-host-test-is-is_unbracketed_host : (names : TableSet) (host : List ℕ)
     → starts 91 host ≡ false
     → is_host names host ≡ is_unbracketed_host names host
 unfolding is_host is_unbracketed_host
 unbracketed-host-test-is-is_unbracketed_host names host e = cond-false _ _ _ e
 
--- splitting: a prefix of a text that does not begin with a byte does not either
+-- cutting authorities: a prefix of a text that does not begin with a byte does not either
 prefix-begins-with-no-mark-either : (mark : ℕ) (prefix suffix : List ℕ)
     → starts mark (prefix ++ suffix) ≡ false
     → starts mark prefix ≡ false
 prefix-begins-with-no-mark-either mark [] suffix e = refl
 prefix-begins-with-no-mark-either mark (b ∷ prefix) suffix e = e
 
--- parsing authorities: the test of host and port is parsing them, for a host without `[` (91)
+-- authorities, parsed: the test of host and port is parsing them, for a host without `[` (91)
 host_test-parses-unbracketed-host : (names : TableSet) (rest : List ℕ) → starts 91 rest ≡ false
     → host_test names rest ≡ parses_host_and_port names rest
 unfolding parses_host_and_port
@@ -152,7 +152,7 @@ host_test-parses-unbracketed-host names rest e =
     (prefix-begins-with-no-mark-either 91 host suffix (ap (starts 91) cut.whole ∙ e)))
     ∙ sym (cond-false _ _ _ e)
 
--- hosts: the test of one in brackets is that of the address in them
+-- authorities, hosts: the test of one in brackets is that of the address in them
 bracketed-host-test-is-is_literal : (names : TableSet) (address : List ℕ)
     → Lacks (codes "]") address
     → is_host names (bracketed address) ≡ is_literal address
@@ -164,28 +164,28 @@ bracketed-host-test-is-is_literal names address lacks =
     ∙ ap (λ t. t && (is_some (ipv6_value address) || is_ipv_future address))
     (equal-texts-pass-bytes_eq (bracketed address) (bracketed address) refl)
 
--- hosts: the one delimiter `]` is the byte 93
+-- authorities, hosts: the one delimiter `]` is the byte 93
 closing-bracket-is-byte-93 : (c : ℕ) → is_one_of (codes "]") c ≡ true → eqb c 93 ≡ true
 closing-bracket-is-byte-93 c m = grind (arith, nat_tests)
 
--- hosts: what is before the first `]` keeps the `[` (91) before it
+-- authorities, hosts: what is before the first `]` keeps the `[` (91) before it
 cut-at-closing-bracket-keeps-open-bracket : (rest : List ℕ)
     → before_any (codes "]") (91 ∷ rest) ≡ 91 ∷ before_any (codes "]") rest
 cut-at-closing-bracket-keeps-open-bracket rest = before_any-past-other (codes "]") 91 rest refl
 
--- hosts: the first `]` of a text is after the `[` (91) before it
+-- authorities, hosts: the first `]` of a text is after the `[` (91) before it
 text-from-closing-bracket-skips-open-bracket : (rest : List ℕ) → from_any (codes "]") (91 ∷ rest)
     ≡ from_any (codes "]") rest
 text-from-closing-bracket-skips-open-bracket rest = from_any-past-other (codes "]") 91 rest refl
 
--- hosts: what is from the first `]` (93) on is `]` and a rest
+-- authorities, hosts: what is from the first `]` (93) on is `]` and a rest
 marked-suffix-is-bracket-and-rest : (suffix : List ℕ) → IsEmptyOrMarked (codes "]") suffix
     → starts 93 suffix ≡ true
     → suffix ≡ 93 ∷ drop 1 suffix
 marked-suffix-is-bracket-and-rest [] b e = absurd (false≢true e)
 marked-suffix-is-bracket-and-rest (c ∷ suffix) b e = ap (λ x. x ∷ suffix) (eqb-true c 93 e)
 
--- hosts: what is from the first `]` (93) on is nothing, if it does not begin with it
+-- authorities, hosts: what is from the first `]` (93) on is nothing, if it does not begin with it
 suffix-without-bracket-is-empty : (suffix : List ℕ) → IsEmptyOrMarked (codes "]") suffix
     → starts 93 suffix ≡ false
     → suffix ≡ []
@@ -193,7 +193,7 @@ suffix-without-bracket-is-empty [] b e = refl
 suffix-without-bracket-is-empty (c ∷ suffix) b e = absurd
     (both_ways _ e (closing-bracket-is-byte-93 c b))
 
--- parsing authorities: the test of host and port is parsing them, for a host in brackets
+-- authorities, parsed: the test of host and port is parsing them, for a host in brackets
 host_test-parses-closed-literal : (names : TableSet) (rest : List ℕ)
     → starts 93 (from_any (codes "]") rest) ≡ true
     → host_test names (91 ∷ rest) ≡ parses_host_and_port names (91 ∷ rest)
@@ -217,12 +217,12 @@ host_test-parses-closed-literal names rest e =
     (bracketed-host-test-is-is_literal names address cut.lacks)
     ∙ sym (ap (λ t. t && (is_literal address && is_empty_or_port suffix)) e)
 
--- hosts: a text without `]` is not one in brackets
+-- authorities, hosts: a text without `]` is not one in brackets
 unclosed-text-is-not-bracketed : (rest : List ℕ) → (bracketed rest ++ []) ≡ 91 ∷ rest → ⊥
 unclosed-text-is-not-bracketed rest e = let n = ap length e in
     omega (arith, n, length-append rest (codes "]"), length-append (bracketed rest) [])
 
--- parsing authorities: the test of host and port is parsing them, where a `[` is not closed
+-- authorities, parsed: the test of host and port is parsing them, where a `[` is not closed
 host_test-parses-unclosed-literal : (names : TableSet) (rest : List ℕ)
     → starts 93 (from_any (codes "]") rest) ≡ false
     → host_test names (91 ∷ rest) ≡ parses_host_and_port names (91 ∷ rest)
@@ -248,7 +248,7 @@ host_test-parses-unclosed-literal names rest e =
     []) (91 ∷ rest) (λ d. unclosed-text-is-not-bracketed rest (sym text ∙ d)))
     ∙ sym (and_left _ _ e)
 
--- parsing authorities: the test of host and port is parsing them from left to right
+-- authorities, parsed: the test of host and port is parsing them from left to right
 host_test-is-parses_host_and_port : (names : TableSet) (rest : List ℕ)
     → host_test names rest ≡ parses_host_and_port names rest
 host_test-is-parses_host_and_port names [] = host_test-parses-unbracketed-host names [] refl
@@ -275,8 +275,8 @@ and-of-four-swaps-first-two true false h p = refl
 and-of-four-swaps-first-two false true h p = refl
 and-of-four-swaps-first-two false false h p = refl
 
--- parsing authorities: an authority is of the grammar exactly if userinfo, host and port are passed
--- to its end, from left to right
+-- authorities, parsed: an authority is of the grammar exactly if userinfo,
+-- host and port are passed to its end, from left to right
 pub is_authority_for-is-parsed-whole : (users names : TableSet) (text : List ℕ)
     → is_authority_for users names text ≡ parses_whole_authority users names text
 unfolding is_authority_for parses_whole_authority host_test port_of

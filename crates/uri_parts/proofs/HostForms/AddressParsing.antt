@@ -17,7 +17,7 @@ use Rattle.std.proofs.NetLemmas.Numbers.{read_number_empty}
 use Rattle.std.proofs.NetLemmas.Ipv4.{read_ipv4_sound, read_ipv4_none}
 use Rattle.uri_parts.specs.Models.Literals.{AreLeadingHexDigits}
 
--- the text of an IPv4 address is four decimal numbers with `.` between them
+-- IP addresses: the text of an IPv4 address is four decimal numbers with `.` between them
 pub dotted : (a b c d : ℕ) (rest : List ℕ)
     → dotted_text a b c d ++ rest
     ≡ decimal a ++ 46 ∷ (decimal b ++ 46 ∷ (decimal c ++ 46 ∷ (decimal d ++ rest)))

@@ -7,7 +7,7 @@ use Rattle.std.proofs.lemmas.Bool.Decides.{nat_tests}
 use Rattle.std.specs.Char.{digit_char}
 use Rattle.std.specs.Net.Text.{hex}
 
--- a hexadecimal digit, or nothing for a leading zero
+-- writing IPv6: a hexadecimal digit, or nothing for a leading zero
 abbrev unless_leading : Bool → ℕ → List ℕ
 unless_leading leading d = cond leading [] (digit_char d ∷ [])
 

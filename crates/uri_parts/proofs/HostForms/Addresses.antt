@@ -143,7 +143,7 @@ whole-value-is-read-to-end (Some (value, rest)) x e =
     let a = p.1 in
     λ i. Some (a i, q i)
 
--- the text of an IPv4 address is read as its octets
+-- IP addresses: the text of an IPv4 address is read as its octets
 pub ipv4_value-complete : (text octets : List ℕ) → IsDotted text octets
     → ipv4_value text ≡ Some octets
 unfolding ipv4_value
@@ -151,7 +151,7 @@ ipv4_value-complete text octets h =
     ap (λ t. whole_value (read_ipv4 t)) (sym (append-nil text))
     ∙ ap whole_value (read_ipv4_complete text octets [] h (lit≤ tt))
 
--- a text that is read as octets is that of an IPv4 address
+-- IP addresses: a text that is read as octets is that of an IPv4 address
 pub ipv4_value-sound : (text octets : List ℕ) → ipv4_value text ≡ Some octets → IsDotted text octets
 unfolding ipv4_value
 ipv4_value-sound text octets e =
@@ -159,7 +159,7 @@ ipv4_value-sound text octets e =
     (whole-value-is-read-to-end (read_ipv4 text) octets e) in
     subst (λ t. IsDotted t octets) (sym (split ∙ append-nil prefix)) dotted
 
--- the text of an IPv6 address is read as its segments
+-- IP addresses: the text of an IPv6 address is read as its segments
 pub ipv6_value-complete : (text segments : List ℕ) → IsColonHex text segments
     → ipv6_value text ≡ Some segments
 unfolding ipv6_value
@@ -167,7 +167,7 @@ ipv6_value-complete text segments h =
     ap (λ t. whole_value (read_ipv6 t)) (sym (append-nil text))
     ∙ ap whole_value (read_ipv6_complete text segments [] h EndsGroups-nil)
 
--- a text that is read as segments is that of an IPv6 address
+-- IP addresses: a text that is read as segments is that of an IPv6 address
 pub ipv6_value-sound : (text segments : List ℕ) → ipv6_value text ≡ Some segments
     → IsColonHex text segments
 unfolding ipv6_value

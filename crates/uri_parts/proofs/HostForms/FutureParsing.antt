@@ -36,7 +36,7 @@ use Rattle.uri_parts.proofs.Splitting.Recompose.{text-with-mark-is-mark-and-rest
 use Rattle.uri_parts.proofs.TextKinds.GrammarTexts.{utf8_around_ascii_byte}
 use Rattle.uri_parts.proofs.TextKinds.GrammarTexts.{valid_text_lacks_excluded_marks}
 
--- a text that begins with some characters of the set and a mark
+-- parsing IP literals: the text begins with some characters of the set, and then the mark
 record IsMarked (set : TableSet) (mark : ℕ) (rest : List ℕ) : Type 0 where
   joined : List ℕ
   suffix : List ℕ
@@ -122,7 +122,7 @@ module _ (set : TableSet) (lacks : LacksPercent set) (mark : ℕ) (ascii : mark 
       p.1))
       (scan-stops-at-first-mark-or-within (mark ∷ []) set lacks outside rest u)
 
--- an IPvFuture address with a `]` after it is parsed as a host
+-- parsing IP literals: an IPvFuture address with a `]` after it is parsed as one
 closed-ipvfuture-is-parsed-literal : (text tail : List ℕ) → Lacks (codes "]") text
     → is_ipv_future text ≡ true
     → (parses_literal (text ++ (93 ∷ tail)) ≡ true)

@@ -91,17 +91,17 @@ pub digit_or_dot_is_reg_name_char : (c : ℕ) → IsDigitOrDot c → is_reg_name
 digit_or_dot_is_reg_name_char c (inl range) = grind (arith, nat_tests)
 digit_or_dot_is_reg_name_char c (inr dot) = grind (arith, nat_tests)
 
--- splitting: another byte is a text without these delimiters
+-- hosts, delimiters: another byte is a text without these delimiters
 other-byte-lacks-marks : (marks : List ℕ) (c : ℕ) → is_one_of marks c ≡ false → Lacks marks (c ∷ [])
 other-byte-lacks-marks marks c e = All-cons (λ c. is_one_of marks c ≡ false) c [] e
     (All-nil (λ c. is_one_of marks c ≡ false))
 
--- splitting: if two texts lack some delimiters, one after the other lacks them
+-- hosts, delimiters: if two texts lack some delimiters, one after the other lacks them
 pub joined-texts-lack-marks : (marks xs ys : List ℕ) → Lacks marks xs → Lacks marks ys
     → Lacks marks (xs ++ ys)
 joined-texts-lack-marks marks xs ys h k = All-append (λ c. is_one_of marks c ≡ false) xs ys h k
 
--- splitting: a text of bytes that are no delimiters (by a property P) lacks them
+-- hosts, delimiters: a text of bytes that are no delimiters (by a property P) lacks them
 text-of-unmarked-bytes-lacks-marks : (marks : List ℕ) (P : ℕ → Type 0)
     → ((c : ℕ) → P c → is_one_of marks c ≡ false)
     → (text : List ℕ) → All P text → Lacks marks text
@@ -116,7 +116,7 @@ four-octets-fit-eight-bits a b c d p q r s (suc (suc zero)) = r
 four-octets-fit-eight-bits a b c d p q r s (suc (suc (suc zero))) = s
 four-octets-fit-eight-bits a b c d p q r s (suc (suc (suc (suc k)))) = omega arith
 
--- splitting: a character that a set has is none of the delimiters that it excludes
+-- hosts, delimiters: a character that a set has is none of the delimiters that it excludes
 unmarked : (set : TableSet) (marks : List ℕ) → excludes set marks ≡ true → (c : ℕ) → set.ascii c
     ≡ true
     → is_one_of marks c ≡ false
@@ -125,7 +125,7 @@ unmarked set marks outside c e = ⊎_elim
     (λ m. m)
     (cases_Bool (is_one_of marks c))
 
--- an IPv4 address is digits and dots
+-- hosts: an IPv4 address is digits and dots
 pub ipv4-text-is-digits-and-dots : (text octets : List ℕ) → IsDotted text octets
     → All IsDigitOrDot text
 ipv4-text-is-digits-and-dots text octets h =

@@ -25,7 +25,7 @@ ipv4-makes-two-segments true group p e =
     let (prefix, split, h) = read_ipv4_sound group p.0 p.1 e in
     ap (λ o. length (segments_of o)) h.value
 
--- the groups of `all` are i and then those of `left`
+-- parsing IPv6: the groups of `all` are i groups and then those of `left`
 pub record ContinuesSegments (all : Segments) (i : ℕ) (left : Segments) : Type 0 where
   pub count : length all.0 ≡ i + length left.0
   pub has_ipv4 : all.1 ≡ left.1

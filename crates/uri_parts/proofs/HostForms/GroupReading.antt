@@ -28,7 +28,7 @@ option-is-none-if-mapped-is f (Some x) e = cc
 equal-options-have-equal-rest : (a b : List ℕ) → ◌≡◌ {A = Option (List ℕ)} (Some a) (Some b) → a ≡ b
 equal-options-have-equal-rest a b e = cc
 
--- no IPv4 address begins where no `.` follows the first digits
+-- reading IPv6: no IPv4 address begins where no `.` follows the first digits
 no-dot-after-digits-is-no-ipv4 : (fits : Bool) (text : List ℕ) (count : ℕ)
     → AreLeadingHexDigits text count
     → get_or text count 0 ≢ 46 → read_ipv4_if fits text ≡ None

@@ -15,11 +15,11 @@ use Rattle.uri_parts.specs.declared.address_parser.TheConstants.{DIGIT_VALUES}
 use Rattle.uri_parts.specs.Models.Literals.{AreLeadingHexDigits}
 use Rattle.uri_parts.proofs.HostForms.AddressParsing.{digit-of-hex-text-is-below-16}
 
--- the table's entry of a byte is its value as a digit, or 16
+-- parsing IPv6: the table's entry of a byte is its value as a digit, or 16
 abbrev is_value : ℕ → Bool
 is_value b = eqb (get_or DIGIT_VALUES.now b 0) (min (digit_value b) 16)
 
--- the table's entries are right for each byte below a number
+-- parsing IPv6: the table's entries are right for each byte below a number
 abbrev are_values : ℕ → Bool
 are_values zero = true
 are_values (suc n) = is_value n && are_values n
@@ -41,7 +41,7 @@ no-digit-past-end : (text : List ℕ) (i : ℕ) → length text ≤ i → is_dig
     ≡ false
 no-digit-past-end text i past = rw (get_or_past text i 0 past) refl
 
--- so many digits come first, and perhaps more
+-- parsing IPv6: so many hexadecimal digits come first, and perhaps more
 pub record BeginsDigits (text : List ℕ) (count : ℕ) : Type 0 where
   pub digits : AllDigits 16 (take count text)
   pub within : count ≤ length text

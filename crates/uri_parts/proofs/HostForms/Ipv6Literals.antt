@@ -19,7 +19,7 @@ use Rattle.uri_parts.proofs.HostForms.Addresses.{ipv6_value-complete, ipv6_value
 use Rattle.uri_parts.proofs.HostForms.Futures.{ipv6-text-lacks-excluded-marks}
 use Rattle.uri_parts.proofs.HostForms.LiteralTexts.{text-without-version-letter-is-no-ipvfuture}
 
--- what is left after an IPv6 address
+-- parsing IPv6: what is left after an address at the start of the text
 abbrev left : List ℕ → Option (List ℕ)
 left rest = option_map (λ p. p.1) (read_ipv6 rest)
 
@@ -57,7 +57,7 @@ text-after-ipv6-at-position text suffix start within e =
     let size = length-drop start text in
     f.1 ∙ drop-drop _ start text ∙ ap (λ n. drop n text) (omega (arith, f.0))
 
--- an IPv6 address with `]` after it is parsed as one in brackets
+-- parsing IP literals: an IPv6 address with `]` after it is parsed as one
 pub ipv6-and-bracket-are-parsed-literal : (rest suffix : List ℕ) → Some suffix ≡ left rest
     → starts 93 suffix ≡ true
     → (parses_literal rest ≡ true) × (literal_length rest + length suffix ≡ length rest + 1)

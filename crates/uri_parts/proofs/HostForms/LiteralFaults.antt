@@ -12,12 +12,12 @@ use Rattle.uri_parts.specs.Errors.{IsErrorIn, IsErrorKindAt, unexpected}
 use Rattle.uri_parts.specs.LiteralErrors.{closed, literal, cannot_begin_ipv6}
 use Rattle.uri_parts.specs.Scanning.{ScanResult, is_next, scan_end, scan_to_mark}
 
--- parse errors: a text that begins with a byte (mark) has it first
+-- IP literals, their errors: a text that begins with a byte (mark) has it first
 first-byte-is-mark : (mark : ℕ) (text : List ℕ) → starts mark text ≡ true → get_or text 0 0 ≡ mark
 first-byte-is-mark mark [] e = absurd (false≢true e)
 first-byte-is-mark mark (c ∷ text) e = eqb-true c mark e
 
--- parse errors: if what is left begins with a byte (mark), this is the byte at place
+-- IP literals, their errors: if what is left begins with a byte (mark), this is the byte at place
 byte-at-position-is-mark : (mark place : ℕ) (text : List ℕ) → starts mark (drop place text) ≡ true
     → get_or text place 0 ≡ mark
 byte-at-position-is-mark mark place text e =

@@ -35,11 +35,11 @@ text-without-version-letter-is-no-ipvfuture [] e = refl
 text-without-version-letter-is-no-ipvfuture (letter ∷ rest) e = and_left _ _
     (other-byte-is-no-version-letter letter e)
 
--- parsing addresses: a digit is ASCII
+-- parsing IP literals: a digit is ASCII
 pub digit-is-ascii : (c radix : ℕ) → radix ≤ 36 → digit_value c < radix → c < 128
 digit-is-ascii c radix most h = grind (arith, nat_tests)
 
--- parsing: after an ASCII byte at index i, a character begins
+-- parsing IP literals: after an ASCII byte at index i, a character begins
 pub boundary-after-ascii-byte : (text bytes : List ℕ) (i byte : ℕ) → bytes ≡ text → IsUtf8 text
     → i < length bytes → byte < 128 → IsTrue (eqb (get_or bytes i 0) byte)
     → IsCharBoundary text (i + 1)

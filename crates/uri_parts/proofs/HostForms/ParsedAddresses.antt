@@ -9,12 +9,12 @@ use Rattle.uri_parts.proofs.HostForms.Addresses.{ipv4_value-complete, ipv4_value
 use Rattle.uri_parts.proofs.HostForms.Addresses.{ipv6_value-complete, ipv6_value-sound}
 use Rattle.uri_parts.proofs.HostForms.Hosts.{option-is-none-or-some}
 
--- what std parses as an IPv4 address has the octets that the grammar reads
+-- IP addresses: what std parses as an IPv4 address has the octets that the grammar reads
 pub parsed_ipv4_has_value_of_text : (text : List ℕ) (a : Ipv4Addr) → IsIpv4Text text a
     → Some (ipv4_octets a) ≡ ipv4_value text
 parsed_ipv4_has_value_of_text text a h = sym (ipv4_value-complete text (ipv4_octets a) h)
 
--- what std rejects as an IPv4 address is none by the grammar
+-- IP addresses: what std rejects as an IPv4 address is none by the grammar
 pub text-of-no-ipv4-has-no-value : (text : List ℕ) → ((a : Ipv4Addr) → ¬ (IsIpv4Text text a))
     → None ≡ ipv4_value text
 text-of-no-ipv4-has-no-value text h = ⊎_elim
@@ -22,12 +22,12 @@ text-of-no-ipv4-has-no-value text h = ⊎_elim
     (λ (octets, e). absurd (h (record { octets = octets }) (ipv4_value-sound text octets e)))
     (option-is-none-or-some (ipv4_value text))
 
--- what std parses as an IPv6 address has the segments that the grammar reads
+-- IP addresses: what std parses as an IPv6 address has the segments that the grammar reads
 pub parsed_ipv6_has_value_of_text : (text : List ℕ) (a : Ipv6Addr) → IsIpv6Text text a
     → Some (ipv6_segments a) ≡ ipv6_value text
 parsed_ipv6_has_value_of_text text a h = sym (ipv6_value-complete text (ipv6_segments a) h)
 
--- what std rejects as an IPv6 address is none by the grammar
+-- IP addresses: what std rejects as an IPv6 address is none by the grammar
 pub text-of-no-ipv6-has-no-value : (text : List ℕ) → ((a : Ipv6Addr) → ¬ (IsIpv6Text text a))
     → None ≡ ipv6_value text
 text-of-no-ipv6-has-no-value text h = ⊎_elim

@@ -34,7 +34,7 @@ parses_marked set mark rest = nat_lt 0 (valid_prefix set rest) && starts mark (a
 unfoldable pub length_to_mark : TableSet → List ℕ → ℕ
 length_to_mark set rest = valid_prefix set rest + 1
 
--- what is left after a version and its `.`
+-- parsing: what is left of an IPvFuture address after its version and the `.`
 abbrev pub after_version : List ℕ → List ℕ
 after_version rest = drop (length_to_mark hexdig_set rest) rest
 
@@ -73,11 +73,11 @@ finds_other kind rest =
 unfoldable pub finds_authority : Kind → List ℕ → Bool
 finds_authority kind rest = name_ends_authority kind rest || finds_other kind rest
 
--- a scan for a set with octets stopped at a `%` that begins none
+-- parsing: a scan for a set with octets stopped at a `%` that begins none
 abbrev pub is_stray : TableSet → List ℕ → Bool
 is_stray set rest = set.pct_encoded && starts percent_sign rest
 
--- what follows the longest prefix that the set allows is taken by a test
+-- parsing: what follows the longest prefix that the set allows passes a test
 abbrev pub parses_after : TableSet → (List ℕ → Bool) → List ℕ → Bool
 parses_after set test rest = not (is_stray set (after set rest)) && test (after set rest)
 

@@ -46,19 +46,19 @@ text_ends_where_position_is_length i text l = ⊎_elim
     (λ h. ap is_end (drop_all i text h) ∙ sym (eq-eqb i (length text) (omega arith)))
     (cases_lt i (length text))
 
--- parsing authorities: one ends at `/` (47), `?` (63) or `#` (35)
+-- parsing: an authority ends at `/` (47), `?` (63) or `#` (35)
 authority-ends-at-slash-question-or-hash : (b : ℕ) → is_one_of (codes "/?#") b
     ≡ ((eqb b 47 || eqb b 63) || eqb b 35)
 authority-ends-at-slash-question-or-hash b = grind (arith, nat_tests)
 
--- parsing authorities: one may end where the text does
+-- parsing: an authority may end where the text does
 pub authority_may_end_at_end : (i : ℕ) (text : List ℕ) → length text ≤ i
     → is_empty_or_begins_with_any (codes "/?#") (drop i text) ≡ true
 unfolding is_empty_or_begins_with_any
 authority_may_end_at_end i text h = ap (is_empty_or_begins_with_any (codes "/?#"))
     (drop_all i text h)
 
--- parsing authorities: one may end at `/` (47), `?` (63) or `#` (35)
+-- parsing: an authority may end at `/` (47), `?` (63) or `#` (35)
 pub authority_may_end_at_byte : (i : ℕ) (text : List ℕ) → i < length text
     → is_empty_or_begins_with_any (codes "/?#") (drop i text)
     ≡ ((eqb (get_or text i 0) 47 || eqb (get_or text i 0) 63) || eqb (get_or text i 0) 35)

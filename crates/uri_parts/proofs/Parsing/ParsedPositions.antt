@@ -63,7 +63,7 @@ scanned-prefix-ends-at-first-mark marks set lacks outside test stuck bs u e = �
     (λ s. absurd (both_ways _ (ap test s.left ∙ stuck s.byte s.rest s.other) e))
     (scan-stops-at-first-mark-or-within marks set lacks outside bs u)
 
--- the positions of what is after a scheme and an authority
+-- parsing: the positions of what is after a scheme and an authority
 abbrev tail_positions : Option ℕ → Option AuthorityPositions → ℕ → List ℕ → Positions
 tail_positions scheme_end authority start tail =
     let end = start + length (before_any (codes "?#") tail) in
@@ -77,7 +77,7 @@ tail_positions scheme_end authority start tail =
           (when (starts 63 rest) (before_any (codes "#") (drop 1 rest)));
     }
 
--- the positions of what is after a scheme
+-- parsing: the positions of what is after a scheme
 abbrev hier_part_layout : Option ℕ → ℕ → List ℕ → Positions
 hier_part_layout scheme_end place rest =
     let authority = when (has_authority rest) (before_any (codes "/?#") (drop 2 rest)) in

@@ -19,7 +19,7 @@ use Rattle.uri_pct.proofs.ValidTexts.Prefixes.{nothing_is_scanned_after_valid_pr
 use Rattle.uri_parts.specs.Components.{before_any, from_any, starts, has_authority}
 use Rattle.uri_parts.proofs.Parsing.Acceptance.{is_stray, parses_after}
 
--- splitting: a text in UTF-8 is UTF-8 from its first ASCII delimiter on
+-- parsing: a text in UTF-8 is UTF-8 from its first ASCII delimiter on
 pub utf8_from_marks : (marks bs : List ℕ) → AreAscii marks → IsUtf8 bs → IsUtf8 (from_any marks bs)
 utf8_from_marks marks bs ascii u = IsUtf8-drop bs _ u (first_mark_is_at_boundary marks ascii bs)
 
@@ -46,7 +46,7 @@ utf8_after_slashes (a ∷ b ∷ r) e u =
     let d = eqb-true b 47 p.1 in
     utf8_after_ascii_byte b r (omega arith) (utf8_after_ascii_byte a (b ∷ r) (omega arith) u)
 
--- a scan stops at the first mark, or at a byte that is none
+-- parsing: a scan stops before the first delimiter, at a byte that is none
 pub record StopsWithin (marks : List ℕ) (set : TableSet) (bs : List ℕ) : Type 0 where
   pub byte : ℕ
   pub rest : List ℕ

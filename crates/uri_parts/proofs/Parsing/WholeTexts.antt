@@ -36,7 +36,7 @@ use Rattle.uri_parts.proofs.Splitting.Relative.{parses_relative-after-scheme-cha
 use Rattle.uri_parts.proofs.Splitting.Cuts.{before_any-past-other, from_any-at-mark}
 use Rattle.uri_pct.proofs.Tests.{and_true_is_the_same}
 
--- general fact on booleans, for the tests of a whole text
+-- general fact on booleans, for parsing a whole text
 and-of-six-regrouped : (a b p q f c : Bool)
     → (((((a && b) && p) && q) && f) && c) ≡ (a && (c && (b && (p && (q && f)))))
 and-of-six-regrouped false b p q f c = refl
@@ -51,7 +51,7 @@ and-of-six-regrouped true true true true false false = refl
 and-of-six-regrouped true true true true true true = refl
 and-of-six-regrouped true true true true true false = refl
 
--- general fact on booleans, for the tests of a whole text
+-- general fact on booleans, for parsing a whole text
 and_assoc : (a b c : Bool) → (a && (b && c)) ≡ ((a && b) && c)
 and_assoc true b c = refl
 and_assoc false b c = refl

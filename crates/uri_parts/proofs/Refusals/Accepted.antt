@@ -44,7 +44,7 @@ use Rattle.uri_parts.proofs.Refusals.Rooted.{scan-stops-at-stray-percent-or-goes
 use Rattle.uri_parts.proofs.Splitting.Relative.{scheme_set_lacks_percent}
 use Rattle.uri_parts.proofs.TextKinds.Separations.{SeparatesComponents}
 
--- general fact on results: one is a value exactly if it has no error; for what the parser returns
+-- general fact on results, for parse errors: one is a value exactly if it has no error
 pub result-is-ok-iff-no-error : {A E : Type 0} (r : Result A E) → is_ok r ≡ is_none (result_err r)
 result-is-ok-iff-no-error (Ok x) = refl
 result-is-ok-iff-no-error (Err e) = refl

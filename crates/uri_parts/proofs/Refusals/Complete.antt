@@ -27,7 +27,7 @@ use Rattle.uri_parts.proofs.Refusals.Ipv4Ends.{suffix-after-prefix-at-position}
 use Rattle.uri_parts.proofs.Refusals.Ipv4Ends.{suffix-after-mark-at-position}
 use Rattle.uri_parts.proofs.Refusals.Ipv4Ends.{digits_end-is-after-digits, ipv4_end-finds-ipv4-text}
 
--- what is before a group
+-- parse errors: what is before a group of an IPv6 address
 abbrev lead : Bool → List ℕ
 lead true = []
 lead false = 58 ∷ []
@@ -45,7 +45,7 @@ decimal-digits-are-hex-digits [] h = tt
 decimal-digits-are-hex-digits (d ∷ ds) h =
     (omega (arith, h.0), decimal-digits-are-hex-digits ds h.1)
 
--- no group goes on there
+-- parse errors: no group of an IPv6 address goes on there
 record Stops (tail : List ℕ) : Type 0 where
   none : NoDigit 16 tail
   dot : starts 46 tail ≡ false
@@ -92,7 +92,7 @@ second-holds-if-first-of-or-fails false b n e = e
 false-is-not-true : IsTrue false → ⊥
 false-is-not-true h = false≢true h
 
--- general fact on numbers, for the eight groups of an IPv6 address
+-- general fact on numbers, for parse errors: the eight groups of an IPv6 address
 eight-is-seven-plus-one : 8 ≡ 7 + 1
 eight-is-seven-plus-one = refl
 

@@ -95,7 +95,7 @@ digits-have-no-leading-plus (c ∷ bs) h = ap (λ n. drop n (c ∷ bs))
     (cond-false (c == 43) 1 0 (ne_eqb c 43 (λ e.
     let l : digit_value 43 < 10 = rw e at h.0 in omega arith)))
 
--- general fact on numbers, for counts of digits
+-- general fact on numbers, for parse errors: counts of digits
 at-most-or-greater : (m n : ℕ) → (m ≤ n) ⊎ (n < m)
 at-most-or-greater m n = ⊎_elim (λ l. inr l) (λ l. inl l) (cases_lt n m)
 
@@ -118,7 +118,7 @@ octet-is-parsed-iff-at-most-255 bs (Err e) h p =
     (λ none. sym (and_left _ _ (le-ltb 0 _ none)))
     (cases_lt 0 (length bs))
 
--- general fact on numbers, for digits: there are some exactly if they end after they begin
+-- general fact on numbers, for parse errors: there are digits exactly if they end after they begin
 digits-are-some-iff-end-is-later : (i end : ℕ) → nat_lt 0 (end - i) ≡ nat_lt i end
 digits-are-some-iff-end-is-later i end = grind (arith, nat_tests)
 

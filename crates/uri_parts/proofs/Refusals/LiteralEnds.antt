@@ -30,7 +30,7 @@ use Rattle.uri_parts.proofs.Refusals.Literals.{literal-rejects-unparsed}
 use Rattle.uri_parts.proofs.Refusals.Literals.{literal-ends-after-read-ipv6}
 use Rattle.uri_parts.proofs.Refusals.Literals.{text-with-bracket-is-nonempty}
 
--- it ends there, or has some error
+-- parse errors: an IP literal ends there, or the result is some error
 abbrev pub Ends : Bool → ℕ → ScanResult → Type 0
 Ends parses end r = (e : ParseError) × (r ≡ cond parses (Ok end) (Err e))
 
@@ -54,7 +54,7 @@ same-test-and-end-give-same-result p q m n e s h = ⊎_elim
     (λ t. cond-false _ _ _ t ∙ sym (cond-false _ _ _ (s ∙ t)))
     (cases_Bool p)
 
--- general fact on numbers, for positions: one is later exactly if something was passed
+-- general fact on numbers, for parse errors: a position is later exactly if something was passed
 later-position-iff-some-passed : (i n : ℕ) → nat_lt i (i + n) ≡ nat_lt 0 n
 later-position-iff-some-passed i n = ⊎_elim
     (λ l. lt-ltb i (i + n) (omega arith) ∙ sym (lt-ltb 0 n l))

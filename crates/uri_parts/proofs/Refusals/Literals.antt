@@ -29,7 +29,7 @@ use Rattle.uri_parts.proofs.Refusals.Complete.{ipv6_end-finds-ipv6-before-bracke
 use Rattle.uri_parts.proofs.Refusals.Complete.{cannot_begin_ipv6-has-no-end}
 use Rattle.uri_parts.proofs.Refusals.Sound.{ipv6_end-before-bracket-ends-ipv6}
 
--- a letter that begins an IPvFuture address is neither `:` nor a digit
+-- parse errors: a letter that begins an IPvFuture address is neither `:` nor a digit
 version-letter-is-no-colon-or-digit : (b : ℕ) → (eqb b 118 || eqb b 86) ≡ true
     → (is_one_of (codes "vV") b ≡ true) × (eqb b 58 ≡ false) × (is_digit b 16 ≡ false)
 version-letter-is-no-colon-or-digit b e =

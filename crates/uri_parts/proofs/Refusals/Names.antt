@@ -58,11 +58,13 @@ valid_prefix-at-digit-is-one-more b bs e = cond-true _ _ _ e
     ∙ ap (λ n. valid_prefix_from digit_set n bs + 1)
     (ascii_byte_has_no_continuation b (digit-is-ascii-and-no-colon b bs e).0)
 
+-- parse errors: another byte at the start begins no digits
 valid_prefix-at-other-byte-is-zero : (b : ℕ) (bs : List ℕ) → allows_first digit_set b bs ≡ false
     → valid_prefix digit_set (b ∷ bs) ≡ 0
 unfolding valid_prefix_from
 valid_prefix-at-other-byte-is-zero b bs e = cond-false _ _ _ e
 
+-- parse errors: no `:` is among the leading digits, as of a port
 leading-digits-hold-no-colon : (bs : List ℕ) (k : ℕ) → k < valid_prefix digit_set bs
     → starts 58 (drop k bs)
     ≡ false
@@ -78,13 +80,14 @@ leading-digits-hold-no-colon (b ∷ bs) (suc k) l = ⊎_elim
     (λ e. absurd (let z = valid_prefix-at-other-byte-is-zero b bs e in omega arith))
     (cases_Bool (allows_first digit_set b bs))
 
--- what ends an authority is no mark within it
+-- parse errors: what ends an authority is no delimiter within one
 record Ended (bs : List ℕ) : Type 0 where
   percent : starts 37 bs ≡ false
   at : starts 64 bs ≡ false
   bracket : starts 91 bs ≡ false
   all : is_empty_or_begins_with_any (codes "@/?#") bs ≡ true
 
+-- parse errors: where an authority may end, there is no delimiter within one
 end-of-authority-is-no-inner-mark : (bs : List ℕ) → is_empty_or_begins_with_any (codes "/?#") bs
     ≡ true → Ended bs
 unfolding is_empty_or_begins_with_any
@@ -97,6 +100,7 @@ end-of-authority-is-no-inner-mark (b ∷ bs) e = record {
   all = grind (arith, nat_tests);
 }
 
+-- parse errors: a text that begins with one of some delimiters passes the test for them
 text-with-mark-begins-with-any : (mark : ℕ) (marks bs : List ℕ) → is_one_of marks mark ≡ true
     → starts mark bs ≡ true
     → is_empty_or_begins_with_any marks bs ≡ true

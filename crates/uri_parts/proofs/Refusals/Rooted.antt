@@ -26,8 +26,8 @@ use Rattle.uri_parts.specs.Models.ParseErrors.{host_error}
 use Rattle.uri_parts.proofs.Authorities.NamesAndPorts.{valid_prefix-of-empty-text}
 use Rattle.uri_parts.proofs.TextKinds.Separations.{SeparatesComponents}
 
--- the sets of an authority and of a path have percent-encoded octets, and only `:` distinguishes
--- userinfo from a name
+-- parse errors: the sets of an authority and of a path have percent-encoded octets,
+-- and only `:` distinguishes userinfo from a name
 pub record Adjoins (kind : Kind) : Type 0 where
   pub userinfo_octets : kind.userinfo.pct_encoded ≡ true
   pub reg_name_octets : kind.reg_name.pct_encoded ≡ true
@@ -83,7 +83,7 @@ stray-percent-stops-every-set small great (b ∷ bs) s g e p =
     ∙ stray-percent-stops-greater-set small great bs s g
     (ap (λ c. valid_prefix small (c ∷ bs)) (sym d) ∙ e)
 
--- parsing: where a delimiter or the end is, a set that excludes the delimiters allows nothing
+-- parse errors: where a delimiter or the end is, a set that excludes the delimiters allows nothing
 pub valid_prefix-zero-at-mark : (marks : List ℕ) (set : TableSet) → LacksPercent set
     → excludes set marks ≡ true
     → (bs : List ℕ) → is_empty_or_begins_with_any marks bs ≡ true → valid_prefix set bs ≡ 0
@@ -109,7 +109,7 @@ unfolding is_empty_or_begins_with_any
 percent-is-no-colon-or-mark [] e = absurd (false≢true e)
 percent-is-no-colon-or-mark (b ∷ bs) e = (grind (arith, nat_tests), grind (arith, nat_tests))
 
--- the text begins with another byte than `/`, `?` and `#`
+-- parse errors: the text begins with another byte than `/`, `?` and `#`
 record IsOther (bs : List ℕ) : Type 0 where
   slash : starts 47 bs ≡ false
   question : starts 63 bs ≡ false

@@ -30,6 +30,7 @@ path_is_at_positions text p utf8 at =
     subst Lies (sym at) (path-of-split-is-at-positions text (components text)
     (components-are-split-of-text text) utf8)
 
+-- positions: the authority of a text is between its start and its end
 pub authority_is_at_positions : (text : List ℕ) (p : Positions) → IsUtf8 text
     → ArePositionsOf text p
     → (a : AuthorityPositions) → p.authority ≡ Some a
@@ -42,6 +43,7 @@ authority_is_at_positions text p utf8 at a here =
     (authority-of-split-is-at-positions text c.scheme c.authority c.path c.query c.fragment
     split utf8)
 
+-- positions: the query of a text is from after the path and its `?` to query_end
 pub query_is_at_positions : (text : List ℕ) (p : Positions) → IsUtf8 text → ArePositionsOf text p
     → (end : ℕ)
     → p.query_end ≡ Some end → IsComponentAt text (p.path_end + 1) end (components text).query
@@ -64,6 +66,7 @@ has_fragment text p at mark here =
     subst Has n (longer_than_before_fragment_if_some text (before_hash c) c.fragment
     (split-text-is-before-fragment-and-fragment text c (components-are-split-of-text text)))
 
+-- positions: the fragment of a text is from after its `#`, at mark, to the end of the text
 pub fragment_is_at_positions : (text : List ℕ) (p : Positions) → IsUtf8 text → ArePositionsOf text p
     → (mark : ℕ)
     → mark ≡ before_fragment p → mark < length text
@@ -88,6 +91,7 @@ fragment_is_rest_of_text text p utf8 at mark here less =
     (omega (arith, length-drop {A = ℕ})) in
     ap Some (sym all) ∙ (fragment_is_at_positions text p utf8 at mark here less).holds
 
+-- positions: a text that ends before a fragment's `#` has no fragment
 pub no_fragment_at_end : (text : List ℕ) (p : Positions) → ArePositionsOf text p → (mark : ℕ)
     → mark ≡ before_fragment p → length text ≤ mark → (components text).fragment ≡ None
 no_fragment_at_end text p at mark here more =

@@ -3,7 +3,7 @@ use Rattle.std.proofs.Common.{◌≡◌, [], refl}
 use Rattle.std.specs.Prelude.{codes, Some, None}
 use Rattle.uri_parts.specs.Components.{components, recompose}
 
--- example of components, by computation: that of RFC 3986, section 3
+-- examples of splitting: the components of the example of RFC 3986, section 3
 components-of-rfc-3986-example : components (codes "foo://example.com/over/there?name=ferret#nose")
     ≡ record {
       scheme = Some (codes "foo");
@@ -14,6 +14,7 @@ components-of-rfc-3986-example : components (codes "foo://example.com/over/there
     }
 components-of-rfc-3986-example = refl
 
+-- examples of splitting: the components of the URN of RFC 3986, section 3
 components-of-rfc-3986-urn : components (codes "urn:example:animal:ferret:nose") ≡ record {
   scheme = Some (codes "urn");
   authority = None;
@@ -23,15 +24,18 @@ components-of-rfc-3986-urn : components (codes "urn:example:animal:ferret:nose")
 }
 components-of-rfc-3986-urn = refl
 
+-- examples of splitting: the components of the example of RFC 3986, section 3, are the text again
 rfc-3986-example-recomposes : recompose
     (components (codes "foo://example.com/over/there?name=ferret#nose"))
     ≡ codes "foo://example.com/over/there?name=ferret#nose"
 rfc-3986-example-recomposes = refl
 
+-- examples of splitting: the empty text is an empty path alone
 empty-text-has-empty-path-alone : components []
     ≡ record { scheme = None; authority = None; path = []; query = None; fragment = None }
 empty-text-has-empty-path-alone = refl
 
+-- examples of splitting: `//h` is an authority and an empty path
 components-of-authority-alone : components (codes "//h")
     ≡ record {
       scheme = None;
@@ -43,6 +47,7 @@ components-of-authority-alone : components (codes "//h")
     }
 components-of-authority-alone = refl
 
+-- examples of splitting: `file:///a` has an empty authority
 components-of-empty-authority : components (codes "file:///a")
     ≡ record {
       scheme = Some (codes "file");
@@ -54,6 +59,7 @@ components-of-empty-authority : components (codes "file:///a")
     }
 components-of-empty-authority = refl
 
+-- examples of splitting: `?q#f` is an empty path, a query and a fragment
 components-of-query-and-fragment : components (codes "?q#f")
     ≡ record {
       scheme = None;
@@ -65,10 +71,12 @@ components-of-query-and-fragment : components (codes "?q#f")
     }
 components-of-query-and-fragment = refl
 
+-- examples of splitting: `?#` is an empty path, an empty query and an empty fragment
 components-of-empty-query-and-fragment : components (codes "?#")
     ≡ record { scheme = None; authority = None; path = []; query = Some []; fragment = Some [] }
 components-of-empty-query-and-fragment = refl
 
+-- examples of splitting: a fragment may have `#`, `?` and `:` in it
 fragment-may-hold-marks : components (codes "#a#b?c:d")
     ≡ record {
       scheme = None;
@@ -80,6 +88,7 @@ fragment-may-hold-marks : components (codes "#a#b?c:d")
     }
 fragment-may-hold-marks = refl
 
+-- examples of splitting: the first `:` ends the scheme, and a second one is in the path
 first_colon_ends_the_scheme : components (codes "a:b:c")
     ≡ record {
       scheme = Some (codes "a");
@@ -91,10 +100,12 @@ first_colon_ends_the_scheme : components (codes "a:b:c")
     }
 first_colon_ends_the_scheme = refl
 
+-- examples of splitting: a text that begins with `:` has no scheme
 colon-at-start-begins-no-scheme : components (codes ":x")
     ≡ record { scheme = None; authority = None; path = codes ":x"; query = None; fragment = None }
 colon-at-start-begins-no-scheme = refl
 
+-- examples of splitting: a `//` within a path begins no authority
 double-slash-inside-path-begins-no-authority : components (codes "/a//b")
     ≡ record {
       scheme = None;

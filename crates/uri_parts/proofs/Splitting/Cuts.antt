@@ -6,7 +6,7 @@ use Rattle.std.proofs.lemmas.Bool.{cases_Bool, cond-true, cond-false, not_from_t
 use Rattle.uri_pct.specs.Sets.{is_one_of}
 use Rattle.uri_parts.specs.Components.{Lacks, before_any, from_any}
 
--- a text that is empty or begins with one of the marks
+-- splitting: the text is empty or begins with one of the delimiters, which come first
 abbrev pub IsEmptyOrMarked : List ℕ → List ℕ → Type 0
 IsEmptyOrMarked marks [] = Unit {0}
 IsEmptyOrMarked marks (c ∷ rest) = is_one_of marks c ≡ true
@@ -18,7 +18,7 @@ pub empty-or-marked-for-more-marks : (some all text : List ℕ)
 empty-or-marked-for-more-marks some all [] more begins = tt
 empty-or-marked-for-more-marks some all (c ∷ text) more begins = more c begins
 
--- the length of what is before the first of the marks
+-- splitting: the length of what is before the first of the delimiters
 abbrev length_before : List ℕ → List ℕ → ℕ
 length_before marks text = prefix_len (λ c. not (is_one_of marks c)) text
 
@@ -86,7 +86,7 @@ cut-at-end-of-text-without-marks marks (x ∷ xs) ys lacks begins =
       from_any-past-other marks x (xs ++ ys) parts.0 ∙ rest.1,
     )
 
--- the two parts of any text that is cut so
+-- splitting: what is before the first delimiter of a text, and what is from it on
 pub record IsCut (marks text before from : List ℕ) : Type 0 where
   pub whole : before ++ from ≡ text
   pub lacks : Lacks marks before

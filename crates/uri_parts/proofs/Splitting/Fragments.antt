@@ -69,7 +69,7 @@ fragment-keeps-scheme text tail begins =
     ∙ ap (λ t. starts 58 (from_any marks text) && not t)
     (fragment-keeps-first-colon text tail begins)
 
--- general fact on options, for components that are absent
+-- general fact on options, for replacing a fragment: components that are absent
 IfNone-follows-implication : (o : Option (List ℕ)) (P Q : Type 0) → (P → Q) → IfNone o P
     → IfNone o Q
 IfNone-follows-implication None P Q f h = f h
@@ -101,7 +101,7 @@ other-fragment-keeps-split text p fragment split =
       no_authority = split.no_authority;
     }
 
--- no component before the fragment holds a `#`
+-- replacing a fragment: the byte is not `#`, as no byte of a component before the fragment is
 abbrev is_other : ℕ → Type 0
 is_other c = is_one_of (codes "#") c ≡ false
 
@@ -262,7 +262,7 @@ stays_of_kind_with_fragment set text made fragment valid w = record {
       (ap (λ s. is_valid_for s fragment) (sym e) ∙ valid) w;
 }
 
--- replacing a fragment leaves the positions of the other components
+-- replacing a fragment: the positions of the other components stay
 pub positions_stay_with_fragment : (text made : List ℕ) (fragment : Option (List ℕ)) (p : Positions)
     → ArePositionsOf text p
     → IsWithFragment text fragment made → ArePositionsOf made p

@@ -14,11 +14,11 @@ use Rattle.uri_parts.proofs.Splitting.Cuts.{IsEmptyOrMarked, empty-or-marked-for
 use Rattle.uri_parts.proofs.Splitting.Cuts.{cut-at-end-of-text-without-marks}
 use Rattle.uri_pct.proofs.Tests.{eq_true_from_IsTrue}
 
--- the text of a fragment, and of a query and a fragment
+-- recomposing: the text of a fragment with its `#`, or nothing
 abbrev pub fragment_text : Option (List ℕ) → List ℕ
 fragment_text fragment = marked (codes "#") fragment []
 
--- the text of a query and a fragment with their marks
+-- recomposing: the text of a query and a fragment with their delimiters, or nothing
 abbrev pub query_text : Option (List ℕ) → Option (List ℕ) → List ℕ
 query_text query fragment = marked (codes "?") query [] ++ fragment_text fragment
 

@@ -20,7 +20,7 @@ use Rattle.uri_parts.proofs.Splitting.Marks.{query_text, fragment_text, IsEmptyO
 use Rattle.uri_parts.proofs.Splitting.Marks.{IsEmptyOrMarked-fragment_text}
 use Rattle.uri_parts.proofs.Splitting.Marks.{rooted-path-ends-authority}
 
--- a text may be cut at both positions, and between them is this component
+-- positions: a text may be cut at both positions, and between them is this component
 pub record IsComponentAt (text : List ℕ) (start end : ℕ) (part : Option (List ℕ)) : Type 0 where
   pub ordered : start ≤ end
   pub starts : IsCharBoundary text start
@@ -85,7 +85,8 @@ component-before-mark-is-slice text before part suffix start end whole at_start 
           (ap Some (slice-between-prefix-and-suffix before part suffix));
     }
 
--- a component between a mark before it and a mark, or nothing, after it
+-- positions: a component with a delimiter before it,
+-- and one or nothing after it, is between its positions
 component-between-marks-is-slice : (text before part suffix : List ℕ) (c start end : ℕ)
     → text ≡ before ++ (c ∷ (part ++ suffix)) → start ≡ length before + 1
     → end ≡ start + length part
@@ -102,24 +103,27 @@ component-between-marks-is-slice text before part suffix c start end whole at_st
     component-before-mark-is-slice text (before ++ (c ∷ [])) part suffix start end joined n at_end
     starts begins
 
--- the text of a scheme with its `:`, or nothing
+-- positions: the text of a scheme with its `:`, or nothing
 abbrev scheme_text : Option (List ℕ) → List ℕ
 scheme_text scheme = marked [] scheme (codes ":")
 
--- the text of an authority with its `//`, or nothing
+-- positions: the text of an authority with its `//`, or nothing
 abbrev marked_authority : Option (List ℕ) → List ℕ
 marked_authority authority = marked (codes "//") authority []
 
+-- positions: the length of a scheme with its `:`, or 0
 length-scheme_text : (scheme : Option (List ℕ))
     → length (scheme_text scheme) ≡ delimited_length 1 scheme
 length-scheme_text None = refl
 length-scheme_text (Some s) = omega (arith, length-append s (codes ":"))
 
+-- positions: the length of an authority with its `//`, or 0
 length-marked_authority : (authority : Option (List ℕ))
     → length (marked_authority authority) ≡ delimited_length 2 authority
 length-marked_authority None = refl
 length-marked_authority (Some a) = omega (arith, length-append a [])
 
+-- positions: the length of a query with its `?`, or 0
 length-query_text : (query : Option (List ℕ))
     → length (marked (codes "?") query []) ≡ delimited_length 1 query
 length-query_text None = refl
@@ -132,12 +136,14 @@ query-end-or-path-end : (path_end : ℕ) (query : Option (List ℕ))
 query-end-or-path-end path_end None = omega arith
 query-end-or-path-end path_end (Some q) = omega arith
 
+-- splitting: what ends an authority ends a scheme too
 authority-mark-is-component-mark : (text : List ℕ) → IsEmptyOrMarked (codes "/?#") text
     → IsEmptyOrMarked (codes ":/?#") text
 authority-mark-is-component-mark text begins = empty-or-marked-for-more-marks (codes "/?#")
     (codes ":/?#") text
     (λ c e. grind (arith, nat_tests)) begins
 
+-- splitting: what begins with `?` or `#` ends a scheme too
 query-mark-is-component-mark : (text : List ℕ) → IsEmptyOrMarked (codes "?#") text
     → IsEmptyOrMarked (codes ":/?#") text
 query-mark-is-component-mark text begins = empty-or-marked-for-more-marks (codes "?#")
@@ -192,6 +198,7 @@ path-begins-at-boundary text (Some s) None path suffix whole utf8 rooted begins 
     subst (IsCharBoundary text) n
     (rw joined (boundary_after_mark s (path ++ suffix) 58 (omega arith) valid))
 
+-- positions: a path after a scheme and an authority is between its positions
 path-after-authority-is-slice : (text : List ℕ) (scheme authority : Option (List ℕ))
     (path suffix : List ℕ)
     → text ≡ scheme_text scheme ++ (marked_authority authority ++ (path ++ suffix)) → IsUtf8 text
@@ -214,10 +221,11 @@ path-after-authority-is-slice text scheme authority path suffix whole utf8 roote
     (path-begins-at-boundary text scheme authority path suffix whole utf8 rooted begins)
     (query-mark-is-component-mark suffix begins)
 
--- the text up to the end of the path
+-- positions: the text of a scheme, an authority and a path
 abbrev pub hierarchy_text : Option (List ℕ) → Option (List ℕ) → List ℕ → List ℕ
 hierarchy_text scheme authority path = (scheme_text scheme ++ marked_authority authority) ++ path
 
+-- positions: the length of a scheme, an authority and a path, with their delimiters
 length-hierarchy_text : (scheme authority : Option (List ℕ)) (path : List ℕ)
     → length (hierarchy_text scheme authority path)
     ≡ delimited_length 1 scheme + delimited_length 2 authority + length path
@@ -230,6 +238,7 @@ length-hierarchy_text scheme authority path =
       length-marked_authority authority,
     )
 
+-- positions: a text is its scheme, authority and path, and then what follows them
 hierarchy-append : (scheme authority : Option (List ℕ)) (path suffix : List ℕ)
     → scheme_text scheme ++ (marked_authority authority ++ (path ++ suffix))
     ≡ hierarchy_text scheme authority path ++ suffix
@@ -295,7 +304,7 @@ authority-of-split-is-at-positions text scheme (Some a) path query fragment spli
     (sym split.whole) utf8
     split.authority.1 (IsEmptyOrMarked-query_text query fragment)
 
--- with an authority, the path is empty or begins with `/` (RFC 3986, section 3.3)
+-- splitting: with an authority, the path is empty or begins with `/` (RFC 3986, section 3.3)
 pub authority_has_abempty_path : (authority : Option (List ℕ)) (path : List ℕ)
     → IfSome authority (λ a. Lacks (codes "/?#") a × IsAbemptyPath path)
     → IfSome authority (λ a. IsAbemptyPath path)
@@ -345,7 +354,7 @@ query-of-split-is-at-positions text scheme authority path (Some q) fragment spli
     subst Lies n (query-after-path-is-slice text hierarchy q (fragment_text fragment) whole utf8
     (IsEmptyOrMarked-fragment_text fragment))
 
--- the text up to a fragment
+-- positions: the text up to a fragment's `#`
 abbrev pub before_hash : Components → List ℕ
 before_hash p = hierarchy_text p.scheme p.authority p.path ++ marked (codes "?") p.query []
 

@@ -18,7 +18,7 @@ negation-true-means-false : (b : Bool) → not b ≡ true → b ≡ false
 negation-true-means-false true h = cc
 negation-true-means-false false h = refl
 
--- general fact on booleans, for tests of a text
+-- general fact on booleans, for splitting a text
 pub equal-to-true-is-IsTrue : (b : Bool) → b ≡ true → IsTrue b
 equal-to-true-is-IsTrue b h = search rules
 
@@ -104,6 +104,7 @@ text-after-query-begins-with-hash end begins = ⊎_elim
     (λ h. rw h (end-without-query-begins-with-hash end begins h))
     (cases_Bool (starts 63 end))
 
+-- splitting: the components of any text are together the text (RFC 3986, section 5.3)
 pub recompose-components : (text : List ℕ) → recompose (components text) ≡ text
 recompose-components text =
     let rest = after_scheme text in
@@ -202,6 +203,7 @@ found-query-lacks-hash end = ⊎_elim
     (λ h. rw h (text-is-cut-at-first-mark (codes "#") (drop 1 end)).lacks) (λ h. rw h tt)
     (cases_Bool (starts 63 end))
 
+-- splitting: the components of any text are a split of it (RFC 3986, appendix B)
 pub components-are-split-of-text : (text : List ℕ) → IsSplitOf text (components text)
 components-are-split-of-text text =
     let rest = after_scheme text in

@@ -29,7 +29,8 @@ use Rattle.uri_parts.proofs.Splitting.Cuts.{before_any-past-other, from_any-past
 use Rattle.uri_parts.proofs.Splitting.Cuts.{before_any-at-mark}
 use Rattle.uri_parts.proofs.Splitting.Cuts.{from_any-at-mark}
 
--- parsing: a scan by a set that excludes some delimiters, and stops at one, stops at the first
+-- splitting, relative references: a scan by a set
+-- that excludes some delimiters, and stops at one, stops at the first
 pub scan_stops_at_first_mark : (marks : List ℕ) (mark : ℕ) → is_one_of marks mark ≡ true
     → (set : TableSet)
     → LacksPercent set → excludes set marks ≡ true → (bs : List ℕ) → IsUtf8 bs
@@ -39,15 +40,15 @@ scan_stops_at_first_mark marks mark m set lacks outside bs u e = ⊎_elim (λ h.
     (ap (is_one_of marks) (eqb-true w.byte mark (sym (ap (starts mark) w.left) ∙ e)) ∙ m)))
     (scan-stops-at-first-mark-or-within marks set lacks outside bs u)
 
--- parsing a path without a scheme: a scan by a set without `:` that stops at a `:` (58) stopped
--- before the first delimiter
+-- splitting, relative references: a scan by a set without `:`
+-- that stops at a `:` (58) stopped before the first delimiter
 pub scan_stops_at_first_colon : (set : TableSet) → LacksPercent set → excludes set (codes ":/?#")
     ≡ true
     → (bs : List ℕ) → IsUtf8 bs → starts 58 (after set bs) ≡ true
     → valid_prefix set bs ≡ length_before_marks (codes ":/?#") bs
 scan_stops_at_first_colon = scan_stops_at_first_mark (codes ":/?#") 58 refl
 
--- parsing: a scan by a set without `:` passes nothing of a text that begins with it (58)
+-- splitting, relative references: at a `:` (58), a scan by a set without `:` passes nothing
 nothing-is-scanned-at-colon : (set : TableSet) → LacksPercent set → excludes set (codes ":/?#")
     ≡ true
     → (bs : List ℕ) → starts 58 bs ≡ true → after set bs ≡ bs
@@ -57,31 +58,33 @@ nothing-is-scanned-at-colon set lacks outside (b ∷ rest) e =
     (valid_prefix_at_mark_is_empty (codes ":/?#") set lacks outside b rest
     (ap (is_one_of (codes ":/?#")) (eqb-true b 58 e)))
 
--- splitting: `?` and `#` end a scheme
+-- splitting, relative references: `?` and `#` end a scheme
 pub question_or_hash_ends_scheme : (b : ℕ) → is_one_of (codes "?#") b ≡ true
     → is_one_of (codes ":/?#") b ≡ true
 question_or_hash_ends_scheme b q = grind (arith, nat_tests)
 
--- splitting: `?` and `#` are not `:` (58)
+-- splitting, relative references: `?` and `#` are not `:` (58)
 pub question_or_hash_is_no_colon : (b : ℕ) → is_one_of (codes "?#") b ≡ true → eqb b 58 ≡ false
 question_or_hash_is_no_colon b q = grind (arith, nat_tests)
 
--- splitting: `/` ends a scheme
+-- splitting, relative references: `/` ends a scheme
 slash-is-one-of-four-marks : (b : ℕ) → is_one_of (codes "/") b ≡ true → is_one_of (codes ":/?#") b
     ≡ true
 slash-is-one-of-four-marks b q = grind (arith, nat_tests)
 
--- splitting: `/` is not `:` (58), so a first segment that ends at one has no `:` before it
+-- splitting, relative references: `/` is not `:` (58),
+-- so a first segment that ends at one has no `:` before it
 slash-is-no-colon : (b : ℕ) → is_one_of (codes "/") b ≡ true → eqb b 58 ≡ false
 slash-is-no-colon b q = grind (arith, nat_tests)
 
--- splitting: a byte that is neither `?`, `#`, `/` nor `:` (58) ends no scheme
+-- splitting, relative references: a byte that is neither `?`, `#`, `/` nor `:` (58) ends no scheme
 other-byte-is-none-of-four-marks : (b : ℕ) → is_one_of (codes "?#") b ≡ false
     → is_one_of (codes "/") b ≡ false
     → eqb b 58 ≡ false → is_one_of (codes ":/?#") b ≡ false
 other-byte-is-none-of-four-marks b q s c = grind (arith, nat_tests)
 
--- parsing: the first segment has a `:` exactly if that is the first of the four delimiters
+-- splitting, relative references: the first segment has a `:`
+-- exactly if that is the first of the four delimiters
 colon-in-first-segment-iff-colon-is-first-mark : (bs : List ℕ)
     → has_colon_in_first_segment (before_any (codes "?#") bs)
     ≡ starts 58 (from_any (codes ":/?#") bs)
@@ -110,14 +113,16 @@ colon-in-first-segment-iff-colon-is-first-mark (b ∷ rest) =
     (cases_Bool (is_one_of (codes "/") b)))
     (cases_Bool (is_one_of (codes "?#") b))
 
--- splitting: a text that begins with `:` (58) is all from the first delimiter on
+-- splitting, relative references: a text that begins
+-- with `:` (58) is all from the first delimiter on
 text-with-colon-begins-at-first-mark : (bs : List ℕ) → starts 58 bs ≡ true
     → from_any (codes ":/?#") bs ≡ bs
 text-with-colon-begins-at-first-mark [] e = refl
 text-with-colon-begins-at-first-mark (b ∷ rest) e = from_any-at-mark (codes ":/?#") b rest
     (ap (is_one_of (codes ":/?#")) (eqb-true b 58 e))
 
--- parsing: without a scheme, a first segment has `:` exactly where the text begins with it (58)
+-- splitting, relative references: without a scheme,
+-- a first segment has `:` exactly where the text begins with it (58)
 pub colon_in_first_segment-is-at-start : (bs : List ℕ) → has_scheme bs ≡ false
     → has_colon_in_first_segment (before_any (codes "?#") bs) ≡ starts 58 bs
 colon_in_first_segment-is-at-start bs e = colon-in-first-segment-iff-colon-is-first-mark bs ∙ ⊎_elim
@@ -129,9 +134,11 @@ colon_in_first_segment-is-at-start bs e = colon-in-first-segment-iff-colon-is-fi
     (λ t. both_ways _ s (ap (starts 58) (text-with-colon-begins-at-first-mark bs t) ∙ t))))
     (cases_Bool (starts 58 (from_any (codes ":/?#") bs)))
 
+-- splitting, relative references: `%` is no character of a scheme
 pub scheme_set_lacks_percent : LacksPercent scheme_set
 scheme_set_lacks_percent = refl
 
+-- splitting, relative references: no character of a scheme is `:`, `/`, `?` or `#`
 pub scheme_set_excludes_delimiters : excludes scheme_set (codes ":/?#") ≡ true
 scheme_set_excludes_delimiters = refl
 

@@ -10,14 +10,14 @@ use Rattle.uri_parts.specs.Grammar.{Kind, absent_or_passes, is_scheme, is_author
 use Rattle.uri_parts.specs.Grammar.{components_meet_rules}
 use Rattle.uri_parts.specs.Grammar.{IsOfKind}
 
--- general fact on options, for components: one that is there passes the test
+-- general fact on options, for the rules of a kind: a component that is there passes the test
 present-part-passes-test : (part : Option (List ℕ)) (test : List ℕ → Bool) (x : List ℕ)
     → absent_or_passes part test
     ≡ true
     → part ≡ Some x → test x ≡ true
 present-part-passes-test part test x h e = sym (ap (λ o. absent_or_passes o test) e) ∙ h
 
--- the tests of the grammar, one by one
+-- texts of a kind: the components meet the rules of the kind, one by one
 record MeetsRules (kind : Kind) (p : Components) : Type 0 where
   scheme : absent_or_passes p.scheme is_scheme ≡ true
   authority : absent_or_passes p.authority (is_authority kind) ≡ true
@@ -25,7 +25,7 @@ record MeetsRules (kind : Kind) (p : Components) : Type 0 where
   query : absent_or_passes p.query (is_valid_for kind.query) ≡ true
   fragment : absent_or_passes p.fragment (is_valid_for kind.fragment) ≡ true
 
--- components that pass the tests of a kind meet its rules
+-- texts of a kind: components that pass the tests of a kind meet its rules
 tested-components-meet-rules : (kind : Kind) (p : Components) → components_meet_rules kind p ≡ true
     → MeetsRules kind p
 tested-components-meet-rules kind p h =
@@ -41,11 +41,13 @@ tested-components-meet-rules kind p h =
     let s = and_parts S A a.0 in
     record { scheme = s.0; authority = s.1; path = a.1; query = t.1; fragment = q.1 }
 
+-- texts of a kind: the scheme of one, if there is one, meets its rule
 pub scheme-of-text-of-kind-is-valid : (kind : Kind) (text part : List ℕ) → IsOfKind kind text
     → (components text).scheme ≡ Some part → is_scheme part ≡ true
 scheme-of-text-of-kind-is-valid kind text part h e = present-part-passes-test _ is_scheme part
     (tested-components-meet-rules kind (components text) h).scheme e
 
+-- texts of a kind: the authority of one, if there is one, meets the rule for the kind's sets
 pub authority-of-text-of-kind-is-valid : (kind : Kind) (users names : TableSet) (text part : List ℕ)
     → IsOfKind kind text → users ≡ kind.userinfo → names ≡ kind.reg_name
     → (components text).authority ≡ Some part → is_authority_for users names part ≡ true
@@ -54,12 +56,14 @@ authority-of-text-of-kind-is-valid kind users names text part h s t e =
     ∙ present-part-passes-test _ (is_authority kind) part
     (tested-components-meet-rules kind (components text) h).authority e
 
+-- texts of a kind: the path of one is valid for the kind's set
 pub path-of-text-of-kind-is-valid : (kind : Kind) (set : TableSet) (text : List ℕ)
     → IsOfKind kind text
     → set ≡ kind.path → IsValidFor set (components text).path
 path-of-text-of-kind-is-valid kind set text h s = ap (λ t. is_valid_for t (components text).path) s
     ∙ (tested-components-meet-rules kind (components text) h).path
 
+-- texts of a kind: the query of one, if there is one, is valid for the kind's set
 pub query-of-text-of-kind-is-valid : (kind : Kind) (set : TableSet) (text part : List ℕ)
     → IsOfKind kind text
     → set ≡ kind.query → (components text).query ≡ Some part → IsValidFor set part
@@ -67,6 +71,7 @@ query-of-text-of-kind-is-valid kind set text part h s e = ap (λ t. is_valid_for
     ∙ present-part-passes-test _ (is_valid_for kind.query) part
     (tested-components-meet-rules kind (components text) h).query e
 
+-- texts of a kind: the fragment of one, if there is one, is valid for the kind's set
 pub fragment-of-text-of-kind-is-valid : (kind : Kind) (set : TableSet) (text part : List ℕ)
     → IsOfKind kind text
     → set ≡ kind.fragment → (components text).fragment ≡ Some part → IsValidFor set part

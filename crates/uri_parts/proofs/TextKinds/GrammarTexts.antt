@@ -16,12 +16,12 @@ use Rattle.uri_parts.specs.Components.{Lacks, before_any}
 use Rattle.uri_parts.proofs.Splitting.Cuts.{text-is-cut-at-first-mark}
 use Rattle.uri_parts.proofs.Parsing.ScanStops.{utf8_after_ascii_byte}
 
--- general fact on texts, for proofs by length: a prefix before a byte is shorter
+-- general fact on texts of a kind, for proofs by length: a prefix before a byte is shorter
 prefix-is-shorter-than-text : (xs : List ℕ) (c : ℕ) (ys : List ℕ)
     → length xs < length (xs ++ c ∷ ys)
 prefix-is-shorter-than-text xs c ys = omega (arith, length-append xs (c ∷ ys))
 
--- parsing: on both sides of an ASCII byte c, a text in UTF-8 is UTF-8
+-- texts of a kind: on both sides of an ASCII byte c, a text in UTF-8 is UTF-8
 pub utf8_around_ascii_byte : (xs : List ℕ) (c : ℕ) (ys : List ℕ) → c < 128 → IsUtf8 (xs ++ c ∷ ys)
     → IsUtf8 xs × IsUtf8 ys
 utf8_around_ascii_byte xs c ys h u =
@@ -35,14 +35,14 @@ utf8_around_ascii_byte xs c ys h u =
       utf8_after_ascii_byte c ys h (subst IsUtf8 rest (IsUtf8-drop text n u boundary)),
     )
 
--- splitting: a delimiter is no character of a set that excludes it
+-- texts of a kind: a delimiter is no character of a set that excludes it
 pub excluded_mark_is_no_char : (set : TableSet) (marks : List ℕ) → excludes set marks
     ≡ true → (c : ℕ)
     → is_one_of marks c ≡ true → set.ascii c ≡ false
 excluded_mark_is_no_char set marks outside c m =
     not-true _ (and_parts _ _ (and_parts _ _ (test_holds_of_each _ marks outside c m)).1).0
 
--- splitting: a valid text lacks the delimiters that the set excludes
+-- texts of a kind: a valid text lacks the delimiters that the set excludes
 pub valid_text_lacks_excluded_marks : (set : TableSet) (marks : List ℕ) → LacksPercent set
     → excludes set marks ≡ true
     → (text : List ℕ) → IsUtf8 text → is_valid_for set text ≡ true → Lacks marks text

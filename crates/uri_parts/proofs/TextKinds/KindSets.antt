@@ -18,37 +18,37 @@ use Rattle.uri_parts.specs.Grammar.{kind_by_flags}
 use Rattle.uri_parts.specs.Components.{components}
 use Rattle.uri_parts.proofs.TextKinds.Separations.{SeparatesComponents}
 
--- sets: a scheme's characters may be in a first segment too
+-- sets of a kind: a scheme's characters may be in a first segment too
 scheme-char-is-segment-char : (c : ℕ) → is_scheme_char c ≡ true → is_segment_nz_nc_char c ≡ true
 scheme-char-is-segment-char c e = grind (arith, nat_tests)
 
--- sets: a first segment's characters may be in a path too
+-- sets of a kind: a first segment's characters may be in a path too
 segment-char-is-path-char : (c : ℕ) → is_segment_nz_nc_char c ≡ true → is_path_char c ≡ true
 segment-char-is-path-char c e = grind (arith, nat_tests)
 
--- sets: a path's characters but `:` and `/` may be in a first segment too
+-- sets of a kind: a path's characters but `:` and `/` may be in a first segment too
 other-path-char-is-segment-char : (c : ℕ) → is_one_of (codes ":/") c ≡ false
     → is_segment_nz_nc_char c ≡ false
     → is_path_char c ≡ false
 other-path-char-is-segment-char c m e = grind (arith, nat_tests)
 
--- sets: a registered name's characters may be in userinfo too
+-- sets of a kind: a registered name's characters may be in userinfo too
 name-char-is-userinfo-char : (c : ℕ) → is_reg_name_char c ≡ true → is_userinfo_char c ≡ true
 name-char-is-userinfo-char c e = grind (arith, nat_tests)
 
--- sets: a digit may be in userinfo
+-- sets of a kind: a digit may be in userinfo
 digit-is-userinfo-char : (c : ℕ) → is_ascii_digit c ≡ true → is_userinfo_char c ≡ true
 digit-is-userinfo-char c e = grind (arith, nat_tests)
 
--- the sets of the four kinds differ in flags alone
+-- sets of a kind: the set with the flag for characters past ASCII, or without it
 abbrev international : Bool → TableSet → TableSet
 international ucschar set = record set { ucschar = ucschar }
 
--- the set of a first segment, with or without characters past ASCII
+-- sets of a kind: that of a first segment, with or without characters past ASCII
 abbrev segment_with : Bool → TableSet
 segment_with ucschar = international ucschar segment_nz_nc_set
 
--- a kind, by what it allows and whether it needs a scheme
+-- sets of a kind: the kind that allows so much past ASCII, and needs a scheme or not
 abbrev kind_with : (ucschar iprivate needs_scheme : Bool) → Kind
 kind_with ucschar iprivate needs_scheme = record {
   userinfo = international ucschar userinfo_set;
@@ -59,8 +59,8 @@ kind_with ucschar iprivate needs_scheme = record {
   needs_scheme = needs_scheme;
 }
 
--- parsing a path: it goes on after a first segment with `:` or `/` only; ucschar: whether the set
--- has characters past ASCII
+-- sets of a kind: a path goes on after a first segment with `:`
+-- or `/` only; ucschar: whether the set has characters past ASCII
 path-goes-on-after-segment-only-with-mark : (ucschar : Bool) (b : ℕ) (bs : List ℕ)
     → is_one_of (codes ":/") b ≡ false
     → allows_first (segment_with ucschar) b bs ≡ false
@@ -72,8 +72,8 @@ path-goes-on-after-segment-only-with-mark ucschar b bs m e = ⊎_elim
     (λ h. let l = le-ltb b 128 h in cond-false _ _ _ l ∙ (sym (cond-false _ _ _ l) ∙ e))
     (cases_lt b 128)
 
--- parsing: the sets of a kind are such that each component ends where the next begins;
--- ucschar, iprivate: which characters past ASCII it has
+-- sets of a kind: each component ends where the next begins;
+-- ucschar, iprivate: which characters past ASCII the kind has
 sets-by-flags-separate-components : (ucschar iprivate needs_scheme : Bool)
     → SeparatesComponents (segment_with ucschar) (kind_with ucschar iprivate needs_scheme)
 sets-by-flags-separate-components ucschar iprivate needs_scheme = record {
@@ -132,7 +132,7 @@ sets-by-flags-separate-components ucschar iprivate needs_scheme = record {
   rest = path-goes-on-after-segment-only-with-mark ucschar;
 }
 
--- parsing: the sets of the four kinds are such that each component ends where the next begins
+-- sets of a kind: in the four kinds each component ends where the next begins
 kind-by-flags-separates-components : (international needs_scheme : Bool) (kind : Kind)
     → kind ≡ kind_by_flags international needs_scheme → kind.path.ucschar ≡ international
     → SeparatesComponents (first_segment_set kind) kind
@@ -143,8 +143,7 @@ kind-by-flags-separates-components true needs_scheme kind e u =
     subst (λ k. SeparatesComponents (first_segment_set k) k) (sym e)
     (sets-by-flags-separate-components true true needs_scheme)
 
--- parsing: the sets of each of the four kinds are such that each
--- component ends where the next begins
+-- sets of a kind: in each of the four kinds, each component ends where the next begins
 pub each_kind_separates_components : (kind : Kind) → kind
     ≡ kind_by_flags kind.path.ucschar kind.needs_scheme
     → SeparatesComponents (first_segment_set kind) kind
@@ -152,13 +151,13 @@ each_kind_separates_components kind known = kind-by-flags-separates-components k
     kind.needs_scheme
     kind known refl
 
--- general fact on booleans, for the rule on schemes: where one is needed it is there
+-- general fact on booleans, for kinds that need a scheme: where one is needed it is there
 pub with_scheme : (needed present other : Bool) → needed ≡ true
     → (present || (not needed && other)) ≡ true → present ≡ true
 with_scheme needed true other n h = refl
 with_scheme needed false other n h = absurd (cc (ap not n))
 
--- general fact on booleans, for the rule on schemes;
+-- general fact on booleans, for kinds that need a scheme;
 -- needed, present: whether one is needed, is there
 scheme-rule-holds-without-need : (needed present other : Bool) → (present || (not needed && other))
     ≡ true
@@ -166,7 +165,7 @@ scheme-rule-holds-without-need : (needed present other : Bool) → (present || (
 scheme-rule-holds-without-need needed true other h = refl
 scheme-rule-holds-without-need needed false other h = (and_parts (not needed) other h).1
 
--- a text of a kind that needs a scheme has one
+-- texts of a kind: one of a kind that needs a scheme has one
 kind-that-needs-scheme-has-one : (kind : Kind) (text : List ℕ) → kind.needs_scheme ≡ true
     → IsOfKind kind text
     → is_some (components text).scheme ≡ true
@@ -174,26 +173,30 @@ kind-that-needs-scheme-has-one kind text n h = with_scheme kind.needs_scheme
     (is_some (components text).scheme) _ n
     (and_parts _ _ h).1
 
--- a text of a kind is a reference: it is of the same kind without the need for a scheme
+-- texts of a kind: each is of the same kind without the need for a scheme
 text-of-kind-is-reference : (kind : Kind) (text : List ℕ) → IsOfKind kind text
     → IsOfKind (record kind { needs_scheme = false }) text
 text-of-kind-is-reference kind text h =
     let parts = and_parts _ _ h in
     and_from _ _ parts.0 (scheme-rule-holds-without-need kind.needs_scheme _ _ parts.1)
 
+-- texts of a kind: a URI has a scheme
 pub uri_has_scheme : (text : List ℕ) → IsOfKind uri text → is_some (components text).scheme ≡ true
 uri_has_scheme text h = kind-that-needs-scheme-has-one uri text refl h
 
+-- texts of a kind: a URI is a URI reference
 pub uri_is_uri_ref : (text : List ℕ) → IsOfKind uri text → IsOfKind uri_ref text
 uri_is_uri_ref text h = text-of-kind-is-reference uri text h
 
+-- texts of a kind: an IRI has a scheme
 pub iri_has_scheme : (text : List ℕ) → IsOfKind iri text → is_some (components text).scheme ≡ true
 iri_has_scheme text h = kind-that-needs-scheme-has-one iri text refl h
 
+-- texts of a kind: an IRI is an IRI reference
 pub iri_is_iri_ref : (text : List ℕ) → IsOfKind iri text → IsOfKind iri_ref text
 iri_is_iri_ref text h = text-of-kind-is-reference iri text h
 
--- the empty text is a reference, for a kind that needs no scheme
+-- texts of a kind: the empty text is one of a kind that needs no scheme
 pub empty_is_reference : (kind : Kind) → kind.needs_scheme ≡ false → IsOfKind kind []
 unfolding is_valid_for tokens_from_chars chars
 empty_is_reference kind n = ap (λ needed. not needed && true) n

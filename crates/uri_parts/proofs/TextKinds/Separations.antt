@@ -7,7 +7,7 @@ use Rattle.uri_pct.specs.Prefixes.{allows_first}
 use Rattle.uri_pct.proofs.ValidTexts.Cuts.{excludes}
 use Rattle.uri_parts.specs.Grammar.{Kind}
 
--- what the sets of a kind must lack for its texts to be parsed from left to right
+-- sets of a kind: what they must lack for its texts to be parsed from left to right
 pub record SeparatesComponents (segment : TableSet) (kind : Kind) : Type 0 where
   pub userinfo_lacks : LacksPercent kind.userinfo
   pub reg_name_lacks : LacksPercent kind.reg_name

@@ -21,6 +21,7 @@ impl<K: Kind, T: AsStr> PartialEq for Core<K, T> {
 
     ghost laws = { Prim.search (comparing, rules) };
 
+    /// Returns whether the texts are equal, byte by byte.
     fn eq(&self, other: &Self) -> bool {
         self.text.as_str() == other.text.as_str()
     }
@@ -43,6 +44,7 @@ impl<K: Kind, T: AsStr> Ord for Core<K, T> {
 
     ghost matches_eq = { Prim.search (comparing, rules) };
 
+    /// Compares the texts byte by byte.
     fn cmp(&self, other: &Self) -> Ordering {
         self.text.as_str().cmp(other.text.as_str())
     }
@@ -56,6 +58,7 @@ impl<K: Kind, T: AsStr> PartialOrd for Core<K, T> {
     ghost laws = { partial_order_from_own_ties (Prim.search (comparing, rules))
         (Prim.search (comparing, rules)) };
 
+    /// Compares the texts as `cmp` does.
     fn partial_cmp(&self, other: &Self) -> Option<Ordering> {
         Some(self.cmp(other))
     }
@@ -68,6 +71,7 @@ impl<K: Kind, T: AsStr> Hash for Core<K, T> {
 
     ghost respects_eq = { Prim.search (hashing, rules) };
 
+    /// Hashes the text.
     fn hash<H: Hasher>(&self, state: &mut H) {
         self.text.as_str().hash(state);
     }

@@ -10,14 +10,14 @@ use Rattle.std.proofs.lemmas.Str.{encodes-chars, length-le-encodes}
 use Rattle.uri_pct.specs.Tokens.{Token, Char, Octet, is_pct_encoded, tokens_from_chars, tokens}
 use Rattle.uri_pct.specs.Chunks.{Chunk, Text, Byte, prepend_to_chunks, chunks_of_tokens, chunks}
 
--- splitting at delimiters: a text has at most one piece more than it has bytes,
--- so their number fits usize
+-- decoding and splitting, counts: a text has at most one
+-- piece more than it has bytes, so their number fits usize
 pub split_pieces_are_at_most_length_plus_one : (p : ℕ → Bool) (text : List ℕ)
     → length (slice_split p text) ≤ length text + 1
 split_pieces_are_at_most_length_plus_one p text = omega
     (arith, length-slice_split p text, count_by-le-length p text)
 
--- decoding: a literal text before chunks makes one chunk more at most
+-- decoding, counts: a literal text before chunks makes one chunk more at most
 prepend_adds_at_most_one_chunk : (text : List ℕ) (ps : List Chunk)
     → length (prepend_to_chunks text ps) ≤ length ps + 1
 unfolding prepend_to_chunks
@@ -25,7 +25,7 @@ prepend_adds_at_most_one_chunk text [] = omega arith
 prepend_adds_at_most_one_chunk text (Text more ∷ ps) = omega arith
 prepend_adds_at_most_one_chunk text (Byte value ∷ ps) = omega arith
 
--- decoding: a text has no more chunks than tokens
+-- decoding, counts: a text has no more chunks than tokens
 chunks_are_no_more_than_tokens : (ts : List Token) → length (chunks_of_tokens ts) ≤ length ts
 unfolding chunks_of_tokens
 chunks_are_no_more_than_tokens [] = omega arith
@@ -38,7 +38,7 @@ chunks_are_no_more_than_tokens (Char c ∷ ts) =
     )
 chunks_are_no_more_than_tokens (Octet value ∷ ts) = omega (arith, chunks_are_no_more_than_tokens ts)
 
--- tokens: a text has no more of them than characters
+-- decoding, counts: a text has no more tokens than characters
 tokens_are_no_more_than_chars : (cs : List ℕ) → length (tokens_from_chars cs) ≤ length cs
 unfolding tokens_from_chars
 tokens_are_no_more_than_chars [] = omega arith
@@ -53,7 +53,7 @@ tokens_are_no_more_than_chars (c ∷ high ∷ low ∷ rest) =
       | false ↦ omega (arith, tokens_are_no_more_than_chars (high ∷ low ∷ rest))
     ]
 
--- decoding: a text has no more chunks than bytes
+-- decoding, counts: a text has no more chunks than bytes
 pub chunks_are_no_more_than_bytes : (text : List ℕ) → IsUtf8 text
     → length (chunks text) ≤ length text
 chunks_are_no_more_than_bytes text u =

@@ -25,7 +25,7 @@ use Rattle.uri_pct.proofs.UnreservedDecoding.Printing.{char_but_percent_is_its_o
 use Rattle.uri_pct.proofs.ValidTexts.TokenCuts.{ascii_byte_is_first_of_chars}
 use Rattle.uri_pct.proofs.Unicode.Characters.{hexdigit_is_ascii}
 
--- characters other than `%` are tokens by themselves, whatever follows them
+-- decoding: characters other than `%` are tokens by themselves, whatever follows them
 chars_without_percent_are_tokens : (cs ds : List ℕ) → lacks 37 cs ≡ true
     → tokens_from_chars (cs ++ ds) ≡ map Char cs ++ tokens_from_chars ds
 chars_without_percent_are_tokens [] ds e = refl
@@ -46,7 +46,7 @@ head_and_tail_lack_percent c cs e =
       p.1,
     )
 
--- tokens: characters have no `%` (37) if their bytes have none
+-- decoding: characters have no `%` (37) if their bytes have none
 chars_lack_percent_if_bytes_do : (cs : List ℕ) → lacks 37 (encode_utf8_all cs) ≡ true
     → lacks 37 cs ≡ true
 chars_lack_percent_if_bytes_do [] e = refl
@@ -73,11 +73,11 @@ leading_chars_are_prepended_to_chunks c (d ∷ cs) ts = ap (prepend_to_chunks (e
     (leading_chars_are_prepended_to_chunks d cs ts)
     ∙ prepending_twice_joins_texts (encode_utf8 c) (encode_utf8_all (d ∷ cs)) (chunks_of_tokens ts)
 
--- no text comes first
+-- decoding: no literal text comes first among the chunks
 abbrev IsNotJoinedByTextBefore : List Chunk → Type 0
 IsNotJoinedByTextBefore ps = (text : List ℕ) → prepend_to_chunks text ps ≡ Text text ∷ ps
 
--- an octet at the start of a text
+-- decoding: the text begins with a percent-encoded octet
 pub record BeginsWithOctet (text : List ℕ) : Type 0 where
   pub high : ℕ
   pub low : ℕ
@@ -88,12 +88,12 @@ pub record BeginsWithOctet (text : List ℕ) : Type 0 where
   pub first : tokens text ≡ Octet (16 * digit_value high + digit_value low) ∷ tokens suffix
   pub valid : IsValidFor widest_set suffix
 
--- a `%` by itself is not allowed
+-- decoding: a `%` by itself is not allowed
 literal_percent_is_not_allowed : (ts : List Token) → list_all (allows_token widest_set)
     (Char 37 ∷ ts) ≡ true → ⊥
 literal_percent_is_not_allowed ts e = false≢true e
 
--- a valid text that begins with `%` and two hexadecimal digits begins with an octet
+-- decoding: a valid text that begins with `%` and two hexadecimal digits begins with an octet
 pct_encoded_chars_begin_with_octet : (high low : ℕ) (cs : List ℕ) → all_scalars (high ∷ low ∷ cs)
     ≡ true
     → is_pct_encoded 37 high low ≡ true
@@ -126,7 +126,7 @@ pct_encoded_chars_begin_with_octet high low cs s e v =
           ∙ v)).1;
     }
 
--- if a text from a `%` on is valid, the `%` begins an octet (the text by its characters)
+-- decoding: if a text from a `%` on is valid, the `%` begins an octet (the text by its characters)
 valid_chars_after_percent_give_octet : (cs : List ℕ) → all_scalars cs ≡ true
     → list_all (allows_token widest_set) (tokens_from_chars (37 ∷ cs)) ≡ true
     → BeginsWithOctet (37 ∷ encode_utf8_all cs)
@@ -140,7 +140,7 @@ valid_chars_after_percent_give_octet (high ∷ low ∷ cs) s v = ⊎_elim
     (sym (ap (list_all (allows_token widest_set)) (cond-false _ _ _ e)) ∙ v)))
     (cases_Bool (is_pct_encoded 37 high low))
 
--- if a text from a `%` on is valid, the `%` begins an octet
+-- decoding: if a text from a `%` on is valid, the `%` begins an octet
 valid_text_from_percent_begins_with_octet : (rest : List ℕ) → IsUtf8 rest
     → IsValidFor widest_set (37 ∷ rest)
     → BeginsWithOctet (37 ∷ rest)
@@ -151,7 +151,7 @@ valid_text_from_percent_begins_with_octet rest u v =
     (sym (ap (λ cs. list_all (allows_token widest_set) (tokens_from_chars cs))
     (ascii_byte_is_first_of_chars 37 rest (lit< tt))) ∙ v))
 
--- each `%` of a text that decodes begins an octet
+-- decoding: each `%` of a text that decodes begins an octet
 percent_begins_octet : (text : List ℕ) → IsUtf8 text → IsValidFor widest_set text → 0 < length text
     → get_or text 0 0 ≡ 37 → BeginsWithOctet text
 percent_begins_octet [] u v some e = absurd (omega arith)
@@ -178,7 +178,7 @@ text_before_nothing_is_own_chunk : IsNotJoinedByTextBefore (chunks [])
 unfolding chunks_of_tokens prepend_to_chunks tokens_from_chars chars
 text_before_nothing_is_own_chunk x = refl
 
--- the length of the text before the first `%`
+-- decoding: the length of the text before the first `%`
 abbrev len_before_percent : List ℕ → ℕ
 len_before_percent text = position_or_len (λ b. eqb b 37) text
 
@@ -202,7 +202,7 @@ percent_ends_unencoded_prefix : (text : List ℕ) → len_before_percent text < 
 percent_ends_unencoded_prefix text h = eqb-true _ 37
     (not-false _ (prefix_len_stops (λ b. not (eqb b 37)) text 0 h))
 
--- the text before the first `%` is no longer than the text
+-- decoding: the text before the first `%` is no longer than the text
 len_before_percent_is_at_most_length : (text : List ℕ) → len_before_percent text ≤ length text
 len_before_percent_is_at_most_length text = prefix_len-le-length (λ b. not (eqb b 37)) text
 
@@ -217,7 +217,7 @@ first_percent_is_at_boundary text =
     subst (IsCharBoundary text) e (IsCharBoundary-end text))
     (cases_lt p (length text))
 
--- the text before the first `%` is not empty, unless the text begins with `%`
+-- decoding: the text before the first `%` is not empty, unless the text begins with `%`
 unencoded_prefix_is_nonempty : (text : List ℕ) → 0 < length text → get_or text 0 0 ≢ 37
     → 0 < length (take (len_before_percent text) text)
 unencoded_prefix_is_nonempty [] some other = absurd (omega arith)
@@ -227,7 +227,7 @@ unencoded_prefix_is_nonempty (b ∷ rest) some other =
     ∙ omega arith in
     rw next (omega arith)
 
--- characters before other tokens, by their bytes, are put before the chunks of these
+-- decoding: characters before other tokens, by their bytes, are put before the chunks of these
 unencoded_prefix_is_prepended_to_chunks : (cs prefix : List ℕ) (ts : List Token)
     → encode_utf8_all cs ≡ prefix
     → 0 < length prefix
@@ -246,12 +246,12 @@ tokens_after_unencoded_prefix prefix back u e =
     ∙ chars_without_percent_are_tokens (chars prefix) (chars back)
     (chars_lack_percent_if_bytes_do (chars prefix) (ap (lacks 37) (encodes-chars prefix u) ∙ e))
 
--- what is after the text before the first `%`
+-- decoding: the text before the first `%` is the first chunk, with what is after it
 pub record BeginsWithText (text : List ℕ) (n : ℕ) : Type 0 where
   pub first : chunks text ≡ Text (take n text) ∷ chunks (drop n text)
   pub valid : IsValidFor widest_set (drop n text)
 
--- what begins at a `%` does not join a text before it: the two are separate chunks
+-- decoding: what begins at a `%` does not join a text before it: the two are separate chunks
 text_before_percent_is_own_chunk : (text : List ℕ) (n : ℕ) → IsUtf8 (drop n text)
     → IsValidFor widest_set (drop n text)
     → n ≤ length text → (n < length text → get_or text n 0 ≡ 37)
@@ -267,7 +267,7 @@ text_before_percent_is_own_chunk text n u v within there = ⊎_elim
     text_before_nothing_is_own_chunk)
     (cases_lt n (length text))
 
--- the text before the first `%`, if it is not empty, is the first chunk
+-- decoding: the text before the first `%`, if it is not empty, is the first chunk
 unencoded_prefix_is_first_chunk : (text : List ℕ) (n : ℕ) → IsUtf8 text → IsValidFor widest_set text
     → n
     ≡ len_before_percent text
@@ -300,7 +300,7 @@ unencoded_prefix_is_first_chunk text n u v e some =
       valid = valid;
     }
 
--- if a text does not begin with `%`, its first chunk ends at the first `%`
+-- decoding: if a text does not begin with `%`, its first chunk ends at the first `%`
 text_chunk_ends_at_percent : (text : List ℕ) (n : ℕ) → IsUtf8 text → IsValidFor widest_set text
     → 0 < length text → get_or text 0 0 ≢ 37 → n ≡ len_before_percent text → BeginsWithText text n
 text_chunk_ends_at_percent text n u v some other e =
@@ -311,7 +311,7 @@ text_chunk_ends_at_percent text n u v some other e =
 nonzero_length_is_positive : (bytes : List ℕ) → eqb (length bytes) 0 ≡ false → 0 < length bytes
 nonzero_length_is_positive bytes e = omega (arith, eqb-false (length bytes) 0 e)
 
--- if a text that decodes begins with `%`, it begins with an octet
+-- decoding: if a text that decodes begins with `%`, it begins with an octet
 pub bytes_from_percent_begin_with_octet : (bytes text : List ℕ) → bytes ≡ text → IsUtf8 bytes
     → IsValidFor widest_set text → eqb (length bytes) 0 ≡ false → get_or bytes 0 0 ≡ 37
     → BeginsWithOctet text
@@ -320,7 +320,7 @@ bytes_from_percent_begin_with_octet bytes text same u v some e =
     (subst (λ x. 0 < length x) same (nonzero_length_is_positive bytes some))
     (ap (λ x. get_or x 0 0) (sym same) ∙ e)
 
--- if a text that decodes does not begin with `%`, its first chunk ends at the first `%`
+-- decoding: if a text that decodes does not begin with `%`, its first chunk ends at the first `%`
 pub bytes_begin_with_text_up_to_percent : (bytes text : List ℕ) (n : ℕ) → bytes ≡ text
     → IsUtf8 bytes
     → IsValidFor widest_set text → eqb (length bytes) 0 ≡ false → get_or bytes 0 0 ≢ 37
@@ -343,13 +343,13 @@ boundary_after_octet text u o =
     let small = hexdigit_is_ascii o.low o.low_digit in
     IsCharBoundary-after_ascii text 2 u (omega (arith, ap length o.joined)) (omega arith)
 
--- if a text begins with an octet, its first chunk is the octet's value
+-- decoding: if a text begins with an octet, its first chunk is the octet's value
 pub first_chunk_is_value_of_octet : (text : List ℕ) (o : BeginsWithOctet text)
     → chunks text ≡ Byte (16 * digit_value o.high + digit_value o.low) ∷ chunks o.suffix
 unfolding chunks_of_tokens
 first_chunk_is_value_of_octet text o = ap chunks_of_tokens o.first
 
--- sets: each set without `%` is a subset of the largest one, for which a text decodes
+-- decoding: each set without `%` is a subset of the largest one, for which a text decodes
 pub every_set_is_subset_of_widest : (set : TableSet) → LacksPercent set → IsSubset set widest_set
 every_set_is_subset_of_widest set lacks = record {
   ascii = λ c e. not_from_false _

@@ -6,19 +6,22 @@ use Rattle.std.proofs.lemmas.Bool.{and_parts, eqb-true, ltb-true}
 use Rattle.std.proofs.lemmas.Bool.Decides.{Decides-below_and}
 use Rattle.uri_pct.specs.declared.octet.TheConstants.{DIGIT_VALUES}
 
+-- decoding octets: the entry of a byte in the table of digits
 abbrev digit_table_entry : ℕ → ℕ
 digit_table_entry b = get_or DIGIT_VALUES.now b 0
 
+-- decoding octets: the entry of a byte in the table is its value as a digit, below 16
 abbrev is_entry_value_of_digit : ℕ → Bool
 is_entry_value_of_digit b = eqb (digit_table_entry b) (digit_value b) && ltb
     (digit_table_entry b) 16
 
+-- decoding octets: the table has the value of each hexadecimal digit below a number
 abbrev digit_entries_match_below : ℕ → Bool
 digit_entries_match_below zero = true
 digit_entries_match_below (suc n) = (not (is_ascii_hexdigit n) || is_entry_value_of_digit n)
     && digit_entries_match_below n
 
--- octets: the table's entry of a hexadecimal digit is its value
+-- decoding octets: the table's entry of a hexadecimal digit is its value
 pub hex_digit_entry_is_value : (b : ℕ) → b < 256 → is_ascii_hexdigit b ≡ true
     → (get_or DIGIT_VALUES.now b 0 ≡ digit_value b) × (get_or DIGIT_VALUES.now b 0 < 16)
 hex_digit_entry_is_value b small digit =

@@ -6,7 +6,7 @@ use Rattle.uri_pct.specs.Tokens.{Octet, tokens, tokens_from_chars, is_pct_encode
 use Rattle.uri_pct.proofs.UnreservedDecoding.Printing.{octet_digits_are_hexadecimal}
 use Rattle.uri_pct.proofs.ValidTexts.TokenCuts.{ascii_byte_is_first_of_chars}
 
--- decoding: a written octet is read back as a token, with digits of either case
+-- decoding octets: a written octet is read back as a token, with digits of either case
 pub printed_octet_is_first_token : (upper : Bool) (value : ℕ) (rest : List ℕ) → value < 256
     → tokens (37 ∷ digit_glyph upper (value / 16) ∷ digit_glyph upper (value % 16) ∷ rest)
     ≡ Octet value ∷ tokens rest

@@ -8,15 +8,17 @@ use Rattle.std.proofs.lemmas.Str.Ascii.{IsAscii-from_all}
 use Rattle.uri_pct.specs.declared.octet.TheConstants.{OCTETS}
 use Rattle.uri_pct.specs.Tokens.{Octet, text_of_token}
 
+-- decoding, the table of octets: its three bytes for the byte b
 abbrev octet_table_entry : ℕ → List ℕ
 octet_table_entry b = take 3 (drop (b * 3) OCTETS.now)
 
+-- decoding, the table of octets: it has the `%XX` of each byte below a number
 abbrev octet_entries_match_below : ℕ → Bool
 octet_entries_match_below zero = true
 octet_entries_match_below (suc n) = bytes_eq (octet_table_entry n) (text_of_token (Octet n))
     && octet_entries_match_below n
 
--- octets: in the table of their texts, the three bytes at three times b are the octet b
+-- decoding, the table of octets: the three bytes at three times b are the `%XX` of b
 pub octet_entry_is_printed_octet : (b : ℕ) → b < 256 → take 3 (drop (b * 3) OCTETS.now)
     ≡ text_of_token (Octet b)
 octet_entry_is_printed_octet =
@@ -25,11 +27,12 @@ octet_entry_is_printed_octet =
     (λ b. bytes_eq-Decides _ _) refl
     (λ _. refl) 256).0 refl
 
+-- decoding, the table of octets: each of these bytes is ASCII
 abbrev are_all_ascii : List ℕ → Bool
 are_all_ascii [] = true
 are_all_ascii (b ∷ bs) = ltb b 128 && are_all_ascii bs
 
--- encoding: the table of the 256 octets, as `%XX`, is ASCII
+-- decoding, the table of octets: the `%XX` of the 256 bytes are ASCII
 pub octet_table_is_ascii : IsAscii OCTETS.now
 octet_table_is_ascii =
     IsAscii-from_all OCTETS.now

@@ -6,8 +6,8 @@ use Rattle.uri_pct.specs.EncodedTexts.{substrings_left}
 use Rattle.uri_pct.specs.declared.pct_enc.EStr.{EStr}
 use Rattle.uri_pct.specs.declared.split.Split.{Split}
 
--- splitting at a delimiter: the substrings that an iterator has
--- left are the split of the text that is left
+-- decoding and splitting, iterators: the substrings
+-- that a `Split` has left are the split of the text that is left
 pub substrings_left_are_split_of_rest : {E : _} {g : _} (s : Split E g) (e : EStr E g)
     → s.rest ≡ Some e
     → substrings_left s ≡ slice_split (λ b. eqb b s.delimiter) (text_of e)

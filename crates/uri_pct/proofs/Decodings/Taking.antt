@@ -16,7 +16,7 @@ use Rattle.uri_pct.specs.Tokens.{tokens, bytes_decoded_from, IsValidFor}
 use Rattle.uri_pct.proofs.Unicode.Lossy.{lossy_text_of_utf8_is_itself}
 use Rattle.uri_pct.proofs.Unicode.PartPieces.{parts_have_pieces_of_decoded_bytes}
 
--- general fact on results: a fact of a call that succeeded holds if it returned Ok
+-- general fact on results, for decoding: what holds if a call succeeds holds if it returned Ok
 pub OnOk-from-is_ok : {T E P : Type 0} (r : Result T E) → (is_ok r ≡ true → P) → OnOk r P
 OnOk-from-is_ok (Ok x) f = f refl
 OnOk-from-is_ok (Err e) f = tt
@@ -26,7 +26,7 @@ pub literal_part_has_utf8_pieces_of_its_text : (text : List ℕ) → pieces_of_p
     ≡ utf8_pieces text
 literal_part_has_utf8_pieces_of_its_text text = append-nil (utf8_pieces text)
 
--- decoding lossily: where text is appended,
+-- decoding, parts taken: where text is appended,
 -- the text so far has taken the parts that decode to it; s, t: before and after
 pub appended_text_takes_lossy_text_of_parts : (s t : LossyText) (ps : List Part) (text : List ℕ)
     → IsUtf8 text
@@ -38,7 +38,7 @@ appended_text_takes_lossy_text_of_parts s t ps text u pieces bytes =
           (sym (ap (flat_map lossy_piece) pieces ∙ lossy_text_of_utf8_is_itself text u));
     }
 
--- decoding lossily: what is taken of a whole text is the lossy text of its decoded bytes
+-- decoding, parts taken: what is taken of a whole text is the lossy text of its decoded bytes
 pub parts_taken_give_lossy_text : (text : List ℕ) (s t : LossyText) → IsValidFor widest_set text
     → string_bytes s.text ≡ [] → TookText s (parts text) t
     → string_bytes t.text ≡ lossy_text (bytes_decoded_from (tokens text))

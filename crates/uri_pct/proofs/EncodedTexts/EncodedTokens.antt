@@ -22,7 +22,7 @@ use Rattle.uri_pct.proofs.Unicode.CharacterPieces.{utf8_pieces-are-of-characters
 use Rattle.uri_pct.proofs.ValidTexts.EStrs.{tokens_allowed_by_superset}
 use Rattle.uri_pct.proofs.Unicode.Pieces.{bytes_of_utf8_pieces_are_the_bytes}
 
--- a number of eight bits
+-- encoding: the number has eight bits
 abbrev pub is_eight_bit : ℕ → Bool
 is_eight_bit b = ltb b 256
 
@@ -79,7 +79,7 @@ octets_of_bytes_are_printable (b ∷ bytes) e = let p = and_parts (is_eight_bit 
     (list_all is_eight_bit bytes) e in
     and_from _ _ p.0 (octets_of_bytes_are_printable bytes p.1)
 
--- a set with percent-encoded octets allows the octets of all bytes
+-- encoding: a set with percent-encoded octets allows the octets of all bytes
 pub octets_are_allowed_if_pct_encoded : (set : TableSet) (bytes : List ℕ) → set.pct_encoded ≡ true
     → list_all (allows_token set) (map Octet bytes) ≡ true
 octets_are_allowed_if_pct_encoded set [] o = refl
@@ -130,7 +130,7 @@ encoded_chars_are_allowed set (c ∷ cs) o =
     list_all-append (allows_token set) (encode_char set c) (flat_map (encode_char set) cs)
     ∙ and_from _ _ (encoded_char_is_allowed set c o) (encoded_chars_are_allowed set cs o)
 
--- a set allows a text that is encoded for a subset of it
+-- encoding: a set allows a text that is encoded for a subset of it
 pub encoded_text_is_allowed : (sub set : TableSet) (text : List ℕ) → IsSubset sub set
     → sub.pct_encoded ≡ true → list_all (allows_token set) (encode_text sub text) ≡ true
 encoded_text_is_allowed sub set text subset o =
@@ -181,7 +181,7 @@ encoded_pieces_are_allowed set (p ∷ ps) o =
     list_all-append (allows_token set) (encode_piece set p) (flat_map (encode_piece set) ps)
     ∙ and_from _ _ (encoded_piece_is_allowed set p o) (encoded_pieces_are_allowed set ps o)
 
--- a set allows bytes that are encoded for a subset of it
+-- encoding: a set allows bytes that are encoded for a subset of it
 pub encoded_bytes_are_allowed : (sub set : TableSet) (bytes : List ℕ) → IsSubset sub set
     → sub.pct_encoded ≡ true → list_all (allows_token set) (encode_bytes sub bytes) ≡ true
 encoded_bytes_are_allowed sub set bytes subset o =

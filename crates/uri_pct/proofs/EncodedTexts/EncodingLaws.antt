@@ -8,7 +8,7 @@ use Rattle.uri_pct.specs.Encoding.{encode_text}
 use Rattle.uri_pct.proofs.EncodedTexts.EncodedTokens.{encoded_text_is_printable}
 use Rattle.uri_pct.proofs.UnreservedDecoding.Printing.{printed_tokens_parse_to_themselves}
 
--- decoding: two lists of tokens, one after the other, decode to the bytes of both
+-- encoding, and back: two lists of tokens, one after the other, decode to the bytes of both
 pub joined_tokens_decode_to_joined_bytes : (ts us : List Token)
     → bytes_decoded_from (ts ++ us) ≡ bytes_decoded_from ts ++ bytes_decoded_from us
 joined_tokens_decode_to_joined_bytes ts us = flat_map-append bytes_of_one_token ts us

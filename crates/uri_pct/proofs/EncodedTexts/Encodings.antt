@@ -25,7 +25,7 @@ use Rattle.uri_pct.proofs.Unicode.Runs.{no_bytes_have_no_pieces}
 use Rattle.uri_pct.proofs.Unicode.Pieces.{bytes_of_utf8_pieces_are_the_bytes}
 use Rattle.uri_pct.proofs.Unicode.Pieces.{take_then_take_is_take_of_sum}
 
--- tokens: what is written of two lists is what is written of each
+-- encoding: what is written of two lists of tokens is what is written of each
 pub print-append : (ts us : List Token) → print (ts ++ us) ≡ print ts ++ print us
 print-append ts us = flat_map-append text_of_token ts us
 
@@ -42,12 +42,12 @@ pub allowed_char_is_printed_literally : (set : TableSet) (c : ℕ) → allows se
 allowed_char_is_printed_literally set c e = ap print (cond-true _ _ _ e)
     ∙ append-nil (encode_utf8 c)
 
--- a character that is not allowed becomes the octets of its UTF-8
+-- encoding: a character that is not allowed becomes the octets of its UTF-8
 pub disallowed_char_is_encoded_as_octets : (set : TableSet) (c : ℕ) → allows set c ≡ false
     → encode_char set c ≡ map Octet (encode_utf8 c)
 disallowed_char_is_encoded_as_octets set c e = cond-false _ _ _ e
 
--- the octets of bytes decode to the bytes
+-- encoding: the octets of bytes decode to the bytes
 pub octets_decode_to_their_bytes : (bytes : List ℕ) → bytes_decoded_from (map Octet bytes) ≡ bytes
 octets_decode_to_their_bytes [] = refl
 octets_decode_to_their_bytes (b ∷ bytes) = ap (λ x. b ∷ x) (octets_decode_to_their_bytes bytes)
@@ -70,7 +70,7 @@ encoded_chars_decode_to_their_bytes set (c ∷ cs) =
     (encoded_char_decodes_to_its_bytes set c)
     ∙ ap (λ x. encode_utf8 c ++ x) (encoded_chars_decode_to_their_bytes set cs)
 
--- encoded text decodes to the text
+-- encoding: encoded text decodes to the text
 pub encoded_text_decodes_to_itself : (set : TableSet) (text : List ℕ) → IsUtf8 text
     → bytes_decoded_from (encode_text set text) ≡ text
 encoded_text_decodes_to_itself set text u = encoded_chars_decode_to_their_bytes set (chars text)
@@ -94,7 +94,7 @@ encoded_pieces_decode_to_their_bytes set (p ∷ ps) h =
     ∙ ap (λ x. piece_bytes p ++ x)
     (encoded_pieces_decode_to_their_bytes set ps (All-tail IsOfCharacter p ps h))
 
--- encoded bytes decode to the bytes
+-- encoding: encoded bytes decode to the bytes
 pub encoded_bytes_decode_to_themselves : (set : TableSet) (bytes : List ℕ)
     → bytes_decoded_from (encode_bytes set bytes) ≡ bytes
 encoded_bytes_decode_to_themselves set bytes = encoded_pieces_decode_to_their_bytes set
@@ -172,7 +172,7 @@ ill_formed_piece_is_encoded_as_octets : (set : TableSet) (bytes : List ℕ)
 ill_formed_piece_is_encoded_as_octets set [] = refl
 ill_formed_piece_is_encoded_as_octets set (b ∷ bytes) = append-nil (map Octet (b ∷ bytes))
 
--- encoding bytes: after a chunk and its ill-formed part (fault),
+-- encoding: after a chunk and its ill-formed part (fault),
 -- what is left to append are the bytes after them
 pub encoded_bytes_after_chunk : (set : TableSet) (out mid new bytes text fault rest all : List ℕ)
     → IsUtf8 text

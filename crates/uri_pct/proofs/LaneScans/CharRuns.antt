@@ -16,7 +16,7 @@ use Rattle.uri_pct.proofs.TableSets.LeadBytes.{past_ascii_lead_is_at_least_c2}
 use Rattle.uri_pct.proofs.TableSets.LeadBytes.{second_byte_past_ascii_continues}
 use Rattle.uri_pct.proofs.TableSets.LeadBytes.{third_byte_from_e0_continues}
 
--- the parts of the characters
+-- sixteen bytes at a time: the byte may be a part of a character from U+00C0 to U+D7FF
 abbrev is_byte_of_char_part : ℕ → Bool
 is_byte_of_char_part b = nat_le b 237 && not (nat_le b 127) && not (eqb b 194)
 

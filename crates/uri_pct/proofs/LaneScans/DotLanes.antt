@@ -11,9 +11,11 @@ use Rattle.uri_pct.proofs.LaneScans.LaneBits.{is_set_bit, mask_bit_is_equality_o
 use Rattle.uri_pct.proofs.LaneScans.LaneBits.{equality_mask_is_below_2_16}
 use Rattle.uri_pct.proofs.LaneScans.LaneBits.{trailing_zeros_is_first_set_lane}
 
+-- sixteen bytes at a time: the mask of the lanes from i on that equal a byte
 abbrev mask_of_lanes_equal_to : ℕ → List ℕ → ℕ → ℕ
 mask_of_lanes_equal_to byte bs i = mask_l (map (λ b. eqb b byte) (chunk i 16 bs))
 
+-- sixteen bytes at a time: a `/` is at index k, and a `.` or `%` after it
 abbrev is_slash_before_dot_or_percent : List ℕ → ℕ → Bool
 is_slash_before_dot_or_percent bs k = eqb (get_or bs k 0) 47
     && (eqb (get_or bs (k + 1) 0) 46 || eqb (get_or bs (k + 1) 0) 37)

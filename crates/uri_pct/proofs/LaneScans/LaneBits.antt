@@ -14,15 +14,15 @@ use Rattle.std.proofs.lemmas.List.{get_or_default, length-map}
 use Rattle.std.proofs.Math.ListN.{get_or-map}
 use Rattle.uri_pct.proofs.LaneScans.LaneRuns.{MarksFailingLanes}
 
--- the bit is set
+-- sixteen bytes at a time, bits: the bit of the number is set
 abbrev pub is_set_bit : ℕ → ℕ → Bool
 is_set_bit n k = eqb (bit_at n k) 1
 
--- bits, for scans: shifting right by s bits makes bit s + k bit k
+-- sixteen bytes at a time, bits: shifting right by s bits makes bit s + k bit k
 pub bit_of_right_shift : (n s k : ℕ) → is_set_bit (n / 2 ^ s) k ≡ is_set_bit n (s + k)
 bit_of_right_shift n s k = ap (λ m. eqb (m % 2) 1) (shr-shr n s k)
 
--- bits, for scans: shifting a word left by s bits makes bit k - s bit k
+-- sixteen bytes at a time, bits: shifting a word left by s bits makes bit k - s bit k
 pub bit_of_left_shift : (n s k : ℕ) → k < 64 → s ≤ k → is_set_bit (n * 2 ^ s % 2 ^ 64) k
     ≡ is_set_bit n (k - s)
 bit_of_left_shift n s k h l =
@@ -33,7 +33,7 @@ bit_of_left_shift n s k h l =
     ∙ ap (λ m. min (bit_at (n * 2 ^ s) k) m) (bit_at_ones 64 k h) ∙ omega arith
     ∙ ap (λ m. bit_at m k) (sym z) ∙ bit_at_cat_high n s 0 k (pow_pos s) l)
 
--- bits, for scans: shifting a word left by s bits clears the s low ones
+-- sixteen bytes at a time, bits: shifting a word left by s bits clears the s low ones
 pub low_bit_of_left_shift_is_clear : (n s k : ℕ) → k < 64 → k < s
     → is_set_bit (n * 2 ^ s % 2 ^ 64) k ≡ false
 low_bit_of_left_shift_is_clear n s k h l =

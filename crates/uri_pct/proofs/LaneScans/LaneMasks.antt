@@ -23,7 +23,7 @@ use Rattle.uri_pct.proofs.TableSets.Masks.{has_bit_from_64_is_bit_of_high}
 use Rattle.uri_pct.proofs.TableSets.Masks.{has_bit_past_ascii_is_false}
 use Rattle.uri_pct.specs.Models.LaneMasks.{bytes_of_masks, bit_in_mask_byte}
 
--- bits, for scans: byte j of a number has its bits from 8 * j on
+-- sixteen bytes at a time, bits: byte j of a number has its bits from 8 * j on
 byte_of_number_is_its_eight_bits : (n x j : ℕ) → j < n → get_or (digits_l (2 ^ 8) n x) j 0
     ≡ x / 2 ^ (8 * j) % 2 ^ 8
 byte_of_number_is_its_eight_bits zero x j h = absurd (omega arith)
@@ -33,7 +33,7 @@ byte_of_number_is_its_eight_bits (suc n) x (suc j) h =
     byte_of_number_is_its_eight_bits n (x / 2 ^ 8) j (omega arith)
     ∙ ap (λ y. y % 2 ^ 8) (shr-shr x 8 (8 * j) ∙ ap (λ k. x / 2 ^ k) e)
 
--- bits, for scans: bit k of byte j of a number is its bit 8 * j + k
+-- sixteen bytes at a time, bits: bit k of byte j of a number is its bit 8 * j + k
 bit_of_byte_is_bit_of_number : (x j k : ℕ) → k < 8 → bit_at (x / 2 ^ (8 * j) % 2 ^ 8) k
     ≡ bit_at x (8 * j + k)
 bit_of_byte_is_bit_of_number x j k h =
@@ -43,7 +43,7 @@ bit_of_byte_is_bit_of_number x j k h =
     ∙ ap (λ b. min (bit_at m k) b) (bit_at_ones 8 k h) ∙ omega arith
     ∙ ap (λ y. y % 2) (shr-shr x (8 * j) k)
 
--- tables: the bit of an ASCII character in the two words as one number
+-- sixteen bytes at a time: the bit of an ASCII character in the two words as one number
 has_bit_is_bit_of_joined_masks : (low high c : ℕ) → low < 2 ^ 64 → c < 128
     → has_bit low high c ≡ eqb (bit_at (low + 2 ^ 64 * high) c) 1
 has_bit_is_bit_of_joined_masks low high c fits below =
@@ -56,14 +56,14 @@ has_bit_is_bit_of_joined_masks low high c fits below =
     ∙ ap (λ n. bit_at n c) turned))
     (cases_lt c 64)
 
--- bits, for scans: a bit times a power of two is zero exactly if the bit is
+-- sixteen bytes at a time, bits: a bit times a power of two is zero exactly if the bit is
 shifted_bit_is_zero_iff_clear : (b k : ℕ) → b < 2 → eqb (b * 2 ^ k) 0 ≡ not (eqb b 1)
 shifted_bit_is_zero_iff_clear zero k h = let e : 0 * 2 ^ k ≡ 0 = omega arith in ap (λ x. eqb x 0) e
 shifted_bit_is_zero_iff_clear (suc zero) k h = let l : 0 < 2 ^ k = pow_pos k in
     ne_eqb (1 * 2 ^ k) 0 (λ (e : 1 * 2 ^ k ≡ 0). omega arith)
 shifted_bit_is_zero_iff_clear (suc (suc b)) k h = absurd (omega arith)
 
--- bits, for scans: `and` with zero is zero
+-- sixteen bytes at a time, bits: `and` with zero is zero
 and_with_zero_is_zero : (n k : ℕ) → k ≡ 0 → eqb (bit_and n k) 0 ≡ true
 and_with_zero_is_zero n k e = rw e (ap (λ x. eqb x 0) (and_zero_r n))
 
@@ -146,6 +146,7 @@ pub swizzle_reads_mask_byte : (xs : List ℕ) (b : ℕ) → b < 256
 swizzle_reads_mask_byte xs b h = cond-false _ _ _
     (agree_below_at (λ c. zeroes 16 w8 (c / 8 % 16)) (λ c. false) 256 b refl h)
 
+-- sixteen bytes at a time: the vector that has the bit of a byte by its three lowest bits
 abbrev pub swizzle_bits : List ℕ
 swizzle_bits = 1 ∷ 2 ∷ 4 ∷ 8 ∷ 16 ∷ 32 ∷ 64 ∷ 128 ∷ 0 ∷ 0 ∷ 0 ∷ 0 ∷ 0 ∷ 0 ∷ 0 ∷ 0 ∷ []
 

@@ -12,7 +12,7 @@ use Rattle.std.proofs.lemmas.List.{get_or_default, length-map}
 use Rattle.std.proofs.Math.ListN.{get_or-map}
 use Rattle.uri_pct.specs.Models.ByteRuns.{IsLongestRun}
 
--- bit k of the mask is set where the byte at i + k does not pass, for w bytes
+-- sixteen bytes at a time: bit k of the mask is set where the byte at i + k fails, for w bytes
 pub record MarksFailingLanes (test : ℕ → Bool) (bs : List ℕ) (i w mask : ℕ) : Type 0 where
   pub lane : (k : ℕ) → k < w → bit_at mask k ≡ cond (not (test (get_or bs (i + k) 0))) 1 0
   pub below : mask < 2 ^ w
@@ -57,6 +57,7 @@ last_load_marks_failing_lanes test bs i mask long within near m =
     (shifted_mask_marks_later_lanes test bs (length bs - 16) (length bs - i) s mask
     (subst (λ n. MarksFailingLanes test bs (length bs - 16) n mask) (sym whole) m))
 
+-- sixteen bytes at a time: the bit in the mask of a lane that passes the test, or fails it
 abbrev mask_bit_of_lane : Bool → ℕ
 mask_bit_of_lane b = cond (not b) 1 0
 
@@ -110,7 +111,7 @@ module _ (test : ℕ → Bool) (bs : List ℕ) (i w mask : ℕ)
         (sym (m.lane (trailing_zeros w64 mask) first_marked_lane_is_within_width)
         ∙ trailing_zeros_is_first_marked_lane.1)
 
--- scanning: if two adjacent runs of bytes pass a test, all their bytes pass it
+-- sixteen bytes at a time: if two adjacent runs of bytes pass a test, all their bytes pass it
 adjacent_passing_runs_join : (test : ℕ → Bool) (bs : List ℕ) (a m b : ℕ)
     → ((k : ℕ) → a ≤ k → k < m → test (get_or bs k 0) ≡ true)
     → ((k : ℕ) → m ≤ k → k < b → test (get_or bs k 0) ≡ true) → (k : ℕ) → a ≤ k → k < b

@@ -7,7 +7,7 @@ use Rattle.std.proofs.lemmas.Bool.{ltb-true, eqb-true}
 use Rattle.uri_pct.specs.Texts.{has_hex_digits_after}
 use Rattle.uri_pct.specs.Models.ByteRuns.{AreCharactersOrOctets, IsByteOfEncodedText}
 
--- octets: a hexadecimal digit is no `%` (37)
+-- sixteen bytes at a time: a hexadecimal digit is no `%` (37)
 hexdigit_is_not_percent : (c : ℕ) → is_ascii_hexdigit c ≡ true → c ≡ 37 → ⊥
 hexdigit_is_not_percent c h e =
     both_ways _ (refl {a = is_ascii_hexdigit 37}) (ap is_ascii_hexdigit (sym e) ∙ h)

@@ -24,13 +24,13 @@ pub char_of_hex_masks_is_hexdigit : (c : ℕ) → has_bit 0x03FF000000000000 0x0
     → is_ascii_hexdigit c ≡ true
 char_of_hex_masks_is_hexdigit c e = sym (ap (λ s. s.ascii c) hexdig_masks_are_hexdig_set) ∙ e
 
--- general fact on booleans, for lanes of a scan
+-- general fact on booleans, for sixteen bytes at a time
 and_not_is_true_of_both_parts : (a b : Bool) → (a && not b) ≡ true → (a ≡ true) × (b ≡ false)
 and_not_is_true_of_both_parts true true e = (refl, sym e)
 and_not_is_true_of_both_parts true false e = (refl, refl)
 and_not_is_true_of_both_parts false b e = absurd (both_ways _ refl e)
 
--- general fact on booleans, for lanes of a scan
+-- general fact on booleans, for sixteen bytes at a time
 pub first_is_false_if_and_is_false : (a b : Bool) → (a && b) ≡ false → b ≡ true → a ≡ false
 first_is_false_if_and_is_false true b e h = absurd (both_ways _ e h)
 first_is_false_if_and_is_false false b e h = refl
@@ -90,11 +90,12 @@ module _ (bs : List ℕ) (i percents others : ℕ)
             (ap (λ m. is_ascii_hexdigit (get_or bs m 0)) (omega arith) ∙ at_2),
       )
 
--- the lanes of octets, and those that are or_parts these nor passed
+-- sixteen bytes at a time: the lanes of the octets that begin at the lanes of `begun`
 abbrev pub lanes_covered_by_octets : ℕ → ℕ
 lanes_covered_by_octets begun = bit_or (bit_or begun (begun * 2 ^ 1 % 2 ^ 64))
     (begun * 2 ^ 2 % 2 ^ 64)
 
+-- sixteen bytes at a time: the lanes of `misses` that are in no octet
 abbrev pub lanes_left_uncovered : ℕ → ℕ → ℕ
 lanes_left_uncovered misses begun = bit_and misses (bit_not w64 (lanes_covered_by_octets begun))
 

@@ -16,8 +16,8 @@ ascii_is_not_allowed_past_ascii : (set : TableSet) (c : ℕ) → c < 128 → all
 ascii_is_not_allowed_past_ascii set c below = false_from_ne_true _
     (λ e. let p = allowed_past_ascii_is_scalar set c e in absurd (omega arith))
 
--- normalising: the table of decodable characters,
--- unreserved ones and those of the set past ASCII, allows exactly these
+-- tables: the table of decodable characters, unreserved ones
+-- and those of the set past ASCII, allows exactly these
 pub decodable_table_allows_decodable : (set : TableSet) (c : ℕ)
     → allows (set_of_masks 0x03FF600000000000 0x47FFFFFE87FFFFFE false set.ucschar set.iprivate) c
     ≡ is_decodable set c

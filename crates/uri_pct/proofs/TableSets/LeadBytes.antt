@@ -15,18 +15,18 @@ use Rattle.uri_pct.specs.Prefixes.{valid_prefix}
 use Rattle.uri_pct.proofs.ValidTexts.PrefixSteps.{valid_prefix_by_char_past_ascii_at_index}
 use Rattle.uri_pct.proofs.TableSets.Ranges.{is_low_ucschar, ucschar_below_plane_1_is_low_ucschar}
 
--- the character that begins a text
+-- tables, lead bytes: the character that begins a text
 record FirstChar (text : List ℕ) : Type 0 where
   code : ℕ
   suffix : List ℕ
   scalar : IsScalar code
   joined : text ≡ encode_utf8 code ++ suffix
 
--- UTF-8: the empty text has no first byte
+-- tables, lead bytes: the empty text has no first byte
 empty_text_has_no_first_byte : (text : List ℕ) → [] ≡ text → 0 < length text → ⊥
 empty_text_has_no_first_byte text e h = let n = ap length e in omega arith
 
--- UTF-8: a text that is not empty begins with a character
+-- tables, lead bytes: a text that is not empty begins with a character
 nonempty_text_has_first_char : (text cs : List ℕ) → all_scalars cs ≡ true → encode_utf8_all cs
     ≡ text → 0 < length text
     → FirstChar text
@@ -40,12 +40,12 @@ nonempty_text_has_first_char text (c ∷ cs) s e h =
       joined = sym e;
     }
 
--- its first byte
+-- tables, lead bytes: the first byte of a character in UTF-8
 abbrev lead_byte : ℕ → ℕ
 lead_byte c = cond (ltb c 128) c
     (cond (ltb c 2048) (192 + c / 64) (cond (ltb c 65536) (224 + c / 4096) (240 + c / 262144)))
 
--- UTF-8: the first byte of a character before others is its lead byte
+-- tables, lead bytes: the first byte of a character before others is its lead byte
 first_byte_of_char_is_lead_byte : (c : ℕ) (rest : List ℕ) → get_or (encode_utf8 c ++ rest) 0 0
     ≡ lead_byte c
 unfolding encode_utf8
@@ -58,7 +58,7 @@ first_byte_of_char_is_lead_byte c rest = ⊎_elim
     (cases_Bool (ltb c 2048)))
     (cases_Bool (ltb c 128))
 
--- UTF-8: a lead byte past ASCII begins a character past ASCII
+-- tables, lead bytes: a lead byte past ASCII begins a character past ASCII
 lead_byte_past_ascii_is_char_past_ascii : (c : ℕ) → 128 ≤ lead_byte c → 128 ≤ c
 lead_byte_past_ascii_is_char_past_ascii c h = ⊎_elim
     (λ small. let e : lead_byte c ≡ c = cond-true _ _ _ (lt-ltb c 128 small) in
@@ -66,7 +66,7 @@ lead_byte_past_ascii_is_char_past_ascii c h = ⊎_elim
     (λ past. past)
     (cases_lt c 128)
 
--- UTF-8: a lead byte from E0 (224) begins a character from U+0800 (2048)
+-- tables, lead bytes: a lead byte from E0 (224) begins a character from U+0800 (2048)
 lead_byte_from_224_is_char_from_2048 : (c : ℕ) → 224 ≤ lead_byte c → 2048 ≤ c
 lead_byte_from_224_is_char_from_2048 c h =
     let past = lead_byte_past_ascii_is_char_past_ascii c (omega arith) in
@@ -76,7 +76,7 @@ lead_byte_from_224_is_char_from_2048 c h =
     (λ big. big)
     (cases_lt c 2048)
 
--- UTF-8: a lead byte past ASCII is C2 (194) at least
+-- tables, lead bytes: a lead byte past ASCII is C2 (194) at least
 lead_byte_past_ascii_is_at_least_c2 : (c : ℕ) → 128 ≤ lead_byte c → 194 ≤ lead_byte c
 lead_byte_past_ascii_is_at_least_c2 c h =
     let past = lead_byte_past_ascii_is_char_past_ascii c h in
@@ -92,15 +92,15 @@ lead_byte_past_ascii_is_at_least_c2 c h =
     (cases_lt c 65536))
     (cases_lt c 2048)
 
--- the bytes after it
+-- tables, lead bytes: the byte continues a character
 abbrev IsContinuationByte : ℕ → Type 0
 IsContinuationByte b = (128 ≤ b) × (b < 192)
 
--- UTF-8: 128 and six bits are a byte that continues a character
+-- tables, lead bytes: 128 and six bits are a byte that continues a character
 byte_128_plus_low_six_bits_continues : (n : ℕ) → IsContinuationByte (128 + n % 64)
 byte_128_plus_low_six_bits_continues n = (omega arith, omega arith)
 
--- UTF-8: the second byte of a character past ASCII continues it
+-- tables, lead bytes: the second byte of a character past ASCII continues it
 second_byte_of_char_continues : (c : ℕ) (rest : List ℕ) → 128 ≤ c
     → IsContinuationByte (get_or (encode_utf8 c ++ rest) 1 0)
 unfolding encode_utf8
@@ -114,7 +114,7 @@ second_byte_of_char_continues c rest past =
     (cases_Bool (ltb c 65536)))
     (cases_Bool (ltb c 2048))
 
--- UTF-8: the third byte of a character from U+0800 (2048) continues it
+-- tables, lead bytes: the third byte of a character from U+0800 (2048) continues it
 third_byte_of_char_continues : (c : ℕ) (rest : List ℕ) → 2048 ≤ c
     → IsContinuationByte (get_or (encode_utf8 c ++ rest) 2 0)
 unfolding encode_utf8
@@ -126,13 +126,14 @@ third_byte_of_char_continues c rest big =
     (λ (g : ltb c 65536 ≡ false). rw (e, f, g) (byte_128_plus_low_six_bits_continues (c / 64)))
     (cases_Bool (ltb c 65536))
 
--- what the first byte says of the character
+-- tables, lead bytes: the character is from U+00A0 to U+D7FF and has n bytes, as its lead byte says
 record HasLengthByLead (c n : ℕ) : Type 0 where
   from : 160 ≤ c
   to : c ≤ 55295
   size : len_utf8 c ≡ n
 
--- UTF-8: a lead byte from C3 (195) to DF (223) begins a character of two bytes, from U+00C0
+-- tables, lead bytes: a lead byte from C3 (195)
+-- to DF (223) begins a character of two bytes, from U+00C0
 lead_from_195_to_223_has_two_bytes : (c : ℕ) → 195 ≤ lead_byte c → lead_byte c < 224
     → HasLengthByLead c 2
 lead_from_195_to_223_has_two_bytes c h l = ⊎_elim
@@ -152,11 +153,12 @@ lead_from_195_to_223_has_two_bytes c h l = ⊎_elim
     (cases_lt c 2048))
     (cases_lt c 128)
 
--- UTF-8: a scalar value below U+E000 is U+D7FF (55295) at most
+-- tables, lead bytes: a scalar value below U+E000 is U+D7FF (55295) at most
 scalar_below_e000_is_at_most_d7ff : (c : ℕ) → IsScalar c → c < 57344 → c ≤ 55295
 scalar_below_e000_is_at_most_d7ff c s h = grind (arith, nat_tests)
 
--- UTF-8: a lead byte from E0 (224) to ED (237) begins a character of three bytes, up to U+D7FF
+-- tables, lead bytes: a lead byte from E0 (224)
+-- to ED (237) begins a character of three bytes, up to U+D7FF
 lead_from_224_to_237_has_three_bytes : (c : ℕ) → IsScalar c → 224 ≤ lead_byte c → lead_byte c ≤ 237
     → HasLengthByLead c 3
 lead_from_224_to_237_has_three_bytes c s h l = ⊎_elim
@@ -182,21 +184,22 @@ lead_from_224_to_237_has_three_bytes c s h l = ⊎_elim
     (cases_lt c 2048))
     (cases_lt c 128)
 
--- sets: a number from U+00A0 to U+D7FF is in this range of `ucschar`
+-- tables, lead bytes: a number from U+00A0 to U+D7FF is in this range of `ucschar`
 char_from_a0_to_d7ff_is_in_range : (c : ℕ) → 160 ≤ c → c ≤ 55295 → is_in_range 0xA0 0xD7FF c ≡ true
 char_from_a0_to_d7ff_is_in_range c from to = grind (arith, nat_tests)
 
--- sets: this range is within the part of `ucschar` below U+10000
+-- tables, lead bytes: this range is within the part of `ucschar` below U+10000
 char_in_first_range_is_low_ucschar : (c : ℕ) → is_in_range 0xA0 0xD7FF c ≡ true
     → is_low_ucschar c ≡ true
 char_in_first_range_is_low_ucschar c e = rw e refl
 
--- sets: a character from U+00A0 to U+D7FF is in `ucschar`
+-- tables, lead bytes: a character from U+00A0 to U+D7FF is in `ucschar`
 char_from_a0_to_d7ff_is_ucschar : (c : ℕ) → 160 ≤ c → c ≤ 55295 → is_ucschar c ≡ true
 char_from_a0_to_d7ff_is_ucschar c from to = ucschar_below_plane_1_is_low_ucschar c (omega arith)
     ∙ char_in_first_range_is_low_ucschar c (char_from_a0_to_d7ff_is_in_range c from to)
 
--- sets: a set with `ucschar` has each character whose lead byte tells its length n here
+-- tables, lead bytes: a set with `ucschar` has each
+-- character whose lead byte tells its length n here
 char_with_length_by_lead_is_allowed : (set : TableSet) (c n : ℕ) → set.ucschar ≡ true
     → HasLengthByLead c n
     → allows_past_ascii set c ≡ true
@@ -204,13 +207,13 @@ unfolding allows_past_ascii
 char_with_length_by_lead_is_allowed set c n flag told = or_left _ _
     (and_from _ _ flag (char_from_a0_to_d7ff_is_ucschar c told.from told.to))
 
--- UTF-8: a byte in the range C3 to ED is from 195 to 237
+-- tables, lead bytes: a byte in the range C3 to ED is from 195 to 237
 pub byte_in_lead_range_is_c3_to_ed : (b : ℕ) → is_in_range 0xC3 0xED b ≡ true → (195 ≤ b)
     × (b ≤ 237)
 byte_in_lead_range_is_c3_to_ed b e = let p =
     and_parts _ _ e in (leb-true 195 b p.0, leb-true b 237 p.1)
 
--- scanning: a scan passes an allowed character past ASCII, of n bytes at i
+-- tables, lead bytes: a scan passes an allowed character past ASCII, of n bytes at i
 pub scan_passes_char : (set : TableSet) (bs rest : List ℕ) (i c n : ℕ) → IsUtf8 bs
     → IsCharBoundary bs i
     → i < length bs → 128 ≤ get_or bs i 0 → drop i bs ≡ encode_utf8 c ++ rest
@@ -228,7 +231,7 @@ scan_passes_char set bs rest i c n u here inside past joined allowed size =
           (IsUtf8-drop bs i u here) joined,
     )
 
--- UTF-8: where a character begins at i, the byte there is its lead byte
+-- tables, lead bytes: where a character begins at i, the byte there is its lead byte
 byte_at_char_is_its_lead_byte : (bs rest : List ℕ) (i c : ℕ) → drop i bs ≡ encode_utf8 c ++ rest
     → get_or bs i 0 ≡ lead_byte c
 byte_at_char_is_its_lead_byte bs rest i c joined =

@@ -45,7 +45,7 @@ pub has_bit_of_percent_is_bit_of_low : (low high : ℕ) → has_bit low high 37 
 unfolding has_bit
 has_bit_of_percent_is_bit_of_low low high = refl
 
--- the bit that the code reads, out of four words
+-- tables: the bit of a byte that the code reads, out of four words
 abbrev pub tested_bit : List ℕ → ℕ → Bool
 tested_bit words b = eqb (bit_and (slice_index_or words (b / 64) 0 / 2 ^ bit_and b 63) 1) 1
 
@@ -90,8 +90,8 @@ tested_bit-is-has_bit words b third fourth h =
     (cases_lt b 128))
     (cases_lt b 64)
 
--- The bits of two words are a test of characters if those of `low` agree with it below 64, and
--- those of `high` below 128. From 128 on the test fails.
+-- tables: the bits of two words are a test of characters if those of `low` agree
+-- with it below 64, those of `high` below 128, and the test fails from 128 on
 has_bit_is_test_if_words_agree : (low high : ℕ) (f : ℕ → Bool)
     → ((c : ℕ) → c < 64 → eqb (bit_at low c) 1 ≡ f c)
     → ((c : ℕ) → 64 ≤ c → c < 128 → eqb (bit_at high (c - 64)) 1 ≡ f c)

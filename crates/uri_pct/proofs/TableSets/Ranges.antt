@@ -65,7 +65,7 @@ planes_lack_only_last_two_of_each (suc n) c from below =
     ∙ range_of_plane_lacks_only_last_two (n + 1) c here (omega arith))
     (cases_lt c (65536 * (n + 1)))
 
--- the ranges of plane 0
+-- sets: the ranges of `ucschar` in plane 0
 abbrev pub is_low_ucschar : ℕ → Bool
 is_low_ucschar c = is_in_range 0xA0 0xD7FF c || is_in_range 0xF900 0xFDCF c
     || is_in_range 0xFDF0 0xFFEF c
@@ -104,7 +104,7 @@ ucschar_of_planes_1_to_13_lacks_last_two c from below =
     (omega arith))
     ∙ or-false (in_planes false 13 c) ∙ planes_lack_only_last_two_of_each 13 c from below
 
--- from plane 14 on `ucschar` has U+E1000 to U+EFFFD
+-- sets: from plane 14 on `ucschar` has U+E1000 to U+EFFFD
 pub ucschar_from_plane_14_is_one_range : (c : ℕ) → 0xE0000 ≤ c → is_ucschar c
     ≡ is_in_range 0xE1000 0xEFFFD c
 ucschar_from_plane_14_is_one_range c h =

@@ -15,6 +15,7 @@ use Rattle.uri_pct.specs.Tables.{empty_set}
 use Rattle.uri_pct.proofs.TableSets.Masks.{has_bit-zero-masks, low_mask_without_bits_is_zero}
 use Rattle.uri_pct.proofs.TableSets.Masks.{high_mask_without_bits_is_zero}
 
+-- tables: the set of the characters that pass a test, with three flags
 abbrev pub record_set : (ℕ → Bool) → Bool → Bool → Bool → TableSet
 record_set test pct_encoded ucschar iprivate =
     record { ascii = test; pct_encoded = pct_encoded; ucschar = ucschar; iprivate = iprivate }
@@ -61,11 +62,12 @@ difference_from_superset_is_empty s t h = λ i. record {
   iprivate = and_not_is_false_if_first_implies_second s.iprivate t.iprivate h.iprivate i;
 }
 
--- masks and flags of which none is set
+-- tables: no bit of the two words and none of the three flags is set
 abbrev pub is_clear : ℕ → ℕ → Bool → Bool → Bool → Bool
 is_clear low high pct_encoded ucschar iprivate =
     eqb (bit_or low high) 0 && not (pct_encoded || ucschar || iprivate)
 
+-- tables: the set of the characters whose bits are set in two words, with three flags
 abbrev pub set_of_masks : ℕ → ℕ → Bool → Bool → Bool → TableSet
 set_of_masks low high = record_set (has_bit low high)
 
@@ -89,7 +91,7 @@ clear_masks_are_empty_set low high pct_encoded ucschar iprivate h =
     ∙ (λ i. record_set (λ c. has_bit-zero-masks c i) (first_flags.0 i) (first_flags.1 i)
     (flags.1 i))
 
--- if a table's set is empty, its masks are zero and it has no flag
+-- tables: if the set of a table is empty, its two words are zero and it has no flag
 pub empty_set_has_clear_masks : (low high : ℕ) (pct_encoded ucschar iprivate : Bool) → low < 2 ^ 64
     → high < 2 ^ 64 → set_of_masks low high pct_encoded ucschar iprivate ≡ empty_set
     → is_clear low high pct_encoded ucschar iprivate ≡ true

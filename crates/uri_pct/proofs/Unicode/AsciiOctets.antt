@@ -29,7 +29,8 @@ cut_after_ascii_divides_no_piece : (b : ℕ) → b < 128 → CutsNoPiece (b ∷ 
 cut_after_ascii_divides_no_piece b small suffix = utf8_pieces_are_cut_after_text (b ∷ []) suffix
     (ascii_byte_is_utf8 b small)
 
--- decoding: an octet of ASCII ends the run of octets before it, and its part is separate
+-- UTF-8 of decoded octets: an octet of ASCII ends the run
+-- of octets before it, and its part is separate
 pub parts_from-ascii-octet : (run : List ℕ) (b : ℕ) (suffix : List Chunk) → b < 128
     → parts_from run (Byte b ∷ suffix)
     ≡ map Decoded (utf8_pieces run) ++ (map Decoded (utf8_pieces (b ∷ [])) ++ parts_from [] suffix)
@@ -41,7 +42,7 @@ parts_from-ascii-octet run b suffix small =
     (parts_from_are_cut_where_pieces_are (b ∷ []) [] [] suffix
     (cut_after_ascii_divides_no_piece b small))
 
--- decoding: a prefix of bytes past ASCII is past ASCII
+-- UTF-8 of decoded octets: a prefix of bytes past ASCII is past ASCII
 pub prefix_of_past_ascii_is_past_ascii : (prefix end bytes : List ℕ) → bytes ≡ prefix ++ end
     → ArePastAscii bytes
     → ArePastAscii prefix
@@ -49,7 +50,7 @@ prefix_of_past_ascii_is_past_ascii prefix end bytes same past = All-same (λ b. 
     (sym (ap (take (length prefix)) same ∙ take-append_seam prefix end))
     (All-take (λ b. 128 ≤ b) (length prefix) bytes past)
 
--- decoding: in bytes past ASCII, each suffix is past ASCII
+-- UTF-8 of decoded octets: in bytes past ASCII, each suffix is past ASCII
 pub suffix_of_past_ascii_is_past_ascii : (prefix end bytes : List ℕ) → bytes ≡ prefix ++ end
     → ArePastAscii bytes
     → ArePastAscii end

@@ -36,26 +36,30 @@ utf8_of_char_of_two_bytes : (c : ℕ) → 0x80 ≤ c → c < 0x800 → encode_ut
 unfolding encode_utf8
 utf8_of_char_of_two_bytes c low high = grind (arith, nat_tests)
 
+-- UTF-8: the bytes of a character from U+0800 to U+FFFF
 utf8_of_char_of_three_bytes : (c : ℕ) → 0x800 ≤ c → c < 0x10000
     → encode_utf8 c ≡ (224 + c / 4096) ∷ (128 + c / 64 % 64) ∷ (128 + c % 64) ∷ []
 unfolding encode_utf8
 utf8_of_char_of_three_bytes c low high = grind (arith, nat_tests)
 
+-- UTF-8: the bytes of a character from U+10000 on
 utf8_of_char_of_four_bytes : (c : ℕ) → 0x10000 ≤ c
     → encode_utf8 c
     ≡ (240 + c / 262144) ∷ (128 + c / 4096 % 64) ∷ (128 + c / 64 % 64) ∷ (128 + c % 64) ∷ []
 unfolding encode_utf8
 utf8_of_char_of_four_bytes c low = grind (arith, nat_tests)
 
--- the bytes of c are a piece
+-- UTF-8: the bytes of a character, before any others, are a piece
 abbrev BeginsPiece : ℕ → List ℕ → Type 0
 BeginsPiece c rest = utf8_pieces (encode_utf8 c ++ rest)
     ≡ WellFormed (encode_utf8 c) ∷ utf8_pieces rest
 
+-- UTF-8: an ASCII character is a piece
 ascii_char_begins_piece : (c : ℕ) (rest : List ℕ) → c < 0x80 → BeginsPiece c rest
 ascii_char_begins_piece c rest high = rw (encode_ascii c high)
     (fitting_bytes_are_well_formed_first_piece c [] [] rest (no_range_follows_ascii_byte c high) tt)
 
+-- UTF-8: a character of two bytes is a piece
 char_of_two_bytes_begins_piece : (c : ℕ) (rest : List ℕ) → 0x80 ≤ c → c < 0x800 → BeginsPiece c rest
 char_of_two_bytes_begins_piece c rest low high = rw (utf8_of_char_of_two_bytes c low high)
     (fitting_bytes_are_well_formed_first_piece (192 + c / 64) (continuation ∷ [])
@@ -85,6 +89,7 @@ char_of_four_bytes_begins_piece c rest second low row from byte_within_bounds = 
     ((128 + c / 4096 % 64) ∷ (128 + c / 64 % 64) ∷ (128 + c % 64) ∷ []) rest row
     ((from, byte_within_bounds), ((omega arith, omega arith), ((omega arith, omega arith), tt))))
 
+-- UTF-8: a character below the surrogates is a piece
 char_below_surrogates_begins_piece : (c : ℕ) (rest : List ℕ) → c < 0xD800 → BeginsPiece c rest
 char_below_surrogates_begins_piece c rest high = ⊎_elim (λ h. ascii_char_begins_piece c rest h)
     (λ l1.
@@ -100,6 +105,7 @@ char_below_surrogates_begins_piece c rest high = ⊎_elim (λ h. ascii_char_begi
     (omega arith))
     (cases_lt c 0xD000)) (cases_lt c 0x1000)) (cases_lt c 0x800)) (cases_lt c 0x80)
 
+-- UTF-8: a character above the surrogates is a piece
 char_above_surrogates_begins_piece : (c : ℕ) (rest : List ℕ) → 0xE000 ≤ c → c < 0x110000
     → BeginsPiece c rest
 char_above_surrogates_begins_piece c rest low high = ⊎_elim
@@ -129,6 +135,7 @@ pub byte_below_80_or_from_c0_is_no_continuation : (b : ℕ) → (b < 0x80) ⊎ (
 byte_below_80_or_from_c0_is_no_continuation b h = ⊎_elim (λ low. and_left _ _ (lt-leb 0x80 b low))
     (λ high. and_right _ _ (lt-leb b 0xBF (omega arith))) h
 
+-- UTF-8: the bytes of a character do not begin with one that continues a character
 char_begins_with_no_continuation : (c : ℕ) (rest : List ℕ)
     → begins_with_continuation (encode_utf8 c ++ rest) ≡ false
 char_begins_with_no_continuation c rest = ⊎_elim
@@ -162,7 +169,7 @@ found_row_has_property_of_all_rows b P (row ∷ rows) none all =
     (λ e. rw e (found_row_has_property_of_all_rows b P rows none all.1))
     (cases_Bool (is_in_byte_range row.0 b))
 
--- the bytes are those of a character
+-- UTF-8: the bytes are those of a character
 abbrev AreUtf8OfCharacter : List ℕ → Type 0
 AreUtf8OfCharacter bytes = (c : ℕ) × IsScalar c × (encode_utf8 c ≡ bytes)
 
@@ -179,16 +186,18 @@ first_byte_fits_first_range range ranges (b ∷ rest) e = ⊎_elim
     (λ f. let s : 0 ≡ suc (length ranges) = sym (cond-false _ _ _ f) ∙ e in absurd (omega arith))
     (cases_Bool (is_in_byte_range range b))
 
+-- UTF-8: a byte in a range is between its bounds
 byte_within_bounds : (b low high : ℕ) → is_in_byte_range (low, high) b ≡ true → (low ≤ b)
     × (b ≤ high)
 byte_within_bounds b low high e = let p = and_parts (leb low b) (leb b high) e in
     (leb-true low b p.0, leb-true b high p.1)
 
--- what is well-formed of a first byte and its row
+-- UTF-8: what is well-formed of a first byte and its row is the bytes of a character
 abbrev FormsCharacters : ℕ → Option (List ByteRange) → Type 0
 FormsCharacters b row = (rest bytes : List ℕ) → first_piece row b rest ≡ WellFormed bytes
     → AreUtf8OfCharacter bytes
 
+-- UTF-8: the bytes after the first of a well-formed piece fit all ranges that may follow it
 well_formed_piece_fits_all_ranges : (b : ℕ) (ranges : List ByteRange) (rest bytes : List ℕ)
     → first_piece (Some ranges) b rest ≡ WellFormed bytes
     → (len_in_ranges ranges rest ≡ length ranges) × (bytes ≡ b ∷ take (length ranges) rest)
@@ -203,6 +212,7 @@ well_formed_piece_fits_all_ranges b ranges rest bytes e = ⊎_elim
     sym (cond-false _ _ _ f) ∙ e in cc)
     (cases_Bool (eqb (len_in_ranges ranges rest) (length ranges)))
 
+-- UTF-8: pieces of one byte are characters
 pieces_of_one_byte_are_characters : (b : ℕ) → b ≤ 0x7F → FormsCharacters b (Some [])
 pieces_of_one_byte_are_characters b high rest bytes e =
     let ascii : b < 0x80 = omega arith in (
@@ -212,6 +222,7 @@ pieces_of_one_byte_are_characters b high rest bytes e =
           ∙ sym (well_formed_piece_fits_all_ranges b [] rest bytes e).1,
     )
 
+-- UTF-8: a number from U+E000 to U+10FFFF is a scalar value
 char_above_surrogates_is_scalar : (c : ℕ) → 0xE000 ≤ c → c < 0x110000 → IsScalar c
 char_above_surrogates_is_scalar c low high = grind (arith, nat_tests)
 
@@ -224,6 +235,7 @@ two_bytes_are_utf8_of_their_value b t c e l h l1 h1 =
     let second : 128 + c % 64 ≡ t = omega arith in
     utf8_of_char_of_two_bytes c (omega arith) (omega arith) ∙ rw (first, second) refl
 
+-- UTF-8: three bytes b, t, u are the character of their value c
 three_bytes_are_utf8_of_their_value : (b t u c : ℕ) → c + 925824 ≡ (b * 64 + t) * 64 + u → 0x800 ≤ c
     → c < 0x10000
     → 0x80 ≤ t → t ≤ 0xBF → 0x80 ≤ u → u ≤ 0xBF → encode_utf8 c ≡ b ∷ t ∷ u ∷ []
@@ -233,6 +245,7 @@ three_bytes_are_utf8_of_their_value b t u c e l h l1 h1 l2 h2 =
     let third : 128 + c % 64 ≡ u = omega arith in
     utf8_of_char_of_three_bytes c l h ∙ rw (first, second, third) refl
 
+-- UTF-8: four bytes b, t, u, v are the character of their value c
 four_bytes_are_utf8_of_their_value : (b t u v c : ℕ) → c + 63447168
     ≡ ((b * 64 + t) * 64 + u) * 64 + v → 0x10000 ≤ c
     → 0x80 ≤ t → t ≤ 0xBF → 0x80 ≤ u → u ≤ 0xBF → 0x80 ≤ v → v ≤ 0xBF
@@ -244,6 +257,7 @@ four_bytes_are_utf8_of_their_value b t u v c e l l1 h1 l2 h2 l3 h3 =
     let fourth : 128 + c % 64 ≡ v = omega arith in
     utf8_of_char_of_four_bytes c l ∙ rw (first, second, third, fourth) refl
 
+-- UTF-8: pieces of two bytes are characters
 pieces_of_two_bytes_are_characters : (b : ℕ) → 0xC2 ≤ b → b ≤ 0xDF
     → FormsCharacters b (Some (continuation ∷ []))
 pieces_of_two_bytes_are_characters b low high rest bytes e =
@@ -302,7 +316,7 @@ pieces_of_four_bytes_are_characters b second low least most fair rest bytes e =
           (omega arith) g.3 g.4 k.3 k.4 ∙ sym whole,
     )
 
--- each well-formed piece is the UTF-8 of a character, row by row of the table
+-- UTF-8: each well-formed piece is the bytes of a character, row by row of the table
 well_formed_pieces_are_characters : (b : ℕ) → FormsCharacters b (following_ranges b)
 unfolding following_ranges
 well_formed_pieces_are_characters b = found_row_has_property_of_all_rows b
@@ -365,6 +379,7 @@ char_of_utf8_is_the_char c scalar =
     ap (λ cs. slice_index cs 0) (ap chars (sym (append-nil (encode_utf8 c)))
     ∙ chars-encodes (c ∷ []) scalars)
 
+-- UTF-8: a piece that is the bytes of a character is of a character
 piece_of_utf8_char_is_of_character : (bytes : List ℕ) → AreUtf8OfCharacter bytes
     → IsOfCharacter (WellFormed bytes)
 piece_of_utf8_char_is_of_character bytes a =
@@ -379,6 +394,7 @@ first_piece_is_of_character b rest (WellFormed bytes) e = piece_of_utf8_char_is_
     (well_formed_pieces_are_characters b rest bytes e)
 first_piece_is_of_character b rest (IllFormed bytes) e = tt
 
+-- UTF-8: after k bytes that are skipped, each piece is a character or ill-formed
 pieces_after_skipped_bytes_are_of_characters : (k : ℕ) (bytes : List ℕ)
     → AllByRecursion IsOfCharacter (pieces_from k bytes)
 unfolding pieces_from

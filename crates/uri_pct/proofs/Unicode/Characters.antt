@@ -12,11 +12,11 @@ use Rattle.std.proofs.lemmas.Bool.Decides.{nat_tests}
 use Rattle.uri_pct.specs.Prefixes.{begins_with_hex_digits, first_char}
 use Rattle.uri_pct.proofs.TableSets.Constants.{past_ascii_is_no_hexdigit}
 
--- a byte that is not ASCII
+-- UTF-8: the byte is not ASCII
 abbrev pub is_no_ascii_byte : ℕ → Bool
 is_no_ascii_byte b = nat_le 128 b
 
--- the first byte of a character says how many follow, and these are not ASCII
+-- UTF-8: the first byte of a character says how many follow, and these are not ASCII
 pub record HasEncoding (c : ℕ) : Type 0 where
   pub first : ℕ
   pub more : List ℕ
@@ -120,11 +120,11 @@ pub first_of_encoded_chars_is_first_char : (c : ℕ) (cs : List ℕ) → all_sca
 unfolding first_char
 first_of_encoded_chars_is_first_char c cs e = ap (λ xs. slice_index xs 0) (chars-encodes (c ∷ cs) e)
 
--- octets: a hexadecimal digit is ASCII
+-- UTF-8: a hexadecimal digit is ASCII
 pub hexdigit_is_ascii : (b : ℕ) → is_ascii_hexdigit b ≡ true → b < 128
 hexdigit_is_ascii b e = grind (arith, nat_tests)
 
--- octets: the first byte of characters is a hexadecimal digit exactly if the first character is
+-- UTF-8: the first byte of characters is a hexadecimal digit exactly if the first character is
 first_byte_is_hexdigit_iff_first_char_is : (cs : List ℕ)
     → is_ascii_hexdigit (get_or (encode_utf8_all cs) 0 0) ≡ is_ascii_hexdigit (get_or cs 0 0)
 first_byte_is_hexdigit_iff_first_char_is [] = refl
@@ -133,7 +133,7 @@ first_byte_is_hexdigit_iff_first_char_is (c ∷ cs) = ⊎_elim (λ h. rw (encode
     ∙ sym (past_ascii_is_no_hexdigit c h))
     (cases_lt c 128)
 
--- octets: characters begin with two hexadecimal digits exactly if their bytes do
+-- UTF-8: characters begin with two hexadecimal digits exactly if their bytes do
 pub encoded_chars_begin_with_same_hex_digits : (cs : List ℕ)
     → begins_with_hex_digits (encode_utf8_all cs)
     ≡ begins_with_hex_digits cs

@@ -13,7 +13,7 @@ use Rattle.uri_pct.specs.Pieces.{pieces_from}
 use Rattle.uri_pct.specs.Pieces.{utf8_pieces}
 use Rattle.uri_pct.proofs.Unicode.Pieces.{pieces_from_are_pieces_after_skipped_bytes}
 
--- bytes that fit a row, whatever follows them
+-- UTF-8: the bytes fit a row of the table, whatever follows them
 abbrev FitRanges : List ByteRange → List ℕ → Type 0
 FitRanges [] [] = Unit {0}
 FitRanges [] (b ∷ rest) = ⊥
@@ -70,7 +70,7 @@ fitting_bytes_are_well_formed_first_piece b ranges tail rest row fits =
     (pieces_from_are_pieces_after_skipped_bytes n (tail ++ rest)
     ∙ ap utf8_pieces (drop_at tail rest n long))
 
--- an ASCII byte is a character, and no byte follows it
+-- UTF-8: an ASCII byte is a character, and no byte follows it
 pub no_range_follows_ascii_byte : (b : ℕ) → b < 0x80 → following_ranges b ≡ Some []
 unfolding following_ranges
 no_range_follows_ascii_byte b high = grind (arith, nat_tests)

@@ -14,22 +14,22 @@ use Rattle.uri_pct.proofs.Unicode.FirstBytes.{following_ranges_of_e1_to_ec, foll
 use Rattle.uri_pct.proofs.Unicode.FirstBytes.{following_ranges_of_ee_to_ef, following_ranges_of_f0}
 use Rattle.uri_pct.proofs.Unicode.FirstBytes.{following_ranges_of_f1_to_f3, following_ranges_of_f4}
 
--- decoding lossily: std takes one byte for ill-formed, if it begins no character
+-- ill-formed UTF-8: std takes one byte for ill-formed, if it begins no character
 invalid_len_without_lead_is_one : (b : ℕ) (rest : List ℕ) → (b < 0xC2) ⊎ (0xF4 < b)
     → utf8_invalid_len (b ∷ rest) ≡ 1
 unfolding utf8_error_len
 invalid_len_without_lead_is_one b rest (inl h) = grind (arith, nat_tests)
 invalid_len_without_lead_is_one b rest (inr h) = grind (arith, nat_tests)
 
--- decoding lossily: what std takes for ill-formed, from a first byte C2 to F4 on,
--- ends at its first error, or with the bytes
+-- ill-formed UTF-8: what std takes for ill-formed,
+-- from a first byte C2 to F4 on, ends at its first error, or with the bytes
 invalid_len_from_lead_is_error_len : (b : ℕ) (rest : List ℕ) → 0xC2 ≤ b → b ≤ 0xF4
     → utf8_invalid_len (b ∷ rest) ≡ unwrap_or (error_len_after_one (b ∷ rest)) (suc (length rest))
 unfolding utf8_error_len
 invalid_len_from_lead_is_error_len b rest low high = grind (arith, nat_tests)
 
--- decoding lossily: where std finds the first error is how many
--- bytes fit the ranges of two that may follow b
+-- ill-formed UTF-8: where std finds the first error is
+-- how many bytes fit the ranges of two that may follow b
 error_len_is_len_in_two_ranges : (b : ℕ) (rest : List ℕ)
     → unwrap_or (error_len_after_one (b ∷ rest)) (suc (length rest))
     ≡ suc (len_in_ranges ((second_byte_min b, second_byte_max b) ∷ continuation ∷ []) rest)
@@ -92,14 +92,13 @@ ill_formed_piece_misses_a_range b ranges rest bytes e = ⊎_elim
     (λ other. omega (arith, other, len_in_ranges_is_at_most_range_count ranges rest))
     (cases_eq (len_in_ranges ranges rest) (length ranges))
 
--- of a first byte, and the ranges of the bytes that may follow it: whatever follows it, an
--- ill-formed piece at the start is as long as std takes it
+-- ill-formed UTF-8: a piece whose first byte has this row is as long as std takes it
 abbrev pub HasStdInvalidLen : ℕ → Option (List ByteRange) → Type 0
 HasStdInvalidLen b row = (rest bytes : List ℕ) → first_piece row b rest ≡ IllFormed bytes
     → suc (first_piece_tail_len row rest) ≡ utf8_invalid_len (b ∷ rest)
 
--- decoding lossily: what std takes for ill-formed, from a first byte C2 to F4 on, fits the ranges
--- of two bytes that may follow
+-- ill-formed UTF-8: what std takes for ill-formed,
+-- from a first byte C2 to F4 on, fits the ranges of two bytes that may follow
 invalid_len_from_lead_is_len_in_two_ranges : (b : ℕ) (second : ByteRange) (rest : List ℕ)
     → 0xC2 ≤ b → b ≤ 0xF4
     → second_byte_min b ≡ second.0 → second_byte_max b ≡ second.1
@@ -109,17 +108,17 @@ invalid_len_from_lead_is_len_in_two_ranges b second rest low high least most =
     ∙ ap (λ x. suc (len_in_ranges ((x, second_byte_max b) ∷ continuation ∷ []) rest)) least
     ∙ ap (λ x. suc (len_in_ranges ((second.0, x) ∷ continuation ∷ []) rest)) most
 
--- decoding lossily: a byte that begins no character is ill-formed by itself, as for std
+-- ill-formed UTF-8: a byte that begins no character is ill-formed by itself, as for std
 ill_formed_len_is_std_len_without_row : (b : ℕ) → (b < 0xC2) ⊎ (0xF4 < b) → HasStdInvalidLen b None
 ill_formed_len_is_std_len_without_row b other rest bytes e = sym
     (invalid_len_without_lead_is_one b rest other)
 
--- decoding lossily: an ASCII byte is not ill-formed
+-- ill-formed UTF-8: an ASCII byte is not ill-formed
 ill_formed_len_is_std_len_of_one_byte_row : (b : ℕ) → HasStdInvalidLen b (Some [])
 ill_formed_len_is_std_len_of_one_byte_row b rest bytes e = absurd
     (omega (arith, ill_formed_piece_misses_a_range b [] rest bytes e))
 
--- decoding lossily: an ill-formed piece is as long as for std, if its first byte calls for one more
+-- ill-formed UTF-8: an ill-formed piece is as long as for std, if its first byte calls for one more
 ill_formed_len_is_std_len_of_two_byte_row : (b : ℕ) (second : ByteRange) → 0xC2 ≤ b → b ≤ 0xF4
     → second_byte_min b ≡ second.0
     → second_byte_max b ≡ second.1 → HasStdInvalidLen b (Some (second ∷ []))
@@ -129,15 +128,15 @@ ill_formed_len_is_std_len_of_two_byte_row b second low high least most rest byte
     (ill_formed_piece_misses_a_range b (second ∷ []) rest bytes e)))
     ∙ sym (invalid_len_from_lead_is_len_in_two_ranges b second rest low high least most)
 
--- decoding lossily: an ill-formed piece is as long as for std, if its first byte calls for two more
+-- ill-formed UTF-8: an ill-formed piece is as long as for std, if its first byte calls for two more
 ill_formed_len_is_std_len_of_three_byte_row : (b : ℕ) (second : ByteRange) → 0xC2 ≤ b → b ≤ 0xF4
     → second_byte_min b ≡ second.0
     → second_byte_max b ≡ second.1 → HasStdInvalidLen b (Some (second ∷ continuation ∷ []))
 ill_formed_len_is_std_len_of_three_byte_row b second low high least most rest bytes e = sym
     (invalid_len_from_lead_is_len_in_two_ranges b second rest low high least most)
 
--- decoding lossily: an ill-formed piece is as long as for std,
--- if its first byte calls for three more
+-- ill-formed UTF-8: an ill-formed piece is as long
+-- as for std, if its first byte calls for three more
 ill_formed_len_is_std_len_of_four_byte_row : (b : ℕ) (second : ByteRange) → 0xC2 ≤ b → b ≤ 0xF4
     → second_byte_min b ≡ second.0
     → second_byte_max b ≡ second.1
@@ -159,7 +158,7 @@ pub no_row_past_f4 : (b : ℕ) → 0xF4 < b → following_ranges b ≡ None
 unfolding following_ranges
 no_row_past_f4 b low = grind (arith, nat_tests)
 
--- decoding lossily: an ill-formed piece is as long as for std, if its first byte is below E1
+-- ill-formed UTF-8: an ill-formed piece is as long as for std, if its first byte is below E1
 ill_formed_len_is_std_len_below_e1 : (b : ℕ) → b < 0xE1 → HasStdInvalidLen b (following_ranges b)
 ill_formed_len_is_std_len_below_e1 b high = ⊎_elim
     (λ h. subst (HasStdInvalidLen b) (sym (no_range_follows_ascii_byte b h))
@@ -176,7 +175,7 @@ ill_formed_len_is_std_len_below_e1 b high = ⊎_elim
     (grind (arith, nat_tests))))
     (cases_lt b 0xE0)) (cases_lt b 0xC2)) (cases_lt b 0x80)
 
--- decoding lossily: an ill-formed piece is as long as for std, if its first byte is E1 to EF
+-- ill-formed UTF-8: an ill-formed piece is as long as for std, if its first byte is E1 to EF
 ill_formed_len_is_std_len_from_e1_to_ef : (b : ℕ) → 0xE1 ≤ b → b < 0xF0
     → HasStdInvalidLen b (following_ranges b)
 ill_formed_len_is_std_len_from_e1_to_ef b low high =
@@ -194,7 +193,7 @@ ill_formed_len_is_std_len_from_e1_to_ef b low high =
     (grind (arith, nat_tests))))
     (cases_lt b 0xEE)) (cases_lt b 0xED)
 
--- decoding lossily: an ill-formed piece is as long as for std, if its first byte is F0 or greater
+-- ill-formed UTF-8: an ill-formed piece is as long as for std, if its first byte is F0 or greater
 ill_formed_len_is_std_len_from_f0 : (b : ℕ) → 0xF0 ≤ b → HasStdInvalidLen b (following_ranges b)
 ill_formed_len_is_std_len_from_f0 b low =
     ⊎_elim (λ h. subst (HasStdInvalidLen b) (sym (following_ranges_of_f0 b (omega arith)))
@@ -213,7 +212,7 @@ ill_formed_len_is_std_len_from_f0 b low =
     (ill_formed_len_is_std_len_without_row b (inr (omega arith))))
     (cases_lt b 0xF5)) (cases_lt b 0xF4)) (cases_lt b 0xF1)
 
--- decoding lossily: an ill-formed piece is as long as the part that std replaces
+-- ill-formed UTF-8: an ill-formed piece is as long as the part that std replaces
 pub ill_formed_len_is_std_len : (b : ℕ) → HasStdInvalidLen b (following_ranges b)
 ill_formed_len_is_std_len b = ⊎_elim (λ h. ill_formed_len_is_std_len_below_e1 b h)
     (λ l1. ⊎_elim (λ h. ill_formed_len_is_std_len_from_e1_to_ef b l1 h)

@@ -84,13 +84,13 @@ bytes_with_well_formed_pieces_are_utf8 bytes e = subst IsUtf8
     (bytes_of_utf8_pieces_are_the_bytes bytes)
     (well_formed_pieces_join_to_utf8 (utf8_pieces bytes) (utf8_pieces-are-of-characters bytes) e)
 
--- bytes are UTF-8 exactly where no piece is ill-formed
+-- UTF-8: bytes are UTF-8 exactly where no piece is ill-formed
 pub IsUtf8-iff-well_formed : (bytes : List ℕ)
     → (list_all is_well_formed (utf8_pieces bytes) ≡ true) ↔ IsUtf8 bytes
 IsUtf8-iff-well_formed bytes =
     (bytes_with_well_formed_pieces_are_utf8 bytes, utf8_has_well_formed_pieces bytes)
 
--- decoding lossily: characters are written as their UTF-8
+-- lossy UTF-8: characters are written as their UTF-8
 lossy_text_of_chars_is_their_utf8 : (cs : List ℕ) → flat_map lossy_piece (map piece_of_char cs)
     ≡ encode_utf8_all cs
 unfolding piece_of_char
@@ -98,7 +98,7 @@ lossy_text_of_chars_is_their_utf8 [] = refl
 lossy_text_of_chars_is_their_utf8 (c ∷ cs) = ap (λ x. encode_utf8 c ++ x)
     (lossy_text_of_chars_is_their_utf8 cs)
 
--- decoding lossily: a text in UTF-8 stays as it is, whatever follows it
+-- lossy UTF-8: a text in UTF-8 stays as it is, whatever follows it
 lossy_text_keeps_utf8_prefix : (text rest : List ℕ) → IsUtf8 text
     → lossy_text (text ++ rest) ≡ text ++ lossy_text rest
 lossy_text_keeps_utf8_prefix text rest u =
@@ -107,7 +107,7 @@ lossy_text_keeps_utf8_prefix text rest u =
     ∙ flat_map-append lossy_piece (map piece_of_char u.0) (utf8_pieces rest)
     ∙ ap (λ x. x ++ lossy_text rest) (lossy_text_of_chars_is_their_utf8 u.0 ∙ u.1.1)
 
--- decoding lossily: the longest prefix of up to m bytes that std finds to be UTF-8 is so
+-- lossy UTF-8: the longest prefix of up to m bytes that std finds to be UTF-8 is so
 prefix_of_valid_len_is_utf8 : (bs : List ℕ) (m : ℕ) → IsUtf8 (take (valid_len_up_to bs m) bs)
 prefix_of_valid_len_is_utf8 bs zero = IsUtf8-nil
 prefix_of_valid_len_is_utf8 bs (suc m) = ⊎_elim
@@ -117,7 +117,7 @@ prefix_of_valid_len_is_utf8 bs (suc m) = ⊎_elim
     (prefix_of_valid_len_is_utf8 bs m))
     (cases_Bool (is_utf8 (take (suc m) bs)))
 
--- decoding lossily: no prefix of up to m bytes that is UTF-8 is longer than the one that std finds
+-- lossy UTF-8: no prefix of up to m bytes that is UTF-8 is longer than the one that std finds
 prefix_of_valid_len_is_longest_utf8 : (bs : List ℕ) (m k : ℕ) → valid_len_up_to bs m < k → k ≤ m
     → IsUtf8 (take k bs) → ⊥
 prefix_of_valid_len_is_longest_utf8 bs zero k more within u = omega arith
@@ -132,13 +132,13 @@ prefix_of_valid_len_is_longest_utf8 bs (suc m) k more within u = ⊎_elim
     (cases_eq k (suc m)))
     (cases_Bool (is_utf8 (take (suc m) bs)))
 
--- a text that is not empty is a first byte and a rest
+-- general fact on lists, for lossy UTF-8: a text that is not empty is a first byte and a rest
 pub nonempty_bytes_have_first_byte : (text : List ℕ) → 0 < length text → (b : ℕ) × (rest : List ℕ)
     × (text ≡ b ∷ rest)
 nonempty_bytes_have_first_byte [] h = absurd (omega arith)
 nonempty_bytes_have_first_byte (b ∷ rest) h = (b, rest, refl)
 
--- decoding lossily: after the longest prefix that is UTF-8 comes an ill-formed part
+-- lossy UTF-8: after the longest prefix that is UTF-8 comes an ill-formed part
 pub ill_formed_after_valid_prefix : (bs : List ℕ) (b : ℕ) (rest : List ℕ) (p : Piece)
     → drop (utf8_valid_len bs) bs ≡ b ∷ rest → first_piece (following_ranges b) b rest ≡ p
     → (bytes : List ℕ) × (p ≡ IllFormed bytes)
@@ -161,19 +161,19 @@ ill_formed_after_valid_prefix bs b rest (WellFormed bytes) suffix e =
     (subst IsUtf8 whole (IsUtf8-append (take n bs) bytes
     (prefix_of_valid_len_is_utf8 bs (length bs)) text)))
 
--- decoding lossily: the prefix that std finds to be UTF-8 is so
+-- lossy UTF-8: the prefix that std finds to be UTF-8 is so
 pub utf8_valid_len_prefix_is_utf8 : (bs : List ℕ) → IsUtf8 (take (utf8_valid_len bs) bs)
 unfolding utf8_valid_len
 utf8_valid_len_prefix_is_utf8 bs = prefix_of_valid_len_is_utf8 bs (length bs)
 
--- decoding lossily: a text in UTF-8 stays as it is
+-- lossy UTF-8: a text in UTF-8 stays as it is
 pub lossy_text_of_utf8_is_itself : (bs : List ℕ) → IsUtf8 bs → lossy_text bs ≡ bs
 unfolding pieces_from
 lossy_text_of_utf8_is_itself bs u = ap lossy_text (sym (append-nil bs))
     ∙ lossy_text_keeps_utf8_prefix bs [] u
     ∙ append-nil bs
 
--- decoding lossily: an ill-formed part becomes one replacement character, U+FFFD
+-- lossy UTF-8: an ill-formed part becomes one replacement character, U+FFFD
 lossy_text_of_ill_formed_piece_is_replacement : (b : ℕ) (rest : List ℕ) (bytes : List ℕ)
     → first_piece (following_ranges b) b rest ≡ IllFormed bytes
     → lossy_text (b ∷ rest) ≡ replacement_bytes ++ lossy_text
@@ -186,8 +186,8 @@ lossy_text_of_ill_formed_piece_is_replacement b rest bytes e =
     (pieces_from_are_pieces_after_skipped_bytes (first_piece_tail_len (following_ranges b) rest)
     rest)
 
--- decoding lossily: the lossy text is that of std after an ill-formed part,
--- if it is for all shorter bytes
+-- lossy UTF-8: the lossy text is that of std
+-- after an ill-formed part, if it is for all shorter bytes
 lossy_text_is_utf8_lossy_after_ill_formed : (bs : List ℕ) (b : ℕ) (rest bytes : List ℕ)
     → ¬ (utf8_valid_len bs ≡ length bs)
     → drop (utf8_valid_len bs) bs ≡ b ∷ rest → first_piece (following_ranges b) b rest
@@ -209,7 +209,7 @@ lossy_text_is_utf8_lossy_after_ill_formed bs b rest bytes faulty prefix bad shor
     ∙ ap (λ x. replacement_bytes ++ x) (shorter (drop m rest) less ∙ ap utf8_lossy suffix))
     ∙ sym (utf8_lossy_step bs faulty)
 
--- decoding lossily: for bytes that are not UTF-8,
+-- lossy UTF-8: for bytes that are not UTF-8,
 -- the lossy text is that of std if it is for all shorter bytes
 lossy_text_is_utf8_lossy_if_not_utf8 : (bs : List ℕ) → ¬ (utf8_valid_len bs ≡ length bs)
     → ((ys : List ℕ) → length ys < length bs → lossy_text ys ≡ utf8_lossy ys)
@@ -222,7 +222,7 @@ lossy_text_is_utf8_lossy_if_not_utf8 bs faulty shorter =
     let bad = ill_formed_after_valid_prefix bs f.0 f.1 piece f.2 (refl {a = piece}) in
     lossy_text_is_utf8_lossy_after_ill_formed bs f.0 f.1 bad.0 faulty f.2 bad.1 shorter
 
--- decoding lossily: for bytes that are UTF-8, the lossy text is that of std
+-- lossy UTF-8: for bytes that are UTF-8, the lossy text is that of std
 lossy_text_is_utf8_lossy_of_utf8 : (bs : List ℕ) → utf8_valid_len bs ≡ length bs → lossy_text bs
     ≡ utf8_lossy bs
 lossy_text_is_utf8_lossy_of_utf8 bs whole =
@@ -231,7 +231,7 @@ lossy_text_is_utf8_lossy_of_utf8 bs whole =
     (utf8_valid_len_prefix_is_utf8 bs) in
     lossy_text_of_utf8_is_itself bs text ∙ sym (utf8_lossy-IsUtf8 bs text)
 
--- decoding lossily: the lossy text is that of std, for bytes of a length below k
+-- lossy UTF-8: the lossy text is that of std, for bytes of a length below k
 lossy_text_is_utf8_lossy_below_length : (k : ℕ) (bs : List ℕ) → length bs < k → lossy_text bs
     ≡ utf8_lossy bs
 lossy_text_is_utf8_lossy_below_length zero bs h = absurd (omega arith)
@@ -241,7 +241,7 @@ lossy_text_is_utf8_lossy_below_length (suc k) bs h = ⊎_elim
     (λ ys less. lossy_text_is_utf8_lossy_below_length k ys (omega arith)))
     (cases_eq (utf8_valid_len bs) (length bs))
 
--- decoding lossily: the lossy text of bytes, as it is defined, is that of std
+-- lossy UTF-8: the lossy text of bytes, as it is defined, is that of std
 pub lossy_text-is-utf8_lossy : (bytes : List ℕ) → lossy_text bytes ≡ utf8_lossy bytes
 lossy_text-is-utf8_lossy bytes = lossy_text_is_utf8_lossy_below_length (suc (length bytes)) bytes
     (omega arith)

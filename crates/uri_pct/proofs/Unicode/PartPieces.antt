@@ -24,7 +24,7 @@ use Rattle.uri_pct.proofs.Unicode.CharacterPieces.{first_char_is_first_piece}
 use Rattle.uri_pct.proofs.Decodings.Decoding.{tokens_after_unencoded_prefix}
 use Rattle.uri_pct.proofs.Unicode.Runs.{no_bytes_have_no_pieces, utf8_pieces_are_cut_after_text}
 
--- decoding: a text that is put before chunks comes before their bytes
+-- UTF-8 of decoded parts: a text that is put before chunks comes before their bytes
 prepended_text_comes_before_chunk_bytes : (text : List ℕ) (ps : List Chunk)
     → flat_map chunk_bytes (prepend_to_chunks text ps) ≡ text ++ flat_map chunk_bytes ps
 unfolding prepend_to_chunks
@@ -33,7 +33,7 @@ prepended_text_comes_before_chunk_bytes text (Text more ∷ ps) = append_assoc t
     (flat_map chunk_bytes ps)
 prepended_text_comes_before_chunk_bytes text (Byte value ∷ ps) = refl
 
--- decoding: the chunks of tokens are joined the bytes that the tokens decode to
+-- UTF-8 of decoded parts: the chunks of tokens are joined the bytes that the tokens decode to
 pub chunks_have_bytes_of_their_tokens : (ts : List Token)
     → flat_map chunk_bytes (chunks_of_tokens ts)
     ≡ bytes_decoded_from ts
@@ -45,18 +45,18 @@ chunks_have_bytes_of_their_tokens (Char c ∷ ts) = prepended_text_comes_before_
 chunks_have_bytes_of_their_tokens (Octet value ∷ ts) = ap (λ x. value ∷ x)
     (chunks_have_bytes_of_their_tokens ts)
 
--- decoding: the bytes that an iterator has left are those that its text decodes to
+-- UTF-8 of decoded parts: the bytes that an iterator has left are those that its text decodes to
 pub bytes_left-is-decoded : (d : Decode) → bytes_left d ≡ decoded d
 bytes_left-is-decoded d = chunks_have_bytes_of_their_tokens (tokens (undecoded d))
 
--- decoding: literal characters decode to their UTF-8
+-- UTF-8 of decoded parts: literal characters decode to their UTF-8
 literal_chars_decode_to_their_utf8 : (cs : List ℕ) → bytes_decoded_from (map Char cs)
     ≡ encode_utf8_all cs
 literal_chars_decode_to_their_utf8 [] = refl
 literal_chars_decode_to_their_utf8 (c ∷ cs) = ap (λ x. encode_utf8 c ++ x)
     (literal_chars_decode_to_their_utf8 cs)
 
--- decoding: a text without `%` decodes to itself
+-- UTF-8 of decoded parts: a text without `%` decodes to itself
 pub unencoded_text_decodes_to_itself : (text : List ℕ) → IsUtf8 text → is_unencoded text ≡ true
     → bytes_decoded_from (tokens text) ≡ text
 unfolding tokens_from_chars chars
@@ -67,13 +67,13 @@ unencoded_text_decodes_to_itself text u e =
     ∙ literal_chars_decode_to_their_utf8 (chars text)
     ∙ encodes-chars text u
 
--- decoding: parts that are pieces of decoded bytes have these pieces
+-- UTF-8 of decoded parts: parts that are pieces of decoded bytes have these pieces
 pub decoded_parts_have_their_pieces : (ps : List Piece) → pieces_of_parts (map Decoded ps) ≡ ps
 decoded_parts_have_their_pieces [] = refl
 decoded_parts_have_their_pieces (p ∷ ps) = ap (λ x. p ∷ x) (decoded_parts_have_their_pieces ps)
 
--- decoding: octets (run) and a literal text after them have the pieces of each;
--- ps: the chunks after them
+-- UTF-8 of decoded parts: octets (run) and a literal text
+-- after them have the pieces of each; ps: the chunks after them
 pieces_of_run_before_text_chunk : (run text : List ℕ) (ps : List Chunk)
     → pieces_of_parts (parts_from run (Text text ∷ ps))
     ≡ utf8_pieces run ++ (utf8_pieces text ++ pieces_of_parts (parts_from [] ps))
@@ -83,8 +83,8 @@ pieces_of_run_before_text_chunk run text ps =
     ∙ ap (λ x. x ++ (utf8_pieces text ++ pieces_of_parts (parts_from [] ps)))
     (decoded_parts_have_their_pieces (utf8_pieces run))
 
--- decoding: octets (run) and a literal text that joins the next have the pieces of each;
--- ps: the chunks after them
+-- UTF-8 of decoded parts: octets (run) and a literal text
+-- that joins the next have the pieces of each; ps: the chunks after them
 pieces_of_run_before_prepended_text : (run text : List ℕ) (ps : List Chunk) → IsUtf8 text
     → pieces_of_parts (parts_from run (prepend_to_chunks text ps))
     ≡ utf8_pieces run ++ (utf8_pieces text ++ pieces_of_parts (parts_from [] ps))
@@ -110,11 +110,11 @@ char_is_one_well_formed_piece c s = ap utf8_pieces (sym (append-nil (encode_utf8
     ∙ first_char_is_first_piece c [] s
     ∙ ap (λ x. WellFormed (encode_utf8 c) ∷ x) no_bytes_have_no_pieces
 
--- tokens: a character that can be written is a Unicode scalar value
+-- UTF-8 of decoded parts: a character that can be written is a Unicode scalar value
 pub printable_char_is_scalar : (c : ℕ) → is_printable (Char c) ≡ true → IsScalar c
 printable_char_is_scalar c e = (and_parts _ true (and_parts _ _ e).0).0
 
--- decoding: octets (run) and tokens have the pieces of the bytes that they decode to
+-- UTF-8 of decoded parts: octets (run) and tokens have the pieces of the bytes that they decode to
 parts_after_run_have_pieces_of_decoded_bytes : (run : List ℕ) (ts : List Token)
     → list_all is_printable ts ≡ true
     → pieces_of_parts (parts_from run (chunks_of_tokens ts))
@@ -138,7 +138,7 @@ parts_after_run_have_pieces_of_decoded_bytes run (Char c ∷ ts) e =
     (parts_after_run_have_pieces_of_decoded_bytes [] ts p.1)
     ∙ sym (char_separates_utf8_pieces run c (bytes_decoded_from ts) scalar)
 
--- decoding: the parts of a text that decodes have the pieces of the decoded bytes
+-- UTF-8 of decoded parts: the parts of a text that decodes have the pieces of the decoded bytes
 pub parts_have_pieces_of_decoded_bytes : (text : List ℕ) → IsValidFor widest_set text
     → pieces_of_parts (parts text) ≡ utf8_pieces (bytes_decoded_from (tokens text))
 parts_have_pieces_of_decoded_bytes text v = parts_after_run_have_pieces_of_decoded_bytes []

@@ -230,12 +230,12 @@ cut_after_first_piece_keeps_it (Some ranges) b rest m h =
     ∙ ap (λ t. cond (eqb n (length ranges)) (WellFormed (b ∷ t)) (IllFormed (b ∷ t)))
     (take-take n m rest h)
 
--- general fact on lists, for pieces of bytes: of nothing, nothing is taken
+-- general fact on lists, for pieces of UTF-8: of nothing, nothing is taken
 take_of_nothing_is_nothing : (n : ℕ) → take {A = ℕ} n [] ≡ []
 take_of_nothing_is_nothing zero = refl
 take_of_nothing_is_nothing (suc n) = refl
 
--- general fact on prefixes, for pieces of bytes: n bytes and then m are n + m
+-- general fact on prefixes, for pieces of UTF-8: n bytes and then m are n + m
 pub take_then_take_is_take_of_sum : (n m : ℕ) (text : List ℕ) → take n text ++ take m (drop n text)
     ≡ take (n + m) text
 take_then_take_is_take_of_sum zero m text = ap (λ k. take k text) (sym (zero-add m))
@@ -292,7 +292,7 @@ first_pieces_are_pieces_of_own_bytes zero (suc j) (b ∷ rest) =
     ∙ ap utf8_pieces (drop-take n f.0 rest ∙ sym f.1)
     ∙ first_pieces_are_pieces_of_own_bytes n j rest)
 
--- the pieces of their bytes are these
+-- UTF-8: the pieces are those of their own bytes
 abbrev pub ArePiecesOfOwnBytes : List Piece → Type 0
 ArePiecesOfOwnBytes ps = utf8_pieces (bytes_of_pieces ps) ≡ ps
 

@@ -57,8 +57,8 @@ ill_formed_first_piece_is_cut_off b rest bytes e =
     (pieces_from_are_pieces_after_skipped_bytes (first_piece_tail_len (following_ranges b) rest)
     rest)
 
--- decoding lossily: after the longest prefix that is UTF-8 comes
--- an ill-formed part, as long as std takes it
+-- ill-formed UTF-8: after the longest prefix
+-- that is UTF-8 comes an ill-formed part, as long as std takes it
 ill_formed_piece_follows_valid_prefix : (bs invalid rest : List ℕ) → drop (utf8_valid_len bs) bs
     ≡ invalid ++ rest
     → 0 < length invalid → length invalid ≡ utf8_invalid_len (drop (utf8_valid_len bs) bs)
@@ -85,7 +85,7 @@ ill_formed_piece_follows_valid_prefix bs invalid rest suffix some long =
     ∙ ap (λ x. IllFormed x ∷ utf8_pieces (drop k more)) bytes
     ∙ ap (λ x. IllFormed invalid ∷ utf8_pieces x) after
 
--- decoding lossily: the pieces of one of std's chunks that has an ill-formed part (invalid)
+-- ill-formed UTF-8: the pieces of one of std's chunks that has an ill-formed part (invalid)
 pieces_of_std_chunk_with_ill_formed_part : (bs valid invalid rest : List ℕ) → bs
     ≡ valid ++ (invalid ++ rest)
     → length valid ≡ utf8_valid_len bs
@@ -102,7 +102,7 @@ pieces_of_std_chunk_with_ill_formed_part bs valid invalid rest same text_len fau
     ∙ ap (λ ps. utf8_pieces valid ++ ps)
     (ill_formed_piece_follows_valid_prefix bs invalid rest suffix some fault_len)
 
--- decoding lossily: the pieces of std's last chunk, with nothing after it
+-- ill-formed UTF-8: the pieces of std's last chunk, with nothing after it
 pieces_of_last_std_chunk : (bs valid rest : List ℕ) → bs ≡ valid ++ rest → length rest ≡ 0
     → utf8_pieces bs ≡ utf8_pieces valid ++ utf8_pieces rest
 pieces_of_last_std_chunk bs valid rest same last =
@@ -111,7 +111,7 @@ pieces_of_last_std_chunk bs valid rest same last =
     ∙ rw no_rest (ap utf8_pieces (append-nil valid) ∙ sym (append-nil (utf8_pieces valid))
     ∙ ap (λ ps. utf8_pieces valid ++ ps) (sym no_bytes_have_no_pieces))
 
--- decoding lossily: the pieces of one of std's chunks, and those after it
+-- ill-formed UTF-8: the pieces of one of std's chunks, and those after it
 pub utf8_pieces-of-std-chunk : (bs valid invalid rest : List ℕ) → bs ≡ valid ++ (invalid ++ rest)
     → length valid ≡ utf8_valid_len bs
     → length invalid ≡ utf8_invalid_len (drop (utf8_valid_len bs) bs)

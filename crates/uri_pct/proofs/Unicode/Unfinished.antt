@@ -215,8 +215,7 @@ cut_before_unfinished_end_divides_no_piece bytes suffix =
     (unfinished_end_begins_with_no_continuation bytes suffix (omega arith)))
     (cases_lt (unfinished_len bytes) 1)
 
--- Unicode: a cut that divides no piece of a run of octets also cuts the parts that the run decodes
--- to
+-- UTF-8: a cut that divides no piece of a run of octets also cuts the parts that the run decodes to
 pub parts_from_are_cut_where_pieces_are : (prefix end more : List ℕ) (suffix : List Chunk)
     → CutsNoPiece prefix end
     → parts_from (prefix ++ (end ++ more)) suffix
@@ -240,7 +239,7 @@ parts_from_are_cut_where_pieces_are prefix end more (Text text ∷ chunks) parte
     ∙ append_assoc (map Decoded (utf8_pieces prefix)) (map Decoded (utf8_pieces (end
     ++ more))) suffix
 
--- decoding: the parts of a run of octets, cut before its unfinished end
+-- UTF-8: the parts of a run of octets, cut before its unfinished end
 pub parts_from_are_cut_before_unfinished_end : (bytes : List ℕ) (suffix : List Chunk)
     → parts_from bytes suffix
     ≡ map Decoded (utf8_pieces (take (length bytes - unfinished_len bytes) bytes))

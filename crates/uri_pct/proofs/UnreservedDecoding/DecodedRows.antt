@@ -16,24 +16,24 @@ use Rattle.uri_pct.specs.DecodeUnreserved.{decode_run}
 use Rattle.uri_pct.specs.DecodeUnreserved.{is_decodable}
 use Rattle.uri_pct.specs.DecodeUnreserved.{is_bidi_formatting, is_never_literal, lower_token}
 
--- examples of decoding: the set of an IRI's component, from that of a URI's
+-- examples of unreserved octets: the set of an IRI's component, from that of a URI's
 iri_component_set : TableSet → TableSet
 iri_component_set set = record set { ucschar = true }
 
--- examples of decoding: the set of an IRI's query
+-- examples of unreserved octets: the set of an IRI's query
 iquery_set : TableSet
 iquery_set = record query_set { ucschar = true; iprivate = true }
 
--- examples of decoding: the decoded form of a text as a component of the set
+-- examples of unreserved octets: the decoded form of a text as a component of the set
 decoded_text : TableSet → List ℕ → List ℕ
 decoded_text set text = print (decode_unreserved set text)
 
--- examples of decoding: the decoded form of a text in lower case
+-- examples of unreserved octets: the decoded form of a text in lower case
 decoded_lower_text : TableSet → List ℕ → List ℕ
 decoded_lower_text set text = print (map lower_token (decode_unreserved set text))
 
--- examples of decoding: the components of
--- `FOO://%55se%72@EXamp%4ce%2ecom:8042/%4b%2f?%4c%2b#%24%4d`
+-- examples of unreserved octets: the components
+-- of `FOO://%55se%72@EXamp%4ce%2ecom:8042/%4b%2f?%4c%2b#%24%4d`
 examples_of_decoded_uri_components :
     (decoded_text userinfo_set (codes "%55se%72") ≡ codes "User")
     × (decoded_lower_text reg_name_set (codes "EXamp%4ce%2ecom") ≡ codes "example.com")
@@ -46,7 +46,7 @@ unfolding decoded_text decoded_lower_text chars encode_utf8 tokens_from_chars is
     decode_after_run decode_run is_decodable is_bidi_formatting is_never_literal allows_past_ascii
 examples_of_decoded_uri_components = (refl, refl, refl, refl, refl)
 
--- examples of decoding: in a URI no octet past ASCII is decoded,
+-- examples of unreserved octets: in a URI no octet past ASCII is decoded,
 -- and each octet is decoded by itself
 octets_past_ascii_stay_octets_in_uri : (decoded_text path_set (codes "/%c3%a9%61")
     ≡ codes "/%C3%A9a")
@@ -58,8 +58,8 @@ unfolding decoded_text chars encode_utf8 tokens_from_chars is_pct_encoded pieces
     is_decodable is_bidi_formatting is_never_literal allows_past_ascii
 octets_past_ascii_stay_octets_in_uri = (refl, refl)
 
--- examples of decoding: a character between two octets separates them,
--- though together they would be `é`
+-- examples of unreserved octets: a character between two
+-- octets separates them, though together they would be `é`
 char_between_octets_keeps_them_apart : (decoded_text (iri_component_set path_set)
     (codes "/%C3%41%A9%C3%A9") ≡ codes "/%C3A%A9"
     ++ encode_utf8 0xE9)
@@ -72,7 +72,7 @@ unfolding decoded_text iri_component_set chars encode_utf8 tokens_from_chars is_
     decode_run is_decodable is_bidi_formatting is_never_literal allows_past_ascii is_ucschar
 char_between_octets_keeps_them_apart = (refl, refl)
 
--- example of decoding: a character after 31 octets
+-- example of unreserved octets: a character after 31 octets
 char_after_31_octets_is_decoded : decoded_text (iri_component_set path_set)
     (repeat 31 (codes "%61") ++ codes "%C3%A9")
     ≡ repeat 31 (codes "a") ++ encode_utf8 0xE9
@@ -83,8 +83,8 @@ unfolding decoded_text iri_component_set chars encode_utf8 tokens_from_chars is_
     decode_run is_decodable is_bidi_formatting is_never_literal allows_past_ascii is_ucschar
 char_after_31_octets_is_decoded = refl
 
--- examples of decoding: U+202E, a formatting character of bidirectional text,
--- as octets and as a character
+-- examples of unreserved octets: U+202E, a formatting character
+-- of bidirectional text, as octets and as a character
 bidi_override_becomes_octets : (decoded_text (iri_component_set path_set) (codes "/%e2%80%ae")
     ≡ codes "/%E2%80%AE")
     × (decoded_text (iri_component_set path_set) (codes "/" ++ encode_utf8 0x202E)
@@ -96,7 +96,8 @@ unfolding decoded_text iri_component_set chars encode_utf8 tokens_from_chars is_
     decode_run is_decodable is_bidi_formatting is_never_literal allows_past_ascii is_ucschar
 bidi_override_becomes_octets = (refl, refl)
 
--- examples of decoding: U+200E between two octets separates them; decoding again keeps them apart
+-- examples of unreserved octets: U+200E between two octets separates them;
+-- decoding again keeps them apart
 formatting_char_keeps_octets_apart : (decoded_text (iri_component_set path_set)
     (codes "%C3" ++ encode_utf8 0x200E ++ codes "%A9")
     ≡ codes "%C3%E2%80%8E%A9")
@@ -109,7 +110,7 @@ unfolding decoded_text iri_component_set chars encode_utf8 tokens_from_chars is_
     decode_run is_decodable is_bidi_formatting is_never_literal allows_past_ascii is_ucschar
 formatting_char_keeps_octets_apart = (refl, refl)
 
--- example of decoding: the octets of U+202A, a formatting character, stay in a query
+-- example of unreserved octets: the octets of U+202A, a formatting character, stay in a query
 bidi_embedding_in_query_stays_octets : decoded_text iquery_set (codes "%E2%80%AA")
     ≡ codes "%E2%80%AA"
 unfolding decoded_text iquery_set chars encode_utf8 tokens_from_chars is_pct_encoded pieces_from
@@ -119,7 +120,7 @@ unfolding decoded_text iquery_set chars encode_utf8 tokens_from_chars is_pct_enc
     is_iprivate
 bidi_embedding_in_query_stays_octets = refl
 
--- examples of decoding: U+202F and U+200D, beside formatting characters, are decoded
+-- examples of unreserved octets: U+202F and U+200D, beside formatting characters, are decoded
 neighbours_of_formatting_chars_are_decoded : (decoded_text (iri_component_set path_set)
     (codes "%E2%80%AF") ≡ encode_utf8 0x202F)
     × (decoded_text (iri_component_set path_set) (codes "%E2%80%8D") ≡ encode_utf8 0x200D)
@@ -130,7 +131,7 @@ unfolding decoded_text iri_component_set chars encode_utf8 tokens_from_chars is_
     decode_run is_decodable is_bidi_formatting is_never_literal allows_past_ascii is_ucschar
 neighbours_of_formatting_chars_are_decoded = (refl, refl)
 
--- example of decoding: the octets of U+200F, a formatting character, stay after 30 octets
+-- example of unreserved octets: the octets of U+200F, a formatting character, stay after 30 octets
 formatting_char_after_30_octets_stays_octets : decoded_text (iri_component_set path_set)
     (repeat 30 (codes "%61") ++ codes "%E2%80%8F")
     ≡ repeat 30 (codes "a") ++ codes "%E2%80%8F"
@@ -141,7 +142,7 @@ unfolding decoded_text iri_component_set chars encode_utf8 tokens_from_chars is_
     decode_run is_decodable is_bidi_formatting is_never_literal allows_past_ascii is_ucschar
 formatting_char_after_30_octets_stays_octets = refl
 
--- examples of decoding: only a query decodes U+E000
+-- examples of unreserved octets: only a query decodes U+E000
 private_use_is_decoded_in_query_only : (decoded_text iquery_set (codes "%EE%80%80")
     ≡ encode_utf8 0xE000)
     × (decoded_text (iri_component_set path_set) (codes "%EE%80%80") ≡ codes "%EE%80%80")
@@ -153,7 +154,7 @@ unfolding decoded_text iri_component_set iquery_set chars encode_utf8 tokens_fro
     is_iprivate
 private_use_is_decoded_in_query_only = (refl, refl)
 
--- examples of decoding: ASCII letters alone are lowered
+-- examples of unreserved octets: ASCII letters alone are lowered
 only_ascii_letters_are_lowered : (decoded_lower_text (iri_component_set reg_name_set)
     (codes "R%c3%89") ≡ codes "r" ++ encode_utf8 0xC9)
     × (decoded_lower_text (iri_component_set reg_name_set) (codes "%41%c3%89")
@@ -165,7 +166,7 @@ unfolding decoded_lower_text iri_component_set chars encode_utf8 tokens_from_cha
     is_ucschar
 only_ascii_letters_are_lowered = (refl, refl)
 
--- example of decoding: `%F0%90%8Cx%80`: its bytes, their pieces and their lossy text
+-- example of unreserved octets: `%F0%90%8Cx%80`: its bytes, their pieces and their lossy text
 example_of_ill_formed_octets : (bytes_decoded_from (tokens (codes "%F0%90%8Cx%80"))
     ≡ 0xF0 ∷ 0x90 ∷ 0x8C ∷ 0x78 ∷ 0x80 ∷ [])
     × (utf8_pieces (0xF0 ∷ 0x90 ∷ 0x8C ∷ 0x78 ∷ 0x80 ∷ []) ≡ IllFormed (0xF0 ∷ 0x90 ∷ 0x8C ∷ [])
@@ -175,8 +176,8 @@ example_of_ill_formed_octets : (bytes_decoded_from (tokens (codes "%F0%90%8Cx%80
 unfolding chars encode_utf8 tokens_from_chars is_pct_encoded pieces_from following_ranges
 example_of_ill_formed_octets = (refl, refl, refl)
 
--- examples of lossy texts, by computation: a surrogate, a prefix that `A` does not finish, a form
--- too long, and one past the last plane
+-- examples beside those of unreserved octets, lossy texts: a surrogate,
+-- a prefix that `A` does not finish, a form too long, and one past the last plane
 examples_of_lossy_text : (lossy_text (0xED ∷ 0xA0 ∷ 0x80 ∷ [])
     ≡ replacement_bytes ++ replacement_bytes
     ++ replacement_bytes)

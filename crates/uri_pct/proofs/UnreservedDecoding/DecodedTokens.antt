@@ -38,7 +38,7 @@ use Rattle.uri_pct.proofs.UnreservedDecoding.Formatting.{encode_formatting_keeps
 use Rattle.uri_pct.proofs.UnreservedDecoding.Formatting.{encode_formatting_leaves_no_literal_formatting}
 use Rattle.uri_pct.proofs.EncodedTexts.Encodings.{octets_decode_to_their_bytes}
 
--- normal forms: a piece of decoded bytes keeps its bytes
+-- unreserved octets: a piece of decoded bytes keeps its bytes
 decoded_piece_keeps_its_bytes : (set : TableSet) (p : Piece) → IsOfCharacter p
     → bytes_decoded_from (decode_piece set p) ≡ piece_bytes p
 decoded_piece_keeps_its_bytes set (IllFormed bytes) h = octets_decode_to_their_bytes bytes
@@ -47,7 +47,7 @@ decoded_piece_keeps_its_bytes set (WellFormed bytes) h = ⊎_elim
     (λ e. rw e (octets_decode_to_their_bytes bytes))
     (cases_Bool (is_decodable set (char_of bytes)))
 
--- normal forms: pieces of decoded bytes keep their bytes
+-- unreserved octets: pieces of decoded bytes keep their bytes
 decoded_pieces_keep_their_bytes : (set : TableSet) (ps : List Piece) → All IsOfCharacter ps
     → bytes_decoded_from (flat_map (decode_piece set) ps) ≡ bytes_of_pieces ps
 decoded_pieces_keep_their_bytes set [] h = refl
@@ -58,7 +58,7 @@ decoded_pieces_keep_their_bytes set (p ∷ ps) h =
     ∙ ap (λ x. piece_bytes p ++ x)
     (decoded_pieces_keep_their_bytes set ps (All-tail IsOfCharacter p ps h))
 
--- decoding of unreserved octets: a run of octets keeps its bytes when it is decoded
+-- unreserved octets: a run of octets keeps its bytes when it is decoded
 decode_run_keeps_bytes : (set : TableSet) (run : List ℕ)
     → bytes_decoded_from (decode_run set run) ≡ run
 unfolding decode_run
@@ -66,7 +66,7 @@ decode_run_keeps_bytes set run = decoded_pieces_keep_their_bytes set (utf8_piece
     (utf8_pieces-are-of-characters run)
     ∙ bytes_of_utf8_pieces_are_the_bytes run
 
--- normal forms: tokens after a run of octets keep their bytes when they are decoded
+-- unreserved octets: tokens after a run of octets keep their bytes when they are decoded
 decode_after_run_keeps_bytes : (set : TableSet) (run : List ℕ) (ts : List Token)
     → bytes_decoded_from (decode_after_run set run ts) ≡ run ++ bytes_decoded_from ts
 unfolding decode_after_run
@@ -82,30 +82,30 @@ decode_after_run_keeps_bytes set run (Char c ∷ ts) =
     (decode_run_keeps_bytes set run)
     ∙ ap (λ x. run ++ (encode_utf8 c ++ x)) (decode_after_run_keeps_bytes set [] ts)
 
--- normal forms: decoding unreserved octets keeps the bytes that a text decodes to
+-- unreserved octets: decoding unreserved octets keeps the bytes that a text decodes to
 pub decode_unreserved_keeps_bytes : (set : TableSet) (text : List ℕ)
     → bytes_decoded_from (decode_unreserved set text) ≡ bytes_decoded_from (tokens text)
 decode_unreserved_keeps_bytes set text = encode_formatting_keeps_bytes set
     (decode_tokens set (tokens text))
     ∙ decode_after_run_keeps_bytes set [] (tokens text)
 
--- a test of tokens that each decodable character passes
+-- unreserved octets: each decodable character passes a test of tokens
 abbrev PassesDecodable : (Token → Bool) → TableSet → Type 0
 PassesDecodable test set = (c : ℕ) → is_decodable set c ≡ true → test (Char c) ≡ true
 
--- general fact on lists of tokens, for what a set allows: two pass a test, joined
+-- general fact on lists of tokens, for unreserved octets: two pass a test, joined
 test_holds_of_joined_lists : (test : Token → Bool) (xs ys : List Token) → list_all test xs ≡ true
     → list_all test ys ≡ true → list_all test (xs ++ ys) ≡ true
 test_holds_of_joined_lists test xs ys e f = list_all-append test xs ys ∙ and_from _ _ e f
 
--- general fact on lists of tokens, for what a set allows: both pass a test that they pass joined
+-- general fact on lists of tokens, for unreserved octets: both pass a test that they pass joined
 test_holds_of_both_lists : (test : Token → Bool) (xs ys : List Token) → list_all test (xs ++ ys)
     ≡ true
     → (list_all test xs ≡ true) × (list_all test ys ≡ true)
 test_holds_of_both_lists test xs ys e = and_parts (list_all test xs) (list_all test ys)
     (sym (list_all-append test xs ys) ∙ e)
 
--- normal forms: a decoded piece passes a test that decodable characters and its octets pass
+-- unreserved octets: a decoded piece passes a test that decodable characters and its octets pass
 decoded_piece_passes_test : (test : Token → Bool) (set : TableSet) (p : Piece)
     → PassesDecodable test set
     → list_all test (map Octet (piece_bytes p)) ≡ true → list_all test (decode_piece set p) ≡ true
@@ -115,7 +115,7 @@ decoded_piece_passes_test test set (WellFormed bytes) h e = ⊎_elim
     (λ r. rw r e)
     (cases_Bool (is_decodable set (char_of bytes)))
 
--- normal forms: decoded pieces pass a test that decodable characters and their octets pass
+-- unreserved octets: decoded pieces pass a test that decodable characters and their octets pass
 decoded_pieces_pass_test : (test : Token → Bool) (set : TableSet) (ps : List Piece)
     → PassesDecodable test set
     → list_all test (map Octet (bytes_of_pieces ps)) ≡ true
@@ -129,7 +129,8 @@ decoded_pieces_pass_test test set (p ∷ ps) h e =
     (decoded_piece_passes_test test set p h parts.0)
     (decoded_pieces_pass_test test set ps h parts.1)
 
--- normal forms: a decoded run of octets passes a test that decodable characters and its octets pass
+-- unreserved octets: a decoded run of octets passes a test
+-- that decodable characters and its octets pass
 decoded_run_passes_test : (test : Token → Bool) (set : TableSet) (run : List ℕ)
     → PassesDecodable test set
     → list_all test (map Octet run) ≡ true → list_all test (decode_run set run) ≡ true
@@ -137,8 +138,8 @@ unfolding decode_run
 decoded_run_passes_test test set run h e = decoded_pieces_pass_test test set (utf8_pieces run) h
     (ap (λ x. list_all test (map Octet x)) (bytes_of_utf8_pieces_are_the_bytes run) ∙ e)
 
--- normal forms: a test that holds of tokens holds of the decoded ones, if decodable characters pass
--- it; run: octets before them
+-- unreserved octets: a test that holds of tokens holds of the decoded ones,
+-- if decodable characters pass it; run: octets before them
 tokens_decoded_after_run_pass_test : (test : Token → Bool) (set : TableSet) (run : List ℕ)
     (ts : List Token)
     → PassesDecodable test set → list_all test (map Octet run) ≡ true → list_all test ts ≡ true
@@ -157,7 +158,7 @@ tokens_decoded_after_run_pass_test test set run (Char c ∷ ts) h e f =
     (decoded_run_passes_test test set run h e)
     (and_from _ _ p.0 (tokens_decoded_after_run_pass_test test set [] ts h refl p.1))
 
--- normal forms: decoded tokens can be written
+-- unreserved octets: decoded tokens can be written
 pub decode_tokens_keeps_tokens_printable : (set : TableSet) (ts : List Token)
     → list_all is_printable ts ≡ true
     → list_all is_printable (decode_tokens set ts) ≡ true
@@ -165,7 +166,7 @@ decode_tokens_keeps_tokens_printable set ts e =
     tokens_decoded_after_run_pass_test is_printable set [] ts
     (λ c h. decodable_char_is_printable set c h) refl e
 
--- normal forms: decoding the unreserved octets of a text leaves tokens that can be written
+-- unreserved octets: decoding the unreserved octets of a text leaves tokens that can be written
 pub decode_unreserved_keeps_tokens_printable : (set : TableSet) (text : List ℕ)
     → list_all is_printable (tokens text) ≡ true
     → list_all is_printable (decode_unreserved set text) ≡ true
@@ -173,7 +174,7 @@ decode_unreserved_keeps_tokens_printable set text e = encode_formatting_keeps_to
     (decode_tokens set (tokens text))
     (decode_tokens_keeps_tokens_printable set (tokens text) e)
 
--- normal forms: if the set allows a text, it allows the decoded tokens
+-- unreserved octets: if the set allows a text, it allows the decoded tokens
 pub decode_unreserved_keeps_tokens_allowed : (set : TableSet) (text : List ℕ)
     → IsSubset unreserved_set set
     → IsValidFor set text → list_all (allows_token set) (decode_unreserved set text) ≡ true
@@ -184,7 +185,7 @@ decode_unreserved_keeps_tokens_allowed set text wide valid =
     (λ c h. decodable_char_is_allowed set c wide h)
     refl valid)
 
--- normal forms: if the set allows a text, the decoded text is valid for it
+-- unreserved octets: if the set allows a text, the decoded text is valid for it
 pub printed_decode_unreserved_stays_valid : (set : TableSet) (text : List ℕ) → LacksPercent set
     → IsSubset unreserved_set set → IsValidFor set text
     → IsValidFor set (print (decode_unreserved set text))
@@ -194,7 +195,7 @@ printed_decode_unreserved_stays_valid set text lacks wide valid =
     (valid_text_has_printable_tokens set text lacks valid))
     ∙ decode_unreserved_keeps_tokens_allowed set text wide valid
 
--- normal forms: a literal character separates the decoding before it from that after it
+-- unreserved octets: a literal character separates the decoding before it from that after it
 char_separates_decoding_after_run : (set : TableSet) (run : List ℕ) (ts : List Token) (c : ℕ)
     (us : List Token)
     → decode_after_run set run (ts ++ Char c ∷ us) ≡ decode_after_run set run ts ++ Char c
@@ -208,13 +209,13 @@ char_separates_decoding_after_run set run (Char d ∷ ts) c us =
     ∙ sym (append_assoc (decode_run set run) (Char d ∷ decode_after_run set [] ts)
     (Char c ∷ decode_tokens set us))
 
--- normal forms: a literal character parts the tokens before and after it,
--- which are decoded each by themselves
+-- unreserved octets: a literal character parts the tokens before
+-- and after it, which are decoded each by themselves
 pub char_separates_decoded_tokens : (set : TableSet) (ts : List Token) (c : ℕ) (us : List Token)
     → decode_tokens set (ts ++ Char c ∷ us) ≡ decode_tokens set ts ++ Char c ∷ decode_tokens set us
 char_separates_decoded_tokens set ts c us = char_separates_decoding_after_run set [] ts c us
 
--- normal forms: the octets of a decodable character part a run as the character does
+-- unreserved octets: the octets of a decodable character part a run as the character does
 decodable_char_octets_split_run : (set : TableSet) (run : List ℕ) (c : ℕ) (more : List ℕ)
     → IsScalar c
     → is_decodable set c ≡ true
@@ -231,7 +232,8 @@ decodable_char_octets_split_run set run c more scalar decodable =
     (ap (λ d. cond (is_decodable set d) (Char d ∷ []) (map Octet (encode_utf8 c))) same
     ∙ cond-true _ _ _ decodable)
 
--- normal forms: in a run, the octets of a decodable character decode to it, and it ends the run
+-- unreserved octets: in a run, the octets
+-- of a decodable character decode to it, and it ends the run
 decodable_char_octets_split_decoding : (set : TableSet) (run : List ℕ) (c : ℕ) (more : List ℕ)
     (ts : List Token)
     → IsScalar c → is_decodable set c ≡ true
@@ -250,7 +252,7 @@ decodable_char_octets_split_decoding set run c more (Char d ∷ ts) scalar decod
     ∙ append_assoc (decode_run set run) (Char c ∷ decode_run set more) (Char d
     ∷ decode_after_run set [] ts)
 
--- normal forms: octets (more) before tokens lengthen the run of octets before them
+-- unreserved octets: octets (more) before tokens lengthen the run of octets before them
 octets_before_tokens_lengthen_run : (set : TableSet) (run more : List ℕ) (ts : List Token)
     → decode_after_run set run (map Octet more ++ ts) ≡ decode_after_run set (run ++ more) ts
 unfolding decode_after_run
@@ -260,7 +262,7 @@ octets_before_tokens_lengthen_run set run (b ∷ more) ts = octets_before_tokens
     (run ++ b ∷ []) more ts
     ∙ ap (λ r. decode_after_run set r ts) (append_assoc run (b ∷ []) more)
 
--- normal forms: after a run, the octets of a decodable character decode to it, in any context
+-- unreserved octets: after a run, the octets of a decodable character decode to it, in any context
 decodable_char_octets_decode_as_char_after_run : (set : TableSet) (run : List ℕ) (ts : List Token)
     (c : ℕ) (us : List Token)
     → IsScalar c → is_decodable set c ≡ true
@@ -277,7 +279,7 @@ decodable_char_octets_decode_as_char_after_run set run (Char d ∷ ts) c us scal
     ap (λ x. decode_run set run ++ Char d ∷ x)
     (decodable_char_octets_decode_as_char_after_run set [] ts c us scalar decodable)
 
--- normal forms: the octets of a decodable character decode to the character, in any context
+-- unreserved octets: the octets of a decodable character decode to the character, in any context
 pub decodable_char_octets_decode_as_char : (set : TableSet) (ts : List Token) (c : ℕ)
     (us : List Token)
     → IsScalar c
@@ -287,7 +289,7 @@ pub decodable_char_octets_decode_as_char : (set : TableSet) (ts : List Token) (c
 decodable_char_octets_decode_as_char set ts c us scalar decodable =
     decodable_char_octets_decode_as_char_after_run set [] ts c us scalar decodable
 
--- bidirectional text: formatting characters decode to the same tokens as their octets
+-- unreserved octets: formatting characters decode to the same tokens as their octets
 pub octets_of_formatting_chars_decode_as_chars : (set : TableSet) (before ts : List Token)
     → decode_tokens set (before ++ encode_formatting set ts) ≡ decode_tokens set (before ++ ts)
 octets_of_formatting_chars_decode_as_chars set before [] = refl
@@ -312,7 +314,7 @@ octets_of_formatting_chars_decode_as_chars set before (Char c ∷ ts) =
     ∙ next)
     (cases_Bool (is_never_literal set c))
 
--- normal forms: the octets of a decodable character, written, decode as the character does
+-- unreserved octets: the octets of a decodable character, written, decode as the character does
 pub printed_octets_of_decodable_char_decode_as_char : (set : TableSet) (before : List Token) (c : ℕ)
     (suffix : List Token)
     → IsScalar c → is_decodable set c ≡ true
@@ -332,7 +334,7 @@ printed_octets_of_decodable_char_decode_as_char set before c suffix scalar decod
     (decodable_char_octets_decode_as_char set before c suffix scalar decodable)
     ∙ sym (ap of (printed_tokens_parse_to_themselves (before ++ Char c ∷ suffix) e))
 
--- bidirectional text: no formatting character is literal after decoding
+-- unreserved octets: no formatting character is literal after decoding
 pub decode_unreserved_leaves_no_literal_formatting : (set : TableSet) (text : List ℕ)
     → (set.ucschar && set.pct_encoded) ≡ true
     → list_any is_literal_formatting (decode_unreserved set text) ≡ false

@@ -24,17 +24,17 @@ use Rattle.uri_pct.proofs.UnreservedDecoding.Formatting.{encode_formatting_commu
 use Rattle.uri_pct.proofs.UnreservedDecoding.DecodedTokens.{decode_unreserved_keeps_tokens_printable}
 use Rattle.uri_pct.proofs.UnreservedDecoding.DecodedTokens.{octets_of_formatting_chars_decode_as_chars}
 
--- no octet of a run decodes to a character
+-- unreserved octets: no octet of a run decodes to a character
 abbrev StaysOctets : TableSet → List ℕ → Type 0
 StaysOctets set run = decode_run set run ≡ map Octet run
 
--- nor does one of the tokens, after a run
+-- unreserved octets: no octet of the tokens decodes to a character, after a run of octets
 abbrev IsDecoded : TableSet → List ℕ → List Token → Type 0
 IsDecoded set run [] = StaysOctets set run
 IsDecoded set run (Octet value ∷ ts) = IsDecoded set (run ++ value ∷ []) ts
 IsDecoded set run (Char c ∷ ts) = StaysOctets set run × IsDecoded set [] ts
 
--- normal forms: tokens that are decoded already stay, after a run of octets that does
+-- unreserved octets: tokens that are decoded already stay, after a run of octets that does
 decoding_decoded_tokens_keeps_them : (set : TableSet) (run : List ℕ) (ts : List Token)
     → IsDecoded set run ts
     → decode_after_run set run ts ≡ map Octet run ++ ts
@@ -48,7 +48,8 @@ decoding_decoded_tokens_keeps_them set run (Char c ∷ ts) stays =
     ap (λ x. x ++ Char c ∷ decode_after_run set [] ts) stays.0
     ∙ ap (λ x. map Octet run ++ Char c ∷ x) (decoding_decoded_tokens_keeps_them set [] ts stays.1)
 
--- normal forms: octets (more) before decoded tokens stay octets, if they do as the end of the run
+-- unreserved octets: octets (more) before decoded tokens stay octets,
+-- if they do as the end of the run
 octets_before_decoded_tokens_stay_decoded : (set : TableSet) (run more : List ℕ) (ts : List Token)
     → IsDecoded set (run ++ more) ts → IsDecoded set run (map Octet more ++ ts)
 octets_before_decoded_tokens_stay_decoded set run [] ts h = subst (λ r. IsDecoded set r ts)
@@ -57,20 +58,20 @@ octets_before_decoded_tokens_stay_decoded set run (b ∷ more) ts h =
     octets_before_decoded_tokens_stay_decoded set (run ++ b ∷ []) more ts
     (subst (λ r. IsDecoded set r ts) (sym (append_assoc run (b ∷ []) more)) h)
 
--- normal forms: a piece of bytes is not decoded: it is ill-formed,
--- or a character that is kept as octets
+-- unreserved octets: a piece of bytes is not decoded:
+-- it is ill-formed, or a character that is kept as octets
 is_undecoded : TableSet → Piece → Bool
 is_undecoded set (WellFormed bytes) = not (is_decodable set (char_of bytes))
 is_undecoded set (IllFormed bytes) = true
 
--- normal forms: a piece that is not decoded stays octets
+-- unreserved octets: a piece that is not decoded stays octets
 undecodable_piece_stays_octets : (set : TableSet) (p : Piece) → is_undecoded set p ≡ true
     → decode_piece set p ≡ map Octet (piece_bytes p)
 unfolding is_undecoded
 undecodable_piece_stays_octets set (WellFormed bytes) e = cond-false _ _ _ (not-true _ e)
 undecodable_piece_stays_octets set (IllFormed bytes) e = refl
 
--- normal forms: pieces that are not decoded stay octets
+-- unreserved octets: pieces that are not decoded stay octets
 undecodable_pieces_stay_octets : (set : TableSet) (ps : List Piece) → list_all (is_undecoded set) ps
     ≡ true
     → flat_map (decode_piece set) ps ≡ map Octet (bytes_of_pieces ps)
@@ -81,7 +82,7 @@ undecodable_pieces_stay_octets set (p ∷ ps) e =
     ∙ ap (λ x. map Octet (piece_bytes p) ++ x) (undecodable_pieces_stay_octets set ps q.1)
     ∙ sym (map-append Octet (piece_bytes p) (bytes_of_pieces ps))
 
--- normal forms: a run of octets stays, if none of its pieces is decoded
+-- unreserved octets: a run of octets stays, if none of its pieces is decoded
 run_of_undecodable_pieces_stays_octets : (set : TableSet) (ps : List Piece) → ArePiecesOfOwnBytes ps
     → list_all (is_undecoded set) ps
     ≡ true
@@ -90,14 +91,15 @@ unfolding decode_run
 run_of_undecodable_pieces_stays_octets set ps cut e = ap (flat_map (decode_piece set)) cut
     ∙ undecodable_pieces_stay_octets set ps e
 
--- UTF-8: if the pieces of a list are those of their own bytes, so are the last of them (qs)
+-- unreserved octets: if the pieces of a list are those
+-- of their own bytes, so are the last of them (qs)
 suffix_of_pieces_is_of_own_bytes : (ps qs : List Piece) → ArePiecesOfOwnBytes (ps ++ qs)
     → ArePiecesOfOwnBytes qs
 suffix_of_pieces_is_of_own_bytes [] qs cut = cut
 suffix_of_pieces_is_of_own_bytes (p ∷ ps) qs cut = suffix_of_pieces_is_of_own_bytes ps qs
     (tail_of_pieces_is_of_own_bytes p (ps ++ qs) cut)
 
--- normal forms: a decoded piece ends the run of octets before it
+-- unreserved octets: a decoded piece ends the run of octets before it
 decoded_piece_ends_run_before_it : (set : TableSet) (done : List Piece) (p : Piece)
     (ps : List Piece) (ts : List Token)
     → is_undecoded set p ≡ false → StaysOctets set (bytes_of_pieces done)
@@ -109,8 +111,8 @@ decoded_piece_ends_run_before_it set done (WellFormed bytes) ps ts e stays suffi
     subst (λ x. IsDecoded set (bytes_of_pieces done) ((x ++ flat_map (decode_piece set) ps) ++ ts))
     (sym (cond-true _ _ _ (not-false _ e))) (stays, suffix)
 
--- the tokens of a decoded run are decoded,
--- if the pieces before it are not decodable and what follows is decoded
+-- unreserved octets: the tokens of a decoded run are decoded,
+-- if the pieces before it stay octets and what follows is decoded
 decoded_run_before_decoded_tokens_is_decoded : (set : TableSet) (done ps : List Piece)
     (ts : List Token)
     → ArePiecesOfOwnBytes (done ++ ps)
@@ -147,7 +149,7 @@ decoded_run_before_decoded_tokens_is_decoded set done (p ∷ ps) ts cut undecode
     (subst ArePiecesOfOwnBytes (sym (append_assoc done (p ∷ []) ps)) cut)) refl suffix))
     (cases_Bool (is_undecoded set p))
 
--- normal forms: what decoding returns is decoded
+-- unreserved octets: what decoding returns is decoded
 decode_after_run_gives_decoded_tokens : (set : TableSet) (run : List ℕ) (ts : List Token)
     → IsDecoded set [] (decode_after_run set run ts)
 unfolding decode_after_run decode_run
@@ -163,14 +165,14 @@ decode_after_run_gives_decoded_tokens set run (Char c ∷ ts) =
     ∷ decode_after_run set [] ts) (utf8_pieces-are-of-own-bytes run) refl
     (λ r stays. (stays, decode_after_run_gives_decoded_tokens set [] ts))
 
--- normal forms: decoding unreserved octets twice is decoding them once
+-- unreserved octets: decoding unreserved octets twice is decoding them once
 pub decode_tokens_is_idempotent : (set : TableSet) (ts : List Token)
     → decode_tokens set (decode_tokens set ts) ≡ decode_tokens set ts
 decode_tokens_is_idempotent set ts = decoding_decoded_tokens_keeps_them set []
     (decode_tokens set ts)
     (decode_after_run_gives_decoded_tokens set [] ts)
 
--- normal forms: decoding a text twice equals decoding it once
+-- unreserved octets: decoding a text twice equals decoding it once
 pub decode_unreserved_is_idempotent : (set : TableSet) (text : List ℕ)
     → list_all is_printable (tokens text) ≡ true
     → decode_unreserved set (print (decode_unreserved set text)) ≡ decode_unreserved set text
@@ -182,7 +184,7 @@ decode_unreserved_is_idempotent set text e =
     ∙ ap (encode_formatting set) (octets_of_formatting_chars_decode_as_chars set [] ts
     ∙ decode_tokens_is_idempotent set (tokens text))
 
--- normal forms: decoded tokens in lower case are decoded; run: the octets before them
+-- unreserved octets: decoded tokens in lower case are decoded; run: the octets before them
 lowered_decoded_tokens_are_decoded : (set : TableSet) (run : List ℕ) (ts : List Token)
     → IsDecoded set run ts
     → IsDecoded set run (map lower_token ts)
@@ -192,7 +194,7 @@ lowered_decoded_tokens_are_decoded set run (Octet value ∷ ts) h = lowered_deco
 lowered_decoded_tokens_are_decoded set run (Char c ∷ ts) h =
     (h.0, lowered_decoded_tokens_are_decoded set [] ts h.1)
 
--- normal forms: decoded tokens in lower case stay when they are decoded again
+-- unreserved octets: decoded tokens in lower case stay when they are decoded again
 pub decoding_keeps_lowered_decoded_tokens : (set : TableSet) (ts : List Token)
     → decode_tokens set (map lower_token (decode_tokens set ts))
     ≡ map lower_token (decode_tokens set ts)
@@ -201,7 +203,7 @@ decoding_keeps_lowered_decoded_tokens set ts = decoding_decoded_tokens_keeps_the
     (lowered_decoded_tokens_are_decoded set [] (decode_tokens set ts)
     (decode_after_run_gives_decoded_tokens set [] ts))
 
--- normal forms: decoded tokens in lower case decode to themselves
+-- unreserved octets: decoded tokens in lower case decode to themselves
 pub decoding_keeps_lowered_decoded_text : (set : TableSet) (text : List ℕ)
     → list_all is_printable (tokens text) ≡ true
     → decode_unreserved set (print (map lower_token (decode_unreserved set text)))

@@ -24,25 +24,25 @@ use Rattle.uri_pct.proofs.EncodedTexts.EncodedTokens.{octets_are_allowed_if_pct_
 use Rattle.uri_pct.proofs.EncodedTexts.EncodedTokens.{utf8_bytes_are_eight_bit}
 use Rattle.uri_pct.proofs.EncodedTexts.Encodings.{octets_decode_to_their_bytes}
 
--- a formatting character is one of `ucschar`
+-- unreserved octets: a formatting character is from U+00A0 to U+D7FF
 formatting_char_is_from_a0_to_d7ff : (c : ℕ) → is_bidi_formatting c ≡ true
     → is_in_range 0xA0 0xD7FF c ≡ true
 unfolding is_bidi_formatting
 formatting_char_is_from_a0_to_d7ff c e = grind (arith, nat_tests)
 
--- bidirectional text: a formatting character is in `ucschar`
+-- unreserved octets: a formatting character is in `ucschar`
 formatting_char_is_ucschar : (c : ℕ) → is_bidi_formatting c ≡ true → is_ucschar c ≡ true
 unfolding is_ucschar
 formatting_char_is_ucschar c e = rw (formatting_char_is_from_a0_to_d7ff c e) refl
 
--- bidirectional text: a formatting character is a Unicode scalar value past ASCII
+-- unreserved octets: a formatting character is a Unicode scalar value past ASCII
 formatting_char_is_scalar_past_ascii : (c : ℕ) → is_bidi_formatting c ≡ true → (128 ≤ c)
     × IsScalar c
 unfolding is_bidi_formatting
 formatting_char_is_scalar_past_ascii c e = (grind (arith, nat_tests), grind (arith, nat_tests))
 
--- bidirectional text: a character is never literal in a set if this has octets and `ucschar`, and
--- it is a formatting character
+-- unreserved octets: a character is never literal in a set
+-- if this has octets and `ucschar`, and it is a formatting character
 never_literal_char_is_formatting_in_set_with_flags : (set : TableSet) (c : ℕ)
     → is_never_literal set c ≡ true
     → (set.ucschar ≡ true) × ((set.pct_encoded ≡ true) × (is_bidi_formatting c ≡ true))
@@ -52,14 +52,14 @@ never_literal_char_is_formatting_in_set_with_flags set c e =
     let q = and_parts set.ucschar set.pct_encoded p.0 in
     (q.0, (q.1, p.1))
 
--- bidirectional text: a formatting character is a Unicode scalar value past ASCII
+-- unreserved octets: a formatting character is a Unicode scalar value past ASCII
 pub never_literal_char_is_scalar_past_ascii : (set : TableSet) (c : ℕ) → is_never_literal set c
     ≡ true
     → (128 ≤ c) × IsScalar c
 never_literal_char_is_scalar_past_ascii set c e = formatting_char_is_scalar_past_ascii c
     (never_literal_char_is_formatting_in_set_with_flags set c e).1.1
 
--- bidirectional text: a formatting character is one that the set would decode
+-- unreserved octets: a formatting character is one that the set would decode
 pub never_literal_char_is_decodable : (set : TableSet) (c : ℕ) → is_never_literal set c ≡ true
     → is_decodable set c ≡ true
 unfolding is_decodable allows_past_ascii
@@ -67,12 +67,12 @@ never_literal_char_is_decodable set c e =
     let p = never_literal_char_is_formatting_in_set_with_flags set c e in
     rw (p.0, formatting_char_is_ucschar c p.1.1) (or_right _ true refl)
 
--- bidirectional text: no ASCII character is a formatting character
+-- unreserved octets: no ASCII character is a formatting character
 pub ascii_char_is_no_formatting_char : (c : ℕ) → c < 128 → is_bidi_formatting c ≡ false
 unfolding is_bidi_formatting
 ascii_char_is_no_formatting_char c h = grind (arith, nat_tests)
 
--- bidirectional text: a set with octets and `ucschar` writes all formatting characters as octets
+-- unreserved octets: a set with octets and `ucschar` writes all formatting characters as octets
 pub never_literal_is_formatting_if_both_flags : (set : TableSet) (c : ℕ)
     → (set.ucschar && set.pct_encoded)
     ≡ true
@@ -80,7 +80,7 @@ pub never_literal_is_formatting_if_both_flags : (set : TableSet) (c : ℕ)
 unfolding is_never_literal
 never_literal_is_formatting_if_both_flags set c e = ap (λ b. b && is_bidi_formatting c) e
 
--- bidirectional text: a set without octets or `ucschar` keeps formatting characters as they are
+-- unreserved octets: a set without octets or `ucschar` keeps formatting characters as they are
 pub encode_formatting_without_flags_keeps_tokens : (set : TableSet) (ts : List Token)
     → (set.ucschar && set.pct_encoded) ≡ false → encode_formatting set ts ≡ ts
 unfolding is_never_literal
@@ -92,13 +92,13 @@ encode_formatting_without_flags_keeps_tokens set (Char c ∷ ts) e =
     (cond-false _ _ _ (ap (λ b. b && is_bidi_formatting c) e))
     ∙ ap (λ us. Char c ∷ us) (encode_formatting_without_flags_keeps_tokens set ts e)
 
--- general fact on booleans, for formatting characters
+-- general fact on booleans, for unreserved octets
 and_with_false_is_false : (x y : Bool) → (x && y && false) ≡ false
 and_with_false_is_false true true = refl
 and_with_false_is_false true false = refl
 and_with_false_is_false false y = refl
 
--- bidirectional text: an ASCII character is never written as octets
+-- unreserved octets: an ASCII character is never written as octets
 ascii_char_stays_literal : (set : TableSet) (c : ℕ) → c < 128
     → formatting_as_octets set (Char c) ≡ Char c ∷ []
 unfolding is_never_literal
@@ -106,7 +106,7 @@ ascii_char_stays_literal set c h = cond-false _ _ _
     (ap (λ b. set.ucschar && set.pct_encoded && b) (ascii_char_is_no_formatting_char c h)
     ∙ and_with_false_is_false set.ucschar set.pct_encoded)
 
--- to write a formatting character as octets keeps the decoded bytes
+-- unreserved octets: to write a formatting character as octets keeps the decoded bytes
 formatting_as_octets_keeps_bytes : (set : TableSet) (t : Token)
     → bytes_decoded_from (formatting_as_octets set t) ≡ bytes_of_one_token t
 formatting_as_octets_keeps_bytes set (Octet value) = refl
@@ -115,7 +115,7 @@ formatting_as_octets_keeps_bytes set (Char c) = ⊎_elim
     (λ e. ap bytes_decoded_from (cond-false _ _ _ e) ∙ append-nil (encode_utf8 c))
     (cases_Bool (is_never_literal set c))
 
--- to write formatting characters as octets keeps the decoded bytes
+-- unreserved octets: to write formatting characters as octets keeps the decoded bytes
 pub encode_formatting_keeps_bytes : (set : TableSet) (ts : List Token)
     → bytes_decoded_from (encode_formatting set ts) ≡ bytes_decoded_from ts
 encode_formatting_keeps_bytes set [] = refl
@@ -125,8 +125,8 @@ encode_formatting_keeps_bytes set (t ∷ ts) =
     (formatting_as_octets_keeps_bytes set t)
     ∙ ap (λ x. bytes_of_one_token t ++ x) (encode_formatting_keeps_bytes set ts)
 
--- bidirectional text: a token passes a test after its formatting
--- character becomes octets, if these pass
+-- unreserved octets: a token passes a test
+-- after its formatting character becomes octets, if these pass
 formatting_as_octets_passes_test : (test : Token → Bool) (set : TableSet) (t : Token)
     → ((c : ℕ) → is_never_literal set c ≡ true → list_all test (map Octet (encode_utf8 c)) ≡ true)
     → test t ≡ true → list_all test (formatting_as_octets set t) ≡ true
@@ -136,8 +136,8 @@ formatting_as_octets_passes_test test set (Char c) octets e = ⊎_elim
     (λ h. ap (list_all test) (cond-false _ _ _ h) ∙ and_from _ true e refl)
     (cases_Bool (is_never_literal set c))
 
--- bidirectional text: tokens pass a test after their formatting
--- characters become octets, if these pass
+-- unreserved octets: tokens pass a test after their
+-- formatting characters become octets, if these pass
 encode_formatting_passes_test : (test : Token → Bool) (set : TableSet) (ts : List Token)
     → ((c : ℕ) → is_never_literal set c ≡ true → list_all test (map Octet (encode_utf8 c)) ≡ true)
     → list_all test ts ≡ true → list_all test (encode_formatting set ts) ≡ true
@@ -148,7 +148,7 @@ encode_formatting_passes_test test set (t ∷ ts) octets e =
     ∙ and_from _ _ (formatting_as_octets_passes_test test set t octets p.0)
     (encode_formatting_passes_test test set ts octets p.1)
 
--- bidirectional text: percent-encoding formatting characters leaves tokens that can be written
+-- unreserved octets: percent-encoding formatting characters leaves tokens that can be written
 pub encode_formatting_keeps_tokens_printable : (set : TableSet) (ts : List Token)
     → list_all is_printable ts ≡ true → list_all is_printable (encode_formatting set ts) ≡ true
 encode_formatting_keeps_tokens_printable set ts e =
@@ -156,7 +156,7 @@ encode_formatting_keeps_tokens_printable set ts e =
     (λ c h. octets_of_bytes_are_printable (encode_utf8 c)
     (utf8_bytes_are_eight_bit c (never_literal_char_is_scalar_past_ascii set c h).1)) e
 
--- bidirectional text: percent-encoding formatting characters leaves tokens that the set allows
+-- unreserved octets: percent-encoding formatting characters leaves tokens that the set allows
 pub encode_formatting_keeps_tokens_allowed : (set : TableSet) (ts : List Token)
     → list_all (allows_token set) ts ≡ true
     → list_all (allows_token set) (encode_formatting set ts) ≡ true
@@ -165,16 +165,16 @@ encode_formatting_keeps_tokens_allowed set ts e =
     (λ c h. octets_are_allowed_if_pct_encoded set (encode_utf8 c)
     (never_literal_char_is_formatting_in_set_with_flags set c h).1.0) e
 
--- normal forms: lowering the letters of octets changes nothing
+-- unreserved octets: lowering the letters of octets changes nothing
 pub lowering_keeps_octets : (bytes : List ℕ) → map lower_token (map Octet bytes) ≡ map Octet bytes
 lowering_keeps_octets [] = refl
 lowering_keeps_octets (b ∷ bytes) = ap (λ ts. Octet b ∷ ts) (lowering_keeps_octets bytes)
 
--- characters past ASCII have no lower case here: ASCII letters alone are lowered
+-- unreserved octets: ASCII letters alone are lowered, so characters past ASCII stay
 pub lowercase_keeps_char_past_ascii : (c : ℕ) → 128 ≤ c → to_ascii_lowercase c ≡ c
 lowercase_keeps_char_past_ascii c h = grind (arith, nat_tests)
 
--- bidirectional text: encoding a formatting character and lower case may swap
+-- unreserved octets: encoding a formatting character and lower case may swap
 formatting_as_octets_commutes_with_lowering : (set : TableSet) (t : Token)
     → map lower_token (formatting_as_octets set t) ≡ formatting_as_octets set (lower_token t)
 formatting_as_octets_commutes_with_lowering set (Octet value) = refl
@@ -194,7 +194,7 @@ formatting_as_octets_commutes_with_lowering set (Char c) = ⊎_elim
     (cases_Bool (is_never_literal set c)))
     (cases_lt c 128)
 
--- bidirectional text: percent-encoding formatting characters and lower case may swap
+-- unreserved octets: percent-encoding formatting characters and lower case may swap
 pub encode_formatting_commutes_with_lowering : (set : TableSet) (ts : List Token)
     → map lower_token (encode_formatting set ts) ≡ encode_formatting set (map lower_token ts)
 encode_formatting_commutes_with_lowering set [] = refl
@@ -205,7 +205,7 @@ encode_formatting_commutes_with_lowering set (t ∷ ts) =
     ∙ ap (λ x. formatting_as_octets set (lower_token t) ++ x)
     (encode_formatting_commutes_with_lowering set ts)
 
--- bidirectional text: an ASCII character separates the encoding before it from that after it
+-- unreserved octets: an ASCII character separates the encoding before it from that after it
 pub ascii_char_separates_encode_formatting : (set : TableSet) (ts : List Token) (c : ℕ)
     (us : List Token)
     → c < 128
@@ -216,14 +216,14 @@ ascii_char_separates_encode_formatting set ts c us low =
     ∙ ap (λ x. encode_formatting set ts ++ (x ++ encode_formatting set us))
     (ascii_char_stays_literal set c low)
 
--- bidirectional text: octets are no literal formatting characters
+-- unreserved octets: octets are no literal formatting characters
 octets_are_no_literal_formatting : (bytes : List ℕ) (ts : List Token)
     → list_any is_literal_formatting (map Octet bytes ++ ts) ≡ list_any is_literal_formatting ts
 octets_are_no_literal_formatting [] ts = refl
 octets_are_no_literal_formatting (b ∷ bytes) ts = octets_are_no_literal_formatting bytes ts
 
--- bidirectional text: after percent-encoding, no formatting character is literal,
--- if the set allows octets and `ucschar`
+-- unreserved octets: after percent-encoding,
+-- no formatting character is literal, if the set allows octets and `ucschar`
 pub encode_formatting_leaves_no_literal_formatting : (set : TableSet) (ts : List Token)
     → (set.ucschar && set.pct_encoded) ≡ true
     → list_any is_literal_formatting (encode_formatting set ts) ≡ false

@@ -27,18 +27,19 @@ use Rattle.uri_pct.proofs.ValidTexts.Allowed.{unreserved_is_ascii}
 use Rattle.uri_pct.proofs.UnreservedDecoding.Formatting.{encode_formatting_without_flags_keeps_tokens}
 use Rattle.uri_pct.proofs.Tests.{or_false_is_the_same}
 
--- normal forms of URIs: exactly unreserved characters are decoded, as the set has none past ASCII
+-- unreserved octets of a URI: exactly unreserved characters are decoded,
+-- as the set has none past ASCII
 decodable_is_unreserved_in_uri : (set : TableSet) (c : ℕ) → LacksPastAscii set → is_decodable set c
     ≡ is_unreserved c
 unfolding is_decodable allows_past_ascii
 decodable_is_unreserved_in_uri set c alone = rw (alone.0, alone.1)
     (or_false_is_the_same (is_unreserved c))
 
--- normal forms of URIs: the token that an octet of this byte is decoded to
+-- unreserved octets of a URI: the token that an octet of this byte is decoded to
 decoded_octet_token : ℕ → Token
 decoded_octet_token value = decode_octet (Octet value)
 
--- normal forms of URIs: bytes past ASCII stay octets
+-- unreserved octets of a URI: bytes past ASCII stay octets
 bytes_past_ascii_stay_octets : (bytes : List ℕ) → list_all (leb 128) bytes ≡ true
     → map decoded_octet_token bytes ≡ map Octet bytes
 unfolding decoded_octet_token
@@ -51,7 +52,7 @@ bytes_past_ascii_stay_octets (b ∷ rest) e =
     ap (λ t. t ∷ map decoded_octet_token rest) (cond-false _ _ _ reserved)
     ∙ ap (λ x. Octet b ∷ x) (bytes_past_ascii_stay_octets rest p.1)
 
--- UTF-8: a byte that may follow a first one is past ASCII
+-- unreserved octets of a URI: a byte that may follow a first one is past ASCII
 byte_in_continuation_range_is_past_ascii : (range : ByteRange) (b : ℕ) → is_continuation_range range
     ≡ true
     → is_in_byte_range range b ≡ true
@@ -63,7 +64,7 @@ byte_in_continuation_range_is_past_ascii range b inner e =
     let from : range.0 ≤ b = leb-true range.0 b (and_parts (leb range.0 b) (leb b range.1) e).0 in
     le-leb 128 b (omega arith)
 
--- UTF-8: bytes that may follow a first one are past ASCII
+-- unreserved octets of a URI: bytes that may follow a first one are past ASCII
 bytes_in_continuation_ranges_are_past_ascii : (ranges : List ByteRange) (text : List ℕ)
     → list_all is_continuation_range ranges ≡ true
     → list_all (leb 128) (take (len_in_ranges ranges text) text) ≡ true
@@ -77,7 +78,8 @@ bytes_in_continuation_ranges_are_past_ascii (range ∷ ranges) (b ∷ rest) inne
     (λ e. rw e refl)
     (cases_Bool (is_in_byte_range range b))
 
--- UTF-8: all bytes of the first piece but its first are past ASCII; row: which may follow
+-- unreserved octets of a URI: all bytes of the first piece
+-- but its first are past ASCII; row: which may follow
 first_piece_tail_is_past_ascii : (row : Option (List ByteRange)) (text : List ℕ)
     → are_continuation_ranges row
     ≡ true
@@ -87,7 +89,7 @@ first_piece_tail_is_past_ascii None text inner = refl
 first_piece_tail_is_past_ascii (Some ranges) text inner =
     bytes_in_continuation_ranges_are_past_ascii ranges text inner
 
--- normal forms of URIs: a piece of bytes past ASCII stays octets
+-- unreserved octets of a URI: a piece of bytes past ASCII stays octets
 piece_past_ascii_stays_octets_in_uri : (set : TableSet) (p : Piece) → LacksPastAscii set
     → IsOfCharacter p
     → list_all (leb 128) (piece_bytes p) ≡ true → decode_piece set p ≡ map Octet (piece_bytes p)
@@ -104,7 +106,7 @@ piece_past_ascii_stays_octets_in_uri set (WellFormed bytes) alone h e =
     omega arith) in
     cond-false _ _ _ undecoded
 
--- normal forms of URIs: an ASCII character is decoded as its octet is
+-- unreserved octets of a URI: an ASCII character is decoded as its octet is
 ascii_piece_is_decoded_as_octet_in_uri : (set : TableSet) (b : ℕ) → LacksPastAscii set → b < 128
     → decode_piece set (WellFormed (b ∷ [])) ≡ decoded_octet_token b ∷ []
 unfolding decoded_octet_token
@@ -115,7 +117,8 @@ ascii_piece_is_decoded_as_octet_in_uri set b alone low =
     ∙ ap (λ t. cond t (Char b ∷ []) (Octet b ∷ [])) (decodable_is_unreserved_in_uri set b alone)
     ∙ ⊎_elim (λ e. rw e refl) (λ e. rw e refl) (cases_Bool (is_unreserved b))
 
--- normal forms of URIs: without characters past ASCII, a piece of bytes is decoded octet by octet
+-- unreserved octets of a URI: without characters past ASCII,
+-- a piece of bytes is decoded octet by octet
 piece_is_decoded_octet_by_octet_in_uri : (set : TableSet) (b : ℕ) (rest : List ℕ)
     → LacksPastAscii set
     → decode_piece set (first_piece (following_ranges b) b rest)
@@ -136,7 +139,7 @@ piece_is_decoded_octet_by_octet_in_uri set b rest alone = ⊎_elim
     past))
     (cases_lt b 128)
 
--- normal forms of URIs: pieces are decoded octet by octet; k: how many bytes are skipped
+-- unreserved octets of a URI: pieces are decoded octet by octet; k: how many bytes are skipped
 pieces_are_decoded_octet_by_octet_in_uri : (set : TableSet) (k : ℕ) (bytes : List ℕ)
     → LacksPastAscii set
     → flat_map (decode_piece set) (pieces_from k bytes) ≡ map decoded_octet_token (drop k bytes)
@@ -155,7 +158,8 @@ pieces_are_decoded_octet_by_octet_in_uri set zero (b ∷ rest) alone =
     (sym (map-append decoded_octet_token (take n rest) (drop n rest))
     ∙ ap (map decoded_octet_token) (take-append-drop n rest))
 
--- normal forms of URIs: without characters past ASCII, a run of octets is decoded octet by octet
+-- unreserved octets of a URI: without characters past ASCII,
+-- a run of octets is decoded octet by octet
 run_is_decoded_octet_by_octet_in_uri : (set : TableSet) (run : List ℕ) → LacksPastAscii set
     → decode_run set run
     ≡ map decoded_octet_token run
@@ -163,7 +167,7 @@ unfolding decode_run
 run_is_decoded_octet_by_octet_in_uri set run alone = pieces_are_decoded_octet_by_octet_in_uri set
     0 run alone
 
--- normal forms of URIs: without characters past ASCII, tokens are decoded one by one
+-- unreserved octets of a URI: without characters past ASCII, tokens are decoded one by one
 tokens_are_decoded_octet_by_octet_in_uri : (set : TableSet) (run : List ℕ) (ts : List Token)
     → LacksPastAscii set
     → decode_after_run set run ts ≡ map decoded_octet_token run ++ map decode_octet ts
@@ -181,7 +185,7 @@ tokens_are_decoded_octet_by_octet_in_uri set run (Char c ∷ ts) alone =
     ∙ ap (λ x. map decoded_octet_token run ++ Char c ∷ x)
     (tokens_are_decoded_octet_by_octet_in_uri set [] ts alone)
 
--- normal forms of URIs: each octet is decoded by itself
+-- unreserved octets of a URI: each octet is decoded by itself
 pub text_is_decoded_octet_by_octet_in_uri : (set : TableSet) (text : List ℕ) → LacksPastAscii set
     → decode_unreserved set text ≡ map decode_octet (tokens text)
 text_is_decoded_octet_by_octet_in_uri set text alone =

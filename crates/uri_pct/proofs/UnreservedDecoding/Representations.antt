@@ -20,7 +20,7 @@ use Rattle.uri_pct.proofs.Unicode.Characters.{hexdigit_is_ascii}
 use Rattle.uri_pct.proofs.ValidTexts.Allowed.{valid_text_has_printable_tokens}
 use Rattle.uri_pct.proofs.ValidTexts.TokenCuts.{ascii_byte_is_first_of_chars}
 
--- tokens: a character before any bytes is the first of their characters
+-- tokens printed and read: a character before any bytes is the first of their characters
 first_encoded_char_is_first_of_chars : (c : ℕ) (rest : List ℕ) → IsScalar c
     → chars (encode_utf8 c ++ rest) ≡ c ∷ chars rest
 first_encoded_char_is_first_of_chars c rest scalar = chars-append (encode_utf8 c) rest
@@ -28,7 +28,7 @@ first_encoded_char_is_first_of_chars c rest scalar = chars-append (encode_utf8 c
     ∙ ap (λ x. x ++ chars rest) (ap chars (sym (append-nil (encode_utf8 c)))
     ∙ chars-encodes (c ∷ []) (and_from _ true scalar refl))
 
--- tokens: a `%` and two hexadecimal digits at the start are an octet
+-- tokens printed and read: a `%` and two hexadecimal digits at the start are an octet
 octet_text_is_first_token : (high low : ℕ) (rest : List ℕ) → is_ascii_hexdigit high ≡ true
     → is_ascii_hexdigit low ≡ true
     → tokens (37 ∷ high ∷ low ∷ rest)
@@ -40,7 +40,7 @@ octet_text_is_first_token high low rest h l =
     ∙ ap (λ x. high ∷ x) (ascii_byte_is_first_of_chars low rest (hexdigit_is_ascii low l))))
     ∙ cond-true _ _ _ (and_from _ _ h l)
 
--- tokens: a text that represents one, at the start, is read as it
+-- tokens printed and read: a text that represents a token, at the start, is read as it
 text_of_represented_token_is_first_token : (t : Token) (first rest : List ℕ)
     → RepresentsToken first t
     → tokens (first ++ rest) ≡ t ∷ tokens rest
@@ -53,7 +53,7 @@ text_of_represented_token_is_first_token (Octet value) first rest h = ap
     ∙ octet_text_is_first_token h.0 h.1.0 rest h.1.1.0 h.1.1.1
     ∙ ap (λ n. Octet n ∷ tokens rest) (sym h.1.1.2)
 
--- if a text represents some tokens, they are its tokens
+-- tokens printed and read: if a text represents some tokens, they are its tokens
 pub represented_tokens_are_tokens_of_text : (text : List ℕ) (ts : List Token) → Represents text ts
     → tokens text ≡ ts
 unfolding Represents tokens_from_chars
@@ -62,7 +62,8 @@ represented_tokens_are_tokens_of_text text (t ∷ ts) h = ap tokens h.1.1.0
     ∙ text_of_represented_token_is_first_token t h.0 h.1.0 h.1.1.1
     ∙ ap (λ r. t ∷ r) (represented_tokens_are_tokens_of_text h.1.0 ts h.1.1.2)
 
--- a character other than `%` before the text of some tokens: the text represents it, and then them
+-- tokens printed and read: with a character other than `%` before it,
+-- a text represents this one and its tokens
 char_before_represented_text_is_represented : (c : ℕ) (cs : List ℕ) (ts : List Token)
     → is_printable (Char c) ≡ true
     → Represents (encode_utf8_all cs) ts → Represents (encode_utf8_all (c ∷ cs)) (Char c ∷ ts)
@@ -84,7 +85,7 @@ char_before_represented_text_is_represented c cs ts e rest =
       ),
     )
 
--- an octet, before characters that represent some tokens
+-- tokens printed and read: with an octet before it, a text represents this one and its tokens
 octet_before_represented_text_is_represented : (c high low : ℕ) (cs : List ℕ) (ts : List Token)
     → is_pct_encoded c high low ≡ true → Represents (encode_utf8_all cs) ts
     → Represents (encode_utf8_all (c ∷ high ∷ low ∷ cs))
@@ -102,7 +103,7 @@ octet_before_represented_text_is_represented c high low cs ts e rest =
     ∙ ap (λ x. 37 ∷ high ∷ (x ++ X)) (encode_ascii low (hexdigit_is_ascii low digits.1)) in
     (37 ∷ high ∷ low ∷ [], (X, (text, (high, (low, (digits.0, digits.1, refl, refl))), rest)))
 
--- characters represent their tokens, if these are printable
+-- tokens printed and read: characters represent their tokens, if these can be written
 chars_represent_their_tokens : (cs : List ℕ) → list_all is_printable (tokens_from_chars cs) ≡ true
     → Represents (encode_utf8_all cs) (tokens_from_chars cs)
 unfolding tokens_from_chars Represents
@@ -130,7 +131,7 @@ chars_represent_their_tokens (c ∷ high ∷ low ∷ cs) e = ⊎_elim
     (chars_represent_their_tokens (high ∷ low ∷ cs) p.1)))
     (cases_Bool (is_pct_encoded c high low))
 
--- if two digits follow each `%`, a text represents its tokens
+-- tokens printed and read: if two digits follow each `%`, a text represents its tokens
 pub text_represents_its_printable_tokens : (text : List ℕ) → IsUtf8 text
     → list_all is_printable (tokens text) ≡ true
     → Represents text (tokens text)
@@ -142,7 +143,8 @@ text_represents_its_printable_tokens text u e =
     subst (λ x. Represents x (tokens text)) u.1.1
     (subst (λ cs. Represents (encode_utf8_all u.0) (tokens_from_chars cs)) (sym same) joined)
 
--- a text is valid for a set exactly if it represents tokens that the set allows
+-- tokens printed and read: a text is valid for a set
+-- exactly if it represents tokens that the set allows
 pub text_is_valid_iff_it_represents_allowed_tokens : (set : TableSet) (text : List ℕ)
     → LacksPercent set → IsUtf8 text
     → IsValidFor set text ↔ RepresentsWithin set text

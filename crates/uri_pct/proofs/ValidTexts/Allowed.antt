@@ -16,17 +16,17 @@ use Rattle.uri_pct.specs.Tokens.{Token, Char, Octet, tokens, tokens_from_chars, 
 use Rattle.uri_pct.specs.Tokens.{allows_token, is_valid_for, IsValidFor}
 use Rattle.uri_pct.specs.DecodeUnreserved.{is_printable, is_decodable, lower_token}
 
--- sets: a character of `ucschar` is a Unicode scalar value past ASCII
+-- characters of valid texts: a character of `ucschar` is a Unicode scalar value past ASCII
 ucschar_is_scalar_past_ascii : (c : ℕ) → is_ucschar c ≡ true → (128 ≤ c) × IsScalar c
 unfolding is_ucschar
 ucschar_is_scalar_past_ascii c e = (grind (arith, nat_tests), grind (arith, nat_tests))
 
--- sets: a character of `iprivate` is a Unicode scalar value past ASCII
+-- characters of valid texts: a character of `iprivate` is a Unicode scalar value past ASCII
 iprivate_is_scalar_past_ascii : (c : ℕ) → is_iprivate c ≡ true → (128 ≤ c) × IsScalar c
 unfolding is_iprivate
 iprivate_is_scalar_past_ascii c e = (grind (arith, nat_tests), grind (arith, nat_tests))
 
--- sets: a character past ASCII that a set allows is a Unicode scalar value
+-- characters of valid texts: a character past ASCII that a set allows is a Unicode scalar value
 pub allowed_past_ascii_is_scalar : (set : TableSet) (c : ℕ) → allows_past_ascii set c ≡ true
     → (128 ≤ c) × IsScalar c
 unfolding allows_past_ascii
@@ -35,17 +35,17 @@ allowed_past_ascii_is_scalar set c e = ⊎_elim
     (λ p. iprivate_is_scalar_past_ascii c (and_parts set.iprivate (is_iprivate c) p).1)
     (or_cases (set.ucschar && is_ucschar c) (set.iprivate && is_iprivate c) e)
 
--- sets: an unreserved character is ASCII
+-- characters of valid texts: an unreserved character is ASCII
 pub unreserved_is_ascii : (c : ℕ) → is_unreserved c ≡ true → c < 128
 unreserved_is_ascii c e = grind (arith, nat_tests)
 
--- tokens: a Unicode scalar value other than `%` (37) can be written
+-- tokens of valid texts: a Unicode scalar value other than `%` (37) can be written
 scalar_but_percent_is_printable : (c : ℕ) → IsScalar c → eqb c 37 ≡ false
     → is_printable (Char c) ≡ true
 scalar_but_percent_is_printable c scalar e = and_from _ _ (and_from _ true scalar refl)
     (not_from_false _ e)
 
--- tokens: a character that a set allows can be written
+-- tokens of valid texts: a character that a set allows can be written
 pub allowed_char_is_printable : (set : TableSet) (c : ℕ) → LacksPercent set → allows set c ≡ true
     → is_printable (Char c) ≡ true
 allowed_char_is_printable set c lacks e = ⊎_elim
@@ -58,11 +58,11 @@ allowed_char_is_printable set c lacks e = ⊎_elim
     scalar_but_percent_is_printable c p.1 (ne_eqb c 37 (λ q. omega arith)))
     (cases_lt c 128)
 
--- sets: `%` (37) is not unreserved
+-- characters of valid texts: `%` (37) is not unreserved
 unreserved_char_is_not_percent : (c : ℕ) → is_unreserved c ≡ true → eqb c 37 ≡ false
 unreserved_char_is_not_percent c e = grind (arith, nat_tests)
 
--- tokens: a character that a normal form decodes can be written
+-- tokens of valid texts: a character that a normal form decodes can be written
 pub decodable_char_is_printable : (set : TableSet) (c : ℕ) → is_decodable set c ≡ true
     → is_printable (Char c) ≡ true
 unfolding is_decodable
@@ -74,7 +74,7 @@ decodable_char_is_printable set c e = ⊎_elim
     scalar_but_percent_is_printable c h.1 (ne_eqb c 37 (λ q. omega arith)))
     (or_cases (is_unreserved c) (allows_past_ascii set c) e)
 
--- sets: a decodable character is one of the set, if it has the unreserved ones
+-- characters of valid texts: a decodable character is one of the set, if it has the unreserved ones
 pub decodable_char_is_allowed : (set : TableSet) (c : ℕ) → IsSubset unreserved_set set
     → is_decodable set c ≡ true → allows set c ≡ true
 unfolding is_decodable
@@ -83,16 +83,17 @@ decodable_char_is_allowed set c wide e = ⊎_elim
     (λ p. cond-false _ _ _ (le-ltb c 128 (allowed_past_ascii_is_scalar set c p).0) ∙ p)
     (or_cases (is_unreserved c) (allows_past_ascii set c) e)
 
--- tokens: one that is a character, or an octet of a byte
+-- tokens of valid texts: the token is a character, or an octet of a byte
 is_char_or_byte_value : Token → Bool
 is_char_or_byte_value (Char c) = true
 is_char_or_byte_value (Octet value) = ltb value 256
 
--- octets: the value of a hexadecimal digit is below 16
+-- tokens of valid texts: the value of a hexadecimal digit is below 16
 pub hexdigit_value_is_below_16 : (h : ℕ) → is_ascii_hexdigit h ≡ true → digit_value h < 16
 hexdigit_value_is_below_16 h e = grind (arith, nat_tests)
 
--- tokens: one more character before two others keeps the values of the octets below 256
+-- tokens of valid texts: one more character before
+-- two others keeps the values of the octets below 256
 octet_values_are_bytes_after_one_more_char : (c high low : ℕ) (rest : List ℕ)
     → list_all is_char_or_byte_value (tokens_from_chars rest) ≡ true
     → list_all is_char_or_byte_value (tokens_from_chars (high ∷ low ∷ rest)) ≡ true
@@ -107,7 +108,7 @@ octet_values_are_bytes_after_one_more_char c high low rest suffix next = ⊎_eli
     (λ e. rw e next)
     (cases_Bool (is_pct_encoded c high low))
 
--- tokens: the value of each octet of a text is a byte
+-- tokens of valid texts: the value of each octet of a text is a byte
 octet_values_are_bytes : (cs : List ℕ) → list_all is_char_or_byte_value (tokens_from_chars cs)
     ≡ true
 unfolding tokens_from_chars is_char_or_byte_value
@@ -118,7 +119,7 @@ octet_values_are_bytes (c ∷ high ∷ low ∷ rest) =
     octet_values_are_bytes_after_one_more_char c high low rest (octet_values_are_bytes rest)
     (octet_values_are_bytes (high ∷ low ∷ rest))
 
--- tokens: one that a set allows can be written
+-- tokens of valid texts: one that a set allows can be written
 allowed_token_is_printable : (set : TableSet) (t : Token) → LacksPercent set
     → allows_token set t ≡ true
     → is_char_or_byte_value t ≡ true → is_printable t ≡ true
@@ -126,7 +127,7 @@ unfolding is_char_or_byte_value
 allowed_token_is_printable set (Char c) lacks e b = allowed_char_is_printable set c lacks e
 allowed_token_is_printable set (Octet value) lacks e b = b
 
--- tokens: those that a set allows can be written
+-- tokens of valid texts: those that a set allows can be written
 allowed_tokens_are_printable : (set : TableSet) (ts : List Token) → LacksPercent set
     → list_all (allows_token set) ts ≡ true → list_all is_char_or_byte_value ts ≡ true
     → list_all is_printable ts ≡ true
@@ -137,7 +138,7 @@ allowed_tokens_are_printable set (t ∷ ts) lacks e b =
     and_from _ _ (allowed_token_is_printable set t lacks p.0 q.0)
     (allowed_tokens_are_printable set ts lacks p.1 q.1)
 
--- tokens: those of a text that a set without `%` allows can be written
+-- tokens of valid texts: those of a text that a set without `%` allows can be written
 pub valid_text_has_printable_tokens : (set : TableSet) (text : List ℕ) → LacksPercent set
     → IsValidFor set text
     → list_all is_printable (tokens text) ≡ true
@@ -145,12 +146,12 @@ unfolding is_valid_for
 valid_text_has_printable_tokens set text lacks valid =
     allowed_tokens_are_printable set (tokens text) lacks valid (octet_values_are_bytes (chars text))
 
--- tokens: a character in lower case can be written
+-- tokens of valid texts: a character in lower case can be written
 lowered_char_is_printable : (c : ℕ) → all_scalars (c ∷ []) ≡ true → eqb c 37 ≡ false
     → is_printable (Char (to_ascii_lowercase c)) ≡ true
 lowered_char_is_printable c s e = grind (arith, nat_tests)
 
--- tokens: one that can be written can be in lower case
+-- tokens of valid texts: one that can be written can be in lower case
 lowered_token_is_printable : (t : Token) → is_printable t ≡ true → is_printable (lower_token t)
     ≡ true
 lowered_token_is_printable (Char c) e =
@@ -158,7 +159,7 @@ lowered_token_is_printable (Char c) e =
     lowered_char_is_printable c p.0 (not-true _ p.1)
 lowered_token_is_printable (Octet value) e = e
 
--- sets: a letter in lower case is unreserved, and every other character stays
+-- characters of valid texts: a letter in lower case is unreserved, and every other character stays
 lowered_char_is_the_same_or_unreserved : (c : ℕ) → (to_ascii_lowercase c ≡ c)
     ⊎ (is_unreserved (to_ascii_lowercase c) ≡ true)
 lowered_char_is_the_same_or_unreserved c = ⊎_elim (λ h. inl (cond-true _ _ _ (lt-ltb c 65 h))) (λ l.
@@ -167,7 +168,8 @@ lowered_char_is_the_same_or_unreserved c = ⊎_elim (λ h. inl (cond-true _ _ _ 
     (cases_lt c 91))
     (cases_lt c 65)
 
--- tokens: one that a set allows is allowed in lower case, if it has the unreserved characters
+-- tokens of valid texts: one that a set allows is allowed
+-- in lower case, if it has the unreserved characters
 lowered_token_is_allowed : (set : TableSet) (t : Token) → IsSubset unreserved_set set
     → allows_token set t ≡ true → allows_token set (lower_token t) ≡ true
 lowered_token_is_allowed set (Octet value) wide e = e
@@ -177,7 +179,8 @@ lowered_token_is_allowed set (Char c) wide e = ⊎_elim
     (unreserved_is_ascii (to_ascii_lowercase c) u)) ∙ wide.ascii (to_ascii_lowercase c) u)
     (lowered_char_is_the_same_or_unreserved c)
 
--- general fact on lists of tokens: if lowering a token keeps a test, lowering all tokens keeps it
+-- general fact on lists of tokens, for valid texts:
+-- if lowering a token keeps a test, lowering all tokens keeps it
 lowered_tokens_pass_kept_test : (test : Token → Bool)
     → ((t : Token) → test t ≡ true → test (lower_token t) ≡ true)
     → (ts : List Token) → list_all test ts ≡ true → list_all test (map lower_token ts) ≡ true
@@ -185,14 +188,14 @@ lowered_tokens_pass_kept_test test keeps [] e = refl
 lowered_tokens_pass_kept_test test keeps (t ∷ ts) e = let p = and_parts (test t) _ e in
     and_from _ _ (keeps t p.0) (lowered_tokens_pass_kept_test test keeps ts p.1)
 
--- normal forms: tokens that can be written can be in lower case
+-- tokens of valid texts: tokens that can be written can be in lower case
 pub lowered_tokens_are_printable : (ts : List Token) → list_all is_printable ts ≡ true
     → list_all is_printable (map lower_token ts) ≡ true
 lowered_tokens_are_printable ts e = lowered_tokens_pass_kept_test is_printable
     lowered_token_is_printable ts e
 
--- normal forms: tokens that a set allows are allowed in lower case,
--- if it has the unreserved characters
+-- tokens of valid texts: tokens that a set allows are allowed
+-- in lower case, if it has the unreserved characters
 pub lowered_tokens_are_allowed : (set : TableSet) (ts : List Token) → IsSubset unreserved_set set
     → list_all (allows_token set) ts ≡ true
     → list_all (allows_token set) (map lower_token ts) ≡ true
@@ -200,7 +203,7 @@ lowered_tokens_are_allowed set ts wide e = lowered_tokens_pass_kept_test (allows
     (λ t h. lowered_token_is_allowed set t wide h) ts
     e
 
--- tokens: lower case twice is lower case once
+-- tokens of valid texts: lower case twice is lower case once
 pub lowering_tokens_is_idempotent : (ts : List Token) → map lower_token (map lower_token ts)
     ≡ map lower_token ts
 lowering_tokens_is_idempotent [] = refl

@@ -16,7 +16,7 @@ use Rattle.uri_pct.proofs.UnreservedDecoding.Printing.{char_but_percent_is_its_o
 use Rattle.uri_pct.proofs.UnreservedDecoding.Printing.{printed_tokens_are_valid_iff_allowed}
 use Rattle.uri_pct.proofs.UnreservedDecoding.Printing.{printed_tokens_parse_to_themselves}
 
--- a character that a table allows is no `%`
+-- owned valid texts: a character that a table allows, and that is appended, is no `%`
 allowed_char_is_not_percent : (set : TableSet) (c : ℕ) → LacksPercent set → allows set c ≡ true
     → eqb c 37 ≡ false
 allowed_char_is_not_percent set c lacks e = false_from_ne_true _

@@ -32,15 +32,17 @@ use Rattle.uri_pct.proofs.ValidTexts.MarksInTexts.{cut_at_mark_keeps_whether_fir
 use Rattle.uri_pct.proofs.ValidTexts.MarksInTexts.{skips_after_percent_begins_anew}
 use Rattle.uri_pct.proofs.ValidTexts.MarksInTexts.{first_mark_is_at_boundary}
 
--- an ASCII character that the set lacks, and that neither begins an octet nor is in one
+-- cuts of valid texts: an ASCII character that the set lacks,
+-- and that neither begins an octet nor is in one
 abbrev is_excluded : TableSet → ℕ → Bool
 is_excluded set mark = nat_lt mark 128
     && (not (set.ascii mark) && (not (is_ascii_hexdigit mark) && not (eqb mark 37)))
 
+-- cuts of valid texts: the set excludes each of the delimiters, at which its texts may be cut
 abbrev pub excludes : TableSet → List ℕ → Bool
 excludes set marks = list_all (is_excluded set) marks
 
--- general fact on booleans, for what a set excludes
+-- general fact on booleans, for cuts of valid texts
 and_of_three_nots_gives_each : (a b c d : Bool) → (a && (not b && (not c && not d))) ≡ true
     → (a ≡ true) × (b ≡ false) × (c ≡ false) × (d ≡ false)
 and_of_three_nots_gives_each true false false false e = (refl, refl, refl, refl)
@@ -84,15 +86,15 @@ module _ (set : TableSet) where
   excluded_mark_is_no_percent marks e b m =
       (excluded_byte_is_ascii_outside_set b (each_excluded_mark_is_excluded marks e b m)).3
 
--- general fact on numbers, for positions of a cut
+-- general fact on numbers, for cuts of valid texts
 eqb_of_successors_is_eqb : (a b : ℕ) → eqb (a + 1) (suc b) ≡ eqb a b
 eqb_of_successors_is_eqb a b = grind (arith, nat_tests)
 
--- general fact on numbers, for positions of a cut
+-- general fact on numbers, for cuts of valid texts
 zero_equals_no_successor : (b : ℕ) → eqb 0 (suc b) ≡ false
 zero_equals_no_successor b = grind (arith, nat_tests)
 
--- general fact on numbers, for positions of a cut: a number by cases is at most what bounds both
+-- general fact on numbers, for cuts of valid texts: a number by cases is at most what bounds both
 cond_is_at_most_bound_of_both : (b : Bool) (x y m : ℕ) → (b ≡ true → x ≤ m) → (b ≡ false → y ≤ m)
     → cond b x y ≤ m
 cond_is_at_most_bound_of_both true x y m f g = f refl
@@ -299,7 +301,7 @@ module _ (marks : List ℕ) (set : TableSet) (lacks : LacksPercent set)
   valid_prefix-ends-by-mark text u = valid_prefix_from_ends_by_mark 0 text
       (chars_of_text_hold_no_mark_within marks ascii text u)
 
--- splitting: without delimiters, a text is cut at its end
+-- cuts of valid texts: without delimiters, a text is cut at its end
 length_before_no_marks_is_length : (text : List ℕ) → length_before_marks [] text ≡ length text
 length_before_no_marks_is_length text = prefix_len_is (λ c. not (is_one_of [] c)) text
     (length text) 0 (omega arith)

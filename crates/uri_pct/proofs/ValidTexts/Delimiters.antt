@@ -12,7 +12,8 @@ use Rattle.std.proofs.lemmas.Str.Pattern.{IsSplitOnceResult, split_parts, NoChar
 use Rattle.std.proofs.lemmas.Str.Pattern.{drop_at_char}
 use Rattle.uri_pct.specs.Texts.{lacks, is_absolute, IsCutAtFirst, IsCutAtLast}
 
--- general fact on lists of bytes, for splitting: a text lacks a byte that is at none of its indices
+-- general fact on lists of bytes, for splitting
+-- at a delimiter: a text lacks a byte that is at none of its indices
 byte_at_no_index_is_lacked : (d : ℕ) (bs : List ℕ) → ((i : ℕ) → i < length bs → get_or bs i 0 ≢ d)
     → lacks d bs ≡ true
 byte_at_no_index_is_lacked d [] h = refl
@@ -20,7 +21,7 @@ byte_at_no_index_is_lacked d (b ∷ bs) h =
     and_from _ _ (not_from_false _ (ne_eqb b d (h 0 (omega arith))))
     (byte_at_no_index_is_lacked d bs (λ i l. h (suc i) (omega arith)))
 
--- general fact on numbers, for delimiters: a byte equals itself
+-- general fact on numbers, for splitting at a delimiter: a byte equals itself
 eqb-refl : (d : ℕ) → eqb d d ≡ true
 eqb-refl d = eq-eqb d d refl
 
@@ -130,7 +131,7 @@ substrings_lack_delimiter d (x ∷ xs) =
     (substrings_lack_delimiter d xs)))
     (cases_Bool (eqb x d))
 
--- paths: an absolute path is `/` (47) and a rest
+-- splitting at a delimiter: an absolute path, whose segments are split, is `/` (47) and a rest
 pub absolute_path_begins_with_slash : (text : List ℕ) → is_absolute text ≡ true → text
     ≡ 47 ∷ drop 1 text
 absolute_path_begins_with_slash [] e = absurd (false≢true e)

@@ -13,12 +13,12 @@ use Rattle.uri_pct.proofs.UnreservedDecoding.Printing.{printed_tokens_are_valid_
 use Rattle.uri_pct.proofs.ValidTexts.Validity.{ascii_char_is_allowed_iff_in_set}
 use Rattle.uri_pct.proofs.ValidTexts.Validity.{char_past_ascii_is_allowed_by_flags}
 
--- the empty text is valid for every set
+-- valid texts: the empty text is valid for every set
 pub empty_text_is_valid : (set : TableSet) → is_valid_for set [] ≡ true
 unfolding is_valid_for tokens_from_chars chars
 empty_text_is_valid set = refl
 
--- sets: a greater set t has the characters past ASCII of s
+-- valid texts: a greater set t has the characters past ASCII of s
 superset_allows_same_past_ascii : (s t : TableSet) (c : ℕ) → IsSubset s t
     → allows_past_ascii s c ≡ true
     → allows_past_ascii t c ≡ true
@@ -30,7 +30,7 @@ superset_allows_same_past_ascii s t c subset e = ⊎_elim
     or_right _ _ (and_from _ _ (subset.iprivate p.0) p.1))
     (or_cases (s.ucschar && is_ucschar c) (s.iprivate && is_iprivate c) e)
 
--- sets: a greater set t has the characters of s
+-- valid texts: a greater set t has the characters of s
 superset_allows_same_char : (s t : TableSet) (c : ℕ) → IsSubset s t → allows s c ≡ true
     → allows t c ≡ true
 superset_allows_same_char s t c subset e = ⊎_elim
@@ -41,7 +41,7 @@ superset_allows_same_char s t c subset e = ⊎_elim
     (sym (char_past_ascii_is_allowed_by_flags s c high) ∙ e))
     (cases_lt c 128)
 
--- sets: tokens that a set s allows are allowed by a greater set t
+-- valid texts: tokens that a set s allows are allowed by a greater set t
 pub tokens_allowed_by_superset : (s t : TableSet) (ts : List Token) → IsSubset s t
     → list_all (allows_token s) ts ≡ true → list_all (allows_token t) ts ≡ true
 tokens_allowed_by_superset s t [] subset e = refl
@@ -53,7 +53,7 @@ tokens_allowed_by_superset s t (Octet value ∷ ts) subset e =
     let p = and_parts s.pct_encoded _ e in
     and_from _ _ (subset.pct_encoded p.0) (tokens_allowed_by_superset s t ts subset p.1)
 
--- a text that is valid for a set is valid for every larger one
+-- valid texts: one that is valid for a set is valid for every larger one
 pub valid_for_superset : (s t : TableSet) (text : List ℕ) → IsSubset s t
     → is_valid_for s text ≡ true
     → is_valid_for t text ≡ true

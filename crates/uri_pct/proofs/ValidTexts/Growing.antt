@@ -21,7 +21,7 @@ use Rattle.uri_pct.proofs.EncodedTexts.EncodedTokens.{encoded_text_is_allowed}
 use Rattle.uri_pct.proofs.EncodedTexts.EncodedTokens.{encoded_bytes_are_printable}
 use Rattle.uri_pct.proofs.EncodedTexts.EncodedTokens.{encoded_bytes_are_allowed}
 
--- the new text is valid, and the tokens are after those of the old
+-- owned valid texts: the new text is valid, and has the tokens of the old one and then these
 pub record Grows (set : TableSet) (old : List ℕ) (ts : List Token) (new : List ℕ) : Type 0 where
   pub valid : IsValidFor set new
   pub tokens : tokens new ≡ tokens old ++ ts
@@ -37,7 +37,7 @@ grows_by_tokens set old new ts lacks u valid p a e = record {
   tokens = ap tokens e ∙ tokens_of_print_after_valid_text set lacks old ts u valid p;
 }
 
--- sets: a subset of a set without `%` lacks it too
+-- owned valid texts: a subset of a set without `%` lacks it too
 subset_lacks_percent : (sub set : TableSet) → IsSubset sub set → LacksPercent set → LacksPercent sub
 subset_lacks_percent sub set subset lacks =
     false_from_ne_true _ (λ p. false≢true (sym lacks ∙ subset.ascii 37 p))

@@ -22,11 +22,11 @@ use Rattle.uri_pct.proofs.EncodedTexts.Encodings.{empty_text_is_encoded_as_nothi
 use Rattle.uri_pct.proofs.ValidTexts.Prefixes.{nothing_is_scanned_after_valid_prefix}
 use Rattle.uri_pct.proofs.ValidTexts.PrefixSteps.{valid_prefix_by_first_char}
 
--- the set that allows the same characters, and no octets
+-- valid prefixes: the set that allows the same characters, and no octets
 abbrev pub set_without_octets : TableSet → TableSet
 set_without_octets set = record set { pct_encoded = false }
 
--- encoding: how far literal characters reach that are kept as they are, by the first character
+-- valid prefixes: how far literal characters are kept as they are, by the first character
 literal_prefix_by_first_char : (set : TableSet) (text rest : List ℕ) (c : ℕ) → IsUtf8 text
     → text ≡ encode_utf8 c ++ rest
     → valid_prefix (set_without_octets set) text
@@ -36,12 +36,12 @@ literal_prefix_by_first_char set text rest c u e = valid_prefix_by_first_char
     (set_without_octets set) text
     rest c u e refl
 
--- so many bytes are encoded as they are
+-- valid prefixes: so many bytes at the start of the text are encoded as they are
 abbrev IsKept : TableSet → List ℕ → ℕ → Type 0
 IsKept set text n = print (encode_text set text)
     ≡ take n text ++ print (encode_text set (drop n text))
 
--- encoding: an allowed character before a prefix that is kept as it is lengthens that prefix
+-- valid prefixes: an allowed character before a prefix that is kept as it is lengthens that prefix
 kept_run_with_allowed_char_before_is_kept : (set : TableSet) (c n : ℕ) (rest : List ℕ)
     → IsUtf8 (encode_utf8 c ++ rest)
     → allows set c ≡ true → IsKept set rest n → IsKept set (encode_utf8 c ++ rest) (n + len_utf8 c)
@@ -58,7 +58,7 @@ kept_run_with_allowed_char_before_is_kept set c n rest u allowed kept =
     (sym (drop-append-add (encode_utf8 c) rest n))
     ∙ ap (λ k. take k text ++ print (encode_text set (drop k text))) (sym size)
 
--- encoding: the longest prefix of characters that the set has, without octets, is kept as it is
+-- valid prefixes: the longest prefix of characters of the set, without octets, is kept as it is
 literal_prefix_of_chars_is_kept : (set : TableSet) (cs : List ℕ) → all_scalars cs ≡ true
     → IsKept set (encode_utf8_all cs) (valid_prefix (set_without_octets set) (encode_utf8_all cs))
 unfolding valid_prefix_from
@@ -76,14 +76,14 @@ literal_prefix_of_chars_is_kept set (c ∷ cs) s =
     (λ a. subst (IsKept set text) (sym (first ∙ cond-false _ _ _ a)) refl)
     (cases_Bool (allows set c))
 
--- encoding: what is scanned of a text by a set without octets is kept as it is
+-- valid prefixes: what is scanned of a text by a set without octets is kept as it is
 literal_prefix_of_text_is_kept : (set : TableSet) (text : List ℕ) → IsUtf8 text
     → IsKept set text (valid_prefix (set_without_octets set) text)
 literal_prefix_of_text_is_kept set text u = subst
     (λ t. IsKept set t (valid_prefix (set_without_octets set) t)) u.1.1
     (literal_prefix_of_chars_is_kept set u.0 u.1.0)
 
--- encoding: the run of allowed characters from `start` on is encoded as itself
+-- valid prefixes: the run of allowed characters from `start` on is encoded as itself
 pub allowed_run_is_encoded_as_itself : (set : TableSet) (text : List ℕ) (start end : ℕ)
     → IsUtf8 text
     → IsCharBoundary text start → end
@@ -97,7 +97,7 @@ allowed_run_is_encoded_as_itself set text start end u here e =
     (drop-drop n start text ∙ ap (λ k. drop k text) (sym e))
     ∙ ap (λ k. take k (drop start text) ++ print (encode_text set (drop end text))) size
 
--- UTF-8: a character has a byte at least
+-- valid prefixes: a character has a byte at least
 utf8_length_of_char_is_positive : (c : ℕ) → 0 < len_utf8 c
 utf8_length_of_char_is_positive c =
     let w = char_has_encoding c in
@@ -105,11 +105,11 @@ utf8_length_of_char_is_positive c =
     ∙ omega arith in
     omega arith
 
--- general fact on numbers, for lengths of characters
+-- general fact on numbers, for lengths of valid prefixes
 sum_with_positive_is_not_zero : (n k : ℕ) → 0 < k → n + k ≡ 0 → ⊥
 sum_with_positive_is_not_zero n k h e = omega arith
 
--- encoding: the character after the run of allowed characters is not allowed
+-- valid prefixes: the character after the run of allowed characters is not allowed
 pub char_after_allowed_run_is_not_allowed : (set : TableSet) (text rest : List ℕ) (start end c : ℕ)
     → IsUtf8 text
     → IsCharBoundary text end → end
@@ -130,24 +130,25 @@ char_after_allowed_run_is_not_allowed set text rest start end c u here e joined 
     (λ a. a)
     (cases_Bool (allows set c))
 
--- encoding: the `%XX` of bytes
+-- valid prefixes: the `%XX` of bytes
 printed_octets : List ℕ → List ℕ
 printed_octets bytes = print (map Octet bytes)
 
--- encoding: the `%XX` of joined bytes are those of each
+-- valid prefixes: the `%XX` of joined bytes are those of each
 octets_of_joined_bytes : (xs ys : List ℕ) → printed_octets (xs ++ ys)
     ≡ printed_octets xs ++ printed_octets ys
 unfolding printed_octets
 octets_of_joined_bytes xs ys = ap print (map-append Octet xs ys)
     ∙ print-append (map Octet xs) (map Octet ys)
 
--- encoding: an empty run is encoded as its octets
+-- valid prefixes: an empty run is encoded as its octets
 pub empty_run_is_encoded_as_octets : (set : TableSet) (text : List ℕ) (start : ℕ)
     → IsEncodedBy (λ bytes. print (map Octet bytes)) set text start start
 empty_run_is_encoded_as_octets set text start = let none : start - start
     ≡ 0 = omega arith in rw none refl
 
--- encoding: a run that is encoded as octets, with one more character (c) that is not allowed, is so
+-- valid prefixes: a run that is encoded as octets,
+-- with one more character (c) that is not allowed, is so
 pub longer_run_is_encoded_as_octets : (set : TableSet) (text : List ℕ) (start end next c : ℕ)
     → IsUtf8 (drop end text)
     → start ≤ end → drop end text ≡ encode_utf8 c ++ drop (end + len_utf8 c) text
@@ -171,7 +172,7 @@ longer_run_is_encoded_as_octets set text start end next c u ordered joined place
     (encode_text set (drop k text)))
     (sym place)
 
--- encoding: a run of characters that are encoded is not empty,
+-- valid prefixes: a run of characters that are encoded is not empty,
 -- as its first character is not allowed
 pub disallowed_run_is_not_empty : (set : TableSet) (text : List ℕ) (start end c : ℕ) → start ≤ end
     → drop end text ≡ encode_utf8 c ++ drop (end + len_utf8 c) text → allows set c ≡ true
@@ -186,8 +187,8 @@ disallowed_run_is_not_empty set text start end c ordered joined allowed first = 
     (ap (λ k. drop k text) (sym same) ∙ joined)) allowed))
     (cases_lt start end)
 
--- encoding: after a run that is kept and one that is encoded, what was appended and the rest,
--- encoded, still make the whole
+-- valid prefixes: after a run that is kept and one that is encoded,
+-- what was appended and the rest, encoded, still make the whole
 pub encoded_text_after_two_runs : (set : TableSet) (out mid new text all : List ℕ)
     (start end next : ℕ)
     → IsEncodedBy (λ bytes. bytes) set text start end
@@ -205,7 +206,7 @@ encoded_text_after_two_runs set out mid new text all start end next kept refused
     ∙ append_assoc (out ++ part) octets_of rest ∙ append_assoc out part (octets_of ++ rest)
     ∙ ap (λ x. out ++ x) (ap (λ x. part ++ x) (sym refused) ∙ sym kept) ∙ whole
 
--- encoding: at the end of the text, what was appended is the whole encoded text
+-- valid prefixes: at the end of the text, what was appended is the whole encoded text
 pub encoded_text_at_end : (set : TableSet) (out text all : List ℕ) (done : ℕ) → length text ≤ done
     → out ++ print (encode_text set (drop done text)) ≡ all → out ≡ all
 encoded_text_at_end set out text all done past whole =

@@ -12,19 +12,19 @@ use Rattle.uri_pct.specs.Tokens.{tokens_from_chars, allows_token, is_pct_encoded
 use Rattle.uri_pct.specs.Tokens.{IsValidFor}
 use Rattle.uri_pct.proofs.UnreservedDecoding.Printing.{char_but_percent_is_its_own_token}
 
--- sets: one with `ucschar` allows U+00A0 to U+D7FF, its first range,
--- which has the letters of most scripts
+-- valid literals: a set with `ucschar` allows U+00A0 to U+D7FF,
+-- its first range, which has the letters of most scripts
 pub char_from_a0_to_d7ff_is_allowed : (set : TableSet) (c : ℕ) → set.ucschar ≡ true
     → is_in_range 0xA0 0xD7FF c ≡ true → allows_past_ascii set c ≡ true
 unfolding allows_past_ascii is_ucschar
 char_from_a0_to_d7ff_is_allowed set c flag range = rw (flag, range) refl
 
--- the set allows the character, where it is ASCII or in that range
+-- valid literals: the set allows the character, by a test that computes
 abbrev pub is_literal_char : TableSet → ℕ → Bool
 is_literal_char set c = if nat_lt c 128 then set.ascii c else set.ucschar
     && is_in_range 0xA0 0xD7FF c
 
--- literals: a character that passes the test of literals is in the set
+-- valid literals: a character that passes the test of literals is in the set
 literal_char_is_allowed : (set : TableSet) (c : ℕ) → is_literal_char set c ≡ true
     → allows set c ≡ true
 literal_char_is_allowed set c e = ⊎_elim
@@ -35,7 +35,7 @@ literal_char_is_allowed set c e = ⊎_elim
     cond-false _ _ _ high ∙ char_from_a0_to_d7ff_is_allowed set c parts.0 parts.1)
     (cases_Bool (nat_lt c 128))
 
--- the characters represent what the set allows, each `%` with its two digits
+-- valid literals: the characters represent what the set allows, each `%` with its two digits
 abbrev pub are_literal_chars : TableSet → List ℕ → Bool
 are_literal_chars set [] = true
 are_literal_chars set (c ∷ []) = not (c == 37) && is_literal_char set c
@@ -47,7 +47,7 @@ are_literal_chars set (c ∷ high ∷ low ∷ rest) =
     && (is_ascii_hexdigit low && (set.pct_encoded && are_literal_chars set rest))
     else is_literal_char set c && are_literal_chars set (high ∷ low ∷ rest)
 
--- literals: characters that pass the test of literals are tokens that the set allows
+-- valid literals: characters that pass the test of literals are tokens that the set allows
 literal_chars_are_allowed_tokens : (set : TableSet) (cs : List ℕ) → are_literal_chars set cs ≡ true
     → list_all (allows_token set) (tokens_from_chars cs) ≡ true
 unfolding tokens_from_chars is_pct_encoded
@@ -74,19 +74,19 @@ literal_chars_are_allowed_tokens set (c ∷ high ∷ low ∷ rest) e = ⊎_elim
     (literal_chars_are_allowed_tokens set (high ∷ low ∷ rest) parts.1))
     (cases_Bool (c == 37))
 
--- the characters of a text, which std's `chars` does not compute
+-- valid literals: the characters of a text, which std's `chars` does not compute
 abbrev pub literal_text_chars : List ℕ → List ℕ
 literal_text_chars [] = []
 literal_text_chars (b ∷ rest) = chars_after (continuation_len b) (lead_bits b) rest
 
--- literals: the characters that are computed of a text are its characters
+-- valid literals: the characters that are computed of a text are its characters
 literal_text_chars_are_its_chars : (text : List ℕ) → chars text ≡ literal_text_chars text
 unfolding chars
 literal_text_chars_are_its_chars [] = refl
 literal_text_chars_are_its_chars (b ∷ rest) = refl
 
--- literals: a text whose characters compute to ones of the set is valid,
--- so that the condition of a call is met
+-- valid literals: a text whose characters compute to ones
+-- of the set is valid, so that the condition of a call is met
 pub literal_text_is_valid : (set : TableSet) (text : List ℕ)
     → are_literal_chars set (literal_text_chars text) ≡ true → IsValidFor set text
 unfolding is_valid_for

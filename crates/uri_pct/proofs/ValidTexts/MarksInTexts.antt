@@ -17,11 +17,11 @@ use Rattle.uri_pct.specs.Sets.{TableSet, is_one_of}
 use Rattle.uri_pct.specs.Prefixes.{first_char, allows_first}
 use Rattle.uri_pct.proofs.Unicode.Characters.{char_has_encoding, is_no_ascii_byte}
 
--- the length of the prefix before the first mark
+-- cuts of valid texts: the length of the prefix before the first mark
 abbrev pub length_before_marks : List ℕ → List ℕ → ℕ
 length_before_marks marks text = prefix_len (λ c. not (is_one_of marks c)) text
 
--- splitting: a test that holds of all marks holds of each
+-- cuts of valid texts: a test that holds of all marks holds of each
 pub test_holds_of_each : (P : ℕ → Bool) (marks : List ℕ) → list_all P marks ≡ true → (b : ℕ)
     → is_one_of marks b ≡ true → P b ≡ true
 test_holds_of_each P [] h b m = absurd (false≢true m)
@@ -30,13 +30,13 @@ test_holds_of_each P (mark ∷ marks) h b m =
     ⊎_elim (λ e. ap P (sym (eqb-true mark b e)) ∙ p.0) (λ e. test_holds_of_each P marks p.1 b e)
     (or_cases (eqb mark b) (is_one_of marks b) m)
 
--- splitting: before a delimiter (mark) at the start there are 0 bytes
+-- cuts of valid texts: before a delimiter (mark) at the start there are 0 bytes
 pub length_before_mark_at_start_is_zero : (marks : List ℕ) (b : ℕ) (rest : List ℕ)
     → is_one_of marks b ≡ true
     → length_before_marks marks (b ∷ rest) ≡ 0
 length_before_mark_at_start_is_zero marks b rest e = cond-false _ _ _ (not_from_true _ e)
 
--- splitting: another byte at the start is one more before the first delimiter (mark)
+-- cuts of valid texts: another byte at the start is one more before the first delimiter (mark)
 pub length_before_marks_counts_other_byte : (marks : List ℕ) (b : ℕ) (rest : List ℕ)
     → is_one_of marks b ≡ false
     → length_before_marks marks (b ∷ rest) ≡ suc (length_before_marks marks rest)
@@ -51,15 +51,15 @@ passes_no_mark_within_chars marks zero (b ∷ rest) = passes_no_mark_within_char
 passes_no_mark_within_chars marks (suc k) (b ∷ rest) = not (is_one_of marks b)
     && passes_no_mark_within_chars marks k rest
 
--- the marks are ASCII
+-- cuts of valid texts: the marks are ASCII
 abbrev pub AreAscii : List ℕ → Type 0
 AreAscii marks = (b : ℕ) → is_one_of marks b ≡ true → b < 128
 
--- UTF-8: no byte is both ASCII and past it
+-- cuts of valid texts: no byte is both ASCII and past it
 ascii_byte_is_not_past_ascii : (b : ℕ) → is_no_ascii_byte b ≡ true → b < 128 → ⊥
 ascii_byte_is_not_past_ascii b h l = grind (arith, nat_tests)
 
--- a text is never cut at a byte past ASCII, if it is cut at ASCII marks
+-- cuts of valid texts: at ASCII marks, a text is never cut at a byte past ASCII
 byte_past_ascii_is_no_ascii_mark : (marks : List ℕ) → AreAscii marks → (b : ℕ)
     → is_no_ascii_byte b ≡ true
     → is_one_of marks b ≡ false
@@ -67,8 +67,8 @@ byte_past_ascii_is_no_ascii_mark marks ascii b h = ⊎_elim
     (λ m. let l = ascii b m in absurd (ascii_byte_is_not_past_ascii b h l)) (λ m. m)
     (cases_Bool (is_one_of marks b))
 
--- a text is never cut within a character, if it is cut at ASCII marks:
--- the bytes of one (more) are none
+-- cuts of valid texts: at ASCII marks,
+-- a text is never cut among the bytes past ASCII of a character (more)
 bytes_past_ascii_hold_no_mark : (marks : List ℕ) → AreAscii marks → (more rest : List ℕ)
     → list_all is_no_ascii_byte more ≡ true
     → passes_no_mark_within_chars marks 0 rest ≡ true
@@ -80,7 +80,7 @@ bytes_past_ascii_hold_no_mark marks ascii (b ∷ more) rest h e =
     and_from _ _ (not_from_false _ (byte_past_ascii_is_no_ascii_mark marks ascii b p.0))
     (bytes_past_ascii_hold_no_mark marks ascii more rest p.1 e)
 
--- characters in UTF-8 are never cut within one, if they are cut at ASCII marks
+-- cuts of valid texts: at ASCII marks, characters in UTF-8 are never cut within one
 encoded_chars_hold_no_mark_within : (marks : List ℕ) → AreAscii marks → (cs : List ℕ)
     → passes_no_mark_within_chars marks 0 (encode_utf8_all cs) ≡ true
 unfolding passes_no_mark_within_chars
@@ -92,26 +92,26 @@ encoded_chars_hold_no_mark_within marks ascii (c ∷ cs) =
     ∙ bytes_past_ascii_hold_no_mark marks ascii w.more (encode_utf8_all cs) w.high
     (encoded_chars_hold_no_mark_within marks ascii cs)
 
--- a text in UTF-8 is never cut within a character, if it is cut at ASCII marks
+-- cuts of valid texts: at ASCII marks, a text in UTF-8 is never cut within a character
 pub chars_of_text_hold_no_mark_within : (marks : List ℕ) → AreAscii marks → (text : List ℕ)
     → IsUtf8 text
     → passes_no_mark_within_chars marks 0 text ≡ true
 chars_of_text_hold_no_mark_within marks ascii text u = ap (passes_no_mark_within_chars marks 0)
     (sym u.1.1) ∙ encoded_chars_hold_no_mark_within marks ascii u.0
 
--- UTF-8: no byte continues an ASCII character
+-- cuts of valid texts: no byte continues an ASCII character
 pub ascii_byte_has_no_continuation : (b : ℕ) → b < 128 → continuation_len b ≡ 0
 ascii_byte_has_no_continuation b h = cond-true _ _ _ (lt-ltb b 128 h)
 
--- splitting: an ASCII byte is a whole character, so marks may be next
+-- cuts of valid texts: an ASCII byte is a whole character, so marks may be next
 pub ascii_byte_is_skipped_at_once : (marks : List ℕ) (b : ℕ) (rest : List ℕ) → b < 128
     → passes_no_mark_within_chars marks 0 (b ∷ rest) ≡ passes_no_mark_within_chars marks 0 rest
 unfolding passes_no_mark_within_chars
 ascii_byte_is_skipped_at_once marks b rest h = ap (λ n. passes_no_mark_within_chars marks n rest)
     (ascii_byte_has_no_continuation b h)
 
--- splitting: a cut at a mark that is in no character leaves the first character;
--- k: bytes to skip, c: the character so far
+-- cuts of valid texts: a cut at a mark that is in no character leaves
+-- the first character; k: bytes to skip, c: the character so far
 cut_at_mark_keeps_first_char : (marks : List ℕ) (k c : ℕ) (bs : List ℕ)
     → passes_no_mark_within_chars marks k bs ≡ true
     → slice_index (chars_after k c (take (length_before_marks marks bs) bs)) 0
@@ -131,7 +131,8 @@ cut_at_mark_keeps_first_char marks (suc k) c (b ∷ bs) s =
     (length_before_marks_counts_other_byte marks b bs (not-true _ p.0))
     ∙ cut_at_mark_keeps_first_char marks k (c * 64 + (b - 128)) bs p.1
 
--- splitting: a cut at a mark that is in no character leaves whether the first character is allowed
+-- cuts of valid texts: a cut at a mark that is
+-- in no character leaves whether the first character is allowed
 pub cut_at_mark_keeps_whether_first_is_allowed : (set : TableSet) (marks : List ℕ) (b : ℕ)
     (bs : List ℕ)
     → passes_no_mark_within_chars marks (continuation_len b) bs ≡ true
@@ -140,7 +141,7 @@ unfolding allows_first first_char chars
 cut_at_mark_keeps_whether_first_is_allowed set marks b bs s = rw
     (cut_at_mark_keeps_first_char marks (continuation_len b) (lead_bits b) bs s) refl
 
--- splitting: after a `%` (37), as after each ASCII byte, marks may be next
+-- cuts of valid texts: after a `%` (37), as after each ASCII byte, marks may be next
 pub skips_after_percent_begins_anew : (marks : List ℕ) (b : ℕ) (bs : List ℕ) → eqb b 37 ≡ true
     → passes_no_mark_within_chars marks (continuation_len b) bs ≡ true
     → passes_no_mark_within_chars marks 0 bs ≡ true
@@ -149,13 +150,13 @@ skips_after_percent_begins_anew marks b bs e s = let d = eqb-true b 37 e in
     (sym (ascii_byte_has_no_continuation b (omega arith)))
     ∙ s
 
--- splitting: the byte at which a text is cut is a mark
+-- cuts of valid texts: the byte at which a text is cut is a mark
 byte_after_cut_is_mark : (marks bs : List ℕ) → length_before_marks marks bs < length bs
     → is_one_of marks (get_or bs (length_before_marks marks bs) 0) ≡ true
 byte_after_cut_is_mark marks bs h = not-false _
     (prefix_len_stops (λ c. not (is_one_of marks c)) bs 0 h)
 
--- splitting: a character begins at the first ASCII mark, or the text ends
+-- cuts of valid texts: a character begins at the first ASCII mark, or the text ends
 pub first_mark_is_at_boundary : (marks : List ℕ) → AreAscii marks → (bs : List ℕ)
     → IsCharBoundary bs (length_before_marks marks bs)
 first_mark_is_at_boundary marks ascii bs = ⊎_elim
@@ -166,7 +167,7 @@ first_mark_is_at_boundary marks ascii bs = ⊎_elim
     subst (λ n. IsCharBoundary bs n) e (IsCharBoundary-end bs))
     (cases_lt (length_before_marks marks bs) (length bs))
 
--- splitting: what is left after a cut begins with a mark, or is nothing
+-- cuts of valid texts: what is left after a cut begins with a mark, or is nothing
 pub cut_leaves_mark_or_nothing : (marks : List ℕ) (P : List ℕ → Type 0) → P []
     → ((b : ℕ) (rest : List ℕ) → is_one_of marks b ≡ true → P (b ∷ rest)) → (bs : List ℕ)
     → P (drop (length_before_marks marks bs) bs)
@@ -175,6 +176,6 @@ cut_leaves_mark_or_nothing marks P none some bs =
     ⊎_elim (λ h. subst P (sym (drop_more bs m 0 h)) (some _ _ (byte_after_cut_is_mark marks bs h)))
     (λ h. subst P (sym (drop_all m bs h)) none) (cases_lt m (length bs))
 
--- splitting: marks are ASCII if each is below 128, by computation
+-- cuts of valid texts: marks are ASCII if each is below 128, by computation
 pub AreAscii-by-test : (marks : List ℕ) → list_all (λ b. nat_lt b 128) marks ≡ true → AreAscii marks
 AreAscii-by-test marks h b m = ltb-true b 128 (test_holds_of_each (λ b. nat_lt b 128) marks h b m)

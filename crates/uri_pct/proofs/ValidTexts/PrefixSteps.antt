@@ -61,7 +61,7 @@ hex_digits_after_index_begin_suffix bs i = rw
     (let e : i + 1 + 0 ≡ i + 1 = omega arith in let f : i + 1 + 1 ≡ i + 2 = omega arith in
     rw (e, f))
 
--- a scan passes an octet, if the set has octets
+-- scanning: a scan passes an octet, if the set has octets
 pub valid_prefix_passes_octet : (set : TableSet) (bs : List ℕ) (i : ℕ) → i + 2 < length bs
     → set.pct_encoded ≡ true → get_or bs i 0 ≡ 37 → has_hex_digits_after bs i ≡ true
     → valid_prefix set (drop i bs) ≡ valid_prefix set (drop (i + 3) bs) + 3
@@ -74,7 +74,7 @@ valid_prefix_passes_octet set bs i h o p e =
     ∙ ap (λ n. n + 1) (skipped_byte_at_index_adds_one set 0 bs (i + 1 + 1) (omega arith)))
     ∙ (rw f (omega arith))
 
--- a scan stops at a `%` that begins no allowed octet
+-- scanning: a scan stops at a `%` that begins no allowed octet
 pub valid_prefix_stops_at_stray_percent : (set : TableSet) → LacksPercent set
     → (bs : List ℕ) (i : ℕ) → i < length bs
     → get_or bs i 0 ≡ 37 → (set.pct_encoded && has_hex_digits_after bs i) ≡ false
@@ -95,7 +95,7 @@ ascii_char_of_set_is_not_percent set lacks b a = ⊎_elim
     (λ x. absurd (both_ways _ (ap set.ascii (eqb-true b 37 x) ∙ lacks) a)) (λ x. x)
     (cases_Bool (eqb b 37))
 
--- a scan passes an ASCII character of the set
+-- scanning: a scan passes an ASCII character of the set
 pub valid_prefix_passes_ascii_char_of_set : (set : TableSet) → LacksPercent set
     → (bs : List ℕ) (i : ℕ) → i < length bs
     → get_or bs i 0 < 128 → set.ascii (get_or bs i 0) ≡ true
@@ -106,7 +106,7 @@ valid_prefix_passes_ascii_char_of_set set lacks bs i h l a =
     ∙ cond-true _ _ _ (ascii_first_byte_is_allowed_iff_in_set set _ _ l ∙ a)
     ∙ ap (λ k. valid_prefix_from set k (drop (i + 1) bs) + 1) (cond-true _ _ _ (lt-ltb _ 128 l))
 
--- a scan stops at an ASCII character that the set lacks
+-- scanning: a scan stops at an ASCII character that the set lacks
 pub valid_prefix_stops_at_ascii_outside_set : (set : TableSet) (bs : List ℕ) (i : ℕ) → i < length bs
     → get_or bs i 0 < 128
     → eqb (get_or bs i 0) 37 ≡ false → set.ascii (get_or bs i 0) ≡ false
@@ -128,14 +128,14 @@ skipped_bytes_add_their_length set (b ∷ more) rest = let h = skipped_bytes_add
 past_ascii_is_not_percent : (n : ℕ) → 128 ≤ n → n ≡ 37 → ⊥
 past_ascii_is_not_percent n l d = omega arith
 
--- UTF-8: the first character of a text that begins with the bytes of c is c
+-- scanning: the first character of a text that begins with the bytes of c is c
 first_char_of_text_is_the_encoded : (bs rest : List ℕ) (c : ℕ) → IsUtf8 bs → bs
     ≡ encode_utf8 c ++ rest → first_char bs ≡ c
 unfolding first_char
 first_char_of_text_is_the_encoded bs rest c u e = ap (λ cs. get_or cs 0 0)
     (chars_past_char bs rest c u e)
 
--- a scan passes a first character past ASCII if the set allows it, and stops otherwise
+-- scanning: a scan passes a first character past ASCII if the set allows it, and stops otherwise
 valid_prefix_by_first_char_past_ascii : (set : TableSet) (bs rest : List ℕ) (c : ℕ) → IsUtf8 bs
     → bs ≡ encode_utf8 c ++ rest → 128 ≤ get_or bs 0 0
     → valid_prefix set bs ≡ cond (allows_past_ascii set c) (valid_prefix set rest + len_utf8 c) 0
@@ -157,7 +157,7 @@ valid_prefix_by_first_char_past_ascii set bs rest c u e h =
     (ap (λ k. valid_prefix_from set k (w.more ++ rest) + 1) w.len
     ∙ ap (λ k. k + 1) (skipped_bytes_add_their_length set w.more rest) ∙ omega arith)
 
--- a scan passes a first character if the set allows it, and stops otherwise
+-- scanning: a scan passes a first character if the set allows it, and stops otherwise
 pub valid_prefix_by_first_char : (set : TableSet) (text rest : List ℕ) (c : ℕ) → IsUtf8 text
     → text ≡ encode_utf8 c ++ rest → (set.pct_encoded && eqb c 37) ≡ false
     → valid_prefix set text ≡ cond (allows set c) (valid_prefix set rest + len_utf8 c) 0
@@ -176,7 +176,7 @@ valid_prefix_by_first_char set text rest c u e o = ⊎_elim
     (sym (char_past_ascii_is_allowed_by_flags set c h)))
     (cases_lt c 128)
 
--- a scan passes a character past ASCII if the set allows it, and stops there otherwise
+-- scanning: a scan passes a character past ASCII if the set allows it, and stops there otherwise
 pub valid_prefix_by_char_past_ascii_at_index : (set : TableSet) (bs : List ℕ) (i c : ℕ) → IsUtf8 bs
     → IsCharBoundary bs i
     → drop i bs ≡ encode_utf8 c ++ drop (i + len_utf8 c) bs → 128 ≤ get_or bs i 0
@@ -200,7 +200,7 @@ second_hex_digit_is_ascii bs i e = hexdigit_is_ascii _ (and_parts _ _ e).1
 pub successor_is_not_zero : (n : ℕ) → n + 1 ≡ 0 → ⊥
 successor_is_not_zero n e = omega arith
 
--- where nothing is scanned of a `%`, no octet begins
+-- scanning: where nothing is scanned of a `%`, no octet begins
 pub unscanned_percent_has_no_hex_digits : (set : TableSet) (bs : List ℕ) (i : ℕ) → i < length bs
     → set.pct_encoded ≡ true
     → get_or bs i 0 ≡ 37 → valid_prefix set (drop i bs) ≡ 0 → has_hex_digits_after bs i ≡ false
@@ -214,7 +214,7 @@ unscanned_percent_has_no_hex_digits set bs i h o p z = ⊎_elim
     (λ e. e)
     (cases_Bool (has_hex_digits_after bs i))
 
--- sets: one without the flags ucschar and iprivate allows nothing past ASCII
+-- scanning: a set without the flags ucschar and iprivate allows nothing past ASCII
 no_flags_allow_nothing_past_ascii : (set : TableSet) → (set.ucschar || set.iprivate)
     ≡ false → (c : ℕ)
     → allows_past_ascii set c ≡ false
@@ -223,7 +223,7 @@ no_flags_allow_nothing_past_ascii set e c = or_from _ _
     (and_left _ _ (or_parts set.ucschar set.iprivate e).0)
     (and_left _ _ (or_parts set.ucschar set.iprivate e).1)
 
--- a scan stops past ASCII, if the set has no flag for such characters
+-- scanning: a scan stops past ASCII, if the set has no flag for such characters
 valid_prefix_stops_past_ascii_without_flags : (set : TableSet) (bs : List ℕ) (i : ℕ) → i < length bs
     → 128 ≤ get_or bs i 0
     → (set.ucschar || set.iprivate) ≡ false → valid_prefix set (drop i bs) ≡ 0

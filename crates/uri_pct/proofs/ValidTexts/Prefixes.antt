@@ -92,7 +92,7 @@ pub valid_prefix_is_at_most_length : (set : TableSet) (bs : List ℕ)
     → valid_prefix set bs ≤ length bs
 valid_prefix_is_at_most_length set bs = valid_prefix_from_is_at_most_length set 0 bs
 
--- sets: a greater set has the characters past ASCII of a smaller one
+-- scanning: a greater set has the characters past ASCII of a smaller one
 superset_allows_same_past_ascii : (small great : TableSet) → IsSubset small great → (c : ℕ)
     → allows_past_ascii small c ≡ true → allows_past_ascii great c ≡ true
 unfolding allows_past_ascii
@@ -101,7 +101,7 @@ superset_allows_same_past_ascii small great w c e = ⊎_elim
     (λ u. let p = and_parts _ _ u in or_right _ _ (and_from _ _ (w.iprivate p.0) p.1))
     (or_cases _ _ e)
 
--- sets: a greater set allows the first character that a smaller one does
+-- scanning: a greater set allows the first character that a smaller one does
 superset_allows_same_first_char : (small great : TableSet) → IsSubset small great
     → (b : ℕ) (bs : List ℕ)
     → allows_first small b bs ≡ true → allows_first great b bs ≡ true

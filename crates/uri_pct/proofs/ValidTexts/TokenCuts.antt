@@ -16,13 +16,13 @@ use Rattle.uri_pct.specs.Tokens.{allows_token}
 use Rattle.uri_pct.specs.Tokens.{is_valid_for}
 use Rattle.uri_pct.proofs.UnreservedDecoding.Printing.{char_but_percent_is_its_own_token}
 
--- an ASCII character that is no hexadecimal digit and not `%`
+-- cuts of valid texts: an ASCII character that is no hexadecimal digit and not `%`
 pub record IsNeverInOctet (c : ℕ) : Type 0 where
   pub ascii : c < 128
   pub no_digit : is_ascii_hexdigit c ≡ false
   pub no_percent : eqb c 37 ≡ false
 
--- a reserved character is never in a percent-encoded octet
+-- cuts of valid texts: a reserved character is never in a percent-encoded octet
 pub reserved_is_never_in_octet : (c : ℕ) → is_reserved c ≡ true → IsNeverInOctet c
 reserved_is_never_in_octet c e = record {
   ascii = grind (arith, nat_tests);
@@ -31,23 +31,23 @@ reserved_is_never_in_octet c e = record {
   no_percent = grind (arith, nat_tests);
 }
 
--- sets: `/` (47) is reserved, so it is never decoded to or from `%2F`
+-- cuts of valid texts: `/` (47) is reserved, so it is never decoded to or from `%2F`
 pub slash_is_reserved : is_reserved 47 ≡ true
 slash_is_reserved = refl
 
--- tokens: without a first hexadecimal digit (d), no octet is read
+-- cuts of valid texts: without a first hexadecimal digit (d), no octet is read
 octet_needs_first_hexdigit : (c d e : ℕ) → is_ascii_hexdigit d ≡ false
     → is_pct_encoded c d e ≡ false
 unfolding is_pct_encoded
 octet_needs_first_hexdigit c d e h = and_right _ _ (and_left _ _ h)
 
--- tokens: without a second hexadecimal digit (e), no octet is read
+-- cuts of valid texts: without a second hexadecimal digit (e), no octet is read
 octet_needs_second_hexdigit : (c d e : ℕ) → is_ascii_hexdigit e ≡ false
     → is_pct_encoded c d e ≡ false
 unfolding is_pct_encoded
 octet_needs_second_hexdigit c d e h = and_right _ _ (and_right _ _ h)
 
--- tokens: the character before a mark that is in no octet is a token by itself
+-- cuts of valid texts: the character before a mark that is in no octet is a token by itself
 char_before_mark_is_own_token : (c mark : ℕ) (ds : List ℕ) → IsNeverInOctet mark
     → tokens_from_chars (c ∷ mark ∷ ds) ≡ Char c ∷ Char mark ∷ tokens_from_chars ds
 unfolding tokens_from_chars
@@ -56,7 +56,7 @@ char_before_mark_is_own_token c mark (d ∷ ds) m = cond-false _ _ _
     (octet_needs_first_hexdigit c mark d m.no_digit)
     ∙ ap (λ ts. Char c ∷ ts) (char_but_percent_is_its_own_token mark (d ∷ ds) m.no_percent)
 
--- tokens: a mark that is in no octet separates those before it from those after it
+-- cuts of valid texts: a mark that is in no octet separates the tokens before and after it
 mark_separates_tokens_of_chars : (cs ds : List ℕ) (mark : ℕ) → IsNeverInOctet mark
     → tokens_from_chars (cs ++ mark ∷ ds) ≡ tokens_from_chars cs ++ Char mark ∷ tokens_from_chars ds
 unfolding tokens_from_chars
@@ -72,22 +72,21 @@ mark_separates_tokens_of_chars (c ∷ high ∷ low ∷ cs) ds mark m = ⊎_elim
     (mark_separates_tokens_of_chars (high ∷ low ∷ cs) ds mark m)))
     (cases_Bool (is_pct_encoded c high low))
 
--- UTF-8: the characters after an ASCII byte c come after it
+-- cuts of valid texts: the characters after an ASCII byte c come after it
 ascii_byte_comes_before_chars_of_rest : (c : ℕ) (rest : List ℕ) → chars_after 0 c rest
     ≡ c ∷ chars rest
 unfolding chars
 ascii_byte_comes_before_chars_of_rest c [] = refl
 ascii_byte_comes_before_chars_of_rest c (b ∷ rest) = refl
 
--- UTF-8: an ASCII byte is its own character
+-- cuts of valid texts: an ASCII byte is its own character
 pub ascii_byte_is_first_of_chars : (c : ℕ) (rest : List ℕ) → c < 128 → chars (c ∷ rest)
     ≡ c ∷ chars rest
 unfolding chars
 ascii_byte_is_first_of_chars c rest h = let low = lt-ltb c 128 h in rw low
     (ascii_byte_comes_before_chars_of_rest c rest)
 
--- tokens: a mark that is in no octet separates those of the text
--- before it from those of the text after it
+-- cuts of valid texts: a mark that is in no octet separates the tokens of the texts around it
 mark_separates_tokens_of_text : (before after : List ℕ) (mark : ℕ) → IsNeverInOctet mark
     → IsUtf8 before
     → tokens (before ++ mark ∷ after) ≡ tokens before ++ Char mark ∷ tokens after
@@ -111,7 +110,7 @@ texts_around_mark_are_valid set before after mark m u e =
     ∙ e) in
     (both.0, (and_parts _ _ both.1).1)
 
--- UTF-8: what is before an ASCII byte of a text is a text
+-- cuts of valid texts: what is before an ASCII byte of a text is a text
 text_before_ascii_mark_is_utf8 : (text before after : List ℕ) (mark : ℕ) → mark < 128 → IsUtf8 text
     → text ≡ before ++ mark ∷ after → IsUtf8 before
 text_before_ascii_mark_is_utf8 text before after mark small u same =

@@ -25,7 +25,7 @@ valid_from set zero (b ∷ rest) =
     (allows_first set b rest && valid_from set (continuation_len b) rest)
 valid_from set (suc k) (b ∷ rest) = valid_from set k rest
 
--- whether bytes are valid, by the first one: it begins an octet, or an allowed character
+-- validity: bytes are valid if the first begins an octet or an allowed character, and the rest is
 pub validity_by_first_byte : (set : TableSet) (b : ℕ) (rest : List ℕ)
     → valid_from set 0 (b ∷ rest)
     ≡ cond ((set.pct_encoded && eqb b 37) && begins_with_hex_digits rest) (valid_from set 2 rest)
@@ -72,18 +72,18 @@ and_is_false_with_any_first false y z e = refl
 past_ascii_is_not_percent : {n : ℕ} (b : ℕ) → n ≡ b → 128 ≤ n → b ≡ 37 → ⊥
 past_ascii_is_not_percent b e h d = omega arith
 
--- UTF-8: characters begin with the first byte of the first one; w: its bytes
+-- validity: characters begin with the first byte of the first one; w: its bytes
 utf8_of_chars_begins_with_first_byte : (c : ℕ) (cs : List ℕ) (w : HasEncoding c)
     → encode_utf8_all (c ∷ cs) ≡ w.first ∷ (w.more ++ encode_utf8_all cs)
 utf8_of_chars_begins_with_first_byte c cs w = ap (λ t. t ++ encode_utf8_all cs) w.joined
 
--- UTF-8: an ASCII character has one byte, itself; w: its bytes
+-- validity: an ASCII character has one byte, itself; w: its bytes
 ascii_char_is_its_only_byte : (c : ℕ) (w : HasEncoding c) → c < 128 → (w.first ≡ c) × (w.more ≡ [])
 ascii_char_is_its_only_byte c w h =
     let e : w.first ∷ w.more ≡ c ∷ [] = sym w.joined ∙ encode_ascii c h in
     (ap (λ t. get_or t 0 0) e, ap (drop 1) e)
 
--- UTF-8: the first byte of a character past ASCII is past ASCII; w: its bytes
+-- validity: the first byte of a character past ASCII is past ASCII; w: its bytes
 first_byte_is_past_ascii_if_char_is : (c : ℕ) (w : HasEncoding c) → 128 ≤ c → 128 ≤ w.first
 first_byte_is_past_ascii_if_char_is c w h =
     let l = char_past_ascii_begins_past_ascii c [] h in
@@ -129,7 +129,7 @@ first_byte_is_allowed_iff_char_is set c cs w s = ⊎_elim
     ∙ sym (char_past_ascii_is_allowed_by_flags set c h))
     (cases_lt c 128)
 
--- a character that begins no octet is valid if the set allows it
+-- validity: a character that begins no octet is valid if the set allows it
 validity_by_first_char : (set : TableSet) (c : ℕ) (cs : List ℕ) → all_scalars (c ∷ cs) ≡ true
     → (eqb c 37 && begins_with_hex_digits cs) ≡ false
     → valid_from set 0 (encode_utf8_all (c ∷ cs))
@@ -157,7 +157,7 @@ validity_skips_two_hexdigits set h l rest e f = rw (
       (hexdigit_is_ascii l f),
 ) refl
 
--- the `%` of an octet is valid if what is after the octet is
+-- validity: the `%` of an octet is valid if what is after the octet is
 validity_after_percent_skips_two : (set : TableSet) (c : ℕ) (cs : List ℕ) → c ≡ 37
     → begins_with_hex_digits cs ≡ true
     → set.pct_encoded ≡ true
@@ -179,7 +179,7 @@ stray_percent_is_not_valid set c cs p d o =
     ∙ and_left _ _ (ascii_first_byte_is_allowed_iff_in_set set c _ (omega arith)
     ∙ ap set.ascii d ∙ p)
 
--- an octet is valid if the set has octets and what is after it is valid
+-- validity: an octet is valid if the set has octets and what is after it is valid
 validity_by_first_octet : (set : TableSet) (c h l : ℕ) (cs : List ℕ) → LacksPercent set
     → is_pct_encoded c h l ≡ true
     → valid_from set 0 (encode_utf8_all (c ∷ h ∷ l ∷ cs))
@@ -196,12 +196,12 @@ validity_by_first_octet set c h l cs p e =
     (λ o. stray_percent_is_not_valid set c (h ∷ l ∷ cs) p d o ∙ sym (and_left _ _ o))
     (cases_Bool set.pct_encoded)
 
--- UTF-8: scalar values without the first are scalar values
+-- validity: scalar values without the first are scalar values
 tail_of_scalars_is_scalars : (c : ℕ) (cs : List ℕ) → all_scalars (c ∷ cs) ≡ true
     → all_scalars cs ≡ true
 tail_of_scalars_is_scalars c cs s = (and_parts _ _ s).1
 
--- tokens: three characters (c, h, l) that are no octet do not begin one, whatever follows
+-- validity: three characters (c, h, l) that are no octet do not begin one, whatever follows
 pub chars_not_pct_encoded_begin_no_octet : (c h l : ℕ) (cs : List ℕ) → is_pct_encoded c h l ≡ false
     → (eqb c 37 && begins_with_hex_digits (h ∷ l ∷ cs)) ≡ false
 unfolding is_pct_encoded begins_with_hex_digits
@@ -231,7 +231,7 @@ validity_is_all_tokens_allowed set p (c ∷ h ∷ l ∷ cs) s = ⊎_elim
     ∙ sym (ap (list_all (allows_token set)) (cond-false _ _ _ e)))
     (cases_Bool (is_pct_encoded c h l))
 
--- a text is valid by its tokens exactly if it is valid by its bytes
+-- validity: a text is valid by its tokens exactly if it is valid by its bytes
 pub validity_of_tokens_is_validity_of_bytes : (set : TableSet) → LacksPercent set → (text : List ℕ)
     → IsUtf8 text
     → is_valid_for set text ≡ valid_from set 0 text

@@ -10,7 +10,7 @@ use Rattle.uri_pct.specs.Delimiters.{percent_sign}
 abbrev pub is_char_byte : (ℕ → Bool) → ℕ → Bool
 is_char_byte ascii b = ascii b || (nat_le b 0xED && not (nat_le b 0x7F) && not (b == 0xC2))
 
--- from start to end is the longest run of the bytes, from start on, that pass the test
+-- from start to end is the longest run of bytes, from start on, that pass the test of a scan
 pub record IsLongestRun (test : ℕ → Bool) (bytes : List ℕ) (start end : ℕ) : Type 0 where
   pub from : start ≤ end
   pub within : end ≤ length bytes

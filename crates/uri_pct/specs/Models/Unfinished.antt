@@ -4,7 +4,7 @@ use Rattle.std.specs.Prelude.{◌≡◌, ℕ, suc, nat_lt, List, [], ◌∷◌, 
 use Rattle.std.specs.Prelude.{Option, Some, None, if◌then◌else◌}
 use Rattle.uri_pct.specs.Pieces.{ByteRange, following_ranges, utf8_pieces}
 
--- the number of byte ranges, or 0 for `None`
+-- how many ranges of bytes may follow a first byte of UTF-8, or 0 for `None`
 abbrev pub range_count : Option (List ByteRange) → ℕ
 range_count None = 0
 range_count (Some ranges) = length ranges

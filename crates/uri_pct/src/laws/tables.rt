@@ -40,7 +40,7 @@ pub struct Rules {
     pub ifragment: Table,
 }
 
-/// The constants, each under the name of its rule: it is the set of that rule.
+/// States that each constant is the set of its rule, under whose name it is returned.
 #[tactic(auto, using(crate::proofs::TableSets::Constants::constant_tables))]
 pub fn constants() -> Rules
     ensures alpha { set_of result.alpha ≡ alpha_set }
