@@ -27,7 +27,7 @@ impl<'a> TextView<'a> {
     ghost use Rattle.uri_ops.specs.Models.Places.{IsSlashOrStart, before_path};
     ghost use Rattle.uri_ops.specs.Resolving.{components_of};
 
-    /// The text of a value of a kind.
+    /// Returns the text of a base or a reference, with the positions of its components.
     pub(crate) fn of<R: RiMaybeRef>(value: &'a R) -> TextView<'a>
         ensures components { components_of result ≡ components (R.text value.now) }
         ensures of_kind { IsOfKind R.kind (R.text value.now) }
