@@ -9,6 +9,8 @@ from typing import NamedTuple
 
 # Files that hold the proof of one function; all other files of proofs/ are lemmas.
 ANSWERS = ("Answers.antt", "Invariants.antt", "Proof.antt")
+# Attributes that are hints to LLVM.
+HINTS = (["inline"], ["cold"])
 FOLDERS = ("src", "specs", "proofs")
 
 
@@ -89,6 +91,8 @@ class Function(NamedTuple):
     end: int
     is_body_kept: bool
     is_public: bool
+    # Whether only its module and those below it can call it.
+    is_private: bool
 
 
 class Items:
@@ -185,25 +189,38 @@ class Items:
     def function(self, start, at, block):
         attributes, words = self.head(start, at)
         body, end = self.body(at), self.past_function(at)
-        # (a caller's check may prove a trait's default again, or compute what is const; `inline`
-        # is a hint to LLVM, which changes no proof)
+        # (a caller's check may prove a trait's default again, or compute what is const)
         kept = block == "trait" or "const" in words or "cycle" in attributes
         public = block or any(
             it == "pub" and after != "(" for it, after in zip(words, [*words[1:], ""])
         )
-        return Function(start, range(body, end), end, bool(kept), bool(public))
+        private = not block and "pub" not in words
+        return Function(start, range(body, end), end, bool(kept), bool(public), private)
 
 
-def without_bodies(data, tokens, hides_private):
-    """Returns a source file without bodies and, where asked, without private functions."""
+def without_bodies(data, tokens, is_hidden):
+    """Returns a source file without bodies, and without the functions that are hidden."""
     left, last = [], 0
     for it in Items(tokens).functions():
-        if hides_private and not it.is_public:
+        if is_hidden(it):
             left += tokens[last : it.start]
         else:
             left += tokens[last : it.end if it.is_body_kept else it.body.start]
         last = it.end
-    return rendered(data, left + tokens[last:])
+    return rendered(data, without_hints(left + tokens[last:]))
+
+
+def without_hints(tokens):
+    """Returns the tokens without the attributes that are hints to LLVM, which change no proof."""
+    found, at = [], 0
+    while at < len(tokens):
+        texts = [it.text for it in tokens[at : at + 3]]
+        if texts[:2] == ["#", "["] and texts[2:] in HINTS and tokens[at].kind == "Code":
+            at = Items(tokens).closing(at + 1) + 1
+        else:
+            found.append(tokens[at])
+            at += 1
+    return found
 
 
 class Shape:
@@ -214,14 +231,15 @@ class Shape:
         self.kit = kit_of(rattle)
         files = [it for part in FOLDERS for it in sorted(self.folder.glob(f"{part}/**/*"))]
         self.files = [it for it in files if it.is_file()]
-        # The whole text of each file, and of a source file what is left without bodies.
-        self.whole, self.own, self.above = {}, {}, {}
+        # The whole text of each file, and of a source file what is left without bodies: all, and
+        # what modules beside it and crates above see.
+        self.whole, self.own, self.beside, self.above = {}, {}, {}, {}
         try:
             self.read(rattle)
         except (Unread, ValueError, IndexError):
             # (where the text cannot be taken apart, all of it counts)
             self.whole = {self.path(it): it.read_bytes().decode("latin-1") for it in self.files}
-            self.own, self.above = dict(self.whole), dict(self.whole)
+            self.own, self.beside, self.above = (dict(self.whole) for _ in range(3))
 
     def path(self, file):
         return file.relative_to(self.folder).as_posix()
@@ -235,11 +253,12 @@ class Shape:
             data, path = file.read_bytes(), self.path(file)
             self.whole[path] = rendered(data, tokens)
             if file.suffix == ".rt":
-                self.own[path] = without_bodies(data, tokens, False)
-                self.above[path] = without_bodies(data, tokens, True)
+                self.own[path] = without_bodies(data, tokens, lambda it: False)
+                self.beside[path] = without_bodies(data, tokens, lambda it: it.is_private)
+                self.above[path] = without_bodies(data, tokens, lambda it: not it.is_public)
         for path, text in self.whole.items():
             if path not in self.own and not is_answer(path):
-                self.own[path] = self.above[path] = text
+                self.own[path] = self.beside[path] = self.above[path] = text
 
     @functools.cached_property
     def kind(self):
@@ -285,10 +304,26 @@ class Shape:
                 found[self.module_of(path.split("/")[1:-1])][path] = sum_of(text)
         return found
 
+    @functools.cached_property
+    def sums(self):
+        """The sum of each file as its own module sees it, and as those beside it do."""
+        return {it: (sum_of(self.own[it]), sum_of(self.beside[it])) for it in sorted(self.own)}
+
+    def seen_from(self, modules):
+        """The sums of the crate's files, each as it is seen from these modules: the private
+        functions of a module are seen from itself and from those below it."""
+        for path, (own, beside) in self.sums.items():
+            module = self.module(path)
+            is_own = any(it[: len(module)] == module for it in modules)
+            yield path, own if is_own else beside
+
+    def modules_of(self, functions):
+        """The modules of these functions, named by `::` or by the folder of a proof."""
+        return sorted({self.module_of(re.split(r"::|/", it)) for it in functions})
+
     def touched(self, functions):
         """The sums of the files of these functions, named by `::` or by the folder of a proof."""
-        modules = {self.module_of(re.split(r"::|/", it)) for it in functions}
-        return [sorted(self.by_module[it].items()) for it in sorted(modules)]
+        return [sorted(self.by_module[it].items()) for it in self.modules_of(functions)]
 
     def module(self, path):
         """The path of the module that a source file holds."""
@@ -333,19 +368,19 @@ class Digests:
         judge = pathlib.Path(__file__).with_name("judge.py")
         self.judge = prover_of(rt.rtlib.RATTLE), judge.read_text(encoding="utf-8")
         opened = {it: shape.opened(self.shapes.values()) for it, shape in self.shapes.items()}
-        self.below, self.own = {}, {}
+        self.below, self.more = {}, {}
         for name, shape in self.shapes.items():
-            more = shape.touched(opened[name])
-            self.below[name] = sum_of(shape.kind, sorted(shape.above.items()), more)
-            self.own[name] = sum_of(shape.kind, sorted(shape.own.items()), more)
+            self.more[name] = shape.touched(opened[name])
+            self.below[name] = sum_of(shape.kind, sorted(shape.above.items()), self.more[name])
 
     def of(self, mutant):
         """Returns the digest of a mutant of a crate."""
         crate = mutant.crate
         shape = self.shapes[crate.name]
         files = [it[6:].strip() for it in mutant.text.split("\n") if it.startswith("file: ")]
-        modules = ["/".join(shape.module(it)) for it in files if it.startswith("src/")]
-        touched = shape.touched([*modules, *([mutant.function] if mutant.function else [])])
+        named = ["/".join(shape.module(it)) for it in files if it.startswith("src/")]
+        named += [mutant.function] if mutant.function else []
+        own = shape.kind, list(shape.seen_from(shape.modules_of(named))), self.more[crate.name]
         below = [(it.name, self.below[it.name]) for it in crate.below()]
-        parts = (self.judge, self.own[crate.name], touched, below, judged(mutant.text))
+        parts = (self.judge, own, shape.touched(named), below, judged(mutant.text))
         return sum_of(*parts)[:16]
