@@ -1,5 +1,5 @@
 //! Octets that are decoded as UTF-8.
-ghost use Rattle.std.specs.Prelude.{◌≡◌, ◌<◌, OnOk, List, [], ◌∷◌, ◌++◌, length, map};
+ghost use Rattle.std.specs.Prelude.{◌≡◌, ◌<◌, IfOk, OnOk, List, [], ◌∷◌, ◌++◌, length, map};
 ghost use Rattle.uri_pct.specs.Chunks.{Chunk, Byte};
 ghost use Rattle.uri_pct.specs.Decodes.{chunk_of};
 ghost use Rattle.uri_pct.specs.Models.Windows.{window_bytes};
@@ -79,6 +79,34 @@ fn take_chunks<T: TakeParts>(run: &[u8], taker: &mut T) -> Result<(), AllocError
     Ok(())
 }
 
+/// Passes the bytes that a run begins with to the taker, as long as the byte after one begins a
+/// piece: then the one is ill-formed by itself. Returns the rest of the run.
+///
+/// Std's chunks would be searched for UTF-8 after each of these bytes.
+fn take_lone_bytes<'a, T: TakeParts>(run: &'a [u8], taker: &mut T) -> Result<&'a [u8], AllocError>
+    requires { ArePastAscii run.now }
+    ensures past_ascii { IfOk result (λ left. ArePastAscii left.now) }
+    ensures taken { IfOk result (λ left. (u : _)
+        → T.took taker.new (map Decoded (utf8_pieces left.now)) u
+        → T.took taker.old (map Decoded (utf8_pieces run.now)) u) }
+{
+    let mut left = run;
+    while left.len() > 1 && left[1] >= 0xC0 {
+        taker.take_ill_formed(&left[..1])?;
+        left = &left[1..];
+    }
+    Ok(left)
+}
+
+/// Passes the pieces of a run of octets that is not UTF-8 to the taker.
+fn take_mixed_run<T: TakeParts>(run: &[u8], taker: &mut T) -> Result<(), AllocError>
+    requires { ArePastAscii run.now }
+    ensures { OnOk result (T.took taker.old (map Decoded (utf8_pieces run.now)) taker.new) }
+{
+    let left = take_lone_bytes(run, taker)?;
+    take_chunks(left, taker)
+}
+
 /// Passes the pieces of a run of octets to the taker, in one call if the run is UTF-8.
 fn take_run<T: TakeParts>(run: &[u8], taker: &mut T) -> Result<(), AllocError>
     requires { ArePastAscii run.now }
@@ -86,7 +114,7 @@ fn take_run<T: TakeParts>(run: &[u8], taker: &mut T) -> Result<(), AllocError>
 {
     match str::from_utf8(run) {
         Ok(text) => taker.take_well_formed(text),
-        Err(_) => take_chunks(run, taker),
+        Err(_) => take_mixed_run(run, taker),
     }
 }
 

@@ -2,7 +2,6 @@
 ghost use Rattle.std.specs.Prelude.{◌≡◌, ◌≤◌, ◌<◌, ◌+◌, ◌*◌, ◌++◌, [], IfOk, OnOk, length, take};
 ghost use Rattle.std.specs.Prelude.{option_map, slice_index, string_bytes};
 ghost use Rattle.std.specs.Str.{IsUtf8};
-ghost use Rattle.uri_pct.specs.Tokens.{Octet, text_of_token};
 ghost use Rattle.uri_parts.specs.Grammar.{IsOfKind};
 ghost use Rattle.uri_parts.specs.Positions.{ArePositionsOf};
 ghost use Rattle.uri_ops.specs.Encoded.{encode_past_ascii};
@@ -61,12 +60,30 @@ fn push_run(bytes: &[u8], out: &mut Vec<u8>) -> Result<(), AllocError>
     Ok(())
 }
 
-/// Appends a byte of an IRI to its URI as an octet.
-#[inline(always)]
-fn push_octet(byte: u8, out: &mut Vec<u8>) -> Result<(), AllocError>
-    ensures { OnOk result (out.new.items ≡ out.old.items ++ text_of_token (Octet byte)) }
+/// Appends the first bytes of an IRI's text that are past ASCII to its URI as octets, sixteen at
+/// most. Returns how many these are.
+///
+/// The octets are appended together, since each append costs as much as several octets.
+#[tactic(auto, using(crate::proofs::AsciiForms::EncodedRuns::encoded_runs))]
+fn push_leading_octets(bytes: &[u8], out: &mut Vec<u8>) -> Result<usize, AllocError>
+    requires some { 0 < length bytes.now }
+    requires first { 128 ≤ slice_index bytes.now 0 }
+    ensures some { IfOk result (λ count. 0 < count) }
+    ensures inside { IfOk result (λ count. count ≤ length bytes.now) }
+    ensures text { IfOk result (λ count.
+        out.new.items ≡ out.old.items ++ encode_past_ascii (take count bytes.now)) }
 {
-    push_run(pct_encoded(byte).as_bytes(), out)
+    let mut octets = [0; 3 * LANES];
+    let mut count = 0;
+    while count < LANES && count < bytes.len() && bytes[count] >= 128 {
+        let octet = pct_encoded(bytes[count]).as_bytes();
+        octets[3 * count] = octet[0];
+        octets[3 * count + 1] = octet[1];
+        octets[3 * count + 2] = octet[2];
+        count += 1;
+    }
+    out.extend_from_slice(&octets[..3 * count])?;
+    Ok(count)
 }
 
 /// Appends bytes of an IRI to its URI, each one past ASCII as an octet.
@@ -76,10 +93,8 @@ fn push_past_ascii_encoded(bytes: &[u8], out: &mut Vec<u8>) -> Result<(), AllocE
 {
     let mut done = 0;
     while done < bytes.len() {
-        let byte = bytes[done];
-        if byte >= 128 {
-            push_octet(byte, out)?;
-            done += 1;
+        if bytes[done] >= 128 {
+            done += push_leading_octets(&bytes[done..], out)?;
         } else {
             let end = done + ascii_prefix_len(&bytes[done..]);
             push_run(&bytes[done..end], out)?;

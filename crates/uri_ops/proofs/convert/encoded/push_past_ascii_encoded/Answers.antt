@@ -1,7 +1,10 @@
-use Rattle.std.proofs.Common.{◌≡◌, ◌++◌, slice_index, arith}
-use Rattle.uri_ops.proofs.AsciiForms.EncodedTokens.{octet_text}
+use Rattle.std.proofs.Common.{◌≡◌, ℕ, ◌+◌, ◌-◌, List, ◌++◌, length, take, drop, arith, ap, sym, ◌∙◌}
+use Rattle.std.proofs.Common.{append_assoc}
+use Rattle.std.proofs.Math.Seq.{take-add}
+use Rattle.std.proofs.lemmas.List.{length-drop, take_all}
+use Rattle.uri_ops.specs.Encoded.{encode_past_ascii}
+use Rattle.uri_ops.proofs.AsciiForms.EncodedPaths.{encoding-of-append-is-append}
 use Rattle.uri_ops.proofs.AsciiForms.EncodedRuns.{pushed-ascii-run-is-encoding}
-use Rattle.uri_ops.proofs.AsciiForms.EncodedRuns.{pushed-octet-is-encoding}
 use Rattle.uri_ops.proofs.AsciiForms.EncodedRuns.{nothing-pushed-is-encoding}
 use Rattle.uri_ops.proofs.AsciiForms.EncodedRuns.{end-of-run-is-within-bytes}
 use Rattle.uri_ops.proofs.convert.encoded.push_past_ascii_encoded.Goals as goal
@@ -13,17 +16,38 @@ loop-done-init c = record {
       c.args.out.now.items;
 }
 
-pub loop-done-preserved-then-byte-ge128 : goal.loop-done-preserved-then-byte-ge128
-loop-done-preserved-then-byte-ge128 c =
+-- general fact on lists, for the bytes to encode: a slice to the end is what is dropped to
+slice-to-end-is-drop : (bytes : List ℕ) (i : ℕ) → take (length bytes - i) (drop i bytes)
+    ≡ drop i bytes
+slice-to-end-is-drop bytes i =
+    let long : length (drop i bytes) ≡ length bytes - i = length-drop i bytes in
+    take_all (length bytes - i) (drop i bytes) (omega arith)
+
+-- IRIs as URIs: appending the encoding of n bytes from i on continues the encoded text
+pushed-encoding-is-encoding : (old mid new bytes : List ℕ) (i n : ℕ)
+    → mid ≡ old ++ encode_past_ascii (take i bytes)
+    → new ≡ mid ++ encode_past_ascii (take n (take (length bytes - i) (drop i bytes)))
+    → new ≡ old ++ encode_past_ascii (take (i + n) bytes)
+pushed-encoding-is-encoding old mid new bytes i n o e =
+    let prefix = encode_past_ascii (take i bytes) in
+    let more = encode_past_ascii (take n (drop i bytes)) in
+    e ∙ ap (λ t. mid ++ encode_past_ascii (take n t)) (slice-to-end-is-drop bytes i)
+    ∙ ap (λ t. t ++ more) o ∙ append_assoc old prefix more
+    ∙ ap (λ t. old ++ t) (sym (encoding-of-append-is-append (take i bytes) (take n (drop i bytes))))
+    ∙ ap (λ t. old ++ encode_past_ascii t) (sym (take-add i n bytes))
+
+pub loop-done-preserved-then-bytes-done-ge128 : goal.loop-done-preserved-then-bytes-done-ge128
+loop-done-preserved-then-bytes-done-ge128 c =
     let bytes = c.args.bytes.now in
-    let i = c.loop-done.done in
-    let out = c.loop-done.out.items in
-    let octet : c.push_octet.new.out.items ≡ out ++ octet_text (slice_index bytes i) =
-    c.in_ok-push_octet.ensures in
+    let done = c.loop-done.done in
+    let count = c.in_ok-done.field-0 in
+    let pushed = c.in_ok-done.ensures in
     record {
-      inside = omega arith;
-      total = pushed-octet-is-encoding c.args.out.now.items out c.push_octet.new.out.items bytes i
-          c.loop-done-test.true c.if-byte-ge128.true c.loop-done.invariant.total octet;
+      inside = end-of-run-is-within-bytes bytes done count c.loop-done.invariant.inside
+          pushed.inside;
+      total = pushed-encoding-is-encoding c.args.out.now.items c.loop-done.out.items
+          c.push_leading_octets.new.out.items bytes done count c.loop-done.invariant.total
+          pushed.text;
     }
 
 pub loop-done-preserved : goal.loop-done-preserved

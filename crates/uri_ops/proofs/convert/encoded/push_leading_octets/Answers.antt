@@ -1,0 +1,67 @@
+use Rattle.std.proofs.Common.{◌≡◌, ℕ, ◌+◌, ◌*◌, ◌≤◌, List, [], ◌∷◌, ◌++◌, length, get_or, set, take}
+use Rattle.std.proofs.Common.{◌<◌, refl, sym, ap, ◌∙◌, arith, append_assoc}
+use Rattle.std.proofs.lemmas.Grind.{take-set_at}
+use Rattle.std.proofs.lemmas.List.{length-set}
+use Rattle.uri_ops.proofs.AsciiForms.EncodedTokens.{octet_text}
+use Rattle.uri_ops.proofs.AsciiForms.EncodedRuns.{pushed-octet-is-encoding}
+use Rattle.uri_ops.proofs.AsciiForms.EncodedRuns.{encoding-of-empty-text-is-empty}
+use Rattle.uri_ops.proofs.convert.encoded.push_leading_octets.Goals as goal
+
+-- general fact on lists, for the octets of a run: three stores, one after the other
+three-stores : (xs : List ℕ) (n m a b c : ℕ) → m ≡ n + 3 → m ≤ length xs
+    → take m (set (set (set xs n a) (n + 1) b) (n + 2) c) ≡ take n xs ++ a ∷ b ∷ c ∷ []
+three-stores xs n m a b c e inside =
+    let one = set xs n a in
+    let two = set one (n + 1) b in
+    let size_one : length one ≡ length xs = length-set xs n a in
+    let size : length two ≡ length xs = length-set one (n + 1) b ∙ size_one in
+    let first : take (n + 1) one ≡ take n xs ++ a ∷ [] =
+    take-set_at xs n (n + 1) a (omega arith) (omega arith) in
+    let second : take (n + 2) two ≡ take (n + 1) one ++ b ∷ [] =
+    take-set_at one (n + 1) (n + 2) b (omega arith) (omega arith) in
+    let third : take m (set two (n + 2) c) ≡ take (n + 2) two ++ c ∷ [] =
+    take-set_at two (n + 2) m c (omega arith) (omega arith) in
+    third ∙ ap (λ t. t ++ c ∷ []) (second ∙ ap (λ t. t ++ b ∷ []) first)
+    ∙ append_assoc (take n xs ++ a ∷ []) (b ∷ []) (c ∷ [])
+    ∙ append_assoc (take n xs) (a ∷ []) (b ∷ c ∷ [])
+
+-- general fact on lists, for the three bytes of an octet: a list of three is its elements
+list-of-three : (xs ys : List ℕ) (a b c : ℕ) → xs ≡ ys → ys ≡ a ∷ b ∷ c ∷ []
+    → get_or xs 0 0 ∷ get_or xs 1 0 ∷ get_or xs 2 0 ∷ [] ≡ ys
+list-of-three xs ys a b c same three =
+    ap (λ t. get_or t 0 0 ∷ get_or t 1 0 ∷ get_or t 2 0 ∷ []) (same ∙ three) ∙ sym three
+
+pub loop-count-init : goal.loop-count-init
+loop-count-init c = record {
+  inside = omega arith;
+  few = omega arith;
+  size = refl;
+  octets = sym encoding-of-empty-text-is-empty;
+}
+
+pub loop-count-preserved : goal.loop-count-preserved
+loop-count-preserved c =
+    let bytes = c.args.bytes.now in
+    let count = c.loop-count.count in
+    let octets = c.loop-count.octets in
+    let octet = c.as_bytes-octet.result.now in
+    let text = octet_text (get_or bytes count 0) in
+    let holds = c.loop-count.invariant in
+    let a = get_or octet 0 0 in
+    let b = get_or octet 1 0 in
+    let d = get_or octet 2 0 in
+    let within : 3 * (count + 1) ≤ length octets = omega (arith, holds.size) in
+    let same : octet ≡ text = c.as_bytes-octet.ensures.value ∙ c.pct_encoded.ensures in
+    let three : a ∷ b ∷ d ∷ [] ≡ text = list-of-three octet text _ _ _ same refl in
+    let stored = three-stores octets (3 * count) (3 * (count + 1)) a b d (omega arith) within in
+    let one = set octets (3 * count) a in
+    let two = set one (3 * count + 1) b in
+    record {
+      inside = omega arith;
+      few = omega arith;
+      size = length-set two (3 * count + 2) d ∙ length-set one (3 * count + 1) b
+          ∙ length-set octets (3 * count) a ∙ holds.size;
+      octets = pushed-octet-is-encoding [] (take (3 * count) octets) _ bytes count (omega arith)
+          c.if-bytes-count-ge128.true holds.octets
+          (stored ∙ ap (λ t. take (3 * count) octets ++ t) three);
+    }
