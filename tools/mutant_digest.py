@@ -207,7 +207,35 @@ def without_bodies(data, tokens, is_hidden):
         else:
             left += tokens[last : it.end if it.is_body_kept else it.body.start]
         last = it.end
-    return rendered(data, without_hints(left + tokens[last:]))
+    rest, imports = ghost_imports(without_hints(left + tokens[last:]))
+    names = {name for it in rest for name in it.text.split(".")}
+    used = [sorted(it for it in group if is_used(it, names)) for group in imports]
+    return rendered(data, rest) + "".join(f"\n{it}" for it in used)
+
+
+def ghost_imports(tokens):
+    """Returns the tokens without `ghost use` items, and the names that each group of these brings
+    in, each with its path."""
+    rest, groups, at = [], [], 0
+    while at < len(tokens):
+        if [it.text for it in tokens[at : at + 2]] != ["ghost", "use"]:
+            rest.append(tokens[at])
+            at += 1
+            continue
+        if not groups or groups[-1][0] != len(rest):
+            groups.append((len(rest), set()))
+        end = next(it for it in range(at, len(tokens)) if tokens[it].text == ";")
+        path, *names = " ".join(it.text for it in tokens[at + 2 : end]).split(" . { ")
+        named = names[0].removesuffix(" }").split(" , ") if names else [""]
+        groups[-1][1].update((path, it) for it in named)
+        at = end + 1
+    return rest, [it for _, it in groups]
+
+
+def is_used(imported, names):
+    """Returns whether a name that is brought in is among these, or may be an operator."""
+    name = (imported[1] or imported[0]).split(" ")[-1].split(".")[-1]
+    return name in names or "◌" in name or not re.fullmatch(r"[\w-]+", name)
 
 
 def without_hints(tokens):

@@ -158,7 +158,7 @@ impl<'a> Cursor<'a> {
     /// Passes what `pass` passes, and returns what it returns. The next byte is tested first, where
     /// the table seldom allows it.
     #[inline(always)]
-    pub fn pass_seldom(&mut self, table: &Table) -> Result<(), ParseError>
+    pub(crate) fn pass_seldom(&mut self, table: &Table) -> Result<(), ParseError>
         ensures text { cursor_text self.new ≡ cursor_text self.old }
         ensures place { OnOk result
             (cursor_position self.new ≡ cursor_position self.old + valid_prefix (set_of table.now)
