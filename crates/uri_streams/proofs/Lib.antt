@@ -9,5 +9,6 @@ pub mod Returns
 pub mod Steps
 pub mod Streams
 pub mod Tasks
+pub mod Tests
 pub mod Uniques
 pub mod Relatives

@@ -41,6 +41,7 @@ cut_in cut = record {
 -- the result of a line as contracts name it, with bytes and messages, for one that a call returned
 abbrev pub result_in : Returned → LineResult
 result_in (returned.Text text) = Text (string_bytes text)
+result_in (returned.Unchanged text) = Text text.now
 result_in returned.NoLine = NoLine
 result_in (returned.Error fault) = Error (line_error_message fault)
 

@@ -1,5 +1,5 @@
 //! What a reference consists of, as a line of JSON.
-ghost use Rattle.std.specs.Prelude.{◌≡◌, ◌++◌, IfOk, OnOk, codes, option_map, string_bytes};
+ghost use Rattle.std.specs.Prelude.{◌≡◌, ◌++◌, IfOk, OnOk, Some, codes, option_map, string_bytes};
 ghost use Rattle.fluent_uri.specs.Authority.{authority_parts};
 ghost use Rattle.fluent_uri.specs.AuthorityTexts.{authority_text, host_kind_of};
 ghost use Rattle.fluent_uri.specs.Components.{components};
@@ -25,14 +25,21 @@ pub(crate) fn json(alloc: Global, reference: IriRef<&str>) -> Result<String, All
     ensures { IfOk result (λ line.
         string_bytes line ≡ json_of (components (iri_ref_text reference.entry))) }
 {
-    let mut out = String::from_str(alloc, "{")?;
-    push_member_before(&mut out, "scheme", reference.scheme().map(Scheme::as_str))?;
+    let mut out = String::with_capacity(alloc, room(reference.as_str()))?;
+    out.push_str("{")?;
+    push_scheme(&mut out, reference.scheme().map(Scheme::as_str))?;
     push_authority(&mut out, reference.authority())?;
-    push_member(&mut out, "path", reference.path().as_str())?;
-    push_member_after(&mut out, "query", reference.query().map(EStr::as_str))?;
-    push_member_after(&mut out, "fragment", reference.fragment().map(EStr::as_str))?;
+    push_path(&mut out, reference.path().as_str())?;
+    push_query(&mut out, reference.query().map(EStr::as_str))?;
+    push_fragment(&mut out, reference.fragment().map(EStr::as_str))?;
     out.push_str("}")?;
     Ok(out)
+}
+
+/// Returns the room for the JSON object of a text: for its components, of which those of the
+/// authority are in it twice, for the names of all members, and for what ends the line.
+fn room(text: &str) -> usize {
+    text.len().saturating_mul(2).saturating_add(160)
 }
 
 /// Appends to a JSON object the members for an authority and its components, or none if there is no
@@ -53,10 +60,18 @@ fn push_authority_members(out: &mut String, authority: IAuthority<'_>) -> Result
     ensures { OnOk result (string_bytes out.new ≡ string_bytes out.old
         ++ authority_component_members (authority_text authority.entry)) }
 {
-    push_member_before(out, "authority", Some(authority.as_str()))?;
-    push_member_before(out, "userinfo", authority.userinfo().map(EStr::as_str))?;
+    push_authority_text(out, authority.as_str())?;
+    push_userinfo(out, authority.userinfo().map(EStr::as_str))?;
     push_host(out, authority)?;
-    push_member_before(out, "port", authority.port().map(EStr::as_str))
+    push_port(out, authority.port().map(EStr::as_str))
+}
+
+/// Appends to a JSON object the member for the text of an authority and a comma after it.
+fn push_authority_text(out: &mut String, authority: &str) -> Result<(), AllocError>
+    ensures { OnOk result (string_bytes out.new ≡ string_bytes out.old
+        ++ member_before (codes "authority") (Some authority.now)) }
+{
+    push_member(out, "\"authority\":\"", authority, "\",")
 }
 
 /// Appends to a JSON object the members for the host of an authority and the kind of this host.
@@ -64,8 +79,8 @@ fn push_host(out: &mut String, authority: IAuthority<'_>) -> Result<(), AllocErr
     ensures { OnOk result (string_bytes out.new ≡ string_bytes out.old
         ++ host_members (authority_parts (authority_text authority.entry)).host) }
 {
-    push_member_before(out, "host", Some(authority.host()))?;
-    push_member_before(out, "host_kind", Some(kind_word(authority)))
+    push_member(out, "\"host\":\"", authority.host(), "\",")?;
+    push_member(out, "\"host_kind\":\"", kind_word(authority), "\",")
 }
 
 /// Returns the word that JSON has for the kind of an authority's host, such as `ipv4`.
@@ -88,42 +103,75 @@ fn host_word(host: IHost<'_>) -> &'static str
     }
 }
 
-/// Appends to a JSON object a member with this name and a comma after it, if its text is present.
-fn push_member_before(out: &mut String, name: &str, text: Option<&str>) -> Result<(), AllocError>
+/// Appends to a JSON object the member for a scheme and a comma after it, if it is present.
+fn push_scheme(out: &mut String, scheme: Option<&str>) -> Result<(), AllocError>
     ensures { OnOk result (string_bytes out.new ≡ string_bytes out.old
-        ++ member_before name.now (option_map (λ t. t.now) text.entry)) }
+        ++ member_before (codes "scheme") (option_map (λ t. t.now) scheme.entry)) }
 {
-    match text {
-        Some(text) => {
-            push_member(out, name, text)?;
-            out.push_str(",")
-        }
+    match scheme {
+        Some(scheme) => push_member(out, "\"scheme\":\"", scheme, "\","),
         None => Ok(()),
     }
 }
 
-/// Appends to a JSON object a comma and a member with this name, if its text is present.
-fn push_member_after(out: &mut String, name: &str, text: Option<&str>) -> Result<(), AllocError>
+/// Appends to a JSON object the member for userinfo and a comma after it, if it is present.
+fn push_userinfo(out: &mut String, userinfo: Option<&str>) -> Result<(), AllocError>
     ensures { OnOk result (string_bytes out.new ≡ string_bytes out.old
-        ++ member_after name.now (option_map (λ t. t.now) text.entry)) }
+        ++ member_before (codes "userinfo") (option_map (λ t. t.now) userinfo.entry)) }
 {
-    match text {
-        Some(text) => {
-            out.push_str(",")?;
-            push_member(out, name, text)
-        }
+    match userinfo {
+        Some(userinfo) => push_member(out, "\"userinfo\":\"", userinfo, "\","),
         None => Ok(()),
     }
 }
 
-/// Appends to a JSON object a member: its name and its text (RFC 8259, section 4).
-fn push_member(out: &mut String, name: &str, text: &str) -> Result<(), AllocError>
+/// Appends to a JSON object the member for a port and a comma after it, if it is present.
+fn push_port(out: &mut String, port: Option<&str>) -> Result<(), AllocError>
+    ensures { OnOk result (string_bytes out.new ≡ string_bytes out.old
+        ++ member_before (codes "port") (option_map (λ t. t.now) port.entry)) }
+{
+    match port {
+        Some(port) => push_member(out, "\"port\":\"", port, "\","),
+        None => Ok(()),
+    }
+}
+
+/// Appends to a JSON object the member for a path.
+fn push_path(out: &mut String, path: &str) -> Result<(), AllocError>
     ensures { OnOk result
-        (string_bytes out.new ≡ string_bytes out.old ++ member name.now text.now) }
+        (string_bytes out.new ≡ string_bytes out.old ++ member (codes "path") path.now) }
 {
-    out.push_str("\"")?;
-    out.push_str(name)?;
-    out.push_str("\":\"")?;
+    push_member(out, "\"path\":\"", path, "\"")
+}
+
+/// Appends to a JSON object a comma and the member for a query, if it is present.
+fn push_query(out: &mut String, query: Option<&str>) -> Result<(), AllocError>
+    ensures { OnOk result (string_bytes out.new ≡ string_bytes out.old
+        ++ member_after (codes "query") (option_map (λ t. t.now) query.entry)) }
+{
+    match query {
+        Some(query) => push_member(out, ",\"query\":\"", query, "\""),
+        None => Ok(()),
+    }
+}
+
+/// Appends to a JSON object a comma and the member for a fragment, if it is present.
+fn push_fragment(out: &mut String, fragment: Option<&str>) -> Result<(), AllocError>
+    ensures { OnOk result (string_bytes out.new ≡ string_bytes out.old
+        ++ member_after (codes "fragment") (option_map (λ t. t.now) fragment.entry)) }
+{
+    match fragment {
+        Some(fragment) => push_member(out, ",\"fragment\":\"", fragment, "\""),
+        None => Ok(()),
+    }
+}
+
+/// Appends to a JSON object a member: what is before its text, that text, and what is after it.
+fn push_member(out: &mut String, before: &str, text: &str, after: &str) -> Result<(), AllocError>
+    ensures { OnOk result (string_bytes out.new
+        ≡ string_bytes out.old ++ (before.now ++ text.now ++ after.now)) }
+{
+    out.push_str(before)?;
     out.push_str(text)?;
-    out.push_str("\"")
+    out.push_str(after)
 }

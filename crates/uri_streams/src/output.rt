@@ -119,23 +119,30 @@ struct Around<'a> {
 fn write_result<W: Write, E: Write>(
     alloc: Global,
     errors: OnError,
-    line_result: LineResult,
+    line_result: LineResult<'_>,
     around: Around<'_>,
     number: u64,
     writer: &mut Sink<W>,
     err: &mut Sink<E>,
 ) -> Result<StepResult, Cause>
     ensures whole { IfOk result (WritesResult errors around.entry.before.now
-        (result_in line_result) (around.entry.after.now ++ around.entry.end.now)
+        (result_in line_result.entry) (around.entry.after.now ++ around.entry.end.now)
         (W.contents writer.old.writer) (W.contents writer.new.writer)) }
     ensures prefix { AppendsPrefix (W.contents writer.old.writer)
         (W.contents writer.new.writer) (result_output errors around.entry.before.now
-        (result_in line_result) (around.entry.after.now ++ around.entry.end.now)) }
+        (result_in line_result.entry) (around.entry.after.now ++ around.entry.end.now)) }
     ensures reading { caused_by_input result ≡ false }
     ensures writing { writer.new.has_failed ≡ (caused_by_output result || writer.old.has_failed) }
 {
     match line_result {
         LineResult::Text(text) => {
+            if put_around(writer, text.as_bytes(), around) {
+                Ok(StepResult::of_line(false, errors))
+            } else {
+                Err(Cause::Output)
+            }
+        }
+        LineResult::Unchanged(text) => {
             if put_around(writer, text.as_bytes(), around) {
                 Ok(StepResult::of_line(false, errors))
             } else {

@@ -27,9 +27,11 @@ use uri_relative::Relativize;
 
 /// The result of a line of an input: a text, no line, or an error.
 #[derive(Drop)]
-pub(crate) enum LineResult {
+pub(crate) enum LineResult<'a> {
     /// This text replaces that of the line.
     Text(String),
+    /// The text of the line stays.
+    Unchanged(&'a str),
     /// The line has no output.
     NoLine,
     /// The line is an error.
@@ -42,11 +44,11 @@ pub(crate) enum LineResult {
 ///
 /// Only if allocation fails.
 #[inline(always)]
-pub(crate) fn command_result(
+pub(crate) fn command_result<'a>(
     alloc: Global,
     command: &LineCommand<'_>,
-    text: &str,
-) -> Result<LineResult, AllocError>
+    text: &'a str,
+) -> Result<LineResult<'a>, AllocError>
     ensures { IfOk result (λ line_result.
         result_in line_result ≡ results.command_result command.now text.now) }
 {
@@ -54,7 +56,7 @@ pub(crate) fn command_result(
         LineCommand::Normalize(kind) => normalize(alloc, *kind, text),
         LineCommand::Resolve(base) => resolve(alloc, base, text),
         LineCommand::Relativize(base) => relativize(alloc, base, text),
-        LineCommand::Check(kind, is_inverted) => check(alloc, *kind, *is_inverted, text),
+        LineCommand::Check(kind, is_inverted) => Ok(check(*kind, *is_inverted, text)),
         LineCommand::Parse(kind) => parse(alloc, *kind, text),
         LineCommand::Query(kind) => query(alloc, *kind, text),
     }
@@ -63,7 +65,11 @@ pub(crate) fn command_result(
 /// Returns the result of `urilines normalize` for a text: its normal form, or an error if it is not
 /// of the kind.
 #[inline(always)]
-pub(crate) fn normalize(alloc: Global, kind: KindName, text: &str) -> Result<LineResult, AllocError>
+pub(crate) fn normalize(
+    alloc: Global,
+    kind: KindName,
+    text: &str,
+) -> Result<LineResult<'static>, AllocError>
     ensures { IfOk result (λ line_result.
         result_in line_result ≡ normalize_result (kind_named kind) text.now) }
 {
@@ -77,7 +83,7 @@ pub(crate) fn normalize(alloc: Global, kind: KindName, text: &str) -> Result<Lin
 
 /// Returns the result of `urilines normalize uri` for a text: its normal form, or an error if it is
 /// not a URI.
-fn normalize_uri(alloc: Global, text: &str) -> Result<LineResult, AllocError>
+fn normalize_uri(alloc: Global, text: &str) -> Result<LineResult<'static>, AllocError>
     ensures { IfOk result (λ line. result_in line ≡ normalize_result test.uri text.now) }
 {
     match Uri::<&str>::parse(text) {
@@ -88,7 +94,7 @@ fn normalize_uri(alloc: Global, text: &str) -> Result<LineResult, AllocError>
 
 /// Returns the result of `urilines normalize uri-ref` for a text: its normal form, or an error if
 /// it is not a URI reference.
-fn normalize_uri_ref(alloc: Global, text: &str) -> Result<LineResult, AllocError>
+fn normalize_uri_ref(alloc: Global, text: &str) -> Result<LineResult<'static>, AllocError>
     ensures { IfOk result (λ line. result_in line ≡ normalize_result test.uri_ref text.now) }
 {
     match UriRef::<&str>::parse(text) {
@@ -99,7 +105,7 @@ fn normalize_uri_ref(alloc: Global, text: &str) -> Result<LineResult, AllocError
 
 /// Returns the result of `urilines normalize iri` for a text: its normal form, or an error if it is
 /// not an IRI.
-fn normalize_iri(alloc: Global, text: &str) -> Result<LineResult, AllocError>
+fn normalize_iri(alloc: Global, text: &str) -> Result<LineResult<'static>, AllocError>
     ensures { IfOk result (λ line. result_in line ≡ normalize_result test.iri text.now) }
 {
     match Iri::<&str>::parse(text) {
@@ -110,7 +116,7 @@ fn normalize_iri(alloc: Global, text: &str) -> Result<LineResult, AllocError>
 
 /// Returns the result of `urilines normalize iri-ref` for a text: its normal form, or an error if
 /// it is not an IRI reference.
-fn normalize_iri_ref(alloc: Global, text: &str) -> Result<LineResult, AllocError>
+fn normalize_iri_ref(alloc: Global, text: &str) -> Result<LineResult<'static>, AllocError>
     ensures { IfOk result (λ line. result_in line ≡ normalize_result test.iri_ref text.now) }
 {
     match IriRef::<&str>::parse(text) {
@@ -120,7 +126,7 @@ fn normalize_iri_ref(alloc: Global, text: &str) -> Result<LineResult, AllocError
 }
 
 /// Returns the result for a text that is not of the kind: its parse error.
-fn not_of_kind(error: ParseError) -> LineResult
+fn not_of_kind(error: ParseError) -> LineResult<'static>
     ensures { result ≡ LineResult.Error (LineError.Refused (CommandError.Text error)) }
 {
     LineResult::Error(LineError::Refused(CommandError::Text(error)))
@@ -128,7 +134,7 @@ fn not_of_kind(error: ParseError) -> LineResult
 
 /// Returns the result of `urilines resolve` for a text: its target against the base, or why it has
 /// none.
-fn resolve(alloc: Global, base: &Base<'_>, text: &str) -> Result<LineResult, AllocError>
+fn resolve(alloc: Global, base: &Base<'_>, text: &str) -> Result<LineResult<'static>, AllocError>
     ensures { IfOk result (λ line. result_in line
         ≡ resolve_result (reference_kind base.now) (base_text base.now) text.now) }
 {
@@ -145,7 +151,7 @@ fn resolve(alloc: Global, base: &Base<'_>, text: &str) -> Result<LineResult, All
 }
 
 /// Returns the result of `urilines resolve` for a text that is not a reference: its parse error.
-fn reference_error_result(error: ParseError) -> LineResult
+fn reference_error_result(error: ParseError) -> LineResult<'static>
     ensures { result ≡ LineResult.Error (LineError.Refused (CommandError.Reference error)) }
 {
     LineResult::Error(LineError::Refused(CommandError::Reference(error)))
@@ -157,7 +163,7 @@ fn resolve_uri(
     alloc: Global,
     base: &Uri<&str>,
     reference: &UriRef<&str>,
-) -> Result<LineResult, AllocError>
+) -> Result<LineResult<'static>, AllocError>
     ensures { IfOk result (λ line. result_in line
         ≡ target_result (uri_text base.now) (uri_ref_text reference.now)) }
 {
@@ -173,7 +179,7 @@ fn resolve_iri(
     alloc: Global,
     base: &Iri<&str>,
     reference: &IriRef<&str>,
-) -> Result<LineResult, AllocError>
+) -> Result<LineResult<'static>, AllocError>
     ensures { IfOk result (λ line. result_in line
         ≡ target_result (iri_text base.now) (iri_ref_text reference.now)) }
 {
@@ -185,7 +191,7 @@ fn resolve_iri(
 
 /// Returns the result of `urilines resolve` for a reference that has no target: the error of
 /// resolving, unless that is a failed allocation.
-fn resolve_error_result(error: ResolveError) -> Result<LineResult, AllocError>
+fn resolve_error_result(error: ResolveError) -> Result<LineResult<'static>, AllocError>
     ensures output { IfOk result (λ line_result.
         line_result ≡ LineResult.Error (LineError.Refused (CommandError.Target error))) }
     ensures memory { IfOk result (λ _. error ≢ ResolveError.OutOfMemory) }
@@ -198,7 +204,7 @@ fn resolve_error_result(error: ResolveError) -> Result<LineResult, AllocError>
 
 /// Returns the result of `urilines relativize` for a text: a reference that leads to it from the
 /// base, or an error if it is not of the base's kind.
-fn relativize(alloc: Global, base: &Base<'_>, text: &str) -> Result<LineResult, AllocError>
+fn relativize(alloc: Global, base: &Base<'_>, text: &str) -> Result<LineResult<'static>, AllocError>
     ensures { IfOk result (λ line. result_in line
         ≡ relativize_result (target_kind base.now) (base_text base.now) text.now) }
 {
@@ -215,7 +221,7 @@ fn relativize(alloc: Global, base: &Base<'_>, text: &str) -> Result<LineResult, 
 }
 
 /// Returns the result of `urilines relativize` for a text that is not a target: its parse error.
-fn target_error_result(error: ParseError) -> LineResult
+fn target_error_result(error: ParseError) -> LineResult<'static>
     ensures { result ≡ LineResult.Error (LineError.Target error) }
 {
     LineResult::Error(LineError::Target(error))
@@ -227,7 +233,7 @@ fn relativize_uri(
     alloc: Global,
     base: &Uri<&str>,
     target: Uri<&str>,
-) -> Result<LineResult, AllocError>
+) -> Result<LineResult<'static>, AllocError>
     ensures { IfOk result (λ line. result_in line
         ≡ results.Text (reference_to false (uri_text base.now) (uri_text target.entry))) }
 {
@@ -241,7 +247,7 @@ fn relativize_iri(
     alloc: Global,
     base: &Iri<&str>,
     target: Iri<&str>,
-) -> Result<LineResult, AllocError>
+) -> Result<LineResult<'static>, AllocError>
     ensures { IfOk result (λ line. result_in line
         ≡ results.Text (reference_to false (iri_text base.now) (iri_text target.entry))) }
 {
@@ -250,19 +256,13 @@ fn relativize_iri(
 }
 
 /// Returns the result of `urilines check` for a text: the text itself, or no line.
-fn check(
-    alloc: Global,
-    kind: KindName,
-    is_inverted: bool,
-    text: &str,
-) -> Result<LineResult, AllocError>
-    ensures { IfOk result (λ line_result.
-        result_in line_result ≡ check_result (kind_named kind) is_inverted text.now) }
+fn check(kind: KindName, is_inverted: bool, text: &str) -> LineResult<'_>
+    ensures { result_in result ≡ check_result (kind_named kind) is_inverted text.now }
 {
     if passes_check(kind, is_inverted, text) {
-        return Ok(LineResult::Text(String::from_str(alloc, text)?));
+        return LineResult::Unchanged(text);
     }
-    Ok(LineResult::NoLine)
+    LineResult::NoLine
 }
 
 /// Returns whether `urilines check` passes a text on: it is of the kind or, if `is_inverted`, it is
@@ -279,15 +279,45 @@ fn passes_check(kind: KindName, is_inverted: bool, text: &str) -> bool
 fn is_of_kind(kind: KindName, text: &str) -> bool
     ensures { result ≡ test.is_of_kind (kind_named kind) text.now }
 {
-    match parse_as_iri_ref(kind, text) {
-        Ok(_) => true,
-        Err(_) => false,
+    match kind {
+        KindName::Uri => is_uri(text),
+        KindName::UriRef => is_uri_ref(text),
+        KindName::Iri => is_iri(text),
+        KindName::IriRef => is_iri_ref(text),
     }
+}
+
+/// Returns whether a text is a URI.
+fn is_uri(text: &str) -> bool
+    ensures { result ≡ test.is_of_kind test.uri text.now }
+{
+    Uri::<&str>::parse(text).is_ok()
+}
+
+/// Returns whether a text is a URI reference.
+fn is_uri_ref(text: &str) -> bool
+    ensures { result ≡ test.is_of_kind test.uri_ref text.now }
+{
+    UriRef::<&str>::parse(text).is_ok()
+}
+
+/// Returns whether a text is an IRI.
+fn is_iri(text: &str) -> bool
+    ensures { result ≡ test.is_of_kind test.iri text.now }
+{
+    Iri::<&str>::parse(text).is_ok()
+}
+
+/// Returns whether a text is an IRI reference.
+fn is_iri_ref(text: &str) -> bool
+    ensures { result ≡ test.is_of_kind test.iri_ref text.now }
+{
+    IriRef::<&str>::parse(text).is_ok()
 }
 
 /// Returns the result of `urilines parse` for a text: its components as JSON, or an error if it is
 /// not of the kind.
-fn parse(alloc: Global, kind: KindName, text: &str) -> Result<LineResult, AllocError>
+fn parse(alloc: Global, kind: KindName, text: &str) -> Result<LineResult<'static>, AllocError>
     ensures { IfOk result (λ line. result_in line ≡ parse_result (kind_named kind) text.now) }
 {
     match parse_as_iri_ref(kind, text) {
@@ -298,7 +328,7 @@ fn parse(alloc: Global, kind: KindName, text: &str) -> Result<LineResult, AllocE
 
 /// Returns the result of `urilines query` for a text: the decoded pairs of its query as JSON, or an
 /// error if it is not of the kind.
-fn query(alloc: Global, kind: KindName, text: &str) -> Result<LineResult, AllocError>
+fn query(alloc: Global, kind: KindName, text: &str) -> Result<LineResult<'static>, AllocError>
     ensures { IfOk result (λ line_result.
         result_in line_result ≡ query_result (kind_named kind) text.now) }
 {

@@ -4,7 +4,10 @@ ghost use Rattle.std.specs.Prelude.{IfSome, IsTrue, OnErr, OnSome, Some, length,
 ghost use Rattle.std.specs.Prelude.{true};
 ghost use Rattle.std.specs.Prelude.{false};
 ghost use Rattle.std.specs.Str.{IsAscii};
-ghost use Rattle.uri_pct.specs.Masks.{has_bit};
+ghost use Rattle.std.specs.Prelude.{◌&&◌, ◌+◌, ◌^◌, ◌==◌, map, nat_le, not};
+ghost use Rattle.std.specs.Int.{bit_at};
+ghost use Rattle.std.specs.Simd.Lanes.{chunk, mask_l};
+ghost use Rattle.uri_pct.specs.Models.ByteRuns.{IsLongestRun};
 ghost use Rattle.std.specs.Io.{StopsAt, IsEmptyOrEndsWith};
 ghost use Rattle.std.specs.Io.BufRead.{DropsConsumable};
 ghost use Rattle.std.specs.Io.Buffered.{reader_buffer, reader_remaining};
@@ -18,7 +21,8 @@ use crate::failure::{Cause, Failure};
 use crate::line_ends::{ends_with, line_ending, strip_last_byte};
 use memchr::memchr;
 use std::io::{self, BufRead, BufReader, ErrorKind, Read};
-use uri_pct::lanes::{LANES, run_end};
+use std::simd::prelude::*;
+use uri_pct::lanes::{LANES, lanes_equal_to};
 
 /// A buffered reader that says whether it failed, and keeps its error.
 #[derive(Drop)]
@@ -217,20 +221,54 @@ fn ascii_run_end(is_null: bool, bytes: &[u8]) -> usize
     ensures ascii { (k : ℕ) → k < result → slice_index bytes.now k < 128 }
     ensures inside { (k : ℕ) → k < result → slice_index bytes.now k ≢ end_byte is_null }
 {
-    run_end(low_bits(is_null), u64::MAX, bytes, 0)
+    run_before(line_ending(is_null), bytes)
 }
 
-/// Returns a mask of the bytes below 64 that do not end a line: all but NUL if `is_null`, and
-/// otherwise all but a newline.
+/// Returns how many bytes are ASCII and not this one, up to the first that is not or is. As in
+/// `run_end` of `uri_pct` the last sixteen bytes are scanned again at the end.
 #[inline(always)]
-fn low_bits(is_null: bool) -> u64
-    ensures { has_bit result 0xFFFFFFFFFFFFFFFF (end_byte is_null) ≡ false }
+fn run_before(end: u8, bytes: &[u8]) -> usize
+    requires { LANES ≤ length bytes.now }
+    ensures { IsLongestRun (λ b. not (nat_le 128 b) && not (b == end)) bytes.now 0 result }
 {
-    if is_null {
-        0xFFFF_FFFF_FFFF_FFFE
-    } else {
-        0xFFFF_FFFF_FFFF_FBFF
+    let len = bytes.len();
+    let mut i = 0;
+    while len - i > LANES {
+        let mask = lanes_outside(end, bytes, i);
+        if mask != 0 {
+            return i + mask.trailing_zeros() as usize;
+        }
+        i += LANES;
     }
+    let last = len - LANES;
+    let tail = lanes_outside(end, bytes, last);
+    let mask = tail >> (i - last);
+    if mask == 0 {
+        return len;
+    }
+    i + mask.trailing_zeros() as usize
+}
+
+/// Returns which of the sixteen bytes from `at` on are this one or are not ASCII.
+#[inline(always)]
+fn lanes_outside(end: u8, bytes: &[u8], at: usize) -> u64
+    requires { at + LANES ≤ length bytes.now }
+    ensures below { result < 2 ^ 16 }
+    ensures lane { (k : ℕ) → k < 16 → (bit_at result k == 1)
+        ≡ not (not (nat_le 128 (slice_index bytes.now (at + k)))
+        && not (slice_index bytes.now (at + k) == end)) }
+{
+    lanes_past_ascii(bytes, at) | lanes_equal_to(end, bytes, at)
+}
+
+/// Returns which of the sixteen bytes from `at` on are not ASCII.
+#[inline(always)]
+fn lanes_past_ascii(bytes: &[u8], at: usize) -> u64
+    requires { at + LANES ≤ length bytes.now }
+    ensures { result ≡ mask_l (map (λ b. nat_le 128 b) (chunk at 16 bytes.now)) }
+{
+    let lanes = u8x16::from_slice(&bytes[at..]);
+    lanes.simd_ge(u8x16::splat(128)).to_bitmask()
 }
 
 /// What a read took of a line: how many bytes, and whether they end the line.

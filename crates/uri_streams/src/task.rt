@@ -76,11 +76,11 @@ impl<'a> Task<'a> {
     /// # Errors
     ///
     /// Only if allocation fails.
-    pub(crate) fn result_for(
+    pub(crate) fn result_for<'t>(
         &mut self,
         alloc: Global,
-        text: Result<&[u8], LineError>,
-    ) -> Result<LineResult, AllocError>
+        text: Result<&'t [u8], LineError>,
+    ) -> Result<LineResult<'t>, AllocError>
         ensures { (command : Command) → (known : List (List ℕ)) → Remembers self.old command known
             → IfOk result (λ line_result. IsResult command
             (cut_result command known (text_or_message text.entry)) line_result self.new) }
@@ -98,12 +98,12 @@ impl<'a> Task<'a> {
     ///
     /// Only if allocation fails.
     #[inline(always)]
-    pub(crate) fn bytes_result(
+    pub(crate) fn bytes_result<'t>(
         &mut self,
         alloc: Global,
-        bytes: &[u8],
+        bytes: &'t [u8],
         is_ascii: bool,
-    ) -> Result<LineResult, AllocError>
+    ) -> Result<LineResult<'t>, AllocError>
         requires { IsTrue is_ascii → IsAscii bytes.now }
         ensures { (command : Command) → (known : List (List ℕ)) → Remembers self.old command known
             → IfOk result (λ line_result.
@@ -120,7 +120,11 @@ impl<'a> Task<'a> {
 
     /// Returns the result of a text under the task's command, and remembers what later lines need.
     #[inline(always)]
-    fn text_result(&mut self, alloc: Global, text: &str) -> Result<LineResult, AllocError>
+    fn text_result<'t>(
+        &mut self,
+        alloc: Global,
+        text: &'t str,
+    ) -> Result<LineResult<'t>, AllocError>
         ensures { (command : Command) → (known : List (List ℕ)) → Remembers self.old command known
             → IfOk result (λ line_result.
             IsResult command (tasks.text_result command known text.now) line_result self.new) }
@@ -136,7 +140,7 @@ impl<'a> Task<'a> {
 impl UniqueTask {
     /// Returns the result of `urilines unique` for a text: its normal form if that was not met
     /// before, no line if it was, or an error.
-    fn result_for(&mut self, alloc: Global, text: &str) -> Result<LineResult, AllocError>
+    fn result_for(&mut self, alloc: Global, text: &str) -> Result<LineResult<'static>, AllocError>
         ensures output { (known : List (List ℕ)) → HasMet self.old.met known
             → IfOk result (λ line_result.
             (result_in line_result ≡ (unique_result (kind_named self.old.kind) known text.now).0)
@@ -145,6 +149,7 @@ impl UniqueTask {
     {
         match normalize(alloc, self.kind, text)? {
             LineResult::Text(normal) => text_if_new(alloc, &mut self.met, normal),
+            LineResult::Unchanged(normal) => unchanged_if_new(alloc, &mut self.met, normal),
             LineResult::NoLine => Ok(LineResult::NoLine),
             LineResult::Error(fault) => Ok(LineResult::Error(fault)),
         }
@@ -154,7 +159,7 @@ impl UniqueTask {
 impl<'a> LinksTask<'a> {
     /// Returns the result of `urilines links` for a text: whether its target is new, the target's
     /// id and the target, or an error.
-    fn result_for(&mut self, alloc: Global, text: &str) -> Result<LineResult, AllocError>
+    fn result_for(&mut self, alloc: Global, text: &str) -> Result<LineResult<'static>, AllocError>
         ensures output { port_function_of self.old.register ≡ default_port
             → IfOk result (λ line_result. (result_in line_result, texts_of self.new.register)
             ≡ link_result (uri_text self.old.base) (texts_of self.old.register) text.now) }
@@ -165,9 +170,28 @@ impl<'a> LinksTask<'a> {
     }
 }
 
+/// Returns a copy of a normal form as the result if it was not met before, and otherwise no line.
+/// Adds it to those that were met.
+fn unchanged_if_new(
+    alloc: Global,
+    met: &mut MetTexts,
+    normal: &str,
+) -> Result<LineResult<'static>, AllocError>
+    ensures { (known : List (List ℕ)) → HasMet met.old known → IfOk result (λ line_result.
+        (result_in line_result ≡ (tasks.text_if_new known (Text normal.now)).0)
+        × HasMet met.new (tasks.text_if_new known (Text normal.now)).1) }
+{
+    let copy = String::from_str(alloc, normal)?;
+    text_if_new(alloc, met, copy)
+}
+
 /// Returns a normal form as the result if it was not met before, and otherwise no line. Adds it to
 /// those that were met.
-fn text_if_new(alloc: Global, met: &mut MetTexts, normal: String) -> Result<LineResult, AllocError>
+fn text_if_new(
+    alloc: Global,
+    met: &mut MetTexts,
+    normal: String,
+) -> Result<LineResult<'static>, AllocError>
     ensures { (known : List (List ℕ)) → HasMet met.old known → IfOk result (λ line_result.
         (result_in line_result ≡ (tasks.text_if_new known (Text (string_bytes normal))).0)
         × HasMet met.new (tasks.text_if_new known (Text (string_bytes normal))).1) }
@@ -187,7 +211,7 @@ fn link(
     base: &Uri<&str>,
     register: &mut Register<SchemeDefaults>,
     text: &str,
-) -> Result<LineResult, AllocError>
+) -> Result<LineResult<'static>, AllocError>
     ensures output { port_function_of register.old ≡ default_port → IfOk result (λ line_result.
         (result_in line_result, texts_of register.new)
         ≡ link_result (uri_text base.now) (texts_of register.old) text.now) }
@@ -206,7 +230,7 @@ fn note(
     base: &Uri<&str>,
     register: &mut Register<SchemeDefaults>,
     reference: &UriRef<&str>,
-) -> Result<LineResult, AllocError>
+) -> Result<LineResult<'static>, AllocError>
     ensures output { IfOk result (λ line_result. (result_in line_result, texts_of register.new)
         ≡ noted_result (outcome_of (port_function_of register.old) (uri_text base.now)
         (texts_of register.old) (uri_ref_text reference.now))) }
@@ -221,7 +245,7 @@ fn outcome_result(
     alloc: Global,
     register: &Register<SchemeDefaults>,
     outcome: Outcome,
-) -> Result<LineResult, AllocError>
+) -> Result<LineResult<'static>, AllocError>
     ensures { IfOk result (λ line_result.
         result_in line_result ≡ tasks.outcome_result (outcome, texts_of register.now)) }
 {
@@ -241,7 +265,7 @@ fn link_line(
     word: &str,
     register: &Register<SchemeDefaults>,
     id: usize,
-) -> Result<LineResult, AllocError>
+) -> Result<LineResult<'static>, AllocError>
     ensures { IfOk result (λ line_result.
         result_in line_result ≡ Text (tasks.link_line word.now id (texts_of register.now))) }
 {

@@ -1,15 +1,16 @@
-use Rattle.std.proofs.Common.{◌≡◌, ◌∙◌, ap, arith, sym, true, false}
-use Rattle.std.proofs.lemmas.Bool.{both_ways}
-use Rattle.uri_pct.proofs.TableSets.Masks.{has_bit-only-ascii}
-use Rattle.uri_pct.specs.Masks.{has_bit}
+use Rattle.std.proofs.Common.{◌≡◌, ◌<◌, ◌≤◌, ◌∙◌, arith, eqb, not, sym, true, false, ⊎_elim}
+use Rattle.std.specs.Prelude.{nat_le}
+use Rattle.std.proofs.lemmas.Bool.{and_parts, both_ways, cases_lt, eq-eqb, le-leb, not-true}
 use Rattle.uri_streams.proofs.source.ascii_run_end.Goals as goal
 
 pub returns-clause-ascii : goal.returns-clause-ascii
-returns-clause-ascii c = λ k to. has_bit-only-ascii _ _ _
-    (c.run_end.ensures.pass k (omega arith) to)
+returns-clause-ascii c = λ k to. ⊎_elim (λ below. below)
+    (λ past. absurd (both_ways _
+    (not-true _ (and_parts _ _ (c.run_before.ensures.pass k (omega arith) to)).0)
+    (le-leb _ _ past)))
+    (cases_lt _ 128)
 
 pub returns-clause-inside : goal.returns-clause-inside
 returns-clause-inside c = λ k to is.
-    both_ways _ c.low_bits.ensures
-    (ap (has_bit c.low_bits.result 0xFFFFFFFFFFFFFFFF) (sym is)
-    ∙ c.run_end.ensures.pass k (omega arith) to)
+    both_ways _ (not-true _ (and_parts _ _ (c.run_before.ensures.pass k (omega arith) to)).1)
+    (eq-eqb _ _ (is ∙ sym c.line_ending.ensures))

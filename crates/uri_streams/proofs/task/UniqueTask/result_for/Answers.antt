@@ -13,6 +13,14 @@ returns-in-Text-clause-output c = λ known has.
     (sym (ap result_in c.in-Text.is) ∙ c.in_ok-normal.ensures))
     (c.text_if_new.ensures known has)
 
+pub returns-in-Unchanged-clause-output : goal.returns-in-Unchanged-clause-output
+returns-in-Unchanged-clause-output c = λ known has.
+    subst (λ (next : LineResult × Known). IfOk c.unchanged_if_new.result (λ line_result.
+    (result_in line_result ≡ next.0) × HasMet c.unchanged_if_new.new.met next.1))
+    (unique_result-of-normalize_result (kind_named c.args.self.now.kind) known c.args.text.now _
+    (sym (ap result_in c.in-Unchanged.is) ∙ c.in_ok-normal.ensures))
+    (c.unchanged_if_new.ensures known has)
+
 pub returns-in-NoLine-clause-output : goal.returns-in-NoLine-clause-output
 returns-in-NoLine-clause-output c = λ known has.
     subst (λ (next : LineResult × Known). (NoLine ≡ next.0) × HasMet c.args.self.now.met next.1)
