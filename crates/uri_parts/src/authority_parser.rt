@@ -89,7 +89,7 @@ fn error_of_left_over(cursor: Cursor<'_>, tables: &KindTables) -> ParseError
         (cursor_position cursor.entry) }
 {
     let mut path = cursor;
-    match path.pass_seldom(&tables.path) {
+    match path.pass(&tables.path) {
         Ok(()) => cursor.unexpected(),
         Err(error) => error,
     }

@@ -1,6 +1,6 @@
 //! A position in a text.
 ghost use Rattle.std.specs.Prelude.{◌≡◌, ◌<◌, ◌+◌, ◌==◌, drop, codes, OnOk};
-ghost use Rattle.std.specs.Prelude.{IfErr, IsTrue, false, if◌then◌else◌};
+ghost use Rattle.std.specs.Prelude.{IfErr, if◌then◌else◌};
 ghost use Rattle.std.specs.Result.{result_err};
 ghost use Rattle.std.specs.Str.{IsCharBoundary};
 
@@ -31,7 +31,6 @@ impl<'a> Clone for Cursor<'a> {
 impl<'a> Copy for Cursor<'a> {}
 
 impl<'a> Cursor<'a> {
-    ghost use Rattle.uri_pct.specs.Delimiters.{percent_sign};
     ghost use Rattle.uri_pct.specs.Tables.{set_of};
     ghost use Rattle.uri_pct.specs.Prefixes.{valid_prefix, after};
     ghost use Rattle.uri_parts.specs.Models.AuthorityParsing.{is_empty_or_begins_with_any};
@@ -127,52 +126,6 @@ impl<'a> Cursor<'a> {
         }
         self.position = end;
         Ok(())
-    }
-
-    /// Returns whether the next byte shows that the table allows nothing there. From `$` on most
-    /// ASCII characters are allowed, and none is looked up.
-    #[tactic(auto, using(crate::proofs::Parsing::NextBytes::starts_at_position))]
-    #[inline(always)]
-    fn is_before_other_byte(&self, table: &Table) -> bool
-        ensures nothing { IsTrue result
-            → valid_prefix (set_of table.now) (text_after_cursor self.now) ≡ 0 }
-        ensures no_percent { IsTrue result
-            → starts percent_sign (text_after_cursor self.now) ≡ false }
-    {
-        let bytes = self.text.as_bytes();
-        let i = self.position;
-        if i == bytes.len() {
-            return false;
-        }
-        let byte = bytes[i];
-        if byte >= b'$' && byte < 128 {
-            return false;
-        }
-        if byte < 128 {
-            byte != b'%' && !table.allows(char::from(byte))
-        } else {
-            !table.allows_some_past_ascii()
-        }
-    }
-
-    /// Passes what `pass` passes, and returns what it returns. The next byte is tested first, where
-    /// the table seldom allows it.
-    #[inline(always)]
-    pub(crate) fn pass_seldom(&mut self, table: &Table) -> Result<(), ParseError>
-        ensures text { cursor_text self.new ≡ cursor_text self.old }
-        ensures place { OnOk result
-            (cursor_position self.new ≡ cursor_position self.old + valid_prefix (set_of table.now)
-            (text_after_cursor self.old)) }
-        ensures rest { OnOk result
-            (text_after_cursor self.new ≡ after (set_of table.now) (text_after_cursor self.old)) }
-        ensures refused { result_err result
-            ≡ result_err (scan (cursor_text self.old) (set_of table.now) (cursor_position self.old)) }
-        ensures err { IfErr result (IsErrorIn (cursor_text self.old)) }
-    {
-        if self.is_before_other_byte(table) {
-            return Ok(());
-        }
-        self.pass(table)
     }
 
     /// Returns whether the whole text was passed.

@@ -219,7 +219,6 @@ impl Table {
     }
 
     /// Returns whether the ASCII character of the code `byte` is allowed; from 128 on no byte is.
-    #[inline(always)]
     pub(crate) fn allows_ascii(&self, byte: u8) -> bool
         ensures value { result ≡ (set_of self.now).ascii byte }
         ensures ascii { IsTrue result → byte < 128 }
@@ -275,7 +274,6 @@ impl Table {
     /// }
     /// ```
     #[tactic(auto, using(std::proofs::lemmas::Bool::Decides::nat_tests))]
-    #[inline(always)]
     pub fn allows(&self, ch: char) -> bool
         ensures { result ≡ allows (set_of self.now) ch }
     {
