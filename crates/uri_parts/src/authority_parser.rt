@@ -54,7 +54,7 @@ fn pass_port(cursor: &mut Cursor<'_>)
 /// if nothing else of the authority is left.
 #[tactic(auto, using(crate::proofs::Steps::cuts), unfolding(crate::proofs::Steps::name))]
 #[inline(always)]
-fn find_name(cursor: &mut Cursor<'_>, tables: &KindTables) -> Option<usize>
+pub(crate) fn find_name(cursor: &mut Cursor<'_>, tables: &KindTables) -> Option<usize>
     ensures finds { is_some result ≡ name_ends_authority (kind_of tables.now)
         (text_after_cursor cursor.old) }
     ensures end { IfSome result (λ n.
@@ -267,7 +267,7 @@ fn find_other_authority(
 /// The tables of the kind are constants here: handed on, they would be set out in memory, as
 /// cursors are.
 #[inline(never)]
-fn find_other_authority_of_kind<K: Kind>(
+pub(crate) fn find_other_authority_of_kind<K: Kind>(
     text: &str,
     start: usize,
     after_name: usize,
@@ -285,43 +285,4 @@ fn find_other_authority_of_kind<K: Kind>(
 {
     let after_name = Cursor::at(text, after_name);
     find_other_authority(Cursor::at(text, start), after_name, &K::tables())
-}
-
-/// Returns the positions of an authority and of its host.
-#[tactic(auto, unfolding(crate::proofs::Steps::authority))]
-#[inline(always)]
-pub(crate) fn find_authority<K: Kind>(
-    cursor: &mut Cursor<'_>,
-    tables: &KindTables,
-) -> Result<AuthorityPositions, ParseError>
-    requires kind { kind_of tables.now ≡ K.kind }
-    requires some { 0 < cursor_position cursor.old }
-    ensures found { IfOk result (λ a.
-        a ≡ found_authority (kind_of tables.now) (cursor_position cursor.old)
-        (text_after_cursor cursor.old)) }
-    ensures text { cursor_text cursor.new ≡ cursor_text cursor.old }
-    ensures place { OnOk result (cursor_position cursor.new
-        ≡ cursor_position cursor.old + found_authority_length (kind_of tables.now)
-        (text_after_cursor cursor.old)) }
-    ensures rest { OnOk result (text_after_cursor cursor.new
-        ≡ drop (found_authority_length (kind_of tables.now) (text_after_cursor cursor.old))
-        (text_after_cursor cursor.old)) }
-    ensures refused { let kind = kind_of tables.now in let text = cursor_text cursor.old in
-        authority_error kind text (cursor_position cursor.old)
-        ≡ option_or (result_err result) (error_from_path kind text (cursor_position cursor.new)) }
-    ensures err { IfErr result (IsErrorIn (cursor_text cursor.old)) }
-{
-    let start = cursor.position();
-    if let Some(host_end) = find_name(cursor, tables) {
-        return Ok(AuthorityPositions {
-            start,
-            host_start: start,
-            host_end,
-            end: cursor.position(),
-        });
-    }
-    let text = cursor.text();
-    let authority = find_other_authority_of_kind::<K>(text, start, cursor.position())?;
-    *cursor = Cursor::at(text, authority.end);
-    Ok(authority)
 }

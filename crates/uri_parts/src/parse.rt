@@ -18,7 +18,7 @@ ghost use Rattle.uri_parts.specs.Positions.{ArePositionsOf};
 ghost use Rattle.uri_parts.specs.Models.Cursors.{text_after_cursor, cursor_text, cursor_position};
 ghost use Rattle.uri_parts.specs.Models.Cursors.{positions_if_parsed_from};
 
-use crate::authority_parser::find_authority;
+use crate::authority_parser::{find_name, find_other_authority_of_kind};
 use crate::cursor::Cursor;
 use crate::error::ParseError;
 use crate::kind::Kind;
@@ -44,36 +44,12 @@ fn parse_fragment(cursor: &mut Cursor<'_>, tables: &KindTables) -> Result<(), Pa
     Ok(())
 }
 
-/// Parses a query, if there is one, and what follows it. Returns where the query ends.
-#[tactic(auto, unfolding(crate::proofs::Steps::tail))]
-#[inline(always)]
-fn parse_query_and_fragment(
-    cursor: &mut Cursor<'_>,
-    tables: &KindTables,
-) -> Result<Option<usize>, ParseError>
-    ensures place { IfOk result (λ end.
-        end ≡ query_end_at (kind_of tables.now) (cursor_position cursor.old)
-        (text_after_cursor cursor.old)) }
-    ensures refused { result_err result
-        ≡ error_from_query (kind_of tables.now) (cursor_text cursor.old)
-        (cursor_position cursor.old) }
-    ensures err { IfErr result (IsErrorIn (cursor_text cursor.old)) }
-{
-    let mut query_end = None;
-    if cursor.skip(b'?') {
-        cursor.pass(&tables.query)?;
-        query_end = Some(cursor.position());
-    }
-    parse_fragment(cursor, tables)?;
-    Ok(query_end)
-}
-
 /// What comes before the rest of a path.
 #[derive(Clone, Copy)]
 struct BeforePath {
+    path_start: usize,
     scheme_end: Option<usize>,
     authority: Option<AuthorityPositions>,
-    path_start: usize,
 }
 
 /// Parses the rest of a path, and the query and the fragment after it.
@@ -93,7 +69,16 @@ fn parse_path(
 {
     cursor.pass(&tables.path)?;
     let path_end = cursor.position();
-    let query_end = parse_query_and_fragment(cursor, tables)?;
+    let has_query = cursor.skip(b'?');
+    if has_query {
+        cursor.pass(&tables.query)?;
+    }
+    let query_end = if has_query {
+        Some(cursor.position())
+    } else {
+        None
+    };
+    parse_fragment(cursor, tables)?;
     Ok(Positions {
         scheme_end: before.scheme_end,
         authority: before.authority,
@@ -104,7 +89,7 @@ fn parse_path(
 }
 
 /// Parses an authority, which comes before a path.
-#[tactic(auto, unfolding(crate::proofs::Steps::before_path))]
+#[tactic(auto, unfolding(crate::proofs::Steps::authority, crate::proofs::Steps::before_path))]
 #[inline(always)]
 fn pass_authority<K: Kind>(
     cursor: &mut Cursor<'_>,
@@ -123,11 +108,28 @@ fn pass_authority<K: Kind>(
         ≡ option_or (result_err result) (error_from_path kind text (cursor_position cursor.new)) }
     ensures err { IfErr result (IsErrorIn (cursor_text cursor.old)) }
 {
-    let authority = find_authority::<K>(cursor, tables)?;
+    let start = cursor.position();
+    if let Some(host_end) = find_name(cursor, tables) {
+        let end = cursor.position();
+        let authority = AuthorityPositions {
+            start,
+            host_start: start,
+            host_end,
+            end,
+        };
+        return Ok(BeforePath {
+            path_start: end,
+            scheme_end,
+            authority: Some(authority),
+        });
+    }
+    let text = cursor.text();
+    let authority = find_other_authority_of_kind::<K>(text, start, cursor.position())?;
+    *cursor = Cursor::at(text, authority.end);
     Ok(BeforePath {
+        path_start: authority.end,
         scheme_end,
         authority: Some(authority),
-        path_start: cursor.position(),
     })
 }
 
@@ -154,9 +156,9 @@ fn pass_hier_part<K: Kind>(
         pass_authority::<K>(cursor, tables, Some(scheme_end))
     } else {
         Ok(BeforePath {
+            path_start: cursor.position(),
             scheme_end: Some(scheme_end),
             authority: None,
-            path_start: cursor.position(),
         })
     }
 }
@@ -181,9 +183,9 @@ fn pass_relative(cursor: &mut Cursor<'_>, tables: &KindTables) -> Result<BeforeP
         return Err(cursor.unexpected());
     }
     Ok(BeforePath {
+        path_start: 0,
         scheme_end: None,
         authority: None,
-        path_start: 0,
     })
 }
 
