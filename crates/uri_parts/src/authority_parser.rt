@@ -266,6 +266,7 @@ fn find_other_authority(
 /// Returns the positions of an authority that is more than a name and a port, which were passed.
 /// The tables of the kind are constants here: handed on, they would be set out in memory, as
 /// cursors are.
+#[tactic(auto, unfolding(crate::proofs::Steps::user, crate::proofs::Steps::other, crate::specs::Models::ParseErrors::name_error, crate::specs::Models::ParseErrors::left_over_error))]
 #[inline(never)]
 pub(crate) fn find_other_authority_of_kind<K: Kind>(
     text: &str,
@@ -283,6 +284,11 @@ pub(crate) fn find_other_authority_of_kind<K: Kind>(
         other_authority_error K.kind text.now start ≡ error_from_path K.kind text.now a.end) }
     ensures err { IfErr result (IsErrorIn text.now) }
 {
+    let tables = K::tables();
+    let start = Cursor::at(text, start);
     let after_name = Cursor::at(text, after_name);
-    find_other_authority(Cursor::at(text, start), after_name, &K::tables())
+    if !start.next_is(b'[') && after_name.is_before_excluded::<K>(&tables) {
+        return Err(after_name.unexpected());
+    }
+    find_other_authority(start, after_name, &tables)
 }

@@ -1,10 +1,12 @@
 //! A position in a text.
-ghost use Rattle.std.specs.Prelude.{◌≡◌, ◌<◌, ◌+◌, ◌==◌, drop, codes, OnOk};
-ghost use Rattle.std.specs.Prelude.{IfErr, if◌then◌else◌};
+ghost use Rattle.std.specs.Prelude.{◌≡◌, ◌<◌, ◌+◌, ◌==◌, ℕ, Ok, drop, codes, OnOk};
+ghost use Rattle.std.specs.Prelude.{IfErr, IsTrue, false, if◌then◌else◌};
 ghost use Rattle.std.specs.Result.{result_err};
 ghost use Rattle.std.specs.Str.{IsCharBoundary};
 
 use crate::error::{ParseError, ParseErrorKind};
+use crate::kind::Kind;
+use crate::kind_tables::KindTables;
 use std::alloc::AllocError;
 use uri_pct::table::Table;
 
@@ -36,6 +38,8 @@ impl<'a> Cursor<'a> {
     ghost use Rattle.uri_parts.specs.Models.AuthorityParsing.{is_empty_or_begins_with_any};
     ghost use Rattle.uri_parts.specs.Components.{starts, has_authority, is_end};
     ghost use Rattle.uri_parts.specs.Errors.{unexpected};
+    ghost use Rattle.uri_parts.specs.Grammar.{first_segment_set};
+    ghost use Rattle.uri_parts.specs.KindTables.{kind_of, segment_nz_nc_of};
     ghost use Rattle.uri_parts.specs.Scanning.{scan};
     ghost use Rattle.uri_parts.specs.Errors.{IsErrorIn};
     ghost use Rattle.uri_parts.specs.Models.Cursors.{text_after_cursor, cursor_text};
@@ -126,6 +130,32 @@ impl<'a> Cursor<'a> {
         }
         self.position = end;
         Ok(())
+    }
+
+    /// Returns whether what is next is in no component of the kind, and is no delimiter: a control
+    /// character or a space, or a character past ASCII in a URI.
+    #[tactic(auto, using(crate::proofs::Parsing::NextBytes::starts_at_position, crate::proofs::Parsing::NextBytes::text_ends_where_position_is_length))]
+    #[inline(always)]
+    pub(crate) fn is_before_excluded<K: Kind>(&self, tables: &KindTables) -> bool
+        requires kind { kind_of tables.now ≡ K.kind }
+        requires segment { segment_nz_nc_of tables.now ≡ first_segment_set K.kind }
+        ensures userinfo { let i = cursor_position self.now in IsTrue result
+            → scan (cursor_text self.now) K.kind.userinfo i ≡ Ok i }
+        ensures path { let i = cursor_position self.now in IsTrue result
+            → scan (cursor_text self.now) K.kind.path i ≡ Ok i }
+        ensures segment { let i = cursor_position self.now in IsTrue result
+            → scan (cursor_text self.now) (first_segment_set K.kind) i ≡ Ok i }
+        ensures other { IsTrue result → (mark : ℕ) → 32 < mark → mark < 128
+            → starts mark (text_after_cursor self.now) ≡ false }
+        ensures some { IsTrue result → is_end (text_after_cursor self.now) ≡ false }
+    {
+        let bytes = self.text.as_bytes();
+        let i = self.position;
+        if i == bytes.len() {
+            return false;
+        }
+        let byte = bytes[i];
+        byte <= b' ' || byte >= 128 && !tables.path.allows_some_past_ascii()
     }
 
     /// Returns whether the whole text was passed.

@@ -1,5 +1,5 @@
 //! The parser of the four kinds.
-ghost use Rattle.std.specs.Prelude.{◌≡◌, ◌↔◌, ◌<◌, IfErr, IfOk, IsOk, Some, None};
+ghost use Rattle.std.specs.Prelude.{◌≡◌, ◌↔◌, ◌<◌, IfErr, IfOk, IsOk, IsTrue, Some, None};
 ghost use Rattle.std.specs.Option.{option_or};
 ghost use Rattle.std.specs.Result.{result_err};
 ghost use Rattle.uri_parts.specs.Models.Parsing.{query_end_at};
@@ -11,8 +11,8 @@ ghost use Rattle.uri_parts.specs.Refusals.{error_from_relative_path, refusal};
 ghost use Rattle.uri_parts.specs.Models.ParseErrors.{authority_error, hier_part_error};
 ghost use Rattle.uri_parts.specs.Models.ParseErrors.{schemeless_error};
 ghost use Rattle.uri_parts.specs.Models.ParseErrors.{parsed_error};
-ghost use Rattle.uri_parts.specs.Errors.{IsErrorIn};
-ghost use Rattle.uri_parts.specs.Grammar.{IsOfKind};
+ghost use Rattle.uri_parts.specs.Errors.{IsErrorIn, unexpected};
+ghost use Rattle.uri_parts.specs.Grammar.{IsOfKind, first_segment_set};
 ghost use Rattle.uri_parts.specs.KindTables.{kind_of, segment_nz_nc_of};
 ghost use Rattle.uri_parts.specs.Positions.{ArePositionsOf};
 ghost use Rattle.uri_parts.specs.Models.Cursors.{text_after_cursor, cursor_text, cursor_position};
@@ -189,6 +189,20 @@ fn pass_relative(cursor: &mut Cursor<'_>, tables: &KindTables) -> Result<BeforeP
     })
 }
 
+/// Returns whether what is next shows that a path without a scheme cannot begin there, and that
+/// nothing of what may follow a path does.
+#[tactic(auto, unfolding(crate::proofs::Steps::tail, crate::proofs::Steps::before_path))]
+#[inline(always)]
+fn is_unexpected<K: Kind>(cursor: &Cursor<'_>, tables: &KindTables) -> bool
+    requires kind { kind_of tables.now ≡ K.kind }
+    requires segment { segment_nz_nc_of tables.now ≡ first_segment_set K.kind }
+    ensures { let i = cursor_position cursor.now in IsTrue result
+        → error_from_relative_path (kind_of tables.now) (cursor_text cursor.now)
+        (segment_nz_nc_of tables.now) i ≡ Some (unexpected i) }
+{
+    cursor.is_before_excluded::<K>(tables)
+}
+
 /// Parses what comes before a path in a text that has no scheme. It begins after the characters
 /// that might have been one.
 #[tactic(auto, unfolding(crate::proofs::Steps::whole))]
@@ -197,7 +211,8 @@ fn pass_schemeless<K: Kind>(
     cursor: &mut Cursor<'_>,
     tables: &KindTables,
 ) -> Result<BeforePath, ParseError>
-    requires { kind_of tables.now ≡ K.kind }
+    requires kind { kind_of tables.now ≡ K.kind }
+    requires segment { segment_nz_nc_of tables.now ≡ first_segment_set K.kind }
     ensures places { let segment = segment_nz_nc_of tables.now in
         let kind = kind_of tables.now in IfOk result (λ b.
         schemeless_positions segment kind (cursor_position cursor.old)
@@ -209,11 +224,15 @@ fn pass_schemeless<K: Kind>(
         ≡ option_or (result_err result) (error_from_path kind text (cursor_position cursor.new)) }
     ensures err { IfErr result (IsErrorIn (cursor_text cursor.old)) }
 {
-    if cursor.position() == 0 && cursor.skip_slashes() {
-        pass_authority::<K>(cursor, tables, None)
-    } else {
-        pass_relative(cursor, tables)
+    if cursor.position() == 0 {
+        if cursor.skip_slashes() {
+            return pass_authority::<K>(cursor, tables, None);
+        }
+        if is_unexpected::<K>(cursor, tables) {
+            return Err(cursor.unexpected());
+        }
     }
+    pass_relative(cursor, tables)
 }
 
 /// Parses what comes before a path, from the beginning of the text on.
@@ -224,6 +243,7 @@ fn pass_before_path<K: Kind>(
     tables: &KindTables,
 ) -> Result<BeforePath, ParseError>
     requires kind { kind_of tables.now ≡ K.kind }
+    requires segment { segment_nz_nc_of tables.now ≡ first_segment_set K.kind }
     requires start { cursor_position cursor.old ≡ 0 }
     ensures places { let kind = kind_of tables.now in IfOk result (λ b.
         parsed_positions (segment_nz_nc_of tables.now) kind (cursor_text cursor.old)
@@ -253,7 +273,8 @@ fn pass_before_path<K: Kind>(
 #[tactic(auto)]
 #[inline(always)]
 fn parse_text<K: Kind>(tables: &KindTables, text: &str) -> Result<Positions, ParseError>
-    requires { kind_of tables.now ≡ K.kind }
+    requires kind { kind_of tables.now ≡ K.kind }
+    requires segment { segment_nz_nc_of tables.now ≡ first_segment_set K.kind }
     ensures places { IfOk result (λ p.
         p ≡ parsed_positions (segment_nz_nc_of tables.now) (kind_of tables.now) text.now) }
     ensures refused { result_err result

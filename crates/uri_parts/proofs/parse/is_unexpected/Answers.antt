@@ -1,0 +1,36 @@
+use Rattle.std.proofs.Common.{◌≡◌, ◌<◌, ℕ, List, false, drop, arith, refl, subst, sym}
+use Rattle.std.specs.Prelude.{Ok, Some}
+use Rattle.uri_pct.specs.Sets.{TableSet}
+use Rattle.uri_parts.specs.Components.{is_end, starts}
+use Rattle.uri_parts.specs.Errors.{unexpected}
+use Rattle.uri_parts.specs.Grammar.{Kind}
+use Rattle.uri_parts.specs.KindTables.{kind_of, segment_nz_nc_of}
+use Rattle.uri_parts.specs.Refusals.{error_from_end, error_from_fragment, error_from_path}
+use Rattle.uri_parts.specs.Refusals.{error_from_query, error_from_relative_path}
+use Rattle.uri_parts.specs.Scanning.{scan}
+use Rattle.uri_parts.proofs.parse.is_unexpected.Goals as goal
+
+-- where neither a first segment nor a path goes on, and no delimiter is next, what is next is
+-- unexpected
+unexpected_where_no_path_begins : (segment : TableSet) (kind : Kind) (text : List ℕ) (i : ℕ)
+    → scan text segment i ≡ Ok i → scan text kind.path i ≡ Ok i
+    → ((mark : ℕ) → 32 < mark → mark < 128 → starts mark (drop i text) ≡ false)
+    → is_end (drop i text) ≡ false
+    → error_from_relative_path kind text segment i ≡ Some (unexpected i)
+unfolding error_from_relative_path error_from_path error_from_query error_from_fragment
+    error_from_end
+unexpected_where_no_path_begins segment kind text i first path other some =
+    rw (first, other 58 (omega arith) (omega arith), path, other 63 (omega arith) (omega arith),
+    other 35 (omega arith) (omega arith), some) refl
+
+pub returns : goal.returns
+returns g c t =
+    let kind = g.K.Kind.kind in
+    let text = c.args.cursor.now.text.now in
+    let i = c.args.cursor.now.position in
+    let tables = c.args.tables.now in
+    let next = c.is_before_excluded.ensures in
+    unexpected_where_no_path_begins (segment_nz_nc_of tables) (kind_of tables) text i
+    (subst (λ set. scan text set i ≡ Ok i) (sym c.requires.segment) (next.segment t))
+    (subst (λ k. scan text k.path i ≡ Ok i) (sym c.requires.kind) (next.path t))
+    (next.other t) (next.some t)
