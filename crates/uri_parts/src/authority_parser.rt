@@ -3,7 +3,7 @@
 //! What passes as a name and a port is a prefix of userinfo. So nothing is scanned again to
 //! distinguish the two, nor to find where and why an authority is rejected.
 ghost use Rattle.std.specs.Prelude.{◌≡◌, ◌≤◌, ◌+◌, drop, length, true, IfErr, IfOk, IfSome, OnOk};
-ghost use Rattle.std.specs.Prelude.{is_some, Some, Ok, IfNone, ◌<◌, false};
+ghost use Rattle.std.specs.Prelude.{is_some, Some, Ok, IfNone, IsTrue, ◌<◌, false};
 ghost use Rattle.std.specs.Str.{IsCharBoundary};
 ghost use Rattle.uri_pct.specs.Delimiters.{left_bracket};
 ghost use Rattle.uri_pct.specs.Prefixes.{valid_prefix};
@@ -22,8 +22,9 @@ ghost use Rattle.uri_parts.specs.Refusals.{error_from_path, last_colon as last_c
 ghost use Rattle.uri_parts.specs.Models.ParseErrors.{left_over_error, name_error, host_error};
 ghost use Rattle.uri_parts.specs.Models.ParseErrors.{userinfo_error, other_authority_error};
 ghost use Rattle.uri_parts.specs.Models.ParseErrors.{authority_error};
-ghost use Rattle.uri_parts.specs.Errors.{IsErrorIn};
-ghost use Rattle.uri_parts.specs.KindTables.{kind_of};
+ghost use Rattle.uri_parts.specs.Errors.{IsErrorIn, unexpected};
+ghost use Rattle.uri_parts.specs.Grammar.{first_segment_set};
+ghost use Rattle.uri_parts.specs.KindTables.{kind_of, segment_nz_nc_of};
 ghost use Rattle.uri_parts.specs.Models.Literals.{literal_length};
 ghost use Rattle.uri_parts.specs.Models.Cursors.{text_after_cursor, cursor_text, cursor_position};
 
@@ -266,7 +267,6 @@ fn find_other_authority(
 /// Returns the positions of an authority that is more than a name and a port, which were passed.
 /// The tables of the kind are constants here: handed on, they would be set out in memory, as
 /// cursors are.
-#[tactic(auto, unfolding(crate::proofs::Steps::user, crate::proofs::Steps::other, crate::specs::Models::ParseErrors::name_error, crate::specs::Models::ParseErrors::left_over_error))]
 #[inline(never)]
 pub(crate) fn find_other_authority_of_kind<K: Kind>(
     text: &str,
@@ -284,11 +284,27 @@ pub(crate) fn find_other_authority_of_kind<K: Kind>(
         other_authority_error K.kind text.now start ≡ error_from_path K.kind text.now a.end) }
     ensures err { IfErr result (IsErrorIn text.now) }
 {
-    let tables = K::tables();
-    let start = Cursor::at(text, start);
     let after_name = Cursor::at(text, after_name);
-    if !start.next_is(b'[') && after_name.is_before_excluded::<K>(&tables) {
-        return Err(after_name.unexpected());
-    }
-    find_other_authority(start, after_name, &tables)
+    find_other_authority(Cursor::at(text, start), after_name, &K::tables())
+}
+
+/// Returns whether what is next after a name and a port is in no component of the kind, and is no
+/// delimiter, where the authority does not begin with `[`.
+#[tactic(auto, unfolding(crate::proofs::Steps::user, crate::proofs::Steps::other, crate::specs::Models::ParseErrors::name_error, crate::specs::Models::ParseErrors::left_over_error))]
+#[inline(always)]
+pub(crate) fn is_unexpected_after_name<K: Kind>(
+    start: Cursor<'_>,
+    after_name: Cursor<'_>,
+    tables: &KindTables,
+) -> bool
+    requires kind { kind_of tables.now ≡ K.kind }
+    requires segment { segment_nz_nc_of tables.now ≡ first_segment_set K.kind }
+    requires text { cursor_text after_name ≡ cursor_text start }
+    requires place { cursor_position after_name
+        ≡ cursor_position start + name_and_port_length K.kind (text_after_cursor start) }
+    ensures { let text = cursor_text start.entry in IsTrue result
+        → other_authority_error K.kind text (cursor_position start.entry)
+        ≡ Some (unexpected (cursor_position after_name.entry)) }
+{
+    after_name.is_before_excluded::<K>(tables) && !start.next_is(b'[')
 }
