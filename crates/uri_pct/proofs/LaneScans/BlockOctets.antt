@@ -56,7 +56,7 @@ first_lane_is_low left below some =
 
 module _ (test : ℕ → Bool) (bs : List ℕ) (start i mask : ℕ)
     (m : MarksFailingLanesFrom test bs start i mask) where
-  pub marked_lane_fails : (k : ℕ) → k < 16 → is_set_bit mask k ≡ true
+  marked_lane_fails : (k : ℕ) → k < 16 → is_set_bit mask k ≡ true
       → (start ≤ i + k) × (test (get_or bs (i + k) 0) ≡ false)
   marked_lane_fails k h e =
       let p = and_parts _ _ (sym (m.lane k h) ∙ e) in (leb-true _ _ p.0, not-true _ p.1)
@@ -163,7 +163,7 @@ module _ (test : ℕ → Bool) (bs : List ℕ) (start i mask : ℕ)
         × (is_set_bit begun (start + j - i) ≡ true)
     octet_at j o = let p = and_parts _ _ o in (leb-true _ _ p.0, p.1)
 
-    pub bytes_before_first_left_lane : AreCharactersOrOctets test bs start (i + n - start)
+    bytes_before_first_left_lane : AreCharactersOrOctets test bs start (i + n - start)
     bytes_before_first_left_lane = record {
       octet = begins;
       pass = λ j h o fresh. ⊎_elim
