@@ -26,6 +26,7 @@ fn has_octet_digits(bytes: &[u8], index: usize) -> bool
 
 impl Table {
     ghost use Rattle.uri_pct.specs.Tables.{set_of};
+    ghost use Rattle.uri_pct.specs.Masks.{has_bit};
 
     /// Returns where the run of ASCII characters ends that begins at `start` and that the table
     /// allows, both as byte offsets.
@@ -228,21 +229,38 @@ impl Table {
         if !self.allows_some_past_ascii() || end == bytes.len() || bytes[end] < 128 {
             return end;
         }
-        self.scan_mixed_runs(text, end)
+        let (low, high, pct_encoded, ucschar, iprivate) = self.parts();
+        Table::scan_mixed_runs(end, text, low, high, pct_encoded, ucschar, iprivate)
     }
 
-    /// Returns the end of the longest substring that begins at `start` and that the table allows,
-    /// whatever characters and octets it has.
+    // The parts of a table are in registers; a table would be written to memory by each parse.
+    /// Returns the end of the longest substring that begins at `start` and that the table of these
+    /// parts allows, whatever characters and octets it has.
     #[inline(never)]
-    fn scan_mixed_runs(self, text: &str, start: usize) -> usize
-        requires { IsCharBoundary text.now start }
-        ensures end { result ≡ start + valid_prefix (set_of self) (drop start text.now) }
+    fn scan_mixed_runs(
+        start: usize,
+        text: &str,
+        low: u64,
+        high: u64,
+        pct_encoded: bool,
+        ucschar: bool,
+        iprivate: bool,
+    ) -> usize
+        requires percent { has_bit low high 37 ≡ false }
+        requires here { IsCharBoundary text.now start }
+        ensures end { result ≡ start + valid_prefix (record {
+          ascii = has_bit low high;
+          pct_encoded = pct_encoded;
+          ucschar = ucschar;
+          iprivate = iprivate;
+        }) (drop start text.now) }
         ensures boundary { IsCharBoundary text.now result }
     {
+        let table = Table::of_parts(low, high, pct_encoded, ucschar, iprivate);
         let bytes = text.as_bytes();
         let mut i = start;
         while i < bytes.len() {
-            let end = self.pass_next_run(text, i);
+            let end = table.pass_next_run(text, i);
             if end == i {
                 break;
             }

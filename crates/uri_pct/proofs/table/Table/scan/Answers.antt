@@ -58,3 +58,7 @@ returns-then-not-allows_some_past_ascii-clause-end c =
           (subst (λ t. slice_index t end < 128) same w.if-bytes-end-lt128.true)
     ] in
     omega (arith, e, c.pass_encoded-end.ensures.total)
+
+pub scan_mixed_runs-requires-clause-percent : goal.scan_mixed_runs-requires-clause-percent
+scan_mixed_runs-requires-clause-percent c =
+    ap (λ s. s.ascii 37) c.parts-low.ensures ∙ lacks_percent c.args.self.now
