@@ -6,6 +6,7 @@ pub mod AsciiRuns
 pub mod CharRuns
 pub mod LaneBits
 pub mod OctetLanes
+pub mod BlockOctets
 pub mod LinkedLanes
 pub mod LinkedRuns
 pub mod DotLanes

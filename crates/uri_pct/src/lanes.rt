@@ -1,6 +1,6 @@
 //! Sets of ASCII characters by their two masks, a byte at a time or sixteen.
 ghost use Rattle.std.specs.Prelude.{◌≡◌, ◌+◌, ◌-◌, ◌≤◌, ◌<◌, ◌/◌, ◌%◌, ℕ, true, not, length, map};
-ghost use Rattle.std.specs.Prelude.{slice_index, nat_lt, nat_le, IsTrue, ◌^◌, ◌==◌};
+ghost use Rattle.std.specs.Prelude.{slice_index, nat_lt, nat_le, IsTrue, false, ◌^◌, ◌==◌, ◌&&◌};
 ghost use Rattle.std.specs.Simd.Lanes.{mask_l, chunk};
 ghost use Rattle.std.specs.Int.{bit_at};
 ghost use Rattle.uri_pct.specs.Delimiters.{percent_sign};
@@ -89,32 +89,51 @@ fn outside(low: u64, high: u64, bytes: &[u8], at: usize) -> u64
     given.simd_eq(u8x16::splat(0)).to_bitmask()
 }
 
-/// Returns where the longest run of bytes of the set
-/// that begins at `start` ends; sixteen at a time.
+/// Returns the first block of sixteen bytes that has a byte outside the set, from `start` on: where
+/// the block begins, and a mask of these bytes. If there is none, this is the last block and 0.
 ///
-/// At the end the last sixteen bytes are scanned again, and what was passed of them is shifted out.
+/// The last block is scanned even if it begins before `start`; what is before is shifted out.
 #[inline(always)]
-pub fn run_end(low: u64, high: u64, bytes: &[u8], start: usize) -> usize
+fn first_block_outside(low: u64, high: u64, bytes: &[u8], start: usize) -> (usize, u64)
     requires within { start ≤ length bytes.now }
     requires long { LANES ≤ length bytes.now }
-    ensures { IsLongestRun (has_bit low high) bytes.now start result }
+    ensures room { result.0 + LANES ≤ length bytes.now }
+    ensures below { result.1 < 2 ^ 16 }
+    ensures lane { (k : ℕ) → k < 16 → (bit_at result.1 k == 1)
+        ≡ (nat_le start (result.0 + k)
+        && not (has_bit low high (slice_index bytes.now (result.0 + k)))) }
+    ensures before { (k : ℕ) → start ≤ k → k < result.0
+        → has_bit low high (slice_index bytes.now k) ≡ true }
+    ensures last { result.1 ≡ 0 → result.0 + LANES ≡ length bytes.now }
 {
     let len = bytes.len();
     let mut i = start;
     while len - i > LANES {
         let mask = outside(low, high, bytes, i);
         if mask != 0 {
-            return i + mask.trailing_zeros() as usize;
+            return (i, mask);
         }
         i += LANES;
     }
     let last = len - LANES;
+    let passed = i - last;
     let tail = outside(low, high, bytes, last);
-    let mask = tail >> (i - last);
+    (last, (tail >> passed) << passed)
+}
+
+/// Returns where the longest run of bytes of the set
+/// that begins at `start` ends; sixteen at a time.
+#[inline(always)]
+pub fn run_end(low: u64, high: u64, bytes: &[u8], start: usize) -> usize
+    requires within { start ≤ length bytes.now }
+    requires long { LANES ≤ length bytes.now }
+    ensures { IsLongestRun (has_bit low high) bytes.now start result }
+{
+    let (block, mask) = first_block_outside(low, high, bytes, start);
     if mask == 0 {
-        return len;
+        return bytes.len();
     }
-    i + mask.trailing_zeros() as usize
+    block + mask.trailing_zeros() as usize
 }
 
 /// Returns where the longest run of ASCII that begins at `start` ends; sixteen bytes at a time.
@@ -224,9 +243,11 @@ fn lanes_without_hex_digit(bytes: &[u8], at: usize) -> u64
 #[inline(always)]
 fn octet_starts(bytes: &[u8], at: usize) -> u64
     requires { at + LANES ≤ length bytes.now }
-    ensures { (k : ℕ) → bit_at result k ≡ 1 → (k + 3 ≤ 16)
+    ensures starts { (k : ℕ) → bit_at result k ≡ 1 → (k + 3 ≤ 16)
         × (slice_index bytes.now (at + k) ≡ percent_sign)
         × (has_hex_digits_after bytes.now (at + k) ≡ true) }
+    ensures all { (k : ℕ) → k + 3 ≤ 16 → slice_index bytes.now (at + k) ≡ percent_sign
+        → has_hex_digits_after bytes.now (at + k) ≡ true → bit_at result k ≡ 1 }
 {
     let percents = lanes_equal_to(b'%', bytes, at);
     // The two lanes after the last have no digits.
@@ -248,6 +269,51 @@ pub fn encoded_run_len(low: u64, high: u64, bytes: &[u8], at: usize) -> usize
         return LANES;
     }
     open.trailing_zeros() as usize
+}
+
+/// Returns the end of a run of bytes of the set and, if `octets` is set, of octets, as far as one
+/// block shows it, and whether the longest such run ends there.
+#[inline(always)]
+pub(crate) fn first_run_end(
+    low: u64,
+    high: u64,
+    octets: bool,
+    bytes: &[u8],
+    start: usize,
+) -> (usize, bool)
+    requires within { start ≤ length bytes.now }
+    requires long { LANES ≤ length bytes.now }
+    ensures from { start ≤ result.0 }
+    ensures within { result.0 ≤ length bytes.now }
+    ensures allowed { AreCharactersOrOctets (has_bit low high) bytes.now start (result.0 - start) }
+    ensures ends { octets ≡ false → IsTrue result.1 }
+    ensures plain { octets ≡ false → IsLongestRun (has_bit low high) bytes.now start result.0 }
+    ensures outside { IsTrue result.1 → result.0 < length bytes.now
+        → has_bit low high (slice_index bytes.now result.0) ≡ false }
+    ensures stray { IsTrue result.1 → octets ≡ true → result.0 < length bytes.now
+        → slice_index bytes.now result.0 ≡ percent_sign
+        → has_hex_digits_after bytes.now result.0 ≡ false }
+{
+    let (block, mask) = first_block_outside(low, high, bytes, start);
+    if mask == 0 {
+        return (bytes.len(), true);
+    }
+    let first = block + mask.trailing_zeros() as usize;
+    if bytes[first] != b'%' || !octets {
+        return (first, true);
+    }
+    let starts = octet_starts(bytes, block) & mask;
+    let open = mask & !(starts | (starts << 1) | (starts << 2));
+    // An octet that begins in the last two lanes is cut by the end of the block.
+    if open & 0x3FFF != 0 {
+        return (block + open.trailing_zeros() as usize, true);
+    }
+    if open == 0 {
+        let end = block + LANES;
+        return (end, end == bytes.len());
+    }
+    let end = block + open.trailing_zeros() as usize;
+    (end, bytes[end] != b'%')
 }
 
 /// Returns whether each of the sixteen bytes from `at` on is in the set or is a `%`, and is a

@@ -2,13 +2,12 @@
 ghost use Rattle.std.specs.Prelude.{◌≡◌, ◌<◌, ◌≤◌, ◌+◌, IsTrue, false, true, length, drop};
 ghost use Rattle.std.specs.Prelude.{slice_index};
 ghost use Rattle.std.specs.Str.{IsCharBoundary};
-ghost use Rattle.uri_pct.specs.Models.Scans.{may_begin_octet_or_past_ascii};
 ghost use Rattle.uri_pct.specs.Prefixes.{valid_prefix};
 ghost use Rattle.uri_pct.specs.Texts.{has_hex_digits_after};
 ghost use Rattle.uri_pct.specs.Tokens.{is_valid_for};
 
 use crate::lanes::{
-    LANES, chars_end, encoded_run_end, encoded_run_len, has, holds, run_end, words,
+    LANES, chars_end, encoded_run_end, encoded_run_len, first_run_end, has, holds, run_end, words,
 };
 use crate::table::Table;
 use crate::utf8::char_at;
@@ -27,6 +26,7 @@ fn has_octet_digits(bytes: &[u8], index: usize) -> bool
 
 impl Table {
     ghost use Rattle.uri_pct.specs.Tables.{set_of};
+    ghost use Rattle.uri_pct.specs.Masks.{has_bit};
 
     /// Returns where the run of ASCII characters ends that begins at `start` and that the table
     /// allows, both as byte offsets.
@@ -78,22 +78,24 @@ impl Table {
         i
     }
 
+    // The table is last: LLVM passes its masks in registers, and so leaves the text in those that
+    // a parser has it in.
     /// Returns where the characters of ASCII and the octets end that begin at `start`. The table
     /// allows octets.
     #[inline(never)]
-    fn scan_octets(self, text: &str, start: usize) -> usize
-        requires octets { (set_of self).pct_encoded ≡ true }
+    fn scan_octets(start: usize, text: &str, table: &Table) -> usize
+        requires octets { (set_of table.now).pct_encoded ≡ true }
         requires here { IsCharBoundary text.now start }
-        ensures total { result + valid_prefix (set_of self) (drop result text.now)
-            ≡ start + valid_prefix (set_of self) (drop start text.now) }
+        ensures total { result + valid_prefix (set_of table.now) (drop result text.now)
+            ≡ start + valid_prefix (set_of table.now) (drop start text.now) }
         ensures from { start ≤ result }
         ensures boundary { IsCharBoundary text.now result }
         ensures stop { result < length text.now → slice_index text.now result < 128
-            → valid_prefix (set_of self) (drop result text.now) ≡ 0 }
+            → valid_prefix (set_of table.now) (drop result text.now) ≡ 0 }
     {
-        let (low, high) = self.masks();
+        let (low, high) = table.masks();
         let bytes = text.as_bytes();
-        let mut i = self.pass_blocks(text, start);
+        let mut i = table.pass_blocks(text, start);
         while i < bytes.len() {
             let byte = bytes[i];
             if byte == b'%' {
@@ -128,18 +130,32 @@ impl Table {
         self.pass_ascii(text, start)
     }
 
-    /// Returns whether a scan may go on at the byte: it begins an octet
-    /// or a character past ASCII, and the table allows some of these.
-    #[tactic(auto, using(std::proofs::lemmas::Bool::Decides::nat_tests), unfolding(crate::specs::Models::Scans::may_begin_octet_or_past_ascii))]
+    /// Returns where the characters of ASCII and the octets end that begin at `start`, of those that
+    /// the table allows. In most texts the first block shows it.
     #[inline(always)]
-    fn may_begin_octet_or_past_ascii(&self, byte: u8) -> bool
-        ensures { result ≡ may_begin_octet_or_past_ascii (set_of self.now) byte }
+    fn pass_encoded(&self, text: &str, start: usize) -> usize
+        requires { IsCharBoundary text.now start }
+        ensures total { result + valid_prefix (set_of self.now) (drop result text.now)
+            ≡ start + valid_prefix (set_of self.now) (drop start text.now) }
+        ensures from { start ≤ result }
+        ensures boundary { IsCharBoundary text.now result }
+        ensures stop { result < length text.now → slice_index text.now result < 128
+            → valid_prefix (set_of self.now) (drop result text.now) ≡ 0 }
     {
-        if byte == b'%' {
-            self.allows_pct_encoded()
-        } else {
-            byte >= 128 && self.allows_some_past_ascii()
+        let bytes = text.as_bytes();
+        if bytes.len() < LANES {
+            let i = self.pass_ascii(text, start);
+            if i == bytes.len() || bytes[i] != b'%' || !self.allows_pct_encoded() {
+                return i;
+            }
+            return Table::scan_octets(i, text, self);
         }
+        let (low, high) = self.masks();
+        let (end, is_end) = first_run_end(low, high, self.allows_pct_encoded(), bytes, start);
+        if is_end {
+            return end;
+        }
+        Table::scan_octets(end, text, self)
     }
 
     /// Returns how many bytes a scan passes for the character past ASCII
@@ -180,7 +196,7 @@ impl Table {
             if !self.allows_pct_encoded() {
                 return start;
             }
-            return self.scan_octets(text, start);
+            return Table::scan_octets(start, text, self);
         }
         if byte < 128 {
             if !has(low, high, byte) {
@@ -197,7 +213,7 @@ impl Table {
     /// Returns the end of the longest substring that begins at `start` and that the table allows,
     /// both as byte offsets.
     ///
-    /// Most such substrings are ASCII characters alone; they are scanned without a call.
+    /// Most such substrings are ASCII characters and a few octets; they are scanned without a call.
     #[inline(always)]
     #[doc(hidden)]
     pub fn scan(&self, text: &str, start: usize) -> usize
@@ -209,32 +225,42 @@ impl Table {
         if start == bytes.len() {
             return start;
         }
-        let i = self.pass_ascii(text, start);
-        if i == bytes.len() || !self.may_begin_octet_or_past_ascii(bytes[i]) {
-            return i;
-        }
-        if bytes[i] != b'%' {
-            return self.scan_mixed_runs(text, i);
-        }
-        let end = self.scan_octets(text, i);
-        if end == bytes.len() || bytes[end] < 128 || !self.allows_some_past_ascii() {
+        let end = self.pass_encoded(text, start);
+        if !self.allows_some_past_ascii() || end == bytes.len() || bytes[end] < 128 {
             return end;
         }
-        self.scan_mixed_runs(text, end)
+        let (low, high, pct_encoded, ucschar, iprivate) = self.parts();
+        Table::scan_mixed_runs(end, text, low, high, pct_encoded, ucschar, iprivate)
     }
 
-    /// Returns the end of the longest substring that begins at `start` and that the table allows,
-    /// whatever characters and octets it has.
+    // The parts of a table are in registers; a table would be written to memory by each parse.
+    /// Returns the end of the longest substring that begins at `start` and that the table of these
+    /// parts allows, whatever characters and octets it has.
     #[inline(never)]
-    fn scan_mixed_runs(self, text: &str, start: usize) -> usize
-        requires { IsCharBoundary text.now start }
-        ensures end { result ≡ start + valid_prefix (set_of self) (drop start text.now) }
+    fn scan_mixed_runs(
+        start: usize,
+        text: &str,
+        low: u64,
+        high: u64,
+        pct_encoded: bool,
+        ucschar: bool,
+        iprivate: bool,
+    ) -> usize
+        requires percent { has_bit low high 37 ≡ false }
+        requires here { IsCharBoundary text.now start }
+        ensures end { result ≡ start + valid_prefix (record {
+          ascii = has_bit low high;
+          pct_encoded = pct_encoded;
+          ucschar = ucschar;
+          iprivate = iprivate;
+        }) (drop start text.now) }
         ensures boundary { IsCharBoundary text.now result }
     {
+        let table = Table::of_parts(low, high, pct_encoded, ucschar, iprivate);
         let bytes = text.as_bytes();
         let mut i = start;
         while i < bytes.len() {
-            let end = self.pass_next_run(text, i);
+            let end = table.pass_next_run(text, i);
             if end == i {
                 break;
             }

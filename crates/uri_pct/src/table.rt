@@ -234,6 +234,51 @@ impl Table {
         (self.low, self.high)
     }
 
+    /// Returns the two masks and the three flags, in the order of the fields.
+    #[inline(always)]
+    pub(crate) fn parts(&self) -> (u64, u64, bool, bool, bool)
+        ensures { record {
+          ascii = has_bit result.0 result.1;
+          pct_encoded = result.2;
+          ucschar = result.3;
+          iprivate = result.4;
+        } ≡ set_of self.now }
+    {
+        (
+            self.low,
+            self.high,
+            self.pct_encoded,
+            self.ucschar,
+            self.iprivate,
+        )
+    }
+
+    /// Returns the table of these parts.
+    #[inline(always)]
+    pub(crate) fn of_parts(
+        low: u64,
+        high: u64,
+        pct_encoded: bool,
+        ucschar: bool,
+        iprivate: bool,
+    ) -> Table
+        requires { has_bit low high 37 ≡ false }
+        ensures { set_of result ≡ record {
+          ascii = has_bit low high;
+          pct_encoded = pct_encoded;
+          ucschar = ucschar;
+          iprivate = iprivate;
+        } }
+    {
+        Table {
+            low,
+            high,
+            pct_encoded,
+            ucschar,
+            iprivate,
+        }
+    }
+
     /// Returns whether the byte begins a character of U+00C0 to U+D7FF, which are all in `ucschar`,
     /// and the table allows that.
     #[tactic(auto, using(std::proofs::lemmas::Bool::Decides::nat_tests))]

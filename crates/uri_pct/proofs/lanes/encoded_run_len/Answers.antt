@@ -22,7 +22,7 @@ returns-then-open-eq0-clause-allowed c =
     (load_mask_marks_failing_lanes (has_bit c.args.low c.args.high) bs i 16 room) in
     covered_lanes_are_characters_or_octets _ bs i c.octet_starts-starts.result c.outside.result 16
     c.octet_starts-starts.type_inv
-    (omega arith) c.octet_starts-starts.ensures marks
+    (omega arith) c.octet_starts-starts.ensures.starts marks
     (λ k h. ap (λ m. eqb (bit_at m k) 1) c.if-open-eq0.true ∙ ap (λ m. eqb m 1) (bit_at-zero k))
     (λ h. absurd (omega arith))
 
@@ -61,5 +61,5 @@ returns-clause-allowed c =
     f.0 in
     covered_lanes_are_characters_or_octets _ bs i c.octet_starts-starts.result c.outside.result _
     c.octet_starts-starts.type_inv
-    (omega arith) c.octet_starts-starts.ensures marks
+    (omega arith) c.octet_starts-starts.ensures.starts marks
     (λ k h. ap (λ m. eqb m 1) (f.2 k h)) (λ h. eq-eqb _ _ f.1)

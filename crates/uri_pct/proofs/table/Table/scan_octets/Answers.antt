@@ -21,7 +21,7 @@ loop-i-preserved-then-byte-eq37 c =
     let i = c.loop-i.i in
     let digits = sym c.has_octet_digits.ensures.value ∙ c.if-not-has_octet_digits.false in
     let within : i + 2 < length bs = c.has_octet_digits.ensures.within (search rules) in
-    let r = octet_is_scanned (set_of c.args.self) bs i c.as_bytes-bytes.ensures.utf8
+    let r = octet_is_scanned (set_of c.args.table.now) bs i c.as_bytes-bytes.ensures.utf8
     c.requires.octets
     within c.if-byte-eq37.true digits in
     record {
@@ -32,7 +32,7 @@ loop-i-preserved-then-byte-eq37 c =
 
 pub loop-i-preserved : goal.loop-i-preserved
 loop-i-preserved c =
-    let set = set_of c.args.self in
+    let set = set_of c.args.table.now in
     let bs = c.as_bytes-bytes.result.now in
     let i = c.loop-i.i in
     let inside : set.ascii (get_or bs i 0) ≡ true =
@@ -40,7 +40,7 @@ loop-i-preserved c =
     ∙ sym c.has.ensures ∙ c.if-not-has.false in
     let below : get_or bs i 0 < 128 = omega (arith, c.if-byte-ge128.false) in
     let e : valid_prefix set (drop i bs) ≡ valid_prefix set (drop (i + 1) bs) + 1 =
-    valid_prefix_passes_ascii_char_of_set set (lacks_percent c.args.self) bs i c.loop-i-test.true
+    valid_prefix_passes_ascii_char_of_set set (lacks_percent c.args.table.now) bs i c.loop-i-test.true
     below inside in
     record {
       from = omega (arith, c.loop-i.invariant.from);
@@ -52,19 +52,19 @@ loop-i-preserved c =
 pub returns-then-not-has_octet_digits-clause-stop
     : goal.returns-then-not-has_octet_digits-clause-stop
 returns-then-not-has_octet_digits-clause-stop c = λ _ _.
-    let set = set_of c.args.self in
+    let set = set_of c.args.table.now in
     let bs = c.as_bytes-bytes.result.now in
     let i = c.loop-i.i in
     let stray : (set.pct_encoded && has_hex_digits_after bs i) ≡ false =
     and_right _ _ (sym c.has_octet_digits.ensures.value ∙ c.if-not-has_octet_digits.true) in
     subst (λ t. valid_prefix set (drop i t) ≡ 0) c.as_bytes-bytes.ensures.value
-    (valid_prefix_stops_at_stray_percent set (lacks_percent c.args.self) bs i c.loop-i-test.true
+    (valid_prefix_stops_at_stray_percent set (lacks_percent c.args.table.now) bs i c.loop-i-test.true
     c.if-byte-eq37.true
     stray)
 
 pub returns-then-byte-ge128-clause-stop : goal.returns-then-byte-ge128-clause-stop
 returns-then-byte-ge128-clause-stop c = λ _ below.
-    let set = set_of c.args.self in
+    let set = set_of c.args.table.now in
     let bs = c.as_bytes-bytes.result.now in
     let i = c.loop-i.i in
     let same = c.as_bytes-bytes.ensures.value in

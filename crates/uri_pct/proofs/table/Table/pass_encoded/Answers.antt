@@ -1,0 +1,124 @@
+use Rattle.std.proofs.Common.{◌≡◌, ◌+◌, ◌-◌, ◌<◌, ◌≤◌, ◌∙◌, ℕ, Bool, List, true, false, length}
+use Rattle.std.proofs.Common.{drop, eqb, get_or, arith, sym, ap, subst, ⊎_elim}
+use Rattle.std.proofs.lemmas.Bool.{and_left, and_right, both_ways, cases_Bool, eqb-true}
+use Rattle.std.specs.Str.{IsUtf8, IsCharBoundary}
+use Rattle.uri_pct.specs.Models.ByteRuns.{AreCharactersOrOctets, IsLongestRun}
+use Rattle.uri_pct.specs.Masks.{has_bit}
+use Rattle.uri_pct.specs.Prefixes.{valid_prefix}
+use Rattle.uri_pct.specs.Texts.{has_hex_digits_after}
+use Rattle.uri_pct.specs.Tables.{set_of}
+use Rattle.uri_pct.specs.declared.table.Table.{Table}
+use Rattle.uri_pct.proofs.TableSets.Masks.{has_bit-only-ascii}
+use Rattle.uri_pct.proofs.TableSets.Percent.{lacks_percent}
+use Rattle.uri_pct.proofs.LaneScans.AsciiRuns.{ascii_run_is_scanned}
+use Rattle.uri_pct.proofs.ValidTexts.PrefixSteps.{valid_prefix_stops_at_ascii_outside_set}
+use Rattle.uri_pct.proofs.ValidTexts.PrefixSteps.{valid_prefix_stops_at_stray_percent}
+use Rattle.uri_pct.proofs.ValidTexts.ScannedRuns.{characters_and_octets_are_scanned}
+use Rattle.uri_pct.proofs.table.Table.pass_encoded.Goals as goal
+use Rattle.uri_pct.proofs.table.Table.pass_encoded.Goals.{then-i-bytes-via-then-i-bytes}
+use Rattle.uri_pct.proofs.table.Table.pass_encoded.Goals.{then-i-bytes-via-else-i-bytes+then-bytes-i-ne37}
+use Rattle.uri_pct.proofs.table.Table.pass_encoded.Goals.{then-i-bytes-via-else-i-bytes+else-bytes-i-ne37+then-not-allows_pct_encoded}
+
+-- nothing is scanned at an ASCII byte outside the set at which no octet begins
+stops : (t : Table) (text : List ℕ) (i : ℕ) → i < length text → get_or text i 0 < 128
+    → (set_of t).ascii (get_or text i 0) ≡ false
+    → (get_or text i 0 ≡ 37 → (set_of t).pct_encoded ≡ true → has_hex_digits_after text i ≡ false)
+    → valid_prefix (set_of t) (drop i text) ≡ 0
+stops t text i inside ascii outside stray = ⊎_elim
+    (λ (e : eqb (get_or text i 0) 37 ≡ true).
+    let percent = eqb-true _ _ e in
+    valid_prefix_stops_at_stray_percent (set_of t) (lacks_percent t) text i inside percent
+    (⊎_elim (λ (p : (set_of t).pct_encoded ≡ true). and_right _ _ (stray percent p))
+    (λ (p : (set_of t).pct_encoded ≡ false). and_left _ _ p) (cases_Bool (set_of t).pct_encoded)))
+    (λ (e : eqb (get_or text i 0) 37 ≡ false).
+    valid_prefix_stops_at_ascii_outside_set (set_of t) text i inside ascii e outside)
+    (cases_Bool (eqb (get_or text i 0) 37))
+
+pub returns-then-i-bytes-clause-stop : goal.returns-then-i-bytes-clause-stop
+returns-then-i-bytes-clause-stop c = λ inside below.
+    let text = c.args.text.now in
+    let i = c.pass_ascii-i.result in
+    let same = c.as_bytes-bytes.ensures.value in
+    stops c.args.self.now text i inside below (c.pass_ascii-i.ensures.stop inside)
+    (λ percent allowed. elim c.then-i-bytes.branch [
+      | then-i-bytes-via-then-i-bytes w ↦
+          let long : length c.as_bytes-bytes.result.now ≡ length text = ap length same in
+          absurd (omega (arith, inside, long, w.if-i-bytes.true))
+      | then-i-bytes-via-else-i-bytes+then-bytes-i-ne37 w ↦
+          absurd (w.if-bytes-i-ne37.true (ap (λ t. get_or t i 0) same ∙ percent))
+      | then-i-bytes-via-else-i-bytes+else-bytes-i-ne37+then-not-allows_pct_encoded w ↦
+          absurd (both_ways _ (sym w.allows_pct_encoded.ensures
+          ∙ w.if-not-allows_pct_encoded.true) allowed)
+    ])
+
+-- what the first block shows is scanned
+scanned : (t : Table) (ascii : ℕ → Bool) (octets : Bool) (text bs : List ℕ) (start end : ℕ)
+    → ascii ≡ (set_of t).ascii → octets ≡ (set_of t).pct_encoded → bs ≡ text → IsUtf8 text
+    → IsCharBoundary text start → start ≤ end → end ≤ length bs
+    → AreCharactersOrOctets ascii bs start (end - start)
+    → (octets ≡ false → IsLongestRun ascii bs start end)
+    → (end + valid_prefix (set_of t) (drop end text)
+    ≡ start + valid_prefix (set_of t) (drop start text)) × IsCharBoundary text end
+scanned t ascii octets text bs start end masks pct same u here from within are plain =
+    let room : end ≤ length text = subst (λ b. end ≤ length b) same within in
+    ⊎_elim
+    (λ (o : octets ≡ true).
+    let e : start + (end - start) ≡ end = omega (arith, from) in
+    subst (λ n. (n + valid_prefix (set_of t) (drop n text)
+    ≡ start + valid_prefix (set_of t) (drop start text)) × IsCharBoundary text n) e
+    (characters_and_octets_are_scanned (set_of t) (lacks_percent t) (sym pct ∙ o)
+    (has_bit-only-ascii t.low t.high) text start (end - start) (omega (arith, from, room)) u here
+    (subst (λ f. AreCharactersOrOctets f text start (end - start)) masks
+    (subst (λ b. AreCharactersOrOctets ascii b start (end - start)) same are))))
+    (λ (o : octets ≡ false).
+    ascii_run_is_scanned (set_of t) (lacks_percent t) (has_bit-only-ascii t.low t.high) text u
+    start here end
+    (subst (λ f. IsLongestRun f text start end) masks
+    (subst (λ b. IsLongestRun ascii b start end) same (plain o))))
+    (cases_Bool octets)
+
+pub returns-then-is_end-clause-total : goal.returns-then-is_end-clause-total
+returns-then-is_end-clause-total c =
+    let run = c.first_run_end-end.ensures in
+    (scanned c.args.self.now _ _ c.args.text.now _ c.args.start c.first_run_end-end.result.0
+    c.masks-low.ensures c.allows_pct_encoded-2.ensures c.as_bytes-bytes.ensures.value c.utf8.text
+    c.requires run.from run.within run.allowed run.plain).0
+
+pub returns-then-is_end-clause-boundary : goal.returns-then-is_end-clause-boundary
+returns-then-is_end-clause-boundary c =
+    let run = c.first_run_end-end.ensures in
+    (scanned c.args.self.now _ _ c.args.text.now _ c.args.start c.first_run_end-end.result.0
+    c.masks-low.ensures c.allows_pct_encoded-2.ensures c.as_bytes-bytes.ensures.value c.utf8.text
+    c.requires run.from run.within run.allowed run.plain).1
+
+pub returns-then-is_end-clause-stop : goal.returns-then-is_end-clause-stop
+returns-then-is_end-clause-stop c = λ inside below.
+    let run = c.first_run_end-end.ensures in
+    let text = c.args.text.now in
+    let end = c.first_run_end-end.result.0 in
+    let same = c.as_bytes-bytes.ensures.value in
+    let within : end < length c.as_bytes-bytes.result.now =
+    subst (λ b. end < length b) (sym same) inside in
+    stops c.args.self.now text end inside below
+    (sym (ap (λ f. f (get_or text end 0)) c.masks-low.ensures)
+    ∙ subst (λ b. has_bit c.masks-low.result.0 c.masks-low.result.1 (get_or b end 0) ≡ false) same
+    (run.outside c.if-is_end.true within))
+    (λ percent allowed.
+    subst (λ b. has_hex_digits_after b end ≡ false) same
+    (run.stray c.if-is_end.true (c.allows_pct_encoded-2.ensures ∙ allowed) within
+    (ap (λ b. get_or b end 0) same ∙ percent)))
+
+pub scan_octets-requires-2-clause-here : goal.scan_octets-requires-2-clause-here
+scan_octets-requires-2-clause-here c =
+    let run = c.first_run_end-end.ensures in
+    (scanned c.args.self.now _ _ c.args.text.now _ c.args.start c.first_run_end-end.result.0
+    c.masks-low.ensures c.allows_pct_encoded-2.ensures c.as_bytes-bytes.ensures.value c.utf8.text
+    c.requires run.from run.within run.allowed run.plain).1
+
+pub returns-clause-total : goal.returns-clause-total
+returns-clause-total c =
+    let run = c.first_run_end-end.ensures in
+    c.scan_octets-2.ensures.total
+    ∙ (scanned c.args.self.now _ _ c.args.text.now _ c.args.start c.first_run_end-end.result.0
+    c.masks-low.ensures c.allows_pct_encoded-2.ensures c.as_bytes-bytes.ensures.value c.utf8.text
+    c.requires run.from run.within run.allowed run.plain).0
