@@ -17,6 +17,7 @@ ghost use Rattle.uri_parts.specs.Models.LiteralGroups.{groups_of_end, EndsAtBoun
 ghost use Rattle.std.specs.Prelude.{if◌then◌else◌};
 
 use crate::address_parser::after_ipv6;
+use crate::address_reader::read_without_ipv4;
 use crate::error::{ParseError, ParseErrorKind};
 use uri_pct::table::{HEXDIG, IPV_FUTURE, Table};
 
@@ -277,8 +278,9 @@ fn future_end(text: &str, start: usize) -> Result<usize, ParseError>
 }
 
 /// Returns the position after the address at `start` and its `]`, or why there is none. A `[` is
-/// before `start`.
-pub(crate) fn literal_end(text: &str, start: usize) -> Result<usize, ParseError>
+/// before `start`. It parses addresses of every form.
+#[inline(never)]
+fn any_literal_end(text: &str, start: usize) -> Result<usize, ParseError>
     requires { IsCharBoundary text.now start }
     ensures boundary { IfOk result (λ end. IsCharBoundary text.now end) }
     ensures index { IfErr result (λ e. IsCharBoundary text.now (error_index e)) }
@@ -295,4 +297,26 @@ pub(crate) fn literal_end(text: &str, start: usize) -> Result<usize, ParseError>
         }
     }
     Err(refusal(text, start))
+}
+
+/// Returns the position after the address at `start` and its `]`, or why there is none. A `[` is
+/// before `start`.
+///
+/// Most addresses are of version 6 without an IPv4 address in them. What such a one takes calls no
+/// other function, so no registers are saved.
+pub(crate) fn literal_end(text: &str, start: usize) -> Result<usize, ParseError>
+    requires { IsCharBoundary text.now start }
+    ensures boundary { IfOk result (λ end. IsCharBoundary text.now end) }
+    ensures index { IfErr result (λ e. IsCharBoundary text.now (error_index e)) }
+    ensures exact { result ≡ literal text.now start }
+{
+    let address = &text[start..];
+    let mut segments = [0; 8];
+    if let Some(Some(rest)) = read_without_ipv4(address.as_bytes(), &mut segments) {
+        let end = text.len() - rest.len();
+        if next_is(text, end, b']') {
+            return Ok(end + 1);
+        }
+    }
+    any_literal_end(text, start)
 }
