@@ -2,7 +2,7 @@
 ghost use Rattle.std.specs.Net.Reader as numbers;
 ghost use Rattle.std.specs.Char.{digit_value};
 ghost use Rattle.std.specs.Prelude.{◌≡◌, ◌≤◌, ◌<◌, IfSome, length, option_copied, option_map, true};
-ghost use Rattle.std.specs.Prelude.{min, slice_index, take};
+ghost use Rattle.std.specs.Prelude.{◌+◌, drop, IsTrue, min, slice_index, take};
 ghost use Rattle.std.specs.Str.Parse.{digits_value};
 ghost use Rattle.uri_parts.specs.Models.Literals.{AreLeadingHexDigits, AreCountedGroups};
 
@@ -101,12 +101,14 @@ pub(crate) const DIGIT_VALUES: &[u8; 256] = &[
     16, 16, 16, 16, 16, 16, 16, 16, 16, 16, 16, 16, 16, 16, 16, 16, // F0
 ];
 
-/// Returns the byte of an IPv6 address at `index`, or 0 at its end.
+/// Returns the byte of an IPv6 address at `index`, or 0 at its end. Whether the index is inside
+/// is tested only where it is not known.
 #[inline(always)]
-fn byte_at(text: &[u8], index: usize) -> u8
+pub(crate) fn byte_at(text: &[u8], index: usize, is_inside: bool) -> u8
+    requires { IsTrue is_inside → index < length text.now }
     ensures { result ≡ slice_index text.now index }
 {
-    if index < text.len() { text[index] } else { 0 }
+    if is_inside || index < text.len() { text[index] } else { 0 }
 }
 
 /// Returns the value of this byte as a hexadecimal digit, or 16 if it is none.
@@ -128,56 +130,64 @@ pub(crate) struct LeadingDigits {
     pub(crate) next: u8,
 }
 
-/// Returns the hexadecimal digits that come first.
+/// Returns the hexadecimal digits at `start`. Five bytes are left there, or this is not known.
+///
+/// There is no loop, since one takes more instructions.
 #[inline(always)]
-fn count_digits(text: &[u8]) -> LeadingDigits
-    ensures digits { AreLeadingHexDigits text.now result.count }
+fn count_digits(text: &[u8], start: usize, has_five: bool) -> LeadingDigits
+    requires start { start ≤ length text.now }
+    requires five { IsTrue has_five → start + 5 ≤ length text.now }
+    ensures digits { AreLeadingHexDigits (drop start text.now) result.count }
     ensures value { result.count < 5
-        → result.value ≡ digits_value 16 (take result.count text.now) }
-    ensures next { result.count < 5 → result.next ≡ slice_index text.now result.count }
+        → result.value ≡ digits_value 16 (take result.count (drop start text.now)) }
+    ensures next { result.count < 5 → result.next ≡ slice_index text.now (start + result.count) }
 {
-    let next = byte_at(text, 0);
+    let next = byte_at(text, start, has_five);
     let value = digit_of(next);
     if value == 16 {
         return LeadingDigits { count: 0, value: 0, next };
     }
-    let next = byte_at(text, 1);
+    let next = byte_at(text, start + 1, has_five);
     let digit = digit_of(next);
     if digit == 16 {
         return LeadingDigits { count: 1, value, next };
     }
     let value = value * 16 + digit;
-    let next = byte_at(text, 2);
+    let next = byte_at(text, start + 2, has_five);
     let digit = digit_of(next);
     if digit == 16 {
         return LeadingDigits { count: 2, value, next };
     }
     let value = value * 16 + digit;
-    let next = byte_at(text, 3);
+    let next = byte_at(text, start + 3, has_five);
     let digit = digit_of(next);
     if digit == 16 {
         return LeadingDigits { count: 3, value, next };
     }
     let value = value * 16 + digit;
-    let next = byte_at(text, 4);
+    let next = byte_at(text, start + 4, has_five);
     if digit_of(next) == 16 {
         return LeadingDigits { count: 4, value, next };
     }
     LeadingDigits { count: 5, value, next }
 }
 
-/// Returns the hexadecimal digits that come first.
+/// Returns the hexadecimal digits at `start`.
 ///
-/// There is no loop, since one takes more instructions. Both branches do the same, but where five
-/// bytes are left the compiler drops the tests for the end of the text.
+/// Most groups have five bytes after their start, and there no index is tested.
 #[inline(always)]
-pub(crate) fn leading_digits(text: &[u8]) -> LeadingDigits
-    ensures digits { AreLeadingHexDigits text.now result.count }
+pub(crate) fn leading_digits(text: &[u8], start: usize) -> LeadingDigits
+    requires { start ≤ length text.now }
+    ensures digits { AreLeadingHexDigits (drop start text.now) result.count }
     ensures value { result.count < 5
-        → result.value ≡ digits_value 16 (take result.count text.now) }
-    ensures next { result.count < 5 → result.next ≡ slice_index text.now result.count }
+        → result.value ≡ digits_value 16 (take result.count (drop start text.now)) }
+    ensures next { result.count < 5 → result.next ≡ slice_index text.now (start + result.count) }
 {
-    if text.len() >= 5 { count_digits(text) } else { count_digits(text) }
+    if text.len() - start >= 5 {
+        count_digits(text, start, true)
+    } else {
+        count_digits(text, start, false)
+    }
 }
 
 /// Returns how many hexadecimal digits of a group come first, of which five at most are counted.
@@ -185,7 +195,7 @@ pub(crate) fn leading_digits(text: &[u8]) -> LeadingDigits
 pub(crate) fn hex_digits(text: &[u8]) -> usize
     ensures { AreLeadingHexDigits text.now result }
 {
-    leading_digits(text).count
+    leading_digits(text, 0).count
 }
 
 /// Returns what follows an IPv4 address at the end of an IPv6 address, where it fits. So many

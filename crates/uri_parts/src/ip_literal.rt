@@ -299,24 +299,34 @@ fn any_literal_end(text: &str, start: usize) -> Result<usize, ParseError>
     Err(refusal(text, start))
 }
 
+/// Returns the position after the IPv6 address at `start` and its `]`. Returns `None` if there is
+/// none, or it has an IPv4 address in it.
+///
+/// It calls no other function, so it saves few registers.
+#[inline(never)]
+fn plain_ipv6_end(text: &str, start: usize) -> Option<usize>
+    requires { IsCharBoundary text.now start }
+    ensures boundary { IfSome result (IsCharBoundary text.now) }
+    ensures exact { IfSome result (λ end. literal text.now start ≡ Ok end) }
+{
+    let mut segments = [0; 8];
+    match read_without_ipv4(text.as_bytes(), start, &mut segments) {
+        Some(Some(end)) if next_is(text, end, b']') => Some(end + 1),
+        _ => None,
+    }
+}
+
 /// Returns the position after the address at `start` and its `]`, or why there is none. A `[` is
 /// before `start`.
-///
-/// Most addresses are of version 6 without an IPv4 address in them. What such a one takes calls no
-/// other function, so no registers are saved.
+#[inline(always)]
 pub(crate) fn literal_end(text: &str, start: usize) -> Result<usize, ParseError>
     requires { IsCharBoundary text.now start }
     ensures boundary { IfOk result (λ end. IsCharBoundary text.now end) }
     ensures index { IfErr result (λ e. IsCharBoundary text.now (error_index e)) }
     ensures exact { result ≡ literal text.now start }
 {
-    let address = &text[start..];
-    let mut segments = [0; 8];
-    if let Some(Some(rest)) = read_without_ipv4(address.as_bytes(), &mut segments) {
-        let end = text.len() - rest.len();
-        if next_is(text, end, b']') {
-            return Ok(end + 1);
-        }
+    match plain_ipv6_end(text, start) {
+        Some(end) => Ok(end),
+        None => any_literal_end(text, start),
     }
-    any_literal_end(text, start)
 }

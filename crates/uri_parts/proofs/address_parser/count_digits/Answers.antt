@@ -1,5 +1,5 @@
-use Rattle.std.proofs.Common.{◌≡◌, ◌≢◌, ℕ, ◌+◌, ◌*◌, ◌<◌, ◌≤◌, min, List, take, get_or, length}
-use Rattle.std.proofs.Common.{arith, lt-ltb, le-ltb}
+use Rattle.std.proofs.Common.{◌≡◌, ◌≢◌, ℕ, ◌+◌, ◌*◌, ◌<◌, ◌≤◌, min, List, take, drop, get_or, length}
+use Rattle.std.proofs.Common.{arith, lt-ltb, le-ltb, get_or-drop, add-zero}
 use Rattle.std.proofs.lemmas.Int.Digits.{digits_value_more}
 use Rattle.std.specs.Char.{digit_value}
 use Rattle.std.specs.Str.Parse.{digits_value}
@@ -36,6 +36,15 @@ module _ (text : List ℕ) (count byte digit : ℕ) (here : byte ≡ get_or text
   all h other few = digits-before-other-byte-are-all-leading text count h few
       (rw (← here) (le-ltb (digit_value byte) 16 (omega arith)))
 
+-- the byte at an index of the text is one of what begins at the start of the group
+at : (text : List ℕ) (start k byte : ℕ) → byte ≡ get_or text (start + k) 0
+    → byte ≡ get_or (drop start text) k 0
+at text start k byte here = rw (get_or-drop start text k 0) here
+
+at_start : (text : List ℕ) (start byte : ℕ) → byte ≡ get_or text start 0
+    → byte ≡ get_or (drop start text) 0 0
+at_start text start byte here = rw (get_or-drop start text 0 0, add-zero) here
+
 -- the first digit is the number so far
 first : (text : List ℕ) (byte digit : ℕ) → byte ≡ get_or text 0 0 → digit ≡ min (digit_value byte) 16
     → digit ≢ 16 → BeginsNumber text 1 digit
@@ -46,61 +55,61 @@ first text byte digit here of other =
 
 pub returns-then-digit-eq16-clause-digits : goal.returns-then-digit-eq16-clause-digits
 returns-then-digit-eq16-clause-digits c =
-    let one = first _ _ _ c.byte_at-next.ensures c.digit_of-value.ensures c.if-value-eq16.false in
-    all _ 1 _ _ c.byte_at-next-2.ensures c.digit_of-digit.ensures one.digits c.if-digit-eq16.true (omega arith)
+    let one = first _ _ _ (at_start c.args.text.now c.args.start _ c.byte_at-next.ensures) c.digit_of-value.ensures c.if-value-eq16.false in
+    all _ 1 _ _ (at c.args.text.now c.args.start 1 _ c.byte_at-next-2.ensures) c.digit_of-digit.ensures one.digits c.if-digit-eq16.true (omega arith)
 
 pub returns-then-digit-eq16-clause-value : goal.returns-then-digit-eq16-clause-value
 returns-then-digit-eq16-clause-value c =
-    let one = first _ _ _ c.byte_at-next.ensures c.digit_of-value.ensures c.if-value-eq16.false in
+    let one = first _ _ _ (at_start c.args.text.now c.args.start _ c.byte_at-next.ensures) c.digit_of-value.ensures c.if-value-eq16.false in
     λ _. one.is
 
 pub returns-then-digit-eq16-2-clause-digits : goal.returns-then-digit-eq16-2-clause-digits
 returns-then-digit-eq16-2-clause-digits c =
-    let one = first _ _ _ c.byte_at-next.ensures c.digit_of-value.ensures c.if-value-eq16.false in
-    let two = more _ 1 _ _ c.byte_at-next-2.ensures c.digit_of-digit.ensures _ one c.if-digit-eq16.false in
-    all _ 2 _ _ c.byte_at-next-3.ensures c.digit_of-digit-2.ensures two.digits c.if-digit-eq16-2.true (omega arith)
+    let one = first _ _ _ (at_start c.args.text.now c.args.start _ c.byte_at-next.ensures) c.digit_of-value.ensures c.if-value-eq16.false in
+    let two = more _ 1 _ _ (at c.args.text.now c.args.start 1 _ c.byte_at-next-2.ensures) c.digit_of-digit.ensures _ one c.if-digit-eq16.false in
+    all _ 2 _ _ (at c.args.text.now c.args.start 2 _ c.byte_at-next-3.ensures) c.digit_of-digit-2.ensures two.digits c.if-digit-eq16-2.true (omega arith)
 
 pub returns-then-digit-eq16-2-clause-value : goal.returns-then-digit-eq16-2-clause-value
 returns-then-digit-eq16-2-clause-value c =
-    let one = first _ _ _ c.byte_at-next.ensures c.digit_of-value.ensures c.if-value-eq16.false in
-    let two = more _ 1 _ _ c.byte_at-next-2.ensures c.digit_of-digit.ensures _ one c.if-digit-eq16.false in
+    let one = first _ _ _ (at_start c.args.text.now c.args.start _ c.byte_at-next.ensures) c.digit_of-value.ensures c.if-value-eq16.false in
+    let two = more _ 1 _ _ (at c.args.text.now c.args.start 1 _ c.byte_at-next-2.ensures) c.digit_of-digit.ensures _ one c.if-digit-eq16.false in
     λ _. two.is
 
 pub returns-then-digit-eq16-3-clause-digits : goal.returns-then-digit-eq16-3-clause-digits
 returns-then-digit-eq16-3-clause-digits c =
-    let one = first _ _ _ c.byte_at-next.ensures c.digit_of-value.ensures c.if-value-eq16.false in
-    let two = more _ 1 _ _ c.byte_at-next-2.ensures c.digit_of-digit.ensures _ one c.if-digit-eq16.false in
-    let three = more _ 2 _ _ c.byte_at-next-3.ensures c.digit_of-digit-2.ensures _ two c.if-digit-eq16-2.false in
-    all _ 3 _ _ c.byte_at-next-4.ensures c.digit_of-digit-3.ensures three.digits c.if-digit-eq16-3.true (omega arith)
+    let one = first _ _ _ (at_start c.args.text.now c.args.start _ c.byte_at-next.ensures) c.digit_of-value.ensures c.if-value-eq16.false in
+    let two = more _ 1 _ _ (at c.args.text.now c.args.start 1 _ c.byte_at-next-2.ensures) c.digit_of-digit.ensures _ one c.if-digit-eq16.false in
+    let three = more _ 2 _ _ (at c.args.text.now c.args.start 2 _ c.byte_at-next-3.ensures) c.digit_of-digit-2.ensures _ two c.if-digit-eq16-2.false in
+    all _ 3 _ _ (at c.args.text.now c.args.start 3 _ c.byte_at-next-4.ensures) c.digit_of-digit-3.ensures three.digits c.if-digit-eq16-3.true (omega arith)
 
 pub returns-then-digit-eq16-3-clause-value : goal.returns-then-digit-eq16-3-clause-value
 returns-then-digit-eq16-3-clause-value c =
-    let one = first _ _ _ c.byte_at-next.ensures c.digit_of-value.ensures c.if-value-eq16.false in
-    let two = more _ 1 _ _ c.byte_at-next-2.ensures c.digit_of-digit.ensures _ one c.if-digit-eq16.false in
-    let three = more _ 2 _ _ c.byte_at-next-3.ensures c.digit_of-digit-2.ensures _ two c.if-digit-eq16-2.false in
+    let one = first _ _ _ (at_start c.args.text.now c.args.start _ c.byte_at-next.ensures) c.digit_of-value.ensures c.if-value-eq16.false in
+    let two = more _ 1 _ _ (at c.args.text.now c.args.start 1 _ c.byte_at-next-2.ensures) c.digit_of-digit.ensures _ one c.if-digit-eq16.false in
+    let three = more _ 2 _ _ (at c.args.text.now c.args.start 2 _ c.byte_at-next-3.ensures) c.digit_of-digit-2.ensures _ two c.if-digit-eq16-2.false in
     λ _. three.is
 
 pub returns-then-digit_of-eq16-clause-digits : goal.returns-then-digit_of-eq16-clause-digits
 returns-then-digit_of-eq16-clause-digits c =
-    let one = first _ _ _ c.byte_at-next.ensures c.digit_of-value.ensures c.if-value-eq16.false in
-    let two = more _ 1 _ _ c.byte_at-next-2.ensures c.digit_of-digit.ensures _ one c.if-digit-eq16.false in
-    let three = more _ 2 _ _ c.byte_at-next-3.ensures c.digit_of-digit-2.ensures _ two c.if-digit-eq16-2.false in
-    let four = more _ 3 _ _ c.byte_at-next-4.ensures c.digit_of-digit-3.ensures _ three c.if-digit-eq16-3.false in
-    all _ 4 _ _ c.byte_at-next-5.ensures c.digit_of.ensures four.digits c.if-digit_of-eq16.true (omega arith)
+    let one = first _ _ _ (at_start c.args.text.now c.args.start _ c.byte_at-next.ensures) c.digit_of-value.ensures c.if-value-eq16.false in
+    let two = more _ 1 _ _ (at c.args.text.now c.args.start 1 _ c.byte_at-next-2.ensures) c.digit_of-digit.ensures _ one c.if-digit-eq16.false in
+    let three = more _ 2 _ _ (at c.args.text.now c.args.start 2 _ c.byte_at-next-3.ensures) c.digit_of-digit-2.ensures _ two c.if-digit-eq16-2.false in
+    let four = more _ 3 _ _ (at c.args.text.now c.args.start 3 _ c.byte_at-next-4.ensures) c.digit_of-digit-3.ensures _ three c.if-digit-eq16-3.false in
+    all _ 4 _ _ (at c.args.text.now c.args.start 4 _ c.byte_at-next-5.ensures) c.digit_of.ensures four.digits c.if-digit_of-eq16.true (omega arith)
 
 pub returns-then-digit_of-eq16-clause-value : goal.returns-then-digit_of-eq16-clause-value
 returns-then-digit_of-eq16-clause-value c =
-    let one = first _ _ _ c.byte_at-next.ensures c.digit_of-value.ensures c.if-value-eq16.false in
-    let two = more _ 1 _ _ c.byte_at-next-2.ensures c.digit_of-digit.ensures _ one c.if-digit-eq16.false in
-    let three = more _ 2 _ _ c.byte_at-next-3.ensures c.digit_of-digit-2.ensures _ two c.if-digit-eq16-2.false in
-    let four = more _ 3 _ _ c.byte_at-next-4.ensures c.digit_of-digit-3.ensures _ three c.if-digit-eq16-3.false in
+    let one = first _ _ _ (at_start c.args.text.now c.args.start _ c.byte_at-next.ensures) c.digit_of-value.ensures c.if-value-eq16.false in
+    let two = more _ 1 _ _ (at c.args.text.now c.args.start 1 _ c.byte_at-next-2.ensures) c.digit_of-digit.ensures _ one c.if-digit-eq16.false in
+    let three = more _ 2 _ _ (at c.args.text.now c.args.start 2 _ c.byte_at-next-3.ensures) c.digit_of-digit-2.ensures _ two c.if-digit-eq16-2.false in
+    let four = more _ 3 _ _ (at c.args.text.now c.args.start 3 _ c.byte_at-next-4.ensures) c.digit_of-digit-3.ensures _ three c.if-digit-eq16-3.false in
     λ _. four.is
 
 pub returns-clause-digits : goal.returns-clause-digits
 returns-clause-digits c =
-    let one = first _ _ _ c.byte_at-next.ensures c.digit_of-value.ensures c.if-value-eq16.false in
-    let two = more _ 1 _ _ c.byte_at-next-2.ensures c.digit_of-digit.ensures _ one c.if-digit-eq16.false in
-    let three = more _ 2 _ _ c.byte_at-next-3.ensures c.digit_of-digit-2.ensures _ two c.if-digit-eq16-2.false in
-    let four = more _ 3 _ _ c.byte_at-next-4.ensures c.digit_of-digit-3.ensures _ three c.if-digit-eq16-3.false in
-    let five = more _ 4 _ _ c.byte_at-next-5.ensures c.digit_of.ensures _ four c.if-digit_of-eq16.false in
+    let one = first _ _ _ (at_start c.args.text.now c.args.start _ c.byte_at-next.ensures) c.digit_of-value.ensures c.if-value-eq16.false in
+    let two = more _ 1 _ _ (at c.args.text.now c.args.start 1 _ c.byte_at-next-2.ensures) c.digit_of-digit.ensures _ one c.if-digit-eq16.false in
+    let three = more _ 2 _ _ (at c.args.text.now c.args.start 2 _ c.byte_at-next-3.ensures) c.digit_of-digit-2.ensures _ two c.if-digit-eq16-2.false in
+    let four = more _ 3 _ _ (at c.args.text.now c.args.start 3 _ c.byte_at-next-4.ensures) c.digit_of-digit-3.ensures _ three c.if-digit-eq16-3.false in
+    let five = more _ 4 _ _ (at c.args.text.now c.args.start 4 _ c.byte_at-next-5.ensures) c.digit_of.ensures _ four c.if-digit_of-eq16.false in
     five-digits-are-leading-digits _ five.digits

@@ -1,6 +1,7 @@
 use Rattle.std.proofs.Common.{◌≡◌, ◌≢◌, ℕ, zero, suc, ◌+◌, ◌-◌, ◌<◌, ◌≤◌, ◌==◌, ◌⊎◌, Bool, true, false, List, []}
 use Rattle.std.proofs.Common.{◌∷◌, ◌++◌, length, take, drop, get_or, Option, Some, None, option_map, refl, sym, ap, ◌∙◌}
 use Rattle.std.proofs.Common.{arith, inl, inr, append-nil, ne_eqb, take_all, length-drop, nat_lt}
+use Rattle.std.proofs.Common.{drop-drop, get_or-drop}
 use Rattle.std.proofs.lemmas.Bool.{cases_lt}
 use Rattle.std.proofs.lemmas.List.{places, take_more_set, at_drop_more, at_drop_all, get_or_past}
 use Rattle.std.proofs.lemmas.Grind.{common_steps}
@@ -117,58 +118,68 @@ module _ (n i : ℕ) (text s prefix group : List ℕ) (within : i < n)
         let later : (i + 1 == 0) ≡ false = ne_eqb _ _ (omega arith) in
         rw (later, next-is-colon group count colon) refl
 
+-- the byte after the digits of a group, by its position and as lemmas write it
+byte_after : (text : List ℕ) (group count byte : ℕ) → byte ≡ get_or text (group + count) 0
+    → byte ≡ get_or (drop group text) count 0
+byte_after text group count byte here = rw (get_or-drop group text count 0) here
+
 pub returns-then-digits-eq0-clause-value : goal.returns-then-digits-eq0-clause-value
 returns-then-digits-eq0-clause-value c =
     reading-ends _ _ _ _ _ _ c.loop-i-test.true c.loop-i.invariant.found c.loop-i.invariant.next _
     c.leading_digits-digits.ensures.digits
     (elim c.then-digits-eq0.either [ inl none ↦ inl none | inr five ↦ inr five.1 ])
 
-pub returns-then-digits-ne58-clause-value : goal.returns-then-digits-ne58-clause-value
-returns-then-digits-ne58-clause-value c =
+pub returns-else-digits-eq46-clause-value : goal.returns-else-digits-eq46-clause-value
+returns-else-digits-eq46-clause-value c =
     let digits = c.leading_digits-digits in
+    let text = c.args.text.now in
     let few : digits.result.count < 5 = let most = digits.ensures.digits.most in
     let other = c.if-digits-eq5.false in omega arith in
-    let byte = digits.ensures.next few in
+    let byte = byte_after text c.loop-i.group digits.result.count _ (digits.ensures.next few) in
     let read = reading-ends-after-it _ _ _ _ _ _ c.loop-i-test.true c.loop-i.invariant.found
     c.loop-i.invariant.next _ digits.ensures.digits c.if-digits-eq0.false c.if-digits-eq5.false
     (λ e. c.if-digits-eq46.false (byte ∙ e)) (λ e. c.if-digits-ne58.true (byte ∙ e)) in
     rw (
       take_more_set c.loop-i.segments c.loop-i.i digits.result.value (omega arith),
       digits.ensures.value few,
-      c.suffix_from-rest.ensures,
+      ← drop-drop digits.result.count c.loop-i.group text,
     )
     read
-
-pub suffix_from-group-requires : goal.suffix_from-group-requires
-suffix_from-group-requires c =
-    let digits = c.leading_digits-digits in
-    let few : digits.result.count < 5 = let most = digits.ensures.digits.most in
-    let other = c.if-digits-eq5.false in omega arith in
-    colon-is-inside _ _ (sym (digits.ensures.next few) ∙ c.if-digits-ne58.false)
 
 pub loop-i-preserved : goal.loop-i-preserved
 loop-i-preserved c =
     let digits = c.leading_digits-digits in
+    let text = c.args.text.now in
+    let group = c.loop-i.group in
+    let count = digits.result.count in
     let within : c.loop-i.i < length c.loop-i.segments = omega arith in
-    let few : digits.result.count < 5 = let most = digits.ensures.digits.most in
+    let few : count < 5 = let most = digits.ensures.digits.most in
     let other = c.if-digits-eq5.false in omega arith in
-    let byte = digits.ensures.next few in
-    let no_dot : get_or c.loop-i.group.now digits.result.count 0 ≢ 46 =
-    λ e. c.if-digits-eq46.false (byte ∙ e) in
+    let byte = byte_after text group count _ (digits.ensures.next few) in
+    let no_dot : get_or (drop group text) count 0 ≢ 46 =
+    λ e. absurd (let dot = byte ∙ e in let colon = c.if-digits-ne58.false in omega arith) in
     let read = reading-goes-on _ _ _ _ _ _ c.loop-i-test.true c.loop-i.invariant.found
     c.loop-i.invariant.next _ digits.ensures.digits c.if-digits-eq0.false c.if-digits-eq5.false
     no_dot in
+    let colon : get_or (drop group text) count 0 ≡ 58 = sym byte ∙ c.if-digits-ne58.false in
     let next = next-group _ _ _ _ _ _ c.loop-i-test.true c.loop-i.invariant.found
     c.loop-i.invariant.next _ digits.ensures.digits c.if-digits-eq0.false c.if-digits-eq5.false
-    no_dot (sym byte ∙ c.if-digits-ne58.false) in
+    no_dot colon in
+    let inside = colon-is-inside (drop group text) count colon in
+    let size = length-drop group text in
     record {
       found = rw (
         take_more_set c.loop-i.segments c.loop-i.i digits.result.value within,
         digits.ensures.value few,
-        c.suffix_from-rest.ensures,
+        ← drop-drop count group text,
       )
           read;
-      next = rw (c.suffix_from-rest.ensures, c.suffix_from-group.ensures) next;
+      next = rw (← drop-drop count group text)
+          (let same : drop (group + count + 1) text ≡ drop (count + 1) (drop group text) =
+          ap (λ n. drop n text) (omega arith) ∙ sym (drop-drop (count + 1) group text) in
+          rw same next);
+      group = omega arith;
+      end = omega arith;
       others = let same = c.loop-i.invariant.others in grind (arith, common_steps, places);
     }
 
