@@ -108,7 +108,11 @@ pub(crate) fn byte_at(text: &[u8], index: usize, is_inside: bool) -> u8
     requires { IsTrue is_inside → index < length text.now }
     ensures { result ≡ slice_index text.now index }
 {
-    if is_inside || index < text.len() { text[index] } else { 0 }
+    if is_inside || index < text.len() {
+        text[index]
+    } else {
+        0
+    }
 }
 
 /// Returns the value of this byte as a hexadecimal digit, or 16 if it is none.
@@ -145,31 +149,55 @@ fn count_digits(text: &[u8], start: usize, has_five: bool) -> LeadingDigits
     let next = byte_at(text, start, has_five);
     let value = digit_of(next);
     if value == 16 {
-        return LeadingDigits { count: 0, value: 0, next };
+        return LeadingDigits {
+            count: 0,
+            value: 0,
+            next,
+        };
     }
     let next = byte_at(text, start + 1, has_five);
     let digit = digit_of(next);
     if digit == 16 {
-        return LeadingDigits { count: 1, value, next };
+        return LeadingDigits {
+            count: 1,
+            value,
+            next,
+        };
     }
     let value = value * 16 + digit;
     let next = byte_at(text, start + 2, has_five);
     let digit = digit_of(next);
     if digit == 16 {
-        return LeadingDigits { count: 2, value, next };
+        return LeadingDigits {
+            count: 2,
+            value,
+            next,
+        };
     }
     let value = value * 16 + digit;
     let next = byte_at(text, start + 3, has_five);
     let digit = digit_of(next);
     if digit == 16 {
-        return LeadingDigits { count: 3, value, next };
+        return LeadingDigits {
+            count: 3,
+            value,
+            next,
+        };
     }
     let value = value * 16 + digit;
     let next = byte_at(text, start + 4, has_five);
     if digit_of(next) == 16 {
-        return LeadingDigits { count: 4, value, next };
+        return LeadingDigits {
+            count: 4,
+            value,
+            next,
+        };
     }
-    LeadingDigits { count: 5, value, next }
+    LeadingDigits {
+        count: 5,
+        value,
+        next,
+    }
 }
 
 /// Returns the hexadecimal digits at `start`.

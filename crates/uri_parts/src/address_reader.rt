@@ -31,7 +31,11 @@ fn read_groups(text: &[u8], start: usize, segments: &mut [u16]) -> Option<(usize
         segments[i] = digits.value;
         end = group + digits.count;
         if digits.next != b':' {
-            return if digits.next == b'.' { None } else { Some((i + 1, end)) };
+            return if digits.next == b'.' {
+                None
+            } else {
+                Some((i + 1, end))
+            };
         }
         group = end + 1;
     }
@@ -42,8 +46,11 @@ fn read_groups(text: &[u8], start: usize, segments: &mut [u16]) -> Option<(usize
 /// `Some(None)` if there is none, or `None` if a `.` follows a group.
 #[inline(always)]
 #[tactic(auto, unfolding(std::specs::Net::Reader::read_ipv6))]
-pub(crate) fn read_without_ipv4(text: &[u8], start: usize, segments: &mut [u16; 8])
-    -> Option<Option<usize>>
+pub(crate) fn read_without_ipv4(
+    text: &[u8],
+    start: usize,
+    segments: &mut [u16; 8],
+) -> Option<Option<usize>>
     requires zeros { segments.old ≡ replicate 8 0 }
     requires start { start ≤ length text.now }
     ensures read { IfSome result (λ found. option_map (λ end. (segments.new, drop end text.now)) found

@@ -279,6 +279,7 @@ fn future_end(text: &str, start: usize) -> Result<usize, ParseError>
 
 /// Returns the position after the address at `start` and its `]`, or why there is none. A `[` is
 /// before `start`. It parses addresses of every form.
+#[cold]
 #[inline(never)]
 fn any_literal_end(text: &str, start: usize) -> Result<usize, ParseError>
     requires { IsCharBoundary text.now start }
