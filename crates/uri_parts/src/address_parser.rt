@@ -147,8 +147,8 @@ fn count_digits(text: &[u8], start: usize, has_five: bool) -> LeadingDigits
     ensures next { result.count < 5 → result.next ≡ slice_index text.now (start + result.count) }
 {
     let next = byte_at(text, start, has_five);
-    let value = digit_of(next);
-    if value == 16 {
+    let first = digit_of(next);
+    if first == 16 {
         return LeadingDigits {
             count: 0,
             value: 0,
@@ -160,11 +160,11 @@ fn count_digits(text: &[u8], start: usize, has_five: bool) -> LeadingDigits
     if digit == 16 {
         return LeadingDigits {
             count: 1,
-            value,
+            value: first,
             next,
         };
     }
-    let value = value * 16 + digit;
+    let value = first * 16 + digit;
     let next = byte_at(text, start + 2, has_five);
     let digit = digit_of(next);
     if digit == 16 {

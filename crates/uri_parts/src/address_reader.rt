@@ -1,7 +1,7 @@
 //! The segments of an IPv6 address that has no IPv4 address in it: RFC 4291, section 2.2.
 ghost use Rattle.std.specs.Net.Reader.{read_ipv6, read_segments};
 ghost use Rattle.std.specs.Prelude.{◌≡◌, ◌==◌, ◌<◌, ◌≤◌, IfSome, Some, drop, false, length};
-ghost use Rattle.std.specs.Prelude.{option_map, replicate, take, true};
+ghost use Rattle.std.specs.Prelude.{ℕ, ◌+◌, max, option_map, replicate, slice_index, take, true};
 ghost use Rattle.std.specs.Str.Parse.{digits_value};
 ghost use Rattle.uri_pct.specs.Delimiters.{full_stop};
 ghost use Rattle.uri_parts.specs.Hosts.{ipv6_value};
@@ -42,6 +42,21 @@ fn read_groups(text: &[u8], start: usize, segments: &mut [u16]) -> Option<(usize
     Some((room, end))
 }
 
+/// Merges the last groups of an IPv6 address, which `tail` has from 8 on, into its segments. They
+/// are moved to the end, and zeros are before them.
+///
+/// A copy of so many segments would be a call; this is three instructions.
+#[inline(always)]
+fn merge_tail(segments: &mut [u16; 8], tail: &[u16; 16], tail_len: usize)
+    requires { tail_len ≤ 8 }
+    ensures { (k : ℕ) → k < 8 → slice_index segments.new k
+        ≡ max (slice_index segments.old k) (slice_index tail.now (tail_len + k)) }
+{
+    for i in 0..8 {
+        segments[i] = segments[i].max(tail[tail_len + i]);
+    }
+}
+
 /// Reads the IPv6 address at `start` into `segments`, which are zeros. Returns where it ends,
 /// `Some(None)` if there is none, or `None` if a `.` follows a group.
 #[inline(always)]
@@ -64,9 +79,9 @@ pub(crate) fn read_without_ipv4(
     if byte_at(text, end, false) != b':' || byte_at(text, end + 1, false) != b':' {
         return Some(None);
     }
-    let mut tail = [0; 7];
-    let (tail_len, end) = read_groups(text, end + 2, &mut tail[..7 - head_len])?;
-    segments[8 - tail_len..].copy_from_slice(&tail[..tail_len]);
+    let mut tail = [0; 16];
+    let (tail_len, end) = read_groups(text, end + 2, &mut tail[8..15 - head_len])?;
+    merge_tail(segments, &tail, tail_len);
     Some(Some(end))
 }
 

@@ -55,43 +55,43 @@ first text byte digit here of other =
 
 pub returns-then-digit-eq16-clause-digits : goal.returns-then-digit-eq16-clause-digits
 returns-then-digit-eq16-clause-digits c =
-    let one = first _ _ _ (at_start c.args.text.now c.args.start _ c.byte_at-next.ensures) c.digit_of-value.ensures c.if-value-eq16.false in
+    let one = first _ _ _ (at_start c.args.text.now c.args.start _ c.byte_at-next.ensures) c.digit_of-first.ensures c.if-first-eq16.false in
     all _ 1 _ _ (at c.args.text.now c.args.start 1 _ c.byte_at-next-2.ensures) c.digit_of-digit.ensures one.digits c.if-digit-eq16.true (omega arith)
 
 pub returns-then-digit-eq16-clause-value : goal.returns-then-digit-eq16-clause-value
 returns-then-digit-eq16-clause-value c =
-    let one = first _ _ _ (at_start c.args.text.now c.args.start _ c.byte_at-next.ensures) c.digit_of-value.ensures c.if-value-eq16.false in
+    let one = first _ _ _ (at_start c.args.text.now c.args.start _ c.byte_at-next.ensures) c.digit_of-first.ensures c.if-first-eq16.false in
     λ _. one.is
 
 pub returns-then-digit-eq16-2-clause-digits : goal.returns-then-digit-eq16-2-clause-digits
 returns-then-digit-eq16-2-clause-digits c =
-    let one = first _ _ _ (at_start c.args.text.now c.args.start _ c.byte_at-next.ensures) c.digit_of-value.ensures c.if-value-eq16.false in
+    let one = first _ _ _ (at_start c.args.text.now c.args.start _ c.byte_at-next.ensures) c.digit_of-first.ensures c.if-first-eq16.false in
     let two = more _ 1 _ _ (at c.args.text.now c.args.start 1 _ c.byte_at-next-2.ensures) c.digit_of-digit.ensures _ one c.if-digit-eq16.false in
     all _ 2 _ _ (at c.args.text.now c.args.start 2 _ c.byte_at-next-3.ensures) c.digit_of-digit-2.ensures two.digits c.if-digit-eq16-2.true (omega arith)
 
 pub returns-then-digit-eq16-2-clause-value : goal.returns-then-digit-eq16-2-clause-value
 returns-then-digit-eq16-2-clause-value c =
-    let one = first _ _ _ (at_start c.args.text.now c.args.start _ c.byte_at-next.ensures) c.digit_of-value.ensures c.if-value-eq16.false in
+    let one = first _ _ _ (at_start c.args.text.now c.args.start _ c.byte_at-next.ensures) c.digit_of-first.ensures c.if-first-eq16.false in
     let two = more _ 1 _ _ (at c.args.text.now c.args.start 1 _ c.byte_at-next-2.ensures) c.digit_of-digit.ensures _ one c.if-digit-eq16.false in
     λ _. two.is
 
 pub returns-then-digit-eq16-3-clause-digits : goal.returns-then-digit-eq16-3-clause-digits
 returns-then-digit-eq16-3-clause-digits c =
-    let one = first _ _ _ (at_start c.args.text.now c.args.start _ c.byte_at-next.ensures) c.digit_of-value.ensures c.if-value-eq16.false in
+    let one = first _ _ _ (at_start c.args.text.now c.args.start _ c.byte_at-next.ensures) c.digit_of-first.ensures c.if-first-eq16.false in
     let two = more _ 1 _ _ (at c.args.text.now c.args.start 1 _ c.byte_at-next-2.ensures) c.digit_of-digit.ensures _ one c.if-digit-eq16.false in
     let three = more _ 2 _ _ (at c.args.text.now c.args.start 2 _ c.byte_at-next-3.ensures) c.digit_of-digit-2.ensures _ two c.if-digit-eq16-2.false in
     all _ 3 _ _ (at c.args.text.now c.args.start 3 _ c.byte_at-next-4.ensures) c.digit_of-digit-3.ensures three.digits c.if-digit-eq16-3.true (omega arith)
 
 pub returns-then-digit-eq16-3-clause-value : goal.returns-then-digit-eq16-3-clause-value
 returns-then-digit-eq16-3-clause-value c =
-    let one = first _ _ _ (at_start c.args.text.now c.args.start _ c.byte_at-next.ensures) c.digit_of-value.ensures c.if-value-eq16.false in
+    let one = first _ _ _ (at_start c.args.text.now c.args.start _ c.byte_at-next.ensures) c.digit_of-first.ensures c.if-first-eq16.false in
     let two = more _ 1 _ _ (at c.args.text.now c.args.start 1 _ c.byte_at-next-2.ensures) c.digit_of-digit.ensures _ one c.if-digit-eq16.false in
     let three = more _ 2 _ _ (at c.args.text.now c.args.start 2 _ c.byte_at-next-3.ensures) c.digit_of-digit-2.ensures _ two c.if-digit-eq16-2.false in
     λ _. three.is
 
 pub returns-then-digit_of-eq16-clause-digits : goal.returns-then-digit_of-eq16-clause-digits
 returns-then-digit_of-eq16-clause-digits c =
-    let one = first _ _ _ (at_start c.args.text.now c.args.start _ c.byte_at-next.ensures) c.digit_of-value.ensures c.if-value-eq16.false in
+    let one = first _ _ _ (at_start c.args.text.now c.args.start _ c.byte_at-next.ensures) c.digit_of-first.ensures c.if-first-eq16.false in
     let two = more _ 1 _ _ (at c.args.text.now c.args.start 1 _ c.byte_at-next-2.ensures) c.digit_of-digit.ensures _ one c.if-digit-eq16.false in
     let three = more _ 2 _ _ (at c.args.text.now c.args.start 2 _ c.byte_at-next-3.ensures) c.digit_of-digit-2.ensures _ two c.if-digit-eq16-2.false in
     let four = more _ 3 _ _ (at c.args.text.now c.args.start 3 _ c.byte_at-next-4.ensures) c.digit_of-digit-3.ensures _ three c.if-digit-eq16-3.false in
@@ -99,7 +99,7 @@ returns-then-digit_of-eq16-clause-digits c =
 
 pub returns-then-digit_of-eq16-clause-value : goal.returns-then-digit_of-eq16-clause-value
 returns-then-digit_of-eq16-clause-value c =
-    let one = first _ _ _ (at_start c.args.text.now c.args.start _ c.byte_at-next.ensures) c.digit_of-value.ensures c.if-value-eq16.false in
+    let one = first _ _ _ (at_start c.args.text.now c.args.start _ c.byte_at-next.ensures) c.digit_of-first.ensures c.if-first-eq16.false in
     let two = more _ 1 _ _ (at c.args.text.now c.args.start 1 _ c.byte_at-next-2.ensures) c.digit_of-digit.ensures _ one c.if-digit-eq16.false in
     let three = more _ 2 _ _ (at c.args.text.now c.args.start 2 _ c.byte_at-next-3.ensures) c.digit_of-digit-2.ensures _ two c.if-digit-eq16-2.false in
     let four = more _ 3 _ _ (at c.args.text.now c.args.start 3 _ c.byte_at-next-4.ensures) c.digit_of-digit-3.ensures _ three c.if-digit-eq16-3.false in
@@ -107,7 +107,7 @@ returns-then-digit_of-eq16-clause-value c =
 
 pub returns-clause-digits : goal.returns-clause-digits
 returns-clause-digits c =
-    let one = first _ _ _ (at_start c.args.text.now c.args.start _ c.byte_at-next.ensures) c.digit_of-value.ensures c.if-value-eq16.false in
+    let one = first _ _ _ (at_start c.args.text.now c.args.start _ c.byte_at-next.ensures) c.digit_of-first.ensures c.if-first-eq16.false in
     let two = more _ 1 _ _ (at c.args.text.now c.args.start 1 _ c.byte_at-next-2.ensures) c.digit_of-digit.ensures _ one c.if-digit-eq16.false in
     let three = more _ 2 _ _ (at c.args.text.now c.args.start 2 _ c.byte_at-next-3.ensures) c.digit_of-digit-2.ensures _ two c.if-digit-eq16-2.false in
     let four = more _ 3 _ _ (at c.args.text.now c.args.start 3 _ c.byte_at-next-4.ensures) c.digit_of-digit-3.ensures _ three c.if-digit-eq16-3.false in
