@@ -1,8 +1,9 @@
 //! Where an IPv6 address ends, whose numbers nobody asks for: RFC 4291, section 2.2.
 ghost use Rattle.std.specs.Net.Reader as numbers;
-ghost use Rattle.std.specs.Char.{is_digit};
+ghost use Rattle.std.specs.Char.{digit_value};
 ghost use Rattle.std.specs.Prelude.{◌≡◌, ◌≤◌, ◌<◌, IfSome, length, option_copied, option_map, true};
-ghost use Rattle.std.specs.Prelude.{slice_index};
+ghost use Rattle.std.specs.Prelude.{◌+◌, drop, IsTrue, min, slice_index, take};
+ghost use Rattle.std.specs.Str.Parse.{digits_value};
 ghost use Rattle.uri_parts.specs.Models.Literals.{AreLeadingHexDigits, AreCountedGroups};
 
 /// Returns what follows this byte of an IPv6 address, if the text begins with it.
@@ -100,37 +101,129 @@ pub(crate) const DIGIT_VALUES: &[u8; 256] = &[
     16, 16, 16, 16, 16, 16, 16, 16, 16, 16, 16, 16, 16, 16, 16, 16, // F0
 ];
 
-/// Returns whether a hexadecimal digit of an IPv6 address is at `index`.
+/// Returns the byte of an IPv6 address at `index`, or 0 at its end. Whether the index is inside
+/// is tested only where it is not known.
 #[inline(always)]
-fn is_digit_at(text: &[u8], index: usize) -> bool
-    ensures { result ≡ is_digit (slice_index text.now index) 16 }
+pub(crate) fn byte_at(text: &[u8], index: usize, is_inside: bool) -> u8
+    requires { IsTrue is_inside → index < length text.now }
+    ensures { result ≡ slice_index text.now index }
 {
-    index < text.len() && DIGIT_VALUES[usize::from(text[index])] < 16
+    if is_inside || index < text.len() {
+        text[index]
+    } else {
+        0
+    }
+}
+
+/// Returns the value of this byte as a hexadecimal digit, or 16 if it is none.
+#[inline(always)]
+fn digit_of(byte: u8) -> u16
+    ensures { result ≡ min (digit_value byte) 16 }
+{
+    u16::from(DIGIT_VALUES[usize::from(byte)])
+}
+
+/// The hexadecimal digits that a group of an IPv6 address begins with.
+#[derive(Clone, Copy)]
+pub(crate) struct LeadingDigits {
+    /// How many there are, of which five at most are counted.
+    pub(crate) count: usize,
+    /// The number that they write, if there are fewer than five.
+    pub(crate) value: u16,
+    /// The byte after them, if there are fewer than five: 0 at the end of the text.
+    pub(crate) next: u8,
+}
+
+/// Returns the hexadecimal digits at `start`. Five bytes are left there, or this is not known.
+///
+/// There is no loop, since one takes more instructions.
+#[inline(always)]
+fn count_digits(text: &[u8], start: usize, has_five: bool) -> LeadingDigits
+    requires start { start ≤ length text.now }
+    requires five { IsTrue has_five → start + 5 ≤ length text.now }
+    ensures digits { AreLeadingHexDigits (drop start text.now) result.count }
+    ensures value { result.count < 5
+        → result.value ≡ digits_value 16 (take result.count (drop start text.now)) }
+    ensures next { result.count < 5 → result.next ≡ slice_index text.now (start + result.count) }
+{
+    let next = byte_at(text, start, has_five);
+    let first = digit_of(next);
+    if first == 16 {
+        return LeadingDigits {
+            count: 0,
+            value: 0,
+            next,
+        };
+    }
+    let next = byte_at(text, start + 1, has_five);
+    let digit = digit_of(next);
+    if digit == 16 {
+        return LeadingDigits {
+            count: 1,
+            value: first,
+            next,
+        };
+    }
+    let value = first * 16 + digit;
+    let next = byte_at(text, start + 2, has_five);
+    let digit = digit_of(next);
+    if digit == 16 {
+        return LeadingDigits {
+            count: 2,
+            value,
+            next,
+        };
+    }
+    let value = value * 16 + digit;
+    let next = byte_at(text, start + 3, has_five);
+    let digit = digit_of(next);
+    if digit == 16 {
+        return LeadingDigits {
+            count: 3,
+            value,
+            next,
+        };
+    }
+    let value = value * 16 + digit;
+    let next = byte_at(text, start + 4, has_five);
+    if digit_of(next) == 16 {
+        return LeadingDigits {
+            count: 4,
+            value,
+            next,
+        };
+    }
+    LeadingDigits {
+        count: 5,
+        value,
+        next,
+    }
+}
+
+/// Returns the hexadecimal digits at `start`.
+///
+/// Most groups have five bytes after their start, and there no index is tested.
+#[inline(always)]
+pub(crate) fn leading_digits(text: &[u8], start: usize) -> LeadingDigits
+    requires { start ≤ length text.now }
+    ensures digits { AreLeadingHexDigits (drop start text.now) result.count }
+    ensures value { result.count < 5
+        → result.value ≡ digits_value 16 (take result.count (drop start text.now)) }
+    ensures next { result.count < 5 → result.next ≡ slice_index text.now (start + result.count) }
+{
+    if text.len() - start >= 5 {
+        count_digits(text, start, true)
+    } else {
+        count_digits(text, start, false)
+    }
 }
 
 /// Returns how many hexadecimal digits of a group come first, of which five at most are counted.
-///
-/// There is no loop, since one takes more instructions.
 #[inline(always)]
 pub(crate) fn hex_digits(text: &[u8]) -> usize
     ensures { AreLeadingHexDigits text.now result }
 {
-    if !is_digit_at(text, 0) {
-        return 0;
-    }
-    if !is_digit_at(text, 1) {
-        return 1;
-    }
-    if !is_digit_at(text, 2) {
-        return 2;
-    }
-    if !is_digit_at(text, 3) {
-        return 3;
-    }
-    if !is_digit_at(text, 4) {
-        return 4;
-    }
-    5
+    leading_digits(text, 0).count
 }
 
 /// Returns what follows an IPv4 address at the end of an IPv6 address, where it fits. So many

@@ -1,7 +1,7 @@
 //! The text of an IPv6 address (RFC 5952), appended to another.
 //!
 //! `Display` of the address prints the same, with several times the work.
-ghost use Rattle.std.specs.Prelude.{◌≡◌, ◌+◌, ◌<◌, ◌≤◌, ◌∷◌, [], OnOk, length, true};
+ghost use Rattle.std.specs.Prelude.{◌≡◌, ◌+◌, ◌*◌, ◌<◌, ◌≤◌, ◌∷◌, ◌++◌, [], OnOk, length, take, true};
 ghost use Rattle.std.specs.Prelude.{if◌then◌else◌};
 ghost use Rattle.std.specs.Char.{digit_char};
 ghost use Rattle.std.specs.Net.Text as addresses;
@@ -16,42 +16,55 @@ use std::fmt::Write;
 /// The hexadecimal digits.
 const DIGITS: &[u8; 16] = b"0123456789abcdef";
 
-/// Appends a hexadecimal digit of an IPv6 address, unless it is a leading zero.
+/// Writes a hexadecimal digit of an IPv6 address at `end`, unless it is a leading zero. Returns
+/// where the text ends then.
 #[inline(always)]
-fn push_digit(digit: u16, is_leading: bool, out: &mut String) -> Result<(), AllocError>
-    requires { digit < 16 }
-    ensures { OnOk result (Pushes out.old out.new
-        (if is_leading then [] else digit_char digit ∷ [])) }
+fn put_digit(digit: u16, is_leading: bool, text: &mut [u8; 44], end: usize) -> usize
+    requires digit { digit < 16 }
+    requires room { end < 44 }
+    ensures text { take result text.new
+        ≡ take end text.old ++ (if is_leading then [] else digit_char digit ∷ []) }
+    ensures start { end ≤ result }
+    ensures end { result ≤ end + 1 }
 {
     if is_leading {
-        return Ok(());
+        return end;
     }
-    out.push(char::from(DIGITS[usize::from(digit)]))
+    text[end] = DIGITS[usize::from(digit)];
+    end + 1
 }
 
-/// Appends a segment of an IPv6 address in hexadecimal digits, without leading zeros.
-fn push_segment(segment: u16, out: &mut String) -> Result<(), AllocError>
-    ensures { OnOk result (Pushes out.old out.new (addresses.hex segment)) }
+/// Writes a segment of an IPv6 address at `end` in hexadecimal digits, without leading zeros.
+/// Returns where the text ends then.
+#[inline(always)]
+fn put_segment(segment: u16, text: &mut [u8; 44], end: usize) -> usize
+    requires { end ≤ 40 }
+    ensures text { take result text.new ≡ take end text.old ++ addresses.hex segment }
+    ensures end { result ≤ end + 4 }
 {
-    push_digit(segment / 0x1000, segment < 0x1000, out)?;
-    push_digit(segment / 0x100 % 16, segment < 0x100, out)?;
-    push_digit(segment / 0x10 % 16, segment < 0x10, out)?;
-    push_digit(segment % 16, false, out)
+    let end = put_digit(segment / 0x1000, segment < 0x1000, text, end);
+    let end = put_digit(segment / 0x100 % 16, segment < 0x100, text, end);
+    let end = put_digit(segment / 0x10 % 16, segment < 0x10, text, end);
+    put_digit(segment % 16, false, text, end)
 }
 
-/// Appends segments of an IPv6 address with `:` between them.
-fn push_segments(segments: &[u16], out: &mut String) -> Result<(), AllocError>
-    ensures { OnOk result (Pushes out.old out.new (addresses.groups_text segments.now)) }
+/// Writes segments of an IPv6 address at `end`, with `:` between them. Returns where the text ends
+/// then.
+#[inline(always)]
+fn put_segments(segments: &[u16], text: &mut [u8; 44], end: usize) -> usize
+    requires { end + 5 * length segments.now ≤ 44 }
+    ensures text { take result text.new ≡ take end text.old ++ addresses.groups_text segments.now }
+    ensures end { result ≤ end + 5 * length segments.now }
 {
     let [first, rest @ ..] = segments else {
-        return Ok(());
+        return end;
     };
-    push_segment(*first, out)?;
+    let mut written = put_segment(*first, text, end);
     for segment in rest {
-        out.push(':')?;
-        push_segment(*segment, out)?;
+        text[written] = b':';
+        written = put_segment(*segment, text, written + 1);
     }
-    Ok(())
+    written
 }
 
 /// Returns where the first longest run of zero segments of an IPv6 address begins, and its length.
@@ -72,30 +85,40 @@ fn longest_zero_run(segments: &[u16]) -> (usize, usize)
     (start, longest)
 }
 
-/// Appends the segments of an IPv6 address,
-/// with `::` in place of the longest run of two or more zeros.
+/// Writes the segments of an IPv6 address at `end`,
+/// with `::` in place of the longest run of two or more zeros. Returns where the text ends then.
 #[tactic(auto, unfolding(std::specs::Net::Text::hex_groups_text))]
-fn push_compressed(segments: &[u16], out: &mut String) -> Result<(), AllocError>
-    ensures { OnOk result (Pushes out.old out.new (addresses.hex_groups_text segments.now)) }
+#[inline(always)]
+fn put_compressed(segments: &[u16], text: &mut [u8; 44], end: usize) -> usize
+    requires { end + 5 * length segments.now ≤ 41 }
+    ensures text { take result text.new
+        ≡ take end text.old ++ addresses.hex_groups_text segments.now }
+    ensures end { result ≤ end + 5 * length segments.now + 2 }
 {
     let (start, len) = longest_zero_run(segments);
     if len < 2 {
-        return push_segments(segments, out);
+        return put_segments(segments, text, end);
     }
-    push_segments(&segments[..start], out)?;
-    out.push_str("::")?;
-    push_segments(&segments[start + len..], out)
+    let end = put_segments(&segments[..start], text, end);
+    text[end] = b':';
+    text[end + 1] = b':';
+    put_segments(&segments[start + len..], text, end + 2)
 }
 
-/// Appends the text of an IPv6 address, without brackets.
-fn push_ipv6(address: &Ipv6Addr, out: &mut String) -> Result<(), AllocError>
+/// Appends the segments of an IPv6 address in brackets,
+/// with `::` in place of the longest run of two or more zeros.
+///
+/// The text is written on the stack and appended once.
+fn push_compressed(segments: &[u16], out: &mut String) -> Result<(), AllocError>
+    requires { length segments.now ≤ 8 }
     ensures { OnOk result (Pushes out.old out.new
-        (addresses.ipv6_text (ipv6_segments address.now))) }
+        (bracketed (addresses.hex_groups_text segments.now))) }
 {
-    match address.to_std().to_ipv4_mapped() {
-        Some(_) => write!(out, "{address}"),
-        None => push_compressed(&address.segments(), out),
-    }
+    let mut text = [0; 44];
+    text[0] = b'[';
+    let end = put_compressed(segments, &mut text, 1);
+    text[end] = b']';
+    out.push_str(unsafe { std::str::from_utf8_unchecked(&text[..end + 1]) })
 }
 
 /// Appends an IPv6 address in brackets, as a host is written.
@@ -104,7 +127,8 @@ pub fn push_ipv6_host(address: &Ipv6Addr, out: &mut String) -> Result<(), AllocE
     ensures { OnOk result (Pushes out.old out.new
         (bracketed (addresses.ipv6_text (ipv6_segments address.now)))) }
 {
-    out.push('[')?;
-    push_ipv6(address, out)?;
-    out.push(']')
+    match address.to_std().to_ipv4_mapped() {
+        Some(_) => write!(out, "[{address}]"),
+        None => push_compressed(&address.segments(), out),
+    }
 }

@@ -17,6 +17,7 @@ ghost use Rattle.uri_parts.specs.Models.LiteralGroups.{groups_of_end, EndsAtBoun
 ghost use Rattle.std.specs.Prelude.{if◌then◌else◌};
 
 use crate::address_parser::after_ipv6;
+use crate::address_reader::read_without_ipv4;
 use crate::error::{ParseError, ParseErrorKind};
 use uri_pct::table::{HEXDIG, IPV_FUTURE, Table};
 
@@ -277,8 +278,10 @@ fn future_end(text: &str, start: usize) -> Result<usize, ParseError>
 }
 
 /// Returns the position after the address at `start` and its `]`, or why there is none. A `[` is
-/// before `start`.
-pub(crate) fn literal_end(text: &str, start: usize) -> Result<usize, ParseError>
+/// before `start`. It parses addresses of every form.
+#[cold]
+#[inline(never)]
+fn any_literal_end(text: &str, start: usize) -> Result<usize, ParseError>
     requires { IsCharBoundary text.now start }
     ensures boundary { IfOk result (λ end. IsCharBoundary text.now end) }
     ensures index { IfErr result (λ e. IsCharBoundary text.now (error_index e)) }
@@ -295,4 +298,36 @@ pub(crate) fn literal_end(text: &str, start: usize) -> Result<usize, ParseError>
         }
     }
     Err(refusal(text, start))
+}
+
+/// Returns the position after the IPv6 address at `start` and its `]`. Returns `None` if there is
+/// none, or it has an IPv4 address in it.
+///
+/// It calls no other function, so it saves few registers.
+#[inline(never)]
+fn plain_ipv6_end(text: &str, start: usize) -> Option<usize>
+    requires { IsCharBoundary text.now start }
+    ensures boundary { IfSome result (IsCharBoundary text.now) }
+    ensures exact { IfSome result (λ end. literal text.now start ≡ Ok end) }
+{
+    let mut segments = [0; 8];
+    match read_without_ipv4(text.as_bytes(), start, &mut segments) {
+        Some(Some(end)) if next_is(text, end, b']') => Some(end + 1),
+        _ => None,
+    }
+}
+
+/// Returns the position after the address at `start` and its `]`, or why there is none. A `[` is
+/// before `start`.
+#[inline(always)]
+pub(crate) fn literal_end(text: &str, start: usize) -> Result<usize, ParseError>
+    requires { IsCharBoundary text.now start }
+    ensures boundary { IfOk result (λ end. IsCharBoundary text.now end) }
+    ensures index { IfErr result (λ e. IsCharBoundary text.now (error_index e)) }
+    ensures exact { result ≡ literal text.now start }
+{
+    match plain_ipv6_end(text, start) {
+        Some(end) => Ok(end),
+        None => any_literal_end(text, start),
+    }
 }

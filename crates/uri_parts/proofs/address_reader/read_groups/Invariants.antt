@@ -1,10 +1,13 @@
-use Rattle.std.proofs.Common.{◌≡◌, ◌-◌, ◌==◌, true, take, drop}
-use Rattle.std.specs.Net.Reader.{read_segments, after}
+use Rattle.std.proofs.Common.{◌≡◌, ◌≤◌, ◌-◌, ◌==◌, true, take, drop, length, Some}
+use Rattle.std.specs.Net.Reader.{read_segments, read_separator, after}
 use Rattle.uri_parts.proofs.address_reader.read_groups.Given as goal
 
 abbrev pub invariant-loop-i : goal.invariant-loop-i
 invariant-loop-i l = record {
-  found : read_segments l.room true l.text
-      ≡ after (take l.i l.segments) (read_segments (l.room - l.i) (l.i == 0) l.rest);
+  found : read_segments l.room true (drop l.start l.text)
+      ≡ after (take l.i l.segments) (read_segments (l.room - l.i) (l.i == 0) (drop l.end l.text));
+  next : Some (drop l.group l.text) ≡ read_separator (l.i == 0) (drop l.end l.text);
+  group : l.group ≤ length l.text;
+  end : l.end ≤ length l.text;
   others : drop l.i l.segments ≡ drop l.i l.fn.segments;
 }

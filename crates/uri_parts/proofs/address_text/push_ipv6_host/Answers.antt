@@ -2,7 +2,7 @@ use Rattle.std.proofs.Common.{◌≡◌, [], ◌∷◌, false, take, bytes_eq, a
 use Rattle.std.proofs.lemmas.Slice.Eq.{bytes_eq-Decides}
 use Rattle.std.specs.Net.Text.{ipv6_text}
 use Rattle.uri_parts.specs.Addresses.{ipv6_segments}
-use Rattle.uri_parts.proofs.address_text.push_ipv6.Goals as goal
+use Rattle.uri_parts.proofs.address_text.push_ipv6_host.Goals as goal
 
 pub returns-in-None : goal.returns-in-None
 unfolding ipv6_text

@@ -7,8 +7,8 @@ use Rattle.uri_parts.proofs.HostForms.Ipv6Literals.{unclosed_ipv6_is_no_literal}
 use Rattle.uri_parts.proofs.Refusals.Literals.{literal-with-version-letter-scans-ipvfuture}
 use Rattle.uri_parts.proofs.Refusals.Literals.{literal-ends-after-read-ipv6}
 use Rattle.uri_parts.proofs.Refusals.Literals.{literal-rejects-unparsed}
-use Rattle.uri_parts.proofs.ip_literal.literal_end.Goals.{in-Some+else-next_is, in_default}
-use Rattle.uri_parts.proofs.ip_literal.literal_end.Goals as goal
+use Rattle.uri_parts.proofs.ip_literal.any_literal_end.Goals.{in-Some+else-next_is, in_default}
+use Rattle.uri_parts.proofs.ip_literal.any_literal_end.Goals as goal
 
 pub overflow_sub-end : goal.overflow_sub-end
 overflow_sub-end c =
