@@ -1,0 +1,21 @@
+use Rattle.std.proofs.Common.{◌≡◌, ◌+◌, ◌-◌, ◌≤◌, ◌++◌, length, drop, vec_capacity, vec_len}
+use Rattle.std.specs.Str.{IsCharBoundary, IsUtf8}
+use Rattle.uri_pct.specs.Chunks.{widest_set}
+use Rattle.uri_pct.specs.Tables.{set_of}
+use Rattle.uri_pct.specs.Tokens.{IsValidFor}
+use Rattle.uri_ops.specs.Models.Decodings.{decoded_text}
+use Rattle.uri_ops.proofs.normalize.short_components.push_short_bytes.Given as goal
+
+abbrev pub invariant-loop-end : goal.invariant-loop-end
+invariant-loop-end l = record {
+  within : l.end ≤ length l.text;
+  boundary : IsCharBoundary l.text l.end;
+  valid : IsValidFor widest_set (drop l.end l.text);
+  utf8 : IsUtf8 l.out.items;
+  room : vec_len l.out + (length l.text - l.end) ≤ vec_capacity l.out;
+  total : l.out.items ++ decoded_text l.lowers (set_of l.table) (drop l.end l.text)
+      ≡ l.fn.out.items ++ decoded_text l.lowers (set_of l.table) l.text;
+}
+
+abbrev pub decreases-loop-end : goal.decreases-loop-end
+decreases-loop-end l = length l.text - l.end
