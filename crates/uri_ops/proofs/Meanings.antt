@@ -15,6 +15,7 @@ pub mod Cased
 pub mod LowerRuns
 pub mod DecodedPrefixes
 pub mod UnreservedCodes
+pub mod AsciiSuffixes
 pub mod WrittenFormatting
 pub mod TakenDecodings
 pub mod Decodable

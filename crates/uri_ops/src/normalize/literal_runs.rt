@@ -56,7 +56,8 @@ fn lowered(byte: u8) -> u8
 pub(crate) fn push_lower(text: &str, out: &mut String) -> Result<(), AllocError>
     ensures { OnOk result (Pushes out.old out.new (str_to_ascii_lowercase text.now)) }
 {
-    let mut bytes = take_bytes(text.len(), out)?;
+    out.reserve(text.len())?;
+    let mut bytes = take_bytes(out);
     for &byte in text.as_bytes() {
         bytes.push_reserved(lowered(byte));
     }

@@ -1,21 +1,26 @@
 //! The bytes of a text with room for more, so that each is appended without a test of the capacity.
-ghost use Rattle.std.specs.Prelude.{◌≡◌, ◌+◌, ◌≤◌, IfOk, OnOk, string_bytes, vec_len, vec_capacity};
+ghost use Rattle.std.specs.Prelude.{◌≡◌, ◌+◌, ◌≤◌, IsTrue, string_bytes};
 ghost use Rattle.std.specs.Str.{IsUtf8};
+ghost use Rattle.std.specs.String.{string_capacity, string_len, string_vec};
 
-use std::alloc::AllocError;
 use std::mem;
 
-/// Takes the bytes of a text, with room for so many more. It leaves the text empty, which
-/// `put_bytes` fills again.
+/// Returns whether a text has room for so many more bytes.
 #[inline(always)]
-pub(crate) fn take_bytes(additional: usize, text: &mut String) -> Result<Vec<u8>, AllocError>
-    ensures bytes { IfOk result (λ bytes. bytes.items ≡ string_bytes text.old) }
-    ensures utf8 { IfOk result (λ bytes. IsUtf8 bytes.items) }
-    ensures room { IfOk result (λ bytes. vec_len bytes + additional ≤ vec_capacity bytes) }
+pub(crate) fn has_room(additional: usize, text: &String) -> bool
+    ensures { IsTrue result → string_len text.now + additional ≤ string_capacity text.now }
 {
-    text.reserve(additional)?;
+    additional <= text.capacity() - text.len()
+}
+
+/// Takes the bytes of a text. It leaves the text empty, which `put_bytes` fills again.
+#[inline(always)]
+pub(crate) fn take_bytes(text: &mut String) -> Vec<u8>
+    ensures value { result ≡ string_vec text.old }
+    ensures utf8 { IsUtf8 result.items }
+{
     let empty = String::new(*text.allocator());
-    Ok(mem::replace(text, empty).into_bytes())
+    mem::replace(text, empty).into_bytes()
 }
 
 /// Puts the bytes into a text that `take_bytes` left empty.

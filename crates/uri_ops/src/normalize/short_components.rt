@@ -1,9 +1,10 @@
 //! Decoding of short components, byte by byte (RFC 3986, sections 6.2.2.1 and 6.2.2.2).
-ghost use Rattle.std.specs.Prelude.{◌≡◌, ◌==◌, ◌&&◌, ◌+◌, ◌*◌, ◌≤◌, ◌++◌, ◌∷◌, [], Bool, IfOk};
-ghost use Rattle.std.specs.Prelude.{IsTrue, MatchOption, drop, false, if◌then◌else◌, length, nat_lt, not};
-ghost use Rattle.std.specs.Prelude.{string_bytes, true, vec_capacity, vec_len};
+ghost use Rattle.std.specs.Prelude.{◌≡◌, ◌==◌, ◌&&◌, ◌+◌, ◌*◌, ◌≤◌, ◌++◌, ◌∷◌, [], Bool, IsTrue};
+ghost use Rattle.std.specs.Prelude.{MatchOption, drop, false, if◌then◌else◌, length, nat_lt, not};
+ghost use Rattle.std.specs.Prelude.{string_bytes, take, true, vec_capacity, vec_len};
 ghost use Rattle.std.specs.Char.{digit_value, is_ascii_hexdigit};
-ghost use Rattle.std.specs.Str.{IsCharBoundary, IsUtf8};
+ghost use Rattle.std.specs.Str.{IsAscii, IsCharBoundary};
+ghost use Rattle.std.specs.String.{string_capacity, string_len};
 ghost use Rattle.uri_pct.specs.Chunks.{widest_set};
 ghost use Rattle.uri_pct.specs.DecodeUnreserved.{decode_octet};
 ghost use Rattle.uri_pct.specs.Delimiters.{percent_sign};
@@ -16,7 +17,6 @@ ghost use Rattle.uri_ops.specs.declared.normalize.short_components.TheConstants.
 
 use crate::normalize::octets::unreserved_of_octet;
 use crate::normalize::room::{put_bytes, take_bytes};
-use std::alloc::AllocError;
 use uri_pct::octet::{octet_value, pct_encoded};
 use uri_pct::table::Table;
 
@@ -88,12 +88,10 @@ fn character(lowers: bool, byte: u8) -> Option<u8>
 fn push_octet_bytes(value: u8, out: &mut Vec<u8>)
     requires reserved { is_unreserved value ≡ false }
     requires room { vec_len out.old + 3 ≤ vec_capacity out.old }
-    requires utf8 { IsUtf8 out.old.items }
     ensures items { (lowers : Bool) → out.new.items
         ≡ out.old.items ++ print (lowered_if lowers (decode_octet (Octet value) ∷ [])) }
     ensures len { vec_len out.new ≡ vec_len out.old + 3 }
     ensures capacity { vec_capacity out.new ≡ vec_capacity out.old }
-    ensures utf8 { IsUtf8 out.new.items }
 {
     let octet = pct_encoded(value).as_bytes();
     out.push_reserved(octet[0]);
@@ -108,12 +106,10 @@ fn push_octet_of_digits(lowers: bool, high: u8, low: u8, out: &mut Vec<u8>)
     requires high { IsTrue (is_ascii_hexdigit high) }
     requires low { IsTrue (is_ascii_hexdigit low) }
     requires room { vec_len out.old + 3 ≤ vec_capacity out.old }
-    requires utf8 { IsUtf8 out.old.items }
     ensures items { let value = 16 * digit_value high + digit_value low in out.new.items
         ≡ out.old.items ++ print (lowered_if lowers (decode_octet (Octet value) ∷ [])) }
     ensures len { vec_len out.new ≤ vec_len out.old + 3 }
     ensures capacity { vec_capacity out.new ≡ vec_capacity out.old }
-    ensures utf8 { IsUtf8 out.new.items }
 {
     match unreserved_of_octet(lowers, high, low) {
         Some(ch) => out.push_reserved(ch),
@@ -127,14 +123,14 @@ fn push_octet_of_digits(lowers: bool, high: u8, low: u8, out: &mut Vec<u8>)
 #[inline(always)]
 fn push_short_bytes(table: &Table, lowers: bool, text: &str, out: &mut Vec<u8>) -> usize
     requires valid { IsValidFor widest_set text.now }
-    requires utf8 { IsUtf8 out.old.items }
     requires room { vec_len out.old + length text.now ≤ vec_capacity out.old }
     ensures text {
         out.new.items ++ decoded_text lowers (set_of table.now) (drop result text.now)
         ≡ out.old.items ++ decoded_text lowers (set_of table.now) text.now }
+    ensures kept { take (length out.old.items) out.new.items ≡ out.old.items }
+    ensures ascii { IsAscii (drop (length out.old.items) out.new.items) }
     ensures boundary { IsCharBoundary text.now result }
     ensures valid { IsValidFor widest_set (drop result text.now) }
-    ensures utf8 { IsUtf8 out.new.items }
 {
     let alone = !table.allows_some_past_ascii();
     let bytes = text.as_bytes();
@@ -160,26 +156,27 @@ fn push_short_bytes(table: &Table, lowers: bool, text: &str, out: &mut Vec<u8>) 
     end
 }
 
-/// Appends the tokens of a short component with decodable octets decoded, and with letters lowered
-/// if `lowers`, one by one, and returns the position after the last. It stops at the first that is
-/// past ASCII, but for octets of a URI.
+/// Appends the tokens of a short component to a text that has room for it: with decodable octets
+/// decoded, and with letters lowered if `lowers`, one by one. It returns the position after the
+/// last. It stops at the first that is past ASCII, but for octets of a URI, so that it appends
+/// ASCII alone.
 ///
 /// If a text is short, this takes fewer instructions than to find and copy its runs.
-pub(crate) fn push_short(
-    table: &Table,
-    lowers: bool,
-    text: &str,
-    out: &mut String,
-) -> Result<usize, AllocError>
-    requires { IsValidFor widest_set text.now }
-    ensures text { IfOk result (λ end.
-        string_bytes out.new ++ decoded_text lowers (set_of table.now) (drop end text.now)
-        ≡ string_bytes out.old ++ decoded_text lowers (set_of table.now) text.now) }
-    ensures boundary { IfOk result (IsCharBoundary text.now) }
-    ensures valid { IfOk result (λ end. IsValidFor widest_set (drop end text.now)) }
+#[inline(always)]
+pub(crate) fn push_short(table: &Table, lowers: bool, text: &str, out: &mut String) -> usize
+    requires valid { IsValidFor widest_set text.now }
+    requires room { string_len out.old + length text.now ≤ string_capacity out.old }
+    ensures text {
+        string_bytes out.new ++ decoded_text lowers (set_of table.now) (drop result text.now)
+        ≡ string_bytes out.old ++ decoded_text lowers (set_of table.now) text.now }
+    ensures kept { take (length (string_bytes out.old)) (string_bytes out.new)
+        ≡ string_bytes out.old }
+    ensures ascii { IsAscii (drop (length (string_bytes out.old)) (string_bytes out.new)) }
+    ensures boundary { IsCharBoundary text.now result }
+    ensures valid { IsValidFor widest_set (drop result text.now) }
 {
-    let mut bytes = take_bytes(text.len(), out)?;
+    let mut bytes = take_bytes(out);
     let end = push_short_bytes(table, lowers, text, &mut bytes);
     put_bytes(bytes, out);
-    Ok(end)
+    end
 }

@@ -11,7 +11,9 @@ put_bytes-requires c =
     let out = string_bytes c.args.out.now in
     let whole : take c.loop-byte.byte-index text ≡ text = take_all c.loop-byte.byte-index text
     (omega (arith, ap length c.as_bytes-byte-items.ensures.value)) in
-    let utf8 : IsUtf8 out = subst IsUtf8 c.in_ok-bytes.ensures.bytes c.in_ok-bytes.ensures.utf8 in
+    let taken : c.take_bytes-bytes.result.items ≡ out =
+    ap (λ bytes. bytes.items) c.take_bytes-bytes.ensures.value ∙ c.in_ok-reserve.ensures.bytes in
+    let utf8 : IsUtf8 out = subst IsUtf8 taken c.take_bytes-bytes.ensures.utf8 in
     subst IsUtf8
     (sym (c.loop-byte.invariant.total ∙ ap (λ x. out ++ str_to_ascii_lowercase x) whole))
     (IsUtf8-append out (str_to_ascii_lowercase text) utf8 (lowered-text-is-utf8 text c.utf8.text))

@@ -2,13 +2,16 @@ use Rattle.std.proofs.Common.{◌≡◌, ℕ, ◌+◌, ◌-◌, ◌*◌, ◌++�
 use Rattle.std.proofs.Common.{Bool, true, false, get_or, drop, length, refl, sym, ap, subst, ◌∙◌}
 use Rattle.std.proofs.Common.{arith, vec_capacity, vec_len}
 use Rattle.std.specs.Char.{digit_value}
-use Rattle.std.specs.Str.{IsUtf8}
 use Rattle.std.proofs.lemmas.Bool.{and_parts, ltb-true, not-true}
-use Rattle.std.proofs.lemmas.Str.{IsCharBoundary-start, IsUtf8-append}
-use Rattle.std.proofs.lemmas.Str.Ascii.{lowercase_ascii}
-use Rattle.uri_pct.proofs.Unicode.AsciiOctets.{ascii_byte_is_utf8}
+use Rattle.std.proofs.lemmas.Str.{IsCharBoundary-start}
+use Rattle.std.proofs.lemmas.Str.Ascii.{IsAscii-nil, IsAscii-push, lowercase_ascii}
+use Rattle.uri_pct.specs.DecodeUnreserved.{decode_octet}
+use Rattle.uri_pct.specs.Tokens.{Octet, print}
 use Rattle.uri_pct.specs.Tables.{set_of}
-use Rattle.uri_ops.specs.Models.Decodings.{decoded_text, lowered_code_if, lowered_text_if}
+use Rattle.uri_ops.specs.Models.Decodings.{decoded_text, lowered_code_if, lowered_if}
+use Rattle.uri_ops.specs.Models.Decodings.{lowered_text_if}
+use Rattle.uri_ops.proofs.Meanings.AsciiSuffixes.{digits-are-of-byte, longer-suffix-is-ascii}
+use Rattle.uri_ops.proofs.Meanings.AsciiSuffixes.{no-suffix-is-ascii, octet-decoded-alone-is-ascii}
 use Rattle.uri_ops.proofs.Meanings.DecodedPrefixes.{octet-is-decoded-alone, character_step}
 use Rattle.uri_ops.proofs.Meanings.DecodedPrefixes.{unset-flags-lack-past-ascii}
 use Rattle.uri_ops.proofs.Meanings.DecodedPrefixes.{percent-in-valid-text-begins-octet}
@@ -33,7 +36,8 @@ loop-end-init c = record {
   within = omega arith;
   boundary = IsCharBoundary-start c.args.text.now c.utf8.text;
   valid = c.requires.valid;
-  utf8 = c.requires.utf8;
+  kept = (no-suffix-is-ascii c.args.out.now.items).kept;
+  ascii = (no-suffix-is-ascii c.args.out.now.items).ascii;
   room = omega (arith, c.requires.room);
   total = refl;
 }
@@ -60,13 +64,15 @@ loop-end-preserved-in-Some c =
     small (not-true _ parts.1) pushed holds.total in
     let ascii : c.in-Some.ch < 128 = subst (λ x. x < 128) (sym ch)
     (lowered-character-is-ascii lowers byte small) in
+    let suffix = longer-suffix-is-ascii c.args.out.now.items out c.push_reserved.new.self.items
+    (c.in-Some.ch ∷ []) (record { kept = holds.kept; ascii = holds.ascii })
+    c.push_reserved.ensures.items (IsAscii-push [] c.in-Some.ch IsAscii-nil ascii) in
     record {
       within = omega (arith, ap length c.as_bytes-bytes.ensures.value);
       boundary = step.boundary;
       valid = step.valid;
-      utf8 = subst IsUtf8 (sym c.push_reserved.ensures.items)
-          (IsUtf8-append out (c.in-Some.ch ∷ []) holds.utf8
-          (ascii_byte_is_utf8 c.in-Some.ch ascii));
+      kept = suffix.kept;
+      ascii = suffix.ascii;
       room = omega (arith, holds.room, c.push_reserved.ensures.len,
           c.push_reserved.ensures.capacity, ap length c.as_bytes-bytes.ensures.value);
       total = step.total;
@@ -138,11 +144,18 @@ loop-end-preserved c =
     let none = unset-flags-lack-past-ascii set c.allows_some_past_ascii-alone.result
     c.allows_some_past_ascii-alone.ensures in
     let lengths = ap length c.as_bytes-bytes.ensures.value in
+    let suffix = longer-suffix-is-ascii c.args.out.now.items out new
+    (print (lowered_if lowers (decode_octet (Octet value) ∷ [])))
+    (record { kept = holds.kept; ascii = holds.ascii }) c.push_octet_of_digits.ensures.items
+    (octet-decoded-alone-is-ascii lowers value
+    (digits-are-of-byte (get_or bytes (end + 1) 0) (get_or bytes (end + 2) 0) at.high_digit
+    at.low_digit)) in
     record {
       within = omega (arith, at.within, lengths);
       boundary = at.boundary;
       valid = at.valid;
-      utf8 = c.push_octet_of_digits.ensures.utf8;
+      kept = suffix.kept;
+      ascii = suffix.ascii;
       room = omega (arith, c.push_octet_of_digits.ensures.len,
           c.push_octet_of_digits.ensures.capacity, holds.room, at.within, lengths);
       total = decoded-octet-is-pushed lowers set out new whole (drop end text)

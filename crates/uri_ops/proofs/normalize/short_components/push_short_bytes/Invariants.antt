@@ -1,5 +1,6 @@
-use Rattle.std.proofs.Common.{◌≡◌, ◌+◌, ◌-◌, ◌≤◌, ◌++◌, length, drop, vec_capacity, vec_len}
-use Rattle.std.specs.Str.{IsCharBoundary, IsUtf8}
+use Rattle.std.proofs.Common.{◌≡◌, ◌+◌, ◌-◌, ◌≤◌, ◌++◌, length, drop, take}
+use Rattle.std.proofs.Common.{vec_capacity, vec_len}
+use Rattle.std.specs.Str.{IsAscii, IsCharBoundary}
 use Rattle.uri_pct.specs.Chunks.{widest_set}
 use Rattle.uri_pct.specs.Tables.{set_of}
 use Rattle.uri_pct.specs.Tokens.{IsValidFor}
@@ -11,7 +12,8 @@ invariant-loop-end l = record {
   within : l.end ≤ length l.text;
   boundary : IsCharBoundary l.text l.end;
   valid : IsValidFor widest_set (drop l.end l.text);
-  utf8 : IsUtf8 l.out.items;
+  kept : take (length l.fn.out.items) l.out.items ≡ l.fn.out.items;
+  ascii : IsAscii (drop (length l.fn.out.items) l.out.items);
   room : vec_len l.out + (length l.text - l.end) ≤ vec_capacity l.out;
   total : l.out.items ++ decoded_text l.lowers (set_of l.table) (drop l.end l.text)
       ≡ l.fn.out.items ++ decoded_text l.lowers (set_of l.table) l.text;
