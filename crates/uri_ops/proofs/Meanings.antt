@@ -12,7 +12,6 @@ pub mod HostMeanings
 pub mod AuthorityMeanings
 pub mod DecodedParts
 pub mod Cased
-pub mod LowerRuns
 pub mod DecodedPrefixes
 pub mod UnreservedCodes
 pub mod AsciiSuffixes

@@ -208,8 +208,9 @@ fn push_decoded_rest(
 
 /// Appends the text with its decodable octets decoded, and with its letters lowered if `lowers`.
 ///
-/// It makes its calls last, so a short text has no registers to save for them.
-#[inline(never)]
+/// It is inlined, where the table is a constant. Only a copy is passed on, so that no other table is
+/// written to memory for a short text.
+#[inline(always)]
 fn push_decoded_with_case(
     table: &Table,
     lowers: bool,
@@ -222,19 +223,22 @@ fn push_decoded_with_case(
 {
     let start = out.as_str().len();
     if text.len() >= LANES || !has_room(text.len(), out) {
-        return push_decoded_rest(table, lowers, start, text, out);
+        let table = *table;
+        return push_decoded_rest(&table, lowers, start, text, out);
     }
-    let end = push_short(table, lowers, text, out);
+    let end = push_short(!table.allows_some_past_ascii(), lowers, text, out);
     if end == text.len() {
         return Ok(());
     }
-    push_decoded_rest(table, lowers, start, &text[end..], out)
+    let table = *table;
+    push_decoded_rest(&table, lowers, start, &text[end..], out)
 }
 
 /// Appends the text with its decodable octets decoded. Every other octet gets upper-case digits,
 /// formatting characters of bidirectional text become octets, and all else stays as it is.
 ///
 /// After an error, part of it may have been appended.
+#[inline(always)]
 pub(crate) fn push_decoded(table: &Table, text: &str, out: &mut String) -> Result<(), AllocError>
     requires { IsValidFor widest_set text.now }
     ensures { OnOk result (Pushes out.old out.new
@@ -246,6 +250,7 @@ pub(crate) fn push_decoded(table: &Table, text: &str, out: &mut String) -> Resul
 /// Appends a component with its decodable octets decoded, by the table of its encoder.
 ///
 /// After an error, part of it may have been appended.
+#[inline(always)]
 pub(crate) fn push_decoded_component<E: Encoder>(
     component: EStr<'_, E>,
     out: &mut String,
@@ -260,6 +265,7 @@ pub(crate) fn push_decoded_component<E: Encoder>(
 /// those that were octets.
 ///
 /// After an error, part of it may have been appended.
+#[inline(always)]
 pub(crate) fn push_decoded_host(
     table: &Table,
     text: &str,

@@ -6,10 +6,9 @@ ghost use Rattle.std.specs.Char.{digit_value, is_ascii_hexdigit};
 ghost use Rattle.std.specs.Str.{IsAscii, IsCharBoundary};
 ghost use Rattle.std.specs.String.{string_capacity, string_len};
 ghost use Rattle.uri_pct.specs.Chunks.{widest_set};
-ghost use Rattle.uri_pct.specs.DecodeUnreserved.{decode_octet};
+ghost use Rattle.uri_pct.specs.DecodeUnreserved.{LacksPastAscii, decode_octet};
 ghost use Rattle.uri_pct.specs.Delimiters.{percent_sign};
-ghost use Rattle.uri_pct.specs.Sets.{is_unreserved};
-ghost use Rattle.uri_pct.specs.Tables.{set_of};
+ghost use Rattle.uri_pct.specs.Sets.{TableSet, is_unreserved};
 ghost use Rattle.uri_pct.specs.Tokens.{IsValidFor, Octet, print};
 ghost use Rattle.uri_ops.specs.Models.Decodings.{decoded_text, lowered_code_if, lowered_if};
 ghost use Rattle.uri_ops.specs.declared.normalize.short_components.TheConstants.{CHARACTERS};
@@ -18,7 +17,6 @@ ghost use Rattle.uri_ops.specs.declared.normalize.short_components.TheConstants.
 use crate::normalize::octets::unreserved_of_octet;
 use crate::normalize::room::{put_bytes, take_bytes};
 use uri_pct::octet::{octet_value, pct_encoded};
-use uri_pct::table::Table;
 
 /// Each ASCII character but `%`, and 128 for `%` and for each byte past ASCII.
 const CHARACTERS: &[u8; 256] = &[
@@ -119,20 +117,19 @@ fn push_octet_of_digits(lowers: bool, high: u8, low: u8, out: &mut Vec<u8>)
 
 /// Appends the tokens of a short component to bytes that have room for it: with decodable octets
 /// decoded, and with letters lowered if `lowers`, one by one. It returns the position after the
-/// last. It stops at the first that is past ASCII, but for octets of a URI.
+/// last. It stops at the first that is past ASCII, but for octets if `alone`.
 #[inline(always)]
-fn push_short_bytes(table: &Table, lowers: bool, text: &str, out: &mut Vec<u8>) -> usize
+fn push_short_bytes(alone: bool, lowers: bool, text: &str, out: &mut Vec<u8>) -> usize
     requires valid { IsValidFor widest_set text.now }
     requires room { vec_len out.old + length text.now ≤ vec_capacity out.old }
-    ensures text {
-        out.new.items ++ decoded_text lowers (set_of table.now) (drop result text.now)
-        ≡ out.old.items ++ decoded_text lowers (set_of table.now) text.now }
+    ensures text { (set : TableSet) → (alone ≡ true → LacksPastAscii set)
+        → out.new.items ++ decoded_text lowers set (drop result text.now)
+        ≡ out.old.items ++ decoded_text lowers set text.now }
     ensures kept { take (length out.old.items) out.new.items ≡ out.old.items }
     ensures ascii { IsAscii (drop (length out.old.items) out.new.items) }
     ensures boundary { IsCharBoundary text.now result }
     ensures valid { IsValidFor widest_set (drop result text.now) }
 {
-    let alone = !table.allows_some_past_ascii();
     let bytes = text.as_bytes();
     let mut end = 0;
     while end < bytes.len() {
@@ -158,17 +155,18 @@ fn push_short_bytes(table: &Table, lowers: bool, text: &str, out: &mut Vec<u8>) 
 
 /// Appends the tokens of a short component to a text that has room for it: with decodable octets
 /// decoded, and with letters lowered if `lowers`, one by one. It returns the position after the
-/// last. It stops at the first that is past ASCII, but for octets of a URI, so that it appends
-/// ASCII alone.
+/// last. It stops at the first that is past ASCII, so that it appends ASCII alone. But octets past
+/// ASCII stay octets if `alone`: the table of the component allows no such character.
 ///
-/// If a text is short, this takes fewer instructions than to find and copy its runs.
-#[inline(always)]
-pub(crate) fn push_short(table: &Table, lowers: bool, text: &str, out: &mut String) -> usize
+/// If a text is short, this takes fewer instructions than to find and copy its runs. It calls
+/// nothing, so it has few registers to save.
+#[inline(never)]
+pub(crate) fn push_short(alone: bool, lowers: bool, text: &str, out: &mut String) -> usize
     requires valid { IsValidFor widest_set text.now }
     requires room { string_len out.old + length text.now ≤ string_capacity out.old }
-    ensures text {
-        string_bytes out.new ++ decoded_text lowers (set_of table.now) (drop result text.now)
-        ≡ string_bytes out.old ++ decoded_text lowers (set_of table.now) text.now }
+    ensures text { (set : TableSet) → (alone ≡ true → LacksPastAscii set)
+        → string_bytes out.new ++ decoded_text lowers set (drop result text.now)
+        ≡ string_bytes out.old ++ decoded_text lowers set text.now }
     ensures kept { take (length (string_bytes out.old)) (string_bytes out.new)
         ≡ string_bytes out.old }
     ensures ascii { IsAscii (drop (length (string_bytes out.old)) (string_bytes out.new)) }
@@ -176,7 +174,7 @@ pub(crate) fn push_short(table: &Table, lowers: bool, text: &str, out: &mut Stri
     ensures valid { IsValidFor widest_set (drop result text.now) }
 {
     let mut bytes = take_bytes(out);
-    let end = push_short_bytes(table, lowers, text, &mut bytes);
+    let end = push_short_bytes(alone, lowers, text, &mut bytes);
     put_bytes(bytes, out);
     end
 }

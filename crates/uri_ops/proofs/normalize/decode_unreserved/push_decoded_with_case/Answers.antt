@@ -1,10 +1,10 @@
-use Rattle.std.proofs.Common.{◌≡◌, ℕ, ◌≤◌, Bool, true, false, ◌&&◌, List, [], ◌++◌, take, drop, length}
-use Rattle.std.proofs.Common.{cond, sym, ap, subst, ◌∙◌, arith, string_bytes, refl, ⊎_elim}
+use Rattle.std.proofs.Common.{◌≡◌, ℕ, Bool, ◌&&◌, List, [], ◌++◌, take, drop, length}
+use Rattle.std.proofs.Common.{cond, sym, ap, subst, ◌∙◌, string_bytes, refl, ⊎_elim}
 use Rattle.std.specs.Str.{IsAscii, IsUtf8}
 use Rattle.std.proofs.lemmas.Bool.{cases_Bool, cond-true, cond-false}
-use Rattle.std.proofs.lemmas.List.{append-nil, drop_all}
+use Rattle.std.proofs.lemmas.List.{append-nil}
 use Rattle.std.proofs.lemmas.Result.{on_ok_weaker}
-use Rattle.std.proofs.lemmas.Str.{IsUtf8-from_ascii, IsUtf8-nil}
+use Rattle.std.proofs.lemmas.Str.{IsUtf8-from_ascii}
 use Rattle.uri_pct.specs.Chunks.{widest_set}
 use Rattle.uri_pct.specs.DecodeUnreserved.{decode_unreserved, encoded_formatting_text}
 use Rattle.uri_pct.specs.Sets.{TableSet}
@@ -13,8 +13,8 @@ use Rattle.uri_pct.specs.Tokens.{IsValidFor, print}
 use Rattle.uri_ops.specs.Models.Decodings.{decoded_text, lowered_if}
 use Rattle.uri_ops.proofs.Meanings.AsciiSuffixes.{AppendsAscii, ascii-lacks-byte-E2}
 use Rattle.uri_ops.proofs.Meanings.AsciiSuffixes.{no-suffix-is-ascii}
-use Rattle.uri_ops.proofs.Meanings.AsciiSuffixes.{suffix-and-rest-are-text, text-is-old-and-suffix}
-use Rattle.uri_ops.proofs.Meanings.DecodedPrefixes.{none_written}
+use Rattle.uri_ops.proofs.Meanings.AsciiSuffixes.{suffix-and-rest-are-text}
+use Rattle.uri_ops.proofs.Meanings.DecodedPrefixes.{none_written, unset-flags-lack-past-ascii}
 use Rattle.uri_ops.proofs.Meanings.WrittenFormatting.{encoding-formatting-completes-decoding}
 use Rattle.uri_ops.proofs.Meanings.WrittenFormatting.{decoding-without-formatting-is-complete}
 use Rattle.uri_ops.proofs.Meanings.WrittenFormatting.{no-byte-E2-no-formatting}
@@ -93,10 +93,12 @@ returns-then-end-text c =
     let lowers = c.args.lowers in
     let old = string_bytes c.args.out.now in
     let new = string_bytes c.push_short-end.new.out in
+    let none = unset-flags-lack-past-ascii set c.allows_some_past_ascii.result
+    c.allows_some_past_ascii.ensures in
     ascii-component-is-normal lowers set text old new c.requires
     (record { kept = c.push_short-end.ensures.kept; ascii = c.push_short-end.ensures.ascii })
     (none_written lowers set text new (old ++ decoded_text lowers set text)
-    c.push_short-end.result c.if-end-text.true c.push_short-end.ensures.text)
+    c.push_short-end.result c.if-end-text.true (c.push_short-end.ensures.text set none))
 
 pub push_decoded_rest-requires-2-clause-utf8 : goal.push_decoded_rest-requires-2-clause-utf8
 push_decoded_rest-requires-2-clause-utf8 c =
@@ -111,6 +113,8 @@ returns c =
     let lowers = c.args.lowers in
     let old = string_bytes c.args.out.now in
     let new = string_bytes c.push_short-end.new.out in
+    let none = unset-flags-lack-past-ascii set c.allows_some_past_ascii.result
+    c.allows_some_past_ascii.ensures in
     on_ok_weaker c.push_decoded_rest-2.result
     (λ pushed. rest-completes-component lowers set text old new
     (decoded_text lowers set c.range_from.result.now)
@@ -118,5 +122,5 @@ returns c =
     (length c.as_str-start.result.now) c.requires (ap length c.as_str-start.ensures.value)
     (record { kept = c.push_short-end.ensures.kept; ascii = c.push_short-end.ensures.ascii })
     (ap (λ x. new ++ decoded_text lowers set x) c.range_from.ensures.value
-    ∙ c.push_short-end.ensures.text) pushed)
+    ∙ (c.push_short-end.ensures.text set none)) pushed)
     c.push_decoded_rest-2.ensures

@@ -1,4 +1,3 @@
-use Rattle.std.proofs.Common.{string_bytes}
 use Rattle.uri_ops.proofs.Meanings.AsciiSuffixes.{ascii-suffix-keeps-utf8}
 use Rattle.uri_ops.proofs.normalize.short_components.push_short.Goals as goal
 

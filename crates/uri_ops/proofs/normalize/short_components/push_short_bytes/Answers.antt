@@ -1,19 +1,19 @@
-use Rattle.std.proofs.Common.{◌≡◌, ℕ, ◌+◌, ◌-◌, ◌*◌, ◌++◌, ◌∷◌, [], ◌<◌, ◌≤◌, ◌⊎◌, inl, inr, not}
+use Rattle.std.proofs.Common.{◌≡◌, ℕ, List, ◌+◌, ◌*◌, ◌++◌, ◌∷◌, [], ◌<◌, ◌⊎◌, inl, inr}
 use Rattle.std.proofs.Common.{Bool, true, false, get_or, drop, length, refl, sym, ap, subst, ◌∙◌}
-use Rattle.std.proofs.Common.{arith, vec_capacity, vec_len}
+use Rattle.std.proofs.Common.{arith}
 use Rattle.std.specs.Char.{digit_value}
 use Rattle.std.proofs.lemmas.Bool.{and_parts, ltb-true, not-true}
 use Rattle.std.proofs.lemmas.Str.{IsCharBoundary-start}
 use Rattle.std.proofs.lemmas.Str.Ascii.{IsAscii-nil, IsAscii-push, lowercase_ascii}
 use Rattle.uri_pct.specs.DecodeUnreserved.{decode_octet}
 use Rattle.uri_pct.specs.Tokens.{Octet, print}
-use Rattle.uri_pct.specs.Tables.{set_of}
+use Rattle.uri_pct.specs.Chunks.{widest_set}
+use Rattle.uri_pct.specs.Sets.{TableSet}
 use Rattle.uri_ops.specs.Models.Decodings.{decoded_text, lowered_code_if, lowered_if}
 use Rattle.uri_ops.specs.Models.Decodings.{lowered_text_if}
 use Rattle.uri_ops.proofs.Meanings.AsciiSuffixes.{digits-are-of-byte, longer-suffix-is-ascii}
 use Rattle.uri_ops.proofs.Meanings.AsciiSuffixes.{no-suffix-is-ascii, octet-decoded-alone-is-ascii}
 use Rattle.uri_ops.proofs.Meanings.DecodedPrefixes.{octet-is-decoded-alone, character_step}
-use Rattle.uri_ops.proofs.Meanings.DecodedPrefixes.{unset-flags-lack-past-ascii}
 use Rattle.uri_ops.proofs.Meanings.DecodedPrefixes.{percent-in-valid-text-begins-octet}
 use Rattle.uri_ops.proofs.Meanings.DecodedPrefixes.{decoded-octet-is-pushed}
 use Rattle.uri_ops.proofs.normalize.short_components.push_short_bytes.Goals as goal
@@ -39,7 +39,7 @@ loop-end-init c = record {
   kept = (no-suffix-is-ascii c.args.out.now.items).kept;
   ascii = (no-suffix-is-ascii c.args.out.now.items).ascii;
   room = omega (arith, c.requires.room);
-  total = refl;
+  total = λ set none. refl;
 }
 
 pub loop-end-preserved-in-Some : goal.loop-end-preserved-in-Some
@@ -47,7 +47,6 @@ loop-end-preserved-in-Some c =
     let bytes = c.as_bytes-bytes.result.now in
     let text = c.args.text.now in
     let lowers = c.args.lowers in
-    let set = set_of c.args.table.now in
     let end = c.loop-end.end in
     let byte = get_or bytes end 0 in
     let out = c.loop-end.out.items in
@@ -58,10 +57,12 @@ loop-end-preserved-in-Some c =
     let pushed : c.push_reserved.new.self.items ≡ out ++ lowered_text_if lowers (byte ∷ []) =
     c.push_reserved.ensures.items
     ∙ ap (λ x. out ++ x) (ap (λ x. x ∷ []) ch ∙ character-is-lowered-text lowers byte) in
-    let step = character_step lowers set bytes text out c.push_reserved.new.self.items
-    (c.args.out.now.items ++ decoded_text lowers set text) end
+    let step = λ (set : TableSet) (whole : List ℕ)
+    (total : out ++ decoded_text lowers set (drop end text) ≡ whole).
+    character_step lowers set bytes text out c.push_reserved.new.self.items whole end
     c.as_bytes-bytes.ensures.value c.utf8.text holds.boundary holds.valid c.loop-end-test.true
-    small (not-true _ parts.1) pushed holds.total in
+    small (not-true _ parts.1) pushed total in
+    let first = step widest_set (out ++ decoded_text lowers widest_set (drop end text)) refl in
     let ascii : c.in-Some.ch < 128 = subst (λ x. x < 128) (sym ch)
     (lowered-character-is-ascii lowers byte small) in
     let suffix = longer-suffix-is-ascii c.args.out.now.items out c.push_reserved.new.self.items
@@ -69,13 +70,20 @@ loop-end-preserved-in-Some c =
     c.push_reserved.ensures.items (IsAscii-push [] c.in-Some.ch IsAscii-nil ascii) in
     record {
       within = omega (arith, ap length c.as_bytes-bytes.ensures.value);
-      boundary = step.boundary;
-      valid = step.valid;
+      boundary = first.boundary;
+      valid = first.valid;
       kept = suffix.kept;
       ascii = suffix.ascii;
-      room = omega (arith, holds.room, c.push_reserved.ensures.len,
-          c.push_reserved.ensures.capacity, ap length c.as_bytes-bytes.ensures.value);
-      total = step.total;
+      room = omega (
+        arith,
+        holds.room,
+        c.push_reserved.ensures.len,
+        c.push_reserved.ensures.capacity,
+        ap length c.as_bytes-bytes.ensures.value,
+      );
+      total = λ set none.
+          (step set (c.args.out.now.items ++ decoded_text lowers set text)
+          (holds.total set none)).total;
     }
 
 pub bounds-bytes-end-in-loop-end : goal.bounds-bytes-end-in-loop-end
@@ -122,12 +130,10 @@ loop-end-preserved c =
     let bytes = c.as_bytes-bytes.result.now in
     let text = c.args.text.now in
     let lowers = c.args.lowers in
-    let set = set_of c.args.table.now in
-    let alone = not c.allows_some_past_ascii-alone.result in
+    let alone = c.args.alone in
     let end = c.loop-end.end in
     let out = c.loop-end.out.items in
     let new = c.push_octet_of_digits.new.out.items in
-    let whole = c.args.out.now.items ++ decoded_text lowers set text in
     let holds = c.loop-end.invariant in
     let at = percent-in-valid-text-begins-octet c.as_bytes-bytes.result.now c.args.text.now
     c.loop-end.end
@@ -137,12 +143,10 @@ loop-end-preserved c =
     + digit_value (get_or bytes (end + 2) 0) in
     let either : (alone ≡ true) ⊎ (get_or bytes (end + 1) 0 < 56) =
     elim c.else-high-ge56.branch [
-      | else-high-ge56-via-then-high-ge56+else-not-alone w ↦ inl (ap not w.if-not-alone.false)
+      | else-high-ge56-via-then-high-ge56+else-not-alone w ↦ inl w.if-not-alone.false
       | else-high-ge56-via-else-high-ge56 w ↦ inr w.if-high-ge56.false
     ] in
     let itself = octet-is-decoded-alone bytes text end at alone either in
-    let none = unset-flags-lack-past-ascii set c.allows_some_past_ascii-alone.result
-    c.allows_some_past_ascii-alone.ensures in
     let lengths = ap length c.as_bytes-bytes.ensures.value in
     let suffix = longer-suffix-is-ascii c.args.out.now.items out new
     (print (lowered_if lowers (decode_octet (Octet value) ∷ [])))
@@ -156,9 +160,16 @@ loop-end-preserved c =
       valid = at.valid;
       kept = suffix.kept;
       ascii = suffix.ascii;
-      room = omega (arith, c.push_octet_of_digits.ensures.len,
-          c.push_octet_of_digits.ensures.capacity, holds.room, at.within, lengths);
-      total = decoded-octet-is-pushed lowers set out new whole (drop end text)
+      room = omega (
+        arith,
+        c.push_octet_of_digits.ensures.len,
+        c.push_octet_of_digits.ensures.capacity,
+        holds.room,
+        at.within,
+        lengths,
+      );
+      total = λ set none. decoded-octet-is-pushed lowers set out new
+          (c.args.out.now.items ++ decoded_text lowers set text) (drop end text)
           (drop (end + 3) text) value at.octet alone none itself at.value at.suffix
-          c.push_octet_of_digits.ensures.items holds.total;
+          c.push_octet_of_digits.ensures.items (holds.total set none);
     }
