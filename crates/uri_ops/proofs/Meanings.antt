@@ -12,9 +12,9 @@ pub mod HostMeanings
 pub mod AuthorityMeanings
 pub mod DecodedParts
 pub mod Cased
-pub mod LowerRuns
 pub mod DecodedPrefixes
 pub mod UnreservedCodes
+pub mod AsciiSuffixes
 pub mod WrittenFormatting
 pub mod TakenDecodings
 pub mod Decodable

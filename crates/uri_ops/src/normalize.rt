@@ -22,6 +22,7 @@ pub(crate) mod normal_authority;
 pub mod normal_text;
 pub(crate) mod normalized;
 pub(crate) mod octets;
+pub(crate) mod room;
 pub(crate) mod short_components;
 pub(crate) mod unchanged;
 

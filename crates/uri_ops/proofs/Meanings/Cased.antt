@@ -136,6 +136,17 @@ chars-of-lowered-text-are-lowered text u =
     ∙ chars-encodes (map to_ascii_lowercase (chars text))
     (lowered-scalars-are-scalars (chars text) (scalars-chars text u))
 
+-- meanings in lower case: a text in lower case is UTF-8
+pub lowered-text-is-utf8 : (text : List ℕ) → IsUtf8 text → IsUtf8 (str_to_ascii_lowercase text)
+lowered-text-is-utf8 text u = (
+  map to_ascii_lowercase (chars text),
+  (
+    lowered-scalars-are-scalars (chars text) (scalars-chars text u),
+    lowering-and-utf8-swap (chars text)
+        ∙ ap str_to_ascii_lowercase (encodes-chars text u),
+  ),
+)
+
 -- meanings, decoded: a set allows what is decodable in another, and nothing else
 abbrev pub AllowsDecodable : TableSet → TableSet → Type 0
 AllowsDecodable decodable set = (c : ℕ) → allows decodable c ≡ is_decodable set c

@@ -1,72 +1,180 @@
 //! Decoding of short components, byte by byte (RFC 3986, sections 6.2.2.1 and 6.2.2.2).
-ghost use Rattle.std.specs.Prelude.{◌≡◌, ◌<◌, ◌++◌, ◌∷◌, [], IfOk, OnOk, drop, string_bytes};
-ghost use Rattle.std.specs.Str.{IsCharBoundary};
+ghost use Rattle.std.specs.Prelude.{◌≡◌, ◌==◌, ◌&&◌, ◌+◌, ◌*◌, ◌≤◌, ◌++◌, ◌∷◌, [], Bool, IsTrue};
+ghost use Rattle.std.specs.Prelude.{MatchOption, drop, false, if◌then◌else◌, length, nat_lt, not};
+ghost use Rattle.std.specs.Prelude.{string_bytes, take, true, vec_capacity, vec_len};
+ghost use Rattle.std.specs.Char.{digit_value, is_ascii_hexdigit};
+ghost use Rattle.std.specs.Str.{IsAscii, IsCharBoundary};
+ghost use Rattle.std.specs.String.{string_capacity, string_len};
 ghost use Rattle.uri_pct.specs.Chunks.{widest_set};
-ghost use Rattle.uri_pct.specs.Tables.{set_of};
-ghost use Rattle.uri_pct.specs.Texts.{Pushes};
-ghost use Rattle.uri_pct.specs.Tokens.{IsValidFor};
-ghost use Rattle.uri_ops.specs.Models.Decodings.{lowered_text_if, decoded_text};
+ghost use Rattle.uri_pct.specs.DecodeUnreserved.{LacksPastAscii, decode_octet};
+ghost use Rattle.uri_pct.specs.Delimiters.{percent_sign};
+ghost use Rattle.uri_pct.specs.Sets.{TableSet, is_unreserved};
+ghost use Rattle.uri_pct.specs.Tokens.{IsValidFor, Octet, print};
+ghost use Rattle.uri_ops.specs.Models.Decodings.{decoded_text, lowered_code_if, lowered_if};
+ghost use Rattle.uri_ops.specs.declared.normalize.short_components.TheConstants.{CHARACTERS};
+ghost use Rattle.uri_ops.specs.declared.normalize.short_components.TheConstants.{LOWERED_CHARACTERS};
 
-use crate::normalize::octets::{push_octet, push_unreserved, unreserved_of_octet};
-use std::alloc::AllocError;
-use uri_pct::octet::octet_value;
-use uri_pct::table::Table;
+use crate::normalize::octets::unreserved_of_octet;
+use crate::normalize::room::{put_bytes, take_bytes};
+use uri_pct::octet::{octet_value, pct_encoded};
 
-/// Appends an ASCII character of a short component, lowered if `lowers`.
+/// Each ASCII character but `%`, and 128 for `%` and for each byte past ASCII.
+const CHARACTERS: &[u8; 256] = &[
+    0, 1, 2, 3, 4, 5, 6, 7, 8, 9, 10, 11, 12, 13, 14, 15, // 00
+    16, 17, 18, 19, 20, 21, 22, 23, 24, 25, 26, 27, 28, 29, 30, 31, // 10
+    32, 33, 34, 35, 36, 128, 38, 39, 40, 41, 42, 43, 44, 45, 46, 47, // 20
+    48, 49, 50, 51, 52, 53, 54, 55, 56, 57, 58, 59, 60, 61, 62, 63, // 30
+    64, 65, 66, 67, 68, 69, 70, 71, 72, 73, 74, 75, 76, 77, 78, 79, // 40
+    80, 81, 82, 83, 84, 85, 86, 87, 88, 89, 90, 91, 92, 93, 94, 95, // 50
+    96, 97, 98, 99, 100, 101, 102, 103, 104, 105, 106, 107, 108, 109, 110, 111, // 60
+    112, 113, 114, 115, 116, 117, 118, 119, 120, 121, 122, 123, 124, 125, 126, 127, // 70
+    128, 128, 128, 128, 128, 128, 128, 128, 128, 128, 128, 128, 128, 128, 128, 128, // 80
+    128, 128, 128, 128, 128, 128, 128, 128, 128, 128, 128, 128, 128, 128, 128, 128, // 90
+    128, 128, 128, 128, 128, 128, 128, 128, 128, 128, 128, 128, 128, 128, 128, 128, // A0
+    128, 128, 128, 128, 128, 128, 128, 128, 128, 128, 128, 128, 128, 128, 128, 128, // B0
+    128, 128, 128, 128, 128, 128, 128, 128, 128, 128, 128, 128, 128, 128, 128, 128, // C0
+    128, 128, 128, 128, 128, 128, 128, 128, 128, 128, 128, 128, 128, 128, 128, 128, // D0
+    128, 128, 128, 128, 128, 128, 128, 128, 128, 128, 128, 128, 128, 128, 128, 128, // E0
+    128, 128, 128, 128, 128, 128, 128, 128, 128, 128, 128, 128, 128, 128, 128, 128, // F0
+];
+
+/// Each ASCII character but `%` in lower case, and 128 for `%` and for each byte past ASCII.
+const LOWERED_CHARACTERS: &[u8; 256] = &[
+    0, 1, 2, 3, 4, 5, 6, 7, 8, 9, 10, 11, 12, 13, 14, 15, // 00
+    16, 17, 18, 19, 20, 21, 22, 23, 24, 25, 26, 27, 28, 29, 30, 31, // 10
+    32, 33, 34, 35, 36, 128, 38, 39, 40, 41, 42, 43, 44, 45, 46, 47, // 20
+    48, 49, 50, 51, 52, 53, 54, 55, 56, 57, 58, 59, 60, 61, 62, 63, // 30
+    64, 97, 98, 99, 100, 101, 102, 103, 104, 105, 106, 107, 108, 109, 110, 111, // 40
+    112, 113, 114, 115, 116, 117, 118, 119, 120, 121, 122, 91, 92, 93, 94, 95, // 50
+    96, 97, 98, 99, 100, 101, 102, 103, 104, 105, 106, 107, 108, 109, 110, 111, // 60
+    112, 113, 114, 115, 116, 117, 118, 119, 120, 121, 122, 123, 124, 125, 126, 127, // 70
+    128, 128, 128, 128, 128, 128, 128, 128, 128, 128, 128, 128, 128, 128, 128, 128, // 80
+    128, 128, 128, 128, 128, 128, 128, 128, 128, 128, 128, 128, 128, 128, 128, 128, // 90
+    128, 128, 128, 128, 128, 128, 128, 128, 128, 128, 128, 128, 128, 128, 128, 128, // A0
+    128, 128, 128, 128, 128, 128, 128, 128, 128, 128, 128, 128, 128, 128, 128, 128, // B0
+    128, 128, 128, 128, 128, 128, 128, 128, 128, 128, 128, 128, 128, 128, 128, 128, // C0
+    128, 128, 128, 128, 128, 128, 128, 128, 128, 128, 128, 128, 128, 128, 128, 128, // D0
+    128, 128, 128, 128, 128, 128, 128, 128, 128, 128, 128, 128, 128, 128, 128, 128, // E0
+    128, 128, 128, 128, 128, 128, 128, 128, 128, 128, 128, 128, 128, 128, 128, 128, // F0
+];
+
+/// Returns the ASCII characters but `%`, in lower case if `lowers`.
 #[inline(always)]
-fn push_ascii(lowers: bool, byte: u8, out: &mut String) -> Result<(), AllocError>
-    requires { byte < 128 }
-    ensures { OnOk result (Pushes out.old out.new (lowered_text_if lowers (byte ∷ []))) }
+fn characters(lowers: bool) -> &'static [u8; 256]
+    ensures { result.now ≡ (if lowers then LOWERED_CHARACTERS.now else CHARACTERS.now) }
 {
-    let ch = if lowers {
-        byte.to_ascii_lowercase()
+    if lowers {
+        LOWERED_CHARACTERS
     } else {
-        byte
-    };
-    out.push(char::from(ch))
+        CHARACTERS
+    }
 }
 
-/// Appends the tokens of a short component with decodable octets decoded, and with letters lowered
-/// if `lowers`, one by one, and returns the position after the last. It stops at the first that is
-/// past ASCII, but for octets of a URI.
-///
-/// If a text is short, this takes fewer instructions than to find and copy its runs.
-pub(crate) fn push_short(
-    table: &Table,
-    lowers: bool,
-    text: &str,
-    out: &mut String,
-) -> Result<usize, AllocError>
-    requires { IsValidFor widest_set text.now }
-    ensures text { IfOk result (λ end.
-        string_bytes out.new ++ decoded_text lowers (set_of table.now) (drop end text.now)
-        ≡ string_bytes out.old ++ decoded_text lowers (set_of table.now) text.now) }
-    ensures boundary { IfOk result (IsCharBoundary text.now) }
-    ensures valid { IfOk result (λ end. IsValidFor widest_set (drop end text.now)) }
+/// Returns the byte if it is an ASCII character but `%`, in lower case if `lowers`.
+#[inline(always)]
+fn character(lowers: bool, byte: u8) -> Option<u8>
+    ensures { let is_character = nat_lt byte 128 && not (byte == percent_sign) in
+        MatchOption result (is_character ≡ false)
+        (λ ch. (ch ≡ lowered_code_if lowers byte) × (is_character ≡ true)) }
 {
-    let alone = !table.allows_some_past_ascii();
+    let ch = characters(lowers)[usize::from(byte)];
+    if ch.is_ascii() { Some(ch) } else { None }
+}
+
+/// Appends an octet that does not decode to an unreserved character, its digits in upper case.
+#[inline(always)]
+fn push_octet_bytes(value: u8, out: &mut Vec<u8>)
+    requires reserved { is_unreserved value ≡ false }
+    requires room { vec_len out.old + 3 ≤ vec_capacity out.old }
+    ensures items { (lowers : Bool) → out.new.items
+        ≡ out.old.items ++ print (lowered_if lowers (decode_octet (Octet value) ∷ [])) }
+    ensures len { vec_len out.new ≡ vec_len out.old + 3 }
+    ensures capacity { vec_capacity out.new ≡ vec_capacity out.old }
+{
+    let octet = pct_encoded(value).as_bytes();
+    out.push_reserved(octet[0]);
+    out.push_reserved(octet[1]);
+    out.push_reserved(octet[2]);
+}
+
+/// Appends the octet with these digits to bytes that have room for it: decoded if its character is
+/// unreserved, and with a letter lowered if `lowers`.
+#[inline(always)]
+fn push_octet_of_digits(lowers: bool, high: u8, low: u8, out: &mut Vec<u8>)
+    requires high { IsTrue (is_ascii_hexdigit high) }
+    requires low { IsTrue (is_ascii_hexdigit low) }
+    requires room { vec_len out.old + 3 ≤ vec_capacity out.old }
+    ensures items { let value = 16 * digit_value high + digit_value low in out.new.items
+        ≡ out.old.items ++ print (lowered_if lowers (decode_octet (Octet value) ∷ [])) }
+    ensures len { vec_len out.new ≤ vec_len out.old + 3 }
+    ensures capacity { vec_capacity out.new ≡ vec_capacity out.old }
+{
+    match unreserved_of_octet(lowers, high, low) {
+        Some(ch) => out.push_reserved(ch),
+        None => push_octet_bytes(octet_value(high, low), out),
+    }
+}
+
+/// Appends the tokens of a short component to bytes that have room for it: with decodable octets
+/// decoded, and with letters lowered if `lowers`, one by one. It returns the position after the
+/// last. It stops at the first that is past ASCII, but for octets if `alone`.
+#[inline(always)]
+fn push_short_bytes(alone: bool, lowers: bool, text: &str, out: &mut Vec<u8>) -> usize
+    requires valid { IsValidFor widest_set text.now }
+    requires room { vec_len out.old + length text.now ≤ vec_capacity out.old }
+    ensures text { (set : TableSet) → (alone ≡ true → LacksPastAscii set)
+        → out.new.items ++ decoded_text lowers set (drop result text.now)
+        ≡ out.old.items ++ decoded_text lowers set text.now }
+    ensures kept { take (length out.old.items) out.new.items ≡ out.old.items }
+    ensures ascii { IsAscii (drop (length out.old.items) out.new.items) }
+    ensures boundary { IsCharBoundary text.now result }
+    ensures valid { IsValidFor widest_set (drop result text.now) }
+{
     let bytes = text.as_bytes();
     let mut end = 0;
     while end < bytes.len() {
         let byte = bytes[end];
-        if byte >= 128 {
-            return Ok(end);
-        }
-        if byte != b'%' {
-            push_ascii(lowers, byte, out)?;
+        if let Some(ch) = character(lowers, byte) {
+            out.push_reserved(ch);
             end += 1;
             continue;
+        }
+        if byte != b'%' {
+            return end;
         }
         let high = bytes[end + 1];
         let low = bytes[end + 2];
         if high >= b'8' && !alone {
-            return Ok(end);
+            return end;
         }
-        match unreserved_of_octet(lowers, high, low) {
-            Some(ch) => push_unreserved(ch, out)?,
-            None => push_octet(octet_value(high, low), out)?,
-        }
+        push_octet_of_digits(lowers, high, low, out);
         end += 3;
     }
-    Ok(end)
+    end
+}
+
+/// Appends the tokens of a short component to a text that has room for it: with decodable octets
+/// decoded, and with letters lowered if `lowers`, one by one. It returns the position after the
+/// last. It stops at the first that is past ASCII, so that it appends ASCII alone. But octets past
+/// ASCII stay octets if `alone`: the table of the component allows no such character.
+///
+/// If a text is short, this takes fewer instructions than to find and copy its runs. It calls
+/// nothing, so it has few registers to save.
+#[inline(never)]
+pub(crate) fn push_short(alone: bool, lowers: bool, text: &str, out: &mut String) -> usize
+    requires valid { IsValidFor widest_set text.now }
+    requires room { string_len out.old + length text.now ≤ string_capacity out.old }
+    ensures text { (set : TableSet) → (alone ≡ true → LacksPastAscii set)
+        → string_bytes out.new ++ decoded_text lowers set (drop result text.now)
+        ≡ string_bytes out.old ++ decoded_text lowers set text.now }
+    ensures kept { take (length (string_bytes out.old)) (string_bytes out.new)
+        ≡ string_bytes out.old }
+    ensures ascii { IsAscii (drop (length (string_bytes out.old)) (string_bytes out.new)) }
+    ensures boundary { IsCharBoundary text.now result }
+    ensures valid { IsValidFor widest_set (drop result text.now) }
+{
+    let mut bytes = take_bytes(out);
+    let end = push_short_bytes(alone, lowers, text, &mut bytes);
+    put_bytes(bytes, out);
+    end
 }

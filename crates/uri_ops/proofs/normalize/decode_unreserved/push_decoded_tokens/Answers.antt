@@ -5,7 +5,6 @@ use Rattle.uri_ops.specs.Models.Decodings.{decoded_text}
 use Rattle.uri_ops.proofs.Meanings.DecodedPrefixes.{text-before-percent-is-literal-prefix}
 use Rattle.uri_ops.proofs.Meanings.DecodedPrefixes.{kept-prefix-is-kept-from-zero}
 use Rattle.uri_ops.proofs.Meanings.DecodedPrefixes.{last-prefix-is-pushed}
-use Rattle.uri_ops.proofs.Meanings.DecodedPrefixes.{none_written}
 use Rattle.uri_ops.proofs.normalize.decode_unreserved.push_decoded_tokens.Goals as goal
 
 pub returns-then-first-text : goal.returns-then-first-text
@@ -26,9 +25,3 @@ returns-then-first-text c =
     last-prefix-is-pushed lowers set text out new whole 0 first (omega arith) over prefix
     pushed refl)
     c.push_literal.ensures
-
-pub returns-then-end-text : goal.returns-then-end-text
-returns-then-end-text c =
-    none_written c.args.lowers (set_of c.args.table.now) c.args.text.now
-    (string_bytes c.push_short.new.out) _ c.in_ok-end.end c.if-end-text.true
-    c.in_ok-end.ensures.text

@@ -1,0 +1,121 @@
+-- What is appended to a text is ASCII: characters, and octets that are decoded or written as they are.
+use Rattle.std.proofs.Common.{◌≡◌, ℕ, ◌+◌, ◌*◌, ◌<◌, Bool, true, false, List, [], ◌∷◌, ◌++◌, length}
+use Rattle.std.proofs.Common.{take, drop, refl, sym, ap, subst, ◌∙◌, append_assoc, take_all, arith}
+use Rattle.std.proofs.Common.{⊎_elim, append-nil, eqb, suc}
+use Rattle.std.specs.Char.{digit_value, is_ascii_hexdigit}
+use Rattle.std.specs.List.{list_any}
+use Rattle.std.specs.Str.{IsAscii, IsUtf8}
+use Rattle.std.proofs.lemmas.Bool.{cases_Bool}
+use Rattle.std.proofs.lemmas.Bool.Decides.{nat_tests}
+use Rattle.std.proofs.lemmas.List.{drop_all, take-append-drop}
+use Rattle.std.proofs.Math.Seq.{take-append_seam, drop-append_seam}
+use Rattle.std.proofs.lemmas.Str.{IsAscii-append, IsAscii-drop, IsAscii-take, IsUtf8-append}
+use Rattle.std.proofs.lemmas.Str.{IsUtf8-from_ascii, encode_ascii}
+use Rattle.std.proofs.lemmas.Str.Ascii.{IsAscii-nil, IsAscii-push, lowercase_ascii}
+use Rattle.uri_pct.specs.DecodeUnreserved.{decode_octet}
+use Rattle.uri_pct.specs.Sets.{is_unreserved}
+use Rattle.uri_pct.specs.Tokens.{Octet, print, text_of_token}
+use Rattle.uri_pct.proofs.Decodings.OctetTexts.{octet_entry_is_printed_octet, octet_table_is_ascii}
+use Rattle.uri_pct.proofs.ValidTexts.Allowed.{unreserved_is_ascii}
+use Rattle.uri_ops.specs.Models.Decodings.{lowered_code_if, lowered_if}
+use Rattle.uri_ops.proofs.Meanings.UnreservedCodes.{unreserved-octet-prints-its-code}
+
+-- ASCII suffixes: a text begins with the old one, and what is after it is ASCII
+pub record AppendsAscii (old new : List ℕ) : Type 0 where
+  pub kept : take (length old) new ≡ old
+  pub ascii : IsAscii (drop (length old) new)
+
+-- ASCII suffixes: a text is the old one and its suffix
+pub text-is-old-and-suffix : (old new : List ℕ) → AppendsAscii old new
+    → new ≡ old ++ drop (length old) new
+text-is-old-and-suffix old new a = sym (take-append-drop (length old) new)
+    ∙ ap (λ x. x ++ drop (length old) new) a.kept
+
+-- ASCII suffixes: a text itself has an empty suffix
+pub no-suffix-is-ascii : (old : List ℕ) → AppendsAscii old old
+no-suffix-is-ascii old =
+    let none : drop (length old) old ≡ [] = drop_all (length old) old (omega arith) in
+    record {
+      kept = take_all (length old) old (omega arith);
+      ascii = subst IsAscii (sym none) IsAscii-nil;
+    }
+
+-- ASCII suffixes: after more ASCII is appended, the suffix is ASCII
+pub longer-suffix-is-ascii : (old out new more : List ℕ) → AppendsAscii old out
+    → new ≡ out ++ more → IsAscii more → AppendsAscii old new
+longer-suffix-is-ascii old out new more a pushed ascii =
+    let suffix = drop (length old) out in
+    let joined : new ≡ old ++ (suffix ++ more) = pushed
+    ∙ ap (λ x. x ++ more) (text-is-old-and-suffix old out a) ∙ append_assoc old suffix more in
+    record {
+      kept = ap (take (length old)) joined ∙ take-append_seam old (suffix ++ more);
+      ascii = subst IsAscii
+          (sym (ap (drop (length old)) joined ∙ drop-append_seam old (suffix ++ more)))
+          (IsAscii-append suffix more a.ascii ascii);
+    }
+
+-- ASCII suffixes: after a text in UTF-8, an ASCII suffix leaves it UTF-8
+pub ascii-suffix-keeps-utf8 : (old new : List ℕ) → IsUtf8 old → AppendsAscii old new → IsUtf8 new
+ascii-suffix-keeps-utf8 old new utf8 a = subst IsUtf8 (sym (text-is-old-and-suffix old new a))
+    (IsUtf8-append old (drop (length old) new) utf8
+    (IsUtf8-from_ascii (drop (length old) new) a.ascii))
+
+-- ASCII suffixes: if a suffix and the rest complete what was before, they are the text
+pub suffix-and-rest-are-text : (old new rest text : List ℕ) → AppendsAscii old new
+    → new ++ rest ≡ old ++ text → drop (length old) new ++ rest ≡ text
+suffix-and-rest-are-text old new rest text a total =
+    let suffix = drop (length old) new in
+    let whole : old ++ (suffix ++ rest) ≡ old ++ text = sym (append_assoc old suffix rest)
+    ∙ ap (λ x. x ++ rest) (sym (text-is-old-and-suffix old new a)) ∙ total in
+    sym (drop-append_seam old (suffix ++ rest)) ∙ ap (drop (length old)) whole
+    ∙ drop-append_seam old text
+
+-- ASCII suffixes: no byte of ASCII is E2
+pub ascii-lacks-byte-E2 : (text : List ℕ) → IsAscii text → list_any (λ b. eqb b 0xE2) text ≡ false
+ascii-lacks-byte-E2 [] ascii = refl
+ascii-lacks-byte-E2 (b ∷ text) ascii =
+    let small : b < 128 = ascii 0 in
+    let other : eqb b 0xE2 ≡ false = grind (arith, nat_tests) in
+    rw other (ascii-lacks-byte-E2 text (λ i. ascii (suc i)))
+
+-- ASCII suffixes: two hexadecimal digits are of a byte
+pub digits-are-of-byte : (high low : ℕ) → is_ascii_hexdigit high ≡ true
+    → is_ascii_hexdigit low ≡ true → 16 * digit_value high + digit_value low < 256
+digits-are-of-byte high low h l = grind (arith, nat_tests)
+
+-- ASCII suffixes: an unreserved character is ASCII in lower case
+lowered-unreserved-is-ascii : (lowers : Bool) (value : ℕ) → is_unreserved value ≡ true
+    → lowered_code_if lowers value < 128
+lowered-unreserved-is-ascii true value e = lowercase_ascii value (unreserved_is_ascii value e)
+lowered-unreserved-is-ascii false value e = unreserved_is_ascii value e
+
+-- ASCII suffixes: the octet of an unreserved character is decoded to its code alone, in lower case
+-- if lowers
+pub unreserved-octet-is-its-code : (lowers : Bool) (value : ℕ) → is_unreserved value ≡ true
+    → lowered_code_if lowers value ∷ []
+    ≡ print (lowered_if lowers (decode_octet (Octet value) ∷ []))
+unreserved-octet-is-its-code lowers value e =
+    sym (encode_ascii (lowered_code_if lowers value) (lowered-unreserved-is-ascii lowers value e))
+    ∙ sym (unreserved-octet-prints-its-code lowers value e)
+
+-- ASCII suffixes: the octet of any other character is written as an octet
+reserved-octet-is-written : (lowers : Bool) (value : ℕ) → is_unreserved value ≡ false
+    → text_of_token (Octet value) ≡ print (lowered_if lowers (decode_octet (Octet value) ∷ []))
+reserved-octet-is-written true value e = rw e (sym (append-nil (text_of_token (Octet value))))
+reserved-octet-is-written false value e = rw e (sym (append-nil (text_of_token (Octet value))))
+
+-- ASCII suffixes: the text of an octet is ASCII
+octet-text-is-ascii : (value : ℕ) → value < 256 → IsAscii (text_of_token (Octet value))
+octet-text-is-ascii value small = subst IsAscii (octet_entry_is_printed_octet value small)
+    (IsAscii-take _ 3 (IsAscii-drop _ (value * 3) octet_table_is_ascii))
+
+-- ASCII suffixes: an octet that is decoded by itself is ASCII
+pub octet-decoded-alone-is-ascii : (lowers : Bool) (value : ℕ) → value < 256
+    → IsAscii (print (lowered_if lowers (decode_octet (Octet value) ∷ [])))
+octet-decoded-alone-is-ascii lowers value small = ⊎_elim
+    (λ e. subst IsAscii (unreserved-octet-is-its-code lowers value e)
+    (IsAscii-push [] (lowered_code_if lowers value) IsAscii-nil
+    (lowered-unreserved-is-ascii lowers value e)))
+    (λ e. subst IsAscii (reserved-octet-is-written lowers value e)
+    (octet-text-is-ascii value small))
+    (cases_Bool (is_unreserved value))
