@@ -17,7 +17,7 @@ kept g c e =
     record {
       scheme = subst (λ s. normal_scheme s ≡ s) c.scheme.ensures
           (c.is_scheme_unchanged.ensures c.if-not-is_scheme_unchanged.false);
-      authority = subst (λ a. IfSome a IsUnchangedAuthority) c.authority.ensures
+      authority = subst (λ a. IfSome a IsUnchangedAuthority) c.authority-else-not-is_scheme_unchanged.ensures
           (c.is_authority_unchanged.ensures c.if-not-is_authority_unchanged.false);
       path = subst (IsUnchangedPath p.scheme) (c.as_str-path.ensures.text ∙ c.path.ensures)
           (c.is_path_unchanged.ensures e p.scheme (sym c.has_scheme.ensures));
