@@ -81,6 +81,7 @@ fn push_userinfo<U: Encoder, R: Encoder>(
 ///
 /// After an error, part of it may have been appended.
 #[doc(hidden)]
+#[inline(always)]
 pub fn push_host<U: Encoder, R: Encoder>(
     authority: Authority<'_, U, R>,
     out: &mut String,

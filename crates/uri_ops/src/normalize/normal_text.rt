@@ -249,12 +249,19 @@ fn push_normal_components<K: Kind, P: DefaultPort>(
 }
 
 /// Returns `true` only if a value with a port or a host in brackets is its own normal text.
+#[inline(always)]
 fn is_unchanged_under<K: Kind, P: DefaultPort>(core: Core<K, &str>, ports: &P) -> bool
     requires { HasComponentSets K.kind }
     ensures text { result ≡ true → HasNormalText K.kind (P.port_of ports.now)
         (core_text core.entry) (core_text core.entry) }
     ensures underflow { result ≡ true → text_underflows (core_text core.entry) ≡ false }
 {
+    let Some(authority) = core.authority() else {
+        return false;
+    };
+    if !authority.has_port() && !super::normal_authority::is_bracketed(authority.host()) {
+        return false;
+    }
     super::unchanged::is_unchanged_but_for_port(core)
         && super::normal_authority::is_port_unchanged(core.authority(), core.scheme(), ports)
 }

@@ -1,9 +1,8 @@
 //! A cheap test of values that are their own normal text (RFC 3986, section 6.2.2). It misses a few
 //! of them.
 ghost use Rattle.std.specs.Prelude.{◌≡◌, ◌==◌, ◌+◌, ◌≤◌, ◌<◌, ◌&&◌, ◌||◌, ◌⊎◌, ℕ, List, Option};
-ghost use Rattle.std.specs.Prelude.{IfOk, IfSome, false};
+ghost use Rattle.std.specs.Prelude.{IfOk, IfSome, None, false};
 ghost use Rattle.std.specs.Prelude.{length, is_some, option_map, slice_index, string_bytes, true};
-ghost use Rattle.std.specs.Option.{option_map_or};
 ghost use Rattle.std.specs.Str.{str_to_ascii_lowercase};
 ghost use Rattle.std.specs.Char.{is_ascii_uppercase};
 ghost use Rattle.uri_pct.specs.Delimiters.{colon, full_stop, left_bracket};
@@ -92,24 +91,13 @@ fn is_scheme_unchanged(scheme: Option<Scheme<'_>>) -> bool
     }
 }
 
-/// Returns `true` only if normalising keeps the authority: there is none, or it has a name in lower
-/// case as its host, and no port.
-fn is_authority_unchanged<U: Encoder, R: Encoder>(authority: Option<Authority<'_, U, R>>) -> bool
-    ensures { result ≡ true → IfSome (option_map authority_text authority.entry)
-        IsUnchangedAuthority }
-{
-    let Some(authority) = authority else {
-        return true;
-    };
-    let host = authority.host();
-    !authority.has_port() && !is_bracketed(host) && is_lower(host)
-}
-
-/// Returns whether the authority, if there is one, has a port or a host in brackets.
+/// Returns whether the authority has a port or a host in brackets. `is_unchanged` does not test
+/// such an authority further.
+#[inline(always)]
 fn has_port_or_brackets<U: Encoder, R: Encoder>(authority: Option<Authority<'_, U, R>>) -> bool
-    ensures { result ≡ option_map_or (λ a. let p = authority_parts a in
-        is_some p.port || starts left_bracket p.host)
-        (option_map authority_text authority.entry) false }
+    ensures { result ≡ false → IfSome (option_map authority_text authority.entry) (λ a.
+        (starts left_bracket (authority_parts a).host ≡ false)
+        × ((authority_parts a).port ≡ None)) }
 {
     let Some(authority) = authority else {
         return false;
@@ -117,18 +105,31 @@ fn has_port_or_brackets<U: Encoder, R: Encoder>(authority: Option<Authority<'_, 
     authority.has_port() || is_bracketed(authority.host())
 }
 
-/// Returns whether a byte of an IPv6 address, after this one, may be written otherwise in a normal
-/// form: a `.`, a letter in upper case, a `0` that begins a group, or a `:` that begins the address.
-#[inline(always)]
-fn is_unusual(previous: u8, byte: u8) -> bool
-    ensures { result ≡ (byte == full_stop || is_ascii_uppercase byte
-        || (byte == 48 && (previous == colon || previous == left_bracket))
-        || (byte == colon && previous == left_bracket)) }
+/// Returns whether the host, if there is one, may be unchanged: no ASCII letter is in upper case.
+fn is_host_lower<U: Encoder, R: Encoder>(authority: Option<Authority<'_, U, R>>) -> bool
+    ensures { result ≡ true → IfSome (option_map authority_text authority.entry) (λ a.
+        let host = (authority_parts a).host in str_to_ascii_lowercase host ≡ host) }
 {
-    byte == b'.'
-        || byte.is_ascii_uppercase()
-        || (byte == b'0' && (previous == b':' || previous == b'['))
-        || (byte == b':' && previous == b'[')
+    match authority {
+        Some(authority) => is_lower(authority.host()),
+        None => true,
+    }
+}
+
+/// Returns whether a byte of an IPv6 address other than `:`, after this one, may be written otherwise
+/// in a normal form: a `.`, a letter in upper case, or a `0` that begins a group.
+#[inline(always)]
+fn is_unusual_digit(previous: u8, byte: u8) -> bool
+    ensures { result ≡ (byte == full_stop || is_ascii_uppercase byte
+        || (byte == 48 && (previous == colon || previous == left_bracket))) }
+{
+    if byte >= b'a' {
+        return false;
+    }
+    if byte == b'0' {
+        return previous == b':' || previous == b'[';
+    }
+    byte == b'.' || byte.is_ascii_uppercase()
 }
 
 /// Returns `true` only if normalising keeps the address in brackets: its digits are in lower case,
@@ -144,11 +145,13 @@ fn is_address_unchanged(host: &str) -> bool
     let mut i = 0;
     while i < bytes.len() {
         let byte = bytes[i];
-        if is_unusual(previous, byte) {
-            return false;
-        }
         if byte == b':' {
+            if previous == b'[' {
+                return false;
+            }
             colons += 1;
+        } else if is_unusual_digit(previous, byte) {
+            return false;
         }
         previous = byte;
         i += 1;
@@ -204,7 +207,7 @@ pub(crate) fn is_unchanged<K: Kind>(core: Core<K, &str>) -> bool
     }
     if !is_literal(core.as_str().as_bytes())
         || !is_scheme_unchanged(core.scheme())
-        || !is_authority_unchanged(core.authority())
+        || !is_host_lower(core.authority())
     {
         return false;
     }
@@ -212,8 +215,8 @@ pub(crate) fn is_unchanged<K: Kind>(core: Core<K, &str>) -> bool
 }
 
 /// Returns `true` only if the normal text of a value is its own, under any default ports that keep
-/// its port. It returns `false` for the values that `is_unchanged` tests: those without a port and
-/// without a host in brackets.
+/// its port. It is for values with a port or with a host in brackets; `is_unchanged` tests others.
+#[cold]
 pub(crate) fn is_unchanged_but_for_port<K: Kind>(core: Core<K, &str>) -> bool
     requires { HasComponentSets K.kind }
     ensures text { let p = components (core_text core.entry) in
@@ -223,8 +226,7 @@ pub(crate) fn is_unchanged_but_for_port<K: Kind>(core: Core<K, &str>) -> bool
         → HasNormalText K.kind ports (core_text core.entry) (core_text core.entry) }
     ensures underflow { result ≡ true → text_underflows (core_text core.entry) ≡ false }
 {
-    if !has_port_or_brackets(core.authority())
-        || !is_literal(core.as_str().as_bytes())
+    if !is_literal(core.as_str().as_bytes())
         || !is_scheme_unchanged(core.scheme())
         || !is_host_unchanged(core.authority())
     {

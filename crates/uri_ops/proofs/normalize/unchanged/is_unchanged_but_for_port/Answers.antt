@@ -178,7 +178,7 @@ kept g c e =
       scheme = subst (λ s. normal_scheme s ≡ s) c.scheme.ensures
           (c.is_scheme_unchanged.ensures c.if-not-is_scheme_unchanged.false);
       host = subst (λ o. IfSome o (λ a. IsKeptHost (authority_parts a).host))
-          c.authority-else-not-is_scheme_unchanged.ensures
+          c.authority.ensures
           (c.is_host_unchanged.ensures c.if-not-is_host_unchanged.false);
       path = subst (IsUnchangedPath p.scheme) (c.as_str-2.ensures.text ∙ c.path.ensures)
           (c.is_path_unchanged.ensures e p.scheme (sym c.has_scheme.ensures));
