@@ -1,7 +1,6 @@
 //! The normal text of a value (RFC 3986, section 6.2.2; RFC 3987, section 5.3.2).
 ghost use Rattle.std.specs.Prelude.{◌≡◌, ◌+◌, ◌<◌, ◌++◌, ◌∷◌, ℕ, List, Option, [], IfOk, OnOk};
-ghost use Rattle.std.specs.Prelude.{codes, false, is_some, length, option_map, string_bytes};
-ghost use Rattle.std.specs.Prelude.{true};
+ghost use Rattle.std.specs.Prelude.{codes, is_some, length, option_map, string_bytes, true};
 ghost use Rattle.uri_pct.specs.Delimiters.{slash};
 ghost use Rattle.uri_pct.specs.EncodedTexts.{text_of};
 ghost use Rattle.uri_pct.specs.DecodeUnreserved.{decode_unreserved};
@@ -20,7 +19,6 @@ ghost use Rattle.uri_ops.specs.Normal.{normal_part};
 ghost use Rattle.uri_ops.specs.Normal.{normal_parts, normal_scheme, normal_text};
 ghost use Rattle.uri_ops.specs.Normal.{normal_path_text, path_underflows};
 ghost use Rattle.uri_ops.specs.Normal.{default_port_of};
-ghost use Rattle.uri_ops.specs.Normalizers.{HasNormalText, text_underflows};
 ghost use Rattle.uri_ops.specs.Target.{guarded};
 ghost use Rattle.uri_ops.specs.Models.Written.{authority_parts_at, positions_by_authority_parts};
 
@@ -210,11 +208,11 @@ fn push_normal_path<E: PathEncoder>(
     Ok(false)
 }
 
-/// Appends the normal components of a value to what is empty, and returns where they are, and
+/// Appends the normal text of a value to what is empty, and returns where its components are, and
 /// whether the removal of its dot segments underflows.
 ///
-/// After an error, part of them may have been appended.
-fn push_normal_components<K: Kind, P: DefaultPort>(
+/// After an error, part of it may have been appended.
+pub(crate) fn push_normal_text<K: Kind, P: DefaultPort>(
     core: Core<K, &str>,
     ports: &P,
     out: &mut String,
@@ -246,48 +244,4 @@ fn push_normal_components<K: Kind, P: DefaultPort>(
         query_end,
     };
     Ok((positions, underflows))
-}
-
-/// Returns `true` only if a value with a port or a host in brackets is its own normal text.
-#[inline(always)]
-fn is_unchanged_under<K: Kind, P: DefaultPort>(core: Core<K, &str>, ports: &P) -> bool
-    requires { HasComponentSets K.kind }
-    ensures text { result ≡ true → HasNormalText K.kind (P.port_of ports.now)
-        (core_text core.entry) (core_text core.entry) }
-    ensures underflow { result ≡ true → text_underflows (core_text core.entry) ≡ false }
-{
-    let Some(authority) = core.authority() else {
-        return false;
-    };
-    if !authority.has_port() && !super::normal_authority::is_bracketed(authority.host()) {
-        return false;
-    }
-    super::unchanged::is_unchanged_but_for_port(core)
-        && super::normal_authority::is_port_unchanged(core.authority(), core.scheme(), ports)
-}
-
-/// Appends the normal text of a value to what is empty, and returns where its components are, and
-/// whether the removal of its dot segments underflows.
-///
-/// After an error, part of it may have been appended.
-pub(crate) fn push_normal_text<K: Kind, P: DefaultPort>(
-    core: Core<K, &str>,
-    ports: &P,
-    out: &mut String,
-) -> Result<(Positions, bool), AllocError>
-    requires { HasComponentSets K.kind }
-    ensures text { OnOk result (Pushes out.old out.new
-        (normal_text (meaning_of K.kind (P.port_of ports.now) (core_text core.entry)))) }
-    ensures places { let m = meaning_of K.kind (P.port_of ports.now) (core_text core.entry) in
-        string_bytes out.old ≡ [] → IfOk result (λ written.
-        written.0 ≡ positions_by_authority_parts (normal_components m)
-        (option_map normal_parts m.authority)) }
-    ensures underflow { let p = components (core_text core.entry) in
-        IfOk result (λ written. written.1 ≡ path_underflows p.scheme p.path) }
-{
-    if is_unchanged_under(core, ports) {
-        out.push_str(core.as_str())?;
-        return Ok((core.positions(), false));
-    }
-    push_normal_components(core, ports, out)
 }

@@ -94,7 +94,9 @@ fn is_scheme_unchanged(scheme: Option<Scheme<'_>>) -> bool
 /// Returns whether the authority has a port or a host in brackets. `is_unchanged` does not test
 /// such an authority further.
 #[inline(always)]
-fn has_port_or_brackets<U: Encoder, R: Encoder>(authority: Option<Authority<'_, U, R>>) -> bool
+pub(crate) fn has_port_or_brackets<U: Encoder, R: Encoder>(
+    authority: Option<Authority<'_, U, R>>,
+) -> bool
     ensures { result ≡ false → IfSome (option_map authority_text authority.entry) (λ a.
         (starts left_bracket (authority_parts a).host ≡ false)
         × ((authority_parts a).port ≡ None)) }
@@ -198,11 +200,11 @@ pub(crate) fn is_unchanged<K: Kind>(core: Core<K, &str>) -> bool
         → HasNormalText K.kind ports (core_text core.entry) (core_text core.entry) }
     ensures underflow { result ≡ true → text_underflows (core_text core.entry) ≡ false }
 {
-    let path = core.path().as_str();
-    if path.len() > LANES && len_before_slash_dot(path.as_bytes(), 0) < LANES {
+    if has_port_or_brackets(core.authority()) {
         return false;
     }
-    if has_port_or_brackets(core.authority()) {
+    let path = core.path().as_str();
+    if path.len() > LANES && len_before_slash_dot(path.as_bytes(), 0) < LANES {
         return false;
     }
     if !is_literal(core.as_str().as_bytes())
@@ -214,9 +216,28 @@ pub(crate) fn is_unchanged<K: Kind>(core: Core<K, &str>) -> bool
     is_path_unchanged(core.has_scheme(), path)
 }
 
+/// Returns `true` only if normalising keeps the scheme, the host and the path of a value, if nothing
+/// in them is decoded.
+#[cold]
+#[inline(never)]
+fn are_literal_components_unchanged<K: Kind>(core: Core<K, &str>) -> bool
+    ensures { let p = components (core_text core.entry) in
+        result ≡ true → (normal_scheme p.scheme ≡ p.scheme) × (IfSome p.authority (λ a.
+        let host = (authority_parts a).host in
+        ((str_to_ascii_lowercase host ≡ host) × (starts left_bracket host ≡ false))
+        ⊎ ((names : TableSet) → is_host names host ≡ true
+        → host_text (host_meaning names host (host_kind host)) ≡ host))
+        × IsUnchangedPath p.scheme p.path) }
+{
+    if !is_scheme_unchanged(core.scheme()) || !is_host_unchanged(core.authority()) {
+        return false;
+    }
+    is_path_unchanged(core.has_scheme(), core.path().as_str())
+}
+
 /// Returns `true` only if the normal text of a value is its own, under any default ports that keep
 /// its port. It is for values with a port or with a host in brackets; `is_unchanged` tests others.
-#[cold]
+#[inline(always)]
 pub(crate) fn is_unchanged_but_for_port<K: Kind>(core: Core<K, &str>) -> bool
     requires { HasComponentSets K.kind }
     ensures text { let p = components (core_text core.entry) in
@@ -226,13 +247,10 @@ pub(crate) fn is_unchanged_but_for_port<K: Kind>(core: Core<K, &str>) -> bool
         → HasNormalText K.kind ports (core_text core.entry) (core_text core.entry) }
     ensures underflow { result ≡ true → text_underflows (core_text core.entry) ≡ false }
 {
-    if !is_literal(core.as_str().as_bytes())
-        || !is_scheme_unchanged(core.scheme())
-        || !is_host_unchanged(core.authority())
-    {
+    if !is_literal(core.as_str().as_bytes()) {
         return false;
     }
-    is_path_unchanged(core.has_scheme(), core.path().as_str())
+    are_literal_components_unchanged(core)
 }
 
 /// Returns a copy of a text that is its own normal text, with its positions.

@@ -128,18 +128,16 @@ path-that-needs-no-guard-is-kept None authority path h = refl
 path-that-needs-no-guard-is-kept (Some s) None path h = cond-false _ _ _ h
 path-that-needs-no-guard-is-kept (Some s) (Some a) path h = refl
 
--- unchanged texts: what is known of the components of a text that is kept with its port
-record AreKept (p : Components) : Type 0 where
-  scheme : normal_scheme p.scheme ≡ p.scheme
-  host : IfSome p.authority (λ a. IsKeptHost (authority_parts a).host)
-  path : IsUnchangedPath p.scheme p.path
-
+-- unchanged texts: a text is its own normal text if its host and its port are kept
 kept-text-is-its-normal-text : (kind : Kind) → HasComponentSets kind → (ports : PortFunction)
-    (text : List ℕ) → IsTextOf kind text → IsLiteral text → AreKept (components text)
+    (text : List ℕ) → IsTextOf kind text → IsLiteral text
     → (let p = components text in
-    IfSome p.authority (λ a. port_meaning (default_port_of ports p.scheme) (authority_parts a).port
-    ≡ (authority_parts a).port))
-    → text ≡ normal_text (meaning_of kind ports text)
+    (normal_scheme p.scheme ≡ p.scheme)
+    × (IfSome p.authority (λ a. IsKeptHost (authority_parts a).host)
+    × IsUnchangedPath p.scheme p.path)
+    → IfSome p.authority (λ a. port_meaning (default_port_of ports p.scheme) (authority_parts a).port
+    ≡ (authority_parts a).port)
+    → text ≡ normal_text (meaning_of kind ports text))
 kept-text-is-its-normal-text kind sets ports text w literal kept port =
     let p : Components = components text in
     let split : IsSplitOf text p = components-are-split-of-text text in
@@ -152,37 +150,23 @@ kept-text-is-its-normal-text kind sets ports text w literal kept port =
     let authority = kept-authority-if-some-is-normal kind sets (default_port_of ports p.scheme)
     p.authority (text-has-parts-of-kind kind text w).authority
     (delimited-component-of-literal-is-literal (codes "//") [] p.authority from_path.0)
-    kept.host port in
+    kept.1.0 port in
     let query = literal-option-decodes-to-itself kind.query p.query utf8.query
     (delimited-component-of-literal-is-literal (codes "?") [] p.query from_fragment.0) in
     let fragment = literal-option-decodes-to-itself kind.fragment p.fragment utf8.fragment
     (delimited-component-of-literal-is-literal (codes "#") [] p.fragment from_fragment.1) in
-    let decoded = ap (λ x. print (decode_unreserved kind.path x)) kept.path.dotless
+    let decoded = ap (λ x. print (decode_unreserved kind.path x)) kept.1.1.dotless
     ∙ literal-decodes-to-itself kind.path p.path utf8.path from_query.0 in
     let path : normal_path (meaning_of kind ports text) ≡ p.path =
-    (λ i. cond (is_some (kept.scheme i)) (guarded (authority i) (decoded i)) (decoded i))
+    (λ i. cond (is_some (kept.0 i)) (guarded (authority i) (decoded i)) (decoded i))
     ∙ path-that-needs-no-guard-is-kept p.scheme p.authority p.path split.no_authority in
     sym split.whole ∙ sym (λ i. recompose (record {
-      scheme = kept.scheme i;
+      scheme = kept.0 i;
       authority = authority i;
       path = path i;
       query = query i;
       fragment = fragment i;
     }))
-
-kept : (g : _) (c : goal.After-is_path_unchanged g) → c.is_path_unchanged.result ≡ true
-    → AreKept (components (core_text c.args.core))
-kept g c e =
-    let p : Components = components (core_text c.args.core) in
-    record {
-      scheme = subst (λ s. normal_scheme s ≡ s) c.scheme.ensures
-          (c.is_scheme_unchanged.ensures c.if-not-is_scheme_unchanged.false);
-      host = subst (λ o. IfSome o (λ a. IsKeptHost (authority_parts a).host))
-          c.authority.ensures
-          (c.is_host_unchanged.ensures c.if-not-is_host_unchanged.false);
-      path = subst (IsUnchangedPath p.scheme) (c.as_str-2.ensures.text ∙ c.path.ensures)
-          (c.is_path_unchanged.ensures e p.scheme (sym c.has_scheme.ensures));
-    }
 
 pub returns-clause-text : goal.returns-clause-text
 returns-clause-text g c = λ e ports port.
@@ -194,9 +178,9 @@ returns-clause-text g c = λ e ports port.
           (record {
             utf8 = subst IsUtf8 c.as_str.ensures.text c.as_str.utf8;
             grammar = c.args.core.of_kind;
-          }) literal (kept g c e) port;
+          }) literal (c.are_literal_components_unchanged.ensures e) port;
     }
 
 pub returns-clause-underflow : goal.returns-clause-underflow
 unfolding text_underflows
-returns-clause-underflow g c = λ e. (kept g c e).path.underflow
+returns-clause-underflow g c = λ e. (c.are_literal_components_unchanged.ensures e).1.1.underflow
