@@ -106,6 +106,21 @@ fn normalize_components<K: Kind, P: DefaultPort>(
     })
 }
 
+/// Returns `true` only if the normal text of a text of a kind is the text itself.
+#[inline(always)]
+fn is_own_normal_text<K: Kind, P: DefaultPort>(core: Core<K, &str>, ports: &P) -> bool
+    requires { HasComponentSets K.kind }
+    ensures text { result ≡ true → HasNormalText K.kind (P.port_of ports.now)
+        (core_text core.entry) (core_text core.entry) }
+    ensures underflow { result ≡ true → text_underflows (core_text core.entry) ≡ false }
+{
+    if !unchanged::has_port_or_brackets(core.authority()) {
+        return is_unchanged(core);
+    }
+    unchanged::is_unchanged_but_for_port(core)
+        && normal_authority::is_port_unchanged(core.authority(), core.scheme(), ports)
+}
+
 /// Returns the normal text of a text of a kind. If that is the text itself, the result
 /// is a copy.
 pub(crate) fn normalize_core<K: Kind, P: DefaultPort>(
@@ -122,7 +137,7 @@ pub(crate) fn normalize_core<K: Kind, P: DefaultPort>(
     ensures underflow { IfOk result (λ made.
         made.underflows ≡ text_underflows (core_text core.entry)) }
 {
-    if is_unchanged(core) {
+    if is_own_normal_text(core, ports) {
         return copy_unchanged(alloc, core);
     }
     normalize_components(alloc, core, ports)
@@ -146,7 +161,7 @@ pub(crate) fn normalize_string<K: Kind, P: DefaultPort>(
     ensures at { IfOk result (λ made. ArePositionsOf (string_bytes made.text) made.positions) }
 {
     let core = Core::<K, &str>::new(text.as_str(), positions);
-    if is_unchanged(core) {
+    if is_own_normal_text(core, ports) {
         return Ok(Normalized {
             text,
             positions,

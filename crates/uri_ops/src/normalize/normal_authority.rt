@@ -1,6 +1,6 @@
 //! Authorities in normal form (RFC 3986, sections 6.2.2 and 6.2.3; RFC 3987, section 5.3.2).
-ghost use Rattle.std.specs.Prelude.{◌≡◌, ◌==◌, [], IfOk, OnOk, codes, false, length, option_map};
-ghost use Rattle.std.specs.Prelude.{string_bytes};
+ghost use Rattle.std.specs.Prelude.{◌≡◌, ◌==◌, [], IfOk, IfSome, OnOk, codes, false, length};
+ghost use Rattle.std.specs.Prelude.{option_map, string_bytes, true};
 ghost use Rattle.std.specs.Option.{option_map_or};
 ghost use Rattle.uri_pct.specs.Delimiters.{left_bracket};
 ghost use Rattle.uri_pct.specs.Texts.{Pushes};
@@ -81,6 +81,7 @@ fn push_userinfo<U: Encoder, R: Encoder>(
 ///
 /// After an error, part of it may have been appended.
 #[doc(hidden)]
+#[inline(always)]
 pub fn push_host<U: Encoder, R: Encoder>(
     authority: Authority<'_, U, R>,
     out: &mut String,
@@ -124,6 +125,28 @@ fn push_port<U: Encoder, R: Encoder, P: DefaultPort>(
     };
     out.push(':')?;
     out.push_str(digits)
+}
+
+/// Returns whether a normal authority has the port that this one has, if it has one: the port is
+/// neither empty nor the scheme's default.
+pub(crate) fn is_port_unchanged<U: Encoder, R: Encoder, P: DefaultPort>(
+    authority: Option<Authority<'_, U, R>>,
+    scheme: Option<Scheme<'_>>,
+    ports: &P,
+) -> bool
+    ensures { let default = default_port_of (P.port_of ports.now)
+        (option_map scheme_text scheme.entry) in
+        result ≡ true → IfSome (option_map authority_text authority.entry)
+        (λ a. let port = (authority_parts a).port in port_meaning default port ≡ port) }
+{
+    let Some(authority) = authority else {
+        return true;
+    };
+    if !authority.has_port() {
+        return true;
+    }
+    let default = default_for_port(authority, scheme, ports);
+    port_unless_default(authority, default).is_some()
 }
 
 /// Returns the port's digits in a normal authority, unless there are none or they write the

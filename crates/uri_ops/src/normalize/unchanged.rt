@@ -1,16 +1,24 @@
 //! A cheap test of values that are their own normal text (RFC 3986, section 6.2.2). It misses a few
 //! of them.
-ghost use Rattle.std.specs.Prelude.{◌≡◌, ◌+◌, ◌≤◌, ◌<◌, ℕ, List, Option, IfOk, IfSome, false};
+ghost use Rattle.std.specs.Prelude.{◌≡◌, ◌==◌, ◌+◌, ◌≤◌, ◌<◌, ◌&&◌, ◌||◌, ◌⊎◌, ℕ, List, Option};
+ghost use Rattle.std.specs.Prelude.{IfOk, IfSome, None, false};
 ghost use Rattle.std.specs.Prelude.{length, is_some, option_map, slice_index, string_bytes, true};
 ghost use Rattle.std.specs.Str.{str_to_ascii_lowercase};
+ghost use Rattle.std.specs.Char.{is_ascii_uppercase};
+ghost use Rattle.uri_pct.specs.Delimiters.{colon, full_stop, left_bracket};
+ghost use Rattle.uri_pct.specs.Sets.{TableSet};
+ghost use Rattle.uri_parts.specs.Hosts.{host_kind, is_host};
+ghost use Rattle.uri_parts.specs.Authority.{authority_parts};
 ghost use Rattle.uri_parts.specs.AuthorityTexts.{authority_text};
+ghost use Rattle.uri_parts.specs.Components.{components, starts};
 ghost use Rattle.uri_parts.specs.CoreTexts.{core_text};
 ghost use Rattle.uri_parts.specs.Positions.{ArePositionsOf};
 ghost use Rattle.uri_parts.specs.Schemes.{scheme_text};
 ghost use Rattle.uri_ops.specs.ComponentSets.{HasComponentSets};
 ghost use Rattle.uri_ops.specs.Models.Unchanged.{IsUnchangedAuthority, IsUnchangedPath, IsLiteral};
 ghost use Rattle.uri_ops.specs.Models.Unchanged.{is_literal_byte};
-ghost use Rattle.uri_ops.specs.Normal.{normal_scheme};
+ghost use Rattle.uri_ops.specs.Meaning.{host_meaning, port_meaning};
+ghost use Rattle.uri_ops.specs.Normal.{default_port_of, host_text, normal_scheme};
 ghost use Rattle.uri_ops.specs.Normalizers.{HasNormalText, text_underflows};
 ghost use Rattle.uri_parts.specs.Ports.{PortFunction};
 
@@ -83,17 +91,94 @@ fn is_scheme_unchanged(scheme: Option<Scheme<'_>>) -> bool
     }
 }
 
-/// Returns `true` only if normalising keeps the authority: there is none, or it has a name in lower
-/// case as its host, and no port.
-fn is_authority_unchanged<U: Encoder, R: Encoder>(authority: Option<Authority<'_, U, R>>) -> bool
+/// Returns whether the authority has a port or a host in brackets. `is_unchanged` does not test
+/// such an authority further.
+#[inline(always)]
+pub(crate) fn has_port_or_brackets<U: Encoder, R: Encoder>(
+    authority: Option<Authority<'_, U, R>>,
+) -> bool
+    ensures { result ≡ false → IfSome (option_map authority_text authority.entry) (λ a.
+        (starts left_bracket (authority_parts a).host ≡ false)
+        × ((authority_parts a).port ≡ None)) }
+{
+    let Some(authority) = authority else {
+        return false;
+    };
+    authority.has_port() || is_bracketed(authority.host())
+}
+
+/// Returns whether the host, if there is one, may be unchanged: no ASCII letter is in upper case.
+fn is_host_lower<U: Encoder, R: Encoder>(authority: Option<Authority<'_, U, R>>) -> bool
+    ensures { result ≡ true → IfSome (option_map authority_text authority.entry) (λ a.
+        let host = (authority_parts a).host in str_to_ascii_lowercase host ≡ host) }
+{
+    match authority {
+        Some(authority) => is_lower(authority.host()),
+        None => true,
+    }
+}
+
+/// Returns whether a byte of an IPv6 address other than `:`, after this one, may be written otherwise
+/// in a normal form: a `.`, a letter in upper case, or a `0` that begins a group.
+#[inline(always)]
+fn is_unusual_digit(previous: u8, byte: u8) -> bool
+    ensures { result ≡ (byte == full_stop || is_ascii_uppercase byte
+        || (byte == 48 && (previous == colon || previous == left_bracket))) }
+{
+    if byte >= b'a' {
+        return false;
+    }
+    if byte == b'0' {
+        return previous == b':' || previous == b'[';
+    }
+    byte == b'.' || byte.is_ascii_uppercase()
+}
+
+/// Returns `true` only if normalising keeps the address in brackets: its digits are in lower case,
+/// no group begins with a `0`, and `::` stands for two groups or more.
+fn is_address_unchanged(host: &str) -> bool
+    requires { starts left_bracket host.now ≡ true }
+    ensures { result ≡ true → (names : TableSet) → is_host names host.now ≡ true
+        → host_text (host_meaning names host.now (host_kind host.now)) ≡ host.now }
+{
+    let bytes = host.as_bytes();
+    let mut previous = b'[';
+    let mut colons: usize = 0;
+    let mut i = 0;
+    while i < bytes.len() {
+        let byte = bytes[i];
+        if byte == b':' {
+            if previous == b'[' {
+                return false;
+            }
+            colons += 1;
+        } else if is_unusual_digit(previous, byte) {
+            return false;
+        }
+        previous = byte;
+        i += 1;
+    }
+    colons <= 6
+}
+
+/// Returns `true` only if normalising keeps the host, if nothing in it is decoded: it is a name in
+/// lower case, or an address in brackets in its normal form.
+fn is_host_unchanged<U: Encoder, R: Encoder>(authority: Option<Authority<'_, U, R>>) -> bool
     ensures { result ≡ true → IfSome (option_map authority_text authority.entry)
-        IsUnchangedAuthority }
+        (λ a. let host = (authority_parts a).host in
+        ((str_to_ascii_lowercase host ≡ host) × (starts left_bracket host ≡ false))
+        ⊎ ((names : TableSet) → is_host names host ≡ true
+        → host_text (host_meaning names host (host_kind host)) ≡ host)) }
 {
     let Some(authority) = authority else {
         return true;
     };
     let host = authority.host();
-    !authority.has_port() && !is_bracketed(host) && is_lower(host)
+    if is_bracketed(host) {
+        is_address_unchanged(host)
+    } else {
+        is_lower(host)
+    }
 }
 
 /// Returns `true` only if normalising removes no dot segment of the path.
@@ -115,17 +200,57 @@ pub(crate) fn is_unchanged<K: Kind>(core: Core<K, &str>) -> bool
         → HasNormalText K.kind ports (core_text core.entry) (core_text core.entry) }
     ensures underflow { result ≡ true → text_underflows (core_text core.entry) ≡ false }
 {
+    if has_port_or_brackets(core.authority()) {
+        return false;
+    }
     let path = core.path().as_str();
     if path.len() > LANES && len_before_slash_dot(path.as_bytes(), 0) < LANES {
         return false;
     }
     if !is_literal(core.as_str().as_bytes())
         || !is_scheme_unchanged(core.scheme())
-        || !is_authority_unchanged(core.authority())
+        || !is_host_lower(core.authority())
     {
         return false;
     }
     is_path_unchanged(core.has_scheme(), path)
+}
+
+/// Returns `true` only if normalising keeps the scheme, the host and the path of a value, if nothing
+/// in them is decoded.
+#[cold]
+#[inline(never)]
+fn are_literal_components_unchanged<K: Kind>(core: Core<K, &str>) -> bool
+    ensures { let p = components (core_text core.entry) in
+        result ≡ true → (normal_scheme p.scheme ≡ p.scheme) × (IfSome p.authority (λ a.
+        let host = (authority_parts a).host in
+        ((str_to_ascii_lowercase host ≡ host) × (starts left_bracket host ≡ false))
+        ⊎ ((names : TableSet) → is_host names host ≡ true
+        → host_text (host_meaning names host (host_kind host)) ≡ host))
+        × IsUnchangedPath p.scheme p.path) }
+{
+    if !is_scheme_unchanged(core.scheme()) || !is_host_unchanged(core.authority()) {
+        return false;
+    }
+    is_path_unchanged(core.has_scheme(), core.path().as_str())
+}
+
+/// Returns `true` only if the normal text of a value is its own, under any default ports that keep
+/// its port. It is for values with a port or with a host in brackets; `is_unchanged` tests others.
+#[inline(always)]
+pub(crate) fn is_unchanged_but_for_port<K: Kind>(core: Core<K, &str>) -> bool
+    requires { HasComponentSets K.kind }
+    ensures text { let p = components (core_text core.entry) in
+        result ≡ true → (ports : PortFunction)
+        → IfSome p.authority (λ a. let port = (authority_parts a).port in
+        port_meaning (default_port_of ports p.scheme) port ≡ port)
+        → HasNormalText K.kind ports (core_text core.entry) (core_text core.entry) }
+    ensures underflow { result ≡ true → text_underflows (core_text core.entry) ≡ false }
+{
+    if !is_literal(core.as_str().as_bytes()) {
+        return false;
+    }
+    are_literal_components_unchanged(core)
 }
 
 /// Returns a copy of a text that is its own normal text, with its positions.

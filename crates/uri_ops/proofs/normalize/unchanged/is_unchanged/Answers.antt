@@ -1,7 +1,8 @@
-use Rattle.std.proofs.Common.{◌≡◌, true, sym, subst, ◌∙◌}
-use Rattle.std.specs.Prelude.{IfSome}
-use Rattle.std.specs.Str.{IsUtf8}
-use Rattle.uri_parts.specs.Components.{Components, components}
+use Rattle.std.proofs.Common.{◌≡◌, ℕ, true, false, List, sym, subst, ◌∙◌}
+use Rattle.std.specs.Prelude.{IfSome, Option, Some, None}
+use Rattle.std.specs.Str.{IsUtf8, str_to_ascii_lowercase}
+use Rattle.uri_parts.specs.Authority.{authority_parts}
+use Rattle.uri_parts.specs.Components.{Components, components, starts}
 use Rattle.uri_parts.specs.CoreTexts.{core_text}
 use Rattle.uri_ops.specs.Models.Unchanged.{AreUnchanged, IsUnchangedAuthority, IsUnchangedPath}
 use Rattle.uri_ops.specs.Models.Unchanged.{IsLiteral}
@@ -10,6 +11,19 @@ use Rattle.uri_ops.specs.Normalizers.{text_underflows}
 use Rattle.uri_ops.proofs.Normal.UnchangedTexts.{unchanged-text-is-its-normal-text}
 use Rattle.uri_ops.proofs.normalize.unchanged.is_unchanged.Goals as goal
 
+-- unchanged texts: an authority without a port is unchanged if its host is a name in lower case
+name-in-lower-case-is-unchanged-authority : (o : Option (List ℕ))
+    → IfSome o (λ a. (starts 91 (authority_parts a).host ≡ false)
+    × ((authority_parts a).port ≡ None))
+    → IfSome o (λ a. str_to_ascii_lowercase (authority_parts a).host ≡ (authority_parts a).host)
+    → IfSome o IsUnchangedAuthority
+name-in-lower-case-is-unchanged-authority None alone lower = tt
+name-in-lower-case-is-unchanged-authority (Some a) alone lower = record {
+  lower = lower;
+  name = alone.0;
+  port = alone.1;
+}
+
 kept : (g : _) (c : goal.After-is_path_unchanged g) → c.is_path_unchanged.result ≡ true
     → AreUnchanged (components (core_text c.args.core))
 kept g c e =
@@ -17,8 +31,15 @@ kept g c e =
     record {
       scheme = subst (λ s. normal_scheme s ≡ s) c.scheme.ensures
           (c.is_scheme_unchanged.ensures c.if-not-is_scheme_unchanged.false);
-      authority = subst (λ a. IfSome a IsUnchangedAuthority) c.authority.ensures
-          (c.is_authority_unchanged.ensures c.if-not-is_authority_unchanged.false);
+      authority = name-in-lower-case-is-unchanged-authority p.authority
+          (subst (λ o. IfSome o (λ a. (starts 91 (authority_parts a).host ≡ false)
+          × ((authority_parts a).port ≡ None))) c.authority.ensures
+          (c.has_port_or_brackets.ensures c.if-has_port_or_brackets.false))
+          (subst
+          (λ o. IfSome o
+          (λ a. str_to_ascii_lowercase (authority_parts a).host ≡ (authority_parts a).host))
+          c.authority-else-not-is_scheme_unchanged.ensures
+          (c.is_host_lower.ensures c.if-not-is_host_lower.false));
       path = subst (IsUnchangedPath p.scheme) (c.as_str-path.ensures.text ∙ c.path.ensures)
           (c.is_path_unchanged.ensures e p.scheme (sym c.has_scheme.ensures));
     }
