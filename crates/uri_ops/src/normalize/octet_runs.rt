@@ -80,9 +80,11 @@ fn push_blocks(
 }
 
 /// Appends the characters of unreserved octets from `start` on, with letters lowered if `lowers`,
-/// and returns the position after the last. The end of a text and a single octet cost no call.
+/// and returns the position after the last. It does so only after as many bytes of such octets as
+/// a block takes, `len`: if a run is short, a block does not pay.
 #[inline(always)]
 pub(crate) fn push_unreserved_run(
+    len: usize,
     lowers: bool,
     text: &str,
     start: usize,
@@ -97,8 +99,9 @@ pub(crate) fn push_unreserved_run(
     ensures boundary { IfOk result (IsCharBoundary text.now) }
     ensures valid { IfOk result (λ end. IsValidFor widest_set (drop end text.now)) }
 {
-    if text.len() - start < BLOCK_LEN || text.as_bytes()[start] != b'%' {
-        return Ok(start);
+    if len == BLOCK_LEN {
+        push_blocks(lowers, text, start, out)
+    } else {
+        Ok(start)
     }
-    push_blocks(lowers, text, start, out)
 }
