@@ -1,5 +1,7 @@
 //! Octets that are decoded as UTF-8.
-ghost use Rattle.std.specs.Prelude.{◌≡◌, ◌<◌, IfOk, OnOk, List, [], ◌∷◌, ◌++◌, length, map};
+ghost use Rattle.std.specs.Prelude.{◌≡◌, ◌<◌, IfOk, OnOk, IsTrue, List, [], ◌∷◌, ◌++◌};
+ghost use Rattle.std.specs.Prelude.{length, map};
+ghost use Rattle.std.specs.Str.{IsUtf8};
 ghost use Rattle.uri_pct.specs.Chunks.{Chunk, Byte};
 ghost use Rattle.uri_pct.specs.Decodes.{chunk_of};
 ghost use Rattle.uri_pct.specs.Models.Windows.{window_bytes};
@@ -80,7 +82,7 @@ fn take_chunks<T: TakeParts>(run: &[u8], taker: &mut T) -> Result<(), AllocError
 }
 
 /// Passes the bytes that a run begins with to the taker, as long as the byte after one begins a
-/// piece: then the one is ill-formed by itself. Returns the rest of the run.
+/// piece, or none is after it: then the one is ill-formed by itself. Returns the rest of the run.
 ///
 /// Std's chunks would be searched for UTF-8 after each of these bytes.
 fn take_lone_bytes<'a, T: TakeParts>(run: &'a [u8], taker: &mut T) -> Result<&'a [u8], AllocError>
@@ -95,7 +97,11 @@ fn take_lone_bytes<'a, T: TakeParts>(run: &'a [u8], taker: &mut T) -> Result<&'a
         taker.take_ill_formed(&left[..1])?;
         left = &left[1..];
     }
-    Ok(left)
+    if left.len() != 1 {
+        return Ok(left);
+    }
+    taker.take_ill_formed(left)?;
+    Ok(&left[1..])
 }
 
 /// Passes the pieces of a run of octets that is not UTF-8 to the taker.
@@ -107,11 +113,31 @@ fn take_mixed_run<T: TakeParts>(run: &[u8], taker: &mut T) -> Result<(), AllocEr
     take_chunks(left, taker)
 }
 
+/// Returns whether a run of octets is UTF-8 of characters of two bytes each.
+///
+/// Such a run is known to be UTF-8 in a third of the instructions that std takes.
+fn are_chars_of_two_bytes(run: &[u8]) -> bool
+    requires { ArePastAscii run.now }
+    ensures { IsTrue result → IsUtf8 run.now }
+{
+    let mut end = 0;
+    while end + 1 < run.len() {
+        if !matches!(run[end], 0xC2..=0xDF) || run[end + 1] >= 0xC0 {
+            return false;
+        }
+        end += 2;
+    }
+    end == run.len()
+}
+
 /// Passes the pieces of a run of octets to the taker, in one call if the run is UTF-8.
 fn take_run<T: TakeParts>(run: &[u8], taker: &mut T) -> Result<(), AllocError>
     requires { ArePastAscii run.now }
     ensures { OnOk result (T.took taker.old (map Decoded (utf8_pieces run.now)) taker.new) }
 {
+    if are_chars_of_two_bytes(run) {
+        return taker.take_well_formed(unsafe { str::from_utf8_unchecked(run) });
+    }
     match str::from_utf8(run) {
         Ok(text) => taker.take_well_formed(text),
         Err(_) => take_mixed_run(run, taker),

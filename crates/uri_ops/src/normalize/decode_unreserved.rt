@@ -16,6 +16,7 @@ ghost use Rattle.uri_ops.specs.Models.Decodings.{decoded_text, lowered_if};
 
 use crate::normalize::formatting::encode_formatting;
 use crate::normalize::literal_runs::push_literal;
+use crate::normalize::octet_runs::push_unreserved_run;
 use crate::normalize::octets::{
     are_uppercase_digits, push_decoded_octet, push_octet, push_unreserved, unreserved_of_octet,
 };
@@ -128,6 +129,7 @@ fn push_decoded_runs(
     let alone = !table.allows_some_past_ascii();
     let bytes = text.as_bytes();
     let mut done = 0;
+    let mut run = first;
     let mut end = first;
     while end < bytes.len() {
         if bytes[end] != b'%' {
@@ -137,9 +139,13 @@ fn push_decoded_runs(
         let high = bytes[end + 1];
         let low = bytes[end + 2];
         if let Some(ch) = unreserved_of_octet(lowers, high, low) {
+            if done < end {
+                run = end;
+            }
             push_literal(lowers, &text[done..end], out)?;
             push_unreserved(ch, out)?;
             end += 3;
+            end = push_unreserved_run(end.wrapping_sub(run), lowers, text, end, out)?;
             done = end;
             continue;
         }

@@ -8,6 +8,7 @@ use Rattle.uri_pct.specs.Parts.{ArePastAscii, Decoded}
 use Rattle.uri_pct.specs.Pieces.{IllFormed, following_ranges, first_piece, pieces_from, utf8_pieces}
 use Rattle.uri_pct.proofs.Unicode.CharacterPieces.{byte_below_80_or_from_c0_is_no_continuation}
 use Rattle.uri_pct.proofs.Unicode.Pieces.{utf8_pieces_are_cut_at_non_continuation}
+use Rattle.uri_pct.proofs.Unicode.Runs.{no_bytes_have_no_pieces}
 use Rattle.uri_pct.proofs.utf8_runs.take_lone_bytes.Goals as goal
 
 -- UTF-8: a byte past ASCII, with nothing after it, is no character
@@ -49,6 +50,17 @@ parts-after-ill-formed-byte bytes past long high =
     (slice-after-first-is-drop bytes)
     ∙ sym (ap (map Decoded) (first-byte-is-ill-formed bytes past long high))
 
+-- decoding: the parts of a run of one byte are that byte, ill-formed by itself
+parts-of-lone-byte : (bytes : List ℕ) → ArePastAscii bytes → length bytes ≡ 1
+    → (Decoded (IllFormed bytes) ∷ [])
+    ++ map Decoded (utf8_pieces (take (length bytes - 1) (drop 1 bytes)))
+    ≡ map Decoded (utf8_pieces bytes)
+parts-of-lone-byte [] past one = absurd (omega (arith, one))
+parts-of-lone-byte (b ∷ d ∷ rest) past one = absurd (omega (arith, one))
+parts-of-lone-byte (b ∷ []) past one =
+    ap (λ ps. (Decoded (IllFormed (b ∷ [])) ∷ []) ++ map Decoded ps) no_bytes_have_no_pieces
+    ∙ sym (ap (map Decoded) (lone-byte-is-ill-formed b (past 0 0 (omega arith))))
+
 pub loop-left-preserved : goal.loop-left-preserved
 loop-left-preserved g c =
     let bytes = c.loop-left.left.now in
@@ -65,3 +77,14 @@ loop-left-preserved g c =
           (g.met.T.TakeParts.takes_appended_parts before after u _ _
           c.in_ok-take_ill_formed.ensures h));
     }
+
+pub returns-clause-taken : goal.returns-clause-taken
+returns-clause-taken g c =
+    let bytes = c.loop-left.left.now in
+    let before = c.loop-left.taker in
+    let after = c.take_ill_formed-2.new.self in
+    let holds = c.loop-left.invariant in
+    let parts = parts-of-lone-byte bytes holds.past_ascii c.if-left-ne1.false in
+    λ u h. holds.taken u
+    (subst (λ ps. g.T.TakeParts.took before ps u) parts
+    (g.met.T.TakeParts.takes_appended_parts before after u _ _ c.in_ok-take_ill_formed-2.ensures h))

@@ -1,0 +1,60 @@
+use Rattle.std.proofs.Common.{◌≡◌, ℕ, ◌+◌, ◌-◌, ◌*◌, ◌<◌, ◌≤◌, List, [], ◌∷◌, ◌++◌, length, get_or}
+use Rattle.std.proofs.Common.{drop, sym, ap, ◌∙◌, subst, arith}
+use Rattle.std.specs.Char.{encode_utf8}
+use Rattle.std.specs.Str.{IsUtf8}
+use Rattle.std.proofs.lemmas.Bool.{eqb-true}
+use Rattle.std.proofs.Math.Utf8.{low_scalar}
+use Rattle.std.proofs.lemmas.Bool.Decides.{nat_tests}
+use Rattle.std.proofs.lemmas.List.{drop_more, drop_all}
+use Rattle.std.proofs.lemmas.Str.{IsUtf8-append, IsUtf8-encode, IsUtf8-nil}
+use Rattle.uri_pct.proofs.utf8_runs.are_chars_of_two_bytes.Goals as goal
+
+-- UTF-8: a byte of C2 to DF and one of 80 to BF are a character
+pair-is-character : (b d : ℕ) → 0xC2 ≤ b → b ≤ 0xDF → 0x80 ≤ d → d < 0xC0
+    → encode_utf8 (64 * (b - 192) + (d - 128)) ≡ b ∷ d ∷ []
+unfolding encode_utf8
+pair-is-character b d low high from below = grind (arith, nat_tests)
+
+-- UTF-8: a byte of C2 to DF and one of 80 to BF are UTF-8
+pair-is-utf8 : (b d : ℕ) → 0xC2 ≤ b → b ≤ 0xDF → 0x80 ≤ d → d < 0xC0 → IsUtf8 (b ∷ d ∷ [])
+pair-is-utf8 b d low high from below =
+    let c = 64 * (b - 192) + (d - 128) in
+    subst IsUtf8 (pair-is-character b d low high from below)
+    (IsUtf8-encode c (low_scalar c (omega arith)))
+
+-- general fact on lists, for a run: what begins at an index is two bytes and the rest
+suffix-is-pair-and-rest : (run : List ℕ) (i : ℕ) → i + 1 < length run
+    → drop i run ≡ (get_or run i 0 ∷ get_or run (i + 1) 0 ∷ []) ++ drop (i + 2) run
+suffix-is-pair-and-rest run i within =
+    drop_more run i 0 (omega arith)
+    ∙ ap (λ rest. get_or run i 0 ∷ rest) (drop_more run (i + 1) 0 within)
+    ∙ ap (λ k. get_or run i 0 ∷ get_or run (i + 1) 0 ∷ drop k run) (omega arith)
+
+-- UTF-8: what begins at an index is UTF-8 if a pair is there and UTF-8 follows it
+suffix-is-utf8 : (run : List ℕ) (i : ℕ) → i + 1 < length run
+    → 0xC2 ≤ get_or run i 0 → get_or run i 0 ≤ 0xDF
+    → 0x80 ≤ get_or run (i + 1) 0 → get_or run (i + 1) 0 < 0xC0
+    → IsUtf8 (drop (i + 2) run) → IsUtf8 (drop i run)
+suffix-is-utf8 run i within low high from below rest = subst IsUtf8
+    (sym (suffix-is-pair-and-rest run i within))
+    (IsUtf8-append _ _ (pair-is-utf8 (get_or run i 0) (get_or run (i + 1) 0) low high from below)
+    rest)
+
+pub loop-end-init : goal.loop-end-init
+loop-end-init c = record { within = omega arith; utf8 = λ u. u }
+
+pub loop-end-preserved : goal.loop-end-preserved
+loop-end-preserved c =
+    let holds = c.loop-end.invariant in
+    let run = c.args.run.now in
+    let i = c.loop-end.end in
+    let first : (0xC2 ≤ get_or run i 0) × (get_or run i 0 ≤ 0xDF) = grind arith in
+    record {
+      within = omega arith;
+      utf8 = λ u. holds.utf8 (suffix-is-utf8 run i (omega arith) first.0 first.1
+          (c.requires (i + 1) 0 (omega arith)) c.if-run-end-ge192.false u);
+    }
+
+pub returns : goal.returns
+returns c = λ whole. c.loop-end.invariant.utf8
+    (subst IsUtf8 (sym (drop_all c.loop-end.end c.args.run.now (omega (arith, eqb-true _ _ whole)))) IsUtf8-nil)
