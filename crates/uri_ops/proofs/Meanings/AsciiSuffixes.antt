@@ -26,7 +26,7 @@ pub record AppendsAscii (old new : List ℕ) : Type 0 where
   pub ascii : IsAscii (drop (length old) new)
 
 -- ASCII suffixes: a text is the old one and its suffix
-pub text-is-old-and-suffix : (old new : List ℕ) → AppendsAscii old new
+text-is-old-and-suffix : (old new : List ℕ) → AppendsAscii old new
     → new ≡ old ++ drop (length old) new
 text-is-old-and-suffix old new a = sym (take-append-drop (length old) new)
     ∙ ap (λ x. x ++ drop (length old) new) a.kept

@@ -1,9 +1,7 @@
 //! Decoding of unreserved octets in components (RFC 3986, sections 6.2.2.1 and 6.2.2.2; RFC 3987,
 //! sections 4.1 and 5.3.2.3).
-ghost use Rattle.std.specs.Prelude.{◌≡◌, ◌==◌, ◌&&◌, ◌≤◌, ◌++◌, OnOk, drop, if◌then◌else◌, length};
-ghost use Rattle.std.specs.Prelude.{map, string_bytes, take};
+ghost use Rattle.std.specs.Prelude.{◌≡◌, ◌==◌, ◌&&◌, OnOk, map};
 ghost use Rattle.std.specs.List.{position_or_len};
-ghost use Rattle.std.specs.Str.{IsUtf8};
 ghost use Rattle.uri_pct.specs.Chunks.{widest_set};
 ghost use Rattle.uri_pct.specs.Delimiters.{percent_sign};
 ghost use Rattle.uri_pct.specs.EncodedTexts.{text_of};
@@ -11,8 +9,7 @@ ghost use Rattle.uri_pct.specs.DecodeUnreserved.{decode_unreserved, decode_token
 ghost use Rattle.uri_pct.specs.Tables.{set_of};
 ghost use Rattle.uri_pct.specs.Tokens.{tokens, print, IsValidFor};
 ghost use Rattle.uri_pct.specs.Texts.{Pushes};
-ghost use Rattle.uri_pct.specs.DecodeUnreserved.{encoded_formatting_text};
-ghost use Rattle.uri_ops.specs.Models.Decodings.{decoded_text, lowered_if};
+ghost use Rattle.uri_ops.specs.Models.Decodings.{lowered_if};
 
 use crate::normalize::formatting::encode_formatting;
 use crate::normalize::literal_runs::push_literal;
@@ -20,7 +17,6 @@ use crate::normalize::octet_runs::push_unreserved_run;
 use crate::normalize::octets::{
     are_uppercase_digits, push_decoded_octet, push_octet, push_unreserved, unreserved_of_octet,
 };
-use crate::normalize::room::has_room;
 use crate::normalize::short_components::push_short;
 use std::alloc::AllocError;
 use uri_pct::decode::{Decode, unencoded_len};
@@ -185,25 +181,20 @@ fn push_decoded_tokens(
     }
 }
 
-/// Appends the rest of a component of which a text has the beginning, decoded, from `start` on. The
-/// rest is decoded too, with its letters lowered if `lowers`, and then the formatting characters of
-/// both become octets if the table allows them.
+/// Appends the text with its decodable octets decoded, and with its letters lowered if `lowers`. It
+/// copies runs, and searches for formatting characters if the table allows them.
 #[inline(never)]
-fn push_decoded_rest(
+fn push_decoded_by_runs(
     table: &Table,
     lowers: bool,
-    start: usize,
     text: &str,
     out: &mut String,
 ) -> Result<(), AllocError>
-    requires valid { IsValidFor widest_set text.now }
-    requires start { start ≤ length (string_bytes out.old) }
-    requires utf8 { IsUtf8 (drop start (string_bytes out.old)) }
-    ensures { let set = set_of table.now in
-        let decoded = drop start (string_bytes out.old) ++ decoded_text lowers set text.now in
-        OnOk result (string_bytes out.new ≡ take start (string_bytes out.old)
-        ++ (if set.ucschar && set.pct_encoded then encoded_formatting_text decoded else decoded)) }
+    requires { IsValidFor widest_set text.now }
+    ensures { OnOk result (Pushes out.old out.new
+        (print (lowered_if lowers (decode_unreserved (set_of table.now) text.now)))) }
 {
+    let start = out.as_str().len();
     push_decoded_tokens(table, lowers, text, out)?;
     if encodes_formatting(table) {
         encode_formatting(start, out)
@@ -214,7 +205,7 @@ fn push_decoded_rest(
 
 /// Appends the text with its decodable octets decoded, and with its letters lowered if `lowers`.
 ///
-/// It is inlined, where the table is a constant. Only a copy is passed on, so that no other table is
+/// It is inlined, where the table is a constant. Only a copy is passed on, so that no table is
 /// written to memory for a short text.
 #[inline(always)]
 fn push_decoded_with_case(
@@ -227,17 +218,11 @@ fn push_decoded_with_case(
     ensures { OnOk result (Pushes out.old out.new
         (print (lowered_if lowers (decode_unreserved (set_of table.now) text.now)))) }
 {
-    let start = out.as_str().len();
-    if text.len() >= LANES || !has_room(text.len(), out) {
-        let table = *table;
-        return push_decoded_rest(&table, lowers, start, text, out);
-    }
-    let end = push_short(!table.allows_some_past_ascii(), lowers, text, out);
-    if end == text.len() {
+    if text.len() < LANES && push_short(!table.allows_some_past_ascii(), lowers, text, out) {
         return Ok(());
     }
     let table = *table;
-    push_decoded_rest(&table, lowers, start, &text[end..], out)
+    push_decoded_by_runs(&table, lowers, text, out)
 }
 
 /// Appends the text with its decodable octets decoded. Every other octet gets upper-case digits,

@@ -61,6 +61,7 @@ pub fn push_authority<U: Encoder, R: Encoder, P: DefaultPort>(
 }
 
 /// Appends the userinfo of a normal authority, decoded, and its `@`.
+#[inline(always)]
 fn push_userinfo<U: Encoder, R: Encoder>(
     authority: Authority<'_, U, R>,
     out: &mut String,

@@ -86,6 +86,7 @@ fn push_authority_with_delimiter<U: Encoder, R: Encoder, P: DefaultPort>(
 
 /// Appends a query or a fragment of a normal text, decoded, after its mark, and returns where it
 /// ends.
+#[inline(always)]
 fn push_with_delimiter<E: Encoder>(
     mark: char,
     part: Option<EStr<'_, E>>,

@@ -4,7 +4,6 @@ ghost use Rattle.std.specs.Prelude.{MatchOption, drop, false, if◌then◌else�
 ghost use Rattle.std.specs.Prelude.{string_bytes, take, true, vec_capacity, vec_len};
 ghost use Rattle.std.specs.Char.{digit_value, is_ascii_hexdigit};
 ghost use Rattle.std.specs.Str.{IsAscii, IsCharBoundary};
-ghost use Rattle.std.specs.String.{string_capacity, string_len};
 ghost use Rattle.uri_pct.specs.Chunks.{widest_set};
 ghost use Rattle.uri_pct.specs.DecodeUnreserved.{LacksPastAscii, decode_octet};
 ghost use Rattle.uri_pct.specs.Delimiters.{percent_sign};
@@ -15,7 +14,7 @@ ghost use Rattle.uri_ops.specs.declared.normalize.short_components.TheConstants.
 ghost use Rattle.uri_ops.specs.declared.normalize.short_components.TheConstants.{LOWERED_CHARACTERS};
 
 use crate::normalize::octets::unreserved_of_octet;
-use crate::normalize::room::{put_bytes, take_bytes};
+use crate::normalize::room::{has_room, put_bytes, take_bytes};
 use uri_pct::octet::{octet_value, pct_encoded};
 
 /// Each ASCII character but `%`, and 128 for `%` and for each byte past ASCII.
@@ -153,28 +152,32 @@ fn push_short_bytes(alone: bool, lowers: bool, text: &str, out: &mut Vec<u8>) ->
     end
 }
 
-/// Appends the tokens of a short component to a text that has room for it: with decodable octets
-/// decoded, and with letters lowered if `lowers`, one by one. It returns the position after the
-/// last. It stops at the first that is past ASCII, so that it appends ASCII alone. But octets past
-/// ASCII stay octets if `alone`: the table of the component allows no such character.
+/// Appends a short component with decodable octets decoded, and with letters lowered if `lowers`,
+/// and returns true. What it appends is ASCII. If something is past ASCII, or the text has no room,
+/// it returns false, and the text is as before. But octets past ASCII stay octets if `alone`: the
+/// table of the component allows no such character.
 ///
 /// If a text is short, this takes fewer instructions than to find and copy its runs. It calls
 /// nothing, so it has few registers to save.
 #[inline(never)]
-pub(crate) fn push_short(alone: bool, lowers: bool, text: &str, out: &mut String) -> usize
-    requires valid { IsValidFor widest_set text.now }
-    requires room { string_len out.old + length text.now ≤ string_capacity out.old }
-    ensures text { (set : TableSet) → (alone ≡ true → LacksPastAscii set)
-        → string_bytes out.new ++ decoded_text lowers set (drop result text.now)
-        ≡ string_bytes out.old ++ decoded_text lowers set text.now }
-    ensures kept { take (length (string_bytes out.old)) (string_bytes out.new)
-        ≡ string_bytes out.old }
-    ensures ascii { IsAscii (drop (length (string_bytes out.old)) (string_bytes out.new)) }
-    ensures boundary { IsCharBoundary text.now result }
-    ensures valid { IsValidFor widest_set (drop result text.now) }
+pub(crate) fn push_short(alone: bool, lowers: bool, text: &str, out: &mut String) -> bool
+    requires { IsValidFor widest_set text.now }
+    ensures done { result ≡ true → (set : TableSet) → (alone ≡ true → LacksPastAscii set)
+        → (string_bytes out.new ≡ string_bytes out.old ++ decoded_text lowers set text.now)
+        × IsAscii (decoded_text lowers set text.now) }
+    ensures left { result ≡ false → string_bytes out.new ≡ string_bytes out.old }
 {
+    if !has_room(text.len(), out) {
+        return false;
+    }
+    let start = out.as_str().len();
     let mut bytes = take_bytes(out);
     let end = push_short_bytes(alone, lowers, text, &mut bytes);
+    if end < text.len() {
+        bytes.truncate(start);
+        put_bytes(bytes, out);
+        return false;
+    }
     put_bytes(bytes, out);
-    end
+    true
 }

@@ -19,6 +19,17 @@ fn is_slash(text: &[u8]) -> bool
     matches!(text, [b'/'])
 }
 
+/// Appends segments of a path, decoded. It is not inlined, so that the loop over segments stays
+/// small.
+#[inline(never)]
+fn push_decoded_piece(table: &Table, piece: &str, out: &mut String) -> Result<(), AllocError>
+    requires { IsValidFor widest_set piece.now }
+    ensures { OnOk result (Pushes out.old out.new
+        (print (decode_unreserved (set_of table.now) piece.now))) }
+{
+    push_decoded(table, piece, out)
+}
+
 /// Appends segments of a path, decoded. A `/` by itself, as after an empty segment, is copied.
 #[inline(always)]
 fn push_decoded_segments(table: &Table, piece: &str, out: &mut String) -> Result<(), AllocError>
@@ -30,7 +41,7 @@ fn push_decoded_segments(table: &Table, piece: &str, out: &mut String) -> Result
         out.push('/')?;
         return Ok(());
     }
-    push_decoded(table, piece, out)
+    push_decoded_piece(table, piece, out)
 }
 
 /// How segments of a path are appended.
