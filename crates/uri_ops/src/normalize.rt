@@ -162,7 +162,7 @@ pub(crate) fn normalize_string<K: Kind, P: DefaultPort>(
     ensures at { IfOk result (λ made. ArePositionsOf (string_bytes made.text) made.positions) }
 {
     let core = Core::<K, &str>::new(text.as_str(), positions);
-    if is_own_normal_text(core, ports) {
+    if is_unchanged(core) {
         return Ok(Normalized {
             text,
             positions,

@@ -1,12 +1,12 @@
 //! A cheap test of values that are their own normal text (RFC 3986, section 6.2.2). It misses a few
 //! of them.
-ghost use Rattle.std.specs.Prelude.{◌≡◌, ◌==◌, ◌+◌, ◌≤◌, ◌<◌, ◌&&◌, ◌||◌, ◌⊎◌, ℕ, List, Option};
-ghost use Rattle.std.specs.Prelude.{IfOk, IfSome, None, false};
+ghost use Rattle.std.specs.Prelude.{◌≡◌, ◌+◌, ◌≤◌, ◌<◌, ℕ, List, Option, IfOk, IfSome, None};
+ghost use Rattle.std.specs.Prelude.{codes, false};
 ghost use Rattle.std.specs.Prelude.{length, is_some, option_map, slice_index, string_bytes, true};
 ghost use Rattle.std.specs.Str.{str_to_ascii_lowercase};
 ghost use Rattle.std.specs.Char.{is_ascii_uppercase};
-ghost use Rattle.uri_pct.specs.Delimiters.{colon, full_stop, left_bracket};
-ghost use Rattle.uri_pct.specs.Sets.{TableSet};
+ghost use Rattle.uri_pct.specs.Delimiters.{left_bracket};
+ghost use Rattle.uri_pct.specs.Sets.{TableSet, is_one_of};
 ghost use Rattle.uri_parts.specs.Hosts.{host_kind, is_host};
 ghost use Rattle.uri_parts.specs.Authority.{authority_parts};
 ghost use Rattle.uri_parts.specs.AuthorityTexts.{authority_text};
@@ -122,8 +122,9 @@ fn is_host_lower<U: Encoder, R: Encoder>(authority: Option<Authority<'_, U, R>>)
 /// in a normal form: a `.`, a letter in upper case, or a `0` that begins a group.
 #[inline(always)]
 fn is_unusual_digit(previous: u8, byte: u8) -> bool
-    ensures { result ≡ (byte == full_stop || is_ascii_uppercase byte
-        || (byte == 48 && (previous == colon || previous == left_bracket))) }
+    ensures dot { result ≡ false → is_one_of (codes ".") byte ≡ false }
+    ensures lower { result ≡ false → is_ascii_uppercase byte ≡ false }
+    ensures zero { result ≡ false → byte ≡ 48 → is_one_of (codes ":[") previous ≡ false }
 {
     if byte >= b'a' {
         return false;
@@ -166,8 +167,8 @@ fn is_address_unchanged(host: &str) -> bool
 fn is_host_unchanged<U: Encoder, R: Encoder>(authority: Option<Authority<'_, U, R>>) -> bool
     ensures { result ≡ true → IfSome (option_map authority_text authority.entry)
         (λ a. let host = (authority_parts a).host in
-        ((str_to_ascii_lowercase host ≡ host) × (starts left_bracket host ≡ false))
-        ⊎ ((names : TableSet) → is_host names host ≡ true
+        (starts left_bracket host ≡ false → str_to_ascii_lowercase host ≡ host)
+        × (starts left_bracket host ≡ true → (names : TableSet) → is_host names host ≡ true
         → host_text (host_meaning names host (host_kind host)) ≡ host)) }
 {
     let Some(authority) = authority else {
@@ -224,8 +225,8 @@ fn are_literal_components_unchanged<K: Kind>(core: Core<K, &str>) -> bool
     ensures { let p = components (core_text core.entry) in
         result ≡ true → (normal_scheme p.scheme ≡ p.scheme) × (IfSome p.authority (λ a.
         let host = (authority_parts a).host in
-        ((str_to_ascii_lowercase host ≡ host) × (starts left_bracket host ≡ false))
-        ⊎ ((names : TableSet) → is_host names host ≡ true
+        (starts left_bracket host ≡ false → str_to_ascii_lowercase host ≡ host)
+        × (starts left_bracket host ≡ true → (names : TableSet) → is_host names host ≡ true
         → host_text (host_meaning names host (host_kind host)) ≡ host))
         × IsUnchangedPath p.scheme p.path) }
 {

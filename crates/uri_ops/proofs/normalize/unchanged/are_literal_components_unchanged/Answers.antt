@@ -1,4 +1,4 @@
-use Rattle.std.proofs.Common.{◌≡◌, ◌⊎◌, true, false, sym, subst, ◌∙◌}
+use Rattle.std.proofs.Common.{◌≡◌, true, false, sym, subst, ◌∙◌}
 use Rattle.std.specs.Prelude.{IfSome}
 use Rattle.std.specs.Str.{str_to_ascii_lowercase}
 use Rattle.uri_pct.specs.Sets.{TableSet}
@@ -19,8 +19,8 @@ returns g c = λ e.
       (
         subst
             (λ o. IfSome o (λ a. let host = (authority_parts a).host in
-            ((str_to_ascii_lowercase host ≡ host) × (starts 91 host ≡ false))
-            ⊎ ((names : TableSet) → is_host names host ≡ true
+            (starts 91 host ≡ false → str_to_ascii_lowercase host ≡ host)
+            × (starts 91 host ≡ true → (names : TableSet) → is_host names host ≡ true
             → host_text (host_meaning names host (host_kind host)) ≡ host)))
             c.authority.ensures (c.is_host_unchanged.ensures c.if-not-is_host_unchanged.false),
         subst (IsUnchangedPath p.scheme) (c.as_str.ensures.text ∙ c.path.ensures)

@@ -1,8 +1,8 @@
 use Rattle.std.proofs.Common.{◌≡◌, ℕ, true, false, cond, List, [], ◌++◌, refl, sym, ap, subst, ◌∙◌}
-use Rattle.std.proofs.Common.{append-nil, option_map, ⊎_elim, ◌⊎◌}
+use Rattle.std.proofs.Common.{append-nil, option_map, ⊎_elim}
 use Rattle.std.specs.Prelude.{codes, Option, Some, None, IfSome, IfNone, is_some}
 use Rattle.std.specs.Str.{IsUtf8, str_to_ascii_lowercase}
-use Rattle.std.proofs.lemmas.Bool.{and_parts, cond-false}
+use Rattle.std.proofs.lemmas.Bool.{and_parts, cases_Bool, cond-false}
 use Rattle.uri_pct.specs.DecodeUnreserved.{decode_unreserved}
 use Rattle.uri_pct.specs.Sets.{TableSet}
 use Rattle.uri_pct.specs.Tokens.{print}
@@ -35,10 +35,10 @@ use Rattle.uri_ops.proofs.Normal.UnchangedParts.{literal-option-decodes-to-itsel
 use Rattle.uri_ops.proofs.Normal.UnchangedParts.{unchanged-authority-is-its-normal-form}
 use Rattle.uri_ops.proofs.normalize.unchanged.is_unchanged_but_for_port.Goals as goal
 
--- the host is a name in lower case, or its own normal form by the numbers of its address
+-- a name is in lower case, and a host in brackets is its own normal form
 abbrev IsKeptHost : List ℕ → Type 0
-IsKeptHost host = ((str_to_ascii_lowercase host ≡ host) × (starts 91 host ≡ false))
-    ⊎ ((names : TableSet) → is_host names host ≡ true
+IsKeptHost host = (starts 91 host ≡ false → str_to_ascii_lowercase host ≡ host)
+    × (starts 91 host ≡ true → (names : TableSet) → is_host names host ≡ true
     → host_text (host_meaning names host (host_kind host)) ≡ host)
 
 -- unchanged texts: the host of an authority passes the test of hosts
@@ -98,11 +98,11 @@ module _ (kind : Kind) (sets : HasComponentSets kind) (default : Option ℕ) whe
       (delimited-component-of-literal-is-literal [] (codes "@") parts.userinfo apart.0) in
       let host_kept : host_text (host_meaning kind.reg_name parts.host (host_kind parts.host))
       ≡ parts.host = ⊎_elim
+      (λ begins. host.1 begins kind.reg_name
+      (host-of-authority-is-host kind.userinfo kind.reg_name a e))
       (λ name. lower-name-is-its-normal-form parts.host utf8.host
       (literal-text-splits parts.host (marked (codes ":") parts.port []) apart.1).0 grammar.host
-      name.0 name.1)
-      (λ address. address kind.reg_name
-      (host-of-authority-is-host kind.userinfo kind.reg_name a e)) host in
+      (host.0 name) name) (cases_Bool (starts 91 parts.host)) in
       (λ i. recompose_authority (record {
         userinfo = user_kept i;
         host = host_kept i;
