@@ -21,6 +21,7 @@ pub(crate) mod normal_authority;
 #[doc(hidden)]
 pub mod normal_text;
 pub(crate) mod normalized;
+pub(crate) mod octet_runs;
 pub(crate) mod octets;
 pub(crate) mod short_components;
 pub(crate) mod unchanged;

@@ -13,6 +13,7 @@ ghost use Rattle.uri_ops.specs.Models.Decodings.{lowered_if};
 
 use crate::normalize::formatting::encode_formatting;
 use crate::normalize::literal_runs::push_literal;
+use crate::normalize::octet_runs::push_unreserved_run;
 use crate::normalize::octets::{
     are_uppercase_digits, push_decoded_octet, push_octet, push_unreserved, unreserved_of_octet,
 };
@@ -135,7 +136,7 @@ fn push_decoded_runs(
         if let Some(ch) = unreserved_of_octet(lowers, high, low) {
             push_literal(lowers, &text[done..end], out)?;
             push_unreserved(ch, out)?;
-            end += 3;
+            end = push_unreserved_run(lowers, text, end + 3, out)?;
             done = end;
             continue;
         }

@@ -135,6 +135,20 @@ returns-then-not-alone c =
     ++ decoded_text lowers set x) c.range_from-then-not-alone.ensures.value ∙ total)
     c.push_decoded_parts.ensures
 
+pub push_unreserved_run-requires-clause-boundary : goal.push_unreserved_run-requires-clause-boundary
+push_unreserved_run-requires-clause-boundary c =
+    let holds = c.loop-end.invariant in
+    (percent-in-valid-text-begins-octet c.as_bytes-bytes.result.now c.args.text.now c.loop-end.end
+    c.as_bytes-bytes.ensures.value c.utf8.text holds.boundary holds.valid c.loop-end-test.true
+    c.if-bytes-end-ne37.false).boundary
+
+pub push_unreserved_run-requires-clause-valid : goal.push_unreserved_run-requires-clause-valid
+push_unreserved_run-requires-clause-valid c =
+    let holds = c.loop-end.invariant in
+    (percent-in-valid-text-begins-octet c.as_bytes-bytes.result.now c.args.text.now c.loop-end.end
+    c.as_bytes-bytes.ensures.value c.utf8.text holds.boundary holds.valid c.loop-end-test.true
+    c.if-bytes-end-ne37.false).valid
+
 pub loop-end-preserved-in-Some : goal.loop-end-preserved-in-Some
 loop-end-preserved-in-Some c =
     let text = c.args.text.now in
@@ -163,20 +177,25 @@ loop-end-preserved-in-Some c =
     let bytes = c.as_bytes-bytes.result.now in
     let value = 16 * digit_value (get_or bytes (end + 1) 0)
     + digit_value (get_or bytes (end + 2) 0) in
-    let nothing : 0 ≡ end + 3 - (end + 3) = omega arith in
+    let next = c.in_ok-end.end in
+    let decoded = decoded-octet-is-pushed lowers set prefix
+    (string_bytes c.push_unreserved.new.out) whole
+    (drop end text) (drop (end + 3) text) value at.octet alone none itself at.value at.suffix
+    (c.in_ok-push_unreserved.ensures lowers value c.in-Some.ensures.1 c.in-Some.ensures.0)
+    total in
+    let nothing : 0 ≡ next - next = omega arith in
     record {
       order = omega arith;
-      start = at.boundary;
-      boundary = at.boundary;
-      valid = at.valid;
-      prefix = subst (KeepsPrefixWhenDecoded lowers set (drop (end + 3) text)) nothing
-          (empty-prefix-stays lowers set (drop (end + 3) text));
-      total = decoded-octet-is-pushed lowers set prefix
-          (string_bytes c.push_unreserved.new.out) whole
-          (drop end text) (drop (end + 3) text) value at.octet alone none itself at.value at.suffix
-          (c.in_ok-push_unreserved.ensures lowers value c.in-Some.ensures.1 c.in-Some.ensures.0)
-          total;
+      start = c.in_ok-end.ensures.boundary;
+      boundary = c.in_ok-end.ensures.boundary;
+      valid = c.in_ok-end.ensures.valid;
+      prefix = subst (KeepsPrefixWhenDecoded lowers set (drop next text)) nothing
+          (empty-prefix-stays lowers set (drop next text));
+      total = c.in_ok-end.ensures.text set ∙ decoded;
     }
+
+pub loop-end-smaller-in-Some : goal.loop-end-smaller-in-Some
+loop-end-smaller-in-Some c = omega (arith, c.in_ok-end.ensures.from, c.in_ok-end.ensures.boundary.0)
 
 pub loop-end-preserved-then-are_uppercase_digits : goal.loop-end-preserved-then-are_uppercase_digits
 loop-end-preserved-then-are_uppercase_digits c =
