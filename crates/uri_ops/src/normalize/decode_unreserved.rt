@@ -125,7 +125,6 @@ fn push_decoded_runs(
     let alone = !table.allows_some_past_ascii();
     let bytes = text.as_bytes();
     let mut done = 0;
-    let mut run = first;
     let mut end = first;
     while end < bytes.len() {
         if bytes[end] != b'%' {
@@ -135,13 +134,9 @@ fn push_decoded_runs(
         let high = bytes[end + 1];
         let low = bytes[end + 2];
         if let Some(ch) = unreserved_of_octet(lowers, high, low) {
-            if done < end {
-                run = end;
-            }
             push_literal(lowers, &text[done..end], out)?;
             push_unreserved(ch, out)?;
-            end += 3;
-            end = push_unreserved_run(end.wrapping_sub(run), lowers, text, end, out)?;
+            end = push_unreserved_run(lowers, text, end + 3, out)?;
             done = end;
             continue;
         }

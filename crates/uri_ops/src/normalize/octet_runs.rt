@@ -8,7 +8,7 @@ ghost use Rattle.uri_pct.specs.Tokens.{IsValidFor};
 ghost use Rattle.uri_ops.specs.Models.Decodings.{decoded_text};
 
 use crate::normalize::literal_runs::push_short_str;
-use crate::normalize::octets::unreserved_of_octet;
+use crate::normalize::octets::{push_unreserved, unreserved_of_octet};
 use std::alloc::AllocError;
 
 /// How many octets a block has.
@@ -79,12 +79,11 @@ fn push_blocks(
     Ok(end)
 }
 
-/// Appends the characters of unreserved octets from `start` on, with letters lowered if `lowers`,
-/// and returns the position after the last. It does so only after as many bytes of such octets as
-/// a block takes, `len`: if a run is short, a block does not pay.
+/// Appends the characters of the unreserved octets from `start` on, with letters lowered if
+/// `lowers`, and returns the position after the last. It goes on by blocks after as many octets as
+/// a block has: if a run is short, a block does not pay.
 #[inline(always)]
 pub(crate) fn push_unreserved_run(
-    len: usize,
     lowers: bool,
     text: &str,
     start: usize,
@@ -99,9 +98,19 @@ pub(crate) fn push_unreserved_run(
     ensures boundary { IfOk result (IsCharBoundary text.now) }
     ensures valid { IfOk result (λ end. IsValidFor widest_set (drop end text.now)) }
 {
-    if len == BLOCK_LEN {
-        push_blocks(lowers, text, start, out)
-    } else {
-        Ok(start)
+    let bytes = text.as_bytes();
+    let mut end = start;
+    let mut left = BLOCK;
+    while end < bytes.len() && bytes[end] == b'%' {
+        let Some(ch) = unreserved_of_octet(lowers, bytes[end + 1], bytes[end + 2]) else {
+            break;
+        };
+        if left == 0 {
+            return push_blocks(lowers, text, end, out);
+        }
+        push_unreserved(ch, out)?;
+        end += 3;
+        left -= 1;
     }
+    Ok(end)
 }
