@@ -240,14 +240,14 @@ fn pass_before_path<K: Kind>(
 {
     let has_scheme = pass_scheme(cursor, tables)?;
     let start = cursor.position();
-    let scheme_end = if has_scheme { Some(start - 1) } else { None };
-    if (has_scheme || start == 0) && cursor.skip_slashes() {
+    if cursor.next_is(b'/') && (has_scheme || start == 0) && cursor.skip_slashes() {
+        let scheme_end = if has_scheme { Some(start - 1) } else { None };
         return pass_authority::<K>(cursor, tables, scheme_end);
     }
     if has_scheme {
         return Ok(BeforePath {
             path_start: start,
-            scheme_end,
+            scheme_end: Some(start - 1),
             authority: None,
         });
     }
