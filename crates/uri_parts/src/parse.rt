@@ -1,10 +1,12 @@
 //! The parser of the four kinds.
-ghost use Rattle.std.specs.Prelude.{◌≡◌, ◌↔◌, ◌<◌, ◌-◌, IfErr, IfOk, IsOk, IsTrue, Some, None};
-ghost use Rattle.std.specs.Prelude.{true, if◌then◌else◌};
+ghost use Rattle.std.specs.Prelude.{◌≡◌, ◌↔◌, ◌<◌, IfErr, IfOk, IsOk, IsTrue, Some, None};
+ghost use Rattle.std.specs.Prelude.{drop};
+ghost use Rattle.std.specs.Str.{IsCharBoundary};
 ghost use Rattle.std.specs.Option.{option_or};
 ghost use Rattle.std.specs.Result.{result_err};
 ghost use Rattle.uri_parts.specs.Models.Parsing.{query_end_at};
-ghost use Rattle.uri_parts.specs.Models.Parsing.{authority_positions, relative_positions};
+ghost use Rattle.uri_parts.specs.Models.Parsing.{authority_positions, path_positions};
+ghost use Rattle.uri_parts.specs.Models.Parsing.{relative_positions};
 ghost use Rattle.uri_parts.specs.Models.Parsing.{hier_part_positions, schemeless_positions};
 ghost use Rattle.uri_parts.specs.Models.Parsing.{parsed_positions};
 ghost use Rattle.uri_parts.specs.Refusals.{error_from_fragment, error_from_query, error_from_path};
@@ -19,9 +21,7 @@ ghost use Rattle.uri_parts.specs.Positions.{ArePositionsOf};
 ghost use Rattle.uri_parts.specs.Models.Cursors.{text_after_cursor, cursor_text, cursor_position};
 ghost use Rattle.uri_parts.specs.Models.Cursors.{positions_if_parsed_from};
 
-use crate::authority_parser::{
-    find_name, find_other_authority_of_kind, is_unexpected_after_name,
-};
+use crate::authority_parser::{find_name, find_other_authority_of_kind, is_unexpected_after_name};
 use crate::cursor::Cursor;
 use crate::error::ParseError;
 use crate::kind::Kind;
@@ -106,6 +106,7 @@ fn pass_authority<K: Kind>(
         authority_positions kind scheme_end (cursor_position cursor.old)
         (text_after_cursor cursor.old)
         ≡ positions_if_parsed_from kind b cursor.new) }
+    ensures start { IfOk result (λ b. b.path_start ≡ cursor_position cursor.new) }
     ensures text { cursor_text cursor.new ≡ cursor_text cursor.old }
     ensures refused { let kind = kind_of tables.now in let text = cursor_text cursor.old in
         authority_error kind text (cursor_position cursor.old)
@@ -138,6 +139,37 @@ fn pass_authority<K: Kind>(
         scheme_end,
         authority: Some(authority),
     })
+}
+
+/// Parses what follows a scheme, before a path.
+#[tactic(auto, unfolding(crate::proofs::Steps::before_path))]
+#[inline(always)]
+fn pass_hier_part<K: Kind>(
+    cursor: &mut Cursor<'_>,
+    tables: &KindTables,
+    scheme_end: usize,
+) -> Result<BeforePath, ParseError>
+    requires kind { kind_of tables.now ≡ K.kind }
+    requires segment { segment_nz_nc_of tables.now ≡ first_segment_set K.kind }
+    ensures places { let kind = kind_of tables.now in IfOk result (λ b.
+        hier_part_positions kind (Some scheme_end) (cursor_position cursor.old)
+        (text_after_cursor cursor.old)
+        ≡ positions_if_parsed_from kind b cursor.new) }
+    ensures text { cursor_text cursor.new ≡ cursor_text cursor.old }
+    ensures refused { let kind = kind_of tables.now in let text = cursor_text cursor.old in
+        hier_part_error kind text (cursor_position cursor.old)
+        ≡ option_or (result_err result) (error_from_path kind text (cursor_position cursor.new)) }
+    ensures err { IfErr result (IsErrorIn (cursor_text cursor.old)) }
+{
+    if cursor.skip_slashes() {
+        pass_authority::<K>(cursor, tables, Some(scheme_end))
+    } else {
+        Ok(BeforePath {
+            path_start: cursor.position(),
+            scheme_end: Some(scheme_end),
+            authority: None,
+        })
+    }
 }
 
 /// Passes the characters of a first segment without `:`. Returns an error if a `:` is next.
@@ -180,47 +212,62 @@ fn is_unexpected<K: Kind>(cursor: &Cursor<'_>, tables: &KindTables) -> bool
     cursor.is_before_excluded::<K>(tables)
 }
 
-/// Passes a scheme and its `:`, and returns whether there is one. If there is none, it passes the
-/// characters that might have been one.
-#[tactic(auto, using(crate::proofs::Steps::schemes), unfolding(crate::proofs::Steps::whole))]
+/// Parses the authority of a text that begins with `//`, and returns what comes before its path.
+/// Few texts begin so: it is a call, so that the parser of an authority is inlined once.
+#[tactic(auto, unfolding(crate::proofs::Steps::before_path))]
+#[inline(never)]
+fn pass_first_authority<K: Kind>(text: &str) -> Result<BeforePath, ParseError>
+    requires { IsCharBoundary text.now 2 }
+    ensures places { IfOk result (λ b. authority_positions K.kind None 2 (drop 2 text.now)
+        ≡ path_positions K.kind b.scheme_end b.authority b.path_start b.path_start
+        (drop b.path_start text.now)) }
+    ensures boundary { IfOk result (λ b. IsCharBoundary text.now b.path_start) }
+    ensures returned { IfErr result (λ e. authority_error K.kind text.now 2 ≡ Some e) }
+    ensures goes_on { IfOk result (λ b. authority_error K.kind text.now 2
+        ≡ error_from_path K.kind text.now b.path_start) }
+    ensures err { IfErr result (IsErrorIn text.now) }
+{
+    let mut cursor = Cursor::at(text, 2);
+    pass_authority::<K>(&mut cursor, &K::tables(), None)
+}
+
+/// Parses what comes before a path in a text that has no scheme. It begins after the characters
+/// that might have been one.
+#[tactic(auto, unfolding(crate::proofs::Steps::whole))]
 #[inline(always)]
-fn pass_scheme(cursor: &mut Cursor<'_>, tables: &KindTables) -> Result<bool, ParseError>
-    requires { cursor_position cursor.old ≡ 0 }
+fn pass_schemeless<K: Kind>(
+    cursor: &mut Cursor<'_>,
+    tables: &KindTables,
+) -> Result<BeforePath, ParseError>
+    requires kind { kind_of tables.now ≡ K.kind }
+    requires segment { segment_nz_nc_of tables.now ≡ first_segment_set K.kind }
     ensures places { let segment = segment_nz_nc_of tables.now in
-        let kind = kind_of tables.now in let i = cursor_position cursor.new in
-        let rest = text_after_cursor cursor.new in IfOk result (λ has_scheme.
-        parsed_positions segment kind (cursor_text cursor.old)
-        ≡ (if has_scheme then hier_part_positions kind (Some (i - 1)) i rest
-        else schemeless_positions segment kind i rest)) }
-    ensures some { IfOk result (λ has_scheme.
-        has_scheme ≡ true → 0 < cursor_position cursor.new) }
+        let kind = kind_of tables.now in IfOk result (λ b.
+        schemeless_positions segment kind (cursor_position cursor.old)
+        (text_after_cursor cursor.old)
+        ≡ positions_if_parsed_from kind b cursor.new) }
     ensures text { cursor_text cursor.new ≡ cursor_text cursor.old }
-    ensures returned { let kind = kind_of tables.now in let text = cursor_text cursor.old in
-        IfErr result (λ e. parsed_error (segment_nz_nc_of tables.now) kind text ≡ Some e) }
-    ensures goes_on { let segment = segment_nz_nc_of tables.now in
-        let kind = kind_of tables.now in let i = cursor_position cursor.new in
-        let text = cursor_text cursor.old in IfOk result (λ has_scheme.
-        parsed_error segment kind text
-        ≡ (if has_scheme then hier_part_error kind text i
-        else schemeless_error segment kind text i)) }
+    ensures refused { let kind = kind_of tables.now in let text = cursor_text cursor.old in
+        schemeless_error (segment_nz_nc_of tables.now) kind text (cursor_position cursor.old)
+        ≡ option_or (result_err result) (error_from_path kind text (cursor_position cursor.new)) }
     ensures err { IfErr result (IsErrorIn (cursor_text cursor.old)) }
 {
-    let not_a_letter = cursor.unexpected();
-    cursor.pass(&SCHEME)?;
-    if cursor.skip(b':') {
-        if !cursor.text().as_bytes()[0].is_ascii_alphabetic() {
-            return Err(not_a_letter);
+    if cursor.position() == 0 {
+        if cursor.skip_slashes() {
+            let text = cursor.text();
+            let before = pass_first_authority::<K>(text)?;
+            *cursor = Cursor::at(text, before.path_start);
+            return Ok(before);
         }
-        return Ok(true);
+        if is_unexpected::<K>(cursor, tables) {
+            return Err(cursor.unexpected());
+        }
     }
-    if tables.needs_scheme {
-        return Err(cursor.unexpected());
-    }
-    Ok(false)
+    pass_relative(cursor, tables)
 }
 
 /// Parses what comes before a path, from the beginning of the text on.
-#[tactic(auto, unfolding(crate::proofs::Steps::before_path, crate::proofs::Steps::whole))]
+#[tactic(auto, using(crate::proofs::Steps::schemes), unfolding(crate::proofs::Steps::whole))]
 #[inline(always)]
 fn pass_before_path<K: Kind>(
     cursor: &mut Cursor<'_>,
@@ -238,23 +285,19 @@ fn pass_before_path<K: Kind>(
         ≡ option_or (result_err result) (error_from_path kind text (cursor_position cursor.new)) }
     ensures err { IfErr result (IsErrorIn (cursor_text cursor.old)) }
 {
-    let has_scheme = pass_scheme(cursor, tables)?;
-    let start = cursor.position();
-    let scheme_end = if has_scheme { Some(start - 1) } else { None };
-    if (has_scheme || start == 0) && cursor.skip_slashes() {
-        return pass_authority::<K>(cursor, tables, scheme_end);
+    let not_a_letter = cursor.unexpected();
+    cursor.pass(&SCHEME)?;
+    let scheme_end = cursor.position();
+    if cursor.skip(b':') {
+        if !cursor.text().as_bytes()[0].is_ascii_alphabetic() {
+            return Err(not_a_letter);
+        }
+        return pass_hier_part::<K>(cursor, tables, scheme_end);
     }
-    if has_scheme {
-        return Ok(BeforePath {
-            path_start: start,
-            scheme_end,
-            authority: None,
-        });
-    }
-    if start == 0 && is_unexpected::<K>(cursor, tables) {
+    if tables.needs_scheme {
         return Err(cursor.unexpected());
     }
-    pass_relative(cursor, tables)
+    pass_schemeless::<K>(cursor, tables)
 }
 
 /// Parses a whole text by the tables of a kind, and returns the positions of its components.

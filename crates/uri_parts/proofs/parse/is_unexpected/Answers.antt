@@ -20,8 +20,14 @@ unexpected_where_no_path_begins : (segment : TableSet) (kind : Kind) (text : Lis
 unfolding error_from_relative_path error_from_path error_from_query error_from_fragment
     error_from_end
 unexpected_where_no_path_begins segment kind text i first path other some =
-    rw (first, other 58 (omega arith) (omega arith), path, other 63 (omega arith) (omega arith),
-    other 35 (omega arith) (omega arith), some) refl
+    rw (
+      first,
+      other 58 (omega arith) (omega arith),
+      path,
+      other 63 (omega arith) (omega arith),
+      other 35 (omega arith) (omega arith),
+      some,
+    ) refl
 
 pub returns : goal.returns
 returns g c t =

@@ -32,8 +32,10 @@ module _ (text : List ℕ) (i : ℕ) (inside : i < length text) where
       → may_begin_octet_or_past_ascii set (get_or text i 0) ≡ false → get_or text i 0 ≢ 37
       → scan text set i ≡ Ok i
   scan_stops set lacks refused none other =
-      let same : scan_end text set i ≡ i = omega (arith,
-          valid_prefix_stops_where_none_may_begin set lacks text i inside refused none) in
+      let same : scan_end text set i ≡ i = omega (
+        arith,
+        valid_prefix_stops_where_none_may_begin set lacks text i inside refused none,
+      ) in
       rw same (cond-false _ _ _ (and_right _ _ (starts_at_position 37 i text
       ∙ and_right _ _ (ne_eqb _ _ other))))
 
