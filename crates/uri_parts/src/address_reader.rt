@@ -14,7 +14,8 @@ use crate::address_parser::{byte_at, leading_digits};
 #[inline(always)]
 fn read_groups(text: &[u8], start: usize, segments: &mut [u16]) -> Option<(usize, usize)>
     requires { start ≤ length text.now }
-    ensures value { IfSome result (λ r. read_segments (length segments.old) true (drop start text.now)
+    ensures value { IfSome result (λ r.
+        read_segments (length segments.old) true (drop start text.now)
         ≡ (take r.0 segments.new, false, drop r.1 text.now)) }
     ensures within { IfSome result (λ r. r.0 ≤ length segments.old) }
     ensures end { IfSome result (λ r. r.1 ≤ length text.now) }
@@ -68,7 +69,8 @@ pub(crate) fn read_without_ipv4(
 ) -> Option<Option<usize>>
     requires zeros { segments.old ≡ replicate 8 0 }
     requires start { start ≤ length text.now }
-    ensures read { IfSome result (λ found. option_map (λ end. (segments.new, drop end text.now)) found
+    ensures read { IfSome result (λ found.
+        option_map (λ end. (segments.new, drop end text.now)) found
         ≡ read_ipv6 (drop start text.now)) }
     ensures end { IfSome result (λ found. IfSome found (λ end. end ≤ length text.now)) }
 {

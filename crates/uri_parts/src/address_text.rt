@@ -1,7 +1,8 @@
 //! The text of an IPv6 address (RFC 5952), appended to another.
 //!
 //! `Display` of the address prints the same, with several times the work.
-ghost use Rattle.std.specs.Prelude.{◌≡◌, ◌+◌, ◌*◌, ◌<◌, ◌≤◌, ◌∷◌, ◌++◌, [], OnOk, length, take, true};
+ghost use Rattle.std.specs.Prelude.{◌≡◌, ◌+◌, ◌*◌, ◌<◌, ◌≤◌, ◌∷◌, ◌++◌, [], OnOk, length};
+ghost use Rattle.std.specs.Prelude.{take, true};
 ghost use Rattle.std.specs.Prelude.{if◌then◌else◌};
 ghost use Rattle.std.specs.Char.{digit_char};
 ghost use Rattle.std.specs.Net.Text as addresses;

@@ -225,19 +225,14 @@ fn cannot_begin_ipv6(text: &str, start: usize) -> bool
 }
 
 /// Returns the error of an IP literal from `start` on,
-/// where neither a `v` nor an address with its `]` begins.
+/// where an address may begin, but none with its `]`.
 fn refusal(text: &str, start: usize) -> ParseError
     requires boundary { IsCharBoundary text.now start }
     requires refused { is_ok (literal text.now start) ≡ false }
-    requires lacks_version_letter { (starts 118 (drop start text.now)
-        || starts 86 (drop start text.now))
-        ≡ false }
+    requires begins { is_no_ipv6_at text.now start ≡ false }
     ensures boundary { IsCharBoundary text.now (error_index result) }
     ensures exact { literal text.now start ≡ Err result }
 {
-    if cannot_begin_ipv6(text, start) {
-        return ParseError::new(start, ParseErrorKind::UnexpectedChar);
-    }
     match ipv6_end(text, start) {
         Some(end) => ParseError::new(end, ParseErrorKind::UnexpectedChar),
         None => ParseError::new(start, ParseErrorKind::InvalidIpv6Addr),
@@ -277,6 +272,29 @@ fn future_end(text: &str, start: usize) -> Result<usize, ParseError>
     end_after_mark(text, address, &IPV_FUTURE, b']')
 }
 
+/// Returns the position after the IPv6 address at `start`, which may begin there, and its `]`, or
+/// why there is none.
+#[inline(never)]
+fn ipv6_literal_end(text: &str, start: usize) -> Result<usize, ParseError>
+    requires boundary { IsCharBoundary text.now start }
+    requires lacks_version_letter { (starts 118 (drop start text.now)
+        || starts 86 (drop start text.now))
+        ≡ false }
+    requires begins { is_no_ipv6_at text.now start ≡ false }
+    ensures boundary { IfOk result (λ end. IsCharBoundary text.now end) }
+    ensures index { IfErr result (λ e. IsCharBoundary text.now (error_index e)) }
+    ensures exact { result ≡ literal text.now start }
+{
+    let address = &text[start..];
+    if let Some(rest) = after_ipv6(address.as_bytes()) {
+        let end = text.len() - rest.len();
+        if next_is(text, end, b']') {
+            return Ok(end + 1);
+        }
+    }
+    Err(refusal(text, start))
+}
+
 /// Returns the position after the address at `start` and its `]`, or why there is none. A `[` is
 /// before `start`. It parses addresses of every form.
 #[cold]
@@ -290,14 +308,10 @@ fn any_literal_end(text: &str, start: usize) -> Result<usize, ParseError>
     if starts_ipvfuture(text, start) {
         return future_end(text, start + 1);
     }
-    let address = &text[start..];
-    if let Some(rest) = after_ipv6(address.as_bytes()) {
-        let end = text.len() - rest.len();
-        if next_is(text, end, b']') {
-            return Ok(end + 1);
-        }
+    if cannot_begin_ipv6(text, start) {
+        return Err(ParseError::new(start, ParseErrorKind::UnexpectedChar));
     }
-    Err(refusal(text, start))
+    ipv6_literal_end(text, start)
 }
 
 /// Returns the position after the IPv6 address at `start` and its `]`. Returns `None` if there is

@@ -24,7 +24,7 @@ pub dotted : (a b c d : ℕ) (rest : List ℕ)
 dotted a b c d rest = simp append_assoc
 
 -- parsing IPv6: each hexadecimal digit has a value below 16
-pub digit-of-hex-text-is-below-16 : (text : List ℕ) (i : ℕ) → AllDigits 16 text → i < length text
+digit-of-hex-text-is-below-16 : (text : List ℕ) (i : ℕ) → AllDigits 16 text → i < length text
     → digit_value (get_or text i 0) < 16
 digit-of-hex-text-is-below-16 [] i h l = absurd (omega arith)
 digit-of-hex-text-is-below-16 (d ∷ text) zero h l = h.0

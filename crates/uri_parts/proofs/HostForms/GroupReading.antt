@@ -1,32 +1,24 @@
 -- One turn of reading the groups of an IPv6 address into their numbers.
-use Rattle.std.proofs.Common.{◌≡◌, ◌≢◌, ℕ, suc, ◌+◌, ◌-◌, ◌<◌, ◌≤◌, ◌==◌, nat_lt, Bool, true, false}
-use Rattle.std.proofs.Common.{List, [], ◌∷◌, ◌++◌, length, take, drop, get_or, Option, Some, None}
-use Rattle.std.proofs.Common.{option_map}
-use Rattle.std.proofs.Common.{refl, sym, ap, ◌∙◌, arith, inl, inr, ne_eqb, append-nil, append_assoc}
-use Rattle.std.proofs.Common.{replicate, take_all, take-add, length-take-le}
-use Rattle.std.proofs.lemmas.List.{drop-replicate, take-replicate, drop_all}
-use Rattle.std.proofs.lemmas.Slice.{put_mid-paste}
-use borrow.Rule.Slice.PartMut.{put_mid}
+use Rattle.std.proofs.Common.{◌≡◌, ◌≢◌, ℕ, zero, suc, ◌+◌, ◌-◌, ◌<◌, ◌≤◌, ◌==◌, ◌⊎◌, nat_lt, max}
+use Rattle.std.proofs.Common.{Bool}
+use Rattle.std.proofs.Common.{true, false, List, [], ◌∷◌, ◌++◌, length, take, drop, get_or, Some}
+use Rattle.std.proofs.Common.{None}
+use Rattle.std.proofs.Common.{replicate, refl, sym, ap, ◌∙◌, arith, inl, inr, ne_eqb, append-nil}
+use Rattle.std.proofs.Common.{append_assoc, length-append, length-take-le, get_or-take, get_or-drop}
 use Rattle.std.proofs.lemmas.Bool.{cases_lt}
+use Rattle.std.proofs.lemmas.List.{at_drop_more, at_drop_all, get_or_past, ext_get_or}
+use Rattle.std.proofs.lemmas.List.{get_or_append_left, get_or-append_right, get_or-append-add}
+use Rattle.std.proofs.lemmas.List.{get_or-replicate, length-replicate}
 use Rattle.std.specs.Str.Parse.{digits_value}
-use Rattle.std.specs.Net.Reader.{read_segments, after, read_separator, read_ipv4_if}
-use Rattle.std.specs.Net.Reader.{read_segment}
+use Rattle.std.specs.Net.Reader.{read_segments, after, read_separator, read_ipv4, read_ipv4_if}
+use Rattle.std.specs.Net.Reader.{read_segment, read_byte, read_octet}
+use Rattle.std.proofs.NetLemmas.Numbers.{read_number_empty}
 use Rattle.uri_parts.specs.Models.Literals.{AreLeadingHexDigits}
 use Rattle.uri_parts.proofs.HostForms.AddressParsing.{hex_digits_are_read_as_segment}
 use Rattle.uri_parts.proofs.HostForms.AddressParsing.{five_digits_begin_no_ipv4}
 use Rattle.uri_parts.proofs.HostForms.AddressParsing.{no_dot_means_no_ipv4}
 use Rattle.uri_parts.proofs.HostForms.AddressParsing.{no_digits_are_no_segment}
 use Rattle.uri_parts.proofs.HostForms.AddressParsing.{five_digits_are_no_segment}
-
--- general fact on options, for groups of an IPv6 address
-option-is-none-if-mapped-is : {A B : Type 0} (f : A → B) (o : Option A) → option_map f o
-    ≡ None → o ≡ None
-option-is-none-if-mapped-is f None e = refl
-option-is-none-if-mapped-is f (Some x) e = cc
-
--- general fact on options, for what is left of an IPv6 address
-equal-options-have-equal-rest : (a b : List ℕ) → ◌≡◌ {A = Option (List ℕ)} (Some a) (Some b) → a ≡ b
-equal-options-have-equal-rest a b e = cc
 
 -- reading IPv6: no IPv4 address begins where no `.` follows the first digits
 no-dot-after-digits-is-no-ipv4 : (fits : Bool) (text : List ℕ) (count : ℕ)
@@ -38,86 +30,201 @@ no-dot-after-digits-is-no-ipv4 true text count h other = elim (cases_lt count 5)
   | inr five ↦ five_digits_begin_no_ipv4 text count h (let most = h.most in omega arith)
 ]
 
--- parsing IPv6: a group has one to four digits
-pub group-has-one-to-four-digits : (text rest : List ℕ) (count : ℕ) → AreLeadingHexDigits text count
-    → Some rest ≡ option_map (λ p. p.1) (read_segment text) → (0 < count) × (count < 5)
-group-has-one-to-four-digits text rest count h e = elim (cases_lt 0 count) [
-  | inr none ↦ cc (no_digits_are_no_segment text count h (omega arith))
-  | inl some ↦ elim (cases_lt count 5) [
-    | inl few ↦ (some, few)
-    | inr five ↦ cc (five_digits_are_no_segment text count h (let most = h.most in omega arith))
-  ]
+-- reading IPv6: a colon at a position is read there
+pub colon-at-position-is-read : (s : List ℕ) (i : ℕ) → get_or s i 0 ≡ 58 → read_byte 58 (drop i s)
+    ≡ Some (drop (i + 1) s)
+colon-at-position-is-read s i e = elim (cases_lt i (length s)) [
+  | inl inside ↦ at_drop_more (read_byte 58) s i 0 inside ∙ rw e refl
+  | inr past ↦ cc (get_or_past s i 0 past)
 ]
 
--- at the index i of n
-module _ (n i : ℕ) (text s prefix : List ℕ) (within : i < n)
-    (so_far : read_segments n true text ≡ after prefix (read_segments (n - i) (i == 0) s)) where
+-- reading IPv6: a colon at a position is inside the text
+pub colon-at-position-is-inside : (s : List ℕ) (i : ℕ) → get_or s i 0 ≡ 58 → i + 1 ≤ length s
+colon-at-position-is-inside s i e = elim (cases_lt i (length s)) [
+  | inl inside ↦ omega arith
+  | inr past ↦ cc (get_or_past s i 0 past)
+]
+
+-- reading IPv6: where another byte is, no colon is read
+other-byte-at-position-is-no-colon : (s : List ℕ) (i : ℕ) → get_or s i 0 ≢ 58
+    → read_byte 58 (drop i s) ≡ None
+other-byte-at-position-is-no-colon s i other = elim (cases_lt i (length s)) [
+  | inl inside ↦ at_drop_more (read_byte 58) s i 0 inside ∙ rw (ne_eqb _ _ other) refl
+  | inr past ↦ at_drop_all (read_byte 58) s i past
+]
+
+-- reading IPv6: without a colon no group follows
+no-segment-is-read-without-colon : (room : ℕ) (rest : List ℕ) → read_byte 58 rest ≡ None
+    → read_segments room false rest ≡ ([], false, rest)
+unfolding read_segments
+no-segment-is-read-without-colon zero rest e = refl
+no-segment-is-read-without-colon (suc room) rest e = rw e
+
+-- reading IPv6: no IPv4 address begins without a digit
+no-digits-begin-no-ipv4 : (text : List ℕ) → AreLeadingHexDigits text 0 → read_ipv4 text ≡ None
+unfolding read_ipv4 read_octet
+no-digits-begin-no-ipv4 text h =
+    let stop = h.stop (omega arith) in
+    rw (read_number_empty 10 255 text (omega arith))
+
+-- reading IPv6: no group begins where no digit or five come first
+module _ (text : List ℕ) (count : ℕ) (are : AreLeadingHexDigits text count)
+    (none : (count ≡ 0) ⊎ (count ≡ 5)) where
+  no-ipv4-without-group : (fits : Bool) → read_ipv4_if fits text ≡ None
+  no-ipv4-without-group false = refl
+  no-ipv4-without-group true = elim none [
+    | inl zeros ↦ no-digits-begin-no-ipv4 text (rw zeros at are)
+    | inr five ↦ five_digits_begin_no_ipv4 text count are five
+  ]
+
+  no-segment-without-group : read_segment text ≡ None
+  no-segment-without-group = elim none [
+    | inl zeros ↦ no_digits_are_no_segment text count are zeros
+    | inr five ↦ five_digits_are_no_segment text count are five
+  ]
+
+-- at the index i of n, where `group` begins
+module _ (n i : ℕ) (text s prefix group : List ℕ) (within : i < n)
+    (so_far : read_segments n true text ≡ after prefix (read_segments (n - i) (i == 0) s))
+    (led : Some group ≡ read_separator (i == 0) s) (count : ℕ)
+    (are : AreLeadingHexDigits group count) where
   room-is-one-more-than-room-after : n - i ≡ suc (n - (i + 1))
   room-is-one-more-than-room-after = omega arith
 
-  pub reading-ends-without-separator : None ≡ read_separator (i == 0) s
+  pub reading-ends-without-group : (count ≡ 0) ⊎ (count ≡ 5)
       → read_segments n true text ≡ (prefix, false, s)
   unfolding read_segments
-  reading-ends-without-separator e = so_far ∙ rw (room-is-one-more-than-room-after, ← e, append-nil)
+  reading-ends-without-group none = so_far
+      ∙ rw (
+        room-is-one-more-than-room-after,
+        ← led,
+        no-ipv4-without-group group count are none (nat_lt 0 (n - (i + 1))),
+        no-segment-without-group group count are none,
+        append-nil,
+      )
 
-  module _ (group : List ℕ) (led : Some group ≡ read_separator (i == 0) s) (count : ℕ)
-      (are : AreLeadingHexDigits group count) (other : get_or group count 0 ≢ 46) where
-    pub reading-ends-without-group : None ≡ option_map (λ p. p.1) (read_segment group)
-        → read_segments n true text ≡ (prefix, false, s)
-    unfolding read_segments
-    reading-ends-without-group e = so_far
-        ∙ rw (
-          room-is-one-more-than-room-after,
-          ← led,
-          no-dot-after-digits-is-no-ipv4 (nat_lt 0 (n - (i + 1))) group count are other,
-          option-is-none-if-mapped-is (λ p. p.1) (read_segment group) (sym e),
-          append-nil,
-        )
+  module _ (some : count ≢ 0) (few : count ≢ 5) (no_dot : get_or group count 0 ≢ 46) where
+    group-has-fewer-than-five-digits : count < 5
+    group-has-fewer-than-five-digits = let most = are.most in omega arith
 
-    pub reading-appends-value-of-group : (rest : List ℕ) → Some rest
-        ≡ option_map (λ p. p.1) (read_segment group)
-        → 0 < count → count < 5
-        → read_segments n true text
+    pub reading-appends-value-of-group : read_segments n true text
         ≡ after (prefix ++ digits_value 16 (take count group) ∷ [])
-        (read_segments (n - (i + 1)) (i + 1 == 0) rest)
+        (read_segments (n - (i + 1)) (i + 1 == 0) (drop count group))
     unfolding read_segments
-    reading-appends-value-of-group rest e some few =
+    reading-appends-value-of-group =
         let later : (i + 1 == 0) ≡ false = ne_eqb _ _ (omega arith) in
-        let parsed = hex_digits_are_read_as_segment group count are some few in
-        let left : rest ≡ drop count group = equal-options-have-equal-rest _ _
-        (e ∙ ap (option_map (λ p. p.1)) parsed) in
         so_far
         ∙ rw (
           room-is-one-more-than-room-after,
           ← led,
-          no-dot-after-digits-is-no-ipv4 (nat_lt 0 (n - (i + 1))) group count are other,
-          parsed,
+          no-dot-after-digits-is-no-ipv4 (nat_lt 0 (n - (i + 1))) group count are no_dot,
+          hex_digits_are_read_as_segment group count are (omega arith)
+              group-has-fewer-than-five-digits,
           later,
-          left,
           append_assoc,
-        )
+        ) refl
 
--- reading IPv6: the groups after a `::` are the last of the eight, and zeros are before them
-pub tail_groups_are_placed_last : (head tail copy : List ℕ) (h t : ℕ) → length head ≡ 8 → h + t ≤ 7
-    → drop h head ≡ drop h (replicate 8 0) → copy ≡ tail → length tail ≡ t
-    → put_mid (8 - t) (8 - (8 - t)) head copy
-    ≡ take h head ++ replicate (8 - length (take h head) - length tail) 0 ++ tail
-tail_groups_are_placed_last head tail copy h t eight few zeros same len =
-    let gap = 8 - h - t in
-    let prefix : 8 - t ≡ h + gap = omega arith in
-    let kept : take gap (drop h head) ≡ replicate gap 0 =
-    rw (zeros, drop-replicate {X = ℕ} h 8 0) (take-replicate gap (8 - h) 0 (omega arith)) in
-    let pasted = put_mid-paste (8 - t) (8 - (8 - t)) head copy tail t same (omega arith)
-    (sym len) in
-    let nothing = drop_all (8 - t + t) head (omega arith) in
-    pasted
-    ∙ rw (
-      nothing,
-      append-nil,
-      take_all t tail (omega arith),
-      length-take-le h head (omega arith),
-      len,
-      prefix,
-      take-add h gap head,
-      kept,
-    )
+    pub reading-ends-after-group-without-colon : get_or group count 0 ≢ 58
+        → read_segments n true text
+        ≡ (prefix ++ digits_value 16 (take count group) ∷ [], false, drop count group)
+    reading-ends-after-group-without-colon other =
+        let later : (i + 1 == 0) ≡ false = ne_eqb _ _ (omega arith) in
+        reading-appends-value-of-group
+        ∙ rw (
+          later,
+          no-segment-is-read-without-colon (n - (i + 1)) (drop count group)
+              (other-byte-at-position-is-no-colon group count other),
+          append-nil,
+        ) refl
+
+    pub colon-separates-next-group : get_or group count 0 ≡ 58
+        → Some (drop (count + 1) group) ≡ read_separator (i + 1 == 0) (drop count group)
+    colon-separates-next-group colon =
+        let later : (i + 1 == 0) ≡ false = ne_eqb _ _ (omega arith) in
+        rw (later, colon-at-position-is-read group count colon) refl
+
+-- reading IPv6: the byte after the digits of a group, by its position and after a cut
+pub byte-after-digits-at-position : (text : List ℕ) (group count byte : ℕ)
+    → byte ≡ get_or text (group + count) 0
+    → byte ≡ get_or (drop group text) count 0
+byte-after-digits-at-position text group count byte here = rw (get_or-drop group text count 0) here
+
+-- reading IPv6: the groups after a `::` are the last of the eight, and zeros are before them.
+-- `window` has them from 8 on; `h` groups are before the `::`, `t` after it
+module _ (head part new window : List ℕ) (h t g : ℕ) (eight : length head ≡ 8)
+    (size : length new ≡ 8) (few : h + t ≤ 7) (within : t ≤ length part) (gap : g ≡ 8 - h - t)
+    (zeros : drop h head ≡ drop h (replicate 8 0))
+    (put : take (8 + length part) window ≡ replicate 8 0 ++ part)
+    (each : (k : ℕ) → k < 8
+    → get_or new k 0 ≡ max (get_or head k 0) (get_or window (t + k) 0)) where
+  -- before the groups the window has zeros
+  window-begins-with-zeros : (j : ℕ) → j < 8 → get_or window j 0 ≡ 0
+  window-begins-with-zeros j less =
+      sym (get_or-take (8 + length part) window j 0 (omega arith))
+      ∙ ap (λ s. get_or s j 0) put
+      ∙ get_or_append_left (replicate 8 0) part 0 j less ∙ get_or-replicate 8 j 0 0 less
+
+  window-has-part-from-eight : (j : ℕ) → j < length part
+      → get_or window (8 + j) 0 ≡ get_or part j 0
+  window-has-part-from-eight j less =
+      sym (get_or-take (8 + length part) window (8 + j) 0 (omega arith))
+      ∙ ap (λ s. get_or s (8 + j) 0) put ∙ get_or-append-add (replicate 8 0) part j 0
+
+  head-has-zeros-after-groups : (k : ℕ) → h ≤ k → k < 8 → get_or head k 0 ≡ 0
+  head-has-zeros-after-groups k after less =
+      let same : h + (k - h) ≡ k = omega arith in
+      ap (λ n. get_or head n 0) (sym same)
+      ∙ sym (get_or-drop h head (k - h) 0) ∙ ap (λ s. get_or s (k - h) 0) zeros
+      ∙ get_or-drop h (replicate 8 0) (k - h) 0 ∙ ap (λ n. get_or (replicate 8 0) n 0) same
+      ∙ get_or-replicate 8 k 0 0 less
+
+  length-before-tail : length (take h head ++ replicate g 0) ≡ 8 - t
+  length-before-tail =
+      let a = length-take-le h head (omega arith) in
+      let b : length (replicate {A = ℕ} g 0) ≡ g = length-replicate g 0 in
+      omega (arith, length-append (take h head) (replicate g 0))
+
+  length-of-segments : length (take h head ++ replicate g 0 ++ take t part) ≡ 8
+  length-of-segments =
+      let c = length-take-le t part within in
+      omega (arith, length-before-tail, length-append (take h head ++ replicate g 0) (take t part))
+
+  segments-agree-at-index : (k : ℕ) → k < 8
+      → get_or new k 0 ≡ get_or (take h head ++ replicate g 0 ++ take t part) k 0
+  segments-agree-at-index k less = elim (cases_lt k (8 - t)) [
+    | inl front ↦ elim (cases_lt k h) [
+      | inl first ↦
+          let right = get_or_append_left (take h head ++ replicate g 0) (take t part) 0 k
+          (omega (arith, length-before-tail))
+          ∙ get_or_append_left (take h head) (replicate g 0) 0 k
+          (omega (arith, length-take-le h head (omega arith)))
+          ∙ get_or-take h head k 0 first in
+          omega (arith, each k less, window-begins-with-zeros (t + k) (omega arith), right)
+      | inr second ↦
+          let right = get_or_append_left (take h head ++ replicate g 0) (take t part) 0 k
+          (omega (arith, length-before-tail))
+          ∙ get_or-append_right (take h head) (replicate g 0) h k 0
+          (length-take-le h head (omega arith)) second
+          ∙ get_or-replicate g (k - h) 0 0 (omega arith) in
+          omega (
+            arith,
+            each k less,
+            window-begins-with-zeros (t + k) (omega arith),
+            head-has-zeros-after-groups k second less,
+            right,
+          )
+    ]
+    | inr last ↦
+        let j : ℕ = k - (8 - t) in
+        let same : t + k ≡ 8 + j = omega arith in
+        let right = get_or-append_right (take h head ++ replicate g 0) (take t part) (8 - t) k 0
+        length-before-tail last
+        ∙ get_or-take t part j 0 (omega arith) in
+        let left = ap (λ n. get_or window n 0) same ∙ window-has-part-from-eight j (omega arith) in
+        omega (arith, each k less, head-has-zeros-after-groups k (omega arith) less, left, right)
+  ]
+
+  pub tail-groups-are-placed-last : new ≡ take h head ++ replicate g 0 ++ take t part
+  tail-groups-are-placed-last = ext_get_or 0 new (take h head ++ replicate g 0 ++ take t part)
+      (size ∙ sym length-of-segments)
+      λ k inside. segments-agree-at-index k (omega (arith, size))

@@ -1,4 +1,5 @@
-use Rattle.std.proofs.Common.{◌≡◌, ◌+◌, ◌≤◌, true, Ok, length, drop, arith, sym, ap, ◌∙◌, length-drop, option_map}
+use Rattle.std.proofs.Common.{◌≡◌, ◌+◌, ◌≤◌, true, Ok, length, drop, arith, sym, ap, ◌∙◌}
+use Rattle.std.proofs.Common.{length-drop, option_map}
 use Rattle.uri_parts.specs.Components.{starts}
 use Rattle.uri_parts.proofs.Refusals.Literals.{literal-ends-after-read-ipv6}
 use Rattle.uri_parts.proofs.ip_literal.plain_ipv6_end.Goals as goal
