@@ -118,8 +118,8 @@ fn is_host_lower<U: Encoder, R: Encoder>(authority: Option<Authority<'_, U, R>>)
     }
 }
 
-/// Returns whether a byte of an IPv6 address other than `:`, after this one, may be written otherwise
-/// in a normal form: a `.`, a letter in upper case, or a `0` that begins a group.
+/// Returns whether a byte of an IPv6 address other than `:` may be written otherwise in a normal
+/// form: it is a `.`, a letter in upper case, or a `0` that begins a group.
 #[inline(always)]
 fn is_unusual_digit(previous: u8, byte: u8) -> bool
     ensures dot { result ≡ false → is_one_of (codes ".") byte ≡ false }
@@ -217,8 +217,8 @@ pub(crate) fn is_unchanged<K: Kind>(core: Core<K, &str>) -> bool
     is_path_unchanged(core.has_scheme(), path)
 }
 
-/// Returns `true` only if normalising keeps the scheme, the host and the path of a value, if nothing
-/// in them is decoded.
+/// Returns `true` only if normalising keeps the scheme, the host and the path of a value, if it
+/// decodes nothing in them.
 #[cold]
 #[inline(never)]
 fn are_literal_components_unchanged<K: Kind>(core: Core<K, &str>) -> bool
