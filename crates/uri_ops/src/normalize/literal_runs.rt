@@ -65,6 +65,15 @@ pub(crate) fn push_lower(text: &str, out: &mut String) -> Result<(), AllocError>
     Ok(())
 }
 
+/// Appends the text with its ASCII letters in lower case. It is not inlined, so that a loop over
+/// octets keeps its values in registers.
+#[inline(never)]
+fn push_lower_run(text: &str, out: &mut String) -> Result<(), AllocError>
+    ensures { OnOk result (Pushes out.old out.new (str_to_ascii_lowercase text.now)) }
+{
+    push_lower(text, out)
+}
+
 /// Appends a run without octets, with its letters lowered if `lowers`. An empty one costs no call.
 #[inline(always)]
 pub(crate) fn push_literal(lowers: bool, text: &str, out: &mut String) -> Result<(), AllocError>
@@ -74,7 +83,7 @@ pub(crate) fn push_literal(lowers: bool, text: &str, out: &mut String) -> Result
         return Ok(());
     }
     if lowers {
-        push_lower(text, out)
+        push_lower_run(text, out)
     } else {
         push_short_str(text, out)
     }
