@@ -39,7 +39,6 @@ impl<'a, K: Kind> Reference<K, &'a str> {
     ///     path: reference.path().as_str(),
     /// })
     /// ```
-    #[inline(always)]
     pub fn parse(text: &'a str) -> Result<Reference<K, &'a str>, ParseError>
         ensures accepts { IsOk result ↔ IsOfKind K.kind text.now }
         ensures text { IfOk result (λ value. reference_text value ≡ text.now) }
