@@ -300,21 +300,19 @@ fn pass_before_path<K: Kind>(
     pass_schemeless::<K>(cursor, tables)
 }
 
-/// Parses a whole text by the tables of a kind, and returns the positions of its components.
+/// Parses a whole text by the tables of its kind, and returns the positions of its components.
 #[tactic(auto)]
 #[inline(always)]
-fn parse_text<K: Kind>(tables: &KindTables, text: &str) -> Result<Positions, ParseError>
-    requires kind { kind_of tables.now ≡ K.kind }
-    requires segment { segment_nz_nc_of tables.now ≡ first_segment_set K.kind }
+fn parse_text<K: Kind>(text: &str) -> Result<Positions, ParseError>
     ensures places { IfOk result (λ p.
-        p ≡ parsed_positions (segment_nz_nc_of tables.now) (kind_of tables.now) text.now) }
-    ensures refused { result_err result
-        ≡ parsed_error (segment_nz_nc_of tables.now) (kind_of tables.now) text.now }
+        p ≡ parsed_positions (first_segment_set K.kind) K.kind text.now) }
+    ensures refused { result_err result ≡ parsed_error (first_segment_set K.kind) K.kind text.now }
     ensures err { IfErr result (IsErrorIn text.now) }
 {
+    let tables = K::tables();
     let mut cursor = Cursor::new(text);
-    let before = pass_before_path::<K>(&mut cursor, tables)?;
-    parse_path(&mut cursor, tables, before)
+    let before = pass_before_path::<K>(&mut cursor, &tables)?;
+    parse_path(&mut cursor, &tables, before)
 }
 
 /// Parses a text of the kind. Returns the positions of its components, or why it is not of the
@@ -326,5 +324,5 @@ pub fn parse<K: Kind>(text: &str) -> Result<Positions, ParseError>
     ensures refused { result_err result ≡ refusal K.kind text.now }
     ensures err { IfErr result (IsErrorIn text.now) }
 {
-    parse_text::<K>(&K::tables(), text)
+    parse_text::<K>(text)
 }
