@@ -10,6 +10,7 @@ pub mod Hosts
 pub mod KindTables
 pub mod LiteralErrors
 pub mod Models
+pub mod PackedPositions
 pub mod Positions
 pub mod RefusalRows
 pub mod Refusals

@@ -7,6 +7,7 @@ ghost use Rattle.uri_parts.specs.Errors.{IsErrorIn};
 ghost use Rattle.uri_parts.specs.Refusals.{refusal};
 ghost use Rattle.uri_parts.specs.Fragments.{IsWithFragment};
 ghost use Rattle.uri_parts.specs.Grammar.{IsOfKind};
+ghost use Rattle.uri_parts.specs.PackedPositions.{ArePackedPositionsOf};
 ghost use Rattle.uri_parts.specs.Positions.{ArePositionsOf};
 
 mod comparing;
@@ -16,6 +17,7 @@ use crate::component::{Authority, Scheme};
 use crate::error::ParseError;
 use crate::fragment;
 use crate::kind::Kind;
+use crate::packed_positions::PackedPositions;
 use crate::parse::parse;
 use crate::positions::Positions;
 use std::alloc::{AllocError, Global};
@@ -39,10 +41,10 @@ pub(crate) fn positions_in<K: Kind>(text: &str) -> Positions
 #[derive(Drop)]
 pub struct Core<K: Kind, T: AsStr> {
     text: T,
-    positions: Positions,
+    positions: PackedPositions,
     kind: PhantomData<K>,
     pub ghost of_kind: { IsOfKind K.kind (T.text text) },
-    pub ghost at: { ArePositionsOf (T.text text) positions },
+    pub ghost at: { ArePackedPositionsOf (T.text text) positions },
 }
 
 impl<K: Kind, T: AsStr + Copy> Clone for Core<K, T> {
@@ -76,7 +78,7 @@ impl<K: Kind, T: AsStr> Core<K, T> {
     {
         Core {
             text,
-            positions,
+            positions: PackedPositions::of(&positions),
             kind: PhantomData,
         }
     }
@@ -112,7 +114,11 @@ impl<K: Kind, T: AsStr> Core<K, T> {
         requires { IsOfKind L.kind (core_text self) }
         ensures { core_text result ≡ core_text self }
     {
-        Core::new(self.text, self.positions)
+        Core {
+            text: self.text,
+            positions: self.positions,
+            kind: PhantomData,
+        }
     }
 
     /// Returns the borrowed text with the same positions.
@@ -122,7 +128,11 @@ impl<K: Kind, T: AsStr> Core<K, T> {
         ensures of_kind { IsOfKind K.kind (core_text self.now) }
         ensures utf8 { IsUtf8 (core_text self.now) }
     {
-        Core::new(self.text.as_str(), self.positions)
+        Core {
+            text: self.text.as_str(),
+            positions: self.positions,
+            kind: PhantomData,
+        }
     }
 }
 
@@ -158,45 +168,46 @@ impl<'a, K: Kind> Core<K, &'a str> {
     }
 
     /// Returns the positions of the components of the text.
+    #[inline(always)]
     pub fn positions(self) -> Positions
         ensures { ArePositionsOf (core_text self.entry) result }
     {
-        self.positions
+        self.positions.unpack(self.text)
     }
 
     /// Returns whether the text has a scheme.
     pub fn has_scheme(self) -> bool
         ensures { result ≡ is_some (components (core_text self.entry)).scheme }
     {
-        self.positions.has_scheme(self.text)
+        self.positions().has_scheme(self.text)
     }
 
     /// Returns whether the text has an authority.
     pub fn has_authority(self) -> bool
         ensures { result ≡ is_some (components (core_text self.entry)).authority }
     {
-        self.positions.has_authority(self.text)
+        self.positions().has_authority(self.text)
     }
 
     /// Returns whether the text has a query.
     pub fn has_query(self) -> bool
         ensures { result ≡ is_some (components (core_text self.entry)).query }
     {
-        self.positions.has_query(self.text)
+        self.positions().has_query(self.text)
     }
 
     /// Returns whether the text has a fragment.
     pub fn has_fragment(self) -> bool
         ensures { result ≡ is_some (components (core_text self.entry)).fragment }
     {
-        self.positions.has_fragment(self.text)
+        self.positions().has_fragment(self.text)
     }
 
     /// Returns the scheme without its `:`, if there is one.
     pub fn scheme(self) -> Option<Scheme<'a>>
         ensures { option_map scheme_text result ≡ (components (core_text self.entry)).scheme }
     {
-        match self.positions.scheme(self.text) {
+        match self.positions().scheme(self.text) {
             Some(scheme) => Some(Scheme::new_or_panic(scheme)),
             None => None,
         }
@@ -217,8 +228,8 @@ impl<'a, K: Kind> Core<K, &'a str> {
     pub fn authority(self) -> Option<Authority<'a, K::UserinfoE, K::RegNameE>>
         ensures { option_map authority_text result ≡ (components (core_text self.entry)).authority }
     {
-        let places = self.positions.authority?;
-        let text = self.positions.authority(self.text)?;
+        let places = self.positions().authority?;
+        let text = self.positions().authority(self.text)?;
         Some(Authority::new_unchecked(
             text,
             places.host_start - places.start,
@@ -230,14 +241,14 @@ impl<'a, K: Kind> Core<K, &'a str> {
     pub fn path(self) -> EStr<'a, K::PathE>
         ensures { text_of result ≡ (components (core_text self.entry)).path }
     {
-        EStr::new_or_panic(self.positions.path(self.text))
+        EStr::new_or_panic(self.positions().path(self.text))
     }
 
     /// Returns the query without its `?`, if there is one.
     pub fn query(self) -> Option<EStr<'a, K::QueryE>>
         ensures { option_map text_of result ≡ (components (core_text self.entry)).query }
     {
-        match self.positions.query(self.text) {
+        match self.positions().query(self.text) {
             Some(query) => Some(EStr::new_or_panic(query)),
             None => None,
         }
@@ -247,7 +258,7 @@ impl<'a, K: Kind> Core<K, &'a str> {
     pub fn fragment(self) -> Option<EStr<'a, K::FragmentE>>
         ensures { option_map text_of result ≡ (components (core_text self.entry)).fragment }
     {
-        match self.positions.fragment(self.text) {
+        match self.positions().fragment(self.text) {
             Some(fragment) => Some(EStr::new_or_panic(fragment)),
             None => None,
         }
@@ -257,7 +268,11 @@ impl<'a, K: Kind> Core<K, &'a str> {
     pub fn strip_fragment(self) -> Core<K, &'a str>
         ensures { IsWithFragment (core_text self.entry) None (core_text result) }
     {
-        Core::new(self.positions.without_fragment(self.text), self.positions)
+        Core {
+            text: self.positions().without_fragment(self.text),
+            positions: self.positions,
+            kind: PhantomData,
+        }
     }
 
     /// Returns a copy of the text with this fragment instead of its own, or with none.
@@ -270,14 +285,14 @@ impl<'a, K: Kind> Core<K, &'a str> {
             IsWithFragment (core_text self.entry) (option_map text_of fragment.entry)
             (core_text made)) }
     {
-        let text = fragment::with_fragment(alloc, self.text, &self.positions, fragment)?;
-        Ok(Core::new(text, self.positions))
+        let text = fragment::with_fragment(alloc, self.text, &self.positions(), fragment)?;
+        Ok(Core::new(text, self.positions()))
     }
 
     /// Returns the core of a copy of the text, with the same positions.
     pub fn to_owned(self, alloc: Global) -> Result<Core<K, String>, AllocError>
         ensures { IfOk result (λ copy. core_text copy ≡ core_text self.entry) }
     {
-        Ok(Core::new(String::from_str(alloc, self.text)?, self.positions))
+        Ok(Core::new(String::from_str(alloc, self.text)?, self.positions()))
     }
 }

@@ -1,9 +1,11 @@
 //! The parser of the four kinds.
 ghost use Rattle.std.specs.Prelude.{◌≡◌, ◌↔◌, ◌<◌, IfErr, IfOk, IsOk, IsTrue, Some, None};
-ghost use Rattle.std.specs.Prelude.{drop};
+ghost use Rattle.std.specs.Prelude.{◌+◌, drop, false};
 ghost use Rattle.std.specs.Str.{IsCharBoundary};
 ghost use Rattle.std.specs.Option.{option_or};
 ghost use Rattle.std.specs.Result.{result_err};
+ghost use Rattle.uri_parts.specs.Models.AuthorityParsing.{name_and_port_length};
+ghost use Rattle.uri_parts.specs.Models.AuthorityParsing.{name_ends_authority};
 ghost use Rattle.uri_parts.specs.Models.Parsing.{query_end_at};
 ghost use Rattle.uri_parts.specs.Models.Parsing.{authority_positions, path_positions};
 ghost use Rattle.uri_parts.specs.Models.Parsing.{relative_positions};
@@ -91,6 +93,38 @@ fn parse_path(
     })
 }
 
+/// Passes an authority that is more than a name and a port, which were passed from `start` on.
+#[tactic(auto, unfolding(crate::proofs::Steps::authority, crate::proofs::Steps::before_path))]
+#[inline(always)]
+fn pass_other_authority<K: Kind>(
+    cursor: &mut Cursor<'_>,
+    start: usize,
+    scheme_end: Option<usize>,
+) -> Result<BeforePath, ParseError>
+    requires start { IsCharBoundary (cursor_text cursor.old) start }
+    requires some { 0 < start }
+    requires place { cursor_position cursor.old
+        ≡ start + name_and_port_length K.kind (drop start (cursor_text cursor.old)) }
+    requires other { name_ends_authority K.kind (drop start (cursor_text cursor.old)) ≡ false }
+    ensures places { IfOk result (λ b.
+        authority_positions K.kind scheme_end start (drop start (cursor_text cursor.old))
+        ≡ positions_if_parsed_from K.kind b cursor.new) }
+    ensures start { IfOk result (λ b. b.path_start ≡ cursor_position cursor.new) }
+    ensures text { cursor_text cursor.new ≡ cursor_text cursor.old }
+    ensures refused { let text = cursor_text cursor.old in authority_error K.kind text start
+        ≡ option_or (result_err result) (error_from_path K.kind text (cursor_position cursor.new)) }
+    ensures err { IfErr result (IsErrorIn (cursor_text cursor.old)) }
+{
+    let text = cursor.text();
+    let authority = find_other_authority_of_kind::<K>(text, start, cursor.position())?;
+    *cursor = Cursor::at(text, authority.end);
+    Ok(BeforePath {
+        path_start: authority.end,
+        scheme_end,
+        authority: Some(authority),
+    })
+}
+
 /// Parses an authority, which comes before a path.
 #[tactic(auto, unfolding(crate::proofs::Steps::authority, crate::proofs::Steps::before_path))]
 #[inline(always)]
@@ -128,17 +162,10 @@ fn pass_authority<K: Kind>(
             authority: Some(authority),
         });
     }
-    let text = cursor.text();
-    if is_unexpected_after_name::<K>(Cursor::at(text, start), *cursor, tables) {
+    if is_unexpected_after_name::<K>(Cursor::at(cursor.text(), start), *cursor, tables) {
         return Err(cursor.unexpected());
     }
-    let authority = find_other_authority_of_kind::<K>(text, start, cursor.position())?;
-    *cursor = Cursor::at(text, authority.end);
-    Ok(BeforePath {
-        path_start: authority.end,
-        scheme_end,
-        authority: Some(authority),
-    })
+    pass_other_authority::<K>(cursor, start, scheme_end)
 }
 
 /// Parses what follows a scheme, before a path.
@@ -231,6 +258,25 @@ fn pass_first_authority<K: Kind>(text: &str) -> Result<BeforePath, ParseError>
     pass_authority::<K>(&mut cursor, &K::tables(), None)
 }
 
+/// Passes the authority of a text that begins with `//`, which was passed.
+#[tactic(auto, unfolding(crate::proofs::Steps::before_path))]
+#[inline(always)]
+fn pass_after_slashes<K: Kind>(cursor: &mut Cursor<'_>) -> Result<BeforePath, ParseError>
+    requires { cursor_position cursor.old ≡ 2 }
+    ensures places { IfOk result (λ b.
+        authority_positions K.kind None 2 (text_after_cursor cursor.old)
+        ≡ positions_if_parsed_from K.kind b cursor.new) }
+    ensures text { cursor_text cursor.new ≡ cursor_text cursor.old }
+    ensures refused { let text = cursor_text cursor.old in authority_error K.kind text 2
+        ≡ option_or (result_err result) (error_from_path K.kind text (cursor_position cursor.new)) }
+    ensures err { IfErr result (IsErrorIn (cursor_text cursor.old)) }
+{
+    let text = cursor.text();
+    let before = pass_first_authority::<K>(text)?;
+    *cursor = Cursor::at(text, before.path_start);
+    Ok(before)
+}
+
 /// Parses what comes before a path in a text that has no scheme. It begins after the characters
 /// that might have been one.
 #[tactic(auto, unfolding(crate::proofs::Steps::whole))]
@@ -254,10 +300,7 @@ fn pass_schemeless<K: Kind>(
 {
     if cursor.position() == 0 {
         if cursor.skip_slashes() {
-            let text = cursor.text();
-            let before = pass_first_authority::<K>(text)?;
-            *cursor = Cursor::at(text, before.path_start);
-            return Ok(before);
+            return pass_after_slashes::<K>(cursor);
         }
         if is_unexpected::<K>(cursor, tables) {
             return Err(cursor.unexpected());

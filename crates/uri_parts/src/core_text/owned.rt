@@ -23,7 +23,8 @@ impl<K: Kind> Core<K, String> {
         ensures kept { OnErr result (core_text self.new ≡ core_text self.old) }
         ensures none { fragment.entry ≡ None → IsOk result }
     {
-        fragment::set_fragment(&mut self.text, &self.positions, fragment)
+        let positions = self.positions.unpack(self.text.as_str());
+        fragment::set_fragment(&mut self.text, &positions, fragment)
     }
 
     /// Returns the text as a `String`, without a copy.

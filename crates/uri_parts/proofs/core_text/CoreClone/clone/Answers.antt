@@ -2,12 +2,12 @@
 use Rattle.std.proofs.Common.{ℕ, List, ap}
 use Rattle.std.proofs.Props.{props}
 use Rattle.uri_parts.specs.Grammar.{Kind, IsOfKind}
-use Rattle.uri_parts.specs.Positions.{ArePositionsOf}
-use Rattle.uri_parts.specs.declared.positions.Positions.{Positions}
+use Rattle.uri_parts.specs.PackedPositions.{ArePackedPositionsOf}
+use Rattle.uri_parts.specs.declared.packed_positions.PackedPositions.{PackedPositions}
 use Rattle.uri_parts.proofs.core_text.CoreClone.clone.Goals as goal
 
-held_once : (kind : Kind) (text : List ℕ) (positions : Positions)
-    → IsProp (IsOfKind kind text × ArePositionsOf text positions)
+held_once : (kind : Kind) (text : List ℕ) (positions : PackedPositions)
+    → IsProp (IsOfKind kind text × ArePackedPositionsOf text positions)
 held_once kind text positions = hlevel props
 
 -- src/core_text.rt:55:5
@@ -16,7 +16,7 @@ returns g c =
     let text = g.T.AsStr.text c.args.self.now.text in
     let positions = c.args.self.now.positions in
     record {
-      cases = ap (λ (held : IsOfKind g.K.Kind.kind text × ArePositionsOf text positions). record {
+      cases = ap (λ (held : IsOfKind g.K.Kind.kind text × ArePackedPositionsOf text positions). record {
         text = c.args.self.now.text;
         positions = positions;
         kind = record {};

@@ -1,5 +1,0 @@
-use Rattle.std.proofs.Common.{rules}
-use Rattle.uri_parts.proofs.core_text.Core.into_kind.Goals as goal
-
-pub new-requires-clause-at : goal.new-requires-clause-at
-new-requires-clause-at g c = search rules
