@@ -3,10 +3,11 @@ use Rattle.std.proofs.Common.{◌≡◌, ℕ, true, List, sym, ap, subst, ◌∙
 use Rattle.std.specs.Prelude.{IfOk, Result, Ok, Err, is_ok}
 use Rattle.std.specs.Str.{IsUtf8}
 use Rattle.uri_pct.specs.Sets.{TableSet}
-use Rattle.uri_parts.specs.declared.positions.Positions.{Positions}
+use Rattle.uri_parts.specs.declared.packed_positions.PackedPositions.{PackedPositions}
 use Rattle.uri_parts.specs.Components.{components}
 use Rattle.uri_parts.specs.Grammar.{Kind, first_segment_set, is_of_kind, kind_by_flags}
-use Rattle.uri_parts.specs.Positions.{ArePositionsOf, positions_of}
+use Rattle.uri_parts.specs.PackedPositions.{ArePackedPositionsOf, packed}
+use Rattle.uri_parts.specs.Positions.{positions_of}
 use Rattle.uri_parts.specs.Models.Parsing.{parsed_positions}
 use Rattle.uri_parts.proofs.Parsing.Acceptance.{parses}
 use Rattle.uri_parts.proofs.TextKinds.KindSets.{each_kind_separates_components}
@@ -58,11 +59,12 @@ parsed_positions-are-positions_of kind tables segment known k s =
 -- main theorem on parsing: a result that is Ok exactly if the text is parsed,
 -- and has the parsed positions, has those of the components
 pub parse_result_is_right : {E : Type 0} (segment : TableSet) (tables : Kind) (text : List ℕ)
-    (result : Result Positions E)
+    (result : Result PackedPositions E)
     → is_ok result ≡ parses segment tables text
     → (parses segment tables text ≡ true → parsed_positions segment tables text
     ≡ positions_of (components text))
-    → IfOk result (λ p. p ≡ parsed_positions segment tables text)
-    → IfOk result (ArePositionsOf text)
-parse_result_is_right segment tables text (Ok p) accepts whole places = places ∙ whole (sym accepts)
+    → IfOk result (λ p. p ≡ packed (parsed_positions segment tables text))
+    → IfOk result (ArePackedPositionsOf text)
+parse_result_is_right segment tables text (Ok p) accepts whole places =
+    places ∙ ap packed (whole (sym accepts))
 parse_result_is_right segment tables text (Err e) accepts whole places = places

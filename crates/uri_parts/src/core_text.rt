@@ -26,9 +26,9 @@ use std::marker::PhantomData;
 use uri_pct::pct_enc::EStr;
 
 /// Returns the positions for the `Core` of a text that is known to be of the kind.
-pub(crate) fn positions_in<K: Kind>(text: &str) -> Positions
+fn positions_in<K: Kind>(text: &str) -> PackedPositions
     requires { IsOfKind K.kind text.now }
-    ensures { ArePositionsOf text.now result }
+    ensures { ArePackedPositionsOf text.now result }
 {
     match parse::<K>(text) {
         Ok(positions) => positions,
@@ -94,7 +94,11 @@ impl<K: Kind, T: AsStr> Core<K, T> {
         ensures back { IfErr result (λ refused. T.text refused.1 ≡ T.text text) }
     {
         match parse::<K>(text.as_str()) {
-            Ok(positions) => Ok(Core::new(text, positions)),
+            Ok(positions) => Ok(Core {
+                text,
+                positions,
+                kind: PhantomData,
+            }),
             Err(error) => Err((error, text)),
         }
     }
@@ -105,7 +109,11 @@ impl<K: Kind, T: AsStr> Core<K, T> {
         ensures { core_text result ≡ T.text text }
     {
         let positions = positions_in::<K>(text.as_str());
-        Core::new(text, positions)
+        Core {
+            text,
+            positions,
+            kind: PhantomData,
+        }
     }
 
     /// Returns the same text and positions as of another kind, of which the text is too.

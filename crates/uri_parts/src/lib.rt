@@ -22,7 +22,8 @@ mod kind_tables;
 #[doc(hidden)]
 pub mod laws;
 pub mod net;
-mod packed_positions;
+#[doc(hidden)]
+pub mod packed_positions;
 #[doc(hidden)]
 pub mod parse;
 #[doc(hidden)]

@@ -14,17 +14,17 @@ use crate::positions::{AuthorityPositions, Positions};
 #[derive(Clone, Copy)]
 pub struct PackedPositions {
     /// The position of the `:` after the scheme, or 0 if there is no scheme.
-    scheme_end: usize,
+    pub scheme_end: usize,
     /// Where the host begins, or 0 if there is no authority.
-    host_start: usize,
+    pub host_start: usize,
     /// Where the host ends, or 0 if there is no authority.
-    host_end: usize,
+    pub host_end: usize,
     /// Where the path begins.
-    path_start: usize,
+    pub path_start: usize,
     /// Where the path ends.
-    path_end: usize,
+    pub path_end: usize,
     /// Where the query ends, or the path if there is no query.
-    query_end: usize,
+    pub query_end: usize,
 }
 
 impl PackedPositions {

@@ -19,16 +19,16 @@ ghost use Rattle.uri_parts.specs.Models.ParseErrors.{parsed_error};
 ghost use Rattle.uri_parts.specs.Errors.{IsErrorIn, unexpected};
 ghost use Rattle.uri_parts.specs.Grammar.{IsOfKind, first_segment_set};
 ghost use Rattle.uri_parts.specs.KindTables.{kind_of, segment_nz_nc_of};
-ghost use Rattle.uri_parts.specs.Positions.{ArePositionsOf};
+ghost use Rattle.uri_parts.specs.PackedPositions.{ArePackedPositionsOf, packed};
 ghost use Rattle.uri_parts.specs.Models.Cursors.{text_after_cursor, cursor_text, cursor_position};
-ghost use Rattle.uri_parts.specs.Models.Cursors.{positions_if_parsed_from};
+ghost use Rattle.uri_parts.specs.Models.Cursors.{packed_from, packed_if_parsed_from};
 
 use crate::authority_parser::{find_name, find_other_authority_of_kind, is_unexpected_after_name};
 use crate::cursor::Cursor;
 use crate::error::ParseError;
 use crate::kind::Kind;
 use crate::kind_tables::KindTables;
-use crate::positions::{AuthorityPositions, Positions};
+use crate::packed_positions::PackedPositions;
 use uri_pct::table::SCHEME;
 
 /// Parses a fragment, if there is one, and then the end of the text.
@@ -49,12 +49,15 @@ fn parse_fragment(cursor: &mut Cursor<'_>, tables: &KindTables) -> Result<(), Pa
     Ok(())
 }
 
-/// What comes before the rest of a path.
+/// What comes before the rest of a path, in the words of [`PackedPositions`].
 #[derive(Clone, Copy)]
 struct BeforePath {
     path_start: usize,
-    scheme_end: Option<usize>,
-    authority: Option<AuthorityPositions>,
+    /// Where an error has its one byte. LLVM would split a position that is there in two.
+    padding: bool,
+    scheme_end: usize,
+    host_start: usize,
+    host_end: usize,
 }
 
 /// Parses the rest of a path, and the query and the fragment after it.
@@ -64,9 +67,9 @@ fn parse_path(
     cursor: &mut Cursor<'_>,
     tables: &KindTables,
     before: BeforePath,
-) -> Result<Positions, ParseError>
+) -> Result<PackedPositions, ParseError>
     ensures places { IfOk result
-        (λ p. p ≡ positions_if_parsed_from (kind_of tables.now) before cursor.old) }
+        (λ p. p ≡ packed_if_parsed_from (kind_of tables.now) before cursor.old) }
     ensures refused { result_err result
         ≡ error_from_path (kind_of tables.now) (cursor_text cursor.old)
         (cursor_position cursor.old) }
@@ -74,19 +77,15 @@ fn parse_path(
 {
     cursor.pass(&tables.path)?;
     let path_end = cursor.position();
-    let has_query = cursor.skip(b'?');
-    if has_query {
+    if cursor.skip(b'?') {
         cursor.pass(&tables.query)?;
     }
-    let query_end = if has_query {
-        Some(cursor.position())
-    } else {
-        None
-    };
+    let query_end = cursor.position();
     parse_fragment(cursor, tables)?;
-    Ok(Positions {
+    Ok(PackedPositions {
         scheme_end: before.scheme_end,
-        authority: before.authority,
+        host_start: before.host_start,
+        host_end: before.host_end,
         path_start: before.path_start,
         path_end,
         query_end,
@@ -94,12 +93,12 @@ fn parse_path(
 }
 
 /// Passes an authority that is more than a name and a port, which were passed from `start` on.
-#[tactic(auto, unfolding(crate::proofs::Steps::authority, crate::proofs::Steps::before_path))]
+#[tactic(auto, unfolding(crate::proofs::Steps::authority, crate::proofs::Steps::before_path, crate::proofs::Steps::tail))]
 #[inline(always)]
 fn pass_other_authority<K: Kind>(
     cursor: &mut Cursor<'_>,
     start: usize,
-    scheme_end: Option<usize>,
+    scheme_end: usize,
 ) -> Result<BeforePath, ParseError>
     requires start { IsCharBoundary (cursor_text cursor.old) start }
     requires some { 0 < start }
@@ -107,8 +106,9 @@ fn pass_other_authority<K: Kind>(
         ≡ start + name_and_port_length K.kind (drop start (cursor_text cursor.old)) }
     requires other { name_ends_authority K.kind (drop start (cursor_text cursor.old)) ≡ false }
     ensures places { IfOk result (λ b.
-        authority_positions K.kind scheme_end start (drop start (cursor_text cursor.old))
-        ≡ positions_if_parsed_from K.kind b cursor.new) }
+        record (packed (authority_positions K.kind None start (drop start (cursor_text cursor.old)))) {
+          scheme_end = scheme_end;
+        } ≡ packed_if_parsed_from K.kind b cursor.new) }
     ensures start { IfOk result (λ b. b.path_start ≡ cursor_position cursor.new) }
     ensures text { cursor_text cursor.new ≡ cursor_text cursor.old }
     ensures refused { let text = cursor_text cursor.old in authority_error K.kind text start
@@ -120,26 +120,28 @@ fn pass_other_authority<K: Kind>(
     *cursor = Cursor::at(text, authority.end);
     Ok(BeforePath {
         path_start: authority.end,
+        padding: false,
         scheme_end,
-        authority: Some(authority),
+        host_start: authority.host_start,
+        host_end: authority.host_end,
     })
 }
 
 /// Parses an authority, which comes before a path.
-#[tactic(auto, unfolding(crate::proofs::Steps::authority, crate::proofs::Steps::before_path))]
+#[tactic(auto, unfolding(crate::proofs::Steps::authority, crate::proofs::Steps::before_path, crate::proofs::Steps::tail))]
 #[inline(always)]
 fn pass_authority<K: Kind>(
     cursor: &mut Cursor<'_>,
     tables: &KindTables,
-    scheme_end: Option<usize>,
+    scheme_end: usize,
 ) -> Result<BeforePath, ParseError>
     requires kind { kind_of tables.now ≡ K.kind }
     requires segment { segment_nz_nc_of tables.now ≡ first_segment_set K.kind }
     requires some { 0 < cursor_position cursor.old }
     ensures places { let kind = kind_of tables.now in IfOk result (λ b.
-        authority_positions kind scheme_end (cursor_position cursor.old)
-        (text_after_cursor cursor.old)
-        ≡ positions_if_parsed_from kind b cursor.new) }
+        record (packed (authority_positions kind None (cursor_position cursor.old)
+        (text_after_cursor cursor.old))) { scheme_end = scheme_end }
+        ≡ packed_if_parsed_from kind b cursor.new) }
     ensures start { IfOk result (λ b. b.path_start ≡ cursor_position cursor.new) }
     ensures text { cursor_text cursor.new ≡ cursor_text cursor.old }
     ensures refused { let kind = kind_of tables.now in let text = cursor_text cursor.old in
@@ -150,16 +152,12 @@ fn pass_authority<K: Kind>(
     let start = cursor.position();
     if let Some(host_end) = find_name(cursor, tables) {
         let end = cursor.position();
-        let authority = AuthorityPositions {
-            start,
-            host_start: start,
-            host_end,
-            end,
-        };
         return Ok(BeforePath {
             path_start: end,
+            padding: false,
             scheme_end,
-            authority: Some(authority),
+            host_start: start,
+            host_end,
         });
     }
     if is_unexpected_after_name::<K>(Cursor::at(cursor.text(), start), *cursor, tables) {
@@ -169,7 +167,7 @@ fn pass_authority<K: Kind>(
 }
 
 /// Parses what follows a scheme, before a path.
-#[tactic(auto, unfolding(crate::proofs::Steps::before_path))]
+#[tactic(auto, unfolding(crate::proofs::Steps::before_path, crate::proofs::Steps::tail))]
 #[inline(always)]
 fn pass_hier_part<K: Kind>(
     cursor: &mut Cursor<'_>,
@@ -179,9 +177,9 @@ fn pass_hier_part<K: Kind>(
     requires kind { kind_of tables.now ≡ K.kind }
     requires segment { segment_nz_nc_of tables.now ≡ first_segment_set K.kind }
     ensures places { let kind = kind_of tables.now in IfOk result (λ b.
-        hier_part_positions kind (Some scheme_end) (cursor_position cursor.old)
-        (text_after_cursor cursor.old)
-        ≡ positions_if_parsed_from kind b cursor.new) }
+        packed (hier_part_positions kind (Some scheme_end) (cursor_position cursor.old)
+        (text_after_cursor cursor.old))
+        ≡ packed_if_parsed_from kind b cursor.new) }
     ensures text { cursor_text cursor.new ≡ cursor_text cursor.old }
     ensures refused { let kind = kind_of tables.now in let text = cursor_text cursor.old in
         hier_part_error kind text (cursor_position cursor.old)
@@ -189,24 +187,26 @@ fn pass_hier_part<K: Kind>(
     ensures err { IfErr result (IsErrorIn (cursor_text cursor.old)) }
 {
     if cursor.skip_slashes() {
-        pass_authority::<K>(cursor, tables, Some(scheme_end))
+        pass_authority::<K>(cursor, tables, scheme_end)
     } else {
         Ok(BeforePath {
             path_start: cursor.position(),
-            scheme_end: Some(scheme_end),
-            authority: None,
+            padding: false,
+            scheme_end,
+            host_start: 0,
+            host_end: 0,
         })
     }
 }
 
 /// Passes the characters of a first segment without `:`. Returns an error if a `:` is next.
-#[tactic(auto, unfolding(crate::proofs::Steps::before_path))]
+#[tactic(auto, unfolding(crate::proofs::Steps::before_path, crate::proofs::Steps::tail))]
 #[inline(always)]
 fn pass_relative(cursor: &mut Cursor<'_>, tables: &KindTables) -> Result<BeforePath, ParseError>
     ensures places { let segment = segment_nz_nc_of tables.now in IfOk result (λ b.
-        relative_positions segment (kind_of tables.now) (cursor_position cursor.old)
-        (text_after_cursor cursor.old)
-        ≡ positions_if_parsed_from (kind_of tables.now) b cursor.new) }
+        packed (relative_positions segment (kind_of tables.now) (cursor_position cursor.old)
+        (text_after_cursor cursor.old))
+        ≡ packed_if_parsed_from (kind_of tables.now) b cursor.new) }
     ensures text { cursor_text cursor.new ≡ cursor_text cursor.old }
     ensures refused { let kind = kind_of tables.now in let text = cursor_text cursor.old in
         error_from_relative_path kind text (segment_nz_nc_of tables.now)
@@ -220,8 +220,10 @@ fn pass_relative(cursor: &mut Cursor<'_>, tables: &KindTables) -> Result<BeforeP
     }
     Ok(BeforePath {
         path_start: 0,
-        scheme_end: None,
-        authority: None,
+        padding: false,
+        scheme_end: 0,
+        host_start: 0,
+        host_end: 0,
     })
 }
 
@@ -241,13 +243,12 @@ fn is_unexpected<K: Kind>(cursor: &Cursor<'_>, tables: &KindTables) -> bool
 
 /// Parses the authority of a text that begins with `//`, and returns what comes before its path.
 /// Few texts begin so: it is a call, so that the parser of an authority is inlined once.
-#[tactic(auto, unfolding(crate::proofs::Steps::before_path))]
+#[tactic(auto, unfolding(crate::proofs::Steps::before_path, crate::proofs::Steps::tail))]
 #[inline(never)]
 fn pass_first_authority<K: Kind>(text: &str) -> Result<BeforePath, ParseError>
     requires { IsCharBoundary text.now 2 }
-    ensures places { IfOk result (λ b. authority_positions K.kind None 2 (drop 2 text.now)
-        ≡ path_positions K.kind b.scheme_end b.authority b.path_start b.path_start
-        (drop b.path_start text.now)) }
+    ensures places { IfOk result (λ b. packed (authority_positions K.kind None 2 (drop 2 text.now))
+        ≡ packed_from K.kind b b.path_start (drop b.path_start text.now)) }
     ensures boundary { IfOk result (λ b. IsCharBoundary text.now b.path_start) }
     ensures returned { IfErr result (λ e. authority_error K.kind text.now 2 ≡ Some e) }
     ensures goes_on { IfOk result (λ b. authority_error K.kind text.now 2
@@ -255,17 +256,17 @@ fn pass_first_authority<K: Kind>(text: &str) -> Result<BeforePath, ParseError>
     ensures err { IfErr result (IsErrorIn text.now) }
 {
     let mut cursor = Cursor::at(text, 2);
-    pass_authority::<K>(&mut cursor, &K::tables(), None)
+    pass_authority::<K>(&mut cursor, &K::tables(), 0)
 }
 
 /// Passes the authority of a text that begins with `//`, which was passed.
-#[tactic(auto, unfolding(crate::proofs::Steps::before_path))]
+#[tactic(auto, unfolding(crate::proofs::Steps::before_path, crate::proofs::Steps::tail))]
 #[inline(always)]
 fn pass_after_slashes<K: Kind>(cursor: &mut Cursor<'_>) -> Result<BeforePath, ParseError>
     requires { cursor_position cursor.old ≡ 2 }
     ensures places { IfOk result (λ b.
-        authority_positions K.kind None 2 (text_after_cursor cursor.old)
-        ≡ positions_if_parsed_from K.kind b cursor.new) }
+        packed (authority_positions K.kind None 2 (text_after_cursor cursor.old))
+        ≡ packed_if_parsed_from K.kind b cursor.new) }
     ensures text { cursor_text cursor.new ≡ cursor_text cursor.old }
     ensures refused { let text = cursor_text cursor.old in authority_error K.kind text 2
         ≡ option_or (result_err result) (error_from_path K.kind text (cursor_position cursor.new)) }
@@ -279,7 +280,7 @@ fn pass_after_slashes<K: Kind>(cursor: &mut Cursor<'_>) -> Result<BeforePath, Pa
 
 /// Parses what comes before a path in a text that has no scheme. It begins after the characters
 /// that might have been one.
-#[tactic(auto, unfolding(crate::proofs::Steps::whole))]
+#[tactic(auto, unfolding(crate::proofs::Steps::whole, crate::proofs::Steps::before_path, crate::proofs::Steps::tail))]
 #[inline(always)]
 fn pass_schemeless<K: Kind>(
     cursor: &mut Cursor<'_>,
@@ -289,9 +290,9 @@ fn pass_schemeless<K: Kind>(
     requires segment { segment_nz_nc_of tables.now ≡ first_segment_set K.kind }
     ensures places { let segment = segment_nz_nc_of tables.now in
         let kind = kind_of tables.now in IfOk result (λ b.
-        schemeless_positions segment kind (cursor_position cursor.old)
-        (text_after_cursor cursor.old)
-        ≡ positions_if_parsed_from kind b cursor.new) }
+        packed (schemeless_positions segment kind (cursor_position cursor.old)
+        (text_after_cursor cursor.old))
+        ≡ packed_if_parsed_from kind b cursor.new) }
     ensures text { cursor_text cursor.new ≡ cursor_text cursor.old }
     ensures refused { let kind = kind_of tables.now in let text = cursor_text cursor.old in
         schemeless_error (segment_nz_nc_of tables.now) kind text (cursor_position cursor.old)
@@ -310,7 +311,7 @@ fn pass_schemeless<K: Kind>(
 }
 
 /// Parses what comes before a path, from the beginning of the text on.
-#[tactic(auto, using(crate::proofs::Steps::schemes), unfolding(crate::proofs::Steps::whole))]
+#[tactic(auto, using(crate::proofs::Steps::schemes), unfolding(crate::proofs::Steps::whole, crate::proofs::Steps::before_path, crate::proofs::Steps::tail))]
 #[inline(always)]
 fn pass_before_path<K: Kind>(
     cursor: &mut Cursor<'_>,
@@ -320,8 +321,8 @@ fn pass_before_path<K: Kind>(
     requires segment { segment_nz_nc_of tables.now ≡ first_segment_set K.kind }
     requires start { cursor_position cursor.old ≡ 0 }
     ensures places { let kind = kind_of tables.now in IfOk result (λ b.
-        parsed_positions (segment_nz_nc_of tables.now) kind (cursor_text cursor.old)
-        ≡ positions_if_parsed_from kind b cursor.new) }
+        packed (parsed_positions (segment_nz_nc_of tables.now) kind (cursor_text cursor.old))
+        ≡ packed_if_parsed_from kind b cursor.new) }
     ensures text { cursor_text cursor.new ≡ cursor_text cursor.old }
     ensures refused { let kind = kind_of tables.now in let text = cursor_text cursor.old in
         parsed_error (segment_nz_nc_of tables.now) kind text
@@ -346,9 +347,9 @@ fn pass_before_path<K: Kind>(
 /// Parses a whole text by the tables of its kind, and returns the positions of its components.
 #[tactic(auto)]
 #[inline(always)]
-fn parse_text<K: Kind>(text: &str) -> Result<Positions, ParseError>
+fn parse_text<K: Kind>(text: &str) -> Result<PackedPositions, ParseError>
     ensures places { IfOk result (λ p.
-        p ≡ parsed_positions (first_segment_set K.kind) K.kind text.now) }
+        p ≡ packed (parsed_positions (first_segment_set K.kind) K.kind text.now)) }
     ensures refused { result_err result ≡ parsed_error (first_segment_set K.kind) K.kind text.now }
     ensures err { IfErr result (IsErrorIn text.now) }
 {
@@ -361,9 +362,9 @@ fn parse_text<K: Kind>(text: &str) -> Result<Positions, ParseError>
 /// Parses a text of the kind. Returns the positions of its components, or why it is not of the
 /// kind.
 #[inline(always)]
-pub fn parse<K: Kind>(text: &str) -> Result<Positions, ParseError>
+pub fn parse<K: Kind>(text: &str) -> Result<PackedPositions, ParseError>
     ensures accepts { IsOk result ↔ IsOfKind K.kind text.now }
-    ensures positions { IfOk result (ArePositionsOf text.now) }
+    ensures positions { IfOk result (ArePackedPositionsOf text.now) }
     ensures refused { result_err result ≡ refusal K.kind text.now }
     ensures err { IfErr result (IsErrorIn text.now) }
 {
