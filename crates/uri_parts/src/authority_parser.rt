@@ -33,7 +33,6 @@ use crate::error::{ParseError, ParseErrorKind};
 use crate::ip_literal::literal_end;
 use crate::kind::Kind;
 use crate::kind_tables::KindTables;
-use crate::positions::AuthorityPositions;
 use uri_pct::table::DIGIT;
 
 /// Passes the port of an authority with its `:`, if one is next.
@@ -79,19 +78,19 @@ pub(crate) fn find_name(cursor: &mut Cursor<'_>, tables: &KindTables) -> Option<
     }
 }
 
-/// Returns the error of what is left over after an authority. It reports a malformed
-/// percent-encoded octet of the path that is scanned there, or else what is next.
+/// Returns the error of what is left over after an authority, from `start` on. It reports a
+/// malformed percent-encoded octet of the path that is scanned there, or else what is next.
 #[tactic(auto, unfolding(crate::specs::Models::ParseErrors::left_over_error))]
-#[inline(always)]
-fn error_of_left_over(cursor: Cursor<'_>, tables: &KindTables) -> ParseError
-    ensures error { IsErrorIn (cursor_text cursor.entry) result }
-    ensures returned { Some result
-        ≡ left_over_error (kind_of tables.now) (cursor_text cursor.entry)
-        (cursor_position cursor.entry) }
+#[cold]
+#[inline(never)]
+fn error_of_left_over<K: Kind>(text: &str, start: usize) -> ParseError
+    requires { IsCharBoundary text.now start }
+    ensures error { IsErrorIn text.now result }
+    ensures returned { Some result ≡ left_over_error K.kind text.now start }
 {
-    let mut path = cursor;
-    match path.pass(&tables.path) {
-        Ok(()) => cursor.unexpected(),
+    let mut path = Cursor::at(text, start);
+    match path.pass(&K::tables().path) {
+        Ok(()) => Cursor::at(text, start).unexpected(),
         Err(error) => error,
     }
 }
@@ -122,21 +121,22 @@ fn last_colon(text: &str, start: usize, end: usize) -> Option<usize>
 /// a port end at `start`. After them the error is at the last of several `:`, or at the port's
 /// first byte that is no digit.
 #[tactic(auto, using(crate::proofs::Refusals::Colons::last_colon_is_below_position), unfolding(crate::specs::Models::ParseErrors::name_error))]
-#[inline(always)]
-fn error_after_name(start: Cursor<'_>, end: Cursor<'_>, tables: &KindTables) -> ParseError
-    requires text { cursor_text end ≡ cursor_text start }
-    requires order { cursor_position start ≤ cursor_position end }
-    requires some { 0 < cursor_position start }
-    ensures error { IsErrorIn (cursor_text start.entry) result }
-    ensures returned { Some result ≡ name_error (kind_of tables.now) (cursor_text start.entry)
-        (cursor_position start.entry) (cursor_position end.entry) }
+#[cold]
+#[inline(never)]
+fn error_after_name<K: Kind>(text: &str, start: usize, end: usize) -> ParseError
+    requires start { IsCharBoundary text.now start }
+    requires end { IsCharBoundary text.now end }
+    requires order { start ≤ end }
+    requires some { 0 < start }
+    ensures error { IsErrorIn text.now result }
+    ensures returned { Some result ≡ name_error K.kind text.now start end }
 {
-    if start.position() == end.position() {
-        return error_of_left_over(end, tables);
+    if start == end {
+        return error_of_left_over::<K>(text, end);
     }
-    match last_colon(end.text(), start.position(), end.position()) {
+    match last_colon(text, start, end) {
         Some(colon) => ParseError::new(colon, ParseErrorKind::UnexpectedChar),
-        None => start.unexpected(),
+        None => Cursor::at(text, start).unexpected(),
     }
 }
 
@@ -164,147 +164,95 @@ fn pass_literal(cursor: &mut Cursor<'_>) -> Result<(), ParseError>
     Ok(())
 }
 
-/// Passes a host and the port after it, if there is one. They must end the authority. Returns
-/// where the host ends.
-#[tactic(auto, using(crate::proofs::Steps::cuts), unfolding(crate::proofs::Steps::host))]
-#[inline(always)]
-fn find_host(cursor: &mut Cursor<'_>, tables: &KindTables) -> Result<usize, ParseError>
-    ensures end { IfOk result (λ n.
-        n ≡ cursor_position cursor.old + host_end (kind_of tables.now)
-        (text_after_cursor cursor.old)) }
-    ensures text { cursor_text cursor.new ≡ cursor_text cursor.old }
-    ensures place { OnOk result (cursor_position cursor.new
-        ≡ cursor_position cursor.old + host_and_port_length (kind_of tables.now)
-        (text_after_cursor cursor.old)) }
-    ensures returned { let kind = kind_of tables.now in let text = cursor_text cursor.old in
-        host_error kind text (cursor_position cursor.old)
-        ≡ option_or (result_err result) (error_from_path kind text (cursor_position cursor.new)) }
-    ensures err { IfErr result (IsErrorIn (cursor_text cursor.old)) }
-{
-    if cursor.next_is(b'[') {
-        pass_literal(cursor)?;
-    } else {
-        cursor.scan(&tables.reg_name);
-    }
-    let host_end = cursor.position();
-    pass_port(cursor);
-    if cursor.ends_authority() {
-        Ok(host_end)
-    } else {
-        Err(error_of_left_over(*cursor, tables))
-    }
-}
-
 /// Passes userinfo, of which a name and a port were passed, and its `@`.
 #[tactic(auto, using(crate::proofs::Steps::cuts), unfolding(crate::proofs::Steps::user))]
 #[inline(always)]
-fn pass_userinfo(cursor: &mut Cursor<'_>, tables: &KindTables) -> Result<(), ParseError>
-    requires { 0 < cursor_position cursor.old }
+pub(crate) fn pass_userinfo<K: Kind>(
+    cursor: &mut Cursor<'_>,
+    tables: &KindTables,
+) -> Result<(), ParseError>
+    requires kind { kind_of tables.now ≡ K.kind }
+    requires some { 0 < cursor_position cursor.old }
     ensures text { cursor_text cursor.new ≡ cursor_text cursor.old }
     ensures place { OnOk result (cursor_position cursor.new
         ≡ cursor_position cursor.old
-        + (further_userinfo_length (kind_of tables.now) (text_after_cursor cursor.old) + 1)) }
+        + (further_userinfo_length K.kind (text_after_cursor cursor.old) + 1)) }
     ensures rest { OnOk result (text_after_cursor cursor.new
-        ≡ drop (further_userinfo_length (kind_of tables.now) (text_after_cursor cursor.old) + 1)
+        ≡ drop (further_userinfo_length K.kind (text_after_cursor cursor.old) + 1)
         (text_after_cursor cursor.old)) }
-    ensures returned { let kind = kind_of tables.now in let text = cursor_text cursor.old in
-        userinfo_error kind text (cursor_position cursor.old)
-        ≡ option_or (result_err result) (host_error kind text (cursor_position cursor.new)) }
+    ensures returned { let text = cursor_text cursor.old in
+        userinfo_error K.kind text (cursor_position cursor.old)
+        ≡ option_or (result_err result) (host_error K.kind text (cursor_position cursor.new)) }
     ensures err { IfErr result (IsErrorIn (cursor_text cursor.old)) }
 {
-    let start = *cursor;
+    let start = cursor.position();
     if cursor.skip(b'@') {
         return Ok(());
     }
     cursor.pass(&tables.userinfo)?;
     if cursor.skip(b'@') {
-        Ok(())
-    } else {
-        Err(error_after_name(start, *cursor, tables))
+        return Ok(());
     }
-}
-
-/// Returns the positions of an authority and of its host. The authority is more than a name and a
-/// port, which were passed.
-#[tactic(auto, using(crate::proofs::Steps::cuts), unfolding(crate::proofs::Steps::other))]
-#[inline(always)]
-fn find_other_authority(
-    start: Cursor<'_>,
-    after_name: Cursor<'_>,
-    tables: &KindTables,
-) -> Result<AuthorityPositions, ParseError>
-    requires text { cursor_text after_name ≡ cursor_text start }
-    requires some { 0 < cursor_position start }
-    requires place { cursor_position after_name
-        ≡ cursor_position start + name_and_port_length (kind_of tables.now)
-        (text_after_cursor start) }
-    ensures found { IfOk result (λ a.
-        a ≡ other_authority (kind_of tables.now) (cursor_position start.entry)
-        (text_after_cursor start.entry)) }
-    ensures boundary { IfOk result (λ a. IsCharBoundary (cursor_text start.entry) a.end) }
-    ensures returned { let kind = kind_of tables.now in let text = cursor_text start.entry in
-        IfErr result (λ e. other_authority_error kind text (cursor_position start.entry) ≡ Some e) }
-    ensures goes_on { let kind = kind_of tables.now in let text = cursor_text start.entry in
-        IfOk result (λ a. other_authority_error kind text (cursor_position start.entry)
-        ≡ error_from_path kind text a.end) }
-    ensures err { IfErr result (IsErrorIn (cursor_text start.entry)) }
-{
-    let mut cursor = start;
-    if !start.next_is(b'[') {
-        cursor = after_name;
-        pass_userinfo(&mut cursor, tables)?;
-    }
-    let host_start = cursor.position();
-    let host_end = find_host(&mut cursor, tables)?;
-    Ok(AuthorityPositions {
-        start: start.position(),
-        host_start,
-        host_end,
-        end: cursor.position(),
-    })
-}
-
-/// Returns the positions of an authority that is more than a name and a port, which were passed.
-/// The tables of the kind are constants here: handed on, they would be set out in memory, as
-/// cursors are.
-#[inline(never)]
-pub(crate) fn find_other_authority_of_kind<K: Kind>(
-    text: &str,
-    start: usize,
-    after_name: usize,
-) -> Result<AuthorityPositions, ParseError>
-    requires start { IsCharBoundary text.now start }
-    requires after_name { IsCharBoundary text.now after_name }
-    requires some { 0 < start }
-    requires place { after_name ≡ start + name_and_port_length K.kind (drop start text.now) }
-    ensures found { IfOk result (λ a. a ≡ other_authority K.kind start (drop start text.now)) }
-    ensures boundary { IfOk result (λ a. IsCharBoundary text.now a.end) }
-    ensures returned { IfErr result (λ e. other_authority_error K.kind text.now start ≡ Some e) }
-    ensures goes_on { IfOk result (λ a.
-        other_authority_error K.kind text.now start ≡ error_from_path K.kind text.now a.end) }
-    ensures err { IfErr result (IsErrorIn text.now) }
-{
-    let after_name = Cursor::at(text, after_name);
-    find_other_authority(Cursor::at(text, start), after_name, &K::tables())
+    let error = error_after_name::<K>(cursor.text(), start, cursor.position());
+    Err(error)
 }
 
 /// Returns whether what is next after a name and a port is in no component of the kind, and is no
-/// delimiter, where the authority does not begin with `[`.
-#[tactic(auto, unfolding(crate::proofs::Steps::user, crate::proofs::Steps::other, crate::specs::Models::ParseErrors::name_error, crate::specs::Models::ParseErrors::left_over_error))]
+/// delimiter.
+#[tactic(auto, unfolding(crate::proofs::Steps::user, crate::specs::Models::ParseErrors::name_error, crate::specs::Models::ParseErrors::left_over_error))]
 #[inline(always)]
 pub(crate) fn is_unexpected_after_name<K: Kind>(
-    start: Cursor<'_>,
-    after_name: Cursor<'_>,
+    after_name: &Cursor<'_>,
     tables: &KindTables,
 ) -> bool
     requires kind { kind_of tables.now ≡ K.kind }
     requires segment { segment_nz_nc_of tables.now ≡ first_segment_set K.kind }
-    requires text { cursor_text after_name ≡ cursor_text start }
-    requires place { cursor_position after_name
-        ≡ cursor_position start + name_and_port_length K.kind (text_after_cursor start) }
-    ensures { let text = cursor_text start.entry in IsTrue result
-        → other_authority_error K.kind text (cursor_position start.entry)
-        ≡ Some (unexpected (cursor_position after_name.entry)) }
+    ensures { let i = cursor_position after_name.now in IsTrue result
+        → userinfo_error K.kind (cursor_text after_name.now) i ≡ Some (unexpected i) }
 {
-    after_name.is_before_excluded::<K>(tables) && !start.next_is(b'[')
+    after_name.is_before_excluded::<K>(tables)
+}
+
+/// Where a host ends, and the authority that it is in.
+#[derive(Clone, Copy)]
+pub(crate) struct HostEnds {
+    pub end: usize,
+    /// Where an error has its one byte. LLVM would split a position that is there in two.
+    padding: bool,
+    pub host_end: usize,
+}
+
+/// Finds the ends of a host and of the port after it, if there is one. They must end the authority.
+/// The tables of the kind are constants here: handed on, they would be set out in memory, as
+/// cursors are.
+#[tactic(auto, using(crate::proofs::Steps::cuts), unfolding(crate::proofs::Steps::host))]
+#[inline(never)]
+pub(crate) fn find_host<K: Kind>(text: &str, host_start: usize) -> Result<HostEnds, ParseError>
+    requires { IsCharBoundary text.now host_start }
+    ensures host { IfOk result (λ ends.
+        ends.host_end ≡ host_start + host_end K.kind (drop host_start text.now)) }
+    ensures end { IfOk result (λ ends.
+        ends.end ≡ host_start + host_and_port_length K.kind (drop host_start text.now)) }
+    ensures boundary { IfOk result (λ ends. IsCharBoundary text.now ends.end) }
+    ensures returned { IfErr result (λ e. host_error K.kind text.now host_start ≡ Some e) }
+    ensures goes_on { IfOk result (λ ends.
+        host_error K.kind text.now host_start ≡ error_from_path K.kind text.now ends.end) }
+    ensures err { IfErr result (IsErrorIn text.now) }
+{
+    let mut cursor = Cursor::at(text, host_start);
+    if cursor.next_is(b'[') {
+        pass_literal(&mut cursor)?;
+    } else {
+        cursor.scan(&K::tables().reg_name);
+    }
+    let host_end = cursor.position();
+    pass_port(&mut cursor);
+    if !cursor.ends_authority() {
+        return Err(error_of_left_over::<K>(text, cursor.position()));
+    }
+    Ok(HostEnds {
+        end: cursor.position(),
+        padding: false,
+        host_end,
+    })
 }

@@ -1,11 +1,10 @@
 //! The parser of the four kinds.
 ghost use Rattle.std.specs.Prelude.{◌≡◌, ◌↔◌, ◌<◌, IfErr, IfOk, IsOk, IsTrue, Some, None};
-ghost use Rattle.std.specs.Prelude.{◌+◌, drop, false};
+ghost use Rattle.std.specs.Prelude.{◌+◌, OnOk, drop};
 ghost use Rattle.std.specs.Str.{IsCharBoundary};
 ghost use Rattle.std.specs.Option.{option_or};
 ghost use Rattle.std.specs.Result.{result_err};
-ghost use Rattle.uri_parts.specs.Models.AuthorityParsing.{name_and_port_length};
-ghost use Rattle.uri_parts.specs.Models.AuthorityParsing.{name_ends_authority};
+ghost use Rattle.uri_parts.specs.Models.AuthorityParsing.{host_end, host_and_port_length};
 ghost use Rattle.uri_parts.specs.Models.Parsing.{query_end_at};
 ghost use Rattle.uri_parts.specs.Models.Parsing.{authority_positions, path_positions};
 ghost use Rattle.uri_parts.specs.Models.Parsing.{relative_positions};
@@ -14,6 +13,7 @@ ghost use Rattle.uri_parts.specs.Models.Parsing.{parsed_positions};
 ghost use Rattle.uri_parts.specs.Refusals.{error_from_fragment, error_from_query, error_from_path};
 ghost use Rattle.uri_parts.specs.Refusals.{error_from_relative_path, refusal};
 ghost use Rattle.uri_parts.specs.Models.ParseErrors.{authority_error, hier_part_error};
+ghost use Rattle.uri_parts.specs.Models.ParseErrors.{host_error};
 ghost use Rattle.uri_parts.specs.Models.ParseErrors.{schemeless_error};
 ghost use Rattle.uri_parts.specs.Models.ParseErrors.{parsed_error};
 ghost use Rattle.uri_parts.specs.Errors.{IsErrorIn, unexpected};
@@ -23,7 +23,7 @@ ghost use Rattle.uri_parts.specs.PackedPositions.{ArePackedPositionsOf, packed};
 ghost use Rattle.uri_parts.specs.Models.Cursors.{text_after_cursor, cursor_text, cursor_position};
 ghost use Rattle.uri_parts.specs.Models.Cursors.{packed_from, packed_if_parsed_from};
 
-use crate::authority_parser::{find_name, find_other_authority_of_kind, is_unexpected_after_name};
+use crate::authority_parser::{find_host, find_name, is_unexpected_after_name, pass_userinfo};
 use crate::cursor::Cursor;
 use crate::error::ParseError;
 use crate::kind::Kind;
@@ -92,43 +92,39 @@ fn parse_path(
     })
 }
 
-/// Passes an authority that is more than a name and a port, which were passed from `start` on.
-#[tactic(auto, unfolding(crate::proofs::Steps::authority, crate::proofs::Steps::before_path, crate::proofs::Steps::tail))]
+/// Passes a host and the port after it, if there is one. They must end the authority, which comes
+/// before a path.
+#[tactic(auto)]
 #[inline(always)]
-fn pass_other_authority<K: Kind>(
-    cursor: &mut Cursor<'_>,
-    start: usize,
-    scheme_end: usize,
-) -> Result<BeforePath, ParseError>
-    requires start { IsCharBoundary (cursor_text cursor.old) start }
-    requires some { 0 < start }
-    requires place { cursor_position cursor.old
-        ≡ start + name_and_port_length K.kind (drop start (cursor_text cursor.old)) }
-    requires other { name_ends_authority K.kind (drop start (cursor_text cursor.old)) ≡ false }
-    ensures places { IfOk result (λ b.
-        record (packed (authority_positions K.kind None start (drop start (cursor_text cursor.old)))) {
-          scheme_end = scheme_end;
-        } ≡ packed_if_parsed_from K.kind b cursor.new) }
+fn pass_host<K: Kind>(cursor: &mut Cursor<'_>, scheme_end: usize) -> Result<BeforePath, ParseError>
     ensures start { IfOk result (λ b. b.path_start ≡ cursor_position cursor.new) }
+    ensures scheme { IfOk result (λ b. b.scheme_end ≡ scheme_end) }
+    ensures host_start { IfOk result (λ b. b.host_start ≡ cursor_position cursor.old) }
+    ensures host_end { IfOk result (λ b. b.host_end
+        ≡ cursor_position cursor.old + host_end K.kind (text_after_cursor cursor.old)) }
+    ensures place { OnOk result (cursor_position cursor.new
+        ≡ cursor_position cursor.old + host_and_port_length K.kind (text_after_cursor cursor.old)) }
     ensures text { cursor_text cursor.new ≡ cursor_text cursor.old }
-    ensures refused { let text = cursor_text cursor.old in authority_error K.kind text start
+    ensures refused { let text = cursor_text cursor.old in
+        host_error K.kind text (cursor_position cursor.old)
         ≡ option_or (result_err result) (error_from_path K.kind text (cursor_position cursor.new)) }
     ensures err { IfErr result (IsErrorIn (cursor_text cursor.old)) }
 {
     let text = cursor.text();
-    let authority = find_other_authority_of_kind::<K>(text, start, cursor.position())?;
-    *cursor = Cursor::at(text, authority.end);
+    let host_start = cursor.position();
+    let host = find_host::<K>(text, host_start)?;
+    *cursor = Cursor::at(text, host.end);
     Ok(BeforePath {
-        path_start: authority.end,
+        path_start: host.end,
         padding: false,
         scheme_end,
-        host_start: authority.host_start,
-        host_end: authority.host_end,
+        host_start,
+        host_end: host.host_end,
     })
 }
 
 /// Parses an authority, which comes before a path.
-#[tactic(auto, unfolding(crate::proofs::Steps::authority, crate::proofs::Steps::before_path, crate::proofs::Steps::tail))]
+#[tactic(auto, unfolding(crate::proofs::Steps::authority, crate::proofs::Steps::other, crate::proofs::Steps::before_path, crate::proofs::Steps::tail))]
 #[inline(always)]
 fn pass_authority<K: Kind>(
     cursor: &mut Cursor<'_>,
@@ -149,21 +145,24 @@ fn pass_authority<K: Kind>(
         ≡ option_or (result_err result) (error_from_path kind text (cursor_position cursor.new)) }
     ensures err { IfErr result (IsErrorIn (cursor_text cursor.old)) }
 {
-    let start = cursor.position();
+    let start = *cursor;
     if let Some(host_end) = find_name(cursor, tables) {
-        let end = cursor.position();
         return Ok(BeforePath {
-            path_start: end,
+            path_start: cursor.position(),
             padding: false,
             scheme_end,
-            host_start: start,
+            host_start: start.position(),
             host_end,
         });
     }
-    if is_unexpected_after_name::<K>(Cursor::at(cursor.text(), start), *cursor, tables) {
+    if start.next_is(b'[') {
+        *cursor = start;
+    } else if is_unexpected_after_name::<K>(cursor, tables) {
         return Err(cursor.unexpected());
+    } else {
+        pass_userinfo::<K>(cursor, tables)?;
     }
-    pass_other_authority::<K>(cursor, start, scheme_end)
+    pass_host::<K>(cursor, scheme_end)
 }
 
 /// Parses what follows a scheme, before a path.
