@@ -222,7 +222,7 @@ impl Table {
         ensures boundary { IsCharBoundary text.now result }
     {
         let bytes = text.as_bytes();
-        if start == bytes.len() {
+        if start >= bytes.len() {
             return start;
         }
         let end = self.pass_encoded(text, start);
