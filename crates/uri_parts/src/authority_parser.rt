@@ -193,8 +193,7 @@ pub(crate) fn pass_userinfo<K: Kind>(
     if cursor.skip(b'@') {
         return Ok(());
     }
-    let error = error_after_name::<K>(cursor.text(), start, cursor.position());
-    Err(error)
+    Err(error_after_name::<K>(cursor.text(), start, cursor.position()))
 }
 
 /// Returns whether what is next after a name and a port is in no component of the kind, and is no
