@@ -1,6 +1,7 @@
 //! Sets of ASCII characters by their two masks, a byte at a time or sixteen.
 ghost use Rattle.std.specs.Prelude.{◌≡◌, ◌+◌, ◌-◌, ◌≤◌, ◌<◌, ◌/◌, ◌%◌, ℕ, true, not, length, map};
 ghost use Rattle.std.specs.Prelude.{slice_index, nat_lt, nat_le, IsTrue, false, ◌^◌, ◌==◌, ◌&&◌};
+ghost use Rattle.std.specs.Prelude.{bit_and};
 ghost use Rattle.std.specs.Simd.Lanes.{mask_l, chunk};
 ghost use Rattle.std.specs.Int.{bit_at};
 ghost use Rattle.uri_pct.specs.Delimiters.{percent_sign};
@@ -9,7 +10,8 @@ ghost use Rattle.uri_pct.specs.Models.ByteRuns.{IsByteOfEncodedText};
 ghost use Rattle.uri_pct.specs.Models.ByteRuns.{is_char_byte};
 ghost use Rattle.uri_pct.specs.Texts.{has_hex_digits_after};
 ghost use Rattle.uri_pct.specs.Models.LaneMasks.{bytes_of_masks, bit_in_mask_byte};
-ghost use Rattle.uri_pct.specs.Masks.{has_bit};
+ghost use Rattle.uri_pct.specs.Models.LaneMasks.{is_lane_of_octet};
+ghost use Rattle.uri_pct.specs.Masks.{has_bit, HasHexDigits};
 
 use std::simd::prelude::*;
 
@@ -271,6 +273,26 @@ pub fn encoded_run_len(low: u64, high: u64, bytes: &[u8], at: usize) -> usize
     open.trailing_zeros() as usize
 }
 
+/// Returns which lanes of `mask` are in no octet of those that begin at the lanes of both masks.
+#[inline(always)]
+fn lanes_outside_octets(low: u64, high: u64, mask: u64, starts: u64) -> u64
+    requires below { mask < 2 ^ 16 }
+    requires digits { HasHexDigits low high → (k : ℕ) → bit_at starts k ≡ 1
+        → (bit_at mask (k + 1) ≡ 0) × (bit_at mask (k + 2) ≡ 0) }
+    ensures below { result < 2 ^ 16 }
+    ensures lane { (k : ℕ) → k < 16 → (bit_at result k == 1)
+        ≡ (bit_at mask k == 1 && not (is_lane_of_octet (bit_and starts mask) k)) }
+{
+    // If digits are in the set, `mask` lacks them. Where the set is constant, so is this test.
+    if low & 0x03FF_0000_0000_0000 == 0x03FF_0000_0000_0000
+        && high & 0x0000_007E_0000_007E == 0x0000_007E_0000_007E
+    {
+        return mask & !starts;
+    }
+    let begun = starts & mask;
+    mask & !(begun | (begun << 1) | (begun << 2))
+}
+
 /// Returns the end of a run of bytes of the set and, if `octets` is set, of octets, as far as one
 /// block shows it, and whether the longest such run ends there.
 #[inline(always)]
@@ -302,17 +324,18 @@ pub(crate) fn first_run_end(
     if bytes[first] != b'%' || !octets {
         return (first, true);
     }
-    let starts = octet_starts(bytes, block) & mask;
-    let open = mask & !(starts | (starts << 1) | (starts << 2));
+    let open = lanes_outside_octets(low, high, mask, octet_starts(bytes, block));
     // An octet that begins in the last two lanes is cut by the end of the block.
-    if open & 0x3FFF != 0 {
-        return (block + open.trailing_zeros() as usize, true);
+    let certain = open & 0x3FFF;
+    if certain != 0 {
+        return (block + certain.trailing_zeros() as usize, true);
     }
-    if open == 0 {
+    let last = open & 0xC000;
+    if last == 0 {
         let end = block + LANES;
         return (end, end == bytes.len());
     }
-    let end = block + open.trailing_zeros() as usize;
+    let end = block + last.trailing_zeros() as usize;
     (end, bytes[end] != b'%')
 }
 

@@ -1,17 +1,19 @@
 -- The lanes at which octets begin, and those that are parts of octets.
 use Rattle.std.proofs.Common.{◌≡◌, ℕ, ◌+◌, ◌-◌, ◌*◌, ◌/◌, ◌%◌, ◌^◌, ◌<◌, ◌≤◌, min, Bool, true}
-use Rattle.std.proofs.Common.{false, not, eqb, List, get_or, refl, sym, ap, ◌∙◌, arith, w64}
+use Rattle.std.proofs.Common.{false, not, eqb, leb, List, get_or, refl, sym, ap, ◌∙◌, arith, w64}
 use Rattle.std.proofs.Common.{bit_and, bit_or, ◌&&◌, ◌||◌, ⊎_elim}
 use Rattle.std.specs.Int.{bit_at, bit_not}
 use Rattle.std.specs.Char.{is_ascii_hexdigit}
 use Rattle.std.proofs.lemmas.Nat.{or_lt}
 use Rattle.std.proofs.lemmas.Nat.Bits.{bit_at_and, bit_at_above}
 use Rattle.std.proofs.lemmas.Bool.{cases_lt, both_ways, eqb-true, eq-eqb, and_from, or_from}
-use Rattle.std.proofs.lemmas.Bool.{or_parts}
+use Rattle.std.proofs.lemmas.Bool.{or_parts, and_parts, and_right, cases_Bool, le-leb, lt-leb}
+use Rattle.std.proofs.Math.Bool.{or-false}
 use Rattle.uri_pct.specs.Texts.{has_hex_digits_after}
 use Rattle.uri_pct.specs.Models.ByteRuns.{AreCharactersOrOctets}
+use Rattle.uri_pct.specs.Models.LaneMasks.{is_lane_of_octet}
 use Rattle.uri_pct.specs.Masks.{has_bit}
-use Rattle.uri_pct.proofs.TableSets.Masks.{bit_of_bit_or, bit_of_bit_and_not}
+use Rattle.uri_pct.proofs.TableSets.Masks.{bit_of_bit_or, bit_of_bit_and, bit_of_bit_and_not}
 use Rattle.uri_pct.proofs.TableSets.Constants.{hexdig_masks_are_hexdig_set}
 use Rattle.uri_pct.proofs.LaneScans.LaneRuns.{MarksFailingLanes}
 use Rattle.uri_pct.proofs.LaneScans.LaneBits.{is_set_bit, bit_of_right_shift, bit_of_left_shift}
@@ -99,79 +101,141 @@ lanes_covered_by_octets begun = bit_or (bit_or begun (begun * 2 ^ 1 % 2 ^ 64))
 abbrev pub lanes_left_uncovered : ℕ → ℕ → ℕ
 lanes_left_uncovered misses begun = bit_and misses (bit_not w64 (lanes_covered_by_octets begun))
 
--- what a mask of the lanes that are or_parts says of those before the first
+-- sixteen bytes at a time: shifting the starts of octets left by s bits makes lane k - s lane k
+lane_of_shifted_starts : (begun s k : ℕ) → k < 64
+    → is_set_bit (begun * 2 ^ s % 2 ^ 64) k ≡ (leb s k && is_set_bit begun (k - s))
+lane_of_shifted_starts begun s k h = ⊎_elim
+    (λ (l : k < s). low_bit_of_left_shift_is_clear begun s k h l
+    ∙ sym (ap (λ b. b && is_set_bit begun (k - s)) (lt-leb s k l)))
+    (λ (l : s ≤ k). bit_of_left_shift begun s k h l
+    ∙ sym (ap (λ b. b && is_set_bit begun (k - s)) (le-leb s k l)))
+    (cases_lt k s)
+
+-- sixteen bytes at a time: a lane is left uncovered if it is a miss and in no octet
+pub uncovered_lane_is_miss_outside_octets : (misses begun k : ℕ) → begun < 2 ^ 64 → k < 64
+    → is_set_bit (lanes_left_uncovered misses begun) k
+    ≡ (is_set_bit misses k && not (is_lane_of_octet begun k))
+uncovered_lane_is_miss_outside_octets misses begun k fits h =
+    let one : ℕ = begun * 2 ^ 1 % 2 ^ 64 in
+    let two : ℕ = begun * 2 ^ 2 % 2 ^ 64 in
+    bit_of_bit_and_not misses (lanes_covered_by_octets begun) k
+    (or_lt 64 _ _ (or_lt 64 _ _ fits (omega arith)) (omega arith)) h
+    ∙ ap (λ b. is_set_bit misses k && not b)
+    (bit_of_bit_or (bit_or begun one) two k
+    ∙ ap (λ b. b || is_set_bit two k)
+    (bit_of_bit_or begun one k
+    ∙ ap (λ b. is_set_bit begun k || b) (lane_of_shifted_starts begun 1 k h))
+    ∙ ap (λ b. (is_set_bit begun k || (leb 1 k && is_set_bit begun (k - 1))) || b)
+    (lane_of_shifted_starts begun 2 k h))
+
+-- sixteen bytes at a time: a lane is in no octet if none begins there or at one of the two before
+pub lane_without_origin_is_in_no_octet : (begun k : ℕ) → is_set_bit begun k ≡ false
+    → ((j : ℕ) → j < k → k ≤ j + 2 → is_set_bit begun j ≡ false)
+    → is_lane_of_octet begun k ≡ false
+lane_without_origin_is_in_no_octet begun k here before =
+    or_from _ _ (or_from _ _ here (none 1 (omega arith) (omega arith)))
+    (none 2 (omega arith) (omega arith))
+  where
+    none : (s : ℕ) → 1 ≤ s → s ≤ 2 → (leb s k && is_set_bit begun (k - s)) ≡ false
+    none s one two = ⊎_elim
+        (λ (l : k < s). ap (λ b. b && is_set_bit begun (k - s)) (lt-leb s k l))
+        (λ (l : s ≤ k). and_right (leb s k) _ (before (k - s) (omega arith) (omega arith)))
+        (cases_lt k s)
+
+-- sixteen bytes at a time: if a lane is in no octet, none begins there or at one of the two before
+pub no_octet_begins_before_lane_outside : (begun k j : ℕ) → is_lane_of_octet begun k ≡ false
+    → j ≤ k → k ≤ j + 2 → is_set_bit begun j ≡ false
+no_octet_begins_before_lane_outside begun k j e from to =
+    let outer : ((is_set_bit begun k || (leb 1 k && is_set_bit begun (k - 1))) ≡ false)
+    × ((leb 2 k && is_set_bit begun (k - 2)) ≡ false) = or_parts _ _ e in
+    let inner : (is_set_bit begun k ≡ false) × ((leb 1 k && is_set_bit begun (k - 1)) ≡ false) =
+    or_parts _ _ outer.0 in
+    ⊎_elim
+    (λ (l : j < k). ⊎_elim
+    (λ (m : j + 1 < k). earlier 2 (omega arith) (omega arith) outer.1)
+    (λ (m : k ≤ j + 1). earlier 1 (omega arith) (omega arith) inner.1)
+    (cases_lt (j + 1) k))
+    (λ (l : k ≤ j). let here : j ≡ k = omega arith in ap (is_set_bit begun) here ∙ inner.0)
+    (cases_lt j k)
+  where
+    earlier : (s : ℕ) → j + s ≡ k → s ≤ k → (leb s k && is_set_bit begun (k - s)) ≡ false
+        → is_set_bit begun j ≡ false
+    earlier s at l f = let there : j ≡ k - s = omega arith in ap (is_set_bit begun) there
+        ∙ sym (ap (λ b. b && is_set_bit begun (k - s)) (le-leb s k l)) ∙ f
+
+-- sixteen bytes at a time: octets that begin before a lane outside them end before it
+pub octets_before_lane_outside_are_whole : (begun n : ℕ) → n ≤ 16
+    → ((k : ℕ) → is_set_bit begun k ≡ true → k + 3 ≤ 16)
+    → (n < 16 → is_lane_of_octet begun n ≡ false)
+    → (k : ℕ) → k < n → is_set_bit begun k ≡ true → k + 3 ≤ n
+octets_before_lane_outside_are_whole begun n few room ends k h o = ⊎_elim
+    (λ (near : n < k + 3). ⊎_elim
+    (λ (l : n < 16). absurd (both_ways _
+    (no_octet_begins_before_lane_outside begun n k (ends l) (omega arith) (omega arith)) o))
+    (λ (l : 16 ≤ n). omega (arith, room k o, l, near))
+    (cases_lt n 16))
+    (λ (far : k + 3 ≤ n). far)
+    (cases_lt n (k + 3))
+
+-- sixteen bytes at a time: where a lane is a miss that is no digit of an octet, one begins there or
+-- it is in none
+pub miss_outside_digits_is_in_octet_that_begins_there : (misses starts k : ℕ)
+    → ((j : ℕ) → bit_at starts j ≡ 1 → (bit_at misses (j + 1) ≡ 0) × (bit_at misses (j + 2) ≡ 0))
+    → (is_set_bit misses k && not (is_set_bit starts k))
+    ≡ (is_set_bit misses k && not (is_lane_of_octet (bit_and starts misses) k))
+miss_outside_digits_is_in_octet_that_begins_there misses starts k digits = ⊎_elim
+    (λ (set : is_set_bit misses k ≡ true). ap (λ b. is_set_bit misses k && not b) (sym (here set)))
+    (λ (clear : is_set_bit misses k ≡ false).
+    ap (λ b. b && not (is_set_bit starts k)) clear
+    ∙ sym (ap (λ b. b && not (is_lane_of_octet begun k)) clear))
+    (cases_Bool (is_set_bit misses k))
+  where
+    begun : ℕ
+    begun = bit_and starts misses
+
+    before : is_set_bit misses k ≡ true → (s : ℕ)
+        → ((j : ℕ) → is_set_bit starts j ≡ true → is_set_bit misses (j + s) ≡ false)
+        → (leb s k && is_set_bit begun (k - s)) ≡ false
+    before set s none = ⊎_elim
+        (λ (l : k < s). ap (λ b. b && is_set_bit begun (k - s)) (lt-leb s k l))
+        (λ (l : s ≤ k). and_right (leb s k) _ (⊎_elim
+        (λ (o : is_set_bit begun (k - s) ≡ true).
+        let starts_there = (and_parts _ _ (sym (bit_of_bit_and starts misses (k - s)) ∙ o)).0 in
+        absurd (both_ways _ (ap (is_set_bit misses) (omega arith) ∙ none (k - s) starts_there) set))
+        (λ (o : is_set_bit begun (k - s) ≡ false). o)
+        (cases_Bool (is_set_bit begun (k - s)))))
+        (cases_lt k s)
+
+    here : is_set_bit misses k ≡ true → is_lane_of_octet begun k ≡ is_set_bit starts k
+    here set =
+        let one = before set 1 (λ j o. ap (λ n. eqb n 1) (digits j (eqb-true _ _ o)).0) in
+        let two = before set 2 (λ j o. ap (λ n. eqb n 1) (digits j (eqb-true _ _ o)).1) in
+        ap (λ b. (is_set_bit begun k || (leb 1 k && is_set_bit begun (k - 1))) || b) two
+        ∙ or-false _ ∙ ap (λ b. is_set_bit begun k || b) one ∙ or-false _
+        ∙ bit_of_bit_and starts misses k ∙ ap (λ b. is_set_bit starts k && b) set
+        ∙ and_true_is_the_same (is_set_bit starts k)
+
+-- the bytes before the first lane that is a miss and in no octet
 module _ (test : ℕ → Bool) (bs : List ℕ) (i begun misses n : ℕ) (fits : begun < 2 ^ 64)
     (few : n ≤ 16)
     (starts : (k : ℕ) → bit_at begun k ≡ 1 → (k + 3 ≤ 16) × (get_or bs (i + k) 0 ≡ 37)
     × (has_hex_digits_after bs (i + k) ≡ true))
-    (marks : MarksFailingLanes test bs i 16 misses) where
-  uncovered_lane_is_miss_outside_octets : (k : ℕ) → k < 64
-      → is_set_bit (lanes_left_uncovered misses begun) k
-      ≡ (is_set_bit misses k && not
-      ((is_set_bit begun k || is_set_bit (begun * 2 ^ 1 % 2 ^ 64) k) || is_set_bit
-      (begun * 2 ^ 2 % 2 ^ 64) k))
-  uncovered_lane_is_miss_outside_octets k h =
-      bit_of_bit_and_not misses (lanes_covered_by_octets begun) k
-      (or_lt 64 _ _ (or_lt 64 _ _ fits (omega arith)) (omega arith)) h
-      ∙ ap (λ b. is_set_bit misses k && not b)
-      (bit_of_bit_or (bit_or begun (begun * 2 ^ 1 % 2 ^ 64)) (begun * 2 ^ 2 % 2 ^ 64) k
-      ∙ ap (λ b. b || is_set_bit (begun * 2 ^ 2 % 2 ^ 64) k)
-      (bit_of_bit_or begun (begun * 2 ^ 1 % 2 ^ 64) k))
-
-  shifted_bit_is_clear_if_origin_is : (s k : ℕ) → k < 64
-      → ((j : ℕ) → j + s ≡ k → is_set_bit begun j ≡ false)
-      → is_set_bit (begun * 2 ^ s % 2 ^ 64) k ≡ false
-  shifted_bit_is_clear_if_origin_is s k h none = ⊎_elim
-      (λ (l : k < s). low_bit_of_left_shift_is_clear begun s k h l)
-      (λ (l : s ≤ k). bit_of_left_shift begun s k h l ∙ none (k - s) (omega arith)) (cases_lt k s)
-
-  covered_lane_outside_octets_is_no_miss : (a b c d : Bool) → (a && not ((b || c) || d)) ≡ false → b
-      ≡ false → c ≡ false
-      → d ≡ false → a ≡ false
-  covered_lane_outside_octets_is_no_miss a b c d e p q r = sym (and_true_is_the_same a)
-      ∙ ap (λ x. a && not x) (sym (or_from (b || c) d (or_from b c p q) r)) ∙ e
-
-  uncovered_lane_is_in_no_octet : (a b c d : Bool) → (a && not ((b || c) || d)) ≡ true → (c ≡ false)
-      × (d ≡ false)
-  uncovered_lane_is_in_no_octet a b c d e = let p = or_parts (b || c) d
-      (and_not_is_true_of_both_parts a ((b || c) || d) e).1 in
-      ((or_parts b c p.0).1, p.1)
-
-  module _ (shut : (k : ℕ) → k < n → is_set_bit (lanes_left_uncovered misses begun) k ≡ false)
-      (ends : n < 16 → is_set_bit (lanes_left_uncovered misses begun) n ≡ true) where
-    whole : (k : ℕ) → k < n → is_set_bit begun k ≡ true → k + 3 ≤ n
-    whole k h o =
-        let room : k + 3 ≤ 16 = (starts k (eqb-true _ _ o)).0 in
-        ⊎_elim
-        (λ (l : n < 16).
-        let here : (is_set_bit (begun * 2 ^ 1 % 2 ^ 64) n ≡ false)
-        × (is_set_bit (begun * 2 ^ 2 % 2 ^ 64) n ≡ false) =
-        uncovered_lane_is_in_no_octet _ _ _ _
-        (sym (uncovered_lane_is_miss_outside_octets n (omega arith)) ∙ ends l) in
-        let far : n < k + 3 → ⊥ = λ near. ⊎_elim
-        (λ (j : n < k + 2). both_ways _ here.0
-        (bit_of_left_shift begun 1 n (omega arith) (omega arith)
-        ∙ ap (is_set_bit begun) (omega arith) ∙ o))
-        (λ (j : k + 2 ≤ n). both_ways _ here.1
-        (bit_of_left_shift begun 2 n (omega arith) (omega arith)
-        ∙ ap (is_set_bit begun) (omega arith) ∙ o))
-        (cases_lt n (k + 2)) in
-        ⊎_elim (λ (x : n < k + 3). absurd (far x)) (λ (x : k + 3 ≤ n). x) (cases_lt n (k + 3)))
-        (λ (l : 16 ≤ n). omega arith)
-        (cases_lt n 16)
-
-    pub covered_lanes_are_characters_or_octets : AreCharactersOrOctets test bs i n
-    covered_lanes_are_characters_or_octets = record {
-      octet = is_set_bit begun;
-      pass = λ k h o fresh.
-          clear_lane_passes_test test bs i 16 misses k marks (omega arith)
-          (covered_lane_outside_octets_is_no_miss _ _ _ _
-          (sym (uncovered_lane_is_miss_outside_octets k (omega arith)) ∙ shut k h) o
-          (shifted_bit_is_clear_if_origin_is 1 k (omega arith)
-          (λ j e. fresh j (omega arith) (omega arith)))
-          (shifted_bit_is_clear_if_origin_is 2 k (omega arith)
-          (λ j e. fresh j (omega arith) (omega arith))));
-      percent = λ k o. (starts k (eqb-true _ _ o)).1;
-      digits = λ k o. (starts k (eqb-true _ _ o)).2;
-      whole = whole;
-    }
+    (marks : MarksFailingLanes test bs i 16 misses)
+    (shut : (k : ℕ) → k < n → is_set_bit (lanes_left_uncovered misses begun) k ≡ false)
+    (ends : n < 16 → is_set_bit (lanes_left_uncovered misses begun) n ≡ true) where
+  pub covered_lanes_are_characters_or_octets : AreCharactersOrOctets test bs i n
+  covered_lanes_are_characters_or_octets = record {
+    octet = is_set_bit begun;
+    pass = λ k h o fresh.
+        clear_lane_passes_test test bs i 16 misses k marks (omega arith)
+        (first_is_false_if_and_is_false _ _
+        (sym (uncovered_lane_is_miss_outside_octets misses begun k fits (omega arith)) ∙ shut k h)
+        (ap not (lane_without_origin_is_in_no_octet begun k o fresh)));
+    percent = λ k o. (starts k (eqb-true _ _ o)).1;
+    digits = λ k o. (starts k (eqb-true _ _ o)).2;
+    whole = octets_before_lane_outside_are_whole begun n few
+        (λ k o. (starts k (eqb-true _ _ o)).0)
+        (λ l. (and_not_is_true_of_both_parts _ _ (sym
+        (uncovered_lane_is_miss_outside_octets misses begun n fits (omega arith))
+        ∙ ends l)).1);
+  }

@@ -11,6 +11,7 @@ use Rattle.std.proofs.lemmas.Nat.Bits.{bit_at_not, bit_at_set_same, bit_at_set_o
 use Rattle.std.proofs.lemmas.Nat.Bits.{same_from_bits_below}
 use Rattle.std.proofs.lemmas.Bool.{cases_lt, cases_eq, cond-true, cond-false, lt-ltb, le-ltb}
 use Rattle.std.proofs.lemmas.Bool.{eq-eqb, ne_eqb, eqb-false, or_from, or_right, and_left}
+use Rattle.std.proofs.lemmas.Bool.{and_parts}
 use Rattle.std.proofs.lemmas.Bool.{agree_below, agree_below_at, both_ways}
 use Rattle.std.proofs.lemmas.Bool.Decides.{nat_tests}
 use Rattle.uri_pct.specs.Masks.{has_bit}
@@ -243,7 +244,7 @@ has_bit-zero-masks = has_bit_is_test_if_words_agree 0 0 (λ c. false)
     (λ c h k. zero_word_has_no_bit 0 (c - 64) refl) (λ c h. refl)
 
 -- bits, for tables: one that is not 1 is 0
-bit_that_is_not_one_is_zero : (n i : ℕ) → eqb (bit_at n i) 1 ≡ false → bit_at n i ≡ 0
+pub bit_that_is_not_one_is_zero : (n i : ℕ) → eqb (bit_at n i) 1 ≡ false → bit_at n i ≡ 0
 bit_that_is_not_one_is_zero n i e =
     let ne : bit_at n i ≡ 1 → ⊥ = eqb-false (bit_at n i) 1 e in
     let h : bit_at n i < 2 = bit_at-lt n i in
@@ -291,3 +292,20 @@ unfolding has_bit
 has_bit-full-masks c = has_bit-by-agreement 0xFFFFFFFFFFFFFFFF 0xFFFFFFFFFFFFFFFF
     (λ b. ltb b 128) refl
     (λ b h. le-ltb b 128 h) c
+
+-- tables: two words that have all bits of two others have their characters
+pub has_bit_of_words_with_all_bits : (low high low' high' c : ℕ) → bit_and low low' ≡ low'
+    → bit_and high high' ≡ high' → has_bit low' high' c ≡ true → has_bit low high c ≡ true
+has_bit_of_words_with_all_bits low high low' high' c lows highs e =
+    (and_parts _ _ (sym (has_bit_is_test_if_words_agree (bit_and low low') (bit_and high high')
+    (λ c. has_bit low high c && has_bit low' high' c)
+    (λ c h. bit_of_bit_and low low' c
+    ∙ sym (binary_function_of_equals_is_equal (λ a b. a && b)
+    (has_bit_below_64_is_bit_of_low low high c h) (has_bit_below_64_is_bit_of_low low' high' c h)))
+    (λ c h k. bit_of_bit_and high high' (c - 64)
+    ∙ sym (binary_function_of_equals_is_equal (λ a b. a && b)
+    (has_bit_from_64_is_bit_of_high low high c h k)
+    (has_bit_from_64_is_bit_of_high low' high' c h k)))
+    (λ c h. and_left (has_bit low high c) (has_bit low' high' c)
+    (has_bit_past_ascii_is_false low high c h))
+    c) ∙ ap (λ w. has_bit w (bit_and high high') c) lows ∙ ap (λ w. has_bit low' w c) highs ∙ e)).0

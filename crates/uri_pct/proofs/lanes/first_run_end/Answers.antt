@@ -1,12 +1,13 @@
-use Rattle.std.proofs.Common.{ℕ, arith, bit_and}
+use Rattle.std.proofs.Common.{arith}
 use Rattle.uri_pct.specs.Masks.{has_bit}
-use Rattle.uri_pct.proofs.LaneScans.OctetLanes.{lanes_left_uncovered}
 use Rattle.uri_pct.proofs.LaneScans.LaneBits.{trailing_zeros_is_first_set_lane}
 use Rattle.uri_pct.proofs.LaneScans.BlockOctets.{MarksFailingLanesFrom, run_goes_on_to_end}
 use Rattle.uri_pct.proofs.LaneScans.BlockOctets.{run_ends_at_first_marked_byte}
-use Rattle.uri_pct.proofs.LaneScans.BlockOctets.{passing_bytes_are_characters, first_lane_is_low}
+use Rattle.uri_pct.proofs.LaneScans.BlockOctets.{passing_bytes_are_characters}
+use Rattle.uri_pct.proofs.LaneScans.BlockOctets.{first_of_lower_lanes, first_of_last_lanes}
+use Rattle.uri_pct.proofs.LaneScans.BlockOctets.{no_lane_of_both_parts}
+use Rattle.uri_pct.proofs.LaneScans.BlockOctets.{digits_of_octet_are_unmarked}
 use Rattle.uri_pct.proofs.LaneScans.BlockOctets.{start_is_within_block, block_without_left_lanes}
-use Rattle.uri_pct.proofs.LaneScans.BlockOctets.{left_is_small, first_left_lane_is_within}
 use Rattle.uri_pct.proofs.LaneScans.BlockOctets.{first_left_lane_fails, bytes_before_left_lanes}
 use Rattle.uri_pct.proofs.LaneScans.BlockOctets.{left_percent_is_stray}
 use Rattle.uri_pct.proofs.lanes.first_run_end.Goals as goal
@@ -82,101 +83,113 @@ returns-then-bytes-first-ne37-clause-outside c = λ _ inside.
     record { below = b.ensures.below; lane = b.ensures.lane; before = b.ensures.before } in
     (run_ends_at_first_marked_byte _ _ _ _ _ m c.if-mask-eq0.false b.ensures.room).stop inside
 
--- the lanes outside the set that are in no octet
-abbrev left : ℕ → ℕ → ℕ
-left mask octets = lanes_left_uncovered mask (bit_and octets mask)
-
--- the first of them is before the last two lanes
-pub returns-then-open-ne0-clause-from : goal.returns-then-open-ne0-clause-from
-returns-then-open-ne0-clause-from c =
+-- an octet's digits are not among the bytes outside a set that has all digits
+pub lanes_outside_octets-open-requires-clause-digits
+    : goal.lanes_outside_octets-open-requires-clause-digits
+lanes_outside_octets-open-requires-clause-digits c = λ all k octet.
     let b = c.first_block_outside-block in
     let m : MarksFailingLanesFrom (has_bit c.args.low c.args.high) c.args.bytes.now c.args.start
     b.result.0 b.result.1 =
     record { below = b.ensures.below; lane = b.ensures.lane; before = b.ensures.before } in
-    let some = first_lane_is_low (left b.result.1 c.octet_starts.result)
-    (left_is_small _ _ _ _ _ m c.octet_starts.result c.octet_starts.type_inv c.if-mask-eq0.false
-    c.octet_starts.ensures.starts c.octet_starts.ensures.all) c.if-open-ne0.true in
-    (first_left_lane_fails _ _ _ _ _ m c.octet_starts.result c.octet_starts.type_inv c.if-mask-eq0.false
-    c.octet_starts.ensures.starts c.octet_starts.ensures.all some.1).0
+    let starts = c.octet_starts.ensures.starts k octet in
+    digits_of_octet_are_unmarked _ _ _ _ _ m all k starts.0 starts.2
 
-pub returns-then-open-ne0-clause-within : goal.returns-then-open-ne0-clause-within
-returns-then-open-ne0-clause-within c =
+-- the first lane outside the set and octets is before the last two lanes
+pub returns-then-certain-ne0-clause-from : goal.returns-then-certain-ne0-clause-from
+returns-then-certain-ne0-clause-from c =
     let b = c.first_block_outside-block in
     let m : MarksFailingLanesFrom (has_bit c.args.low c.args.high) c.args.bytes.now c.args.start
     b.result.0 b.result.1 =
     record { below = b.ensures.below; lane = b.ensures.lane; before = b.ensures.before } in
-    let some = first_lane_is_low (left b.result.1 c.octet_starts.result)
-    (left_is_small _ _ _ _ _ m c.octet_starts.result c.octet_starts.type_inv c.if-mask-eq0.false
-    c.octet_starts.ensures.starts c.octet_starts.ensures.all) c.if-open-ne0.true in
-    let lane = first_left_lane_is_within _ _ _ _ _ m c.octet_starts.result c.octet_starts.type_inv c.if-mask-eq0.false
-    c.octet_starts.ensures.starts c.octet_starts.ensures.all some.1 in
-    omega (arith, b.ensures.room, lane)
+    let s = c.octet_starts in
+    let o = c.lanes_outside_octets-open in
+    let first = first_of_lower_lanes o.result o.ensures.below c.if-certain-ne0.true in
+    (first_left_lane_fails _ _ _ _ _ m s.result o.result c.if-mask-eq0.false
+    s.ensures.starts s.ensures.all o.ensures.lane _ first.1).0
 
-pub returns-then-open-ne0-clause-allowed : goal.returns-then-open-ne0-clause-allowed
-returns-then-open-ne0-clause-allowed c =
+pub returns-then-certain-ne0-clause-within : goal.returns-then-certain-ne0-clause-within
+returns-then-certain-ne0-clause-within c =
     let b = c.first_block_outside-block in
     let m : MarksFailingLanesFrom (has_bit c.args.low c.args.high) c.args.bytes.now c.args.start
     b.result.0 b.result.1 =
     record { below = b.ensures.below; lane = b.ensures.lane; before = b.ensures.before } in
-    let some = first_lane_is_low (left b.result.1 c.octet_starts.result)
-    (left_is_small _ _ _ _ _ m c.octet_starts.result c.octet_starts.type_inv c.if-mask-eq0.false
-    c.octet_starts.ensures.starts c.octet_starts.ensures.all) c.if-open-ne0.true in
-    bytes_before_left_lanes _ _ _ _ _ m c.octet_starts.result c.octet_starts.type_inv c.if-mask-eq0.false
-    c.octet_starts.ensures.starts c.octet_starts.ensures.all some.1
+    let s = c.octet_starts in
+    let o = c.lanes_outside_octets-open in
+    let first = first_of_lower_lanes o.result o.ensures.below c.if-certain-ne0.true in
+    omega (arith, b.ensures.room, first.0)
 
-pub returns-then-open-ne0-clause-outside : goal.returns-then-open-ne0-clause-outside
-returns-then-open-ne0-clause-outside c = λ _ _.
+pub returns-then-certain-ne0-clause-allowed : goal.returns-then-certain-ne0-clause-allowed
+returns-then-certain-ne0-clause-allowed c =
     let b = c.first_block_outside-block in
     let m : MarksFailingLanesFrom (has_bit c.args.low c.args.high) c.args.bytes.now c.args.start
     b.result.0 b.result.1 =
     record { below = b.ensures.below; lane = b.ensures.lane; before = b.ensures.before } in
-    let some = first_lane_is_low (left b.result.1 c.octet_starts.result)
-    (left_is_small _ _ _ _ _ m c.octet_starts.result c.octet_starts.type_inv c.if-mask-eq0.false
-    c.octet_starts.ensures.starts c.octet_starts.ensures.all) c.if-open-ne0.true in
-    (first_left_lane_fails _ _ _ _ _ m c.octet_starts.result c.octet_starts.type_inv c.if-mask-eq0.false
-    c.octet_starts.ensures.starts c.octet_starts.ensures.all some.1).1
+    let s = c.octet_starts in
+    let o = c.lanes_outside_octets-open in
+    let first = first_of_lower_lanes o.result o.ensures.below c.if-certain-ne0.true in
+    bytes_before_left_lanes _ _ _ _ _ m s.result o.result c.if-mask-eq0.false
+    s.ensures.starts s.ensures.all o.ensures.lane _ first.1
 
-pub returns-then-open-ne0-clause-stray : goal.returns-then-open-ne0-clause-stray
-returns-then-open-ne0-clause-stray c = λ _ _ _ percent.
+pub returns-then-certain-ne0-clause-outside : goal.returns-then-certain-ne0-clause-outside
+returns-then-certain-ne0-clause-outside c = λ _ _.
     let b = c.first_block_outside-block in
     let m : MarksFailingLanesFrom (has_bit c.args.low c.args.high) c.args.bytes.now c.args.start
     b.result.0 b.result.1 =
     record { below = b.ensures.below; lane = b.ensures.lane; before = b.ensures.before } in
-    let some = first_lane_is_low (left b.result.1 c.octet_starts.result)
-    (left_is_small _ _ _ _ _ m c.octet_starts.result c.octet_starts.type_inv c.if-mask-eq0.false
-    c.octet_starts.ensures.starts c.octet_starts.ensures.all) c.if-open-ne0.true in
-    left_percent_is_stray _ _ _ _ _ m c.octet_starts.result c.octet_starts.type_inv c.if-mask-eq0.false
-    c.octet_starts.ensures.starts c.octet_starts.ensures.all some.1 some.0 percent
+    let s = c.octet_starts in
+    let o = c.lanes_outside_octets-open in
+    let first = first_of_lower_lanes o.result o.ensures.below c.if-certain-ne0.true in
+    (first_left_lane_fails _ _ _ _ _ m s.result o.result c.if-mask-eq0.false
+    s.ensures.starts s.ensures.all o.ensures.lane _ first.1).1
 
--- none is left
-pub returns-then-open-eq0-clause-from : goal.returns-then-open-eq0-clause-from
-returns-then-open-eq0-clause-from c =
+pub returns-then-certain-ne0-clause-stray : goal.returns-then-certain-ne0-clause-stray
+returns-then-certain-ne0-clause-stray c = λ _ _ _ percent.
     let b = c.first_block_outside-block in
     let m : MarksFailingLanesFrom (has_bit c.args.low c.args.high) c.args.bytes.now c.args.start
     b.result.0 b.result.1 =
     record { below = b.ensures.below; lane = b.ensures.lane; before = b.ensures.before } in
-    start_is_within_block _ _ _ _ _ m c.octet_starts.result c.octet_starts.type_inv c.if-mask-eq0.false
-    c.octet_starts.ensures.starts c.octet_starts.ensures.all
+    let s = c.octet_starts in
+    let o = c.lanes_outside_octets-open in
+    let first = first_of_lower_lanes o.result o.ensures.below c.if-certain-ne0.true in
+    left_percent_is_stray _ _ _ _ _ m s.result o.result c.if-mask-eq0.false
+    s.ensures.starts s.ensures.all o.ensures.lane _ first.1 first.0 percent
 
-pub returns-then-open-eq0-clause-allowed : goal.returns-then-open-eq0-clause-allowed
-returns-then-open-eq0-clause-allowed c =
+-- there is none
+pub returns-then-last-eq0-clause-from : goal.returns-then-last-eq0-clause-from
+returns-then-last-eq0-clause-from c =
     let b = c.first_block_outside-block in
     let m : MarksFailingLanesFrom (has_bit c.args.low c.args.high) c.args.bytes.now c.args.start
     b.result.0 b.result.1 =
     record { below = b.ensures.below; lane = b.ensures.lane; before = b.ensures.before } in
-    block_without_left_lanes _ _ _ _ _ m c.octet_starts.result c.octet_starts.type_inv c.if-mask-eq0.false
-    c.octet_starts.ensures.starts c.octet_starts.ensures.all c.if-open-eq0.true
+    let s = c.octet_starts in
+    let o = c.lanes_outside_octets-open in
+    start_is_within_block _ _ _ _ _ m s.result o.result c.if-mask-eq0.false
+    s.ensures.starts s.ensures.all o.ensures.lane
 
--- the first is one of the last two lanes
+pub returns-then-last-eq0-clause-allowed : goal.returns-then-last-eq0-clause-allowed
+returns-then-last-eq0-clause-allowed c =
+    let b = c.first_block_outside-block in
+    let m : MarksFailingLanesFrom (has_bit c.args.low c.args.high) c.args.bytes.now c.args.start
+    b.result.0 b.result.1 =
+    record { below = b.ensures.below; lane = b.ensures.lane; before = b.ensures.before } in
+    let s = c.octet_starts in
+    let o = c.lanes_outside_octets-open in
+    block_without_left_lanes _ _ _ _ _ m s.result o.result c.if-mask-eq0.false
+    s.ensures.starts s.ensures.all o.ensures.lane
+    (no_lane_of_both_parts o.result c.if-certain-ne0.false c.if-last-eq0.true)
+
+-- it is one of the last two lanes
 pub bounds-bytes-end : goal.bounds-bytes-end
 bounds-bytes-end c =
     let b = c.first_block_outside-block in
     let m : MarksFailingLanesFrom (has_bit c.args.low c.args.high) c.args.bytes.now c.args.start
     b.result.0 b.result.1 =
     record { below = b.ensures.below; lane = b.ensures.lane; before = b.ensures.before } in
-    let lane = first_left_lane_is_within _ _ _ _ _ m c.octet_starts.result c.octet_starts.type_inv c.if-mask-eq0.false
-    c.octet_starts.ensures.starts c.octet_starts.ensures.all c.if-open-eq0.false in
-    omega (arith, b.ensures.room, lane)
+    let s = c.octet_starts in
+    let o = c.lanes_outside_octets-open in
+    let first = first_of_last_lanes o.result o.ensures.below c.if-certain-ne0.false
+    c.if-last-eq0.false in
+    omega (arith, b.ensures.room, first.within)
 
 pub returns-clause-from : goal.returns-clause-from
 returns-clause-from c =
@@ -184,8 +197,12 @@ returns-clause-from c =
     let m : MarksFailingLanesFrom (has_bit c.args.low c.args.high) c.args.bytes.now c.args.start
     b.result.0 b.result.1 =
     record { below = b.ensures.below; lane = b.ensures.lane; before = b.ensures.before } in
-    (first_left_lane_fails _ _ _ _ _ m c.octet_starts.result c.octet_starts.type_inv c.if-mask-eq0.false
-    c.octet_starts.ensures.starts c.octet_starts.ensures.all c.if-open-eq0.false).0
+    let s = c.octet_starts in
+    let o = c.lanes_outside_octets-open in
+    let first = first_of_last_lanes o.result o.ensures.below c.if-certain-ne0.false
+    c.if-last-eq0.false in
+    (first_left_lane_fails _ _ _ _ _ m s.result o.result c.if-mask-eq0.false
+    s.ensures.starts s.ensures.all o.ensures.lane _ first).0
 
 pub returns-clause-within : goal.returns-clause-within
 returns-clause-within c =
@@ -193,9 +210,11 @@ returns-clause-within c =
     let m : MarksFailingLanesFrom (has_bit c.args.low c.args.high) c.args.bytes.now c.args.start
     b.result.0 b.result.1 =
     record { below = b.ensures.below; lane = b.ensures.lane; before = b.ensures.before } in
-    let lane = first_left_lane_is_within _ _ _ _ _ m c.octet_starts.result c.octet_starts.type_inv c.if-mask-eq0.false
-    c.octet_starts.ensures.starts c.octet_starts.ensures.all c.if-open-eq0.false in
-    omega (arith, b.ensures.room, lane)
+    let s = c.octet_starts in
+    let o = c.lanes_outside_octets-open in
+    let first = first_of_last_lanes o.result o.ensures.below c.if-certain-ne0.false
+    c.if-last-eq0.false in
+    omega (arith, b.ensures.room, first.within)
 
 pub returns-clause-allowed : goal.returns-clause-allowed
 returns-clause-allowed c =
@@ -203,8 +222,12 @@ returns-clause-allowed c =
     let m : MarksFailingLanesFrom (has_bit c.args.low c.args.high) c.args.bytes.now c.args.start
     b.result.0 b.result.1 =
     record { below = b.ensures.below; lane = b.ensures.lane; before = b.ensures.before } in
-    bytes_before_left_lanes _ _ _ _ _ m c.octet_starts.result c.octet_starts.type_inv c.if-mask-eq0.false
-    c.octet_starts.ensures.starts c.octet_starts.ensures.all c.if-open-eq0.false
+    let s = c.octet_starts in
+    let o = c.lanes_outside_octets-open in
+    let first = first_of_last_lanes o.result o.ensures.below c.if-certain-ne0.false
+    c.if-last-eq0.false in
+    bytes_before_left_lanes _ _ _ _ _ m s.result o.result c.if-mask-eq0.false
+    s.ensures.starts s.ensures.all o.ensures.lane _ first
 
 pub returns-clause-outside : goal.returns-clause-outside
 returns-clause-outside c = λ _ _.
@@ -212,5 +235,9 @@ returns-clause-outside c = λ _ _.
     let m : MarksFailingLanesFrom (has_bit c.args.low c.args.high) c.args.bytes.now c.args.start
     b.result.0 b.result.1 =
     record { below = b.ensures.below; lane = b.ensures.lane; before = b.ensures.before } in
-    (first_left_lane_fails _ _ _ _ _ m c.octet_starts.result c.octet_starts.type_inv c.if-mask-eq0.false
-    c.octet_starts.ensures.starts c.octet_starts.ensures.all c.if-open-eq0.false).1
+    let s = c.octet_starts in
+    let o = c.lanes_outside_octets-open in
+    let first = first_of_last_lanes o.result o.ensures.below c.if-certain-ne0.false
+    c.if-last-eq0.false in
+    (first_left_lane_fails _ _ _ _ _ m s.result o.result c.if-mask-eq0.false
+    s.ensures.starts s.ensures.all o.ensures.lane _ first).1
