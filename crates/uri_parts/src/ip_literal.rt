@@ -1,6 +1,6 @@
 //! Addresses in brackets (RFC 3986, section 3.2.2).
 ghost use Rattle.std.specs.Prelude.{◌≡◌, ◌≤◌, ◌<◌, ◌+◌, length, IsTrue, IfSome, IfOk, IfErr, is_ok};
-ghost use Rattle.uri_parts.specs.Errors.{error_index, unexpected};
+ghost use Rattle.uri_parts.specs.Errors.{error_index};
 ghost use Rattle.std.specs.Prelude.{drop, ◌||◌, ◌&&◌, not, nat_lt, Ok, Err, true, false};
 ghost use Rattle.uri_parts.specs.Components.{is_end, starts};
 ghost use Rattle.uri_parts.specs.LiteralErrors.{digits_end as digits_end_at};
@@ -331,20 +331,6 @@ fn plain_ipv6_end(text: &str, start: usize) -> Option<usize>
     }
 }
 
-/// Returns whether what is next after a `[` begins no address: it is neither a hexadecimal digit nor
-/// `:`, `v` or `V`.
-#[inline(always)]
-fn begins_no_literal(text: &str, start: usize) -> bool
-    requires { IsCharBoundary text.now start }
-    ensures { IsTrue result → literal text.now start ≡ Err (unexpected start) }
-{
-    if starts_ipvfuture(text, start) || next_is(text, start, b':') {
-        return false;
-    }
-    let bytes = text.as_bytes();
-    start >= bytes.len() || !char::from(bytes[start]).is_digit(16)
-}
-
 /// Returns the position after the address at `start` and its `]`, or why there is none. A `[` is
 /// before `start`.
 #[inline(always)]
@@ -354,9 +340,6 @@ pub(crate) fn literal_end(text: &str, start: usize) -> Result<usize, ParseError>
     ensures index { IfErr result (λ e. IsCharBoundary text.now (error_index e)) }
     ensures exact { result ≡ literal text.now start }
 {
-    if begins_no_literal(text, start) {
-        return Err(ParseError::new(start, ParseErrorKind::UnexpectedChar));
-    }
     match plain_ipv6_end(text, start) {
         Some(end) => Ok(end),
         None => any_literal_end(text, start),
