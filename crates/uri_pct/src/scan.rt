@@ -7,9 +7,10 @@ ghost use Rattle.uri_pct.specs.Texts.{has_hex_digits_after};
 ghost use Rattle.uri_pct.specs.Tokens.{is_valid_for};
 
 use crate::lanes::{
-    LANES, chars_end, encoded_run_end, encoded_run_len, first_run_end, has, holds, run_end, words,
+    LANES, chars_end, encoded_run_end, encoded_run_len, first_run_end, has, run_end,
 };
 use crate::table::Table;
+use crate::table::members::{run_end_by_members, run_end_by_words};
 use crate::utf8::char_at;
 
 /// Returns whether a scan finds the two hexadecimal digits of a `%XX` after the byte at `index`.
@@ -29,9 +30,9 @@ impl Table {
     ghost use Rattle.uri_pct.specs.Masks.{has_bit};
 
     /// Returns where the run of ASCII characters ends that begins at `start` and that the table
-    /// allows, both as byte offsets.
+    /// allows, both as byte offsets. It is faster in a short text if the table is a constant.
     #[inline(always)]
-    pub(crate) fn pass_ascii(&self, text: &str, start: usize) -> usize
+    pub(crate) fn pass_ascii(&self, text: &str, start: usize, is_constant: bool) -> usize
         requires { IsCharBoundary text.now start }
         ensures total { result + valid_prefix (set_of self.now) (drop result text.now)
             ≡ start + valid_prefix (set_of self.now) (drop start text.now) }
@@ -43,14 +44,12 @@ impl Table {
         let (low, high) = self.masks();
         let bytes = text.as_bytes();
         if bytes.len() >= LANES {
-            return run_end(low, high, bytes, start);
+            run_end(low, high, bytes, start)
+        } else if is_constant {
+            run_end_by_members(low, high, bytes, start)
+        } else {
+            run_end_by_words(low, high, bytes, start)
         }
-        let words = words(low, high);
-        let mut i = start;
-        while i < bytes.len() && holds(&words, bytes[i]) {
-            i += 1;
-        }
-        i
     }
 
     /// Returns where the characters of ASCII and the octets end that are found in blocks of sixteen
@@ -127,7 +126,7 @@ impl Table {
         if start < bytes.len() && bytes[start] >= 128 {
             return start;
         }
-        self.pass_ascii(text, start)
+        self.pass_ascii(text, start, false)
     }
 
     /// Returns where the characters of ASCII and the octets end that begin at `start`, of those that
@@ -144,7 +143,7 @@ impl Table {
     {
         let bytes = text.as_bytes();
         if bytes.len() < LANES {
-            let i = self.pass_ascii(text, start);
+            let i = self.pass_ascii(text, start, true);
             if i == bytes.len() || bytes[i] != b'%' || !self.allows_pct_encoded() {
                 return i;
             }

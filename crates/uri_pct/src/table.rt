@@ -9,6 +9,7 @@ ghost use Rattle.uri_pct.specs.Sets.{allows, allows_past_ascii, is_ucschar, is_i
 ghost use Rattle.uri_pct.specs.Sets.{characters_only, union, difference, IsSubset};
 
 mod constants;
+pub(crate) mod members;
 
 pub use self::constants::{
     ALPHA, DIGIT, FRAGMENT, GEN_DELIMS, HEXDIG, IFRAGMENT, IPATH, IPV_FUTURE, IQUERY, IREG_NAME,

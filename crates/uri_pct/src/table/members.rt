@@ -1,0 +1,92 @@
+//! Bytes of the sets that texts are parsed by, one at a time: for texts of fewer bytes than a block.
+ghost use Rattle.std.specs.Prelude.{◌≡◌, ◌≢◌, ◌<◌, ◌≤◌, ◌==◌, ℕ, bit_and, length, not, slice_index};
+ghost use Rattle.uri_pct.specs.Masks.{has_bit};
+ghost use Rattle.uri_pct.specs.Models.ByteRuns.{IsLongestRun};
+ghost use Rattle.uri_pct.specs.declared.table.members.TheConstants.{MEMBERS};
+
+use crate::lanes::{holds, words};
+use crate::table::{DIGIT, PATH, QUERY, REG_NAME, SCHEME, SEGMENT_NZ_NC, USERINFO};
+
+/// The sets that have each byte: 1 for a scheme's, 2 for the digits, and then for those of userinfo,
+/// of a registered name, of a first segment without `:`, of a path, and of a query or a fragment.
+const MEMBERS: &[u8; 256] = &[
+    0, 0, 0, 0, 0, 0, 0, 0, 0, 0, 0, 0, 0, 0, 0, 0, // 00
+    0, 0, 0, 0, 0, 0, 0, 0, 0, 0, 0, 0, 0, 0, 0, 0, // 10
+    0, 124, 0, 0, 124, 0, 124, 124, 124, 124, 124, 125, 124, 125, 125, 96, // 20
+    127, 127, 127, 127, 127, 127, 127, 127, 127, 127, 100, 124, 0, 124, 0, 64, // 30
+    112, 125, 125, 125, 125, 125, 125, 125, 125, 125, 125, 125, 125, 125, 125, 125, // 40
+    125, 125, 125, 125, 125, 125, 125, 125, 125, 125, 125, 0, 0, 0, 0, 124, // 50
+    0, 125, 125, 125, 125, 125, 125, 125, 125, 125, 125, 125, 125, 125, 125, 125, // 60
+    125, 125, 125, 125, 125, 125, 125, 125, 125, 125, 125, 0, 0, 0, 124, 0, // 70
+    0, 0, 0, 0, 0, 0, 0, 0, 0, 0, 0, 0, 0, 0, 0, 0, // 80
+    0, 0, 0, 0, 0, 0, 0, 0, 0, 0, 0, 0, 0, 0, 0, 0, // 90
+    0, 0, 0, 0, 0, 0, 0, 0, 0, 0, 0, 0, 0, 0, 0, 0, // A0
+    0, 0, 0, 0, 0, 0, 0, 0, 0, 0, 0, 0, 0, 0, 0, 0, // B0
+    0, 0, 0, 0, 0, 0, 0, 0, 0, 0, 0, 0, 0, 0, 0, 0, // C0
+    0, 0, 0, 0, 0, 0, 0, 0, 0, 0, 0, 0, 0, 0, 0, 0, // D0
+    0, 0, 0, 0, 0, 0, 0, 0, 0, 0, 0, 0, 0, 0, 0, 0, // E0
+    0, 0, 0, 0, 0, 0, 0, 0, 0, 0, 0, 0, 0, 0, 0, 0, // F0
+];
+
+/// Returns the bit of a set in `MEMBERS`, or 0 if it is none of these. The set is a constant in a
+/// parser, and so this is.
+#[inline(always)]
+fn member_bit(low: u64, high: u64) -> u8
+    ensures { result ≢ 0 → (b : ℕ) → b < 256
+        → not (bit_and (slice_index MEMBERS.now b) result == 0) ≡ has_bit low high b }
+{
+    if low == SCHEME.low && high == SCHEME.high {
+        return 1;
+    }
+    if low == DIGIT.low && high == DIGIT.high {
+        return 2;
+    }
+    if low == USERINFO.low && high == USERINFO.high {
+        return 4;
+    }
+    if low == REG_NAME.low && high == REG_NAME.high {
+        return 8;
+    }
+    if low == SEGMENT_NZ_NC.low && high == SEGMENT_NZ_NC.high {
+        return 16;
+    }
+    if low == PATH.low && high == PATH.high {
+        return 32;
+    }
+    if low == QUERY.low && high == QUERY.high {
+        return 64;
+    }
+    0
+}
+
+/// Returns where the longest run of bytes of the set that begins at `start` ends; one at a time.
+#[inline(always)]
+pub(crate) fn run_end_by_words(low: u64, high: u64, bytes: &[u8], start: usize) -> usize
+    requires { start ≤ length bytes.now }
+    ensures { IsLongestRun (has_bit low high) bytes.now start result }
+{
+    let words = words(low, high);
+    let mut i = start;
+    while i < bytes.len() && holds(&words, bytes[i]) {
+        i += 1;
+    }
+    i
+}
+
+/// Returns where the longest run of bytes of the set that begins at `start` ends; one at a time. It
+/// is for a set that is a constant: of one in `MEMBERS`, the bytes are looked up there.
+#[inline(always)]
+pub(crate) fn run_end_by_members(low: u64, high: u64, bytes: &[u8], start: usize) -> usize
+    requires { start ≤ length bytes.now }
+    ensures { IsLongestRun (has_bit low high) bytes.now start result }
+{
+    let bit = member_bit(low, high);
+    if bit == 0 {
+        return run_end_by_words(low, high, bytes, start);
+    }
+    let mut i = start;
+    while i < bytes.len() && MEMBERS[usize::from(bytes[i])] & bit != 0 {
+        i += 1;
+    }
+    i
+}
