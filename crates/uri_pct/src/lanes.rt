@@ -1,7 +1,7 @@
-//! Sets of ASCII characters by their two masks, a byte at a time or sixteen.
+//! Sets of ASCII characters by their two masks, sixteen bytes at a time.
 ghost use Rattle.std.specs.Prelude.{◌≡◌, ◌+◌, ◌-◌, ◌≤◌, ◌<◌, ◌/◌, ◌%◌, ℕ, true, not, length, map};
 ghost use Rattle.std.specs.Prelude.{slice_index, nat_lt, nat_le, IsTrue, false, ◌^◌, ◌==◌, ◌&&◌};
-ghost use Rattle.std.specs.Prelude.{bit_and};
+ghost use Rattle.std.specs.Prelude.{List, bit_and};
 ghost use Rattle.std.specs.Simd.Lanes.{mask_l, chunk};
 ghost use Rattle.std.specs.Int.{bit_at};
 ghost use Rattle.uri_pct.specs.Delimiters.{percent_sign};
@@ -13,6 +13,7 @@ ghost use Rattle.uri_pct.specs.Models.LaneMasks.{bytes_of_masks, bit_in_mask_byt
 ghost use Rattle.uri_pct.specs.Models.LaneMasks.{is_lane_of_octet};
 ghost use Rattle.uri_pct.specs.Masks.{has_bit, HasHexDigits};
 
+use crate::masks::has;
 use std::simd::prelude::*;
 
 /// How many bytes are scanned at once.
@@ -29,44 +30,14 @@ pub fn lanes_equal_to(byte: u8, bytes: &[u8], at: usize) -> u64
     lanes.simd_eq(u8x16::splat(byte)).to_bitmask()
 }
 
-/// Returns the two words of a set of ASCII, and two empty words for bytes past ASCII.
-#[inline]
-pub fn words(low: u64, high: u64) -> [u64; 4]
-    ensures low { slice_index result 0 ≡ low }
-    ensures high { slice_index result 1 ≡ high }
-    ensures third { slice_index result 2 ≡ 0 }
-    ensures fourth { slice_index result 3 ≡ 0 }
-{
-    [low, high, 0, 0]
-}
-
-/// Returns whether the set of these words has the byte. The last two words, past ASCII, are empty.
-#[inline]
-pub fn holds(words: &[u64; 4], byte: u8) -> bool
-    requires third { slice_index words.now 2 ≡ 0 }
-    requires fourth { slice_index words.now 3 ≡ 0 }
-    ensures { result ≡ has_bit (slice_index words.now 0) (slice_index words.now 1) byte }
-{
-    (words[(byte >> 6) as usize] >> (byte & 63)) & 1 == 1
-}
-
-/// Returns whether the set of these two words has the byte, which is ASCII.
+/// Returns for each lane the byte of the masks that has this index.
 #[inline(always)]
-pub fn has(low: u64, high: u64, byte: u8) -> bool
-    requires { byte < 128 }
-    ensures { result ≡ has_bit low high byte }
-{
-    let mask = if byte < 64 { low } else { high };
-    (mask >> (byte & 63)) & 1 == 1
-}
-
-/// Returns for each lane the byte of the masks that has its bit; the masks begin again at 128.
-#[inline(always)]
-fn mask_bytes_of_lanes(low: u64, high: u64, lanes: u8x16) -> u8x16
-    ensures { result ≡ map (λ b. slice_index (bytes_of_masks low high) (b / 8 % 16)) lanes }
+fn mask_bytes(low: u64, high: u64, indices: u8x16) -> u8x16
+    requires { (k : ℕ) → k < 16 → slice_index indices k < 16 }
+    ensures { result ≡ map (λ i. slice_index (bytes_of_masks low high) i) indices }
 {
     let bytes = u64x2::from_array([low, high]).to_le_bytes();
-    bytes.swizzle_dyn_within::<16>((lanes >> u8x16::splat(3)) & u8x16::splat(15))
+    bytes.swizzle_dyn_within::<16>(indices)
 }
 
 /// Returns for each lane the bit of its byte in the byte of the masks that has it, and none from
@@ -79,24 +50,57 @@ fn bits_of_lanes(lanes: u8x16) -> u8x16
     bits.swizzle_dyn_within::<16>(lanes & u8x16::splat(0x87))
 }
 
-// With `always` the parsers, which have many scans, would be too large to be inlined.
+// This and what else a scan calls is only `#[inline]`: with `always` the parsers, which have many
+// scans, would be too large to be inlined.
+/// Returns by what the sixteen bytes from `at` on are looked up in the masks of any set: the index
+/// of the byte that has a lane's bit, where the masks begin again at 128, and this bit.
+#[inline]
+fn lane_keys(bytes: &[u8], at: usize) -> (u8x16, u8x16)
+    requires { at + LANES ≤ length bytes.now }
+    ensures indices { result.0 ≡ map (λ b. b / 8 % 16) (chunk at 16 bytes.now) }
+    ensures bits { result.1 ≡ map bit_in_mask_byte (chunk at 16 bytes.now) }
+{
+    let lanes = u8x16::from_slice(&bytes[at..]);
+    (
+        (lanes >> u8x16::splat(3)) & u8x16::splat(15),
+        bits_of_lanes(lanes),
+    )
+}
+
+/// Returns which of sixteen bytes with these keys are outside the set.
+#[inline]
+fn outside_by_keys(low: u64, high: u64, indices: u8x16, bits: u8x16) -> u64
+    requires { (k : ℕ) → k < 16 → slice_index indices k < 16 }
+    ensures { (bytes : List ℕ) → indices ≡ map (λ b. b / 8 % 16) bytes
+        → bits ≡ map bit_in_mask_byte bytes
+        → result ≡ mask_l (map (λ b. not (has_bit low high b)) bytes) }
+{
+    let given = mask_bytes(low, high, indices) & bits;
+    given.simd_eq(u8x16::splat(0)).to_bitmask()
+}
+
 /// Returns which of the sixteen bytes from `at` on are outside the set: bit k is of `at + k`.
 #[inline]
 fn outside(low: u64, high: u64, bytes: &[u8], at: usize) -> u64
     requires { at + LANES ≤ length bytes.now }
     ensures { result ≡ mask_l (map (λ b. not (has_bit low high b)) (chunk at 16 bytes.now)) }
 {
-    let lanes = u8x16::from_slice(&bytes[at..]);
-    let given = mask_bytes_of_lanes(low, high, lanes) & bits_of_lanes(lanes);
-    given.simd_eq(u8x16::splat(0)).to_bitmask()
+    let (indices, bits) = lane_keys(bytes, at);
+    outside_by_keys(low, high, indices, bits)
 }
 
 /// Returns the first block of sixteen bytes that has a byte outside the set, from `start` on: where
-/// the block begins, and a mask of these bytes. If there is none, this is the last block and 0.
+/// the block begins, a mask of these bytes, and the keys of the block. If there is none, this is
+/// the last block and 0.
 ///
 /// The last block is scanned even if it begins before `start`; what is before is shifted out.
 #[inline(always)]
-fn first_block_outside(low: u64, high: u64, bytes: &[u8], start: usize) -> (usize, u64)
+fn first_block_outside(
+    low: u64,
+    high: u64,
+    bytes: &[u8],
+    start: usize,
+) -> (usize, u64, u8x16, u8x16)
     requires within { start ≤ length bytes.now }
     requires long { LANES ≤ length bytes.now }
     ensures room { result.0 + LANES ≤ length bytes.now }
@@ -107,20 +111,24 @@ fn first_block_outside(low: u64, high: u64, bytes: &[u8], start: usize) -> (usiz
     ensures before { (k : ℕ) → start ≤ k → k < result.0
         → has_bit low high (slice_index bytes.now k) ≡ true }
     ensures last { result.1 ≡ 0 → result.0 + LANES ≡ length bytes.now }
+    ensures indices { result.2 ≡ map (λ b. b / 8 % 16) (chunk result.0 16 bytes.now) }
+    ensures bits { result.3 ≡ map bit_in_mask_byte (chunk result.0 16 bytes.now) }
 {
     let len = bytes.len();
     let mut i = start;
     while len - i > LANES {
         let mask = outside(low, high, bytes, i);
         if mask != 0 {
-            return (i, mask);
+            let (indices, bits) = lane_keys(bytes, i);
+            return (i, mask, indices, bits);
         }
         i += LANES;
     }
     let last = len - LANES;
     let passed = i - last;
     let tail = outside(low, high, bytes, last);
-    (last, (tail >> passed) << passed)
+    let (indices, bits) = lane_keys(bytes, last);
+    (last, (tail >> passed) << passed, indices, bits)
 }
 
 /// Returns where the longest run of bytes of the set
@@ -131,7 +139,7 @@ pub fn run_end(low: u64, high: u64, bytes: &[u8], start: usize) -> usize
     requires long { LANES ≤ length bytes.now }
     ensures { IsLongestRun (has_bit low high) bytes.now start result }
 {
-    let (block, mask) = first_block_outside(low, high, bytes, start);
+    let (block, mask, _, _) = first_block_outside(low, high, bytes, start);
     if mask == 0 {
         return bytes.len();
     }
@@ -241,10 +249,12 @@ fn lanes_without_hex_digit(bytes: &[u8], at: usize) -> u64
 }
 
 /// Returns a mask of the sixteen bytes from `at` on: those at which a `%XX` begins that also ends
-/// among them.
-#[inline(always)]
-fn octet_starts(bytes: &[u8], at: usize) -> u64
-    requires { at + LANES ≤ length bytes.now }
+/// among them. The other mask is of those that are no hexadecimal digits.
+#[inline]
+fn octet_starts(bytes: &[u8], at: usize, no_digits: u64) -> u64
+    requires room { at + LANES ≤ length bytes.now }
+    requires no_digits { no_digits ≡ mask_l (map (λ b.
+        not (has_bit 0x03FF000000000000 0x0000007E0000007E b)) (chunk at 16 bytes.now)) }
     ensures starts { (k : ℕ) → bit_at result k ≡ 1 → (k + 3 ≤ 16)
         × (slice_index bytes.now (at + k) ≡ percent_sign)
         × (has_hex_digits_after bytes.now (at + k) ≡ true) }
@@ -253,7 +263,7 @@ fn octet_starts(bytes: &[u8], at: usize) -> u64
 {
     let percents = lanes_equal_to(b'%', bytes, at);
     // The two lanes after the last have no digits.
-    let others = lanes_without_hex_digit(bytes, at) | 0x3_0000;
+    let others = no_digits | 0x3_0000;
     percents & !((others >> 1) | (others >> 2))
 }
 
@@ -265,7 +275,7 @@ pub fn encoded_run_len(low: u64, high: u64, bytes: &[u8], at: usize) -> usize
     ensures few { result ≤ 16 }
     ensures allowed { AreCharactersOrOctets (has_bit low high) bytes.now at result }
 {
-    let starts = octet_starts(bytes, at);
+    let starts = octet_starts(bytes, at, lanes_without_hex_digit(bytes, at));
     let open = outside(low, high, bytes, at) & !(starts | (starts << 1) | (starts << 2));
     if open == 0 {
         return LANES;
@@ -274,7 +284,7 @@ pub fn encoded_run_len(low: u64, high: u64, bytes: &[u8], at: usize) -> usize
 }
 
 /// Returns which lanes of `mask` are in no octet of those that begin at the lanes of both masks.
-#[inline(always)]
+#[inline]
 fn lanes_outside_octets(low: u64, high: u64, mask: u64, starts: u64) -> u64
     requires below { mask < 2 ^ 16 }
     requires digits { HasHexDigits low high → (k : ℕ) → bit_at starts k ≡ 1
@@ -316,7 +326,7 @@ pub(crate) fn first_run_end(
         → slice_index bytes.now result.0 ≡ percent_sign
         → has_hex_digits_after bytes.now result.0 ≡ false }
 {
-    let (block, mask) = first_block_outside(low, high, bytes, start);
+    let (block, mask, indices, bits) = first_block_outside(low, high, bytes, start);
     if mask == 0 {
         return (bytes.len(), true);
     }
@@ -324,7 +334,8 @@ pub(crate) fn first_run_end(
     if bytes[first] != b'%' || !octets {
         return (first, true);
     }
-    let open = lanes_outside_octets(low, high, mask, octet_starts(bytes, block));
+    let no_digits = outside_by_keys(0x03FF_0000_0000_0000, 0x0000_007E_0000_007E, indices, bits);
+    let open = lanes_outside_octets(low, high, mask, octet_starts(bytes, block, no_digits));
     // An octet that begins in the last two lanes is cut by the end of the block.
     let certain = open & 0x3FFF;
     if certain != 0 {

@@ -14,6 +14,7 @@ mod estring;
 pub mod lanes;
 #[doc(hidden)]
 pub mod laws;
+mod masks;
 #[doc(hidden)]
 pub mod octet;
 pub mod pct_enc;

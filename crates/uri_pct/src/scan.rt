@@ -6,9 +6,8 @@ ghost use Rattle.uri_pct.specs.Prefixes.{valid_prefix};
 ghost use Rattle.uri_pct.specs.Texts.{has_hex_digits_after};
 ghost use Rattle.uri_pct.specs.Tokens.{is_valid_for};
 
-use crate::lanes::{
-    LANES, chars_end, encoded_run_end, encoded_run_len, first_run_end, has, run_end,
-};
+use crate::lanes::{LANES, chars_end, encoded_run_end, encoded_run_len, first_run_end, run_end};
+use crate::masks::has;
 use crate::table::Table;
 use crate::table::members::{run_end_by_members, run_end_by_words};
 use crate::utf8::char_at;

@@ -16,7 +16,7 @@ pub use self::constants::{
     ISEGMENT_NZ_NC, IUSERINFO, PATH, PCHAR, QUERY, REG_NAME, RESERVED, SCHEME, SEGMENT_NZ_NC,
     SUB_DELIMS, UNRESERVED, USERINFO,
 };
-use crate::lanes::{holds, words};
+use crate::masks::{holds, words};
 
 /// A set of ASCII characters other than `%`, and three flags. The flags add percent-encoded octets,
 /// the characters of `ucschar` and those of `iprivate` (RFC 3987, section 2.2).

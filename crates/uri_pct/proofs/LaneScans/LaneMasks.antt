@@ -13,7 +13,7 @@ use Rattle.std.proofs.lemmas.Nat.Bits.{bit_at_cat_high, and_pow}
 use Rattle.std.proofs.lemmas.Simd.{swz_l, SwzOk, SwzOk-from_Each1, Each1-from_get_or, Each1-get_or}
 use Rattle.std.proofs.lemmas.Simd.{length-swz_l, get_or-swz_l, zip2_of_maps, bitmask_splat, map-map}
 use Rattle.std.proofs.lemmas.Bool.{cases_lt, cond-true, cond-false, lt-ltb, le-ltb, ne_eqb}
-use Rattle.std.proofs.lemmas.Bool.{agree_below_at, eqb-true}
+use Rattle.std.proofs.lemmas.Bool.{agree_below_at, eqb-true, or_right}
 use Rattle.std.proofs.lemmas.List.{ext_get_or, length-map}
 use Rattle.std.proofs.lemmas.Grind.{get_or_default_zero}
 use Rattle.std.proofs.Math.ListN.{get_or-map}
@@ -125,12 +125,37 @@ module _ (xs v : List ℕ) (f g : ℕ → ℕ) (long : length v ≡ 16) (fits : 
       ∙ sym (sym (get_or_default_zero (map g v) i (g 0) (omega (arith, length-map v g)))
       ∙ get_or-map g v i 0))
 
--- sixteen bytes at a time: the index of a mask's byte is one that the swizzle accepts
-pub byte_index_fits_swizzle : (b : ℕ) → b < 256 → (zeroes 16 w8 (b / 8 % 16) || ltb (b / 8 % 16) 16)
-    ≡ true
-byte_index_fits_swizzle b h = agree_below_at (λ c. zeroes 16 w8 (c / 8 % 16) || ltb (c / 8 % 16) 16)
-    (λ c. true)
-    256 b refl h
+-- indices below 16, and what is there
+module _ (xs is : List ℕ) (long : length is ≡ 16)
+    (small : (i : ℕ) → i < 16 → get_or is i 0 < 16) where
+  pub small_indices_fit_swizzle : SwzOk w8 16 16 0 is
+  small_indices_fit_swizzle =
+      SwzOk-from_Each1 w8 16 1 16 0 _ refl (omega (arith, long))
+      (Each1-from_get_or (λ j. T (zeroes 16 w8 j || ltb j 16)) is 0 (λ i l.
+      subst T (sym (or_right (zeroes 16 w8 (get_or is i 0)) _
+      (lt-ltb (get_or is i 0) 16 (small i (omega arith))))) tt))
+
+  pub swizzle_by_small_indices_is_lookup
+      : swz_l w8 16 xs 0 is ≡ map (λ i. get_or xs i 0) is
+  swizzle_by_small_indices_is_lookup =
+      let g : ℕ → ℕ = λ i. get_or xs i 0 in
+      let both = length-swz_l w8 16 xs 0 is ∙ long in
+      ext_get_or 0 _ _ (both ∙ sym (length-map is g ∙ long)) (λ i inside.
+      let h : i < 16 = omega (arith, both) in
+      get_or-swz_l w8 16 xs 0 is i (omega (arith, long))
+      ∙ ap (λ j. cond (zeroes 16 w8 (get_or is i 0)) 0 (get_or xs j 0)) (omega arith)
+      ∙ cond-false _ _ _ (agree_below_at (zeroes 16 w8) (λ c. false) 16 (get_or is i 0) refl
+      (small i h))
+      ∙ sym (sym (get_or_default_zero (map g is) i (g 0) (omega (arith, length-map is g)))
+      ∙ get_or-map g is i 0))
+
+-- sixteen bytes at a time: the indices by which bytes are looked up are below 16
+pub index_of_mask_byte_is_small : (v is : List ℕ) → is ≡ map (λ b. b / 8 % 16) v → (i : ℕ)
+    → get_or is i 0 < 16
+index_of_mask_byte_is_small v is e i =
+    let there : get_or is i 0 ≡ get_or v i 0 / 8 % 16 = ap (λ l. get_or l i 0) e
+    ∙ get_or-map (λ b. b / 8 % 16) v i 0 in
+    omega (arith, there)
 
 -- sixteen bytes at a time: an index into the vector of bits is below 16, or has bit 7 set,
 -- for which the vector gives 0
@@ -139,12 +164,6 @@ pub bit_index_fits_swizzle : (b : ℕ) → b < 256
 bit_index_fits_swizzle b h = agree_below_at
     (λ c. zeroes 16 w8 (bit_and c 135) || ltb (bit_and c 135) 16)
     (λ c. true) 256 b refl h
-
--- sixteen bytes at a time: a vector gives the byte of a table's mask that byte b is looked up in
-pub swizzle_reads_mask_byte : (xs : List ℕ) (b : ℕ) → b < 256
-    → cond (zeroes 16 w8 (b / 8 % 16)) 0 (get_or xs (b / 8 % 16) 0) ≡ get_or xs (b / 8 % 16) 0
-swizzle_reads_mask_byte xs b h = cond-false _ _ _
-    (agree_below_at (λ c. zeroes 16 w8 (c / 8 % 16)) (λ c. false) 256 b refl h)
 
 -- sixteen bytes at a time: the vector that has the bit of a byte by its three lowest bits
 abbrev pub swizzle_bits : List ℕ

@@ -4,7 +4,7 @@ ghost use Rattle.uri_pct.specs.Masks.{has_bit};
 ghost use Rattle.uri_pct.specs.Models.ByteRuns.{IsLongestRun};
 ghost use Rattle.uri_pct.specs.declared.table.members.TheConstants.{MEMBERS};
 
-use crate::lanes::{holds, words};
+use crate::masks::{holds, words};
 use crate::table::{DIGIT, PATH, QUERY, REG_NAME, SCHEME, SEGMENT_NZ_NC, USERINFO};
 
 /// The sets that have each byte: 1 for a scheme's, 2 for the digits, and then for those of userinfo,

@@ -1,5 +1,7 @@
 use Rattle.std.proofs.Common.{arith}
+use Rattle.std.specs.Simd.Lanes.{chunk}
 use Rattle.uri_pct.specs.Masks.{has_bit}
+use Rattle.uri_pct.proofs.LaneScans.LaneMasks.{index_of_mask_byte_is_small}
 use Rattle.uri_pct.proofs.LaneScans.LaneBits.{trailing_zeros_is_first_set_lane}
 use Rattle.uri_pct.proofs.LaneScans.BlockOctets.{MarksFailingLanesFrom, run_goes_on_to_end}
 use Rattle.uri_pct.proofs.LaneScans.BlockOctets.{run_ends_at_first_marked_byte}
@@ -82,6 +84,12 @@ returns-then-bytes-first-ne37-clause-outside c = λ _ inside.
     b.result.0 b.result.1 =
     record { below = b.ensures.below; lane = b.ensures.lane; before = b.ensures.before } in
     (run_ends_at_first_marked_byte _ _ _ _ _ m c.if-mask-eq0.false b.ensures.room).stop inside
+
+-- the keys of the block are those of its bytes
+pub outside_by_keys-no_digits-requires : goal.outside_by_keys-no_digits-requires
+outside_by_keys-no_digits-requires c k h = index_of_mask_byte_is_small
+    (chunk c.first_block_outside-block.result.0 16 c.args.bytes.now)
+    c.first_block_outside-block.result.2 c.first_block_outside-block.ensures.indices k
 
 -- an octet's digits are not among the bytes outside a set that has all digits
 pub lanes_outside_octets-open-requires-clause-digits

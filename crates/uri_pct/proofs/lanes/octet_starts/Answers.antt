@@ -22,8 +22,8 @@ pub returns-clause-starts : goal.returns-clause-starts
 returns-clause-starts c k =
     let bs = c.args.bytes.now in
     let i = c.args.at in
-    let others = c.lanes_without_hex_digit-others.result in
-    let room : i + 16 ≤ length bs = c.requires in
+    let others = c.args.no_digits in
+    let room : i + 16 ≤ length bs = c.requires.room in
     subst
     (λ m.
     bit_at
@@ -35,7 +35,7 @@ returns-clause-starts c k =
     (octet_begins_at_set_lane bs i _ others (λ j h. mask_bit_is_equality_of_byte 37 bs i j room h)
     (equality_mask_is_below_2_16 37 bs i room)
     (subst (MarksFailingLanes (has_bit 0x03FF000000000000 0x0000007E0000007E) bs i 16)
-    (sym c.lanes_without_hex_digit-others.ensures) (load_mask_marks_failing_lanes _ bs i 16 room))
+    (sym c.requires.no_digits) (load_mask_marks_failing_lanes _ bs i 16 room))
     k)
 
 -- a lane is set whose byte is a `%` before two hexadecimal digits
@@ -60,13 +60,13 @@ unfolding has_hex_digits_after
 returns-clause-all c k h percent digits =
     let bs = c.args.bytes.now in
     let i = c.args.at in
-    let others = c.lanes_without_hex_digit-others.result in
-    let room : i + 16 ≤ length bs = c.requires in
+    let others = c.args.no_digits in
+    let room : i + 16 ≤ length bs = c.requires.room in
     let marks = subst (MarksFailingLanes (has_bit 0x03FF000000000000 0x0000007E0000007E) bs i 16)
-    (sym c.lanes_without_hex_digit-others.ensures) (load_mask_marks_failing_lanes _ bs i 16 room) in
+    (sym c.requires.no_digits) (load_mask_marks_failing_lanes _ bs i 16 room) in
     let digit : (j : ℕ) → j < 16 → is_ascii_hexdigit (get_or bs (i + j) 0) ≡ true
     → is_set_bit others j ≡ false =
-    λ j l e. ap (λ m. is_set_bit m j) c.lanes_without_hex_digit-others.ensures
+    λ j l e. ap (λ m. is_set_bit m j) c.requires.no_digits
     ∙ mask_bit_is_test_of_byte (λ b. not (has_bit 0x03FF000000000000 0x0000007E0000007E b))
     bs i j room l
     ∙ ap not (ap (λ s. s.ascii (get_or bs (i + j) 0)) hexdig_masks_are_hexdig_set ∙ e) in

@@ -4,8 +4,8 @@ use Rattle.std.proofs.lemmas.Nat.{and_mask}
 use Rattle.std.proofs.lemmas.Nat.Bits.{shr_and_one}
 use Rattle.uri_pct.proofs.TableSets.Masks.{has_bit_below_64_is_bit_of_low}
 use Rattle.uri_pct.proofs.TableSets.Masks.{has_bit_from_64_is_bit_of_high}
-use Rattle.uri_pct.proofs.lanes.has.Goals as goal
-use Rattle.uri_pct.proofs.lanes.has.Goals.{then-byte-lt64, else-byte-lt64}
+use Rattle.uri_pct.proofs.masks.has.Goals as goal
+use Rattle.uri_pct.proofs.masks.has.Goals.{then-byte-lt64, else-byte-lt64}
 
 pub returns : goal.returns
 returns c =
