@@ -15,7 +15,7 @@ use uri_ops::traits::{RiMaybeRef, WithOwned};
 use uri_parts::core_text::Core;
 use uri_parts::error::ParseError;
 use uri_parts::kind::Kind;
-use uri_parts::positions::Positions;
+use uri_parts::packed_positions::PackedPositions;
 
 /// A text of the kind `K`, held as a `&str` or a `String`.
 ///
@@ -74,12 +74,12 @@ impl<K: Kind, T: AsStr> RiMaybeRef for Reference<K, T> {
     }
 
     /// Returns the positions of the components of the reference.
-    fn positions(&self) -> Positions {
-        self.core.borrow().positions()
+    fn packed_positions(&self) -> PackedPositions {
+        self.core.borrow().packed_positions()
     }
 
     /// Returns the reference whose text this is, with the positions of its own components.
-    fn make_owned(owned: String, positions: Positions) -> Reference<K, String> {
+    fn make_owned(owned: String, positions: PackedPositions) -> Reference<K, String> {
         Reference {
             core: Core::new(owned, positions),
         }

@@ -243,7 +243,7 @@ fn write_parts<K: Kind>(value: &Reference<K, &str>, parts: &mut Parts)
     ensures error { parts.new.error ≡ 0 }
     ensures spans { AreSpansOf (reference_text value.now) parts.new }
 {
-    let at = value.positions();
+    let at = value.core().positions();
     let text = value.as_str();
     *parts = Parts {
         error: 0,

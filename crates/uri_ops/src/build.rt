@@ -36,6 +36,7 @@ use crate::build::state::{
 use crate::traits::RiMaybeRef;
 use std::alloc::Global;
 use uri_parts::component::{Authority, Scheme};
+use uri_parts::packed_positions::PackedPositions;
 use uri_pct::pct_enc::EStr;
 
 /// A builder of an `R` in the state `S`.
@@ -434,7 +435,7 @@ impl<R: RiMaybeRef, S: StateOf<R>> Builder<R, S> {
         match draft.refusal() {
             Some(error) => Err(error),
             None => {
-                let positions = draft.positions();
+                let positions = PackedPositions::of(&draft.positions());
                 Ok(R::make_owned(draft.text, positions))
             }
         }

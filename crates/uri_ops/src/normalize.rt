@@ -4,7 +4,7 @@ ghost use Rattle.std.specs.Prelude.{◌≡◌, IfOk, IfErr, true, false, string_
 ghost use Rattle.std.specs.Str.{IsUtf8};
 ghost use Rattle.uri_parts.specs.CoreTexts.{core_text};
 ghost use Rattle.uri_parts.specs.Grammar.{IsOfKind};
-ghost use Rattle.uri_parts.specs.Positions.{ArePositionsOf};
+ghost use Rattle.uri_parts.specs.PackedPositions.{ArePackedPositionsOf};
 ghost use Rattle.uri_parts.specs.SchemePorts.{default_port};
 ghost use Rattle.uri_ops.specs.ComponentSets.{HasComponentSets};
 ghost use Rattle.uri_ops.specs.Normalizers.{HasNormalText, IsNormalForm};
@@ -36,7 +36,7 @@ use std::alloc::{AllocError, Global};
 use thiserror::Error;
 use uri_parts::core_text::Core;
 use uri_parts::kind::Kind;
-use uri_parts::positions::Positions;
+use uri_parts::packed_positions::PackedPositions;
 
 /// Why a value was not normalised.
 ///
@@ -94,7 +94,8 @@ fn normalize_components<K: Kind, P: DefaultPort>(
     ensures text { IfOk result (λ made.
         HasNormalText K.kind (P.port_of ports.now) (core_text core.entry)
         (string_bytes made.text)) }
-    ensures at { IfOk result (λ made. ArePositionsOf (string_bytes made.text) made.positions) }
+    ensures at { IfOk result (λ made.
+        ArePackedPositionsOf (string_bytes made.text) made.positions) }
     ensures underflow { IfOk result (λ made.
         made.underflows ≡ text_underflows (core_text core.entry)) }
 {
@@ -134,7 +135,8 @@ pub(crate) fn normalize_core<K: Kind, P: DefaultPort>(
     ensures text { IfOk result (λ made.
         HasNormalText K.kind (P.port_of ports.now) (core_text core.entry)
         (string_bytes made.text)) }
-    ensures at { IfOk result (λ made. ArePositionsOf (string_bytes made.text) made.positions) }
+    ensures at { IfOk result (λ made.
+        ArePackedPositionsOf (string_bytes made.text) made.positions) }
     ensures underflow { IfOk result (λ made.
         made.underflows ≡ text_underflows (core_text core.entry)) }
 {
@@ -149,17 +151,18 @@ pub(crate) fn normalize_core<K: Kind, P: DefaultPort>(
 pub(crate) fn normalize_string<K: Kind, P: DefaultPort>(
     alloc: Global,
     text: String,
-    positions: Positions,
+    positions: PackedPositions,
     ports: &P,
 ) -> Result<Normalized, AllocError>
     requires sets { HasComponentSets K.kind }
     requires of_kind { IsOfKind K.kind (string_bytes text) }
-    requires at { ArePositionsOf (string_bytes text) positions }
+    requires at { ArePackedPositionsOf (string_bytes text) positions }
     ensures utf8 { IsUtf8 (string_bytes text) }
     ensures text { IfOk result (λ made.
         HasNormalText K.kind (P.port_of ports.now) (string_bytes text)
         (string_bytes made.text)) }
-    ensures at { IfOk result (λ made. ArePositionsOf (string_bytes made.text) made.positions) }
+    ensures at { IfOk result (λ made.
+        ArePackedPositionsOf (string_bytes made.text) made.positions) }
 {
     let core = Core::<K, &str>::new(text.as_str(), positions);
     if is_unchanged(core) {

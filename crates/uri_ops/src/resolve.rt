@@ -2,7 +2,7 @@
 ghost use Rattle.std.specs.Prelude.{◌≡◌, IfOk, IfErr, true};
 ghost use Rattle.std.specs.Prelude.{string_bytes, Ok};
 ghost use Rattle.uri_parts.specs.Components.{components};
-ghost use Rattle.uri_parts.specs.Positions.{ArePositionsOf};
+ghost use Rattle.uri_parts.specs.PackedPositions.{ArePackedPositionsOf};
 ghost use Rattle.uri_ops.specs.Normalizers.{ports_of};
 ghost use Rattle.uri_ops.specs.Resolving.{IsErrorForEncoded, IsTargetOfEncoded};
 ghost use Rattle.uri_ops.specs.NormalTargets.{IsErrorOfMeanings, IsTargetOfMeanings};
@@ -13,6 +13,7 @@ ghost use Rattle.uri_ops.specs.Target.{resolution_of_texts};
 ghost use Rattle.uri_parts.specs.Grammar.{IsTextOf};
 
 pub(crate) mod base_prefix;
+pub(crate) mod copied_target;
 pub(crate) mod error;
 pub(crate) mod room;
 #[doc(hidden)]
@@ -21,8 +22,9 @@ pub(crate) mod text_view;
 
 use crate::default_port::DefaultPort;
 use crate::normalize::{Normalizer, normalize_string};
+use crate::resolve::copied_target::Target;
 pub use crate::resolve::error::ResolveError;
-use crate::resolve::target_text::{Target, target_text};
+use crate::resolve::target_text::target_text;
 use crate::resolve::text_view::TextView;
 use crate::traits::{RefOf, Ri, RiMaybeRef};
 use std::alloc::{AllocError, Global};
@@ -58,7 +60,8 @@ fn resolve_to_text<B: Ri, Q: RefOf<B>>(
     ensures base { IsTextOf B.kind (B.text base.now) }
     ensures reference { IsTextOf Q.kind (Q.text reference.now) }
     ensures of_kind { IfOk result (λ target. IsTextOf B.kind (string_bytes target.text)) }
-    ensures at { IfOk result (λ target. ArePositionsOf (string_bytes target.text) target.positions) }
+    ensures at { IfOk result (λ target.
+        ArePackedPositionsOf (string_bytes target.text) target.positions) }
     ensures target { IfOk result (λ target.
         IsTarget allow_path_underflow (components (B.text base.now))
         (components (Q.text reference.now)) (string_bytes target.text)) }

@@ -2,12 +2,12 @@
 ghost use Rattle.std.specs.Prelude.{◌≡◌, false, option_map, string_bytes};
 ghost use Rattle.uri_parts.specs.CoreTexts.{core_text};
 ghost use Rattle.uri_parts.specs.Grammar.{IsOfKind};
-ghost use Rattle.uri_parts.specs.Positions.{ArePositionsOf};
+ghost use Rattle.uri_parts.specs.PackedPositions.{ArePackedPositionsOf};
 
 use uri_parts::component::{Authority, Scheme};
 use uri_parts::core_text::Core;
 use uri_parts::kind::Kind;
-use uri_parts::positions::Positions;
+use uri_parts::packed_positions::PackedPositions;
 use uri_pct::encoder::{Encoder, PathEncoder};
 use uri_pct::pct_enc::EStr;
 
@@ -72,14 +72,14 @@ pub trait RiMaybeRef {
 
     /// Returns where the components of the text are.
     #[doc(hidden)]
-    fn positions(&self) -> Positions
-        ensures { ArePositionsOf (text self.now) result };
+    fn packed_positions(&self) -> PackedPositions
+        ensures { ArePackedPositionsOf (text self.now) result };
 
     /// Returns the value whose text this is, with the positions of its own components.
     #[doc(hidden)]
-    fn make_owned(owned: String, positions: Positions) -> Self::Owned
+    fn make_owned(owned: String, positions: PackedPositions) -> Self::Owned
         requires of_kind { IsOfKind kind (string_bytes owned) }
-        requires at { ArePositionsOf (string_bytes owned) positions }
+        requires at { ArePackedPositionsOf (string_bytes owned) positions }
         ensures { owned_text result ≡ string_bytes owned };
 
     /// Returns the text with the positions of its components.
@@ -197,5 +197,5 @@ fn core_of<R: RiMaybeRef>(value: &R) -> Core<R::Kind, &str>
     ensures text { core_text result ≡ R.text value.now }
     ensures of_kind { IsOfKind R.kind (R.text value.now) }
 {
-    Core::new(value.as_str(), value.positions())
+    Core::new(value.as_str(), value.packed_positions())
 }

@@ -71,14 +71,14 @@ impl<K: Kind, T: AsStr> Core<K, T> {
 
     /// Returns the text with the positions of its own components.
     #[inline(always)]
-    pub fn new(text: T, positions: Positions) -> Self
+    pub fn new(text: T, positions: PackedPositions) -> Self
         requires of_kind { IsOfKind K.kind (T.text text) }
-        requires at { ArePositionsOf (T.text text) positions }
+        requires at { ArePackedPositionsOf (T.text text) positions }
         ensures { core_text result ≡ T.text text }
     {
         Core {
             text,
-            positions: PackedPositions::of(&positions),
+            positions,
             kind: PhantomData,
         }
     }
@@ -94,11 +94,7 @@ impl<K: Kind, T: AsStr> Core<K, T> {
         ensures back { IfErr result (λ refused. T.text refused.1 ≡ T.text text) }
     {
         match parse::<K>(text.as_str()) {
-            Ok(positions) => Ok(Core {
-                text,
-                positions,
-                kind: PhantomData,
-            }),
+            Ok(positions) => Ok(Core::new(text, positions)),
             Err(error) => Err((error, text)),
         }
     }
@@ -109,11 +105,7 @@ impl<K: Kind, T: AsStr> Core<K, T> {
         ensures { core_text result ≡ T.text text }
     {
         let positions = positions_in::<K>(text.as_str());
-        Core {
-            text,
-            positions,
-            kind: PhantomData,
-        }
+        Core::new(text, positions)
     }
 
     /// Returns the same text and positions as of another kind, of which the text is too.
@@ -122,11 +114,7 @@ impl<K: Kind, T: AsStr> Core<K, T> {
         requires { IsOfKind L.kind (core_text self) }
         ensures { core_text result ≡ core_text self }
     {
-        Core {
-            text: self.text,
-            positions: self.positions,
-            kind: PhantomData,
-        }
+        Core::new(self.text, self.positions)
     }
 
     /// Returns the borrowed text with the same positions.
@@ -136,11 +124,7 @@ impl<K: Kind, T: AsStr> Core<K, T> {
         ensures of_kind { IsOfKind K.kind (core_text self.now) }
         ensures utf8 { IsUtf8 (core_text self.now) }
     {
-        Core {
-            text: self.text.as_str(),
-            positions: self.positions,
-            kind: PhantomData,
-        }
+        Core::new(self.text.as_str(), self.positions)
     }
 }
 
@@ -165,14 +149,23 @@ impl<'a, K: Kind> Core<K, &'a str> {
         requires { IsOfKind K.kind [] }
         ensures { core_text result ≡ [] }
     {
-        let positions = Positions {
-            scheme_end: None,
-            authority: None,
+        let positions = PackedPositions {
+            scheme_end: 0,
+            host_start: 0,
+            host_end: 0,
             path_start: 0,
             path_end: 0,
-            query_end: None,
+            query_end: 0,
         };
         Core::new("", positions)
+    }
+
+    /// Returns the positions of the components of the text as a value holds them.
+    #[inline(always)]
+    pub fn packed_positions(self) -> PackedPositions
+        ensures { ArePackedPositionsOf (core_text self.entry) result }
+    {
+        self.positions
     }
 
     /// Returns the positions of the components of the text.
@@ -276,11 +269,7 @@ impl<'a, K: Kind> Core<K, &'a str> {
     pub fn strip_fragment(self) -> Core<K, &'a str>
         ensures { IsWithFragment (core_text self.entry) None (core_text result) }
     {
-        Core {
-            text: self.positions().without_fragment(self.text),
-            positions: self.positions,
-            kind: PhantomData,
-        }
+        Core::new(self.positions().without_fragment(self.text), self.positions)
     }
 
     /// Returns a copy of the text with this fragment instead of its own, or with none.
@@ -294,13 +283,13 @@ impl<'a, K: Kind> Core<K, &'a str> {
             (core_text made)) }
     {
         let text = fragment::with_fragment(alloc, self.text, &self.positions(), fragment)?;
-        Ok(Core::new(text, self.positions()))
+        Ok(Core::new(text, self.positions))
     }
 
     /// Returns the core of a copy of the text, with the same positions.
     pub fn to_owned(self, alloc: Global) -> Result<Core<K, String>, AllocError>
         ensures { IfOk result (λ copy. core_text copy ≡ core_text self.entry) }
     {
-        Ok(Core::new(String::from_str(alloc, self.text)?, self.positions()))
+        Ok(Core::new(String::from_str(alloc, self.text)?, self.positions))
     }
 }

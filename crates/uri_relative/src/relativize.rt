@@ -12,6 +12,7 @@ use fluent_uri::{Reference, RiMaybeRef};
 use std::alloc::{AllocError, Global};
 use std::convert::AsStr;
 use uri_parts::core_text::Core;
+use uri_parts::packed_positions::PackedPositions;
 
 /// Returns a reference that leads from the base to the target.
 #[inline(always)]
@@ -40,7 +41,8 @@ fn relativized<K: RelativeKind, B: AsStr, T: AsStr>(
         (settled (reference_text target.now)) (components (reference_text reference))) }
 {
     let made = relative(alloc, base.core(), target.core(), prefers_relative_path)?;
-    Ok(Reference::of_core(Core::new(made.text, made.positions)))
+    let positions = PackedPositions::of(&made.positions);
+    Ok(Reference::of_core(Core::new(made.text, positions)))
 }
 
 /// Makes references that lead from a base to targets. Its setting is whether a relative path is

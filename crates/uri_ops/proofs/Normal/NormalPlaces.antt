@@ -3,10 +3,11 @@ use Rattle.std.proofs.Common.{◌≡◌, ℕ, ◌+◌, true, List, refl, sym, ap
 use Rattle.std.specs.Option.{option_and_then}
 use Rattle.std.specs.Prelude.{Option, Some, None, IfSome}
 use Rattle.std.specs.Str.{IsUtf8, str_to_ascii_lowercase}
-use Rattle.uri_parts.specs.declared.positions.Positions.{Positions}
+use Rattle.uri_parts.specs.declared.packed_positions.PackedPositions.{PackedPositions}
 use Rattle.uri_parts.specs.Components.{components}
 use Rattle.uri_parts.specs.Grammar.{Kind, is_authority}
-use Rattle.uri_parts.specs.Positions.{ArePositionsOf, authority_at, delimited_length, positions_of}
+use Rattle.uri_parts.specs.PackedPositions.{ArePackedPositionsOf, packed}
+use Rattle.uri_parts.specs.Positions.{authority_at, delimited_length, positions_of}
 use Rattle.uri_ops.specs.ComponentSets.{HasComponentSets}
 use Rattle.uri_ops.specs.Meaning.{authority_meaning, meaning_of}
 use Rattle.uri_ops.specs.Normal.{normal_authority, normal_components, normal_parts, normal_text}
@@ -31,19 +32,20 @@ module _ (kind : Kind) (sets : HasComponentSets kind) (ports : PortFunction) whe
       (normal_parts (authority_meaning kind default a))
       (normal-authority-has-normal-parts kind sets default a h.0 h.1))
 
-  pub written-positions-are-of-normal-text : (text normal : List ℕ) (positions : Positions)
-      → IsTextOf kind text
+  pub written-positions-are-of-normal-text : (text normal : List ℕ)
+      (positions : PackedPositions) → IsTextOf kind text
       → normal ≡ normal_text (meaning_of kind ports text)
-      → positions ≡ positions_by_authority_parts (normal_components (meaning_of kind ports text))
-      (option_map normal_parts (meaning_of kind ports text).authority)
-      → ArePositionsOf normal positions
+      → positions ≡ packed
+      (positions_by_authority_parts (normal_components (meaning_of kind ports text))
+      (option_map normal_parts (meaning_of kind ports text).authority))
+      → ArePackedPositionsOf normal positions
   written-positions-are-of-normal-text text normal positions w e places =
       let m = meaning_of kind ports text in
       let p = components text in
       let default = option_and_then ports (option_map str_to_ascii_lowercase p.scheme) in
       places
-      ∙ positions-with-parts-are-of-components (normal_components m)
+      ∙ ap packed (positions-with-parts-are-of-components (normal_components m)
       (option_map normal_parts m.authority)
       (normal-authority-positions-by-parts (delimited_length 1 m.scheme + 2) default p.authority
       (text-has-parts-of-kind kind text w).authority)
-      ∙ sym (ap positions_of (ap components e ∙ components-of-normal_text kind ports sets text w))
+      ∙ sym (ap positions_of (ap components e ∙ components-of-normal_text kind ports sets text w)))

@@ -3,11 +3,13 @@ use Rattle.std.proofs.Common.{◌≡◌, ℕ, ◌+◌, true, false, List, [], �
 use Rattle.std.proofs.Common.{ap, sym, refl, ◌∙◌, ◌&&◌, ◌||◌, append_assoc, length-append}
 use Rattle.std.proofs.Common.{option_map}
 use Rattle.std.proofs.Common.{arith, inr}
-use Rattle.std.specs.Prelude.{codes, not, Option, Some, None, is_none, is_some}
+use Rattle.std.specs.Prelude.{codes, not, Option, Some, None, is_none, is_some, unwrap_or}
 use Rattle.std.proofs.lemmas.Bool.{and_from, and_parts, cond-false, cond-true, false≢true}
 use Rattle.std.proofs.lemmas.List.{append-nil}
 use Rattle.uri_parts.specs.Components.{Components, marked, recompose, starts}
-use Rattle.uri_parts.specs.Positions.{delimited_length, positions_of}
+use Rattle.uri_parts.specs.declared.positions.Positions.{Positions}
+use Rattle.uri_parts.specs.PackedPositions.{packed}
+use Rattle.uri_parts.specs.Positions.{before_fragment, delimited_length, positions_of}
 use Rattle.uri_ops.specs.Dots.{IsAbsolute, directory, has_slash, is_double_dot, is_empty}
 use Rattle.uri_ops.specs.Dots.{lacks_dot_segments, underflows}
 use Rattle.uri_ops.specs.Models.Places.{IsSlashOrStart, before_path}
@@ -87,27 +89,21 @@ pub length-through-path-is-path_end : (r : Components) → length (before_path r
 length-through-path-is-path_end r = omega
     (arith, length-append (before_path r) r.path, length-before_path-is-path_start r)
 
--- positions in a target: with a query, the query ends where the text up to it does
-pub length-through-query-is-query_end : (r : Components) → is_some r.query ≡ true
-    → Some (length ((before_path r ++ r.path) ++ marked (codes "?") r.query [])) ≡
-    (positions_of r).query_end
-length-through-query-is-query_end r some = of_query r.query (before_path r ++ r.path)
-    (positions_of r).path_end some (length-through-path-is-path_end r)
-  where
-    of_query : (query : Option (List ℕ)) (prefix : List ℕ) (n : ℕ) → is_some query ≡ true → length
-        prefix ≡ n
-        → Some (length (prefix ++ marked (codes "?") query [])) ≡ option_map
-        (λ q. n + 1 + length q) query
-    of_query None prefix n e h = absurd (false≢true e)
-    of_query (Some q) prefix n e h = ap Some
-        (omega (
-          arith,
-          h,
-          length-append prefix (codes "?" ++ q ++ []),
-          length-append
-              (codes "?" ++ q) [],
-          length-append (codes "?") q,
-        ))
+-- positions in a target: the end of a query, or of the path if there is none, moves by n bytes
+before_fragment-moves : (n : ℕ) (query_end : Option ℕ) (path_end : ℕ)
+    → n + unwrap_or query_end path_end
+    ≡ unwrap_or (option_map (λ end. n + end) query_end) (n + path_end)
+before_fragment-moves n None path_end = refl
+before_fragment-moves n (Some end) path_end = refl
+
+-- positions in a target: those after the first n bytes of a base, in six words
+pub packed-positions_after : (base r : Positions) (n : ℕ)
+    → (record (packed base) { path_end = n + r.path_end; query_end = n + before_fragment r })
+    ≡ packed (positions_after base n r)
+packed-positions_after base r n = λ i. record (packed base) {
+  path_end = n + r.path_end;
+  query_end = before_fragment-moves n r.query_end r.path_end i;
+}
 
 -- positions in a target: the end of a query moves with its path by n bytes
 query-end-moves-with-path : (query : Option (List ℕ)) (n m k : ℕ) → n + m ≡ k

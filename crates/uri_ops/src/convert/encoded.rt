@@ -3,7 +3,7 @@ ghost use Rattle.std.specs.Prelude.{◌≡◌, ◌≤◌, ◌<◌, ◌+◌, ◌*
 ghost use Rattle.std.specs.Prelude.{option_map, slice_index, string_bytes};
 ghost use Rattle.std.specs.Str.{IsUtf8};
 ghost use Rattle.uri_parts.specs.Grammar.{IsOfKind};
-ghost use Rattle.uri_parts.specs.Positions.{ArePositionsOf};
+ghost use Rattle.uri_parts.specs.PackedPositions.{ArePackedPositionsOf};
 ghost use Rattle.uri_ops.specs.Encoded.{encode_past_ascii};
 ghost use Rattle.uri_ops.specs.Models.EncodedPlaces.{ArePositionsOrdered};
 ghost use Rattle.uri_ops.specs.Models.EncodedPlaces.{AreAuthorityPositionsOrdered};
@@ -12,6 +12,7 @@ ghost use Rattle.uri_ops.specs.Models.EncodedPlaces.{position_in_encoded, positi
 
 use crate::traits::RiMaybeRef;
 use std::alloc::{AllocError, Global};
+use uri_parts::packed_positions::PackedPositions;
 use uri_parts::positions::{AuthorityPositions, Positions};
 use uri_pct::lanes::{LANES, ascii_end};
 use uri_pct::octet::pct_encoded;
@@ -207,9 +208,12 @@ fn push_encoded_components(
 /// It allocates once, for as many bytes as it has. If all characters are ASCII, the text is copied,
 /// with its positions.
 #[doc(hidden)]
-pub fn encoded<R: RiMaybeRef>(alloc: Global, value: &R) -> Result<(String, Positions), AllocError>
+pub fn encoded<R: RiMaybeRef>(
+    alloc: Global,
+    value: &R,
+) -> Result<(String, PackedPositions), AllocError>
     ensures text { IfOk result (λ made. string_bytes made.0 ≡ encode_past_ascii (R.text value.now)) }
-    ensures at { IfOk result (λ made. ArePositionsOf (string_bytes made.0) made.1) }
+    ensures at { IfOk result (λ made. ArePackedPositionsOf (string_bytes made.0) made.1) }
     ensures utf8 { IsUtf8 (R.text value.now) }
     ensures of_kind { IsOfKind R.kind (R.text value.now) }
 {
@@ -219,13 +223,13 @@ pub fn encoded<R: RiMaybeRef>(alloc: Global, value: &R) -> Result<(String, Posit
     let past = count_past_ascii(bytes);
     if past == 0 {
         let copy = String::from_str(alloc, text)?;
-        return Ok((copy, core.positions()));
+        return Ok((copy, core.packed_positions()));
     }
     let len = bytes.len().saturating_add(past.saturating_mul(2));
     let mut out = Vec::with_capacity(alloc, len)?;
     let positions = push_encoded_components(bytes, &core.positions(), &mut out)?;
     match String::from_utf8(out) {
-        Ok(text) => Ok((text, positions)),
+        Ok(text) => Ok((text, PackedPositions::of(&positions))),
         Err(_) => unreachable!(),
     }
 }

@@ -77,6 +77,26 @@ fn push_userinfo<U: Encoder, R: Encoder>(
     out.push('@')
 }
 
+/// Appends the normal form of a host in brackets: an IPv6 address is written by its numbers (RFC
+/// 5952), and another one gets ASCII letters in lower case.
+///
+/// It is a function of its own, since a function clears the room for a parsed host when it is called.
+#[inline(always)]
+fn push_bracketed_host<U: Encoder, R: Encoder>(
+    authority: Authority<'_, U, R>,
+    out: &mut String,
+) -> Result<(), AllocError>
+    requires { starts left_bracket (authority_parts (authority_text authority)).host ≡ true }
+    ensures { let host = (authority_parts (authority_text authority.entry)).host in
+        OnOk result (Pushes out.old out.new
+        (host_text (host_meaning R.set host (host_kind host)))) }
+{
+    match authority.host_parsed() {
+        HostOf::Ipv6(address) => push_ipv6_host(&address, out),
+        _ => push_lower(authority.host(), out),
+    }
+}
+
 /// Appends the normal form of the host. An IPv6 address is written by its numbers (RFC 5952). Every
 /// other host gets ASCII letters in lower case, and a name is decoded too.
 ///
@@ -95,10 +115,7 @@ pub fn push_host<U: Encoder, R: Encoder>(
     if !is_bracketed(host) {
         return push_decoded_host(&R::table(), host, out);
     }
-    match authority.host_parsed() {
-        HostOf::Ipv6(address) => push_ipv6_host(&address, out),
-        _ => push_lower(host, out),
-    }
+    push_bracketed_host(authority, out)
 }
 
 /// Returns whether a host is in brackets, so that normalising decodes nothing in it.

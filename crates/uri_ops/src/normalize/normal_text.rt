@@ -10,6 +10,7 @@ ghost use Rattle.uri_parts.specs.AuthorityTexts.{authority_text};
 ghost use Rattle.uri_parts.specs.Components.{components, has_authority, marked};
 ghost use Rattle.uri_parts.specs.CoreTexts.{core_text};
 ghost use Rattle.uri_parts.specs.Grammar.{Kind};
+ghost use Rattle.uri_parts.specs.PackedPositions.{packed};
 ghost use Rattle.uri_parts.specs.Schemes.{scheme_text};
 ghost use Rattle.uri_ops.specs.ComponentSets.{HasComponentSets, IsComponentSet};
 ghost use Rattle.uri_ops.specs.Dots.{IsAbsolute, remove_dot_segments, underflows};
@@ -33,6 +34,7 @@ use std::alloc::AllocError;
 use uri_parts::component::{Authority, Scheme};
 use uri_parts::core_text::Core;
 use uri_parts::kind::Kind;
+use uri_parts::packed_positions::PackedPositions;
 use uri_parts::positions::{AuthorityPositions, Positions};
 use uri_pct::encoder::{Encoder, PathEncoder};
 use uri_pct::pct_enc::EStr;
@@ -55,6 +57,7 @@ fn push_scheme(scheme: Option<Scheme<'_>>, out: &mut String) -> Result<Option<us
 }
 
 /// Appends `//` and the normal form of the authority after this scheme, and returns where it is.
+#[inline(always)]
 fn push_authority_with_delimiter<U: Encoder, R: Encoder, P: DefaultPort>(
     authority: Option<Authority<'_, U, R>>,
     scheme: Option<Scheme<'_>>,
@@ -217,14 +220,14 @@ pub(crate) fn push_normal_text<K: Kind, P: DefaultPort>(
     core: Core<K, &str>,
     ports: &P,
     out: &mut String,
-) -> Result<(Positions, bool), AllocError>
+) -> Result<(PackedPositions, bool), AllocError>
     requires { HasComponentSets K.kind }
     ensures text { OnOk result (Pushes out.old out.new
         (normal_text (meaning_of K.kind (P.port_of ports.now) (core_text core.entry)))) }
     ensures places { let m = meaning_of K.kind (P.port_of ports.now) (core_text core.entry) in
         string_bytes out.old ≡ [] → IfOk result (λ written.
-        written.0 ≡ positions_by_authority_parts (normal_components m)
-        (option_map normal_parts m.authority)) }
+        written.0 ≡ packed (positions_by_authority_parts (normal_components m)
+        (option_map normal_parts m.authority))) }
     ensures underflow { let p = components (core_text core.entry) in
         IfOk result (λ written. written.1 ≡ path_underflows p.scheme p.path) }
 {
@@ -244,5 +247,5 @@ pub(crate) fn push_normal_text<K: Kind, P: DefaultPort>(
         path_end,
         query_end,
     };
-    Ok((positions, underflows))
+    Ok((PackedPositions::of(&positions), underflows))
 }

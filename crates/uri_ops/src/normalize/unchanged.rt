@@ -12,7 +12,7 @@ ghost use Rattle.uri_parts.specs.Authority.{authority_parts};
 ghost use Rattle.uri_parts.specs.AuthorityTexts.{authority_text};
 ghost use Rattle.uri_parts.specs.Components.{components, starts};
 ghost use Rattle.uri_parts.specs.CoreTexts.{core_text};
-ghost use Rattle.uri_parts.specs.Positions.{ArePositionsOf};
+ghost use Rattle.uri_parts.specs.PackedPositions.{ArePackedPositionsOf};
 ghost use Rattle.uri_parts.specs.Schemes.{scheme_text};
 ghost use Rattle.uri_ops.specs.ComponentSets.{HasComponentSets};
 ghost use Rattle.uri_ops.specs.Models.Unchanged.{IsUnchangedAuthority, IsUnchangedPath, IsLiteral};
@@ -260,12 +260,13 @@ pub(crate) fn copy_unchanged<K: Kind>(
     core: Core<K, &str>,
 ) -> Result<Normalized, AllocError>
     ensures text { IfOk result (λ made. string_bytes made.text ≡ core_text core.entry) }
-    ensures at { IfOk result (λ made. ArePositionsOf (string_bytes made.text) made.positions) }
+    ensures at { IfOk result (λ made.
+        ArePackedPositionsOf (string_bytes made.text) made.positions) }
     ensures underflow { IfOk result (λ made. made.underflows ≡ false) }
 {
     Ok(Normalized {
         text: String::from_str(alloc, core.as_str())?,
-        positions: core.positions(),
+        positions: core.packed_positions(),
         underflows: false,
     })
 }

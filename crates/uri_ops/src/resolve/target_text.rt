@@ -1,13 +1,11 @@
 //! The text of a target, and where its components are (RFC 3986, sections 5.2 and 5.3).
-ghost use Rattle.std.specs.Prelude.{◌≡◌, ◌||◌, ◌+◌, ◌++◌, [], codes, false, length, IfOk};
+ghost use Rattle.std.specs.Prelude.{◌≡◌, ◌+◌, ◌++◌, [], codes, false, length, IfOk};
 ghost use Rattle.std.specs.Prelude.{IfErr, OnOk, is_some, option_map, string_bytes, true};
-ghost use Rattle.uri_pct.specs.Delimiters.{number_sign, slash};
 ghost use Rattle.uri_pct.specs.Texts.{Pushes};
-ghost use Rattle.uri_parts.specs.Components.{marked, recompose, starts};
-ghost use Rattle.uri_parts.specs.Positions.{ArePositionsOf, positions_of};
-ghost use Rattle.uri_ops.specs.Dots.{is_empty};
+ghost use Rattle.uri_parts.specs.Components.{marked, recompose};
+ghost use Rattle.uri_parts.specs.PackedPositions.{ArePackedPositionsOf, packed};
+ghost use Rattle.uri_parts.specs.Positions.{positions_of};
 ghost use Rattle.uri_ops.specs.Models.Places.{before_path};
-ghost use Rattle.uri_ops.specs.Models.BasePrefixes.{IsPrefixedTarget};
 ghost use Rattle.uri_ops.specs.Resolving.{IsErrorFor, IsTarget, components_of, with_final_path};
 ghost use Rattle.uri_ops.specs.Target.{dotless_if_absolute, underflows_if_absolute};
 ghost use Rattle.uri_ops.specs.Target.{is_fragment_only, is_opaque_rejection, dotted_target};
@@ -15,34 +13,13 @@ ghost use Rattle.uri_ops.specs.Target.{is_fragment_only, is_opaque_rejection, do
 use crate::path::dot_segments::{push_merged, push_without_dot_segments};
 use crate::path::slashes::{begins_with_slash, guard_path};
 use crate::resolve::base_prefix::target_prefix;
+use crate::resolve::copied_target::{Target, copied_reference, is_fragment_only, prefixed_target};
 use crate::resolve::error::ResolveError;
 use crate::resolve::room::target_capacity;
 use crate::resolve::text_view::TextView;
 use std::alloc::{AllocError, Global};
+use uri_parts::packed_positions::PackedPositions;
 use uri_parts::positions::{AuthorityPositions, Positions};
-
-/// The text of a target, and where its components are.
-#[derive(Drop)]
-pub(crate) struct Target {
-    pub(crate) text: String,
-    pub(crate) positions: Positions,
-}
-
-/// Returns whether a reference's text is empty or begins with `#`, as one that an opaque base
-/// takes.
-fn is_empty_or_fragment(text: &[u8]) -> bool
-    ensures { result ≡ (is_empty text.now || starts number_sign text.now) }
-{
-    matches!(text, [] | [b'#', ..])
-}
-
-/// Returns whether a reference has nothing but a fragment, or not even that.
-#[tactic(auto, using(crate::proofs::Targeting::Targets::fragment_only_is_empty_or_leading_hash))]
-fn is_fragment_only(reference: &TextView<'_>) -> bool
-    ensures { result ≡ is_fragment_only (components_of reference.now) }
-{
-    is_empty_or_fragment(reference.as_str().as_bytes())
-}
 
 /// Returns whether an opaque base rejects a reference: the base has no authority, and no `/` begins
 /// its path, and the reference has no scheme, is not empty and doesn't begin with `#`.
@@ -272,13 +249,13 @@ fn push_target(
     base: &TextView<'_>,
     reference: &TextView<'_>,
     out: &mut String,
-) -> Result<(Positions, bool), AllocError>
+) -> Result<(PackedPositions, bool), AllocError>
     requires { is_opaque_rejection (components_of base.now) (components_of reference.now) ≡ false }
     ensures text { let t = dotted_target (components_of base.now) (components_of reference.now) in
         OnOk result (Pushes out.old out.new (recompose (with_final_path t))) }
     ensures places { let t = dotted_target (components_of base.now) (components_of reference.now) in
         string_bytes out.old ≡ [] → IfOk result (λ written.
-        written.0 ≡ positions_of (with_final_path t)) }
+        written.0 ≡ packed (positions_of (with_final_path t))) }
     ensures underflow { let t = dotted_target (components_of base.now)
         (components_of reference.now) in
         IfOk result (λ written. written.1 ≡ underflows_if_absolute t.path) }
@@ -294,70 +271,7 @@ fn push_target(
         path_end,
         query_end,
     };
-    Ok((positions, underflowed))
-}
-
-/// Returns the positions of the target that is the reference's text after a prefix of the base.
-fn prefixed_positions(base: &TextView<'_>, reference: &TextView<'_>, prefix: &str) -> Positions
-    requires { IsPrefixedTarget (components_of base.now) (components_of reference.now) prefix.now }
-    ensures { let t = dotted_target (components_of base.now) (components_of reference.now) in
-        result ≡ positions_of (with_final_path t) }
-{
-    let mut positions = base.positions();
-    if is_fragment_only(reference) {
-        return positions;
-    }
-    positions.path_end = prefix.len() + reference.through_path().len();
-    positions.query_end = None;
-    if reference.has_query() {
-        positions.query_end = Some(prefix.len() + reference.before_fragment().len());
-    }
-    positions
-}
-
-/// Returns the target that is the reference's text after a prefix of the base.
-fn prefixed_target(
-    alloc: Global,
-    base: &TextView<'_>,
-    reference: &TextView<'_>,
-    prefix: &str,
-) -> Result<Target, AllocError>
-    requires { IsPrefixedTarget (components_of base.now) (components_of reference.now) prefix.now }
-    ensures text { let t = dotted_target (components_of base.now) (components_of reference.now) in
-        IfOk result (λ target. string_bytes target.text ≡ recompose (with_final_path t)) }
-    ensures places { let t = dotted_target (components_of base.now) (components_of reference.now) in
-        IfOk result (λ target. target.positions ≡ positions_of (with_final_path t)) }
-{
-    let suffix = reference.as_str();
-    let mut text = String::with_capacity(alloc, prefix.len() + suffix.len())?;
-    text.push_str(prefix)?;
-    text.push_str(suffix)?;
-    let positions = prefixed_positions(base, reference, prefix);
-    Ok(Target { text, positions })
-}
-
-/// Returns the target of a reference that has a scheme, and a path that doesn't begin with `/`: the
-/// reference's text.
-fn copied_reference(
-    alloc: Global,
-    base: &TextView<'_>,
-    reference: &TextView<'_>,
-) -> Result<Target, AllocError>
-    requires scheme { is_some (components_of reference.now).scheme ≡ true }
-    requires rootless { starts slash (components_of reference.now).path ≡ false }
-    ensures text { let t = dotted_target (components_of base.now) (components_of reference.now) in
-        IfOk result (λ target. string_bytes target.text ≡ recompose (with_final_path t)) }
-    ensures places { let t = dotted_target (components_of base.now) (components_of reference.now) in
-        IfOk result (λ target. target.positions ≡ positions_of (with_final_path t)) }
-    ensures taken { is_opaque_rejection (components_of base.now) (components_of reference.now)
-        ≡ false }
-    ensures underflow { let t = dotted_target (components_of base.now)
-        (components_of reference.now) in underflows_if_absolute t.path ≡ false }
-{
-    Ok(Target {
-        text: String::from_str(alloc, reference.as_str())?,
-        positions: reference.positions(),
-    })
+    Ok((PackedPositions::of(&positions), underflowed))
 }
 
 /// Returns the target's text, and where its components are. An error that the components alone
@@ -373,7 +287,7 @@ pub(crate) fn target_text(
         IsTarget allow_path_underflow (components_of base.now) (components_of reference.now)
         (string_bytes target.text)) }
     ensures at { IfOk result (λ target.
-        ArePositionsOf (string_bytes target.text) target.positions) }
+        ArePackedPositionsOf (string_bytes target.text) target.positions) }
     ensures error { IfErr result
         (IsErrorFor allow_path_underflow (components_of base.now) (components_of reference.now)) }
 {

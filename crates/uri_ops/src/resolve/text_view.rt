@@ -5,18 +5,20 @@ ghost use Rattle.std.specs.Prelude.{is_some, option_map};
 ghost use Rattle.std.specs.Str.{IsUtf8};
 ghost use Rattle.uri_parts.specs.Components.{components, marked};
 ghost use Rattle.uri_parts.specs.Grammar.{IsOfKind};
+ghost use Rattle.uri_parts.specs.PackedPositions.{ArePackedPositionsOf, packed};
 ghost use Rattle.uri_parts.specs.Positions.{ArePositionsOf, authority_at, host_end_of};
 ghost use Rattle.uri_parts.specs.Positions.{positions_of};
 
 use crate::traits::RiMaybeRef;
+use uri_parts::packed_positions::PackedPositions;
 use uri_parts::positions::{AuthorityPositions, Positions};
 
 /// A text with where its components are, whose host is in its authority.
 #[derive(Drop)]
 pub struct TextView<'a> {
     text: &'a str,
-    positions: Positions,
-    pub ghost at: { ArePositionsOf text.now positions },
+    positions: PackedPositions,
+    pub ghost at: { ArePackedPositionsOf text.now positions },
     pub ghost host: { (a : List ℕ) → (components text.now).authority ≡ Some a
         → host_end_of a ≤ length a },
 }
@@ -36,16 +38,24 @@ impl<'a> TextView<'a> {
         let core = value.core();
         TextView {
             text: core.as_str(),
-            positions: core.positions(),
+            positions: core.packed_positions(),
         }
     }
 
     /// Returns the text that is viewed.
     pub(crate) fn as_str(&self) -> &'a str
         ensures text { result.now ≡ self.now.text.now }
-        ensures at { ArePositionsOf result.now self.now.positions }
+        ensures at { ArePackedPositionsOf result.now self.now.positions }
     {
         self.text
+    }
+
+    /// Returns the positions of the components of the text.
+    #[inline(always)]
+    fn positions(&self) -> Positions
+        ensures { ArePositionsOf self.now.text.now result }
+    {
+        self.positions.unpack(self.text)
     }
 
     /// Returns how long the text is, in bytes.
@@ -57,35 +67,35 @@ impl<'a> TextView<'a> {
     pub(crate) fn has_scheme(&self) -> bool
         ensures { result ≡ is_some (components_of self.now).scheme }
     {
-        self.positions.has_scheme(self.text)
+        self.positions().has_scheme(self.text)
     }
 
     /// Returns whether the text has an authority.
     pub(crate) fn has_authority(&self) -> bool
         ensures { result ≡ is_some (components_of self.now).authority }
     {
-        self.positions.has_authority(self.text)
+        self.positions().has_authority(self.text)
     }
 
     /// Returns whether the text has a query.
     pub(crate) fn has_query(&self) -> bool
         ensures { result ≡ is_some (components_of self.now).query }
     {
-        self.positions.has_query(self.text)
+        self.positions().has_query(self.text)
     }
 
     /// Returns whether the text has a fragment.
     pub(crate) fn has_fragment(&self) -> bool
         ensures { result ≡ is_some (components_of self.now).fragment }
     {
-        self.positions.has_fragment(self.text)
+        self.positions().has_fragment(self.text)
     }
 
     /// Returns the path of the text, which may be empty.
     pub(crate) fn path(&self) -> &'a str
         ensures { result.now ≡ (components_of self.now).path }
     {
-        self.positions.path(self.text)
+        self.positions().path(self.text)
     }
 
     /// Returns the scheme with its `:`, or no text.
@@ -93,7 +103,7 @@ impl<'a> TextView<'a> {
         ensures { result.now ≡ marked [] (components_of self.now).scheme (codes ":") }
     {
         let text = self.as_str();
-        match self.positions.scheme_end {
+        match self.positions.unpack(text).scheme_end {
             Some(end) => &text[..end + 1],
             None => "",
         }
@@ -104,7 +114,8 @@ impl<'a> TextView<'a> {
         ensures { result.now ≡ before_path (components_of self.now) }
     {
         let text = self.as_str();
-        &text[..self.positions.path_start]
+        let positions = self.positions.unpack(text);
+        &text[..positions.path_start]
     }
 
     /// Returns the text up to the last `/` of its path, and with it.
@@ -115,7 +126,8 @@ impl<'a> TextView<'a> {
             result.now ≡ before_path p ++ take (slash + 1) p.path }
     {
         let text = self.as_str();
-        &text[..self.positions.path_start + slash + 1]
+        let positions = self.positions.unpack(text);
+        &text[..positions.path_start + slash + 1]
     }
 
     /// Returns the text up to the end of its path.
@@ -123,7 +135,8 @@ impl<'a> TextView<'a> {
         ensures { let p = components_of self.now in result.now ≡ before_path p ++ p.path }
     {
         let text = self.as_str();
-        &text[..self.positions.path_end]
+        let positions = self.positions.unpack(text);
+        &text[..positions.path_end]
     }
 
     /// Returns the text up to its fragment.
@@ -132,7 +145,8 @@ impl<'a> TextView<'a> {
             result.now ≡ (before_path p ++ p.path) ++ marked (codes "?") p.query [] }
     {
         let text = self.as_str();
-        &text[..self.positions.before_fragment()]
+        let positions = self.positions.unpack(text);
+        &text[..positions.before_fragment()]
     }
 
     /// Returns the query and the fragment with their marks: what is after the path.
@@ -141,7 +155,8 @@ impl<'a> TextView<'a> {
             ≡ marked (codes "?") p.query [] ++ marked (codes "#") p.fragment [] }
     {
         let text = self.as_str();
-        &text[self.positions.path_end..]
+        let positions = self.positions.unpack(text);
+        &text[positions.path_end..]
     }
 
     /// Returns the query with its `?`, or no text.
@@ -149,7 +164,8 @@ impl<'a> TextView<'a> {
         ensures { result.now ≡ marked (codes "?") (components_of self.now).query [] }
     {
         let text = self.as_str();
-        &text[self.positions.path_end..self.positions.before_fragment()]
+        let positions = self.positions.unpack(text);
+        &text[positions.path_end..positions.before_fragment()]
     }
 
     /// Returns the fragment with its `#`, or no text.
@@ -157,12 +173,13 @@ impl<'a> TextView<'a> {
         ensures { result.now ≡ marked (codes "#") (components_of self.now).fragment [] }
     {
         let text = self.as_str();
-        &text[self.positions.before_fragment()..]
+        let positions = self.positions.unpack(text);
+        &text[positions.before_fragment()..]
     }
 
-    /// Returns the positions of the components of the text.
-    pub(crate) fn positions(&self) -> Positions
-        ensures { result ≡ positions_of (components_of self.now) }
+    /// Returns the positions of the components of the text as a value holds them.
+    pub(crate) fn packed_positions(&self) -> PackedPositions
+        ensures { result ≡ packed (positions_of (components_of self.now)) }
     {
         self.positions
     }
@@ -171,14 +188,14 @@ impl<'a> TextView<'a> {
     pub(crate) fn scheme_end(&self) -> Option<usize>
         ensures { result ≡ option_map length (components_of self.now).scheme }
     {
-        self.positions.scheme_end
+        self.positions().scheme_end
     }
 
     /// Returns where the authority is, if there is one.
     pub(crate) fn authority(&self) -> Option<AuthorityPositions>
         ensures { result ≡ (positions_of (components_of self.now)).authority }
     {
-        self.positions.authority
+        self.positions().authority
     }
 
     /// Returns where the authority is, if there is one, when what is before the path is after this
@@ -188,7 +205,7 @@ impl<'a> TextView<'a> {
         ensures { result ≡ option_map (authority_at (length scheme.now + 2))
             (components_of self.now).authority }
     {
-        let places = self.positions.authority?;
+        let places = self.positions().authority?;
         Some(shift_authority(places, self.before_path(), scheme))
     }
 }

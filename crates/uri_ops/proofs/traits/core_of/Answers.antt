@@ -1,6 +1,6 @@
 use Rattle.std.proofs.Common.{sym, subst}
 use Rattle.uri_parts.specs.Grammar.{IsOfKind}
-use Rattle.uri_parts.specs.Positions.{ArePositionsOf}
+use Rattle.uri_parts.specs.PackedPositions.{ArePackedPositionsOf}
 use Rattle.uri_ops.proofs.traits.core_of.Goals as goal
 
 pub new-requires-clause-of_kind : goal.new-requires-clause-of_kind
@@ -9,6 +9,6 @@ new-requires-clause-of_kind g c =
     c.as_str.ensures.of_kind
 
 pub new-requires-clause-at : goal.new-requires-clause-at
-new-requires-clause-at g c = subst (λ t. ArePositionsOf t c.positions.result)
+new-requires-clause-at g c = subst (λ t. ArePackedPositionsOf t c.packed_positions.result)
     (sym c.as_str.ensures.text)
-    c.positions.ensures
+    c.packed_positions.ensures

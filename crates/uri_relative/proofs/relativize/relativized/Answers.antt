@@ -2,6 +2,7 @@ use Rattle.std.proofs.Common.{string_bytes, subst, sym, ap, ◌∙◌}
 use Rattle.uri_parts.specs.Components.{components}
 use Rattle.uri_parts.specs.CoreTexts.{core_text}
 use Rattle.uri_parts.specs.Grammar.{IsOfKind}
+use Rattle.uri_parts.specs.PackedPositions.{packed}
 use Rattle.fluent_uri.specs.References.{reference_text}
 use Rattle.uri_relative.proofs.Leading.{reference-leads-back-to-target, reference-leads-to-target}
 use Rattle.uri_relative.proofs.Leading.{reference-is-no-longer-than-target, reference-is-relative}
@@ -15,7 +16,7 @@ new-requires-clause-of_kind g c =
     (sym g.met.K.RelativeKind.same_tables) c.in_ok-made.ensures.leads.meets
 
 pub new-requires-clause-at : goal.new-requires-clause-at
-new-requires-clause-at g c = c.in_ok-made.ensures.at
+new-requires-clause-at g c = c.of-positions.ensures ∙ ap packed c.in_ok-made.ensures.at
 
 pub returns-clause-leads : goal.returns-clause-leads
 returns-clause-leads g c =

@@ -1,6 +1,7 @@
 use Rattle.std.proofs.Common.{sym, ap, ◌∙◌, refl, subst}
 use Rattle.std.specs.Prelude.{is_some}
 use Rattle.std.proofs.lemmas.Bool.{false≢true}
+use Rattle.uri_parts.specs.PackedPositions.{packed}
 use Rattle.uri_ops.specs.Built.{IsTextOfParts, refusal}
 use Rattle.uri_ops.proofs.Builders.Built.{built-draft-is-text-of-parts}
 use Rattle.uri_ops.proofs.Builders.Built.{built-positions-are-of-parts}
@@ -16,11 +17,12 @@ make_owned-requires-clause-of_kind g c =
 
 pub make_owned-requires-clause-at : goal.make_owned-requires-clause-at
 make_owned-requires-clause-at g c =
-    c.positions-positions.ensures
+    c.of-positions.ensures
+    ∙ ap packed (c.positions.ensures
     ∙ sym (built-positions-are-of-parts g.R.RiMaybeRef.kind g.met.R.RiMaybeRef.component_sets
     c.into_draft-draft.result
     c.if-draft.false c.into_draft-draft.ensures.rules c.into_draft-draft.ensures.before
-    (sym c.refusal.ensures ∙ c.in-None.is))
+    (sym c.refusal.ensures ∙ c.in-None.is)))
 
 pub returns-in-Some-clause-exactly : goal.returns-in-Some-clause-exactly
 returns-in-Some-clause-exactly g c = λ _. (

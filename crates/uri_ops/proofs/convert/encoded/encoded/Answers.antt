@@ -3,6 +3,7 @@ use Rattle.std.specs.Str.{IsUtf8}
 use Rattle.std.proofs.lemmas.Bool.{false≢true}
 use Rattle.uri_parts.specs.CoreTexts.{core_text}
 use Rattle.uri_parts.specs.Grammar.{IsOfKind}
+use Rattle.uri_parts.specs.PackedPositions.{packed}
 use Rattle.uri_parts.specs.Positions.{ArePositionsOf}
 use Rattle.uri_ops.specs.Encoded.{encode_past_ascii}
 use Rattle.uri_ops.specs.Models.EncodedPlaces.{ArePositionsOrdered, positions_in_encoded}
@@ -27,7 +28,7 @@ pub push_encoded_components-requires-clause-ordered
     : goal.push_encoded_components-requires-clause-ordered
 push_encoded_components-requires-clause-ordered g c =
     let text = core_text c.core-core.result in
-    subst (λ t. ArePositionsOrdered (length t) c.positions-2.result)
+    subst (λ t. ArePositionsOrdered (length t) c.positions.result)
     (sym (c.as_bytes-bytes.ensures.value ∙ c.as_str-text.ensures.text))
     (positions-are-ordered g.R.RiMaybeRef.kind g.met.R.RiMaybeRef.component_sets text
     (record {
@@ -36,7 +37,7 @@ push_encoded_components-requires-clause-ordered g c =
           subst (IsOfKind g.R.RiMaybeRef.kind) (sym c.core-core.ensures.text)
           c.core-core.ensures.of_kind;
     })
-    c.positions-2.result c.positions-2.ensures)
+    c.positions.result c.positions.ensures)
 
 pub unreachable-requires : goal.unreachable-requires
 unreachable-requires g c =
@@ -52,9 +53,9 @@ returns-clause-at g c =
     let written : string_bytes c.in-Ok.text ≡ encode_past_ascii c.as_bytes-bytes.result.now =
     search rules in
     let places = c.in_ok-positions.ensures.places
-    ∙ ap (λ t. positions_in_encoded t c.positions-2.result) same in
-    subst (λ p. ArePositionsOf (string_bytes c.in-Ok.text) p) (sym places)
-    (subst (λ t. ArePositionsOf t (positions_in_encoded text c.positions-2.result))
+    ∙ ap (λ t. positions_in_encoded t c.positions.result) same in
+    c.of.ensures ∙ ap packed (subst (λ p. ArePositionsOf (string_bytes c.in-Ok.text) p) (sym places)
+    (subst (λ t. ArePositionsOf t (positions_in_encoded text c.positions.result))
     (sym (written ∙ ap encode_past_ascii same))
     (encoded-positions-are-right g.R.RiMaybeRef.kind g.met.R.RiMaybeRef.component_sets text
     (record {
@@ -63,4 +64,4 @@ returns-clause-at g c =
           subst (IsOfKind g.R.RiMaybeRef.kind) (sym c.core-core.ensures.text)
           c.core-core.ensures.of_kind;
     })
-    c.positions-2.result c.positions-2.ensures))
+    c.positions.result c.positions.ensures)))

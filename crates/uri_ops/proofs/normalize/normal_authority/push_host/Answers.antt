@@ -1,8 +1,6 @@
-use Rattle.std.proofs.Common.{ap, sym, ◌∙◌}
-use Rattle.uri_parts.specs.Hosts.{host_kind}
+use Rattle.std.proofs.Common.{sym, ◌∙◌}
 use Rattle.uri_parts.proofs.Authorities.AuthorityPlaces.{holds}
 use Rattle.uri_ops.proofs.Meanings.BracketedHosts.{normal-name-is-lowered-decoded}
-use Rattle.uri_ops.proofs.Meanings.BracketedHosts.{normal-ipvfuture-is-lowered}
 use Rattle.uri_ops.proofs.Meanings.Decodable.{unbracketed-host-is-decodable}
 use Rattle.uri_ops.proofs.normalize.normal_authority.push_host.Goals as goal
 
@@ -25,14 +23,3 @@ returns-then-not-is_bracketed g c =
       ← c.table.ensures,
     )
     c.push_decoded_host.ensures
-
-pub returns-in_default : goal.returns-in_default
-returns-in_default g c =
-    let host = c.host-host.result.now in
-    rw (
-      ← c.host-host.ensures,
-      normal-ipvfuture-is-lowered c.host_parsed.result g.R.Encoder.set host
-          c.in_default.not-Ipv6 (sym c.is_bracketed.ensures ∙ c.if-not-is_bracketed.false)
-          (c.host_parsed.ensures.kind ∙ ap host_kind (sym c.host-host.ensures)),
-    )
-    c.push_lower.ensures

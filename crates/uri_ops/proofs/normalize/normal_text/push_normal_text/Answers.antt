@@ -6,6 +6,7 @@ use Rattle.uri_pct.specs.DecodeUnreserved.{decode_unreserved}
 use Rattle.uri_pct.specs.Tokens.{print}
 use Rattle.uri_parts.specs.AuthorityTexts.{authority_text}
 use Rattle.uri_parts.specs.Components.{components, marked}
+use Rattle.uri_parts.specs.PackedPositions.{packed}
 use Rattle.uri_ops.specs.Meaning.{authority_meaning}
 use Rattle.uri_ops.specs.Normal.{normal_authority, normal_parts}
 use Rattle.uri_ops.specs.Normal.{normal_path_text}
@@ -79,7 +80,7 @@ returns-clause-places g c = λ empty.
     let o1 = string_bytes c.push_scheme.new.out in
     let o2 = string_bytes c.push_authority_with_delimiter.new.out in
     let o3 = string_bytes c.push_normal_path.new.out in
-    pushed-normal-text-has-positions kind ports c.args.core.text.now old o1 o2 o3
+    c.of.ensures ∙ ap packed (pushed-normal-text-has-positions kind ports c.args.core.text.now old o1 o2 o3
     c.len-path_start.result
     c.len-path_end.result c.in_ok-scheme_end.scheme_end c.in_ok-query_end.query_end
     c.in_ok-authority.authority empty
@@ -120,4 +121,4 @@ returns-clause-places g c = λ empty.
     (option_map print (option_map (decode_unreserved set) (option_map text_of c.query.result))))
     g.met.K.Kind.query_set
     ∙ ap (λ q. option_map (λ s. length o3 + 1 + length s)
-    (option_map print (option_map (decode_unreserved kind.query) q))) c.query.ensures)
+    (option_map print (option_map (decode_unreserved kind.query) q))) c.query.ensures))

@@ -1,5 +1,6 @@
 use Rattle.std.proofs.Common.{◌++◌, ◌+◌, ap, append_assoc, length, refl, sym, ◌∙◌, string_bytes}
 use Rattle.std.specs.Prelude.{is_some}
+use Rattle.uri_parts.specs.PackedPositions.{packed}
 use Rattle.uri_parts.specs.Positions.{authority_at, delimited_length}
 use Rattle.uri_ops.specs.Models.Places.{before_path}
 use Rattle.uri_ops.specs.Resolving.{components_of, with_final_path}
@@ -28,7 +29,7 @@ pub returns-clause-places : goal.returns-clause-places
 returns-clause-places c = λ empty.
     let t = dotted_target (components_of c.args.base.now) (components_of c.args.reference.now) in
     let old = string_bytes c.args.out.now in
-    pushed-prefix-and-path-have-positions (with_final_path t) old (old ++ before_path t)
+    c.of.ensures ∙ ap packed (pushed-prefix-and-path-have-positions (with_final_path t) old (old ++ before_path t)
     (string_bytes c.push_to_path_end.new.out)
     _ c.len-path_end.result c.scheme_end.result c.in_ok-query_end.query_end
     c.authority-authority.result empty
@@ -36,4 +37,4 @@ returns-clause-places c = λ empty.
     ∙ sym (append_assoc old (before_path t) (with_final_path t).path))
     (c.in_ok-path_start.ensures.start empty ∙ sym (ap (λ o. length (o ++ before_path t)) empty))
     (c.len-path_end.ensures ∙ string_len-is-length-of-bytes c.push_to_path_end.new.out)
-    c.scheme_end.ensures c.authority-authority.ensures c.in_ok-query_end.ensures.end
+    c.scheme_end.ensures c.authority-authority.ensures c.in_ok-query_end.ensures.end)

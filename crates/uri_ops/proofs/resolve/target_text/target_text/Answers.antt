@@ -1,5 +1,6 @@
 use Rattle.std.proofs.Common.{rules, ◌≡◌, [], ◌++◌, ap, sym, ◌∙◌, string_bytes}
 use Rattle.uri_parts.specs.Components.{components, recompose}
+use Rattle.uri_parts.specs.PackedPositions.{packed}
 use Rattle.uri_parts.specs.Positions.{positions_of}
 use Rattle.uri_ops.specs.Resolving.{components_of, with_final_path}
 use Rattle.uri_ops.specs.Target.{dotted_target}
@@ -13,7 +14,7 @@ returns-clause-at c =
     let text = c.in_ok-positions.ensures.text
     ∙ ap (λ x. x ++ recompose (with_final_path t)) empty in
     c.in_ok-positions.ensures.places empty
-    ∙ sym (ap positions_of
+    ∙ sym (ap (λ p. packed (positions_of p))
     (ap components text ∙ target-text-has-target-components c.args.base.now.text.now
     c.args.reference.now.text.now
     c.requires))
@@ -21,7 +22,7 @@ returns-clause-at c =
 pub returns-in-Some-clause-at : goal.returns-in-Some-clause-at
 returns-in-Some-clause-at c =
     c.in_ok-target.ensures.places
-    ∙ sym (ap positions_of
+    ∙ sym (ap (λ p. packed (positions_of p))
     (ap components c.in_ok-target.ensures.text
     ∙ target-text-has-target-components c.args.base.now.text.now c.args.reference.now.text.now
     c.requires))
@@ -29,7 +30,7 @@ returns-in-Some-clause-at c =
 pub returns-then-not-begins_with_slash-clause-at : goal.returns-then-not-begins_with_slash-clause-at
 returns-then-not-begins_with_slash-clause-at c =
     c.in_ok-copy.ensures.places
-    ∙ sym (ap positions_of
+    ∙ sym (ap (λ p. packed (positions_of p))
     (ap components c.in_ok-copy.ensures.text
     ∙ target-text-has-target-components c.args.base.now.text.now c.args.reference.now.text.now
     c.requires))

@@ -5,13 +5,13 @@ use Rattle.uri_ops.proofs.Targeting.TextViews.{path_end-is-boundary, slice-after
 use Rattle.uri_ops.proofs.resolve.text_view.TextView.after_path.Goals as goal
 
 pub range_from-requires : goal.range_from-requires
-range_from-requires c = λ _. path_end-is-boundary c.as_str-text.result.now c.args.self.now.positions
-    c.as_str-text.utf8 c.as_str-text.ensures.at
+range_from-requires c = λ _. path_end-is-boundary c.as_str-text.result.now c.unpack-positions.result
+    c.as_str-text.utf8 c.unpack-positions.ensures
 
 pub returns : goal.returns
 returns c =
     c.range_from.ensures.value
-    ∙ slice-after-path c.as_str-text.result.now c.args.self.now.positions c.as_str-text.utf8
-    c.as_str-text.ensures.at
+    ∙ slice-after-path c.as_str-text.result.now c.unpack-positions.result c.as_str-text.utf8
+    c.unpack-positions.ensures
     ∙ ap (λ t. marked (codes "?") (components t).query []
     ++ marked (codes "#") (components t).fragment []) c.as_str-text.ensures.text

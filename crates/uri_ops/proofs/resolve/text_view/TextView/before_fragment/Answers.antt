@@ -9,14 +9,14 @@ use Rattle.uri_ops.proofs.resolve.text_view.TextView.before_fragment.Goals as go
 pub range-requires-clause-end_boundary : goal.range-requires-clause-end_boundary
 range-requires-clause-end_boundary c =
     subst (IsCharBoundary c.as_str-text.result.now) (sym c.before_fragment.ensures)
-    (query-end-is-boundary c.as_str-text.result.now c.args.self.now.positions c.as_str-text.utf8
-    c.as_str-text.ensures.at)
+    (query-end-is-boundary c.as_str-text.result.now c.unpack-positions.result c.as_str-text.utf8
+    c.unpack-positions.ensures)
 
 pub returns : goal.returns
 returns c =
     c.range.ensures.value
     ∙ ap (slice_range c.as_str-text.result.now 0) c.before_fragment.ensures
-    ∙ slice-before-fragment c.as_str-text.result.now c.args.self.now.positions c.as_str-text.utf8
-    c.as_str-text.ensures.at
+    ∙ slice-before-fragment c.as_str-text.result.now c.unpack-positions.result c.as_str-text.utf8
+    c.unpack-positions.ensures
     ∙ ap (λ t. (before_path (components t) ++ (components t).path) ++ marked (codes "?")
     (components t).query []) c.as_str-text.ensures.text

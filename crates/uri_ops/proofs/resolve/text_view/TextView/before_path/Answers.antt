@@ -6,12 +6,12 @@ use Rattle.uri_ops.proofs.resolve.text_view.TextView.before_path.Goals as goal
 
 pub range-requires-clause-end_boundary : goal.range-requires-clause-end_boundary
 range-requires-clause-end_boundary c =
-    path_start-is-boundary c.as_str-text.result.now c.args.self.now.positions c.as_str-text.utf8
-    c.as_str-text.ensures.at
+    path_start-is-boundary c.as_str-text.result.now c.unpack-positions.result c.as_str-text.utf8
+    c.unpack-positions.ensures
 
 pub returns : goal.returns
 returns c =
     c.range.ensures.value
-    ∙ slice-before-path c.as_str-text.result.now c.args.self.now.positions c.as_str-text.utf8
-    c.as_str-text.ensures.at
+    ∙ slice-before-path c.as_str-text.result.now c.unpack-positions.result c.as_str-text.utf8
+    c.unpack-positions.ensures
     ∙ ap (λ t. before_path (components t)) c.as_str-text.ensures.text

@@ -8,12 +8,12 @@ use Rattle.uri_ops.proofs.resolve.text_view.TextView.fragment_with_delimiter.Goa
 pub range_from-requires : goal.range_from-requires
 range_from-requires c =
     λ _. subst (IsCharBoundary c.as_str-text.result.now) (sym c.before_fragment.ensures)
-    (query-end-is-boundary c.as_str-text.result.now c.args.self.now.positions c.as_str-text.utf8
-    c.as_str-text.ensures.at)
+    (query-end-is-boundary c.as_str-text.result.now c.unpack-positions.result c.as_str-text.utf8
+    c.unpack-positions.ensures)
 
 pub returns : goal.returns
 returns c =
     c.range_from.ensures.value ∙ ap (λ n. drop n c.as_str-text.result.now) c.before_fragment.ensures
-    ∙ slice-of-fragment c.as_str-text.result.now c.args.self.now.positions c.as_str-text.utf8
-    c.as_str-text.ensures.at
+    ∙ slice-of-fragment c.as_str-text.result.now c.unpack-positions.result c.as_str-text.utf8
+    c.unpack-positions.ensures
     ∙ ap (λ t. marked (codes "#") (components t).fragment []) c.as_str-text.ensures.text

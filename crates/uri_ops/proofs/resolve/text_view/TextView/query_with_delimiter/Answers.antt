@@ -8,20 +8,20 @@ use Rattle.uri_ops.proofs.resolve.text_view.TextView.query_with_delimiter.Goals 
 
 pub range-requires-clause-start_boundary : goal.range-requires-clause-start_boundary
 range-requires-clause-start_boundary c =
-    λ _. path_end-is-boundary c.as_str-text.result.now c.args.self.now.positions c.as_str-text.utf8
-    c.as_str-text.ensures.at
+    λ _. path_end-is-boundary c.as_str-text.result.now c.unpack-positions.result c.as_str-text.utf8
+    c.unpack-positions.ensures
 
 pub range-requires-clause-end_boundary : goal.range-requires-clause-end_boundary
 range-requires-clause-end_boundary c =
     subst (IsCharBoundary c.as_str-text.result.now) (sym c.before_fragment.ensures)
-    (query-end-is-boundary c.as_str-text.result.now c.args.self.now.positions c.as_str-text.utf8
-    c.as_str-text.ensures.at)
+    (query-end-is-boundary c.as_str-text.result.now c.unpack-positions.result c.as_str-text.utf8
+    c.unpack-positions.ensures)
 
 pub returns : goal.returns
 returns c =
     c.range.ensures.value
-    ∙ ap (slice_range c.as_str-text.result.now c.args.self.now.positions.path_end)
+    ∙ ap (slice_range c.as_str-text.result.now c.unpack-positions.result.path_end)
     c.before_fragment.ensures
-    ∙ slice-of-query c.as_str-text.result.now c.args.self.now.positions c.as_str-text.utf8
-    c.as_str-text.ensures.at
+    ∙ slice-of-query c.as_str-text.result.now c.unpack-positions.result c.as_str-text.utf8
+    c.unpack-positions.ensures
     ∙ ap (λ t. marked (codes "?") (components t).query []) c.as_str-text.ensures.text

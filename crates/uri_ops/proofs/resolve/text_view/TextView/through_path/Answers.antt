@@ -6,11 +6,11 @@ use Rattle.uri_ops.proofs.resolve.text_view.TextView.through_path.Goals as goal
 
 pub range-requires-clause-end_boundary : goal.range-requires-clause-end_boundary
 range-requires-clause-end_boundary c = path_end-is-boundary c.as_str-text.result.now
-    c.args.self.now.positions c.as_str-text.utf8 c.as_str-text.ensures.at
+    c.unpack-positions.result c.as_str-text.utf8 c.unpack-positions.ensures
 
 pub returns : goal.returns
 returns c =
     c.range.ensures.value
-    ∙ slice-through-path c.as_str-text.result.now c.args.self.now.positions c.as_str-text.utf8
-    c.as_str-text.ensures.at
+    ∙ slice-through-path c.as_str-text.result.now c.unpack-positions.result c.as_str-text.utf8
+    c.unpack-positions.ensures
     ∙ ap (λ t. before_path (components t) ++ (components t).path) c.as_str-text.ensures.text

@@ -1,6 +1,6 @@
 use Rattle.std.proofs.Common.{rules, ◌≡◌, [], ◌++◌, ap, sym, ◌∙◌, string_bytes}
 use Rattle.uri_parts.proofs.Splitting.Recompose.{recompose-components}
-use Rattle.uri_ops.proofs.resolve.target_text.prefixed_target.Goals as goal
+use Rattle.uri_ops.proofs.resolve.copied_target.prefixed_target.Goals as goal
 
 pub returns-clause-text : goal.returns-clause-text
 returns-clause-text c =

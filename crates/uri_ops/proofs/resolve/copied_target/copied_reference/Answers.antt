@@ -1,10 +1,11 @@
 use Rattle.std.proofs.Common.{ap, sym, ◌∙◌}
 use Rattle.uri_parts.specs.Components.{recompose}
+use Rattle.uri_parts.specs.PackedPositions.{packed}
 use Rattle.uri_parts.specs.Positions.{positions_of}
 use Rattle.uri_parts.proofs.Splitting.Recompose.{recompose-components}
 use Rattle.uri_ops.specs.Resolving.{components_of}
 use Rattle.uri_ops.proofs.Targeting.CopiedTargets.{copied_target, copied_taken, copied_underflow}
-use Rattle.uri_ops.proofs.resolve.target_text.copied_reference.Goals as goal
+use Rattle.uri_ops.proofs.resolve.copied_target.copied_reference.Goals as goal
 
 pub returns-clause-text : goal.returns-clause-text
 returns-clause-text c =
@@ -17,8 +18,8 @@ returns-clause-text c =
 pub returns-clause-places : goal.returns-clause-places
 returns-clause-places c =
     let r = components_of c.args.reference.now in
-    c.positions.ensures
-    ∙ sym (ap positions_of (copied_target (components_of c.args.base.now) r c.requires.scheme
+    c.packed_positions.ensures
+    ∙ sym (ap (λ p. packed (positions_of p)) (copied_target (components_of c.args.base.now) r c.requires.scheme
     c.requires.rootless))
 
 pub returns-clause-taken : goal.returns-clause-taken
