@@ -5,7 +5,6 @@ use Rattle.std.proofs.Common.{length-append, option_map, lit<}
 use Rattle.std.specs.Prelude.{codes, Option, Some, None, IfSome, unwrap_or}
 use Rattle.std.specs.Str.{IsUtf8}
 use Rattle.std.proofs.Math.Seq.{take-add, take-append_seam}
-use Rattle.std.proofs.lemmas.List.{take_all}
 use Rattle.uri_parts.specs.declared.positions.AuthorityPositions.{AuthorityPositions}
 use Rattle.uri_parts.specs.declared.positions.Positions.{Positions}
 use Rattle.uri_parts.specs.Authority.{AuthorityParts, authority_parts, recompose_authority}

@@ -7,12 +7,11 @@ use Rattle.std.specs.List.{list_all, list_any}
 use Rattle.std.proofs.lemmas.Bool.{cases_Bool, and_parts, and_from, and_left, or_parts, or_left}
 use Rattle.std.proofs.lemmas.Bool.{both_ways, not_from_false}
 use Rattle.std.proofs.lemmas.Bool.Decides.{nat_tests}
-use Rattle.std.proofs.lemmas.List.Elements.{All-weaker}
 use Rattle.uri_pct.specs.Sets.{TableSet, is_one_of}
 use Rattle.uri_pct.proofs.ValidTexts.Cuts.{excludes}
 use Rattle.uri_pct.proofs.ValidTexts.MarksInTexts.{length_before_mark_at_start_is_zero}
 use Rattle.uri_pct.proofs.ValidTexts.MarksInTexts.{length_before_marks_counts_other_byte}
-use Rattle.uri_parts.specs.Components.{Lacks, starts, has_scheme, before_any, from_any}
+use Rattle.uri_parts.specs.Components.{starts, has_scheme, before_any, from_any}
 use Rattle.uri_parts.specs.Grammar.{has_colon_in_first_segment, Kind}
 use Rattle.uri_parts.proofs.Splitting.Cuts.{IsEmptyOrMarked}
 use Rattle.uri_parts.proofs.Splitting.Relative.{question_or_hash_ends_scheme}

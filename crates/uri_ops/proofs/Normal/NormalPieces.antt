@@ -5,23 +5,21 @@ use Rattle.std.specs.Prelude.{codes, Option, Some, None, is_some}
 use Rattle.std.specs.Option.{option_and_then}
 use Rattle.std.specs.Str.{IsUtf8, str_to_ascii_lowercase}
 use Rattle.std.proofs.lemmas.Bool.{cond-false}
-use Rattle.std.proofs.lemmas.List.{append-nil, append_assoc}
+use Rattle.std.proofs.lemmas.List.{append_assoc}
 use Rattle.uri_pct.specs.Sets.{TableSet}
 use Rattle.uri_pct.specs.Texts.{is_absolute}
 use Rattle.uri_pct.specs.DecodeUnreserved.{decode_unreserved}
-use Rattle.uri_pct.specs.Tokens.{IsValidFor, is_valid_for, print}
+use Rattle.uri_pct.specs.Tokens.{IsValidFor, print}
 use Rattle.uri_parts.specs.Components.{components, has_authority, marked, starts}
 use Rattle.uri_parts.specs.Grammar.{Kind}
 use Rattle.uri_ops.specs.ComponentSets.{IsComponentSet}
-use Rattle.uri_ops.specs.Dots.{IsAbsolute, remove_dot_segments}
 use Rattle.uri_ops.specs.Meaning.{authority_meaning, dotless_path, meaning_of}
 use Rattle.uri_ops.specs.Normal.{normal_authority, normal_path, normal_text}
 use Rattle.uri_ops.specs.Normal.{normal_path_text}
 use Rattle.uri_parts.specs.Ports.{PortFunction}
 use Rattle.uri_ops.specs.Target.{guarded}
-use Rattle.uri_ops.proofs.Meanings.AllowedParts.{set-text-from-utf8, set-text-is-valid}
+use Rattle.uri_ops.proofs.Meanings.AllowedParts.{set-text-from-utf8}
 use Rattle.uri_ops.proofs.Meanings.AllowedParts.{print_decoded}
-use Rattle.uri_ops.proofs.Paths.DecodedPaths.{dotless-set-text-is-set-text}
 use Rattle.uri_ops.proofs.Paths.DecodedStarts.{decoding-keeps-two-slashes}
 use Rattle.uri_ops.proofs.Paths.DecodedStarts.{no-leading-slash-no-two-slashes}
 use Rattle.uri_pct.proofs.Tests.{is_some-option_map}

@@ -136,7 +136,7 @@ fn is_unusual_digit(previous: u8, byte: u8) -> bool
 }
 
 /// Returns `true` only if normalising keeps the address in brackets: its digits are in lower case,
-/// no group begins with a `0`, and `::` stands for two groups or more.
+/// no group begins with a `0`, and `::` replaces two groups or more.
 fn is_address_unchanged(host: &str) -> bool
     requires { starts left_bracket host.now ≡ true }
     ensures { result ≡ true → (names : TableSet) → is_host names host.now ≡ true

@@ -1,4 +1,4 @@
-use Rattle.std.proofs.Common.{ap, sym, subst, ◌≡◌, ◌∙◌}
+use Rattle.std.proofs.Common.{ap, sym, ◌∙◌}
 use Rattle.uri_parts.specs.Components.{starts}
 use Rattle.uri_parts.specs.Hosts.{host_kind}
 use Rattle.uri_pct.specs.Delimiters.{left_bracket}

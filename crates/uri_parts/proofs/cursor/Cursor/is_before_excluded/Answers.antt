@@ -6,8 +6,6 @@ use Rattle.std.proofs.lemmas.Bool.Decides.{nat_tests}
 use Rattle.uri_pct.specs.Models.Scans.{may_begin_octet_or_past_ascii}
 use Rattle.uri_pct.specs.Sets.{LacksPercent, TableSet}
 use Rattle.uri_pct.specs.Sets.{is_path_char, is_segment_nz_nc_char, is_userinfo_char}
-use Rattle.uri_pct.specs.Sets.{ipath_set, isegment_nz_nc_set, iuserinfo_set}
-use Rattle.uri_pct.specs.Sets.{path_set, segment_nz_nc_set, userinfo_set}
 use Rattle.uri_pct.proofs.ValidTexts.PrefixSteps.{valid_prefix_stops_where_none_may_begin}
 use Rattle.uri_parts.specs.Grammar.{Kind, first_segment_set, kind_by_flags}
 use Rattle.uri_parts.specs.Scanning.{scan, scan_end}
