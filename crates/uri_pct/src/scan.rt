@@ -2,8 +2,12 @@
 ghost use Rattle.std.specs.Prelude.{◌≡◌, ◌<◌, ◌≤◌, ◌+◌, IsTrue, false, true, length, drop};
 ghost use Rattle.std.specs.Prelude.{slice_index};
 ghost use Rattle.std.specs.Str.{IsCharBoundary};
+ghost use Rattle.uri_pct.specs.Delimiters.{percent_sign};
+ghost use Rattle.uri_pct.specs.Masks.{has_bit as has_bit_of};
+ghost use Rattle.uri_pct.specs.Models.ByteRuns.{IsLongestRun, is_char_byte};
 ghost use Rattle.uri_pct.specs.Prefixes.{valid_prefix};
 ghost use Rattle.uri_pct.specs.Texts.{has_hex_digits_after};
+ghost use Rattle.uri_pct.specs.Tables.{set_of as set_of_table};
 ghost use Rattle.uri_pct.specs.Tokens.{is_valid_for};
 
 use crate::lanes::{LANES, chars_end, encoded_run_end, encoded_run_len, first_run_end, run_end};
@@ -22,6 +26,39 @@ fn has_octet_digits(bytes: &[u8], index: usize) -> bool
     bytes.len() - index > 2
         && bytes[index + 1].is_ascii_hexdigit()
         && bytes[index + 2].is_ascii_hexdigit()
+}
+
+/// Returns where the longest run of bytes ends that begins at `start` and of which each is in the set
+/// or is a part of one of the characters from U+00C0 to U+D7FF. It calls no other function, so it
+/// saves few registers.
+#[inline(never)]
+fn char_run_end(start: usize, text: &str, low: u64, high: u64) -> usize
+    requires { start ≤ length text.now }
+    ensures { IsLongestRun (is_char_byte (has_bit_of low high)) text.now start result }
+{
+    chars_end(low, high, text.as_bytes(), start)
+}
+
+/// Returns where the run of characters of ASCII and from U+00C0 to U+D7FF ends that begins with the
+/// one past ASCII at `start`, of those that the table allows. It is `start` for another one.
+#[inline(always)]
+fn pass_chars(table: &Table, text: &str, start: usize) -> usize
+    requires here { IsCharBoundary text.now start }
+    requires inside { start < length text.now }
+    requires past { 128 ≤ slice_index text.now start }
+    ensures total { result + valid_prefix (set_of_table table.now) (drop result text.now)
+        ≡ start + valid_prefix (set_of_table table.now) (drop start text.now) }
+    ensures boundary { IsCharBoundary text.now result }
+    ensures stop { result < length text.now → slice_index text.now result < 128
+        → (slice_index text.now result ≡ percent_sign → ⊥)
+        → valid_prefix (set_of_table table.now) (drop result text.now) ≡ 0 }
+{
+    let bytes = text.as_bytes();
+    if !table.allows_lead(bytes[start]) {
+        return start;
+    }
+    let (low, high) = table.masks();
+    char_run_end(start, text, low, high)
 }
 
 impl Table {
@@ -227,8 +264,12 @@ impl Table {
         if !self.allows_some_past_ascii() || end == bytes.len() || bytes[end] < 128 {
             return end;
         }
+        let run_end = pass_chars(self, text, end);
+        if run_end == bytes.len() || bytes[run_end] < 128 && bytes[run_end] != b'%' {
+            return run_end;
+        }
         let (low, high, pct_encoded, ucschar, iprivate) = self.parts();
-        Table::scan_mixed_runs(end, text, low, high, pct_encoded, ucschar, iprivate)
+        Table::scan_mixed_runs(run_end, text, low, high, pct_encoded, ucschar, iprivate)
     }
 
     // The parts of a table are in registers; a table would be written to memory by each parse.

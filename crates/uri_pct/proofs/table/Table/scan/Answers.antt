@@ -1,7 +1,8 @@
 use Rattle.std.proofs.Common.{◌≡◌, ◌<◌, ◌≤◌, ◌∙◌, ◌||◌, ℕ, List, false, length, drop}
-use Rattle.std.proofs.Common.{get_or, arith, sym, ap, subst, ⊎_elim}
+use Rattle.std.proofs.Common.{get_or, arith, not, sym, ap, subst, ⊎_elim}
 use Rattle.std.specs.Prelude.{slice_index}
-use Rattle.std.proofs.lemmas.Bool.{and_right, cond-false, ne_eqb, cases_lt}
+use Rattle.std.proofs.lemmas.Bool.{and_right, cond-false, eq-eqb, false≢true, ne_eqb, cases_lt}
+use Rattle.std.proofs.lemmas.Bool.{le-ltb}
 use Rattle.uri_pct.specs.declared.table.Table.{Table}
 use Rattle.uri_pct.specs.Models.Scans.{may_begin_octet_or_past_ascii}
 use Rattle.uri_pct.proofs.TableSets.Masks.{has_bit_past_ascii_is_false}
@@ -11,6 +12,9 @@ use Rattle.uri_pct.proofs.ValidTexts.PrefixSteps.{valid_prefix_at_end_is_empty}
 use Rattle.uri_pct.proofs.ValidTexts.PrefixSteps.{valid_prefix_stops_where_none_may_begin}
 use Rattle.uri_pct.proofs.TableSets.Percent.{lacks_percent}
 use Rattle.uri_pct.proofs.table.Table.scan.Goals as goal
+use Rattle.uri_pct.proofs.table.Table.scan.Goals.{then-run_end-bytes-via-then-run_end-bytes}
+use Rattle.uri_pct.proofs.table.Table.scan.Goals.{then-run_end-bytes-via-else-run_end-bytes+then-bytes-run_end-ne37}
+use Rattle.uri_pct.proofs.table.Table.scan.Goals.{then-bytes-run_end-lt128, else-bytes-run_end-lt128}
 use Rattle.uri_pct.proofs.table.Table.scan.Goals.{then-not-allows_some_past_ascii-via-then-not-allows_some_past_ascii}
 use Rattle.uri_pct.proofs.table.Table.scan.Goals.{then-not-allows_some_past_ascii-via-else-not-allows_some_past_ascii+then-end-bytes}
 use Rattle.uri_pct.proofs.table.Table.scan.Goals.{then-not-allows_some_past_ascii-via-else-not-allows_some_past_ascii+else-end-bytes+then-bytes-end-lt128}
@@ -58,6 +62,32 @@ returns-then-not-allows_some_past_ascii-clause-end c =
           (subst (λ t. slice_index t end < 128) same w.if-bytes-end-lt128.true)
     ] in
     omega (arith, e, c.pass_encoded-end.ensures.total)
+
+pub returns-then-run_end-bytes-clause-end : goal.returns-then-run_end-bytes-clause-end
+returns-then-run_end-bytes-clause-end c =
+    let set = set_of c.args.self.now in
+    let text = c.args.text.now in
+    let end = c.pass_chars-run_end.result in
+    let same : c.as_bytes-bytes.result.now ≡ text = c.as_bytes-bytes.ensures.value in
+    let within : end ≤ length text = c.pass_chars-run_end.ensures.boundary.0 in
+    let long : length c.as_bytes-bytes.result.now ≡ length text = ap length same in
+    let e : valid_prefix set (drop end text) ≡ 0 = elim c.then-run_end-bytes.branch [
+      | then-run_end-bytes-via-then-run_end-bytes w ↦
+          valid_prefix_at_end_is_empty set text end (omega (arith, w.if-run_end-bytes.true, long))
+      | then-run_end-bytes-via-else-run_end-bytes+then-bytes-run_end-ne37 w ↦
+          elim w.if-bytes-run_end-lt128.branch [
+            | then-bytes-run_end-lt128 w' ↦
+                c.pass_chars-run_end.ensures.stop
+                (omega (arith, within, w.if-run_end-bytes.false, long))
+                (subst (λ t. slice_index t end < 128) same w'.if-bytes-run_end-lt128.true)
+                (λ e. false≢true (sym (sym w.if-bytes-run_end-ne37.true ∙ w'.value-is
+                ∙ ap not (eq-eqb _ _ (ap (λ t. slice_index t end) same ∙ e)))))
+            | else-bytes-run_end-lt128 w' ↦
+                absurd (false≢true (sym (le-ltb _ _ w'.if-bytes-run_end-lt128.false)
+                ∙ sym w'.value-is ∙ w.if-bytes-run_end-ne37.true))
+          ]
+    ] in
+    omega (arith, e, c.pass_encoded-end.ensures.total, c.pass_chars-run_end.ensures.total)
 
 pub scan_mixed_runs-requires-clause-percent : goal.scan_mixed_runs-requires-clause-percent
 scan_mixed_runs-requires-clause-percent c =
