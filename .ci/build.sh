@@ -78,7 +78,7 @@ program 'nothing is built' unproved
 must 'the status of a build' 0 $?
 must 'the last line of a build' "    $tree/out/uritool" "$(tail -n 1 "$work/err")"
 must 'only the crates below, bottom up' \
-    'uri_pct uri_parts uri_ops error_laws fluent_uri uri_links uri_commands' \
+    'uri_pct uri_parts uri_ops error_laws fluent_uri uri_links uri_mend uri_commands' \
     "$(paste -sd ' ' "$work/proved")"
 program 'it is built' first
 must 'a fresh build has no line of its own' '' "$(cat "$work/err")"
@@ -117,7 +117,8 @@ must 'the line of an interrupted build' \
 kill -0 "$(cat "$work/slow")" 2> /dev/null
 must 'rt ends with an interrupted build' 1 $?
 program 'a build was interrupted' unproved
-must 'nothing of it is left' 'build.log uritool uritool.stamp' "$(cd out && echo *)"
+must 'nothing of it is left' 'build.log uritool uritool.stamp uritool.verdict' \
+    "$(cd out && echo *)"
 
 KIT='rattle-kit-0 logic 0' ./build uritool 2> "$work/err"
 must 'the status with another kit' 0 $?
@@ -126,7 +127,7 @@ must 'the line of a kit with another logic' \
     "$(head -n 1 "$work/err")"
 KIT=$other ./build uritool 2> "$work/err"
 must 'no line of a kit with the same logic' 0 "$(grep -c 'the kit here' "$work/err")"
-no_rt='rt is not on the PATH: add the folder bin of the Rattle kit (README.md, "How to run it")'
+no_rt='rt is not on the PATH: add the folder bin of the Rattle kit (README.md, "Build and prove")'
 PATH=$work/tools ./build uritool 2> "$work/err"
 must 'the status of ./build without rt' 1 $?
 must 'the line of ./build without rt' "build: $no_rt" "$(cat "$work/err")"

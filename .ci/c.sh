@@ -44,8 +44,31 @@ build() {
 
 does 'gcc: the tests fail' build gcc CC=cc CXX=c++ check
 does 'the header, the crate and the library differ' "$root/c/hold" "$work/gcc/libfluent_uri_c.so"
+does 'c/hold does not report a change' "$root/c/hold" --trial
 readelf -n "$work/gcc/libfluent_uri_c.so" 2> "$work/log" | grep -q 'x86-64-v2' ||
     fail 'the library does not say which processor it needs'
+
+# On a processor without x86-64-v2 a line says so, and no signal: by the loader, or by the library
+# where no loader looks.
+if has qemu-x86_64 'run on an older processor'; then
+    cat > "$work/main.c" <<'C'
+#include <fluent_uri.h>
+int main(void) { return (int)fluent_uri_version() == 0; }
+C
+    library=$work/gcc/libfluent_uri_c
+    does 'a static program' cc -std=c99 -I"$root/c/include" -static "$work/main.c" "$library.a" \
+        -o "$work/old.static"
+    does 'a program over the shared library' cc -std=c99 -I"$root/c/include" "$work/main.c" \
+        "$library.so" -Wl,-rpath,"$work/gcc" -o "$work/old.shared"
+    for it in 'static:this processor lacks a feature of x86-64-v2' \
+        'shared:CPU ISA level is lower than required'; do
+        qemu-x86_64 -cpu Nehalem "$work/old.${it%%:*}" > "$work/log" 2>&1 ||
+            fail "a ${it%%:*} program on a processor of x86-64-v2"
+        qemu-x86_64 -cpu core2duo "$work/old.${it%%:*}" > "$work/log" 2>&1
+        [ $? = 127 ] && [ "$(wc -l < "$work/log")" = 1 ] && grep -qF "${it#*:}" "$work/log" ||
+            fail "a ${it%%:*} program on a processor without x86-64-v2"
+    done
+fi
 
 # What is installed is found by pkg-config, and runs.
 does 'it cannot be installed' build gcc CC=cc PREFIX=/usr DESTDIR="$work/stage" install
@@ -73,20 +96,41 @@ if has pkg-config 'try what is installed'; then
 fi
 
 if has valgrind 'watch memory'; then
-    for it in calls columns; do
+    for it in borders calls columns; do
         does "valgrind: $it" valgrind -q --error-exitcode=1 --leak-check=full "$work/gcc/$it.static"
     done
 fi
 
+# AddressSanitizer and UndefinedBehaviorSanitizer watch what is written by hand: the tests, and the
+# header that they use from C++.
+sanitized='-O1 -g -fsanitize=address,undefined -fno-sanitize-recover=all'
+# shellcheck disable=SC2086 # (words)
+if echo 'int main(void) { return 0; }' | cc $sanitized -x c - -o "$work/none" 2> "$work/log"; then
+    for it in borders calls columns threads rows; do
+        # shellcheck disable=SC2086 # (words)
+        does "sanitizers of cc: $it cannot be built" cc -std=c99 $sanitized -I"$root/c/include" \
+            "$root/c/tests/$it.c" "$work/gcc/libfluent_uri_c.a" -pthread -o "$work/$it"
+        does "sanitizers of cc: $it" "$work/$it" "$root"/crates/vectors/data/*.txt \
+            "$root/crates/relative_rows/stdin" "$root/crates/mend_rows/stdin"
+    done
+    # shellcheck disable=SC2086 # (words)
+    does 'sanitizers of c++: the test cannot be built' c++ -std=c++17 $sanitized \
+        -I"$root/c/include" "$root/c/tests/cplusplus.cc" "$work/gcc/libfluent_uri_c.a" \
+        -o "$work/cplusplus"
+    does 'sanitizers of c++' "$work/cplusplus"
+else
+    echo 'c: skipped: cc has no sanitizers'
+fi
+
 if has clang 'try a second compiler and the sanitizers'; then
     does 'clang: the tests fail' build clang CC=clang CXX=clang++ check
-    flags='-O1 -g -fsanitize=address,undefined -fno-sanitize-recover=all'
-    for it in calls columns threads rows; do
+    flags=$sanitized
+    for it in borders calls columns threads rows; do
         # shellcheck disable=SC2086 # (words)
         does "sanitizers: $it cannot be built" clang -std=c99 $flags -I"$root/c/include" \
             "$root/c/tests/$it.c" "$work/gcc/libfluent_uri_c.a" -pthread -o "$work/$it"
         does "sanitizers: $it" "$work/$it" "$root"/crates/vectors/data/*.txt \
-            "$root/crates/relative_rows/stdin"
+            "$root/crates/relative_rows/stdin" "$root/crates/mend_rows/stdin"
     done
     if echo 'int LLVMFuzzerTestOneInput(void); int LLVMFuzzerTestOneInput(void) { return 0; }' |
         clang -fsanitize=fuzzer,address -x c - -o "$work/none" 2> "$work/log"; then

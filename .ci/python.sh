@@ -1,7 +1,10 @@
 #!/bin/sh
-# Tests the Python package over the shared library, with the compiled module and by ctypes, and then
-# the wheel. It writes nothing into the tree but what make and rt keep in out/. FLUENT_URI_LIBRARY
-# names a shared library to test with, in place of the one that is built of the proved archive.
+# Tests the Python package over the shared library: with the compiled module and by ctypes, with
+# sanitizers, by a Python that counts references, then the wheel, and the commands that install the
+# package. It writes nothing into the tree but what make and rt keep in out/. What is missing is skipped with a word. FLUENT_URI_LIBRARY names
+# a shared library to test with, in place of the one that is built of the proved archive, and
+# PYTHON_DEBUG the Python that counts references, if it is not python3-dbg. GENERATED_SECONDS (6)
+# says how long generated calls are compared, and GENERATED_SEED (1) which.
 set -u
 root=$(cd "$(dirname "$0")/.." && pwd)
 python=${PYTHON:-python3}
@@ -19,7 +22,7 @@ fail() {
     exit 1
 }
 
-library=${FLUENT_URI_LIBRARY-}
+library=${FLUENT_URI_LIBRARY-} archive=
 if [ -z "$library" ]; then
     crate=$root/crates/fluent_uri_c
     archive=$crate/out/libfluent_uri_c.a
@@ -32,27 +35,67 @@ fi
 export PYTHONDONTWRITEBYTECODE=1
 unset FLUENT_URI_LIBRARY FLUENT_URI_CTYPES
 
-# tests FOLDER WANTED: runs the tests with the package in the folder; WANTED says whether the compiled
-# module must make the calls.
+# tests PYTHON FOLDER WANTED [MODULE..]: runs these tests, or all, with the package in the folder.
+# WANTED says whether the compiled module must make the calls.
 tests() {
-    export PYTHONPATH="$1"
-    "$python" -c "import fluent_uri, sys; sys.exit(fluent_uri.is_compiled is not $2)" \
-        > "$work/log" 2>&1 || fail "fluent_uri.is_compiled is not $2"
+    runner=$1 PYTHONPATH=$2 wanted=$3
+    export PYTHONPATH
+    shift 3
+    [ $# -gt 0 ] || set -- discover
+    "$runner" -c "import fluent_uri, sys; sys.exit(fluent_uri.is_compiled is not $wanted)" \
+        > "$work/log" 2>&1 || fail "fluent_uri.is_compiled is not $wanted"
     cd "$root/python/tests" || exit 2
-    "$python" -m unittest discover -q > "$work/log" 2>&1 ||
-        fail "a test failed (is_compiled: $2)"
-    grep '^Ran ' "$work/log" | sed "s/^/python: is_compiled is $2: /"
+    "$runner" -m unittest "$@" -q > "$work/log" 2>&1 || fail "a test failed ($told)"
+    grep '^Ran ' "$work/log" | sed "s/^/python: $told: /"
 }
+
+# The tests over the border itself, for what is slow.
+border='test_values test_classes test_types test_lies test_batch test_mend'
 
 mkdir "$work/site"
 cp -R "$root/python/src/fluent_uri" "$work/site/"
 rm -f "$work/site/fluent_uri/"*.so*
 cp "$library" "$work/site/fluent_uri/libfluent_uri_c.so.0"
-tests "$work/site" False
+told='by ctypes'
+tests "$python" "$work/site" False
+export TESTED_ONCE=1
 if "$python" "$root/python/build-compiled" "$work/site/fluent_uri" > "$work/log" 2>&1; then
-    TESTED_ONCE=1
-    export TESTED_ONCE
-    tests "$work/site" True
+    told='by the compiled module'
+    tests "$python" "$work/site" True
+
+    # The module is built with sanitizers, and Python takes each object's memory by malloc.
+    asan=$(${CC:-cc} -print-file-name=libasan.so) ubsan=$(${CC:-cc} -print-file-name=libubsan.so)
+    if [ -f "$asan" ] && [ -f "$ubsan" ]; then
+        cp -R "$work/site" "$work/sanitized"
+        CFLAGS='-O1 -g -fsanitize=address,undefined -fno-sanitize-recover=all' \
+            "$python" "$root/python/build-compiled" "$work/sanitized/fluent_uri" > "$work/log" 2>&1 ||
+            fail 'the compiled module could not be built with sanitizers'
+        # The program itself, not a script that starts it, which would be sanitized too.
+        program=$("$python" -c 'import sys; print(sys.executable)')
+        printf '#!/bin/sh\nexport LD_PRELOAD="%s" %s\nexec "%s" "$@"\n' "$asan $ubsan" \
+            'ASAN_OPTIONS=detect_leaks=0 PYTHONMALLOC=malloc' "$program" > "$work/sanitized-python"
+        chmod +x "$work/sanitized-python"
+        told='with sanitizers'
+        # shellcheck disable=SC2086 # (words)
+        tests "$work/sanitized-python" "$work/sanitized" True $border test_imports test_threads \
+            test_generated
+    else
+        echo "python: skipped: ${CC:-cc} has no sanitizers"
+    fi
+
+    debug=${PYTHON_DEBUG:-python3-dbg}
+    if ! command -v "$debug" > /dev/null; then
+        echo "python: skipped: there is no $debug to count references"
+    elif ! "$debug" -c 'import sys; sys.gettotalrefcount()' > "$work/log" 2>&1; then
+        fail "$debug counts no references"
+    else
+        cp -R "$work/site" "$work/debug"
+        "$debug" "$root/python/build-compiled" "$work/debug/fluent_uri" > "$work/log" 2>&1 ||
+            fail "the compiled module could not be built for $debug"
+        told='with references counted'
+        # shellcheck disable=SC2086 # (words)
+        tests "$debug" "$work/debug" True $border test_references
+    fi
 else
     grep -q 'not built: there is no' "$work/log" || fail 'the compiled module could not be built'
     sed 's/^build-compiled: /python: the compiled module is /' "$work/log"
@@ -63,10 +106,17 @@ for it in one other; do
         fail 'the wheel could not be made'
 done
 cmp "$work/one/"*.whl "$work/other/"*.whl > "$work/log" 2>&1 || fail 'two wheels differ'
+# What is in it asks for no symbol of a later glibc.
+[ -f "$work/one/"*-manylinux_2_17_x86_64.whl ] || fail "the wheel is $(ls "$work/one")"
 "$python" -m zipfile -e "$work/one/"*.whl "$work/installed" > "$work/log" 2>&1 ||
     fail 'the wheel could not be unpacked'
 PYTHONPATH=$work/installed "$python" -c '
 from fluent_uri import Uri, batch
 assert str(Uri.parse("A:%7e").normalize()) == batch.normalize(["A:%7e"])[0] == "a:~"
 ' > "$work/log" 2>&1 || fail 'the wheel does not work'
+if [ -n "$archive" ]; then
+    sh "$root/.ci/python_install.sh" "$archive" || exit 1
+else
+    echo 'python: skipped: a library that is given is not installed as the page has it'
+fi
 echo 'python: ok'

@@ -7,7 +7,7 @@ set -u
 root=$(cd "$(dirname "$0")/.." && pwd)
 built=${1:-$root/crates/uritool/out/uritool}
 at_once=${2:-4}
-usage='usage: uritool parse KIND TEXT | normalize KIND TEXT | resolve uri|iri BASE REF | links BASE REF...'
+usage='usage: uritool parse KIND TEXT | normalize KIND TEXT | mend KIND TEXT | resolve uri|iri BASE REF | links BASE REF...'
 notice='uritool: this run is checked and not yet proved; ./build proves and builds the program'
 opaque="refused when base has a rootless path and no authority, reference should either have scheme, be empty or start with '#'"
 bad=$(printf 'a\377')
@@ -29,9 +29,16 @@ does() {
     normal-form)
         lines http://h/~ > wanted.out
         "$program" normalize uri 'HTTP://h:80/%7e' > out 2> err ;;
+    mended-link)
+        lines http://h/a%20b > wanted.out
+        "$program" mend uri ' http://h/a b' > out 2> err ;;
     target)
         lines http://a/b/g > wanted.out
         "$program" resolve uri 'http://a/b/c/d;p?q' '../g' > out 2> err ;;
+    longest-argument)
+        # Of 131,071 bytes at most, which is what Linux gives a program.
+        lines "$(printf '%043690d' 0 | tr 0 A)" > wanted.out
+        "$program" normalize uri-ref "$(printf '%043690d' 0 | sed 's/0/%41/g')" > out 2> err ;;
     links)
         lines 'new 0 foo:x' "$opaque" > wanted.out
         "$program" links 'foo:bar' 'foo:x' '//g' > out 2> err ;;
@@ -73,7 +80,9 @@ does() {
 # The forms, each with the status that it must end with.
 forms='answer 0
 normal-form 0
+mended-link 0
 target 0
+longest-argument 0
 links 0
 rejected-text 1
 no-words 2

@@ -1,13 +1,15 @@
 """The file of a crate that keeps the verdicts on its mutants, and those that are due.
 
-A crate's file `mutants.lock` has a line for each mutant of its `mutants/` that was rejected:
+A crate's file `mutants.lock` has a line for each mutant that was rejected:
 
-    NAME DIGEST rejected SHOWN
+    NAME DIGEST rejected SHOWN GOALS
 
 DIGEST is of all that the verdict depends on (mutant_digest.py), so a line whose digest is another
 one is stale and counts for nothing. SHOWN is `-`, or what a run of the mutant showed (shows.py):
 `seen:N:SUM` where each of its N lines `shows:` printed both outputs, and `nothing:SUM` where it says
-that no difference is visible. SUM is of these lines, which DIGEST does not cover.
+that no difference is visible. SUM is of these lines, which DIGEST does not cover. GOALS are the clauses
+and other goals at which the mutant was rejected (rejected_at.py), `-` if none is known by its name. A
+line that was written before these were kept has no such word.
 """
 import contextlib
 import fcntl
@@ -20,7 +22,9 @@ import threading
 
 from mutant_digest import FOLDERS, Digests
 
-REJECTED, UNSHOWN = "rejected", "-"
+REJECTED, NONE = "rejected", "-"
+# The folders of mutants.
+EDITS = ("mutants", "must-fail")
 # One of so many mutants with a line that is not stale is tried all the same.
 SHARE = 16
 
@@ -46,37 +50,62 @@ def touched(crate):
     return {str(it): it.stat().st_mtime_ns for it in files if it.is_file()}
 
 
+def edits_of(folder):
+    """The files of a crate's mutants, those that `rt ci` tries as well among them."""
+    return [it for part in EDITS for it in sorted(pathlib.Path(folder, part).glob("*"))]
+
+
+def text_of(rows):
+    return "".join(f"{' '.join(it)}\n" for it in rows)
+
+
 class Lock:
     """The file of a crate that keeps the verdicts on its mutants."""
 
     def __init__(self, crate):
-        self.mutants = pathlib.Path(crate.folder, "mutants")
-        self.path = pathlib.Path(crate.folder, "mutants.lock")
+        self.folder = pathlib.Path(crate.folder)
+        self.path = self.folder / "mutants.lock"
+
+    def text(self):
+        with contextlib.suppress(OSError):
+            return self.path.read_text(encoding="utf-8")
+        return ""
 
     def lines(self):
         """The lines, each as its words. Where two branches were merged, a name may have several."""
-        with contextlib.suppress(OSError):
-            rows = [it.split() for it in self.path.read_text(encoding="utf-8").splitlines()]
-            return [it for it in rows if len(it) == 4]
-        return []
+        rows = [it.split() for it in self.text().splitlines()]
+        return [it for it in rows if len(it) in (4, 5)]
 
-    def shown(self, name, digest):
-        """What the line of a mutant says was shown, or None where no line has this digest."""
+    def is_sorted(self):
+        """Whether the lines are in order: else the next verdict would move them all."""
+        rows = self.lines()
+        return self.text() == text_of(rows) and rows == sorted(rows)
+
+    def line(self, name, digest):
+        """The words of a mutant's line after its name, or None where no line has this digest."""
         for row in self.lines():
             if row[:3] == [name, digest, REJECTED]:
-                return row[3]
+                return row[1:]
         return None
 
+    def goals(self):
+        """The goals at which each mutant was rejected, by its name, where a line says so. Of several
+        lines it is any."""
+        found = {}
+        for name, *_, goals in [it for it in self.lines() if len(it) == 5]:
+            found.setdefault(name, set()).update({*goals.split(",")} - {NONE})
+        return found
+
     def write(self, changes):
-        """Replaces the lines of these mutants, each by its digest and what was shown of it, or by
-        none, and drops those of mutants that are gone."""
-        handle = os.open(self.mutants, os.O_RDONLY)
+        """Replaces the lines of these mutants, each by the words after its name, or by none, and
+        drops those of mutants that are gone."""
+        handle = os.open(self.folder / "mutants", os.O_RDONLY)
         try:
             fcntl.flock(handle, fcntl.LOCK_EX)
-            names = {it.stem for it in self.mutants.glob("*.edit")}
+            names = {it.stem for it in edits_of(self.folder)}
             rows = [it for it in self.lines() if it[0] in names and it[0] not in changes]
-            rows += [[name, it[0], REJECTED, it[1]] for name, it in changes.items() if it]
-            text = "".join(f"{' '.join(it)}\n" for it in sorted(rows))
+            rows += [[name, *it] for name, it in changes.items() if it]
+            text = text_of(sorted(rows))
             with tempfile.NamedTemporaryFile(
                 "w", dir=self.path.parent, prefix=".mutants.", delete=False, encoding="utf-8"
             ) as it:
@@ -104,8 +133,12 @@ class Verdicts:
     def is_stale(self, mutant):
         return self.shown(mutant) is None
 
+    def line(self, mutant):
+        return self.files[mutant.crate.name].line(stem_of(mutant), self.digest(mutant))
+
     def shown(self, mutant):
-        return self.files[mutant.crate.name].shown(stem_of(mutant), self.digest(mutant))
+        line = self.line(mutant)
+        return line and line[2]
 
     def due(self, mutants, commit):
         """The mutants that are stale, and those of the others that the commit draws; all, if none."""
@@ -116,11 +149,12 @@ class Verdicts:
     def keep(self, mutants):
         """Writes what was found of these mutants of a crate."""
         if mutants:
-            self.write(mutants[0].crate, {stem_of(it): self.line(it) for it in mutants})
+            self.write(mutants[0].crate, {stem_of(it): self.found(it) for it in mutants})
 
     def keep_shown(self, shown):
         """Writes what a run of these mutants showed, and returns those whose verdict has no line."""
-        kept = {it: (self.digest(it), text) for it, text in shown.items() if not self.is_stale(it)}
+        lines = {it: self.line(it) for it in shown}
+        kept = {it: [*line[:2], shown[it], *line[3:]] for it, line in lines.items() if line}
         for crate in {it.crate.name: it.crate for it in kept}.values():
             of_crate = {stem_of(it): line for it, line in kept.items() if it.crate.name == crate.name}
             self.write(crate, of_crate)
@@ -138,9 +172,12 @@ class Verdicts:
             else:
                 self.files[crate.name].write(changes)
 
-    def line(self, mutant):
-        """The digest of a mutant and what was shown of it, or None where it was not rejected."""
-        return (self.digest(mutant), self.shown(mutant) or UNSHOWN) if mutant.verdict else None
+    def found(self, mutant):
+        """The words of a mutant's line after its name, or None where it was not rejected."""
+        if not mutant.verdict:
+            return None
+        goals = ",".join(mutant.goals) or NONE
+        return [self.digest(mutant), REJECTED, self.shown(mutant) or NONE, goals]
 
 
 def stem_of(mutant):

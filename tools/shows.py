@@ -14,6 +14,13 @@ The words are a command of `uritool` (parse, normalize, resolve, links), or one 
                                     percent-encoded text, a table, an authority or a builder return
     relativize, relativize-path, relativize-query
                                     the reference that leads from a URI to another, or its query
+    mend, mend-owned, mend-link KIND TEXT, trim DATA
+                                    the reference that a text is mended to; the link in a page's
+                                    text, which is percent-encoded
+    rules WAY URI, rules resolve URI REFERENCE
+                                    the normal form under the rules of schemes: `normalize`,
+                                    `by-default`, or with `strictly` without underflow, and its
+                                    `path`; that of a target
     lines OPTION.. WORD.. INPUT     what `urilines` makes of an input: how many lines and errors,
                                     and both outputs (`shows/lines.txt` has the options)
     recipe NAME WORD..              what a program of `cookbook` returns or writes
@@ -53,6 +60,9 @@ DEPS = (
     "uri_commands",
     "test_vectors",
     "uri_relative",
+    "uri_mend",
+    "uri_links",
+    "uri_rules",
     "fluent_uri",
     "uri_parts",
     "uri_pct",
@@ -260,8 +270,7 @@ def show(rt, root, crates, verdicts, mutants, is_due):
     """Runs the mutants that have lines `shows:`, and returns the status."""
     found = [it for it in mutants if has_shows(it)]
     if is_due:
-        # (of one in must-fail/ no file keeps what was seen)
-        found = [it for it in found if not it.function or verdicts.shown(it) != mark_of(it)]
+        found = [it for it in found if verdicts.shown(it) != mark_of(it)]
     read = {it: shows_of(it) for it in found}
     said = {it: (why or NOTHING, not why) for it, (shown, why) in read.items() if why or not shown}
     with tempfile.TemporaryDirectory(prefix="shows-") as folder:
@@ -273,7 +282,7 @@ def show(rt, root, crates, verdicts, mutants, is_due):
     for mutant in found:
         text, is_well = said[mutant]
         print(f"shows {mutant.name}: {'' if is_well else 'FAILED: '}{text}", flush=True)
-    seen_well = {it: mark_of(it) for it, (_, is_well) in said.items() if is_well and it.function}
+    seen_well = {it: mark_of(it) for it, (_, is_well) in said.items() if is_well}
     if unkept := verdicts.keep_shown(seen_well):
         print(f"shows: {len(unkept)} of these are not kept, as mutants.lock has no line for them")
     failed = sum(not is_well for _, is_well in said.values())

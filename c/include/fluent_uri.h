@@ -9,15 +9,27 @@
  * OUT begins with the result, and no byte after it has changed. Else OUT is as it was, and the
  * caller calls again with a buffer of outcome->length bytes. So nothing is freed across the border.
  *
+ * PARTS of a result are written to parts[0] where PARTS_LEN is not 0: what fluent_uri_parse
+ * reports of the whole result, also where that does not fit OUT. Other parts, and all if the call
+ * returns an error, are as they were.
+ *
  * ERRORS. Each call returns 0, or the number of an error, which is in the outcome too. OUT is then
  * as it was.
  *
  * POINTERS may be null where the length beside them is 0, and not otherwise. OUT, the offsets, the
  * validity, the outcome and the parts may not overlap a text, or one another.
  *
+ * LENGTHS. No object in memory is longer than PTRDIFF_MAX bytes. A call that is given a longer
+ * text, as by a length that was negative, returns FLUENT_URI_INVALID_ARGUMENT and reads nothing of
+ * it.
+ *
  * THREADS. The library has no state: any thread may make any call at any time, each with buffers of
  * its own. It calls malloc, realloc and free, so it must not be called from a signal handler.
  * It raises no signal, prints nothing and never exits.
+ *
+ * FORK. In the forked child of a process with threads, the calls that take no memory may be made
+ * wherever the program runs: each says so. The other calls may be made there too where malloc,
+ * realloc and free can be called: glibc's can, POSIX does not promise it.
  *
  * PROCESSORS. The library is compiled for x86-64-v2 (SSE4.2; since 2009). On an older processor
  * glibc does not load it, and reports `CPU ISA level is lower than required`.
@@ -54,8 +66,27 @@ enum fluent_uri_error {
     FLUENT_URI_INVALID_REFERENCE_AGAINST_OPAQUE_BASE = 6,
     FLUENT_URI_PATH_UNDERFLOW = 7,            /**< reserved: no call returns it */
     FLUENT_URI_OUT_OF_MEMORY = 8,
-    FLUENT_URI_INVALID_ARGUMENT = 9,          /**< no such kind or component; bad offsets */
+    FLUENT_URI_INVALID_ARGUMENT = 9,          /**< no such kind, component or option; bad offsets;
+                                               * a text longer than PTRDIFF_MAX */
     FLUENT_URI_FULL = 10                      /**< a batch: an output is too small */
+};
+
+/** The outputs that are too small where a batch returns FLUENT_URI_FULL, and what is needed of
+ * each: at least so many bytes of OUT and of VALID, and elements of the others. */
+enum fluent_uri_buffer {
+    FLUENT_URI_OUT = 0,         /**< for the results so far and the next one */
+    FLUENT_URI_OUT_OFFSETS = 1, /**< N + 1 */
+    FLUENT_URI_VALID = 2,       /**< (N + 7) / 8 */
+    FLUENT_URI_PARTS = 3,       /**< N */
+    FLUENT_URI_LINE_ERRORS = 4, /**< for the lines so far and the next one */
+    FLUENT_URI_OFFSET_WIDTH = 5 /**< where the next result ends, which is past the largest offset */
+};
+
+/** The options, bits that are added. A call that has an argument of them says which it takes: any
+ * other bit is FLUENT_URI_INVALID_ARGUMENT. */
+enum fluent_uri_option {
+    FLUENT_URI_PREFER_RELATIVE_PATH = 1 /**< a relative path also where the path from the root is
+                                         * shorter, as for pages that are read from a disk */
 };
 
 /** The components that a number names. */
@@ -96,10 +127,23 @@ typedef struct {
 /** What a call reports. */
 typedef struct {
     uint32_t error;
-    uint32_t which; /**< the text that is rejected: 0 the first, or the base; 1 the other one */
-    size_t index;   /**< where in it; of a batch: how many texts are done */
-    size_t length;  /**< how long the result is; of a batch: how long the results so far are */
+    uint32_t which;  /**< the text that is rejected: 0 the first, or the base; 1 the other one; of
+                      * FLUENT_URI_FULL: enum fluent_uri_buffer */
+    size_t index;    /**< where in it; of a batch: how many texts are done */
+    size_t length;   /**< how long the result is; of a batch: how long the results so far are */
+    size_t needed;   /**< of FLUENT_URI_FULL: how much of that output is needed, at most SIZE_MAX;
+                      * else 0 */
+    size_t consumed; /**< of fluent_uri_normalize_lines: how many bytes of the lines are done; else
+                      * 0 */
 } fluent_uri_outcome;
+
+/** The version of the library: a byte each for major, minor and patch, as 0x000100 for 0.1.0. */
+uint32_t fluent_uri_version(void);
+
+/** Writes the name of an error, as FLUENT_URI_NOT_UTF8. Takes no memory. Returns
+ * FLUENT_URI_INVALID_ARGUMENT if there is no such error. */
+uint32_t fluent_uri_error_name(uint32_t error, uint8_t *out, size_t out_len,
+                               fluent_uri_outcome *outcome);
 
 /** Parses a text, and reports where its components are. Takes no memory. */
 uint32_t fluent_uri_parse(uint32_t kind, const uint8_t *text, size_t text_len,
@@ -107,32 +151,57 @@ uint32_t fluent_uri_parse(uint32_t kind, const uint8_t *text, size_t text_len,
 
 /** Writes the normal form (RFC 3986, section 6.2.2; default ports are left out). */
 uint32_t fluent_uri_normalize(uint32_t kind, const uint8_t *text, size_t text_len, uint8_t *out,
-                              size_t out_len, fluent_uri_outcome *outcome);
+                              size_t out_len, fluent_uri_parts *parts, size_t parts_len,
+                              fluent_uri_outcome *outcome);
 
 /** Writes the target of a reference against a base (RFC 3986, section 5.2). KIND is that of the
  * base, a URI or an IRI; the reference is one of URIs or of IRIs. */
 uint32_t fluent_uri_resolve(uint32_t kind, const uint8_t *base, size_t base_len,
                             const uint8_t *reference, size_t reference_len, uint8_t *out,
-                            size_t out_len, fluent_uri_outcome *outcome);
+                            size_t out_len, fluent_uri_parts *parts, size_t parts_len,
+                            fluent_uri_outcome *outcome);
 
 /** Writes the normal form of that target. */
 uint32_t fluent_uri_resolve_normalized(uint32_t kind, const uint8_t *base, size_t base_len,
                                        const uint8_t *reference, size_t reference_len, uint8_t *out,
-                                       size_t out_len, fluent_uri_outcome *outcome);
+                                       size_t out_len, fluent_uri_parts *parts, size_t parts_len,
+                                       fluent_uri_outcome *outcome);
 
 /** Writes a short reference that leads from a base to a target, the inverse of fluent_uri_resolve:
- * resolved against the base without its fragment, it is the target without its dot segments. KIND
- * is that of both. outcome->which is 1 where the target is rejected. */
-uint32_t fluent_uri_relativize(uint32_t kind, const uint8_t *base, size_t base_len,
-                               const uint8_t *target, size_t target_len, uint8_t *out,
-                               size_t out_len, fluent_uri_outcome *outcome);
+ * resolved against the base without its fragment, it is the target without its dot segments. None
+ * is shorter if the base's path has no dot segment. KIND is that of both. outcome->which is 1
+ * where the target is rejected. OPTIONS is 0 or FLUENT_URI_PREFER_RELATIVE_PATH: with it a path of
+ * the reference is relative unless the base's has a dot segment, and may be longer. */
+uint32_t fluent_uri_relativize(uint32_t kind, uint32_t options, const uint8_t *base,
+                               size_t base_len, const uint8_t *target, size_t target_len,
+                               uint8_t *out, size_t out_len, fluent_uri_parts *parts,
+                               size_t parts_len, fluent_uri_outcome *outcome);
 
 /** Writes an IRI or an IRI reference as a URI or a URI reference (RFC 3987, section 3.1). */
 uint32_t fluent_uri_to_uri(uint32_t kind, const uint8_t *text, size_t text_len, uint8_t *out,
-                           size_t out_len, fluent_uri_outcome *outcome);
+                           size_t out_len, fluent_uri_parts *parts, size_t parts_len,
+                           fluent_uri_outcome *outcome);
+
+/** Writes the text of the kind that a text is mended to, by the least change (RFC 3986, sections
+ * 2.1 and 4.2). Each character that the path, the query or the fragment may not have is
+ * percent-encoded, and so is each `%` that begins no octet. If what is before a `:` is no scheme,
+ * it is in the path, after `./`. Scheme and authority stay as they are, and so does a text of the
+ * kind. Where the authority is not one of the kind, or a URI or an IRI has no scheme, the text is
+ * rejected as fluent_uri_parse rejects it. */
+uint32_t fluent_uri_mend(uint32_t kind, const uint8_t *text, size_t text_len, uint8_t *out,
+                         size_t out_len, fluent_uri_parts *parts, size_t parts_len,
+                         fluent_uri_outcome *outcome);
+
+/** The same for a link of a page, of which it first drops what HTML drops: ASCII white space at
+ * both ends, and each tab, LF and CR. outcome->index is in what is left of the link, but that of
+ * FLUENT_URI_NOT_UTF8 in the link itself. */
+uint32_t fluent_uri_mend_link(uint32_t kind, const uint8_t *text, size_t text_len, uint8_t *out,
+                              size_t out_len, fluent_uri_parts *parts, size_t parts_len,
+                              fluent_uri_outcome *outcome);
 
 /** Writes the bytes that a component stands for, which may not be UTF-8. `+` is not a space. A text
- * with characters that the component may not have is rejected as FLUENT_URI_UNEXPECTED_CHAR. */
+ * is rejected as fluent_uri_parse rejects it: at its first character that the component may not
+ * have, or at a `%` that begins no octet. */
 uint32_t fluent_uri_decode(uint32_t component, const uint8_t *text, size_t text_len, uint8_t *out,
                            size_t out_len, fluent_uri_outcome *outcome);
 
@@ -142,98 +211,178 @@ uint32_t fluent_uri_encode(uint32_t component, const uint8_t *bytes, size_t byte
                            size_t out_len, fluent_uri_outcome *outcome);
 
 /**
- * COLUMNS, as Apache Arrow has them: the text i runs from offsets[i] up to offsets[i + 1] of DATA,
- * so N texts have N + 1 offsets. Arrow's signed offsets are never negative, and so have the bits of
- * these: those of `utf8` are of 32 bits, those of `large_utf8` of 64, as the calls with `64` take
- * them. A column of results needs N + 1 offsets and (N + 7) / 8 bytes of VALID, of which bit i is 1
- * where the text i has a result; other bits stay. A text that is rejected has an empty result and
- * bit 0: fluent_uri_parse reports why.
+ * COLUMNS, as Apache Arrow has them: the text i runs from offsets[i] up to offsets[i + 1] of
+ * TEXTS, so N texts have N + 1 offsets. Arrow's signed offsets are never negative, and so have the
+ * bits of these: those of `utf8` are of 32 bits, those of `large_utf8` of 64, as the calls with
+ * `64` take them. The largest offset of a result is Arrow's, 2^31 - 1 or 2^63 - 1. A column of
+ * results needs N + 1 offsets and (N + 7) / 8 bytes of VALID, of which bit i is 1 where the text i
+ * has a result; other bits stay. A text that is rejected has an empty result and bit 0:
+ * fluent_uri_parse reports why.
  *
  * A call returns 0 if all N texts are done. It returns FLUENT_URI_INVALID_ARGUMENT if there is no
- * such kind or component, and else FLUENT_URI_FULL if there are not N + 1 offsets for the results,
- * or not (N + 7) / 8 bytes of VALID. Then no text is done, and no output has changed.
+ * such kind, component or option, no offset, or a base or TEXTS of more than PTRDIFF_MAX bytes, and
+ * else FLUENT_URI_FULL if there are not N + 1 offsets for the results, or not (N + 7) / 8 bytes of
+ * VALID. Then no text is done, and no output has changed.
  *
  * Else the texts are done one by one. Where a call ends early, outcome->index texts are done, as
  * after a call with these alone, and outcome->length is the length of their results. The caller can
  * go on with the text outcome->index, in a second column. The number says what is wrong with it:
  *
- * FLUENT_URI_FULL: its result does not fit what is left of OUT, or ends at a number that is no
- * offset of that width.
+ * FLUENT_URI_FULL: its result does not fit what is left of OUT, or ends past the largest offset.
+ * outcome->which says which, and outcome->needed what is needed.
  *
- * FLUENT_URI_INVALID_ARGUMENT: it is not within DATA, since its offsets fall or are past the end.
+ * FLUENT_URI_INVALID_ARGUMENT: it is not within TEXTS, since its offsets fall or are past the end.
  *
  * FLUENT_URI_OUT_OF_MEMORY: malloc or realloc failed. Calls that take no memory do not return it.
  */
-uint32_t fluent_uri_normalize_batch(uint32_t kind, const uint8_t *data, size_t data_len,
+uint32_t fluent_uri_normalize_batch(uint32_t kind, const uint8_t *texts, size_t texts_len,
                                     const uint32_t *offsets, size_t offsets_len, uint8_t *out,
                                     size_t out_len, uint32_t *out_offsets, size_t out_offsets_len,
                                     uint8_t *valid, size_t valid_len, fluent_uri_outcome *outcome);
 /** The same with offsets of 64 bits. */
-uint32_t fluent_uri_normalize_batch64(uint32_t kind, const uint8_t *data, size_t data_len,
+uint32_t fluent_uri_normalize_batch64(uint32_t kind, const uint8_t *texts, size_t texts_len,
                                       const uint64_t *offsets, size_t offsets_len, uint8_t *out,
                                       size_t out_len, uint64_t *out_offsets, size_t out_offsets_len,
                                       uint8_t *valid, size_t valid_len,
                                       fluent_uri_outcome *outcome);
 
 /** Converts a column of IRIs, or of IRI references, as fluent_uri_to_uri does. */
-uint32_t fluent_uri_to_uri_batch(uint32_t kind, const uint8_t *data, size_t data_len,
+uint32_t fluent_uri_to_uri_batch(uint32_t kind, const uint8_t *texts, size_t texts_len,
                                  const uint32_t *offsets, size_t offsets_len, uint8_t *out,
                                  size_t out_len, uint32_t *out_offsets, size_t out_offsets_len,
                                  uint8_t *valid, size_t valid_len, fluent_uri_outcome *outcome);
 /** The same with offsets of 64 bits. */
-uint32_t fluent_uri_to_uri_batch64(uint32_t kind, const uint8_t *data, size_t data_len,
+uint32_t fluent_uri_to_uri_batch64(uint32_t kind, const uint8_t *texts, size_t texts_len,
                                    const uint64_t *offsets, size_t offsets_len, uint8_t *out,
                                    size_t out_len, uint64_t *out_offsets, size_t out_offsets_len,
                                    uint8_t *valid, size_t valid_len, fluent_uri_outcome *outcome);
 
-/** Resolves a column of references against one base. */
+/** Resolves a column of references against one base, which is parsed once. */
 uint32_t fluent_uri_resolve_batch(uint32_t kind, const uint8_t *base, size_t base_len,
-                                  const uint8_t *data, size_t data_len, const uint32_t *offsets,
+                                  const uint8_t *texts, size_t texts_len, const uint32_t *offsets,
                                   size_t offsets_len, uint8_t *out, size_t out_len,
                                   uint32_t *out_offsets, size_t out_offsets_len, uint8_t *valid,
                                   size_t valid_len, fluent_uri_outcome *outcome);
 /** The same with offsets of 64 bits. */
 uint32_t fluent_uri_resolve_batch64(uint32_t kind, const uint8_t *base, size_t base_len,
-                                    const uint8_t *data, size_t data_len, const uint64_t *offsets,
+                                    const uint8_t *texts, size_t texts_len, const uint64_t *offsets,
                                     size_t offsets_len, uint8_t *out, size_t out_len,
                                     uint64_t *out_offsets, size_t out_offsets_len, uint8_t *valid,
                                     size_t valid_len, fluent_uri_outcome *outcome);
 
 /** Resolves a column of references against one base, and normalises the targets. */
 uint32_t fluent_uri_resolve_normalized_batch(uint32_t kind, const uint8_t *base, size_t base_len,
-                                             const uint8_t *data, size_t data_len,
+                                             const uint8_t *texts, size_t texts_len,
                                              const uint32_t *offsets, size_t offsets_len,
                                              uint8_t *out, size_t out_len, uint32_t *out_offsets,
                                              size_t out_offsets_len, uint8_t *valid,
                                              size_t valid_len, fluent_uri_outcome *outcome);
 /** The same with offsets of 64 bits. */
 uint32_t fluent_uri_resolve_normalized_batch64(uint32_t kind, const uint8_t *base, size_t base_len,
-                                               const uint8_t *data, size_t data_len,
+                                               const uint8_t *texts, size_t texts_len,
                                                const uint64_t *offsets, size_t offsets_len,
                                                uint8_t *out, size_t out_len, uint64_t *out_offsets,
                                                size_t out_offsets_len, uint8_t *valid,
                                                size_t valid_len, fluent_uri_outcome *outcome);
 
+/** Makes references that lead from one base to a column of targets, as fluent_uri_relativize
+ * does. */
+uint32_t fluent_uri_relativize_batch(uint32_t kind, uint32_t options, const uint8_t *base,
+                                     size_t base_len, const uint8_t *texts, size_t texts_len,
+                                     const uint32_t *offsets, size_t offsets_len, uint8_t *out,
+                                     size_t out_len, uint32_t *out_offsets, size_t out_offsets_len,
+                                     uint8_t *valid, size_t valid_len, fluent_uri_outcome *outcome);
+/** The same with offsets of 64 bits. */
+uint32_t fluent_uri_relativize_batch64(uint32_t kind, uint32_t options, const uint8_t *base,
+                                       size_t base_len, const uint8_t *texts, size_t texts_len,
+                                       const uint64_t *offsets, size_t offsets_len, uint8_t *out,
+                                       size_t out_len, uint64_t *out_offsets,
+                                       size_t out_offsets_len, uint8_t *valid, size_t valid_len,
+                                       fluent_uri_outcome *outcome);
+
+/** Mends each text of a column, as fluent_uri_mend does. */
+uint32_t fluent_uri_mend_batch(uint32_t kind, const uint8_t *texts, size_t texts_len,
+                               const uint32_t *offsets, size_t offsets_len, uint8_t *out,
+                               size_t out_len, uint32_t *out_offsets, size_t out_offsets_len,
+                               uint8_t *valid, size_t valid_len, fluent_uri_outcome *outcome);
+/** The same with offsets of 64 bits. */
+uint32_t fluent_uri_mend_batch64(uint32_t kind, const uint8_t *texts, size_t texts_len,
+                                 const uint64_t *offsets, size_t offsets_len, uint8_t *out,
+                                 size_t out_len, uint64_t *out_offsets, size_t out_offsets_len,
+                                 uint8_t *valid, size_t valid_len, fluent_uri_outcome *outcome);
+
+/** Mends each link of a column, as fluent_uri_mend_link does. */
+uint32_t fluent_uri_mend_link_batch(uint32_t kind, const uint8_t *texts, size_t texts_len,
+                                    const uint32_t *offsets, size_t offsets_len, uint8_t *out,
+                                    size_t out_len, uint32_t *out_offsets, size_t out_offsets_len,
+                                    uint8_t *valid, size_t valid_len, fluent_uri_outcome *outcome);
+/** The same with offsets of 64 bits. */
+uint32_t fluent_uri_mend_link_batch64(uint32_t kind, const uint8_t *texts, size_t texts_len,
+                                      const uint64_t *offsets, size_t offsets_len, uint8_t *out,
+                                      size_t out_len, uint64_t *out_offsets, size_t out_offsets_len,
+                                      uint8_t *valid, size_t valid_len,
+                                      fluent_uri_outcome *outcome);
+
+/** Decodes a column of components, as fluent_uri_decode does. A result may not be UTF-8. */
+uint32_t fluent_uri_decode_batch(uint32_t component, const uint8_t *texts, size_t texts_len,
+                                 const uint32_t *offsets, size_t offsets_len, uint8_t *out,
+                                 size_t out_len, uint32_t *out_offsets, size_t out_offsets_len,
+                                 uint8_t *valid, size_t valid_len, fluent_uri_outcome *outcome);
+/** The same with offsets of 64 bits. */
+uint32_t fluent_uri_decode_batch64(uint32_t component, const uint8_t *texts, size_t texts_len,
+                                   const uint64_t *offsets, size_t offsets_len, uint8_t *out,
+                                   size_t out_len, uint64_t *out_offsets, size_t out_offsets_len,
+                                   uint8_t *valid, size_t valid_len, fluent_uri_outcome *outcome);
+
+/** Encodes a column of bytes, as fluent_uri_encode does: all of them have results. */
+uint32_t fluent_uri_encode_batch(uint32_t component, const uint8_t *texts, size_t texts_len,
+                                 const uint32_t *offsets, size_t offsets_len, uint8_t *out,
+                                 size_t out_len, uint32_t *out_offsets, size_t out_offsets_len,
+                                 uint8_t *valid, size_t valid_len, fluent_uri_outcome *outcome);
+/** The same with offsets of 64 bits. */
+uint32_t fluent_uri_encode_batch64(uint32_t component, const uint8_t *texts, size_t texts_len,
+                                   const uint64_t *offsets, size_t offsets_len, uint8_t *out,
+                                   size_t out_len, uint64_t *out_offsets, size_t out_offsets_len,
+                                   uint8_t *valid, size_t valid_len, fluent_uri_outcome *outcome);
+
 /** Writes a component of each text; bit 0 also where the text has none. Takes no memory. */
-uint32_t fluent_uri_component_batch(uint32_t kind, uint32_t component, const uint8_t *data,
-                                    size_t data_len, const uint32_t *offsets, size_t offsets_len,
+uint32_t fluent_uri_component_batch(uint32_t kind, uint32_t component, const uint8_t *texts,
+                                    size_t texts_len, const uint32_t *offsets, size_t offsets_len,
                                     uint8_t *out, size_t out_len, uint32_t *out_offsets,
                                     size_t out_offsets_len, uint8_t *valid, size_t valid_len,
                                     fluent_uri_outcome *outcome);
+/** The same with offsets of 64 bits. */
+uint32_t fluent_uri_component_batch64(uint32_t kind, uint32_t component, const uint8_t *texts,
+                                      size_t texts_len, const uint64_t *offsets, size_t offsets_len,
+                                      uint8_t *out, size_t out_len, uint64_t *out_offsets,
+                                      size_t out_offsets_len, uint8_t *valid, size_t valid_len,
+                                      fluent_uri_outcome *outcome);
 
 /** Parses each text; parts[i].error says why one is rejected. Takes no memory. Returns
- * FLUENT_URI_FULL if there are not N parts; then no text is done, and no parts have changed. */
-uint32_t fluent_uri_parse_batch(uint32_t kind, const uint8_t *data, size_t data_len,
+ * FLUENT_URI_FULL if there are not N parts; then no text is done, and no parts have changed.
+ * outcome->length is 0. */
+uint32_t fluent_uri_parse_batch(uint32_t kind, const uint8_t *texts, size_t texts_len,
                                 const uint32_t *offsets, size_t offsets_len,
                                 fluent_uri_parts *parts, size_t parts_len,
                                 fluent_uri_outcome *outcome);
+/** The same with offsets of 64 bits. */
+uint32_t fluent_uri_parse_batch64(uint32_t kind, const uint8_t *texts, size_t texts_len,
+                                  const uint64_t *offsets, size_t offsets_len,
+                                  fluent_uri_parts *parts, size_t parts_len,
+                                  fluent_uri_outcome *outcome);
 
 /** Writes the normal form of each line, with a newline after each. What is between newlines is a
- * line, so N - 1 newlines part N lines. The line of a text that is rejected is empty, and errors[i]
- * is the number of its error; else errors[i] is 0. Where the call ends early, outcome->index lines
- * are done, and the caller can go on with the next: FLUENT_URI_FULL if what is written for it does
- * not fit what is left of OUT, or there is no errors[i] for it; FLUENT_URI_OUT_OF_MEMORY if malloc
- * or realloc failed. FLUENT_URI_INVALID_ARGUMENT: there is no such kind, and nothing is written. */
+ * line, so N - 1 newlines part N lines: after a newline at the end of LINES there is an empty
+ * line, and a caller whose lines each end in one leaves the last one out. A carriage return is of
+ * its line, which is rejected at it, as it is no character of a URI. The line of a text that is
+ * rejected is empty, and errors[i] is the number of its error; else errors[i] is 0.
+ *
+ * outcome->index lines are done, and outcome->consumed bytes of LINES, with the newlines after
+ * them. Where the call ends early, the caller can go on with the line that begins there:
+ * FLUENT_URI_FULL if what is written for it does not fit what is left of OUT, or there is no
+ * errors[i] for it; FLUENT_URI_OUT_OF_MEMORY if malloc or realloc failed.
+ * FLUENT_URI_INVALID_ARGUMENT: there is no such kind, or LINES is longer than PTRDIFF_MAX, and
+ * nothing is written. */
 uint32_t fluent_uri_normalize_lines(uint32_t kind, const uint8_t *lines, size_t lines_len,
                                     uint8_t *out, size_t out_len, uint8_t *errors,
                                     size_t errors_len, fluent_uri_outcome *outcome);

@@ -56,16 +56,34 @@ template <typename Call> result make(std::size_t room, Call call) {
     }
 }
 
+/** The same of a call on one text. */
+template <typename Call> result make_of_one(Call call, std::uint32_t kind, std::string_view text) {
+    return make(text.size(), [&](std::uint8_t *out, std::size_t room, auto *outcome) {
+        return call(kind, bytes(text), text.size(), out, room, nullptr, 0, outcome);
+    });
+}
+
 /** The same of a call on two texts. */
 template <typename Call>
 result make_of_two(Call call, std::uint32_t kind, std::string_view one, std::string_view other) {
     auto most = one.size() + other.size() + 2;
     return make(most, [&](std::uint8_t *out, std::size_t room, auto *outcome) {
-        return call(kind, bytes(one), one.size(), bytes(other), other.size(), out, room, outcome);
+        return call(kind, bytes(one), one.size(), bytes(other), other.size(), out, room, nullptr, 0,
+                    outcome);
     });
 }
 
 } // namespace detail
+
+/** The version of the library: a byte each for major, minor and patch. */
+inline std::uint32_t version() noexcept { return fluent_uri_version(); }
+
+/** The name of an error of fluent_uri.h, if there is such an error. */
+inline result error_name(std::uint32_t error) {
+    return detail::make(64, [&](std::uint8_t *out, std::size_t room, auto *outcome) {
+        return fluent_uri_error_name(error, out, room, outcome);
+    });
+}
 
 /** The components of a text, which has to outlive them, or why it is rejected. */
 class parts {
@@ -102,9 +120,7 @@ inline parts parse(std::uint32_t kind, std::string_view text) noexcept { return 
 
 /** The normal form (RFC 3986, section 6.2.2). */
 inline result normalize(std::uint32_t kind, std::string_view text) {
-    return detail::make(text.size(), [&](std::uint8_t *out, std::size_t room, auto *outcome) {
-        return fluent_uri_normalize(kind, detail::bytes(text), text.size(), out, room, outcome);
-    });
+    return detail::make_of_one(fluent_uri_normalize, kind, text);
 }
 
 /** The target of a reference against a base of the kind (RFC 3986, section 5.2). */
@@ -118,16 +134,32 @@ inline result resolve_normalized(std::uint32_t kind, std::string_view base,
     return detail::make_of_two(fluent_uri_resolve_normalized, kind, base, reference);
 }
 
-/** A reference that leads from a base to a target, both of the kind. */
-inline result relativize(std::uint32_t kind, std::string_view base, std::string_view target) {
-    return detail::make_of_two(fluent_uri_relativize, kind, base, target);
+/** A reference that leads from a base to a target, both of the kind; the options are 0 or
+ * FLUENT_URI_PREFER_RELATIVE_PATH. */
+inline result relativize(std::uint32_t kind, std::uint32_t options, std::string_view base,
+                         std::string_view target) {
+    auto most = base.size() + target.size() + 2;
+    return detail::make(most, [&](std::uint8_t *out, std::size_t room, auto *outcome) {
+        return fluent_uri_relativize(kind, options, detail::bytes(base), base.size(),
+                                     detail::bytes(target), target.size(), out, room, nullptr, 0,
+                                     outcome);
+    });
 }
 
 /** An IRI or an IRI reference as a URI or a URI reference (RFC 3987, section 3.1). */
 inline result to_uri(std::uint32_t kind, std::string_view text) {
-    return detail::make(text.size(), [&](std::uint8_t *out, std::size_t room, auto *outcome) {
-        return fluent_uri_to_uri(kind, detail::bytes(text), text.size(), out, room, outcome);
-    });
+    return detail::make_of_one(fluent_uri_to_uri, kind, text);
+}
+
+/** The text of the kind that a text is mended to, by the least change. */
+inline result mend(std::uint32_t kind, std::string_view text) {
+    return detail::make_of_one(fluent_uri_mend, kind, text);
+}
+
+/** The text of the kind that a link of a page is mended to, without the white space that HTML
+ * drops. */
+inline result mend_link(std::uint32_t kind, std::string_view text) {
+    return detail::make_of_one(fluent_uri_mend_link, kind, text);
 }
 
 /** The bytes that a component stands for. */
@@ -138,9 +170,9 @@ inline result decode(std::uint32_t component, std::string_view text) {
 }
 
 /** Bytes, encoded as data of a component. */
-inline result encode(std::uint32_t component, std::string_view data) {
-    return detail::make(data.size(), [&](std::uint8_t *out, std::size_t room, auto *outcome) {
-        return fluent_uri_encode(component, detail::bytes(data), data.size(), out, room, outcome);
+inline result encode(std::uint32_t component, std::string_view bytes) {
+    return detail::make(bytes.size(), [&](std::uint8_t *out, std::size_t room, auto *outcome) {
+        return fluent_uri_encode(component, detail::bytes(bytes), bytes.size(), out, room, outcome);
     });
 }
 

@@ -2,15 +2,34 @@
 #include "test.h"
 
 static fluent_uri_outcome outcome;
+static fluent_uri_parts made;
 static uint8_t out[256];
 
-static int gives(uint32_t error, const char *wanted) {
+/* What follows the texts of a call that makes a value, with a room of some length or with all room;
+ * and of one that makes bytes. */
+#define SHORT(LENGTH) out, LENGTH, &made, 1, &outcome
+#define VALUE SHORT(sizeof out)
+#define BYTES out, sizeof out, &outcome
+
+static int gives_bytes(uint32_t error, const char *wanted) {
     return error == 0 && outcome.error == 0 && is_text(out, outcome.length, wanted);
+}
+
+/* The parts beside a result are those of the result as it is parsed. */
+static int has_parts_of(const char *result) {
+    fluent_uri_parts parsed;
+    return fluent_uri_parse(FLUENT_URI_IRI_REF, TEXT(result), &parsed) == 0 &&
+           memcmp(&parsed, &made, sizeof made) == 0;
+}
+
+static int gives(uint32_t error, const char *wanted) {
+    return gives_bytes(error, wanted) && has_parts_of(wanted);
 }
 
 static int rejects(uint32_t error, uint32_t wanted, uint32_t which, size_t index) {
     return error == wanted && outcome.error == wanted && outcome.which == which &&
-           outcome.index == index && outcome.length == 0;
+           outcome.index == index && outcome.length == 0 && outcome.needed == 0 &&
+           outcome.consumed == 0;
 }
 
 static int is_at(const char *text, fluent_uri_span at, const char *wanted) {
@@ -51,81 +70,170 @@ static void parses(void) {
 }
 
 static void normalizes(void) {
-    const char *text = "HTTP://Example.com:80/a/./b/%7Efoo", *normal = "http://example.com/a/b/~foo";
-    CHECK(gives(fluent_uri_normalize(0, TEXT(text), out, sizeof out, &outcome), normal));
-    /* If the buffer is too short, the length is reported, and nothing is written. */
+    const char *text = "HTTP://Example.com:80/a/./b/%7Efoo";
+    const char *normal = "http://example.com/a/b/~foo";
+    CHECK(gives(fluent_uri_normalize(0, TEXT(text), VALUE), normal));
+    /* If the buffer is too short, the length and the parts are reported, and nothing is written. */
     memset(out, '#', sizeof out);
-    CHECK(fluent_uri_normalize(0, TEXT(text), out, 26, &outcome) == 0 && outcome.length == 27);
-    CHECK(out[0] == '#' && out[25] == '#');
-    CHECK(gives(fluent_uri_normalize(0, TEXT(text), out, 27, &outcome), normal) && out[27] == '#');
+    memset(&made, '#', sizeof made);
+    CHECK(fluent_uri_normalize(0, TEXT(text), SHORT(26)) == 0 && outcome.length == 27);
+    CHECK(out[0] == '#' && out[25] == '#' && has_parts_of(normal));
+    CHECK(gives(fluent_uri_normalize(0, TEXT(text), SHORT(27)), normal) && out[27] == '#');
     memset(out, '#', sizeof out);
-    CHECK(gives(fluent_uri_normalize(0, TEXT(text), out, 28, &outcome), normal) && out[27] == '#');
+    CHECK(gives(fluent_uri_normalize(0, TEXT(text), SHORT(28)), normal) && out[27] == '#');
     /* No pointer is needed where there is nothing. */
-    CHECK(fluent_uri_normalize(0, TEXT(text), NULL, 0, &outcome) == 0 && outcome.length == 27);
-    CHECK(fluent_uri_normalize(1, NULL, 0, NULL, 0, &outcome) == 0 && outcome.length == 0);
-    /* A rejected call leaves the buffer as it was. */
+    CHECK(fluent_uri_normalize(0, TEXT(text), NULL, 0, NO_PARTS, &outcome) == 0);
+    CHECK(outcome.length == 27);
+    CHECK(fluent_uri_normalize(1, NULL, 0, NULL, 0, NO_PARTS, &outcome) == 0);
+    CHECK(outcome.length == 0);
+    /* Of more parts only the first are written. */
+    fluent_uri_parts two[2] = {{.index = 7}, {.index = 7}};
+    CHECK(fluent_uri_normalize(1, TEXT("a"), NULL, 0, two, 2, &outcome) == 0);
+    CHECK(two[0].index == 0 && two[0].path.end == 1 && two[1].index == 7);
+    /* A rejected call leaves the buffer and the parts as they were. */
     memset(out, '#', sizeof out);
-    CHECK(rejects(fluent_uri_normalize(0, TEXT("a:b c"), out, sizeof out, &outcome), 2, 0, 3));
-    CHECK(rejects(fluent_uri_normalize(9, TEXT("a:"), out, sizeof out, &outcome), 9, 0, 0));
-    CHECK(rejects(fluent_uri_normalize(0, TEXT("a:\xc3"), out, sizeof out, &outcome), 4, 0, 2));
-    CHECK(out[0] == '#');
+    made.index = 7;
+    CHECK(rejects(fluent_uri_normalize(0, TEXT("a:b c"), VALUE), 2, 0, 3));
+    CHECK(rejects(fluent_uri_normalize(9, TEXT("a:"), VALUE), 9, 0, 0));
+    CHECK(rejects(fluent_uri_normalize(0, TEXT("a:\xc3"), VALUE), 4, 0, 2));
+    CHECK(out[0] == '#' && made.index == 7);
 }
 
 static void resolves(void) {
     const char *base = "http://a/b/c/d;p?q";
-    CHECK(gives(fluent_uri_resolve(0, TEXT(base), TEXT("../g"), out, sizeof out, &outcome),
-                "http://a/b/g"));
-    CHECK(rejects(fluent_uri_resolve(0, TEXT(base), TEXT("a b"), out, 9, &outcome), 2, 1, 1));
-    CHECK(rejects(fluent_uri_resolve(0, TEXT("a b"), TEXT("a b"), out, 9, &outcome), 2, 0, 1));
-    CHECK(rejects(fluent_uri_resolve(0, TEXT("a:#f"), TEXT("g"), out, 9, &outcome),
+    CHECK(gives(fluent_uri_resolve(0, TEXT(base), TEXT("../g"), VALUE), "http://a/b/g"));
+    CHECK(rejects(fluent_uri_resolve(0, TEXT(base), TEXT("a b"), SHORT(9)), 2, 1, 1));
+    CHECK(rejects(fluent_uri_resolve(0, TEXT("a b"), TEXT("a b"), SHORT(9)), 2, 0, 1));
+    CHECK(rejects(fluent_uri_resolve(0, TEXT("a:#f"), TEXT("g"), SHORT(9)),
                   FLUENT_URI_BASE_WITH_FRAGMENT, 0, 0));
-    CHECK(rejects(fluent_uri_resolve(0, TEXT("a:b"), TEXT("g"), out, 9, &outcome),
+    CHECK(rejects(fluent_uri_resolve(0, TEXT("a:b"), TEXT("g"), SHORT(9)),
                   FLUENT_URI_INVALID_REFERENCE_AGAINST_OPAQUE_BASE, 0, 0));
-    CHECK(rejects(fluent_uri_resolve(1, TEXT(base), TEXT("g"), out, 9, &outcome), 9, 0, 0));
-    CHECK(gives(fluent_uri_resolve_normalized(0, TEXT(base), TEXT("//A:80"), out, sizeof out,
-                                              &outcome), "http://a"));
-    CHECK(gives(fluent_uri_resolve(2, TEXT("http://a/"), TEXT("\xc3\xa9"), out, sizeof out,
-                                   &outcome), "http://a/\xc3\xa9"));
+    CHECK(rejects(fluent_uri_resolve(1, TEXT(base), TEXT("g"), SHORT(9)), 9, 0, 0));
+    CHECK(gives(fluent_uri_resolve_normalized(0, TEXT(base), TEXT("//A:80"), VALUE), "http://a"));
+    CHECK(gives(fluent_uri_resolve(2, TEXT("http://a/"), TEXT("\xc3\xa9"), VALUE),
+                "http://a/\xc3\xa9"));
 }
 
 static void relativizes(void) {
-    CHECK(gives(fluent_uri_relativize(0, TEXT("http://a/b/c/d"), TEXT("http://a/b/x/./y"), out,
-                                      sizeof out, &outcome), "../x/y"));
-    CHECK(gives(fluent_uri_relativize(2, TEXT("http://a/b#f"), TEXT("http://a/\xc3\xa9"), out,
-                                      sizeof out, &outcome), "\xc3\xa9"));
-    CHECK(gives(fluent_uri_relativize(0, TEXT("a:b"), TEXT("c:d"), out, sizeof out, &outcome), "c:d"));
+    CHECK(gives(fluent_uri_relativize(0, 0, TEXT("http://a/b/c/d"), TEXT("http://a/b/x/./y"),
+                                      VALUE), "../x/y"));
+    CHECK(gives(fluent_uri_relativize(2, 0, TEXT("http://a/b#f"), TEXT("http://a/\xc3\xa9"), VALUE),
+                "\xc3\xa9"));
+    CHECK(gives(fluent_uri_relativize(0, 0, TEXT("a:b"), TEXT("c:d"), VALUE), "c:d"));
     memset(out, '#', sizeof out);
-    CHECK(fluent_uri_relativize(0, TEXT("http://a/b"), TEXT("http://a/c/d"), out, 2, &outcome) == 0);
+    CHECK(fluent_uri_relativize(0, 0, TEXT("http://a/b"), TEXT("http://a/c/d"), SHORT(2)) == 0);
     CHECK(outcome.length == 3 && out[0] == '#');
-    CHECK(rejects(fluent_uri_relativize(0, TEXT("a b"), TEXT("c d"), out, 9, &outcome), 2, 0, 1));
-    CHECK(rejects(fluent_uri_relativize(0, TEXT("a:"), TEXT("c:d e"), out, 9, &outcome), 2, 1, 3));
-    CHECK(rejects(fluent_uri_relativize(1, TEXT("a:"), TEXT("c:"), out, 9, &outcome), 9, 0, 0));
+    CHECK(rejects(fluent_uri_relativize(0, 0, TEXT("a b"), TEXT("c d"), SHORT(9)), 2, 0, 1));
+    CHECK(rejects(fluent_uri_relativize(0, 0, TEXT("a:"), TEXT("c:d e"), SHORT(9)), 2, 1, 3));
+    CHECK(rejects(fluent_uri_relativize(1, 0, TEXT("a:"), TEXT("c:"), SHORT(9)), 9, 0, 0));
+    /* By an option the path is relative though that from the root is shorter. */
+    const char *base = "http://a/b/c/d/", *target = "http://a/x";
+    CHECK(gives(fluent_uri_relativize(0, 0, TEXT(base), TEXT(target), VALUE), "/x"));
+    CHECK(gives(fluent_uri_relativize(0, FLUENT_URI_PREFER_RELATIVE_PATH, TEXT(base), TEXT(target),
+                                      VALUE), "../../../x"));
+    for (uint32_t option = 2; option; option *= 2)
+        CHECK(rejects(fluent_uri_relativize(0, option | 1, TEXT(base), TEXT(target), VALUE),
+                      9, 0, 0));
+}
+
+static void mends(void) {
+    CHECK(gives(fluent_uri_mend(0, TEXT("http://h/a b?x=[1]"), VALUE),
+                "http://h/a%20b?x=%5B1%5D"));
+    CHECK(gives(fluent_uri_mend(1, TEXT("/50%"), VALUE), "/50%25"));
+    CHECK(gives(fluent_uri_mend(1, TEXT("/\xc3\xa9#a#b"), VALUE), "/%C3%A9#a%23b"));
+    CHECK(gives(fluent_uri_mend(3, TEXT("/\xc3\xa9#a#b"), VALUE), "/\xc3\xa9#a%23b"));
+    CHECK(gives(fluent_uri_mend(1, TEXT("1:2"), VALUE), "./1:2"));
+    CHECK(gives(fluent_uri_mend(0, TEXT("HTTP://H/%7e/."), VALUE), "HTTP://H/%7e/."));
+    CHECK(gives(fluent_uri_mend(1, TEXT(" a "), VALUE), "%20a%20"));
+    CHECK(gives(fluent_uri_mend_link(1, TEXT(" a "), VALUE), "a"));
+    CHECK(gives(fluent_uri_mend_link(0, TEXT(" ht\ntp://h/a\t b\r\n"), VALUE),
+                "http://h/a%20b"));
+    /* What cannot be mended has the error of the parser. */
+    CHECK(rejects(fluent_uri_mend(0, TEXT("http://a b/"), SHORT(99)), 2, 0, 8));
+    CHECK(rejects(fluent_uri_mend(0, TEXT("http://good.com\\@evil.com/"), SHORT(99)), 2, 0, 15));
+    CHECK(rejects(fluent_uri_mend(1, TEXT("//[::1::]/ "), SHORT(99)), 3, 0, 3));
+    CHECK(rejects(fluent_uri_mend(0, TEXT("a b"), SHORT(99)), 2, 0, 1));
+    CHECK(rejects(fluent_uri_mend(0, TEXT("a:\xff"), SHORT(99)), 4, 0, 2));
+    CHECK(rejects(fluent_uri_mend(4, TEXT("a"), SHORT(99)), 9, 0, 0));
+    CHECK(rejects(fluent_uri_mend_link(0, TEXT(" http:\n//a b/"), SHORT(99)), 2, 0, 8));
+    CHECK(rejects(fluent_uri_mend_link(0, TEXT(" a:\xff"), SHORT(99)), 4, 0, 3));
+    CHECK(rejects(fluent_uri_mend_link(4, TEXT("a"), SHORT(99)), 9, 0, 0));
+    memset(out, '#', sizeof out);
+    CHECK(fluent_uri_mend(1, TEXT("a b"), SHORT(4)) == 0 && outcome.length == 5 && out[0] == '#');
 }
 
 static void converts(void) {
-    CHECK(gives(fluent_uri_to_uri(2, TEXT("http://a/\xc3\xa9"), out, sizeof out, &outcome),
-                "http://a/%C3%A9"));
-    CHECK(gives(fluent_uri_to_uri(3, TEXT("\xc3\xa9"), out, sizeof out, &outcome), "%C3%A9"));
-    CHECK(rejects(fluent_uri_to_uri(0, TEXT("http://a/"), out, sizeof out, &outcome), 9, 0, 0));
-    CHECK(gives(fluent_uri_decode(FLUENT_URI_PATH, TEXT("a%20b"), out, sizeof out, &outcome),
-                "a b"));
-    CHECK(gives(fluent_uri_decode(FLUENT_URI_QUERY, TEXT("a=b"), out, sizeof out, &outcome),
-                "a=b"));
-    CHECK(rejects(fluent_uri_decode(FLUENT_URI_PATH, TEXT("a b"), out, 9, &outcome), 2, 0, 0));
+    CHECK(gives(fluent_uri_to_uri(2, TEXT("http://a/\xc3\xa9"), VALUE), "http://a/%C3%A9"));
+    CHECK(gives(fluent_uri_to_uri(3, TEXT("\xc3\xa9"), VALUE), "%C3%A9"));
+    CHECK(rejects(fluent_uri_to_uri(0, TEXT("http://a/"), VALUE), 9, 0, 0));
+    CHECK(gives_bytes(fluent_uri_decode(FLUENT_URI_PATH, TEXT("a%20b"), BYTES), "a b"));
+    CHECK(gives_bytes(fluent_uri_decode(FLUENT_URI_QUERY, TEXT("a=b"), BYTES), "a=b"));
+    /* A component is rejected as the parser rejects a text: error and index. */
+    CHECK(rejects(fluent_uri_decode(FLUENT_URI_PATH, TEXT("ab c"), out, 9, &outcome), 2, 0, 2));
+    CHECK(rejects(fluent_uri_decode(FLUENT_URI_PATH, TEXT("a/%zz"), out, 9, &outcome), 1, 0, 2));
+    CHECK(rejects(fluent_uri_decode(FLUENT_URI_PATH, TEXT("\xc3\xa9%4"), out, 9, &outcome),
+                  1, 0, 2));
     CHECK(rejects(fluent_uri_decode(FLUENT_URI_DATA, TEXT("a"), out, 9, &outcome), 9, 0, 0));
     CHECK(rejects(fluent_uri_decode(FLUENT_URI_PATH, TEXT("a\xff"), out, 9, &outcome), 4, 0, 1));
-    CHECK(gives(fluent_uri_encode(FLUENT_URI_DATA, TEXT("a b&"), out, sizeof out, &outcome),
-                "a%20b%26"));
-    CHECK(gives(fluent_uri_encode(FLUENT_URI_PATH, TEXT("/a\xff"), out, sizeof out, &outcome),
-                "/a%FF"));
+    CHECK(gives_bytes(fluent_uri_encode(FLUENT_URI_DATA, TEXT("a b&"), BYTES), "a%20b%26"));
+    CHECK(gives_bytes(fluent_uri_encode(FLUENT_URI_PATH, TEXT("/a\xff"), BYTES), "/a%FF"));
     CHECK(rejects(fluent_uri_encode(FLUENT_URI_PORT, TEXT("a"), out, 9, &outcome), 9, 0, 0));
 }
 
+/* A length that no object has, as one that was negative, is rejected before a byte is read. */
+static void rejects_lengths(void) {
+    const uint8_t *text = (const uint8_t *)"a:";
+    const size_t lengths[] = {(size_t)PTRDIFF_MAX + 1, SIZE_MAX};
+    for (int i = 0; i < 2; i++) {
+        size_t length = lengths[i];
+        CHECK(fluent_uri_parse(0, text, length, &made) == FLUENT_URI_INVALID_ARGUMENT);
+        CHECK(made.error == FLUENT_URI_INVALID_ARGUMENT && made.index == 0);
+        CHECK(rejects(fluent_uri_normalize(0, text, length, VALUE), 9, 0, 0));
+        CHECK(rejects(fluent_uri_to_uri(2, text, length, VALUE), 9, 0, 0));
+        CHECK(rejects(fluent_uri_resolve(0, text, length, text, 2, VALUE), 9, 0, 0));
+        CHECK(rejects(fluent_uri_resolve(0, text, 2, text, length, VALUE), 9, 1, 0));
+        CHECK(rejects(fluent_uri_resolve_normalized(0, text, length, text, 2, VALUE), 9, 0, 0));
+        CHECK(rejects(fluent_uri_relativize(0, 0, text, 2, text, length, VALUE), 9, 1, 0));
+        CHECK(rejects(fluent_uri_mend(0, text, length, VALUE), 9, 0, 0));
+        CHECK(rejects(fluent_uri_mend_link(0, text, length, VALUE), 9, 0, 0));
+        CHECK(rejects(fluent_uri_decode(FLUENT_URI_PATH, text, length, BYTES), 9, 0, 0));
+        CHECK(rejects(fluent_uri_encode(FLUENT_URI_PATH, text, length, BYTES), 9, 0, 0));
+    }
+}
+
+/* A text of no bytes needs no pointer. */
+static void takes_null(void) {
+    CHECK(fluent_uri_parse(1, NULL, 0, &made) == 0 && made.path.start == 0 && made.path.end == 0);
+    CHECK(gives(fluent_uri_normalize(1, NULL, 0, VALUE), ""));
+    CHECK(rejects(fluent_uri_normalize(0, NULL, 0, VALUE), 2, 0, 0));
+    CHECK(gives(fluent_uri_to_uri(3, NULL, 0, VALUE), ""));
+    CHECK(gives(fluent_uri_resolve(0, TEXT("a://b/c?d"), NULL, 0, VALUE), "a://b/c?d"));
+    CHECK(rejects(fluent_uri_resolve(0, NULL, 0, NULL, 0, VALUE), 2, 0, 0));
+    CHECK(gives(fluent_uri_resolve_normalized(0, TEXT("A://B/c"), NULL, 0, VALUE), "a://b/c"));
+    CHECK(rejects(fluent_uri_relativize(0, 0, TEXT("a://b"), NULL, 0, VALUE), 2, 1, 0));
+    CHECK(gives(fluent_uri_mend(1, NULL, 0, VALUE), ""));
+    CHECK(gives(fluent_uri_mend_link(1, NULL, 0, VALUE), ""));
+    CHECK(gives_bytes(fluent_uri_decode(FLUENT_URI_PATH, NULL, 0, BYTES), ""));
+    CHECK(gives_bytes(fluent_uri_encode(FLUENT_URI_PATH, NULL, 0, BYTES), ""));
+}
+
+static void tells_of_itself(void) {
+    CHECK(fluent_uri_version() >> 16 == FLUENT_URI_VERSION_MAJOR);
+    CHECK((fluent_uri_version() >> 8 & 0xff) == FLUENT_URI_VERSION_MINOR);
+    CHECK(gives_bytes(fluent_uri_error_name(0, BYTES), "FLUENT_URI_OK"));
+    CHECK(gives_bytes(fluent_uri_error_name(FLUENT_URI_FULL, BYTES), "FLUENT_URI_FULL"));
+    CHECK(rejects(fluent_uri_error_name(11, BYTES), 9, 0, 0));
+}
+
 int main(void) {
+    rejects_lengths();
+    takes_null();
+    tells_of_itself();
     parses();
     normalizes();
     resolves();
     relativizes();
+    mends();
     converts();
     return ended("calls");
 }

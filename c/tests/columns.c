@@ -3,6 +3,13 @@
 
 static fluent_uri_outcome outcome;
 static uint8_t out[512];
+
+/* The outcome of a batch that is full says which output is, and what is needed of it. */
+static int is_full(uint32_t error, uint32_t which, size_t needed) {
+    return error == FLUENT_URI_FULL && outcome.error == error && outcome.which == which &&
+           outcome.needed == needed;
+}
+
 static const char *const data = "HTTP://A/a bx:/%7e/.";
 static const uint32_t offsets[] = {0, 9, 12, 20};
 
@@ -16,15 +23,17 @@ static void normalizes(void) {
     /* Two fit: the third is left, with its offset and its bit. */
     memset(out, '#', sizeof out);
     ends[3] = 7, valid = 0xff;
-    CHECK(fluent_uri_normalize_batch(0, TEXT(data), offsets, 4, out, 13, ends, 4, &valid, 1,
-                                     &outcome) == FLUENT_URI_FULL);
+    CHECK(is_full(fluent_uri_normalize_batch(0, TEXT(data), offsets, 4, out, 13, ends, 4, &valid, 1,
+                                             &outcome), FLUENT_URI_OUT, 14));
     CHECK(outcome.index == 2 && outcome.length == 9 && ends[2] == 9 && ends[3] == 7);
     CHECK(valid == 0xfd && !memcmp(out, "http://a/#", 10));
     /* No room for the offsets, or for the bits: nothing is done. */
-    CHECK(fluent_uri_normalize_batch(0, TEXT(data), offsets, 4, out, sizeof out, ends, 3, &valid, 1,
-                                     &outcome) == FLUENT_URI_FULL && outcome.index == 0);
-    CHECK(fluent_uri_normalize_batch(0, TEXT(data), offsets, 4, out, sizeof out, ends, 4, NULL, 0,
-                                     &outcome) == FLUENT_URI_FULL && outcome.index == 0);
+    CHECK(is_full(fluent_uri_normalize_batch(0, TEXT(data), offsets, 4, out, sizeof out, ends, 3,
+                                             &valid, 1, &outcome), FLUENT_URI_OUT_OFFSETS, 4));
+    CHECK(outcome.index == 0);
+    CHECK(is_full(fluent_uri_normalize_batch(0, TEXT(data), offsets, 4, out, sizeof out, ends, 4,
+                                             NULL, 0, &outcome), FLUENT_URI_VALID, 1));
+    CHECK(outcome.index == 0);
     /* Offsets that fall, or that are outside. */
     const uint32_t falling[] = {0, 3, 2}, outside[] = {0, 3, 99};
     CHECK(fluent_uri_normalize_batch(1, TEXT("a:b"), falling, 3, out, 10, ends, 4, &valid, 1,
@@ -34,10 +43,11 @@ static void normalizes(void) {
     CHECK(outcome.length == 3 && ends[1] == 3);
     CHECK(fluent_uri_normalize_batch(7, TEXT("a:b"), offsets, 2, out, 10, ends, 4, &valid, 1,
                                      &outcome) == FLUENT_URI_INVALID_ARGUMENT && outcome.index == 0);
-    /* No text, by one offset and by none. */
+    /* No text has one offset; a column without any is none. */
     CHECK(fluent_uri_normalize_batch(0, NULL, 0, offsets, 1, NULL, 0, ends, 1, NULL, 0, &outcome) == 0);
-    CHECK(fluent_uri_normalize_batch(0, NULL, 0, NULL, 0, NULL, 0, ends, 1, NULL, 0, &outcome) == 0);
     CHECK(ends[0] == 0 && outcome.index == 0 && outcome.length == 0);
+    CHECK(fluent_uri_normalize_batch(0, NULL, 0, NULL, 0, NULL, 0, ends, 1, NULL, 0, &outcome) ==
+          FLUENT_URI_INVALID_ARGUMENT);
 }
 
 static void others(void) {
@@ -49,7 +59,7 @@ static void others(void) {
     CHECK(fluent_uri_normalize_batch64(0, TEXT(data), wide, 4, out, sizeof out, wide_ends, 4, &valid,
                                        1, &outcome) == 0);
     CHECK(wide_ends[1] == 9 && wide_ends[2] == 9 && wide_ends[3] == 14 && valid == 5);
-    const uint32_t links[] = {0, 4, 5, 7};
+    const uint32_t links[] = {0, 4, 5, 7}, targets[] = {0, 12, 15}, octets[] = {0, 5, 8};
     CHECK(fluent_uri_resolve_batch(0, TEXT(base), TEXT("../g /x"), links, 4, out, sizeof out, ends, 4,
                                    &valid, 1, &outcome) == 0);
     CHECK(ends[1] == 12 && ends[2] == 12 && ends[3] == 22);
@@ -57,6 +67,31 @@ static void others(void) {
     CHECK(fluent_uri_resolve_normalized_batch(0, TEXT(base), TEXT("../g /x"), links, 4, out,
                                               sizeof out, ends, 4, &valid, 1, &outcome) == 0);
     CHECK(ends[3] == 22);
+    CHECK(fluent_uri_relativize_batch(0, 0, TEXT(base), TEXT("http://a/b/g /x"), targets, 3, out,
+                                      sizeof out, ends, 3, &valid, 1, &outcome) == 0);
+    CHECK(ends[1] == 4 && ends[2] == 4 && !memcmp(out, "../g", 4) && (valid & 3) == 1);
+    const uint32_t root[] = {0, 10};
+    for (uint32_t option = 0; option <= 1; option++) {
+        const char *wanted = option ? "../../x" : "/x";
+        CHECK(fluent_uri_relativize_batch(0, option, TEXT(base), TEXT("http://a/x"), root, 2, out,
+                                          sizeof out, ends, 3, &valid, 1, &outcome) == 0);
+        CHECK(is_text(out, outcome.length, wanted));
+    }
+    const uint32_t pages[] = {0, 3, 9, 19};
+    CHECK(fluent_uri_mend_batch(1, TEXT("a b//[::1 http:\n//h"), pages, 4, out, sizeof out, ends,
+                                4, &valid, 1, &outcome) == 0);
+    CHECK(ends[1] == 5 && ends[2] == 5 && ends[3] == 21 && (valid & 7) == 5);
+    CHECK(!memcmp(out, "a%20b./%20http:%0A//h", outcome.length));
+    CHECK(fluent_uri_mend_link_batch(1, TEXT("a b//[::1 http:\n//h"), pages, 4, out, sizeof out,
+                                     ends, 4, &valid, 1, &outcome) == 0);
+    CHECK(ends[1] == 5 && ends[2] == 5 && ends[3] == 13 && (valid & 7) == 5);
+    CHECK(!memcmp(out, "a%20bhttp://h", 13));
+    CHECK(fluent_uri_decode_batch(FLUENT_URI_PATH, TEXT("a%20b%zz"), octets, 3, out, sizeof out,
+                                  ends, 3, &valid, 1, &outcome) == 0);
+    CHECK(ends[1] == 3 && ends[2] == 3 && !memcmp(out, "a b", 3) && (valid & 3) == 1);
+    CHECK(fluent_uri_encode_batch(FLUENT_URI_DATA, TEXT("a b\xff" "cdef"), octets, 3, out,
+                                  sizeof out, ends, 3, &valid, 1, &outcome) == 0);
+    CHECK(ends[1] == 9 && ends[2] == 12 && !memcmp(out, "a%20b%FFcdef", 12) && (valid & 3) == 3);
     const uint32_t accents[] = {0, 4, 6};
     CHECK(fluent_uri_to_uri_batch(FLUENT_URI_IRI, TEXT("a:\xc3\xa9" "b:"), accents, 3, out,
                                   sizeof out, ends, 3, &valid, 1, &outcome) == 0);
@@ -67,20 +102,33 @@ static void others(void) {
     fluent_uri_parts each[3];
     CHECK(fluent_uri_parse_batch(0, TEXT(data), offsets, 4, each, 3, &outcome) == 0);
     CHECK(each[0].error == 0 && each[1].error == 2 && each[1].index == 1 && each[2].path.end == 8);
-    CHECK(fluent_uri_parse_batch(0, TEXT(data), offsets, 4, each, 2, &outcome) == FLUENT_URI_FULL);
+    CHECK(is_full(fluent_uri_parse_batch(0, TEXT(data), offsets, 4, each, 2, &outcome),
+                  FLUENT_URI_PARTS, 3));
+    CHECK(fluent_uri_parse_batch64(0, TEXT(data), wide, 4, each, 3, &outcome) == 0);
+    CHECK(each[0].error == 0 && each[1].error == 2 && each[1].index == 1 && each[2].path.end == 8);
+    CHECK(fluent_uri_component_batch64(0, FLUENT_URI_SCHEME, TEXT(data), wide, 4, out, sizeof out,
+                                       wide_ends, 4, &valid, 1, &outcome) == 0);
+    CHECK((valid & 7) == 5 && wide_ends[3] == 5 && !memcmp(out, "HTTPx", 5));
     uint8_t errors[3];
     CHECK(fluent_uri_normalize_lines(0, TEXT("A:\n \nB:"), out, sizeof out, errors, 3, &outcome) == 0);
     CHECK(is_text(out, outcome.length, "a:\n\nb:\n") && outcome.index == 3);
+    CHECK(outcome.consumed == 7);
     CHECK(errors[0] == 0 && errors[1] == 2 && errors[2] == 0);
-    CHECK(fluent_uri_normalize_lines(0, TEXT("A:\n \nB:"), out, sizeof out, errors, 2, &outcome) ==
-          FLUENT_URI_FULL && outcome.index == 2);
+    CHECK(is_full(fluent_uri_normalize_lines(0, TEXT("A:\n \nB:"), out, sizeof out, errors, 2,
+                                             &outcome), FLUENT_URI_LINE_ERRORS, 3));
+    CHECK(outcome.index == 2 && outcome.consumed == 5);
     /* A room that the lines fill, and one that lacks a byte. */
     CHECK(fluent_uri_normalize_lines(0, TEXT("A:\n \nB:"), out, 7, errors, 3, &outcome) == 0);
-    CHECK(fluent_uri_normalize_lines(0, TEXT("A:\n \nB:"), out, 6, errors, 3, &outcome) ==
-          FLUENT_URI_FULL && outcome.index == 2 && outcome.length == 4);
+    CHECK(is_full(fluent_uri_normalize_lines(0, TEXT("A:\n \nB:"), out, 6, errors, 3, &outcome),
+                  FLUENT_URI_OUT, 7));
+    CHECK(outcome.index == 2 && outcome.length == 4 && outcome.consumed == 5);
     /* A newline at the end has a line after it, and no input has one line. */
     CHECK(fluent_uri_normalize_lines(1, TEXT("A:\n"), out, sizeof out, errors, 3, &outcome) == 0);
-    CHECK(is_text(out, outcome.length, "a:\n\n") && outcome.index == 2);
+    CHECK(is_text(out, outcome.length, "a:\n\n") && outcome.index == 2 && outcome.consumed == 3);
+    /* A carriage return is of its line. */
+    CHECK(fluent_uri_normalize_lines(1, TEXT("A:\r\nb"), out, sizeof out, errors, 3,
+                                     &outcome) == 0);
+    CHECK(is_text(out, outcome.length, "\nb\n") && errors[0] == FLUENT_URI_UNEXPECTED_CHAR);
     CHECK(fluent_uri_normalize_lines(1, NULL, 0, out, sizeof out, errors, 3, &outcome) == 0);
     CHECK(is_text(out, outcome.length, "\n") && outcome.index == 1 && errors[0] == 0);
 }
@@ -98,12 +146,37 @@ static void invalid(void) {
                                       &valid, 1, &outcome) == FLUENT_URI_INVALID_ARGUMENT);
         CHECK(fluent_uri_resolve_batch(1, TEXT("a:"), TEXT(data), offsets, 4, out, sizeof out, ends,
                                        length, &valid, 1, &outcome) == FLUENT_URI_INVALID_ARGUMENT);
+        CHECK(fluent_uri_relativize_batch(1, 0, TEXT("a:"), TEXT(data), offsets, 4, out, sizeof out,
+                                          ends, length, &valid, 1, &outcome) ==
+              FLUENT_URI_INVALID_ARGUMENT);
+        CHECK(fluent_uri_relativize_batch(0, 2, TEXT("a:"), TEXT(data), offsets, 4, out, sizeof out,
+                                          ends, length, &valid, 1, &outcome) ==
+              FLUENT_URI_INVALID_ARGUMENT);
+        CHECK(fluent_uri_mend_batch(4, TEXT(data), offsets, 4, out, sizeof out, ends, length,
+                                    &valid, 1, &outcome) == FLUENT_URI_INVALID_ARGUMENT);
+        CHECK(fluent_uri_mend_link_batch(4, TEXT(data), offsets, 4, out, sizeof out, ends, length,
+                                         &valid, 1, &outcome) == FLUENT_URI_INVALID_ARGUMENT);
         CHECK(fluent_uri_component_batch(0, FLUENT_URI_DATA, TEXT(data), offsets, 4, out, sizeof out,
                                          ends, length, &valid, 1, &outcome) ==
               FLUENT_URI_INVALID_ARGUMENT && outcome.index == 0 && outcome.length == 0);
     }
     CHECK(fluent_uri_normalize_batch(4, NULL, 0, NULL, 0, out, sizeof out, ends, 4, &valid, 1,
                                      &outcome) == FLUENT_URI_INVALID_ARGUMENT);
+    /* A length that no object has, as one that was negative. */
+    const size_t lengths[] = {(size_t)PTRDIFF_MAX + 1, SIZE_MAX};
+    for (int i = 0; i < 2; i++) {
+        size_t length = lengths[i];
+        const uint8_t *text = (const uint8_t *)data;
+        CHECK(fluent_uri_normalize_batch(0, text, length, offsets, 4, out, sizeof out, ends, 4,
+                                         &valid, 1, &outcome) == FLUENT_URI_INVALID_ARGUMENT);
+        CHECK(fluent_uri_resolve_batch(0, text, length, TEXT(data), offsets, 4, out, sizeof out,
+                                       ends, 4, &valid, 1, &outcome) ==
+              FLUENT_URI_INVALID_ARGUMENT);
+        CHECK(fluent_uri_parse_batch(0, text, length, offsets, 4, &parts, 1, &outcome) ==
+              FLUENT_URI_INVALID_ARGUMENT);
+        CHECK(fluent_uri_normalize_lines(0, text, length, out, sizeof out, errors, 3, &outcome) ==
+              FLUENT_URI_INVALID_ARGUMENT && outcome.consumed == 0);
+    }
     CHECK(fluent_uri_parse_batch(4, TEXT(data), offsets, 4, &parts, 1, &outcome) ==
           FLUENT_URI_INVALID_ARGUMENT && outcome.index == 0);
     CHECK(fluent_uri_normalize_lines(4, TEXT("A:"), out, sizeof out, errors, 3, &outcome) ==
@@ -133,7 +206,8 @@ static void goes_on(void) {
                 fluent_uri_outcome one;
                 const uint8_t *text = texts + starts[done + i];
                 size_t length = starts[done + i + 1] - starts[done + i];
-                uint32_t why = fluent_uri_normalize(0, text, length, single, sizeof single, &one);
+                uint32_t why = fluent_uri_normalize(0, text, length, single, sizeof single,
+                                                    NO_PARTS, &one);
                 CHECK((why == 0) == (valid[i / 8] >> i % 8 & 1) && ends[i + 1] - ends[i] == one.length);
                 CHECK(!memcmp(out + ends[i], single, one.length));
             }

@@ -12,7 +12,7 @@ static bool by_the_c_header() {
     std::uint8_t out[32];
     fluent_uri_outcome outcome;
     return fluent_uri_normalize(FLUENT_URI_URI, reinterpret_cast<const std::uint8_t *>(text),
-                                std::strlen(text), out, sizeof out, &outcome) == 0 &&
+                                std::strlen(text), out, sizeof out, nullptr, 0, &outcome) == 0 &&
            outcome.length == 10 && std::memcmp(out, "http://a/a", 10) == 0;
 }
 
@@ -32,9 +32,16 @@ static bool by_strings() {
            *normalize(FLUENT_URI_URI_REF, std::string_view()) == "" &&
            *resolve(FLUENT_URI_URI, "http://a/b/c", "../d") == "http://a/d" &&
            *resolve_normalized(FLUENT_URI_URI, "http://a/", "//B:80") == "http://b" &&
-           *relativize(FLUENT_URI_URI, "http://a/b/c", "http://a/d") == "/d" &&
+           *relativize(FLUENT_URI_URI, 0, "http://a/b/c", "http://a/d") == "/d" &&
+           *relativize(FLUENT_URI_URI, FLUENT_URI_PREFER_RELATIVE_PATH, "http://a/b/c",
+                       "http://a/d") == "../d" &&
+           *mend(FLUENT_URI_URI_REF, "a b") == "a%20b" &&
+           *mend_link(FLUENT_URI_URI_REF, " a\tb ") == "ab" &&
            longer && *longer == "%C3%A9%C3%A9%C3%A9%C3%A9" &&
-           *decode(FLUENT_URI_PATH, "a%20b") == "a b" && *encode(FLUENT_URI_DATA, "a b") == "a%20b";
+           *decode(FLUENT_URI_PATH, "a%20b") == "a b" &&
+           *encode(FLUENT_URI_DATA, "a b") == "a%20b" &&
+           version() >> 16 == FLUENT_URI_VERSION_MAJOR && !error_name(11) &&
+           *error_name(FLUENT_URI_NOT_UTF8) == "FLUENT_URI_NOT_UTF8";
 }
 #endif
 

@@ -15,9 +15,12 @@ enum { PAGE = 4096, CANARY = 32, ROOM = 4096, TEXTS = 4, LINES = 8 };
 
 #define EACH_CALL(IT) \
     IT(parse) IT(normalize) IT(to_uri) IT(decode) IT(encode) IT(resolve) IT(resolve_normalized) \
-    IT(relativize) IT(normalize_batch) IT(to_uri_batch) IT(component_batch) IT(resolve_batch) \
-    IT(resolve_normalized_batch) IT(normalize_batch64) IT(to_uri_batch64) IT(resolve_batch64) \
-    IT(resolve_normalized_batch64) IT(parse_batch) IT(normalize_lines)
+    IT(relativize) IT(mend) IT(mend_link) IT(normalize_batch) IT(to_uri_batch) \
+    IT(component_batch) IT(resolve_batch) IT(resolve_normalized_batch) IT(relativize_batch) \
+    IT(mend_batch) IT(mend_link_batch) IT(decode_batch) IT(encode_batch) IT(normalize_batch64) \
+    IT(to_uri_batch64) IT(component_batch64) IT(resolve_batch64) IT(resolve_normalized_batch64) \
+    IT(relativize_batch64) IT(mend_batch64) IT(mend_link_batch64) IT(decode_batch64) \
+    IT(encode_batch64) IT(parse_batch) IT(parse_batch64) IT(normalize_lines)
 
 enum {
 #define NUMBERED(NAME) call_##NAME,
@@ -47,9 +50,9 @@ static const build second = {
 #endif
 
 typedef struct {
-    uint32_t kind, component;
-    /* Of the outputs: bytes, and offsets. */
-    size_t room, places;
+    uint32_t kind, component, options;
+    /* Of the outputs: bytes, offsets, and parts of a result. */
+    size_t room, places, parts;
     /* The text, and the same as two. */
     const uint8_t *text, *one, *other;
     size_t size, one_size, other_size;
@@ -75,37 +78,46 @@ static uint32_t made(const build *by, int call, const input *in, written *to) {
 #define ONE in->text, in->size
 #define TWO in->one, in->one_size, in->other, in->other_size
 #define OUT to->out, in->room, &to->outcome
+#define VALUE to->out, in->room, to->parts, in->parts, &to->outcome
 #define COLUMN in->offsets, TEXTS + 1, to->out, in->room, to->ends, in->places, to->valid, 1, \
     &to->outcome
 #define COLUMN64 in->offsets64, TEXTS + 1, to->out, in->room, to->ends64, in->places, to->valid, \
     1, &to->outcome
+#define OF_KIND(NAME) \
+    case call_##NAME: return by->NAME(in->kind, ONE, VALUE); \
+    case call_##NAME##_batch: return by->NAME##_batch(in->kind, ONE, COLUMN); \
+    case call_##NAME##_batch64: return by->NAME##_batch64(in->kind, ONE, COLUMN64);
+#define WITH_BASE(NAME, NUMBERS) \
+    case call_##NAME: return by->NAME(NUMBERS, TWO, VALUE); \
+    case call_##NAME##_batch: return by->NAME##_batch(NUMBERS, TWO, COLUMN); \
+    case call_##NAME##_batch64: return by->NAME##_batch64(NUMBERS, TWO, COLUMN64);
+#define OF_COMPONENT(NAME) \
+    case call_##NAME: return by->NAME(in->component, ONE, OUT); \
+    case call_##NAME##_batch: return by->NAME##_batch(in->component, ONE, COLUMN); \
+    case call_##NAME##_batch64: return by->NAME##_batch64(in->component, ONE, COLUMN64);
+#define NUMBERS in->kind, in->options
     switch (call) {
+        OF_KIND(normalize) OF_KIND(to_uri) OF_KIND(mend) OF_KIND(mend_link)
+        WITH_BASE(resolve, in->kind) WITH_BASE(resolve_normalized, in->kind)
+        WITH_BASE(relativize, NUMBERS) OF_COMPONENT(decode) OF_COMPONENT(encode)
     case call_parse: return by->parse(in->kind, ONE, to->parts);
-    case call_normalize: return by->normalize(in->kind, ONE, OUT);
-    case call_to_uri: return by->to_uri(in->kind, ONE, OUT);
-    case call_decode: return by->decode(in->component, ONE, OUT);
-    case call_encode: return by->encode(in->component, ONE, OUT);
-    case call_resolve: return by->resolve(in->kind, TWO, OUT);
-    case call_resolve_normalized: return by->resolve_normalized(in->kind, TWO, OUT);
-    case call_relativize: return by->relativize(in->kind, TWO, OUT);
-    case call_normalize_batch: return by->normalize_batch(in->kind, ONE, COLUMN);
-    case call_to_uri_batch: return by->to_uri_batch(in->kind, ONE, COLUMN);
     case call_component_batch: return by->component_batch(in->kind, in->component, ONE, COLUMN);
-    case call_resolve_batch: return by->resolve_batch(in->kind, TWO, COLUMN);
-    case call_resolve_normalized_batch:
-        return by->resolve_normalized_batch(in->kind, TWO, COLUMN);
-    case call_normalize_batch64: return by->normalize_batch64(in->kind, ONE, COLUMN64);
-    case call_to_uri_batch64: return by->to_uri_batch64(in->kind, ONE, COLUMN64);
-    case call_resolve_batch64: return by->resolve_batch64(in->kind, TWO, COLUMN64);
-    case call_resolve_normalized_batch64:
-        return by->resolve_normalized_batch64(in->kind, TWO, COLUMN64);
+    case call_component_batch64:
+        return by->component_batch64(in->kind, in->component, ONE, COLUMN64);
     case call_parse_batch:
         return by->parse_batch(in->kind, ONE, in->offsets, TEXTS + 1, to->parts, in->places - 1,
                                &to->outcome);
+    case call_parse_batch64:
+        return by->parse_batch64(in->kind, ONE, in->offsets64, TEXTS + 1, to->parts,
+                                 in->places - 1, &to->outcome);
     default:
         return by->normalize_lines(in->kind, ONE, to->out, in->room, to->errors, LINES,
                                    &to->outcome);
     }
+}
+
+static int makes_value(int call) {
+    return call < FIRST_BATCH && call != call_parse && call != call_decode && call != call_encode;
 }
 
 /* Nothing has changed but what the header lets the call write. */
@@ -123,7 +135,9 @@ static void stays_within(int call, const input *in, const written *it) {
         if (call < FIRST_BATCH) {
             HOLDS(done <= in->size && it->outcome.which <= 1);
             if (it->error == 0 && length <= in->room) MAY_WRITE(out, length);
-        } else if (call == call_parse_batch) {
+            if (it->error == 0 && in->parts && makes_value(call))
+                MAY_WRITE(parts, sizeof *it->parts);
+        } else if (call == call_parse_batch || call == call_parse_batch64) {
             HOLDS(done < in->places);
             MAY_WRITE(parts, done * sizeof *it->parts);
         } else if (call == call_normalize_lines) {
@@ -132,7 +146,7 @@ static void stays_within(int call, const input *in, const written *it) {
         } else {
             HOLDS(done <= TEXTS && length <= in->room);
             MAY_WRITE(out, length);
-            if (in->kind < 4 && in->places > TEXTS) {
+            if (in->places > TEXTS) {
                 size_t places = done + 1;
                 if (call < FIRST_BATCH64) MAY_WRITE(ends, places * sizeof *it->ends);
                 else MAY_WRITE(ends64, places * sizeof *it->ends64);
@@ -189,13 +203,24 @@ static void is_same(int call, uint32_t error) {
     HOLDS(!memcmp(again, results[call].out, outcome.length));
 }
 
+/* The parts beside a result are those of the result as it is parsed. */
+static void parts_agree(const input *in) {
+    for (int call = 0; call < FIRST_BATCH; call++) {
+        const written *it = &results[call];
+        if (!makes_value(call) || !is_there(call, in) || !in->parts) continue;
+        fluent_uri_parts parsed;
+        HOLDS(!fluent_uri_parse(FLUENT_URI_IRI_REF, it->out, it->outcome.length, &parsed));
+        HOLDS(!memcmp(&parsed, it->parts, sizeof parsed));
+    }
+}
+
 static void single_calls_agree(const input *in) {
     int call = call_normalize;
     const written *it = &results[call];
     HOLDS(it->error == results[call_parse].error);
     if (is_there(call, in))
         is_same(call, fluent_uri_normalize(in->kind, it->out, it->outcome.length, again,
-                                           sizeof again, &outcome));
+                                           sizeof again, NO_PARTS, &outcome));
     call = call_encode, it = &results[call];
     if (is_there(call, in) && in->component < FLUENT_URI_DATA) {
         HOLDS(fluent_uri_decode(in->component, it->out, it->outcome.length, again, sizeof again,
@@ -207,30 +232,77 @@ static void single_calls_agree(const input *in) {
     if (is_there(call, in) && is_there(call_resolve, in))
         is_same(call, fluent_uri_normalize(in->kind, results[call_resolve].out,
                                            results[call_resolve].outcome.length, again,
-                                           sizeof again, &outcome));
+                                           sizeof again, NO_PARTS, &outcome));
     /* A reference that leads to a target: resolved, it is that target as it is resolved. */
     call = call_resolve, it = &results[call_relativize];
     if (is_there(call_relativize, in) && is_there(call, in))
         is_same(call, fluent_uri_resolve(in->kind, in->one, in->one_size, it->out,
-                                         it->outcome.length, again, sizeof again, &outcome));
+                                         it->outcome.length, again, sizeof again, NO_PARTS,
+                                         &outcome));
 }
 
-/* Of the texts that are done, a column holds what the single calls make. */
-static void columns_agree(const input *in) {
-    int call = call_normalize_batch;
-    const written *it = &results[call], *wide = &results[call_normalize_batch64];
-    const written *parsed = &results[call_parse_batch];
+/* A text that is mended stays as it is when it is mended again, and a text of the kind at once. */
+static void mended_texts_agree(const input *in) {
+    for (int call = call_mend; call <= call_mend_link; call++) {
+        const written *it = &results[call];
+        if (is_there(call, in))
+            is_same(call, fluent_uri_mend(in->kind, it->out, it->outcome.length, again,
+                                          sizeof again, NO_PARTS, &outcome));
+    }
+    int call = call_mend;
+    const written *it = &results[call], *parsed = &results[call_parse];
+    HOLDS(it->error == 0 || it->error == parsed->error);
+    if (parsed->error == 0)
+        HOLDS(it->error == 0 && it->outcome.length == in->size &&
+              (it->outcome.length > in->room || !memcmp(it->out, in->text, in->size)));
+}
+
+/* The single call of a batch, on a text of its column. */
+static uint32_t one_of(int call, const input *in, const uint8_t *text, size_t size) {
+#define BASE in->one, in->one_size
+#define AGAIN again, sizeof again, NO_PARTS, &outcome
+    switch (call) {
+    case call_normalize_batch: return fluent_uri_normalize(in->kind, text, size, AGAIN);
+    case call_to_uri_batch: return fluent_uri_to_uri(in->kind, text, size, AGAIN);
+    case call_resolve_batch: return fluent_uri_resolve(in->kind, BASE, text, size, AGAIN);
+    case call_resolve_normalized_batch:
+        return fluent_uri_resolve_normalized(in->kind, BASE, text, size, AGAIN);
+    case call_relativize_batch:
+        return fluent_uri_relativize(in->kind, in->options, BASE, text, size, AGAIN);
+    case call_mend_batch: return fluent_uri_mend(in->kind, text, size, AGAIN);
+    case call_mend_link_batch: return fluent_uri_mend_link(in->kind, text, size, AGAIN);
+    case call_decode_batch:
+        return fluent_uri_decode(in->component, text, size, again, sizeof again, &outcome);
+    default: return fluent_uri_encode(in->component, text, size, again, sizeof again, &outcome);
+    }
+}
+
+/* Of the texts that are done, a column holds what the single calls make, by offsets of 32 bits and
+ * of 64. */
+static void column_agrees(int call, const input *in) {
+    const written *it = &results[call], *wide = &results[call - FIRST_BATCH + FIRST_BATCH64];
+    int has_base = call >= call_resolve_batch && call <= call_relativize_batch;
+    const uint8_t *texts = has_base ? in->other : in->text;
     HOLDS(wide->error == it->error && !memcmp(&wide->outcome, &it->outcome, sizeof outcome));
     HOLDS(!memcmp(wide->out, it->out, ROOM) && wide->valid[0] == it->valid[0]);
     for (size_t i = 0; i < it->outcome.index; i++) {
+        HOLDS(wide->ends64[i] == it->ends[i] && wide->ends64[i + 1] == it->ends[i + 1]);
+        if (call == call_component_batch) continue;
         size_t start = in->offsets[i], size = in->offsets[i + 1] - start;
-        uint32_t error = fluent_uri_normalize(in->kind, in->text + start, size, again, sizeof again,
-                                              &outcome);
+        uint32_t error = one_of(call, in, texts + start, size);
         HOLDS((error == 0) == (it->valid[0] >> i & 1));
         HOLDS(it->ends[i + 1] - it->ends[i] == (error ? 0 : outcome.length));
         HOLDS(error || !memcmp(again, it->out + it->ends[i], outcome.length));
-        HOLDS(wide->ends64[i] == it->ends[i] && wide->ends64[i + 1] == it->ends[i + 1]);
-        if (i < parsed->outcome.index) HOLDS(parsed->parts[i].error == error);
+    }
+}
+
+static void columns_agree(const input *in) {
+    for (int call = FIRST_BATCH; call < FIRST_BATCH64; call++) column_agrees(call, in);
+    int call = call_parse_batch;
+    const written *it = &results[call];
+    for (size_t i = 0; i < it->outcome.index; i++) {
+        size_t start = in->offsets[i], size = in->offsets[i + 1] - start;
+        HOLDS(it->parts[i].error == one_of(call_normalize_batch, in, in->text + start, size));
     }
     call = call_normalize_lines, it = &results[call];
     size_t at = 0, from = 0;
@@ -238,7 +310,7 @@ static void columns_agree(const input *in) {
         size_t to = from;
         while (to < in->size && in->text[to] != '\n') to++;
         uint32_t error = fluent_uri_normalize(in->kind, in->text + from, to - from, again,
-                                              sizeof again, &outcome);
+                                              sizeof again, NO_PARTS, &outcome);
         size_t length = error ? 0 : outcome.length;
         HOLDS(it->errors[i] == error && !memcmp(it->out + at, again, length));
         HOLDS(it->out[at + length] == '\n');
@@ -249,7 +321,7 @@ static void columns_agree(const input *in) {
 
 #ifdef LIBFUZZER
 /* The library is not instrumented: what it returns tells libFuzzer which inputs are new. */
-__attribute__((section("__libfuzzer_extra_counters"))) static uint8_t seen[1 << 13];
+__attribute__((section("__libfuzzer_extra_counters"))) static uint8_t seen[1 << 14];
 
 static void tells_what_is_new(void) {
     for (int call = 0; call < CALLS; call++) {
@@ -285,8 +357,9 @@ int LLVMFuzzerTestOneInput(const uint8_t *data, size_t size) {
     if (size < 3 || size > 1000) return 0;
     int at_end = data[0] >> 7, is_wild = data[0] >> 6 & 1, lacks_a_place = data[0] >> 5 & 1;
     size_t half = (size_t)data[1] % (size - 2);
-    input in = {.kind = data[0] % 5, .component = data[1] % 10};
+    input in = {.kind = data[0] % 5, .component = data[1] % 10, .options = data[2] / 3 % 3};
     in.room = (size_t)data[2] * 16, in.places = (size_t)TEXTS + 1 - (size_t)lacks_a_place;
+    in.parts = data[2] % 3;
     data += 3, size -= 3;
     in.size = size, in.one_size = half, in.other_size = size - half;
     in.text = beside(0, at_end, data, size);
@@ -303,7 +376,9 @@ int LLVMFuzzerTestOneInput(const uint8_t *data, size_t size) {
     in.offsets64 = beside(4, at_end, offsets64, sizeof offsets64);
     makes_all_calls(&in);
     parse_returns_spans(&in);
+    parts_agree(&in);
     single_calls_agree(&in);
+    mended_texts_agree(&in);
     columns_agree(&in);
 #ifdef LIBFUZZER
     tells_what_is_new();

@@ -40,7 +40,7 @@ static int is_kept(size_t length) {
     return is_clear(0, CANARY) && is_clear(CANARY + length, sizeof whole);
 }
 
-enum { WORKS = 9 };
+enum { WORKS = 11 };
 static uint32_t ends[3];
 static uint8_t valid;
 
@@ -48,16 +48,20 @@ static uint32_t work(int which, size_t room) {
     static const char *const base = "http://a/b/c", *const text = "HTTP://A:80/%7e/./\xc3\xa9";
     static const uint32_t offsets[] = {0, 20};
     switch (which) {
-    case 0: return fluent_uri_normalize(2, TEXT(text), out, room, &outcome);
-    case 1: return fluent_uri_resolve(2, TEXT(base), TEXT("../../\xc3\xa9/%7e"), out, room, &outcome);
-    case 2: return fluent_uri_resolve_normalized(2, TEXT(base), TEXT("../%7e"), out, room, &outcome);
-    case 3: return fluent_uri_to_uri(2, TEXT(text), out, room, &outcome);
+    case 0: return fluent_uri_normalize(2, TEXT(text), out, room, NO_PARTS, &outcome);
+    case 1: return fluent_uri_resolve(2, TEXT(base), TEXT("../../\xc3\xa9/%7e"), out, room, NO_PARTS,
+                                      &outcome);
+    case 2: return fluent_uri_resolve_normalized(2, TEXT(base), TEXT("../%7e"), out, room, NO_PARTS,
+                                                 &outcome);
+    case 3: return fluent_uri_to_uri(2, TEXT(text), out, room, NO_PARTS, &outcome);
     case 4: return fluent_uri_decode(FLUENT_URI_PATH, TEXT("%7e%20%41/"), out, room, &outcome);
     case 5: return fluent_uri_encode(FLUENT_URI_QUERY, TEXT("a b\xff#"), out, room, &outcome);
     case 6: return fluent_uri_normalize_batch(2, TEXT(text), offsets, 2, out, room, ends, 2, &valid,
                                               1, &outcome);
-    case 7: return fluent_uri_relativize(2, TEXT(base), TEXT("http://a/b/%7e/d"), out, room,
-                                         &outcome);
+    case 7: return fluent_uri_relativize(2, 0, TEXT(base), TEXT("http://a/b/%7e/d"), out, room,
+                                         NO_PARTS, &outcome);
+    case 9: return fluent_uri_mend(2, TEXT("http://a/b c#d#e"), out, room, NO_PARTS, &outcome);
+    case 10: return fluent_uri_mend_link(1, TEXT(" /b\n c\t[ "), out, room, NO_PARTS, &outcome);
     default: return fluent_uri_normalize_lines(2, TEXT("A:%7e\nb"), out, room, &valid, 2 - 1, &outcome);
     }
 }
@@ -89,6 +93,6 @@ int main(void) {
         }
     }
     /* By the shared library the requests are its own malloc's, which this file replaces too. */
-    CHECK(counts >= 6);
+    CHECK(counts >= 8);
     return ended("memory");
 }

@@ -1,5 +1,6 @@
-/* Runs the rows of crates/vectors/data, and of crates/relative_rows/stdin, that the calls of the
- * header can try: rows FILE..; README.txt of the former has the format. */
+/* Runs the rows of crates/vectors/data, and of relative_rows/stdin and mend_rows/stdin beside it,
+ * that the calls of the header can try: rows FILE..; README.txt of the first has the format, and
+ * main.rt of the last one that of its rows. */
 #include "test.h"
 
 enum { MOST = 1 << 20, FIELDS = 8 };
@@ -77,6 +78,9 @@ static long written(uint32_t error) {
     return (long)outcome.length;
 }
 
+/* What follows the texts of a call that makes a value. */
+#define VALUE out, MOST, NO_PARTS, &outcome
+
 /* What the row's call gives, or a negative number where the header has no such call. */
 static long run(const char *op, int count) {
     int kind = count > 1 ? kind_of(words[0], lengths[0]) : -1;
@@ -103,23 +107,68 @@ static long run(const char *op, int count) {
         return (long)put(sprintf(made, "name") > 0 ? 4 : 0, "", text + p.host.start,
                          p.host.end - p.host.start);
     if (!strcmp(op, "normalize"))
-        return written(fluent_uri_normalize((uint32_t)kind, bytes(1), lengths[1], out, MOST, &outcome));
+        return written(fluent_uri_normalize((uint32_t)kind, bytes(1), lengths[1], VALUE));
     if (!strcmp(op, "resolve"))
         return written(fluent_uri_resolve((uint32_t)kind, bytes(1), lengths[1], bytes(2), lengths[2],
-                                          out, MOST, &outcome));
+                                          VALUE));
     if (!strcmp(op, "resolve-normalized"))
         return written(fluent_uri_resolve_normalized((uint32_t)kind, bytes(1), lengths[1], bytes(2),
-                                                     lengths[2], out, MOST, &outcome));
-    if (!strcmp(op, "relativize"))
-        return written(fluent_uri_relativize((uint32_t)kind, bytes(1), lengths[1], bytes(2),
-                                             lengths[2], out, MOST, &outcome));
+                                                     lengths[2], VALUE));
+    if (!strcmp(op, "relativize") || !strcmp(op, "relativize-path")) {
+        uint32_t options = op[strlen("relativize")] ? FLUENT_URI_PREFER_RELATIVE_PATH : 0;
+        return written(fluent_uri_relativize((uint32_t)kind, options, bytes(1), lengths[1],
+                                             bytes(2), lengths[2], VALUE));
+    }
     if (!strcmp(op, "encode-as-uri"))
-        return written(fluent_uri_to_uri((uint32_t)kind, bytes(1), lengths[1], out, MOST, &outcome));
+        return written(fluent_uri_to_uri((uint32_t)kind, bytes(1), lengths[1], VALUE));
     if (!strcmp(op, "encode") && lengths[0] == 4 && !memcmp(words[0], "path", 4))
         return written(fluent_uri_encode(FLUENT_URI_PATH, bytes(1), lengths[1], out, MOST, &outcome));
     if (!strcmp(op, "encode") && lengths[0] == 4 && !memcmp(words[0], "data", 4))
         return written(fluent_uri_encode(FLUENT_URI_DATA, bytes(1), lengths[1], out, MOST, &outcome));
     return -1;
+}
+
+/* The text of a word that is percent-encoded as data. */
+static size_t decoded(const char *word, char *to) {
+    size_t length = 0;
+    for (; *word; word++) {
+        unsigned byte = (unsigned char)*word;
+        if (byte == '%' && sscanf(word + 1, "%2x", &byte) == 1) word += 2;
+        to[length++] = (char)byte;
+    }
+    return length;
+}
+
+/* Whether a call has what a row of mend_rows says. */
+static int has_mended(uint32_t error, const char *word, const char *expected) {
+    static const char *const errors[] = {"ok", "octet", "char", "ipv6"};
+    if (error > 3 || strcmp(word, errors[error])) return 0;
+    if (error) return outcome.index == strtoul(expected, NULL, 10);
+    size_t length = decoded(expected, made);
+    return outcome.length == length && !memcmp(out, made, length);
+}
+
+/* Whether a row KIND TEXT WORD EXPECTED of mend_rows holds. So it does for a link, with white space
+ * that HTML drops around and within the text. */
+static int mends(char *row) {
+    const char *fields[4];
+    for (int i = 0; i < 4; i++) {
+        fields[i] = strtok(i ? NULL : row, " ");
+        if (!fields[i]) return 0;
+    }
+    uint32_t kind = (uint32_t)kind_of(fields[0], strlen(fields[0]));
+    size_t length = decoded(fields[1], words[0]), half = length / 2;
+    if (!has_mended(fluent_uri_mend(kind, bytes(0), length, VALUE), fields[2], fields[3])) return 0;
+    for (size_t i = 0; i < length; i++)
+        if (strchr("\t\n\f\r", words[0][i])) return 1;
+    if (length && (words[0][0] == ' ' || words[0][length - 1] == ' ')) return 1;
+    if (words[0][half] & 0x80) half = length;
+    char *link = words[1];
+    size_t size = (size_t)sprintf(link, " \n\f%.*s\r\t", (int)half, words[0]);
+    memcpy(link + size, words[0] + half, length - half);
+    size += length - half;
+    link[size++] = ' ';
+    return has_mended(fluent_uri_mend_link(kind, bytes(1), size, VALUE), fields[2], fields[3]);
 }
 
 int main(int argc, char **argv) {
@@ -129,7 +178,12 @@ int main(int argc, char **argv) {
         for (int number = 1; file && fgets(line, MOST, file); number++) {
             line[strcspn(line, "\n")] = 0;
             char *arrow = strstr(line, " -> ");
-            if (line[0] == '#' || !arrow) continue;
+            if (line[0] == '#') continue;
+            if (!arrow && kind_of(line, strcspn(line, " ")) >= 0) {
+                tried++;
+                if (!mends(line)) failed++, printf("fail %s:%d\n", argv[i], number);
+            }
+            if (!arrow) continue;
             static char op[64], wanted[MOST];
             *arrow = 0;
             const char *at = line, *expected = arrow + 4;
@@ -151,6 +205,6 @@ int main(int argc, char **argv) {
         if (file) fclose(file);
     }
     printf("rows: %zu tried\n", tried);
-    CHECK(tried > 1400);
+    CHECK(tried > 4500);
     return ended("rows");
 }

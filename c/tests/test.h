@@ -10,6 +10,7 @@ static int failed;
 #define CHECK(it) \
     ((it) ? (void)0 : (void)(failed++, printf("%s:%d: %s\n", __FILE__, __LINE__, #it)))
 #define TEXT(it) (const uint8_t *)(it), strlen(it)
+#define NO_PARTS NULL, 0
 
 static inline int is_text(const uint8_t *out, size_t length, const char *wanted) {
     return length == strlen(wanted) && memcmp(out, wanted, length) == 0;

@@ -8,12 +8,15 @@ Each partition of COUNT URLs is normalised by `urilines --errors=drop normalize 
 go to buckets by their hash: equivalent URLs have equal normal forms, so they meet in one bucket,
 and each bucket keeps one of each. The lines are compared with those of one program over all URLs.
 
-It needs dask and distributed (Debian: python3-distributed), and ends with a word where they or the
-program are not there.
+It needs dask and distributed (Debian: python3-distributed). Where this Python lacks them, it runs
+by another one as `run` does: PYTHON, python3 or /usr/bin/python3. It ends with a word where none
+has them, or the program is not there.
 """
 import argparse
+import os
 import pathlib
 import random
+import shutil
 import subprocess
 import sys
 import tempfile
@@ -91,6 +94,19 @@ def timed(call, *words):
     return call(*words), time.perf_counter() - began
 
 
+def has_dask(python):
+    words = [python, "-c", "import dask, distributed"]
+    return shutil.which(python) and not subprocess.run(words, stderr=subprocess.DEVNULL).returncode
+
+
+def run_where_dask_is():
+    """Goes on in a Python that has Dask, if there is one."""
+    for python in (os.environ.get("PYTHON") or "python3", "/usr/bin/python3"):
+        if has_dask(python):
+            os.execvp(python, [python, *sys.argv])
+    sys.exit("by_pipe.py: skipped: no Python here has dask and distributed")
+
+
 def main():
     parser = argparse.ArgumentParser(description=__doc__.split("\n\n", maxsplit=1)[0])
     parser.add_argument("count", nargs="?", type=int, default=200_000)
@@ -98,12 +114,12 @@ def main():
     parser.add_argument("--partitions", type=int, default=8)
     parser.add_argument("--program", default=next((str(it) for it in BUILT if it.exists()), None))
     given = parser.parse_args()
+    if not given.program:
+        sys.exit("by_pipe.py: skipped: urilines is not built; ./build urilines makes it")
     try:
         from distributed import Client, LocalCluster
     except ImportError:
-        sys.exit("by_pipe.py: skipped: dask and distributed are not there")
-    if not given.program:
-        sys.exit("by_pipe.py: skipped: urilines is not built; ./build urilines makes it")
+        run_where_dask_is()
     work = (given.program, given.count, given.partitions)
     alone, alone_took = timed(on_one_machine, *work)
     with tempfile.TemporaryDirectory() as folder, LocalCluster(

@@ -43,7 +43,6 @@ WITHOUT_A_CALL = {
     "default-port",
     "normalize-strict",
     "normalize-under",
-    "relativize-path",
     "print-ipv4",
     "print-ipv6",
     "resolve-strict",
@@ -180,6 +179,10 @@ def relativize(kind, base, target):
     return [str(KINDS[kind].parse(base).relativize(target))]
 
 
+def relativize_path(kind, base, target):
+    return [str(KINDS[kind].parse(base).relativize(target, prefer_relative_path=True))]
+
+
 def swap(kind, base, reference):
     base = KINDS[kind].parse(base)
     reference = KINDS[f"{kind}-ref"].parse(reference)
@@ -258,6 +261,7 @@ CALLS = {
     "resolve": resolve,
     "resolve-normalized": resolve_normalized,
     "relativize": relativize,
+    "relativize-path": relativize_path,
     "swap": swap,
     "swap-as-uris": swap_as_uris,
     "is-valid": is_valid,

@@ -34,7 +34,7 @@ def header():
 def functions():
     """The functions that the header declares: a name, and the types of its arguments in order."""
     for name, words in re.findall(r"uint32_t fluent_uri_(\w+)\(([^)]*)\);", header()):
-        its = [re.sub(r"\s+", " ", it).strip() for it in words.split(",")]
+        its = [re.sub(r"\s+", " ", it).strip() for it in words.split(",") if it != "void"]
         yield name, [re.sub(r"(\*?)\s*\w+$", r"\1", it).strip() for it in its]
 
 

@@ -2,16 +2,20 @@
 
 import doctest
 import importlib
+import os
 import pathlib
 import re
+import subprocess
+import sys
 import unittest
 import urllib.parse
 
 import fluent_uri.parse
 
 PAGE = pathlib.Path(__file__).resolve().parents[2] / "docs" / "PYTHON.md"
-MODULES = ["fluent_uri", "fluent_uri._errors", "fluent_uri.batch", "fluent_uri.parse"]
-ROW = re.compile(r"^\| `(url.*?)` \| `(.*?)` \| `(.*?)` \|.*\|$", re.MULTILINE)
+MODULES = ["", "._columns", "._errors", ".batch", ".parse"]
+COMPARE = PAGE.parents[1] / "python" / "compare-urllib"
+ROW = re.compile(r"^\| `(\w+\(.*?)` \| `(.*?)` \| `(.*?)` \|.*\|$", re.MULTILINE)
 
 
 def result(module, call):
@@ -24,7 +28,7 @@ def result(module, call):
 class Differences(unittest.TestCase):
     def test_each_row_of_the_table(self):
         rows = ROW.findall(PAGE.read_text(encoding="utf-8").replace(r"\|", "\0"))
-        self.assertGreater(len(rows), 15)
+        self.assertGreater(len(rows), 30)
         for row in rows:
             call, theirs, ours = (it.replace("\0", "|") for it in row)
             self.assertEqual(result(urllib.parse, call), theirs, call)
@@ -32,9 +36,23 @@ class Differences(unittest.TestCase):
             self.assertNotEqual(theirs, ours)
 
 
+    @unittest.skipIf("TESTED_ONCE" in os.environ, "it does not hang on how calls are made")
+    def test_each_difference_of_generated_texts_has_a_cause_of_the_page(self):
+        words = [sys.executable, str(COMPARE), "3000"]
+        ran = subprocess.run(words, stdout=subprocess.PIPE, stderr=subprocess.PIPE, text=True)
+        self.assertEqual((ran.returncode, ran.stderr), (0, ""))
+        page = PAGE.read_text(encoding="utf-8")
+        causes = re.findall("^ *[0-9,]+  (.*?): ", ran.stdout, re.MULTILINE)
+        self.assertGreater(len(causes), 12)
+        for it in causes:
+            self.assertIn(f"| {it} |", page)
+        for it in re.findall(r"^(\w+): ", ran.stdout, re.MULTILINE):
+            self.assertIn(f"`{it}`", page)
+
+
 def load_tests(loader, tests, pattern):
     for name in MODULES:
-        tests.addTests(doctest.DocTestSuite(importlib.import_module(name)))
+        tests.addTests(doctest.DocTestSuite(importlib.import_module(f"fluent_uri{name}")))
     tests.addTests(doctest.DocFileSuite(str(PAGE), module_relative=False, encoding="utf-8"))
     return tests
 

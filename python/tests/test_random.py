@@ -16,27 +16,11 @@ PIECES = (
 NAMES = ["scheme", "authority", "userinfo", "host", "port", "path", "query", "fragment"]
 
 
-class CtypesUri(_reference.Reference):
-    _kind = 0
-
-
-class CtypesUriRef(_reference.Reference):
-    _kind = 1
-
-
-class CtypesIri(_reference.Reference):
-    _kind = 2
-
-
-class CtypesIriRef(_reference.Reference):
-    _kind = 3
-
-
 KINDS = [
-    (Uri, CtypesUri),
-    (UriRef, CtypesUriRef),
-    (Iri, CtypesIri),
-    (IriRef, CtypesIriRef),
+    (Uri, _reference.Uri),
+    (UriRef, _reference.UriRef),
+    (Iri, _reference.Iri),
+    (IriRef, _reference.IriRef),
 ]
 
 

@@ -1,12 +1,9 @@
 """The four kinds: what a value is, and what a call raises."""
 
 import copy
-import importlib.util
 import inspect
-import os
 import pathlib
 import pickle
-import subprocess
 import sys
 import unittest
 
@@ -22,7 +19,6 @@ from fluent_uri import (
     ResolveErrorKind,
     Uri,
     UriRef,
-    _native,
     decode,
     encode,
 )
@@ -221,25 +217,18 @@ class Calls(unittest.TestCase):
         with self.assertRaises(ValueError):
             decode("a", Component.DATA)
 
-
-class Loading(unittest.TestCase):
-    def test_what_is_not_the_library_is_an_import_error(self):
-        other = importlib.util.find_spec("_ctypes").origin
-        for path in [__file__, "/no/such/library", other]:
-            ran = subprocess.run(
-                [sys.executable, "-c", "import fluent_uri"],
-                env={**os.environ, "FLUENT_URI_LIBRARY": path},
-                stderr=subprocess.PIPE,
-                text=True,
-            )
-            self.assertEqual(ran.returncode, 1)
-            self.assertRegex(ran.stderr.splitlines()[-1], "^ImportError: .*libfluent_uri_c.so.0")
-
-    def test_an_older_processor_is_found(self):
-        names = "fpu sse2 ssse3 cx16 sse4_1 popcnt lahf_lm"
-        self.assertFalse(_native._lacks(f"processor : 0\nflags\t\t: {names} sse4_2 avx\n"))
-        self.assertTrue(_native._lacks(f"flags\t\t: {names} avx\nflags\t\t: {names} sse4_2\n"))
-        self.assertFalse(_native._lacks("Features : asimd"))
+    def test_an_error_of_a_component_has_its_index(self):
+        octet, char = ParseErrorKind.INVALID_PCT_ENCODED_OCTET, ParseErrorKind.UNEXPECTED_CHAR
+        for text, component, wanted in [
+            ("a/%zz", Component.PATH, (octet, 2, 2)),
+            ("ab c", Component.PATH, (char, 2, 2)),
+            ("é?", Component.PATH, (char, 2, 1)),
+            ("?%", Component.QUERY, (octet, 1, 1)),
+        ]:
+            with self.assertRaises(ParseError) as caught:
+                decode(text, component)
+            error = caught.exception
+            self.assertEqual((error.kind, error.index, error.char_index), wanted)
 
 
 class Errors(unittest.TestCase):

@@ -1,11 +1,12 @@
 """What mypy must know of the calls: this file is checked, and not run."""
 
 from array import array
-from typing import List, Optional
+from typing import Dict, List, Optional, Tuple
 
-from fluent_uri import HostKind, Iri, IriRef, ParseError, ParseErrorKind, Uri, UriRef, batch
-from fluent_uri import decode, encode
-from fluent_uri.parse import SplitResult, urljoin, urlsplit
+from fluent_uri import HostKind, Iri, IriRef, ParseError, ParseErrorKind, Reference, Uri, UriRef
+from fluent_uri import batch, decode, encode
+from fluent_uri.parse import ParseResult, SplitResult, parse_qs, parse_qsl, quote, unquote
+from fluent_uri.parse import urlencode, urldefrag, urljoin, urlparse, urlsplit, urlunsplit
 
 uri: Uri = Uri.parse("http://a/b")
 host: Optional[str] = uri.host
@@ -26,6 +27,27 @@ column: batch.Column = batch.normalize_column(b"a:b", array("I", [0, 3]), Uri)
 texts: List[Optional[str]] = column.texts()
 split: SplitResult = urlsplit("http://a/")
 joined: str = urljoin("http://a/", "b")
+parsed: ParseResult = urlparse("http://a/")
+put: str = urlunsplit(("x", "", "y", None, None)) + urlunsplit(split)
+bare_text: str = urldefrag("a#b").url + quote("a") + unquote("a") + urlencode({"a": 1})
+pairs: Dict[str, List[str]] = parse_qs("a=b")
+listed: List[Tuple[str, str]] = parse_qsl("a=b")
+tried: Optional[Uri] = Uri.try_parse("a b")
+valid: bool = Iri.is_valid(uri)
+any_kind: Reference = uri
+port: Optional[int] = any_kind.port_number
+iri: Iri = Iri.parse(uri)
+of_values: List[Optional[Iri]] = batch.parse([uri, "a:b"], Iri)
+bits: memoryview = batch.is_valid_column(b"a:b", array("I", [0, 3]), Uri)
+each: List[bool] = batch.is_valid(["a:b"])
+short: List[Optional[str]] = batch.relativize(uri, ["a:b"], prefer_relative_path=True)
+mended: UriRef = UriRef.mend("a b")
+link: Iri = Iri.mend_link(" a:b c ")
+joined_link: Uri = uri.join_link(" a b ", normalize=True, keep_fragment=False)
+links: List[Optional[str]] = batch.join_links(uri, [" a b "])
+of_mended: List[Optional[IriRef]] = batch.parse(["a b"], IriRef, mend=True)
+mended_column: batch.Column = batch.mend_link_column(b"a b", array("I", [0, 3]))
+relative: UriRef = uri.relativize("http://a/b c", prefer_relative_path=True, mend=True)
 
 
 def where(error: ParseError) -> int:

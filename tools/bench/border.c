@@ -21,14 +21,15 @@ uint64_t bench(uint32_t work, const uint8_t *text, size_t text_length, const uin
             break;
         case NORMALIZE_URI:
             error = fluent_uri_normalize(FLUENT_URI_URI, text, text_length, out, sizeof out,
-                                         &outcome);
+                                         NULL, 0, &outcome);
             break;
         case RESOLVE_URI:
             error = fluent_uri_resolve(FLUENT_URI_URI, base, base_length, text, text_length, out,
-                                       sizeof out, &outcome);
+                                       sizeof out, NULL, 0, &outcome);
             break;
         case TO_URI:
-            error = fluent_uri_to_uri(FLUENT_URI_IRI, text, text_length, out, sizeof out, &outcome);
+            error = fluent_uri_to_uri(FLUENT_URI_IRI, text, text_length, out, sizeof out, NULL, 0,
+                                      &outcome);
             break;
         default:
             error = FLUENT_URI_INVALID_ARGUMENT;

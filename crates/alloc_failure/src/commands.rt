@@ -7,6 +7,7 @@ use std::alloc::Global;
 use std::process::Abort;
 use test_support::equal;
 use uri_commands::run::run;
+use uri_commands::sink::Sink;
 
 const OUT_OF_MEMORY: &str = "error: out of memory\n";
 
@@ -19,10 +20,11 @@ fn word<R: Abort + Print>(rt: &R, alloc: Global, text: &str) -> String {
 /// denied memory and prints nothing.
 fn prints<R: Abort + Print>(rt: &R, alloc: Global, words: &[String], text: &str) -> bool {
     let (mut out, mut err) = (
-        ExpectedOutput::new(text),
-        ExpectedOutput::new(OUT_OF_MEMORY),
+        Sink::new(ExpectedOutput::new(text)),
+        Sink::new(ExpectedOutput::new(OUT_OF_MEMORY)),
     );
     let status = run(alloc, words, &mut out, &mut err).status;
+    let (out, err) = (out.into_inner(), err.into_inner());
     if status == 1 {
         report(rt, "run");
         holds(rt, out.lacks(text), "an output that got nothing");
@@ -65,6 +67,14 @@ fn normalize(rt: HostRuntime) {
     let alloc = rt.alloc();
     let words = ["normalize", "iri", "S:%7e"].map(|text| word(&rt, alloc, text));
     answered(&rt, alloc, &words, "s:~\n");
+}
+
+/// Tests `uritool mend` while memory is denied.
+#[test]
+fn mend(rt: HostRuntime) {
+    let alloc = rt.alloc();
+    let words = ["mend", "uri-ref", "a\n b"].map(|text| word(&rt, alloc, text));
+    answered(&rt, alloc, &words, "a%20b\n");
 }
 
 /// Tests `uritool resolve` while memory is denied.

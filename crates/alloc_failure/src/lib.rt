@@ -13,9 +13,13 @@ mod kinds;
 #[cfg(test)]
 mod links;
 #[cfg(test)]
+mod mending;
+#[cfg(test)]
 mod relatives;
 #[cfg(test)]
 mod requests;
+#[cfg(test)]
+mod rules;
 #[cfg(test)]
 mod streams;
 #[cfg(test)]

@@ -9,11 +9,11 @@ use std::alloc::Global;
 use std::hash::RandomState;
 use std::io::BufReader;
 use std::process::Abort;
+use uri_commands::sink::Sink;
 use uri_streams::command::{Base, Command, KindName, LineCommand};
 use uri_streams::failure::Failure;
 use uri_streams::job::{Field, Job, OnError};
 use uri_streams::run::{Unwatched, run};
-use uri_streams::sink::Sink;
 use uri_streams::source::Source;
 
 /// Returns whether `urilines` writes this text for the input. If not, checks that `run` reports
@@ -40,22 +40,32 @@ fn writes<R: Abort + Print>(rt: &R, alloc: Global, job: &Job<'_>, input: &str, t
     }
 }
 
-/// Checks that `urilines` writes this text for the input, or in a second run if memory is denied.
-fn written<R: Abort + Print>(rt: &R, alloc: Global, command: Command<'_>, input: &str, text: &str) {
-    let job = Job {
+/// Returns the job of a test of `urilines`: the command on the second field between spaces.
+fn on_fields(command: Command<'_>) -> Job<'_> {
+    Job {
         command,
         field: Some(Field {
             before: 1,
             delimiter: b' ',
         }),
         is_null: false,
+        is_mended: false,
         max_line: 40,
         errors: OnError::Line,
-    };
-    if !writes(rt, alloc, &job, input, text) {
+    }
+}
+
+/// Checks that `urilines` writes this text for the input, or in a second run if memory is denied.
+fn written<R: Abort + Print>(rt: &R, alloc: Global, command: Command<'_>, input: &str, text: &str) {
+    written_by(rt, alloc, &on_fields(command), input, text);
+}
+
+/// Checks that the job writes this text for the input, or in a second run if memory is denied.
+fn written_by<R: Abort + Print>(rt: &R, alloc: Global, job: &Job<'_>, input: &str, text: &str) {
+    if !writes(rt, alloc, job, input, text) {
         holds(
             rt,
-            writes(rt, alloc, &job, input, text),
+            writes(rt, alloc, job, input, text),
             "the output, with memory",
         );
     }
@@ -101,6 +111,24 @@ fn queried_lines(rt: HostRuntime) {
 fn checked_lines(rt: HostRuntime) {
     let command = Command::Each(LineCommand::Check(KindName::Uri, true));
     written(&rt, rt.alloc(), command, "a s:\na b\n", "a b\n");
+}
+
+/// Tests `urilines mend` while memory is denied.
+#[test]
+fn mended_lines(rt: HostRuntime) {
+    let command = Command::Each(LineCommand::Mend(KindName::UriRef));
+    let text = "a b%7Cc\na error: unexpected character at index 3\n";
+    written(&rt, rt.alloc(), command, "a b|c\na //a\\@b\n", text);
+}
+
+/// Tests `urilines --mend` while memory is denied: the line breaks are dropped from a text that NUL
+/// ends.
+#[test]
+fn lines_mended_first(rt: HostRuntime) {
+    let mut job = on_fields(Command::Each(LineCommand::Normalize(KindName::Uri)));
+    job.is_mended = true;
+    job.is_null = true;
+    written_by(&rt, rt.alloc(), &job, "a S:b\n|c\0", "a s:b%7Cc\0");
 }
 
 /// Tests `urilines unique` while memory is denied.

@@ -8,9 +8,10 @@ use std::process::Abort;
 use test_support::{equal, prints};
 use uri_commands::refusal::CommandError;
 use uri_commands::run::run;
+use uri_commands::sink::Sink;
 
 const USAGE: &str =
-    "usage: uritool parse KIND TEXT | normalize KIND TEXT | resolve uri|iri BASE REF | links BASE REF...\n";
+    "usage: uritool parse KIND TEXT | normalize KIND TEXT | mend KIND TEXT | resolve uri|iri BASE REF | links BASE REF...\n";
 
 const WHOLE: &[&str] = &[
     "parse",
@@ -29,7 +30,8 @@ fn run_words<O: Write, E: Write>(
     for word in words {
         owned.push(String::from_str(alloc, word)?)?;
     }
-    Ok(run(alloc, owned.as_slice(), out, err).status)
+    let (mut out, mut err) = (Sink::new(out), Sink::new(err));
+    Ok(run(alloc, owned.as_slice(), &mut out, &mut err).status)
 }
 
 /// Checks the status that `uritool` ends with for these words, and its two outputs.
@@ -74,6 +76,9 @@ const SUCCESSES: &[(&[&str], &str)] = &[
     (&["normalize", "uri-ref", "%C3%a9"], "%C3%A9\n"),
     (&["normalize", "iri", "HTTP://R%c3%89/É"], "http://rÉ/É\n"),
     (&["normalize", "iri-ref", "/%C3%41%A9%C3%A9"], "/%C3A%A9é\n"),
+    // Links of pages, mended.
+    (&["mend", "uri-ref", " a b?[1]\n "], "a%20b?%5B1%5D\n"),
+    (&["mend", "iri", "x:é%\n\t7e"], "x:é%7e\n"),
     // Targets.
     (
         &["resolve", "uri", "http://a/b/c/d;p?q", "g;x=1/../y"],
@@ -356,7 +361,7 @@ const WITHOUT_ERRORS: &[(&[&str], u8)] = &[
     (&["parse", "uri-ref", "a"], 0),
     (&["parse", "uri-ref", "%"], 1),
     (&["normalize", "uri-ref", "a"], 0),
-    (&["normalize", "uri-ref", "%"], 1),
+    (&["mend", "uri-ref", "//%"], 1),
     (&["links", "http://x/#f", "a"], 0),
     (&["links", "http://x/", "%"], 1),
     (&["parse", "url", "a"], 2),

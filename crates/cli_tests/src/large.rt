@@ -1,9 +1,11 @@
-//! What `uritool` prints for texts of 10 MB.
+//! What `uritool` prints for the longest texts. `.ci/urilines.sh` has lines of 10 MB.
 use std::alloc::{AllocError, Global};
 use test_support::equal;
 use uri_commands::run::run;
+use uri_commands::sink::Sink;
 
-const LENGTH: usize = 10_000_000;
+/// The length of the longest argument that Linux gives a program, in bytes.
+const LENGTH: usize = 131_071;
 
 /// A prefix, and the unit that is repeated after it.
 type Large = (&'static str, &'static str);
@@ -26,9 +28,9 @@ fn run_on(
         owned.push(String::from_str(alloc, word)?)?;
     }
     owned.push(repeated(alloc, text, times)?)?;
-    let (mut out, mut err) = (Vec::new(alloc), Vec::new(alloc));
+    let (mut out, mut err) = (Sink::new(Vec::new(alloc)), Sink::new(Vec::new(alloc)));
     let status = run(alloc, owned.as_slice(), &mut out, &mut err).status;
-    Ok((status, out, err))
+    Ok((status, out.into_inner(), err.into_inner()))
 }
 
 /// Words, the text after them, and the line that they print, which has as many units.
@@ -46,7 +48,7 @@ const SUCCESSES: &[(&[&str], Large, Large)] = &[
     ),
 ];
 
-/// Tests what `uritool` prints for texts of 10 MB.
+/// Tests what `uritool` prints for the longest texts.
 #[test]
 fn prints_outputs(rt: HostRuntime) {
     let alloc = rt.alloc();
@@ -71,12 +73,12 @@ const REJECTIONS: &[(&[&str], Large, &str)] = &[
     (
         &["parse", "uri"],
         ("s://", ":"),
-        "error: unexpected character at index 10000003\n",
+        "error: unexpected character at index 131074\n",
     ),
     (
         &["normalize", "iri"],
         ("", "+"),
-        "error: unexpected character at index 10000000\n",
+        "error: unexpected character at index 131071\n",
     ),
     (
         &["normalize", "uri-ref"],
@@ -85,7 +87,7 @@ const REJECTIONS: &[(&[&str], Large, &str)] = &[
     ),
 ];
 
-/// Tests the error line that `uritool` prints for a text of 10 MB that it rejects.
+/// Tests the error line that `uritool` prints for the longest texts that it rejects.
 #[test]
 fn prints_why_texts_are_rejected(rt: HostRuntime) {
     for &(words, text, line) in REJECTIONS {

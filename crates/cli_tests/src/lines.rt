@@ -1,4 +1,5 @@
 //! What the programs of the calling guide print for stored lines, and what its functions return.
+use cookbook::attributes::note_attribute;
 use cookbook::frontier::Frontier;
 use cookbook::links::print_page;
 use cookbook::pairs::{Pair, print_pairs, query_of};
@@ -10,10 +11,12 @@ use cookbook::service::resource;
 use cookbook::visits::count_visit;
 use fluent_uri::Uri;
 use fluent_uri::component::SocketTarget;
+use fluent_uri::normalize::Normalizer;
 use std::alloc::{AllocError, Global};
 use std::collections::BTreeMap;
 use std::process::Abort;
 use test_support::{equal, prints};
+use uri_links::links::{Outcome, Register};
 
 /// Copies literal words for a test of the programs of `cookbook`.
 fn owned(alloc: Global, words: &[&str]) -> Result<Vec<String>, AllocError> {
@@ -176,5 +179,26 @@ fn finds_where_to_connect_to(rt: HostRuntime) {
             _ => None,
         };
         equal(port, wanted).expect(&rt, text);
+    }
+}
+
+/// Links of the page `http://example.com/a/` as its attributes have them, and what noting them in
+/// order returns.
+const ATTRIBUTES: &[(&str, Option<Outcome>)] = &[
+    (" b c\n", Some(Outcome::New(0))),
+    ("/a/%62%20c", Some(Outcome::Known(0))),
+    ("?x=[1]", Some(Outcome::New(1))),
+    ("http://good.com\\@evil.com/", None),
+];
+
+/// Tests what `cookbook` notes of the links of attributes.
+#[test]
+fn notes_attributes(rt: HostRuntime) {
+    let alloc = rt.alloc();
+    let base = Uri::<&str>::parse("http://example.com/a/").expect(&rt, "base");
+    let mut register = Register::new(alloc, Normalizer::new());
+    for &(attribute, wanted) in ATTRIBUTES {
+        let outcome = note_attribute(alloc, &mut register, &base, attribute).ok();
+        equal(outcome, wanted).expect(&rt, attribute);
     }
 }

@@ -106,9 +106,10 @@ fn international_parts(rt: HostRuntime) {
     is_built(&rt, reference, "#é");
 }
 
-/// Tests a builder with an empty authority.
+/// Tests the constant of the empty authority, and a builder with it.
 #[test]
 fn empty_authority(rt: HostRuntime) {
+    equal(Authority::<Userinfo, RegName>::EMPTY.as_str(), "").expect(&rt, "EMPTY");
     let built = Uri::<String>::builder(rt.alloc())
         .scheme(scheme(&rt, "file"))
         .authority(Authority::EMPTY)

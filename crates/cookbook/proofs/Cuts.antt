@@ -5,7 +5,7 @@ use Rattle.cookbook.specs.Pairs.{text_before_equals, decode_pair, decode_text, t
 
 -- cookbook, pairs of a query: what is before the first `=` (61) of two texts joined by one is the
 -- first text, the name
-text_before_equals-append : (before after : List ℕ) → lacks 61 before ≡ true
+pub text_before_equals-append : (before after : List ℕ) → lacks 61 before ≡ true
     → text_before_equals (before ++ 61 ∷ after) ≡ before
 unfolding text_before_equals
 text_before_equals-append [] after e = refl
@@ -13,7 +13,7 @@ text_before_equals-append (b ∷ bs) after e = grind (arith, e, text_before_equa
 
 -- cookbook, pairs of a query: what is after the first `=` (61) of two texts joined by one is the
 -- second text, the value
-text_after_equals-append : (before after : List ℕ) → lacks 61 before ≡ true
+pub text_after_equals-append : (before after : List ℕ) → lacks 61 before ≡ true
     → text_after_equals (before ++ 61 ∷ after) ≡ after
 unfolding text_after_equals
 text_after_equals-append [] after e = refl

@@ -1,14 +1,12 @@
 //! The URIs that were met, by what they mean.
-ghost use Rattle.std.specs.Prelude.{◌≡◌, ◌↔◌, ◌++◌, true, false, not, is_some, bytes_eq, codes};
-ghost use Rattle.std.specs.Prelude.{if◌then◌else◌, List, ℕ, [], IfErr, IfOk, IfSome, OnErr, OnOk};
+ghost use Rattle.std.specs.Prelude.{◌≡◌, ◌≢◌, ◌↔◌, ◌++◌, true, false, not, is_some, bytes_eq};
+ghost use Rattle.std.specs.Prelude.{codes, if◌then◌else◌, List, ℕ, [], IfErr, IfOk, IfSome};
+ghost use Rattle.std.specs.Prelude.{IsOkUnless, OnErr, OnOk};
 ghost use Rattle.std.specs.Io.KnownBytes.{Appends};
-ghost use Rattle.fluent_uri.specs.Grammar.{uri};
-ghost use Rattle.fluent_uri.specs.Meaning.{meaning_of};
-ghost use Rattle.fluent_uri.specs.Grammar.{IsTextOf};
-ghost use Rattle.fluent_uri.specs.SchemePorts.{default_port};
-ghost use Rattle.fluent_uri.specs.Uris.{uri_text};
+ghost use Rattle.std.specs.Option.{option_map_or};
+ghost use Rattle.fluent_uri.specs.Prelude.{IsTextOf, default_port, meaning_of, refusal, uri};
+ghost use Rattle.fluent_uri.specs.Prelude.{uri_text};
 ghost use Rattle.cookbook.specs.Frontiers.{has_met, normal_of};
-ghost use Rattle.cookbook.specs.Refusals.{IsErrorOfText};
 
 use crate::normal::normal_form;
 use crate::refusal::Failure;
@@ -33,12 +31,25 @@ impl Frontier {
         }
     }
 
+    /// Adds a normal form, and returns whether it is new.
+    #[tactic(auto, using(crate::proofs::Keys::contains_text_after_insertion))]
+    fn insert(&mut self, alloc: Global, normal: &str) -> Result<bool, Failure>
+        ensures new { IfOk result (λ new. new ≡ not (has_met self.old normal.now)) }
+        ensures met { OnOk result ((other : List ℕ) → has_met self.new other
+            ≡ (if bytes_eq normal.now other then true else has_met self.old other)) }
+        ensures kept { OnErr result ((other : List ℕ) →
+            has_met self.new other ≡ has_met self.old other) }
+        ensures refused { IsOkUnless result Failure.OutOfMemory }
+    {
+        let key = String::from_str(alloc, normal)?;
+        Ok(self.seen.insert(key)?)
+    }
+
     /// Returns the normal form of a URI, if no equivalent one was met before. The URI is then met.
     ///
     /// # Errors
     ///
     /// `Text` exactly if the text is not a URI; `OutOfMemory` if allocation fails.
-    #[tactic(auto, using(crate::proofs::Keys::contains_text_after_insertion))]
     pub fn note(&mut self, alloc: Global, text: &str) -> Result<Option<Uri<String>>, Failure>
         ensures new { IfOk result (λ answer.
             is_some answer ≡ not (has_met self.old (normal_of text.now))) }
@@ -51,11 +62,11 @@ impl Frontier {
             ↔ meaning_of uri default_port text.now ≡ meaning_of uri default_port other)) }
         ensures kept { OnErr result ((other : List ℕ) →
             has_met self.new other ≡ has_met self.old other) }
-        ensures refused { IfErr result (IsErrorOfText uri text.now) }
+        ensures refused { IsOkUnless result
+            (option_map_or Failure.Text (refusal uri text.now) Failure.OutOfMemory) }
     {
         let normal = normal_form(alloc, text)?;
-        let key = String::from_str(alloc, normal.as_str())?;
-        if self.seen.insert(key)? {
+        if self.insert(alloc, normal.as_str())? {
             Ok(Some(normal))
         } else {
             Ok(None)
@@ -66,7 +77,8 @@ impl Frontier {
     ///
     /// # Errors
     ///
-    /// As `note`, and `OutputFailed` if the writer fails; the URI is then met all the same.
+    /// As `note`: no URI is then met, and nothing is written. `OutputFailed` if the writer fails:
+    /// the URI is then met all the same.
     pub fn print_new<O: Write>(
         &mut self,
         alloc: Global,
@@ -78,6 +90,12 @@ impl Frontier {
             else normal_of text.now ++ codes "\n")) }
         ensures met { OnOk result ((other : List ℕ) → has_met self.new other
             ≡ (if bytes_eq (normal_of text.now) other then true else has_met self.old other)) }
+        ensures refused { IfErr result (λ e. e ≢ Failure.OutputFailed
+            → e ≡ option_map_or Failure.Text (refusal uri text.now) Failure.OutOfMemory) }
+        ensures kept { IfErr result (λ e. e ≢ Failure.OutputFailed
+            → (other : List ℕ) → has_met self.new other ≡ has_met self.old other) }
+        ensures unwritten { IfErr result (λ e. e ≢ Failure.OutputFailed
+            → O.contents out.new ≡ O.contents out.old) }
     {
         match self.note(alloc, text)? {
             Some(normal) => Ok(writeln!(out, "{normal}")?),

@@ -2,6 +2,7 @@
 //! that says what it does. `docs/CALLING.md` goes through them, and quotes them.
 #![tactic(auto, using(fluent_uri::proofs::Calling::calling))]
 
+pub mod attributes;
 pub mod errors;
 pub mod frontier;
 pub mod links;

@@ -1,9 +1,9 @@
 //! The pages that links lead to.
-ghost use Rattle.std.specs.Prelude.{◌++◌, codes, List, ℕ, IfErr, IfOk, OnOk};
+ghost use Rattle.std.specs.Prelude.{◌≡◌, ◌++◌, codes, List, ℕ, IfOk, IsErrOf};
+ghost use Rattle.std.specs.Prelude.{IsSomeAnd, None, OnOk, Some};
 ghost use Rattle.std.specs.Io.KnownBytes.{Appends};
-ghost use Rattle.fluent_uri.specs.Uris.{uri_text};
-ghost use Rattle.cookbook.specs.Pages.{IsPage};
-ghost use Rattle.cookbook.specs.Refusals.{IsErrorOfLink};
+ghost use Rattle.fluent_uri.specs.Prelude.{IsErrorWithUnderflowAllowed, IsWithFragment, components};
+ghost use Rattle.fluent_uri.specs.Prelude.{refusal, target_of_texts, uri_ref, uri_text};
 
 use crate::refusal::Failure;
 use fluent_uri::{Uri, UriRef};
@@ -15,11 +15,18 @@ use std::io::Write;
 ///
 /// # Errors
 ///
-/// `Text` exactly if the link is not a URI reference; `Target` exactly if it has no target; and
-/// `OutOfMemory` if allocation fails.
+/// `Text` exactly if the link is not a URI reference; `Target` if it has no target, or if
+/// allocation fails.
 pub fn page(alloc: Global, base: &Uri<String>, link: &str) -> Result<Uri<String>, Failure>
-    ensures page { IfOk result (λ page. IsPage (uri_text base.now) link.now (uri_text page)) }
-    ensures refused { IfErr result (IsErrorOfLink (uri_text base.now) link.now) }
+    ensures page { IfOk result (λ page. IsSomeAnd (target_of_texts (uri_text base.now) link.now)
+        (λ target. IsWithFragment target None (uri_text page))) }
+    ensures text { (error : _) → IsErrOf result (Failure.Text error)
+        → refusal uri_ref link.now ≡ Some error }
+    ensures not_a_reference { (error : _) → refusal uri_ref link.now ≡ Some error
+        → IsErrOf result (Failure.Text error) }
+    ensures no_target { (error : _) → IsErrOf result (Failure.Target error)
+        → IsErrorWithUnderflowAllowed (components (uri_text base.now)) (components link.now) error }
+    ensures no_query { ¬ (IsErrOf result Failure.Query) }
 {
     let mut target = UriRef::<&str>::parse(link)?.resolve_against(alloc, base)?;
     target.set_fragment(None)?;
@@ -37,8 +44,15 @@ pub fn print_page<O: Write>(
     link: &str,
     out: &mut O,
 ) -> Result<(), Failure>
-    ensures { OnOk result ((page : List ℕ) × IsPage (uri_text base.now) link.now page
+    ensures printed { OnOk result ((page : List ℕ)
+        × IsSomeAnd (target_of_texts (uri_text base.now) link.now)
+        (λ target. IsWithFragment target None page)
         × Appends (O.contents out.old) (O.contents out.new) (page ++ codes "\n")) }
+    ensures text { (error : _) → IsErrOf result (Failure.Text error)
+        → refusal uri_ref link.now ≡ Some error }
+    ensures no_target { (error : _) → IsErrOf result (Failure.Target error)
+        → IsErrorWithUnderflowAllowed (components (uri_text base.now)) (components link.now) error }
+    ensures no_query { ¬ (IsErrOf result Failure.Query) }
 {
     let page = page(alloc, base, link)?;
     writeln!(out, "{page}")?;

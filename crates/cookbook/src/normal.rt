@@ -1,10 +1,7 @@
 //! From a text to its normal form, in a function of its own.
-ghost use Rattle.std.specs.Prelude.{IfErr, IfOk};
-ghost use Rattle.fluent_uri.specs.Grammar.{uri};
-ghost use Rattle.fluent_uri.specs.Normalizers.{IsNormalForm};
-ghost use Rattle.fluent_uri.specs.SchemePorts.{default_port};
-ghost use Rattle.fluent_uri.specs.Uris.{uri_text};
-ghost use Rattle.cookbook.specs.Refusals.{IsErrorOfText};
+ghost use Rattle.std.specs.Prelude.{◌≡◌, IfOk, IsOk, IsOkUnless, None};
+ghost use Rattle.std.specs.Option.{option_map_or};
+ghost use Rattle.fluent_uri.specs.Prelude.{IsNormalForm, default_port, refusal, uri, uri_text};
 
 use crate::refusal::Failure;
 use fluent_uri::Uri;
@@ -18,7 +15,9 @@ use std::alloc::Global;
 pub fn normal_form(alloc: Global, text: &str) -> Result<Uri<String>, Failure>
     ensures normal { IfOk result (λ made.
         IsNormalForm uri default_port text.now (uri_text made)) }
-    ensures refused { IfErr result (IsErrorOfText uri text.now) }
+    ensures accepted { IsOk result → refusal uri text.now ≡ None }
+    ensures refused { IsOkUnless result
+        (option_map_or Failure.Text (refusal uri text.now) Failure.OutOfMemory) }
 {
     Ok(Uri::<&str>::parse(text)?.normalize(alloc)?)
 }

@@ -1,8 +1,9 @@
 //! The pairs of a query, as `name=value&name=value`.
-ghost use Rattle.std.specs.Prelude.{◌≡◌, ◌++◌, codes, map, string_bytes, IfOk, IsTrue, OnOk};
+ghost use Rattle.std.specs.Prelude.{◌≡◌, ◌≢◌, ◌++◌, codes, map, string_bytes, IfErr, IfOk, IsErrOf};
+ghost use Rattle.std.specs.Prelude.{IsTrue, OnOk};
 ghost use Rattle.std.specs.Io.KnownBytes.{Appends};
-ghost use Rattle.fluent_uri.specs.EncodedTexts.{text_of};
-ghost use Rattle.fluent_uri.specs.EStrings.{owned_text};
+ghost use Rattle.fluent_uri.specs.Prelude.{IsValidFor, owned_text, text_of};
+ghost use Rattle.fluent_uri.specs.Sets.{query_set};
 ghost use Rattle.cookbook.specs.Pairs.{lines_text, text_before_equals, pair_texts, query_text};
 ghost use Rattle.cookbook.specs.Pairs.{decode_pair, decode_pairs, decode_text, text_after_equals};
 
@@ -106,6 +107,17 @@ pub fn query_of(alloc: Global, pairs: &[Pair]) -> Result<EString<Query>, AllocEr
     Ok(query)
 }
 
+/// The query that `query_of` makes of pairs has these pairs again: whatever is in a name or a
+/// value, nothing of it is lost or moves to another. This is a law: nothing is run.
+///
+/// # Examples
+///
+/// `a&b` with `=` becomes `a%26b=%3D`, whose only pair is `a&b` with `=`.
+#[tactic(auto, using(crate::proofs::PairsAgain::query_of_pairs_has_these_pairs))]
+pub fn pairs_of_their_query_are_the_same(pairs: &[Pair])
+    ensures { decode_pairs (query_text (map pair_texts pairs.now)) ≡ map pair_texts pairs.now }
+{}
+
 /// Parses a text as a query. Writes each of its decoded pairs as a line `name is value`, and then
 /// the query that `query_of` makes of them.
 ///
@@ -114,9 +126,12 @@ pub fn query_of(alloc: Global, pairs: &[Pair]) -> Result<EString<Query>, AllocEr
 /// `Query` exactly if the text is not a query; `OutOfMemory` if allocation fails, and
 /// `OutputFailed` if the writer fails.
 pub fn print_pairs<O: Write>(alloc: Global, text: &str, out: &mut O) -> Result<(), Failure>
-    ensures { OnOk result (Appends (O.contents out.old) (O.contents out.new)
+    ensures printed { OnOk result (Appends (O.contents out.old) (O.contents out.new)
         (lines_text (decode_pairs text.now)
         ++ (query_text (decode_pairs text.now) ++ codes "\n"))) }
+    ensures no_query { ¬ (IsValidFor query_set text.now) → IsErrOf result Failure.Query }
+    ensures refused { IsValidFor query_set text.now → IfErr result (λ e. e ≢ Failure.OutOfMemory
+        → e ≡ Failure.OutputFailed) }
 {
     let query = EStr::<Query>::new(text).ok_or(Failure::Query)?;
     let pairs = pairs_of(alloc, query)?;

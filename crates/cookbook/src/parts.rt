@@ -1,9 +1,7 @@
 //! A reference, taken apart (RFC 3986, section 3).
-ghost use Rattle.std.specs.Prelude.{◌≡◌, ◌↔◌, option_map, IfOk, IsOk};
-ghost use Rattle.fluent_uri.specs.Authority.{authority_parts};
-ghost use Rattle.fluent_uri.specs.Components.{components};
-ghost use Rattle.fluent_uri.specs.Grammar.{IsOfKind, uri_ref};
-ghost use Rattle.cookbook.specs.Parts.{AreComponentsOf};
+ghost use Rattle.std.specs.Prelude.{◌≡◌, option_map, IfOk};
+ghost use Rattle.std.specs.Result.{result_err};
+ghost use Rattle.fluent_uri.specs.Prelude.{authority_parts, components, refusal, uri_ref};
 
 use fluent_uri::component::{Authority, Scheme};
 use fluent_uri::{ParseError, UriRef};
@@ -27,8 +25,12 @@ pub struct Parts<'a> {
 /// Of `foo://user@example.com:8042/over/there?name=ferret#nose` they are `foo`, `example.com` and
 /// `/over/there`.
 pub fn parts_of(text: &str) -> Result<Parts<'_>, ParseError>
-    ensures accepts { IsOk result ↔ IsOfKind uri_ref text.now }
-    ensures parts { IfOk result (AreComponentsOf (components text.now)) }
+    ensures error { result_err result ≡ refusal uri_ref text.now }
+    ensures scheme { IfOk result (λ parts.
+        option_map (λ s. s.now) parts.scheme ≡ (components text.now).scheme) }
+    ensures host { IfOk result (λ parts. option_map (λ h. h.now) parts.host
+        ≡ option_map (λ a. (authority_parts a).host) (components text.now).authority) }
+    ensures path { IfOk result (λ parts. parts.path.now ≡ (components text.now).path) }
 {
     let reference = UriRef::<&str>::parse(text)?;
     Ok(Parts {

@@ -1,12 +1,7 @@
 //! Where to connect to.
-ghost use Rattle.std.specs.Prelude.{◌≡◌, is_some, unwrap_or, IfSome};
-ghost use Rattle.fluent_uri.specs.Authority.{authority_parts};
-ghost use Rattle.fluent_uri.specs.Components.{components};
-ghost use Rattle.fluent_uri.specs.Connecting.{IsTargetResultFor};
-ghost use Rattle.fluent_uri.specs.Hosts.{host_kind};
-ghost use Rattle.fluent_uri.specs.Ports.{FitsPort, port_number};
-ghost use Rattle.fluent_uri.specs.Uris.{uri_text};
-ghost use Rattle.cookbook.specs.Reaching.{default_port_or};
+ghost use Rattle.std.specs.Prelude.{◌≡◌, is_some, IfSome};
+ghost use Rattle.fluent_uri.specs.Prelude.{components, uri_text};
+ghost use Rattle.cookbook.specs.Reaching.{IsReachedAt, default_port_or};
 
 use fluent_uri::Uri;
 use fluent_uri::component::{SocketError, SocketTarget};
@@ -29,11 +24,9 @@ pub fn reach<'a>(
     port: u16,
 ) -> Option<Result<SocketTarget<'a>, SocketError>>
     ensures some { is_some result ≡ is_some (components (uri_text uri.entry)).authority }
-    ensures target { let p = components (uri_text uri.entry) in
+    ensures reached { let p = components (uri_text uri.entry) in
         IfSome result (λ answer. IfSome p.authority (λ authority.
-        let a = authority_parts authority in FitsPort (port_number a.port)
-        → IsTargetResultFor a.host (host_kind a.host)
-        (unwrap_or (port_number a.port) (default_port_or p port)) answer)) }
+        IsReachedAt authority (default_port_or p port) answer)) }
 {
     let authority = uri.authority()?;
     let port = uri.scheme().default_port().unwrap_or(port);

@@ -1,8 +1,8 @@
 //! Links that are made relative to their page.
-ghost use Rattle.std.specs.Prelude.{◌≡◌, ◌≤◌, IfErr, IfOk, IsOkAnd, length};
-ghost use Rattle.fluent_uri.specs.Target.{resolution_of_texts};
-ghost use Rattle.fluent_uri.specs.Uris.{uri_ref_text, uri_text};
-ghost use Rattle.cookbook.specs.Refusals.{IsErrorOfLink};
+ghost use Rattle.std.specs.Prelude.{◌≡◌, ◌≤◌, ◌↔◌, length, IfOk, IsErrOf, IsSomeAnd, Some};
+ghost use Rattle.fluent_uri.specs.Prelude.{IsErrorWithUnderflowAllowed, components, refusal};
+ghost use Rattle.fluent_uri.specs.Prelude.{resolution_of_texts, target_of_texts, uri_ref};
+ghost use Rattle.fluent_uri.specs.Prelude.{uri_ref_text, uri_text};
 
 use crate::refusal::Failure;
 use fluent_uri::{Uri, UriRef};
@@ -13,7 +13,7 @@ use uri_relative::Relativize;
 ///
 /// # Errors
 ///
-/// `Text` exactly if the link is no URI reference; `Target` exactly if it has no target; and
+/// `Text` exactly if the link is not a URI reference; `Target` if it has no target; and `Target` or
 /// `OutOfMemory` if allocation fails.
 ///
 /// # Examples
@@ -24,9 +24,12 @@ pub fn short_link(alloc: Global, page: &Uri<String>, link: &str) -> Result<UriRe
         resolution_of_texts (uri_text page.now) (uri_ref_text short)
         ≡ resolution_of_texts (uri_text page.now) link.now) }
     ensures short { IfOk result (λ short.
-        IsOkAnd (resolution_of_texts (uri_text page.now) link.now) (λ target.
+        IsSomeAnd (target_of_texts (uri_text page.now) link.now) (λ target.
         length (uri_ref_text short) ≤ length target)) }
-    ensures refused { IfErr result (IsErrorOfLink (uri_text page.now) link.now) }
+    ensures not_a_reference { (error : _) → IsErrOf result (Failure.Text error)
+        ↔ (refusal uri_ref link.now ≡ Some error) }
+    ensures no_target { (error : _) → IsErrOf result (Failure.Target error)
+        → IsErrorWithUnderflowAllowed (components (uri_text page.now)) (components link.now) error }
 {
     let target = UriRef::<&str>::parse(link)?.resolve_against(alloc, page)?;
     Ok(page.relativize(alloc, &target)?)

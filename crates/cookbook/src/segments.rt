@@ -1,8 +1,9 @@
 //! A path from segments that a user typed.
-ghost use Rattle.std.specs.Prelude.{◌≡◌, false, string_bytes, IfErr, IfOk, IsOk, []};
+ghost use Rattle.std.specs.Prelude.{◌≡◌, false, if◌then◌else◌, IfOk, IsOk, IsOkUnless, []};
 ghost use Rattle.std.specs.List.{list_any};
-ghost use Rattle.fluent_uri.specs.EStrings.{owned_text};
+ghost use Rattle.fluent_uri.specs.Prelude.{owned_text};
 ghost use Rattle.cookbook.specs.Segments.{is_dot_segment, path_from};
+ghost use Rattle.cookbook.specs.declared.segments.PathError.TheVariants.{OutOfMemory};
 
 use fluent_uri::pct_enc::EString;
 use fluent_uri::pct_enc::encoder::{Data, Path};
@@ -22,6 +23,8 @@ pub enum PathError {
 }
 
 impl From<AllocError> for PathError {
+    ghost from_gives = { λ _ e. e ≡ OutOfMemory };
+
     /// Returns the error `OutOfMemory` of a path of typed segments for a failed allocation.
     fn from(_: AllocError) -> PathError {
         PathError::OutOfMemory
@@ -41,6 +44,9 @@ impl From<AllocError> for PathError {
 pub fn path_of(alloc: Global, segments: &[String]) -> Result<EString<Path>, PathError>
     ensures path { IfOk result (λ path. owned_text path ≡ path_from [] segments.now) }
     ensures no_dots { IsOk result → list_any is_dot_segment segments.now ≡ false }
+    ensures refused { IsOkUnless result
+        (if list_any is_dot_segment segments.now then PathError.DotSegment
+        else PathError.OutOfMemory) }
 {
     if has_dot_segment(segments) {
         return Err(PathError::DotSegment);

@@ -1,9 +1,7 @@
 //! The URIs of a service.
-ghost use Rattle.std.specs.Prelude.{◌≡◌, codes, IfOk, None, Some};
-ghost use Rattle.fluent_uri.specs.AuthorityTexts.{authority_text};
-ghost use Rattle.fluent_uri.specs.Components.{components};
-ghost use Rattle.fluent_uri.specs.EncodedTexts.{text_of};
-ghost use Rattle.fluent_uri.specs.Uris.{uri_text};
+ghost use Rattle.std.specs.Prelude.{◌≡◌, ◌≢◌, codes, true, IfErr, IfOk, None, Some};
+ghost use Rattle.fluent_uri.specs.Built.{build_error_of_path};
+ghost use Rattle.fluent_uri.specs.Prelude.{authority_text, components, text_of, uri_text};
 
 use fluent_uri::Uri;
 use fluent_uri::build::BuildError;
@@ -39,6 +37,8 @@ pub fn resource(
     ensures query { IfOk result (λ made.
         (components (uri_text made)).query ≡ Some (text_of query.entry)) }
     ensures fragment { IfOk result (λ made. (components (uri_text made)).fragment ≡ None) }
+    ensures refused { IfErr result (λ e. e ≢ BuildError.OutOfMemory
+        → build_error_of_path true true (text_of path.entry) ≡ Some e) }
 {
     let made = Uri::<String>::builder(alloc)
         .scheme(Scheme::new_or_panic("https"))

@@ -1,15 +1,22 @@
 //! A table that is keyed by normal forms.
 ghost use Rattle.std.specs.Prelude.{◌≡◌, ◌+◌, ◌-◌, ◌^◌, min, unwrap_or, bytes_eq};
-ghost use Rattle.std.specs.Prelude.{if◌then◌else◌, List, ℕ, IfErr, IfOk, OnErr, Some};
+ghost use Rattle.std.specs.Prelude.{if◌then◌else◌, List, ℕ, IfOk, IsOkUnless, OnErr, Some};
 ghost use Rattle.std.specs.BTreeMap.{get_by_text};
-ghost use Rattle.fluent_uri.specs.Grammar.{uri};
+ghost use Rattle.std.specs.Option.{option_map_or};
+ghost use Rattle.fluent_uri.specs.Prelude.{refusal, uri};
 ghost use Rattle.cookbook.specs.Frontiers.{normal_of};
-ghost use Rattle.cookbook.specs.Refusals.{IsErrorOfText};
 
 use crate::normal::normal_form;
 use crate::refusal::Failure;
 use std::alloc::Global;
 use std::collections::BTreeMap;
+
+/// Returns how many visits a table has for a normal form.
+fn visits_of(visits: &BTreeMap<String, u32>, normal: &str) -> u32
+    ensures { result ≡ unwrap_or (get_by_text visits.now normal.now) 0 }
+{
+    visits.get(normal).copied().unwrap_or(0)
+}
 
 /// Counts a visit of a URI under its normal form, and returns how many there are, up to the largest
 /// `u32`.
@@ -17,7 +24,7 @@ use std::collections::BTreeMap;
 /// # Errors
 ///
 /// `Text` exactly if the text is not a URI; `OutOfMemory` if allocation fails.
-#[tactic(auto, using(crate::proofs::Keys::get_by_text_after_insertion))]
+#[tactic(auto, using(std::proofs::lemmas::Map::Text::text_keys))]
 pub fn count_visit(
     alloc: Global,
     visits: &mut BTreeMap<String, u32>,
@@ -29,11 +36,11 @@ pub fn count_visit(
         ≡ (if bytes_eq (normal_of text.now) key then Some n else get_by_text visits.old key)) }
     ensures kept { OnErr result ((key : List ℕ) →
         get_by_text visits.new key ≡ get_by_text visits.old key) }
-    ensures refused { IfErr result (IsErrorOfText uri text.now) }
+    ensures refused { IsOkUnless result
+        (option_map_or Failure.Text (refusal uri text.now) Failure.OutOfMemory) }
 {
     let normal = normal_form(alloc, text)?.into_string();
-    let seen = visits.get(normal.as_str()).copied().unwrap_or(0);
-    let count = seen.saturating_add(1);
+    let count = visits_of(visits, normal.as_str()).saturating_add(1);
     visits.insert(normal, count)?;
     Ok(count)
 }

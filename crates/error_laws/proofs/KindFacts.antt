@@ -27,6 +27,7 @@ HasAllBut marks small great = (b : ℕ) (bs : List ℕ) → is_one_of marks b �
 
 -- error law: what it needs of the sets of each of the four kinds
 pub record Facts (kind : Kind) : Type 0 where
+  pub known : kind ≡ kind_by_flags kind.path.ucschar kind.needs_scheme
   pub sets : HasComponentSets kind
   pub apart : SeparatesComponents (first_segment_set kind) kind
   pub name_bracket : excludes kind.reg_name (codes "[") ≡ true
@@ -72,6 +73,7 @@ kind-by-flags-has-component-sets true true = iri-has-component-sets
 pub facts-of-four-kinds : (past needs : Bool) → Facts (kind_by_flags past needs)
 unfolding allows_past_ascii
 facts-of-four-kinds false needs = record {
+  known = refl;
   sets = kind-by-flags-has-component-sets false needs;
   apart = each_kind_separates_components (kind_by_flags false needs) refl;
   name_bracket = refl;
@@ -82,6 +84,7 @@ facts-of-four-kinds false needs = record {
   segment_octets = refl;
 }
 facts-of-four-kinds true needs = record {
+  known = refl;
   sets = kind-by-flags-has-component-sets true needs;
   apart = each_kind_separates_components (kind_by_flags true needs) refl;
   name_bracket = refl;

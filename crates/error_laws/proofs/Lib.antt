@@ -9,3 +9,8 @@ pub mod NextMarks
 pub mod AuthorityErrors
 pub mod BuiltPaths
 pub mod Whole
+pub mod LongerTexts
+pub mod LongerAddresses
+pub mod SharedPrefixes
+pub mod LateHosts
+pub mod LateErrors

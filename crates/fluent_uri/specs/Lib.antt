@@ -25,6 +25,7 @@ pub use Rattle.uri_parts.specs.GrammarInWords
 pub use Rattle.uri_parts.specs.Hosts
 pub use Rattle.uri_parts.specs.LiteralErrors
 pub use Rattle.uri_parts.specs.Ports
+pub use Rattle.uri_parts.specs.Printing
 pub use Rattle.uri_parts.specs.Refusals
 pub use Rattle.uri_parts.specs.Scanning
 pub use Rattle.uri_parts.specs.SchemePorts
@@ -48,5 +49,8 @@ pub use Rattle.uri_ops.specs.BuilderStates
 pub use Rattle.uri_ops.specs.Built
 pub mod Iris
 pub mod Parses
+pub mod PrintedReferences
 pub mod References
+pub mod Targets
 pub mod Uris
+pub mod Prelude

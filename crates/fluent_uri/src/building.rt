@@ -77,8 +77,6 @@ impl Reference<UriRefKind, String> {
 impl Reference<IriRefKind, String> {
     /// Returns an empty builder of an IRI reference, with `alloc` as its allocator.
     ///
-    /// # Examples
-    ///
     /// The path `é` alone makes `é`.
     pub fn builder(alloc: Global) -> Builder<Reference<IriRefKind, String>, Start>
         ensures { parts_in_state (contents_of result) ≡ no_parts }

@@ -321,13 +321,11 @@ impl<T: AsStr> IriRef<T> {
     ///
     /// As an IRI reference, the result is equivalent to this one, under any default ports.
     ///
+    /// `é?q` becomes `%C3%A9?q`.
+    ///
     /// # Errors
     ///
     /// Returns an error only if allocation fails.
-    ///
-    /// # Examples
-    ///
-    /// `é?q` becomes `%C3%A9?q`.
     pub fn to_uri_ref(&self, alloc: Global) -> Result<UriRef<String>, AllocError>
         ensures text { IfOk result (λ encoded.
             reference_text encoded ≡ encode_past_ascii (reference_text self.now)) }

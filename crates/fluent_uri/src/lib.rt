@@ -20,40 +20,58 @@ use uri_parts::kind::{IriKind, IriRefKind, UriKind, UriRefKind};
 
 /// A URI: a text that begins with a scheme (RFC 3986, section 3), held as a `&str` or a `String`.
 ///
-/// # Examples
-///
 /// `Uri::<&str>::parse("foo://example.com/over/there?name=ferret#nose")` has the scheme `foo`,
 /// the authority `example.com`, the path `/over/there`, the query `name=ferret` and the fragment
 /// `nose`. `Uri::<&str>::parse("foo")` returns an error with index 3, where a `:` is missing.
+///
+/// # Examples
+///
+/// ```
+/// Ok(Uri::<&str>::parse(text)?.normalize(alloc)?)
+/// ```
 pub type Uri<T> = Reference<UriKind, T>;
 
 /// A URI reference: a URI, or a relative reference (RFC 3986, section 4.1), held as a `&str` or a
 /// `String`.
 ///
-/// # Examples
-///
 /// `UriRef::<&str>::parse("foo://example.com/over/there?name=ferret#nose")` has the scheme `foo`,
 /// the authority `example.com`, the path `/over/there`, the query `name=ferret` and the fragment
 /// `nose`. `UriRef::<&str>::parse("../there")` has a path alone.
+///
+/// # Examples
+///
+/// ```
+/// let mut target = UriRef::<&str>::parse(link)?.resolve_against(alloc, base)?;
+/// target.set_fragment(None)?;
+/// Ok(target)
+/// ```
 pub type UriRef<T> = Reference<UriRefKind, T>;
 
 /// An IRI: a URI that may have characters past ASCII (RFC 3987, section 2.2), held as a `&str` or a
 /// `String`.
 ///
-/// # Examples
-///
 /// `Iri::<&str>::parse("http://résumé.example.org/?café")` has the scheme `http`, the authority
 /// `résumé.example.org`, the path `/` and the query `café`. `Iri::<&str>::parse("café")` returns an
 /// error with index 3, after `caf`, where a `:` is missing.
+///
+/// # Examples
+///
+/// ```
+/// value.to_uri(alloc)
+/// ```
 pub type Iri<T> = Reference<IriKind, T>;
 
 /// An IRI reference: an IRI, or a relative reference that may have characters past ASCII (RFC 3987,
 /// section 2.2), held as a `&str` or a `String`.
 ///
-/// # Examples
-///
 /// `IriRef::<&str>::parse("//résumé.example.org/?café")` has the authority `résumé.example.org`,
 /// the path `/` and the query `café`. `IriRef::<&str>::parse("café")` has a path alone.
+///
+/// # Examples
+///
+/// ```
+/// value.resolve_against(alloc, base)
+/// ```
 pub type IriRef<T> = Reference<IriRefKind, T>;
 
 /// Building references (RFC 3986, section 5.3).
@@ -75,10 +93,17 @@ pub mod component {
     pub type IHost<'a> = Host<'a, IRegName>;
 }
 
+/// The four kinds as types. A generic function over `Reference<K, T>` names the trait `Kind`.
+pub mod kind {
+    pub use uri_parts::kind::{IriKind, IriRefKind, Kind, UriKind, UriRefKind};
+}
+
 /// Laws of the definitions that contracts cite. A law is a function that does nothing, and its
 /// contract states the law. Code whose proof needs the law calls the function.
 pub mod laws {
-    pub use error_laws::what_is_before_an_error_begins_a_text;
+    pub use error_laws::{
+        what_is_before_a_late_error_begins_no_text, what_is_before_an_error_begins_a_text,
+    };
     pub use uri_ops::laws::iri_uri::{
         encoding_past_ascii_and_resolving_swap, encoding_past_ascii_keeps_meaning,
         texts_are_of_wider_kinds_too,

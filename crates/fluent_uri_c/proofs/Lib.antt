@@ -1,8 +1,12 @@
 mod AsciiBlocks
 mod Batches
 mod Bits
+mod Decoded
 mod HostNames
 mod LinesOf
+mod Mends
+mod OtherErrors
+mod ParsedBases
 mod PartColumns
 mod Places
 mod References

@@ -1,13 +1,13 @@
 -- The parts of bytes that are rejected.
 use Rattle.std.proofs.Common.{◌≡◌, ℕ, List, sym, ap, ◌∙◌, arith}
 use Rattle.std.specs.Prelude.{Some, IsSomeAnd}
-use Rattle.fluent_uri.specs.Grammar.{Kind, IsTextOf}
+use Rattle.fluent_uri.specs.Grammar.{Kind}
 use Rattle.fluent_uri_c.specs.declared.errors.Error.{Error}
 use Rattle.fluent_uri_c.specs.declared.errors.Error.TheVariants as Of
 use Rattle.fluent_uri_c.specs.declared.errors.Rejection.{Rejection}
 use Rattle.fluent_uri_c.specs.declared.parts.Parts.{Parts}
 use Rattle.fluent_uri_c.specs.Errors.{number_of}
-use Rattle.fluent_uri_c.specs.Results.{text_error}
+use Rattle.fluent_uri_c.specs.Results.{IsPossibleText, text_error}
 use Rattle.fluent_uri_c.specs.Spans.{ArePartsOf, rejected_parts}
 
 -- exports for C: no error has the number 0, which means success
@@ -31,7 +31,7 @@ rejected-parts-of-some o why parts e h = rw (← e) h
 
 -- exports for C: what is written of rejected bytes is the error and its index
 pub rejected_parts-are-parts : (kind : Kind) (bytes : List ℕ) (why : Rejection) (parts : Parts)
-    → Some why ≡ text_error kind bytes → (IsTextOf kind bytes → ⊥)
+    → Some why ≡ text_error kind bytes → (IsPossibleText kind bytes → ⊥)
     → parts ≡ rejected_parts why → ArePartsOf (Some kind) bytes parts
 rejected_parts-are-parts kind bytes why parts e outside is =
     let number : parts.error ≡ number_of why.error = ap (λ (p : Parts). p.error) is in

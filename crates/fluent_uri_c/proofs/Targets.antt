@@ -1,7 +1,8 @@
 -- What resolving returns is the result that is defined.
 use Rattle.std.proofs.Common.{◌≡◌, ◌⊎◌, ℕ, List, inl, inr, refl, sym, ap, ◌∙◌}
-use Rattle.std.specs.Prelude.{Result, Ok, Err, None}
+use Rattle.std.specs.Prelude.{Result, Ok, Err, None, IsOk}
 use Rattle.std.specs.Result.{result_map_both}
+use Rattle.std.proofs.lemmas.Bool.{false≢true}
 use Rattle.uri_parts.specs.Components.{components}
 use Rattle.uri_parts.specs.Grammar.{Kind}
 use Rattle.uri_parts.specs.SchemePorts.{default_port}
@@ -12,6 +13,7 @@ use Rattle.uri_ops.specs.Normalizers.{IsNormalForm}
 use Rattle.uri_ops.specs.Resolving.{IsErrorWithUnderflowAllowed}
 use Rattle.uri_ops.specs.Target as Target
 use Rattle.fluent_uri_c.specs.declared.errors.Error.TheVariants.{OutOfMemory}
+use Rattle.fluent_uri_c.specs.declared.errors.Rejection.{Rejection}
 use Rattle.fluent_uri_c.specs.Errors.{rejected, resolve_rejection}
 use Rattle.fluent_uri_c.specs.Results.{Returned, error_of_target, normal_form_of, text_error}
 use Rattle.fluent_uri_c.specs.Results.{normal_resolution, normal_result, resolution}
@@ -28,16 +30,27 @@ pub resolution-of-target : (base reference target : List ℕ)
 unfolding resolution returned_of
 resolution-of-target base reference target e = ap returned_of e
 
+-- exports for C: mapping a result keeps whether there is a value
+is_ok_mapped : {A B E F : Type 0} (f : A → B) (g : E → F) (r : Result A E) → IsOk r
+    → IsOk (result_map_both f g r)
+is_ok_mapped f g (Ok x) h = refl
+is_ok_mapped f g (Err e) h = absurd (false≢true h)
+
+-- exports for C: an error of a call whose result is defined is that memory is out, where there is a
+-- text, or the defined one
+abbrev IsErrorOf : Returned → Rejection → Type 0
+IsErrorOf returned why = ((why ≡ rejected OutOfMemory) × IsOk returned) ⊎ (returned ≡ Err why)
+
 -- exports for C: if resolving fails, memory is out or the error is the one that is defined
 pub resolution-of-error : (base reference : List ℕ) (error : ResolveError)
     → IsErrorWithUnderflowAllowed (components base) (components reference) error
-    → (resolve_rejection error ≡ rejected OutOfMemory)
-    ⊎ (resolution base reference ≡ Err (resolve_rejection error))
+    → IsErrorOf (resolution base reference) (resolve_rejection error)
 unfolding resolution returned_of
 resolution-of-error base reference Of.BaseWithFragment h = inr (ap returned_of h)
 resolution-of-error base reference Of.InvalidReferenceAgainstOpaqueBase h = inr (ap returned_of h)
 resolution-of-error base reference Of.PathUnderflow h = absurd h
-resolution-of-error base reference Of.OutOfMemory h = inl refl
+resolution-of-error base reference Of.OutOfMemory h =
+    inl (refl, is_ok_mapped (λ target. target) error_of_target _ h)
 
 -- exports for C: the result of resolving, normalised; or the rejection
 normal_of : Kind → Returned → Returned
@@ -57,34 +70,28 @@ normal_resolution-of-target kind of_reference base reference normal is =
 -- exports for C: an error of resolving is the one that the contract defines, or that memory is out
 pub normal_resolution-of-error : (kind : Kind) (base reference : List ℕ) (error : ResolveError)
     → IsErrorWithUnderflowAllowed (components base) (components reference) error
-    → (resolve_rejection error ≡ rejected OutOfMemory)
-    ⊎ (normal_resolution kind base reference ≡ Err (resolve_rejection error))
+    → IsErrorOf (normal_resolution kind base reference) (resolve_rejection error)
 unfolding normal_resolution normal_of
 normal_resolution-of-error kind base reference error h = elim
     (resolution-of-error base reference error h) [
-      | inl e ↦ inl e
+      | inl e ↦ inl (e.0, is_ok_mapped (normal_form_of kind) (λ why. why) _ e.1)
       | inr e ↦ inr (ap (normal_of kind) e)
     ]
 
 -- exports for C: if a returned rejection is that of an error,
 -- memory is out or the rejection is the one defined
-pub returned-rejection-is-of-error : (returned : Returned) (why : _) (error : ResolveError)
-    → why ≡ resolve_rejection error
-    → (resolve_rejection error ≡ rejected OutOfMemory)
-    ⊎ (returned ≡ Err (resolve_rejection error))
-    → (why ≡ rejected OutOfMemory) ⊎ (returned ≡ Err why)
-returned-rejection-is-of-error returned why error e h = elim h [
-  | inl m ↦ inl (e ∙ m)
-  | inr r ↦ inr (r ∙ ap Err (sym e))
-]
+pub returned-rejection-is-of-error : (returned : Returned) (why : Rejection) (error : ResolveError)
+    → why ≡ resolve_rejection error → IsErrorOf returned (resolve_rejection error)
+    → IsErrorOf returned why
+returned-rejection-is-of-error returned why error e h = rw e h
 
 -- exports for C: what normalising returns is the normal form that the contract defines
-pub normal_result-of-normal-form : (kind : Kind) (bytes text normal made : List ℕ) → None
+pub normal_result-of-normal-form : (kind : Kind) (bytes text normal : List ℕ) → None
     ≡ text_error kind bytes
-    → text ≡ bytes → IsNormalForm kind default_port text normal → made ≡ normal
-    → normal_result kind bytes ≡ Ok made
+    → text ≡ bytes → IsNormalForm kind default_port text normal
+    → normal_result kind bytes ≡ Ok normal
 unfolding normal_form_of
-normal_result-of-normal-form kind bytes text normal made none same is e =
+normal_result-of-normal-form kind bytes text normal none same is =
     ap (λ o. rejection_or_result o (Ok (normal_form_of kind bytes))) (sym none)
     ∙ ap (λ t. Ok (normal_form_of kind t)) (sym same)
-    ∙ ap Ok (sym (e ∙ is.text.text))
+    ∙ ap Ok (sym is.text.text)

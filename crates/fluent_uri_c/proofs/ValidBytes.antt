@@ -1,14 +1,16 @@
 -- Bytes that are UTF-8 have no error.
 use Rattle.std.proofs.Common.{◌≡◌, ℕ, List, length, sym, arith}
-use Rattle.std.specs.Prelude.{None}
+use Rattle.std.specs.Prelude.{None, IsTrue}
 use Rattle.std.specs.Str.{IsUtf8}
 use Rattle.std.specs.Str.Lossy.{utf8_valid_len}
 use Rattle.std.proofs.lemmas.Bool.{cond-false, le-ltb}
 use Rattle.std.proofs.lemmas.Str.{utf8_valid_len-IsUtf8}
-use Rattle.fluent_uri_c.specs.Results.{utf8_error}
+use Rattle.fluent_uri_c.specs.Results.{is_possible_length, utf8_error}
 
--- exports for C: UTF-8 has no index of ill-formed bytes
-pub utf8_error-of-utf8 : (bytes : List ℕ) → IsUtf8 bytes → None ≡ utf8_error bytes
-utf8_error-of-utf8 bytes utf8 =
+-- exports for C: UTF-8 of a possible length has no index of ill-formed bytes
+pub utf8_error-of-utf8 : (bytes : List ℕ) → IsUtf8 bytes → IsTrue (is_possible_length bytes)
+    → None ≡ utf8_error bytes
+utf8_error-of-utf8 bytes utf8 possible =
     let n = utf8_valid_len-IsUtf8 bytes utf8 in
-    sym (cond-false _ _ _ (le-ltb (utf8_valid_len bytes) (length bytes) (omega (arith, n))))
+    rw possible
+    (sym (cond-false _ _ _ (le-ltb (utf8_valid_len bytes) (length bytes) (omega (arith, n)))))

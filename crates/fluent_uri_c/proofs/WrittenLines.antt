@@ -1,22 +1,23 @@
 -- What is written of lines, and what a batch of them leaves.
-use Rattle.std.proofs.Common.{◌≡◌, ℕ, zero, suc, ◌+◌, ◌<◌, ◌≤◌, List, [], ◌∷◌, ◌++◌, length, take}
+use Rattle.std.proofs.Common.{◌≡◌, ◌≢◌, ℕ, zero, suc, ◌+◌, ◌<◌, ◌≤◌, List, [], ◌∷◌, ◌++◌, length, take}
 use Rattle.std.proofs.Common.{drop, refl, sym, ap, ◌∙◌, arith, append_assoc, length-append, true}
 use Rattle.std.proofs.Common.{false, Bool}
-use Rattle.std.specs.Prelude.{Some, None, IsSome, cond, slice_get, nat_lt}
+use Rattle.std.specs.Prelude.{Some, None, IsSome, IsTrue, cond, slice_get, nat_lt}
 use Rattle.std.specs.List.{position, position_or_len}
 use Rattle.std.specs.Result.{result_ok}
 use Rattle.std.proofs.Math.Seq.{drop-append_seam, take-append_seam}
-use Rattle.std.proofs.lemmas.Bool.{false≢true, ltb-false}
+use Rattle.std.proofs.lemmas.Bool.{and_from, false≢true, ltb-false}
 use Rattle.std.proofs.lemmas.List.{drop-drop, length-take-le}
 use Rattle.std.proofs.lemmas.Option.{none-some, same_Some}
 use Rattle.fluent_uri_c.specs.Columns.{bytes_of, joined_results}
 use Rattle.fluent_uri_c.specs.declared.outcome.Outcome.{Outcome}
 use Rattle.fluent_uri_c.specs.Endings.{EndsAt}
 use Rattle.fluent_uri_c.specs.Kinds.{kind_numbered}
-use Rattle.fluent_uri_c.specs.Lines.{LineBuffers}
-use Rattle.fluent_uri_c.specs.Lines.{LeavesLines, IsFullAt, is_newline, lines_of, newline}
+use Rattle.fluent_uri_c.specs.Outcomes.{outcome_of_batch}
+use Rattle.fluent_uri_c.specs.Lines.{HasConsumed, IsFullAt, LeavesLines, LineBuffers}
+use Rattle.fluent_uri_c.specs.Lines.{TakesMemoryAt, is_newline, lines_of, newline}
 use Rattle.fluent_uri_c.specs.Lines.{error_number_at, number_returned, written_at}
-use Rattle.fluent_uri_c.specs.Results.{normalize_result}
+use Rattle.fluent_uri_c.specs.Results.{is_possible_length, normalize_result}
 
 -- lines for C: a value that is there only if b is true is that value
 cond_some : (b : Bool) (n k : ℕ) → Some k ≡ cond b (Some n) None → k ≡ n
@@ -92,30 +93,52 @@ valid_kind (suc (suc zero)) h = refl
 valid_kind (suc (suc (suc zero))) h = refl
 valid_kind (suc (suc (suc (suc n)))) h = absurd (omega arith)
 
+-- lines for C: before a line that is there, the lines before it are done, up to where it begins
+pub consumed-before-line : (input : List ℕ) (done start : ℕ) → done < length (lines_of input)
+    → start ≤ length input → drop done (lines_of input) ≡ lines_of (drop start input)
+    → HasConsumed input done start
+consumed-before-line input done start more inside left = record {
+  all = λ e. absurd (omega (arith, e, more));
+  left = λ _. (inside, left);
+}
+
+-- lines for C: after the last line all of the input is done
+pub consumed-after-last-line : (input : List ℕ) (done end : ℕ) → length (lines_of input) ≡ done
+    → end ≡ length input → HasConsumed input done end
+consumed-after-last-line input done end last all = record {
+  all = λ _. all;
+  left = λ more. absurd (omega (arith, last, more));
+}
+
 -- lines for C: normalising a batch of lines leaves the buffers that its contract defines;
 -- done: how many were processed
 pub leaves_lines : (kind : ℕ) (input : List ℕ) (old new : LineBuffers) (outcome : Outcome)
-    (number done at returned : ℕ) → kind ≤ 3 → returned ≡ number
-    → outcome ≡ record { error = number; which = 0; index = done; length = at }
+    (number which needed done at consumed returned : ℕ) → kind ≤ 3
+    → IsTrue (is_possible_length input) → returned ≡ number
+    → outcome ≡ outcome_of_batch number which needed done at consumed
+    → (number ≢ 10 → (which ≡ 0) × (needed ≡ 0))
     → new.bytes ≡ joined_results (written_at kind input) done
     ++ drop (length (joined_results (written_at kind input) done)) old.bytes
     → at ≡ length (joined_results (written_at kind input) done)
     → ((i : ℕ) → i < done → slice_get new.errors i ≡ error_number_at kind input i)
     → drop done new.errors ≡ drop done old.errors
-    → EndsAt (length (lines_of input)) (slice_get (lines_of input)) true
-    (IsFullAt kind input old.bytes old.errors) done number
+    → EndsAt (length (lines_of input)) (slice_get (lines_of input)) (TakesMemoryAt kind input)
+    (IsFullAt kind input old.bytes old.errors which needed) done number
+    → HasConsumed input done consumed
     → LeavesLines kind input old new outcome returned
-leaves_lines kind input old new outcome number done at returned valid same is bytes total errors
-    others end =
+leaves_lines kind input old new outcome number which needed done at consumed returned valid possible
+    same is
+    full bytes total errors others end left =
     rw (same, is) (record {
       error = refl;
-      which = refl;
-      invalid = λ none. absurd (false≢true (sym none ∙ valid_kind kind valid));
+      full = full;
+      invalid = λ none. absurd (false≢true (sym none ∙ and_from _ _ (valid_kind kind valid) possible));
       done = λ _. record {
         bytes = bytes;
         total = total;
         errors = errors;
         other_errors = others;
         end = end;
+        consumed = left;
       };
     })

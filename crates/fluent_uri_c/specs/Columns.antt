@@ -1,14 +1,17 @@
 -- Columns of texts as data and offsets, and what a batch leaves of one.
-use Rattle.std.specs.Prelude.{◌≡◌, ◌⊎◌, ℕ, zero, suc, ◌+◌, ◌-◌, ◌*◌, ◌/◌, ◌%◌, ◌^◌, ◌<◌, ◌≤◌, Bool}
-use Rattle.std.specs.Prelude.{◌&&◌, List, [], ◌++◌, length, drop, nat_le, Option, Some, None}
-use Rattle.std.specs.Prelude.{IsSomeAnd}
+use Rattle.std.specs.Prelude.{◌≡◌, ◌≢◌, ℕ, zero, suc, ◌+◌, ◌-◌, ◌*◌, ◌/◌, ◌%◌, ◌^◌, ◌<◌, ◌≤◌, Bool}
+use Rattle.std.specs.Prelude.{◌&&◌, List, [], ◌++◌, length, drop, nat_le, nat_lt, Option, Some}
+use Rattle.std.specs.Prelude.{None, IsSomeAnd}
 use Rattle.std.specs.Prelude.{slice_get, slice_index, slice_range, option_and_then, is_some}
 use Rattle.std.specs.Prelude.{IsFalse, IsSome, IsTrue, unwrap_or, string_bytes, if◌then◌else◌}
 use Rattle.std.specs.Int.{bit_at}
+use Rattle.fluent_uri.specs.Cows.{cow_items}
 use Rattle.fluent_uri_c.specs.declared.batch.CallResult.{CallResult}
-use Rattle.fluent_uri_c.specs.declared.batch.CallResult.TheVariants.{Part, Text}
+use Rattle.fluent_uri_c.specs.declared.batch.CallResult.TheVariants.{Bytes, Part, Text}
 use Rattle.fluent_uri_c.specs.declared.outcome.Outcome.{Outcome}
 use Rattle.fluent_uri_c.specs.Endings.{EndsAt}
+use Rattle.fluent_uri_c.specs.Full.{IsFull, ends_buffer, valid_buffer}
+use Rattle.fluent_uri_c.specs.Results.{is_possible_length}
 use Rattle.fluent_uri_c.specs.SingleCalls.{SingleCall}
 
 -- the text between two offsets into a column's data, if they do not fall and are within the data
@@ -42,13 +45,13 @@ column_of value limit texts offsets = record {
   offsets = offsets;
 }
 
--- the column of texts with these bytes and offsets of 32 bits
+-- the column of texts with these bytes and offsets of 32 bits, of which Arrow's have a sign
 abbrev pub column32 : List ℕ → List ℕ → TextColumn ℕ
-column32 texts offsets = column_of (λ offset. offset) (2 ^ 32) texts offsets
+column32 texts offsets = column_of (λ offset. offset) (2 ^ 31) texts offsets
 
--- the column of texts with these bytes and offsets of 64 bits
+-- the column of texts with these bytes and offsets of 64 bits, of which Arrow's have a sign
 abbrev pub column64 : List ℕ → List ℕ → TextColumn ℕ
-column64 texts offsets = column_of (λ offset. offset) (2 ^ 64) texts offsets
+column64 texts offsets = column_of (λ offset. offset) (2 ^ 63) texts offsets
 
 -- how many texts a column has: one fewer than offsets
 abbrev pub count_of : {O : Type 0} → TextColumn O → ℕ
@@ -104,18 +107,9 @@ pub record IsColumn {O : Type 0} (value : O → ℕ) (at : ℕ → Option (List 
   pub other_ends : drop (done + 1) new.ends ≡ drop (done + 1) old.ends
   pub other_bits : (i : ℕ) → done ≤ i → bit_of new.valid i ≡ bit_of old.valid i
 
--- the ends of `count` results of a batch, one more than these, and a bit for each fit into their
--- buffers
-pub record EndsAndBitsFit {O : Type 0} (count : ℕ) (ends : List O) (valid : List ℕ) : Type 0 where
-  pub offsets : count < length ends
-  pub bits : count ≤ 8 * length valid
-
--- the next result of a batch, after `done` others, does not fit: not the buffer, or its end not an
--- offset, which is below the limit
-abbrev pub IsFull : ℕ → (ℕ → Option (List ℕ)) → ℕ → List ℕ → Type 0
-IsFull limit at done buffer =
-    (length buffer < length (joined_results at (suc done)))
-    ⊎ (limit ≤ length (joined_results at (suc done)))
+-- the call of a batch takes memory for the text at an index
+abbrev pub TakesMemoryAt : {O : Type 0} → SingleCall → TextColumn O → ℕ → Type 0
+TakesMemoryAt call column i = IsSomeAnd (text_in column i) (λ text. IsTrue (call.takes_memory text))
 
 -- What a batch writes and reports if its numbers are valid and there is room: the results of the
 -- texts that are done.
@@ -126,29 +120,54 @@ pub record HasDoneTexts {O : Type 0} (call : SingleCall) (column : TextColumn O)
     (outcome : Outcome) (number : ℕ) : Type 0 where
   pub results : IsColumn column.value (result_in call.result column) outcome.index old new
   pub total : outcome.length ≡ length (joined_results (result_in call.result column) outcome.index)
+  pub below : outcome.length < column.limit
   pub within : (i : ℕ) → i < outcome.index → IsSome (text_in column i)
-  pub end : EndsAt (count_of column) (text_in column) call.takes_memory
-      (λ done. IsFull column.limit (result_in call.result column) done old.bytes)
-      outcome.index number
+  pub end : EndsAt (count_of column) (text_in column) (TakesMemoryAt call column)
+      (λ done. IsFull column.limit (length old.bytes)
+      (length (joined_results (result_in call.result column) (suc done)))
+      outcome.which outcome.needed) outcome.index number
+
+-- whether the arguments of a batch are valid: its numbers, and its column, which has an offset, and
+-- no more than `PTRDIFF_MAX` bytes
+abbrev pub are_arguments_valid : {O : Type 0} → Bool → TextColumn O → Bool
+are_arguments_valid numbers column =
+    numbers && (nat_lt 0 (length column.offsets) && is_possible_length column.texts)
 
 -- a batch does nothing: it returns the number `wanted`, and no buffer has changed
 abbrev pub DoesNothing : {O : Type 0} → ℕ → Buffers O → Buffers O → Outcome → ℕ → Type 0
 DoesNothing wanted old new outcome number =
     (number ≡ wanted) × (outcome.index ≡ 0) × (outcome.length ≡ 0) × (new ≡ old)
 
+-- a batch does nothing because of a buffer that is full: it says which, and how long it must be
+abbrev pub LacksRoom : {O : Type 0} → ℕ → ℕ → Buffers O → Buffers O → Outcome → ℕ → Type 0
+LacksRoom which needed old new outcome number =
+    DoesNothing 10 old new outcome number × (outcome.which ≡ which) × (outcome.needed ≡ needed)
+
+-- an outcome says which buffer is full only if one is
+abbrev pub SaysFullIfFull : Outcome → ℕ → Type 0
+SaysFullIfFull outcome number = number ≢ 10 → (outcome.which ≡ 0) × (outcome.needed ≡ 0)
+
 -- what a batch that makes a call for each text of a column writes to its buffers, reports in its
 -- outcome and returns as a number
 pub record LeavesColumn {O : Type 0} (call : SingleCall) (column : TextColumn O)
     (old new : Buffers O) (outcome : Outcome) (number : ℕ) : Type 0 where
   pub error : outcome.error ≡ number
-  pub which : outcome.which ≡ 0
-  pub invalid : IsFalse call.is_valid → DoesNothing 9 old new outcome number
-  pub no_room : IsTrue call.is_valid → ¬ (EndsAndBitsFit (count_of column) old.ends old.valid)
-      → DoesNothing 10 old new outcome number
-  pub done : IsTrue call.is_valid → EndsAndBitsFit (count_of column) old.ends old.valid
-      → HasDoneTexts call column old new outcome number
+  pub consumed : outcome.consumed ≡ 0
+  pub full : SaysFullIfFull outcome number
+  pub invalid : IsFalse (are_arguments_valid call.is_valid column) → DoesNothing 9 old new outcome number
+  -- the ends are one more than the results
+  pub no_ends : IsTrue (are_arguments_valid call.is_valid column) → length old.ends ≤ count_of column
+      → LacksRoom ends_buffer (count_of column + 1) old new outcome number
+  -- each byte has eight bits
+  pub no_bits : IsTrue (are_arguments_valid call.is_valid column) → count_of column < length old.ends
+      → 8 * length old.valid < count_of column
+      → LacksRoom valid_buffer ((count_of column + 7) / 8) old new outcome number
+  pub done : IsTrue (are_arguments_valid call.is_valid column) → count_of column < length old.ends
+      → count_of column ≤ 8 * length old.valid → HasDoneTexts call column old new outcome number
 
--- the bytes of the result of a batch's call on a text: a part of it, or a text of its own
+-- the bytes of the result of a batch's call on a text: a part of it, or a text of its own, or bytes
+-- that are one of these
 abbrev pub call_result_bytes : CallResult → List ℕ
 call_result_bytes (Part bytes) = bytes.now
 call_result_bytes (Text text) = string_bytes text
+call_result_bytes (Bytes bytes) = cow_items bytes

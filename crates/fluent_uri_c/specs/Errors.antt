@@ -7,6 +7,8 @@ use Rattle.uri_parts.specs.declared.error.ParseErrorKind.TheVariants.{Unexpected
 use Rattle.uri_parts.specs.declared.error.ParseErrorKind.TheVariants.{InvalidIpv6Addr}
 use Rattle.uri_ops.specs.declared.resolve.error.ResolveError.{ResolveError}
 use Rattle.uri_ops.specs.declared.resolve.error.ResolveError.TheVariants as Resolve
+use Rattle.uri_mend.specs.declared.error.MendError.{MendError}
+use Rattle.uri_mend.specs.declared.error.MendError.TheVariants as Mend
 use Rattle.fluent_uri_c.specs.declared.errors.Error.{Error}
 use Rattle.fluent_uri_c.specs.declared.errors.Error.TheVariants as Of
 use Rattle.fluent_uri_c.specs.declared.errors.Rejection.{Rejection}
@@ -57,3 +59,8 @@ error_of_resolving Resolve.OutOfMemory = Of.OutOfMemory
 -- the rejection of a call for an error of resolving
 abbrev pub resolve_rejection : ResolveError → Rejection
 resolve_rejection e = rejected (error_of_resolving e)
+
+-- the rejection of a call for an error of mending
+abbrev pub mend_rejection : MendError → Rejection
+mend_rejection (Mend.Unmendable e) = parse_rejection e
+mend_rejection Mend.OutOfMemory = rejected Of.OutOfMemory

@@ -1,9 +1,14 @@
+pub mod Bases
 pub mod Columns
 pub mod Components
 pub mod Endings
 pub mod Errors
+pub mod Full
 pub mod Kinds
 pub mod Lines
+pub mod Mends
+pub mod Names
+pub mod Options
 pub mod Outcomes
 pub mod PartColumns
 pub mod Relatives
@@ -11,3 +16,4 @@ pub mod Results
 pub mod Sets
 pub mod SingleCalls
 pub mod Spans
+pub mod Values

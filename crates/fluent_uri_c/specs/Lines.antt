@@ -1,14 +1,17 @@
 -- What the batch over lines leaves: std's `slice_split` says what the lines are.
-use Rattle.std.specs.Prelude.{◌≡◌, ◌⊎◌, ℕ, suc, ◌<◌, ◌≤◌, List, [], ◌∷◌, ◌++◌, length, drop, ◌==◌}
-use Rattle.std.specs.Prelude.{Bool, true, Option, Ok, Err, option_map, slice_get, IsNone, IsSome}
+use Rattle.std.specs.Prelude.{◌≡◌, ◌⊎◌, ℕ, suc, ◌+◌, ◌<◌, ◌≤◌, List, [], ◌∷◌, ◌++◌, length, drop}
+use Rattle.std.specs.Prelude.{◌==◌}
+use Rattle.std.specs.Prelude.{Bool, ◌&&◌, Option, Ok, Err, option_map, slice_get, is_some, IsOk}
+use Rattle.std.specs.Prelude.{IsFalse, IsSomeAnd, IsTrue}
 use Rattle.std.specs.List.{slice_split}
 use Rattle.std.specs.Result.{result_ok}
-use Rattle.fluent_uri_c.specs.Columns.{bytes_of, joined_results}
+use Rattle.fluent_uri_c.specs.Columns.{SaysFullIfFull, bytes_of, joined_results}
 use Rattle.fluent_uri_c.specs.declared.outcome.Outcome.{Outcome}
 use Rattle.fluent_uri_c.specs.Endings.{EndsAt}
 use Rattle.fluent_uri_c.specs.Errors.{number_of}
+use Rattle.fluent_uri_c.specs.Full.{as_size, errors_buffer, out_buffer}
 use Rattle.fluent_uri_c.specs.Kinds.{kind_numbered}
-use Rattle.fluent_uri_c.specs.Results.{Returned, normalize_result}
+use Rattle.fluent_uri_c.specs.Results.{Returned, is_possible_length, normalize_result}
 
 -- the byte that separates the lines of a batch over lines
 abbrev pub newline : ℕ
@@ -45,12 +48,27 @@ error_number_at kind input i =
     option_map (λ text. number_returned (normalize_result kind text))
     (slice_get (lines_of input) i)
 
--- a batch over lines has no room for the line after `done` others: it does not fit the buffer, or
--- the number of its error the errors
-abbrev pub IsFullAt : ℕ → List ℕ → List ℕ → List ℕ → ℕ → Type 0
-IsFullAt kind input buffer errors done =
-    (length buffer < length (joined_results (written_at kind input) (suc done)))
-    ⊎ (length errors ≤ done)
+-- a batch over lines takes memory for the line at an index, which has a normal form; the first
+-- number is that of the kind
+abbrev pub TakesMemoryAt : ℕ → List ℕ → ℕ → Type 0
+TakesMemoryAt kind input i =
+    IsSomeAnd (slice_get (lines_of input) i) (λ text. IsOk (normalize_result kind text))
+
+-- A batch over lines has no room for the line after `done` others: it does not fit the buffer, or
+-- the number of its error the errors.
+-- The last two numbers say which is full, and how long it must be.
+abbrev pub IsFullAt : ℕ → List ℕ → List ℕ → List ℕ → ℕ → ℕ → ℕ → Type 0
+IsFullAt kind input buffer errors which needed done =
+    let end = length (joined_results (written_at kind input) (suc done)) in
+    ((which ≡ out_buffer) × (length buffer < end) × (needed ≡ as_size end))
+    ⊎ ((which ≡ errors_buffer) × (length errors ≤ done) × (needed ≡ as_size (done + 1)))
+
+-- a batch over lines has done the first `done` lines, which take `consumed` bytes of the input with
+-- the newlines after them: the lines that are left are those of what is after these, if there are any
+pub record HasConsumed (input : List ℕ) (done consumed : ℕ) : Type 0 where
+  pub all : done ≡ length (lines_of input) → consumed ≡ length input
+  pub left : done < length (lines_of input)
+      → (consumed ≤ length input) × (drop done (lines_of input) ≡ lines_of (drop consumed input))
 
 -- the buffers that a batch over lines writes: the lines, and the numbers of their errors
 pub record LineBuffers : Type 0 where
@@ -71,16 +89,19 @@ pub record HasWritten (kind : ℕ) (input : List ℕ) (old new : LineBuffers) (o
   pub total : outcome.length ≡ length (joined_results (written_at kind input) outcome.index)
   pub errors : (i : ℕ) → i < outcome.index → slice_get new.errors i ≡ error_number_at kind input i
   pub other_errors : drop outcome.index new.errors ≡ drop outcome.index old.errors
-  pub end : EndsAt (length (lines_of input)) (slice_get (lines_of input)) true
-      (IsFullAt kind input old.bytes old.errors) outcome.index number
+  pub end : EndsAt (length (lines_of input)) (slice_get (lines_of input))
+      (TakesMemoryAt kind input)
+      (IsFullAt kind input old.bytes old.errors outcome.which outcome.needed)
+      outcome.index number
+  pub consumed : HasConsumed input outcome.index outcome.consumed
 
 -- What the batch that normalises lines writes to its buffers, reports in its outcome and returns as
 -- a number.
--- If there is no such kind, it does nothing.
+-- If there is no such kind, or the input is too long, it does nothing.
 pub record LeavesLines (kind : ℕ) (input : List ℕ) (old new : LineBuffers) (outcome : Outcome)
     (number : ℕ) : Type 0 where
   pub error : outcome.error ≡ number
-  pub which : outcome.which ≡ 0
-  pub invalid : IsNone (kind_numbered kind) → (number ≡ 9) × (outcome.index ≡ 0)
-      × (outcome.length ≡ 0) × (new ≡ old)
-  pub done : IsSome (kind_numbered kind) → HasWritten kind input old new outcome number
+  pub full : SaysFullIfFull outcome number
+  pub invalid : IsFalse (is_some (kind_numbered kind) && is_possible_length input) → (number ≡ 9) × (outcome.index ≡ 0)
+      × (outcome.length ≡ 0) × (outcome.consumed ≡ 0) × (new ≡ old)
+  pub done : IsTrue (is_some (kind_numbered kind) && is_possible_length input) → HasWritten kind input old new outcome number

@@ -1,12 +1,13 @@
 -- The result of each call for its arguments: a text, or why there is none.
-use Rattle.std.specs.Prelude.{◌≡◌, ◌⊎◌, ℕ, List, length, nat_lt, Option, Some, None, Result, Ok}
-use Rattle.std.specs.Prelude.{Err, string_bytes, option_map, if◌then◌else◌}
-use Rattle.std.specs.Result.{result_map_both}
+use Rattle.std.specs.Prelude.{◌≡◌, ◌⊎◌, ℕ, ◌^◌, Bool, false, ◌==◌, List, length, nat_lt, Option}
+use Rattle.std.specs.Prelude.{Some, None}
+use Rattle.std.specs.Prelude.{Result, Ok, Err, IsTrue, option_map, if◌then◌else◌}
+use Rattle.std.specs.Str.{IsUtf8}
+use Rattle.std.specs.Result.{is_ok, result_map_both}
 use Rattle.std.specs.Str.Lossy.{utf8_valid_len}
-use Rattle.std.specs.declared.string.String.{String}
 use Rattle.fluent_uri.specs.Encoded.{encode_past_ascii}
 use Rattle.fluent_uri.specs.Encoding.{encode_bytes}
-use Rattle.fluent_uri.specs.Grammar.{Kind}
+use Rattle.fluent_uri.specs.Grammar.{Kind, IsTextOf}
 use Rattle.fluent_uri.specs.Meaning.{meaning_of}
 use Rattle.fluent_uri.specs.Normal.{normal_text}
 use Rattle.fluent_uri.specs.NormalTargets.{reference_kind}
@@ -14,10 +15,14 @@ use Rattle.fluent_uri.specs.Refusals.{refusal}
 use Rattle.fluent_uri.specs.SchemePorts.{default_port}
 use Rattle.fluent_uri.specs.Sets.{TableSet}
 use Rattle.fluent_uri.specs.Target as Target
-use Rattle.fluent_uri.specs.Tokens.{is_valid_for, print, bytes_decoded_from, tokens}
+use Rattle.fluent_uri.specs.Tokens.{print, bytes_decoded_from, tokens}
+use Rattle.uri_parts.specs.Errors.{unexpected}
+use Rattle.uri_parts.specs.Refusals.{OptionalParseError, ◌>>=◌}
+use Rattle.uri_parts.specs.Scanning.{is_at_end, scan}
 use Rattle.fluent_uri_c.specs.declared.errors.Error.TheVariants as Of
 use Rattle.fluent_uri_c.specs.declared.errors.Rejection.{Rejection}
-use Rattle.fluent_uri_c.specs.Errors.{rejected, rejected_at, in_reference, parse_rejection}
+use Rattle.fluent_uri_c.specs.Errors.{in_reference, number_of, parse_rejection, rejected}
+use Rattle.fluent_uri_c.specs.Errors.{rejected_at}
 use Rattle.fluent_uri_c.specs.Kinds.{kind_numbered, base_numbered, iri_numbered}
 use Rattle.fluent_uri_c.specs.Sets.{encoding_set, decoding_set}
 
@@ -25,6 +30,11 @@ use Rattle.fluent_uri_c.specs.Sets.{encoding_set, decoding_set}
 -- none
 abbrev pub Returned : Type 0
 Returned = Result (List ℕ) Rejection
+
+-- whether what a call returns is that memory is out, which no call is defined to return
+abbrev pub is_out_of_memory : Returned → Bool
+is_out_of_memory (Ok text) = false
+is_out_of_memory (Err why) = number_of why.error == 8
 
 -- the rejection of a call's texts, if there is one, and otherwise the result of the call
 abbrev pub rejection_or_result : Option Rejection → Returned → Returned
@@ -42,19 +52,35 @@ abbrev pub with_valid_number : {A : Type 0} → Option A → (A → Returned) �
 with_valid_number None result = Err (rejected Of.InvalidArgument)
 with_valid_number (Some it) result = result it
 
--- why a call for C rejects bytes as a text, if they are not UTF-8: the index is after the longest
--- prefix that is
-abbrev pub utf8_error : List ℕ → Option Rejection
-utf8_error bytes =
-    if nat_lt (utf8_valid_len bytes) (length bytes)
-    then Some (rejected_at Of.NotUtf8 (utf8_valid_len bytes)) else None
+-- whether bytes are no more than `PTRDIFF_MAX`, so that an object in memory can have them
+abbrev pub is_possible_length : List ℕ → Bool
+is_possible_length bytes = nat_lt (length bytes) (2 ^ 63)
 
--- why a call for C rejects bytes as a text of the kind, if it does: they are not UTF-8, or have a
+-- why a call for C rejects bytes, if they are more than `PTRDIFF_MAX`
+abbrev pub length_error : List ℕ → Option Rejection
+length_error bytes =
+    if is_possible_length bytes then None else Some (rejected Of.InvalidArgument)
+
+-- why a call for C rejects bytes as a text, if it does: they are too many, or not UTF-8; the index
+-- is after the longest prefix that is
+abbrev pub utf8_error : List ℕ → Option Rejection
+utf8_error bytes = first_rejection (length_error bytes) (if nat_lt (utf8_valid_len bytes)
+    (length bytes)
+    then Some (rejected_at Of.NotUtf8 (utf8_valid_len bytes)) else None)
+
+-- why a call for C rejects bytes as a text of the kind, if it does: they are not a text, or have a
 -- parse error
 abbrev pub text_error : Kind → List ℕ → Option Rejection
 text_error kind bytes =
-    if nat_lt (utf8_valid_len bytes) (length bytes) then utf8_error bytes
-    else option_map parse_rejection (refusal kind bytes)
+    first_rejection (utf8_error bytes) (option_map parse_rejection (refusal kind bytes))
+
+-- bytes that a call for C accepts as a text: UTF-8, and no more than `PTRDIFF_MAX`
+abbrev pub IsPossibleUtf8 : List ℕ → Type 0
+IsPossibleUtf8 bytes = IsUtf8 bytes × IsTrue (is_possible_length bytes)
+
+-- bytes that a call for C accepts as a text of the kind, and no more than `PTRDIFF_MAX`
+abbrev pub IsPossibleText : Kind → List ℕ → Type 0
+IsPossibleText kind bytes = IsTextOf kind bytes × IsTrue (is_possible_length bytes)
 
 -- the normal form of a text of the kind, under the default ports of schemes (section 6.2.2)
 unfoldable pub normal_form_of : Kind → List ℕ → List ℕ
@@ -87,33 +113,47 @@ unfoldable pub normal_resolution : Kind → List ℕ → List ℕ → Returned
 normal_resolution kind base reference =
     result_map_both (normal_form_of kind) (λ why. why) (resolution base reference)
 
--- why a call for C rejects a base of the kind and a reference, in this order, as texts of their
--- kinds, if it does: the base comes first
-abbrev pub base_or_reference_error : Kind → List ℕ → List ℕ → Option Rejection
-base_or_reference_error kind base reference =
-    first_rejection (text_error kind base)
-    (option_map in_reference (text_error (reference_kind kind) reference))
+-- why a call for C rejects its second text as one of the kind, if it does
+abbrev pub second_text_error : Kind → List ℕ → Option Rejection
+second_text_error kind bytes = option_map in_reference (text_error kind bytes)
 
--- the result of a call for C that resolves a reference against a base of the kind; the base comes
--- first
-abbrev pub target_result : Kind → List ℕ → List ℕ → Returned
-target_result kind base reference =
-    rejection_or_result (base_or_reference_error kind base reference) (resolution base reference)
+-- the result of a call for C that resolves a reference against a text of the kind, the base, which
+-- comes first
+abbrev pub target_from : Kind → List ℕ → List ℕ → Returned
+target_from kind base reference =
+    rejection_or_result (second_text_error (reference_kind kind) reference)
+    (resolution base reference)
 
--- the result of a call for C that resolves a reference against a base of the kind, normalised; the
--- base comes first
-abbrev pub normal_target_result : Kind → List ℕ → List ℕ → Returned
-normal_target_result kind base reference =
-    rejection_or_result (base_or_reference_error kind base reference)
+-- the result of a call for C that resolves a reference against a text of the kind, the base, and
+-- normalises the target; the base comes first
+abbrev pub normal_target_from : Kind → List ℕ → List ℕ → Returned
+normal_target_from kind base reference =
+    rejection_or_result (second_text_error (reference_kind kind) reference)
     (normal_resolution kind base reference)
 
--- the result of a call for C that decodes a component that is valid for the set (section 2.1), or
--- why it is rejected
+-- the parse error of a component that has characters of the set alone, if it has one: it is scanned
+-- from left to right, and what is left over is unexpected
+abbrev pub component_refusal : TableSet → List ℕ → OptionalParseError
+component_refusal set text =
+    scan text set 0 >>= λ end. if is_at_end text end then None else Some (unexpected end)
+
+-- why a call for C rejects bytes as a component that has characters of the set alone, if it does:
+-- they are not a text, or have a parse error
+abbrev pub component_error : TableSet → List ℕ → Option Rejection
+component_error set bytes =
+    first_rejection (utf8_error bytes)
+    (option_map parse_rejection (component_refusal set bytes))
+
+-- the result of a call for C that decodes a component that has characters of the set alone (section
+-- 2.1), or why it is rejected
 abbrev pub decoded_result : TableSet → List ℕ → Returned
 decoded_result set text =
-    rejection_or_result (utf8_error text)
-    (if is_valid_for set text then Ok (bytes_decoded_from (tokens text))
-    else Err (rejected Of.UnexpectedChar))
+    rejection_or_result (component_error set text) (Ok (bytes_decoded_from (tokens text)))
+
+-- the result of a call for C that encodes bytes by the set (section 2.1), or why they are rejected
+abbrev pub encoded_as_result : TableSet → List ℕ → Returned
+encoded_as_result set bytes =
+    rejection_or_result (length_error bytes) (Ok (print (encode_bytes set bytes)))
 
 -- the result of `fluent_uri_normalize` for a text of the kind with a number of the C header
 abbrev pub normalize_result : ℕ → List ℕ → Returned
@@ -123,17 +163,23 @@ normalize_result n text = with_valid_number (kind_numbered n) λ kind. normal_re
 abbrev pub to_uri_result : ℕ → List ℕ → Returned
 to_uri_result n text = with_valid_number (iri_numbered n) λ kind. encoded_result kind text
 
+-- the result of a call for C whose first text is a base, of the kind with a number of the C header:
+-- the function has it for the kind, and the base is rejected if it is not of that
+abbrev pub with_base : ℕ → List ℕ → (Kind → Returned) → Returned
+with_base n base result =
+    with_valid_number (base_numbered n) λ kind. rejection_or_result (text_error kind base)
+    (result kind)
+
 -- the result of `fluent_uri_resolve` for a base and a reference, in this order, where the kind of
 -- the base has a number of the C header
 abbrev pub resolve_result : ℕ → List ℕ → List ℕ → Returned
-resolve_result n base reference = with_valid_number (base_numbered n) λ kind. target_result kind
-    base reference
+resolve_result n base reference = with_base n base λ kind. target_from kind base reference
 
 -- the result of `fluent_uri_resolve_normalized` for a base and a reference, in this order, where
 -- the kind of the base has a number of the C header
 abbrev pub resolve_normalized_result : ℕ → List ℕ → List ℕ → Returned
 resolve_normalized_result n base reference =
-    with_valid_number (base_numbered n) λ kind. normal_target_result kind base reference
+    with_base n base λ kind. normal_target_from kind base reference
 
 -- the result of `fluent_uri_decode` for a component with a number of the C header
 abbrev pub decode_result : ℕ → List ℕ → Returned
@@ -141,16 +187,18 @@ decode_result n text = with_valid_number (decoding_set n) λ set. decoded_result
 
 -- the result of `fluent_uri_encode` for bytes and the component with a number of the C header
 abbrev pub encode_result : ℕ → List ℕ → Returned
-encode_result n bytes = with_valid_number (encoding_set n) λ set. Ok
-    (print (encode_bytes set bytes))
+encode_result n bytes = with_valid_number (encoding_set n) λ set. encoded_as_result set bytes
 
--- a call for C returns its defined result, or that an allocation failed; the function has the bytes
--- of what it returns
+-- a call for C returns its defined result, or, where the Bool says that it takes memory, perhaps
+-- that an allocation failed; the function has the bytes of what it returns
+abbrev pub IsReturnedOrDenied : {T : Type 0} → Bool → (T → List ℕ) → Returned
+    → Result T Rejection → Type 0
+IsReturnedOrDenied takes_memory bytes returned (Ok made) = returned ≡ Ok (bytes made)
+IsReturnedOrDenied takes_memory bytes returned (Err why) =
+    ((why ≡ rejected Of.OutOfMemory) × IsTrue takes_memory) ⊎ (returned ≡ Err why)
+
+-- a call for C that takes memory for the texts that it returns, and for nothing else, returns its
+-- defined result, or perhaps that an allocation failed; the function has the bytes of what it
+-- returns
 abbrev pub IsReturnedAs : {T : Type 0} → (T → List ℕ) → Returned → Result T Rejection → Type 0
-IsReturnedAs bytes returned (Ok made) = returned ≡ Ok (bytes made)
-IsReturnedAs bytes returned (Err why) =
-    (why ≡ rejected Of.OutOfMemory) ⊎ (returned ≡ Err why)
-
--- a call for C that returns a `String` returns its defined result, or that an allocation failed
-abbrev pub IsReturned : {Z : _} → Returned → Result (String Z) Rejection → Type 0
-IsReturned returned result = IsReturnedAs string_bytes returned result
+IsReturnedAs bytes returned made = IsReturnedOrDenied (is_ok returned) bytes returned made

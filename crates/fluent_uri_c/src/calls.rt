@@ -1,28 +1,37 @@
 //! The batches: a call for each text of a column.
-ghost use Rattle.std.specs.Prelude.{◌≡◌, IfOk, option_map};
+ghost use Rattle.std.specs.Prelude.{◌≡◌, Bool, false, IfErr, IfOk, IsTrue, option_map};
 ghost use Rattle.std.specs.Result.{result_ok};
+ghost use Rattle.fluent_uri.specs.References.{reference_text};
 ghost use Rattle.fluent_uri_c.specs.Columns.{LeavesColumn, buffers, column32, column64};
 ghost use Rattle.fluent_uri_c.specs.Columns.{call_result_bytes};
-ghost use Rattle.fluent_uri_c.specs.Results.{IsReturned, Returned};
+ghost use Rattle.fluent_uri_c.specs.Results.{IsReturnedOrDenied, Returned, is_out_of_memory};
 ghost use Rattle.fluent_uri_c.specs.SingleCalls.{converting, normalizing, resolving};
 ghost use Rattle.fluent_uri_c.specs.SingleCalls.{resolving_normalized};
 
+use crate::bases::Base;
 use crate::batch::{Call, CallResult, column};
 use crate::errors::{Error, Rejection};
 use crate::numbered;
 use crate::outcome::Outcome;
+use crate::texts::is_possible_length;
+use fluent_uri::IriRef;
 use std::alloc::{AllocError, Global};
 
 /// Returns the result of a call as one of a batch: none for a rejection, and an error only if an
 /// allocation failed.
-fn batch_result<'a>(
-    returned: Result<String, Rejection>,
+pub fn batch_result<'a>(
+    returned: Result<IriRef<String>, Rejection>,
 ) -> Result<Option<CallResult<'a>>, AllocError>
-    ensures { (defined : Returned) → IsReturned defined returned → IfOk result (λ batch_result.
-        option_map call_result_bytes batch_result ≡ result_ok defined) }
+    ensures made { (takes_memory : Bool) → (defined : Returned)
+        → IsReturnedOrDenied takes_memory reference_text defined returned
+        → IfOk result (λ made. option_map call_result_bytes made ≡ result_ok defined) }
+    ensures memory { (takes_memory : Bool) → (defined : Returned)
+        → is_out_of_memory defined ≡ false
+        → IsReturnedOrDenied takes_memory reference_text defined returned
+        → IfErr result (λ _. IsTrue takes_memory) }
 {
     match returned {
-        Ok(text) => Ok(Some(CallResult::Text(text))),
+        Ok(value) => Ok(Some(CallResult::Text(value.into_string()))),
         Err(why) => match why.error {
             Error::OutOfMemory => Err(AllocError),
             _ => Ok(None),
@@ -33,6 +42,7 @@ fn batch_result<'a>(
 /// Normalises texts of a kind.
 #[derive(Clone, Copy)]
 struct Normalize {
+    alloc: Global,
     kind: u32,
 }
 
@@ -45,18 +55,15 @@ impl Call for Normalize {
     }
 
     /// Returns the normal form of a text, if it is of the kind.
-    fn call<'a>(
-        &self,
-        alloc: Global,
-        text: &'a [u8],
-    ) -> Result<Option<CallResult<'a>>, AllocError> {
-        batch_result(numbered::normalize_text(alloc, self.kind, text))
+    fn call<'a>(&self, text: &'a [u8]) -> Result<Option<CallResult<'a>>, AllocError> {
+        batch_result(numbered::normal_form(self.alloc, self.kind, text))
     }
 }
 
 /// Converts texts of a kind of IRIs.
 #[derive(Clone, Copy)]
 struct ToUri {
+    alloc: Global,
     kind: u32,
 }
 
@@ -69,62 +76,62 @@ impl Call for ToUri {
     }
 
     /// Returns an IRI, or an IRI reference, as a URI or a URI reference, if the text is one.
-    fn call<'a>(
-        &self,
-        alloc: Global,
-        text: &'a [u8],
-    ) -> Result<Option<CallResult<'a>>, AllocError> {
-        batch_result(numbered::uri_text(alloc, self.kind, text))
+    fn call<'a>(&self, text: &'a [u8]) -> Result<Option<CallResult<'a>>, AllocError> {
+        batch_result(numbered::as_uri(self.alloc, self.kind, text))
     }
 }
 
-/// Resolves references against a base of a kind.
+/// Resolves references against a base of a kind: its bytes, and what these are parsed to.
 #[derive(Clone, Copy)]
 struct Resolve<'a> {
+    alloc: Global,
     kind: u32,
-    base: &'a [u8],
+    bytes: &'a [u8],
+    base: Base<'a>,
 }
 
 impl<'b> Call for Resolve<'b> {
-    ghost definition = { λ call. resolving call.kind call.base.now };
+    ghost use Rattle.fluent_uri_c.specs.Bases.{IsBaseOf};
 
-    /// Returns whether the number is a base's kind: a URI or an IRI.
+    ghost definition = { λ call. resolving call.kind call.bytes.now };
+
+    ghost is_ready = { λ call. IsBaseOf call.kind call.bytes.now call.base };
+
+    /// Returns whether the number is a base's kind, a URI or an IRI, and the base can be there.
     fn is_valid(&self) -> bool {
-        self.kind == 0 || self.kind == 2
+        (self.kind == 0 || self.kind == 2) && is_possible_length(self.bytes)
     }
 
     /// Returns the target of a reference against the base, if it has one.
-    fn call<'a>(
-        &self,
-        alloc: Global,
-        text: &'a [u8],
-    ) -> Result<Option<CallResult<'a>>, AllocError> {
-        batch_result(numbered::target(alloc, self.kind, self.base, text))
+    fn call<'a>(&self, text: &'a [u8]) -> Result<Option<CallResult<'a>>, AllocError> {
+        batch_result(self.base.target(self.alloc, text))
     }
 }
 
 /// Resolves references against a base of a kind, and normalises the targets.
 #[derive(Clone, Copy)]
 struct ResolveNormalized<'a> {
+    alloc: Global,
     kind: u32,
-    base: &'a [u8],
+    bytes: &'a [u8],
+    base: Base<'a>,
 }
 
 impl<'b> Call for ResolveNormalized<'b> {
-    ghost definition = { λ call. resolving_normalized call.kind call.base.now };
+    ghost use Rattle.fluent_uri_c.specs.Bases.{IsBaseOf};
 
-    /// Returns whether the number is a base's kind: a URI or an IRI.
+    ghost definition = { λ call. resolving_normalized call.kind call.bytes.now };
+
+    ghost is_ready = { λ call. IsBaseOf call.kind call.bytes.now call.base };
+
+    /// Returns whether the number is a base's kind, a URI or an IRI, and the base can be there.
     fn is_valid(&self) -> bool {
-        self.kind == 0 || self.kind == 2
+        (self.kind == 0 || self.kind == 2) && is_possible_length(self.bytes)
     }
 
     /// Returns the normal form of the target of a reference against the base, if it has one.
-    fn call<'a>(
-        &self,
-        alloc: Global,
-        text: &'a [u8],
-    ) -> Result<Option<CallResult<'a>>, AllocError> {
-        batch_result(numbered::normal_target(alloc, self.kind, self.base, text))
+    fn call<'a>(&self, text: &'a [u8]) -> Result<Option<CallResult<'a>>, AllocError> {
+        batch_result(self.base.normal_target(self.alloc, text))
     }
 }
 
@@ -136,16 +143,16 @@ pub extern "C" fn fluent_uri_normalize_batch(
     texts: &[u8],
     offsets: &[u32],
     out: &mut [u8],
-    ends: &mut [u32],
+    out_offsets: &mut [u32],
     valid: &mut [u8],
     outcome: &mut Outcome,
 ) -> u32
     ensures { LeavesColumn (normalizing kind) (column32 texts.now offsets.now)
-        (buffers out.old ends.old valid.old) (buffers out.new ends.new valid.new)
+        (buffers out.old out_offsets.old valid.old) (buffers out.new out_offsets.new valid.new)
         outcome.new result }
 {
-    let call = Normalize { kind };
-    column(alloc, &call, texts, offsets, out, ends, valid, outcome)
+    let call = Normalize { alloc, kind };
+    column(&call, texts, offsets, out, out_offsets, valid, outcome)
 }
 
 /// Writes each text of a column of IRIs as a URI.
@@ -156,16 +163,16 @@ pub extern "C" fn fluent_uri_to_uri_batch(
     texts: &[u8],
     offsets: &[u32],
     out: &mut [u8],
-    ends: &mut [u32],
+    out_offsets: &mut [u32],
     valid: &mut [u8],
     outcome: &mut Outcome,
 ) -> u32
     ensures { LeavesColumn (converting kind) (column32 texts.now offsets.now)
-        (buffers out.old ends.old valid.old) (buffers out.new ends.new valid.new)
+        (buffers out.old out_offsets.old valid.old) (buffers out.new out_offsets.new valid.new)
         outcome.new result }
 {
-    let call = ToUri { kind };
-    column(alloc, &call, texts, offsets, out, ends, valid, outcome)
+    let call = ToUri { alloc, kind };
+    column(&call, texts, offsets, out, out_offsets, valid, outcome)
 }
 
 /// Writes the target of each reference of a column.
@@ -177,16 +184,21 @@ pub extern "C" fn fluent_uri_resolve_batch(
     texts: &[u8],
     offsets: &[u32],
     out: &mut [u8],
-    ends: &mut [u32],
+    out_offsets: &mut [u32],
     valid: &mut [u8],
     outcome: &mut Outcome,
 ) -> u32
     ensures { LeavesColumn (resolving kind base.now) (column32 texts.now offsets.now)
-        (buffers out.old ends.old valid.old) (buffers out.new ends.new valid.new)
+        (buffers out.old out_offsets.old valid.old) (buffers out.new out_offsets.new valid.new)
         outcome.new result }
 {
-    let call = Resolve { kind, base };
-    column(alloc, &call, texts, offsets, out, ends, valid, outcome)
+    let call = Resolve {
+        alloc,
+        kind,
+        bytes: base,
+        base: Base::parse(kind, base),
+    };
+    column(&call, texts, offsets, out, out_offsets, valid, outcome)
 }
 
 /// Writes the normal form of the target of each reference of a column.
@@ -198,16 +210,21 @@ pub extern "C" fn fluent_uri_resolve_normalized_batch(
     texts: &[u8],
     offsets: &[u32],
     out: &mut [u8],
-    ends: &mut [u32],
+    out_offsets: &mut [u32],
     valid: &mut [u8],
     outcome: &mut Outcome,
 ) -> u32
     ensures { LeavesColumn (resolving_normalized kind base.now) (column32 texts.now offsets.now)
-        (buffers out.old ends.old valid.old) (buffers out.new ends.new valid.new)
+        (buffers out.old out_offsets.old valid.old) (buffers out.new out_offsets.new valid.new)
         outcome.new result }
 {
-    let call = ResolveNormalized { kind, base };
-    column(alloc, &call, texts, offsets, out, ends, valid, outcome)
+    let call = ResolveNormalized {
+        alloc,
+        kind,
+        bytes: base,
+        base: Base::parse(kind, base),
+    };
+    column(&call, texts, offsets, out, out_offsets, valid, outcome)
 }
 
 /// Writes the normal form of each text of a column, with offsets of 64 bits.
@@ -218,16 +235,16 @@ pub extern "C" fn fluent_uri_normalize_batch64(
     texts: &[u8],
     offsets: &[u64],
     out: &mut [u8],
-    ends: &mut [u64],
+    out_offsets: &mut [u64],
     valid: &mut [u8],
     outcome: &mut Outcome,
 ) -> u32
     ensures { LeavesColumn (normalizing kind) (column64 texts.now offsets.now)
-        (buffers out.old ends.old valid.old) (buffers out.new ends.new valid.new)
+        (buffers out.old out_offsets.old valid.old) (buffers out.new out_offsets.new valid.new)
         outcome.new result }
 {
-    let call = Normalize { kind };
-    column(alloc, &call, texts, offsets, out, ends, valid, outcome)
+    let call = Normalize { alloc, kind };
+    column(&call, texts, offsets, out, out_offsets, valid, outcome)
 }
 
 /// Writes each text of a column of IRIs as a URI, with offsets of 64 bits.
@@ -238,16 +255,16 @@ pub extern "C" fn fluent_uri_to_uri_batch64(
     texts: &[u8],
     offsets: &[u64],
     out: &mut [u8],
-    ends: &mut [u64],
+    out_offsets: &mut [u64],
     valid: &mut [u8],
     outcome: &mut Outcome,
 ) -> u32
     ensures { LeavesColumn (converting kind) (column64 texts.now offsets.now)
-        (buffers out.old ends.old valid.old) (buffers out.new ends.new valid.new)
+        (buffers out.old out_offsets.old valid.old) (buffers out.new out_offsets.new valid.new)
         outcome.new result }
 {
-    let call = ToUri { kind };
-    column(alloc, &call, texts, offsets, out, ends, valid, outcome)
+    let call = ToUri { alloc, kind };
+    column(&call, texts, offsets, out, out_offsets, valid, outcome)
 }
 
 /// Writes the target of each reference of a column, with offsets of 64 bits.
@@ -259,16 +276,21 @@ pub extern "C" fn fluent_uri_resolve_batch64(
     texts: &[u8],
     offsets: &[u64],
     out: &mut [u8],
-    ends: &mut [u64],
+    out_offsets: &mut [u64],
     valid: &mut [u8],
     outcome: &mut Outcome,
 ) -> u32
     ensures { LeavesColumn (resolving kind base.now) (column64 texts.now offsets.now)
-        (buffers out.old ends.old valid.old) (buffers out.new ends.new valid.new)
+        (buffers out.old out_offsets.old valid.old) (buffers out.new out_offsets.new valid.new)
         outcome.new result }
 {
-    let call = Resolve { kind, base };
-    column(alloc, &call, texts, offsets, out, ends, valid, outcome)
+    let call = Resolve {
+        alloc,
+        kind,
+        bytes: base,
+        base: Base::parse(kind, base),
+    };
+    column(&call, texts, offsets, out, out_offsets, valid, outcome)
 }
 
 /// Writes the normal form of the target of each reference of a column, with offsets of 64 bits.
@@ -280,14 +302,19 @@ pub extern "C" fn fluent_uri_resolve_normalized_batch64(
     texts: &[u8],
     offsets: &[u64],
     out: &mut [u8],
-    ends: &mut [u64],
+    out_offsets: &mut [u64],
     valid: &mut [u8],
     outcome: &mut Outcome,
 ) -> u32
     ensures { LeavesColumn (resolving_normalized kind base.now) (column64 texts.now offsets.now)
-        (buffers out.old ends.old valid.old) (buffers out.new ends.new valid.new)
+        (buffers out.old out_offsets.old valid.old) (buffers out.new out_offsets.new valid.new)
         outcome.new result }
 {
-    let call = ResolveNormalized { kind, base };
-    column(alloc, &call, texts, offsets, out, ends, valid, outcome)
+    let call = ResolveNormalized {
+        alloc,
+        kind,
+        bytes: base,
+        base: Base::parse(kind, base),
+    };
+    column(&call, texts, offsets, out, out_offsets, valid, outcome)
 }

@@ -1,13 +1,15 @@
 //! Percent-encoding and decoding (RFC 3986, section 2.1).
-ghost use Rattle.std.specs.Prelude.{IsTrue};
+ghost use Rattle.std.specs.Prelude.{◌≡◌, IfOk, IsFalse, IsTrue, Some, string_bytes};
+ghost use Rattle.std.specs.Result.{result_err};
 ghost use Rattle.fluent_uri.specs.Cows.{cow_items};
-ghost use Rattle.fluent_uri.specs.Encoding.{encode_bytes};
-ghost use Rattle.fluent_uri.specs.Tokens.{print};
-ghost use Rattle.fluent_uri_c.specs.Results.{IsReturned, IsReturnedAs, decode_result};
-ghost use Rattle.fluent_uri_c.specs.Results.{decoded_result, encode_result};
+ghost use Rattle.fluent_uri.specs.EncodedTexts.{text_of};
+ghost use Rattle.fluent_uri.specs.Tokens.{is_valid_for};
+ghost use Rattle.fluent_uri_c.specs.Results.{IsReturnedAs, component_error, decode_result};
+ghost use Rattle.fluent_uri_c.specs.Results.{decoded_result, encode_result, encoded_as_result};
+ghost use Rattle.fluent_uri_c.specs.Results.{is_possible_length};
 
 use crate::errors::{Error, Rejection};
-use crate::texts::utf8_text;
+use crate::texts::{is_possible_length, utf8_text};
 use fluent_uri::pct_enc::encoder::{
     Data, Encoder, Fragment, IFragment, IPath, IQuery, IRegName, IUserinfo, Path, Query, RegName,
     Userinfo,
@@ -15,15 +17,41 @@ use fluent_uri::pct_enc::encoder::{
 use fluent_uri::pct_enc::{CowSlice, EStr, EString};
 use std::alloc::Global;
 
+/// Returns why a text is not valid for the encoder's set: the first character that the set does not
+/// have, or a `%` that two hexadecimal digits do not follow.
+fn invalid_component<E: Encoder>(text: &str) -> Rejection
+    requires encoded { IsTrue (E.set).pct_encoded }
+    requires possible { IsTrue (is_possible_length text.now) }
+    requires invalid { IsFalse (is_valid_for E.set text.now) }
+    ensures { component_error E.set text.now ≡ Some result }
+{
+    let end = E::table().scan(text, 0);
+    if text.as_bytes()[end] == b'%' {
+        Rejection::at(Error::InvalidPctEncodedOctet, end)
+    } else {
+        Rejection::at(Error::UnexpectedChar, end)
+    }
+}
+
+/// Returns bytes that C hands over as a component, if they are valid for the encoder's set.
+fn valid_component<'a, E: Encoder>(bytes: &'a [u8]) -> Result<EStr<'a, E>, Rejection>
+    requires { IsTrue (E.set).pct_encoded }
+    ensures text { IfOk result (λ component. text_of component ≡ bytes.now) }
+    ensures rejected { result_err result ≡ component_error E.set bytes.now }
+{
+    let text = utf8_text(bytes)?;
+    match EStr::<E>::new(text) {
+        Some(component) => Ok(component),
+        None => Err(invalid_component::<E>(text)),
+    }
+}
+
 /// Decodes bytes that C hands over as a component that is valid for the encoder's set.
 fn decoded_as<'a, E: Encoder>(alloc: Global, bytes: &'a [u8]) -> Result<CowSlice<'a, u8>, Rejection>
     requires { IsTrue (E.set).pct_encoded }
     ensures { IsReturnedAs cow_items (decoded_result E.set bytes.now) result }
 {
-    match EStr::<E>::new(utf8_text(bytes)?) {
-        Some(text) => Ok(text.decode().to_bytes(alloc)?),
-        None => Err(Rejection::of(Error::UnexpectedChar)),
-    }
+    Ok(valid_component::<E>(bytes)?.decode().to_bytes(alloc)?)
 }
 
 /// Decodes bytes that C hands over as the component with this number of the header.
@@ -47,8 +75,11 @@ pub fn decoded<'a>(
 /// Percent-encodes bytes that C hands over by the encoder's set.
 fn encoded_as<E: Encoder>(alloc: Global, bytes: &[u8]) -> Result<String, Rejection>
     requires { IsTrue (E.set).pct_encoded }
-    ensures { IsReturned (Ok (print (encode_bytes E.set bytes.now))) result }
+    ensures { IsReturnedAs string_bytes (encoded_as_result E.set bytes.now) result }
 {
+    if !is_possible_length(bytes) {
+        return Err(Rejection::of(Error::InvalidArgument));
+    }
     let mut text = EString::<E>::new(alloc);
     text.encode_bytes::<E>(bytes)?;
     Ok(text.into_string())
@@ -56,7 +87,7 @@ fn encoded_as<E: Encoder>(alloc: Global, bytes: &[u8]) -> Result<String, Rejecti
 
 /// Percent-encodes bytes that C hands over as data of the component with this number of the header.
 pub fn encoded(alloc: Global, component: u32, bytes: &[u8]) -> Result<String, Rejection>
-    ensures { IsReturned (encode_result component bytes.now) result }
+    ensures { IsReturnedAs string_bytes (encode_result component bytes.now) result }
 {
     match component {
         0 => encoded_as::<Userinfo>(alloc, bytes),

@@ -1,12 +1,15 @@
 //! Columns of texts as data and offsets, as data engines hold them.
 ghost use Rattle.std.specs.Prelude.{◌≡◌, ◌≢◌, ◌+◌, ◌/◌, ◌<◌, ◌≤◌, ◌++◌, length, drop, take};
 ghost use Rattle.std.specs.Prelude.{IfSome, IfNone, OnSome};
-ghost use Rattle.std.specs.Prelude.{option_copied, ℕ};
+ghost use Rattle.std.specs.Prelude.{option_copied, ℕ, ◌&&◌, nat_lt};
 ghost use Rattle.fluent_uri_c.specs.Columns.{bit_of, number_of_bool, text_at};
+ghost use Rattle.fluent_uri_c.specs.Results.{is_possible_length};
+
+use crate::texts::is_possible_length;
 
 /// An offset of a column: one of 32 bits or of 64.
 pub trait Offset: Copy {
-    ghost use Rattle.std.specs.Prelude.{◌≡◌, ◌≤◌, ◌^◌, ℕ, IfNone, IfSome};
+    ghost use Rattle.std.specs.Prelude.{◌≡◌, ◌<◌, ◌≤◌, ◌^◌, ℕ, IfNone, IfSome};
 
     ghost value: { Self → ℕ };
 
@@ -18,11 +21,13 @@ pub trait Offset: Copy {
 
     /// Returns the offset 0.
     fn zero() -> Self
-        ensures { value result ≡ 0 };
+        ensures value { value result ≡ 0 }
+        ensures limit { 0 < limit };
 
     /// Returns the offset of a position, if it can be one.
     fn of(position: usize) -> Option<Self>
         ensures value { IfSome result (λ offset. value offset ≡ position) }
+        ensures below { IfSome result (λ _. position < limit) }
         ensures limit { IfNone result (limit ≤ position) };
 }
 
@@ -31,7 +36,7 @@ impl Offset for u32 {
 
     ghost value = { λ offset. offset };
 
-    ghost limit = { 2 ^ 32 };
+    ghost limit = { 2 ^ 31 };
 
     /// Returns an offset of 32 bits as a position, a `usize`.
     fn position(self) -> usize {
@@ -43,9 +48,13 @@ impl Offset for u32 {
         0
     }
 
-    /// Returns a position as an offset of 32 bits, if it fits.
+    /// Returns a position as an offset of 32 bits, if it is one: Arrow's have a sign.
     fn of(position: usize) -> Option<u32> {
-        u32::try_from(position).ok()
+        if position < 1 << 31 {
+            Some(position as u32)
+        } else {
+            None
+        }
     }
 }
 
@@ -54,7 +63,7 @@ impl Offset for u64 {
 
     ghost value = { λ offset. offset };
 
-    ghost limit = { 2 ^ 64 };
+    ghost limit = { 2 ^ 63 };
 
     /// Returns an offset of 64 bits as a position, a `usize`.
     fn position(self) -> usize {
@@ -66,10 +75,21 @@ impl Offset for u64 {
         0
     }
 
-    /// Returns a position as an offset of 64 bits.
+    /// Returns a position as an offset of 64 bits, if it is one: Arrow's have a sign.
     fn of(position: usize) -> Option<u64> {
-        Some(position as u64)
+        if position < 1 << 63 {
+            Some(position as u64)
+        } else {
+            None
+        }
     }
+}
+
+/// Returns whether a column has an offset, and its data can be there.
+pub fn is_possible_column<O: Offset>(texts: &[u8], offsets: &[O]) -> bool
+    ensures { result ≡ (nat_lt 0 (length offsets.now) && is_possible_length texts.now) }
+{
+    !offsets.is_empty() && is_possible_length(texts)
 }
 
 /// Returns the text at an index of a column.

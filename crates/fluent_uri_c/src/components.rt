@@ -2,7 +2,7 @@
 ghost use Rattle.std.specs.Prelude.{◌≡◌, Some, option_copied};
 ghost use Rattle.fluent_uri.specs.AuthorityTexts.{authority_text};
 ghost use Rattle.fluent_uri.specs.References.{reference_text};
-ghost use Rattle.fluent_uri_c.specs.Columns.{LeavesColumn, buffers, column32};
+ghost use Rattle.fluent_uri_c.specs.Columns.{LeavesColumn, buffers, column32, column64};
 ghost use Rattle.fluent_uri_c.specs.Components.{authority_component, component_numbered};
 ghost use Rattle.fluent_uri_c.specs.Components.{component_result};
 ghost use Rattle.fluent_uri_c.specs.Kinds.{kind_numbered};
@@ -14,7 +14,7 @@ use crate::texts::parsed;
 use fluent_uri::Reference;
 use fluent_uri::component::Authority;
 use fluent_uri::pct_enc::Encoder;
-use std::alloc::{AllocError, Global};
+use std::alloc::AllocError;
 use uri_parts::kind::{IriKind, IriRefKind, Kind, UriKind, UriRefKind};
 
 /// Returns the component of an authority with this number of the header, or the whole authority.
@@ -110,11 +110,7 @@ impl Call for Component {
     }
 
     /// Returns the component of a text, if the text is of the kind and has it.
-    fn call<'a>(
-        &self,
-        _alloc: Global,
-        text: &'a [u8],
-    ) -> Result<Option<CallResult<'a>>, AllocError> {
+    fn call<'a>(&self, text: &'a [u8]) -> Result<Option<CallResult<'a>>, AllocError> {
         match component_of(self.kind, self.component, text) {
             Some(part) => Ok(Some(CallResult::Part(part))),
             None => Ok(None),
@@ -125,20 +121,46 @@ impl Call for Component {
 /// Writes a component of each text of a column.
 #[unsafe(no_mangle)]
 pub extern "C" fn fluent_uri_component_batch(
-    alloc: Global,
     kind: u32,
     component: u32,
     texts: &[u8],
     offsets: &[u32],
     out: &mut [u8],
-    ends: &mut [u32],
+    out_offsets: &mut [u32],
     valid: &mut [u8],
     outcome: &mut Outcome,
 ) -> u32
     ensures { LeavesColumn (taking_component kind component) (column32 texts.now offsets.now)
-        (buffers out.old ends.old valid.old) (buffers out.new ends.new valid.new)
+        (buffers out.old out_offsets.old valid.old) (buffers out.new out_offsets.new valid.new)
         outcome.new result }
 {
     let call = Component { kind, component };
-    column(alloc, &call, texts, offsets, out, ends, valid, outcome)
+    column(&call, texts, offsets, out, out_offsets, valid, outcome)
+}
+
+/// Writes a component of each text of a column, with offsets of 64 bits.
+#[unsafe(no_mangle)]
+pub extern "C" fn fluent_uri_component_batch64(
+    kind: u32,
+    component: u32,
+    texts: &[u8],
+    offsets: &[u64],
+    out: &mut [u8],
+    out_offsets: &mut [u64],
+    valid: &mut [u8],
+    outcome: &mut Outcome,
+) -> u32
+    ensures { LeavesColumn (taking_component kind component) (column64 texts.now offsets.now)
+        (buffers out.old out_offsets.old valid.old) (buffers out.new out_offsets.new valid.new)
+        outcome.new result }
+{
+    column(
+        &Component { kind, component },
+        texts,
+        offsets,
+        out,
+        out_offsets,
+        valid,
+        outcome,
+    )
 }

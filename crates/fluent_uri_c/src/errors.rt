@@ -1,10 +1,11 @@
 //! Why a call rejects its arguments.
 ghost use Rattle.std.specs.Prelude.{◌≡◌, ◌≢◌, ◌≤◌};
-ghost use Rattle.fluent_uri_c.specs.Errors.{number_of, in_reference, rejected};
+ghost use Rattle.fluent_uri_c.specs.Errors.{number_of, in_reference, rejected, rejected_at};
 
 use fluent_uri::resolve::ResolveError;
 use fluent_uri::{ParseError, ParseErrorKind};
 use std::alloc::AllocError;
+use uri_mend::MendError;
 
 /// What is wrong: the errors of the header.
 #[derive(Clone, Copy)]
@@ -56,10 +57,17 @@ impl Rejection {
     pub fn of(error: Error) -> Rejection
         ensures { result ≡ rejected error }
     {
+        Rejection::at(error, 0)
+    }
+
+    /// Returns the rejection for an error at an index of the first text.
+    pub fn at(error: Error, index: usize) -> Rejection
+        ensures { result ≡ rejected_at error index }
+    {
         Rejection {
             error,
             which: 0,
-            index: 0,
+            index,
         }
     }
 
@@ -110,6 +118,20 @@ impl From<ResolveError> for Rejection {
             ResolveError::PathUnderflow => Error::PathUnderflow,
             ResolveError::OutOfMemory => Error::OutOfMemory,
         })
+    }
+}
+
+impl From<MendError> for Rejection {
+    ghost use Rattle.fluent_uri_c.specs.Errors.{mend_rejection};
+
+    ghost from_gives = { λ error why. why ≡ mend_rejection error };
+
+    /// Returns the rejection, by a number of the header, for an error of mending.
+    fn from(error: MendError) -> Rejection {
+        match error {
+            MendError::Unmendable(error) => Rejection::from(error),
+            MendError::OutOfMemory => Rejection::of(Error::OutOfMemory),
+        }
     }
 }
 

@@ -2,14 +2,18 @@
 //! `#[repr(C)]` structs; `c/include/fluent_uri.h` is the other side.
 #![tactic(auto)]
 
+mod about;
 mod ascii;
+mod bases;
 mod batch;
 mod calls;
 mod codes;
+mod coding;
 mod columns;
 mod components;
 mod errors;
 mod lines;
+mod mending;
 mod numbered;
 mod outcome;
 mod parsing;

@@ -1,17 +1,19 @@
 //! The batch over lines.
 ghost use Rattle.std.specs.Prelude.{◌≡◌, ◌+◌, ◌<◌, ◌≤◌, ◌++◌, [], ◌∷◌, length, drop, take};
-ghost use Rattle.std.specs.Prelude.{IfNone, IfOk, IfSome, OnSome, string_bytes};
+ghost use Rattle.std.specs.Prelude.{IfErr, IfOk, IsOk, OnErr, OnOk, string_bytes};
 ghost use Rattle.std.specs.List.{position, position_or_len};
 ghost use Rattle.std.specs.Result.{result_ok};
 ghost use Rattle.fluent_uri_c.specs.Columns.{bytes_of};
 ghost use Rattle.fluent_uri_c.specs.Lines.{LeavesLines, is_newline, line_buffers, newline};
 ghost use Rattle.fluent_uri_c.specs.Lines.{number_returned};
+ghost use Rattle.fluent_uri_c.specs.Full.{as_size};
+ghost use Rattle.fluent_uri_c.specs.Outcomes.{outcome_of_batch};
 ghost use Rattle.fluent_uri_c.specs.Results.{normalize_result};
 
-use crate::batch::report_progress;
 use crate::errors::Error;
 use crate::numbered;
-use crate::outcome::Outcome;
+use crate::outcome::{Full, Outcome, report_progress};
+use crate::texts::is_possible_length;
 use std::alloc::{AllocError, Global};
 
 /// Returns where the first newline of the lines that C hands over is, if there is one.
@@ -43,23 +45,56 @@ fn write_at(bytes: &[u8], at: usize, out: &mut [u8])
 }
 
 /// Writes a line of a batch over lines, bytes and a newline, at a position, if they fit there, and
-/// returns where they end.
-fn push_line(bytes: &[u8], at: usize, out: &mut [u8]) -> Option<usize>
+/// returns where they end; or else how long the buffer must be.
+fn push_line(bytes: &[u8], at: usize, out: &mut [u8]) -> Result<usize, usize>
     requires { at ≤ length out.old }
-    ensures end { IfSome result (λ end. end ≡ at + length (bytes.now ++ newline ∷ [])) }
-    ensures inside { IfSome result (λ end. end ≤ length out.new) }
-    ensures written { OnSome result (out.new ≡ take at out.old ++ ((bytes.now ++ newline ∷ [])
+    ensures end { IfOk result (λ end. end ≡ at + length (bytes.now ++ newline ∷ [])) }
+    ensures inside { IfOk result (λ end. end ≤ length out.new) }
+    ensures written { OnOk result (out.new ≡ take at out.old ++ ((bytes.now ++ newline ∷ [])
         ++ drop (at + length (bytes.now ++ newline ∷ [])) out.old)) }
-    ensures full { IfNone result (length out.old < at + length (bytes.now ++ newline ∷ [])) }
-    ensures kept { IfNone result (out.new ≡ out.old) }
+    ensures full { OnErr result (length out.old < at + length (bytes.now ++ newline ∷ [])) }
+    ensures needed { IfErr result (λ needed.
+        needed ≡ as_size (at + length (bytes.now ++ newline ∷ []))) }
+    ensures kept { OnErr result (out.new ≡ out.old) }
 {
-    let newline = at.checked_add(bytes.len())?;
+    let newline = at.saturating_add(bytes.len());
     if newline >= out.len() {
-        return None;
+        return Err(newline.saturating_add(1));
     }
     write_at(bytes, at, out);
     write_at(b"\n", newline, out);
-    Some(newline + 1)
+    Ok(newline + 1)
+}
+
+/// What a batch over lines reports where no buffer is full.
+const NOT_FULL: Full = Full {
+    buffer: 0,
+    needed: 0,
+};
+
+/// Reports an error of a batch over lines, or 0: which buffer is full, how many lines are done, how
+/// long the results are, and how much of the input they take. Returns the error.
+fn report_lines(
+    error: u32,
+    full: Full,
+    done: usize,
+    length: usize,
+    consumed: usize,
+    outcome: &mut Outcome,
+) -> u32
+    ensures number { result ≡ error }
+    ensures outcome { outcome.new
+        ≡ outcome_of_batch error full.buffer full.needed done length consumed }
+{
+    *outcome = Outcome {
+        error,
+        which: full.buffer,
+        index: done,
+        length,
+        needed: full.needed,
+        consumed,
+    };
+    error
 }
 
 /// A line in normal form, which is empty where the text is rejected, and the number of its error.
@@ -76,9 +111,13 @@ fn normal_line(alloc: Global, kind: u32, text: &[u8]) -> Result<Line, AllocError
         ≡ bytes_of (result_ok (normalize_result kind text.now))) }
     ensures number { IfOk result (λ line. line.number
         ≡ number_returned (normalize_result kind text.now)) }
+    ensures memory { IfErr result (λ _. IsOk (normalize_result kind text.now)) }
 {
-    match numbered::normalize_text(alloc, kind, text) {
-        Ok(text) => Ok(Line { text, number: 0 }),
+    match numbered::normal_form(alloc, kind, text) {
+        Ok(value) => Ok(Line {
+            text: value.into_string(),
+            number: 0,
+        }),
         Err(why) => match why.error {
             Error::OutOfMemory => Err(AllocError),
             error => Ok(Line {
@@ -103,7 +142,7 @@ pub extern "C" fn fluent_uri_normalize_lines(
     ensures { LeavesLines kind lines.now (line_buffers out.old errors.old)
         (line_buffers out.new errors.new) outcome.new result }
 {
-    if kind > 3 {
+    if kind > 3 || !is_possible_length(lines) {
         return report_progress(9, 0, 0, outcome);
     }
     let mut at = 0usize;
@@ -111,17 +150,25 @@ pub extern "C" fn fluent_uri_normalize_lines(
     for index in 0..errors.len() {
         let end = line_end(lines, start);
         let Ok(line) = normal_line(alloc, kind, &lines[start..end]) else {
-            return report_progress(8, index, at, outcome);
+            return report_lines(8, NOT_FULL, index, at, start, outcome);
         };
-        let Some(next) = push_line(line.text.as_bytes(), at, out) else {
-            return report_progress(10, index, at, outcome);
+        let next = match push_line(line.text.as_bytes(), at, out) {
+            Ok(next) => next,
+            Err(needed) => {
+                let full = Full { buffer: 0, needed };
+                return report_lines(10, full, index, at, start, outcome);
+            }
         };
         errors[index] = line.number;
         at = next;
         if end == lines.len() {
-            return report_progress(0, index + 1, at, outcome);
+            return report_lines(0, NOT_FULL, index + 1, at, end, outcome);
         }
         start = end + 1;
     }
-    report_progress(10, errors.len(), at, outcome)
+    let full = Full {
+        buffer: 4,
+        needed: errors.len().saturating_add(1),
+    };
+    report_lines(10, full, errors.len(), at, start, outcome)
 }

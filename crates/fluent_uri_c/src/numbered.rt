@@ -1,46 +1,59 @@
-//! What each call returns for the kind of a number.
-ghost use Rattle.fluent_uri_c.specs.Kinds.{base_numbered};
-ghost use Rattle.fluent_uri_c.specs.Relatives.{IsReferenceReturned};
-ghost use Rattle.fluent_uri_c.specs.Results.{IsReturned, normalize_result};
+//! What each call returns for the kind of a number. A value of any kind is one of IRI references too,
+//! so that what follows is compiled once.
+ghost use Rattle.std.specs.Prelude.{◌≡◌, IfOk, IsSomeAnd};
+ghost use Rattle.fluent_uri.specs.References.{reference_text};
+ghost use Rattle.uri_mend.specs.Mended.{IsMended};
+ghost use Rattle.uri_mend.specs.Trimming.{trimmed_link};
+ghost use Rattle.fluent_uri_c.specs.Kinds.{base_numbered, kind_numbered};
+ghost use Rattle.fluent_uri_c.specs.Mends.{mend_link_result, mend_link_takes_memory, mend_result};
+ghost use Rattle.fluent_uri_c.specs.Options.{path_preference};
+ghost use Rattle.fluent_uri_c.specs.Relatives.{IsReferenceToTarget, relativize_result};
+ghost use Rattle.fluent_uri_c.specs.Results.{IsReturnedAs, IsReturnedOrDenied, normalize_result};
 ghost use Rattle.fluent_uri_c.specs.Results.{resolve_normalized_result, resolve_result};
 ghost use Rattle.fluent_uri_c.specs.Results.{to_uri_result};
 
 use crate::errors::{Error, Rejection};
 use crate::texts;
+use fluent_uri::IriRef;
 use std::alloc::Global;
 use uri_parts::kind::{IriKind, IriRefKind, UriKind, UriRefKind};
 
 /// Returns the normal form of a text of the kind with this number of the header.
-pub fn normalize_text(alloc: Global, kind: u32, text: &[u8]) -> Result<String, Rejection>
-    ensures { IsReturned (normalize_result kind text.now) result }
+pub fn normal_form(alloc: Global, kind: u32, text: &[u8]) -> Result<IriRef<String>, Rejection>
+    ensures { IsReturnedAs reference_text (normalize_result kind text.now) result }
 {
     match kind {
-        0 => texts::normalize_text::<UriKind>(alloc, text),
-        1 => texts::normalize_text::<UriRefKind>(alloc, text),
-        2 => texts::normalize_text::<IriKind>(alloc, text),
-        3 => texts::normalize_text::<IriRefKind>(alloc, text),
+        0 => Ok(IriRef::from(texts::normal_form::<UriKind>(alloc, text)?)),
+        1 => Ok(IriRef::from(texts::normal_form::<UriRefKind>(alloc, text)?)),
+        2 => Ok(IriRef::from(texts::normal_form::<IriKind>(alloc, text)?)),
+        3 => texts::normal_form::<IriRefKind>(alloc, text),
         _ => Err(Rejection::of(Error::InvalidArgument)),
     }
 }
 
 /// Returns a text of the kind of IRIs with this number of the header as a URI or a URI reference.
-pub fn uri_text(alloc: Global, kind: u32, text: &[u8]) -> Result<String, Rejection>
-    ensures { IsReturned (to_uri_result kind text.now) result }
+pub fn as_uri(alloc: Global, kind: u32, text: &[u8]) -> Result<IriRef<String>, Rejection>
+    ensures { IsReturnedAs reference_text (to_uri_result kind text.now) result }
 {
     match kind {
-        2 => texts::uri_of_iri(alloc, text),
-        3 => texts::uri_ref_of_iri_ref(alloc, text),
+        2 => Ok(IriRef::from(texts::uri_of_iri(alloc, text)?)),
+        3 => Ok(IriRef::from(texts::uri_ref_of_iri_ref(alloc, text)?)),
         _ => Err(Rejection::of(Error::InvalidArgument)),
     }
 }
 
 /// Returns the target of a reference against a base of the kind with this number of the header.
-pub fn target(alloc: Global, kind: u32, base: &[u8], reference: &[u8]) -> Result<String, Rejection>
-    ensures { IsReturned (resolve_result kind base.now reference.now) result }
+pub fn target(
+    alloc: Global,
+    kind: u32,
+    base: &[u8],
+    reference: &[u8],
+) -> Result<IriRef<String>, Rejection>
+    ensures { IsReturnedAs reference_text (resolve_result kind base.now reference.now) result }
 {
     match kind {
-        0 => texts::target::<UriRefKind>(alloc, base, reference),
-        2 => texts::target::<IriRefKind>(alloc, base, reference),
+        0 => Ok(IriRef::from(texts::target::<UriRefKind>(alloc, base, reference)?)),
+        2 => Ok(IriRef::from(texts::target::<IriRefKind>(alloc, base, reference)?)),
         _ => Err(Rejection::of(Error::InvalidArgument)),
     }
 }
@@ -52,24 +65,81 @@ pub fn normal_target(
     kind: u32,
     base: &[u8],
     reference: &[u8],
-) -> Result<String, Rejection>
-    ensures { IsReturned (resolve_normalized_result kind base.now reference.now) result }
+) -> Result<IriRef<String>, Rejection>
+    ensures { IsReturnedAs reference_text (resolve_normalized_result kind base.now reference.now)
+        result }
 {
     match kind {
-        0 => texts::normal_target::<UriRefKind>(alloc, base, reference),
-        2 => texts::normal_target::<IriRefKind>(alloc, base, reference),
+        0 => Ok(IriRef::from(texts::normal_target::<UriRefKind>(alloc, base, reference)?)),
+        2 => Ok(IriRef::from(texts::normal_target::<IriRefKind>(alloc, base, reference)?)),
         _ => Err(Rejection::of(Error::InvalidArgument)),
     }
 }
 
+/// Returns whether options of the header prefer a relative path, if they are options of a call that
+/// makes references.
+pub fn prefers_relative_path(options: u32) -> Option<bool>
+    ensures { result ≡ path_preference options }
+{
+    match options {
+        0 => Some(false),
+        1 => Some(true),
+        _ => None,
+    }
+}
+
 /// Returns a reference that leads from a base to a target, both of the kind with this number of the
-/// header.
-pub fn reference(alloc: Global, kind: u32, base: &[u8], target: &[u8]) -> Result<String, Rejection>
-    ensures { IsReferenceReturned (base_numbered kind) base.now target.now result }
+/// header, by options of the header.
+pub fn reference(
+    alloc: Global,
+    kind: u32,
+    options: u32,
+    base: &[u8],
+    target: &[u8],
+) -> Result<IriRef<String>, Rejection>
+    ensures text { IsReturnedAs reference_text
+        (relativize_result kind options base.now target.now) result }
+    ensures leads { IfOk result (λ reference. IsSomeAnd (path_preference options)
+        (λ prefers. IsSomeAnd (base_numbered kind) (λ kind.
+        IsReferenceToTarget prefers kind base.now target.now (reference_text reference)))) }
+{
+    let Some(prefers) = prefers_relative_path(options) else {
+        return Err(Rejection::of(Error::InvalidArgument));
+    };
+    match kind {
+        0 => Ok(IriRef::from(texts::reference::<UriKind>(alloc, base, target, prefers)?)),
+        2 => Ok(IriRef::from(texts::reference::<IriKind>(alloc, base, target, prefers)?)),
+        _ => Err(Rejection::of(Error::InvalidArgument)),
+    }
+}
+
+/// Returns the text of the kind with this number of the header that a text is mended to.
+pub fn mended(alloc: Global, kind: u32, text: &[u8]) -> Result<IriRef<String>, Rejection>
+    ensures text { IsReturnedAs reference_text (mend_result kind text.now) result }
+    ensures mended { IfOk result (λ made. IsSomeAnd (kind_numbered kind) (λ kind.
+        IsMended kind text.now (reference_text made))) }
 {
     match kind {
-        0 => texts::reference::<UriKind>(alloc, base, target),
-        2 => texts::reference::<IriKind>(alloc, base, target),
+        0 => Ok(IriRef::from(texts::mended::<UriKind>(alloc, text)?)),
+        1 => Ok(IriRef::from(texts::mended::<UriRefKind>(alloc, text)?)),
+        2 => Ok(IriRef::from(texts::mended::<IriKind>(alloc, text)?)),
+        3 => texts::mended::<IriRefKind>(alloc, text),
+        _ => Err(Rejection::of(Error::InvalidArgument)),
+    }
+}
+
+/// Returns the text of the kind with this number of the header that a link of a page is mended to.
+pub fn mended_link(alloc: Global, kind: u32, text: &[u8]) -> Result<IriRef<String>, Rejection>
+    ensures text { IsReturnedOrDenied (mend_link_takes_memory kind text.now) reference_text
+        (mend_link_result kind text.now) result }
+    ensures mended { IfOk result (λ made. IsSomeAnd (kind_numbered kind) (λ kind.
+        IsMended kind (trimmed_link text.now) (reference_text made))) }
+{
+    match kind {
+        0 => Ok(IriRef::from(texts::mended_link::<UriKind>(alloc, text)?)),
+        1 => Ok(IriRef::from(texts::mended_link::<UriRefKind>(alloc, text)?)),
+        2 => Ok(IriRef::from(texts::mended_link::<IriKind>(alloc, text)?)),
+        3 => texts::mended_link::<IriRefKind>(alloc, text),
         _ => Err(Rejection::of(Error::InvalidArgument)),
     }
 }

@@ -1,13 +1,19 @@
 //! What a call leaves in its caller's memory.
-ghost use Rattle.std.specs.Prelude.{◌≡◌};
-ghost use Rattle.fluent_uri_c.specs.Outcomes.{LeavesText, outcome_of, outcome_of_text, written};
+ghost use Rattle.std.specs.Prelude.{◌≡◌, Bool, string_bytes};
+ghost use Rattle.fluent_uri.specs.References.{reference_text};
+ghost use Rattle.fluent_uri_c.specs.Outcomes.{LeavesText, outcome_of, outcome_of_batch};
+ghost use Rattle.fluent_uri_c.specs.Outcomes.{outcome_of_text, written};
 ghost use Rattle.fluent_uri_c.specs.Errors.{number_of};
-ghost use Rattle.fluent_uri_c.specs.Results.{IsReturned, Returned};
+ghost use Rattle.fluent_uri_c.specs.Results.{IsReturnedAs, IsReturnedOrDenied, Returned};
+ghost use Rattle.fluent_uri_c.specs.Values.{HasPartsFirst, LeavesValueOrDenied};
 
 use crate::errors::Rejection;
+use crate::parts::{Parts, write_first_parts};
+use fluent_uri::IriRef;
 
-/// What a call reports: an error, or 0; which of two texts is rejected; where in it; and the length
-/// of the text that it returns.
+/// What a call reports: an error, or 0; which of two texts is rejected, or which buffer is full;
+/// where in the text; the length of the text that it returns; how long the buffer that is full must
+/// be; and how much of the input is done.
 #[repr(C)]
 #[derive(Drop)]
 pub struct Outcome {
@@ -15,6 +21,49 @@ pub struct Outcome {
     pub which: u32,
     pub index: usize,
     pub length: usize,
+    pub needed: usize,
+    pub consumed: usize,
+}
+
+/// Which buffer of a batch is full, by its number in the header, and how long it must be.
+#[derive(Clone, Copy)]
+pub struct Full {
+    pub buffer: u32,
+    pub needed: usize,
+}
+
+/// Reports an error of a batch, or 0: how many texts are done, and how long their results are.
+/// Returns the error.
+pub fn report_progress(error: u32, done: usize, length: usize, outcome: &mut Outcome) -> u32
+    ensures number { result ≡ error }
+    ensures outcome { outcome.new ≡ outcome_of_batch error 0 0 done length 0 }
+{
+    *outcome = Outcome {
+        error,
+        which: 0,
+        index: done,
+        length,
+        needed: 0,
+        consumed: 0,
+    };
+    error
+}
+
+/// Reports that a buffer of a batch is full: how many texts are done, and how long their results
+/// are. Returns the number of that error.
+pub fn report_full(full: Full, done: usize, length: usize, outcome: &mut Outcome) -> u32
+    ensures number { result ≡ 10 }
+    ensures outcome { outcome.new ≡ outcome_of_batch 10 full.buffer full.needed done length 0 }
+{
+    *outcome = Outcome {
+        error: 10,
+        which: full.buffer,
+        index: done,
+        length,
+        needed: full.needed,
+        consumed: 0,
+    };
+    10
 }
 
 /// Reports an error of a call in the outcome that its caller in C gets, and returns its number.
@@ -26,6 +75,8 @@ pub fn report(why: Rejection, outcome: &mut Outcome) -> u32
     outcome.which = why.which;
     outcome.index = why.index;
     outcome.length = 0;
+    outcome.needed = 0;
+    outcome.consumed = 0;
     outcome.error
 }
 
@@ -39,6 +90,8 @@ pub fn put(text: &[u8], out: &mut [u8], outcome: &mut Outcome)
     outcome.which = 0;
     outcome.index = 0;
     outcome.length = text.len();
+    outcome.needed = 0;
+    outcome.consumed = 0;
     if text.len() <= out.len() {
         out[..text.len()].copy_from_slice(text);
     }
@@ -47,7 +100,7 @@ pub fn put(text: &[u8], out: &mut [u8], outcome: &mut Outcome)
 /// Writes a text that a call for C made, or reports why there is none. Returns the number of the
 /// error, or 0.
 pub fn put_or_report(made: Result<String, Rejection>, out: &mut [u8], outcome: &mut Outcome) -> u32
-    ensures { (returned : Returned) → IsReturned returned made
+    ensures { (returned : Returned) → IsReturnedAs string_bytes returned made
         → LeavesText returned out.old out.new outcome.new result }
 {
     match made {
@@ -56,5 +109,38 @@ pub fn put_or_report(made: Result<String, Rejection>, out: &mut [u8], outcome: &
             0
         }
         Err(why) => report(why, outcome),
+    }
+}
+
+/// Writes the text of a value that a call for C made, and its parts if there is room for these.
+pub fn put_value(value: &IriRef<String>, out: &mut [u8], parts: &mut [Parts], outcome: &mut Outcome)
+    ensures outcome { outcome.new ≡ outcome_of_text (reference_text value.now) }
+    ensures written { out.new ≡ written (reference_text value.now) out.old }
+    ensures parts { HasPartsFirst (reference_text value.now) parts.old parts.new }
+{
+    let value = value.borrow();
+    put(value.as_str().as_bytes(), out, outcome);
+    write_first_parts(&value, parts);
+}
+
+/// Writes a value that a call for C made, as its text and its parts, or reports why there is none.
+/// Returns the number of the error, or 0.
+pub fn put_value_or_report(
+    made: Result<IriRef<String>, Rejection>,
+    out: &mut [u8],
+    parts: &mut [Parts],
+    outcome: &mut Outcome,
+) -> u32
+    ensures { (takes_memory : Bool) → (returned : Returned)
+        → IsReturnedOrDenied takes_memory reference_text returned made
+        → LeavesValueOrDenied takes_memory returned out.old out.new parts.old parts.new
+        outcome.new result }
+{
+    match made {
+        Ok(value) => {
+            put_value(&value, out, parts, outcome);
+            0
+        }
+        Err(rejection) => report(rejection, outcome),
     }
 }

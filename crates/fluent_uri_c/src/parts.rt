@@ -10,7 +10,10 @@ ghost use Rattle.uri_parts.specs.Positions.{ArePositionsOf};
 ghost use Rattle.fluent_uri_c.specs.Kinds.{kind_numbered};
 ghost use Rattle.fluent_uri_c.specs.Spans.{ArePartsOf, AreSpansOf, IsSpan, absent};
 ghost use Rattle.fluent_uri_c.specs.Spans.{authority_host_number, host_number, rejected_parts};
-ghost use Rattle.fluent_uri_c.specs.Spans.{host_of, port_of, userinfo_of};
+ghost use Rattle.fluent_uri_c.specs.Spans.{authority_start, fragment_start, host_of, host_start};
+ghost use Rattle.fluent_uri_c.specs.Spans.{path_start, port_of, port_start, query_start};
+ghost use Rattle.fluent_uri_c.specs.Spans.{userinfo_of};
+ghost use Rattle.fluent_uri_c.specs.Values.{HasPartsFirst};
 
 use crate::errors::{Error, Rejection};
 use crate::texts::parsed;
@@ -117,7 +120,7 @@ fn host_kind<K: Kind>(value: &Reference<K, &str>) -> u32
 /// Returns the span, for C, of the scheme of a text with these positions.
 fn scheme(text: &str, at: Positions) -> Span
     requires { ArePositionsOf text.now at }
-    ensures { IsSpan text.now (components text.now).scheme result }
+    ensures { IsSpan text.now 0 (components text.now).scheme result }
 {
     match at.scheme_end {
         Some(end) => Span { start: 0, end },
@@ -128,7 +131,7 @@ fn scheme(text: &str, at: Positions) -> Span
 /// Returns the span, for C, of the authority of a text with these positions.
 fn authority(text: &str, at: Positions) -> Span
     requires { ArePositionsOf text.now at }
-    ensures { IsSpan text.now (components text.now).authority result }
+    ensures { IsSpan text.now (authority_start text.now) (components text.now).authority result }
 {
     match at.authority {
         Some(inside) => Span {
@@ -143,7 +146,8 @@ fn authority(text: &str, at: Positions) -> Span
 fn userinfo<K: Kind>(text: &str, at: Positions) -> Span
     requires at { ArePositionsOf text.now at }
     requires of_kind { IsOfKind K.kind text.now }
-    ensures { IsSpan text.now (userinfo_of (components text.now).authority) result }
+    ensures { IsSpan text.now (authority_start text.now)
+        (userinfo_of (components text.now).authority) result }
 {
     match at.authority {
         Some(inside) => {
@@ -164,7 +168,8 @@ fn userinfo<K: Kind>(text: &str, at: Positions) -> Span
 fn host<K: Kind>(text: &str, at: Positions) -> Span
     requires at { ArePositionsOf text.now at }
     requires of_kind { IsOfKind K.kind text.now }
-    ensures { IsSpan text.now (host_of (components text.now).authority) result }
+    ensures { IsSpan text.now (host_start text.now)
+        (host_of (components text.now).authority) result }
 {
     match at.authority {
         Some(inside) => Span {
@@ -179,7 +184,8 @@ fn host<K: Kind>(text: &str, at: Positions) -> Span
 fn port<K: Kind>(text: &str, at: Positions) -> Span
     requires at { ArePositionsOf text.now at }
     requires of_kind { IsOfKind K.kind text.now }
-    ensures { IsSpan text.now (port_of (components text.now).authority) result }
+    ensures { IsSpan text.now (port_start text.now)
+        (port_of (components text.now).authority) result }
 {
     match at.authority {
         Some(inside) => {
@@ -199,7 +205,7 @@ fn port<K: Kind>(text: &str, at: Positions) -> Span
 /// Returns the span, for C, of the path of a text with these positions.
 fn path(text: &str, at: Positions) -> Span
     requires { ArePositionsOf text.now at }
-    ensures { IsSpan text.now (Some (components text.now).path) result }
+    ensures { IsSpan text.now (path_start text.now) (Some (components text.now).path) result }
 {
     Span {
         start: at.path_start,
@@ -210,7 +216,7 @@ fn path(text: &str, at: Positions) -> Span
 /// Returns the span, for C, of the query of a text with these positions.
 fn query(text: &str, at: Positions) -> Span
     requires { ArePositionsOf text.now at }
-    ensures { IsSpan text.now (components text.now).query result }
+    ensures { IsSpan text.now (query_start text.now) (components text.now).query result }
 {
     match at.query_end {
         Some(end) => Span {
@@ -224,7 +230,7 @@ fn query(text: &str, at: Positions) -> Span
 /// Returns the span, for C, of the fragment of a text with these positions.
 fn fragment(text: &str, at: Positions) -> Span
     requires { ArePositionsOf text.now at }
-    ensures { IsSpan text.now (components text.now).fragment result }
+    ensures { IsSpan text.now (fragment_start text.now) (components text.now).fragment result }
 {
     let mark = at.before_fragment();
     if mark < text.len() {
@@ -258,6 +264,15 @@ fn write_parts<K: Kind>(value: &Reference<K, &str>, parts: &mut Parts)
         query: query(text, at),
         fragment: fragment(text, at),
     };
+}
+
+/// Writes the parts that C gets of a value to the first of its caller's parts, if there is one.
+pub fn write_first_parts<K: Kind>(value: &Reference<K, &str>, parts: &mut [Parts])
+    ensures { HasPartsFirst (reference_text value.now) parts.old parts.new }
+{
+    if !parts.is_empty() {
+        write_parts(value, &mut parts[0]);
+    }
 }
 
 /// Parses the bytes as a text of the kind, and writes the parts that C gets, or the error and its

@@ -6,8 +6,9 @@ ghost use Rattle.fluent_uri_c.specs.Results.{decode_result, encode_result, norma
 ghost use Rattle.fluent_uri_c.specs.Results.{resolve_normalized_result, resolve_result};
 ghost use Rattle.fluent_uri_c.specs.Results.{to_uri_result};
 ghost use Rattle.fluent_uri_c.specs.Spans.{ArePartsOf};
+ghost use Rattle.fluent_uri_c.specs.Values.{LeavesValue};
 
-use crate::outcome::{Outcome, put, put_or_report, report};
+use crate::outcome::{Outcome, put, put_or_report, put_value_or_report, report};
 use crate::parts::{Parts, parse};
 use crate::{codes, numbered};
 use std::alloc::Global;
@@ -22,18 +23,25 @@ pub extern "C" fn fluent_uri_parse(kind: u32, text: &[u8], parts: &mut Parts) ->
     parts.error
 }
 
-/// Writes the normal form of a text of the kind.
+/// Writes the normal form of a text of the kind, and its parts if there is room for these.
 #[unsafe(no_mangle)]
 pub extern "C" fn fluent_uri_normalize(
     alloc: Global,
     kind: u32,
     text: &[u8],
     out: &mut [u8],
+    parts: &mut [Parts],
     outcome: &mut Outcome,
 ) -> u32
-    ensures { LeavesText (normalize_result kind text.now) out.old out.new outcome.new result }
+    ensures { LeavesValue (normalize_result kind text.now) out.old out.new parts.old parts.new
+        outcome.new result }
 {
-    put_or_report(numbered::normalize_text(alloc, kind, text), out, outcome)
+    put_value_or_report(
+        numbered::normal_form(alloc, kind, text),
+        out,
+        parts,
+        outcome,
+    )
 }
 
 /// Writes the target of a reference against a base of the kind.
@@ -44,12 +52,18 @@ pub extern "C" fn fluent_uri_resolve(
     base: &[u8],
     reference: &[u8],
     out: &mut [u8],
+    parts: &mut [Parts],
     outcome: &mut Outcome,
 ) -> u32
-    ensures { LeavesText (resolve_result kind base.now reference.now)
-        out.old out.new outcome.new result }
+    ensures { LeavesValue (resolve_result kind base.now reference.now)
+        out.old out.new parts.old parts.new outcome.new result }
 {
-    put_or_report(numbered::target(alloc, kind, base, reference), out, outcome)
+    put_value_or_report(
+        numbered::target(alloc, kind, base, reference),
+        out,
+        parts,
+        outcome,
+    )
 }
 
 /// Writes the normal form of the target of a reference against a base of the kind.
@@ -60,14 +74,16 @@ pub extern "C" fn fluent_uri_resolve_normalized(
     base: &[u8],
     reference: &[u8],
     out: &mut [u8],
+    parts: &mut [Parts],
     outcome: &mut Outcome,
 ) -> u32
-    ensures { LeavesText (resolve_normalized_result kind base.now reference.now)
-        out.old out.new outcome.new result }
+    ensures { LeavesValue (resolve_normalized_result kind base.now reference.now)
+        out.old out.new parts.old parts.new outcome.new result }
 {
-    put_or_report(
+    put_value_or_report(
         numbered::normal_target(alloc, kind, base, reference),
         out,
+        parts,
         outcome,
     )
 }
@@ -79,11 +95,13 @@ pub extern "C" fn fluent_uri_to_uri(
     kind: u32,
     text: &[u8],
     out: &mut [u8],
+    parts: &mut [Parts],
     outcome: &mut Outcome,
 ) -> u32
-    ensures { LeavesText (to_uri_result kind text.now) out.old out.new outcome.new result }
+    ensures { LeavesValue (to_uri_result kind text.now) out.old out.new parts.old parts.new
+        outcome.new result }
 {
-    put_or_report(numbered::uri_text(alloc, kind, text), out, outcome)
+    put_value_or_report(numbered::as_uri(alloc, kind, text), out, parts, outcome)
 }
 
 /// Writes the bytes that a component stands for.

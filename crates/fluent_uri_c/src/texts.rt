@@ -1,12 +1,18 @@
 //! The calls of `fluent_uri` on bytes, for each kind.
-ghost use Rattle.std.specs.Prelude.{◌≡◌, ◌↔◌, IfOk, IsOk, Some};
-ghost use Rattle.std.specs.Str.{IsUtf8};
+ghost use Rattle.std.specs.Prelude.{◌≡◌, ◌↔◌, IfOk, IsOk};
 ghost use Rattle.std.specs.Result.{result_err};
-ghost use Rattle.fluent_uri.specs.Grammar.{IsTextOf, iri, iri_ref};
+ghost use Rattle.fluent_uri.specs.Grammar.{iri, iri_ref};
 ghost use Rattle.fluent_uri.specs.References.{reference_text};
-ghost use Rattle.fluent_uri_c.specs.Relatives.{IsReferenceReturned};
-ghost use Rattle.fluent_uri_c.specs.Results.{IsReturned, encoded_result, normal_result};
-ghost use Rattle.fluent_uri_c.specs.Results.{normal_target_result, target_result, text_error};
+ghost use Rattle.uri_mend.specs.Mended.{IsMended};
+ghost use Rattle.uri_mend.specs.Trimming.{trimmed_link};
+ghost use Rattle.fluent_uri_c.specs.Mends.{mended_link_result, mended_result};
+ghost use Rattle.fluent_uri_c.specs.Mends.{takes_memory_for_link};
+ghost use Rattle.fluent_uri_c.specs.Relatives.{IsReferenceToTarget, reference_from};
+ghost use Rattle.fluent_uri_c.specs.Results.{IsReturnedAs, IsReturnedOrDenied, encoded_result};
+ghost use Rattle.fluent_uri_c.specs.Results.{normal_result};
+ghost use Rattle.fluent_uri_c.specs.Results.{normal_target_from, rejection_or_result};
+ghost use Rattle.fluent_uri_c.specs.Results.{target_from, text_error};
+ghost use Rattle.fluent_uri_c.specs.Results.{IsPossibleText, IsPossibleUtf8, is_possible_length};
 ghost use Rattle.fluent_uri_c.specs.Results.{normal_resolution, resolution, utf8_error};
 
 use crate::ascii::is_ascii;
@@ -14,21 +20,33 @@ use crate::errors::{Error, Rejection};
 use fluent_uri::normalize::Normalizer;
 use fluent_uri::resolve::Resolver;
 use fluent_uri::roles::{BaseKind, RefKind};
-use fluent_uri::{Iri, IriRef, Reference};
+use fluent_uri::{Iri, IriRef, Reference, Uri, UriRef};
 use std::alloc::Global;
+use uri_mend::Mend;
 use uri_parts::core_text::Core;
 use uri_parts::kind::{IriKind, IriRefKind, Kind};
 use uri_parts::parse::parse;
 use uri_relative::Relativizer;
 use uri_relative::relative::RelativeKind;
 
+/// Returns whether bytes that C hands over are no more than `PTRDIFF_MAX`, so that they can be there.
+#[inline(always)]
+pub fn is_possible_length(bytes: &[u8]) -> bool
+    ensures { result ≡ is_possible_length bytes.now }
+{
+    bytes.len() < 1 << 63
+}
+
 /// Returns bytes that C hands over as a text, if they are UTF-8. Most are ASCII, which is tested in
 /// blocks.
 pub fn utf8_text(bytes: &[u8]) -> Result<&str, Rejection>
-    ensures accepts { IsOk result ↔ IsUtf8 bytes.now }
+    ensures accepts { IsOk result ↔ IsPossibleUtf8 bytes.now }
     ensures text { IfOk result (λ text. text.now ≡ bytes.now) }
     ensures rejected { result_err result ≡ utf8_error bytes.now }
 {
+    if !is_possible_length(bytes) {
+        return Err(Rejection::of(Error::InvalidArgument));
+    }
     if is_ascii(bytes) {
         return Ok(unsafe { std::str::from_utf8_unchecked(bytes) });
     }
@@ -45,7 +63,7 @@ pub fn utf8_text(bytes: &[u8]) -> Result<&str, Rejection>
 /// Parses bytes that C hands over as a text of the kind.
 #[inline(always)]
 pub fn parsed<'a, K: Kind>(bytes: &'a [u8]) -> Result<Reference<K, &'a str>, Rejection>
-    ensures accepts { IsOk result ↔ IsTextOf K.kind bytes.now }
+    ensures accepts { IsOk result ↔ IsPossibleText K.kind bytes.now }
     ensures text { IfOk result (λ value. reference_text value ≡ bytes.now) }
     ensures rejected { result_err result ≡ text_error K.kind bytes.now }
 {
@@ -57,68 +75,124 @@ pub fn parsed<'a, K: Kind>(bytes: &'a [u8]) -> Result<Reference<K, &'a str>, Rej
 }
 
 /// Returns the normal form of bytes that are a text of the kind.
-pub fn normalize_text<K: Kind>(alloc: Global, bytes: &[u8]) -> Result<String, Rejection>
-    ensures { IsReturned (normal_result K.kind bytes.now) result }
+pub fn normal_form<K: Kind>(alloc: Global, bytes: &[u8]) -> Result<Reference<K, String>, Rejection>
+    ensures { IsReturnedAs reference_text (normal_result K.kind bytes.now) result }
 {
-    Ok(parsed::<K>(bytes)?.normalize(alloc)?.into_string())
+    Ok(parsed::<K>(bytes)?.normalize(alloc)?)
 }
 
 /// Returns bytes that are an IRI as a URI.
-pub fn uri_of_iri(alloc: Global, bytes: &[u8]) -> Result<String, Rejection>
-    ensures { IsReturned (encoded_result iri bytes.now) result }
+pub fn uri_of_iri(alloc: Global, bytes: &[u8]) -> Result<Uri<String>, Rejection>
+    ensures { IsReturnedAs reference_text (encoded_result iri bytes.now) result }
 {
     let value: Iri<&str> = parsed::<IriKind>(bytes)?;
-    Ok(value.to_uri(alloc)?.into_string())
+    Ok(value.to_uri(alloc)?)
 }
 
 /// Returns bytes that are an IRI reference as a URI reference.
-pub fn uri_ref_of_iri_ref(alloc: Global, bytes: &[u8]) -> Result<String, Rejection>
-    ensures { IsReturned (encoded_result iri_ref bytes.now) result }
+pub fn uri_ref_of_iri_ref(alloc: Global, bytes: &[u8]) -> Result<UriRef<String>, Rejection>
+    ensures { IsReturnedAs reference_text (encoded_result iri_ref bytes.now) result }
 {
     let value: IriRef<&str> = parsed::<IriRefKind>(bytes)?;
-    Ok(value.to_uri_ref(alloc)?.into_string())
+    Ok(value.to_uri_ref(alloc)?)
 }
 
 /// Returns the target of a reference against a base, both parsed from bytes.
+#[inline(always)]
 fn resolve_text<K: RefKind>(
     alloc: Global,
     base: &Reference<K::Base, &str>,
     reference: &Reference<K, &str>,
-) -> Result<String, Rejection>
-    ensures { IsReturned (resolution (reference_text base.now) (reference_text reference.now))
-        result }
+) -> Result<Reference<K::Base, String>, Rejection>
+    ensures { IsReturnedAs reference_text
+        (resolution (reference_text base.now) (reference_text reference.now)) result }
 {
     match reference.resolve_against(alloc, base) {
-        Ok(target) => Ok(target.into_string()),
+        Ok(target) => Ok(target),
         Err(error) => Err(Rejection::from(error)),
     }
 }
 
 /// Returns the normal form of the target of a reference against a base, both parsed from bytes.
+#[inline(always)]
 fn resolve_normalized_text<K: RefKind>(
     alloc: Global,
-    base: Reference<K::Base, &str>,
+    base: &Reference<K::Base, &str>,
     reference: &Reference<K, &str>,
-) -> Result<String, Rejection>
-    ensures { IsReturned (normal_resolution K.Base.kind (reference_text base.entry)
-        (reference_text reference.now)) result }
+) -> Result<Reference<K::Base, String>, Rejection>
+    ensures { IsReturnedAs reference_text (normal_resolution K.Base.kind
+        (reference_text base.now) (reference_text reference.now)) result }
 {
-    let resolver = Resolver::with_base(base);
+    let resolver = Resolver::with_base(*base);
     match resolver.resolve_normalized(alloc, reference, &Normalizer::new()) {
-        Ok(target) => Ok(target.into_string()),
+        Ok(target) => Ok(target),
         Err(error) => Err(Rejection::from(error)),
     }
 }
 
-/// Returns the target of a reference against a base, both as bytes.
-pub fn target<K: RefKind>(alloc: Global, base: &[u8], reference: &[u8]) -> Result<String, Rejection>
-    ensures { IsReturned (target_result K.Base.kind base.now reference.now) result }
+/// Returns the target of a reference, as bytes, against a base.
+#[inline(always)]
+pub fn target_from<K: RefKind>(
+    alloc: Global,
+    base: &Reference<K::Base, &str>,
+    reference: &[u8],
+) -> Result<Reference<K::Base, String>, Rejection>
+    ensures { IsReturnedAs reference_text
+        (target_from K.Base.kind (reference_text base.now) reference.now) result }
 {
-    let base = parsed::<K::Base>(base)?;
     match parsed::<K>(reference) {
-        Ok(reference) => resolve_text(alloc, &base, &reference),
+        Ok(reference) => resolve_text(alloc, base, &reference),
         Err(why) => Err(why.in_reference()),
     }
+}
+
+/// Returns the normal form of the target of a reference, as bytes, against a base.
+#[inline(always)]
+pub fn normal_target_from<K: RefKind>(
+    alloc: Global,
+    base: &Reference<K::Base, &str>,
+    reference: &[u8],
+) -> Result<Reference<K::Base, String>, Rejection>
+    ensures { IsReturnedAs reference_text
+        (normal_target_from K.Base.kind (reference_text base.now) reference.now) result }
+{
+    match parsed::<K>(reference) {
+        Ok(reference) => resolve_normalized_text(alloc, base, &reference),
+        Err(why) => Err(why.in_reference()),
+    }
+}
+
+/// Returns a reference that leads from a base to a target, which is bytes. The last argument says
+/// whether it has a relative path even if the path from the root is shorter.
+pub fn reference_from<K: RelativeKind>(
+    alloc: Global,
+    base: &Reference<K, &str>,
+    target: &[u8],
+    prefers: bool,
+) -> Result<Reference<K::Ref, String>, Rejection>
+    ensures text { IsReturnedAs reference_text
+        (reference_from prefers K.kind (reference_text base.now) target.now) result }
+    ensures leads { IfOk result (λ reference. IsReferenceToTarget prefers K.kind
+        (reference_text base.now) target.now (reference_text reference)) }
+{
+    let relativizer = Relativizer::with_base(*base).prefer_relative_path(prefers);
+    match parsed::<K>(target) {
+        Ok(target) => Ok(relativizer.relativize(alloc, &target)?),
+        Err(why) => Err(why.in_reference()),
+    }
+}
+
+/// Returns the target of a reference against a base, both as bytes.
+pub fn target<K: RefKind>(
+    alloc: Global,
+    base: &[u8],
+    reference: &[u8],
+) -> Result<Reference<K::Base, String>, Rejection>
+    ensures { IsReturnedAs reference_text (rejection_or_result (text_error K.Base.kind base.now)
+        (target_from K.Base.kind base.now reference.now)) result }
+{
+    let base = parsed::<K::Base>(base)?;
+    target_from::<K>(alloc, &base, reference)
 }
 
 /// Returns the normal form of the target of a reference against a base, both as bytes.
@@ -126,27 +200,52 @@ pub fn normal_target<K: RefKind>(
     alloc: Global,
     base: &[u8],
     reference: &[u8],
-) -> Result<String, Rejection>
-    ensures { IsReturned (normal_target_result K.Base.kind base.now reference.now) result }
+) -> Result<Reference<K::Base, String>, Rejection>
+    ensures { IsReturnedAs reference_text (rejection_or_result (text_error K.Base.kind base.now)
+        (normal_target_from K.Base.kind base.now reference.now)) result }
 {
     let base = parsed::<K::Base>(base)?;
-    match parsed::<K>(reference) {
-        Ok(reference) => resolve_normalized_text(alloc, base, &reference),
-        Err(why) => Err(why.in_reference()),
-    }
+    normal_target_from::<K>(alloc, &base, reference)
 }
 
-/// Returns a reference that leads from a base to a target, both bytes that are texts of the kind.
+/// Returns a reference that leads from a base to a target, both as bytes, as `reference_from` does.
 pub fn reference<K: RelativeKind>(
     alloc: Global,
     base: &[u8],
     target: &[u8],
-) -> Result<String, Rejection>
-    ensures { IsReferenceReturned (Some K.kind) base.now target.now result }
+    prefers: bool,
+) -> Result<Reference<K::Ref, String>, Rejection>
+    ensures text { IsReturnedAs reference_text (rejection_or_result (text_error K.kind base.now)
+        (reference_from prefers K.kind base.now target.now)) result }
+    ensures leads { IfOk result (λ reference.
+        IsReferenceToTarget prefers K.kind base.now target.now (reference_text reference)) }
 {
-    let relativizer = Relativizer::with_base(parsed::<K>(base)?);
-    match parsed::<K>(target) {
-        Ok(target) => Ok(relativizer.relativize(alloc, &target)?.into_string()),
-        Err(why) => Err(why.in_reference()),
+    let base = parsed::<K>(base)?;
+    reference_from(alloc, &base, target, prefers)
+}
+
+/// Returns the text of the kind that bytes are mended to.
+pub fn mended<K: Kind>(alloc: Global, bytes: &[u8]) -> Result<Reference<K, String>, Rejection>
+    ensures text { IsReturnedAs reference_text (mended_result K.kind bytes.now) result }
+    ensures mended { IfOk result (λ made. IsMended K.kind bytes.now (reference_text made)) }
+{
+    let text = utf8_text(bytes)?;
+    match Reference::<K, String>::mend(alloc, text) {
+        Ok(made) => Ok(made),
+        Err(error) => Err(Rejection::from(error)),
+    }
+}
+
+/// Returns the text of the kind that bytes are mended to as a link of a page.
+pub fn mended_link<K: Kind>(alloc: Global, bytes: &[u8]) -> Result<Reference<K, String>, Rejection>
+    ensures text { IsReturnedOrDenied (takes_memory_for_link K.kind bytes.now) reference_text
+        (mended_link_result K.kind bytes.now) result }
+    ensures mended { IfOk result (λ made.
+        IsMended K.kind (trimmed_link bytes.now) (reference_text made)) }
+{
+    let text = utf8_text(bytes)?;
+    match Reference::<K, String>::mend_link(alloc, text) {
+        Ok(made) => Ok(made),
+        Err(error) => Err(Rejection::from(error)),
     }
 }

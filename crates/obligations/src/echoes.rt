@@ -1,5 +1,5 @@
 //! What is decoded is what was given.
-ghost use Rattle.std.specs.Prelude.{◌≡◌, IfOk, string_bytes};
+ghost use Rattle.std.specs.Prelude.{◌≡◌, IfErr, IfOk, string_bytes};
 ghost use Rattle.fluent_uri.specs.Cows.{cow_items};
 
 use fluent_uri::laws;
@@ -10,7 +10,8 @@ use std::alloc::{AllocError, Global};
 /// A caller percent-encodes a text as data of the query of a URI, and decodes it again, and knows
 /// that it is the same text.
 pub fn echoed(alloc: Global, text: &str) -> Result<String, DecodeError>
-    ensures { IfOk result (λ s. string_bytes s ≡ text.now) }
+    ensures text { IfOk result (λ s. string_bytes s ≡ text.now) }
+    ensures error { IfErr result (λ e. e ≡ DecodeError.OutOfMemory) }
 {
     let mut encoded = EString::<Query>::new(alloc);
     encoded.encode_str::<Data>(text)?;
@@ -23,7 +24,8 @@ pub fn echoed(alloc: Global, text: &str) -> Result<String, DecodeError>
 /// A caller percent-encodes a text as data of the query of an IRI, and decodes it again, and knows
 /// that it is the same text.
 pub fn echoed_in_an_iri(alloc: Global, text: &str) -> Result<String, DecodeError>
-    ensures { IfOk result (λ s. string_bytes s ≡ text.now) }
+    ensures text { IfOk result (λ s. string_bytes s ≡ text.now) }
+    ensures error { IfErr result (λ e. e ≡ DecodeError.OutOfMemory) }
 {
     let mut encoded = EString::<IQuery>::new(alloc);
     encoded.encode_str::<IData>(text)?;
@@ -37,7 +39,8 @@ pub fn echoed_in_an_iri(alloc: Global, text: &str) -> Result<String, DecodeError
 /// the same text.
 #[tactic(auto)]
 pub fn echoed_by_the_law(alloc: Global, text: &str) -> Result<String, DecodeError>
-    ensures { IfOk result (λ s. string_bytes s ≡ text.now) }
+    ensures text { IfOk result (λ s. string_bytes s ≡ text.now) }
+    ensures error { IfErr result (λ e. e ≡ DecodeError.OutOfMemory) }
 {
     laws::decoding_inverts_encoding();
     let mut encoded = EString::<Query>::new(alloc);

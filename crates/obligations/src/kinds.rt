@@ -2,14 +2,16 @@
 //! a caller may say of the text.
 #![tactic(auto)]
 
-ghost use Rattle.std.specs.Prelude.{◌≡◌, ◌↔◌, IfErr, IfOk, IsOk, None, Ok, Some, []};
+ghost use Rattle.std.specs.Prelude.{◌≡◌, ◌↔◌, ◌∷◌, IfErr, IfOk, IsOk, None, Ok, Some, []};
 ghost use Rattle.std.specs.Prelude.{option_map, string_bytes};
+ghost use Rattle.std.specs.Result.{result_err};
 ghost use Rattle.fluent_uri.specs.Components.{components};
 ghost use Rattle.fluent_uri.specs.EncodedTexts.{text_of};
 ghost use Rattle.fluent_uri.specs.Fragments.{IsWithFragment};
-ghost use Rattle.fluent_uri.specs.Grammar.{IsOfKind, iri_ref, uri};
+ghost use Rattle.fluent_uri.specs.Grammar.{IsOfKind, iri, iri_ref, uri, uri_ref};
 ghost use Rattle.fluent_uri.specs.Iris.{iri_ref_text, iri_text};
 ghost use Rattle.fluent_uri.specs.Normalizers.{IsNormalForm};
+ghost use Rattle.fluent_uri.specs.Refusals.{refusal};
 ghost use Rattle.fluent_uri.specs.SchemePorts.{default_port};
 ghost use Rattle.fluent_uri.specs.Schemes.{scheme_text};
 ghost use Rattle.fluent_uri.specs.Target.{resolution_of_texts};
@@ -17,10 +19,11 @@ ghost use Rattle.fluent_uri.specs.Uris.{uri_ref_text, uri_text};
 
 use fluent_uri::build::BuildError;
 use fluent_uri::component::{Authority, IAuthority, Scheme};
+use fluent_uri::kind::{IriKind, IriRefKind, Kind, UriKind, UriRefKind};
 use fluent_uri::pct_enc::EStr;
 use fluent_uri::pct_enc::encoder::{Fragment, IFragment, IPath, Path, Query};
 use fluent_uri::resolve::ResolveError;
-use fluent_uri::{ConvertError, Iri, IriRef, ParseError, Uri, UriRef};
+use fluent_uri::{ConvertError, Iri, IriRef, ParseError, Reference, Uri, UriRef};
 use std::alloc::{AllocError, Global};
 use std::cmp::Ordering;
 use std::convert::{TryFrom, TryInto};
@@ -315,4 +318,25 @@ pub fn built_iri(
 /// A caller builds an IRI reference, beginning with its path.
 pub fn built_iri_ref(alloc: Global, path: EStr<'_, IPath>) -> Result<IriRef<String>, BuildError> {
     IriRef::<String>::builder(alloc).path(path).build()
+}
+
+/// A caller parses a text as any of the four kinds, by one function.
+pub fn parsed<K: Kind>(text: &str) -> Result<Reference<K, &str>, ParseError>
+    ensures { result_err result ≡ refusal K.kind text.now }
+{
+    Reference::<K, &str>::parse(text)
+}
+
+/// A caller returns the error of a text as a URI, as a URI reference, as an IRI and as an IRI
+/// reference.
+pub fn errors_by_kind(text: &str) -> [Option<ParseError>; 4]
+    ensures { result ≡ refusal uri text.now ∷ refusal uri_ref text.now ∷ refusal iri text.now
+        ∷ refusal iri_ref text.now ∷ [] }
+{
+    [
+        parsed::<UriKind>(text).err(),
+        parsed::<UriRefKind>(text).err(),
+        parsed::<IriKind>(text).err(),
+        parsed::<IriRefKind>(text).err(),
+    ]
 }

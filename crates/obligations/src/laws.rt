@@ -2,12 +2,18 @@
 //! law, and its body no more than the calls that the law speaks of.
 #![tactic(auto)]
 
+pub mod addresses;
 pub mod converting;
 pub mod decoding;
+pub mod dots;
 pub mod empty;
+pub mod equivalence;
+pub mod errors;
 pub mod grammar;
 pub mod normalising;
+pub mod octets;
 pub mod parsing;
 pub mod removing;
+pub mod splits;
 pub mod swapping;
 pub mod unreserved;

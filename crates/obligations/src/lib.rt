@@ -6,19 +6,27 @@
 //! condition, a law or a public name no longer gives callers what they need.
 #![tactic(auto, using(fluent_uri::proofs::Calling::calling))]
 
+pub mod addresses;
+pub mod any_kind;
+pub mod authorities;
 pub mod building;
 pub mod characters;
 pub mod components;
 pub mod counts;
+pub mod decoded;
 pub mod delimiters;
 pub mod echoes;
 pub mod encoders;
 pub mod encoding;
+pub mod errors;
 pub mod kinds;
 pub mod laws;
 pub mod literals;
+pub mod owned_texts;
 pub mod rules;
+pub mod sets;
 pub mod settings;
+pub mod steps;
 pub mod tables;
 pub mod tested_by_rules;
 pub mod texts;

@@ -2,4 +2,10 @@
 #![tactic(auto)]
 
 #[cfg(test)]
+mod calls;
+#[cfg(test)]
+mod filters;
+#[cfg(test)]
+mod mended;
+#[cfg(test)]
 mod streams;

@@ -2,24 +2,25 @@
 use fluent_uri::Uri;
 use std::alloc::{AllocError, Global};
 use std::hash::RandomState;
-use std::io::{self, BufReader, ErrorKind, Read, Write};
+use std::io::{BufReader, Read};
 use std::process::Abort;
 use test_support::equal;
+use uri_commands::sink::Sink;
 use uri_streams::command::{Base, Command, KindName, LineCommand};
 use uri_streams::failure::Failure;
 use uri_streams::job::{Field, Job, OnError};
 use uri_streams::run::{Tally, Unwatched, run};
-use uri_streams::sink::Sink;
 use uri_streams::source::Source;
 
-const CAPACITY: usize = 64;
+pub(crate) const CAPACITY: usize = 64;
 
 /// Returns the job of a test of `urilines`: the command on whole lines of up to 40 bytes.
-fn with_defaults(command: LineCommand<'_>) -> Job<'_> {
+pub(crate) fn with_defaults(command: LineCommand<'_>) -> Job<'_> {
     Job {
         command: Command::Each(command),
         field: None,
         is_null: false,
+        is_mended: false,
         max_line: 40,
         errors: OnError::Line,
     }
@@ -46,7 +47,11 @@ fn written<R: Read + Drop>(
 }
 
 /// Returns what a run of `urilines` wrote to its output and its error output, or why the run ended.
-fn both_outputs(alloc: Global, job: &Job<'_>, input: &[u8]) -> Result<(Vec<u8>, Vec<u8>), Failure> {
+pub(crate) fn both_outputs(
+    alloc: Global,
+    job: &Job<'_>,
+    input: &[u8],
+) -> Result<(Vec<u8>, Vec<u8>), Failure> {
     let reader = BufReader::with_capacity(alloc, CAPACITY, input).map_err(Failure::Input)?;
     let mut out = Sink::new(Vec::new(alloc));
     let mut err = Sink::new(Vec::new(alloc));
@@ -165,6 +170,22 @@ fn each_command_and_option_has_its_output(rt: HostRuntime) {
         b"error: line 2: unexpected character at index 1\n".as_slice(),
     )
     .expect(&rt, "message");
+}
+
+/// Tests that `urilines relativize --prefer-relative` writes relative paths.
+#[test]
+fn relative_paths_are_preferred(rt: HostRuntime) {
+    let alloc = rt.alloc();
+    let base = Uri::<&str>::parse("http://a/b/c/d").expect(&rt, "base");
+    let input = b"http://a/x\nhttp://a/b/c/d\nhttps://a/x\n";
+    for (prefers, wanted) in [
+        (false, b"/x\n\nhttps://a/x\n".as_slice()),
+        (true, b"../../x\n\nhttps://a/x\n".as_slice()),
+    ] {
+        let job = with_defaults(LineCommand::Relativize(Base::Uri(base), prefers));
+        let got = both_outputs(alloc, &job, input).ok().expect(&rt, "run");
+        equal(got.0.as_slice(), wanted).expect(&rt, "relativize");
+    }
 }
 
 /// A kind, an input and the output of `query`.
@@ -295,68 +316,5 @@ fn denied_memory_leaves_a_prefix(rt: HostRuntime) {
             equal(matches!(failure, Failure::OutOfMemory), true).expect(&rt, "failure");
             equal(80 < left.saturating_add(output.len()), true).expect(&rt, "prefix");
         }
-    }
-}
-
-/// A writer that fails after so many writes.
-#[derive(Drop)]
-struct FailsAfter(usize);
-
-impl Write for FailsAfter {
-    /// Takes what `urilines` writes, and fails after so many writes.
-    fn write(&mut self, buf: &[u8]) -> io::Result<usize> {
-        if self.0 == 0 {
-            return Err(io::Error::from(ErrorKind::BrokenPipe));
-        }
-        self.0 -= 1;
-        Ok(buf.len())
-    }
-
-    /// Does nothing, since this writer for tests of `urilines` has no buffer.
-    fn flush(&mut self) -> io::Result<()> {
-        Ok(())
-    }
-}
-
-/// A reader that fails at once.
-#[derive(Drop)]
-struct Fails;
-
-impl Read for Fails {
-    /// Fails, as the input of `urilines` does in a test of failed reads.
-    fn read(&mut self, _: &mut [u8]) -> io::Result<usize> {
-        Err(io::Error::from(ErrorKind::BrokenPipe))
-    }
-}
-
-/// Tests that a failed read and a failed write end a run of `urilines`.
-#[test]
-fn a_failed_read_and_a_failed_write_end_the_run(rt: HostRuntime) {
-    let alloc = rt.alloc();
-    let job = with_defaults(LineCommand::Normalize(KindName::Uri));
-    let input: &[u8] = b"HTTP://a/\nHTTP://b/\nx";
-    for at in 0..input.len() {
-        let reader = BufReader::with_capacity(alloc, CAPACITY, input[..at].chain(Fails));
-        let mut reader = Source::new(reader.expect(&rt, "memory"));
-        let (mut out, mut err) = (Sink::new(Vec::new(alloc)), Sink::new(Vec::new(alloc)));
-        let got = run(alloc, &job, &mut reader, &mut out, &mut err, &mut Unwatched);
-        equal(matches!(got, Err(Failure::Input(_))), true).expect(&rt, "read");
-        equal(reader.has_failed(), true).expect(&rt, "reader");
-        let whole = input[..at].iter().filter(|&&byte| byte == b'\n').count();
-        equal(out.into_inner().len(), 10 * whole).expect(&rt, "lines before it");
-    }
-    for takes in 0..4 {
-        let reader = BufReader::with_capacity(alloc, CAPACITY, input).expect(&rt, "memory");
-        let (mut out, mut err) = (Sink::new(FailsAfter(takes)), Sink::new(Vec::new(alloc)));
-        let got = run(
-            alloc,
-            &job,
-            &mut Source::new(reader),
-            &mut out,
-            &mut err,
-            &mut Unwatched,
-        );
-        equal(matches!(got, Err(Failure::Output(_))), true).expect(&rt, "write");
-        equal(out.has_failed(), true).expect(&rt, "writer");
     }
 }

@@ -6,6 +6,7 @@ use fluent_uri::resolve::Resolver;
 use fluent_uri::{Iri, IriRef, ParseError, Uri, UriRef};
 use std::alloc::Global;
 use uri_links::links::{Outcome, Register};
+use uri_mend::Mend;
 
 /// A counted call: parses a text as a URI.
 #[inline(never)]
@@ -140,4 +141,34 @@ pub fn note(
 ) -> Option<Outcome> {
     let reference = UriRef::<&str>::parse(reference).ok()?;
     register.note(base, &reference).ok()
+}
+
+/// A counted call: copies a text. `None` if that fails.
+#[inline(never)]
+pub fn copy(alloc: Global, text: &str) -> Option<String> {
+    String::from_str(alloc, text).ok()
+}
+
+/// A counted call: parses a text as a URI reference and copies it. `None` if either fails.
+#[inline(never)]
+pub fn copy_uri_ref(alloc: Global, text: &str) -> Option<UriRef<String>> {
+    UriRef::<&str>::parse(text).ok()?.to_owned(alloc).ok()
+}
+
+/// A counted call: mends a text to a URI reference. `None` if that fails.
+#[inline(never)]
+pub fn mend_uri_ref(alloc: Global, text: &str) -> Option<UriRef<String>> {
+    UriRef::<String>::mend(alloc, text).ok()
+}
+
+/// A counted call: mends a text to an IRI reference. `None` if that fails.
+#[inline(never)]
+pub fn mend_iri_ref(alloc: Global, text: &str) -> Option<IriRef<String>> {
+    IriRef::<String>::mend(alloc, text).ok()
+}
+
+/// A counted call: copies a text, and mends the copy to a URI reference. `None` if either fails.
+#[inline(never)]
+pub fn mend_copy(alloc: Global, text: &str) -> Option<UriRef<String>> {
+    UriRef::<String>::mend_owned(alloc, String::from_str(alloc, text).ok()?).ok()
 }

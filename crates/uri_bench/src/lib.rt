@@ -55,6 +55,11 @@ pub extern "C" fn bench(alloc: Global, work: u32, text: &[u8], base: &[u8], roun
         14 => length_of!(rounds, call::to_uri(alloc, text)),
         15 => build(alloc, text, rounds),
         16 => links(alloc, base, text, rounds),
+        17 => length_of!(rounds, call::copy(alloc, text)),
+        18 => length_of!(rounds, call::copy_uri_ref(alloc, text)),
+        19 => length_of!(rounds, call::mend_uri_ref(alloc, text)),
+        20 => length_of!(rounds, call::mend_iri_ref(alloc, text)),
+        21 => length_of!(rounds, call::mend_copy(alloc, text)),
         _ => REJECTED,
     }
 }

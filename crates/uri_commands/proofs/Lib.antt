@@ -2,7 +2,9 @@ pub mod Commands
 pub mod NormalForms
 pub mod Targets
 pub mod Prefixes
+pub mod Appended
 pub mod Refusals
 pub mod Outputs
 pub mod LinkLines
 pub mod LinkWords
+pub mod MendedLinks

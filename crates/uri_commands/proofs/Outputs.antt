@@ -1,35 +1,34 @@
 -- A command that fails since its output cannot be written.
 use Rattle.std.proofs.Common.{◌≡◌, List, ◌∷◌, ◌++◌, ℕ, true, Some, None, Result, codes, ap}
 use Rattle.std.specs.Prelude.{IfErr, if◌then◌else◌}
-use Rattle.std.specs.Result.{IsErrAnd}
 use Rattle.fluent_uri.specs.Components.{components}
 use Rattle.fluent_uri.specs.Grammar.{IsOfKind, uri, uri_ref}
-use Rattle.uri_commands.specs.Commands.{Parse, Normalize, Resolve, Links, are_of_kind, kind_named}
+use Rattle.uri_commands.specs.Commands.{Parse, Normalize, Mend, Resolve, Links}
+use Rattle.uri_commands.specs.Commands.{are_of_kind, kind_named}
 use Rattle.uri_commands.specs.Commands.{kind_of_base, kind_of_references, normal_form_of}
 use Rattle.uri_commands.specs.Commands.{target_text}
 use Rattle.uri_commands.specs.Lines.{component_lines}
 use Rattle.uri_commands.specs.Links.{link_lines}
+use Rattle.uri_mend.specs.Mending.{can_be_mended, mended_text}
+use Rattle.uri_mend.specs.Trimming.{trimmed_link}
 use Rattle.uri_commands.specs.Refusals.{IsErrorOfCommand}
 use Rattle.uri_commands.specs.declared.command.BaseName.{BaseName}
 use Rattle.uri_commands.specs.declared.command.KindName.{KindName}
 use Rattle.uri_commands.specs.declared.refusal.CommandError.{CommandError}
 use Rattle.uri_commands.specs.declared.refusal.CommandError.TheVariants.{OutputFailed}
 use Rattle.uri_commands.proofs.Refusals.{if_err-of-equal-error}
-use Rattle.fluent_uri.proofs.Outcomes.{IfErr-of-only-error}
 
 -- commands: if the output of `parse` cannot be written, that failure is its error,
 -- as the text is of its kind
 pub failed-output-is-error-of-parse : {A : Type 0} (name : KindName) (text : List ℕ)
     (result : Result A CommandError)
     → IsOfKind (kind_named name) text
-    → IsErrAnd result (λ why. why ≡ OutputFailed)
+    → IfErr result (λ why. why ≡ OutputFailed)
     → IfErr result (IsErrorOfCommand (Parse name text))
 failed-output-is-error-of-parse name text result is given =
-    IfErr-of-only-error (IsErrorOfCommand (Parse name text)) result OutputFailed given (
-      component_lines (components text),
-      ap
-          (λ b. if b then Some (component_lines (components text)) else None) is,
-    )
+    let lines = component_lines (components text) in
+    if_err-of-equal-error (IsErrorOfCommand (Parse name text)) result OutputFailed given
+    (lines, ap (λ b. if b then Some lines else None) is)
 
 -- commands: if the output of `normalize` cannot be written, that failure is its error,
 -- as the text is of its kind
@@ -41,6 +40,18 @@ pub failed-output-is-error-of-normalize : {A : Type 0} (name : KindName) (text :
 failed-output-is-error-of-normalize name text result is given =
     let lines = normal_form_of (kind_named name) text ++ codes "\n" in
     if_err-of-equal-error (IsErrorOfCommand (Normalize name text)) result OutputFailed given
+    (lines, ap (λ b. if b then Some lines else None) is)
+
+-- commands: if the output of `mend` cannot be written, that failure is its error,
+-- as the link was mended
+pub failed-output-is-error-of-mend : {A : Type 0} (name : KindName) (text : List ℕ)
+    (result : Result A CommandError)
+    → can_be_mended (kind_named name) (trimmed_link text) ≡ true
+    → IfErr result (λ why. why ≡ OutputFailed)
+    → IfErr result (IsErrorOfCommand (Mend name text))
+failed-output-is-error-of-mend name text result is given =
+    let lines = mended_text (kind_named name) (trimmed_link text) ++ codes "\n" in
+    if_err-of-equal-error (IsErrorOfCommand (Mend name text)) result OutputFailed given
     (lines, ap (λ b. if b then Some lines else None) is)
 
 -- commands: if the output of `resolve` cannot be written, that failure is its error, as the texts
@@ -62,8 +73,8 @@ pub failed-output-is-error-of-links : {A : Type 0} (base reference : List ℕ)
     (others : List (List ℕ))
     (result : Result A CommandError)
     → IsOfKind uri base → are_of_kind uri_ref (reference ∷ others) ≡ true
-    → IsErrAnd result (λ why. why ≡ OutputFailed)
+    → IfErr result (λ why. why ≡ OutputFailed)
     → IfErr result (IsErrorOfCommand (Links base reference others))
 failed-output-is-error-of-links base reference others result b r given =
-    IfErr-of-only-error (IsErrorOfCommand (Links base reference others)) result OutputFailed given
+    if_err-of-equal-error (IsErrorOfCommand (Links base reference others)) result OutputFailed given
     (link_lines base (reference ∷ others), cc (b, r))

@@ -1,11 +1,13 @@
 -- The error that is returned for a text that is not of its kind.
-use Rattle.std.proofs.Common.{◌≡◌, ◌↔◌, List, ℕ, Result, Ok, Err, Some, sym, ap, ◌∙◌, subst}
+use Rattle.std.proofs.Common.{◌≡◌, ◌↔◌, ◌++◌, List, ℕ, Result, Ok, Err, Some, sym, ap, ◌∙◌}
+use Rattle.std.proofs.Common.{append_assoc, codes, subst}
 use Rattle.std.specs.Prelude.{IsOk, IfErr, MatchResult, is_ok}
 use Rattle.std.specs.Result.{IsErrAnd}
 use Rattle.fluent_uri.specs.Grammar.{Kind, IsOfKind}
 use Rattle.fluent_uri.specs.Refusals.{refusal}
 use Rattle.fluent_uri.specs.declared.ParseError.{ParseError}
-use Rattle.uri_commands.specs.Refusals.{IsErrorOf}
+use Rattle.uri_commands.specs.Refusals.{IsErrorOf, command_error_text, error_line}
+use Rattle.uri_commands.specs.declared.refusal.CommandError.{CommandError}
 use Rattle.fluent_uri.proofs.Outcomes.{IfErr-of-only-error}
 
 -- general fact on errors: what holds of e holds of an error that can only be e;
@@ -49,3 +51,12 @@ pub mapped-ok-is-of-kind : {A B E : Type 0} (kind : Kind) (text : List ℕ) (par
     → IsOfKind kind text
 mapped-ok-is-of-kind kind text parsed mapped value accepts variant was =
     accepts.0 (sym variant ∙ ap is_ok was)
+
+-- commands: the line of an error is written in parts
+pub error-line-in-parts : (subject text index : List ℕ) (why : CommandError)
+    → subject ++ text ++ index ≡ command_error_text why
+    → (codes "error: " ++ subject) ++ ((text ++ index) ++ codes "\n") ≡ error_line why
+error-line-in-parts subject text index why is =
+    sym (append_assoc (codes "error: " ++ subject) (text ++ index) (codes "\n"))
+    ∙ ap (λ l. l ++ codes "\n") (append_assoc (codes "error: ") subject (text ++ index)
+    ∙ ap (λ l. codes "error: " ++ l) (sym (append_assoc subject text index) ∙ is))

@@ -1,5 +1,5 @@
 -- The command of contracts that a command of the program is.
-use Rattle.uri_commands.specs.Commands.{Command, Parse, Normalize, Resolve, Links, texts}
+use Rattle.uri_commands.specs.Commands.{Command, Parse, Normalize, Mend, Resolve, Links, texts}
 use Rattle.uri_commands.specs.declared.command.Command.{Command as Words}
 use Rattle.uri_commands.specs.declared.command.Command.TheVariants as words
 
@@ -7,6 +7,7 @@ use Rattle.uri_commands.specs.declared.command.Command.TheVariants as words
 abbrev pub contract_command : Words → Command
 contract_command (words.Parse name text) = Parse name text.now
 contract_command (words.Normalize name text) = Normalize name text.now
+contract_command (words.Mend name text) = Mend name text.now
 contract_command (words.Resolve name base reference) = Resolve name base.now reference.now
 contract_command (words.Links base reference others) = Links base.now reference.now
     (texts others.now)

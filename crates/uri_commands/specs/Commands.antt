@@ -1,5 +1,5 @@
 -- The commands that the words of a command line make, and the output of each.
-use Rattle.std.specs.Prelude.{◌≡◌, Bool, ℕ, ◌&&◌, List, [], ◌∷◌, ◌++◌, codes, map, String}
+use Rattle.std.specs.Prelude.{◌≡◌, ◌⊎◌, Bool, ℕ, ◌&&◌, List, [], ◌∷◌, ◌++◌, codes, map, String}
 use Rattle.std.specs.Prelude.{string_bytes, Option, Some, None, option_map, if◌then◌else◌}
 use Rattle.std.specs.Io.KnownBytes.{Appends}
 use Rattle.std.specs.List.{list_all}
@@ -12,6 +12,8 @@ use Rattle.fluent_uri.specs.SchemePorts.{default_port}
 use Rattle.fluent_uri.specs.Target.{resolution_of}
 use Rattle.uri_commands.specs.Lines.{component_lines}
 use Rattle.uri_commands.specs.Links.{link_lines}
+use Rattle.uri_mend.specs.Mending.{can_be_mended, mended_text}
+use Rattle.uri_mend.specs.Trimming.{trimmed_link}
 use Rattle.uri_commands.specs.declared.command.BaseName.{BaseName}
 use Rattle.uri_commands.specs.declared.command.BaseName.TheVariants as bases
 use Rattle.uri_commands.specs.declared.command.KindName.{KindName}
@@ -47,11 +49,12 @@ word_of_base bases.Uri = codes "uri"
 word_of_base bases.Iri = codes "iri"
 
 -- A command of `uritool`, with its kind and its texts in the order of the command line.
--- They are `parse KIND TEXT`, `normalize KIND TEXT`, `resolve uri|iri BASE REF`, and `links BASE
--- REF...` with its first reference and the others.
+-- They are `parse KIND TEXT`, `normalize KIND TEXT`, `mend KIND TEXT`, `resolve uri|iri BASE REF`,
+-- and `links BASE REF...` with its first reference and the others.
 pub data Command : Type 0 where
   Parse : KindName → List ℕ → Command
   Normalize : KindName → List ℕ → Command
+  Mend : KindName → List ℕ → Command
   Resolve : BaseName → List ℕ → List ℕ → Command
   Links : List ℕ → List ℕ → List (List ℕ) → Command
 
@@ -59,6 +62,7 @@ pub data Command : Type 0 where
 abbrev pub words_of : Command → List (List ℕ)
 words_of (Parse name text) = codes "parse" ∷ word_of_kind name ∷ text ∷ []
 words_of (Normalize name text) = codes "normalize" ∷ word_of_kind name ∷ text ∷ []
+words_of (Mend name text) = codes "mend" ∷ word_of_kind name ∷ text ∷ []
 words_of (Resolve name base reference) = codes "resolve" ∷ word_of_base name ∷ base ∷ reference ∷ []
 words_of (Links base reference others) = codes "links" ∷ base ∷ reference ∷ others
 
@@ -82,6 +86,9 @@ output_of (Normalize name text) =
     if is_of_kind (kind_named name) text
     then Some (normal_form_of (kind_named name) text ++ codes "\n")
     else None
+output_of (Mend name text) =
+    if can_be_mended (kind_named name) (trimmed_link text)
+    then Some (mended_text (kind_named name) (trimmed_link text) ++ codes "\n") else None
 output_of (Resolve name base reference) =
     if is_of_kind (kind_of_base name) base && is_of_kind (kind_of_references name) reference
     then option_map (λ target. target ++ codes "\n") (target_text base reference) else None
@@ -96,6 +103,21 @@ texts words = map string_bytes words
 -- the words of a command line are those of a command of `uritool`
 abbrev pub IsCommand : List (List ℕ) → Type 0
 IsCommand words = (command : Command) × (words ≡ words_of command)
+
+-- the name is that of a command of `uritool` on one text
+abbrev pub IsNameOfTextCommand : List ℕ → Type 0
+IsNameOfTextCommand name =
+    (name ≡ codes "parse") ⊎ ((name ≡ codes "normalize") ⊎ (name ≡ codes "mend"))
+
+-- the words of a command line are those of a command of `uritool` on one text
+abbrev pub AreWordsOfTextCommand : List (List ℕ) → Type 0
+AreWordsOfTextCommand words = (name : List ℕ) × (kind : KindName) × (text : List ℕ)
+    × (words ≡ name ∷ word_of_kind kind ∷ text ∷ []) × IsNameOfTextCommand name
+
+-- the words of a command line are those of the command `resolve` of `uritool`
+abbrev pub AreWordsOfResolve : List (List ℕ) → Type 0
+AreWordsOfResolve words = (name : BaseName) × (base : List ℕ) × (reference : List ℕ)
+    × (words ≡ words_of (Resolve name base reference))
 
 -- the words of a command line are those of the command `links` of `uritool`
 abbrev pub AreWordsOfLinks : List (List ℕ) → Type 0

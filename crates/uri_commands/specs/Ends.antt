@@ -1,8 +1,11 @@
 -- How a command ends: what the output and the error output got.
-use Rattle.std.specs.Prelude.{◌≡◌, ℕ, List, Option, Result, OnOk, Some, None}
+use Rattle.std.specs.Prelude.{◌≡◌, ℕ, Bool, true, false, List, Option, Some, None, IsTrue}
+use Rattle.std.specs.Prelude.{Result, Ok, Err}
 use Rattle.std.specs.Io.KnownBytes.{Appends, Keeps}
 use Rattle.uri_commands.specs.Commands.{Command, output_of, words_of}
 use Rattle.uri_commands.specs.Prefixes.{AppendsPrefix}
+use Rattle.uri_commands.specs.declared.refusal.CommandError.{CommandError}
+use Rattle.uri_commands.specs.declared.refusal.CommandError.TheVariants.{OutputFailed}
 
 -- A run of `uritool` succeeded: the words are a command with an output, `out` got it, and `err` got
 -- nothing.
@@ -21,9 +24,18 @@ IsFailure words out out_new status =
     (command : Command) → words ≡ words_of command → output_of command ≡ None
     → (status ≡ 1) × Keeps out out_new
 
--- a writer of `uritool` got the line, or a prefix of it if the result is that the write failed; the
--- Options are its bytes before and after
-abbrev pub WritesLineOrPrefix : {A E : Type 0} → Option (List ℕ) → Option (List ℕ) → List ℕ
-    → Result A E → Type 0
-WritesLineOrPrefix old new line shown = AppendsPrefix old new line
-    × OnOk shown (Appends old new line)
+-- a writer of `uritool` got the line, or a prefix of it if the Bool, whether it was written whole, is
+-- false; the Options are its bytes before and after
+abbrev pub WritesLineOrPrefix : Option (List ℕ) → Option (List ℕ) → List ℕ → Bool → Type 0
+WritesLineOrPrefix old new line is_shown = AppendsPrefix old new line
+    × (IsTrue is_shown → Appends old new line)
+
+-- whether the error of a command of `uritool` is that its output cannot be written
+abbrev pub is_output_failure : CommandError → Bool
+is_output_failure OutputFailed = true
+is_output_failure why = false
+
+-- whether a command of `uritool` failed since its output cannot be written
+abbrev pub has_output_failed : {A : Type 0} → Result A CommandError → Bool
+has_output_failed (Ok value) = false
+has_output_failed (Err why) = is_output_failure why

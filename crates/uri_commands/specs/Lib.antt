@@ -2,11 +2,13 @@ pub mod Lines
 pub mod Texts
 pub mod Messages
 pub mod Links
+pub mod MendedLinks
 pub mod Commands
 pub mod Asked
 pub mod Refusals
 pub mod Ends
 pub mod Prefixes
+pub mod Sinks
 pub mod NotedLinks
 pub use Rattle.fluent_uri.specs.Components
 pub use Rattle.fluent_uri.specs.Errors

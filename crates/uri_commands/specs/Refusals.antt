@@ -4,8 +4,12 @@ use Rattle.fluent_uri.specs.Components.{components}
 use Rattle.fluent_uri.specs.Grammar.{Kind, IsOfKind, uri, uri_ref}
 use Rattle.fluent_uri.specs.Refusals.{refusal}
 use Rattle.fluent_uri.specs.Resolving.{IsErrorWithUnderflowAllowed}
-use Rattle.uri_commands.specs.Commands.{Command, Parse, Normalize, Resolve, Links, are_of_kind}
-use Rattle.uri_commands.specs.Commands.{kind_named, kind_of_base, kind_of_references, output_of}
+use Rattle.uri_commands.specs.Commands.{Command, Parse, Normalize, Mend, Resolve, Links}
+use Rattle.uri_commands.specs.Commands.{are_of_kind, kind_named, kind_of_base}
+use Rattle.uri_commands.specs.Commands.{kind_of_references, output_of}
+use Rattle.uri_mend.specs.Refusing.{IsMendErrorOf}
+use Rattle.uri_mend.specs.Trimming.{trimmed_link}
+use Rattle.uri_mend.specs.declared.error.MendError.TheVariants.{Unmendable}
 use Rattle.uri_commands.specs.Messages.{error_text, resolve_error_text}
 use Rattle.uri_commands.specs.declared.refusal.CommandError.{CommandError}
 use Rattle.uri_commands.specs.declared.refusal.CommandError.TheVariants.{Text, Base, Reference}
@@ -28,7 +32,7 @@ error_line why = codes "error: " ++ command_error_text why ++ codes "\n"
 
 -- the line on the error output of `uritool` for words that make no command
 abbrev pub usage_line : List ℕ
-usage_line = codes "usage: uritool parse KIND TEXT | normalize KIND TEXT | resolve uri|iri BASE REF | links BASE REF...\n"
+usage_line = codes "usage: uritool parse KIND TEXT | normalize KIND TEXT | mend KIND TEXT | resolve uri|iri BASE REF | links BASE REF...\n"
 
 -- a text of a command of `uritool` is not of the kind, and this is its parse error
 abbrev pub IsErrorOf : Kind → List ℕ → ParseError → Type 0
@@ -48,6 +52,10 @@ abbrev pub IsErrorOfCommand : Command → CommandError → Type 0
 IsErrorOfCommand (Parse name text) (Text e) = IsErrorOf (kind_named name) text e
 IsErrorOfCommand (Normalize name text) (Text e) = IsErrorOf (kind_named name) text e
 IsErrorOfCommand (Normalize name text) OutOfMemory = IsOfKind (kind_named name) text
+IsErrorOfCommand (Mend name text) (Text e) =
+    IsMendErrorOf (kind_named name) (trimmed_link text) (Unmendable e)
+-- memory is asked for before the link is parsed
+IsErrorOfCommand (Mend name text) OutOfMemory = Unit {0}
 IsErrorOfCommand (Resolve name base reference) (Base e) = IsErrorOf (kind_of_base name) base e
 IsErrorOfCommand (Resolve name base reference) (Reference e) =
     IsOfKind (kind_of_base name) base × IsErrorOf (kind_of_references name) reference e

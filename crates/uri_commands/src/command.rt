@@ -1,7 +1,8 @@
 //! The command that the words of a command line make.
-ghost use Rattle.std.specs.Prelude.{◌≡◌, ◌≢◌, MatchOption};
-ghost use Rattle.uri_commands.specs.Commands.{AreWordsOfLinks, IsCommand, word_of_base};
-ghost use Rattle.uri_commands.specs.Commands.{word_of_kind};
+ghost use Rattle.std.specs.Prelude.{◌≡◌, ◌≢◌, ◌∷◌, [], MatchOption};
+ghost use Rattle.uri_commands.specs.Commands.{AreWordsOfLinks, AreWordsOfResolve};
+ghost use Rattle.uri_commands.specs.Commands.{AreWordsOfTextCommand, IsCommand};
+ghost use Rattle.uri_commands.specs.Commands.{IsNameOfTextCommand, word_of_base, word_of_kind};
 ghost use Rattle.uri_commands.specs.Commands.{words_of, texts};
 ghost use Rattle.uri_commands.specs.Asked.{contract_command};
 
@@ -34,6 +35,8 @@ pub enum Command<'a> {
     Parse(KindName, &'a str),
     /// `normalize KIND TEXT`
     Normalize(KindName, &'a str),
+    /// `mend KIND TEXT`
+    Mend(KindName, &'a str),
     /// `resolve uri|iri BASE REF`
     Resolve(BaseName, &'a str, &'a str),
     /// `links BASE REF...`: the base, the first reference and the others
@@ -46,19 +49,54 @@ impl<'a> Command<'a> {
         ensures { MatchOption result (¬ IsCommand (texts words.now))
             (λ c. texts words.now ≡ words_of (contract_command c)) }
     {
-        match words {
-            [command, kind, text] if command.as_str() == "parse" => {
-                Some(Command::Parse(kind_named(kind.as_str())?, text.as_str()))
-            }
-            [command, kind, text] if command.as_str() == "normalize" => {
-                Some(Command::Normalize(kind_named(kind.as_str())?, text.as_str()))
-            }
-            [command, kind, base, reference] if command.as_str() == "resolve" => {
-                let kind = base_named(kind.as_str())?;
-                Some(Command::Resolve(kind, base.as_str(), reference.as_str()))
-            }
-            _ => links_from_words(words),
+        if let Some(command) = text_command_from_words(words) {
+            return Some(command);
         }
+        if let Some(command) = resolve_from_words(words) {
+            return Some(command);
+        }
+        links_from_words(words)
+    }
+}
+
+/// Returns the command `parse`, `normalize` or `mend` of the words, if they make one.
+fn text_command_from_words(words: &[String]) -> Option<Command<'_>>
+    ensures { MatchOption result (¬ AreWordsOfTextCommand (texts words.now))
+        (λ c. texts words.now ≡ words_of (contract_command c)) }
+{
+    match words {
+        [command, kind, text] => {
+            let kind = kind_named(kind.as_str())?;
+            text_command(command.as_str(), kind, text.as_str())
+        }
+        _ => None,
+    }
+}
+
+/// Returns the command of this name on a text of the kind, if there is one.
+fn text_command<'a>(name: &str, kind: KindName, text: &'a str) -> Option<Command<'a>>
+    ensures { MatchOption result (¬ IsNameOfTextCommand name.now)
+        (λ c. name.now ∷ word_of_kind kind ∷ text.now ∷ [] ≡ words_of (contract_command c)) }
+{
+    match name {
+        "parse" => Some(Command::Parse(kind, text)),
+        "normalize" => Some(Command::Normalize(kind, text)),
+        "mend" => Some(Command::Mend(kind, text)),
+        _ => None,
+    }
+}
+
+/// Returns the command `resolve` of the words, if they make it.
+fn resolve_from_words(words: &[String]) -> Option<Command<'_>>
+    ensures { MatchOption result (¬ AreWordsOfResolve (texts words.now))
+        (λ c. texts words.now ≡ words_of (contract_command c)) }
+{
+    match words {
+        [command, kind, base, reference] if command.as_str() == "resolve" => {
+            let kind = base_named(kind.as_str())?;
+            Some(Command::Resolve(kind, base.as_str(), reference.as_str()))
+        }
+        _ => None,
     }
 }
 

@@ -4,8 +4,11 @@
 mod command;
 mod lines;
 mod links;
+mod mend;
+pub mod mending;
 mod normal;
 pub mod refusal;
 pub mod run;
+pub mod sink;
 mod target;
-mod write_text;
+mod usage;

@@ -1,7 +1,7 @@
 //! The command `links BASE REF...`: the outcomes of references that are noted one after the other
 //! against a base.
-ghost use Rattle.std.specs.Prelude.{◌≡◌, ◌≢◌, ◌<◌, ◌∷◌, ◌++◌, ℕ, List, IfOk, IfErr, OnOk, All};
-ghost use Rattle.std.specs.Prelude.{length, map, true, codes};
+ghost use Rattle.std.specs.Prelude.{◌≡◌, ◌≢◌, ◌<◌, ◌∷◌, ◌++◌, ◌||◌, ℕ, List, IfOk, IfErr, All};
+ghost use Rattle.std.specs.Prelude.{IsTrue, length, map, not, true, false, codes};
 ghost use Rattle.std.specs.Io.KnownBytes.{Appends};
 ghost use Rattle.fluent_uri.specs.Grammar.{IsOfKind, uri, uri_ref};
 ghost use Rattle.fluent_uri.specs.Uris.{uri_ref_text};
@@ -10,15 +10,18 @@ ghost use Rattle.uri_links.specs.Registers.{texts_of};
 ghost use Rattle.uri_commands.specs.Commands.{Links, are_of_kind, texts};
 ghost use Rattle.uri_commands.specs.Links.{link_lines, outcome_line, target_line, text_at};
 ghost use Rattle.uri_commands.specs.NotedLinks.{EachIdHasTarget, lines_in};
+ghost use Rattle.uri_commands.specs.Ends.{has_output_failed};
 ghost use Rattle.uri_commands.specs.Refusals.{IsErrorOf, IsErrorOfCommand};
 ghost use Rattle.uri_commands.specs.declared.refusal.CommandError.TheVariants.{Reference};
 ghost use Rattle.fluent_uri.specs.declared.ParseError.{ParseError};
 
 use crate::refusal::{CommandError, resolve_message};
+use crate::sink::{Sink, put_both};
 use fluent_uri::normalize::{Normalizer, SchemeDefaults};
 use fluent_uri::{Uri, UriRef};
+use itoa::Buffer;
 use std::alloc::Global;
-use std::io::{self, Write};
+use std::io::Write;
 use uri_links::links::{Outcome, Register};
 
 /// The outcomes of references, and the register that has their targets.
@@ -50,6 +53,7 @@ pub fn noted(
     ensures targets { IfOk result EachIdHasTarget }
     ensures lines { IfOk result (λ noted.
         lines_in noted ≡ link_lines base.now (reference.now ∷ texts others.now)) }
+    ensures unwritten { has_output_failed result ≡ false }
 {
     let base = Uri::<&str>::parse(base).map_err(CommandError::Base)?;
     let references = parse_references(alloc, reference, others)?;
@@ -75,6 +79,7 @@ fn parse_references<'a>(
         are_of_kind uri_ref (reference.now ∷ texts others.now) ≡ true) }
     ensures refused { (base : List ℕ) → IsOfKind uri base
         → IfErr result (IsErrorOfCommand (Links base reference.now (texts others.now))) }
+    ensures unwritten { has_output_failed result ≡ false }
 {
     let mut references = Vec::new(alloc);
     let mut is_refused = references.push(parse_reference(reference)?).is_err();
@@ -99,49 +104,79 @@ fn parse_reference(word: &str) -> Result<UriRef<&str>, CommandError>
 }
 
 impl NotedLinks {
-    /// Writes a line of `links` for each reference that was noted.
-    pub fn write_lines<O: Write>(&self, out: &mut O) -> io::Result<()>
+    /// Writes a line of `links` for each reference that was noted. Returns whether all were
+    /// written.
+    pub fn write_lines<O: Write>(&self, out: &mut Sink<O>) -> bool
         requires { EachIdHasTarget self.now }
-        ensures { OnOk result
-            (Appends (O.contents out.old) (O.contents out.new) (lines_in self.now)) }
+        ensures whole { IsTrue result → Appends (O.contents out.old.writer)
+            (O.contents out.new.writer) (lines_in self.now) }
+        ensures failed { out.new.has_failed ≡ (not result || out.old.has_failed) }
     {
         for &outcome in self.outcomes.as_slice() {
-            write_outcome(out, &self.register, outcome)?;
+            if !write_outcome(out, &self.register, outcome) {
+                return false;
+            }
         }
-        Ok(())
+        true
     }
 }
 
-/// Writes the line of `links` for an outcome of noting a reference.
+/// Writes the line of `links` for an outcome of noting a reference. Returns whether it was written
+/// whole.
 fn write_outcome<O: Write>(
-    out: &mut O,
+    out: &mut Sink<O>,
     register: &Register<SchemeDefaults>,
     outcome: Outcome,
-) -> io::Result<()>
+) -> bool
     requires { IdIsInRange (texts_of register.now) outcome }
-    ensures { OnOk result (Appends (O.contents out.old) (O.contents out.new)
-        (outcome_line (texts_of register.now) outcome)) }
+    ensures whole { IsTrue result → Appends (O.contents out.old.writer)
+        (O.contents out.new.writer) (outcome_line (texts_of register.now) outcome) }
+    ensures failed { out.new.has_failed ≡ (not result || out.old.has_failed) }
 {
     match outcome {
         Outcome::New(id) => write_target(out, "new", register, id),
         Outcome::Known(id) => write_target(out, "known", register, id),
-        Outcome::Refused(error) => writeln!(out, "refused {}", resolve_message(error)),
+        Outcome::Refused(error) => write_refused(out, resolve_message(error)),
     }
 }
 
-/// Writes the line of `links` for a target: a word, its id and its text.
+/// Writes the line of `links` for a reference that has no target. Returns whether it was written
+/// whole.
+fn write_refused<O: Write>(out: &mut Sink<O>, message: &str) -> bool
+    ensures whole { IsTrue result → Appends (O.contents out.old.writer)
+        (O.contents out.new.writer) (codes "refused " ++ message.now ++ codes "\n") }
+    ensures failed { out.new.has_failed ≡ (not result || out.old.has_failed) }
+{
+    put_both(out, b"refused ", message.as_bytes()) && out.put(b"\n")
+}
+
+/// Writes the line of `links` for a target: a word, its id and its text. Returns whether it was
+/// written whole.
 fn write_target<O: Write>(
-    out: &mut O,
+    out: &mut Sink<O>,
     word: &str,
     register: &Register<SchemeDefaults>,
     id: usize,
-) -> io::Result<()>
+) -> bool
     requires { id < length (texts_of register.now) }
-    ensures { OnOk result (Appends (O.contents out.old) (O.contents out.new)
-        (target_line word.now id (text_at (texts_of register.now) id))) }
+    ensures whole { IsTrue result → Appends (O.contents out.old.writer)
+        (O.contents out.new.writer) (target_line word.now id (text_at (texts_of register.now) id)) }
+    ensures failed { out.new.has_failed ≡ (not result || out.old.has_failed) }
 {
     match register.target(id) {
-        Some(target) => writeln!(out, "{word} {id} {}", target.as_str()),
+        Some(target) => write_words(out, word, id, target.as_str()),
         None => unreachable!(),
     }
+}
+
+/// Writes a line of a word, a number and a text. Returns whether it was written whole.
+fn write_words<O: Write>(out: &mut Sink<O>, word: &str, number: usize, text: &str) -> bool
+    ensures whole { IsTrue result → Appends (O.contents out.old.writer)
+        (O.contents out.new.writer) (target_line word.now number text.now) }
+    ensures failed { out.new.has_failed ≡ (not result || out.old.has_failed) }
+{
+    let mut digits = Buffer::new();
+    put_both(out, word.as_bytes(), b" ")
+        && put_both(out, digits.format(number).as_bytes(), b" ")
+        && put_both(out, text.as_bytes(), b"\n")
 }

@@ -1,7 +1,8 @@
 //! The command `normalize KIND TEXT` (RFC 3986, section 6.2.2).
-ghost use Rattle.std.specs.Prelude.{◌≡◌, IfOk, IfErr, string_bytes};
+ghost use Rattle.std.specs.Prelude.{◌≡◌, false, IfOk, IfErr, string_bytes};
 ghost use Rattle.fluent_uri.specs.Grammar.{IsOfKind};
 ghost use Rattle.uri_commands.specs.Commands.{Normalize, kind_named, normal_form_of};
+ghost use Rattle.uri_commands.specs.Ends.{has_output_failed};
 ghost use Rattle.uri_commands.specs.Refusals.{IsErrorOfCommand};
 
 use crate::command::KindName;
@@ -20,6 +21,7 @@ pub fn normalize_text(alloc: Global, kind: KindName, text: &str) -> Result<Strin
     ensures refused { IfErr result (IsErrorOfCommand (Normalize kind text.now)) }
     ensures normal { IfOk result (λ normal. string_bytes normal
         ≡ normal_form_of (kind_named kind) text.now) }
+    ensures unwritten { has_output_failed result ≡ false }
 {
     Ok(match kind {
         KindName::Uri => Uri::<&str>::parse(text)?.normalize(alloc)?.into_string(),

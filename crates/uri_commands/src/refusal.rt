@@ -1,20 +1,18 @@
 //! Why a command fails, and the line that says so.
-ghost use Rattle.std.specs.Prelude.{◌≡◌, IfOk, OnOk};
+ghost use Rattle.std.specs.Prelude.{◌≡◌, ◌||◌, ◌++◌, IsTrue, codes, not};
 ghost use Rattle.std.specs.Io.KnownBytes.{Appends};
 ghost use Rattle.uri_commands.specs.Prefixes.{AppendsPrefix};
-ghost use Rattle.uri_commands.specs.Messages.{error_kind_text, resolve_error_text};
-ghost use Rattle.uri_commands.specs.Refusals.{error_line};
+ghost use Rattle.uri_commands.specs.Messages.{error_kind_text, error_text, index_text, message_text};
+ghost use Rattle.uri_commands.specs.Messages.{resolve_error_text};
+ghost use Rattle.uri_commands.specs.Refusals.{command_error_text, error_line};
 
-use crate::write_text::put;
-use arrayvec::ArrayString;
+use crate::sink::{Sink, put_both};
 use fluent_uri::resolve::ResolveError;
 use fluent_uri::{ParseError, ParseErrorKind};
+use itoa::Buffer;
 use std::alloc::AllocError;
-use std::fmt::{self, Display, Write};
-use std::io::{self, ErrorKind};
-
-/// The capacity of a line. The longest has 119 bytes: a reference against an opaque base.
-const LINE_CAPACITY: usize = 128;
+use std::fmt::{self, Display};
+use std::io;
 
 /// Why a command fails.
 #[derive(Clone, Copy)]
@@ -33,28 +31,107 @@ pub enum CommandError {
     OutputFailed,
 }
 
-impl CommandError {
-    /// Writes the line of a command's error: `error: `, its text and a newline. If the writer
-    /// fails, it got a prefix of the line.
-    pub fn show<E: io::Write>(self, err: &mut E) -> io::Result<()>
-        ensures whole { OnOk result
-            (Appends (E.contents err.old) (E.contents err.new) (error_line self)) }
-        ensures prefix { AppendsPrefix (E.contents err.old) (E.contents err.new) (error_line self) }
+/// The message of a command's error: what it is about, what is wrong, and where.
+#[derive(Clone, Copy)]
+struct Message {
+    /// `base: ` or `reference: `, or nothing.
+    subject: &'static str,
+    /// What is wrong.
+    text: &'static str,
+    /// At which index of a text, if it is a parse error.
+    index: Option<usize>,
+}
+
+impl Message {
+    /// Returns the message for a parse error of what `subject` says.
+    fn of_parse_error(subject: &'static str, error: ParseError) -> Message
+        ensures { message_text result ≡ subject.now ++ error_text error }
     {
-        match self.line() {
-            Ok(line) => put(err, line.as_str()),
-            Err(_) => Err(io::Error::from(ErrorKind::Other)),
+        Message {
+            subject,
+            text: error_kind_message(error.kind()),
+            index: Some(error.index()),
         }
     }
 
-    /// Returns the line of a command's error: `error: `, its text and a newline.
-    fn line(self) -> Result<ArrayString<LINE_CAPACITY>, fmt::Error>
-        ensures { IfOk result (λ line. line.bytes ≡ error_line self) }
+    /// Returns the message that is only a text.
+    fn of_text(text: &'static str) -> Message
+        ensures { message_text result ≡ text.now }
     {
-        let mut line = ArrayString::new();
-        writeln!(line, "error: {self}")?;
-        Ok(line)
+        Message {
+            subject: "",
+            text,
+            index: None,
+        }
     }
+}
+
+impl CommandError {
+    /// Writes the line of a command's error: `error: `, its text and a newline. Returns whether it
+    /// was written whole. If it was not, the writer failed, and got a prefix of the line.
+    pub fn show<E: io::Write>(self, err: &mut Sink<E>) -> bool
+        ensures whole { IsTrue result → Appends (E.contents err.old.writer)
+            (E.contents err.new.writer) (error_line self) }
+        ensures prefix { AppendsPrefix (E.contents err.old.writer)
+            (E.contents err.new.writer) (error_line self) }
+        ensures failed { err.new.has_failed ≡ (not result || err.old.has_failed) }
+    {
+        let message = self.message();
+        put_both(err, b"error: ", message.subject.as_bytes())
+            && put_line_end(err, message.text, message.index)
+    }
+
+    /// Returns the message of a command's error.
+    fn message(self) -> Message
+        ensures { message_text result ≡ command_error_text self }
+    {
+        match self {
+            CommandError::Text(error) => Message::of_parse_error("", error),
+            CommandError::Base(error) => Message::of_parse_error("base: ", error),
+            CommandError::Reference(error) => Message::of_parse_error("reference: ", error),
+            CommandError::Target(error) => Message::of_text(resolve_message(error)),
+            CommandError::OutOfMemory => Message::of_text("out of memory"),
+            CommandError::OutputFailed => Message::of_text("output failed"),
+        }
+    }
+}
+
+/// Writes the end of an error line: a text, ` at index ` and the index if there is one, and a
+/// newline. Returns whether all was written.
+fn put_line_end<E: io::Write>(err: &mut Sink<E>, text: &str, index: Option<usize>) -> bool
+    ensures whole { IsTrue result → Appends (E.contents err.old.writer)
+        (E.contents err.new.writer) ((text.now ++ index_text index) ++ codes "\n") }
+    ensures prefix { AppendsPrefix (E.contents err.old.writer)
+        (E.contents err.new.writer) ((text.now ++ index_text index) ++ codes "\n") }
+    ensures failed { err.new.has_failed ≡ (not result || err.old.has_failed) }
+{
+    put_indexed(err, text, index) && err.put(b"\n")
+}
+
+/// Writes a text, and ` at index ` and the index if there is one. Returns whether all was written.
+fn put_indexed<E: io::Write>(err: &mut Sink<E>, text: &str, index: Option<usize>) -> bool
+    ensures whole { IsTrue result → Appends (E.contents err.old.writer)
+        (E.contents err.new.writer) (text.now ++ index_text index) }
+    ensures prefix { AppendsPrefix (E.contents err.old.writer)
+        (E.contents err.new.writer) (text.now ++ index_text index) }
+    ensures failed { err.new.has_failed ≡ (not result || err.old.has_failed) }
+{
+    match index {
+        Some(index) => err.put(text.as_bytes()) && put_index(err, index),
+        None => err.put(text.as_bytes()),
+    }
+}
+
+/// Writes ` at index ` and the index. Returns whether all was written.
+fn put_index<E: io::Write>(err: &mut Sink<E>, index: usize) -> bool
+    ensures whole { IsTrue result → Appends (E.contents err.old.writer)
+        (E.contents err.new.writer) (index_text (Some index)) }
+    ensures prefix { AppendsPrefix (E.contents err.old.writer)
+        (E.contents err.new.writer) (index_text (Some index)) }
+    ensures failed { err.new.has_failed ≡ (not result || err.old.has_failed) }
+{
+    let mut digits = Buffer::new();
+    put_both(err, b" at index ", digits.format(index).as_bytes())
 }
 
 /// Prints the text of the error, without `error: ` before it.
@@ -66,35 +143,15 @@ impl Display for CommandError {
 
     /// Prints the text of an error of a command, without `error: ` before it.
     fn fmt<W: fmt::Write>(&self, f: &mut fmt::Formatter<W>) -> fmt::Result {
-        match *self {
-            CommandError::Text(error) => write!(f, "{}", PrintedParseError(error)),
-            CommandError::Base(error) => write!(f, "base: {}", PrintedParseError(error)),
-            CommandError::Reference(error) => write!(f, "reference: {}", PrintedParseError(error)),
-            CommandError::Target(error) => write!(f, "{}", resolve_message(error)),
-            CommandError::OutOfMemory => write!(f, "out of memory"),
-            CommandError::OutputFailed => write!(f, "output failed"),
+        let Message {
+            subject,
+            text,
+            index,
+        } = self.message();
+        match index {
+            Some(index) => write!(f, "{subject}{text} at index {index}"),
+            None => write!(f, "{subject}{text}"),
         }
-    }
-}
-
-/// A parse error, printed by a `Display` that has a contract.
-#[derive(Clone, Copy)]
-struct PrintedParseError(ParseError);
-
-impl Display for PrintedParseError {
-    ghost use Rattle.std.specs.Prelude.{Some};
-    ghost use Rattle.uri_commands.specs.Messages.{error_text};
-
-    ghost output = { λ fault. Some (error_text fault.0) };
-
-    /// Prints a parse error in the line of a command's error: its kind and its index.
-    fn fmt<W: fmt::Write>(&self, f: &mut fmt::Formatter<W>) -> fmt::Result {
-        write!(
-            f,
-            "{} at index {}",
-            error_kind_message(self.0.kind()),
-            self.0.index()
-        )
     }
 }
 
@@ -157,17 +214,5 @@ impl From<ResolveError> for CommandError {
     /// Returns the error of a command for an error of resolving.
     fn from(error: ResolveError) -> CommandError {
         CommandError::Target(error)
-    }
-}
-
-impl From<io::Error> for CommandError {
-    ghost use Rattle.std.specs.Prelude.{◌≡◌};
-    ghost use Rattle.uri_commands.specs.declared.refusal.CommandError.TheVariants.{OutputFailed};
-
-    ghost from_gives = { λ _ refusal. refusal ≡ OutputFailed };
-
-    /// Returns the error of a command for an error of the writer.
-    fn from(_: io::Error) -> CommandError {
-        CommandError::OutputFailed
     }
 }

@@ -1,5 +1,5 @@
 //! The command `resolve uri|iri BASE REF` (RFC 3986, section 5.2).
-ghost use Rattle.std.specs.Prelude.{◌≡◌, IfOk, IfErr, Some, string_bytes};
+ghost use Rattle.std.specs.Prelude.{◌≡◌, false, IfOk, IfErr, Some, string_bytes};
 ghost use Rattle.fluent_uri.specs.Components.{components};
 ghost use Rattle.fluent_uri.specs.Grammar.{IsOfKind};
 ghost use Rattle.fluent_uri.specs.Resolving.{IsErrorWithUnderflowAllowed};
@@ -9,6 +9,7 @@ ghost use Rattle.fluent_uri.specs.Uris.{uri_ref_text};
 ghost use Rattle.fluent_uri.specs.Uris.{uri_text};
 ghost use Rattle.uri_commands.specs.Commands.{Resolve, kind_of_base, kind_of_references};
 ghost use Rattle.uri_commands.specs.Commands.{target_text};
+ghost use Rattle.uri_commands.specs.Ends.{has_output_failed};
 ghost use Rattle.uri_commands.specs.Refusals.{IsErrorOfCommand};
 
 use crate::command::BaseName;
@@ -36,6 +37,7 @@ pub fn target(
     ensures refused { IfErr result (IsErrorOfCommand (Resolve kind base.now reference.now)) }
     ensures target { IfOk result (λ target. target_text base.now reference.now
         ≡ Some (string_bytes target)) }
+    ensures unwritten { has_output_failed result ≡ false }
 {
     Ok(match kind {
         BaseName::Uri => {

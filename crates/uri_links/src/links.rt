@@ -28,8 +28,6 @@ use std::alloc::{AllocError, Global};
 
 /// What `Register::note` returns for a reference. An id is an index into the register, from 0.
 ///
-/// # Examples
-///
 /// Against `http://a/b`, the first `c` is `New(0)`. Then `./c` is `Known(0)`.
 #[derive(Clone, Copy, Debug, PartialEq, Eq)]
 pub enum Outcome {
@@ -105,8 +103,6 @@ impl<P: DefaultPort> Register<P> {
     /// Path underflow is never an error, whatever the normaliser's setting. The register keeps
     /// `alloc` for later calls. This call allocates nothing.
     ///
-    /// # Examples
-    ///
     /// The new register's `len` is 0.
     pub fn new(alloc: Global, normalizer: Normalizer<P>) -> Register<P>
         ensures empty { texts_of result ≡ [] }
@@ -122,8 +118,6 @@ impl<P: DefaultPort> Register<P> {
 
     /// Returns the number of registered targets. Each id is less than it.
     ///
-    /// # Examples
-    ///
     /// After `c` and `./c` were noted against `http://a/b`, it is 1.
     pub fn len(&self) -> usize
         ensures { result ≡ length (texts_of self.now) }
@@ -132,8 +126,6 @@ impl<P: DefaultPort> Register<P> {
     }
 
     /// Returns the registered target with this id, or `None` exactly if the id is not below `len`.
-    ///
-    /// # Examples
     ///
     /// After `//X:80/` was noted against `http://x/a/b`, the target with id 0 is `http://x/`.
     pub fn target(&self, id: usize) -> Option<Uri<&str>>
@@ -228,15 +220,13 @@ impl<P: DefaultPort> Register<P> {
     /// - Otherwise the target's normal form is registered last, and the outcome is `New`.
     /// - If the reference has no target, the outcome is `Refused`, and nothing is registered.
     ///
+    /// Against the base `foo:bar`, `//g` is `Refused(InvalidReferenceAgainstOpaqueBase)`. Then
+    /// `foo:x` is `New(0)`.
+    ///
     /// # Errors
     ///
     /// Returns an error only if allocation fails. The register is then unchanged. For a reference
     /// that has no target no memory is requested, so the outcome is `Refused` even without memory.
-    ///
-    /// # Examples
-    ///
-    /// Against the base `foo:bar`, `//g` is `Refused(InvalidReferenceAgainstOpaqueBase)`. Then
-    /// `foo:x` is `New(0)`.
     pub fn note(
         &mut self,
         base: &Uri<&str>,
@@ -265,15 +255,13 @@ impl<P: DefaultPort> Register<P> {
     /// Notes each of the references against a base, in order, and returns their outcomes in that
     /// order.
     ///
+    /// Against the base `http://x/a/b`, the references `c` and `../a/%63` are `New(0)` and
+    /// `Known(0)`.
+    ///
     /// # Errors
     ///
     /// Returns an error only if allocation fails. The register is then as after noting some prefix
     /// of the references.
-    ///
-    /// # Examples
-    ///
-    /// Against the base `http://x/a/b`, the references `c` and `../a/%63` are `New(0)` and
-    /// `Known(0)`.
     pub fn note_all(
         &mut self,
         base: &Uri<&str>,

@@ -45,10 +45,17 @@ as_components p = record {
 abbrev pub parts_text : BuilderParts → List ℕ
 parts_text p = recompose (as_components p)
 
+-- a step of a builder's draft: what it holds `after` is what it held `before`, so changed, or it is
+-- marked failed
+abbrev pub AddsUnlessFailed : (BuilderParts → BuilderParts) → BuilderParts → BuilderParts → Type 0
+AddsUnlessFailed change before after = after.failed ≡ false → after ≡ change before
+
 -- a step of a builder: what it holds `after` is what it held `before`, so changed, or it is marked
--- failed
-abbrev pub AddsOrFails : (BuilderParts → BuilderParts) → BuilderParts → BuilderParts → Type 0
-AddsOrFails change before after = after.failed ≡ false → after ≡ change before
+-- failed; and a builder that was marked failed stays so
+pub record AddsOrFails (change : BuilderParts → BuilderParts) (before after : BuilderParts)
+    : Type 0 where
+  pub adds : AddsUnlessFailed change before after
+  pub stays : before.failed ≡ true → after.failed ≡ true
 
 -- the parts of a builder, with this text as the scheme (section 3.1)
 abbrev pub with_scheme : List ℕ → BuilderParts → BuilderParts

@@ -6,7 +6,8 @@ use Rattle.std.specs.List.{list_all, list_any, slice_split}
 use Rattle.uri_parts.specs.Components.{starts, before_any, from_any}
 use Rattle.uri_pct.specs.Delimiters.{slash}
 
--- the forms of a dot in a dot segment: `.`, `%2E` and `%2e`
+-- The forms of a dot in a dot segment: `.`, `%2E` and `%2e`.
+-- Not in the RFC: section 5.2.4 names `.` alone. `%2E` is equivalent to it (section 6.2.2.2).
 abbrev pub dots : List (List ℕ)
 dots = codes "." ∷ codes "%2E" ∷ codes "%2e" ∷ []
 
@@ -106,8 +107,8 @@ unfoldable pub underflows : List ℕ → Bool
 underflows path = (buffers_after_removal path).underflowed
 
 -- What of the base's path is before a merged path: the path up to its last `/` (section 5.2.3).
--- Other than in the RFC, a base path that ends in a double dot is kept whole, so that its dots may
--- be removed first or last.
+-- Not in the RFC: a base path that ends in a double dot is kept whole, so that its dots may be
+-- removed first or last.
 unfoldable pub directory : List ℕ → List ℕ
 directory path =
     if is_empty path then codes "/"

@@ -1,5 +1,5 @@
 -- Resolving and normalising in one: RFC 3986, sections 5.2 and 6.2.2.
-use Rattle.std.specs.Prelude.{ℕ, List, Result, false, ◌≡◌, true, Ok, Err, is_ok}
+use Rattle.std.specs.Prelude.{ℕ, Bool, List, Result, false, ◌≡◌, true, Ok, Err, is_ok}
 use Rattle.std.specs.Result.{result_map_both}
 use Rattle.uri_parts.specs.Grammar.{Kind, IsTextOf}
 use Rattle.uri_parts.specs.Ports.{PortFunction}
@@ -45,6 +45,11 @@ IsErrorUnderSomeSetting base r Of.InvalidReferenceAgainstOpaqueBase =
 IsErrorUnderSomeSetting base r Of.PathUnderflow = is_ok (resolution_of base r) ≡ true
 IsErrorUnderSomeSetting base r Of.OutOfMemory = is_ok (resolution_of base r) ≡ true
 
+-- the same where the setting, the Bool, is whether underflow is allowed
+abbrev pub IsErrorUnderSetting : Bool → Components → Components → ResolveError → Type 0
+IsErrorUnderSetting true = IsErrorWithUnderflowAllowed
+IsErrorUnderSetting false = IsErrorUnderSomeSetting
+
 -- the target of a base of the first kind and a reference of the second: an equivalent base and
 -- reference have an equivalent target
 pub record IsTargetOfMeanings (kind of_reference : Kind)
@@ -52,13 +57,14 @@ pub record IsTargetOfMeanings (kind of_reference : Kind)
   pub alike : (ports : PortFunction) (b r : List ℕ) → HasMeaningOf kind ports base b
       → HasMeaningOf of_reference ports reference r → HasTargetMeaning kind ports b r target
 
--- the error of resolving for a base of the first kind and a reference of the second: some setting
--- returns it for an equivalent base and reference, too
-pub record IsErrorOfMeanings (kind of_reference : Kind) (base reference : List ℕ)
-    (error : ResolveError) : Type 0 where
+-- the error of resolving for a base of the first kind and a reference of the second, where the Bool
+-- is whether underflow is allowed: it is that of an equivalent base and reference, too. Where
+-- underflow is not allowed, equivalent texts may differ in whether they underflow.
+pub record IsErrorOfMeanings (allowed : Bool) (kind of_reference : Kind)
+    (base reference : List ℕ) (error : ResolveError) : Type 0 where
   pub alike : (ports : PortFunction) (b r : List ℕ) → HasMeaningOf kind ports base b
       → HasMeaningOf of_reference ports reference r
-      → IsErrorUnderSomeSetting (components b) (components r) error
+      → IsErrorUnderSetting allowed (components b) (components r) error
 
 -- the base and the reference, in this order, have a target, and the last text is its normal form
 abbrev pub IsNormalFormOfTarget : Kind → PortFunction → List ℕ → List ℕ → List ℕ → Type 0
@@ -75,6 +81,12 @@ pub record IsNormalTarget (kind of_reference : Kind) (ports : PortFunction)
   -- it is the normal form of the target of any equivalent base and reference, too
   pub swap : (b r : List ℕ) → HasMeaningOf kind ports base b
       → HasMeaningOf of_reference ports reference r → IsNormalFormOfTarget kind ports b r normal
+  -- no other text is the normal form of the target
+  pub only : (n : List ℕ) → IsNormalFormOfTarget kind ports base reference n → n ≡ normal
+  -- nor is one that of the target of an equivalent base and reference, such as their normal forms
+  pub same : (b r n : List ℕ) → HasMeaningOf kind ports base b
+      → HasMeaningOf of_reference ports reference r → IsNormalFormOfTarget kind ports b r n
+      → n ≡ normal
 
 -- the error of resolving and normalising a base of the first kind and a reference of the second
 -- (sections 5.2 and 6.2.2)

@@ -27,10 +27,11 @@ pub record HasNormalText (kind : Kind) (ports : PortFunction)
     (source normal : List ℕ) : Type 0 where
   pub text : normal ≡ normal_text (meaning_of kind ports source)
 
--- the text `normal` is the normal form of `source`, a text of the kind: equivalent to it, and that
--- of another text exactly if the two are equivalent
+-- the text `normal` is the normal form of `source`, a text of the kind: of the kind, equivalent to
+-- it, and that of another text exactly if the two are equivalent
 pub record IsNormalForm (kind : Kind) (ports : PortFunction) (source normal : List ℕ) : Type 0 where
   pub text : HasNormalText kind ports source normal
+  pub of_kind : IsTextOf kind normal
   pub meaning : meaning_of kind ports normal ≡ meaning_of kind ports source
   pub same : (other : List ℕ) → IsTextOf kind other
       → (normal ≡ normal_text (meaning_of kind ports other)

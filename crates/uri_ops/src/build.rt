@@ -97,8 +97,6 @@ impl<R: RiMaybeRef, S: StateOf<R>> Builder<R, S> {
     /// Returns the same builder in a later state, as by `advance::<AuthorityEnd>()`. The parts in
     /// between are left out.
     ///
-    /// # Examples
-    ///
     /// `UriRef::<String>::builder(alloc).advance().path(EStr::new_or_panic("a"))` leaves out scheme
     /// and authority.
     pub fn advance<T: StateOf<R>>(self) -> Builder<R, T>
@@ -172,8 +170,6 @@ impl<R: RiMaybeRef, S: StateOf<R>> Builder<R, S> {
     ///
     /// The case of its letters makes no difference; it should be lower.
     ///
-    /// # Examples
-    ///
     /// `scheme(Scheme::new_or_panic("http"))` writes `http:`.
     pub fn scheme(self, scheme: Scheme<'_>) -> Builder<R, SchemeEnd>
     where
@@ -244,8 +240,6 @@ impl<R: RiMaybeRef, S: StateOf<R>> Builder<R, S> {
     /// Gives the authority (RFC 3986, section 3.2): the empty one, or that of another reference.
     /// `authority(Authority::EMPTY)` writes `//`.
     ///
-    /// # Examples
-    ///
     /// `authority(Authority::EMPTY)` writes `//`.
     pub fn authority(
         self,
@@ -264,8 +258,6 @@ impl<R: RiMaybeRef, S: StateOf<R>> Builder<R, S> {
     }
 
     /// Gives the userinfo (RFC 3986, section 3.2.1), without its `@`.
-    ///
-    /// # Examples
     ///
     /// `userinfo(EStr::new_or_panic("user"))` writes `user@`, and `userinfo(EStr::EMPTY)` writes
     /// `@`.
@@ -314,8 +306,6 @@ impl<R: RiMaybeRef, S: StateOf<R>> Builder<R, S> {
     ///
     /// It should be neither empty nor the default port of the scheme.
     ///
-    /// # Examples
-    ///
     /// After a host, `port(8042)` writes `:8042`.
     pub fn port<P: AsPort>(self, port: P) -> Builder<R, PortEnd>
     where
@@ -327,8 +317,6 @@ impl<R: RiMaybeRef, S: StateOf<R>> Builder<R, S> {
     }
 
     /// Gives the port (RFC 3986, section 3.2.3), unless it is the default one, which is left out.
-    ///
-    /// # Examples
     ///
     /// `port_with_default(8080, 80)` writes `:8080`, and `port_with_default(80, 80)` nothing.
     #[tactic(auto, using(crate::specs::BuilderOrder::before_port_is_in_authority))]
@@ -348,8 +336,6 @@ impl<R: RiMaybeRef, S: StateOf<R>> Builder<R, S> {
 
     /// Gives the path (RFC 3986, section 3.3). `EStr::EMPTY` writes nothing.
     ///
-    /// # Examples
-    ///
     /// `path(EStr::new_or_panic("/a/b"))` writes `/a/b`.
     pub fn path(self, path: EStr<'_, R::PathE>) -> Builder<R, PathEnd>
     where
@@ -361,8 +347,6 @@ impl<R: RiMaybeRef, S: StateOf<R>> Builder<R, S> {
     }
 
     /// Gives the query (RFC 3986, section 3.4), without its `?`. `EStr::EMPTY` writes `?`.
-    ///
-    /// # Examples
     ///
     /// `query(EStr::new_or_panic("a=b"))` writes `?a=b`.
     pub fn query(self, query: EStr<'_, R::QueryE>) -> Builder<R, QueryEnd>
@@ -376,8 +360,6 @@ impl<R: RiMaybeRef, S: StateOf<R>> Builder<R, S> {
     }
 
     /// Gives the fragment (RFC 3986, section 3.5), without its `#`. `EStr::EMPTY` writes `#`.
-    ///
-    /// # Examples
     ///
     /// `fragment(EStr::new_or_panic("nose"))` writes `#nose`.
     pub fn fragment(self, fragment: EStr<'_, R::FragmentE>) -> Builder<R, FragmentEnd>

@@ -18,8 +18,6 @@ use uri_parts::kind::Kind;
 
 /// Why a value of one kind is none of another.
 ///
-/// # Examples
-///
 /// `rel/ref` is no `Uri`, for `NoScheme`, and `http://你好.example.com/` is none, for `NotAscii {
 /// index: 7 }`.
 #[derive(Clone, Copy, Debug, PartialEq, Eq, Error)]

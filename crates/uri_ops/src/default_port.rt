@@ -3,8 +3,6 @@ use uri_parts::component::Scheme;
 
 /// The default ports of schemes (RFC 3986, sections 3.2.3 and 6.2.3).
 ///
-/// # Examples
-///
 /// With `SchemeDefaults`, `http://a:80` is normalised to `http://a`.
 pub trait DefaultPort: Drop {
     ghost use Rattle.std.specs.Prelude.{◌≡◌};
@@ -22,8 +20,6 @@ pub trait DefaultPort: Drop {
 }
 
 /// The default ports that `Scheme::default_port` returns.
-///
-/// # Examples
 ///
 /// The default port of `http` is 80, and `foo` has none.
 #[derive(Clone, Copy)]

@@ -26,8 +26,6 @@ pub mod resolve_normalize;
 
 /// The loop that removes dot segments ends with an empty input (RFC 3986, section 5.2.4).
 ///
-/// # Examples
-///
 /// For `/a/./b` the input is empty after `/a`, `/.` and `/b`.
 #[tactic(auto, using(crate::proofs::Theorems::dot_runs))]
 pub fn removing_dot_segments_reads_the_whole_path()
@@ -36,8 +34,6 @@ pub fn removing_dot_segments_reads_the_whole_path()
 
 /// The path whose dot segments are removed has none, begins with `/` and is no longer than it was
 /// (RFC 3986, section 5.2.4).
-///
-/// # Examples
 ///
 /// `/a/./b/../c` leaves `/a/c`.
 #[tactic(auto, using(crate::proofs::Theorems::removed_laws))]
@@ -51,8 +47,6 @@ pub fn no_dot_segment_is_left()
 
 /// A path without dot segments is left as it is, and does not underflow.
 ///
-/// # Examples
-///
 /// `/a/b` leaves `/a/b`.
 #[tactic(auto, using(crate::proofs::Theorems::dotless_laws))]
 pub fn paths_without_dot_segments_are_left_as_they_are()
@@ -64,8 +58,6 @@ pub fn paths_without_dot_segments_are_left_as_they_are()
 
 /// To remove dot segments twice is to remove them once.
 ///
-/// # Examples
-///
 /// `/a/../b` leaves `/b`, which leaves `/b`.
 #[tactic(auto, using(crate::proofs::Paths::DotLaws::removing_dots_is_idempotent))]
 pub fn removing_dot_segments_is_idempotent()
@@ -75,8 +67,6 @@ pub fn removing_dot_segments_is_idempotent()
 
 /// A directory begins with and ends in `/`, and its dot segments may be removed before it is taken
 /// or after.
-///
-/// # Examples
 ///
 /// The directory of `/a/./b` is `/a/./`, which leaves `/a/`; `/a/./b` leaves `/a/b`, whose
 /// directory is `/a/`.
@@ -94,8 +84,6 @@ pub fn taking_directories_and_removing_dots_swap()
 /// path underflows exactly if the prefix does, or if what is left of the prefix does with the rest
 /// of the path after it.
 ///
-/// # Examples
-///
 /// `/a/./` and `b` come to `/a/b`, as `/a/` and `b` do.
 #[tactic(auto, using(crate::proofs::Theorems::piece_laws))]
 pub fn leading_dots_may_be_removed_first()
@@ -110,8 +98,6 @@ pub fn leading_dots_may_be_removed_first()
 /// Dot segments of a base's path may be removed before a reference's path is merged with it (RFC
 /// 3986, section 5.2.3).
 ///
-/// # Examples
-///
 /// `/a/./b` and `c` come to `/a/c`, as `/a/b` and `c` do.
 #[tactic(auto, using(crate::proofs::Theorems::merging_laws))]
 pub fn base_dots_may_be_removed_before_merging()
@@ -125,8 +111,6 @@ pub fn base_dots_may_be_removed_before_merging()
 
 /// Dot segments may be removed before or after unreserved octets are decoded, and decoding changes
 /// no underflow.
-///
-/// # Examples
 ///
 /// `/%2E/%41` without dot segments is `/%41`, which decodes to `/A`; it decodes to `/./A`, which
 /// without dot segments is `/A`.
@@ -167,8 +151,6 @@ pub fn opaque_bases_take_fragments_alone()
 /// grammars: a text has a split into components, each of which follows its rule, and the authority
 /// has a split too (RFC 3986, sections 3, 3.2 and 4.2, and appendix B; RFC 3987, section 2.2).
 ///
-/// # Examples
-///
 /// `foo:a` is a URI: the scheme `foo`, no authority, and the path `a`.
 #[tactic(auto, using(crate::proofs::Theorems::grammar_laws))]
 pub fn kinds_match_the_rfc_grammars()
@@ -182,8 +164,6 @@ pub fn kinds_match_the_rfc_grammars()
 
 /// By the grammars of the RFCs, an authority has one cut into userinfo, host and port, and a host
 /// is of one kind (RFC 3986, sections 3.2 and 3.2.2; RFC 3987, section 2.2).
-///
-/// # Examples
 ///
 /// `u@a:80` is cut into `u`, `a` and `80` alone.
 #[tactic(auto, using(crate::proofs::Theorems::cut_laws))]

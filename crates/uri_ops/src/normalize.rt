@@ -40,8 +40,6 @@ use uri_parts::packed_positions::PackedPositions;
 
 /// Why a value was not normalised.
 ///
-/// # Examples
-///
 /// `http://a/../b` is rejected as `PathUnderflow` where underflow is not allowed.
 #[derive(Clone, Copy, Debug, PartialEq, Eq, Error)]
 pub enum NormalizeError {
@@ -178,8 +176,6 @@ pub(crate) fn normalize_string<K: Kind, P: DefaultPort>(
 impl Normalizer<SchemeDefaults> {
     /// Returns a normaliser with the default ports of `Scheme::default_port`, where dot segments
     /// may underflow.
-    ///
-    /// # Examples
     ///
     /// It normalises `http://a:80/../b` to `http://a/b`.
     pub fn new() -> Normalizer<SchemeDefaults>

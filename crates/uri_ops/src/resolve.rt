@@ -76,7 +76,8 @@ fn resolve_to_text<B: Ri, Q: RefOf<B>>(
     ensures alike { IfOk result (λ target. IsTargetOfMeanings B.kind Q.kind
         (B.text base.now) (Q.text reference.now) (string_bytes target.text)) }
     ensures alike_error { IfErr result
-        (IsErrorOfMeanings B.kind Q.kind (B.text base.now) (Q.text reference.now)) }
+        (IsErrorOfMeanings allow_path_underflow B.kind Q.kind (B.text base.now)
+        (Q.text reference.now)) }
 {
     target_text(
         alloc,
@@ -108,7 +109,8 @@ fn resolve_to_value<B: Ri, Q: RefOf<B>>(
     ensures alike { IfOk result (λ target. IsTargetOfMeanings B.kind Q.kind
         (B.text base.now) (Q.text reference.now) (B.owned_text target)) }
     ensures alike_error { IfErr result
-        (IsErrorOfMeanings B.kind Q.kind (B.text base.now) (Q.text reference.now)) }
+        (IsErrorOfMeanings allow_path_underflow B.kind Q.kind (B.text base.now)
+        (Q.text reference.now)) }
 {
     let target = resolve_to_text(alloc, base, reference, allow_path_underflow)?;
     Ok(B::make_owned(target.text, target.positions))
@@ -134,15 +136,13 @@ pub fn resolve_with_underflow<B: Ri, Q: RefOf<B>>(
     ensures alike { IfOk result (λ target. IsTargetOfMeanings B.kind Q.kind
         (B.text base.now) (Q.text reference.now) (B.owned_text target)) }
     ensures alike_error { IfErr result
-        (IsErrorOfMeanings B.kind Q.kind (B.text base.now) (Q.text reference.now)) }
+        (IsErrorOfMeanings true B.kind Q.kind (B.text base.now) (Q.text reference.now)) }
 {
     resolve_to_value(alloc, base, reference, true)
 }
 
 impl<R: Ri> Resolver<R> {
     /// Returns a resolver against this base, where dot segments may underflow.
-    ///
-    /// # Examples
     ///
     /// Against `http://a/b/c/d;p?q` it resolves `../../../g` to `http://a/g`.
     pub fn with_base(base: R) -> Resolver<R>
@@ -190,11 +190,13 @@ impl<R: Ri> Resolver<R> {
     ///   with `/`.
     /// - A reference with a scheme keeps a path that doesn't begin with `/` as it is.
     ///
-    /// Nothing else of the two texts changes: the target is not normalised. Resolution respects
-    /// equivalence: an equivalent base and reference, such as their normal forms, give an
-    /// equivalent target. It respects percent-encoding too: if each character past ASCII of both is
-    /// written as the octets of its UTF-8 (RFC 3987, section 3.1), the target is this target,
-    /// written so. If there is no target, none of these has one, for the same reason.
+    /// Nothing else of the two texts changes: the target is not normalised. Where underflow is
+    /// allowed, resolution respects equivalence: an equivalent base and reference, such as their
+    /// normal forms, give an equivalent target, or the same error. If it is not allowed, one of two
+    /// equivalent bases may be rejected alone: `b` underflows against `http://x/../a`, and not
+    /// against `http://x/a`. With either setting resolution respects percent-encoding: if each
+    /// character past ASCII of both is written as the octets of its UTF-8 (RFC 3987, section 3.1),
+    /// the target is this target, written so, and an error is this error.
     ///
     /// # Errors
     ///
@@ -233,7 +235,8 @@ impl<R: Ri> Resolver<R> {
         ensures alike { IfOk result (λ target. IsTargetOfMeanings R.kind Q.kind
             (R.text (base_of self.now)) (Q.text reference.now) (R.owned_text target)) }
         ensures alike_error { IfErr result
-            (IsErrorOfMeanings R.kind Q.kind (R.text (base_of self.now)) (Q.text reference.now)) }
+            (IsErrorOfMeanings (resolver_allows_underflow self.now) R.kind Q.kind
+            (R.text (base_of self.now)) (Q.text reference.now)) }
     {
         resolve_to_value(alloc, &self.base, reference, self.allow_path_underflow)
     }

@@ -16,8 +16,6 @@ use uri_pct::pct_enc::EStr;
 /// It is implemented for the four kinds alone. Its encoders are those of the kind's components
 /// (RFC 3986, section 3; RFC 3987, section 2.2).
 ///
-/// # Examples
-///
 /// A function over `R: RiMaybeRef` takes a `Uri<&str>` as well as an `IriRef<String>`.
 pub trait RiMaybeRef {
     ghost use Rattle.std.specs.Prelude.{ℕ, List};
@@ -63,8 +61,6 @@ pub trait RiMaybeRef {
 
     /// Returns the text.
     ///
-    /// # Examples
-    ///
     /// Of what was parsed from `http://a/b` it is `http://a/b`.
     fn as_str(&self) -> &str
         ensures text { result.now ≡ text self.now }
@@ -93,8 +89,6 @@ pub trait RiMaybeRef {
 
     /// Returns the scheme without its `:`, if there is one (RFC 3986, section 3.1).
     ///
-    /// # Examples
-    ///
     /// Of `http://a/b` it is `http`, and of `a/b` there is none.
     final fn scheme_opt(&self) -> Option<Scheme<'_>>
         ensures { option_map scheme_text result ≡ (components (text self.now)).scheme }
@@ -103,8 +97,6 @@ pub trait RiMaybeRef {
     }
 
     /// Returns the authority without its `//`, if there is one (RFC 3986, section 3.2).
-    ///
-    /// # Examples
     ///
     /// Of `http://a/b` it is `a`, and of `a/b` there is none.
     final fn authority(&self) -> Option<Authority<'_, Self::UserinfoE, Self::RegNameE>>
@@ -115,8 +107,6 @@ pub trait RiMaybeRef {
 
     /// Returns the path, which may be empty (RFC 3986, section 3.3).
     ///
-    /// # Examples
-    ///
     /// Of `http://a/b` it is `/b`.
     final fn path(&self) -> EStr<'_, Self::PathE>
         ensures { text_of result ≡ (components (text self.now)).path }
@@ -126,8 +116,6 @@ pub trait RiMaybeRef {
 
     /// Returns the query without its `?`, if there is one (RFC 3986, section 3.4).
     ///
-    /// # Examples
-    ///
     /// Of `/a?b` it is `b`, and of `/a` there is none.
     final fn query(&self) -> Option<EStr<'_, Self::QueryE>>
         ensures { option_map text_of result ≡ (components (text self.now)).query }
@@ -136,8 +124,6 @@ pub trait RiMaybeRef {
     }
 
     /// Returns the fragment without its `#`, if there is one (RFC 3986, section 3.5).
-    ///
-    /// # Examples
     ///
     /// Of `/a#b` it is `b`, and of `/a` there is none.
     final fn fragment(&self) -> Option<EStr<'_, Self::FragmentE>>
@@ -156,8 +142,6 @@ pub trait RiMaybeRef {
 /// It is implemented for the four kinds alone. Generic code that uses the returned value further,
 /// such as a normal form, needs `R: WithOwned` and `R::Owned: RiMaybeRef`.
 ///
-/// # Examples
-///
 /// `UriRef<&str>` is such a kind: its `Owned` is `UriRef<String>`.
 pub trait WithOwned: RiMaybeRef
 where
@@ -171,8 +155,6 @@ where
 
 /// A kind whose texts have a scheme: a URI or an IRI.
 ///
-/// # Examples
-///
 /// `Uri<&str>` and `Iri<String>` are such kinds, and `UriRef<&str>` is none.
 pub trait Ri: RiMaybeRef {
     ghost use Rattle.std.specs.Prelude.{true};
@@ -181,8 +163,6 @@ pub trait Ri: RiMaybeRef {
 }
 
 /// A kind of reference that is resolved against `B`: of URIs, or of IRIs.
-///
-/// # Examples
 ///
 /// `UriRef<&str>` is resolved against `Uri<String>`, and `IriRef<&str>` is not.
 pub trait RefOf<B: Ri>: RiMaybeRef {

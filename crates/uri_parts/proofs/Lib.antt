@@ -6,3 +6,4 @@ pub mod Parsing
 pub mod Refusals
 pub mod Theorems
 pub mod Steps
+pub mod PrintedComponents

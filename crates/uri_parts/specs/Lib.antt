@@ -19,4 +19,5 @@ pub mod SchemePorts
 pub mod Schemes
 pub mod AuthorityTexts
 pub mod Ports
+pub mod Printing
 pub mod Grammar

@@ -6,6 +6,7 @@ ghost use Rattle.uri_parts.specs.Positions.{host_start_of, host_end_of};
 
 pub use crate::connect::{SocketError, SocketTarget};
 use crate::net::{Ipv4Addr, Ipv6Addr};
+use crate::printing::is_plain;
 pub use crate::scheme::Scheme;
 use crate::slicing::{after_mark, cut_before};
 use std::alloc::AllocError;
@@ -16,8 +17,6 @@ use uri_pct::pct_enc::EStr;
 
 /// An authority (RFC 3986, section 3.2): userinfo, host and port, over the encoders of its userinfo
 /// and of registered names.
-///
-/// # Examples
 ///
 /// `user@example.com:8042` has the userinfo `user`, the host `example.com` and the port `8042`.
 pub struct Authority<'a, U: Encoder = Userinfo, R: Encoder = RegName> {
@@ -68,15 +67,11 @@ impl<'a, U: Encoder, R: Encoder> Authority<'a, U, R> {
 
     /// The empty authority: an empty host alone.
     ///
-    /// # Examples
-    ///
     /// It is the authority of `file:///etc/hosts`.
     pub const EMPTY: Authority<'static, U, R> = Self::new_empty();
 
     /// Returns the empty authority. It is the constant `EMPTY` with a contract, which a constant
     /// has not.
-    ///
-    /// # Examples
     ///
     /// Its text is the empty one, as that of the authority of `file:///etc/hosts`.
     pub const fn new_empty() -> Authority<'static, U, R>
@@ -93,8 +88,6 @@ impl<'a, U: Encoder, R: Encoder> Authority<'a, U, R> {
 
     /// Returns the text, without the `//` before it, for as long as it was borrowed.
     ///
-    /// # Examples
-    ///
     /// Of the authority of `http://user@a:80/b` it is `user@a:80`.
     pub fn as_str(self) -> &'a str
         ensures text { result.now ≡ authority_text self.entry }
@@ -104,8 +97,6 @@ impl<'a, U: Encoder, R: Encoder> Authority<'a, U, R> {
     }
 
     /// Returns the userinfo without its `@`, if there is one (RFC 3986, section 3.2.1).
-    ///
-    /// # Examples
     ///
     /// Of `user@a` it is `user`, of `@a` the empty text, and of `a` there is none.
     pub fn userinfo(self) -> Option<EStr<'a, U>>
@@ -121,8 +112,6 @@ impl<'a, U: Encoder, R: Encoder> Authority<'a, U, R> {
     /// Returns the host, with its brackets if it has some (RFC 3986, section 3.2.2). It may be
     /// empty.
     ///
-    /// # Examples
-    ///
     /// Of `user@a:80` it is `a`, of `[::1]:80` it is `[::1]`, and of `:80` the empty text.
     pub fn host(self) -> &'a str
         ensures { result.now ≡ (authority_parts (authority_text self.entry)).host }
@@ -133,8 +122,6 @@ impl<'a, U: Encoder, R: Encoder> Authority<'a, U, R> {
 
     /// Returns the port without its `:`, if there is one (RFC 3986, section 3.2.3). It may be
     /// empty.
-    ///
-    /// # Examples
     ///
     /// Of `a:80` it is `80`, of `a:` the empty text, and of `a` there is none.
     pub fn port(self) -> Option<EStr<'a, Port>>
@@ -149,8 +136,6 @@ impl<'a, U: Encoder, R: Encoder> Authority<'a, U, R> {
 
     /// Returns whether there is a userinfo.
     ///
-    /// # Examples
-    ///
     /// `@a` has one, which is empty, and `a` has none.
     #[tactic(auto, using(crate::proofs::Authorities::AuthorityPlaces::userinfo_where_host_starts_later))]
     pub fn has_userinfo(self) -> bool
@@ -161,8 +146,6 @@ impl<'a, U: Encoder, R: Encoder> Authority<'a, U, R> {
 
     /// Returns whether there is a port.
     ///
-    /// # Examples
-    ///
     /// `a:` has one, which is empty, and `a` has none.
     pub fn has_port(self) -> bool
         ensures { result ≡ is_some (authority_parts (authority_text self.entry)).port }
@@ -172,8 +155,6 @@ impl<'a, U: Encoder, R: Encoder> Authority<'a, U, R> {
     }
 
     /// Returns the host by its kind: an address with its numbers, or a registered name.
-    ///
-    /// # Examples
     ///
     /// Of `127.0.0.1` it is `Ipv4`, of `[::1]` `Ipv6`, of `[v1.a]` `IpvFuture`, and of `127.1`, `a`
     /// and the empty host `RegName`.
@@ -215,23 +196,35 @@ impl<'a, U: Encoder, R: Encoder> fmt::Display for Authority<'a, U, R> {
 }
 
 impl<'a, U: Encoder, R: Encoder> fmt::Debug for Authority<'a, U, R> {
+    ghost use Rattle.uri_parts.specs.AuthorityTexts.{authority_text};
+    ghost use Rattle.uri_parts.specs.Printing.{debug_authority};
+
+    ghost debug_output = { λ a. debug_authority (authority_text a) };
+
     /// Prints the components by name.
     fn fmt<W: fmt::Write>(&self, f: &mut fmt::Formatter<W>) -> fmt::Result {
+        let (userinfo, host, port) = (self.userinfo(), self.host(), self.port());
+        let parsed = self.host_parsed();
+        if is_plain(f) {
+            return write!(
+                f,
+                "Authority {{ userinfo: {userinfo:?}, host: {host:?}, host_parsed: {parsed:?}, \
+                 port: {port:?} }}"
+            );
+        }
         f.debug_struct("Authority")
-            .field("userinfo", &self.userinfo())
-            .field("host", &self.host())
-            .field("host_parsed", &self.host_parsed())
-            .field("port", &self.port())
+            .field("userinfo", &userinfo)
+            .field("host", &host)
+            .field("host_parsed", &parsed)
+            .field("port", &port)
             .finish()
     }
 }
 
 /// A host (RFC 3986, section 3.2.2), whose registered name is an `N`.
 ///
-/// # Examples
-///
 /// The host of `//127.0.0.1` is `Ipv4(Ipv4Addr::LOCALHOST)`.
-#[derive(Clone, Copy, Debug)]
+#[derive(Clone, Copy)]
 pub enum HostOf<N> {
     /// An IPv4 address.
     Ipv4(Ipv4Addr),
@@ -243,9 +236,31 @@ pub enum HostOf<N> {
     RegName(N),
 }
 
+impl<N: fmt::Debug> fmt::Debug for HostOf<N> {
+    ghost use Rattle.uri_parts.specs.Printing.{debug_host_of};
+
+    ghost debug_output = { debug_host_of N.debug_output };
+
+    /// Prints the kind of the host, with its address or its name.
+    fn fmt<W: fmt::Write>(&self, f: &mut fmt::Formatter<W>) -> fmt::Result {
+        if is_plain(f) {
+            return match self {
+                HostOf::Ipv4(address) => write!(f, "Ipv4({address:?})"),
+                HostOf::Ipv6(address) => write!(f, "Ipv6({address:?})"),
+                HostOf::IpvFuture => f.write_str("IpvFuture"),
+                HostOf::RegName(name) => write!(f, "RegName({name:?})"),
+            };
+        }
+        match self {
+            HostOf::Ipv4(address) => f.debug_tuple("Ipv4").field(address).finish(),
+            HostOf::Ipv6(address) => f.debug_tuple("Ipv6").field(address).finish(),
+            HostOf::IpvFuture => f.write_str("IpvFuture"),
+            HostOf::RegName(name) => f.debug_tuple("RegName").field(name).finish(),
+        }
+    }
+}
+
 /// A host of an authority over the encoder of its registered names.
-///
-/// # Examples
 ///
 /// `Host<'_>` is the host of a URI, and `IHost<'_>` that of an IRI.
 pub type Host<'a, R = RegName> = HostOf<EStr<'a, R>>;

@@ -20,8 +20,6 @@ use uri_pct::pct_enc::{CowStr, DecodeError, EStr};
 
 /// Where to connect to: an address, or a name that is to be looked up, and the port there.
 ///
-/// # Examples
-///
 /// Of the authority `[::1]:80` it is an address, and of `example.com:80` a name; the port of both
 /// is 80.
 #[derive(Debug, Drop)]
@@ -35,8 +33,6 @@ pub enum SocketTarget<'a> {
 }
 
 /// Why an authority does not say where to connect to.
-///
-/// # Examples
 ///
 /// The error of the authority `a:65536` is `InvalidPort`.
 #[derive(Clone, Copy, Debug, PartialEq, Eq, Error)]
@@ -59,18 +55,15 @@ impl<'a, U: Encoder, R: Encoder> Authority<'a, U, R> {
     ghost use Rattle.uri_parts.specs.AuthorityTexts.{authority_text};
 
     /// Returns where to connect to: the host's address or decoded name, and the port. If the port
-    /// is absent or empty, it is the given one. No name is looked up.
-    ///
-    /// The port is tested first: the error is `InvalidPort` exactly if it is over 65535. Then it is
-    /// `UnsupportedMechanism` for an address of a later version, `NameNotUtf8` for a name that does
-    /// not decode to UTF-8 (RFC 3986, section 3.2.2), or `OutOfMemory`. If the host has no `%`, no
+    /// is absent or empty, it is the given one. No name is looked up. If the host has no `%`, no
     /// memory is taken and the name is `CowStr::Borrowed`.
     ///
     /// # Errors
     ///
-    /// `InvalidPort` exactly if the port is over 65535. Else `UnsupportedMechanism` for an address
-    /// of a later version, `NameNotUtf8` for a name that does not decode to UTF-8 (RFC 3986,
-    /// section 3.2.2), and `OutOfMemory` if an allocation fails.
+    /// - `InvalidPort` exactly if the port is over 65535. The port is tested first.
+    /// - Otherwise `UnsupportedMechanism` for an address of a later version, and `NameNotUtf8` for a
+    ///   name that does not decode to UTF-8 (RFC 3986, section 3.2.2).
+    /// - `OutOfMemory` if allocation fails.
     ///
     /// # Examples
     ///

@@ -1,6 +1,7 @@
 //! A text of a kind with the positions of its components: what every value of a kind holds.
 ghost use Rattle.std.specs.Prelude.{◌≡◌, ◌↔◌, [], IfErr, IfOk, IsOk, None, Some};
 ghost use Rattle.std.specs.Prelude.{is_some, option_map, true};
+ghost use Rattle.std.specs.Result.{result_err};
 ghost use Rattle.std.specs.Str.{IsUtf8};
 ghost use Rattle.uri_parts.specs.Components.{components};
 ghost use Rattle.uri_parts.specs.Errors.{IsErrorIn};
@@ -89,6 +90,8 @@ impl<K: Kind, T: AsStr> Core<K, T> {
         ensures accepts { IsOk result ↔ IsOfKind K.kind (T.text text) }
         ensures text { IfOk result (λ core. core_text core ≡ T.text text) }
         ensures err { IfErr result (λ refused. IsErrorIn (T.text text) refused.0) }
+        ensures error { option_map (λ refused. refused.0) (result_err result)
+            ≡ refusal K.kind (T.text text) }
         ensures refused { IfErr result (λ refused.
             refusal K.kind (T.text text) ≡ Some refused.0) }
         ensures back { IfErr result (λ refused. T.text refused.1 ≡ T.text text) }

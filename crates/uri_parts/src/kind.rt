@@ -9,25 +9,44 @@ use uri_pct::encoder::{
     RegName, Userinfo,
 };
 
-/// A kind of references: its grammar, with the encoders of its components.
-#[doc(hidden)]
+/// A kind of references: its grammar, with the encoders of its components (RFC 3986, sections 3
+/// and 4.1; RFC 3987, section 2.2).
+///
+/// It is implemented for four types alone: `UriKind`, `UriRefKind`, `IriKind` and `IriRefKind`.
+///
+/// # Examples
+///
+/// A function `parsed<K: Kind>` over `Reference<K, &str>` parses a text as each of the four kinds:
+///
+/// ```
+/// parsed::<UriKind>(text).err(),
+/// parsed::<UriRefKind>(text).err(),
+/// parsed::<IriKind>(text).err(),
+/// parsed::<IriRefKind>(text).err(),
+/// ```
 pub trait Kind {
     ghost use Rattle.uri_parts.specs.Grammar as grammar;
     ghost use Rattle.uri_parts.specs.Grammar.{first_segment_set, kind_by_flags};
 
+    /// The encoder of userinfo.
     type UserinfoE: Encoder;
 
+    /// The encoder of registered names.
     type RegNameE: Encoder;
 
+    /// The encoder of paths.
     type PathE: PathEncoder;
 
+    /// The encoder of queries.
     type QueryE: Encoder;
 
+    /// The encoder of fragments.
     type FragmentE: Encoder;
 
     ghost kind: { grammar.Kind };
 
     /// Returns the tables of the kind's components, and whether it needs a scheme.
+    #[doc(hidden)]
     fn tables() -> KindTables
         ensures kind { kind_of result ≡ kind }
         ensures first_segment { segment_nz_nc_of result ≡ first_segment_set kind };
@@ -46,7 +65,8 @@ pub trait Kind {
 }
 
 /// The kind of URIs (RFC 3986, section 3).
-#[doc(hidden)]
+///
+/// `Uri<T>` is `Reference<UriKind, T>`.
 #[derive(Clone, Copy)]
 pub struct UriKind;
 
@@ -85,7 +105,8 @@ impl Kind for UriKind {
 }
 
 /// The kind of URI references (RFC 3986, section 4.1).
-#[doc(hidden)]
+///
+/// `UriRef<T>` is `Reference<UriRefKind, T>`.
 #[derive(Clone, Copy)]
 pub struct UriRefKind;
 
@@ -124,7 +145,8 @@ impl Kind for UriRefKind {
 }
 
 /// The kind of IRIs (RFC 3987, section 2.2).
-#[doc(hidden)]
+///
+/// `Iri<T>` is `Reference<IriKind, T>`.
 #[derive(Clone, Copy)]
 pub struct IriKind;
 
@@ -163,7 +185,8 @@ impl Kind for IriKind {
 }
 
 /// The kind of IRI references (RFC 3987, section 2.2).
-#[doc(hidden)]
+///
+/// `IriRef<T>` is `Reference<IriRefKind, T>`.
 #[derive(Clone, Copy)]
 pub struct IriRefKind;
 

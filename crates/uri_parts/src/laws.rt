@@ -25,16 +25,12 @@ use std::cmp::Ordering;
 
 /// The components of a text are a split of it by RFC 3986, appendix B.
 ///
-/// # Examples
-///
 /// `a:b` is split into the scheme `a` and the path `b`.
 pub fn components_are_a_split()
     ensures { (text : List ℕ) → IsSplitOf text (components text) }
 {}
 
 /// The components of a text are its only split by RFC 3986, appendix B.
-///
-/// # Examples
 ///
 /// `a:b` is not split into the path `a:b` alone.
 pub fn components_are_the_only_split()
@@ -43,16 +39,12 @@ pub fn components_are_the_only_split()
 
 /// The components of a text are together the text, by RFC 3986, section 5.3.
 ///
-/// # Examples
-///
 /// The scheme `a` and the path `b` are together `a:b`.
 pub fn components_recompose()
     ensures { (text : List ℕ) → recompose (components text) ≡ text }
 {}
 
 /// The grammar parses the text of an IPv4 address back as the same four octets.
-///
-/// # Examples
 ///
 /// `127.0.0.1` is parsed as 127, 0, 0 and 1.
 pub fn ipv4_text_parses_to_its_octets(address: &Ipv4Addr)
@@ -62,8 +54,6 @@ pub fn ipv4_text_parses_to_its_octets(address: &Ipv4Addr)
 }
 
 /// The grammar parses the text of an IPv6 address back as the same eight segments.
-///
-/// # Examples
 ///
 /// `::1` is parsed as seven times 0, and 1.
 pub fn ipv6_text_parses_to_its_segments(address: &Ipv6Addr)
@@ -88,8 +78,6 @@ pub fn ipv6_constants_are_their_addresses()
 
 /// States that IPv4 addresses are compared by their octets, first to last.
 ///
-/// # Examples
-///
 /// `9.255.255.255` is less than `10.0.0.0`.
 pub fn ipv4_addresses_compare_by_octets(a: &Ipv4Addr, b: &Ipv4Addr) -> Ordering
     ensures { result ≡ slice_cmp nat_cmp (ipv4_octets a.now) (ipv4_octets b.now) }
@@ -98,8 +86,6 @@ pub fn ipv4_addresses_compare_by_octets(a: &Ipv4Addr, b: &Ipv4Addr) -> Ordering
 }
 
 /// States that IPv6 addresses are compared by their segments, first to last.
-///
-/// # Examples
 ///
 /// `0:ffff::` is less than `1::`.
 pub fn ipv6_addresses_compare_by_segments(a: &Ipv6Addr, b: &Ipv6Addr) -> Ordering
@@ -110,8 +96,6 @@ pub fn ipv6_addresses_compare_by_segments(a: &Ipv6Addr, b: &Ipv6Addr) -> Orderin
 
 /// States that an IPv4 address is less than an IPv6 address.
 ///
-/// # Examples
-///
 /// `255.255.255.255` is less than `::`.
 pub fn ipv4_is_less_than_ipv6(a: Ipv4Addr, b: Ipv6Addr) -> Ordering
     ensures { result ≡ Less }
@@ -121,8 +105,6 @@ pub fn ipv4_is_less_than_ipv6(a: Ipv4Addr, b: Ipv6Addr) -> Ordering
 
 /// States that IPv4 addresses are compared by their octets as IP addresses, too.
 ///
-/// # Examples
-///
 /// As IP addresses, too, `9.255.255.255` is less than `10.0.0.0`.
 pub fn ipv4_as_ip_addresses_compare_by_octets(a: Ipv4Addr, b: Ipv4Addr) -> Ordering
     ensures { result ≡ slice_cmp nat_cmp (ipv4_octets a) (ipv4_octets b) }
@@ -131,8 +113,6 @@ pub fn ipv4_as_ip_addresses_compare_by_octets(a: Ipv4Addr, b: Ipv4Addr) -> Order
 }
 
 /// States that IPv6 addresses are compared by their segments as IP addresses, too.
-///
-/// # Examples
 ///
 /// As IP addresses, too, `0:ffff::` is less than `1::`.
 pub fn ipv6_as_ip_addresses_compare_by_segments(a: Ipv6Addr, b: Ipv6Addr) -> Ordering
@@ -190,8 +170,6 @@ pub fn example_texts_have_their_errors()
 {}
 
 /// `refusal` gives no error exactly for the texts of the kind.
-///
-/// # Examples
 ///
 /// `a:b` has none as a URI, and `a` has one at its end.
 pub fn accepted_exactly_if_no_error<K: Kind>(text: &str)

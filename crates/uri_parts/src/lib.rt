@@ -30,6 +30,8 @@ pub mod parse;
 pub mod port;
 #[doc(hidden)]
 pub mod positions;
+mod printing;
 #[doc(hidden)]
 pub mod scheme;
-mod slicing;
+#[doc(hidden)]
+pub mod slicing;

@@ -11,8 +11,6 @@ use std::{fmt, net};
 /// Addresses are compared by their octets, first to last. One is printed as four decimal numbers
 /// joined by `.`.
 ///
-/// # Examples
-///
 /// `Ipv4Addr::new(192, 0, 2, 255)` is printed as `192.0.2.255`.
 #[derive(Clone, Copy, PartialEq, Eq, PartialOrd, Ord, Hash)]
 pub struct Ipv4Addr(net::Ipv4Addr);
@@ -23,21 +21,15 @@ impl Ipv4Addr {
 
     /// The loopback address, `127.0.0.1` (RFC 1122, section 3.2.1.3).
     ///
-    /// # Examples
-    ///
     /// It is `Ipv4Addr::new(127, 0, 0, 1)`.
     pub const LOCALHOST: Self = Ipv4Addr(net::Ipv4Addr::LOCALHOST);
 
     /// The address of no host in particular, `0.0.0.0` (RFC 1122, section 3.2.1.3).
     ///
-    /// # Examples
-    ///
     /// It is `Ipv4Addr::new(0, 0, 0, 0)`.
     pub const UNSPECIFIED: Self = Ipv4Addr(net::Ipv4Addr::UNSPECIFIED);
 
     /// Returns the address with these four octets, which prints as `a.b.c.d`.
-    ///
-    /// # Examples
     ///
     /// `Ipv4Addr::new(127, 0, 0, 1)` is `Ipv4Addr::LOCALHOST`.
     pub const fn new(a: u8, b: u8, c: u8, d: u8) -> Self
@@ -48,8 +40,6 @@ impl Ipv4Addr {
 
     /// Returns the four octets, first to last.
     ///
-    /// # Examples
-    ///
     /// Of `192.0.2.255` these are 192, 0, 2 and 255.
     pub const fn octets(&self) -> [u8; 4]
         ensures { result ≡ ipv4_octets self.now }
@@ -58,8 +48,6 @@ impl Ipv4Addr {
     }
 
     /// Returns the same address as a type of std.
-    ///
-    /// # Examples
     ///
     /// Of `Ipv4Addr::LOCALHOST` it is std's `Ipv4Addr::new(127, 0, 0, 1)`.
     pub const fn to_std(self) -> net::Ipv4Addr
@@ -122,8 +110,6 @@ impl From<net::Ipv4Addr> for Ipv4Addr {
 /// run of two or more zero segments, and with the last two segments as an IPv4 address exactly
 /// where the address is `::ffff:a.b.c.d`.
 ///
-/// # Examples
-///
 /// `Ipv6Addr::new(0x2001, 0xdb8, 0, 0, 0, 0, 0, 0xabc)` is printed as `2001:db8::abc`.
 #[derive(Clone, Copy, PartialEq, Eq, PartialOrd, Ord, Hash)]
 pub struct Ipv6Addr(net::Ipv6Addr);
@@ -134,21 +120,15 @@ impl Ipv6Addr {
 
     /// The loopback address, `::1` (RFC 4291, section 2.5.3).
     ///
-    /// # Examples
-    ///
     /// It is `Ipv6Addr::new(0, 0, 0, 0, 0, 0, 0, 1)`.
     pub const LOCALHOST: Self = Ipv6Addr(net::Ipv6Addr::LOCALHOST);
 
     /// The address of no host at all, `::` (RFC 4291, section 2.5.2).
     ///
-    /// # Examples
-    ///
     /// It is `Ipv6Addr::new(0, 0, 0, 0, 0, 0, 0, 0)`.
     pub const UNSPECIFIED: Self = Ipv6Addr(net::Ipv6Addr::UNSPECIFIED);
 
     /// Returns the address with these eight segments.
-    ///
-    /// # Examples
     ///
     /// `Ipv6Addr::new(0, 0, 0, 0, 0, 0, 0, 1)` is `Ipv6Addr::LOCALHOST`.
     pub const fn new(a: u16, b: u16, c: u16, d: u16, e: u16, f: u16, g: u16, h: u16) -> Self
@@ -159,8 +139,6 @@ impl Ipv6Addr {
 
     /// Returns the eight segments, first to last.
     ///
-    /// # Examples
-    ///
     /// Of `::1` these are seven times 0, and 1.
     pub const fn segments(&self) -> [u16; 8]
         ensures { result ≡ ipv6_segments self.now }
@@ -169,8 +147,6 @@ impl Ipv6Addr {
     }
 
     /// Returns the same address as a type of std.
-    ///
-    /// # Examples
     ///
     /// Of `Ipv6Addr::LOCALHOST` it is std's `Ipv6Addr::new(0, 0, 0, 0, 0, 0, 0, 1)`.
     pub const fn to_std(self) -> net::Ipv6Addr
@@ -233,8 +209,6 @@ impl From<net::Ipv6Addr> for Ipv6Addr {
 
 /// An IP address of either version. Each IPv4 address is less than each IPv6 address.
 ///
-/// # Examples
-///
 /// `IpAddr::V4(Ipv4Addr::LOCALHOST)` is less than `IpAddr::V6(Ipv6Addr::LOCALHOST)`.
 #[derive(Clone, Copy, PartialEq, Eq, PartialOrd, Ord, Hash)]
 pub enum IpAddr {
@@ -248,8 +222,6 @@ impl IpAddr {
     ghost use Rattle.uri_parts.specs.Addresses.{IsSameAddress};
 
     /// Returns the same address, of the same version, as a type of std.
-    ///
-    /// # Examples
     ///
     /// Of `IpAddr::V4(Ipv4Addr::LOCALHOST)` it is std's `IpAddr::V4`, of 127.0.0.1.
     pub const fn to_std(self) -> net::IpAddr

@@ -16,16 +16,12 @@ impl<'a, U: Encoder, R: Encoder> Authority<'a, U, R> {
     /// Returns the port as a number (RFC 3986, section 3.2.3), or `None` if it is absent or empty.
     /// Leading zeros make no difference.
     ///
-    /// The error comes exactly if the number is over 65535, however long it is; its kind is
-    /// `PosOverflow`.
+    /// Returns 80 for `a:0080`, `None` for `a:` and `a`, and an error for `a:65536`.
     ///
     /// # Errors
     ///
-    /// Exactly if the number is over 65535, however long it is; its kind is `PosOverflow`.
-    ///
-    /// # Examples
-    ///
-    /// Returns 80 for `a:0080`, `None` for `a:` and `a`, and an error for `a:65536`.
+    /// Returns an error exactly if the number is over 65535, however long it is. Its kind is
+    /// `PosOverflow`.
     pub fn port_to_u16(self) -> Result<Option<u16>, ParseIntError>
         ensures number { let p = authority_parts (authority_text self.entry) in
             OkIff result (FitsPort (port_number p.port)) (port_number p.port) }

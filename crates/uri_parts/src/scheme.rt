@@ -13,8 +13,6 @@ use uri_pct::table::SCHEME;
 /// Schemes are equal, and have equal hashes, if their texts are the same but for the case of ASCII
 /// letters. A scheme is printed unchanged.
 ///
-/// # Examples
-///
 /// The schemes of `http://a` and of `HTTP://a` are equal; the second is printed as `HTTP`.
 #[derive(Clone, Copy)]
 pub struct Scheme<'a> {
@@ -79,8 +77,6 @@ impl<'a> Scheme<'a> {
     }
 
     /// Returns the text unchanged, for as long as it was borrowed.
-    ///
-    /// # Examples
     ///
     /// Of the scheme of `HTTP://a` it is `HTTP`.
     pub fn as_str(self) -> &'a str

@@ -24,7 +24,8 @@ fn length_before(bytes: &[u8], marks: &[u8]) -> usize
 
 /// Cuts an address out of a host: returns the text before
 /// the first of these ASCII characters, and from it on.
-pub(crate) fn cut_before<'a>(text: &'a str, marks: &[u8]) -> (&'a str, &'a str)
+#[doc(hidden)]
+pub fn cut_before<'a>(text: &'a str, marks: &[u8]) -> (&'a str, &'a str)
     requires { IsTrue (list_all (λ b. nat_lt b 128) marks.now) }
     ensures before { result.0.now ≡ before_any marks.now text.now }
     ensures from { result.1.now ≡ from_any marks.now text.now }
@@ -34,7 +35,8 @@ pub(crate) fn cut_before<'a>(text: &'a str, marks: &[u8]) -> (&'a str, &'a str)
 
 /// Returns what follows this ASCII character of a host,
 /// such as its `[`, if the text begins with it.
-pub(crate) fn after_mark(text: &str, mark: u8) -> Option<&str>
+#[doc(hidden)]
+pub fn after_mark(text: &str, mark: u8) -> Option<&str>
     requires { mark < 128 }
     ensures begins { is_some result ≡ starts mark text.now }
     ensures rest { IfSome result (λ rest. rest.now ≡ drop 1 text.now) }

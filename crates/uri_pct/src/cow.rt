@@ -7,8 +7,6 @@ use thiserror::Error;
 
 /// A text that is borrowed or owned.
 ///
-/// # Examples
-///
 /// What `a%20b` decodes to is `Owned`, and what `ab` decodes to `Borrowed`.
 #[derive(Debug, Drop)]
 pub enum CowStr<'a> {
@@ -19,8 +17,6 @@ pub enum CowStr<'a> {
 }
 
 /// Items that are borrowed or owned.
-///
-/// # Examples
 ///
 /// The bytes that `%E9` decodes to are `Owned`, and those of `ab` `Borrowed`.
 #[derive(Debug, Drop)]
@@ -36,8 +32,6 @@ impl<'a> CowStr<'a> {
 
     /// Returns the text, for as long as the value is borrowed.
     ///
-    /// # Examples
-    ///
     /// Of what `a%20b` decodes to it is `a b`.
     pub fn as_str(&self) -> &str
         ensures { result.now ≡ cow_text self.now }
@@ -50,14 +44,12 @@ impl<'a> CowStr<'a> {
 
     /// Returns the text as an owned one. If it is borrowed, it is copied.
     ///
+    /// Of what `ab` decodes to, which is borrowed, it is a copy of `ab`; of what `a%20b` decodes to
+    /// it is that text itself.
+    ///
     /// # Errors
     ///
     /// Only if allocation fails for a copy. The borrowed text remains.
-    ///
-    /// # Examples
-    ///
-    /// Of what `ab` decodes to, which is borrowed, it is a copy of `ab`; of what `a%20b` decodes to
-    /// it is that text itself.
     pub fn into_owned(self, alloc: Global) -> Result<String, AllocError>
         ensures text { IfOk result (λ text. string_bytes text ≡ cow_text self.entry) }
         ensures refused { OnErr result (IsBorrowedText self.entry) }
@@ -89,8 +81,6 @@ impl<'a, T> CowSlice<'a, T> {
 
     /// Returns the items, for as long as the value is borrowed.
     ///
-    /// # Examples
-    ///
     /// Of the bytes that `%E9` decodes to it is the one byte E9.
     pub fn as_slice(&self) -> &[T]
         ensures { result.now ≡ cow_items self.now }
@@ -107,14 +97,12 @@ impl<'a, T: Copy> CowSlice<'a, T> {
 
     /// Returns the items as owned ones. If they are borrowed, they are copied.
     ///
+    /// Of the bytes that `ab` decodes to, which are borrowed, it is a copy of the two; of those of
+    /// `%E9` it is that byte itself.
+    ///
     /// # Errors
     ///
     /// Only if allocation fails for a copy. The borrowed items are where they were.
-    ///
-    /// # Examples
-    ///
-    /// Of the bytes that `ab` decodes to, which are borrowed, it is a copy of the two; of those of
-    /// `%E9` it is that byte itself.
     pub fn into_owned(self, alloc: Global) -> Result<Vec<T>, AllocError>
         ensures items { IfOk result (λ items. items.items ≡ cow_items self.entry) }
         ensures refused { OnErr result (AreBorrowedItems self.entry) }
@@ -127,8 +115,6 @@ impl<'a, T: Copy> CowSlice<'a, T> {
 }
 
 /// Why a text does not decode to text.
-///
-/// # Examples
 ///
 /// `%E9` does not decode to text: the error is `NotUtf8` with the byte E9.
 #[derive(Debug, Drop, Error)]

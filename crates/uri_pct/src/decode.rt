@@ -16,8 +16,6 @@ use std::iter::FusedIterator;
 
 /// A part of a text that is decoded.
 ///
-/// # Examples
-///
 /// The parts of `a%20b` are the text `a`, the byte 20 (hexadecimal) and the text `b`.
 #[derive(Clone, Copy, Debug, PartialEq, Eq)]
 pub enum DecodedChunk<'a> {
@@ -29,8 +27,6 @@ pub enum DecodedChunk<'a> {
 
 /// What is left to decode of a text: an iterator of its parts. After the last it always returns
 /// `None`.
-///
-/// # Examples
 ///
 /// `EStr::<Query>::new_or_panic("a%20b").decode()` has three parts, and its `to_string` returns `a
 /// b`.
@@ -80,14 +76,12 @@ impl<'a> Decode<'a> {
     /// Returns the bytes of the remaining items, decoded. If no `%` is left, they are borrowed from
     /// the text. `+` is not decoded to a space.
     ///
+    /// Of `a%E9` these are the two bytes 61 and E9, owned; of `ab` they are those of `ab`,
+    /// borrowed.
+    ///
     /// # Errors
     ///
     /// Only if allocation fails. Without a `%` left, nothing is allocated.
-    ///
-    /// # Examples
-    ///
-    /// Of `a%E9` these are the two bytes 61 and E9, owned; of `ab` they are those of `ab`,
-    /// borrowed.
     pub fn to_bytes(self, alloc: Global) -> Result<CowSlice<'a, u8>, AllocError>
         ensures bytes { IfOk result (λ b. cow_items b ≡ decoded self.entry) }
         ensures left { IfOk result (λ b. cow_items b ≡ bytes_left self.entry) }

@@ -9,8 +9,6 @@ use crate::table::{self, Table};
 /// `%`, as `lacks_percent` says: a `%` only ever begins an octet (RFC 3986, section 2.1). If the
 /// set is written out, `refl` proves `lacks_percent`.
 ///
-/// # Examples
-///
 /// `Query::table()` allows `a` and `?`, and not `#`.
 pub trait Encoder {
     ghost use Rattle.uri_pct.specs.Sets.{LacksPercent, TableSet};
@@ -27,14 +25,10 @@ pub trait Encoder {
 
 /// An encoder of paths.
 ///
-/// # Examples
-///
 /// `Path` and `IPath` are such encoders: `segments_if_absolute` may be called on their texts.
 pub trait PathEncoder: Encoder {}
 
 /// The encoder of a URI's userinfo (RFC 3986, section 3.2.1).
-///
-/// # Examples
 ///
 /// `user:pass` is valid for it, and `a@b` is not.
 #[derive(Clone, Copy)]
@@ -56,8 +50,6 @@ impl Encoder for Userinfo {
 
 /// The encoder of a URI's registered name (RFC 3986, section 3.2.2).
 ///
-/// # Examples
-///
 /// `example.com` is valid for it, and `a:b` is not.
 #[derive(Clone, Copy)]
 pub struct RegName;
@@ -78,8 +70,6 @@ impl Encoder for RegName {
 
 /// The encoder of a port (RFC 3986, section 3.2.3): decimal digits alone.
 ///
-/// # Examples
-///
 /// `8080` is valid for it, and `80a` is not.
 #[derive(Clone, Copy)]
 pub struct Port;
@@ -99,8 +89,6 @@ impl Encoder for Port {
 }
 
 /// The encoder of a URI's path (RFC 3986, section 3.3).
-///
-/// # Examples
 ///
 /// `/a/b;c=%20` is valid for it, and `a?b` is not.
 #[derive(Clone, Copy)]
@@ -124,8 +112,6 @@ impl PathEncoder for Path {}
 
 /// The encoder of a URI's query (RFC 3986, section 3.4).
 ///
-/// # Examples
-///
 /// `a=b&c/?` is valid for it, and `a#b` is not.
 #[derive(Clone, Copy)]
 pub struct Query;
@@ -145,8 +131,6 @@ impl Encoder for Query {
 }
 
 /// The encoder of a URI's fragment (RFC 3986, section 3.5).
-///
-/// # Examples
 ///
 /// `a/b?c` is valid for it, and `a#b` is not.
 #[derive(Clone, Copy)]
@@ -168,8 +152,6 @@ impl Encoder for Fragment {
 
 /// The encoder of an IRI's userinfo (RFC 3987, section 2.2).
 ///
-/// # Examples
-///
 /// `użytkownik:a` is valid for it, and `a@b` is not.
 #[derive(Clone, Copy)]
 pub struct IUserinfo;
@@ -190,8 +172,6 @@ impl Encoder for IUserinfo {
 
 /// The encoder of an IRI's registered name (RFC 3987, section 2.2).
 ///
-/// # Examples
-///
 /// `例え.jp` is valid for it, and `a:b` is not.
 #[derive(Clone, Copy)]
 pub struct IRegName;
@@ -211,8 +191,6 @@ impl Encoder for IRegName {
 }
 
 /// The encoder of an IRI's path (RFC 3987, section 2.2).
-///
-/// # Examples
 ///
 /// `/déjà/vu` is valid for it, and `a?b` is not.
 #[derive(Clone, Copy)]
@@ -236,8 +214,6 @@ impl PathEncoder for IPath {}
 
 /// The encoder of an IRI's query (RFC 3987, section 2.2).
 ///
-/// # Examples
-///
 /// `où=là` is valid for it, and `a#b` is not.
 #[derive(Clone, Copy)]
 pub struct IQuery;
@@ -257,8 +233,6 @@ impl Encoder for IQuery {
 }
 
 /// The encoder of an IRI's fragment (RFC 3987, section 2.2).
-///
-/// # Examples
 ///
 /// `forêt` is valid for it, and `a#b` is not.
 #[derive(Clone, Copy)]
@@ -281,8 +255,6 @@ impl Encoder for IFragment {
 /// The encoder of data that goes into a URI (RFC 3986, section 2.4): unreserved characters and
 /// percent-encoded octets, so that no delimiter is left.
 ///
-/// # Examples
-///
 /// `a%26b` is valid for it, and `a&b` is not.
 #[derive(Clone, Copy)]
 pub struct Data;
@@ -303,8 +275,6 @@ impl Encoder for Data {
 
 /// The encoder of data that goes into an IRI (RFC 3987, section 2.2): as `Data`, with the
 /// characters of `ucschar`.
-///
-/// # Examples
 ///
 /// `é%26b` is valid for it, and `é&b` is not.
 #[derive(Clone, Copy)]

@@ -61,26 +61,26 @@ impl<E: Encoder> EString<E> {
         }
     }
 
-    /// Returns an empty text. It allocates nothing.
-    ///
-    /// # Examples
+    /// Returns an empty text without room for any byte. It allocates nothing.
     ///
     /// Its text is the empty one, and its capacity 0.
     pub fn new(alloc: Global) -> EString<E>
-        ensures { owned_text result ≡ [] }
+        ensures text { owned_text result ≡ [] }
+        ensures capacity { owned_capacity result ≡ 0 }
     {
-        EString::of_text(String::new(alloc))
+        match String::with_capacity(alloc, 0) {
+            Ok(text) => EString::of_text(text),
+            Err(_) => unreachable!(),
+        }
     }
 
     /// Returns an empty text with room for `capacity` bytes.
     ///
+    /// With room for 10 bytes, ten letters are appended without another allocation.
+    ///
     /// # Errors
     ///
     /// Only if allocation fails.
-    ///
-    /// # Examples
-    ///
-    /// With room for 10 bytes, ten letters are appended without another allocation.
     pub fn with_capacity(alloc: Global, capacity: usize) -> Result<EString<E>, AllocError>
         ensures text { IfOk result (λ s. owned_text s ≡ []) }
         ensures capacity { IfOk result (λ s. capacity ≤ owned_capacity s) }
@@ -90,8 +90,6 @@ impl<E: Encoder> EString<E> {
 
     /// Returns the text as an `EStr`, for as long as the value is borrowed.
     ///
-    /// # Examples
-    ///
     /// Of what was built as `a%26b` it is the `EStr` of that text.
     pub fn as_estr(&self) -> EStr<'_, E>
         ensures { text_of result ≡ owned_text self.now }
@@ -100,8 +98,6 @@ impl<E: Encoder> EString<E> {
     }
 
     /// Returns the text, for as long as the value is borrowed.
-    ///
-    /// # Examples
     ///
     /// Of what was built as `a%26b` it is `a%26b`.
     pub fn as_str(&self) -> &str
@@ -113,8 +109,6 @@ impl<E: Encoder> EString<E> {
 
     /// Returns the length of the text in bytes.
     ///
-    /// # Examples
-    ///
     /// Of `a%26b` it is 5: an octet counts three.
     pub fn len(&self) -> usize
         ensures { result ≡ length (owned_text self.now) }
@@ -123,8 +117,6 @@ impl<E: Encoder> EString<E> {
     }
 
     /// Returns whether the text is empty.
-    ///
-    /// # Examples
     ///
     /// A new one is empty, and `a` is not.
     pub fn is_empty(&self) -> bool
@@ -135,8 +127,6 @@ impl<E: Encoder> EString<E> {
 
     /// Returns how many bytes the text may have before it allocates again.
     ///
-    /// # Examples
-    ///
     /// Of one made by `with_capacity(alloc, 10)` it is at least 10.
     pub fn capacity(&self) -> usize
         ensures { result ≡ owned_capacity self.now }
@@ -145,8 +135,6 @@ impl<E: Encoder> EString<E> {
     }
 
     /// Makes the text empty, and keeps its memory.
-    ///
-    /// # Examples
     ///
     /// `a%26b` becomes the empty text, and its capacity stays.
     pub fn clear(&mut self)
@@ -157,8 +145,6 @@ impl<E: Encoder> EString<E> {
     }
 
     /// Returns the text as a `String`.
-    ///
-    /// # Examples
     ///
     /// Of what was built as `a%26b` it is the `String` of that text.
     pub fn into_string(self) -> String
@@ -270,13 +256,11 @@ impl<E: Encoder> EString<E> {
 
     /// Appends a text that is valid for `E`, as it is.
     ///
+    /// For a query, `push_estr(EStr::new_or_panic("a=%20"))` appends `a=%20`.
+    ///
     /// # Errors
     ///
     /// Only if allocation fails, never within the capacity. The text is then as it was.
-    ///
-    /// # Examples
-    ///
-    /// For a query, `push_estr(EStr::new_or_panic("a=%20"))` appends `a=%20`.
     pub fn push_estr(&mut self, text: EStr<'_, E>) -> Result<(), AllocError>
         ensures text { OnOk result (owned_text self.new ≡ owned_text self.old
             ++ text_of text.entry) }
@@ -296,13 +280,11 @@ impl<'a, E: Encoder> EStr<'a, E> {
 
     /// Returns a copy of the text in memory of its own.
     ///
+    /// Of `a%20b` it is `a%20b`, in memory of its own.
+    ///
     /// # Errors
     ///
     /// Only if allocation fails.
-    ///
-    /// # Examples
-    ///
-    /// Of `a%20b` it is `a%20b`, in memory of its own.
     pub fn to_owned(self, alloc: Global) -> Result<EString<E>, AllocError>
         ensures { IfOk result (λ s. owned_text s ≡ text_of self.entry) }
     {

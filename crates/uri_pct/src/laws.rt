@@ -29,8 +29,6 @@ ghost use Rattle.uri_pct.specs.DecodeUnreserved.{decode_octet, decode_tokens, de
 /// Printable tokens are the tokens of their printed text. If a text is valid for a set, its tokens
 /// are printable (RFC 3986, sections 2.1 and 6.2.2.1).
 ///
-/// # Examples
-///
 /// The tokens `a` and the octet 41 (hexadecimal) are printed as `a%41`, whose tokens are the same
 /// two.
 pub fn printed_tokens_are_parsed_back()
@@ -42,8 +40,6 @@ pub fn printed_tokens_are_parsed_back()
 {}
 
 /// An octet has the same value with digits in upper or in lower case (RFC 3986, section 2.1).
-///
-/// # Examples
 ///
 /// `%3a` and `%3A` are the octet 3A.
 #[tactic(auto, using(crate::proofs::Decodings::OctetDigits::printed_octet_is_first_token))]
@@ -57,8 +53,6 @@ pub fn octets_decode_in_either_case()
 /// of the digits: its tokens. So a text is valid for a set exactly if it represents characters and
 /// octets that the set allows (RFC 3986, section 2.1).
 ///
-/// # Examples
-///
 /// Both `a%3a` and `a%3A` are the character `a` and the octet 3A.
 #[tactic(auto, using(crate::proofs::Theorems::representation_laws))]
 pub fn texts_represent_only_their_tokens()
@@ -71,8 +65,6 @@ pub fn texts_represent_only_their_tokens()
 
 /// `valid_prefix` is the longest prefix of a text that is valid for a set: it is valid, it ends at
 /// a character boundary, and no longer one is both (RFC 3986, section 2.1).
-///
-/// # Examples
 ///
 /// For the set of a path, it is 5 of `a%20b%2` and 2 of `é` in an IRI.
 #[tactic(auto, using(crate::proofs::ValidTexts::LongestPrefixes::valid_prefix_ends_at_boundary, crate::proofs::ValidTexts::LongestPrefixes::valid_prefix_is_valid, crate::proofs::ValidTexts::LongestPrefixes::valid_prefix_is_longest))]
@@ -88,8 +80,6 @@ pub fn valid_prefixes_are_longest()
 /// The printed form of encoded text has the tokens that were encoded. These decode to the given
 /// text or bytes. Concatenated tokens decode to the concatenated bytes. A text is encoded as its
 /// bytes are (RFC 3986, section 2.1).
-///
-/// # Examples
 ///
 /// `a b` is encoded as `a%20b`, whose bytes are those of `a b`.
 #[tactic(auto, using(crate::proofs::Theorems::encoding_laws))]
@@ -109,8 +99,6 @@ pub fn decoding_inverts_encoding()
 /// The pieces of bytes join to the bytes. Each well-formed piece is a character. The bytes are cut
 /// around each character, and before every byte but 80 to BF (Unicode, section 3.9).
 ///
-/// # Examples
-///
 /// The bytes 61 and E9 are the character `a` and an ill-formed piece.
 pub fn utf8_pieces_join_to_the_bytes()
     ensures bytes { (bytes : List ℕ) → bytes_of_pieces (utf8_pieces bytes) ≡ bytes }
@@ -124,8 +112,6 @@ pub fn utf8_pieces_join_to_the_bytes()
 
 /// Bytes are UTF-8 exactly where no piece is ill-formed, and the lossy text is that of std's
 /// `String::from_utf8_lossy`.
-///
-/// # Examples
 ///
 /// Of the bytes 61 and E9 it is `a` and U+FFFD.
 pub fn lossy_texts_are_those_of_std()
@@ -170,8 +156,6 @@ pub fn decoding_unreserved_keeps_bytes()
 
 /// In a URI each octet is decoded by itself (RFC 3986, section 6.2.2.2). This is the decoding of an
 /// IRI (RFC 3987, section 5.3.2.3) for a set with no character past ASCII.
-///
-/// # Examples
 ///
 /// In a URI `%41%C3%A9` decodes to `A` and the octets C3 and A9, and in an IRI to `A` and `é`.
 pub fn uri_octets_are_decoded_one_by_one()

@@ -55,8 +55,6 @@ impl<'a, E: Encoder> EStr<'a, E> {
 
     /// The empty text. A constant has no contract; that of `default` says that the text is empty.
     ///
-    /// # Examples
-    ///
     /// `EStr::<Query>::EMPTY` is a query with nothing after its `?`.
     pub const EMPTY: EStr<'static, E> = EStr {
         text: "",
@@ -111,8 +109,6 @@ impl<'a, E: Encoder> EStr<'a, E> {
 
     /// Returns the text, for as long as it was borrowed.
     ///
-    /// # Examples
-    ///
     /// Of `EStr::<Query>::new_or_panic("a=b")` it is `a=b`.
     pub fn as_str(self) -> &'a str
         ensures text { result.now ≡ text_of self.entry }
@@ -123,8 +119,6 @@ impl<'a, E: Encoder> EStr<'a, E> {
 
     /// Returns the length of the text in bytes.
     ///
-    /// # Examples
-    ///
     /// Of `a%20b` it is 5: an octet counts three.
     pub fn len(self) -> usize
         ensures { result ≡ length (text_of self.entry) }
@@ -134,8 +128,6 @@ impl<'a, E: Encoder> EStr<'a, E> {
 
     /// Returns whether the text is empty.
     ///
-    /// # Examples
-    ///
     /// `EStr::EMPTY` is empty, and `a` is not.
     pub fn is_empty(self) -> bool
         ensures { result ≡ (length (text_of self.entry) == 0) }
@@ -144,8 +136,6 @@ impl<'a, E: Encoder> EStr<'a, E> {
     }
 
     /// Returns whether the text has no percent-encoded octet.
-    ///
-    /// # Examples
     ///
     /// `ab` has no octet, and `a%20b` has one.
     pub fn is_unencoded(self) -> bool
@@ -212,8 +202,6 @@ impl<'a, E: PathEncoder> EStr<'a, E> {
 
     /// Returns whether the path begins with `/`.
     ///
-    /// # Examples
-    ///
     /// `/a` is absolute, and `a/b` and the empty path are not.
     pub fn is_absolute(self) -> bool
         ensures { result ≡ is_absolute (text_of self.entry) }
@@ -222,8 +210,6 @@ impl<'a, E: PathEncoder> EStr<'a, E> {
     }
 
     /// Returns whether the path does not begin with `/`.
-    ///
-    /// # Examples
     ///
     /// `a/b` and the empty path are rootless, and `/a` is not.
     pub fn is_rootless(self) -> bool

@@ -14,8 +14,6 @@ use std::iter::FusedIterator;
 /// The substrings of a text between the occurrences of a delimiter. Both ends yield them, each one
 /// once. After the last, both ends return `None`.
 ///
-/// # Examples
-///
 /// `a&b&c` split at `&` yields `a`, `b`, `c`; from the back it yields `c`, `b`, `a`.
 #[derive(Drop)]
 pub struct Split<'a, E: Encoder> {
@@ -193,8 +191,6 @@ impl<'a, E: PathEncoder> EStr<'a, E> {
     /// Returns the segments of the path (RFC 3986, section 3.3), or `None` exactly if the path does
     /// not begin with `/`. The segments are what is after the first `/`, cut at each further `/`.
     /// Their number fits `usize`.
-    ///
-    /// # Examples
     ///
     /// `/a//b` has the segments `a`, the empty one and `b`; `/` has one, which is empty. For `a/b`
     /// the call returns `None`.

@@ -21,8 +21,6 @@ use crate::masks::{holds, words};
 /// A set of ASCII characters other than `%`, and three flags. The flags add percent-encoded octets,
 /// the characters of `ucschar` and those of `iprivate` (RFC 3987, section 2.2).
 ///
-/// # Examples
-///
 /// `QUERY` allows the letters, and octets beside them.
 #[derive(Clone, Copy, Debug)]
 pub struct Table {
@@ -104,8 +102,6 @@ impl Table {
 
     /// Returns the union of two tables: of their characters, and of each flag.
     ///
-    /// # Examples
-    ///
     /// `ALPHA.or(&DIGIT)` allows `a` and `1`, and not `-`.
     pub fn or(self, other: &Table) -> Table
         ensures { set_of result ≡ union (set_of self) (set_of other.now) }
@@ -121,8 +117,6 @@ impl Table {
 
     /// Returns what `self` allows and `other` does not, among the characters and the flags.
     ///
-    /// # Examples
-    ///
     /// `PATH.sub(&GEN_DELIMS)` allows `a` and not `/`.
     pub fn sub(self, other: &Table) -> Table
         ensures { set_of result ≡ difference (set_of self) (set_of other.now) }
@@ -137,8 +131,6 @@ impl Table {
     }
 
     /// Returns the table with percent-encoded octets allowed.
-    ///
-    /// # Examples
     ///
     /// `DIGIT.or_pct_encoded()` allows the text `1%20`, and `DIGIT` does not.
     pub fn or_pct_encoded(mut self) -> Table
@@ -159,8 +151,6 @@ impl Table {
 
     /// Returns the table with the characters of `ucschar` (RFC 3987, section 2.2) allowed.
     ///
-    /// # Examples
-    ///
     /// `ALPHA.or_ucschar()` allows `é`, and `ALPHA` does not.
     pub fn or_ucschar(mut self) -> Table
         ensures { set_of result ≡ record (set_of self) { ucschar = true } }
@@ -170,8 +160,6 @@ impl Table {
     }
 
     /// Returns the table with the characters of `iprivate` (RFC 3987, section 2.2) allowed.
-    ///
-    /// # Examples
     ///
     /// `ALPHA.or_iprivate()` allows U+E000, and `ALPHA` does not.
     pub fn or_iprivate(mut self) -> Table
@@ -209,8 +197,6 @@ impl Table {
     }
 
     /// Returns whether percent-encoded octets are allowed.
-    ///
-    /// # Examples
     ///
     /// `PATH` allows them, and `DIGIT` does not.
     pub fn allows_pct_encoded(&self) -> bool

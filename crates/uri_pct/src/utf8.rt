@@ -4,7 +4,8 @@ ghost use Rattle.std.specs.Char.{len_utf8};
 ghost use Rattle.std.specs.Str.{IsCharBoundary};
 
 /// Returns the character that begins at `index`, a byte offset.
-pub(crate) fn char_at(text: &str, index: usize) -> char
+#[doc(hidden)]
+pub fn char_at(text: &str, index: usize) -> char
     requires boundary { IsCharBoundary text.now index }
     requires inside { index < length text.now }
     ensures { drop index text.now ≡ encode_utf8 result ++ drop (index + len_utf8 result) text.now }

@@ -8,8 +8,6 @@ ghost use Rattle.uri_relative.specs.Leading.{settled};
 /// If a target was resolved against a base, every reference that leads from the base to it resolves
 /// to it again (RFC 3986, section 5.2).
 ///
-/// # Examples
-///
 /// Against `http://a/b/c`, `./d/../e` resolves to `http://a/b/e`. From there `e` leads to it, and
 /// resolves to it too.
 #[tactic(auto, using(crate::proofs::Returning::coming_back))]
@@ -23,9 +21,7 @@ pub fn references_lead_back_to_targets()
 {}
 
 /// The exceptions for which `relativize` writes a scheme or an authority that the base has too
-/// cannot be avoided: no reference without both resolves to such a target.
-///
-/// # Examples
+/// cannot be avoided: no reference with neither resolves to such a target.
 ///
 /// From `http://a?q` only references with an authority lead to `http://a`. An empty path would take
 /// the base's query, and any other path begins with `/` in the target.

@@ -143,7 +143,8 @@ fn is_without_removable_dots<K: BaseKind>(target: Core<K, &str>) -> bool
     !has_dot_segments(path)
 }
 
-/// Returns a reference that leads from the base to the target without its dot segments.
+/// Returns a reference that leads from the base to the settled target: the target without its dot
+/// segments, since its path begins with `/`.
 fn reference_to_target_without_dots<K: BaseKind>(
     alloc: Global,
     base: Core<K, &str>,

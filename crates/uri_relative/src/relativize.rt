@@ -48,8 +48,6 @@ fn relativized<K: RelativeKind, B: AsStr, T: AsStr>(
 /// Makes references that lead from a base to targets. Its setting is whether a relative path is
 /// preferred.
 ///
-/// # Examples
-///
 /// `Relativizer::with_base(base).relativize(alloc, &target)` returns `../x/y` for `http://a/b/c/d`
 /// and `http://a/b/x/y`.
 #[derive(Drop)]
@@ -63,8 +61,6 @@ impl<R> Relativizer<R> {
 
     /// Returns a relativizer that makes references from this base. If the path from the root is
     /// shorter than the relative one, they have that.
-    ///
-    /// # Examples
     ///
     /// From `http://a/b/c/d/` to `http://a/x` it makes `/x`.
     pub fn with_base(base: R) -> Relativizer<R>
@@ -80,9 +76,10 @@ impl<R> Relativizer<R> {
     /// Sets whether references have a relative path even if the path from the root is shorter, as
     /// for pages that are read from a disk.
     ///
-    /// # Examples
+    /// If the base's path has a dot segment, the path is still the one from the root.
     ///
-    /// From `http://a/b/c/d/` to `http://a/x` it makes `../../../x` with `true`.
+    /// From `http://a/b/c/d/` to `http://a/x` it makes `../../../x` with `true`, and from
+    /// `http://a/./b` to `http://a/./b` it makes `/b`.
     pub fn prefer_relative_path(self, value: bool) -> Relativizer<R>
         ensures base { base_of result ≡ base_of self }
         ensures prefers { prefers_relative_path result ≡ value }
@@ -103,13 +100,11 @@ impl<K: RelativeKind, B: AsStr> Relativizer<Reference<K, B>> {
     /// If the base's path has no dot segment, and unless a relative path is preferred, no such
     /// reference is shorter.
     ///
+    /// From `http://a/b/c/d` to `http://a/b/x/y` it returns `../x/y`.
+    ///
     /// # Errors
     ///
     /// Only if memory is denied.
-    ///
-    /// # Examples
-    ///
-    /// From `http://a/b/c/d` to `http://a/b/x/y` it returns `../x/y`.
     pub fn relativize<T: AsStr>(
         &self,
         alloc: Global,
@@ -141,49 +136,43 @@ impl<K: RelativeKind, B: AsStr> Relativizer<Reference<K, B>> {
 ///
 /// It is implemented for `Uri` and `Iri` alone, over borrowed and owned text.
 ///
-/// # Examples
-///
 /// With it, `base.relativize(alloc, &target)` may be called on a `Uri<&str>`.
-pub trait Relativize<K: RelativeKind> {
-    ghost use Rattle.std.specs.Prelude.{List, ℕ};
-
-    ghost base_text: { Self → List ℕ };
-
+pub trait Relativize<K: RelativeKind>: RiMaybeRef {
     /// Returns a reference that leads from this one to the target. If the base's path has no dot
     /// segment, none is shorter.
+    ///
+    /// From `http://a/b/c/d` to `http://a/b/x/y` it returns `../x/y`.
     ///
     /// # Errors
     ///
     /// Only if memory is denied.
-    ///
-    /// # Examples
-    ///
-    /// From `http://a/b/c/d` to `http://a/b/x/y` it returns `../x/y`.
     fn relativize<T: AsStr>(
         &self,
         alloc: Global,
         target: &Reference<K, T>,
     ) -> Result<Reference<K::Ref, String>, AllocError>
         ensures text { IfOk result (λ reference. reference_text reference
-            ≡ reference_to false (base_text self.now) (reference_text target.now)) }
+            ≡ reference_to false (Self.text self.now) (reference_text target.now)) }
         ensures leads { IfOk result (λ reference.
-            LeadsTo (base_text self.now) (reference_text target.now)
+            LeadsTo (Self.text self.now) (reference_text target.now)
             (reference_text reference)) }
         ensures back { IfOk result (λ reference.
-            LeadsBackToTarget (base_text self.now) (reference_text target.now)
+            LeadsBackToTarget (Self.text self.now) (reference_text target.now)
             (reference_text reference)) }
         ensures short { IfOk result (λ reference.
             IsNoLonger (reference_text target.now) (reference_text reference)) }
         ensures shortest { IfOk result (λ reference.
-            IsShortest K.kind (base_text self.now) (reference_text target.now)
+            IsShortest K.kind (Self.text self.now) (reference_text target.now)
             (reference_text reference)) }
         ensures relative { IfOk result (λ reference.
-            IsRelativeTo (components (base_text self.now))
+            IsRelativeTo (components (Self.text self.now))
             (settled (reference_text target.now)) (components (reference_text reference))) };
+
+    ghost same_kind: { Self.RiMaybeRef.kind ≡ K.kind };
 }
 
 impl<K: RelativeKind, B: AsStr> Relativize<K> for Reference<K, B> {
-    ghost base_text = { reference_text };
+    ghost use Rattle.std.specs.Prelude.{refl};
 
     /// Returns a reference that leads from this one to the target.
     fn relativize<T: AsStr>(
@@ -193,4 +182,6 @@ impl<K: RelativeKind, B: AsStr> Relativize<K> for Reference<K, B> {
     ) -> Result<Reference<K::Ref, String>, AllocError> {
         relativized(alloc, self, target, false)
     }
+
+    ghost same_kind = { refl };
 }

@@ -1,12 +1,15 @@
 -- A line that is kept in part is an error as the whole is: it is too long either way.
 use Rattle.std.proofs.Common.{◌≡◌, ◌<◌, ◌≤◌, ◌+◌, ◌-◌, ℕ, Bool, true, false, cond, List}
-use Rattle.std.proofs.Common.{refl, ap, sym, ◌∙◌, length, take, arith, inl, inr}
+use Rattle.std.proofs.Common.{refl, ap, sym, ◌∙◌, length, take, arith, inl, inr, ◌++◌}
 use Rattle.std.proofs.Common.{◌⊎◌, ⊎_elim, length-take-le, take_all, lt-ltb, ltb-true, ltb-false}
 use Rattle.std.specs.Prelude.{Err, nat_lt}
 use Rattle.std.specs.Io.BufRead.{ends_with_byte, strip_last}
-use Rattle.uri_streams.specs.Fields.{cut_without_other_fields, line_too_long_message}
+use Rattle.uri_streams.specs.Fields.{Cut, cut_without_other_fields}
 use Rattle.uri_streams.specs.Lines.{end_byte, has_return, line_text}
-use Rattle.uri_streams.specs.Outputs.{line_cut}
+use Rattle.uri_streams.specs.Models.{bytes_output}
+use Rattle.uri_streams.specs.Outputs.{line_cut, result_output}
+use Rattle.uri_streams.specs.Tasks.{Known, cut_result}
+use Rattle.uri_streams.specs.declared.fault.NoText.TheVariants.{TooLong}
 use Rattle.uri_streams.specs.declared.job.Job.{Job}
 
 -- lines: without its end, a line is one byte shorter at most
@@ -54,19 +57,46 @@ line-is-whole-or-too-long job limit line e = at (nat_lt limit (length line)) ref
         )
     at false is = inl (take_all limit line (omega (arith, ltb-false limit (length line) is)))
 
--- lines: one that is too long is cut to the error that says so
+-- the cut of a line that is too long for a job
+abbrev too_long_cut : Job → Cut
+too_long_cut job = cut_without_other_fields (Err (TooLong job.max_line))
+
+-- lines: of one that is too long the command gets no text
 line_cut-of-too-long : (job : Job) (line : List ℕ)
     → job.max_line < length (line_text job.is_null line)
-    → line_cut job line ≡ cut_without_other_fields (Err (line_too_long_message job.max_line))
+    → line_cut job line ≡ too_long_cut job
 line_cut-of-too-long job line long =
     rw (lt-ltb job.max_line (length (line_text job.is_null line)) long) refl
 
--- lines: one that is cut off past the limit gives the error that
--- the whole does, as both are too long
-pub line_cut-of-limited-line : (job : Job) (limit : ℕ) (line : List ℕ) → limit ≡ job.max_line + 3
-    → line_cut job (take limit line) ≡ line_cut job line
-line_cut-of-limited-line job limit line e =
-    ⊎_elim (λ whole. ap (line_cut job) whole)
-    (λ long. line_cut-of-too-long job (take limit line) long.0
-    ∙ sym (line_cut-of-too-long job line long.1))
+-- lines: bytes stand for a whole line if they are the line, or if both are too long
+abbrev pub StandsFor : Job → List ℕ → List ℕ → Type 0
+StandsFor job line whole = (line ≡ whole)
+    ⊎ ((line_cut job line ≡ too_long_cut job) × (line_cut job whole ≡ too_long_cut job))
+
+-- lines: one that is cut off past the limit stands for the whole, as both are too long
+pub StandsFor-of-limited-line : (job : Job) (limit : ℕ) (line : List ℕ) → limit ≡ job.max_line + 3
+    → StandsFor job (take limit line) line
+StandsFor-of-limited-line job limit line e =
+    ⊎_elim (λ whole. inl whole)
+    (λ long. inr (
+      line_cut-of-too-long job (take limit line) long.0,
+      line_cut-of-too-long job line long.1,
+    ))
     (line-is-whole-or-too-long job limit line e)
+
+-- lines: bytes that stand for a line are cut as the line is
+pub line_cut-if-StandsFor : (job : Job) (line whole : List ℕ) → StandsFor job line whole
+    → line_cut job line ≡ line_cut job whole
+line_cut-if-StandsFor job line whole stands =
+    ⊎_elim (λ same. ap (line_cut job) same) (λ long. long.0 ∙ sym long.1) stands
+
+-- lines: for bytes that stand for a line the output is that of the line
+pub bytes_output-if-StandsFor : (job : Job) (known : Known) (line whole end : List ℕ)
+    → StandsFor job line whole → bytes_output job known line end ≡ bytes_output job known whole end
+bytes_output-if-StandsFor job known line whole end stands =
+    ⊎_elim (λ same. ap (λ l. bytes_output job known l end) same)
+    (λ long. ap (output_for line) long.0 ∙ sym (ap (output_for whole) long.1)) stands
+  where
+    output_for : List ℕ → Cut → List ℕ
+    output_for l cut = result_output job.errors l cut.before
+        (cut_result job known cut.text).0 (cut.after ++ end)

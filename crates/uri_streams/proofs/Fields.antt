@@ -1,11 +1,10 @@
 -- The fields of a line, one after the other.
-use Rattle.std.proofs.Common.{◌≡◌, ◌<◌, ◌≤◌, ◌+◌, ◌-◌, ◌++◌, ◌∷◌, [], ℕ, suc, zero, List, Bool}
-use Rattle.std.proofs.Common.{Option}
+use Rattle.std.proofs.Common.{◌≡◌, ◌<◌, ◌+◌, ◌-◌, ◌++◌, ◌∷◌, [], ℕ, suc, zero, List, Bool}
 use Rattle.std.proofs.Common.{Some, None, All, true, false, cond, eqb, refl, ap, sym, subst, ◌∙◌}
 use Rattle.std.proofs.Common.{length, take, drop, arith, get_or, length-take-le, length-drop}
-use Rattle.std.proofs.Common.{length-append, append_assoc, eqb-true, add-one, get_or-take}
+use Rattle.std.proofs.Common.{eqb-true, add-one, get_or-take}
 use Rattle.std.specs.Prelude.{Err, Ok, slice_get, slice_range}
-use Rattle.std.specs.List.{flat_map, onto_first, slice_split}
+use Rattle.std.specs.List.{onto_first, slice_split}
 use Rattle.std.proofs.Math.Seq.{drop-cons, drop-drop, drop-length, take-add, take-suc}
 use Rattle.std.proofs.lemmas.List.{append-nil, take-append-drop, take_rest}
 use Rattle.std.proofs.lemmas.List.Concat.{flat_map-append}
@@ -16,7 +15,7 @@ use Rattle.memchr.specs.Find.{NoneBefore, Nowhere, Passes, is_byte}
 use Rattle.uri_streams.specs.Fields.{Cut, IsFieldStart, fields_after_delimiters}
 use Rattle.uri_streams.specs.Fields.{fields_before_delimiters}
 use Rattle.uri_streams.specs.Fields.{field_cut, fields_of, cut_at_field, cut_without_other_fields}
-use Rattle.uri_streams.specs.Fields.{no_field_message}
+use Rattle.uri_streams.specs.declared.fault.NoText.TheVariants.{NoField}
 
 -- general fact on booleans, for fields of `urilines`: what is not true is false
 is_false : (b : Bool) → (b ≡ true → ⊥) → b ≡ false
@@ -195,6 +194,6 @@ field_cut-found d k start end line before text after is found rest before_is tex
 
 -- fields: a line without field k gives the error that says so; d: the delimiter
 pub field_cut-none : (d k : ℕ) (line : List ℕ) → slice_get (fields_of d line) k ≡ None
-    → cut_without_other_fields (Err (no_field_message k)) ≡ field_cut d k line
+    → cut_without_other_fields (Err (NoField k)) ≡ field_cut d k line
 unfolding field_cut
 field_cut-none d k line none = sym (ap (cut_at_field d k (fields_of d line)) none)

@@ -1,9 +1,9 @@
 -- What is kept of parts of a line that are read one after the other.
 use Rattle.std.proofs.Common.{◌≡◌, ◌<◌, ◌≤◌, ◌+◌, ◌-◌, ℕ, Bool, true, false, List, ◌++◌, Option}
 use Rattle.std.proofs.Common.{Some, None, IfSome, cond, drop, length, take, min, ap, arith, refl}
-use Rattle.std.proofs.Common.{sym, ◌∙◌, take-take, take_all, length-take-le}
+use Rattle.std.proofs.Common.{subst, sym, ◌∙◌, take-take, take_all, length-take-le}
 use Rattle.std.proofs.Common.{ltb-true, ltb-false}
-use Rattle.std.specs.Prelude.{nat_lt, OnErr, OnOk, Result, Ok, Err}
+use Rattle.std.specs.Prelude.{nat_lt, IfOk, OnErr, Result, Ok, Err}
 use Rattle.std.specs.Io.BufRead.{take_through, DropsConsumable, DropsThrough}
 use Rattle.std.specs.Io.KnownBytes.{Consumes, prepend_known}
 use Rattle.std.proofs.BufReadLemmas.{take_through_nonempty}
@@ -85,14 +85,14 @@ Consumes-buffered false buffer (Some xs) new n within drops = at new (drops with
         ∙ ap (λ l. l ++ drop n (buffer ++ xs)) (take-append-le n buffer xs within)
         ∙ ap (λ l. take n buffer ++ l) (sym same)
 
--- general fact on results, for lines read in parts: what follows from what holds after a success
--- holds then
-pub on-ok : {T E : Type 0} (result : Result T E) (P Q : Type 0) → (P → Q) → OnOk result P
-    → OnOk result Q
-on-ok (Ok value) P Q more p = more p
-on-ok (Err error) P Q more p = tt
-
 -- general fact on results, for lines read in parts: what holds always holds after an error
 pub OnErr-of-any : {T E : Type 0} (result : Result T E) (P : Type 0) → P → OnErr result P
 OnErr-of-any (Ok value) P p = tt
 OnErr-of-any (Err error) P p = p
+
+-- general fact on results, for the end of a run: what holds of a value holds of one that can only be
+-- it
+pub if_ok-of-equal-value : {T E : Type 0} (P : T → Type 0) (result : Result T E) (value : T)
+    → IfOk result (λ same. same ≡ value) → P value → IfOk result P
+if_ok-of-equal-value P (Ok same) value is p = subst P (sym is) p
+if_ok-of-equal-value P (Err error) value is p = tt

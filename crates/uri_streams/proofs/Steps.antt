@@ -1,6 +1,6 @@
 -- What is read of a line, and written for it, is a step.
-use Rattle.std.proofs.Common.{◌≡◌, ◌+◌, ◌++◌, ℕ, Bool, true, false, List, refl, ap, sym}
-use Rattle.std.proofs.Common.{◌∙◌, subst, Option, Some, None, IfSome, inl, cond, [], ◌<◌, ◌≢◌, All}
+use Rattle.std.proofs.Common.{◌≡◌, ◌+◌, ◌++◌, ℕ, Bool, false, List, refl, ap, sym}
+use Rattle.std.proofs.Common.{◌∙◌, subst, Option, Some, None, IfSome, inl, cond, [], ◌<◌, ◌≢◌}
 use Rattle.std.proofs.Common.{length, arith}
 use Rattle.std.specs.Prelude.{◌&&◌, IfErr, IfOk, Result, Ok, Err, not}
 use Rattle.std.proofs.BufReadLemmas.{Consumes_through, take_through_nonempty}
@@ -9,11 +9,11 @@ use Rattle.std.proofs.lemmas.List.Elements.{All-nil}
 use Rattle.std.specs.Io.BufRead.{drop_through, DropsConsumable, DropsThrough, take_through}
 use Rattle.std.specs.Io.KnownBytes.{Appends, Consumes, Keeps, prepend_known}
 use Rattle.uri_commands.specs.Prefixes.{AppendsPrefix}
-use Rattle.uri_streams.specs.Causes.{caused_by_input, is_input_cause}
+use Rattle.uri_streams.specs.Causes.{caused_by_input}
 use Rattle.uri_streams.specs.Lines.{end_byte, ends_with_return, lines_of}
 use Rattle.uri_streams.specs.Fields.{Cut}
-use Rattle.uri_streams.specs.Outputs.{line_ending, is_error, is_stop, line_cut, line_end}
-use Rattle.uri_streams.specs.Outputs.{line_output}
+use Rattle.uri_streams.specs.Outputs.{line_ending, is_error, is_stop, line_cut}
+use Rattle.uri_streams.specs.Outputs.{errors_of, line_output, result_report}
 use Rattle.uri_streams.specs.Outputs.{line_result, output_of, processed, processed_lines}
 use Rattle.uri_streams.specs.Outputs.{result_output}
 use Rattle.uri_streams.specs.Results.{LineResult}
@@ -21,18 +21,21 @@ use Rattle.uri_streams.specs.Returned.{IsResult, result_in}
 use Rattle.uri_streams.specs.Models.{IsBufferedLine, StepFails, Steps, ReadsPartOfLine}
 use Rattle.uri_streams.specs.Models.{ReadsFirstLine}
 use Rattle.uri_streams.specs.Models.{WritesLineOutput, WritesOutputPrefix, WritesResult}
-use Rattle.uri_streams.specs.Models.{bytes_output}
+use Rattle.uri_streams.specs.Models.{bytes_output, bytes_report}
+use Rattle.uri_streams.specs.Runs.{ErrorOutput, Reports, ReportsPrefix}
 use Rattle.uri_streams.specs.Tasks.{Known, Remembers, cut_result}
-use Rattle.uri_streams.specs.declared.command.Command.{Command}
 use Rattle.uri_streams.specs.declared.failure.Cause.{Cause}
 use Rattle.uri_streams.specs.declared.job.Job.{Job}
 use Rattle.uri_streams.specs.declared.results.LineResult.{LineResult as Returned}
 use Rattle.uri_streams.specs.declared.output.StepResult.{StepResult}
 use Rattle.uri_streams.specs.declared.task.Task.{Task}
-use Rattle.uri_streams.proofs.Cuts.{line_cut-of-limited-line}
+use Rattle.uri_streams.proofs.Cuts.{StandsFor, StandsFor-of-limited-line}
+use Rattle.uri_streams.proofs.Cuts.{bytes_output-if-StandsFor, line_cut-if-StandsFor}
 use Rattle.uri_streams.proofs.Parts.{Consumes-buffered}
-use Rattle.uri_streams.proofs.Failures.{AppendsPrefix-after-Keeps, AppendsPrefix-of-longer}
-use Rattle.uri_streams.proofs.Failures.{AppendsPrefix-of-kept, Appends-after-Keeps}
+use Rattle.uri_commands.proofs.Appended.{AppendsPrefix-after-Keeps, AppendsPrefix-of-longer}
+use Rattle.uri_commands.proofs.Appended.{AppendsPrefix-of-kept}
+use Rattle.uri_streams.proofs.Failures.{Appends-after-Keeps}
+use Rattle.uri_streams.proofs.Reports.{ReportsPrefix-of-longer, ReportsPrefix-of-nothing}
 use Rattle.uri_streams.proofs.Returns.{output-end-is-line-end}
 use Rattle.uri_streams.proofs.Streams.{processed_lines-of-first-line, lines_after_first}
 
@@ -48,10 +51,10 @@ ReadsFirstLine-of-read left left_new end end_is limit line line_is read is_retur
     (subst (λ b. ReadsFirstLine left left_new end limit b is_return) l
     (subst (λ o. IfSome o (ReadsFirstLine left left_new end limit line)) r taken))
 
--- lines: the first line of known bytes is taken, and its bytes are cut as these are
+-- lines: the first line of known bytes is taken, and these bytes stand for it
 abbrev pub HasLine : Job → Option (List ℕ) → Option (List ℕ) → List ℕ → Bool → Type 0
 HasLine job left left_new line is_return = IfSome left (λ xs. (0 < length xs)
-    × (line_cut job line ≡ line_cut job (take_through (end_byte job.is_null) xs))
+    × StandsFor job line (take_through (end_byte job.is_null) xs)
     × (left_new ≡ Some (drop_through (end_byte job.is_null) xs))
     × (is_return ≡ ends_with_return (end_byte job.is_null)
     (take_through (end_byte job.is_null) xs)))
@@ -64,8 +67,8 @@ pub HasLine-of-read : (job : Job) (left left_new : Option (List ℕ)) (limit : �
 HasLine-of-read job None left_new limit line is_return limit_is taken = tt
 HasLine-of-read job (Some xs) left_new limit line is_return limit_is taken = (
   taken.0,
-  ap (line_cut job) taken.1
-      ∙ line_cut-of-limited-line job limit (take_through (end_byte job.is_null) xs) limit_is,
+  subst (λ l. StandsFor job l (take_through (end_byte job.is_null) xs)) (sym taken.1)
+      (StandsFor-of-limited-line job limit (take_through (end_byte job.is_null) xs) limit_is),
   taken.2,
   taken.3,
 )
@@ -80,7 +83,7 @@ HasLine-of-whole-line : (job : Job) (left left_new : Option (List ℕ)) (line : 
 HasLine-of-whole-line job None left_new line is_return all some return = tt
 HasLine-of-whole-line job (Some xs) left_new line is_return all some return = (
   take_through_nonempty (end_byte job.is_null) xs (omega (arith, some, ap length all.0)),
-  ap (line_cut job) all.0,
+  inl all.0,
   all.1,
   return ∙ ap (ends_with_return (end_byte job.is_null)) all.0,
 )
@@ -108,8 +111,8 @@ HasLine-buffered job unknown buffer inner left_new line is_return first drops re
     first.some return
 
 module _ (job : Job) (before : ℕ) (task task_new : Task) (left left_new : Option (List ℕ))
-    (held mid held_new : Option (List ℕ)) (line : List ℕ) (is_return : Bool)
-    (has : HasLine job left left_new line is_return) (kept : Keeps held mid) where
+    (held mid held_new : Option (List ℕ)) (err err_new : ErrorOutput) (line : List ℕ)
+    (is_return : Bool) (has : HasLine job left left_new line is_return) (kept : Keeps held mid) where
   abbrev pub end : List ℕ
   end = line_ending job.is_null (not job.is_null && is_return)
 
@@ -121,18 +124,17 @@ module _ (job : Job) (before : ℕ) (task task_new : Task) (left left_new : Opti
     has_here = subst (λ o. HasLine job o left_new line is_return) is_left has
 
     same_cut : line_cut job line ≡ line_cut job whole
-    same_cut = has_here.1
+    same_cut = line_cut-if-StandsFor job line whole has_here.1
 
     same_result : line_result job known line ≡ line_result job known whole
-    same_result = ap (λ (c : Cut). cut_result job.command known c.text) same_cut
+    same_result = ap (λ (c : Cut). cut_result job known c.text) same_cut
 
     output_is : bytes_output job known line end
         ≡ line_output job (processed job (before + 1) known whole)
     output_is =
-        ap (bytes_output job known line)
+        bytes_output-if-StandsFor job known line whole end has_here.1
+        ∙ ap (bytes_output job known whole)
         (output-end-is-line-end job.is_null is_return whole has_here.3)
-        ∙ ap (λ (c : Cut). result_output job.errors c.before
-        (cut_result job.command known c.text).0 (c.after ++ line_end job whole)) same_cut
 
     first_output : output_of job (processed_lines job before known (lines_of (end_byte job.is_null)
         xs))
@@ -141,13 +143,22 @@ module _ (job : Job) (before : ℕ) (task task_new : Task) (left left_new : Opti
         ap (output_of job) (processed_lines-of-first-line job before known xs has_here.0)
         ∙ ap (λ l. l ++ output_of job (lines_after_first job before known xs)) (sym output_is)
 
+    first_report : errors_of job (processed_lines job before known (lines_of (end_byte job.is_null)
+        xs))
+        ≡ bytes_report job (before + 1) known line
+        ++ errors_of job (lines_after_first job before known xs)
+    first_report =
+        ap (errors_of job) (processed_lines-of-first-line job before known xs has_here.0)
+        ∙ ap (λ (l : LineResult × Known). result_report job.errors (before + 1) l.0
+        ++ errors_of job (lines_after_first job before known xs)) (sym same_result)
+
   line-output-is-step : (step : StepResult)
-      → WritesLineOutput job task line end mid held_new task_new step
-      → Steps job before task left left_new held held_new task_new step
+      → WritesLineOutput job (before + 1) task line end mid held_new err err_new task_new step
+      → Steps job before task left left_new held held_new err err_new task_new step
   line-output-is-step step written = at left refl
     where
       at : (o : Option (List ℕ)) → left ≡ o
-          → Steps job before task o left_new held held_new task_new step
+          → Steps job before task o left_new held held_new err err_new task_new step
       at None e = tt
       at (Some xs) e = λ known remembers.
           let has' = has_here xs known e in
@@ -158,53 +169,66 @@ module _ (job : Job) (before : ℕ) (task task_new : Task) (left left_new : Opti
             has'.2,
             subst (Appends held held_new) (output_is xs known e)
                 (Appends-after-Keeps held mid held_new _ kept w.0),
-            w.1,
-            w.2 ∙ ap (λ (r : LineResult × Known). is_error r.0) same,
-            w.3 ∙ ap (λ (r : LineResult × Known). is_error r.0 && is_stop job.errors) same,
-            subst (λ (r : LineResult × Known). Remembers task_new job.command r.1) same w.4,
+            w.2,
+            w.3 ∙ ap (λ (r : LineResult × Known). is_error r.0) same,
+            w.4 ∙ ap (λ (r : LineResult × Known). is_error r.0 && is_stop job.errors) same,
+            subst (λ (r : LineResult × Known). Remembers task_new job.command r.1) same w.5,
+            subst (λ (r : LineResult × Known). Reports err err_new
+                (result_report job.errors (before + 1) r.0)) same w.1,
           )
 
   StepFails-in-writing : (cause : Cause)
-      → WritesOutputPrefix job task line end mid held_new cause
-      → StepFails job before task left left_new held held_new cause
+      → WritesOutputPrefix job (before + 1) task line end mid held_new err err_new cause
+      → StepFails job before task left left_new held held_new err err_new cause
   StepFails-in-writing cause prefix = at left refl
     where
       at : (o : Option (List ℕ)) → left ≡ o
-          → StepFails job before task o left_new held held_new cause
+          → StepFails job before task o left_new held held_new err err_new cause
       at None e = tt
       at (Some xs) e = λ known remembers. (
         subst (AppendsPrefix held held_new) (sym (first_output xs known e))
             (AppendsPrefix-of-longer held held_new _ _
-            (AppendsPrefix-after-Keeps held mid held_new _ kept (prefix.1 known remembers))),
+            (AppendsPrefix-after-Keeps held mid held_new _ kept (prefix.1 known remembers).0)),
+        subst (ReportsPrefix err err_new) (sym (first_report xs known e))
+            (ReportsPrefix-of-longer err err_new _ _ (prefix.1 known remembers).1),
         λ input. absurd (cc (input, prefix.0)),
       )
 
 -- what is written for a cut of a line is written for the line
-module _ (job : Job) (task task_new : Task) (line end : List ℕ) (held held_new : Option (List ℕ))
+module _ (job : Job) (number : ℕ) (task task_new : Task) (line end : List ℕ)
+    (held held_new : Option (List ℕ)) (err err_new : ErrorOutput)
     (cut : Cut) (made : Returned) (cut_is : cut ≡ line_cut job line)
-    (gives : (command : Command) (known : Known) → Remembers task command known
-    → IsResult command (cut_result command known cut.text) made task_new) where
+    (gives : (known : Known) → Remembers task job.command known
+    → IsResult job.command (cut_result job known cut.text) made task_new) where
   made_is : (known : Known) → Remembers task job.command known
-      → result_output job.errors cut.before (result_in made) (cut.after ++ end)
+      → result_output job.errors line cut.before (result_in made) (cut.after ++ end)
       ≡ bytes_output job known line end
   made_is known remembers =
-      ap (λ m. result_output job.errors cut.before m (cut.after ++ end))
-      (gives job.command known remembers).0
-      ∙ ap (λ (c : Cut). result_output job.errors c.before
-      (cut_result job.command known c.text).0 (c.after ++ end)) cut_is
+      ap (λ m. result_output job.errors line cut.before m (cut.after ++ end))
+      (gives known remembers).0
+      ∙ ap (λ (c : Cut). result_output job.errors line c.before
+      (cut_result job known c.text).0 (c.after ++ end)) cut_is
+
+  reported_is : (known : Known) → Remembers task job.command known
+      → result_report job.errors number (result_in made) ≡ bytes_report job number known line
+  reported_is known remembers =
+      ap (result_report job.errors number) (gives known remembers).0
+      ∙ ap (λ (c : Cut). result_report job.errors number (cut_result job known c.text).0)
+      cut_is
 
   pub WritesLineOutput-of-cut : (result : Result StepResult Cause)
-      → IfOk result (WritesResult job.errors cut.before (result_in made) (cut.after ++ end)
-      held held_new)
-      → IfOk result (WritesLineOutput job task line end held held_new task_new)
+      → IfOk result (WritesResult job.errors number line cut.before (result_in made)
+      (cut.after ++ end) held held_new err err_new)
+      → IfOk result (WritesLineOutput job number task line end held held_new err err_new task_new)
   WritesLineOutput-of-cut (Err cause) written = tt
-  WritesLineOutput-of-cut (Ok step) (output, counts, error, last) = λ known remembers.
-      let given = gives job.command known remembers in
-      let same : cut_result job.command known cut.text ≡ line_result job known line =
-      ap (λ (c : Cut). cut_result job.command known c.text) cut_is in
+  WritesLineOutput-of-cut (Ok step) (output, reported, counts, error, last) = λ known remembers.
+      let given = gives known remembers in
+      let same : cut_result job known cut.text ≡ line_result job known line =
+      ap (λ (c : Cut). cut_result job known c.text) cut_is in
       let is : is_error (result_in made) ≡ is_error (line_result job known line).0 =
       ap is_error given.0 ∙ ap (λ (r : LineResult × Known). is_error r.0) same in (
         subst (Appends held held_new) (made_is known remembers) output,
+        subst (Reports err err_new) (reported_is known remembers) reported,
         counts,
         error ∙ is,
         last ∙ ap (λ b. b && is_stop job.errors) is,
@@ -212,45 +236,60 @@ module _ (job : Job) (task task_new : Task) (line end : List ℕ) (held held_new
       )
 
   pub WritesPrefix-cut : (result : Result StepResult Cause) → caused_by_input result ≡ false
-      → AppendsPrefix held held_new (result_output job.errors cut.before (result_in made)
+      → AppendsPrefix held held_new (result_output job.errors line cut.before (result_in made)
       (cut.after ++ end))
-      → IfErr result (WritesOutputPrefix job task line end held held_new)
-  WritesPrefix-cut (Ok step) reading prefix = tt
-  WritesPrefix-cut (Err cause) reading prefix = (
+      → ReportsPrefix err err_new (result_report job.errors number (result_in made))
+      → IfErr result (WritesOutputPrefix job number task line end held held_new err err_new)
+  WritesPrefix-cut (Ok step) reading prefix reported = tt
+  WritesPrefix-cut (Err cause) reading prefix reported = (
     reading,
-    λ known remembers. subst (AppendsPrefix held held_new) (made_is known remembers) prefix,
+    λ known remembers. (
+      subst (AppendsPrefix held held_new) (made_is known remembers) prefix,
+      subst (ReportsPrefix err err_new) (reported_is known remembers) reported,
+    ),
   )
 
 -- what is written of a line is a step, or a failure
 module _ (job : Job) (before : ℕ) (task task_new : Task) (left left_new : Option (List ℕ))
-    (held mid held_new : Option (List ℕ)) (line : List ℕ) (is_return : Bool)
-    (has : HasLine job left left_new line is_return) (kept : Keeps held mid) (shown : List ℕ)
-    (shown_is : shown ≡ line_ending job.is_null (not job.is_null && is_return)) where
-  pub line-output-result-is-step : (result : Result StepResult Cause)
-      → IfOk result (WritesLineOutput job task line shown mid held_new task_new)
-      → IfOk result (Steps job before task left left_new held held_new task_new)
-  line-output-result-is-step (Ok step) written =
-      line-output-is-step job before task task_new left left_new held mid held_new line
-      is_return has kept
-      step
-      (subst (λ e. WritesLineOutput job task line e mid held_new task_new step) shown_is written)
-  line-output-result-is-step (Err cause) written = tt
+    (held mid held_new : Option (List ℕ)) (err err_new : ErrorOutput) (line : List ℕ)
+    (is_return : Bool) (has : HasLine job left left_new line is_return) (kept : Keeps held mid)
+    (shown : List ℕ) (shown_is : shown ≡ line_ending job.is_null (not job.is_null && is_return))
+  where
+    pub line-output-result-is-step : (result : Result StepResult Cause)
+        → IfOk result (WritesLineOutput job (before + 1) task line shown mid held_new err err_new
+        task_new)
+        → IfOk result (Steps job before task left left_new held held_new err err_new task_new)
+    line-output-result-is-step (Ok step) written =
+        line-output-is-step job before task task_new left left_new held mid held_new err err_new line
+        is_return has kept
+        step
+        (subst (λ e. WritesLineOutput job (before + 1) task line e mid held_new err err_new task_new
+        step) shown_is written)
+    line-output-result-is-step (Err cause) written = tt
 
-  pub failed-line-output-fails-step : (result : Result StepResult Cause)
-      → IfErr result (WritesOutputPrefix job task line shown mid held_new)
-      → IfErr result (StepFails job before task left left_new held held_new)
-  failed-line-output-fails-step (Ok step) prefix = tt
-  failed-line-output-fails-step (Err cause) prefix =
-      StepFails-in-writing job before task task_new left left_new held mid held_new line
-      is_return has
-      kept cause
-      (subst (λ e. WritesOutputPrefix job task line e mid held_new cause) shown_is prefix)
+    pub failed-line-output-fails-step : (result : Result StepResult Cause)
+        → IfErr result (WritesOutputPrefix job (before + 1) task line shown mid held_new err err_new)
+        → IfErr result (StepFails job before task left left_new held held_new err err_new)
+    failed-line-output-fails-step (Ok step) prefix = tt
+    failed-line-output-fails-step (Err cause) prefix =
+        StepFails-in-writing job before task task_new left left_new held mid held_new err err_new line
+        is_return has
+        kept cause
+        (subst (λ e. WritesOutputPrefix job (before + 1) task line e mid held_new err err_new cause)
+        shown_is prefix)
 
--- streams: a step fails if reading its line does, and leaves what the writer held
+-- streams: a step fails if reading its line does, and leaves what the writer held and the error
+-- output
 pub StepFails-in-reading : (job : Job) (before : ℕ) (task : Task)
-    (left left_new held held_new : Option (List ℕ)) (cause : Cause)
+    (left left_new held held_new : Option (List ℕ)) (err err_new : ErrorOutput) (cause : Cause)
     → ReadsPartOfLine left left_new (end_byte job.is_null) → Keeps held held_new
-    → StepFails job before task left left_new held held_new cause
-StepFails-in-reading job before task None left_new held held_new cause stopped kept = tt
-StepFails-in-reading job before task (Some xs) left_new held held_new cause stopped kept =
-    λ known remembers. (AppendsPrefix-of-kept held held_new _ kept, λ input. (kept, stopped))
+    → Reports err err_new []
+    → StepFails job before task left left_new held held_new err err_new cause
+StepFails-in-reading job before task None left_new held held_new err err_new cause stopped kept
+    none = tt
+StepFails-in-reading job before task (Some xs) left_new held held_new err err_new cause stopped kept
+    none = λ known remembers. (
+      AppendsPrefix-of-kept held held_new _ kept,
+      ReportsPrefix-of-nothing err err_new _ none,
+      λ input. (kept, none, stopped),
+    )

@@ -12,9 +12,9 @@ use Rattle.std.specs.Io.KnownBytes.{Appends, Keeps}
 use Rattle.std.proofs.KnownBytes.{Appends-nil, Appends-trans, Appends-kept}
 use Rattle.uri_streams.specs.Lines.{end_byte, lines_of, prepend_to_first_line}
 use Rattle.uri_streams.specs.Outputs.{ProcessedLine, processed, processed_lines, processed_in}
-use Rattle.uri_streams.specs.Outputs.{error_count}
+use Rattle.uri_streams.specs.Outputs.{error_count, errors_of, line_report, tallies_of}
 use Rattle.uri_streams.specs.Outputs.{is_error, is_last, line_result, line_output, output_of}
-use Rattle.uri_streams.specs.Runs.{WritesOutput}
+use Rattle.uri_streams.specs.Runs.{ErrorOutput, Reports, Sees, WritesOutput}
 use Rattle.uri_streams.specs.Models.{FindsEnd, HasWrittenSoFar, WritesLine}
 use Rattle.uri_streams.specs.Models.{Steps}
 use Rattle.uri_streams.specs.Tasks.{Known, Remembers}
@@ -22,6 +22,8 @@ use Rattle.uri_streams.specs.declared.job.Job.{Job}
 use Rattle.uri_streams.specs.declared.output.StepResult.{StepResult}
 use Rattle.uri_streams.specs.declared.run.Tally.{Tally}
 use Rattle.uri_streams.specs.declared.task.Task.{Task}
+use Rattle.uri_streams.proofs.Reports.{Reports-after-Reports, Reports-nothing, Reports-then-nothing}
+use Rattle.uri_streams.proofs.Reports.{Sees-after-Sees, Sees-nothing, tallies_of-one-more}
 
 -- lines: the first is up to the first end, and the others are after it
 lines-step : (end x : ℕ) (xs : List ℕ) → lines_of end (x ∷ xs)
@@ -93,6 +95,12 @@ module _ (job : Job) where
       flat_map-append (line_output job) lines (line ∷ [])
       ∙ ap (λ l. output_of job lines ++ l) (append-nil (line_output job line))
 
+  errors_of-one-more-line : (lines : List ProcessedLine) (line : ProcessedLine)
+      → errors_of job (lines ++ line ∷ []) ≡ errors_of job lines ++ line_report job line
+  errors_of-one-more-line lines line =
+      flat_map-append (line_report job) lines (line ∷ [])
+      ∙ ap (λ l. errors_of job lines ++ l) (append-nil (line_report job line))
+
   none_before : (n : ℕ) → 0 + n ≡ n
   none_before n = omega arith
 
@@ -104,7 +112,7 @@ module _ (job : Job) where
       ∙ ap (λ n. error_count lines + n) (none_before (if is_error line.result then 1 else 0))
 
   module _ (number : ℕ) (task : Task) (xs : List ℕ) (b c h i j : Option (List ℕ))
-      (task_new : Task) (tally tally_new : Tally) (step : StepResult) (fits : number < 2 ^ 64 - 1)
+      (d e f : ErrorOutput) (s t u : Option (List Tally)) (task_new : Task) (tally tally_new : Tally) (step : StepResult) (fits : number < 2 ^ 64 - 1)
       (lines_new : tally_new.lines ≡ min (tally.lines + (if step.is_line then 1 else 0))
       (2 ^ 64 - 1))
       (errors_new : tally_new.errors ≡ min (tally.errors + (if step.is_error then 1 else 0))
@@ -115,14 +123,16 @@ module _ (job : Job) where
       ≡ lines ++ processed_lines job number known (lines_of (end_byte job.is_null) rest))
       (remembers : Remembers task job.command known) (count : length lines ≡ number)
       (count_is : tally.lines ≡ number) (errors_are : tally.errors ≡ error_count lines)
-      (few : tally.errors ≤ number) where
+      (few : tally.errors ≤ number) (reported : Reports d e (errors_of job lines))
+      (saw : Sees s t (tallies_of lines))
+      (looks : Sees t u (if step.is_line then tally_new ∷ [] else [])) where
     abbrev first : List ℕ
     first = take_through (end_byte job.is_null) rest
 
     abbrev line : ProcessedLine
     line = processed job (number + 1) known first
 
-    module _ (is : WritesLine job number known rest c i j task_new step) where
+    module _ (is : WritesLine job number known rest c i j e f task_new step) where
       lines_are : tally_new.lines ≡ number + 1
       lines_are =
           let e = lines_new ∙ ap (λ y. min (tally.lines + (if y then 1 else 0)) (2 ^ 64 - 1))
@@ -148,6 +158,20 @@ module _ (job : Job) where
       count_new : length (lines ++ line ∷ []) ≡ number + 1
       count_new = omega (arith, length-append lines (line ∷ []), count)
 
+      reported_new : Reports d f (errors_of job (lines ++ line ∷ []))
+      reported_new =
+          subst (Reports d f) (sym (errors_of-one-more-line lines line))
+          (Reports-after-Reports d e f (errors_of job lines) (line_report job line) reported is.7)
+
+      saw_new : Sees s u (tallies_of (lines ++ line ∷ []))
+      saw_new =
+          subst (Sees s u) (sym (tallies_of-one-more lines line tally_new
+          (lines_are ∙ ap (λ n. n + 1) (sym count))
+          (errors_here ∙ ap (λ n. n + (if step.is_error then 1 else 0)) errors_are
+          ∙ ap (λ y. error_count lines + (if y then 1 else 0)) is.4)))
+          (Sees-after-Sees s t u (tallies_of lines) (tally_new ∷ []) saw
+          (subst (λ (y : Bool). Sees t u (if y then tally_new ∷ [] else [])) is.3 looks))
+
       held_new : Appends h j (output_of job (lines ++ line ∷ []))
       held_new =
           subst (Appends h j) (sym (output_of-one-more-line lines line))
@@ -159,7 +183,7 @@ module _ (job : Job) where
           ∙ sym (append_assoc lines (line ∷ []) (lines_after_first number known rest))
 
       so_far : step.is_last ≡ false → HasWrittenSoFar job (number + 1) task_new
-          (Some xs) c h j tally_new
+          (Some xs) c h j d f s u tally_new
       so_far more = (
         lines ++ line ∷ [],
         (line_result job known first).1,
@@ -174,9 +198,11 @@ module _ (job : Job) where
         lines_are,
         errors_so_far,
         few_new,
+        reported_new,
+        saw_new,
       )
 
-      last : step.is_last ≡ true → WritesOutput job (Some xs) h j tally_new
+      last : step.is_last ≡ true → WritesOutput job (Some xs) h j d f s u tally_new
       last ends =
           let all : processed_in job xs ≡ lines ++ line ∷ [] =
           whole_new ∙ ap (λ l. (lines ++ line ∷ []) ++ l)
@@ -184,11 +210,13 @@ module _ (job : Job) where
           ends))
           ∙ append-nil (lines ++ line ∷ []) in (
             subst (λ l. Appends h j (output_of job l)) (sym all) held_new,
+            subst (λ l. Reports d f (errors_of job l)) (sym all) reported_new,
+            subst (λ l. Sees s u (tallies_of l)) (sym all) saw_new,
             lines_are ∙ sym (ap length all ∙ count_new),
             errors_so_far ∙ sym (ap error_count all),
           )
 
-    at_end : FindsEnd rest i j step → WritesOutput job (Some xs) h j tally_new
+    at_end : FindsEnd rest i j e f step → WritesOutput job (Some xs) h j d f s u tally_new
     at_end is =
         let all : processed_in job xs ≡ lines =
         whole ∙ ap (λ l. lines ++ processed_lines job number known (lines_of (end_byte job.is_null)
@@ -209,69 +237,126 @@ module _ (job : Job) where
         ≡ tally.errors = omega (arith, same_errors, few, fits) in (
           subst (λ l. Appends h j (output_of job l)) (sym all) (Appends-kept h i j (output_of job
               lines) held is.1),
+          subst (λ l. Reports d f (errors_of job l)) (sym all)
+              (Reports-then-nothing d e f (errors_of job lines) reported is.5),
+          subst (λ l. Sees s u (tallies_of l)) (sym all)
+              (subst (Sees s u) (append-nil (tallies_of lines))
+              (Sees-after-Sees s t u (tallies_of lines) [] saw
+              (subst (λ (y : Bool). Sees t u (if y then tally_new ∷ [] else [])) is.2 looks))),
           lines_are ∙ sym (ap length all),
           errors_same ∙ errors_are ∙ sym (ap error_count all),
         )
 
 -- streams: at first nothing has been read or written, and the tally is zero; a, h: what is left to
--- read, what the writer holds
-pub HasWrittenSoFar-at-start : (job : Job) (task : Task) (a h : Option (List ℕ)) (tally : Tally)
+-- read, what the writer holds, d, s: the error output, what the observer saw
+pub HasWrittenSoFar-at-start : (job : Job) (task : Task) (a h : Option (List ℕ)) (d : ErrorOutput)
+    (s : Option (List Tally)) (tally : Tally)
     → Remembers task job.command [] → tally.lines ≡ 0 → tally.errors ≡ 0
-    → HasWrittenSoFar job 0 task a a h h tally
-HasWrittenSoFar-at-start job task None h tally remembers lines errors = tt
-HasWrittenSoFar-at-start job task (Some xs) h tally remembers lines errors =
-    ([], [], xs, refl, Appends-nil h, refl, remembers, refl, lines, errors, omega (arith, errors))
+    → HasWrittenSoFar job 0 task a a h h d d s s tally
+HasWrittenSoFar-at-start job task None h d s tally remembers lines errors = tt
+HasWrittenSoFar-at-start job task (Some xs) h d s tally remembers lines errors = (
+  [],
+  [],
+  xs,
+  refl,
+  Appends-nil h,
+  refl,
+  remembers,
+  refl,
+  lines,
+  errors,
+  omega (arith, errors),
+  Reports-nothing d,
+  Sees-nothing s,
+)
 
 -- streams: after a step that is not the last, one line more has been written and tallied;
--- a, b, c: what is left to read, h, i, j: what the writer holds
+-- a, b, c: what is left to read, h, i, j: what the writer holds, d, e, f: the error output,
+-- s, t, u: what the observer saw
 pub HasWrittenSoFar-after-step : (job : Job) (number : ℕ) (task task_new : Task)
-    (a b c h i j : Option (List ℕ))
+    (a b c h i j : Option (List ℕ)) (d e f : ErrorOutput) (s t u : Option (List Tally))
     (tally tally_new : Tally) (step : StepResult) → number < 2 ^ 64 - 1
     → tally_new.lines ≡ min (tally.lines + (if step.is_line then 1 else 0)) (2 ^ 64 - 1)
     → tally_new.errors ≡ min (tally.errors + (if step.is_error then 1 else 0)) (2 ^ 64 - 1)
-    → HasWrittenSoFar job number task a b h i tally → Steps job number task b c i j task_new step
-    → step.is_last ≡ false → HasWrittenSoFar job (number + 1) task_new a c h j tally_new
-HasWrittenSoFar-after-step job number task task_new None b c h i j tally tally_new step fits ln en
-    so st more = tt
-HasWrittenSoFar-after-step job number task task_new (Some xs) b c h i j tally tally_new
-    step fits ln en
-    (lines, known, rest, left, held, whole, remembers, count, lines_are, errors_are, few) st more =
-    let s = (subst (λ o. Steps job number task o c i j task_new step) left st) known remembers in
-    ⊎_elim (λ (is : WritesLine job number known rest c i j task_new step).
-    so_far job number task xs b c h i j task_new tally tally_new step fits ln en lines known rest
-    left held whole remembers count lines_are errors_are few is more)
-    (λ (is : FindsEnd rest i j step). absurd (true≢false (sym is.4 ∙ more)))
-    s
+    → Sees t u (if step.is_line then tally_new ∷ [] else [])
+    → HasWrittenSoFar job number task a b h i d e s t tally
+    → Steps job number task b c i j e f task_new step
+    → step.is_last ≡ false → HasWrittenSoFar job (number + 1) task_new a c h j d f s u tally_new
+HasWrittenSoFar-after-step job number task task_new None b c h i j d e f s t u tally tally_new step
+    fits ln en looks so st more = tt
+HasWrittenSoFar-after-step job number task task_new (Some xs) b c h i j d e f s t u tally tally_new
+    step fits ln en looks (
+      lines,
+      known,
+      rest,
+      left,
+      held,
+      whole,
+      remembers,
+      count,
+      lines_are,
+      errors_are,
+      few,
+      reported,
+      saw,
+    ) st more =
+    let stepped = (subst (λ o. Steps job number task o c i j e f task_new step) left st) known
+    remembers in
+    ⊎_elim (λ (is : WritesLine job number known rest c i j e f task_new step).
+    so_far job number task xs b c h i j d e f s t u task_new tally tally_new step fits ln en lines
+    known rest left held whole remembers count lines_are errors_are few reported saw looks is more)
+    (λ (is : FindsEnd rest i j e f step). absurd (true≢false (sym is.4 ∙ more)))
+    stepped
 
 -- streams: after the last step the whole output is written; a, b, c: what is left to read, h,
--- i, j: what the writer holds
+-- i, j: what the writer holds, d, e, f: the error output, s, t, u: what the observer saw
 pub HasWrittenSoFar-then-last-step : (job : Job) (number : ℕ) (task task_new : Task)
-    (a b c h i j : Option (List ℕ))
+    (a b c h i j : Option (List ℕ)) (d e f : ErrorOutput) (s t u : Option (List Tally))
     (tally tally_new : Tally) (step : StepResult) → number < 2 ^ 64 - 1
     → tally_new.lines ≡ min (tally.lines + (if step.is_line then 1 else 0)) (2 ^ 64 - 1)
     → tally_new.errors ≡ min (tally.errors + (if step.is_error then 1 else 0)) (2 ^ 64 - 1)
-    → HasWrittenSoFar job number task a b h i tally → Steps job number task b c i j task_new step
-    → step.is_last ≡ true → WritesOutput job a h j tally_new
-HasWrittenSoFar-then-last-step job number task task_new None b c h i j tally tally_new step fits ln
-    en so st ends = tt
-HasWrittenSoFar-then-last-step job number task task_new (Some xs) b c h i j tally tally_new
-    step fits ln en
-    (lines, known, rest, left, held, whole, remembers, count, lines_are, errors_are, few) st ends =
-    let s = (subst (λ o. Steps job number task o c i j task_new step) left st) known remembers in
-    ⊎_elim (λ (is : WritesLine job number known rest c i j task_new step).
-    last job number task xs b c h i j task_new tally tally_new step fits ln en lines known rest
-    left held whole remembers count lines_are errors_are few is ends)
-    (λ (is : FindsEnd rest i j step).
-    at_end job number task xs b c h i j task_new tally tally_new step fits ln en lines known rest
-    left held whole remembers count lines_are errors_are few is)
-    s
+    → Sees t u (if step.is_line then tally_new ∷ [] else [])
+    → HasWrittenSoFar job number task a b h i d e s t tally
+    → Steps job number task b c i j e f task_new step
+    → step.is_last ≡ true → WritesOutput job a h j d f s u tally_new
+HasWrittenSoFar-then-last-step job number task task_new None b c h i j d e f s t u tally tally_new
+    step fits ln en looks so st ends = tt
+HasWrittenSoFar-then-last-step job number task task_new (Some xs) b c h i j d e f s t u tally
+    tally_new step fits ln en looks (
+      lines,
+      known,
+      rest,
+      left,
+      held,
+      whole,
+      remembers,
+      count,
+      lines_are,
+      errors_are,
+      few,
+      reported,
+      saw,
+    ) st ends =
+    let stepped = (subst (λ o. Steps job number task o c i j e f task_new step) left st) known
+    remembers in
+    ⊎_elim (λ (is : WritesLine job number known rest c i j e f task_new step).
+    last job number task xs b c h i j d e f s t u task_new tally tally_new step fits ln en lines
+    known rest left held whole remembers count lines_are errors_are few reported saw looks is ends)
+    (λ (is : FindsEnd rest i j e f step).
+    at_end job number task xs b c h i j d e f s t u task_new tally tally_new step fits ln en lines
+    known rest left held whole remembers count lines_are errors_are few reported saw looks is)
+    stepped
 
--- streams: output that is written stays so where the writer keeps what it holds (i, j)
-pub WritesOutput-kept : (job : Job) (a h i j : Option (List ℕ)) (tally : Tally)
-    → WritesOutput job a h i tally → Keeps i j → WritesOutput job a h j tally
-WritesOutput-kept job None h i j tally output kept = tt
-WritesOutput-kept job (Some xs) h i j tally output kept = (
+-- streams: output that is written stays so where the writer keeps what it holds (i, j);
+-- d, e: the error output, s, t: what the observer saw
+pub WritesOutput-kept : (job : Job) (a h i j : Option (List ℕ)) (d e : ErrorOutput)
+    (s t : Option (List Tally)) (tally : Tally)
+    → WritesOutput job a h i d e s t tally → Keeps i j → WritesOutput job a h j d e s t tally
+WritesOutput-kept job None h i j d e s t tally output kept = tt
+WritesOutput-kept job (Some xs) h i j d e s t tally output kept = (
   Appends-kept h i j (output_of job (processed_in job xs)) output.0 kept,
   output.1,
   output.2,
+  output.3,
+  output.4,
 )

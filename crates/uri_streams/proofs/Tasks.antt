@@ -13,13 +13,18 @@ use Rattle.uri_streams.specs.Results.{LineResult, Error, kind_named, normalize_r
 use Rattle.uri_streams.specs.Results.{parse_message}
 use Rattle.uri_streams.specs.Returned.{IsResult, result_in}
 use Rattle.uri_streams.specs.Tasks.{HasMet, Known, Remembers, text_if_new, link_result}
-use Rattle.uri_streams.specs.Tasks.{noted_result}
+use Rattle.uri_streams.specs.Tasks.{no_text_result, noted_result}
 use Rattle.uri_streams.specs.Tasks.{text_result, unique_result}
+use Rattle.uri_streams.specs.Fields.{no_text_message}
 use Rattle.uri_streams.specs.declared.results.LineResult.{LineResult as Returned}
 use Rattle.uri_streams.specs.declared.command.Command.{Command}
 use Rattle.uri_streams.specs.declared.command.Command.TheVariants.{Each, Unique, Links}
 use Rattle.uri_streams.specs.declared.task.Task.{Task}
 use Rattle.uri_streams.specs.declared.task.Task.TheVariants as tasks
+use Rattle.uri_streams.specs.declared.command.LineCommand.{LineCommand}
+use Rattle.uri_streams.specs.declared.fault.NoText.{NoText}
+use Rattle.uri_streams.specs.declared.fault.NoText.TheVariants.{NoField, NotUtf8, TooLong}
+use Rattle.uri_streams.specs.declared.task.LinksTask.{LinksTask}
 use Rattle.uri_streams.specs.declared.task.UniqueTask.{UniqueTask}
 use Rattle.uri_streams.proofs.TextResults.{not-true-is-false, error_text-is-parse_message}
 
@@ -108,3 +113,36 @@ link_result-of-error base known text e not_of_kind is =
     ∙ sym (ap (λ b. if b then noted_result (outcome_of default_port base known text)
     else (Error (codes "reference: " ++ parse_message uri_ref text), known))
     (not-true-is-false (is_of_kind uri_ref text) not_of_kind))
+
+-- lines: the command that the task of a command that remembers nothing is of
+pub command-of-each : (own : LineCommand) (command : Command) (known : Known)
+    → Remembers (tasks.Each own) command known → Each own ≡ command
+command-of-each own (Each other) known is = ap Each is
+command-of-each own (Unique kind hasher) known is = absurd is
+command-of-each own (Links base) known is = absurd is
+
+-- lines: a line without a text is an error for the task of `unique`
+pub no_text_result-of-unique : (own : UniqueTask) (command : Command) (known : Known)
+    (why : NoText) → Remembers (tasks.Unique own) command known
+    → Error (no_text_message why) ≡ no_text_result command why
+no_text_result-of-unique own (Each other) known why is = absurd is
+no_text_result-of-unique own (Unique kind hasher) known why is = at why
+  where
+    at : (w : NoText) → Error (no_text_message w) ≡ no_text_result (Unique kind hasher) w
+    at (TooLong most) = refl
+    at (NoField before) = refl
+    at (NotUtf8 index) = refl
+no_text_result-of-unique own (Links base) known why is = absurd is
+
+-- lines: a line without a text is an error for the task of `links`
+pub no_text_result-of-links : (own : LinksTask) (command : Command) (known : Known)
+    (why : NoText) → Remembers (tasks.Links own) command known
+    → Error (no_text_message why) ≡ no_text_result command why
+no_text_result-of-links own (Each other) known why is = absurd is
+no_text_result-of-links own (Unique kind hasher) known why is = absurd is
+no_text_result-of-links own (Links base) known why is = at why
+  where
+    at : (w : NoText) → Error (no_text_message w) ≡ no_text_result (Links base) w
+    at (TooLong most) = refl
+    at (NoField before) = refl
+    at (NotUtf8 index) = refl

@@ -1,7 +1,8 @@
 -- Why a call failed.
 use Rattle.std.specs.Prelude.{Bool, true, false, Result, Ok, Err}
 use Rattle.uri_streams.specs.declared.failure.Failure.{Failure}
-use Rattle.uri_streams.specs.declared.failure.Failure.TheVariants.{Input, Output}
+use Rattle.uri_commands.specs.Sinks.{IsFinal}
+use Rattle.uri_streams.specs.declared.failure.Failure.TheVariants.{Input, Output, OutOfMemory}
 use Rattle.uri_streams.specs.declared.failure.Cause.{Cause}
 use Rattle.uri_streams.specs.declared.failure.Cause.TheVariants as causes
 
@@ -44,3 +45,10 @@ caused_by_input (Err cause) = is_input_cause cause
 abbrev pub caused_by_output : {T : Type 0} → Result T Cause → Bool
 caused_by_output (Ok value) = false
 caused_by_output (Err cause) = is_output_cause cause
+
+-- the error of the reader or the writer that ended a run is no interruption, after which a call is
+-- made again
+abbrev pub HasFinalError : Failure → Type 0
+HasFinalError (Input error) = IsFinal error
+HasFinalError (Output error) = IsFinal error
+HasFinalError OutOfMemory = Unit {0}

@@ -1,5 +1,5 @@
 -- The result of the text of a line under a command, whatever the other lines are.
-use Rattle.std.specs.Prelude.{ℕ, List, [], ◌++◌, codes, Bool, false, not, Result, Ok, Err}
+use Rattle.std.specs.Prelude.{ℕ, List, [], ◌++◌, codes, Bool, not, Result, Ok, Err}
 use Rattle.std.specs.Prelude.{unwrap_or}
 use Rattle.std.specs.Prelude.{option_map, if◌then◌else◌}
 use Rattle.fluent_uri.specs.Components.{components}
@@ -15,6 +15,8 @@ use Rattle.fluent_uri.specs.Target.{resolution_of}
 use Rattle.fluent_uri.specs.Uris.{uri_text}
 use Rattle.fluent_uri.specs.declared.resolve.ResolveError.TheVariants as resolve_errors
 use Rattle.uri_commands.specs.Messages.{error_text, resolve_error_text}
+use Rattle.uri_mend.specs.Mending.{can_be_mended, mended_text}
+use Rattle.uri_mend.specs.Trimming.{trimmed_link}
 use Rattle.uri_relative.specs.Rule.{reference_to}
 use Rattle.uri_streams.specs.Json.{json_of}
 use Rattle.uri_streams.specs.Queries.{query_json}
@@ -23,13 +25,15 @@ use Rattle.uri_streams.specs.declared.command.Base.TheVariants as bases
 use Rattle.uri_streams.specs.declared.command.LineCommand.{LineCommand}
 use Rattle.uri_streams.specs.declared.command.LineCommand.TheVariants.{Normalize, Resolve, Check}
 use Rattle.uri_streams.specs.declared.command.LineCommand.TheVariants.{Relativize}
-use Rattle.uri_streams.specs.declared.command.LineCommand.TheVariants.{Parse, Query}
+use Rattle.uri_streams.specs.declared.command.LineCommand.TheVariants.{Mend, Parse, Query}
 use Rattle.uri_streams.specs.declared.command.KindName.{KindName}
 use Rattle.uri_streams.specs.declared.command.KindName.TheVariants as kinds
 
--- the result of a line of an input: a text, no line, or an error with its message
+-- the result of a line of an input: a text in place of the one that the command got, the line as it
+-- stands, no line, or an error with its message
 pub data LineResult : Type 0 where
   Text : List ℕ → LineResult
+  Unchanged : LineResult
   NoLine : LineResult
   Error : List ℕ → LineResult
 
@@ -93,10 +97,11 @@ resolve_result kind base text =
     else Error (codes "reference: " ++ parse_message kind text)
 
 -- the result of `urilines relativize` for a base and a line, in this order: a reference that leads
--- from the base to the line, if that is of the kind
-unfoldable pub relativize_result : Kind → List ℕ → List ℕ → LineResult
-relativize_result kind base text =
-    if is_of_kind kind text then Text (reference_to false base text)
+-- from the base to the line, if that is of the kind; the Bool is whether a relative path is
+-- preferred
+unfoldable pub relativize_result : Bool → Kind → List ℕ → List ℕ → LineResult
+relativize_result prefers kind base text =
+    if is_of_kind kind text then Text (reference_to prefers base text)
     else Error (codes "target: " ++ parse_message kind text)
 
 -- whether `urilines check` keeps a line: it is of the kind, or with `--invert`, which the Bool is,
@@ -105,11 +110,22 @@ unfoldable pub passes_check : Kind → Bool → List ℕ → Bool
 passes_check kind is_inverted text =
     if is_inverted then not (is_of_kind kind text) else is_of_kind kind text
 
--- the result of `urilines check` for a line: the line itself, or no line; the Bool is whether
--- `--invert` is given
+-- the result of `urilines check` for a line that passes, or does not: the line as it stands, or no
+-- line
+abbrev pub passed_if : Bool → LineResult
+passed_if passes = if passes then Unchanged else NoLine
+
+-- the result of `urilines check` for a line with this text: the line itself, or no line; the Bool
+-- is whether `--invert` is given
 abbrev pub check_result : Kind → Bool → List ℕ → LineResult
-check_result kind is_inverted text = if passes_check kind is_inverted text then Text text
-    else NoLine
+check_result kind is_inverted text = passed_if (passes_check kind is_inverted text)
+
+-- the result of `urilines mend` for a line: the text of the kind that it is mended to as the link
+-- of a page, or the parse error
+unfoldable pub mend_result : Kind → List ℕ → LineResult
+mend_result kind text =
+    if can_be_mended kind (trimmed_link text) then Text (mended_text kind (trimmed_link text))
+    else Error (parse_message kind (trimmed_link text))
 
 -- the result of `urilines parse` for a line: the components of a text of the kind as JSON, or the
 -- parse error
@@ -129,8 +145,19 @@ query_result kind text =
 abbrev pub command_result : LineCommand → List ℕ → LineResult
 command_result (Normalize kind) text = normalize_result (kind_named kind) text
 command_result (Resolve base) text = resolve_result (reference_kind base) (base_text base) text
-command_result (Relativize base) text =
-    relativize_result (target_kind base) (base_text base) text
+command_result (Relativize base prefers) text =
+    relativize_result prefers (target_kind base) (base_text base) text
 command_result (Check kind is_inverted) text = check_result (kind_named kind) is_inverted text
+command_result (Mend kind) text = mend_result (kind_named kind) text
 command_result (Parse kind) text = parse_result (kind_named kind) text
 command_result (Query kind) text = query_result (kind_named kind) text
+
+-- the kind of the texts that a command of `urilines` gets of lines
+abbrev pub text_kind : LineCommand → Kind
+text_kind (Normalize kind) = kind_named kind
+text_kind (Resolve base) = reference_kind base
+text_kind (Relativize base prefers) = target_kind base
+text_kind (Check kind is_inverted) = kind_named kind
+text_kind (Mend kind) = kind_named kind
+text_kind (Parse kind) = kind_named kind
+text_kind (Query kind) = kind_named kind

@@ -9,15 +9,22 @@ use Rattle.fluent_uri.specs.Grammar.{Kind, uri_ref, is_of_kind}
 use Rattle.fluent_uri.specs.SchemePorts.{default_port}
 use Rattle.fluent_uri.specs.Uris.{uri_text}
 use Rattle.uri_commands.specs.Links.{text_at}
+use Rattle.uri_commands.specs.MendedLinks.{mended_link}
 use Rattle.uri_commands.specs.Messages.{resolve_error_text}
 use Rattle.uri_links.specs.Outcomes.{outcome_of}
 use Rattle.uri_links.specs.Registers.{port_function_of, texts_of}
 use Rattle.uri_links.specs.declared.links.Outcome.{Outcome}
 use Rattle.uri_links.specs.declared.links.Outcome.TheVariants as outcomes
+use Rattle.uri_streams.specs.Fields.{no_text_message}
 use Rattle.uri_streams.specs.Results.{LineResult, Text, NoLine, Error, command_result, kind_named}
-use Rattle.uri_streams.specs.Results.{normalize_result, parse_message}
+use Rattle.uri_streams.specs.Results.{normalize_result, parse_message, passed_if}
+use Rattle.uri_streams.specs.Results.{text_kind as line_text_kind}
 use Rattle.uri_streams.specs.declared.command.Command.{Command}
 use Rattle.uri_streams.specs.declared.command.Command.TheVariants.{Each, Unique, Links}
+use Rattle.uri_streams.specs.declared.command.LineCommand.TheVariants.{Check}
+use Rattle.uri_streams.specs.declared.fault.NoText.{NoText}
+use Rattle.uri_streams.specs.declared.fault.NoText.TheVariants.{TooLong, NotUtf8}
+use Rattle.uri_streams.specs.declared.job.Job.{Job}
 use Rattle.uri_streams.specs.declared.met.MetTexts.{MetTexts}
 use Rattle.uri_streams.specs.declared.task.Task.{Task}
 use Rattle.uri_streams.specs.declared.task.Task.TheVariants as tasks
@@ -75,18 +82,37 @@ text_result (Each command) known text = (command_result command text, known)
 text_result (Unique kind hasher) known text = unique_result (kind_named kind) known text
 text_result (Links base) known text = link_result (uri_text base) known text
 
--- the result of bytes, which need not be UTF-8, under a command of `urilines`, with what is known
--- from earlier lines; and what is known after it
-abbrev pub bytes_result : Command → Known → List ℕ → LineResult × Known
-bytes_result command known bytes =
-    if is_utf8 bytes then text_result command known bytes
-    else (Error (codes "not UTF-8 at index " ++ decimal (utf8_valid_len bytes)), known)
+-- The result of a line of which a command of `urilines` gets no text.
+-- It is not of the kind, so `check` passes it if `--invert` is given, unless it is too long; it is
+-- an error for every other command.
+abbrev pub no_text_result : Command → NoText → LineResult
+no_text_result command (TooLong most) = Error (no_text_message (TooLong most))
+no_text_result (Each (Check kind is_inverted)) why = passed_if is_inverted
+no_text_result command why = Error (no_text_message why)
 
--- the result of the text that a command of `urilines` gets of a line, or of the error's message,
--- with what is known; and what is known after it
-abbrev pub cut_result : Command → Known → Result (List ℕ) (List ℕ) → LineResult × Known
-cut_result command known (Ok bytes) = bytes_result command known bytes
-cut_result command known (Err message) = (Error message, known)
+-- the kind of the texts that a command of `urilines` gets of lines
+abbrev pub text_kind : Command → Kind
+text_kind (Each command) = line_text_kind command
+text_kind (Unique kind hasher) = kind_named kind
+text_kind (Links base) = uri_ref
+
+-- the text that the command of a job gets for the text of a line: with `--mend` what that is mended
+-- to as the link of a page, for the command's kind
+abbrev pub given_text : Job → List ℕ → List ℕ
+given_text job text = if job.is_mended then mended_link (text_kind job.command) text else text
+
+-- the result of bytes, which need not be UTF-8, under a job, with what is known from earlier lines;
+-- and what is known after it
+abbrev pub bytes_result : Job → Known → List ℕ → LineResult × Known
+bytes_result job known bytes =
+    if is_utf8 bytes then text_result job.command known (given_text job bytes)
+    else (no_text_result job.command (NotUtf8 (utf8_valid_len bytes)), known)
+
+-- the result of the text that the command of a job gets of a line, or of none, with what is known;
+-- and what is known after it
+abbrev pub cut_result : Job → Known → Result (List ℕ) NoText → LineResult × Known
+cut_result job known (Ok bytes) = bytes_result job known bytes
+cut_result job known (Err why) = (no_text_result job.command why, known)
 
 -- the set of texts that the task of a run met has exactly the texts that are known
 abbrev pub HasMet : MetTexts → Known → Type 0

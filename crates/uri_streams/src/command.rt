@@ -35,10 +35,15 @@ pub enum LineCommand<'a> {
     /// `resolve uri|iri BASE`: the target of the text against the base takes its place.
     Resolve(Base<'a>),
     /// `relativize uri|iri BASE`: a reference that leads to the text from the base takes its place.
-    Relativize(Base<'a>),
+    /// If the `bool` is true (`--prefer-relative`), its path is relative even if the path from the
+    /// root is shorter.
+    Relativize(Base<'a>, bool),
     /// `check KIND`: the text is passed on, unchanged, if it is of the kind. If the `bool` is true
     /// (`--invert`), it is passed on if it is not.
     Check(KindName, bool),
+    /// `mend KIND`: the text of the kind that the text is mended to, as the link of a page, takes
+    /// its place.
+    Mend(KindName),
     /// `parse KIND`: a line of JSON that has the components of the text takes its place.
     Parse(KindName),
     /// `query KIND`: a line of JSON that has the pairs of the text's query takes its place.

@@ -7,9 +7,9 @@ ghost use Rattle.uri_streams.specs.Fields.{IsFieldStart, fields_after_delimiters
 ghost use Rattle.uri_streams.specs.Fields.{cut_of};
 ghost use Rattle.uri_streams.specs.Fields.{field_cut, fields_of};
 ghost use Rattle.uri_streams.specs.Outputs as outputs;
-ghost use Rattle.uri_streams.specs.Returned.{cut_in, text_or_message};
+ghost use Rattle.uri_streams.specs.Returned.{cut_in, text_in};
 
-use crate::fault::LineError;
+use crate::fault::NoText;
 use crate::job::{Field, Job};
 use crate::line_ends::line_without_end;
 use memchr::memchr;
@@ -19,7 +19,7 @@ pub(crate) struct Cut<'a> {
     /// The fields before what the command gets, each with its delimiter.
     pub before: &'a [u8],
     /// What the command gets of the line, or why it gets nothing.
-    pub text: Result<&'a [u8], LineError>,
+    pub text: Result<&'a [u8], NoText>,
     /// The fields after what the command gets, each after a delimiter.
     pub after: &'a [u8],
 }
@@ -39,14 +39,14 @@ pub(crate) fn whole_text<'a>(job: &Job<'_>, line: &'a [u8]) -> Option<&'a [u8]>
     }
 }
 
-/// Returns a line, cut around what the job's command gets of it. It is an error if it is too long
-/// or lacks the field.
+/// Returns a line, cut around what the job's command gets of it: nothing if it is too long or lacks
+/// the field.
 pub(crate) fn line_cut<'a>(job: &Job<'_>, line: &'a [u8]) -> Cut<'a>
     ensures { cut_in result ≡ outputs.line_cut job.now line.now }
 {
     let text = line_without_end(job.is_null, line);
     if text.len() > job.max_line as usize {
-        return cut_without_other_fields(Err(LineError::TooLong(job.max_line)));
+        return cut_without_other_fields(Err(NoText::TooLong(job.max_line)));
     }
     match job.field {
         None => cut_without_other_fields(Ok(text)),
@@ -54,10 +54,10 @@ pub(crate) fn line_cut<'a>(job: &Job<'_>, line: &'a [u8]) -> Cut<'a>
     }
 }
 
-/// Returns the cut of a line of which the command gets all, or which is an error: there is nothing
-/// before or after this text or error.
-fn cut_without_other_fields(text: Result<&[u8], LineError>) -> Cut<'_>
-    ensures { cut_in result ≡ spec.cut_without_other_fields (text_or_message text.entry) }
+/// Returns the cut of a line of which the command gets all or nothing: there is nothing before or
+/// after it.
+fn cut_without_other_fields(text: Result<&[u8], NoText>) -> Cut<'_>
+    ensures { cut_in result ≡ spec.cut_without_other_fields (text_in text.entry) }
 {
     Cut {
         before: b"",
@@ -66,8 +66,7 @@ fn cut_without_other_fields(text: Result<&[u8], LineError>) -> Cut<'_>
     }
 }
 
-/// Returns a line, cut around the field that is asked for. It is an error if the line lacks that
-/// field.
+/// Returns a line, cut around the field that is asked for, if it has that field.
 fn field_cut(field: Field, line: &[u8]) -> Cut<'_>
     ensures { cut_in result ≡ spec.field_cut field.delimiter field.before line.now }
 {
@@ -80,7 +79,7 @@ fn field_cut(field: Field, line: &[u8]) -> Cut<'_>
                 after: &line[end..],
             }
         }
-        None => cut_without_other_fields(Err(LineError::NoField(field.before))),
+        None => cut_without_other_fields(Err(NoText::NoField(field.before))),
     }
 }
 

@@ -36,6 +36,8 @@ pub struct Job<'a> {
     pub is_null: bool,
     /// How many bytes the text of a line may have.
     pub max_line: u32,
+    /// Whether a line's text is mended as the link of a page before the command gets it.
+    pub is_mended: bool,
     /// What happens to a line that is an error.
     pub errors: OnError,
 }

@@ -1,14 +1,15 @@
 //! Reading a line.
-ghost use Rattle.std.specs.Prelude.{◌≡◌, ◌||◌, false, IfOk, IfSome, None, OnErr};
+ghost use Rattle.std.specs.Prelude.{◌≡◌, ◌||◌, false, true, IfOk, IfSome, None, OnErr, OnOk};
 ghost use Rattle.std.specs.Io.Buffered.{reader_remaining};
 ghost use Rattle.std.specs.Io.KnownBytes.{IsAtEnd, Keeps};
 ghost use Rattle.uri_streams.specs.Causes.{caused_by_input, caused_by_output};
-ghost use Rattle.uri_streams.specs.Models.{ReadsPartOfLine, ReadsFirstLine};
+ghost use Rattle.uri_commands.specs.Sinks.{KeepsFinalError};
+ghost use Rattle.uri_streams.specs.Models.{IsFlushedIfDrained, ReadsPartOfLine, ReadsFirstLine};
 
 use crate::failure::Cause;
-use crate::sink::Sink;
 use crate::source::Source;
 use std::io::{Read, Write};
+use uri_commands::sink::Sink;
 
 /// Reads a line of an input into `line`, of which it keeps the first `limit` bytes. Returns whether
 /// a `\r` is before its `end`, or `None` at the end of the input. Before the reader is asked for
@@ -31,13 +32,15 @@ pub(crate) fn read_line<R: Read, W: Write>(
         (reader_remaining R.remaining reader.new.reader) end) }
     ensures reading { reader.new.has_failed ≡ (caused_by_input result || reader.old.has_failed) }
     ensures writing { writer.new.has_failed ≡ (caused_by_output result || writer.old.has_failed) }
+    ensures read_error { caused_by_input result ≡ true → KeepsFinalError reader.new.error }
+    ensures write_error { caused_by_output result ≡ true → KeepsFinalError writer.new.error }
 {
     line.clear();
     let mut count = 0usize;
     let mut is_return = false;
     for _ in 0..u64::MAX {
         flush_before_read(reader, writer)?;
-        let part = reader.take_part(end, limit, is_return, line)?;
+        let part = reader.take_part(writer, end, limit, is_return, line)?;
         count = count.saturating_add(part.count);
         is_return = part.is_return;
         if part.is_last {
@@ -58,9 +61,11 @@ fn flush_before_read<R: Read, W: Write>(
     ensures keeps { Keeps (W.contents writer.old.writer) (W.contents writer.new.writer) }
     ensures reading { caused_by_input result ≡ false }
     ensures writing { writer.new.has_failed ≡ (caused_by_output result || writer.old.has_failed) }
+    ensures write_error { caused_by_output result ≡ true → KeepsFinalError writer.new.error }
+    ensures flushed { OnOk result (IsFlushedIfDrained reader.now.reader writer.new.is_flushed) }
 {
-    if reader.is_drained() {
-        writer.flush()?;
+    if reader.is_drained() && !writer.flush() {
+        return Err(Cause::Output);
     }
     Ok(())
 }

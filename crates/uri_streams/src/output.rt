@@ -1,24 +1,27 @@
 //! Writing the output of a line.
-ghost use Rattle.std.specs.Prelude.{◌≡◌, ◌||◌, ◌++◌, IfErr, IfOk, OnOk};
+ghost use Rattle.std.specs.Prelude.{◌≡◌, ◌||◌, ◌++◌, IfErr, IfOk, OnOk, string_bytes};
 ghost use Rattle.std.specs.Prelude.{◌&&◌, IsTrue, false, not, true};
 ghost use Rattle.std.specs.Str.{IsAscii};
 ghost use Rattle.std.specs.Io.KnownBytes.{Appends};
 ghost use Rattle.uri_commands.specs.Prefixes.{AppendsPrefix};
 ghost use Rattle.uri_streams.specs.Causes.{caused_by_input, caused_by_output};
-ghost use Rattle.uri_streams.specs.Outputs.{error_output, is_stop, result_output};
+ghost use Rattle.uri_streams.specs.Outputs.{error_output, error_report, is_stop, result_output};
+ghost use Rattle.uri_streams.specs.Outputs.{reported_error, result_report};
 ghost use Rattle.uri_streams.specs.Returned.{result_in, line_error_message};
 ghost use Rattle.uri_streams.specs.Models.{WritesLineOutput, WritesOutputPrefix, WritesResult};
+ghost use Rattle.uri_streams.specs.Runs.{Reports, ReportsPrefix, error_output_of};
+ghost use Rattle.uri_commands.specs.Sinks.{KeepsFinalError};
 
 use crate::cut::{Cut, line_cut, whole_text};
 use crate::failure::Cause;
 use crate::fault::LineError;
 use crate::job::{Job, OnError};
 use crate::results::LineResult;
-use crate::sink::{Sink, put_both};
 use crate::source::Line;
 use crate::task::Task;
 use std::alloc::{AllocError, Global};
 use std::io::Write;
+use uri_commands::sink::{Sink, put_both};
 
 /// What a step of a run did: whether there was a line, whether it was an error, and whether the run
 /// ends with it.
@@ -46,17 +49,21 @@ pub(crate) fn write_line<W: Write, E: Write>(
     err: &mut Sink<E>,
 ) -> Result<StepResult, Cause>
     requires { IsTrue line.is_ascii → IsAscii line.bytes.now }
-    ensures whole { IfOk result (WritesLineOutput job.now task.old line.entry.bytes.now end.now
-        (W.contents writer.old.writer) (W.contents writer.new.writer) task.new) }
-    ensures prefix { IfErr result (WritesOutputPrefix job.now task.old line.entry.bytes.now end.now
-        (W.contents writer.old.writer) (W.contents writer.new.writer)) }
+    ensures whole { IfOk result (WritesLineOutput job.now number task.old line.entry.bytes.now
+        end.now (W.contents writer.old.writer) (W.contents writer.new.writer)
+        (error_output_of E.contents err.old) (error_output_of E.contents err.new) task.new) }
+    ensures prefix { IfErr result (WritesOutputPrefix job.now number task.old line.entry.bytes.now
+        end.now (W.contents writer.old.writer) (W.contents writer.new.writer)
+        (error_output_of E.contents err.old) (error_output_of E.contents err.new)) }
     ensures writing { writer.new.has_failed ≡ (caused_by_output result || writer.old.has_failed) }
+    ensures write_error { caused_by_output result ≡ true → KeepsFinalError writer.new.error }
 {
     let Some(text) = whole_text(job, line.bytes) else {
         return write_cut(alloc, job, task, line.bytes, end, number, writer, err);
     };
-    let line_result = task.bytes_result(alloc, text, line.is_ascii)?;
+    let line_result = task.bytes_result(alloc, job, text, line.is_ascii)?;
     let around = Around {
+        line: line.bytes,
         before: b"",
         after: b"",
         end,
@@ -78,19 +85,27 @@ fn write_cut<W: Write, E: Write>(
     writer: &mut Sink<W>,
     err: &mut Sink<E>,
 ) -> Result<StepResult, Cause>
-    ensures whole { IfOk result (WritesLineOutput job.now task.old line.now end.now
-        (W.contents writer.old.writer) (W.contents writer.new.writer) task.new) }
-    ensures prefix { IfErr result (WritesOutputPrefix job.now task.old line.now end.now
-        (W.contents writer.old.writer) (W.contents writer.new.writer)) }
+    ensures whole { IfOk result (WritesLineOutput job.now number task.old line.now end.now
+        (W.contents writer.old.writer) (W.contents writer.new.writer)
+        (error_output_of E.contents err.old) (error_output_of E.contents err.new) task.new) }
+    ensures prefix { IfErr result (WritesOutputPrefix job.now number task.old line.now end.now
+        (W.contents writer.old.writer) (W.contents writer.new.writer)
+        (error_output_of E.contents err.old) (error_output_of E.contents err.new)) }
     ensures writing { writer.new.has_failed ≡ (caused_by_output result || writer.old.has_failed) }
+    ensures write_error { caused_by_output result ≡ true → KeepsFinalError writer.new.error }
 {
     let Cut {
         before,
         text,
         after,
     } = line_cut(job, line);
-    let line_result = task.result_for(alloc, text)?;
-    let around = Around { before, after, end };
+    let line_result = task.result_for(alloc, job, text)?;
+    let around = Around {
+        line,
+        before,
+        after,
+        end,
+    };
     write_result(alloc, job.errors, line_result, around, number, writer, err)
 }
 
@@ -102,9 +117,11 @@ fn stops_at_error(errors: OnError) -> bool
     matches!(errors, OnError::Stop)
 }
 
-/// What is before and after the result of a line in the output.
+/// A line, and what is before and after its result in the output.
 #[derive(Clone, Copy)]
 struct Around<'a> {
+    /// The line as it stands in the input, with what ends it.
+    line: &'a [u8],
     /// The fields before the one that the command gets, each with its delimiter.
     before: &'a [u8],
     /// The fields after the one that the command gets, each after a delimiter.
@@ -113,26 +130,33 @@ struct Around<'a> {
     end: &'a [u8],
 }
 
-/// Writes the result of a line, with what is around it. `number` is that of the line, for the
-/// message of an error.
+/// Writes the result of a line, with what is around it, or the line itself. `number` is that of the
+/// line, for the message of an error.
 #[inline(always)]
 fn write_result<W: Write, E: Write>(
     alloc: Global,
     errors: OnError,
-    line_result: LineResult<'_>,
+    line_result: LineResult,
     around: Around<'_>,
     number: u64,
     writer: &mut Sink<W>,
     err: &mut Sink<E>,
 ) -> Result<StepResult, Cause>
-    ensures whole { IfOk result (WritesResult errors around.entry.before.now
-        (result_in line_result.entry) (around.entry.after.now ++ around.entry.end.now)
-        (W.contents writer.old.writer) (W.contents writer.new.writer)) }
+    ensures whole { IfOk result (WritesResult errors number around.entry.line.now
+        around.entry.before.now (result_in line_result)
+        (around.entry.after.now ++ around.entry.end.now)
+        (W.contents writer.old.writer) (W.contents writer.new.writer)
+        (error_output_of E.contents err.old) (error_output_of E.contents err.new)) }
     ensures prefix { AppendsPrefix (W.contents writer.old.writer)
-        (W.contents writer.new.writer) (result_output errors around.entry.before.now
-        (result_in line_result.entry) (around.entry.after.now ++ around.entry.end.now)) }
+        (W.contents writer.new.writer) (result_output errors around.entry.line.now
+        around.entry.before.now (result_in line_result)
+        (around.entry.after.now ++ around.entry.end.now)) }
+    ensures reports { ReportsPrefix (error_output_of E.contents err.old)
+        (error_output_of E.contents err.new)
+        (result_report errors number (result_in line_result)) }
     ensures reading { caused_by_input result ≡ false }
     ensures writing { writer.new.has_failed ≡ (caused_by_output result || writer.old.has_failed) }
+    ensures write_error { caused_by_output result ≡ true → KeepsFinalError writer.new.error }
 {
     match line_result {
         LineResult::Text(text) => {
@@ -142,8 +166,8 @@ fn write_result<W: Write, E: Write>(
                 Err(Cause::Output)
             }
         }
-        LineResult::Unchanged(text) => {
-            if put_around(writer, text.as_bytes(), around) {
+        LineResult::Unchanged => {
+            if writer.put(around.line) {
                 Ok(StepResult::of_line(false, errors))
             } else {
                 Err(Cause::Output)
@@ -185,6 +209,7 @@ fn put_around<W: Write>(writer: &mut Sink<W>, text: &[u8], around: Around<'_>) -
         (W.contents writer.new.writer) ((around.entry.before.now ++ text.now)
         ++ (around.entry.after.now ++ around.entry.end.now)) }
     ensures failed { writer.new.has_failed ≡ (not result || writer.old.has_failed) }
+    ensures error { result ≡ false → KeepsFinalError writer.new.error }
 {
     put_both(writer, around.before, text) && put_both(writer, around.after, around.end)
 }
@@ -208,8 +233,15 @@ fn write_error<W: Write, E: Write>(
     ensures prefix { AppendsPrefix (W.contents writer.old.writer)
         (W.contents writer.new.writer) (error_output errors around.entry.before.now
         (line_error_message fault) (around.entry.after.now ++ around.entry.end.now)) }
+    ensures reported { OnOk result (Reports (error_output_of E.contents err.old)
+        (error_output_of E.contents err.new)
+        (error_report errors number (line_error_message fault))) }
+    ensures reports { ReportsPrefix (error_output_of E.contents err.old)
+        (error_output_of E.contents err.new)
+        (error_report errors number (line_error_message fault)) }
     ensures reading { caused_by_input result ≡ false }
     ensures writing { writer.new.has_failed ≡ (caused_by_output result || writer.old.has_failed) }
+    ensures write_error { caused_by_output result ≡ true → KeepsFinalError writer.new.error }
 {
     match errors {
         OnError::Line => {
@@ -232,8 +264,32 @@ fn show_error<E: Write>(
     fault: LineError,
     number: u64,
     err: &mut Sink<E>,
-) -> Result<(), AllocError> {
-    let message = format!(in alloc; "error: line {number}: {fault}\n")?;
-    err.show(message.as_str());
+) -> Result<(), AllocError>
+    ensures reported { OnOk result (Reports (error_output_of E.contents err.old)
+        (error_output_of E.contents err.new)
+        (reported_error number (line_error_message fault))) }
+    ensures reports { ReportsPrefix (error_output_of E.contents err.old)
+        (error_output_of E.contents err.new) (reported_error number (line_error_message fault)) }
+{
+    let message = reported_error(alloc, fault, number)?;
+    show(err, message.as_str());
     Ok(())
+}
+
+/// Returns the line that reports the error of a line with this number.
+fn reported_error(alloc: Global, fault: LineError, number: u64) -> Result<String, AllocError>
+    ensures { IfOk result (λ line.
+        string_bytes line ≡ reported_error number (line_error_message fault)) }
+{
+    format!(in alloc; "error: line {number}: {fault}\n")
+}
+
+/// Writes a text to the error output, unless that has failed before.
+fn show<E: Write>(err: &mut Sink<E>, text: &str)
+    ensures { Reports (error_output_of E.contents err.old) (error_output_of E.contents err.new)
+        text.now }
+{
+    if !err.has_failed() {
+        let _ = err.put(text.as_bytes());
+    }
 }

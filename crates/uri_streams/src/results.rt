@@ -1,5 +1,5 @@
 //! The result of the text of a line, whatever the other lines are.
-ghost use Rattle.std.specs.Prelude.{◌≡◌, ◌↔◌, IfErr, IfOk, IsOk, Some, false, ◌≢◌};
+ghost use Rattle.std.specs.Prelude.{◌≡◌, ◌↔◌, IfErr, IfOk, IsOk, Some, ◌≢◌};
 ghost use Rattle.fluent_uri.specs.Grammar as test;
 ghost use Rattle.fluent_uri.specs.Grammar.{IsOfKind};
 ghost use Rattle.fluent_uri.specs.Iris.{iri_ref_text, iri_text};
@@ -9,29 +9,30 @@ ghost use Rattle.uri_relative.specs.Rule.{reference_to};
 ghost use Rattle.uri_streams.specs.Results as results;
 ghost use Rattle.uri_streams.specs.Results.{base_text, check_result};
 ghost use Rattle.uri_streams.specs.Results.{passes_check};
-ghost use Rattle.uri_streams.specs.Results.{kind_named, normalize_result, parse_result};
-ghost use Rattle.uri_streams.specs.Results.{query_result};
+ghost use Rattle.uri_streams.specs.Results.{kind_named, mend_result, normalize_result};
+ghost use Rattle.uri_streams.specs.Results.{parse_result, query_result};
 ghost use Rattle.uri_streams.specs.Results.{reference_kind, relativize_result, target_kind};
 ghost use Rattle.uri_streams.specs.Results.{resolve_result, target_result};
-ghost use Rattle.uri_streams.specs.Returned.{result_in};
+ghost use Rattle.uri_streams.specs.Returned.{IsOwned, result_in};
 
 use crate::command::{Base, KindName, LineCommand};
 use crate::fault::LineError;
 use crate::json::json;
+use crate::mending::mended;
 use crate::queries::query_json;
 use fluent_uri::resolve::ResolveError;
 use fluent_uri::{Iri, IriRef, ParseError, Uri, UriRef};
 use std::alloc::{AllocError, Global};
 use uri_commands::refusal::CommandError;
-use uri_relative::Relativize;
+use uri_relative::Relativizer;
 
 /// The result of a line of an input: a text, no line, or an error.
 #[derive(Drop)]
-pub(crate) enum LineResult<'a> {
+pub(crate) enum LineResult {
     /// This text replaces that of the line.
     Text(String),
-    /// The text of the line stays.
-    Unchanged(&'a str),
+    /// The line passes as it stands.
+    Unchanged,
     /// The line has no output.
     NoLine,
     /// The line is an error.
@@ -44,19 +45,20 @@ pub(crate) enum LineResult<'a> {
 ///
 /// Only if allocation fails.
 #[inline(always)]
-pub(crate) fn command_result<'a>(
+pub(crate) fn command_result(
     alloc: Global,
     command: &LineCommand<'_>,
-    text: &'a str,
-) -> Result<LineResult<'a>, AllocError>
+    text: &str,
+) -> Result<LineResult, AllocError>
     ensures { IfOk result (λ line_result.
         result_in line_result ≡ results.command_result command.now text.now) }
 {
     match command {
         LineCommand::Normalize(kind) => normalize(alloc, *kind, text),
         LineCommand::Resolve(base) => resolve(alloc, base, text),
-        LineCommand::Relativize(base) => relativize(alloc, base, text),
+        LineCommand::Relativize(base, prefers) => relativize(alloc, base, *prefers, text),
         LineCommand::Check(kind, is_inverted) => Ok(check(*kind, *is_inverted, text)),
+        LineCommand::Mend(kind) => mend(alloc, *kind, text),
         LineCommand::Parse(kind) => parse(alloc, *kind, text),
         LineCommand::Query(kind) => query(alloc, *kind, text),
     }
@@ -65,13 +67,10 @@ pub(crate) fn command_result<'a>(
 /// Returns the result of `urilines normalize` for a text: its normal form, or an error if it is not
 /// of the kind.
 #[inline(always)]
-pub(crate) fn normalize(
-    alloc: Global,
-    kind: KindName,
-    text: &str,
-) -> Result<LineResult<'static>, AllocError>
-    ensures { IfOk result (λ line_result.
+pub(crate) fn normalize(alloc: Global, kind: KindName, text: &str) -> Result<LineResult, AllocError>
+    ensures result { IfOk result (λ line_result.
         result_in line_result ≡ normalize_result (kind_named kind) text.now) }
+    ensures owned { IfOk result IsOwned }
 {
     match kind {
         KindName::Uri => normalize_uri(alloc, text),
@@ -83,8 +82,9 @@ pub(crate) fn normalize(
 
 /// Returns the result of `urilines normalize uri` for a text: its normal form, or an error if it is
 /// not a URI.
-fn normalize_uri(alloc: Global, text: &str) -> Result<LineResult<'static>, AllocError>
-    ensures { IfOk result (λ line. result_in line ≡ normalize_result test.uri text.now) }
+fn normalize_uri(alloc: Global, text: &str) -> Result<LineResult, AllocError>
+    ensures result { IfOk result (λ line. result_in line ≡ normalize_result test.uri text.now) }
+    ensures owned { IfOk result IsOwned }
 {
     match Uri::<&str>::parse(text) {
         Ok(uri) => Ok(LineResult::Text(uri.normalize(alloc)?.into_string())),
@@ -94,8 +94,9 @@ fn normalize_uri(alloc: Global, text: &str) -> Result<LineResult<'static>, Alloc
 
 /// Returns the result of `urilines normalize uri-ref` for a text: its normal form, or an error if
 /// it is not a URI reference.
-fn normalize_uri_ref(alloc: Global, text: &str) -> Result<LineResult<'static>, AllocError>
-    ensures { IfOk result (λ line. result_in line ≡ normalize_result test.uri_ref text.now) }
+fn normalize_uri_ref(alloc: Global, text: &str) -> Result<LineResult, AllocError>
+    ensures result { IfOk result (λ line. result_in line ≡ normalize_result test.uri_ref text.now) }
+    ensures owned { IfOk result IsOwned }
 {
     match UriRef::<&str>::parse(text) {
         Ok(uri_ref) => Ok(LineResult::Text(uri_ref.normalize(alloc)?.into_string())),
@@ -105,8 +106,9 @@ fn normalize_uri_ref(alloc: Global, text: &str) -> Result<LineResult<'static>, A
 
 /// Returns the result of `urilines normalize iri` for a text: its normal form, or an error if it is
 /// not an IRI.
-fn normalize_iri(alloc: Global, text: &str) -> Result<LineResult<'static>, AllocError>
-    ensures { IfOk result (λ line. result_in line ≡ normalize_result test.iri text.now) }
+fn normalize_iri(alloc: Global, text: &str) -> Result<LineResult, AllocError>
+    ensures result { IfOk result (λ line. result_in line ≡ normalize_result test.iri text.now) }
+    ensures owned { IfOk result IsOwned }
 {
     match Iri::<&str>::parse(text) {
         Ok(iri) => Ok(LineResult::Text(iri.normalize(alloc)?.into_string())),
@@ -116,8 +118,9 @@ fn normalize_iri(alloc: Global, text: &str) -> Result<LineResult<'static>, Alloc
 
 /// Returns the result of `urilines normalize iri-ref` for a text: its normal form, or an error if
 /// it is not an IRI reference.
-fn normalize_iri_ref(alloc: Global, text: &str) -> Result<LineResult<'static>, AllocError>
-    ensures { IfOk result (λ line. result_in line ≡ normalize_result test.iri_ref text.now) }
+fn normalize_iri_ref(alloc: Global, text: &str) -> Result<LineResult, AllocError>
+    ensures result { IfOk result (λ line. result_in line ≡ normalize_result test.iri_ref text.now) }
+    ensures owned { IfOk result IsOwned }
 {
     match IriRef::<&str>::parse(text) {
         Ok(iri_ref) => Ok(LineResult::Text(iri_ref.normalize(alloc)?.into_string())),
@@ -126,7 +129,7 @@ fn normalize_iri_ref(alloc: Global, text: &str) -> Result<LineResult<'static>, A
 }
 
 /// Returns the result for a text that is not of the kind: its parse error.
-fn not_of_kind(error: ParseError) -> LineResult<'static>
+fn not_of_kind(error: ParseError) -> LineResult
     ensures { result ≡ LineResult.Error (LineError.Refused (CommandError.Text error)) }
 {
     LineResult::Error(LineError::Refused(CommandError::Text(error)))
@@ -134,7 +137,7 @@ fn not_of_kind(error: ParseError) -> LineResult<'static>
 
 /// Returns the result of `urilines resolve` for a text: its target against the base, or why it has
 /// none.
-fn resolve(alloc: Global, base: &Base<'_>, text: &str) -> Result<LineResult<'static>, AllocError>
+fn resolve(alloc: Global, base: &Base<'_>, text: &str) -> Result<LineResult, AllocError>
     ensures { IfOk result (λ line. result_in line
         ≡ resolve_result (reference_kind base.now) (base_text base.now) text.now) }
 {
@@ -151,7 +154,7 @@ fn resolve(alloc: Global, base: &Base<'_>, text: &str) -> Result<LineResult<'sta
 }
 
 /// Returns the result of `urilines resolve` for a text that is not a reference: its parse error.
-fn reference_error_result(error: ParseError) -> LineResult<'static>
+fn reference_error_result(error: ParseError) -> LineResult
     ensures { result ≡ LineResult.Error (LineError.Refused (CommandError.Reference error)) }
 {
     LineResult::Error(LineError::Refused(CommandError::Reference(error)))
@@ -163,7 +166,7 @@ fn resolve_uri(
     alloc: Global,
     base: &Uri<&str>,
     reference: &UriRef<&str>,
-) -> Result<LineResult<'static>, AllocError>
+) -> Result<LineResult, AllocError>
     ensures { IfOk result (λ line. result_in line
         ≡ target_result (uri_text base.now) (uri_ref_text reference.now)) }
 {
@@ -179,7 +182,7 @@ fn resolve_iri(
     alloc: Global,
     base: &Iri<&str>,
     reference: &IriRef<&str>,
-) -> Result<LineResult<'static>, AllocError>
+) -> Result<LineResult, AllocError>
     ensures { IfOk result (λ line. result_in line
         ≡ target_result (iri_text base.now) (iri_ref_text reference.now)) }
 {
@@ -191,7 +194,7 @@ fn resolve_iri(
 
 /// Returns the result of `urilines resolve` for a reference that has no target: the error of
 /// resolving, unless that is a failed allocation.
-fn resolve_error_result(error: ResolveError) -> Result<LineResult<'static>, AllocError>
+fn resolve_error_result(error: ResolveError) -> Result<LineResult, AllocError>
     ensures output { IfOk result (λ line_result.
         line_result ≡ LineResult.Error (LineError.Refused (CommandError.Target error))) }
     ensures memory { IfOk result (λ _. error ≢ ResolveError.OutOfMemory) }
@@ -203,66 +206,84 @@ fn resolve_error_result(error: ResolveError) -> Result<LineResult<'static>, Allo
 }
 
 /// Returns the result of `urilines relativize` for a text: a reference that leads to it from the
-/// base, or an error if it is not of the base's kind.
-fn relativize(alloc: Global, base: &Base<'_>, text: &str) -> Result<LineResult<'static>, AllocError>
+/// base, or an error if it is not of the base's kind. `prefers` is whether a relative path is
+/// preferred.
+fn relativize(
+    alloc: Global,
+    base: &Base<'_>,
+    prefers: bool,
+    text: &str,
+) -> Result<LineResult, AllocError>
     ensures { IfOk result (λ line. result_in line
-        ≡ relativize_result (target_kind base.now) (base_text base.now) text.now) }
+        ≡ relativize_result prefers (target_kind base.now) (base_text base.now) text.now) }
 {
     match base {
         Base::Uri(base) => match Uri::<&str>::parse(text) {
-            Ok(target) => relativize_uri(alloc, base, target),
+            Ok(target) => relativize_uri(alloc, base, prefers, target),
             Err(error) => Ok(target_error_result(error)),
         },
         Base::Iri(base) => match Iri::<&str>::parse(text) {
-            Ok(target) => relativize_iri(alloc, base, target),
+            Ok(target) => relativize_iri(alloc, base, prefers, target),
             Err(error) => Ok(target_error_result(error)),
         },
     }
 }
 
 /// Returns the result of `urilines relativize` for a text that is not a target: its parse error.
-fn target_error_result(error: ParseError) -> LineResult<'static>
+fn target_error_result(error: ParseError) -> LineResult
     ensures { result ≡ LineResult.Error (LineError.Target error) }
 {
     LineResult::Error(LineError::Target(error))
 }
 
 /// Returns the result of `urilines relativize uri` for a target: a reference that leads to it from
-/// the base.
+/// the base. `prefers` is whether a relative path is preferred.
 fn relativize_uri(
     alloc: Global,
     base: &Uri<&str>,
+    prefers: bool,
     target: Uri<&str>,
-) -> Result<LineResult<'static>, AllocError>
+) -> Result<LineResult, AllocError>
     ensures { IfOk result (λ line. result_in line
-        ≡ results.Text (reference_to false (uri_text base.now) (uri_text target.entry))) }
+        ≡ results.Text (reference_to prefers (uri_text base.now) (uri_text target.entry))) }
 {
-    let uri_ref = base.relativize(alloc, &target)?;
+    let relativizer = Relativizer::with_base(*base).prefer_relative_path(prefers);
+    let uri_ref = relativizer.relativize(alloc, &target)?;
     Ok(LineResult::Text(uri_ref.into_string()))
 }
 
 /// Returns the result of `urilines relativize iri` for a target: a reference that leads to it from
-/// the base.
+/// the base. `prefers` is whether a relative path is preferred.
 fn relativize_iri(
     alloc: Global,
     base: &Iri<&str>,
+    prefers: bool,
     target: Iri<&str>,
-) -> Result<LineResult<'static>, AllocError>
+) -> Result<LineResult, AllocError>
     ensures { IfOk result (λ line. result_in line
-        ≡ results.Text (reference_to false (iri_text base.now) (iri_text target.entry))) }
+        ≡ results.Text (reference_to prefers (iri_text base.now) (iri_text target.entry))) }
 {
-    let iri_ref = base.relativize(alloc, &target)?;
+    let relativizer = Relativizer::with_base(*base).prefer_relative_path(prefers);
+    let iri_ref = relativizer.relativize(alloc, &target)?;
     Ok(LineResult::Text(iri_ref.into_string()))
 }
 
-/// Returns the result of `urilines check` for a text: the text itself, or no line.
-fn check(kind: KindName, is_inverted: bool, text: &str) -> LineResult<'_>
+/// Returns the result of `urilines check` for a text: its line as it stands, or no line.
+fn check(kind: KindName, is_inverted: bool, text: &str) -> LineResult
     ensures { result_in result ≡ check_result (kind_named kind) is_inverted text.now }
 {
-    if passes_check(kind, is_inverted, text) {
-        return LineResult::Unchanged(text);
+    passed_if(passes_check(kind, is_inverted, text))
+}
+
+/// Returns the result of `urilines check` for a line that passes, or does not.
+pub(crate) fn passed_if(passes: bool) -> LineResult
+    ensures { result_in result ≡ results.passed_if passes }
+{
+    if passes {
+        LineResult::Unchanged
+    } else {
+        LineResult::NoLine
     }
-    LineResult::NoLine
 }
 
 /// Returns whether `urilines check` passes a text on: it is of the kind or, if `is_inverted`, it is
@@ -315,9 +336,21 @@ fn is_iri_ref(text: &str) -> bool
     IriRef::<&str>::parse(text).is_ok()
 }
 
+/// Returns the result of `urilines mend` for a text: what it is mended to, or its parse error if it
+/// cannot be mended.
+fn mend(alloc: Global, kind: KindName, text: &str) -> Result<LineResult, AllocError>
+    ensures { IfOk result (λ line. result_in line ≡ mend_result (kind_named kind) text.now) }
+{
+    let link = mended(alloc, kind, text)?;
+    match link.error {
+        None => Ok(LineResult::Text(link.text)),
+        Some(error) => Ok(not_of_kind(error)),
+    }
+}
+
 /// Returns the result of `urilines parse` for a text: its components as JSON, or an error if it is
 /// not of the kind.
-fn parse(alloc: Global, kind: KindName, text: &str) -> Result<LineResult<'static>, AllocError>
+fn parse(alloc: Global, kind: KindName, text: &str) -> Result<LineResult, AllocError>
     ensures { IfOk result (λ line. result_in line ≡ parse_result (kind_named kind) text.now) }
 {
     match parse_as_iri_ref(kind, text) {
@@ -328,7 +361,7 @@ fn parse(alloc: Global, kind: KindName, text: &str) -> Result<LineResult<'static
 
 /// Returns the result of `urilines query` for a text: the decoded pairs of its query as JSON, or an
 /// error if it is not of the kind.
-fn query(alloc: Global, kind: KindName, text: &str) -> Result<LineResult<'static>, AllocError>
+fn query(alloc: Global, kind: KindName, text: &str) -> Result<LineResult, AllocError>
     ensures { IfOk result (λ line_result.
         result_in line_result ≡ query_result (kind_named kind) text.now) }
 {

@@ -1,24 +1,29 @@
 //! Processing each line of an input.
 ghost use Rattle.std.specs.Prelude.{◌≡◌, ◌||◌, ◌+◌, ◌-◌, ◌^◌, ◌<◌, min, IfErr, IfOk};
-ghost use Rattle.std.specs.Prelude.{◌&&◌, false, not, true, if◌then◌else◌};
+ghost use Rattle.std.specs.Prelude.{◌&&◌, false, not, true, if◌then◌else◌, ◌∷◌, [], List, None};
+ghost use Rattle.std.specs.Prelude.{IfSome, OnOk, Option};
+ghost use Rattle.std.specs.Io.KnownBytes.{Keeps};
 ghost use Rattle.std.specs.Io.Buffered.{reader_remaining};
 ghost use Rattle.uri_streams.specs.Causes.{caused_by_input, caused_by_output, is_input};
 ghost use Rattle.uri_streams.specs.Causes.{is_input_cause, is_output, is_output_cause};
-ghost use Rattle.uri_streams.specs.Causes.{reading_failed, writing_failed};
+ghost use Rattle.uri_streams.specs.Causes.{HasFinalError, reading_failed, writing_failed};
+ghost use Rattle.uri_streams.specs.declared.failure.Cause.{Cause};
+ghost use Rattle.uri_commands.specs.Sinks.{KeepsFinalError};
 ghost use Rattle.uri_streams.specs.Outputs as outputs;
 ghost use Rattle.uri_streams.specs.Models.{StepFails, Steps};
-ghost use Rattle.uri_streams.specs.Runs.{FailsAfterPrefix, StopsAfterPrefix, WritesOutput};
+ghost use Rattle.uri_streams.specs.Runs.{FailsAfterPrefix, Sees, StopsAfterPrefix};
+ghost use Rattle.uri_streams.specs.Runs.{WritesOutput, error_output_of};
 
 use crate::failure::{Cause, Failure};
 use crate::job::Job;
 use crate::line_ends::{ends_with_return, line_ending};
 use crate::lines::read_line;
 use crate::output::{StepResult, write_line};
-use crate::sink::Sink;
 use crate::source::{Line, Source};
 use crate::task::Task;
 use std::alloc::Global;
 use std::io::{Read, Write};
+use uri_commands::sink::Sink;
 
 /// How many lines of an input were processed, and how many of them were errors.
 #[derive(Clone, Copy, Debug)]
@@ -31,8 +36,16 @@ pub struct Tally {
 
 /// An observer of a run, which sees its tally after each line.
 pub trait Watch {
+    ghost use Rattle.std.specs.Prelude.{◌∷◌, [], List, None, Option};
+    ghost use Rattle.uri_streams.specs.Runs.{Sees};
+    ghost use Rattle.uri_streams.specs.declared.run.Tally.{Tally};
+
+    /// The tallies that it saw, if they are known.
+    ghost seen: { Self → Option (List Tally) } = { λ _. None };
+
     /// Sees the tally of a run after a line.
-    fn see(&mut self, tally: Tally);
+    fn see(&mut self, tally: Tally)
+        ensures { Sees (seen self.old) (seen self.new) (tally ∷ []) };
 }
 
 /// An observer of a run that does nothing.
@@ -65,11 +78,16 @@ pub fn run<R: Read, W: Write, E: Write, V: Watch>(
 ) -> Result<Tally, Failure>
     ensures output { IfOk result (WritesOutput job.now
         (reader_remaining R.remaining reader.old.reader) (W.contents writer.old.writer)
-        (W.contents writer.new.writer)) }
+        (W.contents writer.new.writer) (error_output_of E.contents err.old)
+        (error_output_of E.contents err.new) (V.seen watch.old) (V.seen watch.new)) }
     ensures stops { IfErr result
         (FailsAfterPrefix job.now (reader_remaining R.remaining reader.old.reader)
         (reader_remaining R.remaining reader.new.reader) (W.contents writer.old.writer)
-        (W.contents writer.new.writer)) }
+        (W.contents writer.new.writer) (error_output_of E.contents err.old)
+        (error_output_of E.contents err.new)) }
+    ensures flushed { OnOk result (writer.new.is_flushed ≡ true) }
+    // A call that is interrupted is made again.
+    ensures error { IfErr result HasFinalError }
     // The failure is of what failed, and nothing that failed is passed over.
     ensures reading { reader.new.has_failed ≡ (reading_failed result || reader.old.has_failed) }
     ensures writing { writer.new.has_failed ≡ (writing_failed result || writer.old.has_failed) }
@@ -92,13 +110,18 @@ fn process_lines<R: Read, W: Write, E: Write, V: Watch>(
 ) -> Result<Tally, Cause>
     ensures output { IfOk result (WritesOutput job.now
         (reader_remaining R.remaining reader.old.reader) (W.contents writer.old.writer)
-        (W.contents writer.new.writer)) }
+        (W.contents writer.new.writer) (error_output_of E.contents err.old)
+        (error_output_of E.contents err.new) (V.seen watch.old) (V.seen watch.new)) }
     ensures stops { IfErr result (λ cause. StopsAfterPrefix job.now
         (reader_remaining R.remaining reader.old.reader)
         (reader_remaining R.remaining reader.new.reader) (W.contents writer.old.writer)
-        (W.contents writer.new.writer) (is_input_cause cause)) }
+        (W.contents writer.new.writer) (error_output_of E.contents err.old)
+        (error_output_of E.contents err.new) (is_input_cause cause)) }
+    ensures flushed { OnOk result (writer.new.is_flushed ≡ true) }
     ensures reading { reader.new.has_failed ≡ (caused_by_input result || reader.old.has_failed) }
     ensures writing { writer.new.has_failed ≡ (caused_by_output result || writer.old.has_failed) }
+    ensures read_error { caused_by_input result ≡ true → KeepsFinalError reader.new.error }
+    ensures write_error { caused_by_output result ≡ true → KeepsFinalError writer.new.error }
 {
     let mut task = Task::new(alloc, job.command);
     let mut line = Vec::new(alloc);
@@ -111,13 +134,39 @@ fn process_lines<R: Read, W: Write, E: Write, V: Watch>(
             alloc, job, &mut task, reader, writer, err, &mut line, number,
         )?;
         tally.count(step);
-        watch.see(tally);
+        show_tally(watch, step, tally);
         if step.is_last {
-            writer.flush()?;
-            return Ok(tally);
+            return flushed(writer, tally);
         }
     }
     Err(reader.fail_too_many_reads())
+}
+
+/// Shows the observer of a run the tally after a step, if that processed a line.
+#[inline(always)]
+fn show_tally<V: Watch>(watch: &mut V, step: StepResult, tally: Tally)
+    ensures { Sees (V.seen watch.old) (V.seen watch.new)
+        (if step.is_line then tally ∷ [] else []) }
+{
+    if step.is_line {
+        watch.see(tally);
+    }
+}
+
+/// Flushes the writer at the end of a run, and returns the tally of the run.
+fn flushed<W: Write>(writer: &mut Sink<W>, tally: Tally) -> Result<Tally, Cause>
+    ensures keeps { Keeps (W.contents writer.old.writer) (W.contents writer.new.writer) }
+    ensures flushed { OnOk result (writer.new.is_flushed ≡ true) }
+    ensures tally { IfOk result (λ same. same ≡ tally) }
+    ensures cause { IfErr result (λ cause. cause ≡ Cause.Output) }
+    ensures writing { writer.new.has_failed ≡ (caused_by_output result || writer.old.has_failed) }
+    ensures write_error { caused_by_output result ≡ true → KeepsFinalError writer.new.error }
+{
+    if writer.flush() {
+        Ok(tally)
+    } else {
+        Err(Cause::Output)
+    }
 }
 
 /// Returns the failure of a run for what failed, with the error that the reader or the writer kept.
@@ -130,10 +179,15 @@ fn failure<R: Read, W: Write>(cause: Cause, reader: &mut Source<R>, writer: &mut
     ensures written { writer.new.has_failed ≡ writer.old.has_failed }
     ensures input { is_input result ≡ is_input_cause cause }
     ensures output { is_output result ≡ is_output_cause cause }
+    ensures read_error { cause ≡ Cause.Input
+        → IfSome reader.old.error (λ error. result ≡ Failure.Input error) }
+    ensures write_error { cause ≡ Cause.Output
+        → IfSome writer.old.error (λ error. result ≡ Failure.Output error) }
+    ensures flushed { writer.new.is_flushed ≡ writer.old.is_flushed }
 {
     match cause {
-        Cause::Input => reader.failure(),
-        Cause::Output => writer.failure(),
+        Cause::Input => Failure::Input(reader.take_error()),
+        Cause::Output => Failure::Output(writer.take_error()),
         Cause::OutOfMemory => Failure::OutOfMemory,
     }
 }
@@ -170,13 +224,17 @@ fn process_line<R: Read, W: Write, E: Write>(
     ensures steps { IfOk result (Steps job.now before task.old
         (reader_remaining R.remaining reader.old.reader)
         (reader_remaining R.remaining reader.new.reader) (W.contents writer.old.writer)
-        (W.contents writer.new.writer) task.new) }
+        (W.contents writer.new.writer) (error_output_of E.contents err.old)
+        (error_output_of E.contents err.new) task.new) }
     ensures fails { IfErr result (StepFails job.now before task.old
         (reader_remaining R.remaining reader.old.reader)
         (reader_remaining R.remaining reader.new.reader) (W.contents writer.old.writer)
-        (W.contents writer.new.writer)) }
+        (W.contents writer.new.writer) (error_output_of E.contents err.old)
+        (error_output_of E.contents err.new)) }
     ensures reading { reader.new.has_failed ≡ (caused_by_input result || reader.old.has_failed) }
     ensures writing { writer.new.has_failed ≡ (caused_by_output result || writer.old.has_failed) }
+    ensures read_error { caused_by_input result ≡ true → KeepsFinalError reader.new.error }
+    ensures write_error { caused_by_output result ≡ true → KeepsFinalError writer.new.error }
 {
     let Some(line) = reader.buffered_line(job.is_null) else {
         return process_parts(alloc, job, task, reader, writer, err, parts, before);
@@ -207,13 +265,17 @@ fn process_parts<R: Read, W: Write, E: Write>(
     ensures steps { IfOk result (Steps job.now before task.old
         (reader_remaining R.remaining reader.old.reader)
         (reader_remaining R.remaining reader.new.reader) (W.contents writer.old.writer)
-        (W.contents writer.new.writer) task.new) }
+        (W.contents writer.new.writer) (error_output_of E.contents err.old)
+        (error_output_of E.contents err.new) task.new) }
     ensures fails { IfErr result (StepFails job.now before task.old
         (reader_remaining R.remaining reader.old.reader)
         (reader_remaining R.remaining reader.new.reader) (W.contents writer.old.writer)
-        (W.contents writer.new.writer)) }
+        (W.contents writer.new.writer) (error_output_of E.contents err.old)
+        (error_output_of E.contents err.new)) }
     ensures reading { reader.new.has_failed ≡ (caused_by_input result || reader.old.has_failed) }
     ensures writing { writer.new.has_failed ≡ (caused_by_output result || writer.old.has_failed) }
+    ensures read_error { caused_by_input result ≡ true → KeepsFinalError reader.new.error }
+    ensures write_error { caused_by_output result ≡ true → KeepsFinalError writer.new.error }
 {
     let limit = job.max_line as usize + 3;
     match read_line(reader, writer, line_ending(job.is_null), limit, line)? {

@@ -1,7 +1,7 @@
 //! A reader that says whether it failed.
 ghost use Rattle.std.specs.Prelude.{◌≡◌, ◌≢◌, ◌-◌, ◌<◌, ◌≤◌, ◌++◌, ◌||◌, ℕ, List, All, IfOk};
 ghost use Rattle.std.specs.Prelude.{IfSome, IsTrue, OnErr, OnSome, Some, length, slice_index, take};
-ghost use Rattle.std.specs.Prelude.{true};
+ghost use Rattle.std.specs.Prelude.{true, [], ◌↔◌};
 ghost use Rattle.std.specs.Prelude.{false};
 ghost use Rattle.std.specs.Str.{IsAscii};
 ghost use Rattle.std.specs.Prelude.{◌&&◌, ◌+◌, ◌^◌, ◌==◌, map, nat_le, not};
@@ -12,16 +12,18 @@ ghost use Rattle.std.specs.Io.{StopsAt, IsEmptyOrEndsWith};
 ghost use Rattle.std.specs.Io.BufRead.{DropsConsumable};
 ghost use Rattle.std.specs.Io.Buffered.{reader_buffer, reader_remaining};
 ghost use Rattle.std.specs.Io.KnownBytes.{Consumes, IsAtEnd, Keeps};
-ghost use Rattle.uri_streams.specs.Causes.{caused_by_input, caused_by_output, is_input};
-ghost use Rattle.uri_streams.specs.Causes.{is_input_cause, is_output};
+ghost use Rattle.uri_commands.specs.Sinks.{KeepsFinalError};
+ghost use Rattle.uri_streams.specs.Causes.{caused_by_input, caused_by_output, is_input_cause};
+ghost use Rattle.uri_streams.specs.Causes.{is_output_cause};
 ghost use Rattle.uri_streams.specs.Lines.{end_byte, return_after};
-ghost use Rattle.uri_streams.specs.Models.{IsBufferedLine};
+ghost use Rattle.uri_streams.specs.Models.{IsBufferedLine, IsFlushedIfDrained};
 
-use crate::failure::{Cause, Failure};
+use crate::failure::Cause;
 use crate::line_ends::{ends_with, line_ending, strip_last_byte};
 use memchr::memchr;
 use std::io::{self, BufRead, BufReader, ErrorKind, Read};
 use std::simd::prelude::*;
+use uri_commands::sink::Sink;
 use uri_pct::lanes::{LANES, lanes_equal_to};
 
 /// A buffered reader that says whether it failed, and keeps its error.
@@ -56,7 +58,9 @@ impl<R: Read> Source<R> {
     }
 
     /// Returns whether the reader has nothing buffered, so that the next read may wait.
-    pub(crate) fn is_drained(&self) -> bool {
+    pub(crate) fn is_drained(&self) -> bool
+        ensures { IsTrue result ↔ (reader_buffer self.now.reader ≡ []) }
+    {
         self.reader.buffer().is_empty()
     }
 
@@ -88,35 +92,52 @@ impl<R: Read> Source<R> {
         ensures failed { self.new.has_failed ≡ true }
         ensures kept { self.new.reader ≡ self.old.reader }
         ensures input { is_input_cause result ≡ true }
+        ensures output { is_output_cause result ≡ false }
+        ensures error { KeepsFinalError self.new.error }
+    {
+        self.fail(io::Error::from(ErrorKind::Other))
+    }
+
+    /// Marks the reader as failed, keeps its error, and returns the cause.
+    #[cold]
+    #[inline(never)]
+    fn fail(&mut self, error: io::Error) -> Cause
+        ensures failed { self.new.has_failed ≡ true }
+        ensures kept { self.new.reader ≡ self.old.reader }
+        ensures error { self.new.error ≡ Some error }
+        ensures cause { result ≡ Cause.Input }
     {
         self.has_failed = true;
+        self.error = Some(error);
         Cause::Input
     }
 
-    /// Returns why the reader failed, as the failure of a run.
+    /// Returns why the reader failed: the error that was kept, if it was not taken before.
     #[cold]
     #[inline(never)]
-    pub(crate) fn failure(&mut self) -> Failure
+    pub(crate) fn take_error(&mut self) -> io::Error
+        ensures error { IfSome self.old.error (λ error. result ≡ error) }
         ensures kept { self.new.reader ≡ self.old.reader }
         ensures failed { self.new.has_failed ≡ self.old.has_failed }
-        ensures input { is_input result ≡ true }
-        ensures output { is_output result ≡ false }
     {
         match self.error.take() {
-            Some(error) => Failure::Input(error),
-            None => Failure::Input(io::Error::from(ErrorKind::Other)),
+            Some(error) => error,
+            None => io::Error::from(ErrorKind::Other),
         }
     }
 
     /// Reads a part of a line: what is buffered, up to and including the first `end`. Appends it to
-    /// `line` as far as the limit. `was_return` says whether a `\r` ends what was read before.
-    pub(crate) fn take_part(
+    /// `line` as far as the limit. `was_return` says whether a `\r` ends what was read before. Since
+    /// the reader may wait if it has nothing buffered, the writer, `flushed`, must be flushed then.
+    pub(crate) fn take_part<W>(
         &mut self,
+        flushed: &Sink<W>,
         end: u8,
         limit: usize,
         was_return: bool,
         line: &mut Vec<u8>,
     ) -> Result<LinePart, Cause>
+        requires { IsFlushedIfDrained self.old.reader flushed.now.is_flushed }
         ensures taken { IfOk result (λ part. (bs : List ℕ) × (length bs ≡ part.count)
             × (line.new.items ≡ line.old.items ++ take (limit - length line.old.items) bs)
             × StopsAt bs end
@@ -132,6 +153,7 @@ impl<R: Read> Source<R> {
             (reader_remaining R.remaining self.new.reader)) }
         ensures failed { self.new.has_failed ≡ (caused_by_input result || self.old.has_failed) }
         ensures writing { caused_by_output result ≡ false }
+        ensures error { caused_by_input result ≡ true → KeepsFinalError self.new.error }
     {
         let available = match self.reader.fill_buf() {
             Ok(available) => available,
@@ -143,9 +165,7 @@ impl<R: Read> Source<R> {
                         is_return: was_return,
                     });
                 }
-                self.has_failed = true;
-                self.error = Some(error);
-                return Err(Cause::Input);
+                return Err(self.fail(error));
             }
         };
         let count = count_through(available, end);

@@ -7,16 +7,18 @@ ghost use Rattle.uri_commands.specs.Links.{text_at};
 ghost use Rattle.uri_links.specs.Outcomes.{outcome_of};
 ghost use Rattle.uri_links.specs.Registers.{port_function_of, texts_of};
 ghost use Rattle.uri_streams.specs.Results.{Text, kind_named};
-ghost use Rattle.uri_streams.specs.Returned.{IsResult, result_in, text_or_message};
+ghost use Rattle.uri_streams.specs.Returned.{IsResult, result_in, text_in};
 ghost use Rattle.uri_streams.specs.Tasks as tasks;
-ghost use Rattle.uri_streams.specs.Tasks.{HasMet, Remembers, cut_result, link_result};
+ghost use Rattle.uri_streams.specs.Tasks.{HasMet, Remembers, cut_result, given_text, link_result};
 ghost use Rattle.uri_streams.specs.Tasks.{noted_result, unique_result};
 ghost use Rattle.uri_streams.specs.declared.command.Command.{Command};
 
 use crate::command::{Command, KindName, LineCommand};
-use crate::fault::LineError;
+use crate::fault::{LineError, NoText};
+use crate::job::Job;
+use crate::mending::{mended, text_kind};
 use crate::met::MetTexts;
-use crate::results::{LineResult, command_result, normalize};
+use crate::results::{LineResult, command_result, normalize, passed_if};
 use fluent_uri::normalize::{Normalizer, SchemeDefaults};
 use fluent_uri::{Uri, UriRef};
 use std::alloc::{AllocError, Global};
@@ -70,24 +72,25 @@ impl<'a> Task<'a> {
         }
     }
 
-    /// Returns the result of what the command gets of a line: bytes that need not be UTF-8, or an
-    /// error.
+    /// Returns the result of what the command gets of a line: bytes that need not be UTF-8, or
+    /// nothing.
     ///
     /// # Errors
     ///
     /// Only if allocation fails.
-    pub(crate) fn result_for<'t>(
+    pub(crate) fn result_for(
         &mut self,
         alloc: Global,
-        text: Result<&'t [u8], LineError>,
-    ) -> Result<LineResult<'t>, AllocError>
-        ensures { (command : Command) → (known : List (List ℕ)) → Remembers self.old command known
-            → IfOk result (λ line_result. IsResult command
-            (cut_result command known (text_or_message text.entry)) line_result self.new) }
+        job: &Job<'_>,
+        text: Result<&[u8], NoText>,
+    ) -> Result<LineResult, AllocError>
+        ensures { (known : List (List ℕ)) → Remembers self.old job.now.command known
+            → IfOk result (λ line_result. IsResult job.now.command
+            (cut_result job.now known (text_in text.entry)) line_result self.new) }
     {
         match text {
-            Ok(bytes) => self.bytes_result(alloc, bytes, false),
-            Err(fault) => Ok(LineResult::Error(fault)),
+            Ok(bytes) => self.bytes_result(alloc, job, bytes, false),
+            Err(why) => Ok(self.no_text_result(why)),
         }
     }
 
@@ -98,33 +101,65 @@ impl<'a> Task<'a> {
     ///
     /// Only if allocation fails.
     #[inline(always)]
-    pub(crate) fn bytes_result<'t>(
+    pub(crate) fn bytes_result(
         &mut self,
         alloc: Global,
-        bytes: &'t [u8],
+        job: &Job<'_>,
+        bytes: &[u8],
         is_ascii: bool,
-    ) -> Result<LineResult<'t>, AllocError>
+    ) -> Result<LineResult, AllocError>
         requires { IsTrue is_ascii → IsAscii bytes.now }
-        ensures { (command : Command) → (known : List (List ℕ)) → Remembers self.old command known
-            → IfOk result (λ line_result.
-            IsResult command (tasks.bytes_result command known bytes.now) line_result self.new) }
+        ensures { (known : List (List ℕ)) → Remembers self.old job.now.command known
+            → IfOk result (λ line_result. IsResult job.now.command
+            (tasks.bytes_result job.now known bytes.now) line_result self.new) }
     {
         if is_ascii {
-            return self.text_result(alloc, unsafe { str::from_utf8_unchecked(bytes) });
+            return self.given_result(alloc, job, unsafe { str::from_utf8_unchecked(bytes) });
         }
         match str::from_utf8(bytes) {
-            Ok(text) => self.text_result(alloc, text),
-            Err(error) => Ok(LineResult::Error(LineError::NotUtf8(error.valid_up_to()))),
+            Ok(text) => self.given_result(alloc, job, text),
+            Err(error) => Ok(self.no_text_result(NoText::NotUtf8(error.valid_up_to()))),
         }
+    }
+
+    /// Returns the result of a line of which the command gets no text.
+    #[cold]
+    #[inline(never)]
+    fn no_text_result(&self, why: NoText) -> LineResult
+        ensures { (command : Command) → (known : List (List ℕ)) → Remembers self.now command known
+            → result_in result ≡ tasks.no_text_result command why }
+    {
+        match self {
+            Task::Each(command) => no_text_result(command, why),
+            Task::Unique(_) => LineResult::Error(LineError::NoText(why)),
+            Task::Links(_) => LineResult::Error(LineError::NoText(why)),
+        }
+    }
+
+    /// Returns the result of the text that a line has, which is mended first if the job asks for
+    /// that, and remembers what later lines need.
+    #[inline(always)]
+    fn given_result(
+        &mut self,
+        alloc: Global,
+        job: &Job<'_>,
+        text: &str,
+    ) -> Result<LineResult, AllocError>
+        ensures { (known : List (List ℕ)) → Remembers self.old job.now.command known
+            → IfOk result (λ line_result. IsResult job.now.command
+            (tasks.text_result job.now.command known (given_text job.now text.now))
+            line_result self.new) }
+    {
+        if job.is_mended {
+            let link = mended(alloc, text_kind(&job.command), text)?;
+            return self.text_result(alloc, link.text.as_str());
+        }
+        self.text_result(alloc, text)
     }
 
     /// Returns the result of a text under the task's command, and remembers what later lines need.
     #[inline(always)]
-    fn text_result<'t>(
-        &mut self,
-        alloc: Global,
-        text: &'t str,
-    ) -> Result<LineResult<'t>, AllocError>
+    fn text_result(&mut self, alloc: Global, text: &str) -> Result<LineResult, AllocError>
         ensures { (command : Command) → (known : List (List ℕ)) → Remembers self.old command known
             → IfOk result (λ line_result.
             IsResult command (tasks.text_result command known text.now) line_result self.new) }
@@ -137,10 +172,38 @@ impl<'a> Task<'a> {
     }
 }
 
+/// Returns the result of a line of which a command gets no text that remembers nothing.
+fn no_text_result(command: &LineCommand<'_>, why: NoText) -> LineResult
+    ensures { result_in result ≡ tasks.no_text_result (Command.Each command.now) why }
+{
+    match command {
+        LineCommand::Check(_, is_inverted) => no_text_checked(*is_inverted, why),
+        LineCommand::Normalize(_) => LineResult::Error(LineError::NoText(why)),
+        LineCommand::Resolve(_) => LineResult::Error(LineError::NoText(why)),
+        LineCommand::Relativize(_, _) => LineResult::Error(LineError::NoText(why)),
+        LineCommand::Mend(_) => LineResult::Error(LineError::NoText(why)),
+        LineCommand::Parse(_) => LineResult::Error(LineError::NoText(why)),
+        LineCommand::Query(_) => LineResult::Error(LineError::NoText(why)),
+    }
+}
+
+/// Returns the result of `urilines check` for a line of which it gets no text. The line is not of
+/// the kind, so it passes if `is_inverted`; but one that is too long is not kept, and so an error.
+fn no_text_checked(is_inverted: bool, why: NoText) -> LineResult
+    ensures { (kind : _) → result_in result
+        ≡ tasks.no_text_result (Command.Each (LineCommand.Check kind is_inverted)) why }
+{
+    match why {
+        NoText::TooLong(_) => LineResult::Error(LineError::NoText(why)),
+        NoText::NoField(_) => passed_if(is_inverted),
+        NoText::NotUtf8(_) => passed_if(is_inverted),
+    }
+}
+
 impl UniqueTask {
     /// Returns the result of `urilines unique` for a text: its normal form if that was not met
     /// before, no line if it was, or an error.
-    fn result_for(&mut self, alloc: Global, text: &str) -> Result<LineResult<'static>, AllocError>
+    fn result_for(&mut self, alloc: Global, text: &str) -> Result<LineResult, AllocError>
         ensures output { (known : List (List ℕ)) → HasMet self.old.met known
             → IfOk result (λ line_result.
             (result_in line_result ≡ (unique_result (kind_named self.old.kind) known text.now).0)
@@ -149,9 +212,9 @@ impl UniqueTask {
     {
         match normalize(alloc, self.kind, text)? {
             LineResult::Text(normal) => text_if_new(alloc, &mut self.met, normal),
-            LineResult::Unchanged(normal) => unchanged_if_new(alloc, &mut self.met, normal),
-            LineResult::NoLine => Ok(LineResult::NoLine),
             LineResult::Error(fault) => Ok(LineResult::Error(fault)),
+            LineResult::Unchanged => unreachable!(),
+            LineResult::NoLine => unreachable!(),
         }
     }
 }
@@ -159,7 +222,7 @@ impl UniqueTask {
 impl<'a> LinksTask<'a> {
     /// Returns the result of `urilines links` for a text: whether its target is new, the target's
     /// id and the target, or an error.
-    fn result_for(&mut self, alloc: Global, text: &str) -> Result<LineResult<'static>, AllocError>
+    fn result_for(&mut self, alloc: Global, text: &str) -> Result<LineResult, AllocError>
         ensures output { port_function_of self.old.register ≡ default_port
             → IfOk result (λ line_result. (result_in line_result, texts_of self.new.register)
             ≡ link_result (uri_text self.old.base) (texts_of self.old.register) text.now) }
@@ -170,28 +233,9 @@ impl<'a> LinksTask<'a> {
     }
 }
 
-/// Returns a copy of a normal form as the result if it was not met before, and otherwise no line.
-/// Adds it to those that were met.
-fn unchanged_if_new(
-    alloc: Global,
-    met: &mut MetTexts,
-    normal: &str,
-) -> Result<LineResult<'static>, AllocError>
-    ensures { (known : List (List ℕ)) → HasMet met.old known → IfOk result (λ line_result.
-        (result_in line_result ≡ (tasks.text_if_new known (Text normal.now)).0)
-        × HasMet met.new (tasks.text_if_new known (Text normal.now)).1) }
-{
-    let copy = String::from_str(alloc, normal)?;
-    text_if_new(alloc, met, copy)
-}
-
 /// Returns a normal form as the result if it was not met before, and otherwise no line. Adds it to
 /// those that were met.
-fn text_if_new(
-    alloc: Global,
-    met: &mut MetTexts,
-    normal: String,
-) -> Result<LineResult<'static>, AllocError>
+fn text_if_new(alloc: Global, met: &mut MetTexts, normal: String) -> Result<LineResult, AllocError>
     ensures { (known : List (List ℕ)) → HasMet met.old known → IfOk result (λ line_result.
         (result_in line_result ≡ (tasks.text_if_new known (Text (string_bytes normal))).0)
         × HasMet met.new (tasks.text_if_new known (Text (string_bytes normal))).1) }
@@ -211,7 +255,7 @@ fn link(
     base: &Uri<&str>,
     register: &mut Register<SchemeDefaults>,
     text: &str,
-) -> Result<LineResult<'static>, AllocError>
+) -> Result<LineResult, AllocError>
     ensures output { port_function_of register.old ≡ default_port → IfOk result (λ line_result.
         (result_in line_result, texts_of register.new)
         ≡ link_result (uri_text base.now) (texts_of register.old) text.now) }
@@ -230,7 +274,7 @@ fn note(
     base: &Uri<&str>,
     register: &mut Register<SchemeDefaults>,
     reference: &UriRef<&str>,
-) -> Result<LineResult<'static>, AllocError>
+) -> Result<LineResult, AllocError>
     ensures output { IfOk result (λ line_result. (result_in line_result, texts_of register.new)
         ≡ noted_result (outcome_of (port_function_of register.old) (uri_text base.now)
         (texts_of register.old) (uri_ref_text reference.now))) }
@@ -245,7 +289,7 @@ fn outcome_result(
     alloc: Global,
     register: &Register<SchemeDefaults>,
     outcome: Outcome,
-) -> Result<LineResult<'static>, AllocError>
+) -> Result<LineResult, AllocError>
     ensures { IfOk result (λ line_result.
         result_in line_result ≡ tasks.outcome_result (outcome, texts_of register.now)) }
 {
@@ -265,7 +309,7 @@ fn link_line(
     word: &str,
     register: &Register<SchemeDefaults>,
     id: usize,
-) -> Result<LineResult<'static>, AllocError>
+) -> Result<LineResult, AllocError>
     ensures { IfOk result (λ line_result.
         result_in line_result ≡ Text (tasks.link_line word.now id (texts_of register.now))) }
 {

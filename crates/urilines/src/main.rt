@@ -13,11 +13,12 @@ use std::env;
 use std::hash::RandomState;
 use std::io::{self, BufReader, BufWriter, ErrorKind};
 use std::process::ExitCode;
+use uri_commands::sink::Sink;
 use uri_streams::failure::Failure;
 use uri_streams::job::Job;
 use uri_streams::run::run;
-use uri_streams::sink::Sink;
 use uri_streams::source::Source;
+use uri_streams::status::status;
 
 /// The capacity of the buffers of standard input and standard output, in bytes.
 const CAPACITY: usize = 64 * 1024;
@@ -29,7 +30,10 @@ fn main(rt: HostRuntime) -> ExitCode {
     let words = match words(&rt, alloc) {
         Ok(words) => words,
         Err(error) if error.kind() == ErrorKind::OutOfMemory => return failed(&rt, "out of memory"),
-        Err(_) => return failed(&rt, "arguments"),
+        Err(_) => {
+            show_error(&rt, "arguments");
+            return ExitCode::from(2);
+        }
     };
     let Ok(command) = command(alloc) else {
         return failed(&rt, "out of memory");
@@ -39,7 +43,7 @@ fn main(rt: HostRuntime) -> ExitCode {
         Err(error) => {
             return match error.print(&rt) {
                 Ok(()) => ExitCode::from(error.exit_code() as u8),
-                Err(_) => ExitCode::from(1),
+                Err(_) => ExitCode::from(3),
             };
         }
     };
@@ -67,33 +71,43 @@ fn process(rt: &HostRuntime, alloc: Global, job: &Job<'_>, shows_progress: bool)
     let (mut reader, mut writer) = (Source::new(reader), Sink::new(writer));
     let mut err = Sink::new(rt.stderr());
     let mut progress = Progress::new(rt, shows_progress);
-    match run(
+    let ended = run(
         alloc,
         job,
         &mut reader,
         &mut writer,
         &mut err,
         &mut progress,
-    ) {
-        Ok(tally) => {
-            progress.end(tally);
-            if tally.errors > 0 {
-                ExitCode::from(1)
-            } else {
-                ExitCode::SUCCESS
-            }
-        }
-        Err(Failure::Output(error)) if error.kind() == ErrorKind::BrokenPipe => ExitCode::SUCCESS,
-        Err(Failure::Output(_)) => failed(rt, "output failed"),
-        Err(Failure::Input(_)) => failed(rt, "input failed"),
-        Err(Failure::OutOfMemory) => failed(rt, "out of memory"),
+    );
+    let status = status(job.errors, &ended);
+    match ended {
+        Ok(tally) => progress.end(tally),
+        Err(failure) if status != 0 => show_error(rt, failure_message(&failure)),
+        // The reader of the output went away.
+        Err(_) => {}
+    }
+    ExitCode::from(status)
+}
+
+/// Returns what the error output says of a run that failed.
+fn failure_message(failure: &Failure) -> &'static str {
+    match failure {
+        Failure::Output(_) => "output failed",
+        Failure::Input(_) => "input failed",
+        Failure::OutOfMemory => "out of memory",
     }
 }
 
-/// Writes to the error output why `urilines` failed, and returns its exit status.
-fn failed(rt: &HostRuntime, why: &str) -> ExitCode {
+/// Writes to the error output why `urilines` failed.
+fn show_error(rt: &HostRuntime, why: &str) {
     let _ = eprintln!(rt; "error: {why}");
-    ExitCode::from(1)
+}
+
+/// Writes to the error output why `urilines` failed before it read a line, and returns its exit
+/// status.
+fn failed(rt: &HostRuntime, why: &str) -> ExitCode {
+    show_error(rt, why);
+    ExitCode::from(3)
 }
 
 /// Returns the words of the command line of `urilines`.

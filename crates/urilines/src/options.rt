@@ -1,13 +1,16 @@
 //! The command line.
+ghost use Rattle.std.specs.Prelude.{◌≡◌, None, Some, codes, false, option_map, true};
+ghost use Rattle.clap.specs.Matches.{first_value, found_of, one_text};
+ghost use Rattle.urilines.specs.Words.{IsKindNamed, IsModeNamed};
 
 use clap::{Arg, ArgAction, ArgMatches, Command as Words, value_parser};
-use fluent_uri::{Iri, Uri};
 use std::alloc::{AllocError, Global};
-use std::fmt::{self, Display};
 use std::hash::RandomState;
-use uri_commands::refusal::CommandError;
-use uri_streams::command::{Base, Command, KindName, LineCommand};
-use uri_streams::job::{Field, Job, OnError};
+use uri_streams::command::KindName;
+use uri_streams::command_line::{
+    self, CommandLine, CommandLineError, CommandName, command_named, kind_named, on_error_named,
+};
+use uri_streams::job::{Job, OnError};
 
 /// The names of the four kinds on the command line.
 static KINDS: [&str; 4] = ["uri", "uri-ref", "iri", "iri-ref"];
@@ -17,9 +20,6 @@ static BASES: [&str; 2] = ["uri", "iri"];
 
 /// The values of the option `--errors`.
 static ERRORS: [&str; 4] = ["line", "drop", "stderr", "stop"];
-
-/// How many bytes the text of a line may have, if `--max-line` doesn't say it: 1 MiB.
-const MAX_LINE: u32 = 1024 * 1024;
 
 /// Returns the commands and options that a command line of `urilines` may have.
 pub fn command<'a>(alloc: Global) -> Result<Words<'a>, AllocError> {
@@ -36,6 +36,7 @@ fn with_options<'a>(alloc: Global, words: Words<'a>) -> Result<Words<'a>, AllocE
         .arg(field(alloc))?
         .arg(delimiter(alloc)?)?
         .arg(null(alloc))?
+        .arg(mended(alloc))?
         .arg(errors(alloc))?
         .arg(max_line(alloc))?
         .arg(progress(alloc))
@@ -48,6 +49,7 @@ fn with_commands<'a>(alloc: Global, words: Words<'a>) -> Result<Words<'a>, Alloc
         .subcommand(resolve(alloc)?)?
         .subcommand(relativize(alloc)?)?
         .subcommand(check(alloc)?)?
+        .subcommand(mend(alloc)?)?
         .subcommand(parse(alloc)?)?
         .subcommand(query(alloc)?)?
         .subcommand(unique(alloc)?)?
@@ -75,7 +77,8 @@ fn relativize<'a>(alloc: Global) -> Result<Words<'a>, AllocError> {
     Words::new(alloc, "relativize")
         .about("Write a short reference that leads from a base to each line")
         .arg(base_kind(alloc))?
-        .arg(base_text(alloc))
+        .arg(base_text(alloc))?
+        .arg(prefer_relative(alloc))
 }
 
 /// Returns the command `urilines check` with its arguments, for the parser of the command line.
@@ -84,6 +87,13 @@ fn check<'a>(alloc: Global) -> Result<Words<'a>, AllocError> {
         .about("Pass on the lines that are of a kind as they stand")
         .arg(kind(alloc))?
         .arg(invert(alloc))
+}
+
+/// Returns the command `urilines mend` with its arguments, for the parser of the command line.
+fn mend<'a>(alloc: Global) -> Result<Words<'a>, AllocError> {
+    Words::new(alloc, "mend")
+        .about("Write what each line is mended to, as the link of a page")
+        .arg(kind(alloc))
 }
 
 /// Returns the command `urilines parse` with its arguments, for the parser of the command line.
@@ -147,6 +157,15 @@ fn null<'a>(alloc: Global) -> Arg<'a> {
         .help("Texts end with NUL, and not with a newline")
 }
 
+/// Returns the option `--mend` for the parser of the command line: each line is mended first.
+fn mended<'a>(alloc: Global) -> Arg<'a> {
+    Arg::new(alloc, "mend")
+        .long("mend")
+        .action(ArgAction::SetTrue)
+        .global(true)
+        .help("Mend each line first, as the command mend does")
+}
+
 /// Returns the option `--errors` for the parser of the command line: what happens to a line that is
 /// an error.
 fn errors<'a>(alloc: Global) -> Arg<'a> {
@@ -154,9 +173,8 @@ fn errors<'a>(alloc: Global) -> Arg<'a> {
         .long("errors")
         .value_name("WHERE")
         .value_parser(ERRORS.as_slice())
-        .default_value("line")
         .global(true)
-        .help("What happens to a line that is an error")
+        .help("What happens to a line that is an error (default: line; drop for check and unique)")
 }
 
 /// Returns the option `--max-line` for the parser of the command line: how many bytes the text of a
@@ -166,9 +184,8 @@ fn max_line<'a>(alloc: Global) -> Arg<'a> {
         .long("max-line")
         .value_name("BYTES")
         .value_parser(value_parser!(u32))
-        .default_value("1048576")
         .global(true)
-        .help("A longer line is an error")
+        .help("A longer line is an error (default: 1048576)")
 }
 
 /// Returns the option `--progress` for the parser of the command line: reports of how far a run is.
@@ -187,6 +204,15 @@ fn invert<'a>(alloc: Global) -> Arg<'a> {
         .long("invert")
         .action(ArgAction::SetTrue)
         .help("Pass on the lines that are not of the kind")
+}
+
+/// Returns the option `--prefer-relative` for the parser of the command line: the references of
+/// `relativize` have relative paths.
+fn prefer_relative<'a>(alloc: Global) -> Arg<'a> {
+    Arg::new(alloc, "prefer-relative")
+        .long("prefer-relative")
+        .action(ArgAction::SetTrue)
+        .help("Write a relative path even if that from the root is shorter")
 }
 
 /// Returns the argument of `urilines` for the kind of a base, for the parser of the command line.
@@ -224,110 +250,80 @@ pub fn shows_progress(matches: &ArgMatches<'_>) -> bool {
     }
 }
 
-/// Returns the job that the command line asks for. `hasher` is for the texts that `unique` keeps.
+/// Returns the job that the words of the command line of `urilines` ask for. `hasher` is for the
+/// texts that `unique` keeps.
 ///
 /// # Errors
 ///
-/// `Base` if the base is not of its kind, `Field` if the field is 0, and `Delimiter` if the
-/// delimiter is not an ASCII character.
+/// Those of `uri_streams::command_line::job`, and `Words` if there is no such command.
 pub fn job<'a>(matches: &ArgMatches<'a>, hasher: RandomState) -> Result<Job<'a>, CommandLineError> {
-    let (name, words) = match matches.subcommand() {
-        Some((name, words)) => (name, words),
-        None => ("", matches),
-    };
-    let kind = kind_named(words.get_str("kind").unwrap_or("iri-ref"));
-    let command = match name {
-        "unique" => Command::Unique(kind, hasher),
-        "links" => Command::Links(uri_base(words)?),
-        "resolve" => Command::Each(LineCommand::Resolve(base(words)?)),
-        "relativize" => Command::Each(LineCommand::Relativize(base(words)?)),
-        "check" => Command::Each(LineCommand::Check(kind, words.get_flag("invert"))),
-        "parse" => Command::Each(LineCommand::Parse(kind)),
-        "query" => Command::Each(LineCommand::Query(kind)),
-        _ => Command::Each(LineCommand::Normalize(kind)),
-    };
-    Ok(Job {
-        command,
-        field: field_named(words)?,
-        is_null: words.get_flag("null"),
-        max_line: words.get_one::<u32>("max-line").unwrap_or(MAX_LINE),
-        errors: match words.get_str("errors").unwrap_or("line") {
-            "drop" => OnError::Drop,
-            "stderr" => OnError::Stderr,
-            "stop" => OnError::Stop,
-            _ => OnError::Line,
+    match matches.subcommand() {
+        Some((name, words)) => match command_named(name) {
+            Some(command) => command_line::job(&command_line(command, words), hasher),
+            None => Err(CommandLineError::Words),
         },
-    })
-}
-
-/// Why a command line of `urilines` has no job.
-#[derive(Clone, Copy)]
-pub enum CommandLineError {
-    /// The base is not of its kind.
-    Base(CommandError),
-    /// The option `--field` is 0. The first field has the number 1.
-    Field,
-    /// The option `--delimiter` is not an ASCII character.
-    Delimiter,
-}
-
-impl From<CommandError> for CommandLineError {
-    /// Returns the error of a command line whose base is not of its kind.
-    fn from(refusal: CommandError) -> CommandLineError {
-        CommandLineError::Base(refusal)
+        None => Err(CommandLineError::Words),
     }
 }
 
-impl Display for CommandLineError {
-    /// Prints the message of the error of a command line, without the `error: ` before it.
-    fn fmt<W: fmt::Write>(&self, f: &mut fmt::Formatter<W>) -> fmt::Result {
-        match *self {
-            CommandLineError::Base(refusal) => write!(f, "{refusal}"),
-            CommandLineError::Field => write!(f, "field: the first is 1"),
-            CommandLineError::Delimiter => write!(f, "delimiter: not an ASCII character"),
-        }
+/// Returns what the words after the name of a command say, each by the name that it has in
+/// `with_options` or `with_commands`.
+fn command_line<'a>(command: CommandName, words: &ArgMatches<'a>) -> CommandLine<'a>
+    ensures command { result.command ≡ command }
+    ensures kind { IsKindNamed (first_value (found_of words.now) (codes "kind")) result.kind }
+    ensures base { option_map (λ s. s.now) result.base
+        ≡ first_value (found_of words.now) (codes "base") }
+    ensures invert { one_text (found_of words.now) (codes "invert") ≡ Some (codes "true")
+        → result.is_inverted ≡ true }
+    ensures no_invert { one_text (found_of words.now) (codes "invert") ≡ None
+        → result.is_inverted ≡ false }
+    ensures prefer_relative { one_text (found_of words.now) (codes "prefer-relative")
+        ≡ Some (codes "true") → result.prefers_relative ≡ true }
+    ensures no_prefer_relative { one_text (found_of words.now) (codes "prefer-relative") ≡ None
+        → result.prefers_relative ≡ false }
+    ensures mend { one_text (found_of words.now) (codes "mend") ≡ Some (codes "true")
+        → result.is_mended ≡ true }
+    ensures no_mend { one_text (found_of words.now) (codes "mend") ≡ None
+        → result.is_mended ≡ false }
+    ensures delimiter { option_map (λ s. s.now) result.delimiter
+        ≡ first_value (found_of words.now) (codes "delimiter") }
+    ensures null { one_text (found_of words.now) (codes "null") ≡ Some (codes "true")
+        → result.is_null ≡ true }
+    ensures no_null { one_text (found_of words.now) (codes "null") ≡ None
+        → result.is_null ≡ false }
+    ensures errors { IsModeNamed (first_value (found_of words.now) (codes "errors")) result.errors }
+{
+    CommandLine {
+        command,
+        kind: kind_in(words),
+        base: words.get_str("base"),
+        is_inverted: words.get_flag("invert"),
+        is_mended: words.get_flag("mend"),
+        prefers_relative: words.get_flag("prefer-relative"),
+        field: words.get_one::<u32>("field"),
+        delimiter: words.get_str("delimiter"),
+        is_null: words.get_flag("null"),
+        errors: errors_in(words),
+        max_line: words.get_one::<u32>("max-line"),
     }
 }
 
-/// Returns the field that the command line asks for by `--field` and `--delimiter`, if any.
-fn field_named(words: &ArgMatches<'_>) -> Result<Option<Field>, CommandLineError> {
-    let delimiter = match words.get_str("delimiter").unwrap_or("\t").as_bytes() {
-        &[byte] => byte,
-        _ => return Err(CommandLineError::Delimiter),
-    };
-    match words.get_one::<u32>("field") {
-        Some(0) => Err(CommandLineError::Field),
-        Some(number) => Ok(Some(Field {
-            before: number - 1,
-            delimiter,
-        })),
-        None => Ok(None),
+/// Returns the kind that the words name.
+fn kind_in(words: &ArgMatches<'_>) -> Option<KindName>
+    ensures { IsKindNamed (first_value (found_of words.now) (codes "kind")) result }
+{
+    match words.get_str("kind") {
+        Some(word) => kind_named(word),
+        None => None,
     }
 }
 
-/// Returns the base on the command line of `urilines`, parsed as a URI.
-fn uri_base<'a>(words: &ArgMatches<'a>) -> Result<Uri<&'a str>, CommandError> {
-    let text = words.get_str("base").unwrap_or("");
-    Uri::<&str>::parse(text).map_err(CommandError::Base)
-}
-
-/// Returns the kind with this name on the command line of `urilines`.
-fn kind_named(word: &str) -> KindName {
-    match word {
-        "uri" => KindName::Uri,
-        "uri-ref" => KindName::UriRef,
-        "iri" => KindName::Iri,
-        _ => KindName::IriRef,
+/// Returns what happens to a line that is an error, if the words say it.
+fn errors_in(words: &ArgMatches<'_>) -> Option<OnError>
+    ensures { IsModeNamed (first_value (found_of words.now) (codes "errors")) result }
+{
+    match words.get_str("errors") {
+        Some(word) => on_error_named(word),
+        None => None,
     }
-}
-
-/// Returns the base on the command line of `urilines`, parsed as the kind that is given for it.
-fn base<'a>(words: &ArgMatches<'a>) -> Result<Base<'a>, CommandError> {
-    Ok(match words.get_str("kind").unwrap_or("uri") {
-        "iri" => {
-            let text = words.get_str("base").unwrap_or("");
-            Base::Iri(Iri::<&str>::parse(text).map_err(CommandError::Base)?)
-        }
-        _ => Base::Uri(uri_base(words)?),
-    })
 }

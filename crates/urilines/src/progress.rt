@@ -4,9 +4,6 @@ use std::io::IsTerminal;
 use std::time::{Duration, Instant};
 use uri_streams::run::{Tally, Watch};
 
-/// How many lines are processed between two reads of the clock.
-const LINES_PER_CLOCK_READ: u64 = 4096;
-
 /// Reports on the error output how far a run is, once a second and at the end.
 #[derive(Drop)]
 pub struct Progress<'a> {
@@ -70,9 +67,9 @@ impl<'a> Progress<'a> {
 
 impl<'a> Watch for Progress<'a> {
     /// Writes a report of the tally, if `--progress` asks for it and a second has begun since the
-    /// last one.
+    /// last one. The clock is read after each line then, since the next may be long in coming.
     fn see(&mut self, tally: Tally) {
-        if !self.is_asked || tally.lines % LINES_PER_CLOCK_READ != 0 {
+        if !self.is_asked {
             return;
         }
         let second = self.milliseconds() / 1000;

@@ -1,5 +1,5 @@
 //! URIs and IRIs on the command line: `uritool parse KIND TEXT`, `uritool normalize KIND TEXT`,
-//! `uritool resolve uri|iri BASE REF` and `uritool links BASE REF...`.
+//! `uritool mend KIND TEXT`, `uritool resolve uri|iri BASE REF` and `uritool links BASE REF...`.
 #![tactic(auto)]
 
 use std::alloc::Global;
@@ -7,6 +7,7 @@ use std::env::{self, Env, FillError};
 use std::io::{self, ErrorKind, LineWriter, Write};
 use std::process::ExitCode;
 use uri_commands::run::run;
+use uri_commands::sink::Sink;
 
 /// The arguments after the program's name, which may not be UTF-8.
 #[derive(Drop)]
@@ -49,12 +50,13 @@ fn main(rt: HostRuntime) -> ExitCode {
         }
         Err(_) => return report_error(&mut err, "error: arguments\n"),
     };
-    let Ok(mut out) = LineWriter::new(alloc, rt.stdout()) else {
+    let Ok(out) = LineWriter::new(alloc, rt.stdout()) else {
         return report_error(&mut err, "error: out of memory\n");
     };
+    let (mut out, mut err) = (Sink::new(out), Sink::new(err));
     let status = run(alloc, words.as_slice(), &mut out, &mut err).status;
-    if status == 0 && out.flush().is_err() {
-        return report_error(&mut err, "error: output failed\n");
+    if status == 0 && !out.flush() {
+        return report_error(&mut err.into_inner(), "error: output failed\n");
     }
     ExitCode::from(status)
 }

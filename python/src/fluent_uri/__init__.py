@@ -20,18 +20,24 @@ Each call is thread-safe. Values are immutable, hashable and ordered by their te
 from __future__ import annotations
 
 import enum
-from typing import Optional, TypeVar, Union
+import sys
+from typing import Any, Optional, Type, TypeVar, Union
 
-from fluent_uri import _native
-from fluent_uri._calls import Reference as _Reference
-from fluent_uri._calls import is_compiled, register
+# What is not supported is no import.
+if not getattr(sys, "_is_gil_enabled", lambda: True)():
+    raise ImportError("fluent_uri needs Python's global lock: run Python with PYTHON_GIL=1")
+
+from fluent_uri import _calls, _native
+from fluent_uri._calls import is_compiled
+from fluent_uri._calls import text_of as _text_of
 from fluent_uri._errors import (
     ParseError,
     ParseErrorKind,
     ResolveError,
     ResolveErrorKind,
-    utf8_of,
 )
+from fluent_uri._errors import exact as _exact
+from fluent_uri._errors import utf8_of as _utf8_of
 
 __all__ = [
     "Component",
@@ -40,17 +46,21 @@ __all__ = [
     "IriRef",
     "ParseError",
     "ParseErrorKind",
+    "Reference",
     "ResolveError",
     "ResolveErrorKind",
     "Uri",
     "UriRef",
+    "batch",
     "decode",
     "encode",
     "is_compiled",
 ]
 __version__ = "0.1.0"
+if not _native.has_version(__version__):
+    raise ImportError(f"{_native.path} is not of the version {__version__} of this package")
 
-_Value_ = TypeVar("_Value_", bound="_Value")
+_Reference_ = TypeVar("_Reference_", bound="Reference")
 _Absolute_ = TypeVar("_Absolute_", bound="_Absolute")
 
 
@@ -74,8 +84,13 @@ class Component(enum.IntEnum):
     DATA = 8
 
 
-class _Value(_Reference):
-    """What the four kinds have in common."""
+@_calls.finished
+class Reference(_calls.Reference):
+    """What the four kinds have in common: the base of each, and of no other class.
+
+    >>> isinstance(Uri.parse("a:b"), Reference)
+    True
+    """
 
     __slots__ = ()
     __match_args__ = ("scheme", "authority", "path", "query", "fragment")
@@ -97,7 +112,7 @@ class _Value(_Reference):
             raise ValueError("port is above 65535")
         return int(digits)
 
-    def with_fragment(self: _Value_, fragment: Optional[str]) -> _Value_:
+    def with_fragment(self: _Reference_, fragment: Optional[str]) -> _Reference_:
         """Returns the same with this fragment in place of its own, or with none if it is None.
 
         >>> Uri.parse("http://a/#b").with_fragment("c")
@@ -107,66 +122,131 @@ class _Value(_Reference):
 
         Raises `ParseError` if a fragment may not hold the text. Its index is one of the whole text.
         """
-        text, _, _ = str(self).partition("#")
-        return type(self).parse(text if fragment is None else f"{text}#{fragment}")
+        text, _, _ = _text_of(self).partition("#")
+        if fragment is not None:
+            text = f"{text}#{_exact(fragment)}"
+        return type(self).parse(text)
 
     def __bytes__(self) -> bytes:
-        return str(self).encode()
+        return _text_of(self).encode()
 
     def __format__(self, how: str) -> str:
         return format(str(self), how)
 
+    def __reduce_ex__(self, protocol: Any) -> Any:
+        # A subclass may have attributes, and a `__new__` that changes what it is given.
+        made = object.__reduce_ex__(self, 2)
+        if type(self).__reduce__ is not object.__reduce__:
+            return made
+        return _copied, (type(self), _text_of(self)), _without_slots(made[2])
 
-class _Absolute(_Value):
+
+def _copied(cls: Type[_Reference_], text: str) -> _Reference_:
+    """What `copy` and `pickle` make: the value of the class with the text, whatever the class does
+    where it is called."""
+    base: Any = _calls.BASES[_calls.kind_of(cls)]
+    return base.__new__(cls, text)  # type: ignore[no-any-return]
+
+
+def _without_slots(state: Any) -> Any:
+    """The state of a value without what its base keeps in slots."""
+    if isinstance(state, tuple) and len(state) == 2 and isinstance(state[1], dict):
+        slots = {name: it for name, it in state[1].items() if name not in _calls.SLOTS}
+        return (state[0], slots) if slots else state[0]
+    return state
+
+
+class _Absolute(Reference):
     """What a base has besides."""
 
     __slots__ = ()
 
     def resolve(
-        self: _Absolute_, reference: Union[str, _Value], *, normalize: bool = False
+        self: _Absolute_,
+        reference: Union[str, Reference],
+        *,
+        normalize: bool = False,
+        mend: bool = False,
     ) -> _Absolute_:
         """Returns the target of a reference against this as its base (RFC 3986, section 5.2).
 
         >>> Uri.parse("http://a/b/c/d;p?q").resolve("../%7eg", normalize=True)
         Uri('http://a/b/~g')
 
-        With `normalize` it returns the normal form of the target. Raises `ParseError` if the
-        reference is not one of the kind, and `ResolveError` if it has no target.
+        With `normalize` it returns the normal form of the target, and with `mend` that of what the
+        reference is mended to. Raises `ParseError` if the reference is not one of the kind, and
+        `ResolveError` if it has no target.
         """
-        text = str(reference) if isinstance(reference, _Value) else reference
-        return self._resolve(text, normalize)
+        if mend:
+            reference = _reference_kind(self).mend(reference)
+        return self._resolve(reference, normalize)
+
+    def join_link(
+        self: _Absolute_,
+        link: Union[str, Reference],
+        *,
+        normalize: bool = False,
+        keep_fragment: bool = True,
+    ) -> _Absolute_:
+        """Returns the target of a link of a page, as an attribute such as `href` has it, against
+        the page's address: the link is mended by `mend_link` and resolved.
+
+        >>> Uri.parse("http://a/b/c#top").join_link(" ../x y\\n?[1]#z ", keep_fragment=False)
+        Uri('http://a/x%20y?%5B1%5D')
+
+        The fragment of the address plays no part. With `normalize` it returns the normal form of
+        the target. Raises `ParseError` if the link cannot be mended, and `ResolveError` if it has
+        no target.
+        """
+        base = self if self.fragment is None else self.with_fragment(None)
+        target = base._resolve(_reference_kind(self).mend_link(link), normalize)
+        if keep_fragment or target.fragment is None:
+            return target
+        return target.with_fragment(None)
 
 
-class UriRef(_Value):
+@_calls.finished
+class UriRef(_calls.UriRef, Reference):
     """A URI or a relative reference (RFC 3986, section 4.1)."""
 
     __slots__ = ()
-    _kind = 1
 
 
-class Uri(_Absolute):
+@_calls.finished
+class Uri(_Absolute, _calls.Uri):
     """A URI (RFC 3986, section 3)."""
 
     __slots__ = ()
-    _kind = 0
 
-    def relativize(self, target: Union[str, Uri]) -> UriRef:
+    def relativize(
+        self,
+        target: Union[str, Reference],
+        *,
+        prefer_relative_path: bool = False,
+        mend: bool = False,
+    ) -> UriRef:
         """Returns a short reference that leads from this as its base to a target: the inverse of
         `resolve`. Resolved against the base, it is the target without its dot segments.
 
         >>> Uri.parse("http://a/b/c/d").relativize("http://a/b/x/y")
         UriRef('../x/y')
+        >>> Uri.parse("http://a/b/c/d").relativize("http://a/x")
+        UriRef('/x')
+        >>> Uri.parse("http://a/b/c/d").relativize("http://a/x", prefer_relative_path=True)
+        UriRef('../../x')
 
-        Raises `ParseError` if the target is not a URI.
+        With `prefer_relative_path` its path is relative also where that is longer, as in pages that
+        are read from a disk. With `mend` it leads to what the target is mended to. Raises
+        `ParseError` if the target is not a URI.
         """
-        return self._relativize(str(target) if isinstance(target, _Value) else target, UriRef)
+        return self._relativize(Uri.mend(target) if mend else target, UriRef, prefer_relative_path)
 
 
-class IriRef(_Value):
+@_calls.finished
+class IriRef(_calls.IriRef, Reference):
     """An IRI or a relative reference (RFC 3987, section 2.2)."""
 
     __slots__ = ()
-    _kind = 3
 
     def to_uri(self) -> UriRef:
         """Returns the URI reference: each character past ASCII as the octets of its UTF-8
@@ -178,22 +258,30 @@ class IriRef(_Value):
         return self._to_uri(UriRef)
 
 
-class Iri(_Absolute):
+@_calls.finished
+class Iri(_Absolute, _calls.Iri):
     """An IRI (RFC 3987, section 2.2)."""
 
     __slots__ = ()
-    _kind = 2
 
-    def relativize(self, target: Union[str, Iri]) -> IriRef:
+    def relativize(
+        self,
+        target: Union[str, Reference],
+        *,
+        prefer_relative_path: bool = False,
+        mend: bool = False,
+    ) -> IriRef:
         """Returns a short reference that leads from this as its base to a target: the inverse of
         `resolve`. Resolved against the base, it is the target without its dot segments.
 
         >>> Iri.parse("http://a/b/c").relativize("http://a/b/é")
         IriRef('é')
 
-        Raises `ParseError` if the target is not an IRI.
+        With `prefer_relative_path` its path is relative also where that is longer, as in pages that
+        are read from a disk. With `mend` it leads to what the target is mended to. Raises
+        `ParseError` if the target is not an IRI.
         """
-        return self._relativize(str(target) if isinstance(target, _Value) else target, IriRef)
+        return self._relativize(Iri.mend(target) if mend else target, IriRef, prefer_relative_path)
 
     def to_uri(self) -> Uri:
         """Returns the URI: each character past ASCII as the octets of its UTF-8 (RFC 3987,
@@ -205,8 +293,10 @@ class Iri(_Absolute):
         return self._to_uri(Uri)
 
 
-for _class in (Uri, UriRef, Iri, IriRef):
-    register(_class._kind, _class)
+def _reference_kind(base: _Absolute) -> Union[Type[UriRef], Type[IriRef]]:
+    """The kind of the references against a base."""
+    return UriRef if issubclass(type(base), Uri) else IriRef
+
 
 for _error in (ParseError, ParseErrorKind, ResolveError, ResolveErrorKind):
     _error.__module__ = __name__
@@ -218,10 +308,10 @@ def decode(text: str, component: Component = Component.PATH) -> bytes:
     >>> decode("a%20%C3%A9").decode()
     'a é'
 
-    Raises `ParseError` if the component may not hold the text.
+    Raises `ParseError` if the component may not hold the text, and `ValueError` for `DATA`.
     """
-    data = utf8_of(text)
-    return _native.result(_native.decode, int(component), data, len(data))
+    number = _number_of(component)
+    return _native.result(_native.decode, number, _utf8_of(_exact(text)))
 
 
 def encode(data: Union[str, bytes], component: Component = Component.DATA) -> str:
@@ -232,6 +322,33 @@ def encode(data: Union[str, bytes], component: Component = Component.DATA) -> st
     'a%20b%2F%C3%A9'
     >>> encode("a b/é", Component.PATH)
     'a%20b/%C3%A9'
+
+    Raises `ParseError` if the text has a surrogate, which has no UTF-8.
     """
-    data = data.encode() if isinstance(data, str) else bytes(data)
-    return _native.result(_native.encode, int(component), data, len(data)).decode()
+    number = _number_of(component)
+    return _native.result(_native.encode, number, _bytes_of(data)).decode()
+
+
+def _number_of(component: Component) -> int:
+    """The number of a component, which may be given by that."""
+    if type(component) is not Component and type(component) is not int:
+        raise TypeError(f"a component is a Component, not {type(component)!r}")
+    return int(Component(component))
+
+
+def _bytes_of(data: Any) -> bytes:
+    """The bytes of an object that has some, or of a text."""
+    if issubclass(type(data), str):
+        text = _exact(data)
+        try:
+            return text.encode()
+        except UnicodeEncodeError as error:
+            at = error.start
+        raise ParseError(ParseErrorKind.NOT_UTF8, len(text[:at].encode()), at)
+    if issubclass(type(data), (bytes, bytearray, memoryview)):
+        return memoryview(data).tobytes()
+    raise TypeError(f"what is encoded is a str or bytes, not {type(data)!r}")
+
+
+# It needs what is above.
+from fluent_uri import batch  # noqa: E402

@@ -3,7 +3,7 @@
 from __future__ import annotations
 
 import ctypes
-from typing import Any, Optional
+from typing import Any, Optional, TypeVar
 
 
 class _View(ctypes.Structure):
@@ -31,30 +31,56 @@ _get = ctypes.PYFUNCTYPE(ctypes.c_int, ctypes.py_object, ctypes.c_void_p, ctypes
 )
 _release = ctypes.PYFUNCTYPE(None, ctypes.c_void_p)(("PyBuffer_Release", ctypes.pythonapi))
 
+# By its format, what an item is; its size is beside it.
+_BYTES, _NUMBERS = frozenset("bBc"), frozenset("iIlLqQnN")
+_ORDERS = "@=<"
+
+
+def is_of_bytes(view: memoryview) -> bool:
+    return view.itemsize == 1 and view.format.lstrip(_ORDERS) in _BYTES
+
+
+def is_of_numbers(view: memoryview) -> bool:
+    """Whether the items are integers of 32 or 64 bits in the order of this machine."""
+    return view.itemsize in (4, 8) and view.format.lstrip(_ORDERS) in _NUMBERS
+
+
+Held = TypeVar("Held", bound="Buffer")
+
 
 class Buffer:
-    """The memory of an object, held up to the end of a `with` block. What is not aligned is
-    copied."""
+    """The memory of an object, held up to the end of a `with` block: the object is asked for it
+    once. What is not aligned is copied. None has no memory."""
 
-    __slots__ = ("_view", "address", "size")
+    __slots__ = ("_view", "view", "address", "size")
 
+    view: memoryview
     address: Optional[int]
     size: int
 
-    def __init__(self, given: Any, *, align: int = 1, written: bool = False) -> None:
-        self._view = _View()
-        self._hold(given, _WRITE if written else _READ)
-        if (self.address or 0) % align:
-            copied = memoryview(given).tobytes()
-            self.__exit__()
-            self._hold(copied, _READ)
+    def __init__(self, given: Any, name: str, *, align: int = 1, written: bool = False) -> None:
+        self.view = memoryview(b"" if given is None else given)
+        try:
+            if self.view.ndim != 1 or not self.view.c_contiguous:
+                raise ValueError(f"{name} must be contiguous and have one dimension")
+            self._view = _View()
+            self._hold(_WRITE if written else _READ)
+            if (self.address or 0) % align:
+                _release(ctypes.addressof(self._view))
+                given, self.view = self.view, memoryview(self.view.tobytes())
+                given.release()
+                self._hold(_READ)
+        except BaseException:
+            self.view.release()
+            raise
 
-    def _hold(self, given: Any, how: int) -> None:
-        _get(given, ctypes.addressof(self._view), how)
+    def _hold(self, how: int) -> None:
+        _get(self.view, ctypes.addressof(self._view), how)
         self.address, self.size = self._view.buf, self._view.len
 
-    def __enter__(self) -> Buffer:
+    def __enter__(self: Held) -> Held:
         return self
 
     def __exit__(self, *_: object) -> None:
         _release(ctypes.addressof(self._view))
+        self.view.release()

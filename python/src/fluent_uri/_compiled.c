@@ -1,72 +1,41 @@
-/* A text of a kind, compiled: the base of the four kinds, and calls for many texts, over the shared
- * library that `open` is given. One file serves each Python from 3.8 on. `_reference.py` does the
- * same by ctypes. */
-#include "_results.h"
-#include <dlfcn.h>
-#include <stddef.h>
-
-#define KINDS 4
-/* What parts.error is until the parts of a text are asked for. */
-#define UNREAD UINT32_MAX
-
-/* The class of each kind. */
-static PyObject *classes[KINDS];
-
-typedef struct {
-    PyObject_HEAD
-    PyObject *text;
-    size_t size; /* of the text in UTF-8 */
-    fluent_uri_parts parts;
-} Reference;
-
-/* The number of a class's kind, or -1 with an exception. */
-static int kind_of(PyObject *cls) {
-    for (int kind = 0; kind < KINDS; kind++)
-        if (classes[kind] == cls) return kind;
-    for (int kind = 0; kind < KINDS; kind++)
-        if (classes[kind] && PyType_IsSubtype((PyTypeObject *)cls, (PyTypeObject *)classes[kind]))
-            return kind;
-    PyErr_SetString(PyExc_TypeError, "not a class of one of the four kinds");
-    return -1;
-}
-
-/* A value of the class with the text, of which this takes over a reference. */
-static PyObject *value_of(PyObject *cls, PyObject *text, size_t size) {
-    allocfunc allocate = (allocfunc)PyType_GetSlot((PyTypeObject *)cls, Py_tp_alloc);
-    Reference *self = text ? (Reference *)allocate((PyTypeObject *)cls, 0) : NULL;
-    if (!self) {
-        Py_XDECREF(text);
-        return NULL;
-    }
-    self->text = text;
-    self->size = size;
-    self->parts.error = UNREAD;
-    return (PyObject *)self;
-}
-
-static PyObject *parsed(PyObject *cls, int kind, PyObject *given, int lax) {
-    PyObject *text = exact(given), *made = NULL;
-    Utf8 utf8 = {0};
-    fluent_uri_parts parts;
-    if (!text) return NULL;
-    if (utf8_of(text, &utf8) == 0) {
-        uint32_t error = parse_text((uint32_t)kind, utf8.at, (size_t)utf8.size, &parts);
-        if (error) {
-            made = rejected(lax, error, parts.index, &utf8);
-        } else {
-            Py_INCREF(text);
-            made = value_of(cls, text, (size_t)utf8.size);
-            if (made) ((Reference *)made)->parts = parts;
-        }
-    }
-    Py_XDECREF(utf8.held);
-    Py_DECREF(text);
-    return made;
-}
+/* A text of a kind, compiled: the bases of the four kinds, and calls for many texts, over the
+ * shared library whose addresses `open` is given. One file serves each Python from 3.9 on, and each
+ * interpreter of a process has a module of its own. `_reference.py` does the same by ctypes. */
+#include "_class_calls.h"
+#include "_lists.h"
 
 static PyObject *reference_parse(PyObject *cls, PyObject *text) {
-    int kind = kind_of(cls);
-    return kind < 0 ? NULL : parsed(cls, kind, text, 0);
+    State *state;
+    int kind = kind_of_class((PyTypeObject *)cls, &state);
+    return kind < 0 ? NULL : parsed(state, kind, cls, text, 0);
+}
+
+static PyObject *reference_try_parse(PyObject *cls, PyObject *text) {
+    State *state;
+    int kind = kind_of_class((PyTypeObject *)cls, &state);
+    return kind < 0 ? NULL : parsed(state, kind, cls, text, 1);
+}
+
+static PyObject *reference_is_valid(PyObject *cls, PyObject *text) {
+    State *state;
+    int kind = kind_of_class((PyTypeObject *)cls, &state);
+    return kind < 0 ? NULL : is_of_kind(state, kind, cls, text);
+}
+
+static PyObject *reference_mend(PyObject *cls, PyObject *text) {
+    State *state;
+    int kind = kind_of_class((PyTypeObject *)cls, &state);
+    if (kind < 0) return NULL;
+    Call it = {.kind = (uint32_t)kind, .one = state->call.mend};
+    return mended(state, cls, &it, text, 0);
+}
+
+static PyObject *reference_mend_link(PyObject *cls, PyObject *text) {
+    State *state;
+    int kind = kind_of_class((PyTypeObject *)cls, &state);
+    if (kind < 0) return NULL;
+    Call it = {.kind = (uint32_t)kind, .one = state->call.mend_link};
+    return mended(state, cls, &it, text, 0);
 }
 
 static PyObject *reference_new(PyTypeObject *cls, PyObject *words, PyObject *named) {
@@ -76,104 +45,76 @@ static PyObject *reference_new(PyTypeObject *cls, PyObject *words, PyObject *nam
     return reference_parse((PyObject *)cls, text);
 }
 
-static void reference_dealloc(PyObject *self) {
-    PyTypeObject *cls = Py_TYPE(self);
-    freefunc release = (freefunc)PyType_GetSlot(cls, Py_tp_free);
-    Py_XDECREF(((Reference *)self)->text);
-    release(self);
-    Py_DECREF(cls);
-}
-
-/* Has the parts of a value, and its text in UTF-8. */
-static int read_parts(Reference *self, Utf8 *utf8) {
-    if (utf8_of(self->text, utf8) < 0) return -1;
-    if (self->parts.error != UNREAD) return 0;
-    int kind = kind_of((PyObject *)Py_TYPE(self));
-    if (kind < 0) return -1;
-    uint32_t error = parse_text((uint32_t)kind, utf8->at, self->size, &self->parts);
-    if (error) raised(error, self->parts.index, utf8->at, utf8->size);
-    return error ? -1 : 0;
-}
-
-static PyObject *component(PyObject *object, void *offset) {
-    Reference *self = (Reference *)object;
-    Utf8 utf8;
-    if (read_parts(self, &utf8) < 0) return NULL;
-    const fluent_uri_span *span =
-        (const fluent_uri_span *)((const char *)&self->parts + (size_t)offset);
-    if (span->start == SIZE_MAX) {
-        Py_INCREF(Py_None);
-        return Py_None;
-    }
-    const char *start = (const char *)utf8.at + span->start;
-    return PyUnicode_DecodeUTF8(start, (Py_ssize_t)(span->end - span->start), NULL);
-}
-
-static PyObject *host_kind(PyObject *object, void *unused) {
-    Reference *self = (Reference *)object;
-    Utf8 utf8;
-    (void)unused;
-    if (read_parts(self, &utf8) < 0) return NULL;
-    return PyLong_FromUnsignedLong(self->parts.host_kind);
-}
-
-/* A value of the class whose text is the call's result. */
-static PyObject *value_result_of(PyObject *cls, const Call *it, PyObject *self,
-                                 PyObject *reference) {
-    Utf8 first, second = {0};
-    size_t size;
-    PyObject *text = ((Reference *)self)->text;
-    PyObject *same = cls == (PyObject *)Py_TYPE(self) && it->one ? text : NULL;
-    if (utf8_of(text, &first) < 0 || (reference && utf8_of(reference, &second) < 0)) return NULL;
-    PyObject *made = result_of(it, &first, reference ? &second : NULL, same, 0, &size);
-    Py_XDECREF(second.held);
-    if (made && made == same) {
-        Py_DECREF(made);
-        Py_INCREF(self);
-        return self;
-    }
-    return value_of(cls, made, size);
+/* The base of the kinds has no values of its own, nor has a class that has no other base. */
+static PyObject *base_new(PyTypeObject *cls, PyObject *words, PyObject *named) {
+    (void)words, (void)named;
+    return PyErr_Format(PyExc_TypeError, "not a class of a kind: %R", cls);
 }
 
 static PyObject *reference_normalize(PyObject *self, PyObject *unused) {
-    PyObject *cls = (PyObject *)Py_TYPE(self);
-    int kind = kind_of(cls);
+    State *state;
+    int kind = kind_of_class(Py_TYPE(self), &state);
     (void)unused;
+    return kind < 0 ? NULL : normal_form(state, kind, self);
+}
+
+/* Whether a call that takes so many words was given them. */
+static int takes(Py_ssize_t wanted, Py_ssize_t count) {
+    if (count == wanted) return 1;
+    PyErr_Format(PyExc_TypeError, "the call takes %zd words, not %zd", wanted, count);
+    return 0;
+}
+
+/* _resolve(reference, normalizes) */
+static PyObject *reference_resolve(PyObject *self, PyObject *const *words, Py_ssize_t count) {
+    State *state;
+    PyObject *cls = (PyObject *)Py_TYPE(self);
+    int normalizes = takes(2, count) ? PyObject_IsTrue(words[1]) : -1;
+    int kind = normalizes < 0 ? -1 : kind_of(cls, &state);
     if (kind < 0) return NULL;
-    return value_result_of(cls, &(Call){(uint32_t)kind, normalize_text, NULL}, self, NULL);
+    pair_call *resolve = normalizes ? state->call.resolve_normalized : state->call.resolve;
+    Call it = {.kind = (uint32_t)kind, .two = resolve};
+    return value_result_of(state, cls, &it, self, words[0]);
+}
+
+/* The kind of a value, if the class given for its result is of the kind that is `further` on. */
+static int kind_before(PyObject *self, PyObject *made_of, int further, State **state) {
+    State *other;
+    int kind = kind_of((PyObject *)Py_TYPE(self), state);
+    int made = kind < 0 ? -1 : kind_of(made_of, &other);
+    if (made < 0) return -1;
+    if (made == kind + further && other == *state) return kind;
+    PyErr_Format(PyExc_TypeError, "not a class of the result's kind: %R", made_of);
+    return -1;
 }
 
 static PyObject *reference_to_uri(PyObject *self, PyObject *made_of) {
-    int kind = kind_of((PyObject *)Py_TYPE(self));
-    if (kind < 0 || kind_of(made_of) < 0) return NULL;
-    return value_result_of(made_of, &(Call){(uint32_t)kind, to_uri_text, NULL}, self, NULL);
+    State *state;
+    int kind = kind_before(self, made_of, FLUENT_URI_URI - FLUENT_URI_IRI, &state);
+    if (kind < 0) return NULL;
+    Call it = {.kind = (uint32_t)kind, .one = state->call.to_uri};
+    return value_result_of(state, made_of, &it, self, NULL);
 }
 
-static PyObject *reference_resolve(PyObject *self, PyObject *words) {
-    PyObject *cls = (PyObject *)Py_TYPE(self), *reference;
-    int kind = kind_of(cls), normalizes;
-    if (kind < 0 || !PyArg_ParseTuple(words, "Up", &reference, &normalizes)) return NULL;
-    pair_call *two = normalizes ? resolve_normalized_text : resolve_text;
-    return value_result_of(cls, &(Call){(uint32_t)kind, NULL, two}, self, reference);
-}
-
-static PyObject *reference_relativize(PyObject *self, PyObject *words) {
-    PyObject *target, *made_of;
-    int kind = kind_of((PyObject *)Py_TYPE(self));
-    if (kind < 0 || !PyArg_ParseTuple(words, "UO", &target, &made_of) || kind_of(made_of) < 0)
-        return NULL;
-    return value_result_of(made_of, &(Call){(uint32_t)kind, NULL, relativize_text}, self, target);
+/* _relativize(target, class of the result, prefers_relative_path) */
+static PyObject *reference_relativize(PyObject *self, PyObject *const *words, Py_ssize_t count) {
+    State *state;
+    int further = FLUENT_URI_URI_REF - FLUENT_URI_URI;
+    int prefers = takes(3, count) ? PyObject_IsTrue(words[2]) : -1;
+    int kind = prefers < 0 ? -1 : kind_before(self, words[1], further, &state);
+    if (kind < 0) return NULL;
+    Call it = {.kind = (uint32_t)kind, .with_options = state->call.relativize,
+               .options = prefers ? FLUENT_URI_PREFER_RELATIVE_PATH : 0};
+    return value_result_of(state, words[1], &it, self, words[0]);
 }
 
 static PyObject *reference_str(PyObject *self) {
-    PyObject *text = ((Reference *)self)->text;
-    Py_INCREF(text);
-    return text;
+    return Py_NewRef(((Reference *)self)->text);
 }
 
 static PyObject *reference_repr(PyObject *self) {
     PyObject *name = PyObject_GetAttrString((PyObject *)Py_TYPE(self), "__name__");
-    PyObject *said = name ? PyUnicode_FromFormat("%U(%R)", name, ((Reference *)self)->text) : NULL;
+    PyObject *said = name ? PyUnicode_FromFormat("%S(%R)", name, ((Reference *)self)->text) : NULL;
     Py_XDECREF(name);
     return said;
 }
@@ -183,177 +124,168 @@ static Py_hash_t reference_hash(PyObject *self) {
 }
 
 static PyObject *reference_compare(PyObject *self, PyObject *other, int how) {
-    if (Py_TYPE(self) != Py_TYPE(other)) {
-        Py_INCREF(Py_NotImplemented);
-        return Py_NotImplemented;
-    }
+    if (Py_TYPE(self) != Py_TYPE(other)) return Py_NewRef(Py_NotImplemented);
     return PyObject_RichCompare(((Reference *)self)->text, ((Reference *)other)->text, how);
 }
 
-static PyObject *reference_reduce(PyObject *self, PyObject *unused) {
+/* For a copy: a value needs its text. */
+static PyObject *reference_getnewargs(PyObject *self, PyObject *unused) {
     (void)unused;
-    return Py_BuildValue("O(O)", (PyObject *)Py_TYPE(self), ((Reference *)self)->text);
+    return Py_BuildValue("(O)", ((Reference *)self)->text);
 }
 
-#define COMPONENT(NAME, DOC) \
-    {#NAME, component, NULL, DOC, (void *)offsetof(fluent_uri_parts, NAME)}
-
-static PyGetSetDef reference_components[] = {
-    COMPONENT(scheme, "The scheme without its `:`, or None."),
-    COMPONENT(authority, "The authority without its `//`, or None."),
-    COMPONENT(userinfo, "The userinfo without its `@`, or None."),
-    COMPONENT(host, "The host, or None where there is no authority."),
-    COMPONENT(port, "The port without its `:`, which may be empty, or None."),
-    COMPONENT(path, "The path, which may be empty."),
-    COMPONENT(query, "The query without its `?`, or None."),
-    COMPONENT(fragment, "The fragment without its `#`, or None."),
-    {"_host_kind", host_kind, NULL, NULL, NULL},
-    {NULL, NULL, NULL, NULL, NULL},
-};
-
-static PyMethodDef reference_methods[] = {
-    {"parse", reference_parse, METH_O | METH_CLASS,
+static PyMethodDef class_methods[] = {
+    {"parse", reference_parse, METH_O,
      "parse($type, text, /)\n--\n\nReturns the value of a text, or raises `ParseError` if the text "
      "is not of the kind."},
-    {"normalize", reference_normalize, METH_NOARGS,
-     "normalize($self, /)\n--\n\nReturns the normal form (RFC 3986, section 6.2.2)."},
-    {"_resolve", reference_resolve, METH_VARARGS, NULL},
-    {"_relativize", reference_relativize, METH_VARARGS, NULL},
-    {"_to_uri", reference_to_uri, METH_O, NULL},
-    {"__reduce__", reference_reduce, METH_NOARGS, NULL},
+    {"try_parse", reference_try_parse, METH_O,
+     "try_parse($type, text, /)\n--\n\nReturns the value of a text, or None if the text is not of "
+     "the kind."},
+    {"is_valid", reference_is_valid, METH_O,
+     "is_valid($type, text, /)\n--\n\nReturns whether a text is of the kind."},
+    {"mend", reference_mend, METH_O,
+     "mend($type, text, /)\n--\n\nReturns the value that a text is mended to by the least change: "
+     "what its path, query or fragment may not hold is percent-encoded. Raises `ParseError` if no "
+     "text of the kind has its scheme and authority."},
+    {"mend_link", reference_mend_link, METH_O,
+     "mend_link($type, link, /)\n--\n\nReturns what `mend` makes of a link of a page without the "
+     "white space that HTML drops: at both ends, and each tab and line break."},
     {NULL, NULL, 0, NULL},
 };
 
-static PyType_Slot reference_slots[] = {
-    {Py_tp_doc, "Reference(text)\n--\n\nA text of a kind."},
-    {Py_tp_new, reference_new},
-    {Py_tp_dealloc, reference_dealloc},
-    {Py_tp_str, reference_str},
-    {Py_tp_repr, reference_repr},
-    {Py_tp_hash, reference_hash},
-    {Py_tp_richcompare, reference_compare},
-    {Py_tp_getset, reference_components},
-    {Py_tp_methods, reference_methods},
+static PyMethodDef reference_methods[] = {
+    {"normalize", reference_normalize, METH_NOARGS,
+     "normalize($self, /)\n--\n\nReturns the normal form (RFC 3986, section 6.2.2)."},
+    {"_resolve", (PyCFunction)(void (*)(void))reference_resolve, METH_FASTCALL, NULL},
+    {"_relativize", (PyCFunction)(void (*)(void))reference_relativize, METH_FASTCALL, NULL},
+    {"_to_uri", reference_to_uri, METH_O, NULL},
+    {"__getnewargs__", reference_getnewargs, METH_NOARGS, NULL},
+    {NULL, NULL, 0, NULL},
+};
+
+static PyType_Slot base_slots[] = {
+    {Py_tp_doc, "A text of one of the four kinds."},
+    {Py_tp_new, base_new},
     {0, NULL},
 };
 
-static PyType_Spec reference_spec = {
-    "fluent_uri._compiled.Reference",
-    sizeof(Reference),
-    0,
-    Py_TPFLAGS_DEFAULT | Py_TPFLAGS_BASETYPE,
-    reference_slots,
+/* It has no more than an object has. A class may have it and any other as bases, and then values
+ * of another layout; so what looks into a value is in the kinds. */
+static PyType_Spec base_spec = {
+    "fluent_uri.Reference", sizeof(PyObject), 0, Py_TPFLAGS_DEFAULT | Py_TPFLAGS_BASETYPE,
+    base_slots,
 };
 
-/* A list of what `each` makes of the texts of a tuple. */
-static PyObject *each_of(PyObject *words, PyObject *(*each)(PyObject *, int, PyObject *)) {
-    PyObject *cls, *texts;
-    if (!PyArg_ParseTuple(words, "O!O!", &PyType_Type, &cls, &PyTuple_Type, &texts)) return NULL;
-    int kind = kind_of(cls);
-    Py_ssize_t count = PyTuple_Size(texts);
-    PyObject *list = kind < 0 ? NULL : PyList_New(count);
-    for (Py_ssize_t place = 0; list && place < count; place++) {
-        PyObject *made = each(cls, kind, PyTuple_GetItem(texts, place));
-        if (made) PyList_SetItem(list, place, made);
-        if (!made || (place % 1024 == 1023 && PyErr_CheckSignals() < 0)) {
-            Py_DECREF(list);
-            list = NULL;
-        }
-    }
-    return list;
-}
+/* Each kind has a type with a layout of its own, so Python assigns no value the class of another
+ * kind. The text of its documentation begins with its name. */
+#define SLOTS(NAME) \
+    {{Py_tp_doc, NAME "(text)\n--\n\nA text of a kind."}, \
+     {Py_tp_new, reference_new}, \
+     {Py_tp_dealloc, reference_dealloc}, \
+     {Py_tp_str, reference_str}, \
+     {Py_tp_repr, reference_repr}, \
+     {Py_tp_hash, reference_hash}, \
+     {Py_tp_richcompare, reference_compare}, \
+     {Py_tp_getset, reference_components}, \
+     {Py_tp_methods, reference_methods}, \
+     {0, NULL}}
 
-static PyObject *parsed_or_none(PyObject *cls, int kind, PyObject *text) {
-    return parsed(cls, kind, text, 1);
-}
+static PyType_Slot reference_slots[KINDS][10] = {
+    [FLUENT_URI_URI] = SLOTS("Uri"),
+    [FLUENT_URI_URI_REF] = SLOTS("UriRef"),
+    [FLUENT_URI_IRI] = SLOTS("Iri"),
+    [FLUENT_URI_IRI_REF] = SLOTS("IriRef"),
+};
 
-static PyObject *normal_or_none(PyObject *cls, int kind, PyObject *given) {
-    PyObject *text = exact(given), *made = NULL;
-    Utf8 utf8 = {0};
-    size_t size;
-    (void)cls;
-    if (!text) return NULL;
-    if (utf8_of(text, &utf8) == 0)
-        made =
-            result_of(&(Call){(uint32_t)kind, normalize_text, NULL}, &utf8, NULL, text, 1, &size);
-    Py_XDECREF(utf8.held);
-    Py_DECREF(text);
-    return made;
-}
+#define SPEC(KIND, NAME) \
+    [KIND] = {"fluent_uri." NAME, sizeof(Reference), 0, \
+              Py_TPFLAGS_DEFAULT | Py_TPFLAGS_BASETYPE, reference_slots[KIND]}
 
-static PyObject *parse_all(PyObject *module, PyObject *words) {
+static PyType_Spec specs[KINDS] = {
+    SPEC(FLUENT_URI_URI, "Uri"),
+    SPEC(FLUENT_URI_URI_REF, "UriRef"),
+    SPEC(FLUENT_URI_IRI, "Iri"),
+    SPEC(FLUENT_URI_IRI_REF, "IriRef"),
+};
+
+/* kind_of(class): the number of its kind. */
+static PyObject *module_kind_of(PyObject *module, PyObject *cls) {
+    State *state;
+    int kind = kind_of(cls, &state);
     (void)module;
-    return each_of(words, parsed_or_none);
+    return kind < 0 ? NULL : PyLong_FromLong(kind);
 }
 
-static PyObject *normalize_all(PyObject *module, PyObject *words) {
+/* text_of(value): its text, whatever a subclass makes of `str`. */
+static PyObject *text_of(PyObject *module, PyObject *value) {
     (void)module;
-    return each_of(words, normal_or_none);
+    if (is_value(value)) return reference_str(value);
+    return PyErr_Format(PyExc_TypeError, "not a value of a kind: %R", Py_TYPE(value));
 }
 
-/* open(path, error_of): takes the functions of the shared library. */
-static PyObject *module_open(PyObject *module, PyObject *words) {
-    const char *path;
-    PyObject *given;
+/* text_given(text): the text of a str, or of a value. */
+static PyObject *module_text_given(PyObject *module, PyObject *given) {
     (void)module;
-    if (!PyArg_ParseTuple(words, "sO", &path, &given)) return NULL;
-    void *library = dlopen(path, RTLD_NOW | RTLD_LOCAL);
-    if (!library) return PyErr_Format(PyExc_ImportError, "%s", dlerror());
-    struct {
-        const char *name;
-        void *to;
-    } wanted[] = {
-        {"fluent_uri_parse", &parse_text},
-        {"fluent_uri_normalize", &normalize_text},
-        {"fluent_uri_to_uri", &to_uri_text},
-        {"fluent_uri_resolve", &resolve_text},
-        {"fluent_uri_resolve_normalized", &resolve_normalized_text},
-        {"fluent_uri_relativize", &relativize_text},
-    };
-    for (size_t place = 0; place < sizeof wanted / sizeof *wanted; place++) {
-        void *found = dlsym(library, wanted[place].name);
-        if (!found)
-            return PyErr_Format(PyExc_ImportError, "%s has no %s", path, wanted[place].name);
-        memcpy(wanted[place].to, &found, sizeof found);
-    }
-    Py_INCREF(given);
-    Py_XDECREF(error_of);
-    error_of = given;
-    Py_RETURN_NONE;
-}
-
-/* register(kind, class): the class of which the values of a kind are. */
-static PyObject *module_register(PyObject *module, PyObject *words) {
-    int kind;
-    PyObject *cls;
-    (void)module;
-    if (!PyArg_ParseTuple(words, "iO!", &kind, &PyType_Type, &cls)) return NULL;
-    if (kind < 0 || kind >= KINDS) return PyErr_Format(PyExc_ValueError, "no kind %d", kind);
-    Py_INCREF(cls);
-    Py_XDECREF(classes[kind]);
-    classes[kind] = cls;
-    Py_RETURN_NONE;
+    return text_given(given);
 }
 
 static PyMethodDef functions[] = {
     {"open", module_open, METH_VARARGS, NULL},
-    {"register", module_register, METH_VARARGS, NULL},
     {"parse_all", parse_all, METH_VARARGS, NULL},
     {"normalize_all", normalize_all, METH_VARARGS, NULL},
+    {"are_valid", are_valid, METH_VARARGS, NULL},
+    {"mend_all", mend_all, METH_VARARGS, NULL},
+    {"kind_of", module_kind_of, METH_O, NULL},
+    {"text_of", text_of, METH_O, NULL},
+    {"text_given", module_text_given, METH_O, NULL},
     {NULL, NULL, 0, NULL},
 };
 
-static struct PyModuleDef definition = {
-    PyModuleDef_HEAD_INIT, "fluent_uri._compiled", NULL, -1, functions, NULL, NULL, NULL, NULL,
+/* Gives the module the type of a kind, with its class methods. */
+static int add_kind(PyObject *module, State *state, int kind, PyObject *bases) {
+    PyObject *made = PyType_FromModuleAndSpec(module, &specs[kind], bases);
+    if (!made) return -1;
+    state->types[kind] = made;
+    for (PyMethodDef *it = class_methods; it->ml_name; it++)
+        if (add_class_call(state->class_call, made, it) < 0) return -1;
+    return PyModule_AddType(module, (PyTypeObject *)made);
+}
+
+static int module_exec(PyObject *module) {
+    State *state = PyModule_GetState(module);
+    state->reference = PyType_FromModuleAndSpec(module, &base_spec, NULL);
+    state->class_call = PyType_FromModuleAndSpec(module, &class_call_spec, NULL);
+    if (!state->reference || !state->class_call ||
+        PyModule_AddType(module, (PyTypeObject *)state->reference) < 0)
+        return -1;
+    PyObject *bases = PyTuple_Pack(1, state->reference);
+    if (!bases) return -1;
+    int status = 0;
+    for (int kind = 0; status == 0 && kind < KINDS; kind++)
+        status = add_kind(module, state, kind, bases);
+    Py_DECREF(bases);
+    return status;
+}
+
+/* The later slots are of the stable interfaces of Python 3.12 and 3.13. Without the first one, no
+ * interpreter with a lock of its own loads the module; without the other one, Python turns its lock
+ * on where it loads it. */
+static PyModuleDef_Slot slots[] = {
+    {Py_mod_exec, module_exec},
+#ifdef Py_mod_multiple_interpreters
+    {Py_mod_multiple_interpreters, Py_MOD_PER_INTERPRETER_GIL_SUPPORTED},
+#endif
+#ifdef Py_mod_gil
+    {Py_mod_gil, Py_MOD_GIL_USED},
+#endif
+    {0, NULL},
 };
 
-/* The headers of Python 3.8 leave it hidden. */
-__attribute__((visibility("default"))) PyMODINIT_FUNC PyInit__compiled(void);
+static struct PyModuleDef definition = {
+    PyModuleDef_HEAD_INIT, "fluent_uri._compiled", NULL, sizeof(State), functions, slots,
+    module_traverse, module_clear, module_free,
+};
+
 PyMODINIT_FUNC PyInit__compiled(void) {
-    PyObject *module = PyModule_Create(&definition);
-    PyObject *reference = module ? PyType_FromSpec(&reference_spec) : NULL;
-    if (reference && PyModule_AddObject(module, "Reference", reference) == 0) return module;
-    Py_XDECREF(reference);
-    Py_XDECREF(module);
-    return NULL;
+    return PyModuleDef_Init(&definition);
 }

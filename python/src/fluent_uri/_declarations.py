@@ -1,6 +1,6 @@
 """What `fluent_uri.h` declares, for ctypes: names, types and their order, and constants.
 
-The tests compare this file with the header.
+`c/declare` writes this file, from the exports of the library.
 """
 
 from __future__ import annotations
@@ -36,6 +36,8 @@ COMPONENTS = {
     "DATA": 8,
 }
 HOST_KINDS = {"NO_HOST": 0, "REG_NAME": 1, "IPV4": 2, "IPV6": 3, "IPV_FUTURE": 4}
+BUFFERS = {"OUT": 0, "OUT_OFFSETS": 1, "VALID": 2, "PARTS": 3, "LINE_ERRORS": 4, "OFFSET_WIDTH": 5}
+OPTIONS = {"PREFER_RELATIVE_PATH": 1}
 
 
 class Span(ctypes.Structure):
@@ -64,34 +66,60 @@ class Outcome(ctypes.Structure):
         ("which", ctypes.c_uint32),
         ("index", ctypes.c_size_t),
         ("length", ctypes.c_size_t),
+        ("needed", ctypes.c_size_t),
+        ("consumed", ctypes.c_size_t),
     ]
 
 
-# Each argument by the type that the header gives it. A pointer is passed as an address.
+# Each argument by the type that the header gives it. A pointer is passed as an address, and that
+# of one text as bytes.
 NUMBER, SIZE = ctypes.c_uint32, ctypes.c_size_t
 BYTES, OUT = ctypes.c_char_p, ctypes.c_void_p
 _TEXT = (BYTES, SIZE)
 _BUFFER = (OUT, SIZE)
-_RESULT = (*_BUFFER, OUT)
-# Data and offsets in; data, offsets, validity and outcome out.
-_COLUMN = (*_BUFFER, *_BUFFER, *_BUFFER, *_BUFFER, *_BUFFER, OUT)
 
 FUNCTIONS: Dict[str, Tuple[Any, ...]] = {
+    "version": (),
+    "error_name": (NUMBER, *_BUFFER, OUT),
     "parse": (NUMBER, *_TEXT, OUT),
-    "normalize": (NUMBER, *_TEXT, *_RESULT),
-    "resolve": (NUMBER, *_TEXT, *_TEXT, *_RESULT),
-    "resolve_normalized": (NUMBER, *_TEXT, *_TEXT, *_RESULT),
-    "relativize": (NUMBER, *_TEXT, *_TEXT, *_RESULT),
-    "to_uri": (NUMBER, *_TEXT, *_RESULT),
-    "decode": (NUMBER, *_TEXT, *_RESULT),
-    "encode": (NUMBER, *_TEXT, *_RESULT),
-    "component_batch": (NUMBER, NUMBER, *_COLUMN),
-    "normalize_batch": (NUMBER, *_COLUMN),
-    "normalize_batch64": (NUMBER, *_COLUMN),
-    "to_uri_batch": (NUMBER, *_COLUMN),
-    "to_uri_batch64": (NUMBER, *_COLUMN),
-    "resolve_batch": (NUMBER, *_TEXT, *_COLUMN),
-    "resolve_batch64": (NUMBER, *_TEXT, *_COLUMN),
-    "resolve_normalized_batch": (NUMBER, *_TEXT, *_COLUMN),
-    "resolve_normalized_batch64": (NUMBER, *_TEXT, *_COLUMN),
+    "normalize": (NUMBER, *_TEXT, *_BUFFER, *_BUFFER, OUT),
+    "resolve": (NUMBER, *_TEXT, *_TEXT, *_BUFFER, *_BUFFER, OUT),
+    "resolve_normalized": (NUMBER, *_TEXT, *_TEXT, *_BUFFER, *_BUFFER, OUT),
+    "relativize": (NUMBER, NUMBER, *_TEXT, *_TEXT, *_BUFFER, *_BUFFER, OUT),
+    "to_uri": (NUMBER, *_TEXT, *_BUFFER, *_BUFFER, OUT),
+    "mend": (NUMBER, *_TEXT, *_BUFFER, *_BUFFER, OUT),
+    "mend_link": (NUMBER, *_TEXT, *_BUFFER, *_BUFFER, OUT),
+    "decode": (NUMBER, *_TEXT, *_BUFFER, OUT),
+    "encode": (NUMBER, *_TEXT, *_BUFFER, OUT),
+    "normalize_batch": (NUMBER, *_BUFFER, *_BUFFER, *_BUFFER, *_BUFFER, *_BUFFER, OUT),
+    "normalize_batch64": (NUMBER, *_BUFFER, *_BUFFER, *_BUFFER, *_BUFFER, *_BUFFER, OUT),
+    "to_uri_batch": (NUMBER, *_BUFFER, *_BUFFER, *_BUFFER, *_BUFFER, *_BUFFER, OUT),
+    "to_uri_batch64": (NUMBER, *_BUFFER, *_BUFFER, *_BUFFER, *_BUFFER, *_BUFFER, OUT),
+    "resolve_batch": (NUMBER, *_TEXT, *_BUFFER, *_BUFFER, *_BUFFER, *_BUFFER, *_BUFFER, OUT),
+    "resolve_batch64": (NUMBER, *_TEXT, *_BUFFER, *_BUFFER, *_BUFFER, *_BUFFER, *_BUFFER, OUT),
+    "resolve_normalized_batch": (
+        NUMBER, *_TEXT, *_BUFFER, *_BUFFER, *_BUFFER, *_BUFFER, *_BUFFER, OUT,
+    ),
+    "resolve_normalized_batch64": (
+        NUMBER, *_TEXT, *_BUFFER, *_BUFFER, *_BUFFER, *_BUFFER, *_BUFFER, OUT,
+    ),
+    "relativize_batch": (
+        NUMBER, NUMBER, *_TEXT, *_BUFFER, *_BUFFER, *_BUFFER, *_BUFFER, *_BUFFER, OUT,
+    ),
+    "relativize_batch64": (
+        NUMBER, NUMBER, *_TEXT, *_BUFFER, *_BUFFER, *_BUFFER, *_BUFFER, *_BUFFER, OUT,
+    ),
+    "mend_batch": (NUMBER, *_BUFFER, *_BUFFER, *_BUFFER, *_BUFFER, *_BUFFER, OUT),
+    "mend_batch64": (NUMBER, *_BUFFER, *_BUFFER, *_BUFFER, *_BUFFER, *_BUFFER, OUT),
+    "mend_link_batch": (NUMBER, *_BUFFER, *_BUFFER, *_BUFFER, *_BUFFER, *_BUFFER, OUT),
+    "mend_link_batch64": (NUMBER, *_BUFFER, *_BUFFER, *_BUFFER, *_BUFFER, *_BUFFER, OUT),
+    "decode_batch": (NUMBER, *_BUFFER, *_BUFFER, *_BUFFER, *_BUFFER, *_BUFFER, OUT),
+    "decode_batch64": (NUMBER, *_BUFFER, *_BUFFER, *_BUFFER, *_BUFFER, *_BUFFER, OUT),
+    "encode_batch": (NUMBER, *_BUFFER, *_BUFFER, *_BUFFER, *_BUFFER, *_BUFFER, OUT),
+    "encode_batch64": (NUMBER, *_BUFFER, *_BUFFER, *_BUFFER, *_BUFFER, *_BUFFER, OUT),
+    "component_batch": (NUMBER, NUMBER, *_BUFFER, *_BUFFER, *_BUFFER, *_BUFFER, *_BUFFER, OUT),
+    "component_batch64": (NUMBER, NUMBER, *_BUFFER, *_BUFFER, *_BUFFER, *_BUFFER, *_BUFFER, OUT),
+    "parse_batch": (NUMBER, *_BUFFER, *_BUFFER, *_BUFFER, OUT),
+    "parse_batch64": (NUMBER, *_BUFFER, *_BUFFER, *_BUFFER, OUT),
+    "normalize_lines": (NUMBER, *_BUFFER, *_BUFFER, *_BUFFER, OUT),
 }

@@ -80,19 +80,29 @@ class ResolveError(ValueError):
         return _MESSAGES[self.kind]
 
 
+def exact(text: str) -> str:
+    """The text of a str, also of one of a subclass."""
+    if type(text) is str:
+        return text
+    if issubclass(type(text), str):
+        return str.__str__(text)
+    raise TypeError(f"a text is a str, not {type(text)!r}")
+
+
 def utf8_of(text: str) -> bytes:
-    """The text in UTF-8. A surrogate is three bytes, which the library reports as not UTF-8."""
-    if not isinstance(text, str):
-        raise TypeError(f"a text is a str, not {type(text)!r}")
+    """A str in UTF-8. A surrogate is three bytes, which the library reports as not UTF-8."""
     try:
-        return str.encode(text)
+        return text.encode()
     except UnicodeEncodeError:
-        return str.encode(text, "utf-8", "surrogatepass")
+        return text.encode("utf-8", "surrogatepass")
 
 
-def error_of(number: int, index: int, data: bytes) -> Exception:
-    """The exception for a number of the library, with the index of a byte of the text."""
+def error_of(number: int, index: int, data: bytes, is_link: bool = False) -> Exception:
+    """The exception for a number of the library, with the index of a byte of the text: of a link,
+    of what HTML leaves of it, unless it is not UTF-8."""
     if number in _PARSING:
+        if is_link and number != ParseErrorKind.NOT_UTF8:
+            data = data.strip(b" \t\n\f\r").translate(None, b"\t\n\r")
         return ParseError(number, index, len(data[:index].decode("utf-8", "surrogatepass")))
     if number in _RESOLVING:
         return ResolveError(number)

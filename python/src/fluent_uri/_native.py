@@ -6,9 +6,9 @@ import ctypes
 import os
 import pathlib
 from itertools import islice
-from typing import Any, Callable, List
+from typing import Any, Callable, Dict, List, Tuple
 
-from fluent_uri._declarations import FUNCTIONS, NUMBER, SONAME, Outcome
+from fluent_uri._declarations import FUNCTIONS, NUMBER, SONAME, Outcome, Parts
 from fluent_uri._errors import error_of
 
 
@@ -46,7 +46,8 @@ def _is_too_old() -> bool:
 def _opened(name: str) -> ctypes.CDLL:
     try:
         return ctypes.CDLL(name)
-    except OSError as error:
+    except (OSError, UnicodeDecodeError) as error:
+        # (ctypes cannot say so of a path that is not UTF-8)
         if "ISA level" in str(error):
             raise ImportError(f"{_TOO_OLD} ({error})") from error
         raise ImportError(
@@ -73,6 +74,19 @@ def function(name: str, *, lets_others_run: bool = False) -> Callable[..., Any]:
     return made
 
 
+def has_version(wanted: str) -> bool:
+    """Whether the library has this version, but for its last number."""
+    major, minor, _ = map(int, wanted.split("."))
+    found: int = function("version")()
+    return found >> 8 == major << 8 | minor
+
+
+def addresses() -> Dict[str, int]:
+    """Where each function of the library is."""
+    found = {it: getattr(library, f"fluent_uri_{it}", None) for it in FUNCTIONS}
+    return {it: ctypes.cast(call, ctypes.c_void_p).value or 0 for it, call in found.items() if call}
+
+
 parse = function("parse")
 normalize = function("normalize")
 resolve = function("resolve")
@@ -81,45 +95,102 @@ relativize = function("relativize")
 to_uri = function("to_uri")
 decode = function("decode")
 encode = function("encode")
+mend = function("mend")
+mend_link = function("mend_link")
+
+
+# The size of a room for a result at first, and of the largest that is kept.
+_SMALLEST, _LARGEST_KEPT = 4096, 65536
 
 
 class _Room:
-    """Memory for a result and its outcome."""
+    """Memory for a result, the positions of its components, and its outcome."""
 
-    __slots__ = ("size", "memory", "address", "view", "outcome", "outcome_address")
+    __slots__ = ("size", "memory", "address", "view", "parts", "parts_address", "outcome",
+                 "outcome_address")
 
     def __init__(self, size: int) -> None:
         self.size = size
         self.memory = ctypes.create_string_buffer(size)
         self.address = ctypes.addressof(self.memory)
         self.view = memoryview(self.memory)
+        self.parts = ctypes.create_string_buffer(ctypes.sizeof(Parts))
+        self.parts_address = ctypes.addressof(self.parts)
         self.outcome = Outcome()
         self.outcome_address = ctypes.addressof(self.outcome)
 
 
 # Rooms that calls take and give back: list.pop and list.append are atomic, so no two threads hold
-# the same one.
+# the same one. There are as many as calls that ran at once: where one is too small it is dropped.
 _rooms: List[_Room] = []
-_LARGEST_KEPT = 65536
 
 
-def result(call: Callable[..., Any], *words: Any) -> bytes:
-    """The bytes of a call's result. `words` are what comes before the buffer, of which the last
-    two are the text that an error is about, and its length."""
+def _taken(size: int) -> _Room:
+    if size > _LARGEST_KEPT:
+        return _Room(size)
     try:
         room = _rooms.pop()
     except IndexError:
-        room = _Room(4096)
-    error = call(*words, room.address, room.size, room.outcome_address)
-    length: int = room.outcome.length
-    if not error and length > room.size:
-        _rooms.append(room)
-        room = _Room(length)
-        error = call(*words, room.address, room.size, room.outcome_address)
-    index: int = room.outcome.index
-    made = b"" if error else room.view[:length].tobytes()
+        room = _Room(_SMALLEST)
+    return room if size <= room.size else _Room(_LARGEST_KEPT)
+
+
+def _given_back(room: _Room) -> None:
     if room.size <= _LARGEST_KEPT:
         _rooms.append(room)
-    if error:
-        raise error_of(error, index, words[-2])
-    return made
+
+
+def parsed(kind: int, data: bytes) -> Tuple[int, bytes]:
+    """Why a text is not of the kind, or 0, and what the parser writes of it: Parts."""
+    room = _taken(0)
+    error = parse(kind, data, len(data), room.parts_address)
+    parts = room.parts.raw
+    _given_back(room)
+    return error, parts
+
+
+def rejection(error: int, parts: bytes, data: bytes) -> Exception:
+    """The exception for a text that is not of a kind."""
+    return error_of(error, Parts.from_buffer_copy(parts).index, data)
+
+
+def made(
+    call: Callable[..., Any], numbers: Tuple[int, ...], *texts: bytes
+) -> Tuple[bytes, bytes]:
+    """The text that a call makes of one text or two, and what the parser writes of that. The
+    numbers are the kind, and the options of a call that has some."""
+    words: List[Any] = [*numbers]
+    for it in texts:
+        words += it, len(it)
+    room, length = _called(call, words, sum(map(len, texts)) + 64, True)
+    parts = room.parts.raw
+    result = room.view[:length].tobytes()
+    _given_back(room)
+    return result, parts
+
+
+def result(call: Callable[..., Any], component: int, data: bytes) -> bytes:
+    """What `decode` or `encode` makes of bytes."""
+    room, length = _called(call, [component, data, len(data)], len(data), False)
+    result = room.view[:length].tobytes()
+    _given_back(room)
+    return result
+
+
+def _called(
+    call: Callable[..., Any], words: List[Any], expected: int, has_parts: bool
+) -> Tuple[_Room, int]:
+    """The room with a call's result, and the length of that. The words end with the text that an
+    error is about, and its length."""
+    room = _taken(expected)
+    while True:
+        parts = (room.parts_address, 1) if has_parts else ()
+        error = call(*words, room.address, room.size, *parts, room.outcome_address)
+        length: int = room.outcome.length
+        if error:
+            index: int = room.outcome.index
+            _given_back(room)
+            raise error_of(error, index, words[-2], call is mend_link)
+        if length <= room.size:
+            return room, length
+        room = _taken(length)

@@ -1,243 +1,342 @@
-"""A text of a kind over ctypes: the base of the four kinds where there is no compiled module."""
+"""A text of a kind over ctypes: the bases of the four kinds where there is no compiled module."""
 
 from __future__ import annotations
 
-import ctypes
 import struct
-from typing import Any, List, Optional, Tuple, Type, TypeVar
+from typing import Any, Callable, List, Optional, Set, Tuple, Type, TypeVar, Union
 
 from fluent_uri import _native
-from fluent_uri._declarations import Parts
-from fluent_uri._errors import ParseError, error_of, utf8_of
+from fluent_uri._columns import Given, joined
+from fluent_uri._declarations import OPTIONS
+from fluent_uri._errors import ParseError, exact, utf8_of
 
 Self = TypeVar("Self", bound="Reference")
+Made = TypeVar("Made", bound="Reference")
 
-# What the parser wrote, as numbers: error, kind of host, index, and the spans.
+# What the library wrote of a text, as numbers: error, kind of host, index, and the spans.
 _PARTS = struct.Struct("=IIQ16Q")
-_INDEX = struct.Struct("=Q")
 _ABSENT = 2**64 - 1
 # Of a component, where its start is among them.
 _SCHEME, _AUTHORITY, _USERINFO, _HOST, _PORT, _PATH, _QUERY, _FRAGMENT = range(3, 19, 2)
-
-
-class _PartsRoom:
-    """Memory for the parts of a text, and its address."""
-
-    __slots__ = ("memory", "address")
-
-    def __init__(self) -> None:
-        self.memory = ctypes.create_string_buffer(ctypes.sizeof(Parts))
-        self.address = ctypes.addressof(self.memory)
-
-
-# Rooms that calls take and give back, as those of _native.
-_rooms: List[_PartsRoom] = []
+_RELATIVE = OPTIONS["PREFER_RELATIVE_PATH"]
+# The classes of the kinds, which users see; a subclass of one is none.
+FINISHED: Set[type] = set()
 
 
 class Reference:
-    # _bytes: the text in UTF-8 where it is not ASCII. _raw: what the parser wrote, or None where
-    # the library made the text. _at: the same as numbers, once they are asked for.
-    __slots__ = ("_text", "_bytes", "_raw", "_at")
+    # bytes: the text in UTF-8 where it is not ASCII. parts: what the library wrote of it, as bytes,
+    # and as numbers once they are asked for.
+    __slots__ = ("__text", "__bytes", "__parts")
 
-    _kind = -1
-    _text: str
-    _bytes: Optional[bytes]
-    _raw: Optional[bytes]
-    _at: Optional[Tuple[int, ...]]
+    _number = -1
+    __text: str
+    __bytes: Optional[bytes]
+    __parts: Union[bytes, Tuple[int, ...]]
 
-    def __new__(cls: Type[Self], text: str) -> Self:
-        return cls.parse(text)
+    def __new__(cls: Type[Self], text: Union[str, Reference]) -> Self:
+        return Reference._parsed(cls, text)  # type: ignore[no-any-return]
 
     @classmethod
-    def parse(cls: Type[Self], text: str, /) -> Self:
+    def parse(cls: Type[Self], text: Union[str, Reference], /) -> Self:
         """Returns the value of a text, or raises `ParseError` if the text is not of the kind."""
-        if type(text) is not str:
-            text = _exact(text)
-        try:
-            data = text.encode()
-        except UnicodeEncodeError:
-            data = utf8_of(text)
-        self = object.__new__(cls)
-        self._raw = _parsed(cls._kind, data)
-        self._text = text
-        self._bytes = None if len(data) == len(text) else data
-        self._at = None
-        return self
+        return Reference._parsed(cls, text)  # type: ignore[no-any-return]
 
     @classmethod
-    def _of(cls: Type[Self], data: bytes) -> Self:
-        """The value of a text that the library made, which is of the kind."""
+    def try_parse(cls: Type[Self], text: Union[str, Reference], /) -> Optional[Self]:
+        """Returns the value of a text, or None if the text is not of the kind."""
+        return Reference._parsed(cls, text, lax=True)  # type: ignore[no-any-return]
+
+    @classmethod
+    def is_valid(cls, text: Union[str, Reference], /) -> bool:
+        """Returns whether a text is of the kind."""
+        return _is_of(kind_of(cls), text)
+
+    @classmethod
+    def mend(cls: Type[Self], text: Union[str, Reference], /) -> Self:
+        """Returns the value that a text is mended to by the least change: what its path, query or
+        fragment may not hold is percent-encoded. Raises `ParseError` if no text of the kind has its
+        scheme and authority."""
+        return Reference._mended(cls, _native.mend, text)
+
+    @classmethod
+    def mend_link(cls: Type[Self], link: Union[str, Reference], /) -> Self:
+        """Returns what `mend` makes of a link of a page without the white space that HTML drops: at
+        both ends, and each tab and line break."""
+        return Reference._mended(cls, _native.mend_link, link)
+
+    @staticmethod
+    def _mended(cls: Type[Self], call: Callable[..., Any], given: Any) -> Self:
+        """The value that a call makes of what is given as a text. It is the value that is given, if
+        that is of the class, the class is a kind, and its text does not change."""
+        number, data = kind_of(cls), utf8_of(text_given(given))
+        made, parts = _native.made(call, (number,), data)
+        if type(given) is cls and cls in FINISHED and made == data:
+            return given
+        return cls.__of(made.decode(), made, parts)
+
+    @staticmethod
+    def _parsed(cls: Type[Self], given: Any, lax: bool = False) -> Any:
+        """The value of what is given as a text, or else None if `lax`. It is the value that is
+        given, if that is of the class and the class is a kind."""
+        number = getattr(cls, "_number", -1)
+        if number < 0:
+            raise TypeError(f"not a class of a kind: {cls!r}")
+        if type(given) is not str:
+            if type(given) is cls and cls in FINISHED:
+                return given
+            given = text_given(given)
+        data = utf8_of(given)
+        error, parts = _native.parsed(number, data)
+        if not error:
+            return cls.__of(given, data, parts)
+        if lax:
+            return None
+        raise _native.rejection(error, parts, data)
+
+    @classmethod
+    def __of(cls: Type[Self], text: str, data: bytes, parts: bytes) -> Self:
         self = object.__new__(cls)
-        self._text = text = data.decode()
-        self._bytes = None if len(data) == len(text) else data
-        self._raw = self._at = None
+        self.__text = text
+        self.__bytes = None if len(data) == len(text) else data
+        self.__parts = parts
         return self
 
-    def _spans(self) -> Tuple[int, ...]:
-        raw = self._raw or _parsed(self._kind, self._utf8())
-        self._at = at = _PARTS.unpack(raw)
-        return at
+    def __getattr__(self, name: str) -> Any:
+        if name in SLOTS:
+            raise TypeError(f"{type(self).__name__!r} object was made without a text")
+        raise AttributeError(f"{type(self).__name__!r} object has no attribute {name!r}")
 
-    def _utf8(self) -> bytes:
-        return self._text.encode() if self._bytes is None else self._bytes
+    def __numbers(self) -> Tuple[int, ...]:
+        parts = self.__parts
+        if isinstance(parts, bytes):
+            self.__parts = parts = _PARTS.unpack(parts)
+        return parts
 
-    def _component(self, place: int) -> Optional[str]:
-        at = self._at or self._spans()
+    def __utf8(self) -> bytes:
+        return self.__text.encode() if self.__bytes is None else self.__bytes
+
+    def __component(self, place: int) -> Optional[str]:
+        at = self.__parts
+        if isinstance(at, bytes):
+            at = self.__numbers()
         start = at[place]
         if start == _ABSENT:
             return None
-        if self._bytes is None:
-            return self._text[start : at[place + 1]]
-        return self._bytes[start : at[place + 1]].decode()
+        data = self.__bytes
+        if data is None:
+            return self.__text[start : at[place + 1]]
+        return data[start : at[place + 1]].decode()
 
     @property
     def scheme(self) -> Optional[str]:
         """The scheme without its `:`, or None."""
-        return self._component(_SCHEME)
+        return self.__component(_SCHEME)
 
     @property
     def authority(self) -> Optional[str]:
         """The authority without its `//`, or None."""
-        return self._component(_AUTHORITY)
+        return self.__component(_AUTHORITY)
 
     @property
     def userinfo(self) -> Optional[str]:
         """The userinfo without its `@`, or None."""
-        return self._component(_USERINFO)
+        return self.__component(_USERINFO)
 
     @property
     def host(self) -> Optional[str]:
         """The host, or None where there is no authority."""
-        return self._component(_HOST)
+        return self.__component(_HOST)
 
     @property
     def port(self) -> Optional[str]:
         """The port without its `:`, which may be empty, or None."""
-        return self._component(_PORT)
+        return self.__component(_PORT)
 
     @property
     def path(self) -> str:
         """The path, which may be empty."""
-        return self._component(_PATH) or ""
+        return self.__component(_PATH) or ""
 
     @property
     def query(self) -> Optional[str]:
         """The query without its `?`, or None."""
-        return self._component(_QUERY)
+        return self.__component(_QUERY)
 
     @property
     def fragment(self) -> Optional[str]:
         """The fragment without its `#`, or None."""
-        return self._component(_FRAGMENT)
+        return self.__component(_FRAGMENT)
 
     @property
     def _host_kind(self) -> int:
-        return (self._at or self._spans())[1]
+        return self.__numbers()[1]
+
+    def __made(
+        self,
+        made_of: Type[Made],
+        call: Callable[..., Any],
+        numbers: Tuple[int, ...],
+        *others: bytes,
+    ) -> Made:
+        """The value of the class whose text is a call's result. It is this itself, if it is of the
+        class and does not change."""
+        data = self.__utf8()
+        made, parts = _native.made(call, numbers, data, *others)
+        if not others and type(self) is made_of and made == data:
+            return self
+        return made_of.__of(made.decode(), made, parts)
 
     def normalize(self: Self) -> Self:
         """Returns the normal form (RFC 3986, section 6.2.2)."""
-        data = self._utf8()
-        made = _native.result(_native.normalize, self._kind, data, len(data))
-        return self if made == data else self._of(made)
+        return self.__made(type(self), _native.normalize, (self._number,))
 
-    def _resolve(self: Self, reference: str, normalize: bool) -> Self:
+    def _resolve(self: Self, reference: Union[str, Reference], normalize: bool) -> Self:
         call = _native.resolve_normalized if normalize else _native.resolve
-        base, data = self._utf8(), utf8_of(reference)
-        return self._of(_native.result(call, self._kind, base, len(base), data, len(data)))
+        return self.__made(type(self), call, (self._number,), Reference.__other(reference))
 
-    def _relativize(self, target: str, made_of: Type[Self]) -> Self:
-        base, data = self._utf8(), utf8_of(target)
-        made = _native.result(
-            _native.relativize, self._kind, base, len(base), data, len(data)
-        )
-        return made_of._of(made)
+    def _relativize(
+        self, target: Union[str, Reference], made_of: Type[Made], prefers_relative_path: bool
+    ) -> Made:
+        self.__check(made_of, self._number + 1)
+        numbers = self._number, _RELATIVE if prefers_relative_path else 0
+        return self.__made(made_of, _native.relativize, numbers, Reference.__other(target))
 
-    def _to_uri(self, made_of: Type[Self]) -> Self:
-        data = self._utf8()
-        return made_of._of(_native.result(_native.to_uri, self._kind, data, len(data)))
+    def _to_uri(self, made_of: Type[Made]) -> Made:
+        self.__check(made_of, self._number - 2)
+        return self.__made(made_of, _native.to_uri, (self._number,))
+
+    @staticmethod
+    def __other(given: Any) -> bytes:
+        made: bytes
+        made = given.__utf8() if issubclass(type(given), Reference) else utf8_of(text_given(given))
+        return made
+
+    @staticmethod
+    def __check(made_of: Type[Reference], number: int) -> None:
+        if kind_of(made_of) != number:
+            raise TypeError(f"not a class of the result's kind: {made_of!r}")
 
     def __str__(self) -> str:
-        return self._text
+        return self.__text
 
     def __repr__(self) -> str:
-        return f"{type(self).__name__}({self._text!r})"
+        return f"{type(self).__name__}({self.__text!r})"
 
     def __hash__(self) -> int:
-        return hash(self._text)
+        return hash(self.__text)
 
     def __eq__(self, other: object) -> bool:
         if not isinstance(other, Reference) or type(other) is not type(self):
             return NotImplemented
-        return self._text == other._text
+        return self.__text == other.__text
 
     def __lt__(self, other: object) -> bool:
         if not isinstance(other, Reference) or type(other) is not type(self):
             return NotImplemented
-        return self._text < other._text
+        return self.__text < other.__text
 
     def __le__(self, other: object) -> bool:
         if not isinstance(other, Reference) or type(other) is not type(self):
             return NotImplemented
-        return self._text <= other._text
+        return self.__text <= other.__text
 
     def __gt__(self, other: object) -> bool:
         if not isinstance(other, Reference) or type(other) is not type(self):
             return NotImplemented
-        return self._text > other._text
+        return self.__text > other.__text
 
     def __ge__(self, other: object) -> bool:
         if not isinstance(other, Reference) or type(other) is not type(self):
             return NotImplemented
-        return self._text >= other._text
+        return self.__text >= other.__text
 
-    def __reduce__(self) -> Tuple[Any, ...]:
-        return type(self), (self._text,)
-
-
-def register(kind: int, cls: Type[Any]) -> None:
-    """Does nothing: here a class has its kind itself."""
+    def __getnewargs__(self) -> Tuple[str]:
+        return (self.__text,)
 
 
-def _exact(text: Any) -> str:
-    """The text of a subclass of str."""
-    if isinstance(text, str):
-        return str.__str__(text)
-    raise TypeError(f"a text to parse is a str, not {type(text)!r}")
+SLOTS = frozenset(f"_Reference{it}" for it in Reference.__slots__)
 
 
-def _parsed(kind: int, data: bytes) -> bytes:
-    """What the parser wrote of a text of the kind."""
-    try:
-        room = _rooms.pop()
-    except IndexError:
-        room = _PartsRoom()
-    error = _native.parse(kind, data, len(data), room.address)
-    raw = room.memory.raw
-    _rooms.append(room)
-    if error:
-        raise error_of(error, _INDEX.unpack_from(raw, 8)[0], data)
-    return raw
+# Each kind has a slot of its own, so Python assigns no value the class of another kind.
+class Uri(Reference):
+    __slots__ = ("__uri",)
+    _number = 0
 
 
+class UriRef(Reference):
+    __slots__ = ("__uri_ref",)
+    _number = 1
 
 
-def parse_all(cls: Type[Self], texts: Tuple[str, ...]) -> List[Optional[Self]]:
+class Iri(Reference):
+    __slots__ = ("__iri",)
+    _number = 2
+
+
+class IriRef(Reference):
+    __slots__ = ("__iri_ref",)
+    _number = 3
+
+
+def kind_of(cls: Type[Reference]) -> int:
+    """The number of a class's kind."""
+    for it in (Uri, UriRef, Iri, IriRef):
+        if isinstance(cls, type) and issubclass(cls, it):
+            return it._number
+    raise TypeError(f"not a class of a kind: {cls!r}")
+
+
+def text_of(value: Reference) -> str:
+    """The text of a value, whatever a subclass makes of `str`."""
+    if issubclass(type(value), Reference):
+        return Reference.__str__(value)
+    raise TypeError(f"not a value of a kind: {type(value)!r}")
+
+
+def text_given(given: Any) -> str:
+    """The text of a str, or of a value."""
+    if type(given) is str:
+        return given
+    if issubclass(type(given), Reference):
+        return Reference.__str__(given)
+    if issubclass(type(given), str):
+        return exact(given)
+    raise TypeError(f"a text is a value of a kind or a str, not {type(given)!r}")
+
+
+def parse_all(cls: Type[Self], texts: Tuple[Any, ...]) -> List[Optional[Self]]:
     """The value of each text, or None where it is not of the kind."""
-    return [_parsed_or_none(cls, it) for it in texts]
+    kind_of(cls)
+    return [Reference._parsed(cls, it, lax=True) for it in texts]
 
 
-def _parsed_or_none(cls: Type[Self], text: str) -> Optional[Self]:
+def mend_all(cls: Type[Self], texts: Tuple[Any, ...]) -> List[Optional[Self]]:
+    """The value that each text is mended to, or None where it cannot be."""
+    kind_of(cls)
+    return [_mended_or_none(cls, it) for it in texts]
+
+
+def _mended_or_none(cls: Type[Self], given: Any) -> Optional[Self]:
     try:
-        return cls.parse(text)
+        return Reference._mended(cls, _native.mend, given)
     except ParseError:
         return None
 
 
-def normalize_all(cls: Type[Reference], texts: Tuple[str, ...]) -> List[Optional[str]]:
-    """The normal form of each text, or None where it is not of the kind."""
-    # batch imports this module.
-    from fluent_uri import batch
+def are_valid(cls: Type[Reference], texts: Tuple[Any, ...]) -> List[bool]:
+    """Whether each text is of the kind."""
+    number = kind_of(cls)
+    return [_is_of(number, it) for it in texts]
 
-    columns: Any = batch
-    made: List[Optional[str]] = columns.normalize_column(*batch.column(texts), cls).texts()
-    return made
+
+def _is_of(number: int, given: Any) -> bool:
+    error, _ = _native.parsed(number, utf8_of(text_given(given)))
+    return not error
+
+
+def normalize_all(cls: Type[Reference], texts: Tuple[Any, ...]) -> List[Optional[str]]:
+    """The normal form of each text, or None where it is not of the kind."""
+    words = (kind_of(cls),)
+    data, ends = joined(utf8_of(text_given(it)) for it in texts)
+    made = Given(data, ends).done("normalize", words, lambda size, count: size + 2 * count)
+    return made.texts()

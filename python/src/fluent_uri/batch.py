@@ -17,16 +17,11 @@ its offsets. No thread may change a buffer meanwhile.
 
 from __future__ import annotations
 
-from array import array
-from contextlib import ExitStack
-from ctypes import addressof
-from itertools import accumulate
 from typing import (
+    TYPE_CHECKING,
     Any,
-    Callable,
     Iterable,
     List,
-    NamedTuple,
     Optional,
     Tuple,
     Type,
@@ -35,77 +30,164 @@ from typing import (
     overload,
 )
 
-from fluent_uri import Iri, IriRef, Uri, UriRef, _calls, _native
-from fluent_uri._buffers import Buffer
-from fluent_uri._declarations import COMPONENTS, ERRORS, Outcome
-from fluent_uri._errors import error_of, utf8_of
+from fluent_uri import Iri, IriRef, Reference, Uri, UriRef, _calls
+from fluent_uri._column_calls import (
+    component_column,
+    is_valid_column,
+    mend_column,
+    mend_link_column,
+    normalize_column,
+    query_column,
+    relativize_column,
+    resolve_column,
+    to_uri_column,
+)
+from fluent_uri._columns import Column, joined
+from fluent_uri._errors import utf8_of
 
 __all__ = [
     "Column",
     "column",
     "component",
     "component_column",
+    "is_valid",
+    "is_valid_column",
+    "join_links",
+    "mend",
+    "mend_column",
+    "mend_link",
+    "mend_link_column",
     "normalize",
     "normalize_column",
     "parse",
+    "query",
+    "query_column",
+    "relativize",
+    "relativize_column",
     "resolve",
     "resolve_column",
+    "to_uri",
     "to_uri_column",
 ]
 
 _Kind = TypeVar("_Kind", Uri, UriRef, Iri, IriRef)
-_AnyKind = Type[Union[Uri, UriRef, Iri, IriRef]]
-_FULL, _INVALID = ERRORS["FULL"], ERRORS["INVALID_ARGUMENT"]
-# By the size of an offset in bytes: its code for `array`, and the end of a function's name.
-_CODES, _SUFFIXES = {4: "I", 8: "Q"}, {4: "_batch", 8: "_batch64"}
-_LARGEST_OFFSET = 2**31 - 1
-# The components that a text has, by their names; `DATA` is for encoding alone.
-_COMPONENTS = {name.lower(): it for name, it in COMPONENTS.items() if name != "DATA"}
-
-
-class Column(NamedTuple):
-    """Texts as Arrow holds them: bit i of `validity` is 1 where text i is there."""
-
-    data: memoryview
-    offsets: Any
-    validity: bytearray
-
-    def texts(self) -> List[Optional[str]]:
-        """Returns each text, or None where it is not there."""
-        data, ends, validity = bytes(self.data), self.offsets, self.validity
-        return [
-            data[ends[at] : ends[at + 1]].decode() if validity[at >> 3] >> (at & 7) & 1 else None
-            for at in range(len(ends) - 1)
-        ]
+if TYPE_CHECKING:
+    # (typing would keep the classes of a package that is dropped)
+    _AnyKind = Type[Union[Uri, UriRef, Iri, IriRef]]
+    _Texts = Iterable[Union[str, Reference]]
 
 
 @overload
-def parse(texts: Iterable[str]) -> List[Optional[Uri]]: ...
+def parse(texts: _Texts, *, mend: bool = ...) -> List[Optional[Uri]]: ...
 
 
 @overload
-def parse(texts: Iterable[str], kind: Type[_Kind]) -> List[Optional[_Kind]]: ...
+def parse(
+    texts: _Texts, kind: Type[_Kind], *, mend: bool = ...
+) -> List[Optional[_Kind]]: ...
 
 
-def parse(texts: Iterable[str], kind: Any = Uri) -> List[Optional[Any]]:
-    """Returns the value of each text, or None where it is not of the kind."""
-    return _calls.parse_all(kind, tuple(texts))
+def parse(texts: _Texts, kind: Any = Uri, *, mend: bool = False) -> List[Optional[Any]]:
+    """Returns the value of each text, or None where it is not of the kind. With `mend` each text is
+    taken as what `mend` makes of it, here and in each call that has the word."""
+    call = _calls.mend_all if mend else _calls.parse_all
+    return call(kind, tuple(_each(texts)))
 
 
-def normalize(texts: Iterable[str], kind: _AnyKind = Uri) -> List[Optional[str]]:
+def is_valid(texts: _Texts, kind: _AnyKind = Uri) -> List[bool]:
+    """Returns whether each text is of the kind."""
+    return _calls.are_valid(kind, tuple(_each(texts)))
+
+
+def normalize(
+    texts: _Texts, kind: _AnyKind = Uri, *, mend: bool = False
+) -> List[Optional[str]]:
     """Returns the normal form of each text, or None where it is not of the kind."""
-    return _calls.normalize_all(kind, tuple(texts))
+    if mend:
+        return normalize_column(*column(texts), kind, mend=True).texts()
+    return _calls.normalize_all(kind, tuple(_each(texts)))
+
+
+def mend(texts: _Texts, kind: _AnyKind = UriRef) -> List[Optional[str]]:
+    """Returns what each text is mended to by the least change, as `UriRef.mend` does, or None where
+    it cannot be.
+
+    >>> mend(["/a b?[1]", "http://a b/"])
+    ['/a%20b?%5B1%5D', None]
+    """
+    return mend_column(*column(texts), kind).texts()
+
+
+def mend_link(links: _Texts, kind: _AnyKind = UriRef) -> List[Optional[str]]:
+    """Returns what each link of a page is mended to, without the white space that HTML drops, or
+    None where it cannot be."""
+    return mend_link_column(*column(links), kind).texts()
+
+
+def join_links(
+    base: Union[Uri, Iri],
+    links: _Texts,
+    *,
+    normalize: bool = False,
+    keep_fragment: bool = True,
+) -> List[Optional[str]]:
+    """Returns the target of each link of a page, as `base.join_link` does, or None where there is
+    none.
+
+    >>> join_links(Uri("http://a/b#c"), [" x y ", "http://a b/", "#d"], keep_fragment=False)
+    ['http://a/x%20y', None, 'http://a/b']
+    """
+    # (what is no base is a TypeError below)
+    if issubclass(type(base), Reference):
+        base = base.with_fragment(None)
+    kind: _AnyKind = IriRef if issubclass(type(base), Iri) else UriRef
+    made = mend_link_column(*column(links), kind)
+    targets = resolve_column(
+        base, made.data, made.offsets, normalize=normalize, validity=made.validity
+    ).texts()
+    if keep_fragment:
+        return targets
+    return [it if it is None else it.partition("#")[0] for it in targets]
+
+
+def to_uri(
+    texts: _Texts, kind: _AnyKind = Iri, *, mend: bool = False
+) -> List[Optional[str]]:
+    """Returns each IRI, or IRI reference, as a URI, or None where a text is not of the kind."""
+    return to_uri_column(*column(texts), kind, mend=mend).texts()
 
 
 def resolve(
-    base: Union[Uri, Iri], references: Iterable[str], *, normalize: bool = False
+    base: Union[Uri, Iri], references: _Texts, *, normalize: bool = False, mend: bool = False
 ) -> List[Optional[str]]:
     """Returns the target of each reference against a base, or None where there is none."""
-    return resolve_column(base, *column(references), normalize=normalize).texts()
+    return resolve_column(base, *column(references), normalize=normalize, mend=mend).texts()
+
+
+def relativize(
+    base: Union[Uri, Iri],
+    targets: _Texts,
+    *,
+    prefer_relative_path: bool = False,
+    mend: bool = False,
+) -> List[Optional[str]]:
+    """Returns a short reference from a base to each target, or None where a target is rejected.
+
+    >>> relativize(Uri("http://a/b/c"), ["http://a/b/d", "x:y", "no"])
+    ['d', 'x:y', None]
+    """
+    return relativize_column(
+        base, *column(targets), prefer_relative_path=prefer_relative_path, mend=mend
+    ).texts()
+
+
+def query(texts: _Texts, kind: _AnyKind = Uri, *, mend: bool = False) -> List[Optional[str]]:
+    """Returns the query of each text, or None where it has none or is not of the kind."""
+    return component(texts, "query", kind, mend=mend)
 
 
 def component(
-    texts: Iterable[str], component: str, kind: _AnyKind = Uri
+    texts: _Texts, component: str, kind: _AnyKind = Uri, *, mend: bool = False
 ) -> List[Optional[str]]:
     """Returns a component of each text, by its name, or None where the text has no such component
     or is not of the kind.
@@ -113,138 +195,16 @@ def component(
     >>> component(["http://a/b?c", "x:", "no"], "path")
     ['/b', '', None]
     """
-    return component_column(*column(texts), component, kind).texts()
+    return component_column(*column(texts), component, kind, mend=mend).texts()
 
 
-def column(texts: Iterable[str]) -> Tuple[bytes, Any]:
+def column(texts: _Texts) -> Tuple[bytes, Any]:
     """Returns data and offsets of the texts: offsets of 64 bits where 32 are too few for Arrow."""
-    encoded = [utf8_of(it) for it in texts]
-    ends = list(accumulate(map(len, encoded), initial=0))
-    return b"".join(encoded), array("I" if ends[-1] <= _LARGEST_OFFSET else "Q", ends)
+    return joined(utf8_of(_calls.text_given(it)) for it in _each(texts))
 
 
-def normalize_column(
-    data: Any, offsets: Any, kind: _AnyKind = Uri, *, validity: Any = None, large: bool = False
-) -> Column:
-    """Returns the normal forms of a column, with no text where one is not of the kind.
-
-    Offsets are of 32 or 64 bits, as the buffer's items are. Of a buffer of bytes they are of 32, or
-    of 64 with `large`. A text that `validity` leaves out is left out of the result.
-
-    >>> normalize_column(b"HTTP://Aa b", array("I", [0, 8, 11])).texts()
-    ['http://a', None]
-    """
-    texts = _Texts(data, offsets, validity, large)
-    return texts.done("normalize", (kind._kind,), lambda size, count: size + 2 * count)
-
-
-def to_uri_column(
-    data: Any, offsets: Any, kind: _AnyKind = Iri, *, validity: Any = None, large: bool = False
-) -> Column:
-    """Returns the URIs of a column of IRIs, as `normalize_column` does."""
-    texts = _Texts(data, offsets, validity, large)
-    return texts.done("to_uri", (kind._kind,), lambda size, _: size)
-
-
-def resolve_column(
-    base: Union[Uri, Iri],
-    data: Any,
-    offsets: Any,
-    *,
-    normalize: bool = False,
-    validity: Any = None,
-    large: bool = False,
-) -> Column:
-    """Returns the targets of a column of references against a base, as `normalize_column` does."""
-    text = bytes(base)
-    texts = _Texts(data, offsets, validity, large)
-    name = "resolve_normalized" if normalize else "resolve"
-    words = (base._kind, text, len(text))
-    return texts.done(name, words, lambda size, count: size + count * (len(text) + 2))
-
-
-def component_column(
-    data: Any, offsets: Any, component: str, kind: _AnyKind = Uri, *, validity: Any = None
-) -> Column:
-    """Returns a component of each text of a column, by its name, as `normalize_column` does, with
-    no text where the component is absent. Its offsets are of 32 bits."""
-    number = _COMPONENTS[component]
-    texts = _Texts(data, offsets, validity, False)
-    if texts.width != 4:
-        raise ValueError("component_column takes offsets of 32 bits")
-    return texts.done("component", (kind._kind, number), lambda size, _: size)
-
-
-class _Texts:
-    """A column that a call takes."""
-
-    def __init__(self, data: Any, offsets: Any, validity: Any, large: bool) -> None:
-        view = memoryview(offsets)
-        self.width = 8 if view.itemsize == 8 or (view.itemsize == 1 and large) else 4
-        if view.itemsize not in (1, self.width) or view.format[0] in ">!fd":
-            raise ValueError(f"offsets are of 32 or 64 bits, not items of format {view.format!r}")
-        self.data, self.offsets, self.validity = data, offsets, validity
-        self.count = max(view.nbytes // self.width - 1, 0)
-
-    def done(
-        self, name: str, words: Tuple[Any, ...], room: Callable[[int, int], int]
-    ) -> Column:
-        """What a call makes of the texts. It gets the room that its results are expected to need,
-        and is made again with twice as much while that is too little."""
-        call = _native.function(name + _SUFFIXES[self.width], lets_others_run=True)
-        size = room(memoryview(self.data).nbytes, self.count)
-        while True:
-            made = self._tried(call, words, size)
-            if self.width == 4 and (size if made is None else len(made.data)) > _LARGEST_OFFSET:
-                raise OverflowError("the results need offsets of 64 bits")
-            if made is not None:
-                return made
-            size = 2 * size + 64
-
-    def _tried(
-        self, call: Callable[..., Any], words: Tuple[Any, ...], room: int
-    ) -> Optional[Column]:
-        """What the call makes of the texts, or None if its results need more room."""
-        out = bytearray(room)
-        ends = array(_CODES[self.width], bytes(self.width * (self.count + 1)))
-        valid = bytearray((self.count + 7) // 8)
-        outcome = Outcome()
-        with ExitStack() as held:
-            data = held.enter_context(Buffer(self.data))
-            offsets = held.enter_context(Buffer(self.offsets, align=self.width))
-            texts, places, bits = (
-                held.enter_context(Buffer(it, written=True)) for it in (out, ends, valid)
-            )
-            error = call(
-                *words,
-                *(data.address, data.size),
-                *(offsets.address, self.count + 1 if offsets.size else 0),
-                *(texts.address, texts.size),
-                *(places.address, self.count + 1),
-                *(bits.address, bits.size),
-                addressof(outcome),
-            )
-        if error == _FULL:
-            return None
-        _raise(error, outcome.index)
-        return self.column(memoryview(out)[: outcome.length], ends, valid)
-
-    def column(self, data: memoryview, ends: Any, valid: bytearray) -> Column:
-        """The column of a result, of which what `validity` leaves out is left out."""
-        return Column(data, ends, valid if self.validity is None else _both(valid, self.validity))
-
-
-def _raise(error: int, index: int) -> None:
-    if error == _INVALID:
-        raise ValueError(f"an offset of text {index} falls or is past the data")
-    if error:
-        raise error_of(error, 0, b"")
-
-
-def _both(valid: bytearray, given: Any) -> bytearray:
-    """The bits that are 1 in both."""
-    wanted = bytes(memoryview(given).cast("B")[: len(valid)])
-    if len(wanted) < len(valid):
-        raise ValueError(f"validity has {len(wanted)} bytes, and the column needs {len(valid)}")
-    both = int.from_bytes(valid, "little") & int.from_bytes(wanted, "little")
-    return bytearray(both.to_bytes(len(valid), "little"))
+def _each(texts: _Texts) -> _Texts:
+    """The texts, which are no text themselves."""
+    if issubclass(type(texts), (str, bytes, bytearray, memoryview)):
+        raise TypeError(f"the texts are an iterable of str, not one {type(texts)!r}")
+    return texts

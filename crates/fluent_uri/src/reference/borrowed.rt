@@ -1,5 +1,6 @@
 //! Calls of a reference whose text is borrowed.
 ghost use Rattle.std.specs.Prelude.{◌↔◌, ◌≡◌, IfErr, IfOk, IsOk, None, Some, option_map};
+ghost use Rattle.std.specs.Result.{result_err};
 ghost use Rattle.uri_pct.specs.EncodedTexts.{text_of};
 ghost use Rattle.uri_parts.specs.AuthorityTexts.{authority_text};
 ghost use Rattle.uri_parts.specs.Components.{components};
@@ -42,6 +43,7 @@ impl<'a, K: Kind> Reference<K, &'a str> {
     pub fn parse(text: &'a str) -> Result<Reference<K, &'a str>, ParseError>
         ensures accepts { IsOk result ↔ IsOfKind K.kind text.now }
         ensures text { IfOk result (λ value. reference_text value ≡ text.now) }
+        ensures error { result_err result ≡ refusal K.kind text.now }
         ensures err { IfErr result (IsErrorIn text.now) }
         ensures refused { IfErr result (λ e. refusal K.kind text.now ≡ Some e) }
     {
@@ -52,8 +54,6 @@ impl<'a, K: Kind> Reference<K, &'a str> {
     }
 
     /// Returns the text.
-    ///
-    /// # Examples
     ///
     /// A value that was parsed from `http://example.com/a?b#c` returns that text.
     pub fn as_str(self) -> &'a str
@@ -106,8 +106,6 @@ impl<'a, K: Kind> Reference<K, &'a str> {
     /// Returns the query without its `?`, if there is one (RFC 3986, section 3.4; RFC 3987, section
     /// 2.2).
     ///
-    /// # Examples
-    ///
     /// `http://example.com/a?b#c` has the query `b`, and `http:a` has none.
     pub fn query(self) -> Option<EStr<'a, K::QueryE>>
         ensures { option_map text_of result ≡ (components (reference_text self.entry)).query }
@@ -118,8 +116,6 @@ impl<'a, K: Kind> Reference<K, &'a str> {
     /// Returns the fragment without its `#`, if there is one (RFC 3986, section 3.5; RFC 3987,
     /// section 2.2).
     ///
-    /// # Examples
-    ///
     /// `http://example.com/a?b#c` has the fragment `c`, and `http:a` has none.
     pub fn fragment(self) -> Option<EStr<'a, K::FragmentE>>
         ensures { option_map text_of result ≡ (components (reference_text self.entry)).fragment }
@@ -128,8 +124,6 @@ impl<'a, K: Kind> Reference<K, &'a str> {
     }
 
     /// Returns the reference without its fragment: the text before the `#` (RFC 3986, section 3.5).
-    ///
-    /// # Examples
     ///
     /// `http://example.com/#fragment` becomes `http://example.com/`.
     pub fn strip_fragment(self) -> Reference<K, &'a str>
@@ -142,13 +136,11 @@ impl<'a, K: Kind> Reference<K, &'a str> {
 
     /// Returns a copy of the reference that owns its text.
     ///
+    /// A `Uri<&str>` of `http://example.com/a?b#c` becomes a `Uri<String>` of the same text.
+    ///
     /// # Errors
     ///
     /// Returns an error only if allocation fails.
-    ///
-    /// # Examples
-    ///
-    /// A `Uri<&str>` of `http://example.com/a?b#c` becomes a `Uri<String>` of the same text.
     pub fn to_owned(self, alloc: Global) -> Result<Reference<K, String>, AllocError>
         ensures { IfOk result (λ owned. reference_text owned ≡ reference_text self.entry) }
     {

@@ -1,6 +1,7 @@
 //! Calls of a reference that owns its text.
 ghost use Rattle.std.specs.Prelude.{◌↔◌, ◌≡◌, IfErr, IfOk, IsOk, None, OnErr, OnOk};
 ghost use Rattle.std.specs.Prelude.{Some, option_map, string_bytes};
+ghost use Rattle.std.specs.Result.{result_err};
 ghost use Rattle.uri_pct.specs.EncodedTexts.{text_of};
 ghost use Rattle.uri_parts.specs.AuthorityTexts.{authority_text};
 ghost use Rattle.uri_parts.specs.Components.{components};
@@ -21,19 +22,19 @@ use uri_pct::pct_enc::EStr;
 impl<K: Kind> Reference<K, String> {
     /// Parses a text as this kind, from left to right, and allocates nothing.
     ///
+    /// `a/b` has no scheme, so it is a `UriRef` but not a `Uri`. `http://é.example` is an `Iri` but
+    /// not a `Uri`. `../é` is an `IriRef`, and `a b` is of no kind.
+    ///
     /// # Errors
     ///
     /// Returns an error exactly if the text is not of the kind (RFC 3986, sections 3 and 4.1; RFC
     /// 3987, section 2.2). The error says what is wrong, and at which index: a byte offset on a
     /// character boundary. The text is returned with it.
-    ///
-    /// # Examples
-    ///
-    /// `a/b` has no scheme, so it is a `UriRef` but not a `Uri`. `http://é.example` is an `Iri` but
-    /// not a `Uri`. `../é` is an `IriRef`, and `a b` is of no kind.
     pub fn parse(text: String) -> Result<Reference<K, String>, (ParseError, String)>
         ensures accepts { IsOk result ↔ IsOfKind K.kind (string_bytes text) }
         ensures text { IfOk result (λ value. reference_text value ≡ string_bytes text) }
+        ensures error { option_map (λ refused. refused.0) (result_err result)
+            ≡ refusal K.kind (string_bytes text) }
         ensures err { IfErr result (λ refused. IsErrorIn (string_bytes text) refused.0) }
         ensures refused { IfErr result (λ refused.
             refusal K.kind (string_bytes text) ≡ Some refused.0) }
@@ -47,8 +48,6 @@ impl<K: Kind> Reference<K, String> {
 
     /// Returns the reference over its own text, which is borrowed.
     ///
-    /// # Examples
-    ///
     /// A `Uri<String>` of `http://example.com/a?b#c` lends a `Uri<&str>` of the same text.
     pub fn borrow(&self) -> Reference<K, &str>
         ensures { reference_text result ≡ reference_text self.now }
@@ -59,8 +58,6 @@ impl<K: Kind> Reference<K, String> {
     }
 
     /// Returns the reference without its fragment: the text before the `#` (RFC 3986, section 3.5).
-    ///
-    /// # Examples
     ///
     /// `http://example.com/#fragment` becomes `http://example.com/`.
     pub fn strip_fragment(&self) -> Reference<K, &str>
@@ -107,7 +104,8 @@ impl<K: Kind> Reference<K, String> {
     ///
     /// ```
     /// let normal = normal_form(alloc, text)?.into_string();
-    /// let seen = visits.get(normal.as_str()).copied().unwrap_or(0);
+    /// let count = visits_of(visits, normal.as_str()).saturating_add(1);
+    /// visits.insert(normal, count)?;
     /// ```
     pub fn into_string(self) -> String
         ensures { string_bytes result ≡ reference_text self }
@@ -116,8 +114,6 @@ impl<K: Kind> Reference<K, String> {
     }
 
     /// Returns the text.
-    ///
-    /// # Examples
     ///
     /// A value that was parsed from `http://example.com/a?b#c` returns that text.
     pub fn as_str(&self) -> &str
@@ -130,8 +126,6 @@ impl<K: Kind> Reference<K, String> {
     /// Returns the authority without its `//`, if there is one (RFC 3986, section 3.2; RFC 3987,
     /// section 2.2).
     ///
-    /// # Examples
-    ///
     /// `http://example.com/a?b#c` has the authority `example.com`, the IRI `http://例え.jp/a` has
     /// `例え.jp`, and `http:a` has none.
     pub fn authority(&self) -> Option<Authority<'_, K::UserinfoE, K::RegNameE>>
@@ -143,8 +137,6 @@ impl<K: Kind> Reference<K, String> {
 
     /// Returns the path, which may be empty (RFC 3986, section 3.3; RFC 3987, section 2.2).
     ///
-    /// # Examples
-    ///
     /// `http://example.com/a?b#c` has the path `/a`, and the path of `http://example.com` is empty.
     pub fn path(&self) -> EStr<'_, K::PathE>
         ensures { text_of result ≡ (components (reference_text self.now)).path }
@@ -155,8 +147,6 @@ impl<K: Kind> Reference<K, String> {
     /// Returns the query without its `?`, if there is one (RFC 3986, section 3.4; RFC 3987, section
     /// 2.2).
     ///
-    /// # Examples
-    ///
     /// `http://example.com/a?b#c` has the query `b`, and `http:a` has none.
     pub fn query(&self) -> Option<EStr<'_, K::QueryE>>
         ensures { option_map text_of result ≡ (components (reference_text self.now)).query }
@@ -166,8 +156,6 @@ impl<K: Kind> Reference<K, String> {
 
     /// Returns the fragment without its `#`, if there is one (RFC 3986, section 3.5; RFC 3987,
     /// section 2.2).
-    ///
-    /// # Examples
     ///
     /// `http://example.com/a?b#c` has the fragment `c`, and `http:a` has none.
     pub fn fragment(&self) -> Option<EStr<'_, K::FragmentE>>

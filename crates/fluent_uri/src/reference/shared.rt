@@ -35,8 +35,6 @@ impl<K: Kind, T: AsStr> Reference<K, T> {
 
     /// Returns whether there is a query.
     ///
-    /// # Examples
-    ///
     /// `http:a?` has one, which is empty, and `http:a` has none.
     pub fn has_query(&self) -> bool
         ensures { result ≡ is_some (components (reference_text self.now)).query }
@@ -45,8 +43,6 @@ impl<K: Kind, T: AsStr> Reference<K, T> {
     }
 
     /// Returns whether there is a fragment.
-    ///
-    /// # Examples
     ///
     /// `http:a#` has one, which is empty, and `http:a` has none.
     pub fn has_fragment(&self) -> bool
@@ -58,17 +54,15 @@ impl<K: Kind, T: AsStr> Reference<K, T> {
     /// Returns a copy with this fragment, or without a fragment if it is `None` (RFC 3986, section
     /// 3.5).
     ///
-    /// # Errors
-    ///
-    /// Returns an error only if allocation fails.
-    ///
-    /// # Examples
-    ///
     /// | Text | Fragment | Copy |
     /// |---|---|---|
     /// | `http://example.com/` | `fragment` | `http://example.com/#fragment` |
     /// | `http://example.com/#a` | empty | `http://example.com/#` |
     /// | `http://example.com/#a` | `None` | `http://example.com/` |
+    ///
+    /// # Errors
+    ///
+    /// Returns an error only if allocation fails.
     pub fn with_fragment(
         &self,
         alloc: Global,

@@ -1,8 +1,9 @@
 //! The scheme of an `Iri`, which has one (RFC 3987, section 2.2), and of an `IriRef`, which may
 //! have one.
-ghost use Rattle.std.specs.Prelude.{◌≡◌, Some, is_some, option_map};
+ghost use Rattle.std.specs.Prelude.{◌≡◌, Some, codes, is_some, option_map};
 ghost use Rattle.uri_parts.specs.Components.{components};
 ghost use Rattle.uri_parts.specs.Schemes.{scheme_text};
+ghost use Rattle.fluent_uri.specs.PrintedReferences.{debug_with_optional_scheme, debug_with_scheme};
 ghost use Rattle.fluent_uri.specs.References.{reference_text};
 
 use crate::reference::Reference;
@@ -16,8 +17,6 @@ use uri_parts::kind::{IriKind, IriRefKind};
 impl<'a> Reference<IriKind, &'a str> {
     /// Returns the scheme without its `:` (RFC 3986, section 3.1).
     ///
-    /// # Examples
-    ///
     /// `http://例え.jp/a?b#c` has the scheme `http`.
     pub fn scheme(self) -> Scheme<'a>
         ensures { Some (scheme_text result) ≡ (components (reference_text self.entry)).scheme }
@@ -28,8 +27,6 @@ impl<'a> Reference<IriKind, &'a str> {
 
 impl Reference<IriKind, String> {
     /// Returns the scheme without its `:` (RFC 3986, section 3.1).
-    ///
-    /// # Examples
     ///
     /// `http://例え.jp/a?b#c` has the scheme `http`.
     pub fn scheme(&self) -> Scheme<'_>
@@ -42,8 +39,6 @@ impl Reference<IriKind, String> {
 impl<'a> Reference<IriRefKind, &'a str> {
     /// Returns the scheme without its `:`, if there is one (RFC 3986, section 3.1).
     ///
-    /// # Examples
-    ///
     /// `http://例え.jp/a?b#c` has the scheme `http`, and `a` has none.
     pub fn scheme(self) -> Option<Scheme<'a>>
         ensures { option_map scheme_text result ≡ (components (reference_text self.entry)).scheme }
@@ -54,8 +49,6 @@ impl<'a> Reference<IriRefKind, &'a str> {
 
 impl Reference<IriRefKind, String> {
     /// Returns the scheme without its `:`, if there is one (RFC 3986, section 3.1).
-    ///
-    /// # Examples
     ///
     /// `http://例え.jp/a?b#c` has the scheme `http`, and `a` has none.
     pub fn scheme(&self) -> Option<Scheme<'_>>
@@ -68,8 +61,6 @@ impl Reference<IriRefKind, String> {
 impl<T: AsStr> Reference<IriRefKind, T> {
     /// Returns whether there is a scheme.
     ///
-    /// # Examples
-    ///
     /// `http://例え.jp` has one, and `a` has none.
     pub fn has_scheme(&self) -> bool
         ensures { result ≡ is_some (components (reference_text self.now)).scheme }
@@ -80,6 +71,8 @@ impl<T: AsStr> Reference<IriRefKind, T> {
 
 #[tactic(auto, using(uri_parts::proofs::TextKinds::KindSets::iri_laws))]
 impl<T: AsStr> fmt::Debug for Reference<IriKind, T> {
+    ghost debug_output = { λ value. debug_with_scheme (codes "Iri") (reference_text value) };
+
     /// Prints each component with its name.
     fn fmt<W: fmt::Write>(&self, f: &mut fmt::Formatter<W>) -> fmt::Result {
         let core = self.core();
@@ -88,6 +81,9 @@ impl<T: AsStr> fmt::Debug for Reference<IriKind, T> {
 }
 
 impl<T: AsStr> fmt::Debug for Reference<IriRefKind, T> {
+    ghost debug_output = { λ value.
+        debug_with_optional_scheme (codes "IriRef") (reference_text value) };
+
     /// Prints each component with its name.
     fn fmt<W: fmt::Write>(&self, f: &mut fmt::Formatter<W>) -> fmt::Result {
         let core = self.core();

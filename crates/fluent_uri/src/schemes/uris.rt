@@ -1,8 +1,9 @@
 //! The scheme of a `Uri`, which has one (RFC 3986, section 3), and of a `UriRef`, which may have
 //! one (section 4.1).
-ghost use Rattle.std.specs.Prelude.{◌≡◌, Some, is_some, option_map};
+ghost use Rattle.std.specs.Prelude.{◌≡◌, Some, codes, is_some, option_map};
 ghost use Rattle.uri_parts.specs.Components.{components};
 ghost use Rattle.uri_parts.specs.Schemes.{scheme_text};
+ghost use Rattle.fluent_uri.specs.PrintedReferences.{debug_with_optional_scheme, debug_with_scheme};
 ghost use Rattle.fluent_uri.specs.References.{reference_text};
 
 use crate::reference::Reference;
@@ -16,8 +17,6 @@ use uri_parts::kind::{UriKind, UriRefKind};
 impl<'a> Reference<UriKind, &'a str> {
     /// Returns the scheme without its `:` (RFC 3986, section 3.1).
     ///
-    /// # Examples
-    ///
     /// `http://example.com/a?b#c` has the scheme `http`.
     pub fn scheme(self) -> Scheme<'a>
         ensures { Some (scheme_text result) ≡ (components (reference_text self.entry)).scheme }
@@ -28,8 +27,6 @@ impl<'a> Reference<UriKind, &'a str> {
 
 impl Reference<UriKind, String> {
     /// Returns the scheme without its `:` (RFC 3986, section 3.1).
-    ///
-    /// # Examples
     ///
     /// `http://example.com/a?b#c` has the scheme `http`.
     pub fn scheme(&self) -> Scheme<'_>
@@ -42,8 +39,6 @@ impl Reference<UriKind, String> {
 impl<'a> Reference<UriRefKind, &'a str> {
     /// Returns the scheme without its `:`, if there is one (RFC 3986, section 3.1).
     ///
-    /// # Examples
-    ///
     /// `http://example.com/a?b#c` has the scheme `http`, and `a` has none.
     pub fn scheme(self) -> Option<Scheme<'a>>
         ensures { option_map scheme_text result ≡ (components (reference_text self.entry)).scheme }
@@ -54,8 +49,6 @@ impl<'a> Reference<UriRefKind, &'a str> {
 
 impl Reference<UriRefKind, String> {
     /// Returns the scheme without its `:`, if there is one (RFC 3986, section 3.1).
-    ///
-    /// # Examples
     ///
     /// `http://example.com/a?b#c` has the scheme `http`, and `a` has none.
     pub fn scheme(&self) -> Option<Scheme<'_>>
@@ -68,8 +61,6 @@ impl Reference<UriRefKind, String> {
 impl<T: AsStr> Reference<UriRefKind, T> {
     /// Returns whether there is a scheme.
     ///
-    /// # Examples
-    ///
     /// `http://example.com` has one, and `a` has none.
     pub fn has_scheme(&self) -> bool
         ensures { result ≡ is_some (components (reference_text self.now)).scheme }
@@ -80,6 +71,8 @@ impl<T: AsStr> Reference<UriRefKind, T> {
 
 #[tactic(auto, using(uri_parts::proofs::TextKinds::KindSets::uri_laws))]
 impl<T: AsStr> fmt::Debug for Reference<UriKind, T> {
+    ghost debug_output = { λ value. debug_with_scheme (codes "Uri") (reference_text value) };
+
     /// Prints each component with its name.
     fn fmt<W: fmt::Write>(&self, f: &mut fmt::Formatter<W>) -> fmt::Result {
         let core = self.core();
@@ -88,6 +81,8 @@ impl<T: AsStr> fmt::Debug for Reference<UriKind, T> {
 }
 
 impl<T: AsStr> fmt::Debug for Reference<UriRefKind, T> {
+    ghost debug_output = { λ value. debug_with_optional_scheme (codes "UriRef") (reference_text value) };
+
     /// Prints each component with its name.
     fn fmt<W: fmt::Write>(&self, f: &mut fmt::Formatter<W>) -> fmt::Result {
         let core = self.core();

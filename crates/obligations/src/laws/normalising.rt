@@ -13,16 +13,22 @@ ghost use Rattle.fluent_uri.specs.SchemePorts.{default_port};
 use fluent_uri::{Iri, laws};
 use std::alloc::{AllocError, Global};
 
-/// A caller proves that a normal form is its own normal form, and returns true.
+/// A caller proves that a normal form is its own normal form, and returns it with its own.
 ///
 /// # Errors
 ///
 /// Only if allocation fails.
-pub fn same_when_normalised_twice(alloc: Global, given: Iri<&str>) -> Result<bool, AllocError>
-    ensures { IfOk result (λ same. same ≡ true) }
+pub fn same_when_normalised_twice(
+    alloc: Global,
+    given: Iri<&str>,
+) -> Result<(Iri<String>, Iri<String>), AllocError>
+    ensures first { IfOk result (λ both.
+        IsNormalForm iri default_port (iri_text given.entry) (iri_text both.0)) }
+    ensures equal { IfOk result (λ both. iri_text both.1 ≡ iri_text both.0) }
 {
     let normal = given.normalize(alloc)?;
-    Ok(normal.normalize(alloc)? == normal)
+    let again = normal.normalize(alloc)?;
+    Ok((normal, again))
 }
 
 /// A caller proves that a text of any kind with sets such as those of the four kinds is equivalent

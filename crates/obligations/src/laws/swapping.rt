@@ -1,22 +1,24 @@
 //! Resolving and normalising, in either order (RFC 3986, sections 5.2 and 6.2.2).
-ghost use Rattle.std.specs.Prelude.{◌≡◌, ◌⊎◌, IfOk, IfErr, true};
+ghost use Rattle.std.specs.Prelude.{◌≡◌, ◌⊎◌, IfOk, IfErr};
 ghost use Rattle.fluent_uri.specs.Components.{components};
 ghost use Rattle.fluent_uri.specs.Grammar.{iri};
 ghost use Rattle.fluent_uri.specs.Iris.{iri_ref_text};
 ghost use Rattle.fluent_uri.specs.Iris.{iri_text};
-ghost use Rattle.fluent_uri.specs.NormalTargets.{IsNormalFormOfTarget, IsErrorUnderSomeSetting};
+ghost use Rattle.fluent_uri.specs.NormalTargets.{IsNormalFormOfTarget};
+ghost use Rattle.fluent_uri.specs.Resolving.{IsErrorWithUnderflowAllowed};
 ghost use Rattle.fluent_uri.specs.SchemePorts.{default_port};
 
+use fluent_uri::normalize::Normalizer;
 use fluent_uri::resolve::{ResolveError, Resolver};
 use fluent_uri::{Iri, IriRef};
 use std::alloc::Global;
 
-/// A caller proves that the target of the normal forms of a base and a reference has the normal
-/// form of their target, and returns it.
+/// A caller proves that the normalised target of the normal forms of a base and a reference is that
+/// of the two, and returns it.
 ///
 /// # Errors
 ///
-/// `OutOfMemory`, or that of `Resolver::resolve` for the normal forms, which is that for the two.
+/// `OutOfMemory`, or that of `Resolver::resolve_normalized` for the two.
 pub fn normal_target(
     alloc: Global,
     base: Iri<&str>,
@@ -25,35 +27,66 @@ pub fn normal_target(
     ensures target { IfOk result (λ normal. IsNormalFormOfTarget iri default_port
         (iri_text base.entry) (iri_ref_text reference.entry) (iri_text normal)) }
     ensures error { IfErr result (λ error. (error ≡ ResolveError.OutOfMemory) ⊎
-        IsErrorUnderSomeSetting (components (iri_text base.entry))
+        IsErrorWithUnderflowAllowed (components (iri_text base.entry))
         (components (iri_ref_text reference.entry)) error) }
 {
     let _base_text = base.as_str();
     let _reference_text = reference.as_str();
     let normal_base = base.normalize(alloc)?;
     let normal_reference = reference.normalize(alloc)?;
-    let target = Resolver::with_base(normal_base).resolve(alloc, &normal_reference)?;
-    Ok(target.normalize(alloc)?)
+    let target = Resolver::with_base(normal_base).resolve_normalized(
+        alloc,
+        &normal_reference,
+        &Normalizer::new(),
+    )?;
+    Ok(target)
 }
 
-/// A caller proves that the target of the normal forms of a base and a reference has the normal
-/// form of the target, and returns true.
+/// A caller proves that it makes no difference whether a base and a reference are normalised before
+/// they are resolved: returns the normalised target of the two, and of their normal forms, which
+/// are equal.
 ///
 /// # Errors
 ///
-/// Those of `Resolver::resolve`.
-pub fn same_normal_target(
+/// Those of `Resolver::resolve_normalized`.
+pub fn normalised_before(
     alloc: Global,
     base: Iri<&str>,
     reference: IriRef<&str>,
-) -> Result<bool, ResolveError>
-    ensures { IfOk result (λ same. same ≡ true) }
+) -> Result<(Iri<String>, Iri<String>), ResolveError>
+    ensures first { IfOk result (λ both. IsNormalFormOfTarget iri default_port
+        (iri_text base.entry) (iri_ref_text reference.entry) (iri_text both.0)) }
+    ensures equal { IfOk result (λ both. iri_text both.1 ≡ iri_text both.0) }
 {
-    let target = Resolver::with_base(base).resolve(alloc, &reference)?;
+    let normalizer = Normalizer::new();
+    let target = Resolver::with_base(base).resolve_normalized(alloc, &reference, &normalizer)?;
     let normal_base = base.normalize(alloc)?;
     let normal_reference = reference.normalize(alloc)?;
-    let _base_text = normal_base.as_str();
-    let _reference_text = normal_reference.as_str();
-    let of_normal = Resolver::with_base(normal_base).resolve(alloc, &normal_reference)?;
-    Ok(target.normalize(alloc)? == of_normal.normalize(alloc)?)
+    let of_normal = Resolver::with_base(normal_base).resolve_normalized(
+        alloc,
+        &normal_reference,
+        &normalizer,
+    )?;
+    Ok((target, of_normal))
+}
+
+/// A caller proves that resolving and then normalising is resolving and normalising in one call:
+/// returns the results of both, which are equal.
+///
+/// # Errors
+///
+/// Those of `Resolver::resolve_normalized`.
+pub fn normalised_after(
+    alloc: Global,
+    base: Iri<&str>,
+    reference: IriRef<&str>,
+) -> Result<(Iri<String>, Iri<String>), ResolveError>
+    ensures first { IfOk result (λ both. IsNormalFormOfTarget iri default_port
+        (iri_text base.entry) (iri_ref_text reference.entry) (iri_text both.0)) }
+    ensures equal { IfOk result (λ both. iri_text both.1 ≡ iri_text both.0) }
+{
+    let resolver = Resolver::with_base(base);
+    let target = resolver.resolve_normalized(alloc, &reference, &Normalizer::new())?;
+    let resolved = resolver.resolve(alloc, &reference)?;
+    Ok((target, resolved.normalize(alloc)?))
 }

@@ -1,16 +1,17 @@
 -- What each step of a builder makes of its draft: the text of the parts so changed.
 use Rattle.std.proofs.Common.{◌≡◌, ℕ, Bool, true, false, ◌||◌, List, ◌++◌, length, sym, ap, subst}
-use Rattle.std.proofs.Common.{◌∙◌, append_assoc, string_bytes}
+use Rattle.std.proofs.Common.{◌∙◌, append_assoc, refl, string_bytes}
 use Rattle.std.specs.Prelude.{codes, Some, is_none}
 use Rattle.std.specs.Str.{IsUtf8}
 use Rattle.std.proofs.lemmas.Str.{is_utf8-from_IsUtf8}
-use Rattle.std.proofs.lemmas.Bool.{and_parts, and_from}
+use Rattle.std.proofs.lemmas.Bool.{and_parts, and_from, false≢true}
 use Rattle.uri_pct.specs.Sets.{TableSet}
 use Rattle.uri_pct.specs.Tokens.{is_valid_for}
 use Rattle.uri_parts.specs.Grammar.{is_scheme}
 use Rattle.uri_ops.specs.declared.build.draft.Draft.{Draft}
 use Rattle.uri_ops.specs.declared.build.lengths.Lengths.{Lengths}
-use Rattle.uri_ops.specs.BuilderParts.{AddsOrFails, BuilderParts, is_scheme_text, is_text_for}
+use Rattle.uri_ops.specs.BuilderParts.{AddsOrFails, AddsUnlessFailed, BuilderParts}
+use Rattle.uri_ops.specs.BuilderParts.{is_scheme_text, is_text_for}
 use Rattle.uri_ops.specs.BuilderParts.{with_authority}
 use Rattle.uri_ops.specs.BuilderParts.{with_fragment, with_path, with_query, with_scheme}
 use Rattle.uri_ops.specs.Builders.{draft_parts, lacks_query_and_fragment, lacks_all}
@@ -25,11 +26,22 @@ use Rattle.uri_ops.proofs.Builders.Drafting.{IsDraftOfParts, absent-part-has-no-
 
 -- building: what a step adds to the draft that is taken, it adds to what the builder held
 pub step-adds-to-contents : {A : Type 0} (change : A → BuilderParts → BuilderParts) (given part : A)
-    (contents taken made new : BuilderParts) → given ≡ part → taken ≡ contents
-    → AddsOrFails (change given) taken made → new ≡ made → AddsOrFails (change part) contents new
-step-adds-to-contents change given part contents taken made new same from adds is unmarked =
-    is ∙ adds (sym (ap (λ p. p.failed) is) ∙ unmarked) ∙ ap (change given) from
-    ∙ ap (λ x. change x contents) same
+    (contents taken made new : BuilderParts) → (change part contents).failed ≡ contents.failed
+    → given ≡ part → taken ≡ contents → AddsUnlessFailed (change given) taken made → new ≡ made
+    → AddsOrFails (change part) contents new
+step-adds-to-contents change given part contents taken made new keeps same from adds is = record {
+  adds = added;
+  stays = located new.failed refl;
+}
+  where
+    added : AddsUnlessFailed (change part) contents new
+    added unmarked = is ∙ adds (sym (ap (λ p. p.failed) is) ∙ unmarked) ∙ ap (change given) from
+        ∙ ap (λ x. change x contents) same
+
+    located : (f : Bool) → new.failed ≡ f → contents.failed ≡ true → new.failed ≡ true
+    located true e marked = e
+    located false e marked = absurd (false≢true
+        (sym e ∙ ap (λ p. p.failed) (added e) ∙ keeps ∙ marked))
 
 -- building: a valid text in UTF-8 is one that a builder may write for the set
 pub valid_utf8_is_text_for_set : (set : TableSet) (x : List ℕ) → IsUtf8 x

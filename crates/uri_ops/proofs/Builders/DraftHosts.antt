@@ -16,7 +16,7 @@ use Rattle.uri_parts.proofs.Authorities.Authority.{is_authority_for-sound}
 use Rattle.uri_ops.specs.declared.build.draft.Draft.{Draft}
 use Rattle.uri_ops.specs.declared.build.lengths.Lengths.{Lengths}
 use Rattle.uri_ops.specs.declared.build.places.HostRange.{HostRange}
-use Rattle.uri_ops.specs.BuilderParts.{AddsOrFails, BuilderParts, MeetsOrFailed, is_authority_text}
+use Rattle.uri_ops.specs.BuilderParts.{AddsUnlessFailed, BuilderParts, MeetsOrFailed, is_authority_text}
 use Rattle.uri_ops.specs.BuilderParts.{is_text_for}
 use Rattle.uri_ops.specs.BuilderParts.{lacks_host_and_port, lacks_port, with_authority}
 use Rattle.uri_ops.specs.BuilderParts.{with_more_authority}
@@ -86,7 +86,7 @@ host-range-if-some-authority place o h = λ a e. subst (λ t. IfSome t (IsHostAt
 
 -- building: a step that leaves the authority as it is leaves the host's positions
 pub host-range-stays-with-authority : (change : BuilderParts → BuilderParts) (d e : Draft)
-    → AddsOrFails change (draft_parts d) (draft_parts e) → (change (draft_parts d)).failed
+    → AddsUnlessFailed change (draft_parts d) (draft_parts e) → (change (draft_parts d)).failed
     ≡ d.failed
     → (change (draft_parts d)).authority ≡ (draft_parts d).authority
     → e.host ≡ d.host → HasRightHostRange d → HasRightHostRange e
@@ -98,7 +98,7 @@ host-range-stays-with-authority change d e adds same authority host knows whole 
 
 -- building: a step that gives the authority gives the host's positions
 pub host-range-of-new-authority : (x : List ℕ) (d e : Draft)
-    → AddsOrFails (with_authority x) (draft_parts d) (draft_parts e) → IsHostAt e.host x
+    → AddsUnlessFailed (with_authority x) (draft_parts d) (draft_parts e) → IsHostAt e.host x
     → HasRightHostRange e
 host-range-of-new-authority x d e adds at whole =
     subst (IsHostAtIfSome e.host) (sym (ap (λ (p : BuilderParts). p.authority) (adds whole)))
@@ -106,7 +106,7 @@ host-range-of-new-authority x d e adds at whole =
 
 -- and one by which it goes on
 module _ (kind : Kind) (needs : Bool) (d e : Draft) (x : List ℕ) (takes : List ℕ → Bool)
-    (adds : AddsOrFails (with_more_authority x) (draft_parts d) (draft_parts e))
+    (adds : AddsUnlessFailed (with_more_authority x) (draft_parts d) (draft_parts e))
     (meets : MeetsOrFailed kind (draft_parts d))
     (before : is_in_order (ends_in_authority takes) needs (draft_parts d) ≡ true)
     (step : e.failed ≡ false → (a : List ℕ) → is_authority_text kind a ≡ true → takes a ≡ true

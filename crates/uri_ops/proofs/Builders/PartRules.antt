@@ -5,7 +5,7 @@ use Rattle.std.specs.Prelude.{Option, Some, None, is_some, is_none, option_map}
 use Rattle.std.specs.Option.{option_map_or}
 use Rattle.std.proofs.lemmas.Bool.{and_parts, and_from, false≢true}
 use Rattle.uri_parts.specs.Grammar.{Kind, absent_or_passes}
-use Rattle.uri_ops.specs.BuilderParts.{AddsOrFails, BuilderParts, MeetsOrFailed, is_authority_text}
+use Rattle.uri_ops.specs.BuilderParts.{AddsUnlessFailed, BuilderParts, MeetsOrFailed, is_authority_text}
 use Rattle.uri_ops.specs.BuilderParts.{is_scheme_text}
 use Rattle.uri_ops.specs.BuilderParts.{is_text_for, meet_rules, with_authority, with_fragment}
 use Rattle.uri_ops.specs.BuilderParts.{with_more_authority, with_path, with_query, with_scheme}
@@ -76,7 +76,7 @@ before-fragment-lacks-fragment needs p h whole =
     (and_parts (is_some p.path) (is_none p.fragment)
     (in-order-parts-pass-the-test has_path_before_fragment needs p h whole)).1
 
-module _ (change : BuilderParts → BuilderParts) (p q : BuilderParts) (adds : AddsOrFails change p q)
+module _ (change : BuilderParts → BuilderParts) (p q : BuilderParts) (adds : AddsUnlessFailed change p q)
     (same : (change p).failed ≡ p.failed) where
   pub failure-is-kept : q.failed ≡ false → p.failed ≡ false
   failure-is-kept e = sym same ∙ sym (ap (λ (r : BuilderParts). r.failed) (adds e)) ∙ e
@@ -97,7 +97,7 @@ module _ (change : BuilderParts → BuilderParts) (p q : BuilderParts) (adds : A
           ∙ then (failure-is-kept e)
 
 module _ (kind : Kind) (needs : Bool) (p q : BuilderParts) (x : List ℕ) where
-  pub parts-with-scheme-meet-rules : AddsOrFails (with_scheme x) p q → MeetsOrFailed kind p
+  pub parts-with-scheme-meet-rules : AddsUnlessFailed (with_scheme x) p q → MeetsOrFailed kind p
       → is_scheme_text x ≡ true
       → MeetsOrFailed kind q
   parts-with-scheme-meet-rules adds meets rule = changed-parts-meet-rules
@@ -113,7 +113,7 @@ module _ (kind : Kind) (needs : Bool) (p q : BuilderParts) (x : List ℕ) where
         fragment = r.fragment;
       }))
 
-  pub parts-with-scheme-are-in-order : AddsOrFails (with_scheme x) p q → is_fresh needs p ≡ true
+  pub parts-with-scheme-are-in-order : AddsUnlessFailed (with_scheme x) p q → is_fresh needs p ≡ true
       → is_in_order lacks_authority needs q ≡ true
   parts-with-scheme-are-in-order adds before = changed-parts-are-in-order (with_scheme x) p q adds
       refl lacks_authority needs
@@ -121,7 +121,7 @@ module _ (kind : Kind) (needs : Bool) (p q : BuilderParts) (x : List ℕ) where
       (and_parts (is_none p.scheme) (lacks_authority p)
       (fresh-builder-lacks-all-parts needs p before e)).1)
 
-  pub parts-with-authority-meet-rules : AddsOrFails (with_authority x) p q → MeetsOrFailed kind p
+  pub parts-with-authority-meet-rules : AddsUnlessFailed (with_authority x) p q → MeetsOrFailed kind p
       → is_authority_text kind x ≡ true
       → MeetsOrFailed kind q
   parts-with-authority-meet-rules adds meets rule = changed-parts-meet-rules (with_authority x) p q
@@ -143,7 +143,7 @@ module _ (kind : Kind) (needs : Bool) (p q : BuilderParts) (x : List ℕ) where
       needs p before e in
       (h.0, (and_parts (is_none p.authority) (lacks_path p) h.1).1)
 
-  pub parts-with-authority-are-in-order : AddsOrFails (with_authority x) p q
+  pub parts-with-authority-are-in-order : AddsUnlessFailed (with_authority x) p q
       → is_in_order lacks_authority needs p
       ≡ true
       → is_in_order lacks_path needs q ≡ true
@@ -151,7 +151,7 @@ module _ (kind : Kind) (needs : Bool) (p q : BuilderParts) (x : List ℕ) where
       adds refl lacks_path needs
       (λ e. let h = parts_before_authority_lack_path before e in and_from _ _ h.0 h.1)
 
-  pub parts-with-begun-authority-are-in-order : AddsOrFails (with_authority []) p q
+  pub parts-with-begun-authority-are-in-order : AddsUnlessFailed (with_authority []) p q
       → is_in_order lacks_authority needs p
       ≡ true
       → is_in_order (ends_in_authority is_empty) needs q ≡ true
@@ -161,7 +161,7 @@ module _ (kind : Kind) (needs : Bool) (p q : BuilderParts) (x : List ℕ) where
       (λ e. let h = parts_before_authority_lack_path before e in and_from _ _ h.0
       (and_from _ _ refl h.1))
 
-  pub parts-with-path-meet-rules : AddsOrFails (with_path x) p q → MeetsOrFailed kind p
+  pub parts-with-path-meet-rules : AddsUnlessFailed (with_path x) p q → MeetsOrFailed kind p
       → is_text_for kind.path x
       ≡ true
       → MeetsOrFailed kind q
@@ -177,7 +177,7 @@ module _ (kind : Kind) (needs : Bool) (p q : BuilderParts) (x : List ℕ) where
             r.fragment;
       }))
 
-  pub parts-with-path-are-in-order : AddsOrFails (with_path x) p q → is_in_order lacks_path needs p
+  pub parts-with-path-are-in-order : AddsUnlessFailed (with_path x) p q → is_in_order lacks_path needs p
       ≡ true
       → is_in_order has_path_last needs q ≡ true
   parts-with-path-are-in-order adds before = changed-parts-are-in-order (with_path x) p q adds refl
@@ -186,7 +186,7 @@ module _ (kind : Kind) (needs : Bool) (p q : BuilderParts) (x : List ℕ) where
       and_from _ _ h.0 (and_from _ _ refl
       (and_parts (is_none p.path) (lacks_query_and_fragment p) h.1).1))
 
-  pub parts-with-query-meet-rules : AddsOrFails (with_query x) p q → MeetsOrFailed kind p
+  pub parts-with-query-meet-rules : AddsUnlessFailed (with_query x) p q → MeetsOrFailed kind p
       → is_text_for kind.query x
       ≡ true
       → MeetsOrFailed kind q
@@ -203,7 +203,7 @@ module _ (kind : Kind) (needs : Bool) (p q : BuilderParts) (x : List ℕ) where
         fragment = r.fragment;
       }))
 
-  pub parts-with-query-are-in-order : AddsOrFails (with_query x) p q
+  pub parts-with-query-are-in-order : AddsUnlessFailed (with_query x) p q
       → is_in_order has_path_last needs p ≡ true
       → is_in_order has_path_before_fragment needs q ≡ true
   parts-with-query-are-in-order adds before = changed-parts-are-in-order (with_query x) p q adds
@@ -214,7 +214,7 @@ module _ (kind : Kind) (needs : Bool) (p q : BuilderParts) (x : List ℕ) where
       let s = and_parts (is_some p.path) (lacks_query_and_fragment p) h.1 in
       and_from _ _ h.0 (and_from _ _ s.0 (and_parts (is_none p.query) (is_none p.fragment) s.1).1))
 
-  pub parts-with-fragment-meet-rules : AddsOrFails (with_fragment x) p q → MeetsOrFailed kind p
+  pub parts-with-fragment-meet-rules : AddsUnlessFailed (with_fragment x) p q → MeetsOrFailed kind p
       → is_text_for kind.fragment x ≡ true → MeetsOrFailed kind q
   parts-with-fragment-meet-rules adds meets rule = changed-parts-meet-rules (with_fragment x) p q
       adds refl kind
@@ -229,7 +229,7 @@ module _ (kind : Kind) (needs : Bool) (p q : BuilderParts) (x : List ℕ) where
         fragment = rule;
       }))
 
-  pub parts-with-fragment-are-in-order : AddsOrFails (with_fragment x) p q
+  pub parts-with-fragment-are-in-order : AddsUnlessFailed (with_fragment x) p q
       → is_in_order has_path_before_fragment needs p
       ≡ true
       → is_in_order has_path needs q ≡ true
@@ -240,7 +240,7 @@ module _ (kind : Kind) (needs : Bool) (p q : BuilderParts) (x : List ℕ) where
 
 -- where an authority goes on by a text
 module _ (kind : Kind) (needs : Bool) (p q : BuilderParts) (x : List ℕ) (takes then : List ℕ → Bool)
-    (adds : AddsOrFails (with_more_authority x) p q) (meets : MeetsOrFailed kind p)
+    (adds : AddsUnlessFailed (with_more_authority x) p q) (meets : MeetsOrFailed kind p)
     (before : is_in_order (ends_in_authority takes) needs p ≡ true)
     (goes : q.failed ≡ false → ExtendsAuthority kind takes then x) where
   record IsExtendedAuthority (o : Option (List ℕ)) : Type 0 where

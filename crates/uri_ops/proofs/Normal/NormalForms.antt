@@ -43,6 +43,7 @@ module _ (kind own : Kind) (own_kind : own ≡ kind) (sets : HasComponentSets ki
   normal-text-is-normal-form =
       record {
         text = record { text = result-is-normal_text };
+        of_kind = normal-text-is-of-kind;
         meaning = normal-text-keeps-meaning;
         same = same-normal-text-if-same-meaning;
       }

@@ -1,6 +1,6 @@
 -- An equivalent base and reference have a target with the same normal form, or both pairs have no
 -- target.
-use Rattle.std.proofs.Common.{◌≡◌, ℕ, Bool, true, List, refl, sym, ap, subst, ◌∙◌}
+use Rattle.std.proofs.Common.{◌≡◌, ℕ, Bool, true, false, List, refl, sym, ap, subst, ◌∙◌}
 use Rattle.std.specs.Prelude.{Result, Ok, Err, IfErr, IsErrAnd, is_ok}
 use Rattle.std.specs.Result.{result_map_both}
 use Rattle.std.proofs.lemmas.Bool.{false≢true}
@@ -9,7 +9,8 @@ use Rattle.uri_parts.specs.Grammar.{Kind}
 use Rattle.uri_ops.specs.ComponentSets.{HasComponentSets}
 use Rattle.uri_ops.specs.Meaning.{meaning_of}
 use Rattle.uri_ops.specs.Normal.{normal_text}
-use Rattle.uri_ops.specs.NormalTargets.{HasMeaningOf, HasTargetMeaning, IsErrorUnderSomeSetting}
+use Rattle.uri_ops.specs.NormalTargets.{HasMeaningOf, HasTargetMeaning, IsErrorUnderSetting}
+use Rattle.uri_ops.specs.NormalTargets.{IsNormalFormOfTarget}
 use Rattle.uri_ops.specs.NormalTargets.{IsTargetOfMeanings, IsErrorOfMeanings, IsNormalTarget}
 use Rattle.uri_ops.specs.NormalTargets.{IsNormalTargetError}
 use Rattle.uri_ops.specs.Normalizers.{IsNormalForm}
@@ -17,7 +18,7 @@ use Rattle.uri_parts.specs.Ports.{PortFunction}
 use Rattle.uri_ops.specs.NormalTargets.{reference_kind, resolved_meaning}
 use Rattle.uri_ops.specs.Resolving.{IsTarget, IsErrorFor, IsErrorWithUnderflowAllowed}
 use Rattle.uri_ops.specs.Target.{TargetError, BaseWithFragment, InvalidReferenceAgainstOpaqueBase}
-use Rattle.uri_ops.specs.Target.{resolution_of}
+use Rattle.uri_ops.specs.Target.{resolution_of, resolution_of_texts}
 use Rattle.uri_parts.specs.Grammar.{IsTextOf}
 use Rattle.uri_ops.specs.declared.resolve.error.ResolveError.{ResolveError}
 use Rattle.uri_ops.specs.declared.resolve.error.ResolveError.TheVariants as Of
@@ -82,6 +83,7 @@ pub same-meaning-same-normal-form : (kind : Kind) (ports : PortFunction)
     → IsNormalForm kind ports other normal
 same-meaning-same-normal-form kind ports text other normal e h = record {
   text = record { text = h.text.text ∙ ap normal_text (sym e) };
+  of_kind = h.of_kind;
   meaning = h.meaning ∙ sym e;
   same = λ u w. let both = h.same u w in (λ d. e ∙ both.0 d, λ d. both.1 (sym e ∙ d));
 }
@@ -101,20 +103,38 @@ same-resolution-error-with-underflow-allowed b r base reference Of.InvalidRefere
 same-resolution-error-with-underflow-allowed b r base reference Of.PathUnderflow f e h = h
 same-resolution-error-with-underflow-allowed b r base reference Of.OutOfMemory f e h = e ∙ h
 
--- resolving: an error of equivalent texts is one of the others, under some setting;
+-- resolving: a base and a reference have one target at most
+resolution-is-unique : (r : Result (List ℕ) TargetError) (t u : List ℕ) → r ≡ Ok t → r ≡ Ok u
+    → t ≡ u
+resolution-is-unique r t u e f = cc
+
+-- targets: two normal forms of the target of a base and a reference are equal
+one-normal-form-of-target : (kind : Kind) (ports : PortFunction) (base reference n m : List ℕ)
+    → IsNormalFormOfTarget kind ports base reference n
+    → IsNormalFormOfTarget kind ports base reference m → n ≡ m
+one-normal-form-of-target kind ports base reference n m v w =
+    v.1.1.text.text
+    ∙ ap (λ t. normal_text (meaning_of kind ports t))
+    (resolution-is-unique (resolution_of_texts base reference) v.0 w.0 v.1.0 w.1.0)
+    ∙ sym w.1.1.text.text
+
+-- resolving: an error of equivalent texts is one of the others, under the same setting;
 -- allowed: whether underflows are; b, r and base, reference: their components
-same-resolution-error-under-some-setting : (allowed : Bool) (b r base reference : Components)
+same-resolution-error-under-setting : (allowed : Bool) (b r base reference : Components)
     (error : ResolveError)
     → ((z : TargetError) → resolution_of base reference ≡ Err z → resolution_of b r ≡ Err z)
     → is_ok (resolution_of b r) ≡ is_ok (resolution_of base reference)
-    → IsErrorFor allowed base reference error → IsErrorUnderSomeSetting b r error
-same-resolution-error-under-some-setting allowed b r base reference Of.BaseWithFragment f e h =
+    → IsErrorFor allowed base reference error → IsErrorUnderSetting allowed b r error
+same-resolution-error-under-setting true b r base reference error f e h =
+    same-resolution-error-with-underflow-allowed b r base reference error f e
+    (allowed-underflow-is-no-error base reference error h)
+same-resolution-error-under-setting false b r base reference Of.BaseWithFragment f e h =
     f BaseWithFragment h
-same-resolution-error-under-some-setting allowed b r base reference
+same-resolution-error-under-setting false b r base reference
     Of.InvalidReferenceAgainstOpaqueBase f e h =
     f InvalidReferenceAgainstOpaqueBase h
-same-resolution-error-under-some-setting allowed b r base reference Of.PathUnderflow f e h = e ∙ h.0
-same-resolution-error-under-some-setting allowed b r base reference Of.OutOfMemory f e h = e ∙ h
+same-resolution-error-under-setting false b r base reference Of.PathUnderflow f e h = e ∙ h.0
+same-resolution-error-under-setting false b r base reference Of.OutOfMemory f e h = e ∙ h
 
 module _ (kind of_reference : Kind) (sets : HasComponentSets kind)
     (needs : kind.needs_scheme ≡ true) (same : of_reference ≡ reference_kind kind)
@@ -165,9 +185,9 @@ module _ (kind of_reference : Kind) (sets : HasComponentSets kind)
   equivalent-inputs-have-same-resolve-error : (allowed : Bool) (b r : List ℕ) (error : ResolveError)
       → HasMeaningOf kind ports base b → HasMeaningOf of_reference ports reference r
       → IsErrorFor allowed (components base) (components reference) error
-      → IsErrorUnderSomeSetting (components b) (components r) error
+      → IsErrorUnderSetting allowed (components b) (components r) error
   equivalent-inputs-have-same-resolve-error allowed b r error v w h =
-      same-resolution-error-under-some-setting allowed (components b) (components r)
+      same-resolution-error-under-setting allowed (components b) (components r)
       (components base) (components reference)
       error (equivalent-inputs-have-same-target-error b r v w)
       (equivalent-inputs-resolve-alike b r v w) h
@@ -180,6 +200,11 @@ module _ (kind of_reference : Kind) (sets : HasComponentSets kind)
     target = (target, (e, h));
     swap = λ b r v w.
         let t = equivalent-inputs-have-equivalent-targets b r target v w e in
+        (t.0, (t.1.0, same-meaning-same-normal-form kind ports target t.0 normal t.1.1 h));
+    only = λ n w. one-normal-form-of-target kind ports base reference n normal w (target, (e, h));
+    same = λ b r n v w u.
+        let t = equivalent-inputs-have-equivalent-targets b r target v w e in
+        one-normal-form-of-target kind ports b r n normal u
         (t.0, (t.1.0, same-meaning-same-normal-form kind ports target t.0 normal t.1.1 h));
   }
 
@@ -215,7 +240,7 @@ module _ (kind of_reference : Kind) (sets : HasComponentSets kind)
 
   pub error-respects-meaning : (error : ResolveError)
       → IsErrorFor allowed (components base) (components reference) error
-      → IsErrorOfMeanings kind of_reference base reference error
+      → IsErrorOfMeanings allowed kind of_reference base reference error
   error-respects-meaning error h = record {
     alike =
         λ ports b r v w. equivalent-inputs-have-same-resolve-error kind of_reference sets needs same

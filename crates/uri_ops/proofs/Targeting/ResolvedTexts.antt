@@ -72,7 +72,7 @@ module _ (kind other : Kind) (sets : HasComponentSets kind) (needs : kind.needs_
       target e f h)
 
   pub error-of-texts-respects-meaning : (error : ResolveError) → IsErrorFor allowed p q error
-      → IsErrorOfMeanings kind other base reference error
+      → IsErrorOfMeanings allowed kind other base reference error
   error-of-texts-respects-meaning error h =
       error-respects-meaning kind other sets needs same allowed base reference base-is-text-of-kind
       reference-is-text-of-kind

@@ -5,7 +5,7 @@ ghost use Rattle.uri_pct.specs.Sets.{digit_set};
 ghost use Rattle.uri_pct.specs.Texts.{Pushes};
 ghost use Rattle.uri_parts.specs.Grammar.{has_colon_in_first_segment};
 ghost use Rattle.uri_parts.specs.Positions.{positions_of};
-ghost use Rattle.uri_ops.specs.BuilderParts.{AddsOrFails, as_components, is_text_for, no_parts};
+ghost use Rattle.uri_ops.specs.BuilderParts.{AddsUnlessFailed, as_components, is_text_for, no_parts};
 ghost use Rattle.uri_ops.specs.BuilderParts.{with_authority, with_fragment, with_host, with_path};
 ghost use Rattle.uri_ops.specs.BuilderParts.{with_port, with_query, with_scheme, with_userinfo};
 ghost use Rattle.uri_ops.specs.Built.{build_error_of_path};
@@ -91,7 +91,7 @@ impl Draft {
     #[inline(always)]
     pub fn with_scheme(self, scheme: &str) -> Draft
         requires { self.failed ≡ false → lacks_all (draft_parts self) ≡ true }
-        ensures adds { AddsOrFails (with_scheme scheme.now) (draft_parts self)
+        ensures adds { AddsUnlessFailed (with_scheme scheme.now) (draft_parts self)
             (draft_parts result) }
         ensures host { result.host ≡ self.host }
     {
@@ -107,7 +107,7 @@ impl Draft {
     #[inline(always)]
     pub fn with_authority(self, authority: &str, host: HostRange) -> Draft
         requires { self.failed ≡ false → lacks_authority (draft_parts self) ≡ true }
-        ensures adds { AddsOrFails (with_authority authority.now) (draft_parts self)
+        ensures adds { AddsUnlessFailed (with_authority authority.now) (draft_parts self)
             (draft_parts result) }
         ensures host { result.host ≡ host }
     {
@@ -122,7 +122,7 @@ impl Draft {
     #[inline(always)]
     pub fn with_userinfo(self, userinfo: &str) -> Draft
         requires { self.failed ≡ false → ends_in_authority any_authority (draft_parts self) ≡ true }
-        ensures adds { AddsOrFails (with_userinfo userinfo.now) (draft_parts self)
+        ensures adds { AddsUnlessFailed (with_userinfo userinfo.now) (draft_parts self)
             (draft_parts result) }
         ensures host { let end = unwrap_or result.lengths.authority 0 in
             (result.host.start ≡ end) × (result.host.end ≡ end) }
@@ -150,7 +150,7 @@ impl Draft {
     #[inline(always)]
     pub fn with_host<E: Encoder, H: WithEncoder<E>>(self, host: H) -> Draft
         requires { self.failed ≡ false → ends_in_authority any_authority (draft_parts self) ≡ true }
-        ensures adds { AddsOrFails (with_host (H.host_text host)) (draft_parts self)
+        ensures adds { AddsUnlessFailed (with_host (H.host_text host)) (draft_parts self)
             (draft_parts result) }
         ensures start { result.host.start ≡ self.host.start }
         ensures end { result.host.end ≡ unwrap_or result.lengths.authority 0 }
@@ -180,7 +180,7 @@ impl Draft {
     #[inline(always)]
     pub fn with_port<P: AsPort>(self, port: P) -> Draft
         requires { self.failed ≡ false → ends_in_authority any_authority (draft_parts self) ≡ true }
-        ensures adds { AddsOrFails (with_port (P.port_digits port))
+        ensures adds { AddsUnlessFailed (with_port (P.port_digits port))
             (draft_parts self) (draft_parts result) }
         ensures host { result.host ≡ self.host }
         ensures digits { result.failed ≡ false
@@ -208,7 +208,7 @@ impl Draft {
     #[inline(always)]
     pub fn with_path(self, path: &str) -> Draft
         requires { self.failed ≡ false → lacks_path (draft_parts self) ≡ true }
-        ensures adds { AddsOrFails (with_path path.now) (draft_parts self) (draft_parts result) }
+        ensures adds { AddsUnlessFailed (with_path path.now) (draft_parts self) (draft_parts result) }
         ensures host { result.host ≡ self.host }
     {
         let lengths = Lengths {
@@ -223,7 +223,7 @@ impl Draft {
     #[inline(always)]
     pub fn with_query(self, query: &str) -> Draft
         requires { self.failed ≡ false → lacks_query_and_fragment (draft_parts self) ≡ true }
-        ensures adds { AddsOrFails (with_query query.now) (draft_parts self) (draft_parts result) }
+        ensures adds { AddsUnlessFailed (with_query query.now) (draft_parts self) (draft_parts result) }
         ensures host { result.host ≡ self.host }
     {
         let lengths = Lengths {
@@ -238,7 +238,7 @@ impl Draft {
     #[inline(always)]
     pub fn with_fragment(self, fragment: &str) -> Draft
         requires { self.failed ≡ false → is_none (draft_parts self).fragment ≡ true }
-        ensures adds { AddsOrFails (with_fragment fragment.now) (draft_parts self)
+        ensures adds { AddsUnlessFailed (with_fragment fragment.now) (draft_parts self)
             (draft_parts result) }
         ensures host { result.host ≡ self.host }
     {

@@ -3,8 +3,6 @@ use thiserror::Error;
 
 /// Why no reference was built.
 ///
-/// # Examples
-///
 /// The authority `a` and the path `b` are rejected as `NonemptyRootlessPath`.
 #[derive(Clone, Copy, Debug, PartialEq, Eq, Error)]
 pub enum BuildError {

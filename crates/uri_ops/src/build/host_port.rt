@@ -14,8 +14,6 @@ use uri_pct::pct_enc::EStr;
 ///
 /// It is implemented for `Ipv4Addr`, `Ipv6Addr`, `IpAddr`, `EStr<RegName>` and `EStr<IRegName>`.
 ///
-/// # Examples
-///
 /// `Ipv6Addr::LOCALHOST` is such a host, which is written `[::1]`.
 pub trait AsHost: Drop {
     ghost use Rattle.std.specs.Prelude.{ℕ, List};
@@ -25,8 +23,6 @@ pub trait AsHost: Drop {
 
 /// A host of the references whose registered names are `E`'s: an IP address of all, and a name of
 /// its own.
-///
-/// # Examples
 ///
 /// `EStr::<RegName>::new_or_panic("example.com")` is a host of URIs, and `Ipv4Addr::LOCALHOST` of
 /// URIs and IRIs.
@@ -121,8 +117,6 @@ impl WithEncoder<IRegName> for EStr<'_, IRegName> {
 /// What `Builder::port` takes: a number, or digits (RFC 3986, section 3.2.3).
 ///
 /// It is implemented for `u16` and for `EStr<Port>`, which may be empty.
-///
-/// # Examples
 ///
 /// The number 8042 is such a port, which is written `8042`.
 pub trait AsPort: Drop {

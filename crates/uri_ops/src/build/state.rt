@@ -14,8 +14,6 @@ use std::marker::PhantomData;
 
 /// A state of a builder: which step was the last.
 ///
-/// # Examples
-///
 /// A builder after `scheme` is a `Builder<R, SchemeEnd>`.
 pub trait State {
     ghost use Rattle.std.specs.Prelude.{Bool};
@@ -30,8 +28,6 @@ pub trait State {
 ///
 /// Each state is one for every kind. Code over any state of a builder needs this bound.
 ///
-/// # Examples
-///
 /// `PathEnd` is a `StateOf<Uri<String>>`.
 pub trait StateOf<R: RiMaybeRef>: State {
     #[doc(hidden)]
@@ -39,8 +35,6 @@ pub trait StateOf<R: RiMaybeRef>: State {
 }
 
 /// A state from which the step to `T` may be taken.
-///
-/// # Examples
 ///
 /// `SchemeEnd` is a `To<PathEnd>`: `path` may be called after `scheme`.
 pub trait To<T: State>: State {
@@ -51,8 +45,6 @@ pub trait To<T: State>: State {
 
 /// A state from which the steps up to `T` may be left out.
 ///
-/// # Examples
-///
 /// `Start` is an `AdvanceTo<SchemeEnd>`: of a reference the scheme may be left out by `advance`.
 pub trait AdvanceTo<T: State>: State {
     ghost use Rattle.uri_ops.specs.Builders.{HoldsAlsoIn};
@@ -61,8 +53,6 @@ pub trait AdvanceTo<T: State>: State {
 }
 
 /// A state from which an authority may be given part by part.
-///
-/// # Examples
 ///
 /// `SchemeEnd` is such a state, and what `authority_with` begins is in `AuthorityStart`.
 pub trait BeginsAuthority: To<AuthorityStart> {
@@ -75,8 +65,6 @@ pub trait BeginsAuthority: To<AuthorityStart> {
 }
 
 /// The start of a reference.
-///
-/// # Examples
 ///
 /// `UriRef::<String>::builder(alloc)` is in it.
 pub struct Start;
@@ -93,8 +81,6 @@ impl<R: RiMaybeRef> StateOf<R> for Start {
 
 /// The start of a URI or an IRI, which needs a scheme.
 ///
-/// # Examples
-///
 /// `Uri::<String>::builder(alloc)` is in it.
 pub struct NonRefStart;
 
@@ -109,8 +95,6 @@ impl<R: RiMaybeRef> StateOf<R> for NonRefStart {
 }
 
 /// After the scheme.
-///
-/// # Examples
 ///
 /// A builder is in it after `scheme`.
 pub struct SchemeEnd;
@@ -127,8 +111,6 @@ impl<R: RiMaybeRef> StateOf<R> for SchemeEnd {
 
 /// At the start of the authority.
 ///
-/// # Examples
-///
 /// The builder that the closure of `authority_with` is called with is in it.
 pub struct AuthorityStart;
 
@@ -143,8 +125,6 @@ impl<R: RiMaybeRef> StateOf<R> for AuthorityStart {
 }
 
 /// After the userinfo.
-///
-/// # Examples
 ///
 /// A builder is in it after `userinfo`.
 pub struct UserinfoEnd;
@@ -161,8 +141,6 @@ impl<R: RiMaybeRef> StateOf<R> for UserinfoEnd {
 
 /// After the host.
 ///
-/// # Examples
-///
 /// A builder is in it after `host`.
 pub struct HostEnd;
 
@@ -177,8 +155,6 @@ impl<R: RiMaybeRef> StateOf<R> for HostEnd {
 }
 
 /// After the port.
-///
-/// # Examples
 ///
 /// A builder is in it after `port`.
 pub struct PortEnd;
@@ -195,8 +171,6 @@ impl<R: RiMaybeRef> StateOf<R> for PortEnd {
 
 /// After the authority.
 ///
-/// # Examples
-///
 /// A builder is in it after `authority`, and after `authority_with`.
 pub struct AuthorityEnd;
 
@@ -211,8 +185,6 @@ impl<R: RiMaybeRef> StateOf<R> for AuthorityEnd {
 }
 
 /// After the path.
-///
-/// # Examples
 ///
 /// A builder is in it after `path`, and may be built.
 pub struct PathEnd;
@@ -229,8 +201,6 @@ impl<R: RiMaybeRef> StateOf<R> for PathEnd {
 
 /// After the query.
 ///
-/// # Examples
-///
 /// A builder is in it after `query`, and may be built.
 pub struct QueryEnd;
 
@@ -246,8 +216,6 @@ impl<R: RiMaybeRef> StateOf<R> for QueryEnd {
 
 /// After the fragment.
 ///
-/// # Examples
-///
 /// A builder is in it after `fragment`, and may be built.
 pub struct FragmentEnd;
 
@@ -262,8 +230,6 @@ impl<R: RiMaybeRef> StateOf<R> for FragmentEnd {
 }
 
 /// The end.
-///
-/// # Examples
 ///
 /// Each state from which `build` may be called leads to it.
 pub struct End;

@@ -15,8 +15,6 @@ ghost use Rattle.uri_parts.specs.Grammar.{IsTextOf};
 /// A text of a kind is of each kind with wider sets that needs no scheme where the one does not, as
 /// each URI is an IRI and a URI reference.
 ///
-/// # Examples
-///
 /// `http://a` is a URI, and so a URI reference and an IRI.
 pub fn texts_are_of_wider_kinds_too()
     ensures wider { (kind wide : Kind) (text : List ℕ) → HasComponentSets wide → IsWithin kind wide
@@ -28,8 +26,6 @@ pub fn texts_are_of_wider_kinds_too()
 /// `encode_past_ascii` turns a text of a kind of IRIs into one of the kind of URIs that goes with
 /// it (RFC 3987, section 3.1). Its characters past ASCII become octets. As an IRI it is equivalent
 /// to the text.
-///
-/// # Examples
 ///
 /// `http://a/é` and `http://a/%C3%A9` are equivalent as IRIs.
 pub fn encoding_past_ascii_keeps_meaning()
@@ -47,8 +43,6 @@ pub fn encoding_past_ascii_keeps_meaning()
 /// If `encode_past_ascii` turns the characters past ASCII of a base and a reference into octets,
 /// the target changes in the same way. An error stays the same error. The target underflows in the
 /// same cases.
-///
-/// # Examples
 ///
 /// `é` against `http://a` is `http://a/é`, and `%C3%A9` against it `http://a/%C3%A9`.
 pub fn encoding_past_ascii_and_resolving_swap()

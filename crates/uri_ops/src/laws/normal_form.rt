@@ -11,8 +11,6 @@ ghost use Rattle.uri_parts.specs.Grammar.{IsTextOf};
 /// The sets of the four kinds have what the laws of normal forms ask of a kind's (RFC 3986,
 /// sections 2.2, 2.3 and 3, and RFC 3987, section 2.2).
 ///
-/// # Examples
-///
 /// No set of a component of `uri` has `?`, but those of its query and its fragment.
 #[tactic(auto, using(crate::proofs::Theorems::four_sets))]
 pub fn four_kinds_have_component_sets()
@@ -23,8 +21,6 @@ pub fn four_kinds_have_component_sets()
 {}
 
 /// The meaning under a port function is a function of the bare meaning (RFC 3986, section 6.2.3).
-///
-/// # Examples
 ///
 /// `http://a:80` and `http://a` are equivalent if 80 is the default port of `http`, and not if it
 /// has none.
@@ -37,8 +33,6 @@ pub fn bare_meanings_determine_meanings()
 /// Two meanings are equal exactly if each of their parts is, which `same_meaning` computes (RFC
 /// 3986, section 6.2.2).
 ///
-/// # Examples
-///
 /// The meanings of `HTTP://a` and `http://a` have equal parts, and those of `http://a` and
 /// `http://a/` differ in their paths.
 #[tactic(auto, using(crate::proofs::Theorems::comparing))]
@@ -49,8 +43,6 @@ pub fn meanings_are_equal_if_their_parts_are()
 /// The normal text of a text's meaning is a text of the kind and has that meaning, so texts have
 /// equal normal texts exactly if they have equal meanings, and the normal text of a normal text is
 /// itself (RFC 3986, section 6.2.2).
-///
-/// # Examples
 ///
 /// `HTTP://a` and `http://a` are equivalent, and both have the normal text `http://a`.
 #[tactic(auto, using(crate::proofs::Theorems::canonical))]

@@ -12,8 +12,6 @@ ghost use Rattle.uri_parts.specs.Grammar.{IsTextOf};
 /// The target of a reference against a base of a kind is a text of that kind (RFC 3986, section
 /// 5.2).
 ///
-/// # Examples
-///
 /// `../g` against the URI `http://a/b/c` is `http://a/g`, a URI.
 pub fn targets_are_of_the_kind_of_their_base()
     ensures { (kind : Kind) (base reference target : List ℕ) → HasComponentSets kind
@@ -23,8 +21,6 @@ pub fn targets_are_of_the_kind_of_their_base()
 
 /// Resolution respects equivalence: an equivalent base and reference give an equivalent target, or
 /// the same error. The normal texts give these too.
-///
-/// # Examples
 ///
 /// `%67` against `HTTP://a/b` is equivalent to `g` against `http://a/b`: `http://a/g`.
 pub fn resolving_and_normalising_swap()

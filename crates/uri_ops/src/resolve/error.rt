@@ -6,8 +6,6 @@ use thiserror::Error;
 
 /// Why a reference was not resolved against a base.
 ///
-/// # Examples
-///
 /// `//g` against `foo:bar` is rejected as `InvalidReferenceAgainstOpaqueBase`.
 #[derive(Clone, Copy, Debug, PartialEq, Eq, Error)]
 pub enum ResolveError {

@@ -3,12 +3,15 @@ ghost use Rattle.std.specs.Prelude.{◌==◌};
 ghost use Rattle.std.specs.Cmp.{partial_order_from_own_ties};
 ghost use Rattle.std.specs.Cmp.Lexicographic.{pointwise, slice_cmp};
 ghost use Rattle.std.specs.Cmp.Rules.{comparing, hashing};
+ghost use Rattle.std.specs.Fmt.{DisplaysOnOk};
 ghost use Rattle.std.specs.Hash as fed;
 ghost use Rattle.std.specs.Ordering.{as_partial_cmp, nat_cmp, on};
 ghost use Rattle.uri_parts.specs.CoreTexts.{core_text};
+ghost use Rattle.uri_parts.specs.Printing.{debug_reference};
 
 use crate::core_text::Core;
 use crate::kind::Kind;
+use crate::printing::is_plain;
 use std::cmp::Ordering;
 use std::convert::AsStr;
 use std::fmt;
@@ -84,13 +87,25 @@ impl<'a, K: Kind> Core<K, &'a str> {
         name: &str,
         scheme: S,
         f: &mut fmt::Formatter<W>,
-    ) -> fmt::Result {
+    ) -> fmt::Result
+        ensures { DisplaysOnOk W.write_str_gives f.old result
+            (debug_reference name.now (S.debug_output scheme) (core_text self.entry)) f.new }
+    {
+        let (authority, path) = (self.authority(), self.path());
+        let (query, fragment) = (self.query(), self.fragment());
+        if is_plain(f) {
+            return write!(
+                f,
+                "{name} {{ scheme: {scheme:?}, authority: {authority:?}, path: {path:?}, \
+                 query: {query:?}, fragment: {fragment:?} }}"
+            );
+        }
         f.debug_struct(name)
             .field("scheme", &scheme)
-            .field("authority", &self.authority())
-            .field("path", &self.path())
-            .field("query", &self.query())
-            .field("fragment", &self.fragment())
+            .field("authority", &authority)
+            .field("path", &path)
+            .field("query", &query)
+            .field("fragment", &fragment)
             .finish()
     }
 }

@@ -4,8 +4,6 @@ use crate::table::Table;
 
 /// `ALPHA = %x41-5A / %x61-7A`: the letters (RFC 3986, appendix A).
 ///
-/// # Examples
-///
 /// It allows `'a'`, and not `'1'`.
 pub const ALPHA: Table = Table {
     low: 0x0000_0000_0000_0000,
@@ -16,8 +14,6 @@ pub const ALPHA: Table = Table {
 };
 
 /// `DIGIT = %x30-39`: the decimal digits (RFC 3986, appendix A).
-///
-/// # Examples
 ///
 /// It allows `'7'`, and not `'a'`.
 pub const DIGIT: Table = Table {
@@ -31,8 +27,6 @@ pub const DIGIT: Table = Table {
 /// `HEXDIG = DIGIT / "A" / "B" / "C" / "D" / "E" / "F"`, the letters in either case (RFC 3986,
 /// appendix A).
 ///
-/// # Examples
-///
 /// It allows `'f'`, and not `'g'`.
 pub const HEXDIG: Table = Table {
     low: 0x03FF_0000_0000_0000,
@@ -43,8 +37,6 @@ pub const HEXDIG: Table = Table {
 };
 
 /// The characters of `scheme = ALPHA *( ALPHA / DIGIT / "+" / "-" / "." )` (RFC 3986, section 3.1).
-///
-/// # Examples
 ///
 /// It allows `'+'`, and not `'_'`.
 pub const SCHEME: Table = Table {
@@ -58,8 +50,6 @@ pub const SCHEME: Table = Table {
 /// What `userinfo = *( unreserved / pct-encoded / sub-delims / ":" )` consists of (RFC 3986,
 /// section 3.2.1).
 ///
-/// # Examples
-///
 /// It allows `':'`, and not `'@'`.
 pub const USERINFO: Table = Table {
     low: 0x2FFF_7FD2_0000_0000,
@@ -71,8 +61,6 @@ pub const USERINFO: Table = Table {
 
 /// The characters after the dot of `IPvFuture = "v" 1*HEXDIG "." 1*( unreserved / sub-delims / ":"
 /// )` (RFC 3986, section 3.2.2).
-///
-/// # Examples
 ///
 /// It allows `':'`, and not `'/'`.
 pub const IPV_FUTURE: Table = Table {
@@ -86,8 +74,6 @@ pub const IPV_FUTURE: Table = Table {
 /// What `reg-name = *( unreserved / pct-encoded / sub-delims )` consists of (RFC 3986, section
 /// 3.2.2).
 ///
-/// # Examples
-///
 /// It allows `'!'`, and not `':'`.
 pub const REG_NAME: Table = Table {
     low: 0x2BFF_7FD2_0000_0000,
@@ -98,8 +84,6 @@ pub const REG_NAME: Table = Table {
 };
 
 /// What a path consists of: `pchar / "/"` (RFC 3986, section 3.3).
-///
-/// # Examples
 ///
 /// It allows `'/'`, and not `'?'`.
 pub const PATH: Table = Table {
@@ -113,8 +97,6 @@ pub const PATH: Table = Table {
 /// What `segment-nz-nc = 1*( unreserved / pct-encoded / sub-delims / "@" )` consists of (RFC 3986,
 /// section 3.3).
 ///
-/// # Examples
-///
 /// It allows `'@'`, and not `':'`.
 pub const SEGMENT_NZ_NC: Table = Table {
     low: 0x2BFF_7FD2_0000_0000,
@@ -125,8 +107,6 @@ pub const SEGMENT_NZ_NC: Table = Table {
 };
 
 /// `pchar = unreserved / pct-encoded / sub-delims / ":" / "@"` (RFC 3986, section 3.3).
-///
-/// # Examples
 ///
 /// It allows `':'`, and not `'/'`.
 pub const PCHAR: Table = Table {
@@ -139,8 +119,6 @@ pub const PCHAR: Table = Table {
 
 /// What `query = *( pchar / "/" / "?" )` consists of (RFC 3986, section 3.4).
 ///
-/// # Examples
-///
 /// It allows `'?'`, and not `'#'`.
 pub const QUERY: Table = Table {
     low: 0xAFFF_FFD2_0000_0000,
@@ -151,8 +129,6 @@ pub const QUERY: Table = Table {
 };
 
 /// What `fragment = *( pchar / "/" / "?" )` consists of (RFC 3986, section 3.5).
-///
-/// # Examples
 ///
 /// It allows `'?'`, and not `'#'`.
 pub const FRAGMENT: Table = Table {
@@ -165,8 +141,6 @@ pub const FRAGMENT: Table = Table {
 
 /// `unreserved = ALPHA / DIGIT / "-" / "." / "_" / "~"` (RFC 3986, section 2.3).
 ///
-/// # Examples
-///
 /// It allows `'~'`, and not `'/'`.
 pub const UNRESERVED: Table = Table {
     low: 0x03FF_6000_0000_0000,
@@ -178,8 +152,6 @@ pub const UNRESERVED: Table = Table {
 
 /// `reserved = gen-delims / sub-delims` (RFC 3986, section 2.2).
 ///
-/// # Examples
-///
 /// It allows `'/'`, and not `'a'`.
 pub const RESERVED: Table = Table {
     low: 0xAC00_9FDA_0000_0000,
@@ -190,8 +162,6 @@ pub const RESERVED: Table = Table {
 };
 
 /// `gen-delims = ":" / "/" / "?" / "#" / "[" / "]" / "@"` (RFC 3986, section 2.2).
-///
-/// # Examples
 ///
 /// It allows `'/'`, and not `'!'`.
 pub const GEN_DELIMS: Table = Table {
@@ -205,8 +175,6 @@ pub const GEN_DELIMS: Table = Table {
 /// `sub-delims = "!" / "$" / "&" / "'" / "(" / ")" / "*" / "+" / "," / ";" / "="` (RFC 3986,
 /// section 2.2).
 ///
-/// # Examples
-///
 /// It allows `'!'`, and not `'/'`.
 pub const SUB_DELIMS: Table = Table {
     low: 0x2800_1FD2_0000_0000,
@@ -218,8 +186,6 @@ pub const SUB_DELIMS: Table = Table {
 
 /// What `iuserinfo = *( iunreserved / pct-encoded / sub-delims / ":" )` consists of (RFC 3987,
 /// section 2.2).
-///
-/// # Examples
 ///
 /// It allows `'é'`, and not `'@'`.
 pub const IUSERINFO: Table = Table {
@@ -233,8 +199,6 @@ pub const IUSERINFO: Table = Table {
 /// What `ireg-name = *( iunreserved / pct-encoded / sub-delims )` consists of (RFC 3987, section
 /// 2.2).
 ///
-/// # Examples
-///
 /// It allows `'é'`, and not `':'`.
 pub const IREG_NAME: Table = Table {
     low: 0x2BFF_7FD2_0000_0000,
@@ -245,8 +209,6 @@ pub const IREG_NAME: Table = Table {
 };
 
 /// What a path of an IRI consists of: `ipchar / "/"` (RFC 3987, section 2.2).
-///
-/// # Examples
 ///
 /// It allows `'é'`, and not `'?'`.
 pub const IPATH: Table = Table {
@@ -260,8 +222,6 @@ pub const IPATH: Table = Table {
 /// What `isegment-nz-nc = 1*( iunreserved / pct-encoded / sub-delims / "@" )` consists of (RFC
 /// 3987, section 2.2).
 ///
-/// # Examples
-///
 /// It allows `'é'`, and not `':'`.
 pub const ISEGMENT_NZ_NC: Table = Table {
     low: 0x2BFF_7FD2_0000_0000,
@@ -273,8 +233,6 @@ pub const ISEGMENT_NZ_NC: Table = Table {
 
 /// What `iquery = *( ipchar / iprivate / "/" / "?" )` consists of (RFC 3987, section 2.2).
 ///
-/// # Examples
-///
 /// It allows `'\u{E000}'`, and not `'#'`.
 pub const IQUERY: Table = Table {
     low: 0xAFFF_FFD2_0000_0000,
@@ -285,8 +243,6 @@ pub const IQUERY: Table = Table {
 };
 
 /// What `ifragment = *( ipchar / "/" / "?" )` consists of (RFC 3987, section 2.2).
-///
-/// # Examples
 ///
 /// It allows `'é'`, and not `'\u{E000}'`.
 pub const IFRAGMENT: Table = Table {

@@ -1,17 +1,21 @@
 use Rattle.std.proofs.Common.{◌≡◌, ◌∙◌, ℕ, Bool, true, false, List, refl, sym, ap}
-use Rattle.std.specs.Prelude.{Some, None, is_some}
+use Rattle.std.specs.Prelude.{Option, Some, None, is_some, ◌≢◌}
 use Rattle.std.proofs.lemmas.Bool.{false≢true}
+use Rattle.std.proofs.lemmas.Option.{same_Some}
 use Rattle.fluent_uri.specs.AuthorityTexts.{authority_text}
 use Rattle.fluent_uri.specs.BuilderParts.{AddsOrFails, BuilderParts, as_components, no_parts}
 use Rattle.fluent_uri.specs.BuilderParts.{parts_text}
 use Rattle.fluent_uri.specs.BuilderParts.{with_authority, with_path, with_query, with_scheme}
 use Rattle.fluent_uri.specs.BuilderStates.{contents_of, parts_in_state}
-use Rattle.fluent_uri.specs.Built.{IsTextOfParts}
+use Rattle.fluent_uri.specs.Built.{IsTextOfParts, build_error_of_path, refusal}
 use Rattle.fluent_uri.specs.Components.{Components, components}
 use Rattle.fluent_uri.specs.EncodedTexts.{text_of}
 use Rattle.fluent_uri.specs.Grammar.{uri}
 use Rattle.fluent_uri.specs.Schemes.{scheme_text}
 use Rattle.fluent_uri.specs.Uris.{uri_text}
+use Rattle.fluent_uri.specs.declared.build.BuildError.{BuildError}
+use Rattle.fluent_uri.specs.declared.build.BuildError.TheVariants.{OutOfMemory}
+use Rattle.fluent_uri.proofs.Outcomes.{IfErr-of-only-error}
 use Rattle.cookbook.proofs.service.resource.Goals as goal
 
 unmarked : {A : Type 0} {x : A} (f : Bool) → (f ≡ true → None ≡ Some x) → f ≡ false
@@ -32,13 +36,13 @@ parts : (p0 p1 p2 p3 p4 : BuilderParts) (scheme authority path query : List ℕ)
     → AddsOrFails (with_path path) p2 p3 → AddsOrFails (with_query query) p3 p4 → p4.failed ≡ false
     → as_components p4 ≡ four scheme authority path query
 parts p0 p1 p2 p3 p4 scheme authority path query e0 a1 a2 a3 a4 f4 =
-    let e4 = a4 f4 in
+    let e4 = a4.adds f4 in
     let f3 : p3.failed ≡ false = sym (ap (λ (r : BuilderParts). r.failed) e4) ∙ f4 in
-    let e3 = a3 f3 in
+    let e3 = a3.adds f3 in
     let f2 : p2.failed ≡ false = sym (ap (λ (r : BuilderParts). r.failed) e3) ∙ f3 in
-    let e2 = a2 f2 in
+    let e2 = a2.adds f2 in
     let f1 : p1.failed ≡ false = sym (ap (λ (r : BuilderParts). r.failed) e2) ∙ f2 in
-    let e2 = e2 ∙ ap (with_authority authority) (a1 f1 ∙ ap (with_scheme scheme) e0) in
+    let e2 = e2 ∙ ap (with_authority authority) (a1.adds f1 ∙ ap (with_scheme scheme) e0) in
     ap as_components (e4 ∙ ap (with_query query) (e3 ∙ ap (with_path path) e2))
 
 -- the components of what was built
@@ -116,3 +120,34 @@ returns-clause-fragment c =
     (text_of c.args.path) (text_of c.args.query) c.builder.ensures c.scheme.ensures
     c.authority.ensures c.path.ensures c.query.ensures f c.in_ok-made.ensures.value
     ((c.in_ok-made.ensures.exactly f).0 refl))
+
+-- the error of parts that have a scheme and an authority is that of the path
+error_is_of_path : (p : BuilderParts) (scheme authority path query : List ℕ)
+    → as_components p ≡ four scheme authority path query
+    → refusal p ≡ build_error_of_path true true path
+error_is_of_path p scheme authority path query e =
+    ap (λ (parts : Components). build_error_of_path (is_some parts.scheme) (is_some parts.authority)
+    parts.path) e
+
+error_unless_failed : (failed : Bool) (e : BuildError) (of_parts of_path : Option BuildError)
+    → (failed ≡ true → Some e ≡ Some OutOfMemory) → (failed ≡ false → Some e ≡ of_parts)
+    → (failed ≡ false → of_parts ≡ of_path) → e ≢ OutOfMemory → of_path ≡ Some e
+error_unless_failed true e of_parts of_path none some same other =
+    absurd (other (same_Some e OutOfMemory (none refl)))
+error_unless_failed false e of_parts of_path none some same other = sym (some refl ∙ same refl)
+
+pub returns-in_err-made-clause-refused : goal.returns-in_err-made-clause-refused
+returns-in_err-made-clause-refused c =
+    let p = parts_in_state (contents_of c.query.result) in
+    IfErr-of-only-error
+    (λ e. e ≢ OutOfMemory → build_error_of_path true true (text_of c.args.path) ≡ Some e)
+    c.from_residual.result _ c.from_residual.ensures.1
+    (error_unless_failed p.failed _ (refusal p) _ c.in_err-made.ensures.failed
+    c.in_err-made.ensures.refused
+    (λ f. error_is_of_path p _ _ _ _
+    (parts (parts_in_state (contents_of c.builder.result))
+    (parts_in_state (contents_of c.scheme.result)) (parts_in_state (contents_of c.authority.result))
+    (parts_in_state (contents_of c.path.result)) p
+    (scheme_text c.new_or_panic.result) (authority_text c.args.authority)
+    (text_of c.args.path) (text_of c.args.query) c.builder.ensures c.scheme.ensures
+    c.authority.ensures c.path.ensures c.query.ensures f)))

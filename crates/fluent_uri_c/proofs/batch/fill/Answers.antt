@@ -17,7 +17,7 @@ loop-index-preserved g c =
     let before = c.loop-index.invariant in
     let made = c.in-Ok.ensures.made ∙ ap (option_and_then call) c.in-Some.ensures in
     let bytes = c.bytes_of.ensures ∙ ap bytes_of made in
-    let append = c.in-Some-append.ensures in
+    let append = c.in-Ok-append.ensures in
     let bit = c.mark.ensures.marked ∙ ap number_of_bool (c.is_some.ensures
     ∙ is_some_mapped call_result_bytes c.in-Ok.made ∙ ap is_some made) in
     let inside : n + 1 < length c.loop-index.ends = search rules in
@@ -28,5 +28,6 @@ loop-index-preserved g c =
       rw append.offset.1.1 column,
       end-of-one-more-result at n _ _ before.1 bytes _ append.end,
       append.inside,
-      below_more _ _ before.3 (equal-to-Some-is-some (text_in texts n) _ c.in-Some.ensures),
+      append.below,
+      below_more _ _ before.4 (equal-to-Some-is-some (text_in texts n) _ c.in-Some.ensures),
     )

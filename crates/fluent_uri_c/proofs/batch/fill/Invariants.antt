@@ -13,4 +13,5 @@ invariant-loop-index g l =
     IsColumn value at l.index (buffers l.fn.out l.fn.ends l.fn.valid)
     (buffers l.out l.ends l.valid)
     × (l.at ≡ length (joined_results at l.index)) × (l.at ≤ length l.out)
+    × (l.at < g.O.Offset.limit)
     × ((i : ℕ) → i < l.index → IsSome (text_in texts i))

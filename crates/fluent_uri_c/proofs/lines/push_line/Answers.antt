@@ -6,5 +6,5 @@ use Rattle.fluent_uri_c.proofs.lines.push_line.Goals as goal
 pub returns-clause-written : goal.returns-clause-written
 returns-clause-written c =
     two-writes-are-one c.args.out.now c.write_at.new.out _ c.args.bytes.now c.args.at
-    c.in_ok-newline.newline newline (omega arith) (omega arith) c.write_at.ensures
+    c.saturating_add-newline.result newline (omega arith) (omega arith) c.write_at.ensures
     c.write_at-2.ensures

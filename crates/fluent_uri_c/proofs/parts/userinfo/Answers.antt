@@ -11,7 +11,7 @@ returns-then-inside g c =
 
 pub returns-else-inside : goal.returns-else-inside
 returns-else-inside g c =
-    IsSpan-of-equal-span _ _ _ c.absent.ensures
+    IsSpan-of-equal-span _ _ _ _ c.absent.ensures
     (userinfo-span-if-absent g.K.Kind.kind c.args.text.now c.args.at
     c.in-Some.inside c.requires.at c.requires.of_kind c.in-Some.is (authority_is_at_positions
     c.args.text.now c.args.at c.utf8.text c.requires.at c.in-Some.inside c.in-Some.is)

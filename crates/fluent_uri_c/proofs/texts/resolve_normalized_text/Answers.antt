@@ -1,5 +1,4 @@
-use Rattle.std.proofs.Common.{◌∙◌, ap, sym, subst, ℕ, List}
-use Rattle.std.specs.Prelude.{Ok}
+use Rattle.std.proofs.Common.{ap, subst, ℕ, List}
 use Rattle.uri_ops.specs.NormalTargets.{IsNormalTarget}
 use Rattle.uri_ops.specs.Resolving.{IsErrorWithUnderflowAllowed}
 use Rattle.uri_parts.specs.Components.{components}
@@ -16,7 +15,6 @@ returns-in-Ok g c =
     g.K.Kind.kind default_port b (reference_text c.args.reference.now)
     (reference_text c.in-Ok.target)) same
     c.in-Ok.ensures.normal)
-    ∙ ap Ok (sym c.into_string.ensures)
 
 pub returns-in-Err : goal.returns-in-Err
 returns-in-Err g c =

@@ -1,12 +1,9 @@
-use Rattle.std.proofs.Common.{◌∙◌, ap, sym}
-use Rattle.std.specs.Prelude.{Ok}
 use Rattle.fluent_uri_c.proofs.Targets.{resolution-of-target, returned-rejection-is-of-error}
 use Rattle.fluent_uri_c.proofs.Targets.{resolution-of-error}
 use Rattle.fluent_uri_c.proofs.texts.resolve_text.Goals as goal
 
 pub returns-in-Ok : goal.returns-in-Ok
 returns-in-Ok g c = resolution-of-target _ _ _ c.in-Ok.ensures.target
-    ∙ ap Ok (sym c.into_string.ensures)
 
 pub returns-in-Err : goal.returns-in-Err
 returns-in-Err g c =

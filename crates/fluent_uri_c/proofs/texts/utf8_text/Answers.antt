@@ -1,14 +1,16 @@
 use Rattle.std.proofs.lemmas.Str.{IsUtf8-from_ascii}
+use Rattle.std.proofs.Common.{rules}
 use Rattle.fluent_uri_c.proofs.ValidBytes.{utf8_error-of-utf8}
 use Rattle.fluent_uri_c.proofs.texts.utf8_text.Goals as goal
 
 pub returns-in-Ok-clause-rejected : goal.returns-in-Ok-clause-rejected
-returns-in-Ok-clause-rejected c = utf8_error-of-utf8 c.args.bytes.now c.in-Ok.ensures.cases.1
+returns-in-Ok-clause-rejected c =
+    utf8_error-of-utf8 c.args.bytes.now c.in-Ok.ensures.cases.1 (search rules)
 
 pub returns-then-is_ascii-clause-rejected : goal.returns-then-is_ascii-clause-rejected
 returns-then-is_ascii-clause-rejected c =
     utf8_error-of-utf8 c.args.bytes.now
-    (IsUtf8-from_ascii c.args.bytes.now (c.is_ascii.ensures c.if-is_ascii.true))
+    (IsUtf8-from_ascii c.args.bytes.now (c.is_ascii.ensures c.if-is_ascii.true)) (search rules)
 
 pub from_utf8_unchecked-requires : goal.from_utf8_unchecked-requires
 from_utf8_unchecked-requires c =

@@ -3,11 +3,11 @@ use Rattle.uri_commands.specs.Commands.{texts}
 use Rattle.uri_commands.proofs.Outputs.{failed-output-is-error-of-links}
 use Rattle.uri_commands.proofs.run.links.Goals as goal
 
-pub returns-in_err-write_lines-clause-refused : goal.returns-in_err-write_lines-clause-refused
-returns-in_err-write_lines-clause-refused g c =
+pub returns-clause-refused : goal.returns-clause-refused
+returns-clause-refused g c =
     failed-output-is-error-of-links c.args.base.now c.args.reference.now (texts c.args.others.now)
-    c.from_residual-in_err-write_lines.result c.in_ok-noted.ensures.base
-    c.in_ok-noted.ensures.references c.from_residual-in_err-write_lines.ensures.1
+    c.written.result c.in_ok-noted.ensures.base
+    c.in_ok-noted.ensures.references c.written.ensures.failed
 
 pub returns-in_err-noted-clause-keeps : goal.returns-in_err-noted-clause-keeps
 returns-in_err-noted-clause-keeps g c = search rules

@@ -8,7 +8,7 @@ use Rattle.uri_commands.proofs.run.run_command.Goals as goal
 pub returns-in-Links-clause-succeeded : goal.returns-in-Links-clause-succeeded
 returns-in-Links-clause-succeeded g c =
     subst (λ k. OnOk c.links.result
-    (Prints (g.O.Write.contents c.args.out.now) (g.O.Write.contents c.links.new.out)
+    (Prints (g.O.Write.contents c.args.out.now.writer) (g.O.Write.contents c.links.new.out.writer)
     (contract_command k)))
     (sym c.in-Links.is) c.links.ensures.succeeded
 
@@ -20,7 +20,7 @@ returns-in-Links-clause-refused g c =
 pub returns-in-Links-clause-keeps : goal.returns-in-Links-clause-keeps
 returns-in-Links-clause-keeps g c =
     subst (λ k. output_of (contract_command k) ≡ None
-    → Keeps (g.O.Write.contents c.args.out.now) (g.O.Write.contents c.links.new.out))
+    → Keeps (g.O.Write.contents c.args.out.now.writer) (g.O.Write.contents c.links.new.out.writer))
     (sym c.in-Links.is) c.links.ensures.keeps
 
 pub returns-in-Parse-clause-refused : goal.returns-in-Parse-clause-refused

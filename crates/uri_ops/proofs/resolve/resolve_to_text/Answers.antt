@@ -100,7 +100,7 @@ returns-clause-alike_error g c =
     let base = g.B.RiMaybeRef.text c.args.base.now in
     let reference = g.Q.RiMaybeRef.text c.args.reference.now in
     IfErr-weaker c.target_text.result (IsErrorFor c.args.allow_path_underflow p q)
-    (IsErrorOfMeanings kind g.Q.RiMaybeRef.kind base reference)
+    (IsErrorOfMeanings c.args.allow_path_underflow kind g.Q.RiMaybeRef.kind base reference)
     (error-of-texts-respects-meaning kind g.Q.RiMaybeRef.kind g.met.B.RiMaybeRef.component_sets
     g.met.B.Ri.needs_scheme
     g.met.Q.RefOf.same_tables c.args.allow_path_underflow p q base reference

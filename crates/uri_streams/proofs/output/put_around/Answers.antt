@@ -1,4 +1,4 @@
-use Rattle.uri_streams.proofs.Failures.{AppendsPrefix-after-Appends, AppendsPrefix-of-longer}
+use Rattle.uri_commands.proofs.Appended.{AppendsPrefix-after-Appends, AppendsPrefix-of-longer}
 use Rattle.uri_streams.proofs.output.put_around.Goals as goal
 
 pub returns-then-put_both-clause-prefix : goal.returns-then-put_both-clause-prefix

@@ -1,7 +1,6 @@
 -- What was written is what the characters so far come to.
-use Rattle.std.proofs.Common.{◌≡◌, ◌++◌, length, string_bytes, take}
+use Rattle.std.proofs.Common.{◌≡◌, ◌++◌, string_bytes}
 use Rattle.std.specs.List.{flat_map}
-use Rattle.std.specs.Str.{chars}
 use Rattle.uri_streams.specs.Queries.{escaped_char}
 use Rattle.uri_streams.proofs.queries.push_escaped.Given as goal
 

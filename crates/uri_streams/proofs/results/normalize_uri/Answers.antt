@@ -8,16 +8,16 @@ use Rattle.uri_streams.specs.Results.{Text}
 use Rattle.uri_streams.specs.Returned.{result_in}
 use Rattle.uri_streams.proofs.results.normalize_uri.Goals as goal
 
-pub returns-in_ok-normalize-in-Ok : goal.returns-in_ok-normalize-in-Ok
-returns-in_ok-normalize-in-Ok c =
+pub returns-in_ok-normalize-in-Ok-clause-result : goal.returns-in_ok-normalize-in-Ok-clause-result
+returns-in_ok-normalize-in-Ok-clause-result c =
     let normal = uri_text c.in_ok-normalize-in-Ok.field-0 in
     ap Text c.into_string.ensures
     ∙ normalize_result-of-kind uri c.args.text.now normal (c.in-Ok.ensures.accepts.0 refl)
     (subst (λ text. IsNormalForm uri default_port text normal) c.in-Ok.ensures.text
     c.in_ok-normalize-in-Ok.ensures)
 
-pub returns-in-Err : goal.returns-in-Err
-returns-in-Err c =
+pub returns-in-Err-clause-result : goal.returns-in-Err-clause-result
+returns-in-Err-clause-result c =
     ap result_in c.not_of_kind.ensures
     ∙ normalize_result-of-error uri c.args.text.now c.in-Err.error
     (λ of_kind. cc (c.in-Err.ensures.accepts.1 of_kind)) c.in-Err.ensures.refused

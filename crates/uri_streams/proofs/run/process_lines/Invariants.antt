@@ -2,6 +2,7 @@
 use Rattle.std.proofs.Common.{◌≡◌}
 use Rattle.std.specs.Io.Buffered.{reader_remaining}
 use Rattle.uri_streams.specs.Models.{HasWrittenSoFar}
+use Rattle.uri_streams.specs.Runs.{error_output_of}
 use Rattle.uri_streams.proofs.run.process_lines.Given as goal
 
 abbrev pub invariant-loop-number : goal.invariant-loop-number
@@ -9,6 +10,8 @@ invariant-loop-number g l =
     HasWrittenSoFar l.fn.job l.number l.task
     (reader_remaining g.R.Read.remaining l.initial.reader.reader)
     (reader_remaining g.R.Read.remaining l.reader.reader)
-    (g.W.Write.contents l.initial.writer.writer) (g.W.Write.contents l.writer.writer) l.tally
+    (g.W.Write.contents l.initial.writer.writer) (g.W.Write.contents l.writer.writer)
+    (error_output_of g.E.Write.contents l.initial.err) (error_output_of g.E.Write.contents l.err)
+    (g.V.Watch.seen l.initial.watch) (g.V.Watch.seen l.watch) l.tally
     × (l.reader.has_failed ≡ l.initial.reader.has_failed)
     × (l.writer.has_failed ≡ l.initial.writer.has_failed)

@@ -6,6 +6,8 @@ use Rattle.uri_streams.proofs.Steps.{ReadsFirstLine-of-read, line-output-result-
 use Rattle.uri_streams.proofs.Steps.{HasLine-of-read}
 use Rattle.uri_streams.specs.Lines.{end_byte}
 use Rattle.uri_streams.specs.Models.{ReadsPartOfLine}
+use Rattle.uri_streams.proofs.Reports.{Reports-nothing}
+use Rattle.uri_streams.specs.Runs.{error_output_of}
 use Rattle.uri_streams.proofs.run.process_parts.Goals as goal
 
 pub returns-in_err-is_return-clause-fails : goal.returns-in_err-is_return-clause-fails
@@ -16,11 +18,13 @@ returns-in_err-is_return-clause-fails g c =
     (reader_remaining g.R.Read.remaining c.args.reader.now.reader)
     (reader_remaining g.R.Read.remaining c.read_line.new.reader.reader)
     (g.W.Write.contents c.args.writer.now.writer)
-    (g.W.Write.contents c.read_line.new.writer.writer) c.in_err-is_return.field-0.0
+    (g.W.Write.contents c.read_line.new.writer.writer)
+    (error_output_of g.E.Write.contents c.args.err.now)
+    (error_output_of g.E.Write.contents c.args.err.now) c.in_err-is_return.field-0.0
     (subst (ReadsPartOfLine (reader_remaining g.R.Read.remaining c.args.reader.now.reader)
     (reader_remaining g.R.Read.remaining c.read_line.new.reader.reader)) c.line_ending.ensures
     c.in_err-is_return.ensures.stopped)
-    c.read_line.ensures.keeps)
+    c.read_line.ensures.keeps (Reports-nothing _))
 
 pub returns-in-Some-clause-steps : goal.returns-in-Some-clause-steps
 returns-in-Some-clause-steps g c =
@@ -29,7 +33,9 @@ returns-in-Some-clause-steps g c =
     (reader_remaining g.R.Read.remaining c.read_line.new.reader.reader)
     (g.W.Write.contents c.args.writer.now.writer)
     (g.W.Write.contents c.read_line.new.writer.writer)
-    (g.W.Write.contents c.write_line.new.writer.writer) c.as_slice.result.now
+    (g.W.Write.contents c.write_line.new.writer.writer)
+    (error_output_of g.E.Write.contents c.args.err.now)
+    (error_output_of g.E.Write.contents c.write_line.new.err) c.as_slice.result.now
     c.in-Some.is_return
     (HasLine-of-read c.args.job.now
     (reader_remaining g.R.Read.remaining c.args.reader.now.reader)
@@ -50,7 +56,9 @@ returns-in-Some-clause-fails g c =
     (reader_remaining g.R.Read.remaining c.read_line.new.reader.reader)
     (g.W.Write.contents c.args.writer.now.writer)
     (g.W.Write.contents c.read_line.new.writer.writer)
-    (g.W.Write.contents c.write_line.new.writer.writer) c.as_slice.result.now
+    (g.W.Write.contents c.write_line.new.writer.writer)
+    (error_output_of g.E.Write.contents c.args.err.now)
+    (error_output_of g.E.Write.contents c.write_line.new.err) c.as_slice.result.now
     c.in-Some.is_return
     (HasLine-of-read c.args.job.now
     (reader_remaining g.R.Read.remaining c.args.reader.now.reader)

@@ -19,13 +19,13 @@ text : (p0 p1 p2 p3 p4 : BuilderParts) (authority path query fragment : List ℕ
     → p4.failed ≡ false
     → authority ≡ [] → path ≡ [] → query ≡ [] → fragment ≡ [] → parts_text p4 ≡ codes "//?#"
 text p0 p1 p2 p3 p4 authority path query fragment e0 a1 a2 a3 a4 f4 a p q f =
-    let e4 = a4 f4 in
+    let e4 = a4.adds f4 in
     let f3 : p3.failed ≡ false = sym (ap (λ (r : BuilderParts). r.failed) e4) ∙ f4 in
-    let e3 = a3 f3 in
+    let e3 = a3.adds f3 in
     let f2 : p2.failed ≡ false = sym (ap (λ (r : BuilderParts). r.failed) e3) ∙ f3 in
-    let e2 = a2 f2 in
+    let e2 = a2.adds f2 in
     let f1 : p1.failed ≡ false = sym (ap (λ (r : BuilderParts). r.failed) e2) ∙ f2 in
-    let e1 = a1 f1 in
+    let e1 = a1.adds f1 in
     ap parts_text (e4 ∙ ap (with_fragment fragment) (e3 ∙ ap (with_query query)
     (e2 ∙ ap (with_path path) (e1 ∙ ap (with_authority authority) e0))))
     ∙ (λ i. parts_text (with_fragment (f i) (with_query (q i) (with_path (p i)

@@ -1,4 +1,4 @@
-use Rattle.std.proofs.Common.{ap, sym, subst, ◌∙◌}
+use Rattle.std.proofs.Common.{ap, refl, sym, subst, ◌∙◌}
 use Rattle.uri_ops.specs.Builders.{draft_parts, lacks_authority}
 use Rattle.uri_ops.specs.Models.DraftPlaces.{IsHostAt}
 use Rattle.uri_ops.proofs.Builders.BuilderAuthorities.{authority-text-from-encoders}
@@ -43,5 +43,5 @@ from_draft-requires-clause-host g c =
 
 pub returns : goal.returns
 returns g c =
-    step-adds-to-contents with_authority _ _ _ _ _ _ c.as_str.ensures.text c.into_draft.ensures.same
+    step-adds-to-contents with_authority _ _ _ _ _ _ refl c.as_str.ensures.text c.into_draft.ensures.same
     c.with_authority.ensures.adds c.from_draft.ensures

@@ -65,5 +65,5 @@ from_draft-requires-clause-host g c =
 
 pub returns : goal.returns
 returns g c =
-    step-adds-to-contents with_host _ _ _ _ _ _ refl c.into_draft.ensures.same
+    step-adds-to-contents with_host _ _ _ _ _ _ refl refl c.into_draft.ensures.same
     c.with_host.ensures.adds c.from_draft.ensures

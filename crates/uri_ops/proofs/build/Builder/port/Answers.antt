@@ -50,5 +50,5 @@ from_draft-requires-clause-host g c =
 
 pub returns : goal.returns
 returns g c =
-    step-adds-to-contents with_port _ _ _ _ _ _ refl c.into_draft.ensures.same
+    step-adds-to-contents with_port _ _ _ _ _ _ refl refl c.into_draft.ensures.same
     c.with_port.ensures.adds c.from_draft.ensures

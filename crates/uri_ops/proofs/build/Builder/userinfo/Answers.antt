@@ -1,4 +1,4 @@
-use Rattle.std.proofs.Common.{◌++◌, ap, sym, ◌∙◌, codes}
+use Rattle.std.proofs.Common.{◌++◌, ap, refl, sym, ◌∙◌, codes}
 use Rattle.std.specs.Prelude.{unwrap_or}
 use Rattle.uri_pct.specs.Tokens.{is_valid_for}
 use Rattle.uri_ops.specs.BuilderParts.{lacks_host_and_port, with_userinfo}
@@ -67,5 +67,5 @@ from_draft-requires-clause-host g c =
 
 pub returns : goal.returns
 returns g c =
-    step-adds-to-contents with_userinfo _ _ _ _ _ _ c.as_str.ensures.text c.into_draft.ensures.same
+    step-adds-to-contents with_userinfo _ _ _ _ _ _ refl c.as_str.ensures.text c.into_draft.ensures.same
     c.with_userinfo.ensures.adds c.from_draft.ensures

@@ -1,5 +1,7 @@
-use Rattle.std.proofs.Common.{[], ap}
+use Rattle.std.proofs.Common.{[], ap, refl}
 use Rattle.uri_ops.specs.Builders.{draft_parts, lacks_authority}
+use Rattle.uri_ops.specs.BuilderParts.{with_authority}
+use Rattle.uri_ops.proofs.Builders.BuilderDrafts.{step-adds-to-contents}
 use Rattle.uri_ops.proofs.Builders.BuilderAuthorities.{empty-text-is-authority}
 use Rattle.uri_ops.proofs.Builders.DraftHosts.{host-range-of-new-authority}
 use Rattle.uri_ops.proofs.Builders.DraftHosts.{empty-authority-has-host-range}
@@ -35,3 +37,8 @@ from_draft-requires-clause-host g c =
     (empty-authority-has-host-range c.with_authority.result.host
     (ap (λ h. h.start) c.with_authority.ensures.host)
     (ap (λ h. h.end) c.with_authority.ensures.host))
+
+pub returns : goal.returns
+returns g c =
+    step-adds-to-contents with_authority _ _ _ _ _ _ refl refl c.into_draft.ensures.same
+    c.with_authority.ensures.adds c.from_draft.ensures

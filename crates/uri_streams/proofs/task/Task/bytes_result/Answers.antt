@@ -1,12 +1,11 @@
-use Rattle.std.proofs.Common.{ℕ, List, IfOk, ap, subst, ◌∙◌}
+use Rattle.std.proofs.Common.{IfOk, ap, subst, ◌∙◌}
 use Rattle.std.proofs.lemmas.Str.{IsUtf8-from_ascii}
 use Rattle.uri_streams.proofs.LineResults.{bytes_result-of-utf8, bytes_result-of-non-utf8}
 use Rattle.uri_streams.proofs.Tasks.{IsResult-that-remembers-the-same}
 use Rattle.uri_streams.specs.Results.{LineResult}
 use Rattle.uri_streams.specs.Returned.{IsResult}
-use Rattle.uri_streams.specs.Tasks.{Known, text_result}
-use Rattle.uri_streams.specs.declared.results.LineResult.TheVariants as returned
-use Rattle.uri_streams.specs.declared.fault.LineError.TheVariants.{NotUtf8}
+use Rattle.uri_streams.specs.Tasks.{Known, given_text, no_text_result, text_result}
+use Rattle.uri_streams.specs.declared.fault.NoText.TheVariants.{NotUtf8}
 use Rattle.uri_streams.proofs.task.Task.bytes_result.Goals as goal
 
 pub from_utf8_unchecked-requires : goal.from_utf8_unchecked-requires
@@ -14,27 +13,30 @@ from_utf8_unchecked-requires c =
     IsUtf8-from_ascii c.args.bytes.now (c.requires c.if-is_ascii.true)
 
 pub returns-then-is_ascii : goal.returns-then-is_ascii
-returns-then-is_ascii c = λ command known remembers.
-    subst (λ (next : LineResult × Known). IfOk c.text_result.result (λ line_result.
-    IsResult command next line_result c.text_result.new.self))
-    (ap (text_result command known) c.from_utf8_unchecked.ensures
-    ∙ bytes_result-of-utf8 command known c.args.bytes.now
+returns-then-is_ascii c = λ known remembers.
+    let job = c.args.job.now in
+    subst (λ (next : LineResult × Known). IfOk c.given_result.result (λ line_result.
+    IsResult job.command next line_result c.given_result.new.self))
+    (ap (λ t. text_result job.command known (given_text job t)) c.from_utf8_unchecked.ensures
+    ∙ bytes_result-of-utf8 job known c.args.bytes.now
     (IsUtf8-from_ascii c.args.bytes.now (c.requires c.if-is_ascii.true)))
-    (c.text_result.ensures command known remembers)
+    (c.given_result.ensures known remembers)
 
 pub returns-in-Ok : goal.returns-in-Ok
-returns-in-Ok c = λ command known remembers.
-    subst (λ (next : LineResult × Known). IfOk c.text_result-in-Ok.result (λ line_result.
-    IsResult command next line_result c.text_result-in-Ok.new.self))
-    (ap (text_result command known) c.in-Ok.ensures.cases.0
-    ∙ bytes_result-of-utf8 command known c.args.bytes.now c.in-Ok.ensures.cases.1)
-    (c.text_result-in-Ok.ensures command known remembers)
+returns-in-Ok c = λ known remembers.
+    let job = c.args.job.now in
+    subst (λ (next : LineResult × Known). IfOk c.given_result-in-Ok.result (λ line_result.
+    IsResult job.command next line_result c.given_result-in-Ok.new.self))
+    (ap (λ t. text_result job.command known (given_text job t)) c.in-Ok.ensures.cases.0
+    ∙ bytes_result-of-utf8 job known c.args.bytes.now c.in-Ok.ensures.cases.1)
+    (c.given_result-in-Ok.ensures known remembers)
 
 pub returns-in-Err : goal.returns-in-Err
-returns-in-Err c = λ command known remembers.
-    IsResult-that-remembers-the-same command _ known (returned.Error (NotUtf8 c.valid_up_to.result))
-    c.args.self.now
-    (bytes_result-of-non-utf8 command known c.args.bytes.now c.valid_up_to.result
-    c.in-Err.ensures.cases.0
-    (c.valid_up_to.ensures ∙ c.in-Err.ensures.valid_len))
+returns-in-Err c = λ known remembers.
+    let job = c.args.job.now in
+    IsResult-that-remembers-the-same job.command _ known c.no_text_result.result c.args.self.now
+    (ap (λ (r : LineResult). (r, known)) (c.no_text_result.ensures job.command known remembers
+    ∙ ap (λ n. no_text_result job.command (NotUtf8 n)) (c.valid_up_to.ensures ∙
+    c.in-Err.ensures.valid_len))
+    ∙ bytes_result-of-non-utf8 job known c.args.bytes.now c.in-Err.ensures.cases.0)
     remembers

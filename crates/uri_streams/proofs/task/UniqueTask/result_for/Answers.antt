@@ -1,6 +1,6 @@
 use Rattle.std.proofs.Common.{◌≡◌, ◌∙◌, IfOk, ap, refl, subst, sym}
 use Rattle.uri_streams.proofs.Tasks.{unique_result-of-normalize_result}
-use Rattle.uri_streams.specs.Results.{LineResult, Error, NoLine, kind_named}
+use Rattle.uri_streams.specs.Results.{LineResult, Error, kind_named}
 use Rattle.uri_streams.specs.Returned.{result_in, line_error_message}
 use Rattle.uri_streams.specs.Tasks.{HasMet, Known}
 use Rattle.uri_streams.proofs.task.UniqueTask.result_for.Goals as goal
@@ -10,24 +10,8 @@ returns-in-Text-clause-output c = λ known has.
     subst (λ (next : LineResult × Known). IfOk c.text_if_new.result (λ line_result.
     (result_in line_result ≡ next.0) × HasMet c.text_if_new.new.met next.1))
     (unique_result-of-normalize_result (kind_named c.args.self.now.kind) known c.args.text.now _
-    (sym (ap result_in c.in-Text.is) ∙ c.in_ok-normal.ensures))
+    (sym (ap result_in c.in-Text.is) ∙ c.in_ok-normal.ensures.result))
     (c.text_if_new.ensures known has)
-
-pub returns-in-Unchanged-clause-output : goal.returns-in-Unchanged-clause-output
-returns-in-Unchanged-clause-output c = λ known has.
-    subst (λ (next : LineResult × Known). IfOk c.unchanged_if_new.result (λ line_result.
-    (result_in line_result ≡ next.0) × HasMet c.unchanged_if_new.new.met next.1))
-    (unique_result-of-normalize_result (kind_named c.args.self.now.kind) known c.args.text.now _
-    (sym (ap result_in c.in-Unchanged.is) ∙ c.in_ok-normal.ensures))
-    (c.unchanged_if_new.ensures known has)
-
-pub returns-in-NoLine-clause-output : goal.returns-in-NoLine-clause-output
-returns-in-NoLine-clause-output c = λ known has.
-    subst (λ (next : LineResult × Known). (NoLine ≡ next.0) × HasMet c.args.self.now.met next.1)
-    (unique_result-of-normalize_result (kind_named c.args.self.now.kind) known
-    c.args.text.now NoLine
-    (sym (ap result_in c.in-NoLine.is) ∙ c.in_ok-normal.ensures))
-    (refl, has)
 
 pub returns-in-Error-clause-output : goal.returns-in-Error-clause-output
 returns-in-Error-clause-output c = λ known has.
@@ -35,5 +19,5 @@ returns-in-Error-clause-output c = λ known has.
     × HasMet c.args.self.now.met next.1)
     (unique_result-of-normalize_result (kind_named c.args.self.now.kind) known c.args.text.now
     (Error (line_error_message c.in-Error.fault))
-    (sym (ap result_in c.in-Error.is) ∙ c.in_ok-normal.ensures))
+    (sym (ap result_in c.in-Error.is) ∙ c.in_ok-normal.ensures.result))
     (refl, has)

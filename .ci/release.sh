@@ -1,0 +1,324 @@
+#!/bin/sh
+# Tries tools/release on a copy of the tree that is a release, with a command `rt` that proves
+# nothing: its archive has the exports of the header, which do nothing, and its programs print what
+# lists their words. A tool that is missing is skipped with a word.
+set -u
+root=$(cd "$(dirname "$0")/.." && pwd)
+work=$(mktemp -d) || exit 2
+trap 'rm -rf "$work"' EXIT
+trap 'exit 1' HUP INT TERM
+tried=0 wrong=0
+
+# must NAME WANTED FOUND
+must() {
+    tried=$((tried + 1))
+    [ "$2" = "$3" ] && return
+    wrong=$((wrong + 1))
+    printf 'release: %s: %s, and not %s\n' "$1" "$3" "$2"
+}
+
+has() {
+    command -v "$1" > /dev/null && return 0
+    echo "release: skipped: there is no $1 to $2"
+    return 1
+}
+
+ends() {
+    echo "release: $tried trials, $wrong wrong"
+    [ "$wrong" = 0 ]
+    exit
+}
+
+must 'the exports are those of the symbols file' '' "$("$root/debian/write-symbols" --check)"
+has cc 'make what stands for the programs' || ends
+
+# The copy, as a release has it.
+tree=$work/tree
+mkdir "$tree" "$work/bin" "$work/kit" "$work/kit/c"
+tar -C "$root" --exclude=out --exclude=.git --exclude=mutants --exclude=proofs -cf - . |
+    tar -C "$tree" -xf -
+cd "$tree" || exit 2
+version=$(sed -n 's/^VERSION = //p' c/Makefile)
+sed -i "s/^## $version,.*/## $version, 2026-01-02/" CHANGELOG.md
+{
+    printf 'fluent-uri (%s) unstable; urgency=medium\n\n  * A trial.\n\n' "$version"
+    sed -n '/^ -- /{s/>.*/>  Fri, 02 Jan 2026 00:00:00 +0000/;p;q}' debian/changelog
+} > "$work/changelog"
+mv "$work/changelog" debian/changelog
+# (the exports that stand there pass no test)
+sed -i 's/^\t\$(MAKE_C) check/\ttrue/' debian/rules
+cat > tools/aarch64 <<'AARCH64'
+#!/bin/sh
+mkdir -p out/aarch64
+aarch64-linux-gnu-gcc -O2 -fPIC -w -Ic/include -c "$WORK/exports.c" -o "$WORK/exports.aarch64.o"
+aarch64-linux-gnu-ar rcsD out/aarch64/libfluent_uri_c.a "$WORK/exports.aarch64.o"
+echo 'logic=proved functions=3 target=aarch64-unknown-linux-gnu' \
+    > out/aarch64/libfluent_uri_c.verdict
+AARCH64
+
+cat > "$work/urilines.c" <<'C'
+#include <stdio.h>
+#include <string.h>
+#define OPTIONS "Options:\n" \
+    "      --field <N>       A field, from 1\n" \
+    "  -0, --null            Texts end with NUL\n" \
+    "      --errors <WHERE>  What happens: so [possible values: line, drop, stop]\n" \
+    "  -h, --help            Print help\n"
+int main(int count, char **words) {
+    if (count > 1 && !strcmp(words[1], "--help"))
+        puts("Reads\n\nUsage: urilines [OPTIONS] <COMMAND>\n\nCommands:\n"
+             "  normalize  Write the normal form of 'each' line\n"
+             "  check      Pass on the lines\n"
+             "  help       Print this message\n\n" OPTIONS "  -V, --version         Print version");
+    else if (count > 1)
+        printf("Writes\n\nUsage: urilines %s [OPTIONS] <KIND>\n\nArguments:\n"
+               "  <KIND>  What a line is [possible values: uri, uri-ref, iri, iri-ref]\n\n" OPTIONS
+               "%s", words[1], strcmp(words[1], "check") ? "" : "      --invert          Others\n");
+    return 0;
+}
+C
+cat > "$work/uritool.c" <<'C'
+#include <stdio.h>
+int main(void) {
+    fputs("usage: uritool parse KIND TEXT | resolve uri|iri BASE REF | links BASE REF...\n",
+          stderr);
+    return 2;
+}
+C
+{
+    echo '#include "fluent_uri.h"'
+    sed -n '/^uint32_t fluent_uri_/,/;/p' c/include/fluent_uri.h | sed 's/;/ { return 0; }/'
+} > "$work/exports.c"
+for it in urilines uritool; do
+    cc -O2 "$work/$it.c" -o "$work/$it" || exit 2
+done
+cc -O2 -fPIC -w -Ic/include -c "$work/exports.c" -o "$work/exports.o" || exit 2
+echo 'int fluent_uri_heap_stands_here;' | cc -fPIC -x c -c - -o "$work/heap.o" || exit 2
+ar rcsD "$work/kit/c/liblibc_c.a" "$work/heap.o"
+cat > "$work/bin/rt" <<'RT'
+#!/bin/sh
+crate=$(basename "$PWD")
+case $1 in
+version) echo "$IDENTITY" ;;
+doc) echo "$WORK/kit/START-HERE.md" ;;
+lib | run)
+    echo 'crate loaded'
+    echo 'axioms libc: libc::heap::rattle_alloc (1 of the 3 declared)'
+    echo 'logic=proved functions=3 incremental=trusted'
+    mkdir -p out
+    [ "$crate" != fluent_uri_c ] || ar rcsD out/libfluent_uri_c.a "$WORK/exports.o"
+    [ "$1" = lib ] || {
+        cp "$WORK/$crate" "out/$crate"
+        echo "rt: running out/$crate; to give it other input, run that file yourself"
+    }
+    ;;
+esac
+RT
+chmod +x "$work/bin/rt"
+IDENTITY='rattle-kit-0 logic 0' WORK=$work PATH=$work/bin:$PATH
+export IDENTITY WORK PATH
+
+# What the shells offer after some words.
+tools/completions "$work/uritool" "$work/urilines" "$work/words" || exit 1
+if has bash 'try completions'; then
+    cat > "$work/offers" <<'BASH'
+. "$WORK/words/bash/$1" || exit 1
+COMP_WORDS=("$@") COMP_CWORD=$(($# - 1)) COMPREPLY=()
+"_$1"
+echo "${COMPREPLY[*]}"
+BASH
+    offers() {
+        must "bash: $2" "$1" "$(bash "$work/offers" $2 "$3")"
+    }
+    # shellcheck disable=SC2086 # (words)
+    offers 'normalize check help' urilines ''
+    offers 'uri uri-ref iri iri-ref' 'urilines --field 2 check' ''
+    offers 'uri-ref' 'urilines -0 normalize' uri-
+    offers 'drop' 'urilines --errors =' d
+    offers '--field -0 --null --errors -h --help --invert' 'urilines check' -
+    offers '' 'urilines check uri' ''
+    offers 'parse resolve links' uritool ''
+    offers 'uri iri' 'uritool resolve' ''
+    offers '' 'uritool links' ''
+fi
+if has fish 'try completions'; then
+    offers() {
+        must "fish: $2" "$1" "$(fish --no-config -c "source $work/words/fish/${2%% *}.fish
+            complete -C '$2'" | cut -f 1 | paste -sd ' ')"
+    }
+    offers 'check help normalize' 'urilines '
+    offers 'iri iri-ref uri uri-ref' 'urilines normalize '
+    offers '' 'urilines normalize uri '
+    offers '--invert' 'urilines check --inv'
+    offers '' 'urilines normalize --inv'
+    offers 'iri uri' 'uritool resolve '
+fi
+if has zsh 'read completions'; then
+    for it in "$work/words/zsh/"*; do
+        zsh -n "$it"
+        must "zsh reads $it" 0 $?
+    done
+fi
+
+for it in git dpkg-buildpackage dh dh_python3 lintian aarch64-linux-gnu-gcc aarch64-linux-gnu-g++ \
+    qemu-aarch64; do
+    has "$it" 'make packages' || ends
+done
+headers=$(/usr/bin/python3 -c 'import sysconfig; print(sysconfig.get_path("include"))')
+[ -f "$headers/Python.h" ] || {
+    echo 'release: skipped: /usr/bin/python3 has no Python.h to make packages'
+    ends
+}
+
+# An export that goes fails the build.
+cc -shared "$work/exports.o" -Wl,-soname,libfluent_uri_c.so.0 -o "$work/whole.so" \
+    -Wl,--version-script=c/fluent_uri_c.map
+sed 's/^uint32_t fluent_uri_parse(/uint32_t other(/' "$work/exports.c" > "$work/less.c"
+cc -O2 -fPIC -w -Ic/include -shared "$work/less.c" -Wl,-soname,libfluent_uri_c.so.0 \
+    -Wl,--version-script=c/fluent_uri_c.map -o "$work/less.so"
+for it in whole:0 less:1; do
+    debian/write-symbols --check "$work/${it%:*}.so" > "$work/out" 2>&1
+    must "the exports of a library that is ${it%:*}" "${it#*:}" $?
+    dpkg-gensymbols -plibfluent-uri0 -Idebian/libfluent-uri0.symbols -v"$version+" -c4 -q \
+        -e"$work/${it%:*}.so" -O/dev/null > "$work/out" 2>&1
+    must "the symbols of a later library that is ${it%:*}" "${it#*:}" $?
+done
+sed -i 's/extern "C" fn fluent_uri_parse(/extern "C" fn other(/' crates/fluent_uri_c/src/*.rt
+must 'an export of the sources that is gone' \
+    "write-symbols: fluent_uri_parse of $version is gone: the SONAME has to change" \
+    "$(debian/write-symbols | head -n 1)"
+sed -i 's/extern "C" fn other(/extern "C" fn fluent_uri_parse(/' crates/fluent_uri_c/src/*.rt
+
+GIT_CONFIG_NOSYSTEM=1 GIT_AUTHOR_DATE='2026-01-02 00:00:00 +0000' HOME=$work
+GIT_COMMITTER_DATE=$GIT_AUTHOR_DATE
+export GIT_CONFIG_NOSYSTEM GIT_AUTHOR_DATE GIT_COMMITTER_DATE HOME
+for it in user.name:trial user.email:trial@localhost init.defaultBranch:main; do
+    git config --global "${it%%:*}" "${it#*:}"
+done
+git init -q . && git add -A && git commit -q -m "$version" || exit 2
+
+# refuses LINE WORDS..: tools/release makes nothing, and says why
+refuses() {
+    line=$1
+    shift
+    tools/release "$@" > "$work/out" 2> "$work/err"
+    must "the status of tools/release $*" 1 $?
+    must "the line of tools/release $*" "release: $line" "$(tail -n 1 "$work/err")"
+    [ ! -e out/release ] || must "what tools/release $* leaves" nothing "$(ls out/release)"
+}
+
+# tagged WORD..: the tag has this message, a line a word
+tagged() {
+    git tag -d "v$version" > "$work/out" 2>&1
+    printf '%s\n' "$@" | git tag -a -F - "v$version"
+}
+
+passed="Checked-tree: $(git rev-parse 'HEAD^{tree}')"
+untold="the message of v$version does not say that ./check passed for this tree"
+refuses 'the words are [--trial] VERSION or [--trial] --verify FOLDER'
+refuses "there is no annotated tag v$version" "$version"
+git tag "v$version"
+refuses "there is no annotated tag v$version" "$version"
+tagged 'a release'
+refuses "$untold" "$version"
+tagged './check passed' '' "Checked-tree: $(git rev-parse HEAD)" "Checked-by: $IDENTITY"
+refuses "$untold" "$version"
+tagged './check passed' '' "$passed" 'Checked-by: rattle-kit-1 logic 0'
+refuses "./check passed by rattle-kit-1 logic 0, and the kit here is $IDENTITY" "$version"
+tree_of_head=$(tools/checked)
+must 'the tree that ./check begins with' "${passed#* }" "$tree_of_head"
+tools/checked 0
+must 'what is written of another tree' 1 "$([ ! -e out/check.passed ] && echo 1)"
+tools/checked "$tree_of_head"
+git tag -f -a -F out/check.passed "v$version" > "$work/out"
+echo more >> README.md
+must 'the tree that ./check begins with if there are changes' '' "$(tools/checked)"
+tools/checked "$tree_of_head"
+must 'what is written if there are changes' 1 "$([ ! -e out/check.passed ] && echo 1)"
+refuses 'the tree has changes that are not committed' "$version"
+git commit -q -a -m more
+refuses "v$version is not what is checked out" "$version"
+sed -i 's/^__version__ = .*/__version__ = "9.0.0"/' python/src/fluent_uri/__init__.py
+git commit -q -a -m other
+refuses "not $version: python/src/fluent_uri/__init__.py has 9.0.0" "$version"
+git reset -q --hard "v$version"
+sed -i "s/^## $version, .*/## $version, not released yet/" CHANGELOG.md
+git commit -q -a -m undated
+tagged './check passed' '' "Checked-tree: $(git rev-parse 'HEAD^{tree}')" "Checked-by: $IDENTITY"
+refuses "CHANGELOG.md lacks '## $version, 2026-01-02', the day of debian/changelog" "$version"
+git reset -q --hard HEAD~
+tools/checked "$(tools/checked)"
+git tag -f -a -F out/check.passed "v$version" > "$work/out"
+
+# A release, and another in another folder on another day.
+tools/release "$version" > "$work/out" 2> "$work/err"
+must 'the status of a release' 0 $?
+[ -d out/release ] || { tail -n 40 "$work/err"; ends; }
+must 'the files of a release' "SHA256SUMS
+fluent-uri-$version-arm64.proved.txt
+fluent-uri-$version-arm64.spdx.json
+fluent-uri-$version-source.tar.gz
+fluent-uri-$version.proved.txt
+fluent-uri-$version.spdx.json
+fluent-uri-tools_${version}_amd64.deb
+fluent_uri-$version-py3-none-PLATFORM.whl
+fluent_uri-$version.tar.gz
+libfluent-uri-dev_${version}_amd64.deb
+libfluent-uri-dev_${version}_arm64.deb
+libfluent-uri0_${version}_amd64.deb
+libfluent-uri0_${version}_arm64.deb
+python3-fluent-uri_${version}_amd64.deb" \
+    "$(LC_ALL=C ls out/release | sed 's/none-.*\.whl/none-PLATFORM.whl/')"
+(cd out/release && sha256sum --quiet -c SHA256SUMS)
+must 'the digests' 0 $?
+must 'the statement names the tag' 1 "$(grep -c "the tag v$version, with the tree" \
+    "out/release/fluent-uri-$version.proved.txt")"
+count=$(cd tools && python3 -Bc 'from handed_on import PRODUCTS
+from repository import bottom_up, crates
+print(len(bottom_up(crates(), [crates()[it] for it in PRODUCTS])))')
+must 'the statement has a verdict of each crate' "$count uri_pct urilines" \
+    "$(grep -B 2 '^    logic=proved ' "out/release/fluent-uri-$version.proved.txt" |
+        sed -n 's/^\([a-z].*\)/\1/p' | awk 'NR == 1 { one = $0 } END { print NR, one, $0 }')"
+for it in out/release/*.deb; do
+    name=$(basename "${it%%_*}")
+    rm -rf "$work/files"
+    dpkg-deb -x "$it" "$work/files"
+    case $it in *arm64*) of=-arm64 ;; *) of= ;; esac
+    for file in proved.txt spdx.json; do
+        found=$work/files/usr/share/doc/$name/$file
+        [ $file = proved.txt ] || found=${found%/*}/fluent-uri.$file
+        cmp -s "$found" "out/release/fluent-uri-$version$of.$file"
+        must "$file in $it" 0 $?
+    done
+done
+must 'the target of arm64' 1 "$(grep -c 'logic=proved.* target=aarch64-unknown-linux-gnu' \
+    "out/release/fluent-uri-$version-arm64.proved.txt")"
+rm -rf "$work/files"
+for it in out/release/*_amd64.deb; do
+    dpkg-deb -x "$it" "$work/files"
+done
+proved=$tree/out/release/fluent-uri-$version.proved.txt
+(cd "$work/files" && sed -n 's|^\([0-9a-f]*\)  /|\1  |p' "$proved" | sha256sum --quiet -c)
+must 'the digests of what is installed' 0 $?
+for it in bin/uritool bin/urilines share/man/man1/urilines.1.gz include/fluent_uri.h \
+    share/bash-completion/completions/urilines share/zsh/vendor-completions/_uritool \
+    share/fish/vendor_completions.d/urilines.fish lib/python3/dist-packages/fluent_uri/batch.py; do
+    must "the packages have $it" 1 "$([ -e "$work/files/usr/$it" ] && echo 1)"
+done
+must 'the wheel has the statement' 1 \
+    "$(/usr/bin/python3 -m zipfile -l out/release/*.whl | grep -c 'sboms/proved.txt')"
+git clone -q . "$work/another"
+cd "$work/another" || exit 2
+later=
+has faketime 'build on another day' && later='faketime -f +40d'
+$later tools/release --verify "$tree/out/release" > "$work/out" 2> "$work/err"
+must 'the status of a second build' 0 $?
+must 'the line of a second build' \
+    "release: $tree/out/release is $version, byte for byte: 14 files" "$(tail -n 1 "$work/out")"
+cp "$tree/LICENSE" "$tree/out/release/fluent-uri-$version.spdx.json"
+tools/release --verify "$tree/out/release" > "$work/out" 2> "$work/err"
+must 'the status of a release with another file' 1 $?
+must 'the line of a release with another file' \
+    "release: not as $tree/out/release/SHA256SUMS has it: fluent-uri-$version.spdx.json" \
+    "$(cat "$work/err")"
+ends

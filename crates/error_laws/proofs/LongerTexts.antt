@@ -1,0 +1,222 @@
+-- What is next in a text that goes on, and where digits and IPv4 addresses end in it.
+use Rattle.std.proofs.Common.{◌≡◌, ℕ, zero, suc, ◌+◌, ◌-◌, ◌<◌, ◌≤◌, true, false, cond, eqb, List}
+use Rattle.std.proofs.Common.{[], ◌∷◌, ◌++◌, length, take, drop, ◌⊎◌, Option, Some, None, refl, sym}
+use Rattle.std.proofs.Common.{ap, ◌∙◌, arith, ◌&&◌, ⊎_elim, length-drop}
+use Rattle.std.specs.Prelude.{codes, nat_lt, nat_le, slice_range, option_and_then}
+use Rattle.std.specs.Char.{is_digit}
+use Rattle.std.specs.Net.Reader.{digit_count}
+use Rattle.std.specs.Str.Parse.{digits_value}
+use Rattle.std.proofs.lemmas.Bool.{cases_Bool, cases_lt, cond-true, cond-false, false≢true}
+use Rattle.std.proofs.lemmas.List.{drop-append-le, drop_more, drop_all, take-append-le}
+use Rattle.std.proofs.lemmas.List.Sums.{prefix_len-le-length}
+use Rattle.std.proofs.lemmas.Option.{same_Some, none-some}
+use Rattle.uri_parts.specs.Components.{starts, is_end}
+use Rattle.uri_parts.specs.LiteralErrors.{digits_end, octet_end, octets_end, ipv4_end}
+use Rattle.uri_parts.specs.Scanning.{is_next}
+
+-- error law: what is next before the end of a text is next in a longer text too
+pub next-is-kept-in-longer-text : (text more : List ℕ) (mark i : ℕ) → i < length text
+    → is_next (text ++ more) mark i ≡ is_next text mark i
+next-is-kept-in-longer-text text more mark i l =
+    ap (starts mark) (drop-append-le i text more (omega (arith, l))
+    ∙ ap (λ t. t ++ more) (drop_more text i 0 l))
+    ∙ sym (ap (starts mark) (drop_more text i 0 l))
+
+-- error law: where a mark is next, the text does not end
+pub mark-is-within-text : (text : List ℕ) (mark i : ℕ) → is_next text mark i ≡ true
+    → i < length text
+mark-is-within-text text mark i e = ⊎_elim
+    (λ (l : i < length text). l)
+    (λ (l : length text ≤ i). absurd (false≢true (sym (ap (starts mark) (drop_all i text l)) ∙ e)))
+    (cases_lt i (length text))
+
+-- general fact on texts, for the error law: one with a byte is not at its end
+pub bytes-are-no-end : (b : ℕ) (bs : List ℕ) → is_end (b ∷ bs) ≡ false
+unfolding is_end
+bytes-are-no-end b bs = refl
+
+-- general fact on texts, for the error law: the empty one is at its end
+pub empty-text-is-end : is_end [] ≡ true
+unfolding is_end
+empty-text-is-end = refl
+
+-- general fact on texts, for the error law: one that begins with `]` (93) is not at its end
+pub bracket-is-no-end : (bs : List ℕ) → starts 93 bs ≡ true → is_end bs ≡ false
+bracket-is-no-end [] e = absurd (false≢true e)
+bracket-is-no-end (b ∷ bs) e = bytes-are-no-end b bs
+
+-- error law: in a longer text no fewer digits come first
+digits-are-no-fewer-in-longer-text : (radix : ℕ) (bs more : List ℕ)
+    → digit_count radix bs ≤ digit_count radix (bs ++ more)
+digits-are-no-fewer-in-longer-text radix [] more = omega arith
+digits-are-no-fewer-in-longer-text radix (b ∷ bs) more =
+    let ih = digits-are-no-fewer-in-longer-text radix bs more in ⊎_elim
+    (λ d.
+    let e = cond-true (is_digit b radix) (1 + digit_count radix bs) 0 d in
+    let f = cond-true (is_digit b radix) (1 + digit_count radix (bs ++ more)) 0 d in
+    omega (arith, ih, e, f))
+    (λ d. let e = cond-false (is_digit b radix) (1 + digit_count radix bs) 0 d in omega (arith, e))
+    (cases_Bool (is_digit b radix))
+
+-- error law: digits that end within a text end there in a longer text too
+digits-within-text-are-kept : (radix : ℕ) (bs more : List ℕ) → digit_count radix bs < length bs
+    → digit_count radix (bs ++ more) ≡ digit_count radix bs
+digits-within-text-are-kept radix [] more l = absurd (omega arith)
+digits-within-text-are-kept radix (b ∷ bs) more l = ⊎_elim
+    (λ d.
+    let e = cond-true (is_digit b radix) (1 + digit_count radix bs) 0 d in
+    cond-true _ _ _ d
+    ∙ ap (λ n. 1 + n) (digits-within-text-are-kept radix bs more (omega (arith, e, l))) ∙ sym e)
+    (λ d. cond-false _ _ _ d ∙ sym (cond-false _ _ _ d))
+    (cases_Bool (is_digit b radix))
+
+-- error law: digits end with a text if what is after it begins with none
+digits-end-where-none-follow : (radix : ℕ) (bs more : List ℕ) → digit_count radix more ≡ 0
+    → digit_count radix (bs ++ more) ≡ digit_count radix bs
+digits-end-where-none-follow radix [] more z = z
+digits-end-where-none-follow radix (b ∷ bs) more z =
+    ap (λ n. cond (is_digit b radix) (1 + n) 0) (digits-end-where-none-follow radix bs more z)
+
+module _ (text : List ℕ) (radix most i : ℕ) (le : i ≤ length text) where
+  digits-of-longer-text : (more : List ℕ) → digit_count radix (drop i (text ++ more))
+      ≡ digit_count radix (drop i text ++ more)
+  digits-of-longer-text more = ap (digit_count radix) (drop-append-le i text more le)
+
+  pub digits_end-is-kept-in-longer-text : (more : List ℕ)
+      → (digits_end text radix most i < length text) ⊎ (i + most ≤ digits_end text radix most i)
+      → digits_end (text ++ more) radix most i ≡ digits_end text radix most i
+  digits_end-is-kept-in-longer-text more h =
+      let d = digits-of-longer-text more in
+      let n = length-drop i text in
+      let fewer = digits-are-no-fewer-in-longer-text radix (drop i text) more in ⊎_elim
+      (λ (l : digit_count radix (drop i text) < length (drop i text)).
+      let s = digits-within-text-are-kept radix (drop i text) more l in omega (arith, d, s))
+      (λ (l : length (drop i text) ≤ digit_count radix (drop i text)). ⊎_elim
+      (λ (a : digits_end text radix most i < length text). omega (arith, d, n, fewer, l, a, le))
+      (λ (a : i + most ≤ digits_end text radix most i). omega (arith, d, fewer, a))
+      h)
+      (cases_lt (digit_count radix (drop i text)) (length (drop i text)))
+
+  pub digits_end-is-no-earlier-in-longer-text : (more : List ℕ)
+      → digits_end text radix most i ≤ digits_end (text ++ more) radix most i
+  digits_end-is-no-earlier-in-longer-text more =
+      omega (
+        arith,
+        digits-of-longer-text more,
+        digits-are-no-fewer-in-longer-text radix (drop i text) more,
+      )
+
+  pub digits_end-is-kept-where-none-follow : (more : List ℕ) → digit_count radix more ≡ 0
+      → digits_end (text ++ more) radix most i ≡ digits_end text radix most i
+  digits_end-is-kept-where-none-follow more z =
+      omega (
+        arith,
+        digits-of-longer-text more,
+        digits-end-where-none-follow radix (drop i text) more z,
+      )
+
+-- general fact on options, for the error law: what follows is the same if it is for what is there
+same-next-if-same-for-value : (f g : ℕ → Option ℕ) (o : Option ℕ)
+    → ((n : ℕ) → o ≡ Some n → f n ≡ g n)
+    → option_and_then f o ≡ option_and_then g o
+same-next-if-same-for-value f g None h = refl
+same-next-if-same-for-value f g (Some n) h = h n refl
+
+-- general fact on options, for the error law: after two steps there is what follows the first
+value-after-two-steps : (P : ℕ → Type 0) (f : ℕ → Option ℕ) (o : Option ℕ) (end : ℕ)
+    → option_and_then f o ≡ Some end → ((n : ℕ) → o ≡ Some n → f n ≡ Some end → P end) → P end
+value-after-two-steps P f None end e h = absurd (none-some end e)
+value-after-two-steps P f (Some n) end e h = h n refl e
+
+module _ (text : List ℕ) where
+  abbrev pub closing : List ℕ
+  closing = text ++ codes "]"
+
+  -- but for a `]`, the same characters are next if the text goes on with one
+  pub next-before-bracket-is-kept : (mark i : ℕ) → eqb 93 mark ≡ false → i ≤ length text
+      → is_next closing mark i ≡ is_next text mark i
+  next-before-bracket-is-kept mark i other le = ⊎_elim
+      (λ (l : i < length text). next-is-kept-in-longer-text text (codes "]") mark i l)
+      (λ (l : length text ≤ i). ap (starts mark) (drop-append-le i text (codes "]") le
+      ∙ ap (λ t. t ++ codes "]") (drop_all i text l)) ∙ other
+      ∙ sym (ap (starts mark) (drop_all i text l)))
+      (cases_lt i (length text))
+
+  pub digits_end-is-within-text : (radix most i : ℕ) → i ≤ length text
+      → digits_end text radix most i ≤ length text
+  digits_end-is-within-text radix most i le = omega
+      (arith, prefix_len-le-length (λ c. is_digit c radix) (drop i text), length-drop i text, le)
+
+  octet-is-kept-before-bracket : (i : ℕ) → i ≤ length text
+      → octet_end closing i ≡ octet_end text i
+  unfolding octet_end
+  octet-is-kept-before-bracket i le =
+      let n = next-before-bracket-is-kept 48 i refl le in
+      let d = digits_end-is-kept-where-none-follow text 10 3 i le (codes "]") refl in
+      let end : ℕ = digits_end text 10 3 i in
+      let s : slice_range closing i end ≡ slice_range text i end =
+      ap (take (end - i)) (drop-append-le i text (codes "]") le)
+      ∙ take-append-le (end - i) (drop i text) (codes "]")
+      (omega (arith, digits_end-is-within-text 10 3 i le, length-drop i text)) in
+      rw (n, d, s) refl
+
+  octet-ends-within-text : (i end : ℕ) → i ≤ length text → octet_end text i ≡ Some end
+      → end ≤ length text
+  unfolding octet_end
+  octet-ends-within-text i end le e = ⊎_elim
+      (λ z. let l = mark-is-within-text text 48 i z in
+      omega (arith, same_Some _ _ (sym (cond-true _ _ _ z) ∙ e)))
+      (λ z. let t = sym (cond-false _ _ _ z) ∙ e in ⊎_elim
+      (λ k. omega (
+        arith,
+        same_Some _ _ (sym (cond-true _ _ _ k) ∙ t),
+        digits_end-is-within-text 10 3 i le,
+      ))
+      (λ k. absurd (none-some end (sym (cond-false _ _ _ k) ∙ t)))
+      (cases_Bool (nat_lt i (digits_end text 10 3 i)
+      && nat_le (digits_value 10 (slice_range text i (digits_end text 10 3 i))) 255)))
+      (cases_Bool (is_next text 48 i))
+
+  octets-are-kept-before-bracket : (n i : ℕ) → i ≤ length text
+      → octets_end closing n i ≡ octets_end text n i
+  unfolding octets_end
+  octets-are-kept-before-bracket zero i le = refl
+  octets-are-kept-before-bracket (suc n) i le = ⊎_elim
+      (λ d.
+      let l = mark-is-within-text text 46 i d in
+      let within : i + 1 ≤ length text = omega arith in
+      cond-true _ _ _ (next-before-bracket-is-kept 46 i refl le ∙ d)
+      ∙ ap (option_and_then (octets_end closing n)) (octet-is-kept-before-bracket (i + 1) within)
+      ∙ same-next-if-same-for-value (octets_end closing n) (octets_end text n)
+      (octet_end text (i + 1))
+      (λ end e. octets-are-kept-before-bracket n end (octet-ends-within-text (i + 1) end within e))
+      ∙ sym (cond-true _ _ _ d))
+      (λ d. cond-false _ _ _ (next-before-bracket-is-kept 46 i refl le ∙ d)
+      ∙ sym (cond-false _ _ _ d))
+      (cases_Bool (is_next text 46 i))
+
+  octets-end-within-text : (n i end : ℕ) → i ≤ length text → octets_end text n i ≡ Some end
+      → end ≤ length text
+  unfolding octets_end
+  octets-end-within-text zero i end le e = omega (arith, same_Some _ _ e)
+  octets-end-within-text (suc n) i end le e = ⊎_elim
+      (λ d.
+      let l = mark-is-within-text text 46 i d in
+      value-after-two-steps (λ k. k ≤ length text) (octets_end text n) (octet_end text (i + 1)) end
+      (sym (cond-true _ _ _ d) ∙ e)
+      (λ m a b. octets-end-within-text n m end
+      (octet-ends-within-text (i + 1) m (omega arith) a) b))
+      (λ d. absurd (none-some end (sym (cond-false _ _ _ d) ∙ e)))
+      (cases_Bool (is_next text 46 i))
+
+  pub ipv4-is-kept-before-bracket : (i : ℕ) → i ≤ length text → ipv4_end closing i ≡ ipv4_end text i
+  ipv4-is-kept-before-bracket i le =
+      ap (option_and_then (octets_end closing 3)) (octet-is-kept-before-bracket i le)
+      ∙ same-next-if-same-for-value (octets_end closing 3) (octets_end text 3) (octet_end text i)
+      (λ end e. octets-are-kept-before-bracket 3 end (octet-ends-within-text i end le e))
+
+  pub ipv4-ends-within-text : (i end : ℕ) → i ≤ length text → ipv4_end text i ≡ Some end
+      → end ≤ length text
+  ipv4-ends-within-text i end le e = value-after-two-steps (λ k. k ≤ length text)
+      (octets_end text 3) (octet_end text i) end e
+      (λ m a b. octets-end-within-text 3 m end (octet-ends-within-text i m le a) b)

@@ -1,0 +1,224 @@
+-- No call is defined to return that memory is out: that comes from a denied request alone.
+use Rattle.std.proofs.Common.{◌≡◌, ℕ, Bool, true, false, List, refl, sym, ap, subst, ◌∙◌, inl, inr}
+use Rattle.std.specs.Prelude.{◌==◌, Option, Some, None, Result, Ok, Err, IsTrue, ◌⊎◌}
+use Rattle.std.specs.Prelude.{if◌then◌else◌, nat_lt, option_map}
+use Rattle.std.specs.Result.{result_map_both}
+use Rattle.std.specs.Str.Lossy.{utf8_valid_len}
+use Rattle.std.specs.Prelude.{length}
+use Rattle.std.proofs.lemmas.Bool.{both_ways}
+use Rattle.uri_parts.specs.declared.error.ParseError.{ParseError}
+use Rattle.uri_parts.specs.declared.error.ParseErrorKind.{ParseErrorKind}
+use Rattle.uri_parts.specs.declared.error.ParseErrorKind.TheVariants.{InvalidPctEncodedOctet}
+use Rattle.uri_parts.specs.declared.error.ParseErrorKind.TheVariants.{UnexpectedChar}
+use Rattle.uri_parts.specs.declared.error.ParseErrorKind.TheVariants.{InvalidIpv6Addr}
+use Rattle.uri_parts.specs.Grammar.{Kind}
+use Rattle.uri_parts.specs.Refusals.{refusal}
+use Rattle.uri_ops.specs.NormalTargets.{reference_kind}
+use Rattle.uri_ops.specs.Target as Target
+use Rattle.uri_relative.specs.Rule.{reference_to}
+use Rattle.uri_mend.specs.Mending.{can_be_mended, mended_text}
+use Rattle.uri_mend.specs.Trimming.{trimmed_link}
+use Rattle.fluent_uri_c.specs.declared.errors.Error.TheVariants.{OutOfMemory, InvalidArgument}
+use Rattle.fluent_uri_c.specs.declared.errors.Error.TheVariants.{NotUtf8}
+use Rattle.fluent_uri_c.specs.declared.errors.Rejection.{Rejection}
+use Rattle.fluent_uri_c.specs.Errors.{error_of_kind, in_reference, number_of, parse_rejection}
+use Rattle.fluent_uri_c.specs.Errors.{rejected, rejected_at}
+use Rattle.fluent_uri_c.specs.Kinds.{base_numbered, iri_numbered, kind_numbered}
+use Rattle.fluent_uri_c.specs.Mends.{mend_link_result, mend_result, unmendable_error}
+use Rattle.fluent_uri_c.specs.Options.{path_preference}
+use Rattle.fluent_uri_c.specs.Relatives.{relativize_result}
+use Rattle.fluent_uri_c.specs.Results.{IsReturnedOrDenied, Returned, second_text_error, with_base}
+use Rattle.fluent_uri_c.specs.Results.{component_error, component_refusal}
+use Rattle.fluent_uri_c.specs.Results.{decode_result, encode_result}
+use Rattle.fluent_uri_c.specs.Results.{error_of_target}
+use Rattle.fluent_uri_c.specs.Results.{first_rejection, is_out_of_memory, is_possible_length}
+use Rattle.fluent_uri_c.specs.Results.{length_error, normal_form_of, normal_resolution}
+use Rattle.fluent_uri_c.specs.Results.{normalize_result}
+use Rattle.fluent_uri_c.specs.Results.{rejection_or_result, resolution, resolve_result}
+use Rattle.fluent_uri_c.specs.Results.{resolve_normalized_result, text_error}
+use Rattle.fluent_uri_c.specs.Results.{to_uri_result, utf8_error, with_valid_number}
+use Rattle.fluent_uri_c.specs.Sets.{decoding_set, encoding_set}
+
+-- exports for C: whether a rejection, if there is one, is that memory is out
+abbrev option_is_memory : Option Rejection → Bool
+option_is_memory None = false
+option_is_memory (Some why) = number_of why.error == 8
+
+of_rejection_or_result : (o : Option Rejection) (r : Returned) → option_is_memory o ≡ false
+    → is_out_of_memory r ≡ false → is_out_of_memory (rejection_or_result o r) ≡ false
+of_rejection_or_result None r p q = q
+of_rejection_or_result (Some why) r p q = p
+
+of_first_rejection : (o other : Option Rejection) → option_is_memory o ≡ false
+    → option_is_memory other ≡ false → option_is_memory (first_rejection o other) ≡ false
+of_first_rejection None other p q = q
+of_first_rejection (Some why) other p q = p
+
+of_in_reference : (o : Option Rejection) → option_is_memory o ≡ false
+    → option_is_memory (option_map in_reference o) ≡ false
+of_in_reference None p = refl
+of_in_reference (Some why) p = p
+
+of_valid_number : {A : Type 0} → (o : Option A) (f : A → Returned)
+    → ((a : A) → is_out_of_memory (f a) ≡ false)
+    → is_out_of_memory (with_valid_number o f) ≡ false
+of_valid_number None f h = refl
+of_valid_number (Some a) f h = h a
+
+of_kind : (kind : ParseErrorKind) → (number_of (error_of_kind kind) == 8) ≡ false
+of_kind InvalidPctEncodedOctet = refl
+of_kind UnexpectedChar = refl
+of_kind InvalidIpv6Addr = refl
+
+of_parse_error : (o : Option ParseError) → option_is_memory (option_map parse_rejection o) ≡ false
+of_parse_error None = refl
+of_parse_error (Some e) = of_kind e.kind
+
+of_length_test : (b : Bool)
+    → option_is_memory (if b then None else Some (rejected InvalidArgument)) ≡ false
+of_length_test true = refl
+of_length_test false = refl
+
+of_length_error : (bytes : List ℕ) → option_is_memory (length_error bytes) ≡ false
+of_length_error bytes = of_length_test (is_possible_length bytes)
+
+of_utf8_test : (b : Bool) (n : ℕ)
+    → option_is_memory (if b then Some (rejected_at NotUtf8 n) else None) ≡ false
+of_utf8_test true n = refl
+of_utf8_test false n = refl
+
+of_utf8_error : (bytes : List ℕ) → option_is_memory (utf8_error bytes) ≡ false
+of_utf8_error bytes = of_first_rejection (length_error bytes) _ (of_length_error bytes)
+    (of_utf8_test (nat_lt (utf8_valid_len bytes) (length bytes)) (utf8_valid_len bytes))
+
+of_text_error : (kind : Kind) (bytes : List ℕ) → option_is_memory (text_error kind bytes) ≡ false
+of_text_error kind bytes = of_first_rejection (utf8_error bytes) _ (of_utf8_error bytes)
+    (of_parse_error (refusal kind bytes))
+
+of_second_text : (kind : Kind) (bytes : List ℕ)
+    → option_is_memory (second_text_error kind bytes) ≡ false
+of_second_text kind bytes = of_in_reference (text_error kind bytes) (of_text_error kind bytes)
+
+of_base : (n : ℕ) (base : List ℕ) (result : Kind → Returned)
+    → ((kind : Kind) → is_out_of_memory (result kind) ≡ false)
+    → is_out_of_memory (with_base n base result) ≡ false
+of_base n base result h = of_valid_number (base_numbered n) _
+    (λ kind. of_rejection_or_result (text_error kind base) (result kind)
+    (of_text_error kind base) (h kind))
+
+of_unmendable : (b : Bool) (o : Option ParseError)
+    → option_is_memory (if b then None else option_map parse_rejection o) ≡ false
+of_unmendable true o = refl
+of_unmendable false o = of_parse_error o
+
+of_mending : (kind : Kind) (bytes link : List ℕ)
+    → option_is_memory (first_rejection (utf8_error bytes) (unmendable_error kind link)) ≡ false
+of_mending kind bytes link = of_first_rejection (utf8_error bytes) _ (of_utf8_error bytes)
+    (of_unmendable (can_be_mended kind link) (refusal kind link))
+
+of_target_error : (r : Result (List ℕ) Target.TargetError)
+    → is_out_of_memory (result_map_both (λ target. target) error_of_target r) ≡ false
+of_target_error (Ok target) = refl
+of_target_error (Err Target.BaseWithFragment) = refl
+of_target_error (Err Target.InvalidReferenceAgainstOpaqueBase) = refl
+
+of_resolution : (base reference : List ℕ) → is_out_of_memory (resolution base reference) ≡ false
+unfolding resolution
+of_resolution base reference = of_target_error (Target.resolution_of_texts base reference)
+
+of_mapped_text : (f : List ℕ → List ℕ) (r : Returned) → is_out_of_memory r ≡ false
+    → is_out_of_memory (result_map_both f (λ why. why) r) ≡ false
+of_mapped_text f (Ok text) p = refl
+of_mapped_text f (Err why) p = p
+
+of_normal_resolution : (kind : Kind) (base reference : List ℕ)
+    → is_out_of_memory (normal_resolution kind base reference) ≡ false
+unfolding normal_resolution
+of_normal_resolution kind base reference = of_mapped_text (normal_form_of kind)
+    (resolution base reference) (of_resolution base reference)
+
+-- exports for C: normalising is not defined to return that memory is out
+pub normalize_result-is-other : (n : ℕ) (text : List ℕ)
+    → is_out_of_memory (normalize_result n text) ≡ false
+normalize_result-is-other n text = of_valid_number (kind_numbered n) _
+    (λ kind. of_rejection_or_result (text_error kind text) _ (of_text_error kind text) refl)
+
+-- exports for C: converting is not defined to return that memory is out
+pub to_uri_result-is-other : (n : ℕ) (text : List ℕ)
+    → is_out_of_memory (to_uri_result n text) ≡ false
+to_uri_result-is-other n text = of_valid_number (iri_numbered n) _
+    (λ kind. of_rejection_or_result (text_error kind text) _ (of_text_error kind text) refl)
+
+-- exports for C: resolving is not defined to return that memory is out
+pub resolve_result-is-other : (n : ℕ) (base reference : List ℕ)
+    → is_out_of_memory (resolve_result n base reference) ≡ false
+resolve_result-is-other n base reference = of_base n base _
+    (λ kind. of_rejection_or_result (second_text_error (reference_kind kind) reference)
+    (resolution base reference) (of_second_text (reference_kind kind) reference)
+    (of_resolution base reference))
+
+-- exports for C: resolving and normalising are not defined to return that memory is out
+pub resolve_normalized_result-is-other : (n : ℕ) (base reference : List ℕ)
+    → is_out_of_memory (resolve_normalized_result n base reference) ≡ false
+resolve_normalized_result-is-other n base reference = of_base n base _
+    (λ kind. of_rejection_or_result (second_text_error (reference_kind kind) reference)
+    (normal_resolution kind base reference) (of_second_text (reference_kind kind) reference)
+    (of_normal_resolution kind base reference))
+
+-- exports for C: relativizing is not defined to return that memory is out
+pub relativize_result-is-other : (n options : ℕ) (base target : List ℕ)
+    → is_out_of_memory (relativize_result n options base target) ≡ false
+relativize_result-is-other n options base target = of_valid_number (path_preference options) _
+    (λ prefers. of_base n base _
+    (λ kind. of_rejection_or_result (second_text_error kind target)
+    (Ok (reference_to prefers base target)) (of_second_text kind target) refl))
+
+-- exports for C: decoding is not defined to return that memory is out
+pub decode_result-is-other : (n : ℕ) (text : List ℕ)
+    → is_out_of_memory (decode_result n text) ≡ false
+decode_result-is-other n text = of_valid_number (decoding_set n) _
+    (λ set. of_rejection_or_result (component_error set text) _
+    (of_first_rejection (utf8_error text) _ (of_utf8_error text)
+    (of_parse_error (component_refusal set text))) refl)
+
+-- exports for C: encoding is not defined to return that memory is out
+pub encode_result-is-other : (n : ℕ) (bytes : List ℕ)
+    → is_out_of_memory (encode_result n bytes) ≡ false
+encode_result-is-other n bytes = of_valid_number (encoding_set n) _
+    (λ set. of_rejection_or_result (length_error bytes) _ (of_length_error bytes) refl)
+
+-- exports for C: mending is not defined to return that memory is out
+pub mend_result-is-other : (n : ℕ) (text : List ℕ) → is_out_of_memory (mend_result n text) ≡ false
+mend_result-is-other n text = of_valid_number (kind_numbered n) _
+    (λ kind. of_rejection_or_result
+    (first_rejection (utf8_error text) (unmendable_error kind text)) (Ok (mended_text kind text))
+    (of_mending kind text text) refl)
+
+-- exports for C: mending a link is not defined to return that memory is out
+pub mend_link_result-is-other : (n : ℕ) (text : List ℕ)
+    → is_out_of_memory (mend_link_result n text) ≡ false
+mend_link_result-is-other n text = of_valid_number (kind_numbered n) _
+    (λ kind. of_rejection_or_result
+    (first_rejection (utf8_error text) (unmendable_error kind (trimmed_link text)))
+    (Ok (mended_text kind (trimmed_link text))) (of_mending kind text (trimmed_link text)) refl)
+
+-- exports for C: if a call returns that memory is out, it is one that takes memory
+pub takes-memory-if-out-of-memory : (takes_memory : Bool) (defined : Returned) (why : Rejection)
+    → why.error ≡ OutOfMemory → is_out_of_memory defined ≡ false
+    → (((why ≡ rejected OutOfMemory) × IsTrue takes_memory) ⊎ (defined ≡ Err why))
+    → IsTrue takes_memory
+takes-memory-if-out-of-memory takes_memory defined why e other h = elim h [
+  | inl p ↦ p.1
+  | inr is ↦ absurd (both_ways _ (sym (ap is_out_of_memory is) ∙ other)
+      (ap (λ error. number_of error == 8) e))
+]
+
+-- exports for C: the same, of what a call returned
+pub takes-memory-if-denied : {T : Type 0} → (takes_memory : Bool) (bytes : T → List ℕ)
+    (defined : Returned) (returned : Result T Rejection) (why : Rejection) → returned ≡ Err why
+    → why.error ≡ OutOfMemory → is_out_of_memory defined ≡ false
+    → IsReturnedOrDenied takes_memory bytes defined returned → IsTrue takes_memory
+takes-memory-if-denied takes_memory bytes defined returned why is e other h =
+    let rejected : IsReturnedOrDenied takes_memory bytes defined (Err why) =
+    subst (λ r. IsReturnedOrDenied takes_memory bytes defined r) is h in
+    takes-memory-if-out-of-memory takes_memory defined why e other rejected

@@ -1,0 +1,72 @@
+-- What a call returns by a base that is parsed is what it returns for the base's bytes.
+use Rattle.std.proofs.Common.{◌≡◌, ℕ, Bool, List, refl, sym, ap, ◌∙◌}
+use Rattle.std.specs.Prelude.{Option, Some, None, Err, unwrap_or}
+use Rattle.fluent_uri.specs.Grammar.{Kind, iri, uri}
+use Rattle.fluent_uri.specs.References.{reference_text}
+use Rattle.fluent_uri_c.specs.declared.bases.Base.{Base}
+use Rattle.fluent_uri_c.specs.declared.bases.Base.TheVariants.{Iri, Rejected, Uri}
+use Rattle.fluent_uri_c.specs.declared.errors.Rejection.{Rejection}
+use Rattle.fluent_uri_c.specs.Bases.{IsBaseOf, IsParsedBase, by_base}
+use Rattle.fluent_uri_c.specs.Bases.{normal_target_by, reference_by, target_by}
+use Rattle.fluent_uri_c.specs.Kinds.{base_numbered}
+use Rattle.fluent_uri_c.specs.Options.{path_preference}
+use Rattle.fluent_uri_c.specs.Relatives.{reference_from, relativize_result}
+use Rattle.fluent_uri_c.specs.Results.{Returned, normal_target_from, rejection_or_result}
+use Rattle.fluent_uri_c.specs.Results.{resolve_normalized_result, resolve_result, target_from}
+use Rattle.fluent_uri_c.specs.Results.{text_error, with_base, with_valid_number}
+use Rattle.fluent_uri_c.specs.Spans.{parse_error}
+
+of_parsed_base : (result : Kind → List ℕ → Returned) (n : ℕ) (bytes text : List ℕ) (kind : Kind)
+    → IsParsedBase n bytes kind text
+    → result kind text ≡ with_base n bytes (λ k. result k bytes)
+of_parsed_base result n bytes text kind is =
+    ap (result kind) is.same
+    ∙ ap (λ o. rejection_or_result o (result kind bytes)) is.valid
+    ∙ ap (λ o. with_valid_number o (λ k. rejection_or_result (text_error k bytes) (result k bytes)))
+    (sym is.number)
+
+of_rejected_base : (kind : Option Kind) (bytes : List ℕ) (why : Rejection)
+    (result : Kind → Returned) → parse_error kind bytes ≡ Some why
+    → Err why ≡ with_valid_number kind (λ k. rejection_or_result (text_error k bytes) (result k))
+of_rejected_base None bytes why result e = sym (ap (λ o. Err (unwrap_or o why)) e)
+of_rejected_base (Some kind) bytes why result e =
+    sym (ap (λ o. rejection_or_result o (result kind)) e)
+
+-- exports for C: what a call returns by a base is its result for the bytes of that base
+of_base : (result : Kind → List ℕ → Returned) (n : ℕ) (bytes : List ℕ) (base : Base)
+    → IsBaseOf n bytes base → by_base result base ≡ with_base n bytes (λ k. result k bytes)
+of_base result n bytes (Uri base) is =
+    of_parsed_base result n bytes (reference_text base) uri is
+of_base result n bytes (Iri base) is =
+    of_parsed_base result n bytes (reference_text base) iri is
+of_base result n bytes (Rejected why) is =
+    of_rejected_base (base_numbered n) bytes why (λ k. result k bytes) is
+
+-- exports for C: the target by a base is what resolving against its bytes returns
+pub target_by-is-resolve_result : (n : ℕ) (bytes : List ℕ) (base : Base) (reference : List ℕ)
+    → IsBaseOf n bytes base → target_by base reference ≡ resolve_result n bytes reference
+target_by-is-resolve_result n bytes base reference is =
+    of_base (λ kind text. target_from kind text reference) n bytes base is
+
+-- exports for C: the same of normal targets
+pub normal_target_by-is-resolve_normalized_result : (n : ℕ) (bytes : List ℕ) (base : Base)
+    (reference : List ℕ) → IsBaseOf n bytes base
+    → normal_target_by base reference ≡ resolve_normalized_result n bytes reference
+normal_target_by-is-resolve_normalized_result n bytes base reference is =
+    of_base (λ kind text. normal_target_from kind text reference) n bytes base is
+
+of_preference : (o : Option Bool) (n : ℕ) (bytes : List ℕ) (base : Base) (target : List ℕ)
+    → IsBaseOf n bytes base
+    → with_valid_number o (λ prefers. by_base (λ k t. reference_from prefers k t target) base)
+    ≡ with_valid_number o
+    (λ prefers. with_base n bytes (λ k. reference_from prefers k bytes target))
+of_preference None n bytes base target is = refl
+of_preference (Some prefers) n bytes base target is =
+    of_base (λ k t. reference_from prefers k t target) n bytes base is
+
+-- exports for C: the reference by a base is what relativizing from its bytes returns
+pub reference_by-is-relativize_result : (n options : ℕ) (bytes : List ℕ) (base : Base)
+    (target : List ℕ) → IsBaseOf n bytes base
+    → reference_by options base target ≡ relativize_result n options bytes target
+reference_by-is-relativize_result n options bytes base target is =
+    of_preference (path_preference options) n bytes base target is

@@ -1,0 +1,15 @@
+use Rattle.fluent_uri_c.specs.Mends.{mend_link_result}
+use Rattle.fluent_uri_c.proofs.OtherErrors.{mend_link_result-is-other}
+use Rattle.fluent_uri_c.proofs.mending.MendingLinksCall.call.Goals as goal
+
+pub returns-clause-made : goal.returns-clause-made
+returns-clause-made c =
+    let call = c.args.self.now in
+    c.batch_result.ensures.made _ (mend_link_result call.kind c.args.text.now)
+    c.mended_link.ensures.text
+
+pub returns-clause-memory : goal.returns-clause-memory
+returns-clause-memory c =
+    let call = c.args.self.now in
+    c.batch_result.ensures.memory _ (mend_link_result call.kind c.args.text.now)
+    (mend_link_result-is-other call.kind c.args.text.now) c.mended_link.ensures.text

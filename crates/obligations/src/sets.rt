@@ -1,0 +1,41 @@
+//! Sets of characters, combined and compared (RFC 3986, appendix A).
+#![tactic(auto)]
+
+ghost use Rattle.std.specs.Prelude.{◌≡◌, ◌↔◌, IsTrue};
+ghost use Rattle.fluent_uri.specs.Sets.{IsSubset, allows, difference, union};
+ghost use Rattle.fluent_uri.specs.Tables.{set_of};
+
+use fluent_uri::pct_enc::Table;
+
+/// A caller gets the set of the characters of either of two sets, but for those of a third.
+pub fn of_two_but_of_a_third(one: Table, other: Table, third: Table) -> Table
+    ensures { set_of result ≡ difference (union (set_of one) (set_of other)) (set_of third) }
+{
+    one.or(&other).sub(&third)
+}
+
+/// A caller gets the set for an IRI: with percent-encoded octets and characters past ASCII.
+pub fn for_iris(table: Table) -> Table {
+    table.or_pct_encoded().or_ucschar().or_iprivate()
+}
+
+/// A caller learns whether each text that is valid for one set is valid for another.
+pub fn is_narrower(one: &Table, other: &Table) -> bool
+    ensures { IsTrue result ↔ IsSubset (set_of one.now) (set_of other.now) }
+{
+    one.is_subset(other)
+}
+
+/// A caller learns whether a set has octets.
+pub fn has_octets(table: &Table) -> bool
+    ensures { result ≡ (set_of table.now).pct_encoded }
+{
+    table.allows_pct_encoded()
+}
+
+/// A caller learns whether a set has a character.
+pub fn has_character(table: &Table, ch: char) -> bool
+    ensures { result ≡ allows (set_of table.now) ch }
+{
+    table.allows(ch)
+}

@@ -1,0 +1,44 @@
+use Rattle.std.proofs.Common.{◌≡◌, ◌++◌, ◌-◌, ◌∙◌, ap, ℕ, List, length, subst, take, drop}
+use Rattle.std.proofs.Common.{take-append-drop}
+use Rattle.std.proofs.KnownBytes.{Appends-trans}
+use Rattle.std.proofs.lemmas.List.{take_rest}
+use Rattle.std.specs.Io.KnownBytes.{Appends}
+use Rattle.uri_commands.specs.Prefixes.{AppendsPrefix}
+use Rattle.uri_commands.proofs.Appended.{AppendsPrefix-after-Appends, AppendsPrefix-of-kept}
+use Rattle.uri_commands.proofs.Appended.{on-ok}
+use Rattle.uri_commands.proofs.sink.write_rest.Goals as goal
+
+abbrev rest : ℕ → List ℕ → List ℕ
+rest taken bytes = take (length bytes - taken) (drop taken bytes)
+
+all : (taken : ℕ) (bytes : List ℕ) → take taken bytes ++ rest taken bytes ≡ bytes
+all taken bytes =
+    ap (λ l. take taken bytes ++ l) (take_rest bytes taken) ∙ take-append-drop taken bytes
+
+pub returns-in_err-taken-clause-prefix : goal.returns-in_err-taken-clause-prefix
+returns-in_err-taken-clause-prefix g c = λ held first.
+    AppendsPrefix-of-kept held (g.W.Write.contents c.args.writer.now) c.args.bytes.now
+    (c.in_err-taken.ensures.bytes held (g.W.Write.contents c.args.writer.now) first)
+
+pub returns-clause-whole : goal.returns-clause-whole
+returns-clause-whole g c =
+    on-ok c.write_whole.result
+    (Appends (g.W.Write.contents c.args.writer.now) (g.W.Write.contents c.write_whole.new.writer)
+    (rest c.in_ok-taken.taken c.args.bytes.now)) _ (λ more held first.
+    subst (Appends held (g.W.Write.contents c.write_whole.new.writer))
+    (all c.in_ok-taken.taken c.args.bytes.now)
+    (Appends-trans held (g.W.Write.contents c.args.writer.now)
+    (g.W.Write.contents c.write_whole.new.writer) (take c.in_ok-taken.taken c.args.bytes.now)
+    (rest c.in_ok-taken.taken c.args.bytes.now)
+    (c.in_ok-taken.ensures.bytes held (g.W.Write.contents c.args.writer.now) first) more))
+    c.write_whole.ensures.whole
+
+pub returns-clause-prefix : goal.returns-clause-prefix
+returns-clause-prefix g c = λ held first.
+    subst (AppendsPrefix held (g.W.Write.contents c.write_whole.new.writer))
+    (all c.in_ok-taken.taken c.args.bytes.now)
+    (AppendsPrefix-after-Appends held (g.W.Write.contents c.args.writer.now)
+    (g.W.Write.contents c.write_whole.new.writer) (take c.in_ok-taken.taken c.args.bytes.now)
+    (rest c.in_ok-taken.taken c.args.bytes.now)
+    (c.in_ok-taken.ensures.bytes held (g.W.Write.contents c.args.writer.now) first)
+    c.write_whole.ensures.prefix)

@@ -1,8 +1,0 @@
-use Rattle.std.proofs.Common.{rules}
-use Rattle.uri_commands.proofs.write_text.show_usage.Goals as goal
-
-pub returns-clause-whole : goal.returns-clause-whole
-returns-clause-whole g c = search rules
-
-pub returns-clause-prefix : goal.returns-clause-prefix
-returns-clause-prefix g c = search rules

@@ -1,0 +1,209 @@
+-- Mending percent-encodes no more than it must: each other reference that percent-encodes
+-- characters of the text percent-encodes those that mending does. And mended components decode to
+-- what they did.
+use Rattle.std.proofs.Common.{◌≡◌, ℕ, true, false, List, [], ◌∷◌, ◌++◌, map, refl, sym, ap}
+use Rattle.std.proofs.Common.{subst, ◌∙◌, ⊎_elim, inl, inr}
+use Rattle.std.specs.Prelude.{Option, Some, None, IfSome, option_map, Result, Ok, Err, IfOk, IfErr}
+use Rattle.std.specs.Char.{encode_utf8}
+use Rattle.std.specs.List.{list_all, flat_map}
+use Rattle.std.specs.Str.{IsUtf8}
+use Rattle.std.proofs.lemmas.Bool.{cases_Bool, cond-true, cond-false, and_parts, both_ways}
+use Rattle.std.proofs.lemmas.List.Folds.{list_all-append}
+use Rattle.uri_pct.specs.Sets.{TableSet, LacksPercent, allows}
+use Rattle.uri_pct.specs.Tokens.{Token, Char, Octet, allows_token, tokens, is_valid_for}
+use Rattle.uri_parts.specs.Components.{components}
+use Rattle.uri_parts.specs.Grammar.{Kind, IsTextOf}
+use Rattle.uri_ops.specs.ComponentSets.{HasComponentSets}
+use Rattle.uri_ops.proofs.Meanings.AllowedParts.{is_set_text, set-text-is-valid}
+use Rattle.uri_ops.proofs.Meanings.TextParts.{components-of-utf8-are-utf8}
+use Rattle.uri_ops.proofs.Meanings.TextParts.{grammar-gives-components-of-kind}
+use Rattle.uri_mend.specs.MendedParts.{mend_token, mended}
+use Rattle.uri_mend.specs.Mending.{link_components, mended_components}
+use Rattle.uri_mend.specs.Encodings.{decoded, DecodeAlike, IsTokenOrItsOctets, AreEncodedAs}
+use Rattle.uri_mend.specs.Encodings.{IsPartEncodedAs, AreComponentsEncodedAs}
+use Rattle.uri_mend.proofs.MendedTokens.{tokens-of-mended-text, mended-text-decodes-alike}
+use Rattle.uri_mend.proofs.MendedReferences.{link-components-are-mendable}
+
+-- fewest encodings: what a token becomes is itself or its octets
+mended-token-is-token-or-its-octets : (set : TableSet) (t : Token)
+    → IsTokenOrItsOctets t (mend_token set t)
+mended-token-is-token-or-its-octets set (Char c) = ⊎_elim
+    (λ e. inl (cond-true _ _ _ e))
+    (λ e. inr (cond-false _ _ _ e))
+    (cases_Bool (allows set c))
+mended-token-is-token-or-its-octets set (Octet value) = refl
+
+-- fewest encodings: tokens become tokens with some characters percent-encoded
+mended-tokens-are-encoded : (set : TableSet) (ts : List Token)
+    → AreEncodedAs ts (flat_map (mend_token set) ts)
+unfolding AreEncodedAs
+mended-tokens-are-encoded set [] = refl
+mended-tokens-are-encoded set (t ∷ ts) = (
+  mend_token set t,
+  (
+    flat_map (mend_token set) ts,
+    (refl, mended-token-is-token-or-its-octets set t, mended-tokens-are-encoded set ts),
+  ),
+)
+
+-- fewest encodings: tokens before which octets stand alike are encoded alike
+octets-before-encoded-tokens : (bytes : List ℕ) (ts us : List Token) → AreEncodedAs ts us
+    → AreEncodedAs (map Octet bytes ++ ts) (map Octet bytes ++ us)
+unfolding AreEncodedAs
+octets-before-encoded-tokens [] ts us h = h
+octets-before-encoded-tokens (b ∷ bytes) ts us h =
+    (Octet b ∷ [], (map Octet bytes ++ us, (refl, refl, octets-before-encoded-tokens bytes ts us h)))
+
+-- fewest encodings: an octet is in each encoding
+octet-before-encoded-tokens : (value : ℕ) (ts us first : List Token) → first ≡ Octet value ∷ []
+    → AreEncodedAs ts us → AreEncodedAs (Octet value ∷ ts) (first ++ us)
+unfolding AreEncodedAs
+octet-before-encoded-tokens value ts us first e h = (first, (us, (refl, e, h)))
+
+-- fewest encodings: a character that the set allows is itself or encoded
+allowed-char-before-encoded-tokens : (c : ℕ) (ts us first : List Token)
+    → IsTokenOrItsOctets (Char c) first → AreEncodedAs ts us
+    → AreEncodedAs (Char c ∷ ts) (first ++ us)
+unfolding AreEncodedAs
+allowed-char-before-encoded-tokens c ts us first e h = (first, (us, (refl, e, h)))
+
+-- fewest encodings: a character that the set lacks is encoded if the tokens are allowed
+lacked-char-is-encoded : (set : TableSet) (c : ℕ) (first : List Token)
+    → IsTokenOrItsOctets (Char c) first → list_all (allows_token set) first ≡ true
+    → allows set c ≡ false → first ≡ map Octet (encode_utf8 c)
+lacked-char-is-encoded set c first h e lacked = ⊎_elim
+    (λ same. absurd (both_ways _ lacked
+    (and_parts (allows set c) true (sym (ap (list_all (allows_token set)) same) ∙ e)).0))
+    (λ same. same)
+    h
+
+-- fewest encodings: one more token, of which the encoding is allowed
+one-more-token-is-encoded : (set : TableSet) (t : Token) (first ts us : List Token)
+    → IsTokenOrItsOctets t first → list_all (allows_token set) first ≡ true → AreEncodedAs ts us
+    → AreEncodedAs (mend_token set t ++ ts) (first ++ us)
+one-more-token-is-encoded set (Octet value) first ts us h e rest =
+    octet-before-encoded-tokens value ts us first h rest
+one-more-token-is-encoded set (Char c) first ts us h e rest = ⊎_elim
+    (λ a.
+    subst (λ m. AreEncodedAs (m ++ ts) (first ++ us)) (sym (cond-true _ _ _ a))
+    (allowed-char-before-encoded-tokens c ts us first h rest))
+    (λ a.
+    subst (λ m. AreEncodedAs (m ++ ts) (first ++ us)) (sym (cond-false _ _ _ a))
+    (subst (λ f. AreEncodedAs (map Octet (encode_utf8 c) ++ ts) (f ++ us))
+    (sym (lacked-char-is-encoded set c first h e a))
+    (octets-before-encoded-tokens (encode_utf8 c) ts us rest)))
+    (cases_Bool (allows set c))
+
+-- fewest encodings: allowed tokens that are an encoding of some are one of what these become
+allowed-encoding-encodes-mended-tokens : (set : TableSet) (ts us : List Token)
+    → AreEncodedAs ts us → list_all (allows_token set) us ≡ true
+    → AreEncodedAs (flat_map (mend_token set) ts) us
+unfolding AreEncodedAs
+allowed-encoding-encodes-mended-tokens set [] us h e = h
+allowed-encoding-encodes-mended-tokens set (t ∷ ts) us h e =
+    let first = h.0 in
+    let rest = h.1.0 in
+    let all = and_parts (list_all (allows_token set) first) (list_all (allows_token set) rest)
+    (sym (list_all-append (allows_token set) first rest)
+    ∙ sym (ap (list_all (allows_token set)) h.1.1.0) ∙ e) in
+    subst (AreEncodedAs (flat_map (mend_token set) (t ∷ ts))) (sym h.1.1.0)
+    (one-more-token-is-encoded set t first (flat_map (mend_token set) ts) rest h.1.1.1 all.0
+    (allowed-encoding-encodes-mended-tokens set ts rest h.1.1.2 all.1))
+
+-- fewest encodings: a mended text is an encoding of the text
+mended-text-is-encoded : (set : TableSet) (text : List ℕ) → LacksPercent set → IsUtf8 text
+    → AreEncodedAs (tokens text) (tokens (mended set text))
+mended-text-is-encoded set text lacks u =
+    subst (AreEncodedAs (tokens text)) (sym (tokens-of-mended-text set text lacks u))
+    (mended-tokens-are-encoded set (tokens text))
+
+-- fewest encodings: each valid encoding of a text is an encoding of the mended text
+valid-encoding-encodes-mended-text : (set : TableSet) (text other : List ℕ) → LacksPercent set
+    → IsUtf8 text → is_valid_for set other ≡ true → AreEncodedAs (tokens text) (tokens other)
+    → AreEncodedAs (tokens (mended set text)) (tokens other)
+unfolding is_valid_for
+valid-encoding-encodes-mended-text set text other lacks u valid h =
+    subst (λ ts. AreEncodedAs ts (tokens other)) (sym (tokens-of-mended-text set text lacks u))
+    (allowed-encoding-encodes-mended-tokens set (tokens text) (tokens other) h valid)
+
+-- fewest encodings: the same of a component that may be absent
+mended-part-is-encoded : (set : TableSet) (o : Option (List ℕ)) → LacksPercent set
+    → IfSome o IsUtf8 → IsPartEncodedAs o (option_map (mended set) o)
+mended-part-is-encoded set None lacks u = tt
+mended-part-is-encoded set (Some x) lacks u = mended-text-is-encoded set x lacks u
+
+-- fewest encodings: the same of an encoding of a component that may be absent
+valid-part-encodes-mended-part : (set : TableSet) (o other : Option (List ℕ)) → LacksPercent set
+    → IfSome o IsUtf8 → IfSome other (λ x. is_set_text set x ≡ true) → IsPartEncodedAs o other
+    → IsPartEncodedAs (option_map (mended set) o) other
+valid-part-encodes-mended-part set None None lacks u valid h = tt
+valid-part-encodes-mended-part set None (Some y) lacks u valid h = h
+valid-part-encodes-mended-part set (Some x) None lacks u valid h = h
+valid-part-encodes-mended-part set (Some x) (Some y) lacks u valid h =
+    valid-encoding-encodes-mended-text set x y lacks u (set-text-is-valid set y valid) h
+
+-- fewest encodings: a component that may be absent decodes alike
+mended-part-decodes-alike : (set : TableSet) (o : Option (List ℕ)) → LacksPercent set
+    → IfSome o IsUtf8 → option_map decoded (option_map (mended set) o) ≡ option_map decoded o
+mended-part-decodes-alike set None lacks u = refl
+mended-part-decodes-alike set (Some x) lacks u = ap Some (mended-text-decodes-alike set x lacks u)
+
+module _ (kind : Kind) (sets : HasComponentSets kind) (text : List ℕ) (u : IsUtf8 text) where
+  -- mended components decode to what those of the text do
+  pub mended-components-decode-alike : DecodeAlike
+      (mended_components kind (link_components text)) (link_components text)
+  mended-components-decode-alike =
+      let p = link_components text in
+      let parts = (link-components-are-mendable text u).utf8 in record {
+        path = mended-text-decodes-alike kind.path p.path sets.path.percent parts.path;
+        query = mended-part-decodes-alike kind.query p.query sets.query.percent parts.query;
+        fragment = mended-part-decodes-alike kind.fragment p.fragment sets.fragment.percent
+            parts.fragment;
+      }
+
+  -- mended components are those of the text with some characters percent-encoded
+  pub mended-components-are-encoded : AreComponentsEncodedAs (link_components text)
+      (mended_components kind (link_components text))
+  mended-components-are-encoded =
+      let p = link_components text in
+      let parts = (link-components-are-mendable text u).utf8 in record {
+        scheme = refl;
+        authority = refl;
+        path = mended-text-is-encoded kind.path p.path sets.path.percent parts.path;
+        query = mended-part-is-encoded kind.query p.query sets.query.percent parts.query;
+        fragment = mended-part-is-encoded kind.fragment p.fragment sets.fragment.percent
+            parts.fragment;
+      }
+
+  -- each text of the kind whose components are those of the text with some characters
+  -- percent-encoded has the mended components with some characters percent-encoded
+  pub mended-components-encode-fewest : (other : List ℕ) → IsTextOf kind other
+      → AreComponentsEncodedAs (link_components text) (components other)
+      → AreComponentsEncodedAs (mended_components kind (link_components text)) (components other)
+  mended-components-encode-fewest other is h =
+      let p = link_components text in
+      let q = components other in
+      let parts = (link-components-are-mendable text u).utf8 in
+      let valid = grammar-gives-components-of-kind kind q
+      (components-of-utf8-are-utf8 other is.utf8) is.grammar in record {
+        scheme = h.scheme;
+        authority = h.authority;
+        path = valid-encoding-encodes-mended-text kind.path p.path q.path sets.path.percent
+            parts.path (set-text-is-valid kind.path q.path valid.path) h.path;
+        query = valid-part-encodes-mended-part kind.query p.query q.query sets.query.percent
+            parts.query valid.query h.query;
+        fragment = valid-part-encodes-mended-part kind.fragment p.fragment q.fragment
+            sets.fragment.percent parts.fragment valid.fragment h.fragment;
+      }
+
+-- general fact on results, for mending: what follows of each value does so of the one that is there
+pub IfOk-follows : {A E : Type 0} (r : Result A E) (P Q : A → Type 0) → ((x : A) → P x → Q x)
+    → IfOk r P → IfOk r Q
+IfOk-follows (Ok x) P Q f h = f x h
+IfOk-follows (Err e) P Q f h = tt
+
+-- general fact on results, for mending: what follows of each error does so of the one that is there
+pub IfErr-follows : {A E : Type 0} (r : Result A E) (P Q : E → Type 0) → ((e : E) → P e → Q e)
+    → IfErr r P → IfErr r Q
+IfErr-follows (Ok x) P Q f h = tt
+IfErr-follows (Err e) P Q f h = f e h

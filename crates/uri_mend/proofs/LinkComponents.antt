@@ -1,0 +1,128 @@
+-- The components of a text that is no reference, perhaps: its scheme is one, and without a scheme
+-- and an authority its first segment has no `:`.
+use Rattle.std.proofs.Common.{◌≡◌, ℕ, Bool, true, false, not, eqb, List, [], ◌∷◌, ◌++◌, refl, sym, ap}
+use Rattle.std.proofs.Common.{subst, ◌∙◌, ⊎_elim, ◌&&◌, lit<, arith}
+use Rattle.std.specs.Prelude.{codes, IfSome, IfNone}
+use Rattle.std.specs.Str.{IsUtf8, encode_utf8_all}
+use Rattle.std.proofs.lemmas.Bool.{cases_Bool, cond-true, cond-false, and_parts, both_ways}
+use Rattle.std.proofs.lemmas.Bool.{not-false, eqb-true}
+use Rattle.std.proofs.lemmas.Str.{IsUtf8-append, encode_ascii}
+use Rattle.uri_parts.specs.Components.{components, starts, before_any, from_any, when}
+use Rattle.uri_parts.specs.Components.{has_scheme, has_authority, after_scheme, after_authority}
+use Rattle.uri_parts.specs.Grammar.{is_scheme, has_colon_in_first_segment}
+use Rattle.uri_parts.proofs.Splitting.Cuts.{from_any-at-mark, before_any-at-mark}
+use Rattle.uri_parts.proofs.Splitting.Relative.{colon_in_first_segment-is-at-start}
+use Rattle.uri_mend.specs.Mending.{has_false_scheme, with_dot_segment, link_components}
+
+-- links: a text with a false scheme gets `./`
+pub false-scheme-gets-dot-segment : (text : List ℕ) → has_false_scheme text ≡ true
+    → with_dot_segment text ≡ codes "./" ++ text
+unfolding with_dot_segment
+false-scheme-gets-dot-segment text e = cond-true _ _ _ e
+
+-- links: another text stays
+pub no-false-scheme-gets-nothing : (text : List ℕ) → has_false_scheme text ≡ false
+    → with_dot_segment text ≡ text
+unfolding with_dot_segment
+no-false-scheme-gets-nothing text e = cond-false _ _ _ e
+
+-- links: `./` is UTF-8
+dot-segment-is-utf8 : IsUtf8 (codes "./")
+dot-segment-is-utf8 =
+    let bytes : encode_utf8_all (46 ∷ 47 ∷ []) ≡ 46 ∷ 47 ∷ [] =
+    rw (encode_ascii 46 (lit< tt), encode_ascii 47 (lit< tt)) refl in
+    (46 ∷ 47 ∷ [], (refl, bytes))
+
+-- links: with `./`, perhaps, a text in UTF-8 is so
+pub with_dot_segment-is-utf8 : (text : List ℕ) → IsUtf8 text → IsUtf8 (with_dot_segment text)
+with_dot_segment-is-utf8 text u = ⊎_elim
+    (λ e. subst IsUtf8 (sym (false-scheme-gets-dot-segment text e))
+    (IsUtf8-append (codes "./") text dot-segment-is-utf8 u))
+    (λ e. subst IsUtf8 (sym (no-false-scheme-gets-nothing text e)) u)
+    (cases_Bool (has_false_scheme text))
+
+-- links: the scheme of a text without a false scheme is one
+scheme-is-one-if-not-false : (text : List ℕ) → has_false_scheme text ≡ false
+    → has_scheme text ≡ true → is_scheme (before_any (codes ":/?#") text) ≡ true
+unfolding has_false_scheme
+scheme-is-one-if-not-false text e h =
+    let colon = (and_parts (starts 58 (from_any (codes ":/?#") text)) _ h).0 in
+    not-false _ (sym (ap (λ b. b && not (is_scheme (before_any (codes ":/?#") text))) colon) ∙ e)
+
+-- links: a text that begins with `:` has a false scheme
+leading-colon-ends-false-scheme : (text : List ℕ) → has_false_scheme (58 ∷ text) ≡ true
+unfolding has_false_scheme
+leading-colon-ends-false-scheme text =
+    ap (λ t. starts 58 t && not (is_scheme (before_any (codes ":/?#") (58 ∷ text))))
+    (from_any-at-mark (codes ":/?#") 58 text refl)
+    ∙ ap (λ t. not (is_scheme t)) (before_any-at-mark (codes ":/?#") 58 text refl)
+
+-- links: a text without a false scheme does not begin with `:`
+no-false-scheme-means-no-leading-colon : (text : List ℕ) → has_false_scheme text ≡ false
+    → starts 58 text ≡ false
+no-false-scheme-means-no-leading-colon [] e = refl
+no-false-scheme-means-no-leading-colon (c ∷ text) e = ⊎_elim
+    (λ h. absurd (both_ways _ e (ap (λ n. has_false_scheme (n ∷ text)) (eqb-true c 58 h)
+    ∙ leading-colon-ends-false-scheme text)))
+    (λ h. h)
+    (cases_Bool (eqb c 58))
+
+-- links: what may be absent, if the test is true, has the property
+present-text-has-property : (test : Bool) (text : List ℕ) (P : List ℕ → Type 0)
+    → (test ≡ true → P text) → IfSome (when test text) P
+present-text-has-property true text P h = h refl
+present-text-has-property false text P h = tt
+
+-- links: the scheme that is found is one
+pub scheme-of-link-is-scheme : (text : List ℕ)
+    → IfSome (link_components text).scheme (λ s. is_scheme s ≡ true)
+unfolding link_components
+scheme-of-link-is-scheme text = ⊎_elim
+    (λ e.
+    let P : List ℕ → Type 0 = λ t. IfSome (components t).scheme (λ s. is_scheme s ≡ true) in
+    subst P (sym (false-scheme-gets-dot-segment text e)) tt)
+    (λ e.
+    let P : List ℕ → Type 0 = λ t. IfSome (components t).scheme (λ s. is_scheme s ≡ true) in
+    subst P (sym (no-false-scheme-gets-nothing text e))
+    (present-text-has-property (has_scheme text) (before_any (codes ":/?#") text)
+    (λ s. is_scheme s ≡ true) (scheme-is-one-if-not-false text e)))
+    (cases_Bool (has_false_scheme text))
+
+-- links: if something is absent only if the test is false, the property holds where it is
+absent-text-has-property : (test : Bool) (text : List ℕ) (P : Type 0)
+    → (test ≡ false → P) → IfNone (when test text) P
+absent-text-has-property true text P h = tt
+absent-text-has-property false text P h = h refl
+
+-- links: without a scheme, an authority and a `:` at the start, the first segment has no `:`
+no-colon-in-schemeless-path : (text : List ℕ) → starts 58 text ≡ false
+    → IfNone (components text).scheme (IfNone (components text).authority
+    (has_colon_in_first_segment (components text).path ≡ false))
+no-colon-in-schemeless-path text first =
+    absent-text-has-property (has_scheme text) (before_any (codes ":/?#") text) _
+    (λ none.
+    let rest : after_scheme text ≡ text = cond-false _ _ _ none in
+    absent-text-has-property (has_authority (after_scheme text))
+    (before_any (codes "/?#") (Rattle.std.proofs.Common.drop 2 (after_scheme text))) _
+    (λ bare.
+    let tail : after_authority (after_scheme text) ≡ text = cond-false _ _ _ bare ∙ rest in
+    ap (λ t. has_colon_in_first_segment (before_any (codes "?#") t)) tail
+    ∙ colon_in_first_segment-is-at-start text none ∙ first))
+
+-- links: without a scheme and an authority the first segment has no `:`
+pub no-colon-in-schemeless-link : (text : List ℕ)
+    → IfNone (link_components text).scheme (IfNone (link_components text).authority
+    (has_colon_in_first_segment (link_components text).path ≡ false))
+unfolding link_components
+no-colon-in-schemeless-link text =
+    no-colon-in-schemeless-path (with_dot_segment text) (⊎_elim
+    (λ e. ap (starts 58) (false-scheme-gets-dot-segment text e))
+    (λ e. ap (starts 58) (no-false-scheme-gets-nothing text e)
+    ∙ no-false-scheme-means-no-leading-colon text e)
+    (cases_Bool (has_false_scheme text)))
+
+-- links: the components of a text without a false scheme are its own
+pub link-components-without-false-scheme : (text : List ℕ) → has_false_scheme text ≡ false
+    → link_components text ≡ components text
+unfolding link_components
+link-components-without-false-scheme text e = ap components (no-false-scheme-gets-nothing text e)

@@ -1,0 +1,206 @@
+-- A text, cut before its path, and the pieces of the text that it is mended to.
+use Rattle.std.proofs.Common.{◌≡◌, ℕ, true, false, not, List, [], ◌∷◌, ◌++◌, length}
+use Rattle.std.proofs.Common.{take, drop, refl, sym, ap, subst, ◌∙◌, arith, append_assoc, ◌&&◌, lit<}
+use Rattle.std.proofs.Common.{◌≤◌, ◌-◌, length-append}
+use Rattle.std.specs.Str.{IsUtf8, IsCharBoundary}
+use Rattle.std.proofs.Math.Seq.{take-append_seam}
+use Rattle.std.proofs.lemmas.Str.{IsCharBoundary-from_drop, IsCharBoundary-at_seam}
+use Rattle.uri_parts.specs.Components.{has_authority}
+use Rattle.uri_parts.proofs.Parsing.ScanStops.{utf8_after_slashes}
+use Rattle.std.specs.Prelude.{codes}
+use Rattle.std.proofs.lemmas.Bool.{cond-true, cond-false, and_parts, both_ways, or_left}
+use Rattle.uri_pct.specs.Sets.{allows}
+use Rattle.uri_parts.specs.Components.{components, recompose, marked, starts, when}
+use Rattle.uri_parts.specs.Components.{before_any, from_any, after_scheme, after_authority, after_query}
+use Rattle.uri_parts.specs.Grammar.{Kind}
+use Rattle.uri_parts.proofs.Splitting.Cuts.{before_any-past-other, from_any-past-other}
+use Rattle.uri_parts.proofs.Splitting.Recompose.{recompose-components}
+use Rattle.uri_ops.specs.ComponentSets.{HasComponentSets}
+use Rattle.uri_ops.specs.Models.Places.{before_path}
+use Rattle.uri_mend.specs.MendedParts.{mended}
+use Rattle.uri_mend.specs.Mending.{has_false_scheme, link_components}
+use Rattle.uri_mend.specs.Mending.{mended_components, mended_text}
+use Rattle.uri_mend.specs.Tails.{mended_query, mended_fragment, mended_tail, IsMendedByPieces}
+use Rattle.uri_mend.specs.Tails.{IsPathMendedByPieces, query_of_tail}
+use Rattle.uri_mend.proofs.MendedMarks.{allowed-ascii-before-text-stays}
+use Rattle.uri_mend.proofs.LinkComponents.{false-scheme-gets-dot-segment}
+use Rattle.uri_mend.proofs.LinkComponents.{no-false-scheme-gets-nothing}
+
+-- links: what follows a path, as the components have it
+end_text : List ℕ → List ℕ
+end_text end =
+    marked (codes "?") (when (starts 63 end) (before_any (codes "#") (drop 1 end))) []
+    ++ marked (codes "#") (when (starts 35 (after_query end)) (drop 1 (after_query end))) []
+
+-- links: the path before its end in a text after `./`
+path-after-dot-segment : (text : List ℕ)
+    → before_any (codes "?#") (46 ∷ 47 ∷ text) ≡ 46 ∷ 47 ∷ before_any (codes "?#") text
+path-after-dot-segment text =
+    before_any-past-other (codes "?#") 46 (47 ∷ text) refl
+    ∙ ap (λ t. 46 ∷ t) (before_any-past-other (codes "?#") 47 text refl)
+
+-- links: what follows the path in a text after `./`
+end-after-dot-segment : (text : List ℕ)
+    → from_any (codes "?#") (46 ∷ 47 ∷ text) ≡ from_any (codes "?#") text
+end-after-dot-segment text =
+    from_any-past-other (codes "?#") 46 (47 ∷ text) refl
+    ∙ from_any-past-other (codes "?#") 47 text refl
+
+-- links: a path and what follows it, as the components have them, are what was cut
+path-and-end-are-tail : (tail : List ℕ)
+    → before_any (codes "?#") tail ++ end_text (from_any (codes "?#") tail) ≡ tail
+unfolding end_text
+path-and-end-are-tail tail =
+    let whole : before_any (codes "?#") (46 ∷ 47 ∷ tail)
+    ++ end_text (from_any (codes "?#") (46 ∷ 47 ∷ tail)) ≡ 46 ∷ 47 ∷ tail =
+    recompose-components (46 ∷ 47 ∷ tail) in
+    ap (drop 2) (sym (ap (λ p. p ++ end_text (from_any (codes "?#") (46 ∷ 47 ∷ tail)))
+    (path-after-dot-segment tail)
+    ∙ ap (λ e. (46 ∷ 47 ∷ before_any (codes "?#") tail) ++ end_text e) (end-after-dot-segment tail))
+    ∙ whole)
+
+-- links: what is before the path, and what follows the authority, are the text
+pub text-is-cut-before-path : (text : List ℕ)
+    → text ≡ before_path (components text) ++ after_authority (after_scheme text)
+unfolding end_text
+text-is-cut-before-path text =
+    let p = components text in
+    let s = marked [] p.scheme (codes ":") in
+    let a = marked (codes "//") p.authority [] in
+    let tail = after_authority (after_scheme text) in
+    sym (append_assoc s a tail
+    ∙ ap (λ t. s ++ (a ++ t)) (sym (path-and-end-are-tail tail))
+    ∙ recompose-components text)
+
+-- links: in components without a false scheme the text is mended by its pieces
+pub text-without-false-scheme-is-mended : (text : List ℕ) → has_false_scheme text ≡ false
+    → IsMendedByPieces text (before_path (link_components text)) false
+    (after_authority (after_scheme text))
+unfolding link_components mended_text mended_tail
+text-without-false-scheme-is-mended text e kind sets =
+    let P : List ℕ → Type 0 = λ t. recompose (mended_components kind (components t))
+    ≡ before_path (components t) ++ mended_tail kind (after_authority (after_scheme text)) in
+    let p = components text in
+    subst P (sym (no-false-scheme-gets-nothing text e))
+    (sym (append_assoc (marked [] p.scheme (codes ":")) (marked (codes "//") p.authority [])
+    (mended_tail kind (after_authority (after_scheme text)))))
+
+-- links: without a false scheme, what is before the path is that of the text itself
+pub prefix-without-false-scheme : (text : List ℕ) → has_false_scheme text ≡ false
+    → before_path (link_components text) ≡ before_path (components text)
+unfolding link_components
+prefix-without-false-scheme text e =
+    ap (λ t. before_path (components t)) (no-false-scheme-gets-nothing text e)
+
+-- links: with a false scheme nothing is before the path
+pub prefix-with-false-scheme : (text : List ℕ) → has_false_scheme text ≡ true
+    → before_path (link_components text) ≡ []
+unfolding link_components
+prefix-with-false-scheme text e =
+    ap (λ t. before_path (components t)) (false-scheme-gets-dot-segment text e)
+
+-- links: a `./` before what is mended stays
+dot-segment-stays : (kind : Kind) → HasComponentSets kind → (path : List ℕ)
+    → mended kind.path (46 ∷ 47 ∷ path) ≡ 46 ∷ 47 ∷ mended kind.path path
+dot-segment-stays kind sets path =
+    let dot : allows kind.path 46 ≡ true = sets.path.unreserved.ascii 46 refl in
+    allowed-ascii-before-text-stays kind.path 46 (47 ∷ path) (lit< tt) refl dot
+    ∙ ap (λ t. 46 ∷ t)
+    (allowed-ascii-before-text-stays kind.path 47 path (lit< tt) refl sets.slash)
+
+-- links: a text with a false scheme is mended after `./`
+pub text-with-false-scheme-is-mended : (text : List ℕ) → has_false_scheme text ≡ true
+    → IsMendedByPieces text [] true text
+unfolding link_components mended_text mended_tail
+text-with-false-scheme-is-mended text e kind sets =
+    let end : List ℕ → List ℕ = λ t. mended_query kind.query t
+    ++ mended_fragment kind.fragment (after_query t) in
+    ap (λ t. recompose (mended_components kind (components t))) (false-scheme-gets-dot-segment text e)
+    ∙ ap (λ t. mended kind.path t ++ end (from_any (codes "?#") (46 ∷ 47 ∷ text)))
+    (path-after-dot-segment text)
+    ∙ ap (λ t. t ++ end (from_any (codes "?#") (46 ∷ 47 ∷ text)))
+    (dot-segment-stays kind sets (before_any (codes "?#") text))
+    ∙ ap (λ t. (46 ∷ 47 ∷ mended kind.path (before_any (codes "?#") text)) ++ end t)
+    (end-after-dot-segment text)
+
+-- links: the text before a `:` that is first is no scheme
+pub has_false_scheme-by-mark : (text : List ℕ) → starts 58 (from_any (codes ":/?#") text) ≡ false
+    → has_false_scheme text ≡ false
+unfolding has_false_scheme
+has_false_scheme-by-mark text e = Rattle.std.proofs.lemmas.Bool.and_left _ _ e
+
+-- links: what is before the first `:` decides whether there is a false scheme
+pub has_false_scheme-by-scheme : (text : List ℕ)
+    → starts 58 (from_any (codes ":/?#") text) ≡ true
+    → has_false_scheme text
+    ≡ not (Rattle.uri_parts.specs.Grammar.is_scheme (before_any (codes ":/?#") text))
+unfolding has_false_scheme
+has_false_scheme-by-scheme text e =
+    ap (λ b. b && not (Rattle.uri_parts.specs.Grammar.is_scheme (before_any (codes ":/?#") text))) e
+
+-- links: after two slashes a text may be cut
+pub boundary-after-two-slashes : (rest : List ℕ) → IsUtf8 rest → has_authority rest ≡ true
+    → IsCharBoundary rest 2
+boundary-after-two-slashes rest u e =
+    IsCharBoundary-from_drop rest 2 (two-slashes-are-two-bytes rest e) (utf8_after_slashes rest e u)
+  where
+    two-slashes-are-two-bytes : (rest : List ℕ) → has_authority rest ≡ true → 2 ≤ length rest
+    two-slashes-are-two-bytes [] e = absurd (both_ways _ refl e)
+    two-slashes-are-two-bytes (a ∷ []) e =
+        absurd (both_ways _ (Rattle.std.proofs.lemmas.Bool.and_right _ _ refl) e)
+    two-slashes-are-two-bytes (a ∷ b ∷ rest) e = omega arith
+
+-- links: a text is cut where the piece after the cut begins
+pub boundary-before-piece : (text before after : List ℕ) → text ≡ before ++ after → IsUtf8 after
+    → IsCharBoundary text (length text - length after)
+boundary-before-piece text before after e u =
+    let size : length text - length after ≡ length before =
+    omega (arith, ap length e, length-append before after) in
+    let P : ℕ → Type 0 = λ n. IsCharBoundary text n in
+    subst P (sym size) (IsCharBoundary-at_seam text before after e u)
+
+-- links: what is before the piece after the cut
+pub piece-before-cut : (text before after : List ℕ) → text ≡ before ++ after
+    → take (length text - length after) text ≡ before
+piece-before-cut text before after e =
+    let size : length text - length after ≡ length before =
+    omega (arith, ap length e, length-append before after) in
+    ap (λ n. take n text) size ∙ ap (take (length before)) e ∙ take-append_seam before after
+
+-- links: a piece after a cut is no longer than the text
+pub piece-after-cut-is-no-longer : (text before after : List ℕ) → text ≡ before ++ after
+    → length after ≤ length text
+piece-after-cut-is-no-longer text before after e =
+    omega (arith, ap length e, length-append before after)
+
+-- links: the path of a text without a false scheme is that of its tail
+pub path-without-false-scheme : (text : List ℕ) → has_false_scheme text ≡ false
+    → IsPathMendedByPieces (link_components text).path false (after_authority (after_scheme text))
+unfolding link_components
+path-without-false-scheme text e kind sets =
+    ap (λ t. mended kind.path (components t).path) (no-false-scheme-gets-nothing text e)
+
+-- links: the path of a text with a false scheme is `./` and that of the text
+pub path-with-false-scheme : (text : List ℕ) → has_false_scheme text ≡ true
+    → IsPathMendedByPieces (link_components text).path true text
+unfolding link_components
+path-with-false-scheme text e kind sets =
+    ap (λ t. mended kind.path (components t).path) (false-scheme-gets-dot-segment text e)
+    ∙ ap (mended kind.path) (path-after-dot-segment text)
+    ∙ dot-segment-stays kind sets (before_any (codes "?#") text)
+
+-- links: the query of a text without a false scheme is that of its tail
+pub query-without-false-scheme : (text : List ℕ) → has_false_scheme text ≡ false
+    → (link_components text).query ≡ query_of_tail (after_authority (after_scheme text))
+unfolding link_components
+query-without-false-scheme text e =
+    ap (λ t. (components t).query) (no-false-scheme-gets-nothing text e)
+
+-- links: the query of a text with a false scheme is its own
+pub query-with-false-scheme : (text : List ℕ) → has_false_scheme text ≡ true
+    → (link_components text).query ≡ query_of_tail text
+unfolding link_components
+query-with-false-scheme text e =
+    ap (λ t. (components t).query) (false-scheme-gets-dot-segment text e)
+    ∙ ap (λ end. when (starts 63 end) (before_any (codes "#") (drop 1 end)))
+    (end-after-dot-segment text)

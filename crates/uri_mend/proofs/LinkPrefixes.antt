@@ -1,0 +1,409 @@
+-- A text whose prefix shows where its path begins: the prefix has its scheme and its authority.
+use Rattle.std.proofs.Common.{◌≡◌, ℕ, ◌+◌, ◌-◌, ◌<◌, ◌≤◌, Bool, true, false, not, List, [], ◌∷◌, ◌++◌, ◌||◌}
+use Rattle.std.proofs.Common.{◌&&◌, length, take, drop, refl, sym, ap, subst, ◌∙◌, arith, ⊎_elim, lit<}
+use Rattle.std.proofs.Common.{length-append}
+use Rattle.std.specs.List.{list_any}
+use Rattle.std.specs.Prelude.{codes, IfSome, None, Option, Some, is_some, option_map, unwrap_or}
+use Rattle.std.specs.Str.{IsCharBoundary, IsUtf8}
+use Rattle.std.proofs.Math.Seq.{drop-append_seam, take-append_seam}
+use Rattle.std.proofs.lemmas.Bool.{and_parts, both_ways, cases_Bool, cond-true, cond-false, eqb-true}
+use Rattle.std.proofs.lemmas.List.{drop-append-le, length-take-le}
+use Rattle.std.proofs.lemmas.Str.{IsCharBoundary-at_seam}
+use Rattle.uri_pct.specs.Sets.{is_one_of}
+use Rattle.uri_pct.proofs.ValidTexts.MarksInTexts.{AreAscii-by-test}
+use Rattle.uri_parts.specs.Components.{Components, components, after_authority, after_scheme}
+use Rattle.uri_parts.specs.Components.{before_any, from_any, has_authority, has_scheme, marked}
+use Rattle.uri_parts.specs.Components.{recompose, starts, when}
+use Rattle.uri_parts.specs.Grammar.{Kind, IsOfKind, is_scheme}
+use Rattle.uri_parts.specs.PackedPositions.{ArePackedPositionsOf, packed}
+use Rattle.uri_parts.specs.Positions.{authority_at, delimited_length, positions_of}
+use Rattle.uri_parts.specs.declared.packed_positions.PackedPositions.{PackedPositions}
+use Rattle.uri_parts.specs.declared.positions.AuthorityPositions.{AuthorityPositions}
+use Rattle.uri_parts.proofs.Parsing.ScanStops.{utf8_after_mark, utf8_after_slashes, utf8_from_marks}
+use Rattle.uri_parts.proofs.Splitting.Cuts.{before_any-at-mark, before_any-past-other}
+use Rattle.uri_parts.proofs.Splitting.Cuts.{from_any-at-mark, from_any-past-other}
+use Rattle.uri_parts.proofs.Splitting.Splits.{only-split-is-components}
+use Rattle.uri_ops.specs.Models.Places.{before_path}
+use Rattle.uri_mend.specs.Links.{IsLink, with_ends_at}
+use Rattle.uri_mend.specs.Mending.{can_be_mended, has_false_scheme, link_components}
+use Rattle.uri_mend.specs.Tails.{IsMendedByPieces, IsPathMendedByPieces, dot_segment_if}
+use Rattle.uri_mend.specs.Tails.{mended_path, mended_tail, query_of_tail}
+use Rattle.uri_mend.specs.declared.link.Link.{Link}
+use Rattle.uri_mend.proofs.LinkComponents.{link-components-without-false-scheme}
+use Rattle.uri_mend.proofs.LinkPieces.{path-without-false-scheme, prefix-without-false-scheme}
+use Rattle.uri_mend.proofs.LinkPieces.{query-without-false-scheme, text-is-cut-before-path}
+use Rattle.uri_mend.proofs.LinkPieces.{text-without-false-scheme-is-mended}
+use Rattle.uri_mend.proofs.MendedPositions.{length-before-path}
+use Rattle.uri_mend.proofs.MendedReferences.{link-components-are-mendable}
+use Rattle.uri_mend.proofs.Unchanged.{prefix_components, prefix-components-are-split}
+use Rattle.uri_mend.proofs.Unchanged.{prefix-components-are-text-before-path}
+use Rattle.uri_mend.proofs.Unchanged.{no-text-of-kind-has-rejected-scheme-and-authority}
+
+-- prefixes: the text is not empty
+abbrev pub is_some_text : List ℕ → Bool
+is_some_text [] = false
+is_some_text (c ∷ rest) = true
+
+-- prefixes: a text that has one of the marks is cut there, whatever follows it
+record IsCutAlike (marks p s : List ℕ) : Type 0 where
+  before : before_any marks (p ++ s) ≡ before_any marks p
+  from : from_any marks (p ++ s) ≡ from_any marks p ++ s
+
+cut-at-mark-of-prefix : (marks p s : List ℕ) → is_some_text (from_any marks p) ≡ true
+    → IsCutAlike marks p s
+cut-at-mark-of-prefix marks [] s some = absurd (both_ways _ refl some)
+cut-at-mark-of-prefix marks (c ∷ p) s some = ⊎_elim
+    (λ m. record {
+      before = before_any-at-mark marks c (p ++ s) m ∙ sym (before_any-at-mark marks c p m);
+      from = from_any-at-mark marks c (p ++ s) m
+          ∙ ap (λ t. t ++ s) (sym (from_any-at-mark marks c p m));
+    })
+    (λ m.
+    let rest = cut-at-mark-of-prefix marks p s
+    (sym (ap is_some_text (from_any-past-other marks c p m)) ∙ some) in
+    record {
+      before = before_any-past-other marks c (p ++ s) m ∙ ap (λ t. c ∷ t) rest.before
+          ∙ sym (before_any-past-other marks c p m);
+      from = from_any-past-other marks c (p ++ s) m ∙ rest.from
+          ∙ ap (λ t. t ++ s) (sym (from_any-past-other marks c p m));
+    })
+    (cases_Bool (is_one_of marks c))
+
+-- prefixes: what a text with something before it begins with
+starts-of-prefix : (mark : ℕ) (p s : List ℕ) → is_some_text p ≡ true
+    → starts mark (p ++ s) ≡ starts mark p
+starts-of-prefix mark [] s some = absurd (both_ways _ refl some)
+starts-of-prefix mark (c ∷ p) s some = refl
+
+-- prefixes: a text of which something is from a mark on is not empty
+text-with-mark-is-some : (marks p : List ℕ) → is_some_text (from_any marks p) ≡ true
+    → is_some_text p ≡ true
+text-with-mark-is-some marks [] some = some
+text-with-mark-is-some marks (c ∷ p) some = refl
+
+-- prefixes: two bytes decide whether an authority follows
+authority-of-prefix : (p s : List ℕ) → 2 ≤ length p → has_authority (p ++ s) ≡ has_authority p
+authority-of-prefix [] s l = absurd (omega arith)
+authority-of-prefix (a ∷ []) s l = absurd (omega arith)
+authority-of-prefix (a ∷ b ∷ p) s l = refl
+
+-- prefixes: a text with an authority has two bytes
+authority-has-two-bytes : (p : List ℕ) → has_authority p ≡ true → 2 ≤ length p
+authority-has-two-bytes [] e = absurd (both_ways _ refl e)
+authority-has-two-bytes (a ∷ []) e =
+    absurd (both_ways _ (Rattle.std.proofs.lemmas.Bool.and_right _ _ refl) e)
+authority-has-two-bytes (a ∷ b ∷ p) e = omega arith
+
+-- prefixes: it shows where the scheme and the authority end
+pub record ShowsPath (p : List ℕ) : Type 0 where
+  pub mark : is_some_text (from_any (codes ":/?#") p) ≡ true
+  pub two : 2 ≤ length (after_scheme p)
+  pub ended : has_authority (after_scheme p) ≡ true
+      → is_some_text (from_any (codes "/?#") (drop 2 (after_scheme p))) ≡ true
+
+module _ (p s : List ℕ) (shows : ShowsPath p) where
+  cut-at-scheme : IsCutAlike (codes ":/?#") p s
+  cut-at-scheme = cut-at-mark-of-prefix (codes ":/?#") p s shows.mark
+
+  scheme-is-that-of-prefix : has_scheme (p ++ s) ≡ has_scheme p
+  scheme-is-that-of-prefix =
+      ap (λ t. starts 58 t && not (starts 58 (p ++ s))) cut-at-scheme.from
+      ∙ ap (λ t. t && not (starts 58 (p ++ s)))
+      (starts-of-prefix 58 (from_any (codes ":/?#") p) s shows.mark)
+      ∙ ap (λ t. starts 58 (from_any (codes ":/?#") p) && not t)
+      (starts-of-prefix 58 p s (text-with-mark-is-some (codes ":/?#") p shows.mark))
+
+  rest-is-that-of-prefix : after_scheme (p ++ s) ≡ after_scheme p ++ s
+  rest-is-that-of-prefix = ⊎_elim
+      (λ e. cond-true _ _ _ (scheme-is-that-of-prefix ∙ e) ∙ ap (drop 1) cut-at-scheme.from
+      ∙ drop-one (from_any (codes ":/?#") p) shows.mark
+      ∙ ap (λ t. t ++ s) (sym (cond-true _ _ _ e)))
+      (λ e. cond-false _ _ _ (scheme-is-that-of-prefix ∙ e)
+      ∙ ap (λ t. t ++ s) (sym (cond-false _ _ _ e)))
+      (cases_Bool (has_scheme p))
+    where
+      drop-one : (t : List ℕ) → is_some_text t ≡ true → drop 1 (t ++ s) ≡ drop 1 t ++ s
+      drop-one [] some = absurd (both_ways _ refl some)
+      drop-one (c ∷ t) some = refl
+
+  false-scheme-is-that-of-prefix : has_false_scheme (p ++ s) ≡ has_false_scheme p
+  unfolding has_false_scheme
+  false-scheme-is-that-of-prefix =
+      ap (λ t. starts 58 t && not (is_scheme (before_any (codes ":/?#") (p ++ s)))) cut-at-scheme.from
+      ∙ ap (λ t. t && not (is_scheme (before_any (codes ":/?#") (p ++ s))))
+      (starts-of-prefix 58 (from_any (codes ":/?#") p) s shows.mark)
+      ∙ ap (λ t. starts 58 (from_any (codes ":/?#") p) && not (is_scheme t)) cut-at-scheme.before
+
+  authority-is-that-of-prefix : has_authority (after_scheme (p ++ s)) ≡ has_authority (after_scheme p)
+  authority-is-that-of-prefix = ap has_authority rest-is-that-of-prefix
+      ∙ authority-of-prefix (after_scheme p) s shows.two
+
+  bytes-of-authority : drop 2 (after_scheme (p ++ s)) ≡ drop 2 (after_scheme p) ++ s
+  bytes-of-authority = ap (drop 2) rest-is-that-of-prefix
+      ∙ drop-append-le 2 (after_scheme p) s shows.two
+
+  -- the scheme of the text is that of the prefix
+  scheme-of-text-is-that-of-prefix : (components (p ++ s)).scheme ≡ (components p).scheme
+  scheme-of-text-is-that-of-prefix =
+      ap (λ t. when t (before_any (codes ":/?#") (p ++ s))) scheme-is-that-of-prefix
+      ∙ ap (when (has_scheme p)) cut-at-scheme.before
+
+  -- the authority of the text is that of the prefix
+  pub authority-of-text-is-that-of-prefix
+      : (components (p ++ s)).authority ≡ (components p).authority
+  authority-of-text-is-that-of-prefix = ⊎_elim
+      (λ e. ap (λ t. when t (before_any (codes "/?#") (drop 2 (after_scheme (p ++ s)))))
+      authority-is-that-of-prefix
+      ∙ ap (λ t. when (has_authority (after_scheme p)) t) (ap (before_any (codes "/?#")) bytes-of-authority
+      ∙ (cut-at-mark-of-prefix (codes "/?#") (drop 2 (after_scheme p)) s (shows.ended e)).before))
+      (λ e. ap (λ t. when t (before_any (codes "/?#") (drop 2 (after_scheme (p ++ s)))))
+      (authority-is-that-of-prefix ∙ e)
+      ∙ sym (ap (λ t. when t (before_any (codes "/?#") (drop 2 (after_scheme p)))) e))
+      (cases_Bool (has_authority (after_scheme p)))
+
+-- prefixes: a text with one of the marks has something from a mark on
+text-with-mark-is-cut : (marks p : List ℕ) → list_any (is_one_of marks) p ≡ true
+    → is_some_text (from_any marks p) ≡ true
+text-with-mark-is-cut marks [] e = absurd (both_ways _ refl e)
+text-with-mark-is-cut marks (c ∷ p) e = ⊎_elim
+    (λ m. ap is_some_text (from_any-at-mark marks c p m))
+    (λ m. ap is_some_text (from_any-past-other marks c p m)
+    ∙ text-with-mark-is-cut marks p (sym (ap (λ t. t || list_any (is_one_of marks) p) m) ∙ e))
+    (cases_Bool (is_one_of marks c))
+
+-- prefixes: a text that begins with a character is not empty
+text-that-starts-is-some : (mark : ℕ) (t : List ℕ) → starts mark t ≡ true → is_some_text t ≡ true
+text-that-starts-is-some mark [] e = absurd (both_ways _ refl e)
+text-that-starts-is-some mark (c ∷ t) e = refl
+
+-- prefixes: a text that is not empty has a length
+text-with-length-is-some : (t : List ℕ) → 0 < length t → is_some_text t ≡ true
+text-with-length-is-some [] l = absurd (omega arith)
+text-with-length-is-some (c ∷ t) l = refl
+
+-- prefixes: a text with an authority begins with one of the marks
+authority-begins-with-mark : (p : List ℕ) → has_authority p ≡ true
+    → is_some_text (from_any (codes ":/?#") p) ≡ true
+authority-begins-with-mark [] e = absurd (both_ways _ refl e)
+authority-begins-with-mark (a ∷ p) e =
+    let slash = eqb-true a 47 (and_parts _ _ e).0 in
+    ap is_some_text (from_any-at-mark (codes ":/?#") a p (ap (is_one_of (codes ":/?#")) slash))
+
+-- prefixes: where the path of a text begins
+path-starts-after-prefix : (p : List ℕ) (before : PackedPositions) → ArePackedPositionsOf p before
+    → before.path_start ≡ length (before_path (components p))
+path-starts-after-prefix p before e =
+    ap (λ (x : PackedPositions). x.path_start) e ∙ sym (length-before-path (components p))
+
+-- prefixes: how long is what follows an authority
+length-of-tail : (p : List ℕ) (before : PackedPositions) → ArePackedPositionsOf p before
+    → before.path_start + length (after_authority (after_scheme p)) ≡ length p
+length-of-tail p before e =
+    ap (λ n. n + length (after_authority (after_scheme p))) (path-starts-after-prefix p before e)
+    ∙ sym (ap length (text-is-cut-before-path p)
+    ∙ length-append (before_path (components p)) (after_authority (after_scheme p)))
+
+-- prefixes: a text without a scheme has no position of one
+no-scheme-is-at-zero : (p : List ℕ) (before : PackedPositions) → ArePackedPositionsOf p before
+    → has_scheme p ≡ false → before.scheme_end ≡ 0
+no-scheme-is-at-zero p before e none = ap (λ (x : PackedPositions). x.scheme_end) e
+    ∙ ap (λ t. unwrap_or (option_map length (when t (before_any (codes ":/?#") p))) 0) none
+
+-- prefixes: a text without an authority has no position of a host
+no-host-is-at-zero : (p : List ℕ) (before : PackedPositions) → ArePackedPositionsOf p before
+    → has_authority (after_scheme p) ≡ false → before.host_start ≡ 0
+no-host-is-at-zero p before e none = ap (λ (x : PackedPositions). x.host_start) e
+    ∙ ap (λ t. unwrap_or (option_map (λ (x : AuthorityPositions). x.host_start)
+    (option_map (authority_at (delimited_length 1 (components p).scheme + 2))
+    (when t (before_any (codes "/?#") (drop 2 (after_scheme p)))))) 0) none
+
+-- prefixes: when a text of these positions shows where its path begins
+positions-show-path : (p : List ℕ) (before : PackedPositions) → ArePackedPositionsOf p before
+    → before.path_start < length p
+    → (before.host_start ≡ 0 → 2 ≤ length p - before.path_start)
+    → (before.host_start ≡ 0 → before.scheme_end ≡ 0
+    → is_some_text (from_any (codes ":/?#") p) ≡ true)
+    → ShowsPath p
+positions-show-path p before e some two mark =
+    let size = length-of-tail p before e in
+    record {
+      mark = ⊎_elim
+          (λ s. text-that-starts-is-some 58 _ (and_parts (starts 58 (from_any (codes ":/?#") p)) _ s).0)
+          (λ s. ⊎_elim
+          (λ a. authority-begins-with-mark p (sym (ap has_authority (cond-false _ _ _ s)) ∙ a))
+          (λ a. mark (no-host-is-at-zero p before e a) (no-scheme-is-at-zero p before e s))
+          (cases_Bool (has_authority (after_scheme p))))
+          (cases_Bool (has_scheme p));
+      two = ⊎_elim
+          (λ a. authority-has-two-bytes (after_scheme p) a)
+          (λ a.
+          let whole : length (after_authority (after_scheme p)) ≡ length (after_scheme p) =
+          ap length (cond-false _ _ _ a) in
+          let l = two (no-host-is-at-zero p before e a) in
+          omega (arith, l, whole, size))
+          (cases_Bool (has_authority (after_scheme p)));
+      ended = λ a. text-with-length-is-some _ (
+          let cut : length (after_authority (after_scheme p))
+          ≡ length (from_any (codes "/?#") (drop 2 (after_scheme p))) =
+          ap length (cond-true _ _ _ a) in
+          omega (arith, cut, size, some));
+    }
+
+-- prefixes: what follows a scheme in a text in UTF-8 is UTF-8
+after-scheme-is-utf8 : (text : List ℕ) → IsUtf8 text → IsUtf8 (after_scheme text)
+after-scheme-is-utf8 text u = ⊎_elim
+    (λ e. subst IsUtf8 (sym (cond-true _ _ _ e)) (utf8_after_mark 58 (lit< tt)
+    (from_any (codes ":/?#") text) (and_parts _ (not (starts 58 text)) e).0
+    (utf8_from_marks (codes ":/?#") text (AreAscii-by-test (codes ":/?#") refl) u)))
+    (λ e. subst IsUtf8 (sym (cond-false _ _ _ e)) u)
+    (cases_Bool (has_scheme text))
+
+-- prefixes: what follows an authority in such a text is UTF-8
+tail-is-utf8 : (text : List ℕ) → IsUtf8 text → IsUtf8 (after_authority (after_scheme text))
+tail-is-utf8 text u =
+    let rest = after_scheme text in
+    let v = after-scheme-is-utf8 text u in
+    ⊎_elim
+    (λ e. subst IsUtf8 (sym (cond-true _ _ _ e)) (utf8_from_marks (codes "/?#") (drop 2 rest)
+    (AreAscii-by-test (codes "/?#") refl) (utf8_after_slashes rest e v)))
+    (λ e. subst IsUtf8 (sym (cond-false _ _ _ e)) v)
+    (cases_Bool (has_authority rest))
+
+-- prefixes: positions of a scheme and an authority, with these ends of a path and a query
+positions_before : Option (List ℕ) → Option (List ℕ) → ℕ → ℕ → PackedPositions
+positions_before scheme authority path_end query_end = with_ends_at (packed (positions_of (record {
+  scheme = scheme;
+  authority = authority;
+  path = [];
+  query = None;
+  fragment = None;
+}))) path_end query_end
+
+-- prefixes: with the same ends, positions depend on the scheme and the authority alone
+positions-by-scheme-and-authority : (p q : Components) (path_end query_end : ℕ)
+    → p.scheme ≡ q.scheme → p.authority ≡ q.authority
+    → with_ends_at (packed (positions_of p)) path_end query_end
+    ≡ with_ends_at (packed (positions_of q)) path_end query_end
+unfolding positions_before
+positions-by-scheme-and-authority p q path_end query_end scheme authority =
+    ap (λ s. positions_before s p.authority path_end query_end) scheme
+    ∙ ap (λ a. positions_before q.scheme a path_end query_end) authority
+
+-- prefixes: the link of a text whose prefix shows where its path begins
+pub link-of-prefix : (text p s : List ℕ) (before : PackedPositions) → IsUtf8 text → text ≡ p ++ s
+    → ArePackedPositionsOf p before → has_false_scheme p ≡ false → ShowsPath p
+    → IsLink text (let x : Link = record {
+      path_start = before.path_start;
+      has_false_scheme = false;
+      before = before;
+    } in x)
+link-of-prefix text p s before u e at none shows =
+    let kept : has_false_scheme text ≡ false =
+    ap has_false_scheme e ∙ false-scheme-is-that-of-prefix p s shows ∙ none in
+    let tail = after_authority (after_scheme text) in
+    let prefix = before_path (components text) in
+    let link = link-components-without-false-scheme text kept in
+    let scheme : (components text).scheme ≡ (components p).scheme =
+    ap (λ t. (components t).scheme) e ∙ scheme-of-text-is-that-of-prefix p s shows in
+    let authority : (components text).authority ≡ (components p).authority =
+    ap (λ t. (components t).authority) e ∙ authority-of-text-is-that-of-prefix p s shows in
+    let same : prefix ≡ before_path (components p) =
+    ap (λ x. marked [] x (codes ":") ++ marked (codes "//") (components text).authority []) scheme
+    ∙ ap (λ x. marked [] (components p).scheme (codes ":") ++ marked (codes "//") x []) authority in
+    let start : before.path_start ≡ length prefix =
+    path-starts-after-prefix p before at ∙ ap length (sym same) in
+    let whole = text-is-cut-before-path text in
+    let first : take before.path_start text ≡ prefix =
+    ap (λ n. take n text) start ∙ ap (take (length prefix)) whole ∙ take-append_seam prefix tail in
+    let second : drop before.path_start text ≡ tail =
+    ap (λ n. drop n text) start ∙ ap (drop (length prefix)) whole ∙ drop-append_seam prefix tail in
+    record {
+      boundary = subst (IsCharBoundary text) (sym start)
+          (IsCharBoundary-at_seam text prefix tail whole (tail-is-utf8 text u));
+      alone = λ h. absurd (both_ways _ refl h);
+      prefix = first ∙ sym (prefix-without-false-scheme text kept);
+      pieces = λ kind sets. text-without-false-scheme-is-mended text kept kind sets
+          ∙ ap (λ t. t ++ mended_tail kind tail) (prefix-without-false-scheme text kept ∙ sym first)
+          ∙ ap (λ t. take before.path_start text ++ mended_tail kind t) (sym second);
+      path = λ kind sets. path-without-false-scheme text kept kind sets
+          ∙ ap (mended_path kind) (sym second);
+      query = query-without-false-scheme text kept ∙ ap query_of_tail (sym second);
+      before = λ path_end query_end.
+          ap (λ (x : PackedPositions). with_ends_at x path_end query_end) at
+          ∙ positions-by-scheme-and-authority (components p) (link_components text) path_end query_end
+          (sym (ap (λ (x : Components). x.scheme) link ∙ scheme))
+          (sym (ap (λ (x : Components). x.authority) link ∙ authority));
+    }
+
+-- prefixes: a text whose prefix is of the kind, and shows where its path begins, can be mended
+pub text-with-prefix-can-be-mended : (kind : Kind) (text p s : List ℕ) → text ≡ p ++ s
+    → has_false_scheme p ≡ false → ShowsPath p → IsOfKind kind p → can_be_mended kind text ≡ true
+text-with-prefix-can-be-mended kind text p s e none shows h =
+    let link = link-components-without-false-scheme text
+    (ap has_false_scheme e ∙ false-scheme-is-that-of-prefix p s shows ∙ none) in
+    ⊎_elim
+    (λ can. can)
+    (λ can. absurd (no-text-of-kind-has-rejected-scheme-and-authority kind text p can h
+    (sym (ap (λ (x : Components). x.scheme) link ∙ ap (λ t. (components t).scheme) e
+    ∙ scheme-of-text-is-that-of-prefix p s shows))
+    (sym (ap (λ (x : Components). x.authority) link ∙ ap (λ t. (components t).authority) e
+    ∙ authority-of-text-is-that-of-prefix p s shows))))
+    (cases_Bool (can_be_mended kind text))
+
+-- prefixes: when a prefix of a text, of these positions, shows where its path begins
+pub prefix-shows-path : (text : List ℕ) (index : ℕ) (before : PackedPositions)
+    → index ≤ length text → ArePackedPositionsOf (take index text) before
+    → before.path_start < index → (before.host_start ≡ 0 → 2 ≤ index - before.path_start)
+    → (before.host_start ≡ 0 → before.scheme_end ≡ 0
+    → list_any (is_one_of (codes ":/?#")) (take index text) ≡ true)
+    → ShowsPath (take index text)
+prefix-shows-path text index before inside at some two mark =
+    let size : length (take index text) ≡ index = length-take-le index text inside in
+    positions-show-path (take index text) before at (omega (arith, some, size))
+    (λ h. let l = two h in omega (arith, l, size))
+    (λ h e. text-with-mark-is-cut (codes ":/?#") (take index text) (mark h e))
+
+-- prefixes: the link of a text that is cut before its path
+pub link-of-cut : (text prefix tail : List ℕ) (dot : Bool) (before : PackedPositions) → IsUtf8 text
+    → text ≡ prefix ++ tail → IsCharBoundary text (length prefix) → (dot ≡ true → prefix ≡ [])
+    → prefix ≡ before_path (link_components text) → IsMendedByPieces text prefix dot tail
+    → IsPathMendedByPieces (link_components text).path dot tail
+    → (link_components text).query ≡ query_of_tail tail → ArePackedPositionsOf prefix before
+    → IsLink text (let x : Link = record {
+      path_start = length prefix;
+      has_false_scheme = dot;
+      before = before;
+    } in x)
+unfolding prefix_components
+link-of-cut text prefix tail dot before u whole boundary alone same pieces path query at =
+    let p = link_components text in
+    let first : take (length prefix) text ≡ prefix =
+    ap (take (length prefix)) whole ∙ take-append_seam prefix tail in
+    let second : drop (length prefix) text ≡ tail =
+    ap (drop (length prefix)) whole ∙ drop-append_seam prefix tail in
+    let parts : components prefix ≡ prefix_components p =
+    ap components (same ∙ sym (prefix-components-are-text-before-path p))
+    ∙ only-split-is-components (recompose (prefix_components p)) (prefix_components p)
+    (prefix-components-are-split p (link-components-are-mendable text u)) in
+    record {
+      boundary = boundary;
+      alone = λ e. ap length (alone e);
+      prefix = first ∙ same;
+      pieces = λ kind sets. pieces kind sets
+          ∙ ap (λ t. t ++ (dot_segment_if dot ++ mended_tail kind tail)) (sym first)
+          ∙ ap (λ t. take (length prefix) text ++ (dot_segment_if dot ++ mended_tail kind t))
+          (sym second);
+      path = λ kind sets. path kind sets
+          ∙ ap (λ t. dot_segment_if dot ++ mended_path kind t) (sym second);
+      query = query ∙ ap query_of_tail (sym second);
+      before = λ path_end query_end.
+          ap (λ (x : PackedPositions). with_ends_at x path_end query_end) at
+          ∙ positions-by-scheme-and-authority (components prefix) p path_end query_end
+          (ap (λ (x : Components). x.scheme) parts) (ap (λ (x : Components). x.authority) parts);
+    }
+
+-- general fact on options, for prefixes: what holds where something is there
+pub holds-where-some : {A : Type 0} (o : Option A) (P : Type 0) → IfSome o (λ _. P)
+    → is_some o ≡ true → P
+holds-where-some None P h e = absurd (both_ways _ refl e)
+holds-where-some (Some x) P h e = h

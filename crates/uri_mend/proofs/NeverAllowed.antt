@@ -1,0 +1,72 @@
+-- The characters that no path, query or fragment of the four kinds may have, and the marks that end
+-- these.
+use Rattle.std.proofs.Common.{◌≡◌, ℕ, ◌<◌, ◌≤◌, Bool, true, false, refl, sym, ap, subst, ◌∙◌, ◌&&◌, ⊎_elim}
+use Rattle.std.specs.Prelude.{codes}
+use Rattle.std.proofs.lemmas.Bool.{agree_below_at, and_left, cases_lt}
+use Rattle.uri_pct.specs.Masks.{has_bit}
+use Rattle.uri_pct.specs.Sets.{TableSet, is_path_char, is_query_char}
+use Rattle.uri_pct.proofs.TableSets.Masks.{has_bit_past_ascii_is_false}
+use Rattle.uri_parts.specs.Grammar.{Kind, kind_by_flags}
+use Rattle.uri_mend.specs.declared.component.TheConstants.{NEVER_HIGH, NEVER_LOW}
+use Rattle.uri_mend.specs.Progress.{are_marks}
+
+-- sets: the set lacks the characters that no component may have
+abbrev pub LacksNever : TableSet → Type 0
+LacksNever set = (b : ℕ) → has_bit NEVER_LOW NEVER_HIGH b ≡ true → set.ascii b ≡ false
+
+-- sets: a test of ASCII characters fails for such a character if it does for each one below 128
+fails-for-never : (test : ℕ → Bool) → ((b : ℕ) → b < 128
+    → (has_bit NEVER_LOW NEVER_HIGH b && test b) ≡ false)
+    → (b : ℕ) → has_bit NEVER_LOW NEVER_HIGH b ≡ true → test b ≡ false
+fails-for-never test below b bit = ⊎_elim
+    (λ (h : b < 128). sym (ap (λ t. t && test b) bit) ∙ below b h)
+    (λ (h : 128 ≤ b). absurd (Rattle.std.proofs.lemmas.Bool.both_ways _
+    (has_bit_past_ascii_is_false NEVER_LOW NEVER_HIGH b h) bit))
+    (cases_lt b 128)
+
+-- sets: no such character may be in a path
+never-is-no-path-char : (b : ℕ) → has_bit NEVER_LOW NEVER_HIGH b ≡ true → is_path_char b ≡ false
+unfolding has_bit
+never-is-no-path-char = fails-for-never is_path_char
+    (λ b h. agree_below_at (λ c. has_bit NEVER_LOW NEVER_HIGH c && is_path_char c) (λ c. false) 128 b
+    refl h)
+
+-- sets: no such character may be in a query or a fragment
+never-is-no-query-char : (b : ℕ) → has_bit NEVER_LOW NEVER_HIGH b ≡ true → is_query_char b ≡ false
+unfolding has_bit
+never-is-no-query-char = fails-for-never is_query_char
+    (λ b h. agree_below_at (λ c. has_bit NEVER_LOW NEVER_HIGH c && is_query_char c) (λ c. false) 128 b
+    refl h)
+
+-- sets: what mending asks of the sets of a kind
+pub record HasMendedSets (kind : Kind) : Type 0 where
+  pub path : LacksNever kind.path
+  pub query : LacksNever kind.query
+  pub fragment : LacksNever kind.fragment
+  pub path_marks : are_marks kind.path (codes "?#") ≡ true
+  pub query_marks : are_marks kind.query (codes "#") ≡ true
+
+-- sets: each of the four kinds has them, by its flags
+kind-by-flags-has-mended-sets : (international needs_scheme : Bool)
+    → HasMendedSets (kind_by_flags international needs_scheme)
+unfolding has_bit
+kind-by-flags-has-mended-sets false needs_scheme = record {
+  path = never-is-no-path-char;
+  query = never-is-no-query-char;
+  fragment = never-is-no-query-char;
+  path_marks = refl;
+  query_marks = refl;
+}
+kind-by-flags-has-mended-sets true needs_scheme = record {
+  path = never-is-no-path-char;
+  query = never-is-no-query-char;
+  fragment = never-is-no-query-char;
+  path_marks = refl;
+  query_marks = refl;
+}
+
+-- sets: a kind that is one of the four has them
+pub one-of-four-kinds-has-mended-sets : (kind : Kind)
+    → kind ≡ kind_by_flags kind.path.ucschar kind.needs_scheme → HasMendedSets kind
+one-of-four-kinds-has-mended-sets kind known = subst HasMendedSets (sym known)
+    (kind-by-flags-has-mended-sets kind.path.ucschar kind.needs_scheme)

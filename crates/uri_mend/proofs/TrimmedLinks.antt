@@ -1,0 +1,77 @@
+-- Links of pages without their white space.
+use Rattle.std.proofs.Common.{◌≡◌, ℕ, true, false, List, [], ◌∷◌, ◌++◌, drop, refl}
+use Rattle.std.proofs.Common.{sym, ap, ◌∙◌, ⊎_elim, append_assoc, arith, length, subst, ◌<◌}
+use Rattle.std.specs.Char.{is_ascii_whitespace}
+use Rattle.std.specs.List.{list_any, prefix_len}
+use Rattle.std.specs.Str.{IsCharBoundary, IsTrimAscii, IsUtf8}
+use Rattle.std.proofs.lemmas.Bool.{cases_Bool, cond-true, cond-false, not_from_true, not_from_false}
+use Rattle.std.proofs.lemmas.Bool.{or_parts}
+use Rattle.std.proofs.lemmas.Str.{IsCharBoundary-after_ascii}
+use Rattle.std.proofs.lemmas.Str.Ascii.{trim_ascii_is}
+use Rattle.uri_pct.specs.Sets.{is_one_of}
+use Rattle.uri_pct.proofs.ValidTexts.MarksInTexts.{AreAscii-by-test}
+use Rattle.uri_parts.specs.Components.{before_any, from_any}
+use Rattle.uri_parts.proofs.Parsing.ScanStops.{utf8_from_marks}
+use Rattle.uri_parts.proofs.Splitting.Cuts.{before_any-at-mark, before_any-past-other}
+use Rattle.uri_parts.proofs.Splitting.Cuts.{from_any-at-mark, from_any-past-other}
+use Rattle.uri_parts.proofs.Splitting.Cuts.{IsEmptyOrMarked, text-is-cut-at-first-mark}
+use Rattle.uri_mend.specs.Trimming.{tab_and_newlines, without_any, without_outer_space}
+
+-- trimming: a text without these characters is what is before the first of them, and what is after
+-- it without them
+text-without-marks-by-cut : (marks text : List ℕ) → without_any marks text
+    ≡ before_any marks text ++ without_any marks (drop 1 (from_any marks text))
+text-without-marks-by-cut marks [] = refl
+text-without-marks-by-cut marks (c ∷ rest) = ⊎_elim
+    (λ is. cond-false _ _ _ (not_from_true _ is)
+    ∙ ap (λ t. without_any marks (drop 1 t)) (sym (from_any-at-mark marks c rest is))
+    ∙ ap (λ b. b ++ without_any marks (drop 1 (from_any marks (c ∷ rest))))
+    (sym (before_any-at-mark marks c rest is)))
+    (λ is. cond-true _ _ _ (not_from_false _ is)
+    ∙ ap (λ t. c ∷ t) (text-without-marks-by-cut marks rest)
+    ∙ ap (λ f. (c ∷ before_any marks rest) ++ without_any marks (drop 1 f))
+    (sym (from_any-past-other marks c rest is))
+    ∙ ap (λ b. b ++ without_any marks (drop 1 (from_any marks (c ∷ rest))))
+    (sym (before_any-past-other marks c rest is)))
+    (cases_Bool (is_one_of marks c))
+
+-- trimming: a text that has none of these characters is unchanged without them
+pub text-without-marks-is-unchanged : (marks text : List ℕ)
+    → list_any (is_one_of marks) text ≡ false → without_any marks text ≡ text
+text-without-marks-is-unchanged marks [] none = refl
+text-without-marks-is-unchanged marks (c ∷ rest) none =
+    let parts = or_parts (is_one_of marks c) (list_any (is_one_of marks) rest) none in
+    cond-true _ _ _ (not_from_false _ parts.0)
+    ∙ ap (λ t. c ∷ t) (text-without-marks-is-unchanged marks rest parts.1)
+
+-- trimming: after a run is appended, what was appended and what is left still make the whole
+pub text-without-marks-after-run : (marks out mid rest from all : List ℕ)
+    → mid ≡ out ++ before_any marks rest → from ≡ from_any marks rest
+    → out ++ without_any marks rest ≡ all → mid ++ without_any marks (drop 1 from) ≡ all
+text-without-marks-after-run marks out mid rest from all copied left whole =
+    ap (λ x. x ++ without_any marks (drop 1 from)) copied
+    ∙ append_assoc out (before_any marks rest) (without_any marks (drop 1 from))
+    ∙ ap (λ f. out ++ (before_any marks rest ++ without_any marks (drop 1 f))) left
+    ∙ ap (λ x. out ++ x) (sym (text-without-marks-by-cut marks rest)) ∙ whole
+
+-- trimming: std's trimmed text is the text without outer space
+pub trimmed-text-is-without-outer-space : (text trimmed : List ℕ) → IsTrimAscii text trimmed
+    → trimmed ≡ without_outer_space text
+trimmed-text-is-without-outer-space text trimmed is =
+    trim_ascii_is text trimmed (drop (prefix_len is_ascii_whitespace text) text) refl is
+
+-- trimming: what is from the first of tab, LF and CR on has an end after its first character
+pub boundary-after-tab-or-newline : (text from : List ℕ) → IsUtf8 text
+    → from ≡ from_any tab_and_newlines text → 0 < length from → IsCharBoundary from 1
+boundary-after-tab-or-newline text [] u e some = absurd (omega (arith, some))
+boundary-after-tab-or-newline text (c ∷ rest) u e some =
+    let begins : IsEmptyOrMarked tab_and_newlines (c ∷ rest) =
+    subst (IsEmptyOrMarked tab_and_newlines) (sym e)
+    (text-is-cut-at-first-mark tab_and_newlines text).begins in
+    let utf8 : IsUtf8 (c ∷ rest) =
+    subst IsUtf8 (sym e) (utf8_from_marks tab_and_newlines text
+    (AreAscii-by-test tab_and_newlines refl) u) in
+    IsCharBoundary-after_ascii (c ∷ rest) 0 utf8 (omega arith) (tab-or-newline-is-ascii c begins)
+  where
+    tab-or-newline-is-ascii : (c : ℕ) → is_one_of tab_and_newlines c ≡ true → c < 128
+    tab-or-newline-is-ascii c h = grind arith

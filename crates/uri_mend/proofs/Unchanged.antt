@@ -1,0 +1,272 @@
+-- What mending leaves as it is: a text of the kind; and what it refuses: a scheme and an authority
+-- that begin no text of the kind.
+use Rattle.std.proofs.Common.{◌≡◌, ℕ, Bool, true, false, not, List, [], ◌∷◌, ◌++◌, refl}
+use Rattle.std.proofs.Common.{sym, ap, ◌∙◌, ⊎_elim, ◌&&◌, ◌||◌, arith, inl, eqb, drop}
+use Rattle.std.specs.Prelude.{codes, Option, Some, None, IfSome, IfNone, is_some, option_map}
+use Rattle.std.specs.Str.{IsUtf8, chars}
+use Rattle.std.proofs.lemmas.Bool.{cases_Bool, cond-false, and_parts, and_from, both_ways}
+use Rattle.std.proofs.lemmas.Bool.{and_left}
+use Rattle.std.proofs.lemmas.Bool.{and_right, eqb-true}
+use Rattle.std.proofs.lemmas.List.{append-nil}
+use Rattle.uri_pct.specs.Sets.{TableSet, LacksPercent}
+use Rattle.uri_pct.specs.Tokens.{is_valid_for, tokens_from_chars}
+use Rattle.uri_parts.specs.Components.{Components, components, recompose, marked, starts, Lacks}
+use Rattle.uri_parts.specs.Components.{IsSplitOf, IsAbemptyPath, has_scheme, has_authority, from_any}
+use Rattle.uri_parts.specs.Components.{before_any, after_scheme, after_authority, when}
+use Rattle.uri_parts.specs.Grammar.{Kind, IsOfKind, is_of_kind, absent_or_passes, is_scheme}
+use Rattle.uri_parts.specs.Grammar.{is_authority, has_colon_in_first_segment, components_meet_rules}
+use Rattle.uri_parts.proofs.Splitting.Recompose.{recompose-components}
+use Rattle.uri_parts.proofs.Splitting.Relative.{colon_in_first_segment-is-at-start}
+use Rattle.uri_parts.proofs.Splitting.Splits.{only-split-is-components}
+use Rattle.uri_ops.specs.ComponentSets.{HasComponentSets}
+use Rattle.uri_ops.specs.Models.Places.{before_path}
+use Rattle.uri_ops.proofs.Meanings.AllowedParts.{is_set_text, set-text-is-valid, set-text-is-utf8}
+use Rattle.uri_ops.proofs.Meanings.TextParts.{components-of-utf8-are-utf8}
+use Rattle.uri_ops.proofs.Meanings.TextParts.{grammar-gives-components-of-kind}
+use Rattle.uri_mend.specs.MendedParts.{mended}
+use Rattle.uri_mend.specs.Mending.{has_false_scheme, link_components}
+use Rattle.uri_mend.specs.Mending.{mended_components, mended_text, can_be_mended}
+use Rattle.uri_mend.proofs.MendedSteps.{valid-text-is-its-own-mended-text}
+use Rattle.uri_mend.proofs.LinkComponents.{no-false-scheme-gets-nothing}
+use Rattle.uri_mend.proofs.MendedReferences.{AreMendable, no-scheme-is-found}
+use Rattle.uri_mend.proofs.MendedReferences.{part-with-property-passes}
+use Rattle.uri_mend.proofs.MendedReferences.{link-components-are-mendable}
+
+-- mending: a scheme and an authority as components, without anything after them
+unfoldable pub prefix_components : Components → Components
+prefix_components p = record {
+  scheme = p.scheme;
+  authority = p.authority;
+  path = [];
+  query = None;
+  fragment = None;
+}
+
+-- mending: their text is what is before the path
+pub prefix-components-are-text-before-path : (p : Components)
+    → recompose (prefix_components p) ≡ before_path p
+unfolding prefix_components
+prefix-components-are-text-before-path p =
+    ap (λ t. marked [] p.scheme (codes ":") ++ t) (append-nil (marked (codes "//") p.authority []))
+
+-- general fact on options, for mending: an empty path may follow each authority
+empty-path-follows-authority : (o : Option (List ℕ)) (P : List ℕ → Type 0) (path : List ℕ)
+    → IfSome o (λ a. P a × IsAbemptyPath path) → IfSome o (λ a. P a × IsAbemptyPath [])
+empty-path-follows-authority None P path h = tt
+empty-path-follows-authority (Some a) P path h = (h.0, inl refl)
+
+-- general fact on options, for mending: what holds in any case does so without a part
+holds-without-part : {A : Type 0} (o : Option A) (P : Type 0) → P → IfNone o P
+holds-without-part None P h = h
+holds-without-part (Some a) P h = tt
+
+-- mending: a scheme and an authority are a split of their text
+pub prefix-components-are-split : (p : Components) → AreMendable p
+    → IsSplitOf (recompose (prefix_components p)) (prefix_components p)
+unfolding prefix_components
+prefix-components-are-split p m = record {
+  whole = refl;
+  scheme = m.split.scheme;
+  authority = empty-path-follows-authority p.authority (λ a. Lacks (codes "/?#") a) p.path
+      m.split.authority;
+  path = λ k d l. absurd (omega arith);
+  query = tt;
+  no_scheme = no-scheme-is-found p.scheme p.authority [] None None
+      (holds-without-part p.scheme _ (holds-without-part p.authority _ refl));
+  no_authority = holds-without-part p.authority _ refl;
+}
+
+-- general fact on booleans, for mending: the rules of the grammar where the path is empty; a, s, n,
+-- there: the authority passes, a scheme is there, it is needed, an authority is there
+rules-of-prefix : (a s n there : Bool)
+    → (((((true && a) && true) && true) && true) && (s || (not n && (there || true))))
+    ≡ (a && (s || not n))
+rules-of-prefix false s n there = refl
+rules-of-prefix true true n there = refl
+rules-of-prefix true false true there = refl
+rules-of-prefix true false false true = refl
+rules-of-prefix true false false false = refl
+
+-- mending: the empty text is valid for each set
+empty-text-is-valid : (set : TableSet) → is_valid_for set [] ≡ true
+unfolding is_valid_for tokens_from_chars chars
+empty-text-is-valid set = refl
+
+-- mending: what is before the path is of the kind exactly if the authority passes, and the scheme
+-- is there if it is needed
+prefix-rules : (kind : Kind) (p : Components) → AreMendable p
+    → components_meet_rules kind (prefix_components p)
+    ≡ (absent_or_passes p.authority (is_authority kind) && (is_some p.scheme || not kind.needs_scheme))
+unfolding prefix_components
+prefix-rules kind p m =
+    let a = absent_or_passes p.authority (is_authority kind) in
+    let rest : Bool = is_some p.scheme || (not kind.needs_scheme && (is_some p.authority || true)) in
+    ap (λ s. ((((s && a) && is_valid_for kind.path []) && true) && true) && rest)
+    (part-with-property-passes p.scheme is_scheme m.scheme)
+    ∙ ap (λ v. ((((true && a) && v) && true) && true) && rest) (empty-text-is-valid kind.path)
+    ∙ rules-of-prefix a (is_some p.scheme) kind.needs_scheme (is_some p.authority)
+
+-- mending: a text can be mended exactly if its scheme and authority are of the kind
+pub prefix-is-of-kind-iff-mendable : (kind : Kind) (text : List ℕ) → IsUtf8 text
+    → is_of_kind kind (before_path (link_components text)) ≡ can_be_mended kind text
+unfolding can_be_mended
+prefix-is-of-kind-iff-mendable kind text u =
+    let p = link_components text in
+    let m = link-components-are-mendable text u in
+    ap (is_of_kind kind) (sym (prefix-components-are-text-before-path p))
+    ∙ ap (components_meet_rules kind) (only-split-is-components (recompose (prefix_components p))
+    (prefix_components p) (prefix-components-are-split p m))
+    ∙ prefix-rules kind p m
+
+-- general fact on booleans, for mending: without a scheme and an authority, the rule is on the `:`
+rule-on-colons : (s n a c : Bool) → (s || (not n && (a || not c))) ≡ true → s ≡ false → a ≡ false
+    → c ≡ false
+rule-on-colons s n a false h e f = refl
+rule-on-colons true n a true h e f = absurd (both_ways _ e refl)
+rule-on-colons false true a true h e f = absurd (both_ways _ refl h)
+rule-on-colons false false true true h e f = absurd (both_ways _ f refl)
+rule-on-colons false false false true h e f = absurd (both_ways _ refl h)
+
+-- general fact on booleans, for mending: what the rule says of a scheme that is needed
+rule-on-schemes : (s n r : Bool) → (s || (not n && r)) ≡ true → (s || not n) ≡ true
+rule-on-schemes true n r h = refl
+rule-on-schemes false n r h = (and_parts (not n) r h).0
+
+-- mending: a text that begins with `:` has no authority
+colon-first-is-no-authority : (text : List ℕ) → starts 58 text ≡ true → has_authority text ≡ false
+colon-first-is-no-authority [] e = refl
+colon-first-is-no-authority (c ∷ text) e =
+    and_left _ _ (ap (λ n. eqb n 47) (eqb-true c 58 e))
+
+-- mending: no text of a kind begins with `:`
+text-of-kind-has-no-leading-colon : (kind : Kind) (text : List ℕ) → IsOfKind kind text
+    → starts 58 text ≡ false
+text-of-kind-has-no-leading-colon kind text h = ⊎_elim
+    (λ first.
+    let none : has_scheme text ≡ false = and_right _ _ (ap not first) in
+    let rest : after_scheme text ≡ text = cond-false _ _ _ none in
+    let bare : has_authority (after_scheme text) ≡ false =
+    ap has_authority rest ∙ colon-first-is-no-authority text first in
+    let tail : after_authority (after_scheme text) ≡ text = cond-false _ _ _ bare ∙ rest in
+    let p = components text in
+    let s : is_some p.scheme ≡ false =
+    ap (λ t. is_some (when t (before_any (codes ":/?#") text))) none in
+    let a : is_some p.authority ≡ false =
+    ap (λ t. is_some (when t (before_any (codes "/?#") (drop 2 (after_scheme text))))) bare in
+    let colon : has_colon_in_first_segment p.path ≡ true =
+    ap (λ t. has_colon_in_first_segment (before_any (codes "?#") t)) tail
+    ∙ colon_in_first_segment-is-at-start text none ∙ first in
+    absurd (both_ways _ (rule-on-colons (is_some p.scheme) kind.needs_scheme (is_some p.authority)
+    (has_colon_in_first_segment p.path) (and_parts _ _ h).1 s a) colon))
+    (λ first. first)
+    (cases_Bool (starts 58 text))
+
+-- mending: the scheme of a text of a kind is one
+scheme-of-text-of-kind-is-one : (kind : Kind) (text : List ℕ) → IsOfKind kind text
+    → has_scheme text ≡ true → is_scheme (before_any (codes ":/?#") text) ≡ true
+scheme-of-text-of-kind-is-one kind text h e =
+    let scheme = (and_parts _ _ (and_parts _ _ (and_parts _ _ (and_parts _ _
+    (and_parts _ _ h).0).0).0).0).0 in
+    sym (ap (λ t. absent_or_passes (when t (before_any (codes ":/?#") text)) is_scheme) e) ∙ scheme
+
+-- mending: a text of a kind has no false scheme
+pub text-of-kind-has-no-false-scheme : (kind : Kind) (text : List ℕ) → IsOfKind kind text
+    → has_false_scheme text ≡ false
+unfolding has_false_scheme
+text-of-kind-has-no-false-scheme kind text h = ⊎_elim
+    (λ e. and_right _ _ (ap not (scheme-of-text-of-kind-is-one kind text h
+    (and_from _ _ e (ap not (text-of-kind-has-no-leading-colon kind text h))))))
+    (λ e. and_left _ _ e)
+    (cases_Bool (starts 58 (from_any (codes ":/?#") text)))
+
+-- mending: the components of a text of a kind are found
+link-components-of-text-of-kind : (kind : Kind) (text : List ℕ) → IsOfKind kind text
+    → link_components text ≡ components text
+unfolding link_components
+link-components-of-text-of-kind kind text h =
+    ap components (no-false-scheme-gets-nothing text (text-of-kind-has-no-false-scheme kind text h))
+
+-- general fact on options, for mending: a part that is valid stays
+valid-part-stays : (set : TableSet) (o : Option (List ℕ)) → LacksPercent set
+    → set.pct_encoded ≡ true → IfSome o (λ x. is_set_text set x ≡ true)
+    → option_map (mended set) o ≡ o
+valid-part-stays set None lacks octets h = refl
+valid-part-stays set (Some x) lacks octets h = ap Some
+    (valid-text-is-its-own-mended-text set lacks octets x (set-text-is-utf8 set x h)
+    (set-text-is-valid set x h))
+
+-- general fact on records, for mending: components are equal if path, query and fragment are
+equal-ends-make-equal-components : (p : Components) {path : List ℕ}
+    {query fragment : Option (List ℕ)}
+    → path ≡ p.path → query ≡ p.query → fragment ≡ p.fragment
+    → (let x : Components = record {
+      scheme = p.scheme;
+      authority = p.authority;
+      path = path;
+      query = query;
+      fragment = fragment;
+    } in x) ≡ p
+equal-ends-make-equal-components p a q f = λ i. record {
+  scheme = p.scheme;
+  authority = p.authority;
+  path = a i;
+  query = q i;
+  fragment = f i;
+}
+
+module _ (kind : Kind) (sets : HasComponentSets kind) where
+  -- the components of a text of the kind stay
+  components-of-kind-stay : (text : List ℕ) → IsUtf8 text → IsOfKind kind text
+      → mended_components kind (components text) ≡ components text
+  components-of-kind-stay text u h =
+      let p = components text in
+      let parts = grammar-gives-components-of-kind kind p (components-of-utf8-are-utf8 text u) h in
+      equal-ends-make-equal-components p
+      (valid-text-is-its-own-mended-text kind.path sets.path.percent sets.path.octets p.path
+      (set-text-is-utf8 kind.path p.path parts.path)
+      (set-text-is-valid kind.path p.path parts.path))
+      (valid-part-stays kind.query p.query sets.query.percent sets.query.octets parts.query)
+      (valid-part-stays kind.fragment p.fragment sets.fragment.percent sets.fragment.octets
+      parts.fragment)
+
+  -- a text of the kind is mended as itself
+  pub text-of-kind-stays : (text : List ℕ) → IsUtf8 text → IsOfKind kind text
+      → mended_text kind text ≡ text
+  unfolding mended_text
+  text-of-kind-stays text u h =
+      ap (λ p. recompose (mended_components kind p)) (link-components-of-text-of-kind kind text h)
+      ∙ ap recompose (components-of-kind-stay text u h) ∙ recompose-components text
+
+  -- a text of the kind can be mended
+  pub text-of-kind-can-be-mended : (text : List ℕ) → IsOfKind kind text
+      → can_be_mended kind text ≡ true
+  unfolding can_be_mended
+  text-of-kind-can-be-mended text h =
+      let rules = and_parts _ _ h in
+      let authority = (and_parts _ _ (and_parts _ _ (and_parts _ _ (and_parts _ _
+      rules.0).0).0).0).1 in
+      ap (λ p. absent_or_passes p.authority (is_authority kind)
+      && (is_some p.scheme || not kind.needs_scheme)) (link-components-of-text-of-kind kind text h)
+      ∙ and_from _ _ authority (rule-on-schemes _ kind.needs_scheme _ rules.1)
+
+-- mending: a text of the kind passes what lets its scheme and authority be mended
+rules-of-text-of-kind : (kind : Kind) (text : List ℕ) → IsOfKind kind text
+    → (absent_or_passes (components text).authority (is_authority kind)
+    && (is_some (components text).scheme || not kind.needs_scheme)) ≡ true
+rules-of-text-of-kind kind text h =
+    let rules = and_parts _ _ h in
+    let authority = (and_parts _ _ (and_parts _ _ (and_parts _ _ (and_parts _ _
+    rules.0).0).0).0).1 in
+    and_from _ _ authority (rule-on-schemes _ kind.needs_scheme _ rules.1)
+
+-- mending: no text of the kind has the scheme and the authority of a text that cannot be mended
+pub no-text-of-kind-has-rejected-scheme-and-authority : (kind : Kind) (text other : List ℕ)
+    → can_be_mended kind text ≡ false → IsOfKind kind other
+    → (components other).scheme ≡ (link_components text).scheme
+    → (components other).authority ≡ (link_components text).authority → ⊥
+unfolding can_be_mended
+no-text-of-kind-has-rejected-scheme-and-authority kind text other e h scheme authority =
+    both_ways _ e (sym (ap (λ a. absent_or_passes a (is_authority kind)
+    && (is_some (components other).scheme || not kind.needs_scheme)) authority
+    ∙ ap (λ s. absent_or_passes (link_components text).authority (is_authority kind)
+    && (is_some s || not kind.needs_scheme)) scheme) ∙ rules-of-text-of-kind kind other h)

@@ -1,0 +1,84 @@
+use Rattle.std.proofs.Common.{◌≡◌, ◌∙◌, ◌/◌, ◌%◌, ◌^◌, ◌<◌, ◌||◌, ap, subst, sym, refl, map, length}
+use Rattle.std.proofs.Common.{List, ℕ, []}
+use Rattle.std.proofs.Common.{bit_and, cond, eqb, get_or, ltb, true, w8, ◌∷◌, replicate}
+use mir.Val.{zeroes}
+use Rattle.std.specs.Fmt.{digit_glyph}
+use Rattle.std.specs.Simd.Lanes.{zip2, chunk}
+use Rattle.std.proofs.lemmas.Bool.{agree_below_at, eqb-true}
+use Rattle.std.proofs.lemmas.Simd.{zip2_splat, SwzOk, swz_l, length-chunk, chunk-fits}
+use Rattle.uri_pct.proofs.LaneScans.LaneMasks.{lanes_fit_swizzle, swizzle_is_lookup}
+use Rattle.uri_mend.proofs.octets.digits_of_lanes.Goals as goal
+
+-- octets: the hexadecimal digits
+digits : List ℕ
+digits = 48 ∷ 49 ∷ 50 ∷ 51 ∷ 52 ∷ 53 ∷ 54 ∷ 55 ∷ 56 ∷ 57 ∷ 65 ∷ 66 ∷ 67 ∷ 68 ∷ 69 ∷ 70 ∷ []
+
+module _ (bytes : List ℕ) (at : ℕ) (long : length (chunk at 16 bytes) ≡ 16) where
+  -- octets: the upper halves of sixteen bytes
+  shifted : zip2 (λ a b. a / 2 ^ b) (chunk at 16 bytes) (replicate 16 4)
+      ≡ map (λ b. b / 2 ^ 4) (chunk at 16 bytes)
+  shifted = zip2_splat (λ a b. a / 2 ^ b) (chunk at 16 bytes) 16 4 long
+
+  -- octets: the lower halves of sixteen bytes
+  masked : zip2 bit_and (chunk at 16 bytes) (replicate 16 15)
+      ≡ map (λ b. bit_and b 15) (chunk at 16 bytes)
+  masked = zip2_splat bit_and (chunk at 16 bytes) 16 15 long
+
+first-fits : (b : ℕ) → b < 256 → (zeroes 16 w8 (b / 2 ^ 4) || ltb (b / 2 ^ 4) 16) ≡ true
+first-fits b h = agree_below_at (λ c. zeroes 16 w8 (c / 2 ^ 4) || ltb (c / 2 ^ 4) 16) (λ c. true)
+    256 b refl h
+
+second-fits : (b : ℕ) → b < 256 → (zeroes 16 w8 (bit_and b 15) || ltb (bit_and b 15) 16) ≡ true
+second-fits b h = agree_below_at (λ c. zeroes 16 w8 (bit_and c 15) || ltb (bit_and c 15) 16)
+    (λ c. true) 256 b refl h
+
+first-is-digit : (b : ℕ) → b < 256
+    → cond (zeroes 16 w8 (b / 2 ^ 4)) 0 (get_or digits (b / 2 ^ 4) 0) ≡ digit_glyph true (b / 16)
+unfolding digits
+first-is-digit b h = eqb-true _ _ (agree_below_at
+    (λ c. eqb (cond (zeroes 16 w8 (c / 2 ^ 4)) 0 (get_or digits (c / 2 ^ 4) 0))
+    (digit_glyph true (c / 16))) (λ c. true) 256 b refl h)
+
+second-is-digit : (b : ℕ) → b < 256
+    → cond (zeroes 16 w8 (bit_and b 15)) 0 (get_or digits (bit_and b 15) 0)
+    ≡ digit_glyph true (b % 16)
+unfolding digits
+second-is-digit b h = eqb-true _ _ (agree_below_at
+    (λ c. eqb (cond (zeroes 16 w8 (bit_and c 15)) 0 (get_or digits (bit_and c 15) 0))
+    (digit_glyph true (c % 16))) (λ c. true) 256 b refl h)
+
+pub swizzle : goal.swizzle
+unfolding digits
+swizzle c =
+    let long = length-chunk c.args.at 16 c.args.bytes.now c.requires in
+    subst (SwzOk w8 16 16 0) (sym (shifted c.args.bytes.now c.args.at long))
+    (lanes_fit_swizzle digits (chunk c.args.at 16 c.args.bytes.now) (λ b. b / 2 ^ 4)
+    (λ b. digit_glyph true (b / 16)) long
+    (chunk-fits w8 c.args.at 16 c.args.bytes.now c.type_inv.bytes) first-fits)
+
+pub swizzle-2 : goal.swizzle-2
+unfolding digits
+swizzle-2 c =
+    let long = length-chunk c.args.at 16 c.args.bytes.now c.requires in
+    subst (SwzOk w8 16 16 0) (sym (masked c.args.bytes.now c.args.at long))
+    (lanes_fit_swizzle digits (chunk c.args.at 16 c.args.bytes.now) (λ b. bit_and b 15)
+    (λ b. digit_glyph true (b % 16)) long
+    (chunk-fits w8 c.args.at 16 c.args.bytes.now c.type_inv.bytes) second-fits)
+
+pub returns-clause-first : goal.returns-clause-first
+unfolding digits
+returns-clause-first c =
+    let long = length-chunk c.args.at 16 c.args.bytes.now c.requires in
+    ap (swz_l w8 16 digits 0) (shifted c.args.bytes.now c.args.at long)
+    ∙ swizzle_is_lookup digits (chunk c.args.at 16 c.args.bytes.now) (λ b. b / 2 ^ 4)
+    (λ b. digit_glyph true (b / 16)) long
+    (chunk-fits w8 c.args.at 16 c.args.bytes.now c.type_inv.bytes) first-is-digit
+
+pub returns-clause-second : goal.returns-clause-second
+unfolding digits
+returns-clause-second c =
+    let long = length-chunk c.args.at 16 c.args.bytes.now c.requires in
+    ap (swz_l w8 16 digits 0) (masked c.args.bytes.now c.args.at long)
+    ∙ swizzle_is_lookup digits (chunk c.args.at 16 c.args.bytes.now) (λ b. bit_and b 15)
+    (λ b. digit_glyph true (b % 16)) long
+    (chunk-fits w8 c.args.at 16 c.args.bytes.now c.type_inv.bytes) second-is-digit

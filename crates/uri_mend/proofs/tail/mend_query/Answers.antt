@@ -1,0 +1,23 @@
+use Rattle.std.proofs.Common.{◌++◌, ◌∷◌, [], drop, sym, ap, ◌∙◌}
+use Rattle.std.proofs.lemmas.Result.{IfOk-weaker}
+use Rattle.uri_pct.specs.Tables.{set_of}
+use Rattle.uri_parts.specs.Components.{before_any}
+use Rattle.std.specs.Prelude.{codes}
+use Rattle.uri_mend.specs.MendedParts.{mended}
+use Rattle.uri_mend.specs.Progress.{mended_so_far}
+use Rattle.uri_mend.proofs.MendedTails.{query-is-mended}
+use Rattle.uri_mend.proofs.tail.mend_query.Goals as goal
+
+pub returns-in-Some-clause-text : goal.returns-in-Some-clause-text
+returns-in-Some-clause-text c =
+    let set = set_of c.args.table.now in
+    let text = c.args.text.now in
+    let p = c.in-Some.p in
+    IfOk-weaker c.mend_component.result _ _
+    (λ q made. query-is-mended set (mended_so_far text c.args.out.now.items c.args.from) _
+    (drop c.args.from.end text) (sym c.in-Some.ensures.next)
+    (made ∙ ap (λ t. t ++ mended set (before_any (codes "#") (drop p.end text)))
+    (c.in-Some.ensures.text c.args.out.now.items)
+    ∙ ap (λ t. (mended_so_far text c.args.out.now.items c.args.from ++ 63 ∷ [])
+    ++ mended set (before_any (codes "#") t)) c.in-Some.ensures.rest))
+    c.mend_component.ensures.text

@@ -1,0 +1,74 @@
+use Rattle.std.proofs.Common.{◌≡◌, ◌+◌, ◌++◌, List, ℕ, drop, length, subst, sym, ap, ◌∙◌}
+use Rattle.uri_parts.specs.Grammar.{Kind}
+use Rattle.uri_parts.specs.KindTables.{kind_of}
+use Rattle.uri_mend.specs.Progress.{mended_so_far}
+use Rattle.uri_mend.specs.Tails.{mended_path, mended_query, mended_tail}
+use Rattle.uri_mend.proofs.NeverAllowed.{HasMendedSets, one-of-four-kinds-has-mended-sets}
+use Rattle.uri_mend.proofs.MendedTails.{length-of-mended-so-far, part-ends-where-mended}
+use Rattle.uri_mend.proofs.MendedTails.{parts-are-mended-tail}
+use Rattle.uri_mend.proofs.tail.mend_tail.Goals as goal
+
+pub mend_component-requires-clause-never : goal.mend_component-requires-clause-never
+mend_component-requires-clause-never g c =
+    let sets = one-of-four-kinds-has-mended-sets g.K.Kind.kind g.met.K.Kind.known in
+    (subst HasMendedSets (sym c.tables-tables.ensures.kind) sets).path
+
+pub mend_component-requires-clause-marks : goal.mend_component-requires-clause-marks
+mend_component-requires-clause-marks g c =
+    let sets = one-of-four-kinds-has-mended-sets g.K.Kind.kind g.met.K.Kind.known in
+    (subst HasMendedSets (sym c.tables-tables.ensures.kind) sets).path_marks
+
+pub mend_query-requires-clause-never : goal.mend_query-requires-clause-never
+mend_query-requires-clause-never g c =
+    let sets = one-of-four-kinds-has-mended-sets g.K.Kind.kind g.met.K.Kind.known in
+    (subst HasMendedSets (sym c.tables-tables.ensures.kind) sets).query
+
+pub mend_query-requires-clause-marks : goal.mend_query-requires-clause-marks
+mend_query-requires-clause-marks g c =
+    let sets = one-of-four-kinds-has-mended-sets g.K.Kind.kind g.met.K.Kind.known in
+    (subst HasMendedSets (sym c.tables-tables.ensures.kind) sets).query_marks
+
+pub mend_fragment-requires-clause-never : goal.mend_fragment-requires-clause-never
+mend_fragment-requires-clause-never g c =
+    let sets = one-of-four-kinds-has-mended-sets g.K.Kind.kind g.met.K.Kind.known in
+    (subst HasMendedSets (sym c.tables-tables.ensures.kind) sets).fragment
+
+pub returns-clause-text : goal.returns-clause-text
+returns-clause-text g c =
+    let text = c.args.text.now in
+    let tail = drop c.args.from.end text in
+    let old : List ℕ = mended_so_far text c.args.out.now.items c.args.from in
+    let made : List ℕ = mended_so_far text c.mend_fragment.new.out.items c.in_ok-progress.progress in
+    subst (λ k. made ≡ old ++ mended_tail k tail) c.tables-tables.ensures.kind
+    (parts-are-mended-tail (kind_of c.tables-tables.result) tail (drop c.in_ok-path.path.end text)
+    (drop c.in_ok-query.query.end text) old
+    (mended_so_far text c.mend_component.new.out.items c.in_ok-path.path)
+    (mended_so_far text c.mend_query.new.out.items c.in_ok-query.query) made
+    c.in_ok-path.ensures.rest c.in_ok-query.ensures.rest c.in_ok-path.ensures.text
+    c.in_ok-query.ensures.text c.in_ok-progress.ensures.text)
+
+pub returns-clause-path_end : goal.returns-clause-path_end
+returns-clause-path_end g c =
+    let text = c.args.text.now in
+    let tail = drop c.args.from.end text in
+    let old : List ℕ = mended_so_far text c.args.out.now.items c.args.from in
+    part-ends-where-mended text c.mend_component.new.out.items old _ c.in_ok-path.path
+    c.in_ok-path_end.path_end c.in_ok-path.ensures.progress c.in_ok-path_end.ensures
+    c.in_ok-path.ensures.text
+    ∙ ap (λ k. length old + length (mended_path k tail)) c.tables-tables.ensures.kind
+
+pub returns-clause-query_end : goal.returns-clause-query_end
+returns-clause-query_end g c =
+    let text = c.args.text.now in
+    let tail = drop c.args.from.end text in
+    let path : List ℕ = mended_so_far text c.mend_component.new.out.items c.in_ok-path.path in
+    part-ends-where-mended text c.mend_query.new.out.items path _ c.in_ok-query.query
+    c.in_ok-query_end.query_end c.in_ok-query.ensures.progress c.in_ok-query_end.ensures
+    c.in_ok-query.ensures.text
+    ∙ ap (λ n. n + length (mended_query (kind_of c.tables-tables.result).query (drop c.in_ok-path.path.end text)))
+    (length-of-mended-so-far text c.mend_component.new.out.items c.in_ok-path.path
+    c.in_ok-path.ensures.progress ∙ sym c.in_ok-path_end.ensures)
+    ∙ ap (λ (k : Kind). c.in_ok-path_end.path_end
+    + length (mended_query k.query (drop c.in_ok-path.path.end text))) c.tables-tables.ensures.kind
+    ∙ ap (λ t. c.in_ok-path_end.path_end + length (mended_query g.K.Kind.kind.query t))
+    c.in_ok-path.ensures.rest

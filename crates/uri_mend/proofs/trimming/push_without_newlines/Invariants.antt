@@ -1,0 +1,13 @@
+use Rattle.std.proofs.Common.{◌≡◌, ◌++◌, length, string_bytes}
+use denote.Text.{Utf8}
+use denote.Shadow.{shadow}
+use Rattle.uri_mend.specs.Trimming.{tab_and_newlines, without_any}
+use Rattle.uri_mend.proofs.trimming.push_without_newlines.Given as goal
+
+abbrev pub invariant-loop-rest : goal.invariant-loop-rest
+invariant-loop-rest l = shadow (Utf8 l.rest)
+    × (string_bytes l.out ++ without_any tab_and_newlines l.rest
+    ≡ string_bytes l.fn.out ++ without_any tab_and_newlines l.text)
+
+abbrev pub decreases-loop-rest : goal.decreases-loop-rest
+decreases-loop-rest l = length l.rest

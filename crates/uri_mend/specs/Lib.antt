@@ -1,0 +1,10 @@
+pub mod MendedParts
+pub mod Mending
+pub mod Refusing
+pub mod Tails
+pub mod Links
+pub mod Encodings
+pub mod Lengths
+pub mod Mended
+pub mod Progress
+pub mod Trimming

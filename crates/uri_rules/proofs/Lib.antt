@@ -1,0 +1,8 @@
+pub mod EditedPlaces
+pub mod EditedTexts
+pub mod NormalForms
+pub mod NormalTargets
+pub mod RuledMeanings
+pub mod RuledTargets
+pub mod RuledTexts
+mod RulesRows

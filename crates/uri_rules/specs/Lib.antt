@@ -1,0 +1,6 @@
+pub mod Edits
+pub mod NormalForms
+pub mod Normalizers
+pub mod Rules
+pub mod Standard
+pub mod Targets

@@ -1,0 +1,234 @@
+-- The value of a reference has its components, and each under a name of its own.
+use Rattle.std.proofs.Common.{◌≡◌, ℕ, Bool, true, false, List, [], ◌∷◌, refl, sym, ap, ◌∙◌, rules}
+use Rattle.std.specs.Prelude.{codes, Option, Some, None, IfSome, option_map, option_and_then, map}
+use Rattle.std.specs.Prelude.{bytes_eq, if◌then◌else◌, unwrap_or}
+use Rattle.std.specs.List.{AllByRecursion, IsDistinct}
+use Rattle.std.specs.Str.{chars, encode_utf8_all}
+use Rattle.fluent_uri.specs.Authority.{authority_parts}
+use Rattle.fluent_uri.specs.Components.{Components}
+use Rattle.fluent_uri.specs.Hosts.{host_kind}
+use Rattle.uri_streams.specs.Json.{host_word}
+use Rattle.uri_streams.specs.JsonTexts.{JsonValue, Object, Members, EndOfObject, Member}
+use Rattle.uri_streams.specs.JsonValues.{text_members, with_present, present}
+use Rattle.uri_streams.specs.JsonValues.{named_components, components_value}
+use Rattle.uri_streams.proofs.JsonStringTexts.{IsPlain, ascii-is-plain}
+use Rattle.uri_streams.proofs.JsonPairs.{AreUtf8, text_in, text-is-in-its-value}
+use Rattle.uri_streams.proofs.JsonObjects.{IsPlainIfPresent, host_word-is-plain}
+use Rattle.uri_streams.proofs.JsonObjects.{HasPlainAuthority, HasPlainComponents}
+
+-- lines of JSON: the names of members, and the texts of their strings
+abbrev named_in : Members → List (List ℕ × List ℕ)
+named_in EndOfObject = []
+named_in (Member name v members) = (encode_utf8_all name, text_in v) ∷ named_in members
+
+-- lines of JSON: the members of an object
+abbrev members_in : JsonValue → Members
+members_in (Object members) = members
+members_in other = EndOfObject
+
+-- lines of JSON: names and texts in UTF-8 are found in their members
+names-are-in-their-members : (named : List (List ℕ × List ℕ)) → AreUtf8 named
+    → named_in (text_members named) ≡ named
+names-are-in-their-members [] h = refl
+names-are-in-their-members (one ∷ others) (n, t, h) =
+    let more = named_in (text_members others) in
+    ap (λ x. (x, encode_utf8_all (chars one.1)) ∷ more) (text-is-in-its-value one.0 n)
+    ∙ ap (λ x. (one.0, x) ∷ more) (text-is-in-its-value one.1 t)
+    ∙ ap (λ x. one ∷ x) (names-are-in-their-members others h)
+
+-- lines of JSON: the text with this name
+abbrev find_named : List ℕ → List (List ℕ × List ℕ) → Option (List ℕ)
+find_named name [] = None
+find_named name (one ∷ others) =
+    if bytes_eq one.0 name then Some one.1 else find_named name others
+
+-- lines of JSON: the first text, or else the other
+abbrev first_present : Option (List ℕ) → Option (List ℕ) → Option (List ℕ)
+first_present None other = other
+first_present (Some text) other = Some text
+
+-- lines of JSON: the text with this name, if it is present
+abbrev find_present : List ℕ → List (List ℕ × Option (List ℕ)) → Option (List ℕ)
+find_present name [] = None
+find_present name (one ∷ others) =
+    if bytes_eq one.0 name then first_present one.1 (find_present name others)
+    else find_present name others
+
+-- lines of JSON: a text is found among those that are present as among all
+present-text-is-found : (name : List ℕ) (named : List (List ℕ × Option (List ℕ)))
+    → find_named name (present named) ≡ find_present name named
+present-text-is-found name [] = refl
+present-text-is-found name (one ∷ others) = at one.1
+    ∙ ap (λ o. if bytes_eq one.0 name then first_present one.1 o else o)
+    (present-text-is-found name others)
+  where
+    same : (b : Bool) (o : Option (List ℕ)) → o ≡ (if b then o else o)
+    same true o = refl
+    same false o = refl
+
+    at : (o : Option (List ℕ)) → find_named name (with_present one.0 o (present others))
+        ≡ (if bytes_eq one.0 name then first_present o (find_named name (present others))
+        else find_named name (present others))
+    at None = same (bytes_eq one.0 name) (find_named name (present others))
+    at (Some text) = refl
+
+-- lines of JSON: a text is the first one if there is no other
+text-without-others-is-first : (o : Option (List ℕ)) → first_present o None ≡ o
+text-without-others-is-first None = refl
+text-without-others-is-first (Some text) = refl
+
+-- lines of JSON: the components, each by its name
+abbrev components_in : List (List ℕ × List ℕ) → Components
+components_in named = record {
+  scheme = find_named (codes "scheme") named;
+  authority = find_named (codes "authority") named;
+  path = unwrap_or (find_named (codes "path") named) [];
+  query = find_named (codes "query") named;
+  fragment = find_named (codes "fragment") named;
+}
+
+-- lines of JSON: each component is found by its name
+components-are-found-by-name : (p : Components)
+    → components_in (present (named_components p)) ≡ p
+components-are-found-by-name p =
+    let all = named_components p in
+    let found = λ (name : List ℕ). present-text-is-found name all in
+    let scheme : find_named (codes "scheme") (present all) ≡ p.scheme =
+    found (codes "scheme") ∙ text-without-others-is-first p.scheme in
+    let authority : find_named (codes "authority") (present all) ≡ p.authority =
+    found (codes "authority") ∙ text-without-others-is-first p.authority in
+    let path : unwrap_or (find_named (codes "path") (present all)) [] ≡ p.path =
+    ap (λ o. unwrap_or o []) (found (codes "path")) in
+    let query : find_named (codes "query") (present all) ≡ p.query =
+    found (codes "query") ∙ text-without-others-is-first p.query in
+    let fragment : find_named (codes "fragment") (present all) ≡ p.fragment =
+    found (codes "fragment") ∙ text-without-others-is-first p.fragment in
+    λ i. record {
+      scheme = scheme i;
+      authority = authority i;
+      path = path i;
+      query = query i;
+      fragment = fragment i;
+    }
+
+-- lines of JSON: names and texts that need no escape
+abbrev ArePlain : List (List ℕ × Option (List ℕ)) → Type 0
+ArePlain [] = Unit {0}
+ArePlain (one ∷ others) = IsPlain one.0 × IsPlainIfPresent one.1 × ArePlain others
+
+-- lines of JSON: names and texts that need no escape are UTF-8
+plain-texts-are-utf8 : (named : List (List ℕ × Option (List ℕ))) → ArePlain named
+    → AreUtf8 (present named)
+plain-texts-are-utf8 [] h = tt
+plain-texts-are-utf8 (one ∷ others) (n, t, h) = at one.1 t (plain-texts-are-utf8 others h)
+  where
+    at : (o : Option (List ℕ)) → IsPlainIfPresent o → AreUtf8 (present others)
+        → AreUtf8 (with_present one.0 o (present others))
+    at None t more = more
+    at (Some text) t more = (n.utf8, t.utf8, more)
+
+-- lines of JSON: the names of components, and components that need no escape
+named-components-are-plain : (p : Components) → HasPlainComponents p
+    → ArePlain (named_components p)
+named-components-are-plain p h =
+    let parts = at p.authority h.authority in (
+      ascii-is-plain _ refl refl,
+      h.scheme,
+      (
+        ascii-is-plain _ refl refl,
+        parts.0,
+        (
+          ascii-is-plain _ refl refl,
+          parts.1,
+          (
+            ascii-is-plain _ refl refl,
+            parts.2,
+            (
+              ascii-is-plain _ refl refl,
+              parts.3,
+              (
+                ascii-is-plain _ refl refl,
+                parts.4,
+                (
+                  ascii-is-plain _ refl refl,
+                  h.path,
+                  (
+                    ascii-is-plain _ refl refl,
+                    h.query,
+                    (ascii-is-plain _ refl refl, h.fragment, tt),
+                  ),
+                ),
+              ),
+            ),
+          ),
+        ),
+      ),
+    )
+  where
+    at : (authority : Option (List ℕ)) → IfSome authority HasPlainAuthority
+        → let parts = option_map authority_parts authority in
+        IsPlainIfPresent authority
+        × IsPlainIfPresent (option_and_then (λ a. a.userinfo) parts)
+        × IsPlainIfPresent (option_map (λ a. a.host) parts)
+        × IsPlainIfPresent (option_map (λ a. host_word (host_kind a.host)) parts)
+        × IsPlainIfPresent (option_and_then (λ a. a.port) parts)
+    at None h = (tt, tt, tt, tt, tt)
+    at (Some a) h = (
+      h.whole,
+      h.userinfo,
+      h.host,
+      host_word-is-plain (host_kind (authority_parts a).host),
+      h.port,
+    )
+
+-- lines of JSON: the components are in the value of a reference
+components-are-in-their-value : (p : Components) → HasPlainComponents p
+    → components_in (named_in (members_in (components_value p))) ≡ p
+components-are-in-their-value p h =
+    ap components_in (names-are-in-their-members (present (named_components p))
+    (plain-texts-are-utf8 (named_components p) (named-components-are-plain p h)))
+    ∙ components-are-found-by-name p
+
+-- lines of JSON: references whose values are equal have equal components
+pub equal-objects-have-equal-components : (p q : Components) → HasPlainComponents p
+    → HasPlainComponents q → components_value p ≡ components_value q → p ≡ q
+equal-objects-have-equal-components p q h k e =
+    sym (components-are-in-their-value p h)
+    ∙ ap (λ v. components_in (named_in (members_in v))) e ∙ components-are-in-their-value q k
+
+-- lines of JSON: what holds of all names holds of those whose texts are present
+present-names-hold : (P : List ℕ → Type 0) (named : List (List ℕ × Option (List ℕ)))
+    → AllByRecursion P (map (λ one. one.0) named)
+    → AllByRecursion P (map (λ one. one.0) (present named))
+present-names-hold P [] h = h
+present-names-hold P (one ∷ others) (p, h) = at one.1 (present-names-hold P others h)
+  where
+    at : (o : Option (List ℕ)) → AllByRecursion P (map (λ one. one.0) (present others))
+        → AllByRecursion P (map (λ one. one.0) (with_present one.0 o (present others)))
+    at None more = more
+    at (Some text) more = (p, more)
+
+-- lines of JSON: if all names are distinct, those whose texts are present are
+present-names-are-distinct : (named : List (List ℕ × Option (List ℕ)))
+    → IsDistinct bytes_eq (map (λ one. one.0) named)
+    → IsDistinct bytes_eq (map (λ one. one.0) (present named))
+unfolding IsDistinct
+present-names-are-distinct [] h = h
+present-names-are-distinct (one ∷ others) (apart, h) = at one.1
+    (present-names-hold (λ name. bytes_eq one.0 name ≡ false) others apart)
+    (present-names-are-distinct others h)
+  where
+    at : (o : Option (List ℕ))
+        → AllByRecursion (λ name. bytes_eq one.0 name ≡ false)
+        (map (λ one. one.0) (present others))
+        → IsDistinct bytes_eq (map (λ one. one.0) (present others))
+        → IsDistinct bytes_eq (map (λ one. one.0) (with_present one.0 o (present others)))
+    at None apart more = more
+    at (Some text) apart more = (apart, more)
+
+-- lines of JSON: each member of a reference has a name of its own
+pub component-names-are-distinct : (p : Components)
+    → IsDistinct bytes_eq (map (λ one. one.0) (present (named_components p)))
+unfolding IsDistinct
+component-names-are-distinct p =
+    present-names-are-distinct (named_components p) (search rules)

@@ -1,0 +1,102 @@
+-- The lines of JSON represent the components of a text of a kind, and the pairs of a query. So they
+-- determine them.
+use Rattle.std.proofs.Common.{◌≡◌, ℕ, List, [], ◌∷◌, refl, sym, ap, ◌∙◌, subst}
+use Rattle.std.specs.Prelude.{Option, Some, None, map}
+use Rattle.std.specs.List.{AllByRecursion, flat_map}
+use Rattle.std.specs.Char.{encode_utf8}
+use Rattle.std.specs.Str.{IsUtf8, is_utf8, chars}
+use Rattle.std.specs.Str.Lossy.{replacement_bytes}
+use Rattle.std.proofs.lemmas.List.Elements.{recursion_from_All}
+use Rattle.std.proofs.lemmas.Str.{IsUtf8-append, IsUtf8-encode, IsUtf8-nil}
+use Rattle.std.proofs.lemmas.Str.{IsUtf8-from_is_utf8}
+use Rattle.cookbook.specs.Pairs.{decode_pair}
+use Rattle.fluent_uri.specs.Components.{components, recompose}
+use Rattle.fluent_uri.specs.Grammar.{IsTextOf}
+use Rattle.uri_pct.specs.Pieces.{Piece, WellFormed, IllFormed, IsOfCharacter, char_of, lossy_piece}
+use Rattle.uri_pct.specs.Pieces.{lossy_text, utf8_pieces}
+use Rattle.uri_pct.proofs.Unicode.CharacterPieces.{utf8_pieces-are-of-characters}
+use Rattle.uri_parts.proofs.Splitting.Recompose.{recompose-components}
+use Rattle.uri_streams.specs.Json.{json_of}
+use Rattle.uri_streams.specs.JsonTexts.{JsonValue, IsJsonTextOf}
+use Rattle.uri_streams.specs.JsonValues.{components_value, query_value}
+use Rattle.uri_streams.specs.Queries.{pairs_of_query, query_json}
+use Rattle.uri_streams.specs.Results.{kind_named}
+use Rattle.uri_streams.specs.declared.command.KindName.{KindName}
+use Rattle.uri_streams.proofs.JsonComponents.{equal-objects-have-equal-components}
+use Rattle.uri_streams.proofs.JsonObjects.{json_of-is-json-object}
+use Rattle.uri_streams.proofs.JsonPairs.{AreUtf8, pairs-are-json-array}
+use Rattle.uri_streams.proofs.JsonPairs.{equal-arrays-have-equal-pairs}
+use Rattle.uri_streams.proofs.JsonReading.{json-text-represents-one-value}
+use Rattle.uri_streams.proofs.PlainComponents.{text-has-plain-components}
+
+-- lines of JSON: that for a text of a kind is an object of its components
+pub parse-line-is-json-object : (name : KindName) (text : List ℕ)
+    → IsTextOf (kind_named name) text
+    → IsJsonTextOf (components_value (components text)) (json_of (components text))
+parse-line-is-json-object name text h =
+    json_of-is-json-object (components text) (text-has-plain-components name text h)
+
+-- lines of JSON: two texts whose lines represent one value are equal
+pub parse-lines-of-one-value-have-one-text : (name other : KindName) (a b : List ℕ)
+    (v : JsonValue) → IsTextOf (kind_named name) a → IsTextOf (kind_named other) b
+    → IsJsonTextOf v (json_of (components a)) → IsJsonTextOf v (json_of (components b)) → a ≡ b
+parse-lines-of-one-value-have-one-text name other a b v h k first second =
+    let same : components_value (components a) ≡ components_value (components b) =
+    json-text-represents-one-value (json_of (components a)) _ v
+    (parse-line-is-json-object name a h) first
+    ∙ json-text-represents-one-value (json_of (components b)) v _ second
+    (parse-line-is-json-object other b k) in
+    sym (recompose-components a) ∙ ap recompose (equal-objects-have-equal-components
+    (components a) (components b) (text-has-plain-components name a h)
+    (text-has-plain-components other b k) same)
+    ∙ recompose-components b
+
+-- lines of JSON: U+FFFD is UTF-8
+replacement-is-utf8 : IsUtf8 replacement_bytes
+unfolding is_utf8 chars encode_utf8
+replacement-is-utf8 = IsUtf8-from_is_utf8 replacement_bytes refl
+
+-- lines of JSON: what is decoded with U+FFFD for what is not UTF-8 is UTF-8
+lossy-pieces-are-utf8 : (pieces : List Piece) → AllByRecursion IsOfCharacter pieces
+    → IsUtf8 (flat_map lossy_piece pieces)
+lossy-pieces-are-utf8 [] h = IsUtf8-nil
+lossy-pieces-are-utf8 (piece ∷ pieces) (p, h) =
+    IsUtf8-append (lossy_piece piece) (flat_map lossy_piece pieces) (at piece p)
+    (lossy-pieces-are-utf8 pieces h)
+  where
+    at : (piece : Piece) → IsOfCharacter piece → IsUtf8 (lossy_piece piece)
+    at (WellFormed bytes) p = subst IsUtf8 p.1 (IsUtf8-encode (char_of bytes) p.0)
+    at (IllFormed bytes) p = replacement-is-utf8
+
+-- lines of JSON: a text with U+FFFD for what is not UTF-8 is UTF-8
+lossy-text-is-utf8 : (bytes : List ℕ) → IsUtf8 (lossy_text bytes)
+lossy-text-is-utf8 bytes = lossy-pieces-are-utf8 (utf8_pieces bytes)
+    (recursion_from_All IsOfCharacter (utf8_pieces bytes) (utf8_pieces-are-of-characters bytes))
+
+-- lines of JSON: decoded pairs are UTF-8
+decoded-pairs-are-utf8 : (pieces : List (List ℕ)) → AreUtf8 (map decode_pair pieces)
+decoded-pairs-are-utf8 [] = tt
+decoded-pairs-are-utf8 (piece ∷ pieces) =
+    (lossy-text-is-utf8 _, lossy-text-is-utf8 _, decoded-pairs-are-utf8 pieces)
+
+-- lines of JSON: the pairs of a query are UTF-8
+pairs-of-query-are-utf8 : (query : Option (List ℕ)) → AreUtf8 (pairs_of_query query)
+pairs-of-query-are-utf8 None = tt
+pairs-of-query-are-utf8 (Some query) = decoded-pairs-are-utf8 _
+
+-- lines of JSON: that for a query is an array of its pairs
+pub query-line-is-json-array : (query : Option (List ℕ))
+    → IsJsonTextOf (query_value query) (query_json query)
+unfolding query_json
+query-line-is-json-array query =
+    pairs-are-json-array (pairs_of_query query) (pairs-of-query-are-utf8 query)
+
+-- lines of JSON: two queries whose lines represent one value have the same pairs
+pub query-lines-of-one-value-have-same-pairs : (a b : Option (List ℕ)) (v : JsonValue)
+    → IsJsonTextOf v (query_json a) → IsJsonTextOf v (query_json b)
+    → pairs_of_query a ≡ pairs_of_query b
+query-lines-of-one-value-have-same-pairs a b v first second =
+    equal-arrays-have-equal-pairs (pairs_of_query a) (pairs_of_query b)
+    (pairs-of-query-are-utf8 a) (pairs-of-query-are-utf8 b)
+    (json-text-represents-one-value (query_json a) _ v (query-line-is-json-array a) first
+    ∙ json-text-represents-one-value (query_json b) v _ second (query-line-is-json-array b))

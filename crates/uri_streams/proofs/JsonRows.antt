@@ -1,0 +1,122 @@
+-- Some JSON texts and what they represent, and some lines of JSON, by computation.
+use Rattle.std.proofs.Common.{◌≡◌, true, false, [], ◌∷◌, refl, inl, inr}
+use Rattle.std.specs.Prelude.{codes, map, Some, None}
+use Rattle.std.specs.Char.{encode_utf8}
+use Rattle.std.specs.Str.{chars}
+use Rattle.fluent_uri.specs.Components.{components}
+use Rattle.uri_streams.specs.Json.{json_of}
+use Rattle.uri_streams.specs.JsonTexts.{Array, EndOfArray, ◌then◌, IsWhitespace, IsNumber}
+use Rattle.uri_streams.specs.JsonTexts.{is_unescaped, escaped_by, hex_number}
+use Rattle.uri_streams.specs.JsonTexts.{RepresentsCharacter, RepresentsValue}
+use Rattle.uri_streams.specs.JsonValues.{named_components, present}
+use Rattle.uri_streams.specs.Queries.{pairs_json}
+
+-- examples of JSON: ` [ ] ` represents the empty array
+spaced-brackets-represent-empty-array :
+    (IsWhitespace then RepresentsValue (Array EndOfArray) then IsWhitespace) (codes " [ ] ")
+spaced-brackets-represent-empty-array = (
+  codes " ",
+  codes "[ ] ",
+  refl,
+  refl,
+  (
+    codes "[ ] ",
+    [],
+    refl,
+    (
+      codes "[ ",
+      codes "] ",
+      refl,
+      ([], codes "[ ", refl, refl, (codes "[", codes " ", refl, refl, refl)),
+      (
+        [],
+        codes "] ",
+        refl,
+        refl,
+        ([], codes "] ", refl, refl, (codes "]", codes " ", refl, refl, refl)),
+      ),
+    ),
+    refl,
+  ),
+)
+
+-- examples of JSON: `-0.5E+30` is a number
+number-with-all-parts : IsNumber (codes "-0.5E+30")
+number-with-all-parts = (
+  codes "-",
+  codes "0.5E+30",
+  refl,
+  inr refl,
+  (
+    codes "0",
+    codes ".5E+30",
+    refl,
+    inl refl,
+    (
+      codes ".5",
+      codes "E+30",
+      refl,
+      inr (codes ".", codes "5", refl, refl, (codes "5", [], refl, (53, refl, refl), refl)),
+      inr (
+        codes "E",
+        codes "+30",
+        refl,
+        (69, refl, refl),
+        (
+          codes "+",
+          codes "30",
+          refl,
+          inr (43, refl, refl),
+          (codes "3", codes "0", refl, (51, refl, refl), refl),
+        ),
+      ),
+    ),
+  ),
+)
+
+-- examples of JSON: the pair of surrogates of RFC 8259, section 7, represents the G clef
+surrogates-represent-g-clef : RepresentsCharacter 0x1D11E (codes "\\uD834\\uDD1E")
+unfolding hex_number
+surrogates-represent-g-clef = inr (inr (inr (
+  0xD834,
+  0xDD1E,
+  (
+    codes "\\uD834",
+    codes "\\uDD1E",
+    refl,
+    record { a = 68; b = 56; c = 51; d = 52; whole = refl; digits = refl; value = refl },
+    record { a = 68; b = 68; c = 49; d = 69; whole = refl; digits = refl; value = refl },
+  ),
+  refl,
+  refl,
+  refl,
+)))
+
+-- examples of JSON: the characters next to those that must be escaped
+unescaped-characters :
+    map is_unescaped (0 ∷ 31 ∷ 32 ∷ 33 ∷ 34 ∷ 35 ∷ 91 ∷ 92 ∷ 93 ∷ 127 ∷ 0x10FFFF ∷ 0x110000 ∷ [])
+    ≡ false ∷ false ∷ true ∷ true ∷ false ∷ true ∷ true ∷ false ∷ true ∷ true ∷ true ∷ false ∷ []
+unescaped-characters = refl
+
+-- examples of JSON: what is escaped by `"`, `\`, `/`, `b`, `f`, `n`, `r`, `t`, `a`, `'` and `u`
+escapes-of-two-characters : map escaped_by (codes "\"\\/bfnrta'u")
+    ≡ Some 34 ∷ Some 92 ∷ Some 47 ∷ Some 8 ∷ Some 12 ∷ Some 10 ∷ Some 13 ∷ Some 9 ∷ None ∷ None
+    ∷ None ∷ []
+escapes-of-two-characters = refl
+
+-- examples of lines: the line for `x:y?q`
+line-of-three-components : json_of (components (codes "x:y?q"))
+    ≡ codes "{\"scheme\":\"x\",\"path\":\"y\",\"query\":\"q\"}"
+unfolding json_of
+line-of-three-components = refl
+
+-- examples of lines: the components of `x:y?q` that are present
+three-components-are-present : present (named_components (components (codes "x:y?q")))
+    ≡ (codes "scheme", codes "x") ∷ (codes "path", codes "y") ∷ (codes "query", codes "q") ∷ []
+three-components-are-present = refl
+
+-- examples of lines: a quote, a backslash and two control characters in a pair
+line-of-escaped-pair : pairs_json ((34 ∷ 92 ∷ 0 ∷ 31 ∷ 127 ∷ [], []) ∷ (codes "b", codes "c") ∷ [])
+    ≡ codes "[\"\\\"\\\\\\u0000\\u001f\u{7f}\",\"\"],[\"b\",\"c\"]"
+unfolding chars encode_utf8
+line-of-escaped-pair = refl

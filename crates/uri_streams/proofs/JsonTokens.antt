@@ -1,0 +1,199 @@
+-- Whitespace, structural characters and numbers of a JSON text, and what is read of them.
+use Rattle.std.proofs.Common.{◌≡◌, ℕ, ◌<◌, Bool, true, false, List, [], ◌∷◌, ◌++◌, length}
+use Rattle.std.proofs.Common.{get_or, length-append, refl, sym, ap, ◌∙◌, subst, append_assoc, arith}
+use Rattle.std.proofs.Common.{inl, inr}
+use Rattle.std.specs.Prelude.{codes, if◌then◌else◌}
+use Rattle.std.specs.Char.{is_ascii_digit}
+use Rattle.std.specs.List.{list_all}
+use Rattle.std.proofs.lemmas.Bool.{cond-true, cond-false, and_parts, and_from}
+use Rattle.std.proofs.lemmas.Bool.Decides.{nat_tests}
+use Rattle.std.proofs.lemmas.List.Folds.{list_all-append}
+use Rattle.fluent_uri.specs.Sets.{is_one_of}
+use Rattle.uri_streams.specs.JsonTexts.{Rule, ◌then◌, Is, IsOneOf, IsOptional, is_whitespace}
+use Rattle.uri_streams.specs.JsonTexts.{IsWhitespace, IsStructural, AreDigits, AreSomeDigits}
+use Rattle.uri_streams.specs.JsonTexts.{IsInteger, IsNumber}
+
+-- reading JSON: the text without the whitespace that begins it
+abbrev pub skip : List ℕ → List ℕ
+skip [] = []
+skip (c ∷ text) = if is_whitespace c then skip text else c ∷ text
+
+-- reading JSON: whitespace is skipped
+pub whitespace-is-skipped : (space text : List ℕ) → IsWhitespace space
+    → skip (space ++ text) ≡ skip text
+whitespace-is-skipped [] text h = refl
+whitespace-is-skipped (c ∷ space) text h = let p = and_parts _ _ h in
+    cond-true (is_whitespace c) _ _ p.0 ∙ whitespace-is-skipped space text p.1
+
+-- reading JSON: the character may be in a number
+abbrev pub is_number_character : ℕ → Bool
+is_number_character c = is_one_of (codes "0123456789+-.eE") c
+
+-- reading JSON: the text does not go on with a character of a number
+abbrev pub EndsNumber : List ℕ → Type 0
+EndsNumber text = is_number_character (get_or text 0 0) ≡ false
+
+-- reading JSON: whitespace is in no number
+whitespace-is-in-no-number : (c : ℕ) → is_whitespace c ≡ true → is_number_character c ≡ false
+whitespace-is-in-no-number c e = grind (arith, nat_tests)
+
+-- reading JSON: a number has no whitespace
+number-has-no-whitespace : (c : ℕ) → is_number_character c ≡ true → is_whitespace c ≡ false
+number-has-no-whitespace c e = grind (arith, nat_tests)
+
+-- reading JSON: whitespace ends a number
+pub whitespace-ends-number : (space rest : List ℕ) → IsWhitespace space → EndsNumber rest
+    → EndsNumber (space ++ rest)
+whitespace-ends-number [] rest h e = e
+whitespace-ends-number (c ∷ space) rest h e = whitespace-is-in-no-number c (and_parts _ _ h).0
+
+-- reading JSON: the text begins with the structural character mark, and then goes on as the rest
+pub record BeginsStructural (mark : ℕ) (text rest : List ℕ) : Type 0 where
+  pub after : List ℕ
+  pub first : skip text ≡ mark ∷ after
+  pub same : skip after ≡ skip rest
+  pub ends : EndsNumber text
+
+-- reading JSON: a text that is a structural character begins with it
+pub structural-begins-text : (mark : ℕ) (x rest : List ℕ) → is_whitespace mark ≡ false
+    → is_number_character mark ≡ false → IsStructural (mark ∷ []) x
+    → BeginsStructural mark (x ++ rest) rest
+structural-begins-text mark x rest visible ends (a, y, e, before, (m, b, f, is_mark, behind)) =
+    let tail : List ℕ = mark ∷ (b ++ rest) in
+    let text : x ++ rest ≡ a ++ tail =
+    ap (λ x. x ++ rest) (e ∙ ap (λ y. a ++ y) (f ∙ ap (λ m. m ++ b) is_mark))
+    ∙ append_assoc a (mark ∷ b) rest in
+    subst (λ t. BeginsStructural mark t rest) (sym text) (record {
+      after = b ++ rest;
+      first = whitespace-is-skipped a tail before
+          ∙ cond-false (is_whitespace mark) _ _ visible;
+      same = whitespace-is-skipped b rest behind;
+      ends = whitespace-ends-number a tail before ends;
+    })
+
+-- reading JSON: each character may be in a number
+abbrev AreOfNumbers : Rule
+AreOfNumbers text = list_all is_number_character text ≡ true
+
+-- reading JSON: the characters of a number that begin the text
+abbrev pub read_number : List ℕ → List ℕ
+read_number [] = []
+read_number (c ∷ text) = if is_number_character c then c ∷ read_number text else []
+
+-- reading JSON: the text after the characters of a number that begin it
+abbrev pub after_number : List ℕ → List ℕ
+after_number [] = []
+after_number (c ∷ text) = if is_number_character c then after_number text else c ∷ text
+
+-- reading JSON: characters of a number are read up to where it ends
+number-is-cut-at-its-end : (x rest : List ℕ) → AreOfNumbers x → EndsNumber rest
+    → (read_number (x ++ rest) ≡ x) × (after_number (x ++ rest) ≡ rest)
+number-is-cut-at-its-end [] [] h e = (refl, refl)
+number-is-cut-at-its-end [] (c ∷ rest) h e =
+    (cond-false (is_number_character c) _ _ e, cond-false (is_number_character c) _ _ e)
+number-is-cut-at-its-end (c ∷ x) rest h e =
+    let p = and_parts _ _ h in
+    let q = number-is-cut-at-its-end x rest p.1 e in (
+      cond-true (is_number_character c) _ _ p.0 ∙ ap (λ t. c ∷ t) q.0,
+      cond-true (is_number_character c) _ _ p.0 ∙ q.1,
+    )
+
+-- reading JSON: texts with characters of numbers only, one after the other
+then-is-of-numbers : {P Q : Rule} → ((x : List ℕ) → P x → AreOfNumbers x)
+    → ((x : List ℕ) → Q x → AreOfNumbers x) → (x : List ℕ) → (P then Q) x → AreOfNumbers x
+then-is-of-numbers p q x (a, b, e, h, k) =
+    ap (list_all is_number_character) e ∙ list_all-append is_number_character a b
+    ∙ and_from _ _ (p a h) (q b k)
+
+-- reading JSON: no text, or one with characters of numbers only
+optional-is-of-numbers : {P : Rule} → ((x : List ℕ) → P x → AreOfNumbers x) → (x : List ℕ)
+    → IsOptional P x → AreOfNumbers x
+optional-is-of-numbers p x (inl e) = ap (list_all is_number_character) e
+optional-is-of-numbers p x (inr h) = p x h
+
+-- reading JSON: a word with characters of numbers only
+word-is-of-numbers : (word : List ℕ) → AreOfNumbers word → (x : List ℕ) → Is word x
+    → AreOfNumbers x
+word-is-of-numbers word h x e = ap (list_all is_number_character) e ∙ h
+
+-- reading JSON: one of some characters, if each may be in a number
+one-is-of-numbers : (marks : List ℕ)
+    → ((c : ℕ) → is_one_of marks c ≡ true → is_number_character c ≡ true) → (x : List ℕ)
+    → IsOneOf marks x → AreOfNumbers x
+one-is-of-numbers marks within x (c, e, h) =
+    ap (list_all is_number_character) e ∙ and_from _ _ (within c h) refl
+
+-- reading JSON: digits, or nothing, have characters of numbers only
+digits-are-of-numbers : (x : List ℕ) → AreDigits x → AreOfNumbers x
+digits-are-of-numbers [] h = refl
+digits-are-of-numbers (c ∷ x) h = let p = and_parts _ _ h in
+    and_from _ _ (digit-is-of-numbers c p.0) (digits-are-of-numbers x p.1)
+  where
+    digit-is-of-numbers : (c : ℕ) → is_ascii_digit c ≡ true → is_number_character c ≡ true
+    digit-is-of-numbers c e = grind (arith, nat_tests)
+
+-- reading JSON: one or more digits have characters of numbers only
+some-digits-are-of-numbers : (x : List ℕ) → AreSomeDigits x → AreOfNumbers x
+some-digits-are-of-numbers = then-is-of-numbers
+    (one-is-of-numbers (codes "0123456789") (λ c e. grind (arith, nat_tests)))
+    digits-are-of-numbers
+
+-- reading JSON: the integer of a number has characters of numbers only
+integer-is-of-numbers : (x : List ℕ) → IsInteger x → AreOfNumbers x
+integer-is-of-numbers x (inl e) = ap (list_all is_number_character) e
+integer-is-of-numbers x (inr h) = then-is-of-numbers
+    (one-is-of-numbers (codes "123456789") (λ c e. grind (arith, nat_tests)))
+    digits-are-of-numbers x h
+
+-- reading JSON: a number has characters of numbers only
+number-is-of-numbers : (x : List ℕ) → IsNumber x → AreOfNumbers x
+number-is-of-numbers = then-is-of-numbers
+    (optional-is-of-numbers (word-is-of-numbers (codes "-") refl))
+    (then-is-of-numbers integer-is-of-numbers (then-is-of-numbers
+    (optional-is-of-numbers (then-is-of-numbers
+    (word-is-of-numbers (codes ".") refl) some-digits-are-of-numbers))
+    (optional-is-of-numbers (then-is-of-numbers
+    (one-is-of-numbers (codes "eE") (λ c e. grind (arith, nat_tests)))
+    (then-is-of-numbers (optional-is-of-numbers
+    (one-is-of-numbers (codes "-+") (λ c e. grind (arith, nat_tests))))
+    some-digits-are-of-numbers)))))
+
+-- reading JSON: the integer of a number is not empty
+integer-is-not-empty : (x : List ℕ) → IsInteger x → 0 < length x
+integer-is-not-empty x (inl e) = omega (arith, ap length e)
+integer-is-not-empty x (inr (a, b, e, (c, f, h), k)) =
+    omega (arith, ap length e, ap length f, length-append a b)
+
+-- reading JSON: a number is not empty
+pub number-is-not-empty : (x : List ℕ) → IsNumber x → 0 < length x
+number-is-not-empty x (a, y, e, h, (b, z, f, i, k)) =
+    omega (
+      arith,
+      ap length e,
+      ap length f,
+      length-append a y,
+      length-append b z,
+      integer-is-not-empty b i,
+    )
+
+-- reading JSON: a number is read up to its end
+pub record ReadsNumber (x text rest : List ℕ) : Type 0 where
+  pub begins : is_number_character (get_or text 0 0) ≡ true
+  pub visible : skip text ≡ text
+  pub number : read_number text ≡ x
+  pub after : after_number text ≡ rest
+
+-- reading JSON: a text that is a number is read as it
+pub number-is-read : (x rest : List ℕ) → IsNumber x → EndsNumber rest
+    → ReadsNumber x (x ++ rest) rest
+number-is-read [] rest h e = absurd (omega (arith, number-is-not-empty [] h))
+number-is-read (c ∷ x) rest h e =
+    let all = number-is-of-numbers (c ∷ x) h in
+    let first = (and_parts _ _ all).0 in
+    let cut = number-is-cut-at-its-end (c ∷ x) rest all e in
+    record {
+      begins = first;
+      visible = cond-false (is_whitespace c) _ _ (number-has-no-whitespace c first);
+      number = cut.0;
+      after = cut.1;
+    }

@@ -1,0 +1,37 @@
+use Rattle.std.proofs.Common.{subst, sym, ◌++◌}
+use Rattle.uri_streams.specs.Models.{WritesResult}
+use Rattle.uri_streams.specs.Outputs.{result_report}
+use Rattle.uri_streams.specs.Returned.{result_in}
+use Rattle.uri_streams.specs.Runs.{ReportsPrefix, error_output_of}
+use Rattle.uri_streams.proofs.output.write_result.Goals as goal
+
+pub returns-in_err-write_error-in-Error-clause-reports
+    : goal.returns-in_err-write_error-in-Error-clause-reports
+returns-in_err-write_error-in-Error-clause-reports g c =
+    subst (λ r. ReportsPrefix (error_output_of g.E.Write.contents c.args.err.now)
+    (error_output_of g.E.Write.contents c.write_error.new.err)
+    (result_report c.args.errors c.args.number (result_in r))) (sym c.in-Error.is)
+    c.write_error.ensures.reports
+
+pub returns-clause-whole : goal.returns-clause-whole
+returns-clause-whole g c =
+    subst (λ r. WritesResult c.args.errors c.args.number c.args.around.line.now
+    c.args.around.before.now (result_in r) (c.args.around.after.now ++ c.args.around.end.now)
+    (g.W.Write.contents c.args.writer.now.writer)
+    (g.W.Write.contents c.write_error.new.writer.writer)
+    (error_output_of g.E.Write.contents c.args.err.now)
+    (error_output_of g.E.Write.contents c.write_error.new.err) c.of_line-in-Error.result)
+    (sym c.in-Error.is) (
+      c.in_ok-write_error-in-Error.ensures.whole,
+      c.in_ok-write_error-in-Error.ensures.reported,
+      c.of_line-in-Error.ensures.line,
+      c.of_line-in-Error.ensures.error,
+      c.of_line-in-Error.ensures.last,
+    )
+
+pub returns-clause-reports : goal.returns-clause-reports
+returns-clause-reports g c =
+    subst (λ r. ReportsPrefix (error_output_of g.E.Write.contents c.args.err.now)
+    (error_output_of g.E.Write.contents c.write_error.new.err)
+    (result_report c.args.errors c.args.number (result_in r))) (sym c.in-Error.is)
+    c.write_error.ensures.reports

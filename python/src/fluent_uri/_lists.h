@@ -1,0 +1,74 @@
+/* Calls for many texts, which return lists. */
+#ifndef FLUENT_URI_LISTS_H
+#define FLUENT_URI_LISTS_H
+
+#include "_values.h"
+
+typedef PyObject *each_call(const State *, int, PyObject *, PyObject *);
+
+/* A list of what `each` makes of the texts of a tuple. */
+static PyObject *each_of(PyObject *words, each_call *each) {
+    PyObject *cls, *texts;
+    State *state;
+    if (!PyArg_ParseTuple(words, "OO!", &cls, &PyTuple_Type, &texts)) return NULL;
+    int kind = kind_of(cls, &state);
+    Py_ssize_t count = PyTuple_Size(texts);
+    PyObject *list = kind < 0 ? NULL : PyList_New(count);
+    if (!list) return NULL;
+    /* No handler of a signal finds the list by `gc` while it lacks items. */
+    PyObject_GC_UnTrack(list);
+    for (Py_ssize_t place = 0; place < count; place++) {
+        PyObject *made = each(state, kind, cls, PyTuple_GetItem(texts, place));
+        if (made) PyList_SetItem(list, place, made);
+        if (!made || (place % 1024 == 1023 && PyErr_CheckSignals() < 0)) {
+            Py_DECREF(list);
+            return NULL;
+        }
+    }
+    PyObject_GC_Track(list);
+    return list;
+}
+
+static PyObject *parsed_or_none(const State *state, int kind, PyObject *cls, PyObject *given) {
+    return parsed(state, kind, cls, given, 1);
+}
+
+static PyObject *normal_or_none(const State *state, int kind, PyObject *cls, PyObject *given) {
+    PyObject *text = text_given(given), *made = NULL;
+    Utf8 utf8 = {0};
+    Call it = {.kind = (uint32_t)kind, .one = state->call.normalize};
+    (void)cls;
+    if (!text) return NULL;
+    if (utf8_of(Py_NewRef(text), &utf8) == 0)
+        made = result_of(state, &it, &utf8, NULL, text, 1, NULL);
+    Py_XDECREF(utf8.held);
+    Py_DECREF(text);
+    return made;
+}
+
+static PyObject *mended_or_none(const State *state, int kind, PyObject *cls, PyObject *given) {
+    Call it = {.kind = (uint32_t)kind, .one = state->call.mend};
+    return mended(state, cls, &it, given, 1);
+}
+
+static PyObject *parse_all(PyObject *module, PyObject *words) {
+    (void)module;
+    return each_of(words, parsed_or_none);
+}
+
+static PyObject *normalize_all(PyObject *module, PyObject *words) {
+    (void)module;
+    return each_of(words, normal_or_none);
+}
+
+static PyObject *mend_all(PyObject *module, PyObject *words) {
+    (void)module;
+    return each_of(words, mended_or_none);
+}
+
+static PyObject *are_valid(PyObject *module, PyObject *words) {
+    (void)module;
+    return each_of(words, is_of_kind);
+}
+
+#endif

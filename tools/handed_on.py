@@ -1,0 +1,73 @@
+"""What is handed on: the crates that it is built of, and what tools/release makes for Python beside
+the wheel of python/make-wheel."""
+import base64
+import csv
+import gzip
+import hashlib
+import importlib.machinery
+import importlib.util
+import io
+import pathlib
+import tarfile
+import zipfile
+
+# Those that `./build` proves and builds for others. The first is compiled for aarch64 too.
+PRODUCTS = ("fluent_uri_c", "uritool", "urilines")
+# What the source distribution has beside the package.
+BESIDE = pathlib.Path(__file__).resolve().parent / "source_distribution"
+SUFFIXES = (".py", ".c", ".h", ".pyi", ".typed")
+
+
+def zipped(name):
+    return zipfile.ZipInfo(name, (1980, 1, 1, 0, 0, 0))
+
+
+def add_statement(wheel, files):
+    """Adds files to the folder sboms of a wheel, as PEP 770 has it."""
+    with zipfile.ZipFile(wheel) as it:
+        held = {name: it.read(name) for name in it.namelist()}
+    (record,) = [it for it in held if it.endswith(".dist-info/RECORD")]
+    info = record.removesuffix("/RECORD")
+    lines = list(csv.reader(io.StringIO(held.pop(record).decode())))
+    for file in files:
+        data, name = file.read_bytes(), f"{info}/sboms/{file.name}"
+        code = base64.urlsafe_b64encode(hashlib.sha256(data).digest()).decode().rstrip("=")
+        held[name] = data
+        lines.insert(-1, [name, f"sha256={code}", len(data)])
+    kept = io.StringIO()
+    csv.writer(kept, lineterminator="\n").writerows(lines)
+    held[record] = kept.getvalue().encode()
+    with zipfile.ZipFile(wheel, "w", zipfile.ZIP_DEFLATED) as it:
+        for name, data in held.items():
+            it.writestr(zipped(name), data)
+
+
+def metadata(tree):
+    """The fields that python/make-wheel writes."""
+    loader = importlib.machinery.SourceFileLoader("wheel", str(tree / "python" / "make-wheel"))
+    made = importlib.util.module_from_spec(importlib.util.spec_from_loader("wheel", loader))
+    loader.exec_module(made)
+    return made.metadata()[1].decode()
+
+
+def source_distribution(tree, version, epoch, to):
+    """Writes the source distribution of the Python package, in the folders of the repository."""
+    python, read_me = tree / "python", (BESIDE / "README.md").read_bytes()
+    fields = f"{metadata(tree)}Requires-External: libfluent_uri_c.so.0 (>={version})\n"
+    fields += "Description-Content-Type: text/markdown\n\n"
+    files = {it.name: it for it in BESIDE.iterdir() if it.is_file()}
+    named = ("LICENSE", "c/include/fluent_uri.h", "python/build-compiled", "python/make-wheel",
+             "python/pyproject.toml")
+    files.update({name: tree / name for name in named})
+    files.update({f"python/src/fluent_uri/{it.name}": it
+                  for it in (python / "src" / "fluent_uri").iterdir() if it.suffix in SUFFIXES})
+    held = {name: it.read_bytes() for name, it in files.items()}
+    held["PKG-INFO"] = fields.encode() + read_me
+    packed = io.BytesIO()
+    with tarfile.open(fileobj=packed, mode="w", format=tarfile.PAX_FORMAT) as made:
+        for name, data in sorted(held.items()):
+            it = tarfile.TarInfo(f"fluent_uri-{version}/{name}")
+            it.size, it.mtime, it.mode = len(data), epoch, 0o644
+            made.addfile(it, io.BytesIO(data))
+    made = to / f"fluent_uri-{version}.tar.gz"
+    made.write_bytes(gzip.compress(packed.getvalue(), 9, mtime=0))
