@@ -1,0 +1,128 @@
+-- The loop of section 5.2.4: each pass shortens the input buffer, so that the loop empties it.
+use Rattle.std.proofs.Common.{◌≡◌, ℕ, zero, suc, ◌+◌, ◌<◌, ◌≤◌, true, false, not, List, [], ◌∷◌}
+use Rattle.std.proofs.Common.{◌++◌, length, take, drop, refl, sym, ap, ◌∙◌, arith, ⊎_elim, ◌||◌}
+use Rattle.std.specs.Prelude.{◌==◌}
+use Rattle.std.specs.Prelude.{codes, bytes_eq}
+use Rattle.std.specs.List.{prefix_len}
+use Rattle.std.proofs.lemmas.Bool.{cases_Bool, cond-true, cond-false, cond_both, false≢true}
+use Rattle.std.proofs.lemmas.Bool.{not_from_false}
+use Rattle.std.proofs.lemmas.Bool.Decides.{nat_tests}
+use Rattle.std.proofs.lemmas.List.{length-drop, length-take, length-append, nil_from_length}
+use Rattle.std.proofs.lemmas.Slice.Eq.{bytes_eq-Decides}
+use Rattle.uri_pct.specs.Sets.{is_one_of}
+use Rattle.uri_parts.specs.Components.{from_any, starts}
+use Rattle.uri_ops.specs.Dots.{is_empty}
+use Rattle.uri_ops.proofs.Paths.DotRuns.{empty-text-is-nil, not-empty-has-length}
+use Rattle.uri_basic.specs.Removal.{Buffers, after_first_segment, has_prefix, output_of, run, step}
+
+-- removing dot segments: two texts that pass the test of equality have equal lengths
+equal-bytes-have-equal-lengths : (a b : List ℕ) → bytes_eq a b ≡ true → length a ≡ length b
+equal-bytes-have-equal-lengths a b e = ap length ((bytes_eq-Decides a b).0 e)
+
+-- removing dot segments: a buffer is no shorter than its prefix
+prefix-is-no-longer : (prefix buffer : List ℕ) → has_prefix prefix buffer ≡ true
+    → length prefix ≤ length buffer
+prefix-is-no-longer prefix buffer e =
+    let same : length (take (length prefix) buffer) ≡ length prefix =
+    equal-bytes-have-equal-lengths (take (length prefix) buffer) prefix e in
+    omega (arith, same, length-take (length prefix) buffer)
+
+-- paths: the byte that ends a segment is `/` (47)
+segment-end-is-slash : (c : ℕ) → is_one_of (codes "/") c ≡ (c == 47)
+segment-end-is-slash c = grind (arith, nat_tests)
+
+-- paths: a byte that is not `/` (47) ends no segment
+pub other-byte-ends-no-segment : (c : ℕ) → (c == 47) ≡ false
+    → not (is_one_of (codes "/") c) ≡ true
+other-byte-ends-no-segment c e = not_from_false _ (segment-end-is-slash c ∙ e)
+
+-- removing dot segments: without its first segment, which begins with no `/`, a buffer is shorter
+buffer-after-rootless-segment-is-shorter : (buffer : List ℕ) → is_empty buffer ≡ false
+    → starts 47 buffer ≡ false → length (from_any (codes "/") buffer) < length buffer
+buffer-after-rootless-segment-is-shorter [] some e = absurd (false≢true (sym some))
+buffer-after-rootless-segment-is-shorter (c ∷ rest) some e =
+    let m : prefix_len (λ c. not (is_one_of (codes "/") c)) (c ∷ rest)
+    ≡ suc (prefix_len (λ c. not (is_one_of (codes "/") c)) rest) =
+    cond-true _ _ _ (other-byte-ends-no-segment c e) ∙ omega arith in
+    omega (
+      arith,
+      m,
+      length-drop (prefix_len (λ c. not (is_one_of (codes "/") c)) (c ∷ rest)) (c ∷ rest),
+    )
+
+-- removing dot segments: without its first segment a buffer is shorter
+buffer-after-first-segment-is-shorter : (buffer : List ℕ) → is_empty buffer ≡ false
+    → length (after_first_segment buffer) < length buffer
+buffer-after-first-segment-is-shorter buffer e =
+    let some = not-empty-has-length buffer e in
+    let n = prefix_len (λ c. not (is_one_of (codes "/") c)) (drop 1 buffer) in
+    cond_both (starts 47 buffer) (from_any (codes "/") (drop 1 buffer)) (from_any (codes "/") buffer)
+    (λ t. length t < length buffer)
+    (λ _. omega (arith, some, length-drop n (drop 1 buffer), length-drop 1 buffer))
+    (λ f. buffer-after-rootless-segment-is-shorter buffer e f)
+
+-- removing dot segments: a prefix that is replaced by `/` and is longer shortens a buffer
+replaced-prefix-shortens : (n : ℕ) (buffer : List ℕ) → 1 < n → n ≤ length buffer
+    → length (codes "/" ++ drop n buffer) < length buffer
+replaced-prefix-shortens n buffer more within = omega (arith, more, within, length-drop n buffer)
+
+-- removing dot segments: each pass of the loop shortens the input buffer
+pub step-shortens-input : (b : Buffers) → is_empty b.input ≡ false
+    → length (step b).input < length b.input
+step-shortens-input b e =
+    let some = not-empty-has-length b.input e in
+    let Q : Buffers → Type 0 = λ x. length x.input < length b.input in
+    cond_both (has_prefix (codes "../") b.input) _ _ Q
+    (λ _. omega (arith, some, length-drop 3 b.input))
+    (λ _. cond_both (has_prefix (codes "./") b.input) _ _ Q
+    (λ _. omega (arith, some, length-drop 2 b.input))
+    (λ _. cond_both (has_prefix (codes "/./") b.input) _ _ Q
+    (λ h. replaced-prefix-shortens 3 b.input (omega arith)
+    (prefix-is-no-longer (codes "/./") b.input h))
+    (λ _. cond_both (bytes_eq b.input (codes "/.")) _ _ Q
+    (λ h. omega (arith, equal-bytes-have-equal-lengths b.input (codes "/.") h))
+    (λ _. cond_both (has_prefix (codes "/../") b.input) _ _ Q
+    (λ h. replaced-prefix-shortens 4 b.input (omega arith)
+    (prefix-is-no-longer (codes "/../") b.input h))
+    (λ _. cond_both (bytes_eq b.input (codes "/..")) _ _ Q
+    (λ h. omega (arith, equal-bytes-have-equal-lengths b.input (codes "/..") h))
+    (λ _. cond_both (bytes_eq b.input (codes ".") || bytes_eq b.input (codes "..")) _ _ Q
+    (λ _. some)
+    (λ _. buffer-after-first-segment-is-shorter b.input e)))))))
+
+-- removing dot segments: passes beyond the bytes of the input buffer change nothing
+more-passes-change-nothing : (n m : ℕ) (b : Buffers) → length b.input ≤ n → length b.input ≤ m
+    → run n b ≡ run m b
+unfolding run
+more-passes-change-nothing zero zero b h k = refl
+more-passes-change-nothing zero (suc m) b h k =
+    sym (cond-true (is_empty b.input) b (run m (step b))
+    (ap is_empty (nil_from_length b.input (omega arith))))
+more-passes-change-nothing (suc n) zero b h k =
+    cond-true (is_empty b.input) b (run n (step b))
+    (ap is_empty (nil_from_length b.input (omega arith)))
+more-passes-change-nothing (suc n) (suc m) b h k = ⊎_elim
+    (λ e. cond-true (is_empty b.input) b (run n (step b)) e
+    ∙ sym (cond-true (is_empty b.input) b (run m (step b)) e))
+    (λ e. cond-false (is_empty b.input) b (run n (step b)) e
+    ∙ (let less = step-shortens-input b e in
+    more-passes-change-nothing n m (step b) (omega arith) (omega arith))
+    ∙ sym (cond-false (is_empty b.input) b (run m (step b)) e))
+    (cases_Bool (is_empty b.input))
+
+-- removing dot segments: the output after a pass is that before it
+pub output-after-step : (b : Buffers) → is_empty b.input ≡ false → output_of b ≡ output_of (step b)
+unfolding output_of run
+output-after-step b e =
+    let n = length b.input in
+    let less = step-shortens-input b e in
+    ap (λ (x : Buffers). x.output)
+    (more-passes-change-nothing n (suc n) b (omega arith) (omega arith)
+    ∙ cond-false (is_empty b.input) b (run n (step b)) e
+    ∙ more-passes-change-nothing n (length (step b).input) (step b) (omega arith) (omega arith))
+
+-- removing dot segments: with an empty input buffer the loop is done
+pub output-of-empty-input : (output : List ℕ)
+    → output_of (record { input = []; output = output }) ≡ output
+unfolding output_of run
+output-of-empty-input output = refl

@@ -1,0 +1,284 @@
+-- What holds of a path without its dot segments, by its segments.
+use Rattle.std.proofs.Common.{◌≡◌, ℕ, Bool, true, false, not, List, [], ◌∷◌, ◌++◌, drop, refl, sym, ap}
+use Rattle.std.proofs.Common.{subst, ◌∙◌, ◌&&◌, append_assoc, cond, inl, inr, ⊎_elim, rules}
+use Rattle.std.specs.Prelude.{codes, ◌==◌}
+use Rattle.std.specs.List.{list_all}
+use Rattle.std.proofs.lemmas.Bool.{and_from, and_parts, cases_Bool, cond-true, cond-false, cond_both}
+use Rattle.std.proofs.lemmas.Bool.{eqb-true, false≢true, or_cases, or_parts}
+use Rattle.std.proofs.lemmas.List.{append-nil}
+use Rattle.std.proofs.lemmas.List.Folds.{list_all-append}
+use Rattle.uri_pct.specs.Sets.{TableSet, is_one_of}
+use Rattle.uri_parts.specs.Components.{IsAbemptyPath, Lacks}
+use Rattle.uri_ops.specs.Dots.{EndsInSlash, IsAbsolute, before_last_slash, has_slash, is_empty}
+use Rattle.uri_ops.specs.Dots.{last_segment, segments}
+use Rattle.uri_ops.proofs.Meanings.AllowedParts.{empty-text-is-set-text, is_set_text}
+use Rattle.uri_ops.proofs.Paths.DecodedPaths.{set-text-splits, set-texts-join-at-slash}
+use Rattle.uri_ops.proofs.Paths.PathCharacters.{lacked-delimiters-fail-test}
+use Rattle.uri_ops.proofs.Paths.PathCharacters.{test-of-delimiters-gives-lacks}
+use Rattle.uri_ops.proofs.Paths.Segments.{AllPass, is_none}
+use Rattle.uri_ops.proofs.Paths.SlashedSegments.{NoSlashes, segments-of-text-are-not-none, slashed}
+use Rattle.uri_ops.proofs.Paths.SlashedSegments.{segments-of-text-lack-slashes}
+use Rattle.uri_ops.proofs.Paths.SlashedSegments.{first-segment-and-rest-lack-slashes}
+use Rattle.uri_ops.proofs.Paths.SlashedSegments.{slashed-of-segments-is-text-after-slash}
+use Rattle.uri_ops.proofs.Targeting.Targets.{appended-absolute-path-is-absolute}
+use Rattle.uri_pct.proofs.Tests.{eq_true_from_IsTrue}
+use Rattle.uri_basic.specs.Models.Directories.{IsDirectoryOrNothing, after_segment, parent}
+use Rattle.uri_basic.specs.Removal.{remove_dot_segments}
+use Rattle.uri_basic.proofs.Segments.{after-segment-keeps, directory-after-segment, kept_of}
+use Rattle.uri_basic.proofs.Segments.{path-left-by-segments, path-left-of-path}
+use Rattle.uri_basic.proofs.Segments.{parent-is-directory}
+
+-- paths: what holds of a text with these segments
+property-of-text-with-segments : (P : List ℕ → Type 0)
+    → ((s : List ℕ) (rest : List (List ℕ)) → NoSlashes (s ∷ rest) → P (s ++ slashed rest))
+    → (path : List ℕ) (segs : List (List ℕ)) → slashed segs ≡ 47 ∷ path → is_none segs ≡ false
+    → NoSlashes segs → P path
+unfolding slashed is_none
+property-of-text-with-segments P each path [] e some lack = absurd (false≢true (sym some))
+property-of-text-with-segments P each path (s ∷ rest) e some lack =
+    subst P (ap (drop 1) e) (each s rest lack)
+
+-- paths: what holds of a first segment and others, each after a `/`, holds of any path
+pub property-of-path-by-segments : (P : List ℕ → Type 0)
+    → ((s : List ℕ) (rest : List (List ℕ)) → NoSlashes (s ∷ rest) → P (s ++ slashed rest))
+    → (path : List ℕ) → P path
+property-of-path-by-segments P each path = property-of-text-with-segments P each path
+    (segments path) (slashed-of-segments-is-text-after-slash path)
+    (segments-of-text-are-not-none path) (segments-of-text-lack-slashes path)
+
+-- removing dot segments: a path is what is kept of its segments
+pub removal-by-segments : (s : List ℕ) (rest : List (List ℕ)) → NoSlashes (s ∷ rest)
+    → remove_dot_segments (s ++ slashed rest) ≡ kept_of [] s rest
+removal-by-segments s rest lack =
+    sym (path-left-of-path (s ++ slashed rest)) ∙ path-left-by-segments [] s rest (inl refl) lack
+
+-- removing dot segments: what holds of what is kept, if each way to change it keeps that: Q of
+-- directories, and R of the path at last; each segment passes the test
+pub kept-segments-keep : (Q R : List ℕ → Type 0) (test : List ℕ → Bool)
+    → ((kept s : List ℕ) → Q kept → test s ≡ true → Q (kept ++ (s ++ codes "/")))
+    → ((kept s : List ℕ) → Q kept → test s ≡ true → R (kept ++ s))
+    → ((kept : List ℕ) → Q kept → Q (parent kept))
+    → ((kept : List ℕ) → Q kept → R kept)
+    → (kept s : List ℕ) (rest : List (List ℕ)) → Q kept → AllPass test (s ∷ rest)
+    → R (kept_of kept s rest)
+unfolding kept_of
+kept-segments-keep Q R test more last up end kept s [] h pass =
+    after-segment-keeps R kept s s (end kept h) (end (parent kept) (up kept h))
+    (last kept s h (and_parts (test s) true pass).0)
+kept-segments-keep Q R test more last up end kept s (t ∷ rest) h pass =
+    let p = and_parts (test s) (list_all test (t ∷ rest)) pass in
+    kept-segments-keep Q R test more last up end (after_segment kept s (s ++ codes "/")) t rest
+    (after-segment-keeps Q kept s (s ++ codes "/") h (up kept h) (more kept s h p.0)) p.1
+
+-- paths: the bytes before the last `/` pass a test that all pass
+pub bytes-before-last-slash-pass : (p : ℕ → Bool) (text : List ℕ) → list_all p text ≡ true
+    → list_all p (before_last_slash text) ≡ true
+bytes-before-last-slash-pass p [] e = refl
+bytes-before-last-slash-pass p (c ∷ rest) e =
+    let f = and_parts (p c) (list_all p rest) e in
+    cond_both (has_slash rest) (c ∷ before_last_slash rest) [] (λ t. list_all p t ≡ true)
+    (λ h. and_from _ _ f.0 (bytes-before-last-slash-pass p rest f.1)) (λ h. refl)
+
+-- paths: the bytes of two texts pass a test that both pass
+pub bytes-of-append-pass : (p : ℕ → Bool) (x y : List ℕ) → list_all p x ≡ true → list_all p y ≡ true
+    → list_all p (x ++ y) ≡ true
+bytes-of-append-pass p x y e f = list_all-append p x y ∙ and_from _ _ e f
+
+-- removing dot segments: the bytes of the parent of a directory pass a test that `/` (47) and the
+-- directory pass
+bytes-of-parent-pass : (p : ℕ → Bool) → p 47 ≡ true → (kept : List ℕ) → list_all p kept ≡ true
+    → list_all p (parent kept) ≡ true
+unfolding parent
+bytes-of-parent-pass p slash kept e =
+    cond_both (is_empty kept) [] (before_last_slash (before_last_slash kept) ++ codes "/")
+    (λ t. list_all p t ≡ true) (λ _. refl)
+    (λ _. bytes-of-append-pass p (before_last_slash (before_last_slash kept)) (codes "/")
+    (bytes-before-last-slash-pass p (before_last_slash kept)
+    (bytes-before-last-slash-pass p kept e))
+    (and_from _ _ slash refl))
+
+-- paths: the bytes of each segment pass a test that the path's bytes pass
+bytes-of-segments-pass : (p : ℕ → Bool) (s : List ℕ) (rest : List (List ℕ))
+    → list_all p (s ++ slashed rest) ≡ true → AllPass (list_all p) (s ∷ rest)
+unfolding slashed
+bytes-of-segments-pass p s [] e =
+    and_from _ _ (ap (list_all p) (sym (append-nil s)) ∙ e) refl
+bytes-of-segments-pass p s (t ∷ rest) e =
+    let f = and_parts (list_all p s) _ (sym (list_all-append p s (slashed (t ∷ rest))) ∙ e) in
+    and_from _ _ f.0
+    (bytes-of-segments-pass p t rest (and_parts (p 47) (list_all p (t ++ slashed rest)) f.1).1)
+
+-- removing dot segments: the bytes that are left of any path pass a test that `/` (47) and the path
+-- pass
+pub bytes-without-dots-pass : (p : ℕ → Bool) → p 47 ≡ true → (path : List ℕ)
+    → list_all p path ≡ true → list_all p (remove_dot_segments path) ≡ true
+bytes-without-dots-pass p slash = property-of-path-by-segments
+    (λ path. list_all p path ≡ true → list_all p (remove_dot_segments path) ≡ true)
+    (λ s rest lack e.
+    ap (list_all p) (removal-by-segments s rest lack)
+    ∙ kept-segments-keep (λ t. list_all p t ≡ true) (λ t. list_all p t ≡ true) (list_all p)
+    (λ kept t h f. bytes-of-append-pass p kept (t ++ codes "/") h
+    (bytes-of-append-pass p t (codes "/") f (and_from _ _ slash refl)))
+    (λ kept t h f. bytes-of-append-pass p kept t h f)
+    (bytes-of-parent-pass p slash) (λ kept h. h) [] s rest refl
+    (bytes-of-segments-pass p s rest e))
+
+-- removing dot segments: any path gets no delimiter that it lacked, such as `?`
+pub removal-adds-no-delimiter : (marks : List ℕ) → is_one_of marks 47 ≡ false → (path : List ℕ)
+    → Lacks marks path → Lacks marks (remove_dot_segments path)
+removal-adds-no-delimiter marks slash path h =
+    test-of-delimiters-gives-lacks marks (remove_dot_segments path)
+    (bytes-without-dots-pass _ (ap not slash) path (lacked-delimiters-fail-test marks path h))
+
+-- paths: a text with a `/` is cut at its last one
+pub text-is-cut-at-last-slash : (text : List ℕ) → has_slash text ≡ true
+    → text ≡ before_last_slash text ++ 47 ∷ last_segment text
+text-is-cut-at-last-slash [] e = absurd (false≢true e)
+text-is-cut-at-last-slash (c ∷ rest) e =
+    let last = cond (c == 47) rest (c ∷ rest) in
+    ⊎_elim
+    (λ h. ap (λ t. c ∷ t) (text-is-cut-at-last-slash rest h)
+    ∙ sym (λ i. cond-true (has_slash rest) (c ∷ before_last_slash rest) [] h i
+    ++ 47 ∷ cond-true (has_slash rest) (last_segment rest) last h i))
+    (λ h.
+    let slash : (c == 47) ≡ true = ⊎_elim (λ s. s) (λ s. absurd (false≢true (sym h ∙ s)))
+    (or_cases (c == 47) (has_slash rest) e) in
+    ap (λ d. d ∷ rest) (eqb-true c 47 slash)
+    ∙ sym (λ i. cond-false (has_slash rest) (c ∷ before_last_slash rest) [] h i
+    ++ 47 ∷ (cond-false (has_slash rest) (last_segment rest) last h
+    ∙ cond-true (c == 47) rest (c ∷ rest) slash) i))
+    (cases_Bool (has_slash rest))
+
+module _ (set : TableSet) (slash : set.ascii 47 ≡ true) where
+  set-text-before-last-slash : (text : List ℕ) → is_set_text set text ≡ true
+      → is_set_text set (before_last_slash text) ≡ true
+  set-text-before-last-slash text e = ⊎_elim
+      (λ h. (set-text-splits set (before_last_slash text) (last_segment text)
+      (ap (is_set_text set) (sym (text-is-cut-at-last-slash text h)) ∙ e)).0)
+      (λ h. ap (is_set_text set) (nothing-before text h) ∙ empty-text-is-set-text set)
+      (cases_Bool (has_slash text))
+    where
+      nothing-before : (t : List ℕ) → has_slash t ≡ false → before_last_slash t ≡ []
+      nothing-before [] h = refl
+      nothing-before (c ∷ t) h = cond-false _ _ _ (or_parts (c == 47) (has_slash t) h).1
+
+  -- what is kept is a directory, or nothing, and a text of the set
+  abbrev IsSetDirectory : List ℕ → Type 0
+  IsSetDirectory kept = IsDirectoryOrNothing kept × (is_set_text set kept ≡ true)
+
+  set-directory-with-text : (kept t : List ℕ) → IsSetDirectory kept → is_set_text set t ≡ true
+      → is_set_text set (kept ++ t) ≡ true
+  set-directory-with-text kept t h e = ⊎_elim
+      (λ n. ap (λ k. is_set_text set (k ++ t)) n ∙ e)
+      (λ d. ap (λ k. is_set_text set (k ++ t)) d.1
+      ∙ ap (is_set_text set) (append_assoc d.0 (codes "/") t)
+      ∙ set-texts-join-at-slash set slash d.0 t
+      (set-text-splits set d.0 [] (ap (is_set_text set) (sym d.1) ∙ h.1)).0 e)
+      h.0
+
+  set-text-with-slash : (t : List ℕ) → is_set_text set t ≡ true
+      → is_set_text set (t ++ codes "/") ≡ true
+  set-text-with-slash t e = set-texts-join-at-slash set slash t [] e (empty-text-is-set-text set)
+
+  parent-of-set-directory : (kept : List ℕ) → IsSetDirectory kept → IsSetDirectory (parent kept)
+  unfolding parent
+  parent-of-set-directory kept h = (
+    parent-is-directory kept h.0,
+    cond_both (is_empty kept) [] (before_last_slash (before_last_slash kept) ++ codes "/")
+        (λ t. is_set_text set t ≡ true) (λ _. empty-text-is-set-text set)
+        (λ _. set-text-with-slash (before_last_slash (before_last_slash kept))
+        (set-text-before-last-slash (before_last_slash kept)
+        (set-text-before-last-slash kept h.1))),
+  )
+
+  segments-are-set-texts : (s : List ℕ) (rest : List (List ℕ))
+      → is_set_text set (s ++ slashed rest) ≡ true → AllPass (is_set_text set) (s ∷ rest)
+  unfolding slashed
+  segments-are-set-texts s [] e =
+      and_from _ _ (ap (is_set_text set) (sym (append-nil s)) ∙ e) refl
+  segments-are-set-texts s (t ∷ rest) e =
+      let f = set-text-splits set s (t ++ slashed rest) e in
+      and_from _ _ f.0 (segments-are-set-texts t rest f.1)
+
+  -- removing dot segments: what is left of any path is of the set that the path is of
+  pub removal-keeps-set-text : (path : List ℕ) → is_set_text set path ≡ true
+      → is_set_text set (remove_dot_segments path) ≡ true
+  removal-keeps-set-text = property-of-path-by-segments
+      (λ path. is_set_text set path ≡ true → is_set_text set (remove_dot_segments path) ≡ true)
+      (λ s rest lack e.
+      ap (is_set_text set) (removal-by-segments s rest lack)
+      ∙ kept-segments-keep IsSetDirectory (λ t. is_set_text set t ≡ true) (is_set_text set)
+      (λ kept t h f. (
+        inr (kept ++ t, sym (append_assoc kept t (codes "/"))),
+        set-directory-with-text kept (t ++ codes "/") h (set-text-with-slash t f),
+      ))
+      (λ kept t h f. set-directory-with-text kept t h f)
+      parent-of-set-directory (λ kept h. h.1) [] s rest
+      (inl refl, empty-text-is-set-text set) (segments-are-set-texts s rest e))
+
+-- paths: what is before the last `/` of a path that is empty or begins with `/` does so too
+prefix-of-rooted-path-is-rooted : (path : List ℕ) → IsAbemptyPath path
+    → IsAbemptyPath (before_last_slash path)
+prefix-of-rooted-path-is-rooted [] h = inl refl
+prefix-of-rooted-path-is-rooted (c ∷ rest) h = ⊎_elim
+    (λ e. absurd (false≢true (ap is_empty e)))
+    (λ e. cond_both (has_slash rest) (c ∷ before_last_slash rest) [] IsAbemptyPath
+    (λ _. inr e) (λ _. inl refl))
+    h
+
+-- paths: a path that is empty or begins with `/` begins with `/` if one is after it
+rooted-path-with-slash-is-absolute : (path : List ℕ) → IsAbemptyPath path
+    → IsAbsolute (path ++ codes "/")
+rooted-path-with-slash-is-absolute path h = ⊎_elim
+    (λ e. subst (λ t. IsAbsolute (t ++ codes "/")) (sym e) (search rules))
+    (λ a. appended-absolute-path-is-absolute path (codes "/") a)
+    h
+
+-- removing dot segments: the parent of a directory that begins with `/` does so too
+parent-of-absolute-is-absolute : (kept : List ℕ) → IsAbsolute kept → IsAbsolute (parent kept)
+unfolding parent
+parent-of-absolute-is-absolute [] h = h
+parent-of-absolute-is-absolute (c ∷ kept) h =
+    rooted-path-with-slash-is-absolute (before_last_slash (before_last_slash (c ∷ kept)))
+    (prefix-of-rooted-path-is-rooted (before_last_slash (c ∷ kept))
+    (prefix-of-rooted-path-is-rooted (c ∷ kept) (inr h)))
+
+-- general fact on lists of segments, for paths: each passes the test that all pass
+segments-pass-true : (segs : List (List ℕ)) → AllPass (λ s. true) segs
+segments-pass-true [] = refl
+segments-pass-true (s ∷ segs) = segments-pass-true segs
+
+-- removing dot segments: after the first `/` of a path `/` is kept
+pub root-is-kept : (t : List ℕ) (rest : List (List ℕ))
+    → kept_of [] [] (t ∷ rest) ≡ kept_of (codes "/") t rest
+unfolding kept_of after_segment
+root-is-kept t rest = refl
+
+-- removing dot segments: what is kept after a directory that begins with `/` does so too
+kept-of-absolute-is-absolute : (kept s : List ℕ) (rest : List (List ℕ)) → IsAbsolute kept
+    → IsAbsolute (kept_of kept s rest)
+kept-of-absolute-is-absolute kept s rest h =
+    kept-segments-keep IsAbsolute IsAbsolute (λ t. true)
+    (λ k t a e. appended-absolute-path-is-absolute k (t ++ codes "/") a)
+    (λ k t a e. appended-absolute-path-is-absolute k t a)
+    parent-of-absolute-is-absolute (λ k a. a) kept s rest h (segments-pass-true (s ∷ rest))
+
+-- removing dot segments: a path with these segments that begins with `/` still does
+segments-of-absolute-stay-absolute : (s : List ℕ) (rest : List (List ℕ)) → NoSlashes (s ∷ rest)
+    → IsAbsolute (s ++ slashed rest) → IsAbsolute (remove_dot_segments (s ++ slashed rest))
+unfolding slashed
+segments-of-absolute-stay-absolute [] [] lack h = absurd (false≢true (eq_true_from_IsTrue _ h))
+segments-of-absolute-stay-absolute [] (t ∷ rest) lack h =
+    subst IsAbsolute (sym (removal-by-segments [] (t ∷ rest) lack ∙ root-is-kept t rest))
+    (kept-of-absolute-is-absolute (codes "/") t rest (search rules))
+segments-of-absolute-stay-absolute (c ∷ s) rest lack h =
+    let none = first-segment-and-rest-lack-slashes (c ∷ s) rest lack in
+    absurd (false≢true (sym (or_parts (c == 47) (has_slash s) none.0).0
+    ∙ eq_true_from_IsTrue _ h))
+
+-- removing dot segments: a path that begins with `/` still does
+pub removal-keeps-absolute : (path : List ℕ) → IsAbsolute path
+    → IsAbsolute (remove_dot_segments path)
+removal-keeps-absolute = property-of-path-by-segments
+    (λ path. IsAbsolute path → IsAbsolute (remove_dot_segments path))
+    segments-of-absolute-stay-absolute

@@ -1,0 +1,9 @@
+pub mod Buffers
+pub mod Steps
+pub mod Segments
+pub mod Places
+pub mod Kept
+pub mod Targets
+pub mod SameRemovals
+pub mod SameTargets
+mod TargetRows

@@ -1,0 +1,198 @@
+-- Where removing dot segments of section 5.2.4 is removing those of `Resolver`, or changes nothing.
+use Rattle.std.proofs.Common.{◌≡◌, ℕ, Bool, true, false, not, List, [], ◌∷◌, ◌++◌, refl, sym, ap}
+use Rattle.std.proofs.Common.{◌∙◌, ◌&&◌, ◌||◌, append_assoc, ⊎_elim}
+use Rattle.std.specs.Prelude.{bytes_eq, codes}
+use Rattle.std.specs.List.{list_any}
+use Rattle.std.proofs.lemmas.Bool.{cases_Bool, cond-true, cond-false, and_cases, both_ways}
+use Rattle.std.proofs.lemmas.Bool.{not_from_false, or_from, or_parts}
+use Rattle.std.proofs.lemmas.List.{append-nil}
+use Rattle.std.proofs.lemmas.Slice.Eq.{bytes_eq-Decides}
+use Rattle.uri_ops.specs.Dots.{IsAbsolute, before_last_slash, has_slash, is_dot_segment}
+use Rattle.uri_ops.specs.Dots.{is_double_dot, is_single_dot, segments}
+use Rattle.uri_ops.specs.Dots as Dots
+use Rattle.uri_ops.proofs.Paths.DotLaws.{property-of-absolute-path-by-segments}
+use Rattle.uri_ops.proofs.Paths.Segments.{closing, dotless_of, end_of, next_output, pop, step_of}
+use Rattle.uri_ops.proofs.Paths.Segments.{next_output-passes-test, steps}
+use Rattle.uri_ops.proofs.Paths.SlashedSegments.{NoSlashes, first-segment-and-rest-lack-slashes}
+use Rattle.uri_ops.proofs.Paths.SlashedSegments.{lacks_slash, remove-dots-by-segments}
+use Rattle.uri_ops.proofs.Paths.SlashedSegments.{segments-of-joined-segments}
+use Rattle.uri_ops.proofs.Paths.SlashedSegments.{segments-of-slashed-segments}
+use Rattle.uri_ops.proofs.Paths.SlashedSegments.{slash-in-suffix-is-in-append, slashed}
+use Rattle.uri_ops.proofs.Paths.SlashedSegments.{slashed-of-push}
+use Rattle.uri_basic.specs.Deviations.{has_encoded_dot_segment, has_literal_dot_segment}
+use Rattle.uri_basic.specs.Deviations.{is_literal_dot_segment}
+use Rattle.uri_basic.specs.Models.Directories.{after_segment, parent}
+use Rattle.uri_basic.specs.Removal.{remove_dot_segments}
+use Rattle.uri_basic.proofs.Kept.{property-of-path-by-segments, removal-by-segments, root-is-kept}
+use Rattle.uri_basic.proofs.Segments.{after-segment-by-test, kept_of, parent-of-directory}
+
+-- paths: the last `/` of a text with a slash after another is the last of that text
+before-last-slash-of-append : (s t : List ℕ) → has_slash t ≡ true
+    → before_last_slash (s ++ t) ≡ s ++ before_last_slash t
+before-last-slash-of-append [] t e = refl
+before-last-slash-of-append (c ∷ s) t e = cond-true _ _ _ (slash-in-suffix-is-in-append s t e)
+    ∙ ap (λ r. c ∷ r) (before-last-slash-of-append s t e)
+
+-- paths: cutting segments before the last `/` removes the last one
+before-last-slash-is-popped : (xs : List (List ℕ)) → NoSlashes xs
+    → before_last_slash (slashed xs) ≡ slashed (pop xs)
+unfolding slashed pop
+before-last-slash-is-popped [] e = refl
+before-last-slash-is-popped (s ∷ []) e =
+    ap (λ t. before_last_slash (47 ∷ t)) (append-nil s)
+    ∙ cond-false _ _ _ (first-segment-and-rest-lack-slashes s [] e).0
+before-last-slash-is-popped (s ∷ t ∷ rest) e =
+    before-last-slash-of-append (47 ∷ s) (slashed (t ∷ rest)) refl
+    ∙ ap (λ r. 47 ∷ s ++ r) (before-last-slash-is-popped (t ∷ rest)
+    (first-segment-and-rest-lack-slashes s (t ∷ rest) e).1)
+
+-- dot segments: what a segment leaves of the output of `Resolver`
+segment-leaves : (out : List (List ℕ)) (s : List ℕ)
+    → (step_of out (codes ".") ≡ out) × (step_of out (codes "..") ≡ pop out)
+    × (is_dot_segment s ≡ false → step_of out s ≡ out ++ s ∷ [])
+unfolding step_of next_output
+segment-leaves out s = (
+  refl,
+  refl,
+  λ e.
+      let f = or_parts (is_single_dot s) (is_double_dot s) e in
+      ap (λ b. next_output b (is_double_dot s) out s) f.0
+      ∙ ap (λ b. next_output false b out s) f.1,
+)
+
+-- dot segments: a segment that is neither `.` nor `..`, nor one with an encoded dot, is none
+other-segment-is-dotless : (s : List ℕ)
+    → (is_dot_segment s && not (is_literal_dot_segment s)) ≡ false
+    → bytes_eq s (codes ".") ≡ false → bytes_eq s (codes "..") ≡ false → is_dot_segment s ≡ false
+other-segment-is-dotless s e single double = ⊎_elim (λ f. f)
+    (λ f. absurd (both_ways (not (is_literal_dot_segment s)) f
+    (not_from_false _ (or_from _ _ single double))))
+    (and_cases (is_dot_segment s) _ e)
+
+-- dot segments: a directory after a segment and its `/` is that of the segments that are left
+directory-by-segments : (out : List (List ℕ)) (s : List ℕ) → NoSlashes out
+    → (is_dot_segment s && not (is_literal_dot_segment s)) ≡ false
+    → after_segment (slashed out ++ codes "/") s (s ++ codes "/")
+    ≡ slashed (step_of out s) ++ codes "/"
+directory-by-segments out s lack literal =
+    let after = after-segment-by-test (slashed out ++ codes "/") s (s ++ codes "/") in
+    let leaves = segment-leaves out s in
+    ⊎_elim
+    (λ e. after.0 e ∙ ap (λ o. slashed o ++ codes "/")
+    (sym (ap (step_of out) ((bytes_eq-Decides s (codes ".")).0 e) ∙ leaves.0)))
+    (λ single. ⊎_elim
+    (λ e. after.1 e ∙ parent-of-directory (slashed out)
+    ∙ ap (λ t. t ++ codes "/") (before-last-slash-is-popped out lack)
+    ∙ ap (λ o. slashed o ++ codes "/")
+    (sym (ap (step_of out) ((bytes_eq-Decides s (codes "..")).0 e) ∙ leaves.1)))
+    (λ double. after.2 single double
+    ∙ append_assoc (slashed out) (codes "/") (s ++ codes "/")
+    ∙ sym (append_assoc (slashed out) (47 ∷ s) (codes "/"))
+    ∙ ap (λ t. t ++ codes "/") (sym (slashed-of-push out s))
+    ∙ ap (λ o. slashed o ++ codes "/")
+    (sym (leaves.2 (other-segment-is-dotless s literal single double))))
+    (cases_Bool (bytes_eq s (codes ".."))))
+    (cases_Bool (bytes_eq s (codes ".")))
+
+-- dot segments: the end that a last segment leaves
+end-of-segment : (s : List ℕ)
+    → (end_of (is_dot_segment (codes ".")) ≡ [] ∷ [])
+    × (end_of (is_dot_segment (codes "..")) ≡ [] ∷ [])
+    × (is_dot_segment s ≡ false → end_of (is_dot_segment s) ≡ [])
+end-of-segment s = (refl, refl, λ e. ap end_of e)
+
+-- dot segments: the path after a last segment is that of the segments that are left
+path-by-segments : (out : List (List ℕ)) (s : List ℕ) → NoSlashes out
+    → (is_dot_segment s && not (is_literal_dot_segment s)) ≡ false
+    → after_segment (slashed out ++ codes "/") s s
+    ≡ slashed (step_of out s ++ end_of (is_dot_segment s))
+path-by-segments out s lack literal =
+    let after = after-segment-by-test (slashed out ++ codes "/") s s in
+    let leaves = segment-leaves out s in
+    let ends = end-of-segment s in
+    ⊎_elim
+    (λ e.
+    let same = (bytes_eq-Decides s (codes ".")).0 e in
+    after.0 e ∙ sym (slashed-of-push out [])
+    ∙ sym (ap (λ t. slashed (step_of out t ++ end_of (is_dot_segment t))) same
+    ∙ ap (λ o. slashed (o ++ [] ∷ [])) leaves.0))
+    (λ single. ⊎_elim
+    (λ e.
+    let same = (bytes_eq-Decides s (codes "..")).0 e in
+    after.1 e ∙ parent-of-directory (slashed out)
+    ∙ ap (λ t. t ++ codes "/") (before-last-slash-is-popped out lack)
+    ∙ sym (slashed-of-push (pop out) [])
+    ∙ sym (ap (λ t. slashed (step_of out t ++ end_of (is_dot_segment t))) same
+    ∙ ap (λ o. slashed (o ++ [] ∷ [])) leaves.1))
+    (λ double.
+    let none = other-segment-is-dotless s literal single double in
+    after.2 single double
+    ∙ append_assoc (slashed out) (codes "/") s
+    ∙ sym (slashed-of-push out s)
+    ∙ ap slashed (sym (append-nil (out ++ s ∷ [])))
+    ∙ sym (λ i. slashed (leaves.2 none i ++ ends.2 none i)))
+    (cases_Bool (bytes_eq s (codes ".."))))
+    (cases_Bool (bytes_eq s (codes ".")))
+
+-- dot segments: what is kept is what `Resolver` leaves of segments without an encoded dot segment
+kept-is-what-is-left : (out : List (List ℕ)) (s : List ℕ) (rest : List (List ℕ)) → NoSlashes out
+    → NoSlashes (s ∷ rest)
+    → list_any (λ t. is_dot_segment t && not (is_literal_dot_segment t)) (s ∷ rest) ≡ false
+    → kept_of (slashed out ++ codes "/") s rest
+    ≡ slashed (steps out (s ∷ rest) ++ closing (s ∷ rest))
+unfolding kept_of steps closing step_of
+kept-is-what-is-left out s [] lack segs literal =
+    path-by-segments out s lack (or_parts _ false literal).0
+kept-is-what-is-left out s (t ∷ rest) lack segs literal =
+    let l = or_parts (is_dot_segment s && not (is_literal_dot_segment s)) _ literal in
+    let g = first-segment-and-rest-lack-slashes s (t ∷ rest) segs in
+    ap (λ k. kept_of k t rest) (directory-by-segments out s lack l.0)
+    ∙ kept-is-what-is-left (step_of out s) t rest
+    (next_output-passes-test lacks_slash (is_single_dot s) (is_double_dot s) out s lack
+    (λ d. not_from_false _ g.0)) g.1 l.1
+
+-- removing dot segments: section 5.2.4 leaves of segments what `Resolver` leaves
+same-removal-of-segments : (s : List ℕ) (rest : List (List ℕ)) → NoSlashes (s ∷ rest)
+    → has_encoded_dot_segment (slashed (s ∷ rest)) ≡ false
+    → Dots.remove_dot_segments (slashed (s ∷ rest)) ≡ remove_dot_segments (slashed (s ∷ rest))
+unfolding slashed dotless_of
+same-removal-of-segments s rest lack literal =
+    let test = λ (t : List ℕ). is_dot_segment t && not (is_literal_dot_segment t) in
+    remove-dots-by-segments (s ∷ rest) lack
+    ∙ sym (removal-by-segments [] (s ∷ rest) lack ∙ root-is-kept s rest
+    ∙ kept-is-what-is-left [] s rest refl lack
+    (ap (list_any test) (sym (segments-of-slashed-segments (s ∷ rest) lack)) ∙ literal))
+
+-- removing dot segments: a path that begins with `/` and has no encoded dot segment
+pub same-removal : (path : List ℕ) → IsAbsolute path → has_encoded_dot_segment path ≡ false
+    → Dots.remove_dot_segments path ≡ remove_dot_segments path
+same-removal = property-of-absolute-path-by-segments
+    (λ path. has_encoded_dot_segment path ≡ false
+    → Dots.remove_dot_segments path ≡ remove_dot_segments path)
+    same-removal-of-segments
+
+-- removing dot segments: segments that are not `.` or `..` are all kept
+kept-segments-stay : (kept s : List ℕ) (rest : List (List ℕ))
+    → list_any is_literal_dot_segment (s ∷ rest) ≡ false
+    → kept_of kept s rest ≡ kept ++ (s ++ slashed rest)
+unfolding kept_of slashed
+kept-segments-stay kept s [] e =
+    let f = or_parts (bytes_eq s (codes ".")) _ (or_parts _ false e).0 in
+    (after-segment-by-test kept s s).2 f.0 f.1 ∙ ap (λ t. kept ++ t) (sym (append-nil s))
+kept-segments-stay kept s (t ∷ rest) e =
+    let p = or_parts (is_literal_dot_segment s) _ e in
+    let f = or_parts (bytes_eq s (codes ".")) _ p.0 in
+    ap (λ k. kept_of k t rest) ((after-segment-by-test kept s (s ++ codes "/")).2 f.0 f.1)
+    ∙ kept-segments-stay (kept ++ (s ++ codes "/")) t rest p.1
+    ∙ append_assoc kept (s ++ codes "/") (t ++ slashed rest)
+    ∙ ap (λ r. kept ++ r) (append_assoc s (codes "/") (t ++ slashed rest))
+
+-- removing dot segments: any path without them stays
+pub removal-of-path-without-dots : (path : List ℕ) → has_literal_dot_segment path ≡ false
+    → remove_dot_segments path ≡ path
+removal-of-path-without-dots = property-of-path-by-segments
+    (λ path. has_literal_dot_segment path ≡ false → remove_dot_segments path ≡ path)
+    (λ s rest lack e.
+    removal-by-segments s rest lack
+    ∙ kept-segments-stay [] s rest
+    (ap (list_any is_literal_dot_segment) (sym (segments-of-joined-segments s rest lack)) ∙ e))

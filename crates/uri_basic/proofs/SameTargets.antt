@@ -1,0 +1,159 @@
+-- Where nothing deviates, the basic algorithm and `Resolver` have the same target.
+use Rattle.std.proofs.Common.{◌≡◌, ℕ, Bool, true, false, not, List, [], ◌++◌, refl, sym, ap, subst}
+use Rattle.std.proofs.Common.{◌∙◌, ◌&&◌, ⊎_elim}
+use Rattle.std.specs.Prelude.{None, Ok, Option, Some, codes, is_none, is_some}
+use Rattle.std.proofs.lemmas.Bool.{and_from, and_right, cases_Bool, cond-true, cond-false}
+use Rattle.std.proofs.lemmas.Bool.{and_left, false≢true, not_from_false}
+use Rattle.uri_parts.specs.Components.{Components, has_authority, recompose, starts}
+use Rattle.uri_parts.proofs.Splitting.Recompose.{equal-to-true-is-IsTrue}
+use Rattle.uri_ops.specs.Dots.{directory, is_double_dot, is_empty, last_segment, up_to_last_slash}
+use Rattle.uri_ops.specs.Target.{dotless_if_absolute, dotted_target, guarded, is_opaque, merged}
+use Rattle.uri_ops.specs.Target.{resolution_of, target_of}
+use Rattle.uri_ops.proofs.Paths.DotLaws.{remove-dots-of-dotless}
+use Rattle.uri_ops.proofs.Paths.DotRuns.{empty-text-is-nil}
+use Rattle.uri_ops.proofs.Targeting.Swaps.{merging-base-is-not-opaque}
+use Rattle.uri_pct.proofs.Tests.{not_some_is_none}
+use Rattle.uri_basic.specs.Deviations.{NothingDeviates, has_encoded_dot_segment}
+use Rattle.uri_basic.specs.Deviations.{has_literal_dot_segment, is_merged, takes_base_path}
+use Rattle.uri_basic.specs.Removal.{remove_dot_segments}
+use Rattle.uri_basic.specs.Target.{basic_resolution, is_ambiguous, merge, target}
+use Rattle.uri_basic.proofs.SameRemovals.{removal-of-path-without-dots, same-removal}
+
+-- targets: the path without its dot segments is the same if nothing deviates
+same-path-without-dots : (path : List ℕ)
+    → (starts 47 path ≡ true → has_encoded_dot_segment path ≡ false)
+    → (starts 47 path ≡ false → has_literal_dot_segment path ≡ false)
+    → dotless_if_absolute path ≡ remove_dot_segments path
+same-path-without-dots path literal rootless = ⊎_elim
+    (λ h. cond-true _ _ _ h ∙ same-removal path (equal-to-true-is-IsTrue _ h) (literal h))
+    (λ h. cond-false _ _ _ h ∙ sym (removal-of-path-without-dots path (rootless h)))
+    (cases_Bool (starts 47 path))
+
+-- targets: a path that is not parsed as an authority gets no guard
+unguarded-path : (o : Option (List ℕ)) (path same : List ℕ) → path ≡ same
+    → (is_none o && has_authority same) ≡ false → guarded o path ≡ same
+unguarded-path o path same e clear = ap (guarded o) e ∙ cond-false _ _ _ clear
+
+-- targets: the target of `Resolver`, by its components before dot segments are removed
+abbrev finished : Components → Components
+finished t = record t { path = guarded t.authority (dotless_if_absolute t.path) }
+
+-- targets: the two targets are the same if their paths are, and the others of their components
+same-target : (base r d t : Components) → dotted_target base r ≡ d → target base r ≡ t
+    → (path : List ℕ) → dotless_if_absolute d.path ≡ path → record d { path = path } ≡ t
+    → is_ambiguous (target base r) ≡ false → target_of base r ≡ target base r
+same-target base r d t is_d is_t path same whole clear =
+    let plain : is_ambiguous (record d { path = path }) ≡ false =
+    ap is_ambiguous (whole ∙ sym is_t) ∙ clear in
+    ap finished is_d
+    ∙ (λ i. record d {
+      path = unguarded-path d.authority (dotless_if_absolute d.path) path same plain i;
+    })
+    ∙ whole ∙ sym is_t
+
+-- targets: an empty base path to merge with is after an authority, if the base is not opaque
+base-with-empty-path-has-authority : (o : Option (List ℕ)) (path : List ℕ)
+    → (is_none o && not (starts 47 path)) ≡ false → path ≡ [] → is_some o ≡ true
+base-with-empty-path-has-authority None path e h =
+    absurd (false≢true (sym e ∙ ap (λ t. not (starts 47 t)) h))
+base-with-empty-path-has-authority (Some a) path e h = refl
+
+-- targets: the merged paths are the same
+same-merged-path : (base : Components) (path : List ℕ) → is_opaque base ≡ false
+    → is_double_dot (last_segment base.path) ≡ false → merged base.path path ≡ merge base path
+unfolding directory
+same-merged-path base path opaque last = ⊎_elim
+    (λ h.
+    let some = base-with-empty-path-has-authority base.authority base.path opaque
+    (empty-text-is-nil base.path h) in
+    ap (λ t. t ++ path) (cond-true _ _ _ h) ∙ sym (cond-true _ _ _ (and_from _ _ some h)))
+    (λ h.
+    ap (λ t. t ++ path) (cond-false _ _ _ h ∙ cond-false _ _ _ last)
+    ∙ sym (cond-false _ _ _ (and_right (is_some base.authority) _ h)))
+    (cases_Bool (is_empty base.path))
+
+-- general fact on options, for components: one that is there is not absent
+present-component-is-not-absent : (o : Option (List ℕ)) → is_some o ≡ true → is_none o ≡ false
+present-component-is-not-absent None h = absurd (false≢true h)
+present-component-is-not-absent (Some x) h = refl
+
+-- targets: where nothing deviates, the target is that of `Resolver`
+pub same-targets : (base r : Components) → NothingDeviates base r → target_of base r ≡ target base r
+same-targets base r n =
+    let D : Components → Type 0 = λ d. starts 47 d.path ≡ true
+    → has_encoded_dot_segment d.path ≡ false in
+    let L : Components → Type 0 = λ d. starts 47 d.path ≡ false
+    → has_literal_dot_segment d.path ≡ false in
+    ⊎_elim
+    (λ s.
+    let own : takes_base_path r ≡ false = and_left _ _ (and_left _ _ (present-component-is-not-absent r.scheme s)) in
+    let d : dotted_target base r ≡ r = cond-true _ _ _ s in
+    same-target base r r _ d (cond-true _ _ _ s) (remove_dot_segments r.path)
+    (same-path-without-dots r.path (subst D d (n.literal own)) (subst L d (n.rootless own)))
+    refl n.unguarded)
+    (λ s. ⊎_elim
+    (λ a.
+    let own : takes_base_path r ≡ false =
+    and_left _ _ (and_right (is_none r.scheme) _ (present-component-is-not-absent r.authority a)) in
+    let d : dotted_target base r ≡ record r { scheme = base.scheme } =
+    cond-false _ _ _ s ∙ cond-true _ _ _ a in
+    same-target base r (record r { scheme = base.scheme }) _ d
+    (cond-false _ _ _ s ∙ cond-true _ _ _ a) (remove_dot_segments r.path)
+    (same-path-without-dots r.path (subst D d (n.literal own)) (subst L d (n.rootless own)))
+    refl n.unguarded)
+    (λ a. ⊎_elim
+    (λ e.
+    let takes : takes_base_path r ≡ true =
+    and_from _ _ (and_from _ _ (not_some_is_none r.scheme s) (not_some_is_none r.authority a)) e in
+    same-target base r _ _ (cond-false _ _ _ s ∙ cond-false _ _ _ a ∙ cond-true _ _ _ e)
+    (cond-false _ _ _ s ∙ cond-false _ _ _ a ∙ cond-true _ _ _ e) base.path
+    (⊎_elim
+    (λ h. cond-true _ _ _ h
+    ∙ remove-dots-of-dotless base.path (equal-to-true-is-IsTrue _ h) (n.base_path takes h))
+    (λ h. cond-false _ _ _ h)
+    (cases_Bool (starts 47 base.path)))
+    refl n.unguarded)
+    (λ e.
+    let own : takes_base_path r ≡ false = and_right (is_none r.scheme && is_none r.authority) _ e in
+    ⊎_elim
+    (λ f.
+    let d : dotted_target base r
+    ≡ record base { path = r.path; query = r.query; fragment = r.fragment } =
+    cond-false _ _ _ s ∙ cond-false _ _ _ a ∙ cond-false _ _ _ e ∙ cond-true _ _ _ f in
+    same-target base r (record base { path = r.path; query = r.query; fragment = r.fragment }) _ d
+    (cond-false _ _ _ s ∙ cond-false _ _ _ a ∙ cond-false _ _ _ e ∙ cond-true _ _ _ f)
+    (remove_dot_segments r.path)
+    (same-path-without-dots r.path (subst D d (n.literal own)) (subst L d (n.rootless own)))
+    refl n.unguarded)
+    (λ f.
+    let joins : is_merged r ≡ true =
+    and_from _ _ (and_from _ _ (and_from _ _ (not_some_is_none r.scheme s)
+    (not_some_is_none r.authority a)) (not_from_false _ e)) (not_from_false _ f) in
+    let d : dotted_target base r
+    ≡ record base { path = merged base.path r.path; query = r.query; fragment = r.fragment } =
+    cond-false _ _ _ s ∙ cond-false _ _ _ a ∙ cond-false _ _ _ e ∙ cond-false _ _ _ f in
+    let paths : merged base.path r.path ≡ merge base r.path =
+    same-merged-path base r.path
+    (merging-base-is-not-opaque base r n.taken (not_some_is_none r.scheme s) e) (n.last joins) in
+    same-target base r
+    (record base { path = merged base.path r.path; query = r.query; fragment = r.fragment }) _ d
+    (cond-false _ _ _ s ∙ cond-false _ _ _ a ∙ cond-false _ _ _ e ∙ cond-false _ _ _ f)
+    (remove_dot_segments (merge base r.path))
+    (same-path-without-dots (merged base.path r.path) (subst D d (n.literal own))
+    (subst L d (n.rootless own))
+    ∙ ap remove_dot_segments paths)
+    refl n.unguarded)
+    (cases_Bool (starts 47 r.path)))
+    (cases_Bool (is_empty r.path)))
+    (cases_Bool (is_some r.authority)))
+    (cases_Bool (is_some r.scheme))
+
+-- targets: where nothing deviates, both algorithms return the same text
+pub same-resolutions : (base r : Components) → NothingDeviates base r
+    → (resolution_of base r ≡ Ok (recompose (target base r)))
+    × (basic_resolution base r ≡ Ok (recompose (target base r)))
+same-resolutions base r n = (
+  cond-false _ _ _ (ap is_some n.no_fragment) ∙ cond-false _ _ _ n.taken
+      ∙ ap (λ t. Ok (recompose t)) (same-targets base r n),
+  cond-false _ _ _ n.unguarded,
+)

@@ -1,0 +1,293 @@
+-- Removing dot segments segment by segment, as the code does: the path that is left of a directory
+-- and the rest of a path.
+use Rattle.std.proofs.Common.{◌≡◌, ℕ, true, false, List, [], ◌∷◌, ◌++◌, refl, sym, ap, subst, ◌∙◌}
+use Rattle.std.proofs.Common.{append_assoc, inl, inr, ⊎_elim}
+use Rattle.std.specs.Prelude.{codes, bytes_eq}
+use Rattle.std.proofs.lemmas.Bool.{cases_Bool, cond-true, cond-false, cond_both, or_parts}
+use Rattle.std.proofs.lemmas.List.{append-nil}
+use Rattle.std.proofs.lemmas.Slice.Eq.{bytes_eq-Decides}
+use Rattle.uri_ops.specs.Dots.{EndsInSlash, before_last_slash, has_slash, is_empty, segments}
+use Rattle.uri_ops.specs.Dots.{up_to_last_slash}
+use Rattle.uri_ops.proofs.Paths.SlashedSegments.{NoSlashes, first-segment-and-rest-lack-slashes}
+use Rattle.uri_ops.proofs.Paths.SlashedSegments.{slash-in-suffix-is-in-append, slashed}
+use Rattle.uri_basic.specs.Removal.{Buffers, has_prefix, output_of, remove_dot_segments, run, step}
+use Rattle.uri_basic.specs.Models.Directories.{IsDirectoryOrNothing, after_segment, buffers_at}
+use Rattle.uri_basic.specs.Models.Directories.{parent, path_left}
+use Rattle.uri_basic.proofs.Buffers.{output-after-step, output-of-empty-input}
+use Rattle.uri_basic.proofs.Steps.{BeginsWithNoDots, last-segment-is-text}
+use Rattle.uri_basic.proofs.Steps.{other-last-segment-begins-with-no-dots}
+use Rattle.uri_basic.proofs.Steps.{other-segment-begins-with-no-dots, output-after-rooted-segment}
+use Rattle.uri_basic.proofs.Steps.{output-after-rootless-segment, segment-ends-before-slash}
+
+-- paths: what is before the last `/` (47) of a text, if no `/` is after it
+pub before-last-slash-is-prefix : (x y : List ℕ) → has_slash y ≡ false
+    → before_last_slash (x ++ 47 ∷ y) ≡ x
+before-last-slash-is-prefix [] y e = cond-false _ _ _ e
+before-last-slash-is-prefix (c ∷ x) y e =
+    cond-true _ _ _ (slash-in-suffix-is-in-append x (47 ∷ y) refl)
+    ∙ ap (λ t. c ∷ t) (before-last-slash-is-prefix x y e)
+
+-- paths: a text with a `/` is not empty
+text-with-slash-is-not-empty : (x y : List ℕ) → is_empty (x ++ 47 ∷ y) ≡ false
+text-with-slash-is-not-empty [] y = refl
+text-with-slash-is-not-empty (c ∷ x) y = refl
+
+-- removing dot segments: the buffers after a directory
+pub buffers-at-directory : (p q : List ℕ)
+    → buffers_at (p ++ codes "/") q ≡ record { input = 47 ∷ q; output = p }
+unfolding buffers_at
+buffers-at-directory p q =
+    cond-false _ _ _ (text-with-slash-is-not-empty p [])
+    ∙ (λ i. record { input = 47 ∷ q; output = before-last-slash-is-prefix p [] refl i })
+
+-- removing dot segments: the parent of a directory
+pub parent-of-directory : (p : List ℕ) → parent (p ++ codes "/") ≡ before_last_slash p ++ codes "/"
+unfolding parent
+parent-of-directory p =
+    cond-false _ _ _ (text-with-slash-is-not-empty p [])
+    ∙ ap (λ t. before_last_slash t ++ codes "/") (before-last-slash-is-prefix p [] refl)
+
+-- removing dot segments: nothing has no parent
+pub parent-of-nothing : parent [] ≡ []
+unfolding parent
+parent-of-nothing = refl
+
+-- removing dot segments: the path that is left after a directory
+pub path-left-after-directory : (p q : List ℕ)
+    → path_left (p ++ codes "/") q ≡ output_of (record { input = 47 ∷ q; output = p })
+unfolding path_left
+path-left-after-directory p q = ap output_of (buffers-at-directory p q)
+
+-- removing dot segments: the path that is left after nothing
+pub path-left-after-nothing : (q : List ℕ)
+    → path_left [] q ≡ output_of (record { input = q; output = [] })
+unfolding path_left buffers_at
+path-left-after-nothing q = refl
+
+-- removing dot segments: nothing is before the whole path
+pub path-left-of-path : (path : List ℕ) → path_left [] path ≡ remove_dot_segments path
+unfolding path_left buffers_at remove_dot_segments
+path-left-of-path path = refl
+
+-- removing dot segments: `.` and `..` leave nothing of nothing
+nothing-left-of-dots : (q : List ℕ)
+    → (path_left [] (codes "./" ++ q) ≡ path_left [] q)
+    × (path_left [] (codes "../" ++ q) ≡ path_left [] q)
+    × (path_left [] (codes ".") ≡ []) × (path_left [] (codes "..") ≡ [])
+unfolding path_left buffers_at
+nothing-left-of-dots q = (
+  output-after-step (record { input = codes "./" ++ q; output = [] }) refl,
+  output-after-step (record { input = codes "../" ++ q; output = [] }) refl,
+  output-after-step (record { input = codes "."; output = [] }) refl ∙ output-of-empty-input [],
+  output-after-step (record { input = codes ".."; output = [] }) refl ∙ output-of-empty-input [],
+)
+
+-- removing dot segments: a `/` that is all of the input buffer is moved
+output-after-slash : (p : List ℕ)
+    → output_of (record { input = codes "/"; output = p }) ≡ p ++ codes "/"
+output-after-slash p =
+    output-after-step (record { input = codes "/"; output = p }) refl
+    ∙ output-of-empty-input (p ++ codes "/")
+
+-- removing dot segments: `.` leaves the directory, and `..` its parent
+directory-left-of-dots : (p q : List ℕ)
+    → (path_left (p ++ codes "/") (codes "./" ++ q) ≡ path_left (p ++ codes "/") q)
+    × (path_left (p ++ codes "/") (codes "../" ++ q) ≡ path_left (parent (p ++ codes "/")) q)
+    × (path_left (p ++ codes "/") (codes ".") ≡ p ++ codes "/")
+    × (path_left (p ++ codes "/") (codes "..") ≡ parent (p ++ codes "/"))
+directory-left-of-dots p q = (
+  path-left-after-directory p (codes "./" ++ q)
+      ∙ output-after-step (record { input = codes "/./" ++ q; output = p }) refl
+      ∙ sym (path-left-after-directory p q),
+  path-left-after-directory p (codes "../" ++ q)
+      ∙ output-after-step (record { input = codes "/../" ++ q; output = p }) refl
+      ∙ sym (ap (λ k. path_left k q) (parent-of-directory p)
+      ∙ path-left-after-directory (before_last_slash p) q),
+  path-left-after-directory p (codes ".")
+      ∙ output-after-step (record { input = codes "/."; output = p }) refl
+      ∙ output-after-slash p,
+  path-left-after-directory p (codes "..")
+      ∙ output-after-step (record { input = codes "/.."; output = p }) refl
+      ∙ output-after-slash (before_last_slash p) ∙ sym (parent-of-directory p),
+)
+
+-- removing dot segments: a segment that is no dot segment is kept after nothing
+nothing-gets-other-segment : (s q : List ℕ) → has_slash s ≡ false
+    → bytes_eq s (codes ".") ≡ false → bytes_eq s (codes "..") ≡ false
+    → path_left [] (s ++ 47 ∷ q) ≡ path_left (s ++ codes "/") q
+nothing-gets-other-segment [] q lacks single double =
+    path-left-after-nothing (47 ∷ q) ∙ sym (path-left-after-directory [] q)
+nothing-gets-other-segment (c ∷ s) q lacks single double =
+    let cut = segment-ends-before-slash (c ∷ s) q lacks in
+    path-left-after-nothing ((c ∷ s) ++ 47 ∷ q)
+    ∙ output-after-rootless-segment c (s ++ 47 ∷ q) [] (c ∷ s) (47 ∷ q)
+    (or_parts _ (has_slash s) lacks).0
+    (other-segment-begins-with-no-dots (c ∷ s) q lacks single double) cut.0 cut.1
+    ∙ sym (path-left-after-directory (c ∷ s) q)
+
+-- removing dot segments: a last segment that is no dot segment is all that is left after nothing
+nothing-gets-other-last-segment : (s : List ℕ) → has_slash s ≡ false
+    → bytes_eq s (codes ".") ≡ false → bytes_eq s (codes "..") ≡ false
+    → path_left [] s ≡ s
+nothing-gets-other-last-segment [] lacks single double =
+    path-left-after-nothing [] ∙ output-of-empty-input []
+nothing-gets-other-last-segment (c ∷ s) lacks single double =
+    let cut = last-segment-is-text (c ∷ s) lacks in
+    path-left-after-nothing (c ∷ s)
+    ∙ output-after-rootless-segment c s [] (c ∷ s) [] (or_parts _ (has_slash s) lacks).0
+    (other-last-segment-begins-with-no-dots (c ∷ s) lacks single double) cut.0 cut.1
+    ∙ output-of-empty-input (c ∷ s)
+
+-- removing dot segments: a segment that is no dot segment is kept after a directory
+directory-gets-other-segment : (p s q : List ℕ) → has_slash s ≡ false
+    → bytes_eq s (codes ".") ≡ false → bytes_eq s (codes "..") ≡ false
+    → path_left (p ++ codes "/") (s ++ 47 ∷ q)
+    ≡ path_left ((p ++ codes "/") ++ (s ++ codes "/")) q
+directory-gets-other-segment p s q lacks single double =
+    let cut = segment-ends-before-slash s q lacks in
+    path-left-after-directory p (s ++ 47 ∷ q)
+    ∙ output-after-rooted-segment (s ++ 47 ∷ q) p s (47 ∷ q)
+    (other-segment-begins-with-no-dots s q lacks single double) cut.0 cut.1
+    ∙ sym (path-left-after-directory (p ++ 47 ∷ s) q)
+    ∙ ap (λ k. path_left k q)
+    (append_assoc p (47 ∷ s) (codes "/") ∙ sym (append_assoc p (codes "/") (s ++ codes "/")))
+
+-- removing dot segments: a last segment that is no dot segment is kept after a directory
+directory-gets-other-last-segment : (p s : List ℕ) → has_slash s ≡ false
+    → bytes_eq s (codes ".") ≡ false → bytes_eq s (codes "..") ≡ false
+    → path_left (p ++ codes "/") s ≡ (p ++ codes "/") ++ s
+directory-gets-other-last-segment p s lacks single double =
+    let cut = last-segment-is-text s lacks in
+    path-left-after-directory p s
+    ∙ output-after-rooted-segment s p s []
+    (other-last-segment-begins-with-no-dots s lacks single double) cut.0 cut.1
+    ∙ output-of-empty-input (p ++ 47 ∷ s) ∙ sym (append_assoc p (codes "/") s)
+
+-- removing dot segments: what is kept after a dot segment, and after another segment
+pub after-segment-by-test : (kept s piece : List ℕ)
+    → (bytes_eq s (codes ".") ≡ true → after_segment kept s piece ≡ kept)
+    × (bytes_eq s (codes "..") ≡ true → after_segment kept s piece ≡ parent kept)
+    × (bytes_eq s (codes ".") ≡ false → bytes_eq s (codes "..") ≡ false
+    → after_segment kept s piece ≡ kept ++ piece)
+unfolding after_segment
+after-segment-by-test kept s piece = (
+  λ e. cond-true _ _ _ e,
+  λ e. ap (λ t. after_segment kept t piece) ((bytes_eq-Decides s (codes "..")).0 e),
+  λ e f. cond-false _ _ _ e ∙ cond-false _ _ _ f,
+)
+
+-- removing dot segments: what is left of a segment and the rest is what is left of the rest after
+-- the segment
+pub path-left-after-segment : (kept s q : List ℕ) → IsDirectoryOrNothing kept → has_slash s ≡ false
+    → path_left kept ((s ++ codes "/") ++ q)
+    ≡ path_left (after_segment kept s (s ++ codes "/")) q
+path-left-after-segment kept s q closed lacks =
+    let after = after-segment-by-test kept s (s ++ codes "/") in
+    ap (path_left kept) (append_assoc s (codes "/") q)
+    ∙ ⊎_elim
+    (λ e. ap (λ t. path_left kept (t ++ 47 ∷ q)) ((bytes_eq-Decides s (codes ".")).0 e)
+    ∙ ⊎_elim
+    (λ n. ap (λ k. path_left k (codes "./" ++ q)) n ∙ (nothing-left-of-dots q).0
+    ∙ ap (λ k. path_left k q) (sym n))
+    (λ d. ap (λ k. path_left k (codes "./" ++ q)) d.1 ∙ (directory-left-of-dots d.0 q).0
+    ∙ ap (λ k. path_left k q) (sym d.1))
+    closed
+    ∙ ap (λ k. path_left k q) (sym (after.0 e)))
+    (λ single. ⊎_elim
+    (λ e. ap (λ t. path_left kept (t ++ 47 ∷ q)) ((bytes_eq-Decides s (codes "..")).0 e)
+    ∙ ⊎_elim
+    (λ n. ap (λ k. path_left k (codes "../" ++ q)) n ∙ (nothing-left-of-dots q).1
+    ∙ ap (λ k. path_left k q) (sym (ap parent n ∙ parent-of-nothing)))
+    (λ d. ap (λ k. path_left k (codes "../" ++ q)) d.1 ∙ (directory-left-of-dots d.0 q).1
+    ∙ ap (λ k. path_left (parent k) q) (sym d.1))
+    closed
+    ∙ ap (λ k. path_left k q) (sym (after.1 e)))
+    (λ double. ⊎_elim
+    (λ n. ap (λ k. path_left k (s ++ 47 ∷ q)) n
+    ∙ nothing-gets-other-segment s q lacks single double
+    ∙ ap (λ k. path_left (k ++ (s ++ codes "/")) q) (sym n))
+    (λ d. ap (λ k. path_left k (s ++ 47 ∷ q)) d.1
+    ∙ directory-gets-other-segment d.0 s q lacks single double
+    ∙ ap (λ k. path_left (k ++ (s ++ codes "/")) q) (sym d.1))
+    closed
+    ∙ ap (λ k. path_left k q) (sym (after.2 single double)))
+    (cases_Bool (bytes_eq s (codes ".."))))
+    (cases_Bool (bytes_eq s (codes ".")))
+
+-- removing dot segments: what is left of a last segment is what is kept after it
+pub path-left-after-last-segment : (kept s : List ℕ) → IsDirectoryOrNothing kept
+    → has_slash s ≡ false → path_left kept s ≡ after_segment kept s s
+path-left-after-last-segment kept s closed lacks =
+    let after = after-segment-by-test kept s s in
+    ⊎_elim
+    (λ e. ap (path_left kept) ((bytes_eq-Decides s (codes ".")).0 e)
+    ∙ ⊎_elim
+    (λ n. ap (λ k. path_left k (codes ".")) n ∙ (nothing-left-of-dots []).2 ∙ sym n)
+    (λ d. ap (λ k. path_left k (codes ".")) d.1 ∙ (directory-left-of-dots d.0 []).2 ∙ sym d.1)
+    closed
+    ∙ sym (after.0 e))
+    (λ single. ⊎_elim
+    (λ e. ap (path_left kept) ((bytes_eq-Decides s (codes "..")).0 e)
+    ∙ ⊎_elim
+    (λ n. ap (λ k. path_left k (codes "..")) n ∙ (nothing-left-of-dots []).3
+    ∙ sym (ap parent n ∙ parent-of-nothing))
+    (λ d. ap (λ k. path_left k (codes "..")) d.1 ∙ (directory-left-of-dots d.0 []).3
+    ∙ ap parent (sym d.1))
+    closed
+    ∙ sym (after.1 e))
+    (λ double. ⊎_elim
+    (λ n. ap (λ k. path_left k s) n ∙ nothing-gets-other-last-segment s lacks single double
+    ∙ ap (λ k. k ++ s) (sym n))
+    (λ d. ap (λ k. path_left k s) d.1
+    ∙ directory-gets-other-last-segment d.0 s lacks single double
+    ∙ ap (λ k. k ++ s) (sym d.1))
+    closed
+    ∙ sym (after.2 single double))
+    (cases_Bool (bytes_eq s (codes ".."))))
+    (cases_Bool (bytes_eq s (codes ".")))
+
+-- removing dot segments: what is kept has a property that each way to change it keeps
+pub after-segment-keeps : (Q : List ℕ → Type 0) (kept s piece : List ℕ) → Q kept → Q (parent kept)
+    → Q (kept ++ piece) → Q (after_segment kept s piece)
+unfolding after_segment
+after-segment-keeps Q kept s piece same up more =
+    cond_both (bytes_eq s (codes ".")) kept _ Q (λ _. same)
+    (λ _. cond_both (bytes_eq s (codes "..")) (parent kept) (kept ++ piece) Q (λ _. up)
+    (λ _. more))
+
+-- removing dot segments: the parent of a directory is a directory
+pub parent-is-directory : (kept : List ℕ) → IsDirectoryOrNothing kept
+    → IsDirectoryOrNothing (parent kept)
+unfolding parent
+parent-is-directory kept closed = ⊎_elim
+    (λ n. inl (ap parent n))
+    (λ d. inr (before_last_slash d.0, ap parent d.1 ∙ parent-of-directory d.0))
+    closed
+
+-- removing dot segments: after a segment and its `/` a directory is kept
+pub directory-after-segment : (kept s : List ℕ) → IsDirectoryOrNothing kept
+    → IsDirectoryOrNothing (after_segment kept s (s ++ codes "/"))
+directory-after-segment kept s closed =
+    after-segment-keeps IsDirectoryOrNothing kept s (s ++ codes "/") closed
+    (parent-is-directory kept closed)
+    (inr (kept ++ s, sym (append_assoc kept s (codes "/"))))
+
+-- removing dot segments: what is kept of a path, given by its first segment and the others
+unfoldable pub kept_of : List ℕ → List ℕ → List (List ℕ) → List ℕ
+kept_of kept s [] = after_segment kept s s
+kept_of kept s (t ∷ rest) = kept_of (after_segment kept s (s ++ codes "/")) t rest
+
+-- removing dot segments: what is left of a path is what is kept of its segments
+pub path-left-by-segments : (kept s : List ℕ) (rest : List (List ℕ)) → IsDirectoryOrNothing kept
+    → NoSlashes (s ∷ rest) → path_left kept (s ++ slashed rest) ≡ kept_of kept s rest
+unfolding kept_of slashed
+path-left-by-segments kept s [] closed lack =
+    ap (path_left kept) (append-nil s)
+    ∙ path-left-after-last-segment kept s closed
+    (first-segment-and-rest-lack-slashes s [] lack).0
+path-left-by-segments kept s (t ∷ rest) closed lack =
+    let first = first-segment-and-rest-lack-slashes s (t ∷ rest) lack in
+    ap (path_left kept) (sym (append_assoc s (codes "/") (t ++ slashed rest)))
+    ∙ path-left-after-segment kept s (t ++ slashed rest) closed first.0
+    ∙ path-left-by-segments (after_segment kept s (s ++ codes "/")) t rest
+    (directory-after-segment kept s closed) first.1

@@ -1,0 +1,164 @@
+-- One segment of a path in the loop of section 5.2.4.
+use Rattle.std.proofs.Common.{◌≡◌, ℕ, suc, Bool, true, false, not, List, [], ◌∷◌, ◌++◌, take, drop}
+use Rattle.std.proofs.Common.{refl, sym, ap, ◌∙◌, ◌&&◌, ◌||◌, append_assoc, arith}
+use Rattle.std.specs.Prelude.{codes, bytes_eq, ◌==◌}
+use Rattle.std.specs.List.{prefix_len}
+use Rattle.std.proofs.lemmas.Bool.{cond-true, cond-false, and_left, and_right, false≢true, or_parts}
+use Rattle.std.proofs.lemmas.Bool.{not_from_false, or_from}
+use Rattle.uri_pct.specs.Sets.{is_one_of}
+use Rattle.uri_parts.specs.Components.{before_any, from_any}
+use Rattle.uri_ops.specs.Dots.{before_last_slash, has_slash, is_empty}
+use Rattle.uri_basic.specs.Removal.{Buffers, has_prefix, output_of, step}
+use Rattle.uri_basic.proofs.Buffers.{other-byte-ends-no-segment, output-after-step}
+
+-- dot segments: the text begins with no dot segment, whether a `/` or its end is after that
+pub record BeginsWithNoDots (text : List ℕ) : Type 0 where
+  pub double_slash : has_prefix (codes "../") text ≡ false
+  pub single_slash : has_prefix (codes "./") text ≡ false
+  pub single : bytes_eq text (codes ".") ≡ false
+  pub double : bytes_eq text (codes "..") ≡ false
+
+-- general fact on tests, for dot segments: the last of two makes no difference if the first fails
+first-test-fails : (b x : Bool) → (b && true) ≡ false → (b && x) ≡ false
+first-test-fails true x e = absurd (false≢true (sym e))
+first-test-fails false x e = refl
+
+-- general fact on tests, for dot segments: the last of three makes none if the first two fail
+first-two-tests-fail : (b d x : Bool) → (b && (d && true)) ≡ false → (b && (d && x)) ≡ false
+first-two-tests-fail true true x e = absurd (false≢true (sym e))
+first-two-tests-fail true false x e = refl
+first-two-tests-fail false d x e = refl
+
+-- dot segments: a segment that is none, with a `/` (47) after it, begins with none
+pub other-segment-begins-with-no-dots : (s q : List ℕ) → has_slash s ≡ false
+    → bytes_eq s (codes ".") ≡ false → bytes_eq s (codes "..") ≡ false
+    → BeginsWithNoDots (s ++ 47 ∷ q)
+other-segment-begins-with-no-dots [] q lacks single double =
+    record { double_slash = refl; single_slash = refl; single = refl; double = refl }
+other-segment-begins-with-no-dots (c ∷ []) q lacks single double = record {
+  double_slash = and_right (c == 46) _ refl;
+  single_slash = first-test-fails (c == 46) _ single;
+  single = and_right (c == 46) _ refl;
+  double = and_right (c == 46) _ refl;
+}
+other-segment-begins-with-no-dots (c ∷ d ∷ []) q lacks single double = record {
+  double_slash = first-two-tests-fail (c == 46) (d == 46) _ double;
+  single_slash = and_right (c == 46) _ (and_left (d == 47) _
+      (or_parts (d == 47) false (or_parts (c == 47) _ lacks).1).0);
+  single = and_right (c == 46) _ refl;
+  double = and_right (c == 46) _ (and_right (d == 46) _ refl);
+}
+other-segment-begins-with-no-dots (c ∷ d ∷ e ∷ s) q lacks single double = record {
+  double_slash = and_right (c == 46) _ (and_right (d == 46) _ (and_left (e == 47) _
+      (or_parts (e == 47) _ (or_parts (d == 47) _ (or_parts (c == 47) _ lacks).1).1).0));
+  single_slash = and_right (c == 46) _ (and_left (d == 47) _
+      (or_parts (d == 47) _ (or_parts (c == 47) _ lacks).1).0);
+  single = and_right (c == 46) _ refl;
+  double = and_right (c == 46) _ (and_right (d == 46) _ refl);
+}
+
+-- dot segments: a last segment that is none begins with none
+pub other-last-segment-begins-with-no-dots : (s : List ℕ) → has_slash s ≡ false
+    → bytes_eq s (codes ".") ≡ false → bytes_eq s (codes "..") ≡ false → BeginsWithNoDots s
+other-last-segment-begins-with-no-dots [] lacks single double =
+    record { double_slash = refl; single_slash = refl; single = refl; double = refl }
+other-last-segment-begins-with-no-dots (c ∷ []) lacks single double = record {
+  double_slash = and_right (c == 46) _ refl;
+  single_slash = and_right (c == 46) _ refl;
+  single = single;
+  double = double;
+}
+other-last-segment-begins-with-no-dots (c ∷ d ∷ []) lacks single double = record {
+  double_slash = and_right (c == 46) _ (and_right (d == 46) _ refl);
+  single_slash = and_right (c == 46) _ (and_left (d == 47) _
+      (or_parts (d == 47) false (or_parts (c == 47) _ lacks).1).0);
+  single = single;
+  double = double;
+}
+other-last-segment-begins-with-no-dots (c ∷ d ∷ e ∷ s) lacks single double = record {
+  double_slash = and_right (c == 46) _ (and_right (d == 46) _ (and_left (e == 47) _
+      (or_parts (e == 47) _ (or_parts (d == 47) _ (or_parts (c == 47) _ lacks).1).1).0));
+  single_slash = and_right (c == 46) _ (and_left (d == 47) _
+      (or_parts (d == 47) _ (or_parts (c == 47) _ lacks).1).0);
+  single = single;
+  double = double;
+}
+
+-- paths: the first segment of a text ends before its first `/` (47)
+pub segment-ends-before-slash : (s q : List ℕ) → has_slash s ≡ false
+    → (before_any (codes "/") (s ++ 47 ∷ q) ≡ s) × (from_any (codes "/") (s ++ 47 ∷ q) ≡ 47 ∷ q)
+segment-ends-before-slash [] q e = (refl, refl)
+segment-ends-before-slash (c ∷ s) q e =
+    let p = or_parts (c == 47) (has_slash s) e in
+    let ih = segment-ends-before-slash s q p.1 in
+    let m : prefix_len (λ c. not (is_one_of (codes "/") c)) ((c ∷ s) ++ 47 ∷ q)
+    ≡ suc (prefix_len (λ c. not (is_one_of (codes "/") c)) (s ++ 47 ∷ q)) =
+    cond-true _ _ _ (other-byte-ends-no-segment c p.0) ∙ omega arith in (
+      ap (λ n. take n ((c ∷ s) ++ 47 ∷ q)) m ∙ ap (λ t. c ∷ t) ih.0,
+      ap (λ n. drop n ((c ∷ s) ++ 47 ∷ q)) m ∙ ih.1,
+    )
+
+-- paths: the last segment of a text ends with it
+pub last-segment-is-text : (s : List ℕ) → has_slash s ≡ false
+    → (before_any (codes "/") s ≡ s) × (from_any (codes "/") s ≡ [])
+last-segment-is-text [] e = (refl, refl)
+last-segment-is-text (c ∷ s) e =
+    let p = or_parts (c == 47) (has_slash s) e in
+    let ih = last-segment-is-text s p.1 in
+    let m : prefix_len (λ c. not (is_one_of (codes "/") c)) (c ∷ s)
+    ≡ suc (prefix_len (λ c. not (is_one_of (codes "/") c)) s) =
+    cond-true _ _ _ (other-byte-ends-no-segment c p.0) ∙ omega arith in (
+      ap (λ n. take n (c ∷ s)) m ∙ ap (λ t. c ∷ t) ih.0,
+      ap (λ n. drop n (c ∷ s)) m ∙ ih.1,
+    )
+
+-- removing dot segments: a buffer with a `/` (47) before no dot segment loses a segment (step 2E)
+step-moves-rooted-segment : (text output : List ℕ) → BeginsWithNoDots text
+    → step (record { input = 47 ∷ text; output = output })
+    ≡ record {
+      input = from_any (codes "/") text;
+      output = output ++ (codes "/" ++ before_any (codes "/") text);
+    }
+step-moves-rooted-segment text output f =
+    cond-false _ _ _ f.single_slash ∙ cond-false _ _ _ f.single ∙ cond-false _ _ _ f.double_slash
+    ∙ cond-false _ _ _ f.double
+
+-- removing dot segments: a buffer that begins with no `/` and no dot segment loses a segment, too
+step-moves-rootless-segment : (c : ℕ) (text output : List ℕ) → (c == 47) ≡ false
+    → BeginsWithNoDots (c ∷ text)
+    → step (record { input = c ∷ text; output = output })
+    ≡ record {
+      input = from_any (codes "/") (c ∷ text);
+      output = output ++ before_any (codes "/") (c ∷ text);
+    }
+step-moves-rootless-segment c text output e f =
+    cond-false _ _ _ f.double_slash ∙ cond-false _ _ _ f.single_slash
+    ∙ cond-false _ _ _ (and_left (c == 47) _ e) ∙ cond-false _ _ _ (and_left (c == 47) _ e)
+    ∙ cond-false _ _ _ (and_left (c == 47) _ e) ∙ cond-false _ _ _ (and_left (c == 47) _ e)
+    ∙ cond-false _ _ _ (or_from _ _ f.single f.double)
+    ∙ (λ i. record {
+      input = cond-false (c == 47) (from_any (codes "/") text) (from_any (codes "/") (c ∷ text)) e i;
+      output = output ++ cond-false (c == 47) (codes "/" ++ before_any (codes "/") text)
+          (before_any (codes "/") (c ∷ text)) e i;
+    })
+
+-- removing dot segments: the output where a buffer has a `/` before no dot segment
+pub output-after-rooted-segment : (text output segment rest : List ℕ) → BeginsWithNoDots text
+    → before_any (codes "/") text ≡ segment → from_any (codes "/") text ≡ rest
+    → output_of (record { input = 47 ∷ text; output = output })
+    ≡ output_of (record { input = rest; output = output ++ 47 ∷ segment })
+output-after-rooted-segment text output segment rest f e g =
+    output-after-step (record { input = 47 ∷ text; output = output }) refl
+    ∙ ap output_of (step-moves-rooted-segment text output f
+    ∙ (λ i. record { input = g i; output = output ++ 47 ∷ e i }))
+
+-- removing dot segments: the output where a buffer begins with no `/` and no dot segment
+pub output-after-rootless-segment : (c : ℕ) (text output segment rest : List ℕ)
+    → (c == 47) ≡ false → BeginsWithNoDots (c ∷ text)
+    → before_any (codes "/") (c ∷ text) ≡ segment → from_any (codes "/") (c ∷ text) ≡ rest
+    → output_of (record { input = c ∷ text; output = output })
+    ≡ output_of (record { input = rest; output = output ++ segment })
+output-after-rootless-segment c text output segment rest h f e g =
+    output-after-step (record { input = c ∷ text; output = output }) refl
+    ∙ ap output_of (step-moves-rootless-segment c text output h f
+    ∙ (λ i. record { input = g i; output = output ++ e i }))

@@ -1,0 +1,5 @@
+pub mod Removal
+pub mod Target
+pub mod Deviations
+pub mod Models
+pub mod Resolving

@@ -1,0 +1,60 @@
+//! Components of a base or a reference with their delimiters (RFC 3986, section 5.3).
+ghost use Rattle.std.specs.Prelude.{◌≡◌, [], codes};
+ghost use Rattle.uri_parts.specs.Components.{components, marked};
+ghost use Rattle.uri_parts.specs.CoreTexts.{core_text};
+ghost use Rattle.uri_ops.specs.Models.Places.{before_path};
+ghost use Rattle.uri_basic.specs.Models.Pieces.{after_path};
+
+use uri_parts::core_text::Core;
+use uri_parts::kind::Kind;
+
+/// Returns the path of a base or a reference, which may be empty.
+pub(crate) fn path<'a, K: Kind>(core: Core<K, &'a str>) -> &'a str
+    ensures { result.now ≡ (components (core_text core.entry)).path }
+{
+    core.positions().path(core.as_str())
+}
+
+/// Returns the scheme of a base with its `:`, or nothing.
+pub(crate) fn scheme_with_delimiter<'a, K: Kind>(core: Core<K, &'a str>) -> &'a str
+    ensures { result.now ≡ marked [] (components (core_text core.entry)).scheme (codes ":") }
+{
+    let text = core.as_str();
+    match core.positions().scheme_end {
+        Some(end) => &text[..end + 1],
+        None => "",
+    }
+}
+
+/// Returns what is before the path: the scheme and the authority with their delimiters.
+pub(crate) fn before_path<'a, K: Kind>(core: Core<K, &'a str>) -> &'a str
+    ensures { result.now ≡ before_path (components (core_text core.entry)) }
+{
+    let text = core.as_str();
+    &text[..core.positions().path_start]
+}
+
+/// Returns what is after the path: the query and the fragment with their delimiters.
+pub(crate) fn after_path<'a, K: Kind>(core: Core<K, &'a str>) -> &'a str
+    ensures { result.now ≡ after_path (components (core_text core.entry)) }
+{
+    let text = core.as_str();
+    &text[core.positions().path_end..]
+}
+
+/// Returns the query of a base with its `?`, or nothing.
+pub(crate) fn query_with_delimiter<'a, K: Kind>(core: Core<K, &'a str>) -> &'a str
+    ensures { result.now ≡ marked (codes "?") (components (core_text core.entry)).query [] }
+{
+    let text = core.as_str();
+    let positions = core.positions();
+    &text[positions.path_end..positions.before_fragment()]
+}
+
+/// Returns the fragment of a reference with its `#`, or nothing.
+pub(crate) fn fragment_with_delimiter<'a, K: Kind>(core: Core<K, &'a str>) -> &'a str
+    ensures { result.now ≡ marked (codes "#") (components (core_text core.entry)).fragment [] }
+{
+    let text = core.as_str();
+    &text[core.positions().before_fragment()..]
+}
