@@ -1,0 +1,248 @@
+"""Tests link_rewriter."""
+
+import pathlib
+import sys
+import unittest
+
+import lxml.html
+from fluent_uri import Iri, ParseError, Uri
+from link_rewriter import make_links_absolute, make_links_relative
+from lxml import etree
+
+sys.path.append(str(pathlib.Path(__file__).resolve().parents[1]))
+
+import differences  # noqa: E402 (it is beside the examples)
+
+PAGE = "http://example.com/d/page.html#top"
+# A link of each kind that lxml finds, and its target by RFC 3986, section 5.2.
+LINKS = (
+    ("g", "http://example.com/d/g"),
+    ("../g?y#s", "http://example.com/g?y#s"),
+    ("/g", "http://example.com/g"),
+    ("//h/g", "http://h/g"),
+    ("?y", "http://example.com/d/page.html?y"),
+    ("#s", "http://example.com/d/page.html#s"),
+    ("", "http://example.com/d/page.html"),
+    ("mailto:a@b", "mailto:a@b"),
+    ("http://h/a", "http://h/a"),
+)
+PLACES = (
+    '<a href="{}">x</a>',
+    '<img src="{}" longdesc="{}">',
+    '<form action="{}"><button formaction="{}"></button></form>',
+    '<blockquote cite="{}"></blockquote>',
+    '<object data="{}"></object>',
+    '<table background="{}"></table>',
+    '<param valuetype="ref" value="{}">',
+)
+
+
+def tree_of(html):
+    return lxml.html.document_fromstring(f"<!DOCTYPE html><html>{html}</html>")
+
+
+def links_of(tree):
+    return [(it[0].tag, it[1], it[2]) for it in tree.iterlinks()]
+
+
+def absolute(html, base=PAGE):
+    tree = tree_of(html)
+    return tree, make_links_absolute(tree, base)
+
+
+class Rewriter(unittest.TestCase):
+    def test_what_lxml_does_right_is_done_alike(self):
+        for link, target in LINKS:
+            html = "".join(it.format(link, link) for it in PLACES)
+            stock = tree_of(html)
+            stock.make_links_absolute(PAGE.partition("#")[0])
+            ours, rejected = absolute(html)
+            self.assertEqual(links_of(ours), links_of(stock), link)
+            self.assertEqual({it[2] for it in links_of(ours)}, {target})
+            self.assertEqual(rejected, [])
+
+    def test_links_that_are_no_references_are_mended(self):
+        for link, target in (
+            (" a b\n", "http://example.com/d/a%20b"),
+            ("?x=[1]", "http://example.com/d/page.html?x=%5B1%5D"),
+            ("50%", "http://example.com/d/50%25"),
+            ("é|ü", "http://example.com/d/é%7Cü"),
+            ("1:2", "http://example.com/d/1:2"),
+        ):
+            tree, rejected = absolute(f'<a href="{link}">x</a>')
+            self.assertEqual(tree.find(".//a").get("href"), target)
+            self.assertEqual(rejected, [])
+        tree, _ = absolute('<a href="é">x</a>', Uri(PAGE))
+        self.assertEqual(tree.find(".//a").get("href"), "http://example.com/d/%C3%A9")
+
+    def test_a_link_without_a_target_stays(self):
+        bad = "http://a b/"
+        html = f'<a href="{bad}" ping="p {bad}">x</a><img srcset="a.png 1x" src="//[x">'
+        for rewrite in (make_links_absolute, make_links_relative):
+            tree = tree_of(html)
+            rejected = rewrite(tree, PAGE)
+            self.assertEqual(tree.find(".//a").get("href"), bad)
+            self.assertEqual(tree.find(".//img").get("src"), "//[x")
+            told = [(it.element.tag, it.attribute, it.link) for it in rejected]
+            # (a space parts two links of `ping`)
+            self.assertEqual(told, [("a", "href", bad), ("img", "src", "//[x")])
+            self.assertTrue(all(isinstance(it.error, ParseError) for it in rejected))
+        tree = tree_of(html)
+        tree.find(".//a").set("href", "a")
+        made = etree.tostring(tree)
+        for base in ("a b", "/rel", "", "http://[/"):
+            self.assertRaises(ParseError, make_links_absolute, tree, base)
+        for base in (None, 1, b"http://h/"):
+            self.assertRaises(TypeError, make_links_absolute, tree, base)
+        self.assertEqual(etree.tostring(tree), made)
+
+    def test_a_base_of_the_page(self):
+        html = '<head><base target="t" href="../e/"><base href="no"></head><a href="f#g">x</a>'
+        tree, _ = absolute(html)
+        self.assertEqual(tree.find(".//a").get("href"), "http://example.com/e/f#g")
+        self.assertEqual([dict(it.attrib) for it in tree.iter("base")], [{"target": "t"}, {}])
+        tree = tree_of(html)
+        make_links_relative(tree, PAGE)
+        self.assertEqual(tree.find(".//a").get("href"), "../e/f#g")
+        tree, rejected = absolute('<base href="http://a b/"><a href="f">x</a>')
+        self.assertEqual(tree.find(".//a").get("href"), "http://example.com/d/f")
+        self.assertEqual([it.link for it in rejected], ["http://a b/"])
+        self.assertEqual(tree.find(".//base").get("href"), "http://a b/")
+
+    def test_images_of_many_sizes(self):
+        # HTML, section 4.8.4.2.
+        for given, wanted in (
+            ("a.png 1x, b.png 2x", "P/a.png 1x, P/b.png 2x"),
+            ("a.png", "P/a.png"),
+            (" a.png,b.png 2x", " P/a.png,b.png 2x"),
+            ("a.png, ,b,c.png 1w,d.png", "P/a.png, ,P/b,c.png 1w,P/d.png"),
+            ("a.png x(1,2) 3w, b.png", "P/a.png x(1,2) 3w, P/b.png"),
+            ("a|b.png 1x", "P/a%7Cb.png 1x"),
+            (", ,", ", ,"),
+            ("a.png (", "P/a.png ("),
+        ):
+            tree, rejected = absolute(f'<img srcset="{given}">')
+            found = tree.find(".//img").get("srcset")
+            self.assertEqual(found, wanted.replace("P", "http://example.com/d"))
+            self.assertEqual(rejected, [])
+
+    def test_style_sheets(self):
+        for given, wanted in (
+            ("a{b:url(c.png)}", 'a{b:url("P/c.png")}'),
+            ("a{b:url( 'c d.png' ) URL(e)}", 'a{b:url( "P/c%20d.png" ) URL("P/e")}'),
+            ('@import "c.css" screen;', '@import "P/c.css" screen;'),
+            ("@IMPORT url(c.css);", '@IMPORT url("P/c.css");'),
+            ("a{b:url(c\\28 1\\))}", 'a{b:url("P/c(1)")}'),
+            ('a{b:url("c\\\nd")}', 'a{b:url("P/cd")}'),
+            ("a{b:url()}", "a{b:url()}"),
+            ("a{b:url(c d)}", "a{b:url(c d)}"),
+            ("a{b:url(\\110000)}", 'a{b:url("P/\ufffd")}'),
+        ):
+            base = PAGE if "\ufffd" not in wanted else Uri(PAGE)
+            wanted = wanted.replace("P/", "http://example.com/d/").replace("\ufffd", "%EF%BF%BD")
+            tree, _ = absolute(f"<style>{given}</style>", base)
+            self.assertEqual(tree.find(".//style").text, wanted)
+            tree = tree_of("<p>x</p>")
+            tree.find(".//p").set("style", given)
+            make_links_absolute(tree, base)
+            self.assertEqual(tree.find(".//p").get("style"), wanted)
+
+    def test_a_refresh(self):
+        # HTML, section 4.2.5.3.
+        for given, wanted in (
+            ("5; url=a", "5; url=P/a"),
+            ("0;URL = 'a b'", "0;URL = P/a%20b"),
+            ("0, a", "0, P/a"),
+            ("0 a", "0 P/a"),
+            ('1.5;url="a"; b', "1.5;url=P/a"),
+            ("5", "5"),
+            ("0 ; ", "0 ; "),
+            ("x; url=a", "x; url=a"),
+        ):
+            tree = tree_of('<meta http-equiv="Refresh"><meta name="x">')
+            for it in tree.iter("meta"):
+                it.set("content", given)
+            make_links_absolute(tree, PAGE)
+            found = [it.get("content") for it in tree.iter("meta")]
+            self.assertEqual(found, [wanted.replace("P", "http://example.com/d"), given])
+
+    def test_an_object_with_a_codebase(self):
+        html = '<object codebase="c/" data="d" archive="e f"></object>'
+        tree, _ = absolute(html)
+        wanted = {
+            "codebase": "http://example.com/d/c/",
+            "data": "http://example.com/d/c/d",
+            "archive": "http://example.com/d/c/e http://example.com/d/c/f",
+        }
+        self.assertEqual(dict(tree.find(".//object").attrib), wanted)
+        tree, rejected = absolute('<object codebase="//[x" data="d"></object>')
+        self.assertEqual(dict(tree.find(".//object").attrib), {"codebase": "//[x", "data": "d"})
+        self.assertEqual({it.attribute for it in rejected}, {"codebase", "data"})
+
+    def test_relative_links_lead_to_the_same_targets(self):
+        html = "".join(it.format(link, link) for it in PLACES for link, _ in LINKS)
+        html += '<img srcset="a 1x, b/c 2x"><style>a{b:url(c)}</style>'
+        html += '<object codebase="c/" data="d" archive="../e f"></object>'
+        wanted, _ = absolute(html)
+        for prefers in (False, True):
+            tree = tree_of(html)
+            self.assertEqual(make_links_relative(tree, PAGE, prefers), [])
+            text = etree.tostring(tree)
+            self.assertNotIn(b"http://example.com", text)
+            make_links_absolute(tree, PAGE)
+            self.assertEqual(etree.tostring(tree), etree.tostring(wanted))
+        tree = tree_of('<img srcset="./,a 1x"><a href="/x">x</a>')
+        meta = [tree.makeelement("meta", {"http-equiv": "refresh"}) for _ in range(2)]
+        for it, link in zip(meta, ("0;url=./'a", "0;./url=a")):
+            it.set("content", link)
+            tree.append(it)
+        make_links_relative(tree, PAGE)
+        self.assertEqual(tree.find(".//img").get("srcset"), "./,a 1x")
+        self.assertEqual([it.get("content") for it in meta], ["0;url=./'a", "0;./url=a"])
+        self.assertEqual(tree.find(".//a").get("href"), "../x")
+
+    def test_trees_of_other_kinds(self):
+        xml = '<h:p xmlns:h="http://www.w3.org/1999/xhtml"><h:a href="b"/><!-- c --><?d e?></h:p>'
+        tree = etree.ElementTree(etree.fromstring(xml))
+        self.assertEqual(make_links_absolute(tree, Iri(PAGE)), [])
+        self.assertEqual(tree.getroot()[0].get("href"), "http://example.com/d/b")
+        for it in (None, "<a>", b"<a>", 1):
+            self.assertRaises((AttributeError, TypeError), make_links_absolute, it, PAGE)
+
+    def test_much(self):
+        count = 20_000
+        style = "a{b:url(c)}" * count + "url(" + " " * count + "@import" + " " * count
+        html = f'<style>{style}</style><img srcset="{"a 1x," * count}">'
+        tree, rejected = absolute(html + f'<a href="{"../" * count}x">y</a>')
+        self.assertEqual(rejected, [])
+        self.assertEqual(tree.find(".//style").text.count('url("http://example.com/d/c")'), count)
+        sizes = tree.find(".//img").get("srcset")
+        self.assertEqual(sizes.count("http://example.com/d/a 1x,"), count)
+        self.assertEqual(tree.find(".//a").get("href"), "http://example.com/x")
+
+    def test_differences(self):
+        def calls(rewrite):
+            def attribute(name, key, value, base="http://h/a/b"):
+                tree = tree_of(f"<{name}></{name}>")
+                it = next(tree.iter(name))
+                it.set(key, value)
+                rewrite(tree, base)
+                return it.get(key)
+
+            def based(bases, link):
+                tree = tree_of(f"<head>{bases}</head><a href={link}>x</a>")
+                rewrite(tree, "http://h/a/b")
+                return tree.find(".//a").get("href")
+
+            def href(link, base="http://h/a/b"):
+                return attribute("a", "href", link, base)
+
+            return {"attribute": attribute, "based": based, "href": href}
+
+        stock = calls(lambda tree, base: tree.make_links_absolute(base))
+        version = ".".join(map(str, etree.LXML_VERSION[:3]))
+        differences.check(self, "lxml", version, stock, calls(make_links_absolute))
+
+
+if __name__ == "__main__":
+    unittest.main()
