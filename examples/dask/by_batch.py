@@ -10,6 +10,7 @@ all URLs.
 import argparse
 import pathlib
 import random
+import re
 import sys
 import tempfile
 import time
@@ -23,6 +24,7 @@ from distributed import Client, LocalCluster
 from fluent_uri import batch
 
 LIST = pathlib.Path(__file__).resolve().parents[2] / "tools" / "bench" / "urls.txt"
+OUTSIDE_OCTETS = re.compile("(?<!%)(?<!%[0-9A-Fa-f])e")
 
 
 def spelt(url, dice):
@@ -37,10 +39,10 @@ def spelt(url, dice):
     if how == 2 and slash:
         return f"{scheme}://{authority}/x/../{path}"
     if how == 3:
-        return url.replace("e", "%65", 1) if "e" in path else url
+        return f"{scheme}://{authority}{slash}{OUTSIDE_OCTETS.sub('%65', path, count=1)}"
     if how == 4 and slash and ":" not in authority:
         return f"{scheme}://{authority}:{443 if scheme == 'https' else 80}/{path}"
-    return url if how else f"{url} "
+    return f"{url} " if how == 5 else url
 
 
 def urls(part, size, count):

@@ -1,0 +1,223 @@
+/* Values of the types uri and iri: how they are made of texts, and become texts.
+ *
+ * The library gets buffers and never calls back, so no error of PostgreSQL jumps over it. It frees
+ * what it takes before it returns. */
+#include "values.h"
+
+#include "libpq/pqformat.h"
+#include "mb/pg_wchar.h"
+#include "utils/builtins.h"
+#include "utils/memutils.h"
+
+PG_MODULE_MAGIC;
+
+void uri_check_call(uint32 error) {
+    if (error == FLUENT_URI_OUT_OF_MEMORY)
+        ereport(ERROR, (errcode(ERRCODE_OUT_OF_MEMORY), errmsg("out of memory")));
+    if (error == FLUENT_URI_INVALID_ARGUMENT)
+        ereport(ERROR,
+                (errcode(ERRCODE_INVALID_PARAMETER_VALUE), errmsg("%s", uri_message(error))));
+}
+
+void uri_check_encoding(uint32 kind) {
+    int encoding = GetDatabaseEncoding();
+
+    if (kind >= FLUENT_URI_IRI && encoding != PG_UTF8 && encoding != PG_SQL_ASCII)
+        ereport(ERROR, (errcode(ERRCODE_FEATURE_NOT_SUPPORTED),
+                        errmsg("IRIs need a database whose encoding is UTF8")));
+}
+
+int uri_character_at(uri_bytes text, size_t index) {
+    const char *at = (const char *) text.at;
+
+    return pg_verify_mbstr(GetDatabaseEncoding(), at, (int) index, true)
+               ? pg_mbstrlen_with_len(at, (int) index) + 1
+               : (int) index + 1;
+}
+
+char *uri_shown(uri_bytes text) {
+    enum { MOST = 200 };
+    const char *at = (const char *) text.at;
+    int kept = (int) text.len;
+    char *made;
+
+    if (text.len > MOST) kept = pg_mbcliplen(at, (int) Min(text.len, MOST + 8), MOST);
+    made = palloc(kept + 4);
+    memcpy(made, at, kept);
+    strcpy(made + kept, (size_t) kept < text.len ? "..." : "");
+    return made;
+}
+
+#define REJECTED(kind, text, outcome) \
+    (errcode(ERRCODE_INVALID_TEXT_REPRESENTATION), \
+     errmsg("invalid input syntax for type %s: \"%s\"", uri_type_name(kind), uri_shown(text)), \
+     errdetail("Not %s: %s at character %d (index %zu).", uri_titles[kind], \
+               uri_message((outcome).error), uri_character_at(text, (outcome).index), \
+               (outcome).index))
+
+static uint8 head_of(uint32 kind) {
+    return URI_FORM_VERSION << URI_VERSION_SHIFT | (kind == FLUENT_URI_IRI ? URI_IS_IRI : 0);
+}
+
+struct varlena *uri_value_of(uint32 kind, uri_bytes text, fluent_uri_outcome *outcome) {
+    struct varlena *made;
+    uint8 *data;
+    size_t room = text.len;
+    uint32 form_len;
+
+    uri_check_encoding(kind);
+    for (;;) {
+        /* Room for the normal form, and then for the text. */
+        size_t size = VARHDRSZ + URI_FORM_AT + room + text.len;
+
+        if (size >= MaxAllocSize)
+            ereport(ERROR, (errcode(ERRCODE_PROGRAM_LIMIT_EXCEEDED),
+                            errmsg("too long for type %s: %zu bytes", uri_type_name(kind),
+                                   text.len)));
+        made = palloc(size);
+        data = (uint8 *) VARDATA(made);
+        uri_write(URI_NORMALIZE, kind, 0, text, text, data + URI_FORM_AT, room, outcome);
+        if (outcome->error != 0 || outcome->length <= room) break;
+        pfree(made);
+        room = outcome->length;
+    }
+    if (outcome->error != 0) {
+        pfree(made);
+        uri_check_call(outcome->error);
+        return NULL;
+    }
+    form_len = (uint32) outcome->length;
+    data[0] = head_of(kind);
+    if (form_len == text.len && memcmp(data + URI_FORM_AT, text.at, text.len) == 0) {
+        memcpy(data + URI_SAME_AT, text.at, text.len);
+        SET_VARSIZE(made, VARHDRSZ + URI_SAME_AT + text.len);
+    } else {
+        data[0] |= URI_DIFFERS;
+        memcpy(data + 1, &form_len, sizeof form_len);
+        memcpy(data + URI_FORM_AT + form_len, text.at, text.len);
+        SET_VARSIZE(made, VARHDRSZ + URI_FORM_AT + form_len + text.len);
+    }
+    return made;
+}
+
+struct varlena *uri_value_or_error(uint32 kind, uri_bytes text) {
+    fluent_uri_outcome outcome;
+    struct varlena *made = uri_value_of(kind, text, &outcome);
+
+    if (made == NULL) ereport(ERROR, REJECTED(kind, text, outcome));
+    return made;
+}
+
+struct varlena *uri_value_of_form(uint32 kind, uri_bytes form) {
+    struct varlena *made = palloc(VARHDRSZ + URI_SAME_AT + form.len);
+
+    SET_VARSIZE(made, VARHDRSZ + URI_SAME_AT + form.len);
+    VARDATA(made)[0] = head_of(kind);
+    memcpy(VARDATA(made) + URI_SAME_AT, form.at, form.len);
+    return made;
+}
+
+/* Makes a stale normal form anew. */
+void uri_read_stale(uri_value *it) {
+    fluent_uri_outcome outcome;
+    struct varlena *made = uri_value_of(it->kind, it->text, &outcome);
+    uri_value renewed;
+
+    if (made == NULL)
+        elog(ERROR, "a stored %s is not %s", uri_type_name(it->kind), uri_titles[it->kind]);
+    uri_read(made, &renewed);
+    it->form = renewed.form;
+    it->renewed = made;
+}
+
+/* ---- Input and output ---- */
+
+static Datum input(FunctionCallInfo fcinfo, uint32 kind) {
+    char *given = PG_GETARG_CSTRING(0);
+    uri_bytes text = {(const uint8_t *) given, strlen(given)};
+#if PG_VERSION_NUM >= 160000
+    fluent_uri_outcome outcome;
+    struct varlena *made = uri_value_of(kind, text, &outcome);
+
+    if (made == NULL) ereturn(fcinfo->context, (Datum) 0, REJECTED(kind, text, outcome));
+    PG_RETURN_POINTER(made);
+#else
+    PG_RETURN_POINTER(uri_value_or_error(kind, text));
+#endif
+}
+
+static Datum receive(FunctionCallInfo fcinfo, uint32 kind) {
+    StringInfo buffer = (StringInfo) PG_GETARG_POINTER(0);
+    int len;
+    char *given = pq_getmsgtext(buffer, buffer->len - buffer->cursor, &len);
+    uri_bytes text = {(const uint8_t *) given, (size_t) len};
+
+    PG_RETURN_POINTER(uri_value_or_error(kind, text));
+}
+
+static Datum from_text(FunctionCallInfo fcinfo, uint32 kind) {
+    PG_RETURN_POINTER(uri_value_or_error(kind, uri_bytes_of(PG_GETARG_TEXT_PP(0))));
+}
+
+static Datum from_text_or_null(FunctionCallInfo fcinfo, uint32 kind) {
+    fluent_uri_outcome outcome;
+    struct varlena *made = uri_value_of(kind, uri_bytes_of(PG_GETARG_TEXT_PP(0)), &outcome);
+
+    if (made == NULL) PG_RETURN_NULL();
+    PG_RETURN_POINTER(made);
+}
+
+#define OF_KINDS(NAME, BODY) \
+    PG_FUNCTION_INFO_V1(uri_##NAME); \
+    Datum uri_##NAME(PG_FUNCTION_ARGS) { return BODY(fcinfo, FLUENT_URI_URI); } \
+    PG_FUNCTION_INFO_V1(iri_##NAME); \
+    Datum iri_##NAME(PG_FUNCTION_ARGS) { return BODY(fcinfo, FLUENT_URI_IRI); }
+
+OF_KINDS(in, input)
+OF_KINDS(recv, receive)
+OF_KINDS(from_text, from_text)
+OF_KINDS(or_null, from_text_or_null)
+
+PG_FUNCTION_INFO_V1(uri_out);
+Datum uri_out(PG_FUNCTION_ARGS) {
+    uri_value it;
+
+    uri_read(URI_VALUE(0), &it);
+    PG_RETURN_CSTRING(pnstrdup((const char *) it.text.at, it.text.len));
+}
+
+PG_FUNCTION_INFO_V1(uri_send);
+Datum uri_send(PG_FUNCTION_ARGS) {
+    uri_value it;
+    StringInfoData buffer;
+
+    uri_read(URI_VALUE(0), &it);
+    pq_begintypsend(&buffer);
+    pq_sendtext(&buffer, (const char *) it.text.at, (int) it.text.len);
+    PG_RETURN_BYTEA_P(pq_endtypsend(&buffer));
+}
+
+PG_FUNCTION_INFO_V1(uri_to_text);
+Datum uri_to_text(PG_FUNCTION_ARGS) {
+    uri_value it;
+
+    uri_read(URI_VALUE(0), &it);
+    PG_RETURN_TEXT_P(cstring_to_text_with_len((const char *) it.text.at, (int) it.text.len));
+}
+
+/* A URI as an IRI: the text stays, and its normal form may be another. */
+PG_FUNCTION_INFO_V1(uri_to_iri);
+Datum uri_to_iri(PG_FUNCTION_ARGS) {
+    uri_value it;
+
+    uri_read(URI_VALUE(0), &it);
+    PG_RETURN_POINTER(uri_value_or_error(FLUENT_URI_IRI, it.text));
+}
+
+PG_FUNCTION_INFO_V1(uri_normalize);
+Datum uri_normalize(PG_FUNCTION_ARGS) {
+    uri_value it;
+
+    uri_read(URI_VALUE(0), &it);
+    PG_RETURN_POINTER(uri_value_of_form(it.kind, it.form));
+}

@@ -1,0 +1,93 @@
+/* Values of the types uri and iri, and what the files of the extension share. */
+#ifndef FLUENT_URI_POSTGRES_VALUES_H
+#define FLUENT_URI_POSTGRES_VALUES_H
+#include "postgres.h"
+
+#include "fmgr.h"
+#if PG_VERSION_NUM >= 160000
+#include "varatt.h"
+#endif
+
+#include "../databases/calls.h"
+
+/* The number of the library's normal forms. A change of any of them, as by another default port,
+ * takes the next number: older values then compare by a form that is made anew, and indexes need
+ * REINDEX (docs/DATABASES.md). It has six bits of the head. */
+#ifndef URI_FORM_VERSION
+#define URI_FORM_VERSION 1
+#endif
+
+/* A value is a varlena: a head, and then the text if it is its own normal form. Else the length of
+ * the normal form in four bytes, the normal form and the text. So a comparison calls no library. */
+enum { URI_DIFFERS = 1, URI_IS_IRI = 2, URI_VERSION_SHIFT = 2 };
+enum { URI_SAME_AT = 1, URI_FORM_AT = 1 + sizeof(uint32) };
+
+typedef struct {
+    uint32 kind;
+    uri_bytes text, form;    /* as it is given; the normal form */
+    struct varlena *renewed; /* has the normal form where that of the value is stale */
+} uri_value;
+
+#define URI_VALUE(N) ((struct varlena *) PG_DETOAST_DATUM_PACKED(PG_GETARG_DATUM(N)))
+
+/* The bytes of a text, a bytea or a value. */
+static inline uri_bytes uri_bytes_of(const void *packed) {
+    uri_bytes made = {(const uint8_t *) VARDATA_ANY(packed), VARSIZE_ANY_EXHDR(packed)};
+
+    return made;
+}
+
+static inline const char *uri_type_name(uint32 kind) {
+    return kind == FLUENT_URI_IRI ? "iri" : "uri";
+}
+
+extern void uri_read_stale(uri_value *it);
+
+/* Reads a value. What compares many values calls uri_release after it. */
+static inline void uri_read(const struct varlena *packed, uri_value *it) {
+    uri_bytes all = uri_bytes_of(packed);
+    uint8 head = all.at[0];
+
+    it->renewed = NULL;
+    it->kind = head & URI_IS_IRI ? FLUENT_URI_IRI : FLUENT_URI_URI;
+    if (head & URI_DIFFERS) {
+        uint32 len;
+
+        memcpy(&len, all.at + 1, sizeof len);
+        it->form.at = all.at + URI_FORM_AT;
+        it->form.len = len;
+        it->text.at = it->form.at + len;
+        it->text.len = all.len - URI_FORM_AT - len;
+    } else {
+        it->text.at = all.at + URI_SAME_AT;
+        it->text.len = all.len - URI_SAME_AT;
+        it->form = it->text;
+    }
+    if (unlikely(head >> URI_VERSION_SHIFT != URI_FORM_VERSION)) uri_read_stale(it);
+}
+
+static inline void uri_release(uri_value *it) {
+    if (unlikely(it->renewed != NULL)) pfree(it->renewed);
+}
+
+/* Raises the errors that say nothing of the text. */
+extern void uri_check_call(uint32 error);
+
+/* Raises an error if texts of the kind cannot be in this database. */
+extern void uri_check_encoding(uint32 kind);
+
+/* The character of a byte, from 1. A text that is not in the encoding is counted in bytes. */
+extern int uri_character_at(uri_bytes text, size_t index);
+
+/* A text for a message, cut. */
+extern char *uri_shown(uri_bytes text);
+
+/* Makes a value of a text. Returns NULL and the outcome if the text is not of the kind. */
+extern struct varlena *uri_value_of(uint32 kind, uri_bytes text, fluent_uri_outcome *outcome);
+
+/* The same, or an error. */
+extern struct varlena *uri_value_or_error(uint32 kind, uri_bytes text);
+
+/* Makes a value of a normal form. */
+extern struct varlena *uri_value_of_form(uint32 kind, uri_bytes form);
+#endif
