@@ -1,10 +1,18 @@
 -- What a call of `uri_mend` returned is what a link is mended to.
-use Rattle.std.proofs.Common.{◌≡◌, ℕ, Bool, List, None, Some, ap, sym, subst, ◌∙◌, string_bytes}
-use Rattle.std.specs.Prelude.{IfSome, if◌then◌else◌}
+use Rattle.std.proofs.Common.{◌≡◌, ℕ, Bool, List, None, Result, Some, ap, sym, subst, ◌∙◌, string_bytes}
+use Rattle.std.specs.Prelude.{IfErr, IfSome, if◌then◌else◌}
+use Rattle.std.proofs.lemmas.Result.{IfErr-weaker}
 use Rattle.fluent_uri.specs.Grammar.{Kind}
 use Rattle.fluent_uri.specs.declared.ParseError.{ParseError}
+use Rattle.uri_commands.specs.Commands.{Mend, kind_named}
 use Rattle.uri_commands.specs.MendedLinks.{IsMendedLink, mended_link}
+use Rattle.uri_commands.specs.Refusals.{IsErrorOfCommand, IsErrorOfLink}
+use Rattle.uri_commands.specs.declared.command.KindName.{KindName}
 use Rattle.uri_commands.specs.declared.mending.MendedLink.{MendedLink}
+use Rattle.uri_commands.specs.declared.refusal.CommandError.{CommandError}
+use Rattle.uri_commands.specs.declared.refusal.CommandError.TheVariants.{Text, Base, Reference}
+use Rattle.uri_commands.specs.declared.refusal.CommandError.TheVariants.{Target}
+use Rattle.uri_commands.specs.declared.refusal.CommandError.TheVariants.{OutOfMemory, OutputFailed}
 use Rattle.uri_mend.specs.Mended.{IsMended}
 use Rattle.uri_mend.specs.Mending.{mended_text}
 use Rattle.uri_mend.specs.Refusing.{IsMendErrorOf}
@@ -44,3 +52,19 @@ IsMendedLink-of-unmendable kind text source error link same is kept some =
       refused = subst (λ o. IfSome o (λ e.
           IsMendErrorOf kind (trimmed_link text) (Unmendable e))) (sym some) refused;
     }
+
+-- links: an error that is right for a link is one of `mend`
+pub error-of-link-is-error-of-mend : {A : Type 0} (name : KindName) (kind : Kind) (text : List ℕ)
+    (result : Result A CommandError) → kind_named name ≡ kind
+    → IfErr result (IsErrorOfLink kind text) → IfErr result (IsErrorOfCommand (Mend name text))
+error-of-link-is-error-of-mend name kind text result same is = IfErr-weaker result _ _
+    (λ why e. of-each why (subst (λ k. IsErrorOfLink k text why) (sym same) e)) is
+  where
+    of-each : (why : CommandError) → IsErrorOfLink (kind_named name) text why
+        → IsErrorOfCommand (Mend name text) why
+    of-each (Text e) is = is
+    of-each (Base e) is = absurd is
+    of-each (Reference e) is = absurd is
+    of-each (Target e) is = absurd is
+    of-each OutOfMemory is = is
+    of-each OutputFailed is = absurd is

@@ -7,8 +7,8 @@ use Rattle.fluent_uri.specs.Resolving.{IsErrorWithUnderflowAllowed}
 use Rattle.uri_commands.specs.Commands.{Command, Parse, Normalize, Mend, Resolve, Links}
 use Rattle.uri_commands.specs.Commands.{are_of_kind, kind_named, kind_of_base}
 use Rattle.uri_commands.specs.Commands.{kind_of_references, output_of}
-use Rattle.uri_mend.specs.Refusing.{IsMendErrorOf}
-use Rattle.uri_mend.specs.Trimming.{trimmed_link}
+use Rattle.uri_mend.specs.Refusing.{IsLinkErrorOf}
+use Rattle.uri_mend.specs.declared.error.MendError.TheVariants as mend_errors
 use Rattle.uri_mend.specs.declared.error.MendError.TheVariants.{Unmendable}
 use Rattle.uri_commands.specs.Messages.{error_text, resolve_error_text}
 use Rattle.uri_commands.specs.declared.refusal.CommandError.{CommandError}
@@ -45,6 +45,13 @@ IsErrorOfFirst kind texts e = (n : ℕ) × (text : List ℕ)
     × (slice_get texts n ≡ Some text) × (are_of_kind kind (take n texts) ≡ true)
     × IsErrorOf kind text e
 
+-- the error is right for a link of a page that is mended for the kind: the one that `mend_link` of
+-- `uri_mend` returns
+abbrev pub IsErrorOfLink : Kind → List ℕ → CommandError → Type 0
+IsErrorOfLink kind text (Text e) = IsLinkErrorOf kind text (Unmendable e)
+IsErrorOfLink kind text OutOfMemory = IsLinkErrorOf kind text mend_errors.OutOfMemory
+IsErrorOfLink kind text why = ⊥
+
 -- The command of `uritool` fails with this error.
 -- A base is parsed before its references, and all references are parsed before any is resolved or
 -- noted.
@@ -52,10 +59,8 @@ abbrev pub IsErrorOfCommand : Command → CommandError → Type 0
 IsErrorOfCommand (Parse name text) (Text e) = IsErrorOf (kind_named name) text e
 IsErrorOfCommand (Normalize name text) (Text e) = IsErrorOf (kind_named name) text e
 IsErrorOfCommand (Normalize name text) OutOfMemory = IsOfKind (kind_named name) text
-IsErrorOfCommand (Mend name text) (Text e) =
-    IsMendErrorOf (kind_named name) (trimmed_link text) (Unmendable e)
--- memory is asked for before the link is parsed
-IsErrorOfCommand (Mend name text) OutOfMemory = Unit {0}
+IsErrorOfCommand (Mend name text) (Text e) = IsErrorOfLink (kind_named name) text (Text e)
+IsErrorOfCommand (Mend name text) OutOfMemory = IsErrorOfLink (kind_named name) text OutOfMemory
 IsErrorOfCommand (Resolve name base reference) (Base e) = IsErrorOf (kind_of_base name) base e
 IsErrorOfCommand (Resolve name base reference) (Reference e) =
     IsOfKind (kind_of_base name) base × IsErrorOf (kind_of_references name) reference e

@@ -2,16 +2,17 @@
 ghost use Rattle.std.specs.Prelude.{◌≡◌, IfErr, IfOk, false, string_bytes, true};
 ghost use Rattle.uri_commands.specs.Commands.{Mend, kind_named};
 ghost use Rattle.uri_commands.specs.Ends.{has_output_failed};
-ghost use Rattle.uri_commands.specs.MendedLinks.{IsMendedLink};
-ghost use Rattle.uri_commands.specs.Refusals.{IsErrorOfCommand};
+ghost use Rattle.uri_commands.specs.Refusals.{IsErrorOfCommand, IsErrorOfLink};
+ghost use Rattle.uri_mend.specs.Mended.{IsMended};
 ghost use Rattle.uri_mend.specs.Mending.{can_be_mended, mended_text};
 ghost use Rattle.uri_mend.specs.Trimming.{trimmed_link};
 
 use crate::command::KindName;
-use crate::mending::{MendedLink, mended_link};
 use crate::refusal::CommandError;
-use fluent_uri::kind::{IriKind, IriRefKind, UriKind, UriRefKind};
-use std::alloc::{AllocError, Global};
+use fluent_uri::Reference;
+use fluent_uri::kind::{IriKind, IriRefKind, Kind, UriKind, UriRefKind};
+use std::alloc::Global;
+use uri_mend::{Mend, MendError};
 
 /// Mends the link of `mend` for the kind, and returns the text of the kind.
 ///
@@ -26,21 +27,24 @@ pub fn mended(alloc: Global, kind: KindName, text: &str) -> Result<String, Comma
         ≡ mended_text (kind_named kind) (trimmed_link text.now)) }
     ensures unwritten { has_output_failed result ≡ false }
 {
-    let link = link_of_kind(alloc, kind, text)?;
-    match link.error {
-        None => Ok(link.text),
-        Some(error) => Err(CommandError::Text(error)),
+    match kind {
+        KindName::Uri => mended_link_text::<UriKind>(alloc, text),
+        KindName::UriRef => mended_link_text::<UriRefKind>(alloc, text),
+        KindName::Iri => mended_link_text::<IriKind>(alloc, text),
+        KindName::IriRef => mended_link_text::<IriRefKind>(alloc, text),
     }
 }
 
-/// Returns what the link of `mend` is mended to for the kind.
-fn link_of_kind(alloc: Global, kind: KindName, text: &str) -> Result<MendedLink, AllocError>
-    ensures { IfOk result (IsMendedLink (kind_named kind) text.now) }
+/// Returns the text of the kind that a link of a page is mended to.
+fn mended_link_text<K: Kind>(alloc: Global, text: &str) -> Result<String, CommandError>
+    ensures mended { IfOk result (λ link.
+        IsMended K.kind (trimmed_link text.now) (string_bytes link)) }
+    ensures refused { IfErr result (IsErrorOfLink K.kind text.now) }
+    ensures unwritten { has_output_failed result ≡ false }
 {
-    match kind {
-        KindName::Uri => mended_link::<UriKind>(alloc, text),
-        KindName::UriRef => mended_link::<UriRefKind>(alloc, text),
-        KindName::Iri => mended_link::<IriKind>(alloc, text),
-        KindName::IriRef => mended_link::<IriRefKind>(alloc, text),
+    match Reference::<K, String>::mend_link(alloc, text) {
+        Ok(link) => Ok(link.into_string()),
+        Err(MendError::Unmendable(error)) => Err(CommandError::Text(error)),
+        Err(MendError::OutOfMemory) => Err(CommandError::OutOfMemory),
     }
 }

@@ -1,11 +1,11 @@
 -- Bytes that are written to positions of a buffer.
-use Rattle.std.proofs.Common.{◌≡◌, ℕ, ◌+◌, ◌≤◌, List, ◌++◌, length, take, drop, map, ap, sym, ◌∙◌}
-use Rattle.std.proofs.Common.{append_assoc, arith}
+use Rattle.std.proofs.Common.{◌≡◌, ℕ, zero, suc, ◌+◌, ◌*◌, ◌≤◌, List, [], ◌∷◌, ◌++◌, length, take, drop}
+use Rattle.std.proofs.Common.{map, ap, refl, sym, ◌∙◌, append_assoc, arith}
 use Rattle.std.specs.Simd.Lanes.{put_chunk}
-use Rattle.std.proofs.Math.Seq.{take-add, take-append-add}
-use Rattle.std.proofs.lemmas.List.{length-take-le, map-append, take-append-le}
+use Rattle.std.proofs.Math.Seq.{take-add, take-append-add, take-nil}
+use Rattle.std.proofs.lemmas.List.{length-take-le, map-append, take-append-le, take-take}
 use Rattle.std.proofs.lemmas.Simd.{put_chunk_is}
-use Rattle.uri_pct.specs.Tokens.{Octet, print}
+use Rattle.uri_pct.specs.Tokens.{Octet, print, text_of_token}
 use Rattle.uri_pct.proofs.EncodedTexts.Encodings.{print-append}
 
 -- buffers: of a block that is written at a position, the first n bytes follow what is before it
@@ -30,3 +30,28 @@ octets-of-more-bytes n m bytes out =
     ∙ ap (λ t. out ++ t) (sym (ap (λ l. print (map Octet l)) (take-add n m bytes)
     ∙ ap print (map-append Octet first second)
     ∙ print-append (map Octet first) (map Octet second)))
+
+-- octets: the first octets of bytes are those of the first bytes
+octets-of-first-bytes : (n : ℕ) (bytes : List ℕ)
+    → take (3 * n) (print (map Octet bytes)) ≡ print (map Octet (take n bytes))
+octets-of-first-bytes zero bytes = refl
+octets-of-first-bytes (suc n) [] = take-nil (3 * suc n)
+octets-of-first-bytes (suc n) (b ∷ bytes) =
+    let three : 3 * suc n ≡ length (text_of_token (Octet b)) + 3 * n = omega arith in
+    ap (λ k. take k (text_of_token (Octet b) ++ print (map Octet bytes))) three
+    ∙ take-append-add (text_of_token (Octet b)) (print (map Octet bytes)) (3 * n)
+    ∙ ap (λ t. text_of_token (Octet b) ++ t) (octets-of-first-bytes n bytes)
+
+-- octets: where those of n bytes are written, so are those of fewer
+pub octets-of-fewer-bytes : (m n start : ℕ) (bytes before out : List ℕ) → m ≤ n
+    → length before ≡ start
+    → take (start + 3 * n) out ≡ before ++ print (map Octet (take n bytes))
+    → take (start + 3 * m) out ≡ before ++ print (map Octet (take m bytes))
+octets-of-fewer-bytes m n start bytes before out few size written =
+    let all : List ℕ = print (map Octet (take n bytes)) in
+    sym (take-take (start + 3 * m) (start + 3 * n) out (omega arith))
+    ∙ ap (take (start + 3 * m)) written
+    ∙ ap (λ k. take (k + 3 * m) (before ++ all)) (sym size)
+    ∙ take-append-add before all (3 * m)
+    ∙ ap (λ t. before ++ t) (octets-of-first-bytes m (take n bytes)
+    ∙ ap (λ t. print (map Octet t)) (take-take m n bytes few))

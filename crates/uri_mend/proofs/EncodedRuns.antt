@@ -1,49 +1,40 @@
 -- The character where a scan stops, and those after it that a set lacks, become octets.
-use Rattle.std.proofs.Common.{◌≡◌, ℕ, zero, suc, ◌+◌, ◌-◌, ◌<◌, ◌≤◌, Bool, true, false, not, eqb, List}
-use Rattle.std.proofs.Common.{[], ◌∷◌, ◌++◌, ◌&&◌, ◌||◌, length, take, drop, map, get_or, refl, sym, ap}
-use Rattle.std.proofs.Common.{subst, ◌∙◌, arith, ⊎_elim, append_assoc}
-use Rattle.std.specs.Char.{encode_utf8, len_utf8}
-use Rattle.std.specs.List.{list_all}
+use Rattle.std.proofs.Common.{◌≡◌, ℕ, suc, ◌+◌, ◌-◌, ◌<◌, ◌≤◌, true, false, not, eqb, ltb, List, [], ◌∷◌}
+use Rattle.std.proofs.Common.{◌++◌, ◌&&◌, ◌||◌, length, take, drop, map, get_or, refl, sym, ap, subst}
+use Rattle.std.proofs.Common.{◌∙◌, arith, ⊎_elim, append_assoc, length-append, length-drop}
+use Rattle.std.specs.Char.{encode_utf8, is_ascii_hexdigit, len_utf8}
 use Rattle.std.specs.Prelude.{nat_le}
-use Rattle.std.specs.Str.{IsUtf8, IsCharBoundary, all_scalars, chars, encode_utf8_all}
+use Rattle.std.specs.Str.{IsUtf8, IsCharBoundary, chars, encode_utf8_all}
 use Rattle.std.proofs.Math.Seq.{take-append-add}
-use Rattle.std.proofs.lemmas.Bool.{and_from, and_parts, and_right, both_ways, cases_Bool}
-use Rattle.std.proofs.lemmas.Bool.{cases_lt, cond-false, leb-true, ne_eqb, not-true}
-use Rattle.std.proofs.lemmas.Bool.{eqb-true, or_cases, or_left, or_parts, or_right}
+use Rattle.std.proofs.lemmas.Bool.{agree_below_at, and_left, and_parts, and_right, both_ways}
+use Rattle.std.proofs.lemmas.Bool.{cases_Bool, cases_lt, cond-false, eqb-true, leb-true, ne_eqb}
+use Rattle.std.proofs.lemmas.Bool.{not-true, or_cases, or_left, or_right}
 use Rattle.std.proofs.lemmas.Bool.Decides.{nat_tests}
-use Rattle.std.proofs.lemmas.List.{drop-drop, drop_more, get_or-drop, map-append}
-use Rattle.std.proofs.lemmas.List.{take-append-drop}
-use Rattle.std.proofs.lemmas.List.Folds.{list_all-append, list_all_more}
-use Rattle.std.proofs.lemmas.Str.{IsCharBoundary-after_ascii, IsCharBoundary-past_char}
-use Rattle.std.proofs.lemmas.Str.{IsUtf8-append, IsUtf8-between, IsUtf8-drop, encode_ascii}
-use Rattle.std.proofs.lemmas.Str.{encodes-chars, len_utf8_ascii, length-encode, scalars-chars}
+use Rattle.std.proofs.lemmas.List.{drop-drop, drop_at, drop_more, get_or-drop, length-take-le}
+use Rattle.std.proofs.lemmas.List.{map-append, take-append-drop}
+use Rattle.std.proofs.lemmas.Str.{IsCharBoundary-after_ascii, IsCharBoundary-before_ascii}
+use Rattle.std.proofs.lemmas.Str.{IsCharBoundary-past_char}
+use Rattle.std.proofs.lemmas.Str.{IsUtf8-between, IsUtf8-drop, encode_ascii, encodes-chars}
+use Rattle.std.proofs.lemmas.Str.{len_utf8_ascii, length-encode}
 use Rattle.uri_pct.specs.Masks.{has_bit}
 use Rattle.uri_pct.specs.Models.ByteRuns.{is_char_byte}
+use Rattle.uri_pct.specs.Models.Scans.{may_begin_octet_or_past_ascii}
 use Rattle.uri_pct.specs.Prefixes.{valid_prefix}
-use Rattle.uri_pct.specs.Sets.{TableSet, LacksPercent, allows, allows_past_ascii, is_iprivate}
-use Rattle.uri_pct.specs.Sets.{is_one_of, is_ucschar}
+use Rattle.uri_pct.specs.Sets.{TableSet, LacksPercent, is_one_of}
+use Rattle.uri_pct.specs.Texts.{has_hex_digits_after}
 use Rattle.uri_pct.specs.Tokens.{Octet, print}
 use Rattle.uri_pct.proofs.EncodedTexts.Encodings.{print-append}
-use Rattle.uri_pct.proofs.Unicode.Characters.{HasEncoding, char_has_encoding}
+use Rattle.uri_pct.proofs.TableSets.Constants.{past_ascii_is_no_hexdigit}
+use Rattle.uri_pct.proofs.Unicode.Characters.{char_has_encoding}
 use Rattle.uri_pct.proofs.ValidTexts.MarksInTexts.{test_holds_of_each}
-use Rattle.uri_pct.proofs.ValidTexts.PrefixSteps.{valid_prefix_by_first_char}
-use Rattle.uri_pct.proofs.ValidTexts.Validity.{ascii_char_is_allowed_iff_in_set}
-use Rattle.uri_pct.proofs.ValidTexts.Validity.{char_past_ascii_is_allowed_by_flags}
+use Rattle.uri_pct.proofs.ValidTexts.PrefixSteps.{valid_prefix_stops_at_ascii_outside_set}
+use Rattle.uri_pct.proofs.ValidTexts.PrefixSteps.{valid_prefix_stops_at_stray_percent}
+use Rattle.uri_pct.proofs.ValidTexts.PrefixSteps.{valid_prefix_stops_where_none_may_begin}
 use Rattle.uri_parts.specs.Components.{before_any, from_any}
 use Rattle.uri_mend.specs.declared.component.TheConstants.{NEVER_HIGH, NEVER_LOW}
 use Rattle.uri_mend.specs.MendedParts.{mended}
-use Rattle.uri_mend.specs.Progress.{IsEncodedBetween, are_marks, is_never, lacks_marks}
+use Rattle.uri_mend.specs.Progress.{IsEncodedBetween, IsLackedRun, are_marks, is_never, lacks_marks}
 use Rattle.uri_mend.proofs.ComponentSteps.{component-char-is-encoded}
-
--- general fact on lists, for runs: what holds of each of the first n items
-pub each-of-prefix-passes : (p : ℕ → Bool) (n : ℕ) (xs : List ℕ) → n ≤ length xs
-    → ((k : ℕ) → k < n → p (get_or xs k 0) ≡ true) → list_all p (take n xs) ≡ true
-each-of-prefix-passes p zero xs h f = refl
-each-of-prefix-passes p (suc n) xs h f =
-    let more : suc n ≡ n + 1 = omega arith in
-    ap (λ k. list_all p (take k xs)) more ∙ list_all_more p xs n 0 (omega arith)
-    ∙ and_from _ _ (each-of-prefix-passes p n xs (omega arith) (λ k l. f k (omega arith)))
-    (f n (omega arith))
 
 -- runs: a byte of a run that is found by lanes is past ASCII, or one that no component may have
 pub byte-of-run-is-never : (b : ℕ) → is_char_byte (has_bit NEVER_LOW NEVER_HIGH) b ≡ true
@@ -73,49 +64,113 @@ octets-of-joined : (xs ys : List ℕ)
 octets-of-joined xs ys = sym (ap print (map-append Octet xs ys)
     ∙ print-append (map Octet xs) (map Octet ys))
 
--- runs: the first byte of an ASCII character is its code
-first-byte-of-ascii : (c : ℕ) → (w : HasEncoding c) → c < 128 → w.first ≡ c
-first-byte-of-ascii c w h = ap (λ t. get_or t 0 0) (sym w.joined ∙ encode_ascii c h)
+-- runs: no octet and no character begins with a byte past ASCII, if the set allows none of those
+nothing-begins-past-ascii : (set : TableSet) (b : ℕ) → 128 ≤ b
+    → (set.ucschar || set.iprivate) ≡ false → may_begin_octet_or_past_ascii set b ≡ false
+unfolding may_begin_octet_or_past_ascii
+nothing-begins-past-ascii set b h e =
+    cond-false _ _ _ (ne_eqb b 37 (λ d. omega arith)) ∙ and_right (not (ltb b 128)) _ e
 
--- runs: an ASCII character that no component may have is not `%`
-never-is-no-percent : (c : ℕ) → has_bit NEVER_LOW NEVER_HIGH c ≡ true → eqb c 37 ≡ false
+-- runs: no octet begins at a `%` before a byte that is no hexadecimal digit
+no-digits-before-other : (text : List ℕ) (i : ℕ) → is_ascii_hexdigit (get_or text (i + 1) 0) ≡ false
+    → has_hex_digits_after text i ≡ false
+unfolding has_hex_digits_after
+no-digits-before-other text i e = and_left _ _ e
+
+-- runs: a byte that no component may have is no hexadecimal digit
+never-is-no-hexdigit : (b : ℕ) → is_never b ≡ true → is_ascii_hexdigit b ≡ false
 unfolding has_bit
-never-is-no-percent c h = ⊎_elim
-    (λ e. absurd (both_ways _ (ap (has_bit NEVER_LOW NEVER_HIGH) (eqb-true c 37 e)) h))
-    (λ e. e)
-    (cases_Bool (eqb c 37))
+never-is-no-hexdigit b e = ⊎_elim
+    (λ (h : b < 128).
+    let bit : has_bit NEVER_LOW NEVER_HIGH b ≡ true = ⊎_elim
+    (λ l. absurd (let d = leb-true 128 b l in omega arith))
+    (λ l. l)
+    (or_cases (nat_le 128 b) (has_bit NEVER_LOW NEVER_HIGH b) e) in
+    sym (ap (λ t. t && is_ascii_hexdigit b) bit)
+    ∙ agree_below_at (λ c. has_bit NEVER_LOW NEVER_HIGH c && is_ascii_hexdigit c) (λ c. false) 128 b
+    refl h)
+    (λ (h : 128 ≤ b). past_ascii_is_no_hexdigit b h)
+    (cases_lt b 128)
 
-module _ (set : TableSet)
+-- runs: what a scan of a set stops at
+module _ (set : TableSet) (lacks : LacksPercent set)
+    (only : (b : ℕ) → 128 ≤ b → set.ascii b ≡ false)
     (never : (b : ℕ) → has_bit NEVER_LOW NEVER_HIGH b ≡ true → set.ascii b ≡ false)
-    (past : (set.ucschar || set.iprivate) ≡ false) where
-  -- the set lacks each character that begins with such a byte, and it is not `%`
-  never-char-is-lacked : (c : ℕ) → (w : HasEncoding c) → is_never w.first ≡ true
-      → (allows set c ≡ false) × (eqb c 37 ≡ false)
-  unfolding allows_past_ascii
-  never-char-is-lacked c w e = ⊎_elim
-      (λ (h : c < 128).
-      let first = first-byte-of-ascii c w h in
-      let bit : has_bit NEVER_LOW NEVER_HIGH c ≡ true = ⊎_elim
-      (λ l. absurd (past-ascii-is-not-ascii c (sym (ap (nat_le 128) first) ∙ l) h))
-      (λ l. sym (ap (has_bit NEVER_LOW NEVER_HIGH) first) ∙ l)
-      (or_cases _ _ e) in (
-        ascii_char_is_allowed_iff_in_set set c h ∙ never c bit,
-        never-is-no-percent c bit,
-      ))
-      (λ (h : 128 ≤ c). (
-        char_past_ascii_is_allowed_by_flags set c h ∙ flags-allow-nothing,
-        ne_eqb c 37 (λ d. omega arith),
-      ))
-      (cases_lt c 128)
-    where
-      past-ascii-is-not-ascii : (b : ℕ) → nat_le 128 b ≡ true → b < 128 → ⊥
-      past-ascii-is-not-ascii b l h = let d = leb-true 128 b l in omega arith
+    (text : List ℕ) (start end : ℕ) (within : end ≤ length text)
+    (each : (k : ℕ) → start ≤ k → k < end → is_never (get_or text k 0) ≡ true)
+    (past : (k : ℕ) → start ≤ k → k < end → 128 ≤ get_or text k 0
+    → (set.ucschar || set.iprivate) ≡ false) where
+  -- a scan stops at each byte of a run of such bytes, but for a `%` at its end
+  scan-stops-at-each-of-run : (k : ℕ) → start ≤ k → k < end
+      → (get_or text k 0 ≡ 37 → k + 1 < end) → valid_prefix set (drop k text) ≡ 0
+  scan-stops-at-each-of-run k from l inner =
+      let b = get_or text k 0 in
+      let inside : k < length text = omega arith in ⊎_elim
+      (λ (h : b < 128). ⊎_elim
+      (λ p.
+      let percent = eqb-true b 37 p in
+      let next = inner percent in
+      valid_prefix_stops_at_stray_percent set lacks text k inside percent
+      (and_right set.pct_encoded (has_hex_digits_after text k)
+      (no-digits-before-other text k
+      (never-is-no-hexdigit _ (each (k + 1) (omega arith) next)))))
+      (λ other.
+      valid_prefix_stops_at_ascii_outside_set set text k inside h other (never b (⊎_elim
+      (λ d. absurd (let g = leb-true 128 b d in omega arith))
+      (λ d. d)
+      (or_cases (nat_le 128 b) (has_bit NEVER_LOW NEVER_HIGH b) (each k from l)))))
+      (cases_Bool (eqb b 37)))
+      (λ (h : 128 ≤ b).
+      valid_prefix_stops_where_none_may_begin set lacks text k inside (only b h)
+      (nothing-begins-past-ascii set b h (past k from l h)))
+      (cases_lt b 128)
 
-      flags-allow-nothing : allows_past_ascii set c ≡ false
-      flags-allow-nothing =
-          let p = or_parts set.ucschar set.iprivate past in
-          ap (λ a. a && is_ucschar c || set.iprivate && is_iprivate c) p.0
-          ∙ ap (λ a. false && is_ucschar c || a && is_iprivate c) p.1
+  -- the set lacks the run, if no `%` is at its end
+  pub run-is-lacked : start ≤ end → IsCharBoundary text end → (get_or text (end - 1) 0 ≡ 37 → ⊥)
+      → IsLackedRun set text start end
+  run-is-lacked le at other = record {
+    from = le;
+    boundary = at;
+    never = each;
+    stops = λ k from l. scan-stops-at-each-of-run k from l (λ p. ⊎_elim
+        (λ (d : k + 1 < end). d)
+        (λ (d : end ≤ k + 1).
+        let last : k ≡ end - 1 = omega arith in
+        absurd (other (sym (ap (λ n. get_or text n 0) last) ∙ p)))
+        (cases_lt (k + 1) end));
+  }
+
+  -- the set lacks the run without the `%` at its end
+  pub run-before-percent-is-lacked : start < end → get_or text (end - 1) 0 ≡ 37
+      → IsLackedRun set text start (end - 1)
+  run-before-percent-is-lacked some percent = record {
+    from = omega arith;
+    boundary = IsCharBoundary-before_ascii text (end - 1) (omega arith) (omega (arith, percent));
+    never = λ k from l. each k from (omega arith);
+    stops = λ k from l. scan-stops-at-each-of-run k from (omega arith) (λ p. omega arith);
+  }
+
+-- runs: a set lacks an empty run
+pub empty-run-is-lacked : (set : TableSet) (text : List ℕ) (start : ℕ) → IsCharBoundary text start
+    → IsLackedRun set text start start
+empty-run-is-lacked set text start at = record {
+  from = omega arith;
+  boundary = at;
+  never = λ k l m. absurd (omega (arith, l, m));
+  stops = λ k l m. absurd (omega (arith, l, m));
+}
+
+-- runs: a run of ASCII ends at a boundary
+pub ascii-run-ends-at-boundary : (text : List ℕ) (start end : ℕ) → IsUtf8 text
+    → IsCharBoundary text start → start ≤ end → end ≤ length text
+    → (start < end → get_or text (end - 1) 0 < 128) → IsCharBoundary text end
+ascii-run-ends-at-boundary text start end u at le within last = ⊎_elim
+    (λ (l : start < end).
+    let place : end - 1 + 1 ≡ end = omega arith in
+    subst (IsCharBoundary text) place
+    (IsCharBoundary-after_ascii text (end - 1) u (omega arith) (last l)))
+    (λ (l : end ≤ start). let same : start ≡ end = omega arith in subst (IsCharBoundary text) same at)
+    (cases_lt start end)
 
 module _ (marks : List ℕ) (set : TableSet) (lacks : LacksPercent set)
     (octets : set.pct_encoded ≡ true) (are : are_marks set marks ≡ true) where
@@ -127,92 +182,84 @@ module _ (marks : List ℕ) (set : TableSet) (lacks : LacksPercent set)
       (λ m. m)
       (cases_Bool (is_one_of marks b))
 
-  module _ (never : (b : ℕ) → has_bit NEVER_LOW NEVER_HIGH b ≡ true → set.ascii b ≡ false)
-      (past : (set.ucschar || set.iprivate) ≡ false) where
-    -- characters that begin with such bytes are mended to their octets
-    never-chars-are-encoded : (cs suffix : List ℕ) → all_scalars cs ≡ true → IsUtf8 suffix
-        → list_all is_never (encode_utf8_all cs) ≡ true
-        → (mended set (before_any marks (encode_utf8_all cs ++ suffix))
-        ≡ print (map Octet (encode_utf8_all cs)) ++ mended set (before_any marks suffix))
-        × (from_any marks (encode_utf8_all cs ++ suffix) ≡ from_any marks suffix)
-    never-chars-are-encoded [] suffix s u e = (refl, refl)
-    never-chars-are-encoded (c ∷ cs) suffix s u e =
-        let rest = encode_utf8_all cs in
-        let text : List ℕ = (encode_utf8 c ++ rest) ++ suffix in
+  module _ (text : List ℕ) (u : IsUtf8 text) (end : ℕ) where
+    -- characters at which a scan stops are mended to their octets
+    stopped-chars-are-encoded : (cs : List ℕ) (start : ℕ) → start + length (encode_utf8_all cs) ≡ end
+        → drop start text ≡ encode_utf8_all cs ++ drop end text → IsCharBoundary text start
+        → ((k : ℕ) → start ≤ k → k < end → is_never (get_or text k 0) ≡ true)
+        → ((k : ℕ) → start ≤ k → k < end → valid_prefix set (drop k text) ≡ 0)
+        → (mended set (before_any marks (drop start text))
+        ≡ print (map Octet (encode_utf8_all cs)) ++ mended set (before_any marks (drop end text)))
+        × (from_any marks (drop start text) ≡ from_any marks (drop end text))
+    stopped-chars-are-encoded [] start size split at never stops = (
+      ap (λ t. mended set (before_any marks t)) split,
+      ap (from_any marks) split,
+    )
+    stopped-chars-are-encoded (c ∷ cs) start size split at never stops =
+        let rest : List ℕ = encode_utf8_all cs in
+        let len = len_utf8 c in
         let w = char_has_encoding c in
-        let scalars = and_parts _ (all_scalars cs) s in
-        let passed = and_parts _ _ (sym (list_all-append is_never (encode_utf8 c) rest) ∙ e) in
-        let first : is_never w.first ≡ true =
-        (and_parts _ _ (sym (ap (list_all is_never) w.joined) ∙ passed.0)).0 in
-        let begins : get_or text 0 0 ≡ w.first =
-        ap (λ t. get_or ((t ++ rest) ++ suffix) 0 0) w.joined in
-        let whole : IsUtf8 text = IsUtf8-append (encode_utf8 c ++ rest) suffix (c ∷ cs, (s, refl)) u in
-        let lacked = never-char-is-lacked set never past c w first in
-        let joined = append_assoc (encode_utf8 c) rest suffix in
-        let stop : valid_prefix set text ≡ 0 =
-        valid_prefix_by_first_char set text (rest ++ suffix) c whole joined
-        (and_right _ _ lacked.1) ∙ cond-false _ _ _ lacked.0 in
+        let long : length (encode_utf8 c) ≡ len = length-encode c in
+        let some : length (encode_utf8 c) ≡ suc (length w.more) = ap length w.joined in
+        let both : length (encode_utf8 c ++ rest) ≡ length (encode_utf8 c) + length rest =
+        length-append (encode_utf8 c) rest in
+        let inside : start < end = omega (arith, size, both, some) in
+        let whole : drop start text ≡ encode_utf8 c ++ (rest ++ drop end text) =
+        split ∙ append_assoc (encode_utf8 c) rest (drop end text) in
+        let later : drop (start + len) text ≡ rest ++ drop end text =
+        sym (drop-drop len start text) ∙ ap (drop len) whole
+        ∙ drop_at (encode_utf8 c) (rest ++ drop end text) len long in
+        let v = IsUtf8-drop text start u at in
+        let begins : get_or (drop start text) 0 0 ≡ get_or text start 0 =
+        get_or-drop start text 0 0 ∙ ap (λ k. get_or text k 0) (omega arith) in
         let step = component-char-is-encoded marks set lacks octets
-        (and_parts (lacks_marks set marks) _ are).0 c text (rest ++ suffix) whole joined stop
-        (ap (is_one_of marks) begins ∙ never-is-no-mark w.first first) in
-        let next = never-chars-are-encoded cs suffix scalars.1 u passed.1 in (
+        (and_parts (lacks_marks set marks) _ are).0 c (drop start text) (drop (start + len) text) v
+        (whole ∙ ap (λ t. encode_utf8 c ++ t) (sym later)) (stops start (omega arith) inside)
+        (ap (is_one_of marks) begins
+        ∙ never-is-no-mark (get_or text start 0) (never start (omega arith) inside)) in
+        let next = stopped-chars-are-encoded cs (start + len) (omega (arith, size, both, long)) later
+        (IsCharBoundary-past_char text (rest ++ drop end text) start c at.0 v whole)
+        (λ k a b. never k (omega (arith, a)) b) (λ k a b. stops k (omega (arith, a)) b) in (
           step.0 ∙ ap (λ t. print (map Octet (encode_utf8 c)) ++ t) next.0
               ∙ sym (append_assoc (print (map Octet (encode_utf8 c))) (print (map Octet rest))
-              (mended set (before_any marks suffix)))
-              ∙ ap (λ t. t ++ mended set (before_any marks suffix))
+              (mended set (before_any marks (drop end text))))
+              ∙ ap (λ t. t ++ mended set (before_any marks (drop end text)))
               (octets-of-joined (encode_utf8 c) rest),
           step.1 ∙ next.1,
         )
 
 module _ (set : TableSet) (lacks : LacksPercent set) (octets : set.pct_encoded ≡ true)
-    (never : (b : ℕ) → has_bit NEVER_LOW NEVER_HIGH b ≡ true → set.ascii b ≡ false)
     (text : List ℕ) (u : IsUtf8 text) where
-  -- a run of such characters is mended to its octets
-  never-run-is-encoded : (marks : List ℕ) → are_marks set marks ≡ true → (next end : ℕ)
-      → next ≤ end → IsCharBoundary text next → IsCharBoundary text end
-      → list_all is_never (take (end - next) (drop next text)) ≡ true
-      → (next < end → (set.ucschar || set.iprivate) ≡ false)
+  -- a run at which a scan stops is mended to its octets
+  lacked-run-is-encoded : (marks : List ℕ) → are_marks set marks ≡ true → (next end : ℕ)
+      → IsCharBoundary text next → IsLackedRun set text next end
       → (mended set (before_any marks (drop next text))
       ≡ print (map Octet (take (end - next) (drop next text)))
       ++ mended set (before_any marks (drop end text)))
       × (from_any marks (drop next text) ≡ from_any marks (drop end text))
-  never-run-is-encoded marks are next end le from to each past = ⊎_elim
-      (λ (l : next < end).
-      let run : List ℕ = take (end - next) (drop next text) in
-      let v = IsUtf8-between text next end u le from to in
+  lacked-run-is-encoded marks are next end at run =
+      let part : List ℕ = take (end - next) (drop next text) in
+      let v = IsUtf8-between text next end u run.from at run.boundary in
+      let back : encode_utf8_all (chars part) ≡ part = encodes-chars part v in
       let suffix : drop (end - next) (drop next text) ≡ drop end text =
-      drop-drop (end - next) next text ∙ ap (λ k. drop k text) (omega arith) in
-      let split : drop next text ≡ encode_utf8_all (chars run) ++ drop end text =
-      sym (take-append-drop (end - next) (drop next text)) ∙ ap (λ t. run ++ t) suffix
-      ∙ ap (λ t. t ++ drop end text) (sym (encodes-chars run v)) in
-      let step = never-chars-are-encoded marks set lacks octets are never (past l) (chars run)
-      (drop end text) (scalars-chars run v) (IsUtf8-drop text end u to)
-      (ap (list_all is_never) (encodes-chars run v) ∙ each) in (
-        ap (λ t. mended set (before_any marks t)) split ∙ step.0
-            ∙ ap (λ t. print (map Octet t) ++ mended set (before_any marks (drop end text)))
-            (encodes-chars run v),
-        ap (from_any marks) split ∙ step.1,
-      ))
-      (λ (l : end ≤ next).
-      let same : next ≡ end = omega arith in
-      let none : end - next ≡ 0 = omega arith in (
-        ap (λ k. mended set (before_any marks (drop k text))) same
-            ∙ ap (λ k. print (map Octet (take k (drop next text)))
-            ++ mended set (before_any marks (drop end text))) (sym none),
-        ap (λ k. from_any marks (drop k text)) same,
-      ))
-      (cases_lt next end)
+      drop-drop (end - next) next text ∙ ap (λ k. drop k text) (omega (arith, run.from)) in
+      let split : drop next text ≡ encode_utf8_all (chars part) ++ drop end text =
+      sym (take-append-drop (end - next) (drop next text)) ∙ ap (λ t. part ++ t) suffix
+      ∙ ap (λ t. t ++ drop end text) (sym back) in
+      let long : length part ≡ end - next =
+      length-take-le (end - next) (drop next text) (omega (arith, length-drop next text, run.boundary.0)) in
+      let step = stopped-chars-are-encoded marks set lacks octets are text u end (chars part) next
+      (omega (arith, ap length back, long, run.from)) split at run.never run.stops in (
+        step.0 ∙ ap (λ t. print (map Octet t) ++ mended set (before_any marks (drop end text))) back,
+        step.1,
+      )
 
   -- the character where a scan stops, and such a run after it, are mended to their octets
   pub run-after-scan-is-encoded : (c start next end : ℕ) → IsCharBoundary text start
-      → IsCharBoundary text next → IsCharBoundary text end
-      → drop start text ≡ encode_utf8 c ++ drop (start + len_utf8 c) text
-      → next ≡ start + len_utf8 c → next ≤ end → valid_prefix set (drop start text) ≡ 0
-      → list_all is_never (take (end - next) (drop next text)) ≡ true
-      → (next < end → (set.ucschar || set.iprivate) ≡ false)
-      → IsEncodedBetween set text start end
-  run-after-scan-is-encoded c start next end at from to joined place le stop each past marks are
-      other =
+      → IsCharBoundary text next → drop start text ≡ encode_utf8 c ++ drop (start + len_utf8 c) text
+      → next ≡ start + len_utf8 c → valid_prefix set (drop start text) ≡ 0
+      → IsLackedRun set text next end → IsEncodedBetween set text start end
+  run-after-scan-is-encoded c start next end at from joined place stop passed marks are other =
       let rest = drop start text in
       let run : List ℕ = take (end - next) (drop next text) in
       let X : List ℕ = mended set (before_any marks (drop end text)) in
@@ -223,9 +270,9 @@ module _ (set : TableSet) (lacks : LacksPercent set) (octets : set.pct_encoded �
       let step = component-char-is-encoded marks set lacks octets
       (and_parts (lacks_marks set marks) _ are).0 c rest (drop next text)
       (IsUtf8-drop text start u at) first stop (ap (is_one_of marks) begins ∙ other) in
-      let more = never-run-is-encoded marks are next end le from to each past in
+      let more = lacked-run-is-encoded marks are next end from passed in
       let size : end - start ≡ length (encode_utf8 c) + (end - next) =
-      omega (arith, length-encode c, place) in
+      omega (arith, length-encode c, place, passed.from) in
       let taken : encode_utf8 c ++ run ≡ take (end - start) rest =
       sym (ap (λ k. take k rest) size
       ∙ ap (take (length (encode_utf8 c) + (end - next))) first
@@ -249,8 +296,5 @@ module _ (set : TableSet) (lacks : LacksPercent set) (octets : set.pct_encoded �
       ∙ ap (λ t. t ++ drop (start + 1) text) (sym (encode_ascii b small))
       ∙ ap (λ n. encode_utf8 b ++ drop (start + n) text) (sym one) in
       let next = IsCharBoundary-after_ascii text start u inside small in
-      let none : start + 1 - (start + 1) ≡ 0 = omega arith in
-      run-after-scan-is-encoded b start (start + 1) (start + 1) at next next joined
-      (ap (λ n. start + n) (sym one)) (omega arith) stop
-      (ap (λ n. list_all is_never (take n (drop (start + 1) text))) none)
-      (λ l. absurd (omega (arith, l)))
+      run-after-scan-is-encoded b start (start + 1) (start + 1) at next joined
+      (ap (λ n. start + n) (sym one)) stop (empty-run-is-lacked set text (start + 1) next)

@@ -1,11 +1,12 @@
 -- Steps of mending: how far a text was mended, and how much of this was written. No RFC has this.
-use Rattle.std.specs.Prelude.{◌≡◌, ◌-◌, ◌≤◌, ◌&&◌, ◌||◌, ◌==◌, ℕ, Bool, true, false, not, List, ◌++◌}
+use Rattle.std.specs.Prelude.{◌≡◌, ◌-◌, ◌<◌, ◌≤◌, ◌&&◌, ◌||◌, ◌==◌, ℕ, Bool, true, false, not, List, ◌++◌}
 use Rattle.std.specs.Prelude.{drop, length, map, nat_le, nat_lt, slice_index, take}
 use Rattle.std.specs.Char.{is_ascii_hexdigit}
 use Rattle.std.specs.List.{list_all}
 use Rattle.std.specs.Str.{IsCharBoundary}
 use Rattle.uri_pct.specs.Delimiters.{percent_sign}
 use Rattle.uri_pct.specs.Masks.{has_bit}
+use Rattle.uri_pct.specs.Prefixes.{valid_prefix}
 use Rattle.uri_pct.specs.Sets.{TableSet, is_one_of}
 use Rattle.uri_pct.specs.Tokens.{Octet, print}
 use Rattle.uri_parts.specs.Components.{before_any, from_any}
@@ -23,7 +24,7 @@ pub record IsProgress (text out : List ℕ) (p : Progress) : Type 0 where
 abbrev pub mended_so_far : List ℕ → List ℕ → Progress → List ℕ
 mended_so_far text out p = take p.at out ++ take (p.end - p.run_start) (drop p.run_start text)
 
--- the byte is past ASCII, or one that no path, query or fragment may have
+-- the byte is past ASCII, a `%`, or one that no path, query or fragment may have
 abbrev pub is_never : ℕ → Bool
 is_never b = nat_le 128 b || has_bit NEVER_LOW NEVER_HIGH b
 
@@ -36,6 +37,13 @@ lacks_marks set marks = list_all (λ mark. nat_lt mark 128 && (not (set.ascii ma
 -- the marks may end a component of the set
 abbrev pub are_marks : TableSet → List ℕ → Bool
 are_marks set marks = lacks_marks set marks && list_all (λ mark. not (is_never mark)) marks
+
+-- no byte between the two positions may end a component, and a scan of the set stops at each
+pub record IsLackedRun (set : TableSet) (text : List ℕ) (start end : ℕ) : Type 0 where
+  pub from : start ≤ end
+  pub boundary : IsCharBoundary text end
+  pub never : (k : ℕ) → start ≤ k → k < end → is_never (slice_index text k) ≡ true
+  pub stops : (k : ℕ) → start ≤ k → k < end → valid_prefix set (drop k text) ≡ 0
 
 -- whatever ends the component, the text between the two positions is mended to its octets
 abbrev pub IsEncodedBetween : TableSet → List ℕ → ℕ → ℕ → Type 0

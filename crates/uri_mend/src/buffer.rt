@@ -33,10 +33,25 @@ pub(crate) fn make_room(additional: usize, at: usize, out: &mut Vec<u8>) -> Resu
     grow(additional, at, out)
 }
 
+/// Copies so many of the sixteen bytes from a position on to a position of a buffer, in which those
+/// after them may change. Returns the position after them.
+#[inline(always)]
+fn place_lanes(bytes: &[u8], start: usize, len: usize, at: usize, out: &mut [u8]) -> usize
+    requires few { len ≤ LANES }
+    requires inside { start + LANES ≤ length bytes.now }
+    requires room { at + LANES ≤ length out.old }
+    ensures end { result ≡ at + len }
+    ensures text { take result out.new ≡ take at out.old ++ take len (drop start bytes.now) }
+{
+    u8x16::from_slice(&bytes[start..]).copy_to_slice(&mut out[at..]);
+    at + len
+}
+
 /// Copies the bytes between two positions to a position of a buffer, in which sixteen bytes more
 /// may change. Returns the position after them.
 ///
-/// Most runs are short, and a copy of sixteen bytes is two instructions.
+/// Most runs are short, and a copy of sixteen bytes is two instructions. Up to twice as many are
+/// copied as the first sixteen and the last.
 #[inline(always)]
 pub(crate) fn place_run(bytes: &[u8], start: usize, end: usize, at: usize, out: &mut [u8]) -> usize
     requires ordered { start ≤ end }
@@ -46,9 +61,13 @@ pub(crate) fn place_run(bytes: &[u8], start: usize, end: usize, at: usize, out: 
     ensures text { take result out.new ≡ take at out.old ++ take (end - start) (drop start bytes.now) }
 {
     let len = end - start;
-    if len <= LANES && bytes.len() - start >= LANES {
-        u8x16::from_slice(&bytes[start..]).copy_to_slice(&mut out[at..]);
-        return at + len;
+    if len <= LANES {
+        if bytes.len() - start >= LANES {
+            return place_lanes(bytes, start, len, at, out);
+        }
+    } else if len <= 2 * LANES {
+        let last = place_lanes(bytes, start, len - LANES, at, out);
+        return place_lanes(bytes, end - LANES, LANES, last, out);
     }
     out[at..at + len].copy_from_slice(&bytes[start..end]);
     at + len

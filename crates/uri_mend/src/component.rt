@@ -1,7 +1,6 @@
 //! Components, mended (RFC 3986, sections 2.1 and 2.4).
 ghost use Rattle.std.specs.Prelude.{◌≡◌, ◌+◌, ◌-◌, ◌<◌, ◌≤◌, ◌||◌, ◌++◌, ℕ, [], IfOk, drop, false, length};
 ghost use Rattle.std.specs.Prelude.{map, slice_index, take, true};
-ghost use Rattle.std.specs.List.{list_all};
 ghost use Rattle.std.specs.Str.{IsCharBoundary};
 ghost use Rattle.uri_pct.specs.Masks.{has_bit};
 ghost use Rattle.uri_pct.specs.Prefixes.{valid_prefix};
@@ -10,20 +9,20 @@ ghost use Rattle.uri_pct.specs.Tables.{set_of};
 ghost use Rattle.uri_pct.specs.Tokens.{Octet, print, text_of_token};
 ghost use Rattle.uri_parts.specs.Components.{before_any, from_any};
 ghost use Rattle.uri_mend.specs.MendedParts.{mended};
-ghost use Rattle.uri_mend.specs.Progress.{IsEncodedBetween, IsProgress, are_marks, is_never};
-ghost use Rattle.uri_mend.specs.Progress.{mended_so_far};
+ghost use Rattle.uri_mend.specs.Progress.{IsEncodedBetween, IsLackedRun, IsProgress, are_marks};
+ghost use Rattle.uri_mend.specs.Progress.{is_never, mended_so_far};
 
 use crate::buffer::{make_room, place_run};
 use crate::octets::{place_octet, place_octets};
 use std::alloc::AllocError;
-use uri_pct::lanes::{LANES, chars_end};
+use uri_pct::lanes::{LANES, chars_end, run_end};
 use uri_pct::table::Table;
 use uri_pct::utf8::char_at;
 
-/// The ASCII characters that no path, query or fragment may have, but for the delimiters and `%`:
+/// `%` and the ASCII characters that no path, query or fragment may have, but for the delimiters:
 /// control characters, the space, and `"<>[\]^`, the grave accent and `{|}`. These are the codes
 /// below 64, as bits.
-const NEVER_LOW: u64 = 0x5000_0005_FFFF_FFFF;
+const NEVER_LOW: u64 = 0x5000_0025_FFFF_FFFF;
 
 /// The same characters from the code 64 on, as bits.
 const NEVER_HIGH: u64 = 0xB800_0001_7800_0000;
@@ -39,21 +38,47 @@ pub(crate) struct Progress {
     pub(crate) at: usize,
 }
 
-/// Returns where the run of characters ends that begins at `start`, and that the table lacks. If
-/// the table allows characters past ASCII, it looks for none.
+/// Returns where a run of bytes ends that begins at `start`: of `%`, of the ASCII characters that no
+/// component may have, and of those past ASCII if the table allows none.
+///
+/// If the table allows some, a text of less than sixteen bytes is not looked at: the run is empty.
 #[inline(always)]
 fn never_end(table: &Table, text: &str, start: usize) -> usize
     requires { IsCharBoundary text.now start }
     ensures boundary { IsCharBoundary text.now result }
     ensures from { start ≤ result }
-    ensures never { list_all is_never (take (result - start) (drop start text.now)) ≡ true }
-    ensures past { start < result
+    ensures never { (k : ℕ) → start ≤ k → k < result → is_never (slice_index text.now k) ≡ true }
+    ensures past { (k : ℕ) → start ≤ k → k < result → 128 ≤ slice_index text.now k
         → ((set_of table.now).ucschar || (set_of table.now).iprivate) ≡ false }
 {
-    if table.allows_some_past_ascii() {
+    let bytes = text.as_bytes();
+    if !table.allows_some_past_ascii() {
+        return chars_end(NEVER_LOW, NEVER_HIGH, bytes, start);
+    }
+    if bytes.len() < LANES {
         return start;
     }
-    chars_end(NEVER_LOW, NEVER_HIGH, text.as_bytes(), start)
+    run_end(NEVER_LOW, NEVER_HIGH, bytes, start)
+}
+
+/// Returns where a run of characters ends that begins at `start`, and that the table lacks. A `%` at
+/// the end of the run may begin an octet, and is left out.
+#[inline(always)]
+fn lacked_end(table: &Table, text: &str, start: usize) -> usize
+    requires never { (b : ℕ) → has_bit NEVER_LOW NEVER_HIGH b ≡ true
+        → (set_of table.now).ascii b ≡ false }
+    requires boundary { IsCharBoundary text.now start }
+    ensures { IsLackedRun (set_of table.now) text.now start result }
+{
+    let end = never_end(table, text, start);
+    if end == start {
+        return start;
+    }
+    let bytes = text.as_bytes();
+    if bytes[end - 1] == b'%' {
+        return end - 1;
+    }
+    end
 }
 
 /// Writes the character where a scan stopped as octets, and those after it that the table lacks.
@@ -81,7 +106,7 @@ fn encode_run(
     ensures encoded { IfOk result (λ p. IsEncodedBetween (set_of table.now) text.now start p.end) }
 {
     let next = start + char_at(text, start).len_utf8();
-    let end = never_end(table, text, next);
+    let end = lacked_end(table, text, next);
     let at = place_octets(&text.as_bytes()[start..end], at, out)?;
     Ok(Progress {
         end,

@@ -56,7 +56,7 @@ pub(crate) struct Link {
 }
 
 /// Returns whether a text has one of `:/?#`.
-fn has_mark(text: &str) -> bool
+pub(crate) fn has_mark(text: &str) -> bool
     ensures { result ≡ list_any (is_one_of (codes ":/?#")) text.now }
 {
     text.as_bytes()

@@ -19,7 +19,7 @@ ghost use Rattle.uri_mend.specs.Trimming.{trimmed_link};
 
 use crate::component::{Progress, write_run};
 use crate::error::MendError;
-use crate::link::{Link, cut_link, link_of_prefix};
+use crate::link::{Link, cut_link, has_mark, link_of_prefix};
 use crate::tail::mend_tail;
 use crate::trimming::trim_link;
 use fluent_uri::{ParseError, Reference};
@@ -167,17 +167,20 @@ fn link_of_cut<K: Kind>(text: &str) -> Option<Link>
 }
 
 /// Returns where the path of a text begins, or `None` if the text cannot be mended. What is before
-/// the index of its parse error is tried first.
+/// the index of its parse error is tried first, unless it is short and shows no path.
 #[inline(always)]
 fn link_of<K: Kind>(text: &str, index: usize) -> Option<Link>
     requires { IsCharBoundary text.now index }
     ensures link { IfSome result (IsLink text.now) }
     ensures mendable { is_some result ≡ can_be_mended K.kind text.now }
 {
-    if let Ok(prefix) = parsed::<K>(&text[..index]) {
-        let link = link_of_prefix(text, index, prefix.packed_positions());
-        if link.is_some() {
-            return link;
+    let prefix = &text[..index];
+    if index >= LANES || has_mark(prefix) {
+        if let Ok(prefix) = parsed::<K>(prefix) {
+            let link = link_of_prefix(text, index, prefix.packed_positions());
+            if link.is_some() {
+                return link;
+            }
         }
     }
     link_of_cut::<K>(text)
@@ -202,17 +205,22 @@ fn mend_invalid<K: Kind>(
 }
 
 /// Returns a copy of a reference.
+#[inline(always)]
 fn copied<K: Kind>(alloc: Global, core: Core<K, &str>) -> Result<Reference<K, String>, MendError>
     ensures text { IfOk result (λ made. reference_text made ≡ core_text core.entry) }
     ensures memory { IfErr result (λ error. error ≡ OutOfMemory) }
 {
-    match core.to_owned(alloc) {
-        Ok(copy) => Ok(Reference::of_core(copy)),
+    match String::from_str(alloc, core.as_str()) {
+        Ok(copy) => Ok(Reference::of_core(Core::new(
+            copy,
+            core.packed_positions(),
+        ))),
         Err(_) => Err(MendError::OutOfMemory),
     }
 }
 
 /// Returns the reference that a text is mended to, or the text itself if it is one.
+#[inline(always)]
 fn mended_reference<K: Kind>(alloc: Global, text: &str) -> Result<Reference<K, String>, MendError>
     ensures mended { IfOk result (λ made. IsMended K.kind text.now (reference_text made)) }
     ensures refused { IfErr result (IsMendErrorOf K.kind text.now) }

@@ -88,6 +88,22 @@ fn place_block(bytes: &[u8], start: usize, at: usize, out: &mut [u8]) -> usize
     at + BLOCK_LEN
 }
 
+/// Writes bytes as octets, one by one, to a position of a buffer that has room for them. Returns the
+/// position after the octets.
+fn place_few(bytes: &[u8], start: usize, out: &mut [u8]) -> usize
+    requires { start + 3 * length bytes.now ≤ length out.old }
+    ensures end { result ≡ start + 3 * length bytes.now }
+    ensures text { take result out.new ≡ take start out.old ++ print (map Octet bytes.now) }
+{
+    let mut at = start;
+    let mut done = 0;
+    while done < bytes.len() {
+        at = place_octet(bytes[done], at, out);
+        done += 1;
+    }
+    at
+}
+
 /// Writes bytes as octets to a position of a buffer that has room for them and sixteen bytes more,
 /// which may change. Returns the position after the octets.
 fn place_all(bytes: &[u8], start: usize, out: &mut [u8]) -> usize
@@ -95,17 +111,18 @@ fn place_all(bytes: &[u8], start: usize, out: &mut [u8]) -> usize
     ensures end { result ≡ start + 3 * length bytes.now }
     ensures text { take result out.new ≡ take start out.old ++ print (map Octet bytes.now) }
 {
+    if bytes.len() < LANES {
+        return place_few(bytes, start, out);
+    }
     let mut at = start;
     let mut done = 0;
-    while bytes.len() - done >= LANES {
+    while bytes.len() - done > LANES {
         at = place_block(bytes, done, at, out);
         done += LANES;
     }
-    while done < bytes.len() {
-        at = place_octet(bytes[done], at, out);
-        done += 1;
-    }
-    at
+    // The last sixteen bytes, of which some may be written.
+    let last = bytes.len() - LANES;
+    place_block(bytes, last, start + 3 * last, out)
 }
 
 /// Writes bytes as octets to a position of a buffer, which grows as needed. Returns the position

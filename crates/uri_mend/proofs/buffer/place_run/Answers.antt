@@ -1,17 +1,19 @@
-use Rattle.std.proofs.Common.{◌-◌, ◌++◌, take, drop, ap, ◌∙◌, arith}
-use Rattle.std.specs.Simd.Lanes.{chunk}
-use Rattle.std.proofs.lemmas.List.{take-take}
-use Rattle.std.proofs.lemmas.Simd.{length-chunk}
-use Rattle.uri_mend.proofs.Buffers.{prefix-of-placed-block}
+use Rattle.std.proofs.Common.{◌≡◌, ◌+◌, ◌-◌, ◌++◌, take, drop, ap, append_assoc, ◌∙◌, arith}
+use Rattle.uri_mend.proofs.ComponentProgress.{run-goes-on}
 use Rattle.uri_mend.proofs.buffer.place_run.Goals as goal
 
-pub returns-then-bytes-start-ge-LANES-clause-text : goal.returns-then-bytes-start-ge-LANES-clause-text
-returns-then-bytes-start-ge-LANES-clause-text c =
+pub returns-then-len-clause-text : goal.returns-then-len-clause-text
+returns-then-len-clause-text c =
     let bytes = c.args.bytes.now in
     let start = c.args.start in
-    let n = c.args.end - start in
-    let long = length-chunk start 16 bytes (omega (arith, c.if-bytes-start-ge-LANES.true)) in
-    prefix-of-placed-block c.args.at n c.args.out.now (chunk start 16 bytes)
-    (omega (arith, c.requires.room, long)) (omega (arith, c.if-len-le-LANES.true, long))
-    ∙ ap (λ t. take c.args.at c.args.out.now ++ t)
-    (take-take n 16 (drop start bytes) (omega (arith, c.if-len-le-LANES.true)))
+    let end = c.args.end in
+    let before = take c.args.at c.args.out.now in
+    let last = take 16 (drop (end - 16) bytes) in
+    let first : end - start - 16 ≡ end - 16 - start = omega arith in
+    let both : end - 16 + 16 - start ≡ end - start = omega arith in
+    c.place_lanes-then-len.ensures.text
+    ∙ ap (λ t. t ++ last) c.place_lanes-last.ensures.text
+    ∙ append_assoc before (take (end - start - 16) (drop start bytes)) last
+    ∙ ap (λ t. before ++ t) (ap (λ n. take n (drop start bytes) ++ last) first
+    ∙ run-goes-on bytes start (end - 16) 16 (omega arith)
+    ∙ ap (λ n. take n (drop start bytes)) both)

@@ -23,5 +23,5 @@ returns-clause-encoded c =
     subst (λ t. get_or t c.args.from.end 0 < 128) c.as_bytes.ensures.value
     (omega arith) in
     ascii-after-scan-is-encoded (set_of c.args.table.now) (lacks_percent c.args.table.now)
-    c.requires.octets c.requires.never c.args.text.now c.utf8.text c.args.from.end
+    c.requires.octets c.args.text.now c.utf8.text c.args.from.end
     c.requires.progress.boundary c.requires.inside small c.requires.stop

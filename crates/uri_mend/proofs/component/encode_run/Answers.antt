@@ -4,17 +4,16 @@ use Rattle.uri_pct.proofs.TableSets.Percent.{lacks_percent}
 use Rattle.uri_mend.proofs.EncodedRuns.{boundary-after-char, run-after-scan-is-encoded}
 use Rattle.uri_mend.proofs.component.encode_run.Goals as goal
 
-pub never_end-end-requires : goal.never_end-end-requires
-never_end-end-requires c = boundary-after-char c.args.text.now c.args.start c.char_at.result
-    c.len_utf8.result c.utf8.text c.requires.boundary c.char_at.ensures c.len_utf8.ensures.value
+pub lacked_end-end-requires-clause-boundary : goal.lacked_end-end-requires-clause-boundary
+lacked_end-end-requires-clause-boundary c = boundary-after-char c.args.text.now c.args.start
+    c.char_at.result c.len_utf8.result c.utf8.text c.requires.boundary c.char_at.ensures
+    c.len_utf8.ensures.value
 
 pub returns-clause-encoded : goal.returns-clause-encoded
 returns-clause-encoded c =
-    let found = c.never_end-end.ensures in
     run-after-scan-is-encoded (set_of c.args.table.now) (lacks_percent c.args.table.now)
-    c.requires.octets c.requires.never c.args.text.now c.utf8.text c.char_at.result c.args.start
-    (c.args.start + c.len_utf8.result) c.never_end-end.result c.requires.boundary
+    c.requires.octets c.args.text.now c.utf8.text c.char_at.result c.args.start
+    (c.args.start + c.len_utf8.result) c.lacked_end-end.result c.requires.boundary
     (boundary-after-char c.args.text.now c.args.start c.char_at.result c.len_utf8.result c.utf8.text
-    c.requires.boundary c.char_at.ensures c.len_utf8.ensures.value) found.boundary c.char_at.ensures
-    (ap (λ n. c.args.start + n) c.len_utf8.ensures.value) found.from c.requires.stop found.never
-    found.past
+    c.requires.boundary c.char_at.ensures c.len_utf8.ensures.value) c.char_at.ensures
+    (ap (λ n. c.args.start + n) c.len_utf8.ensures.value) c.requires.stop c.lacked_end-end.ensures

@@ -1,17 +1,41 @@
-use Rattle.std.proofs.Common.{◌+◌, ◌-◌, drop, get_or, length-drop, ap, sym, ◌∙◌, arith}
-use Rattle.std.proofs.lemmas.List.{get_or-drop}
+use Rattle.std.proofs.Common.{◌-◌, get_or, ap, sym, ◌∙◌, arith}
+use Rattle.std.specs.Prelude.{nat_le}
+use Rattle.std.proofs.lemmas.Bool.{or_right}
+use Rattle.uri_pct.specs.Masks.{has_bit}
+use Rattle.uri_pct.proofs.TableSets.Masks.{has_bit-only-ascii}
 use Rattle.uri_mend.specs.Progress.{is_never}
-use Rattle.uri_mend.proofs.EncodedRuns.{byte-of-run-is-never, each-of-prefix-passes}
+use Rattle.uri_mend.specs.declared.component.TheConstants.{NEVER_HIGH, NEVER_LOW}
+use Rattle.uri_mend.proofs.EncodedRuns.{ascii-run-ends-at-boundary, byte-of-run-is-never}
 use Rattle.uri_mend.proofs.component.never_end.Goals as goal
 
+pub returns-then-not-allows_some_past_ascii-clause-never
+    : goal.returns-then-not-allows_some_past_ascii-clause-never
+returns-then-not-allows_some_past_ascii-clause-never c k from l =
+    ap (λ t. is_never (get_or t k 0)) (sym c.as_bytes-bytes.ensures.value)
+    ∙ byte-of-run-is-never (get_or c.as_bytes-bytes.result.now k 0)
+    (c.chars_end.ensures.pass k from l)
+
+pub returns-clause-boundary : goal.returns-clause-boundary
+returns-clause-boundary c =
+    let run = c.run_end.ensures in
+    let end = c.run_end.result in
+    ascii-run-ends-at-boundary c.args.text.now c.args.start end c.utf8.text c.requires run.from
+    (omega (arith, run.within, c.as_bytes-bytes.ensures.len))
+    (λ some. has_bit-only-ascii NEVER_LOW NEVER_HIGH _
+    (ap (λ t. has_bit NEVER_LOW NEVER_HIGH (get_or t (end - 1) 0))
+    (sym c.as_bytes-bytes.ensures.value)
+    ∙ run.pass (end - 1) (omega (arith, some)) (omega (arith, some))))
+
 pub returns-clause-never : goal.returns-clause-never
-returns-clause-never c =
-    let text = c.args.text.now in
-    let start = c.args.start in
-    let run = c.chars_end.ensures in
-    each-of-prefix-passes is_never (c.chars_end.result - start) (drop start text)
-    (omega (arith, run.within, length-drop start text, c.as_bytes.ensures.len))
-    (λ k l. ap is_never (get_or-drop start text k 0)
-    ∙ ap (λ t. is_never (get_or t (start + k) 0)) (sym c.as_bytes.ensures.value)
-    ∙ byte-of-run-is-never (get_or c.as_bytes.result.now (start + k) 0)
-    (run.pass (start + k) (omega arith) (omega (arith, run.from, l))))
+returns-clause-never c k from l =
+    let b = get_or c.args.text.now k 0 in
+    or_right (nat_le 128 b) (has_bit NEVER_LOW NEVER_HIGH b)
+    (ap (λ t. has_bit NEVER_LOW NEVER_HIGH (get_or t k 0)) (sym c.as_bytes-bytes.ensures.value)
+    ∙ c.run_end.ensures.pass k from l)
+
+pub returns-clause-past : goal.returns-clause-past
+returns-clause-past c k from l past =
+    let low = has_bit-only-ascii NEVER_LOW NEVER_HIGH (get_or c.args.text.now k 0)
+    (ap (λ t. has_bit NEVER_LOW NEVER_HIGH (get_or t k 0)) (sym c.as_bytes-bytes.ensures.value)
+    ∙ c.run_end.ensures.pass k from l) in
+    absurd (omega (arith, low, past))

@@ -12,7 +12,7 @@ link_of_prefix-link-requires-clause-scheme g c =
     let index = c.args.index in
     let cut : slice_range text 0 index ≡ take index text = grind arith in
     text-of-kind-has-no-false-scheme kind (take index text)
-    (subst (IsOfKind kind) (c.in-Ok.ensures.text ∙ c.range.ensures.value ∙ cut)
+    (subst (IsOfKind kind) (c.in-Ok.ensures.text ∙ c.range-prefix.ensures.value ∙ cut)
     c.in-Ok.prefix.of_kind)
 
 pub returns-then-is_some-clause-mendable : goal.returns-then-is_some-clause-mendable
@@ -24,5 +24,5 @@ returns-then-is_some-clause-mendable g c =
     let some = sym c.is_some.ensures ∙ c.if-is_some.true in
     some ∙ sym (holds-where-some c.link_of_prefix-link.result _
     c.link_of_prefix-link.ensures.mendable some kind
-    (subst (IsOfKind kind) (c.in-Ok.ensures.text ∙ c.range.ensures.value ∙ cut)
+    (subst (IsOfKind kind) (c.in-Ok.ensures.text ∙ c.range-prefix.ensures.value ∙ cut)
     c.in-Ok.prefix.of_kind))

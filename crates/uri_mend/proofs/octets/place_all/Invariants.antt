@@ -11,13 +11,3 @@ invariant-loop-done l = record {
 
 abbrev pub decreases-loop-done : goal.decreases-loop-done
 decreases-loop-done l = length l.bytes - l.done
-
-abbrev pub invariant-loop-done-2 : goal.invariant-loop-done-2
-invariant-loop-done-2 l = record {
-  inside : l.done ≤ length l.bytes;
-  at : l.at ≡ l.start + 3 * l.done;
-  text : take l.at l.out ≡ take l.start l.fn.out ++ print (map Octet (take l.done l.bytes));
-}
-
-abbrev pub decreases-loop-done-2 : goal.decreases-loop-done-2
-decreases-loop-done-2 l = length l.bytes - l.done
