@@ -68,7 +68,7 @@ replaced-prefix-shortens : (n : ℕ) (buffer : List ℕ) → 1 < n → n ≤ len
 replaced-prefix-shortens n buffer more within = omega (arith, more, within, length-drop n buffer)
 
 -- removing dot segments: each pass of the loop shortens the input buffer
-pub step-shortens-input : (b : Buffers) → is_empty b.input ≡ false
+step-shortens-input : (b : Buffers) → is_empty b.input ≡ false
     → length (step b).input < length b.input
 step-shortens-input b e =
     let some = not-empty-has-length b.input e in

@@ -56,7 +56,7 @@ removal-by-segments s rest lack =
 
 -- removing dot segments: what holds of what is kept, if each way to change it keeps that: Q of
 -- directories, and R of the path at last; each segment passes the test
-pub kept-segments-keep : (Q R : List ℕ → Type 0) (test : List ℕ → Bool)
+kept-segments-keep : (Q R : List ℕ → Type 0) (test : List ℕ → Bool)
     → ((kept s : List ℕ) → Q kept → test s ≡ true → Q (kept ++ (s ++ codes "/")))
     → ((kept s : List ℕ) → Q kept → test s ≡ true → R (kept ++ s))
     → ((kept : List ℕ) → Q kept → Q (parent kept))
@@ -112,7 +112,7 @@ bytes-of-segments-pass p s (t ∷ rest) e =
 
 -- removing dot segments: the bytes that are left of any path pass a test that `/` (47) and the path
 -- pass
-pub bytes-without-dots-pass : (p : ℕ → Bool) → p 47 ≡ true → (path : List ℕ)
+bytes-without-dots-pass : (p : ℕ → Bool) → p 47 ≡ true → (path : List ℕ)
     → list_all p path ≡ true → list_all p (remove_dot_segments path) ≡ true
 bytes-without-dots-pass p slash = property-of-path-by-segments
     (λ path. list_all p path ≡ true → list_all p (remove_dot_segments path) ≡ true)

@@ -33,7 +33,7 @@ no-byte-is-slash (c ∷ text) h = or_from (c == 47) (has_slash text)
     (no-byte-is-slash text (λ k l e. h (suc k) (omega arith) e))
 
 -- paths: no `/` is in a text from a position on if no byte from there on is one
-pub suffix-has-no-slash : (text : List ℕ) (i : ℕ)
+suffix-has-no-slash : (text : List ℕ) (i : ℕ)
     → ((k : ℕ) → i ≤ k → k < length text → get_or text k 0 ≡ 47 → ⊥)
     → has_slash (drop i text) ≡ false
 suffix-has-no-slash text i h = no-byte-is-slash (drop i text)

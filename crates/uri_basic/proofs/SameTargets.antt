@@ -80,7 +80,7 @@ present-component-is-not-absent None h = absurd (false≢true h)
 present-component-is-not-absent (Some x) h = refl
 
 -- targets: where nothing deviates, the target is that of `Resolver`
-pub same-targets : (base r : Components) → NothingDeviates base r → target_of base r ≡ target base r
+same-targets : (base r : Components) → NothingDeviates base r → target_of base r ≡ target base r
 same-targets base r n =
     let D : Components → Type 0 = λ d. starts 47 d.path ≡ true
     → has_encoded_dot_segment d.path ≡ false in

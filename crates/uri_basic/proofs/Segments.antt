@@ -32,7 +32,7 @@ text-with-slash-is-not-empty [] y = refl
 text-with-slash-is-not-empty (c ∷ x) y = refl
 
 -- removing dot segments: the buffers after a directory
-pub buffers-at-directory : (p q : List ℕ)
+buffers-at-directory : (p q : List ℕ)
     → buffers_at (p ++ codes "/") q ≡ record { input = 47 ∷ q; output = p }
 unfolding buffers_at
 buffers-at-directory p q =
@@ -52,13 +52,13 @@ unfolding parent
 parent-of-nothing = refl
 
 -- removing dot segments: the path that is left after a directory
-pub path-left-after-directory : (p q : List ℕ)
+path-left-after-directory : (p q : List ℕ)
     → path_left (p ++ codes "/") q ≡ output_of (record { input = 47 ∷ q; output = p })
 unfolding path_left
 path-left-after-directory p q = ap output_of (buffers-at-directory p q)
 
 -- removing dot segments: the path that is left after nothing
-pub path-left-after-nothing : (q : List ℕ)
+path-left-after-nothing : (q : List ℕ)
     → path_left [] q ≡ output_of (record { input = q; output = [] })
 unfolding path_left buffers_at
 path-left-after-nothing q = refl

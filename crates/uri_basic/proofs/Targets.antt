@@ -197,7 +197,7 @@ unambiguous-path-is-no-authority (Some a) path h = tt
 
 -- targets: the components of a target's text are those of the target, if its path is not parsed as
 -- an authority (RFC 3986, sections 3.3, 5.2.2 and 5.3)
-pub basic-target-has-its-components : (base reference : List ℕ)
+basic-target-has-its-components : (base reference : List ℕ)
     → is_some (components base).scheme ≡ true
     → is_ambiguous (target (components base) (components reference)) ≡ false
     → components (recompose (target (components base) (components reference)))
@@ -288,7 +288,7 @@ module _ (kind : Kind) (sets : HasComponentSets kind) where
       }))))
 
   -- targets: a target is a text of its base's kind, if its path is not parsed as an authority
-  pub basic-target-is-of-kind : (base reference : List ℕ) → kind.needs_scheme ≡ true
+  basic-target-is-of-kind : (base reference : List ℕ) → kind.needs_scheme ≡ true
       → IsTextOf kind base → IsTextOf (reference_kind kind) reference
       → is_ambiguous (target (components base) (components reference)) ≡ false
       → IsTextOf kind (recompose (target (components base) (components reference)))
