@@ -21,6 +21,7 @@ The words are a command of `uritool` (parse, normalize, resolve, links), or one 
                                     the normal form under the rules of schemes: `normalize`,
                                     `by-default`, or with `strictly` without underflow, and its
                                     `path`; that of a target
+    basic URI REFERENCE             the target by the basic algorithm
     lines OPTION.. WORD.. INPUT     what `urilines` makes of an input: how many lines and errors,
                                     and both outputs (`shows/lines.txt` has the options)
     recipe NAME WORD..              what a program of `cookbook` returns or writes
@@ -63,6 +64,7 @@ DEPS = (
     "uri_mend",
     "uri_links",
     "uri_rules",
+    "uri_basic",
     "fluent_uri",
     "uri_parts",
     "uri_pct",

@@ -5,6 +5,8 @@
 #[cfg(test)]
 mod awaits;
 #[cfg(test)]
+mod basic;
+#[cfg(test)]
 mod building;
 #[cfg(test)]
 mod commands;

@@ -7,6 +7,7 @@ use fluent_uri::pct_enc::DecodeError;
 use fluent_uri::resolve::ResolveError;
 use std::alloc::{AllocError, Global};
 use std::process::Abort;
+use uri_basic::BasicResolveError;
 
 /// An error that may say that an allocation failed.
 pub trait MayBeOutOfMemory {
@@ -46,6 +47,14 @@ impl MayBeOutOfMemory for ResolveError {
     /// Returns whether the error of resolving in a test of denied memory is `OutOfMemory`.
     fn is_out_of_memory(&self) -> bool {
         matches!(*self, ResolveError::OutOfMemory)
+    }
+}
+
+impl MayBeOutOfMemory for BasicResolveError {
+    /// Returns whether the error of the basic algorithm in a test of denied memory is
+    /// `OutOfMemory`.
+    fn is_out_of_memory(&self) -> bool {
+        matches!(*self, BasicResolveError::OutOfMemory)
     }
 }
 

@@ -1,5 +1,5 @@
 -- The loop of section 5.2.4: each pass shortens the input buffer, so that the loop empties it.
-use Rattle.std.proofs.Common.{◌≡◌, ℕ, zero, suc, ◌+◌, ◌<◌, ◌≤◌, true, false, not, List, [], ◌∷◌}
+use Rattle.std.proofs.Common.{◌≡◌, ℕ, zero, suc, ◌<◌, ◌≤◌, true, false, not, List, [], ◌∷◌}
 use Rattle.std.proofs.Common.{◌++◌, length, take, drop, refl, sym, ap, ◌∙◌, arith, ⊎_elim, ◌||◌}
 use Rattle.std.specs.Prelude.{◌==◌}
 use Rattle.std.specs.Prelude.{codes, bytes_eq}
@@ -7,12 +7,12 @@ use Rattle.std.specs.List.{prefix_len}
 use Rattle.std.proofs.lemmas.Bool.{cases_Bool, cond-true, cond-false, cond_both, false≢true}
 use Rattle.std.proofs.lemmas.Bool.{not_from_false}
 use Rattle.std.proofs.lemmas.Bool.Decides.{nat_tests}
-use Rattle.std.proofs.lemmas.List.{length-drop, length-take, length-append, nil_from_length}
+use Rattle.std.proofs.lemmas.List.{length-drop, length-take, nil_from_length}
 use Rattle.std.proofs.lemmas.Slice.Eq.{bytes_eq-Decides}
 use Rattle.uri_pct.specs.Sets.{is_one_of}
 use Rattle.uri_parts.specs.Components.{from_any, starts}
 use Rattle.uri_ops.specs.Dots.{is_empty}
-use Rattle.uri_ops.proofs.Paths.DotRuns.{empty-text-is-nil, not-empty-has-length}
+use Rattle.uri_ops.proofs.Paths.DotRuns.{not-empty-has-length}
 use Rattle.uri_basic.specs.Removal.{Buffers, after_first_segment, has_prefix, output_of, run, step}
 
 -- removing dot segments: two texts that pass the test of equality have equal lengths
@@ -56,7 +56,8 @@ buffer-after-first-segment-is-shorter : (buffer : List ℕ) → is_empty buffer 
 buffer-after-first-segment-is-shorter buffer e =
     let some = not-empty-has-length buffer e in
     let n = prefix_len (λ c. not (is_one_of (codes "/") c)) (drop 1 buffer) in
-    cond_both (starts 47 buffer) (from_any (codes "/") (drop 1 buffer)) (from_any (codes "/") buffer)
+    cond_both (starts 47 buffer) (from_any (codes "/") (drop 1 buffer))
+    (from_any (codes "/") buffer)
     (λ t. length t < length buffer)
     (λ _. omega (arith, some, length-drop n (drop 1 buffer), length-drop 1 buffer))
     (λ f. buffer-after-rootless-segment-is-shorter buffer e f)
@@ -67,7 +68,7 @@ replaced-prefix-shortens : (n : ℕ) (buffer : List ℕ) → 1 < n → n ≤ len
 replaced-prefix-shortens n buffer more within = omega (arith, more, within, length-drop n buffer)
 
 -- removing dot segments: each pass of the loop shortens the input buffer
-pub step-shortens-input : (b : Buffers) → is_empty b.input ≡ false
+step-shortens-input : (b : Buffers) → is_empty b.input ≡ false
     → length (step b).input < length b.input
 step-shortens-input b e =
     let some = not-empty-has-length b.input e in

@@ -1,15 +1,17 @@
 -- What holds of a path without its dot segments, by its segments.
-use Rattle.std.proofs.Common.{◌≡◌, ℕ, Bool, true, false, not, List, [], ◌∷◌, ◌++◌, drop, refl, sym, ap}
-use Rattle.std.proofs.Common.{subst, ◌∙◌, ◌&&◌, append_assoc, cond, inl, inr, ⊎_elim, rules}
+use Rattle.std.proofs.Common.{◌≡◌, ℕ, Bool, true, false, not, List, [], ◌∷◌}
+use Rattle.std.proofs.Common.{◌++◌, drop, refl, sym, ap}
+use Rattle.std.proofs.Common.{subst, ◌∙◌, append_assoc, cond, inl, inr, ⊎_elim, rules}
 use Rattle.std.specs.Prelude.{codes, ◌==◌}
 use Rattle.std.specs.List.{list_all}
-use Rattle.std.proofs.lemmas.Bool.{and_from, and_parts, cases_Bool, cond-true, cond-false, cond_both}
+use Rattle.std.proofs.lemmas.Bool.{and_from, and_parts, cases_Bool, cond-true}
+use Rattle.std.proofs.lemmas.Bool.{cond-false, cond_both}
 use Rattle.std.proofs.lemmas.Bool.{eqb-true, false≢true, or_cases, or_parts}
 use Rattle.std.proofs.lemmas.List.{append-nil}
 use Rattle.std.proofs.lemmas.List.Folds.{list_all-append}
 use Rattle.uri_pct.specs.Sets.{TableSet, is_one_of}
 use Rattle.uri_parts.specs.Components.{IsAbemptyPath, Lacks}
-use Rattle.uri_ops.specs.Dots.{EndsInSlash, IsAbsolute, before_last_slash, has_slash, is_empty}
+use Rattle.uri_ops.specs.Dots.{IsAbsolute, before_last_slash, has_slash, is_empty}
 use Rattle.uri_ops.specs.Dots.{last_segment, segments}
 use Rattle.uri_ops.proofs.Meanings.AllowedParts.{empty-text-is-set-text, is_set_text}
 use Rattle.uri_ops.proofs.Paths.DecodedPaths.{set-text-splits, set-texts-join-at-slash}
@@ -24,7 +26,7 @@ use Rattle.uri_ops.proofs.Targeting.Targets.{appended-absolute-path-is-absolute}
 use Rattle.uri_pct.proofs.Tests.{eq_true_from_IsTrue}
 use Rattle.uri_basic.specs.Models.Directories.{IsDirectoryOrNothing, after_segment, parent}
 use Rattle.uri_basic.specs.Removal.{remove_dot_segments}
-use Rattle.uri_basic.proofs.Segments.{after-segment-keeps, directory-after-segment, kept_of}
+use Rattle.uri_basic.proofs.Segments.{after-segment-keeps, kept_of}
 use Rattle.uri_basic.proofs.Segments.{path-left-by-segments, path-left-of-path}
 use Rattle.uri_basic.proofs.Segments.{parent-is-directory}
 
@@ -54,7 +56,7 @@ removal-by-segments s rest lack =
 
 -- removing dot segments: what holds of what is kept, if each way to change it keeps that: Q of
 -- directories, and R of the path at last; each segment passes the test
-pub kept-segments-keep : (Q R : List ℕ → Type 0) (test : List ℕ → Bool)
+kept-segments-keep : (Q R : List ℕ → Type 0) (test : List ℕ → Bool)
     → ((kept s : List ℕ) → Q kept → test s ≡ true → Q (kept ++ (s ++ codes "/")))
     → ((kept s : List ℕ) → Q kept → test s ≡ true → R (kept ++ s))
     → ((kept : List ℕ) → Q kept → Q (parent kept))
@@ -110,7 +112,7 @@ bytes-of-segments-pass p s (t ∷ rest) e =
 
 -- removing dot segments: the bytes that are left of any path pass a test that `/` (47) and the path
 -- pass
-pub bytes-without-dots-pass : (p : ℕ → Bool) → p 47 ≡ true → (path : List ℕ)
+bytes-without-dots-pass : (p : ℕ → Bool) → p 47 ≡ true → (path : List ℕ)
     → list_all p path ≡ true → list_all p (remove_dot_segments path) ≡ true
 bytes-without-dots-pass p slash = property-of-path-by-segments
     (λ path. list_all p path ≡ true → list_all p (remove_dot_segments path) ≡ true)

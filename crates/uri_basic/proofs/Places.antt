@@ -1,5 +1,5 @@
 -- Where the last segment of a path begins, by its positions.
-use Rattle.std.proofs.Common.{◌≡◌, ℕ, zero, suc, ◌+◌, ◌-◌, ◌<◌, ◌≤◌, true, false, ◌⊎◌, List, [], ◌∷◌}
+use Rattle.std.proofs.Common.{◌≡◌, ℕ, zero, suc, ◌+◌, ◌-◌, ◌<◌, ◌≤◌, false, ◌⊎◌, List, [], ◌∷◌}
 use Rattle.std.proofs.Common.{◌++◌, length, take, drop, get_or, refl, sym, ap, subst, ◌∙◌, arith}
 use Rattle.std.proofs.Common.{append_assoc, eqb, inl, inr, not, ⊎_elim, drop-cons}
 use Rattle.std.specs.Prelude.{codes, ◌==◌}
@@ -7,14 +7,14 @@ use Rattle.std.proofs.Math.Seq.{take-add}
 use Rattle.std.proofs.lemmas.Bool.{cases_Bool, cond-true, cond-false, ne_eqb, or_from, or_parts}
 use Rattle.std.proofs.lemmas.Bool.{eq-eqb, eqb-true, false≢true, not-false, not_from_true}
 use Rattle.std.proofs.lemmas.List.{append-nil, drop_all, get_or-drop, get_or_append_left}
-use Rattle.std.proofs.lemmas.List.{length-append, length-drop, length-take-le, nil_from_length}
+use Rattle.std.proofs.lemmas.List.{length-append, length-drop, length-take-le}
 use Rattle.std.proofs.lemmas.List.{take-append-drop, take-append-le, take_at, drop_at}
 use Rattle.std.proofs.lemmas.List.{get_or-take, length-take, take_more}
 use Rattle.std.proofs.lemmas.Str.{IsCharBoundary-after_ascii, IsCharBoundary-from_take}
 use Rattle.std.specs.Prelude.{slice_range}
 use Rattle.std.specs.Str.{IsCharBoundary, IsUtf8}
 use Rattle.uri_pct.specs.Models.ByteRuns.{IsLongestRun}
-use Rattle.uri_ops.specs.Dots.{EndsInSlash, before_last_slash, has_slash, is_empty}
+use Rattle.uri_ops.specs.Dots.{EndsInSlash, before_last_slash, has_slash}
 use Rattle.uri_ops.specs.Dots.{up_to_last_slash}
 use Rattle.uri_ops.proofs.Paths.SlashedSegments.{slash-in-suffix-is-in-append}
 use Rattle.uri_basic.specs.Models.Directories.{IsDirectoryOrNothing, after_segment, parent}
@@ -33,7 +33,7 @@ no-byte-is-slash (c ∷ text) h = or_from (c == 47) (has_slash text)
     (no-byte-is-slash text (λ k l e. h (suc k) (omega arith) e))
 
 -- paths: no `/` is in a text from a position on if no byte from there on is one
-pub suffix-has-no-slash : (text : List ℕ) (i : ℕ)
+suffix-has-no-slash : (text : List ℕ) (i : ℕ)
     → ((k : ℕ) → i ≤ k → k < length text → get_or text k 0 ≡ 47 → ⊥)
     → has_slash (drop i text) ≡ false
 suffix-has-no-slash text i h = no-byte-is-slash (drop i text)
@@ -95,7 +95,8 @@ last-segment-begins-after-prefix d i ends within none place =
     (⊎_elim (λ e. inl e)
     (λ a. inr (a.0, sym (byte (i - 1) (omega (arith, within, long, a.0))) ∙ a.1))
     place)
-    ∙ ap up_to_last_slash (sym (ap before_last_slash ends.1 ∙ before-last-slash-is-prefix p [] refl))
+    ∙ ap up_to_last_slash
+    (sym (ap before_last_slash ends.1 ∙ before-last-slash-is-prefix p [] refl))
 
 -- paths: nothing is before the last `/` of a text without one
 before-last-slash-of-segment : (p : List ℕ) → has_slash p ≡ false → before_last_slash p ≡ []
@@ -179,7 +180,8 @@ pub position-of-last-segment-is-boundary : (text : List ℕ) (start n : ℕ) →
     → IsUtf8 (take start text) → start ≤ length text → n < length (drop start text)
     → (0 < n → get_or (drop start text) (n - 1) 0 ≡ 47) → IsCharBoundary text (start + n)
 position-of-last-segment-is-boundary text start zero whole prefix within inside slash =
-    subst (IsCharBoundary text) (omega arith) (IsCharBoundary-from_take text start whole within prefix)
+    subst (IsCharBoundary text) (omega arith)
+    (IsCharBoundary-from_take text start whole within prefix)
 position-of-last-segment-is-boundary text start (suc n) whole prefix within inside slash =
     let long : suc n < length text - start = omega (arith, inside, length-drop start text) in
     let at : get_or text (start + n) 0 ≡ 47 =

@@ -1,6 +1,6 @@
 -- Where removing dot segments of section 5.2.4 is removing those of `Resolver`, or changes nothing.
-use Rattle.std.proofs.Common.{◌≡◌, ℕ, Bool, true, false, not, List, [], ◌∷◌, ◌++◌, refl, sym, ap}
-use Rattle.std.proofs.Common.{◌∙◌, ◌&&◌, ◌||◌, append_assoc, ⊎_elim}
+use Rattle.std.proofs.Common.{◌≡◌, ℕ, true, false, not, List, [], ◌∷◌, ◌++◌, refl, sym, ap}
+use Rattle.std.proofs.Common.{◌∙◌, ◌&&◌, append_assoc, ⊎_elim}
 use Rattle.std.specs.Prelude.{bytes_eq, codes}
 use Rattle.std.specs.List.{list_any}
 use Rattle.std.proofs.lemmas.Bool.{cases_Bool, cond-true, cond-false, and_cases, both_ways}
@@ -21,7 +21,7 @@ use Rattle.uri_ops.proofs.Paths.SlashedSegments.{slash-in-suffix-is-in-append, s
 use Rattle.uri_ops.proofs.Paths.SlashedSegments.{slashed-of-push}
 use Rattle.uri_basic.specs.Deviations.{has_encoded_dot_segment, has_literal_dot_segment}
 use Rattle.uri_basic.specs.Deviations.{is_literal_dot_segment}
-use Rattle.uri_basic.specs.Models.Directories.{after_segment, parent}
+use Rattle.uri_basic.specs.Models.Directories.{after_segment}
 use Rattle.uri_basic.specs.Removal.{remove_dot_segments}
 use Rattle.uri_basic.proofs.Kept.{property-of-path-by-segments, removal-by-segments, root-is-kept}
 use Rattle.uri_basic.proofs.Segments.{after-segment-by-test, kept_of, parent-of-directory}

@@ -1,22 +1,24 @@
 -- Where nothing deviates, the basic algorithm and `Resolver` have the same target.
-use Rattle.std.proofs.Common.{◌≡◌, ℕ, Bool, true, false, not, List, [], ◌++◌, refl, sym, ap, subst}
+use Rattle.std.proofs.Common.{◌≡◌, ℕ, true, false, not, List, [], ◌++◌, refl, sym, ap, subst}
 use Rattle.std.proofs.Common.{◌∙◌, ◌&&◌, ⊎_elim}
-use Rattle.std.specs.Prelude.{None, Ok, Option, Some, codes, is_none, is_some}
+use Rattle.std.specs.Prelude.{None, Ok, Option, Result, Some, is_none, is_some}
 use Rattle.std.proofs.lemmas.Bool.{and_from, and_right, cases_Bool, cond-true, cond-false}
 use Rattle.std.proofs.lemmas.Bool.{and_left, false≢true, not_from_false}
-use Rattle.uri_parts.specs.Components.{Components, has_authority, recompose, starts}
+use Rattle.uri_parts.specs.Components.{Components, components, has_authority, recompose, starts}
 use Rattle.uri_parts.proofs.Splitting.Recompose.{equal-to-true-is-IsTrue}
-use Rattle.uri_ops.specs.Dots.{directory, is_double_dot, is_empty, last_segment, up_to_last_slash}
+use Rattle.uri_ops.specs.Dots.{directory, is_double_dot, is_empty, last_segment}
 use Rattle.uri_ops.specs.Target.{dotless_if_absolute, dotted_target, guarded, is_opaque, merged}
-use Rattle.uri_ops.specs.Target.{resolution_of, target_of}
+use Rattle.uri_ops.specs.Target.{TargetError, resolution_of, target_of}
 use Rattle.uri_ops.proofs.Paths.DotLaws.{remove-dots-of-dotless}
 use Rattle.uri_ops.proofs.Paths.DotRuns.{empty-text-is-nil}
 use Rattle.uri_ops.proofs.Targeting.Swaps.{merging-base-is-not-opaque}
 use Rattle.uri_pct.proofs.Tests.{not_some_is_none}
 use Rattle.uri_basic.specs.Deviations.{NothingDeviates, has_encoded_dot_segment}
 use Rattle.uri_basic.specs.Deviations.{has_literal_dot_segment, is_merged, takes_base_path}
+use Rattle.uri_relative.specs.Leading.{LeadsTo, settled, without_fragment}
 use Rattle.uri_basic.specs.Removal.{remove_dot_segments}
-use Rattle.uri_basic.specs.Target.{basic_resolution, is_ambiguous, merge, target}
+use Rattle.uri_basic.specs.Target.{basic_resolution, basic_resolution_of_texts, is_ambiguous, merge}
+use Rattle.uri_basic.specs.Target.{target}
 use Rattle.uri_basic.proofs.SameRemovals.{removal-of-path-without-dots, same-removal}
 
 -- targets: the path without its dot segments is the same if nothing deviates
@@ -78,7 +80,7 @@ present-component-is-not-absent None h = absurd (false≢true h)
 present-component-is-not-absent (Some x) h = refl
 
 -- targets: where nothing deviates, the target is that of `Resolver`
-pub same-targets : (base r : Components) → NothingDeviates base r → target_of base r ≡ target base r
+same-targets : (base r : Components) → NothingDeviates base r → target_of base r ≡ target base r
 same-targets base r n =
     let D : Components → Type 0 = λ d. starts 47 d.path ≡ true
     → has_encoded_dot_segment d.path ≡ false in
@@ -86,7 +88,8 @@ same-targets base r n =
     → has_literal_dot_segment d.path ≡ false in
     ⊎_elim
     (λ s.
-    let own : takes_base_path r ≡ false = and_left _ _ (and_left _ _ (present-component-is-not-absent r.scheme s)) in
+    let own : takes_base_path r ≡ false =
+    and_left _ _ (and_left _ _ (present-component-is-not-absent r.scheme s)) in
     let d : dotted_target base r ≡ r = cond-true _ _ _ s in
     same-target base r r _ d (cond-true _ _ _ s) (remove_dot_segments r.path)
     (same-path-without-dots r.path (subst D d (n.literal own)) (subst L d (n.rootless own)))
@@ -157,3 +160,18 @@ same-resolutions base r n = (
       ∙ ap (λ t. Ok (recompose t)) (same-targets base r n),
   cond-false _ _ _ n.unguarded,
 )
+
+-- general fact on results, for targets: two values of the same result are equal
+equal-results-have-equal-texts : (result : Result (List ℕ) TargetError) (text other : List ℕ)
+    → result ≡ Ok text → result ≡ Ok other → text ≡ other
+equal-results-have-equal-texts result text other e f = cc
+
+-- references that lead to a target: where nothing deviates, they do so by the basic algorithm too
+pub leading-reference-resolves : (base target reference : List ℕ) → LeadsTo base target reference
+    → NothingDeviates (without_fragment (components base)) (components reference)
+    → basic_resolution_of_texts base reference ≡ Ok (recompose (settled target))
+leading-reference-resolves base target reference leads nothing =
+    let same = same-resolutions (without_fragment (components base)) (components reference)
+    nothing in
+    same.1
+    ∙ ap (λ t. Ok t) (equal-results-have-equal-texts _ _ _ same.0 leads.leads)

@@ -1,20 +1,19 @@
 -- Removing dot segments segment by segment, as the code does: the path that is left of a directory
 -- and the rest of a path.
-use Rattle.std.proofs.Common.{◌≡◌, ℕ, true, false, List, [], ◌∷◌, ◌++◌, refl, sym, ap, subst, ◌∙◌}
+use Rattle.std.proofs.Common.{◌≡◌, ℕ, true, false, List, [], ◌∷◌, ◌++◌, refl, sym, ap, ◌∙◌}
 use Rattle.std.proofs.Common.{append_assoc, inl, inr, ⊎_elim}
 use Rattle.std.specs.Prelude.{codes, bytes_eq}
 use Rattle.std.proofs.lemmas.Bool.{cases_Bool, cond-true, cond-false, cond_both, or_parts}
 use Rattle.std.proofs.lemmas.List.{append-nil}
 use Rattle.std.proofs.lemmas.Slice.Eq.{bytes_eq-Decides}
-use Rattle.uri_ops.specs.Dots.{EndsInSlash, before_last_slash, has_slash, is_empty, segments}
-use Rattle.uri_ops.specs.Dots.{up_to_last_slash}
+use Rattle.uri_ops.specs.Dots.{before_last_slash, has_slash, is_empty}
 use Rattle.uri_ops.proofs.Paths.SlashedSegments.{NoSlashes, first-segment-and-rest-lack-slashes}
 use Rattle.uri_ops.proofs.Paths.SlashedSegments.{slash-in-suffix-is-in-append, slashed}
-use Rattle.uri_basic.specs.Removal.{Buffers, has_prefix, output_of, remove_dot_segments, run, step}
+use Rattle.uri_basic.specs.Removal.{output_of, remove_dot_segments}
 use Rattle.uri_basic.specs.Models.Directories.{IsDirectoryOrNothing, after_segment, buffers_at}
 use Rattle.uri_basic.specs.Models.Directories.{parent, path_left}
 use Rattle.uri_basic.proofs.Buffers.{output-after-step, output-of-empty-input}
-use Rattle.uri_basic.proofs.Steps.{BeginsWithNoDots, last-segment-is-text}
+use Rattle.uri_basic.proofs.Steps.{last-segment-is-text}
 use Rattle.uri_basic.proofs.Steps.{other-last-segment-begins-with-no-dots}
 use Rattle.uri_basic.proofs.Steps.{other-segment-begins-with-no-dots, output-after-rooted-segment}
 use Rattle.uri_basic.proofs.Steps.{output-after-rootless-segment, segment-ends-before-slash}
@@ -33,7 +32,7 @@ text-with-slash-is-not-empty [] y = refl
 text-with-slash-is-not-empty (c ∷ x) y = refl
 
 -- removing dot segments: the buffers after a directory
-pub buffers-at-directory : (p q : List ℕ)
+buffers-at-directory : (p q : List ℕ)
     → buffers_at (p ++ codes "/") q ≡ record { input = 47 ∷ q; output = p }
 unfolding buffers_at
 buffers-at-directory p q =
@@ -53,13 +52,13 @@ unfolding parent
 parent-of-nothing = refl
 
 -- removing dot segments: the path that is left after a directory
-pub path-left-after-directory : (p q : List ℕ)
+path-left-after-directory : (p q : List ℕ)
     → path_left (p ++ codes "/") q ≡ output_of (record { input = 47 ∷ q; output = p })
 unfolding path_left
 path-left-after-directory p q = ap output_of (buffers-at-directory p q)
 
 -- removing dot segments: the path that is left after nothing
-pub path-left-after-nothing : (q : List ℕ)
+path-left-after-nothing : (q : List ℕ)
     → path_left [] q ≡ output_of (record { input = q; output = [] })
 unfolding path_left buffers_at
 path-left-after-nothing q = refl

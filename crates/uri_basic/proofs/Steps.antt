@@ -1,14 +1,14 @@
 -- One segment of a path in the loop of section 5.2.4.
 use Rattle.std.proofs.Common.{◌≡◌, ℕ, suc, Bool, true, false, not, List, [], ◌∷◌, ◌++◌, take, drop}
-use Rattle.std.proofs.Common.{refl, sym, ap, ◌∙◌, ◌&&◌, ◌||◌, append_assoc, arith}
+use Rattle.std.proofs.Common.{refl, sym, ap, ◌∙◌, ◌&&◌, arith}
 use Rattle.std.specs.Prelude.{codes, bytes_eq, ◌==◌}
 use Rattle.std.specs.List.{prefix_len}
 use Rattle.std.proofs.lemmas.Bool.{cond-true, cond-false, and_left, and_right, false≢true, or_parts}
-use Rattle.std.proofs.lemmas.Bool.{not_from_false, or_from}
+use Rattle.std.proofs.lemmas.Bool.{or_from}
 use Rattle.uri_pct.specs.Sets.{is_one_of}
 use Rattle.uri_parts.specs.Components.{before_any, from_any}
-use Rattle.uri_ops.specs.Dots.{before_last_slash, has_slash, is_empty}
-use Rattle.uri_basic.specs.Removal.{Buffers, has_prefix, output_of, step}
+use Rattle.uri_ops.specs.Dots.{has_slash}
+use Rattle.uri_basic.specs.Removal.{has_prefix, output_of, step}
 use Rattle.uri_basic.proofs.Buffers.{other-byte-ends-no-segment, output-after-step}
 
 -- dot segments: the text begins with no dot segment, whether a `/` or its end is after that
@@ -137,7 +137,8 @@ step-moves-rootless-segment c text output e f =
     ∙ cond-false _ _ _ (and_left (c == 47) _ e) ∙ cond-false _ _ _ (and_left (c == 47) _ e)
     ∙ cond-false _ _ _ (or_from _ _ f.single f.double)
     ∙ (λ i. record {
-      input = cond-false (c == 47) (from_any (codes "/") text) (from_any (codes "/") (c ∷ text)) e i;
+      input = cond-false (c == 47) (from_any (codes "/") text)
+          (from_any (codes "/") (c ∷ text)) e i;
       output = output ++ cond-false (c == 47) (codes "/" ++ before_any (codes "/") text)
           (before_any (codes "/") (c ∷ text)) e i;
     })

@@ -1,6 +1,10 @@
 -- The examples of RFC 3986, section 5.4, by computation.
 use Rattle.std.proofs.Common.{◌≡◌, ℕ, List, refl, Ok, Err}
 use Rattle.std.specs.Prelude.{codes}
+use Rattle.std.proofs.lemmas.Bool.{false≢true, true≢false}
+use Rattle.uri_parts.specs.Components.{components}
+use Rattle.uri_ops.specs.Dots.{directory}
+use Rattle.uri_basic.specs.Deviations.{NothingDeviates}
 use Rattle.uri_basic.specs.Removal.{remove_dot_segments, output_of, run}
 use Rattle.uri_basic.specs.Target.{basic_resolution_of_texts, PathStartsWithDoubleSlash}
 
@@ -127,3 +131,17 @@ deviating-examples :
     × (basic_resolution_of_texts (codes "foo:/a") (codes ".//b") ≡ Err PathStartsWithDoubleSlash)
 unfolding IsBasicTarget remove_dot_segments output_of run
 deviating-examples = (refl, refl, refl, refl, refl, refl, refl)
+
+-- examples of targets: no difference concerns `../g` and the base of section 5.4
+nothing-deviates-in-an-example :
+    NothingDeviates (components (codes "http://a/b/c/d;p?q")) (components (codes "../g"))
+unfolding remove_dot_segments output_of run directory
+nothing-deviates-in-an-example = record {
+  no_fragment = refl;
+  taken = refl;
+  unguarded = refl;
+  literal = λ own rooted. refl;
+  last = λ joins. refl;
+  base_path = λ takes rooted. absurd (false≢true takes);
+  rootless = λ own rootless. absurd (true≢false rootless);
+}

@@ -1,6 +1,6 @@
 -- The text of a target has the components that were put into it, and is of its base's kind.
 use Rattle.std.proofs.Common.{◌≡◌, ℕ, ◌<◌, Bool, true, false, cond, List, [], ◌∷◌, ◌++◌, length}
-use Rattle.std.proofs.Common.{refl, sym, ap, subst, ◌∙◌, ◌&&◌, ◌||◌, ◌↔◌, inl, inr, ⊎_elim, rules}
+use Rattle.std.proofs.Common.{refl, sym, ap, subst, ◌∙◌, ◌&&◌, ◌↔◌, inl, inr, ⊎_elim, rules}
 use Rattle.std.proofs.Common.{append_assoc}
 use Rattle.std.specs.Prelude.{codes, Option, Some, None, Ok, Err, IfSome, IfNone, is_some, is_none}
 use Rattle.std.specs.Prelude.{◌==◌}
@@ -25,7 +25,6 @@ use Rattle.uri_ops.proofs.Meanings.TextParts.{ArePartsOfKind, components-of-kind
 use Rattle.uri_ops.proofs.Normal.NormalTexts.{recomposed-components-are-utf8}
 use Rattle.uri_ops.proofs.Normal.NormalTexts.{text-has-parts-of-kind}
 use Rattle.uri_ops.proofs.Paths.DecodedPaths.{set-text-splits, set-texts-join-at-slash}
-use Rattle.uri_ops.proofs.Paths.DotRuns.{empty-text-is-nil}
 use Rattle.uri_ops.proofs.Paths.PathCharacters.{lacked-delimiters-fail-test}
 use Rattle.uri_ops.proofs.Paths.PathCharacters.{test-of-delimiters-gives-lacks}
 use Rattle.uri_ops.proofs.Targeting.Swaps.{text-of-kind-has-needed-scheme}
@@ -198,7 +197,7 @@ unambiguous-path-is-no-authority (Some a) path h = tt
 
 -- targets: the components of a target's text are those of the target, if its path is not parsed as
 -- an authority (RFC 3986, sections 3.3, 5.2.2 and 5.3)
-pub basic-target-has-its-components : (base reference : List ℕ)
+basic-target-has-its-components : (base reference : List ℕ)
     → is_some (components base).scheme ≡ true
     → is_ambiguous (target (components base) (components reference)) ≡ false
     → components (recompose (target (components base) (components reference)))
@@ -289,7 +288,7 @@ module _ (kind : Kind) (sets : HasComponentSets kind) where
       }))))
 
   -- targets: a target is a text of its base's kind, if its path is not parsed as an authority
-  pub basic-target-is-of-kind : (base reference : List ℕ) → kind.needs_scheme ≡ true
+  basic-target-is-of-kind : (base reference : List ℕ) → kind.needs_scheme ≡ true
       → IsTextOf kind base → IsTextOf (reference_kind kind) reference
       → is_ambiguous (target (components base) (components reference)) ≡ false
       → IsTextOf kind (recompose (target (components base) (components reference)))
@@ -367,7 +366,8 @@ pub rejection_is_of_other_components : (base reference : List ℕ)
     ≡ target (components base) (components reference)) → ⊥))
 rejection_is_of_other_components base reference some =
     let t = target (components base) (components reference) in (
-      λ e. ambiguous-target-has-other-components t (rejected-by-test (is_ambiguous t) (recompose t) e),
+      λ e. ambiguous-target-has-other-components t
+          (rejected-by-test (is_ambiguous t) (recompose t) e),
       λ h. ⊎_elim (λ e. cond-true _ _ _ e)
           (λ e. absurd (h (basic-target-has-its-components base reference some e)))
           (cases_Bool (is_ambiguous t)),

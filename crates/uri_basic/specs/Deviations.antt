@@ -1,6 +1,6 @@
 -- Where `Resolver` resolves otherwise than the basic algorithm: RFC 3986, sections 5.1 to 5.2.4.
-use Rattle.std.specs.Prelude.{◌≡◌, ℕ, Bool, true, false, not, ◌&&◌, ◌||◌, List, None, bytes_eq, codes}
-use Rattle.std.specs.Prelude.{is_none}
+use Rattle.std.specs.Prelude.{◌≡◌, ℕ, Bool, true, false, not, ◌&&◌, ◌||◌, List, None, bytes_eq}
+use Rattle.std.specs.Prelude.{codes, is_none}
 use Rattle.std.specs.List.{list_any}
 use Rattle.uri_pct.specs.Delimiters.{slash}
 use Rattle.uri_parts.specs.Components.{Components, starts}

@@ -85,8 +85,8 @@ fn push_segment(
     out.push_str(piece)
 }
 
-/// Appends the segments of a path that a `/` follows, without dot segments, to the directory that is
-/// in `out` from `start` on. Returns the last segment, which is not appended.
+/// Appends the segments of a path that a `/` follows, without dot segments, to the directory that
+/// is in `out` from `start` on. Returns the last segment, which is not appended.
 fn push_directories<'a>(
     path: &'a str,
     start: usize,
@@ -125,7 +125,7 @@ pub(crate) fn push_without_dot_segments(path: &str, out: &mut String) -> Result<
 }
 
 /// Appends a reference's path after all but the last segment of a base's, without dot segments (RFC
-/// 3986, sections 5.2.3 and 5.2.4). The two paths are scanned one after the other, and never joined.
+/// 3986, sections 5.2.3 and 5.2.4). The two paths are scanned one after the other, never joined.
 pub(crate) fn push_merged(base: &str, reference: &str, out: &mut String) -> Result<(), AllocError>
     ensures { OnOk result (Pushes out.old out.new
         (remove_dot_segments (up_to_last_slash base.now ++ reference.now))) }

@@ -55,12 +55,12 @@ impl<R: Ri> BasicResolver<R> {
     ///
     /// | | Base, reference | Target | By `Resolver` |
     /// |---|---|---|---|
-    /// | a base with a fragment is taken | `http://a/b#f`, `g` | `http://a/g` | `BaseWithFragment` |
-    /// | an opaque base is taken | `foo:bar`, `g` | `foo:g` | `InvalidReferenceAgainstOpaqueBase` |
+    /// | a base may have a fragment | `http://a/b#f`, `g` | `http://a/g` | `BaseWithFragment` |
+    /// | a base may be opaque | `foo:b`, `g` | `foo:g` | `InvalidReferenceAgainstOpaqueBase` |
     /// | no `/.` is put before a path | `foo:/a`, `.//b` | an error | `foo:/.//b` |
     /// | encoded dots are no dots | `http://a/b`, `%2E%2E/g` | `http://a/%2E%2E/g` | `http://a/g` |
     /// | a base's last `..` is dropped | `http://a/b/..`, `g` | `http://a/b/g` | `http://a/g` |
-    /// | a base's path is kept as it is | `http://a/./b`, `?q` | `http://a/./b?q` | `http://a/b?q` |
+    /// | a base's path stays | `http://a/./b`, `?q` | `http://a/./b?q` | `http://a/b?q` |
     /// | dots of any path are removed | `http://a/`, `foo:a/../b` | `foo:/b` | `foo:a/../b` |
     ///
     /// # Errors

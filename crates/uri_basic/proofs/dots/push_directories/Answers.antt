@@ -1,5 +1,6 @@
-use Rattle.std.proofs.Common.{◌≡◌, ◌+◌, ◌-◌, ◌<◌, ◌≤◌, ◌++◌, ℕ, List, ap, append_assoc, arith, drop}
-use Rattle.std.proofs.Common.{eqb, false, get_or, inl, inr, length, not, refl, string_bytes, subst, sym}
+use Rattle.std.proofs.Common.{◌≡◌, ◌+◌, ◌<◌, ◌≤◌, ◌++◌, ap, append_assoc, arith, drop}
+use Rattle.std.proofs.Common.{eqb, false, get_or, inl, inr, length, not}
+use Rattle.std.proofs.Common.{refl, string_bytes, subst, sym}
 use Rattle.std.proofs.Common.{take, ◌∙◌}
 use Rattle.std.specs.Prelude.{codes}
 use Rattle.std.proofs.lemmas.List.{take-append-drop}

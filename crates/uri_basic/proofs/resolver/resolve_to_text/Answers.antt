@@ -1,4 +1,4 @@
-use Rattle.std.proofs.Common.{◌≡◌, ap, string_bytes, subst, ◌∙◌}
+use Rattle.std.proofs.Common.{◌≡◌, string_bytes, subst, ◌∙◌}
 use Rattle.std.specs.Prelude.{IfErr, IfOk, Ok}
 use Rattle.std.proofs.lemmas.Result.{IfOk-weaker}
 use Rattle.uri_parts.specs.Components.{components}
