@@ -222,24 +222,17 @@ fn mend_invalid<K: Kind>(
 }
 
 /// Returns a copy of a reference.
-#[inline(always)]
 fn copied<K: Kind>(alloc: Global, core: Core<K, &str>) -> Result<Reference<K, String>, MendError>
     ensures text { IfOk result (λ made. reference_text made ≡ core_text core.entry) }
     ensures memory { IfErr result (λ error. error ≡ OutOfMemory) }
 {
-    match String::from_str(alloc, core.as_str()) {
-        Ok(copy) => Ok(Reference::of_core(Core::new(
-            copy,
-            core.packed_positions(),
-        ))),
+    match core.to_owned(alloc) {
+        Ok(copy) => Ok(Reference::of_core(copy)),
         Err(_) => Err(MendError::OutOfMemory),
     }
 }
 
 /// Returns the reference that a text is mended to, or the text itself if it is one.
-///
-/// It is a function of its own: where it is inlined, LLVM copies its result by parts.
-#[inline(never)]
 fn mended_reference<K: Kind>(alloc: Global, text: &str) -> Result<Reference<K, String>, MendError>
     ensures mended { IfOk result (λ made. IsMended K.kind text.now (reference_text made)) }
     ensures refused { IfErr result (IsMendErrorOf K.kind text.now) }
