@@ -5,8 +5,8 @@ use std::alloc::AllocError;
 use std::simd::prelude::*;
 use uri_pct::lanes::LANES;
 
-/// Grows a buffer to twice what is needed for so many bytes from a position on. What is before the
-/// position stays.
+/// Grows a buffer to twice its length, and to what is needed for so many bytes from a position on.
+/// What is before the position stays.
 #[inline(never)]
 fn grow(additional: usize, at: usize, out: &mut Vec<u8>) -> Result<(), AllocError>
     requires inside { at ≤ length out.old.items }
@@ -17,7 +17,7 @@ fn grow(additional: usize, at: usize, out: &mut Vec<u8>) -> Result<(), AllocErro
     let Some(end) = at.checked_add(additional) else {
         return Err(AllocError);
     };
-    out.resize(end.saturating_mul(2), 0)
+    out.resize(end.max(out.len().saturating_mul(2)), 0)
 }
 
 /// Makes room in a buffer for so many bytes from a position on. What is before the position stays.

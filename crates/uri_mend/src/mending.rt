@@ -5,7 +5,8 @@ ghost use Rattle.std.specs.Str.{IsCharBoundary, IsUtf8};
 ghost use Rattle.uri_parts.specs.Components.{from_any};
 ghost use Rattle.uri_parts.specs.CoreTexts.{core_text};
 ghost use Rattle.uri_parts.specs.Errors.{IsErrorIn};
-ghost use Rattle.uri_parts.specs.Grammar.{IsOfKind};
+ghost use Rattle.uri_parts.specs.Grammar.{IsOfKind, is_of_kind};
+ghost use Rattle.uri_parts.specs.PackedPositions.{ArePackedPositionsOf};
 ghost use Rattle.uri_parts.specs.Refusals.{refusal};
 ghost use Rattle.fluent_uri.specs.References.{reference_text};
 ghost use Rattle.uri_mend.specs.declared.error.MendError.TheVariants.{OutOfMemory};
@@ -148,6 +149,22 @@ fn mended_link_of<K: Kind>(
     }
 }
 
+/// Returns the positions of what is before the path of a text, or `None` if it is not of the kind.
+#[inline(always)]
+fn positions_of_prefix<K: Kind>(prefix: &str) -> Option<PackedPositions>
+    ensures some { is_some result ≡ is_of_kind K.kind prefix.now }
+    ensures positions { IfSome result (ArePackedPositionsOf prefix.now) }
+{
+    // Most such prefixes are empty.
+    if prefix.is_empty() && !K::tables().needs_scheme {
+        return Some(Core::<K, &str>::empty().packed_positions());
+    }
+    match parsed::<K>(prefix) {
+        Ok(core) => Some(core.packed_positions()),
+        Err(_) => None,
+    }
+}
+
 /// Returns where the path of a text begins, by a cut before it, or `None` if the text cannot be
 /// mended.
 #[inline(never)]
@@ -156,13 +173,13 @@ fn link_of_cut<K: Kind>(text: &str) -> Option<Link>
     ensures mendable { is_some result ≡ can_be_mended K.kind text.now }
 {
     let cut = cut_link(text);
-    match parsed::<K>(cut.prefix) {
-        Ok(prefix) => Some(Link {
+    match positions_of_prefix::<K>(cut.prefix) {
+        Some(before) => Some(Link {
             path_start: cut.prefix.len(),
             has_false_scheme: cut.has_false_scheme,
-            before: prefix.packed_positions(),
+            before,
         }),
-        Err(_) => None,
+        None => None,
     }
 }
 
@@ -205,22 +222,17 @@ fn mend_invalid<K: Kind>(
 }
 
 /// Returns a copy of a reference.
-#[inline(always)]
 fn copied<K: Kind>(alloc: Global, core: Core<K, &str>) -> Result<Reference<K, String>, MendError>
     ensures text { IfOk result (λ made. reference_text made ≡ core_text core.entry) }
     ensures memory { IfErr result (λ error. error ≡ OutOfMemory) }
 {
-    match String::from_str(alloc, core.as_str()) {
-        Ok(copy) => Ok(Reference::of_core(Core::new(
-            copy,
-            core.packed_positions(),
-        ))),
+    match core.to_owned(alloc) {
+        Ok(copy) => Ok(Reference::of_core(copy)),
         Err(_) => Err(MendError::OutOfMemory),
     }
 }
 
 /// Returns the reference that a text is mended to, or the text itself if it is one.
-#[inline(always)]
 fn mended_reference<K: Kind>(alloc: Global, text: &str) -> Result<Reference<K, String>, MendError>
     ensures mended { IfOk result (λ made. IsMended K.kind text.now (reference_text made)) }
     ensures refused { IfErr result (IsMendErrorOf K.kind text.now) }
