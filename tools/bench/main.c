@@ -1,9 +1,9 @@
 /* Does the rows of a file, for callgrind to count: the program of either side is this one over its
  * library.
  *
- * Each row is done with FEW rounds and with MANY, and callgrind dumps its count behind each. What is
+ * Each row is done with FEW rounds and with MANY, and callgrind dumps its count after each. What is
  * printed of a row: how many more times memory was asked for, how many texts were accepted, and how
- * long their answers are. */
+ * long their results are. */
 #include "rows.h"
 #include <valgrind/callgrind.h>
 
@@ -36,13 +36,13 @@ int __wrap_posix_memalign(void **block, size_t alignment, size_t size) {
 
 static uint64_t accepted, length;
 
-/* Does the row's work with so many rounds, and answers how many requests that took. */
+/* Does the row's work with so many rounds, and returns how many requests that took. */
 static uint64_t done(const struct row *row, uint64_t rounds) {
     uint64_t before = requests;
     accepted = length = 0;
     for (size_t at = 0; at < row->count; at++) {
-        uint64_t answer = work_on(row, at, rounds);
-        if (answer != UINT64_MAX) accepted++, length += answer;
+        uint64_t result = work_on(row, at, rounds);
+        if (result != UINT64_MAX) accepted++, length += result;
     }
     return requests - before;
 }

@@ -1,11 +1,13 @@
 /* The rows that tools/bench/run writes for the programs over either library. A row is a line "WORK
  * FEW MANY COUNT" and COUNT pairs of a text and a base, each pair a line "LENGTH LENGTH" and the
- * bytes of both. */
+ * bytes of both. A NUL ends each where it is read, which some libraries ask for. */
 #include <inttypes.h>
 #include <stdint.h>
 #include <stdio.h>
 #include <stdlib.h>
 
+/* Does the work so many times. What it writes into is not `static`: a compiler drops what is written
+ * into an array that nothing reads. */
 uint64_t bench(uint32_t work, const uint8_t *text, size_t text_length, const uint8_t *base,
                size_t base_length, uint64_t rounds);
 
@@ -29,6 +31,7 @@ static void fail(const char *why) {
 static uint8_t *read_bytes(FILE *rows, size_t length) {
     uint8_t *bytes = malloc(length + 1);
     if (!bytes || fread(bytes, 1, length, rows) != length) fail("a text is cut short");
+    bytes[length] = 0;
     return bytes;
 }
 

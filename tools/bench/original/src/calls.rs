@@ -1,4 +1,4 @@
-//! The calls that are counted: none is inlined, and each returns its whole answer.
+//! The calls that are counted: none is inlined, and each returns its whole result.
 use fluent_uri::pct_enc::encoder::{Data, IPath, Path};
 use fluent_uri::pct_enc::{EStr, EString};
 use fluent_uri::{Iri, IriRef, ParseError, Uri, UriRef};

@@ -6,20 +6,20 @@ use crate::calls as call;
 use fluent_uri::{Iri, Uri, UriRef};
 use std::{slice, str};
 
-/// What a refused text answers, in place of the length of the answer.
-const REFUSED: u64 = u64::MAX;
+/// What is returned for a rejected text, in place of the length of a result.
+const REJECTED: u64 = u64::MAX;
 
-/// Makes a call so many times, and answers how long the last answer was.
+/// Makes a call so many times, and returns how long the last result was.
 macro_rules! length_of {
     ($rounds:expr, $call:expr) => {
-        length_of!($rounds, $call, answer => answer.as_str())
+        length_of!($rounds, $call, result => result.as_str())
     };
-    ($rounds:expr, $call:expr, $answer:ident => $text:expr) => {{
-        let mut length = REFUSED;
+    ($rounds:expr, $call:expr, $result:ident => $text:expr) => {{
+        let mut length = REJECTED;
         for _ in 0..$rounds {
             length = match $call {
-                Some($answer) => $text.len() as u64,
-                None => REFUSED,
+                Some($result) => $text.len() as u64,
+                None => REJECTED,
             };
         }
         length
@@ -31,7 +31,7 @@ macro_rules! length_of {
 ///
 /// # Safety
 ///
-/// Each pointer is to so many bytes as the number behind it says.
+/// Each pointer is to so many bytes as the number after it says.
 #[unsafe(no_mangle)]
 pub unsafe extern "C" fn bench(
     work: u32,
@@ -48,7 +48,7 @@ pub unsafe extern "C" fn bench(
         )
     };
     let (Ok(text), Ok(base)) = (str::from_utf8(text), str::from_utf8(base)) else {
-        return REFUSED;
+        return REJECTED;
     };
     match work {
         0 => length_of!(rounds, call::parse_uri(text).ok()),
@@ -68,42 +68,42 @@ pub unsafe extern "C" fn bench(
         14 => length_of!(rounds, call::to_uri(text)),
         15 => build(text, rounds),
         16 => links(base, text, rounds),
-        _ => REFUSED,
+        _ => REJECTED,
     }
 }
 
 fn resolve_values(base: &str, reference: &str, rounds: u64) -> u64 {
     let (Ok(base), Ok(reference)) = (Uri::parse(base), UriRef::parse(reference)) else {
-        return REFUSED;
+        return REJECTED;
     };
     length_of!(rounds, call::resolve_values(base, reference))
 }
 
 fn decode(text: &str, rounds: u64) -> u64 {
     let Ok(value) = Iri::parse(text) else {
-        return REFUSED;
+        return REJECTED;
     };
-    length_of!(rounds, call::decode(value.path()), answer => answer)
+    length_of!(rounds, call::decode(value.path()), result => result)
 }
 
 fn build(text: &str, rounds: u64) -> u64 {
     let Ok(value) = Uri::parse(text) else {
-        return REFUSED;
+        return REJECTED;
     };
     length_of!(rounds, call::build(value))
 }
 
-/// Notes each line in a new register, and answers how many targets that has then.
+/// Notes each line in a new register, and returns how many targets that has then.
 fn links(base: &str, lines: &str, rounds: u64) -> u64 {
     let Ok(base) = Uri::parse(base) else {
-        return REFUSED;
+        return REJECTED;
     };
-    let mut targets = REFUSED;
+    let mut targets = REJECTED;
     for _ in 0..rounds {
         let mut register = call::Register::default();
         for line in lines.split('\n') {
             if call::note(&mut register, &base, line).is_none() {
-                return REFUSED;
+                return REJECTED;
             }
         }
         targets = register.targets.len() as u64;
