@@ -20,21 +20,28 @@ XHTML = f"{{{XHTML_NAMESPACE}}}"
 XLINK = "{http://www.w3.org/1999/xlink}href"
 # `usemap` is a name of the page.
 ONE_LINK = (link_attrs | {"poster", "xlink:href", XLINK}) - {"archive", "profile", "usemap"}
-# What an `object` or `applet` has relative to its `codebase`.
+# What an `object` has relative to its `codebase`.
 UNDER_CODEBASE = ("archive", "classid", "data")
-WORDS = re.compile(r"\S+")
-WORDS_OR_COMMAS = re.compile(r"[^\s,]+")
+# White space of HTML and of style sheets.
+SPACE = " \t\n\f\r"
+WORDS = re.compile(f"[^{SPACE}]+")
 # A candidate: its URL, and what describes it up to a comma that is not in parentheses.
-CANDIDATE = re.compile(r"[\s,]*([^\s,]\S*)((?:[^,(]|\([^)]*\)?)*)")
-REFRESH = re.compile(r"\s*[\d.]+(?:\s*[;,]|\s)\s*")
-REFRESH_NAME = re.compile(r"url\s*=\s*", re.I)
-# What is before a link of a style sheet, and the link: in quotes, or a word. None of these tries
-# another way where it fails, so each style sheet is read once.
-CSS_START = re.compile(r"url\(\s*|@import\s+", re.I)
-CSS_STRING = re.compile(r""""(?:[^"\\]|\\.)*"|'(?:[^'\\]|\\.)*'""", re.S)
-CSS_WORD = re.compile(r"""(?:[^\s"'()\\]|\\[0-9a-f]{1,6}\s?|\\[^\n])+""", re.I)
-CSS_END = re.compile(r"\s*\)")
-CSS_ESCAPE = re.compile(r"\\(?:([0-9a-f]{1,6})\s?|(\r\n|[\n\r\f])|(.))", re.I | re.S)
+CANDIDATE = re.compile(rf"[{SPACE},]*([^{SPACE},][^{SPACE}]*)((?:[^,(]|\([^)]*\)?)*)")
+REFRESH = re.compile(rf"[{SPACE}]*[\d.]+(?:[{SPACE}]*[;,]|[{SPACE}])[{SPACE}]*", re.A)
+REFRESH_NAME = re.compile(f"url[{SPACE}]*=[{SPACE}]*", re.I | re.A)
+# What a style sheet has that begins like a link, holds one, or comes before one. None of these
+# tries another way where it fails, so each style sheet is read once.
+CSS_STRING = r""""(?:[^"\\\n]|\\.)*["\n]?|'(?:[^'\\\n]|\\.)*['\n]?"""
+CSS_TOKEN = re.compile(
+    rf"/\*.*?(?:\*/|\Z)|\\.|{CSS_STRING}|(?<![-\w])(?:url\([{SPACE}]*|@import(?![-\w]))",
+    re.I | re.S,
+)
+CSS_WORD = re.compile(
+    rf"""{CSS_STRING}|(?:[^{SPACE}"'()\\]|\\[0-9a-f]{{1,6}}[{SPACE}]?|\\[^\n])+""", re.I | re.S
+)
+CSS_END = re.compile(rf"[{SPACE}]*\)")
+CSS_REMNANTS = re.compile(r"(?:[^)\\]|\\.)*", re.S)
+CSS_ESCAPE = re.compile(rf"\\(?:([0-9a-f]{{1,6}})[{SPACE}]?|(\r\n|[\n\r\f])|(.))", re.I | re.S)
 
 
 class Rejected(NamedTuple):
@@ -101,7 +108,7 @@ def _rewrite(tree, base_url, written_from):
                 error = _error(under, it.text)
                 rejected.append(Rejected(it.element, it.attribute, it.text, error))
             else:
-                edits.append((it, made[at]))
+                edits.append((it, it.written(made[at], targets[at])))
     _put(edits)
     for it in bases:
         del it.attrib["href"]
@@ -115,7 +122,10 @@ def _base_of(elements, page, rejected):
     if bases:
         link = bases[0].get("href")
         try:
-            return page.join_link(link, keep_fragment=False), bases
+            base = page.join_link(link, keep_fragment=False)
+            # (no relative link has a target against what has no hierarchy)
+            base.resolve("x")
+            return base, bases
         except ValueError as error:
             rejected.append(Rejected(bases[0], "href", link, error))
     return page, []
@@ -143,7 +153,7 @@ def _links(elements):
             continue
         for attribute, text in it.attrib.items():
             codebase = None
-            if name in ("object", "applet") and attribute in UNDER_CODEBASE:
+            if name == "object" and attribute in UNDER_CODEBASE:
                 codebase = it.get("codebase")
             for start, end, link, written in _of_attribute(it, name, attribute, text):
                 yield _Link(it, attribute, start, end, link, codebase, written)
@@ -155,11 +165,9 @@ def _links(elements):
 def _of_attribute(element, name, attribute, text):
     """Where the links of an attribute are, each of them, and what writes another in its place."""
     if attribute in ONE_LINK:
-        yield 0, len(text), text, str
+        yield 0, len(text), text, _as_it_is
     elif attribute in ("ping", "profile") or (attribute == "archive" and name == "object"):
-        yield from ((*it.span(), it.group(), str) for it in WORDS.finditer(text))
-    elif attribute == "archive":
-        yield from ((*it.span(), it.group(), str) for it in WORDS_OR_COMMAS.finditer(text))
+        yield from ((*it.span(), it.group(), _in_list) for it in WORDS.finditer(text))
     elif attribute in ("srcset", "imagesrcset"):
         yield from _of_candidates(text)
     elif attribute == "style":
@@ -168,7 +176,7 @@ def _of_attribute(element, name, attribute, text):
         yield from _of_refresh(element, text)
     elif name == "param" and attribute == "value":
         if element.get("valuetype", "").lower() == "ref":
-            yield 0, len(text), text, str
+            yield 0, len(text), text, _as_it_is
 
 
 def _of_candidates(text):
@@ -183,12 +191,12 @@ def _of_candidates(text):
 
 def _of_refresh(element, text):
     """The link of a refresh (HTML, section 4.2.5.3), with its quotes."""
-    if element.get("http-equiv", "").strip().lower() != "refresh":
+    if element.get("http-equiv", "").strip(SPACE).lower() != "refresh":
         return
     before = REFRESH.match(text)
     if before:
         before = REFRESH_NAME.match(text, before.end()) or before
-        start, link = before.end(), text[before.end() :].rstrip()
+        start, link = before.end(), text[before.end() :].rstrip(SPACE)
         end = start + len(link)
         if link[:1] in ('"', "'"):
             link = link[1:].partition(link[0])[0]
@@ -197,17 +205,27 @@ def _of_refresh(element, text):
 
 
 def _of_css(text):
-    """The links of a style sheet (CSS Syntax, section 4), with their quotes."""
-    at = 0
-    while start := CSS_START.search(text, at):
-        at = start.end()
-        is_url = start.group()[0] in "Uu"
-        found = CSS_STRING.match(text, at) or (is_url and CSS_WORD.match(text, at))
-        if found and (not is_url or CSS_END.match(text, found.end())):
-            at, link = found.end(), found.group()
-            if link[0] in "\"'":
-                link = link[1:-1]
-            yield (*found.span(), CSS_ESCAPE.sub(_unescaped, link), '"{}"'.format)
+    """The links of a style sheet (CSS Syntax, section 4), with their quotes: in `url()`, and what
+    is after `@import`. None is in a comment or in another string."""
+    at, is_import = 0, False
+    while token := CSS_TOKEN.search(text, at):
+        is_import = is_import and not text[at : token.start()].strip(SPACE)
+        at, kind = token.end(), token.group()[0]
+        found = None
+        if kind in "uU":
+            found = CSS_WORD.match(text, at)
+            at = found.end() if found else at
+            if not (found and CSS_END.match(text, at)):
+                found = None
+                at = CSS_REMNANTS.match(text, at).end()
+        elif kind in "\"'" and is_import:
+            found = token
+        link = found.group() if found else ""
+        if link[:1] in ('"', "'"):
+            link = link[1:-1] if len(link) > 1 and link[0] == link[-1] else ""
+        if link:
+            yield (*found.span(), CSS_ESCAPE.sub(_unescaped, link), _in_css)
+        is_import = kind == "@" or (is_import and kind == "/")
 
 
 def _unescaped(match):
@@ -219,22 +237,38 @@ def _unescaped(match):
     return chr(number) if is_scalar else "\ufffd"
 
 
-def _in_sizes(reference):
-    """The reference as it is, unless its first comma would be taken for one before it."""
-    return f"./{reference}" if reference[:1] == "," else reference
+# What is written in the place of a link: a reference, which may be empty where a link may be, or
+# else its target.
 
 
-def _in_refresh(reference):
-    """The reference as it is, unless its start would be taken for a quote or a name before it."""
-    is_plain = reference[:1] != "'" and reference[:3].lower() != "url"
-    return reference if is_plain else f"./{reference}"
+def _as_it_is(reference, target):
+    return reference
+
+
+def _in_list(reference, target):
+    return reference or target
+
+
+def _in_sizes(reference, target):
+    """What no comma is taken from, as from the start of a candidate."""
+    return f"./{reference}" if reference[:1] == "," else reference or target
+
+
+def _in_refresh(reference, target):
+    """What is not taken for a mark or a name before a link."""
+    is_taken = reference[:1] in ("'", ";", ",") or reference[:3].lower() == "url"
+    return f"./{reference}" if is_taken else reference or target
+
+
+def _in_css(reference, target):
+    return f'"{reference or target}"'
 
 
 def _put(edits):
     """Writes what is new, each text once."""
     texts = defaultdict(list)
     for link, new in edits:
-        texts[link.element, link.attribute].append((link.start, link.end, link.written(new)))
+        texts[link.element, link.attribute].append((link.start, link.end, new))
     for (element, attribute), made in texts.items():
         whole = element.text if attribute is None else element.get(attribute)
         pieces, at = [], 0

@@ -1,12 +1,14 @@
 """Tests link_rewriter."""
 
+import copy
 import pathlib
+import random
 import sys
 import unittest
 
 import lxml.html
 from fluent_uri import Iri, ParseError, Uri
-from link_rewriter import make_links_absolute, make_links_relative
+from link_rewriter import _links, make_links_absolute, make_links_relative
 from lxml import etree
 
 sys.path.append(str(pathlib.Path(__file__).resolve().parents[1]))
@@ -35,6 +37,21 @@ PLACES = (
     '<table background="{}"></table>',
     '<param valuetype="ref" value="{}">',
 )
+
+# Of generated pages.
+ELEMENTS = "a img object meta style p form base param".split()
+ATTRIBUTES = """href src srcset style codebase data archive classid ping content http-equiv poster
+value valuetype action profile imagesrcset""".split()
+FIXED = {"http-equiv": "refresh", "valuetype": "ref"}
+BASES = ["http://h/a/b", "http://h", "x:/a/b", "http://h/a'(b)/c,d?e", "urn:a:b", "http://h/é/?a#f"]
+LINK = ["a", "/", "..", "?", "#", ":", "x:", "http:", "//", "h", " ", "%", "%41", "é", "|", "["]
+LINK += [",", "'", '"', "(", ")", "\\", "\n", "url", "=", ";", "1x", "0", "@", "<", "\u3000"]
+CSS = ["url(", "url('", 'url("', ")", "')", '")', "@import ", "@import '", "'", '"', "a", "b c"]
+CSS += ["{", "\\28 ", "\\", " ", "\\\n", "\n", "/*", "*/"]
+
+
+def links_in(tree):
+    return len(list(_links(list(tree.iter(etree.Element)))))
 
 
 def tree_of(html):
@@ -104,10 +121,12 @@ class Rewriter(unittest.TestCase):
         tree = tree_of(html)
         make_links_relative(tree, PAGE)
         self.assertEqual(tree.find(".//a").get("href"), "../e/f#g")
-        tree, rejected = absolute('<base href="http://a b/"><a href="f">x</a>')
-        self.assertEqual(tree.find(".//a").get("href"), "http://example.com/d/f")
-        self.assertEqual([it.link for it in rejected], ["http://a b/"])
-        self.assertEqual(tree.find(".//base").get("href"), "http://a b/")
+        # What is no base, or no base of relative links, stays, and the page is the base.
+        for it in ("http://a b/", "urn:a:b"):
+            tree, rejected = absolute(f'<base href="{it}"><a href="f">x</a>')
+            self.assertEqual(tree.find(".//a").get("href"), "http://example.com/d/f")
+            self.assertEqual([it.link for it in rejected], [it])
+            self.assertEqual(tree.find(".//base").get("href"), it)
 
     def test_images_of_many_sizes(self):
         # HTML, section 4.8.4.2.
@@ -120,6 +139,7 @@ class Rewriter(unittest.TestCase):
             ("a|b.png 1x", "P/a%7Cb.png 1x"),
             (", ,", ", ,"),
             ("a.png (", "P/a.png ("),
+            ("a\u3000b.png 1x", "P/a\u3000b.png 1x"),
         ):
             tree, rejected = absolute(f'<img srcset="{given}">')
             found = tree.find(".//img").get("srcset")
@@ -136,6 +156,12 @@ class Rewriter(unittest.TestCase):
             ('a{b:url("c\\\nd")}', 'a{b:url("P/cd")}'),
             ("a{b:url()}", "a{b:url()}"),
             ("a{b:url(c d)}", "a{b:url(c d)}"),
+            ("/* url(c) */ url(/*)", '/* url(c) */ url("http://example.com/*")'),
+            ("a{b:'url(c)' url('c)d')}", "a{b:'url(c)' url(\"P/c)d\")}"),
+            ("a{b:my-url(c) \\url(c) x '", "a{b:my-url(c) \\url(c) x '"),
+            ("@import/**/'c' 'd';", "@import/**/\"P/c\" 'd';"),
+            ("@importer 'c'; @import x 'c'", "@importer 'c'; @import x 'c'"),
+            ("url('c\nd') url(e", "url('c\nd') url(e"),
             ("a{b:url(\\110000)}", 'a{b:url("P/\ufffd")}'),
         ):
             base = PAGE if "\ufffd" not in wanted else Uri(PAGE)
@@ -192,14 +218,50 @@ class Rewriter(unittest.TestCase):
             make_links_absolute(tree, PAGE)
             self.assertEqual(etree.tostring(tree), etree.tostring(wanted))
         tree = tree_of('<img srcset="./,a 1x"><a href="/x">x</a>')
-        meta = [tree.makeelement("meta", {"http-equiv": "refresh"}) for _ in range(2)]
-        for it, link in zip(meta, ("0;url=./'a", "0;./url=a")):
+        meta = [tree.makeelement("meta", {"http-equiv": "refresh"}) for _ in range(3)]
+        for it, link in zip(meta, ("0;url=./'a", "0;./url=a", "0 ./;")):
             it.set("content", link)
             tree.append(it)
         make_links_relative(tree, PAGE)
         self.assertEqual(tree.find(".//img").get("srcset"), "./,a 1x")
-        self.assertEqual([it.get("content") for it in meta], ["0;url=./'a", "0;./url=a"])
+        self.assertEqual([it.get("content") for it in meta], ["0;url=./'a", "0;./url=a", "0 ./;"])
         self.assertEqual(tree.find(".//a").get("href"), "../x")
+        # There is no empty link in a list or in a style sheet.
+        tree = tree_of('<a ping="page.html">x</a><style>a{b:url(page.html)}</style>')
+        make_links_relative(tree, PAGE)
+        address = "http://example.com/d/page.html"
+        self.assertEqual(tree.find(".//a").get("ping"), address)
+        self.assertEqual(tree.find(".//style").text, f'a{{b:url("{address}")}}')
+
+    def test_generated_pages(self):
+        dice = random.Random(1)
+
+        def text(pieces, most):
+            return "".join(dice.choice(pieces) for _ in range(dice.randrange(most)))
+
+        for at in range(300):
+            tree = tree_of("<head></head><body></body>")
+            for _ in range(dice.randrange(1, 8)):
+                element = etree.SubElement(tree.find(".//body"), dice.choice(ELEMENTS))
+                for key in dice.sample(ATTRIBUTES, 4):
+                    made = text(CSS if key == "style" else LINK, 8)
+                    made = f"0;{made}" if key == "content" else made
+                    element.set(key, FIXED.get(key, made))
+                if element.tag == "style":
+                    element.text = text(CSS, 12)
+            page = BASES[at % len(BASES)]
+            count = links_in(tree)
+            others = copy.deepcopy(tree)
+            rejected = make_links_absolute(tree, page)
+            made = etree.tostring(tree)
+            self.assertEqual(links_in(tree), count)
+            make_links_absolute(tree, page)
+            self.assertEqual(etree.tostring(tree), made)
+            told = [(it.attribute, it.link) for it in rejected]
+            rejected = make_links_relative(others, page, at % 2 == 0)
+            self.assertEqual([(it.attribute, it.link) for it in rejected], told)
+            make_links_absolute(others, page)
+            self.assertEqual(etree.tostring(others), made)
 
     def test_trees_of_other_kinds(self):
         xml = '<h:p xmlns:h="http://www.w3.org/1999/xhtml"><h:a href="b"/><!-- c --><?d e?></h:p>'

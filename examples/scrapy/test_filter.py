@@ -76,7 +76,9 @@ class Filter(unittest.TestCase):
                 it.close("finished")
 
     def test_a_crawl_asks_for_each_page_once(self):
-        made = subprocess.run([sys.executable, HERE / "crawl"], stdout=subprocess.PIPE, check=True)
+        made = subprocess.run(
+            [sys.executable, HERE / "crawl"], stdout=subprocess.PIPE, check=True, timeout=300
+        )
         told = json.loads(made.stdout)
         print(f"\nscrapy: {json.dumps(told)}")
         ours = told["normal form"]
