@@ -24,7 +24,7 @@ SELECT uri_error('http://a b'), uri_error('http://a'), uri_error('http://é b', 
 SELECT uri_is('url', 'x:');
 SELECT uri_is('URI', 'x:');
 SELECT uri_normal('x:', 'url');
--- Numbers are their texts. A BLOB is no text.
+-- Numbers are their texts. A BLOB is not a text.
 SELECT uri_is('uri', 5), uri_is('uri-ref', 5), uri_is('uri', x'783a'), uri_normal(5, 'uri-ref');
 SELECT uri_normal(x'783a');
 -- NUL, and bytes that are not UTF-8.
