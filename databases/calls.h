@@ -13,12 +13,15 @@ typedef struct {
 /* By enum fluent_uri_kind: the words of SQL, and those of messages. */
 static const char *const uri_kinds[] = {"uri", "uri-ref", "iri", "iri-ref"};
 static const char *const uri_titles[] = {"a URI", "a URI reference", "an IRI", "an IRI reference"};
-enum { URI_KINDS = 4, URI_COMPONENTS = 9 };
+enum { URI_KINDS = 4, URI_COMPONENTS = 9, URI_OPTIONS = 1 };
 
 /* By enum fluent_uri_component. */
 static const char *const uri_components[] = {
     "userinfo", "host", "path", "query", "fragment", "scheme", "authority", "port", "data",
 };
+
+/* By bit, of enum fluent_uri_option. */
+static const char *const uri_options[] = {"prefer-relative-path"};
 
 /* Returns the number of a word among COUNT words, or -1. */
 static inline int uri_number(const char *const *words, int count, const char *at, size_t len) {

@@ -6,6 +6,10 @@ ifneq ($(wildcard $(LIBRARY)),)
 URI_CFLAGS = -I$(C)/include
 URI_LIBS = $(LIBRARY)
 else
-URI_CFLAGS := $(shell pkg-config --cflags fluent_uri_c)
-URI_LIBS := $(shell pkg-config --variable=libdir fluent_uri_c)/libfluent_uri_c.a
+URI_LIBDIR := $(shell pkg-config --variable=libdir fluent_uri_c 2> /dev/null)
+URI_CFLAGS := $(shell pkg-config --cflags fluent_uri_c 2> /dev/null)
+URI_LIBS := $(URI_LIBDIR)/libfluent_uri_c.a
+ifeq ($(URI_LIBDIR)$(filter clean,$(MAKECMDGOALS)),)
+$(error there is no $(LIBRARY), and no fluent_uri_c for pkg-config: make -C $(C) makes the library)
+endif
 endif

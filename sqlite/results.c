@@ -105,22 +105,23 @@ void uri_give(sqlite3_context *context, uri_call call, uint32_t number, uint32_t
     }
 }
 
-/* f(text [, text] [, kind]), and for a short reference [, option] after that. */
+/* f(text [, text] [, kind [, option]]) */
 void uri_write_text(sqlite3_context *context, int count, sqlite3_value **values) {
-    static const char *const options[] = {"", "prefer-relative-path"};
     const uri_work *it = sqlite3_user_data(context);
     uri_bytes in[2] = {{NULL, 0}, {NULL, 0}};
-    int kind = (int)it->kind, option = 0;
+    int kind = (int)it->kind, option;
+    uint32_t options = 0;
     if (uri_has_null(count, values)) return;
     for (int i = 0; i < it->texts; i++)
         if (!uri_text_of(context, values[i], &in[i])) return;
     if (count > it->texts && (kind = uri_kind_of(context, values[it->texts])) < 0) return;
     if (count > it->texts + 1) {
-        option = word_of(context, values[it->texts + 1], options, 2,
-                         "no such option: prefer-relative-path, or '' for none");
+        option = word_of(context, values[it->texts + 1], uri_options, URI_OPTIONS,
+                         "no such option");
         if (option < 0) return;
+        options = UINT32_C(1) << option;
     }
-    uri_give(context, it->call, (uint32_t)kind, (uint32_t)option, in);
+    uri_give(context, it->call, (uint32_t)kind, options, in);
 }
 
 /* f(component, text) */

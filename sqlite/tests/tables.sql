@@ -15,7 +15,7 @@ SELECT * FROM links;
 EXPLAIN QUERY PLAN
 SELECT id FROM links WHERE uri_normal(url) = uri_normal('http://example.com:/~foo');
 SELECT id FROM links WHERE uri_normal(url) = uri_normal('http://example.com:/~foo');
--- Generated columns, and a partial index over texts of which some are no URIs.
+-- Generated columns, and a partial index over texts, of which some are not URIs.
 CREATE TABLE pages (
     url TEXT, host TEXT GENERATED ALWAYS AS (uri_host(url)) VIRTUAL,
     form TEXT GENERATED ALWAYS AS (uri_normal(url)) STORED UNIQUE
