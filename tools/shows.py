@@ -24,7 +24,7 @@ The words are a command of `uritool` (parse, normalize, resolve, links), or one 
     basic URI REFERENCE             the target by the basic algorithm
     lines OPTION.. WORD.. INPUT     what `urilines` makes of an input: how many lines and errors,
                                     and both outputs (`shows/lines.txt` has the options)
-    recipe NAME WORD..              what a program of `cookbook` returns or writes
+    recipe NAME WORD..              what a program of `cookbook` returns or writes, or `uri_query`
     owed NAME WORD..                what a caller in `obligations` gets
     rows ROW.., rows-failing ROW..  the status of a run of rows, and what it writes, or no output
     equal GOT WANTED                what `test_support` says of two words
@@ -62,6 +62,7 @@ DEPS = (
     "test_vectors",
     "uri_relative",
     "uri_mend",
+    "uri_query",
     "uri_links",
     "uri_rules",
     "uri_basic",

@@ -124,6 +124,11 @@ typedef struct {
     fluent_uri_span scheme, authority, userinfo, host, port, path, query, fragment;
 } fluent_uri_parts;
 
+/** Where the name and the value of a pair are in a query. The value of one without `=` is absent. */
+typedef struct {
+    fluent_uri_span name, value;
+} fluent_uri_pair;
+
 /** What a call reports. */
 typedef struct {
     uint32_t error;
@@ -148,6 +153,13 @@ uint32_t fluent_uri_error_name(uint32_t error, uint8_t *out, size_t out_len,
 /** Parses a text, and reports where its components are. Takes no memory. */
 uint32_t fluent_uri_parse(uint32_t kind, const uint8_t *text, size_t text_len,
                           fluent_uri_parts *parts);
+
+/** Returns 1 only if a text is its own normal form, and else 0: a cheap test before
+ * fluent_uri_normalize, which parses the text again and takes memory. PARTS are what
+ * fluent_uri_parse wrote of the text as one of the kind, without an error. Of a few normal texts it
+ * returns 0, as of those with a `%`, a port, or a `/` before a `.`. Takes no memory. */
+uint32_t fluent_uri_is_plainly_normal(uint32_t kind, const uint8_t *text, size_t text_len,
+                                      const fluent_uri_parts *parts);
 
 /** Writes the normal form (RFC 3986, section 6.2.2; default ports are left out). */
 uint32_t fluent_uri_normalize(uint32_t kind, const uint8_t *text, size_t text_len, uint8_t *out,
@@ -209,6 +221,21 @@ uint32_t fluent_uri_decode(uint32_t component, const uint8_t *text, size_t text_
  * percent-encoded octets. */
 uint32_t fluent_uri_encode(uint32_t component, const uint8_t *bytes, size_t bytes_len, uint8_t *out,
                            size_t out_len, fluent_uri_outcome *outcome);
+
+/** Writes a text as a component, of which some octets are percent-encoded already. Each `%` with two
+ * hexadecimal digits after it stays, and so does each other character that the component may have.
+ * All else is percent-encoded, a `%` without such digits too. */
+uint32_t fluent_uri_mend_component(uint32_t component, const uint8_t *text, size_t text_len,
+                                   uint8_t *out, size_t out_len, fluent_uri_outcome *outcome);
+
+/** Reports where the next pair of a query is, from *POSITION on, and sets *POSITION to its end; at
+ * first *POSITION is 0. A pair is a substring between the `&` that is not empty. Its name is what
+ * is before its first `=`, and its value what is after that (RFC 3986, section 3.4). Returns 1, or
+ * 0 if no pair is left, and then nothing has changed. fluent_uri_decode decodes names and values
+ * as FLUENT_URI_QUERY. In the query of a form `+` is a space: replace it by `%20` before. Takes no
+ * memory. */
+uint32_t fluent_uri_next_pair(const uint8_t *query, size_t query_len, size_t *position,
+                              fluent_uri_pair *pair);
 
 /**
  * COLUMNS, as Apache Arrow has them: the text i runs from offsets[i] up to offsets[i + 1] of

@@ -107,6 +107,8 @@ class parts {
     component fragment() const noexcept { return at(parts_.fragment); }
 
   private:
+    friend bool is_plainly_normal(std::uint32_t kind, const parts &text) noexcept;
+
     component at(fluent_uri_span span) const noexcept {
         if (span.start == SIZE_MAX) return std::nullopt;
         return std::string_view(text_.data() + span.start, span.end - span.start);
@@ -117,6 +119,13 @@ class parts {
 };
 
 inline parts parse(std::uint32_t kind, std::string_view text) noexcept { return {kind, text}; }
+
+/** True only if the text of these parts, which are those of the kind, is its own normal form. It is
+ * false for a few such texts. */
+inline bool is_plainly_normal(std::uint32_t kind, const parts &text) noexcept {
+    return text && fluent_uri_is_plainly_normal(kind, detail::bytes(text.text_), text.text_.size(),
+                                                &text.parts_) == 1;
+}
 
 /** The normal form (RFC 3986, section 6.2.2). */
 inline result normalize(std::uint32_t kind, std::string_view text) {
@@ -174,6 +183,38 @@ inline result encode(std::uint32_t component, std::string_view bytes) {
     return detail::make(bytes.size(), [&](std::uint8_t *out, std::size_t room, auto *outcome) {
         return fluent_uri_encode(component, detail::bytes(bytes), bytes.size(), out, room, outcome);
     });
+}
+
+/** A text as a component: each `%XX` stays, and what the component may not have is
+ * percent-encoded. */
+inline result mend_component(std::uint32_t component, std::string_view text) {
+    return detail::make(text.size(), [&](std::uint8_t *out, std::size_t room, auto *outcome) {
+        return fluent_uri_mend_component(component, detail::bytes(text), text.size(), out, room,
+                                         outcome);
+    });
+}
+
+/** The name and the value of a pair of a query, as they are there; the value is absent where there
+ * is no `=`. If no pair was left, both are absent. */
+struct pair {
+    std::optional<std::string_view> name, value;
+
+    explicit operator bool() const noexcept { return name.has_value(); }
+};
+
+/** The next pair of a query, of which it leaves what is after the pair. */
+inline pair next_pair(std::string_view &query) noexcept {
+    std::size_t position = 0;
+    fluent_uri_pair at;
+    if (fluent_uri_next_pair(detail::bytes(query), query.size(), &position, &at) == 0) return {};
+    auto in_query = [&](fluent_uri_span span) {
+        return query.substr(span.start, span.end - span.start);
+    };
+    pair found;
+    found.name = in_query(at.name);
+    if (at.value.start != SIZE_MAX) found.value = in_query(at.value);
+    query.remove_prefix(position);
+    return found;
 }
 
 } // namespace fluent_uri

@@ -45,7 +45,8 @@ static const uint64_t offsets64[TEXTS + 1] = {0, 18, 18, 19, 22, 22};
     IT(mend_link, fluent_uri_mend_link(1, TEXT(" //h/a\n b\t#[ "), VALUE)) \
     IT(relativize, fluent_uri_relativize(0, 0, BASE, TEXT("http://a/d?q"), VALUE)) \
     IT(decode, fluent_uri_decode(FLUENT_URI_PATH, TEXT("a%20/b"), BYTES)) \
-    IT(encode, fluent_uri_encode(FLUENT_URI_DATA, TEXT("a b/"), BYTES))
+    IT(encode, fluent_uri_encode(FLUENT_URI_DATA, TEXT("a b/"), BYTES)) \
+    IT(mend_component, fluent_uri_mend_component(FLUENT_URI_DATA, TEXT("%20 /"), BYTES))
 #define COLUMNS(IT) \
     IT(normalize_batch, fluent_uri_normalize_batch(1, COLUMN(offsets))) \
     IT(to_uri_batch, fluent_uri_to_uri_batch(3, COLUMN(offsets))) \

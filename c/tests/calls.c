@@ -1,4 +1,5 @@
 /* Each call on one text, and the rules of the border. */
+#include "laws.h"
 #include "test.h"
 
 static fluent_uri_outcome outcome;
@@ -180,6 +181,95 @@ static void converts(void) {
     CHECK(rejects(fluent_uri_encode(FLUENT_URI_PORT, TEXT("a"), out, 9, &outcome), 9, 0, 0));
 }
 
+/* A component of which some octets are percent-encoded already. */
+static void mends_components(void) {
+    CHECK(gives_bytes(fluent_uri_mend_component(FLUENT_URI_PATH, TEXT("a%20b c/d?e"), BYTES),
+                      "a%20b%20c/d%3Fe"));
+    CHECK(gives_bytes(fluent_uri_mend_component(FLUENT_URI_QUERY, TEXT("a=%7e&50%&%4&?"), BYTES),
+                      "a=%7e&50%25&%254&?"));
+    CHECK(gives_bytes(fluent_uri_mend_component(FLUENT_URI_DATA, TEXT("%2f/\xc3\xa9"), BYTES),
+                      "%2f%2F%C3%A9"));
+    CHECK(gives_bytes(fluent_uri_mend_component(FLUENT_URI_FRAGMENT, NULL, 0, BYTES), ""));
+    CHECK(rejects(fluent_uri_mend_component(FLUENT_URI_PATH, TEXT("a\xff"), BYTES), 4, 0, 1));
+    CHECK(rejects(fluent_uri_mend_component(FLUENT_URI_PORT, TEXT("a"), BYTES), 9, 0, 0));
+}
+
+/* The text of a kind is plainly normal, by its parts, exactly where it is wanted to be. */
+static int is_plain(uint32_t kind, const char *text) {
+    fluent_uri_parts parts;
+    CHECK(fluent_uri_parse(kind, TEXT(text), &parts) == 0);
+    return fluent_uri_is_plainly_normal(kind, TEXT(text), &parts) == 1;
+}
+
+static void finds_what_is_plainly_normal(void) {
+    static const char *const normal[] = {
+        "http://example.com/a/b/~foo?x=1#y", "a:", "a:b", "http://u@h", "urn:example:Animal:Ferret",
+        "http://127.0.0.1/", "http://Us@h/A?B#C", "x:/a/b.c/d..e/f.", "http://h/a?b=..",
+        "file:///0123456789/0123456789/0123456789/0123456789",
+    };
+    for (size_t i = 0; i < sizeof normal / sizeof *normal; i++) {
+        CHECK(is_plain(FLUENT_URI_URI, normal[i]) && is_plain(FLUENT_URI_IRI_REF, normal[i]));
+        CHECK(gives(fluent_uri_normalize(FLUENT_URI_URI, TEXT(normal[i]), VALUE), normal[i]));
+    }
+    CHECK(is_plain(FLUENT_URI_URI_REF, "") && is_plain(FLUENT_URI_URI_REF, "../a//b"));
+    CHECK(is_plain(FLUENT_URI_IRI, "http://\xc3\xa9/\xe6\xbc\xa2"));
+    /* What is not normal. */
+    static const char *const others[] = {
+        "HTTP://h/", "hTtp://h/", "http://H/", "http://h/%7e", "http://h/%2f", "http://h:80/",
+        "http://h:/", "http://[::A]/", "http://[0:0::1]/", "x:/.", "x:/..", "x:/a/./b", "x:/a/../b",
+        "http://h/0123456789/012345/./b", "http://h/0123456789/0123456/./b",
+        "http://h/0123456789/01234567/../b", "http://h/0123456789abcdef/..",
+        "x:/a/%2e/b", "http://h/0123456789/0123456789/0123456789/%41",
+    };
+    for (size_t i = 0; i < sizeof others / sizeof *others; i++)
+        CHECK(!is_plain(FLUENT_URI_URI, others[i]) && !is_plain(FLUENT_URI_IRI_REF, others[i]));
+    CHECK(!is_plain(FLUENT_URI_IRI, "a:\xe2\x80\x8e"));
+    /* Of parts of another text, or of none, the answer means nothing; nothing else is read. */
+    fluent_uri_parts parts;
+    memset(&parts, 0xff, sizeof parts);
+    CHECK(fluent_uri_is_plainly_normal(FLUENT_URI_URI, TEXT("a:b"), &parts) <= 1);
+    for (size_t end = 0; end < 64; end++) {
+        fluent_uri_span span = {end / 8, SIZE_MAX / 2 * (end % 3)};
+        parts.scheme = parts.host = parts.port = span;
+        CHECK(fluent_uri_is_plainly_normal(FLUENT_URI_URI, TEXT("a:b"), &parts) <= 1);
+    }
+    CHECK(fluent_uri_is_plainly_normal(4, TEXT("a:b"), &parts) == 0);
+}
+
+/* The pairs of a query, as `name=value` with a `;` after each; `name` alone where it has no `=`. */
+static int has_pairs(const char *query, const char *wanted) {
+    char found[256], *to = found;
+    size_t position = 0;
+    fluent_uri_pair pair;
+    while (fluent_uri_next_pair(TEXT(query), &position, &pair) == 1) {
+        const fluent_uri_span name = pair.name, value = pair.value;
+        CHECK(name.start <= name.end && name.end <= position && position <= strlen(query));
+        to += sprintf(to, "%.*s", (int)(name.end - name.start), query + name.start);
+        if (value.start != SIZE_MAX)
+            to += sprintf(to, "=%.*s", (int)(value.end - value.start), query + value.start);
+        *to++ = ';';
+    }
+    *to = 0;
+    return strcmp(found, wanted) == 0 && has_pairs_in_order(TEXT(query));
+}
+
+static void reads_pairs(void) {
+    CHECK(has_pairs("name=ferret&page=2%263", "name=ferret;page=2%263;"));
+    CHECK(has_pairs("", "") && has_pairs("&", "") && has_pairs("&&&", ""));
+    CHECK(has_pairs("a", "a;") && has_pairs("a=", "a=;") && has_pairs("=a", "=a;"));
+    CHECK(has_pairs("=", "=;") && has_pairs("a=b=c", "a=b=c;") && has_pairs("&a&&b&", "a;b;"));
+    CHECK(has_pairs("0123456789abcdefgh=0123456789abcdefgh&x",
+                    "0123456789abcdefgh=0123456789abcdefgh;x;"));
+    CHECK(has_pairs("a;b=c+d", "a;b=c+d;"));
+    /* Past the end, or of no query, there is none, and nothing changes. */
+    size_t position = 4;
+    fluent_uri_pair pair = {{1, 2}, {3, 4}};
+    CHECK(fluent_uri_next_pair(TEXT("a=b"), &position, &pair) == 0 && position == 4);
+    CHECK(pair.name.start == 1 && pair.value.end == 4);
+    position = 0;
+    CHECK(fluent_uri_next_pair(NULL, 0, &position, &pair) == 0 && position == 0);
+}
+
 /* A length that no object has, as one that was negative, is rejected before a byte is read. */
 static void rejects_lengths(void) {
     const uint8_t *text = (const uint8_t *)"a:";
@@ -198,6 +288,7 @@ static void rejects_lengths(void) {
         CHECK(rejects(fluent_uri_mend_link(0, text, length, VALUE), 9, 0, 0));
         CHECK(rejects(fluent_uri_decode(FLUENT_URI_PATH, text, length, BYTES), 9, 0, 0));
         CHECK(rejects(fluent_uri_encode(FLUENT_URI_PATH, text, length, BYTES), 9, 0, 0));
+        CHECK(rejects(fluent_uri_mend_component(FLUENT_URI_PATH, text, length, BYTES), 9, 0, 0));
     }
 }
 
@@ -235,5 +326,8 @@ int main(void) {
     relativizes();
     mends();
     converts();
+    mends_components();
+    finds_what_is_plainly_normal();
+    reads_pairs();
     return ended("calls");
 }

@@ -17,6 +17,14 @@ static bool by_the_c_header() {
 }
 
 #if __cplusplus >= 201703L
+static bool by_pairs() {
+    std::string_view query = "&a=1&&b&=c=";
+    auto first = fluent_uri::next_pair(query), second = fluent_uri::next_pair(query);
+    auto third = fluent_uri::next_pair(query), none = fluent_uri::next_pair(query);
+    return first && first.name == "a" && first.value == "1" && second && second.name == "b" &&
+           !second.value && third.name == "" && third.value == "c=" && !none && query.empty();
+}
+
 static bool by_strings() {
     using namespace fluent_uri;
     auto p = parse(FLUENT_URI_URI, "http://u@h:80/p?q#f");
@@ -40,6 +48,10 @@ static bool by_strings() {
            longer && *longer == "%C3%A9%C3%A9%C3%A9%C3%A9" &&
            *decode(FLUENT_URI_PATH, "a%20b") == "a b" &&
            *encode(FLUENT_URI_DATA, "a b") == "a%20b" &&
+           *mend_component(FLUENT_URI_PATH, "a%20b c") == "a%20b%20c" &&
+           is_plainly_normal(FLUENT_URI_URI, parse(FLUENT_URI_URI, "http://a/b")) &&
+           !is_plainly_normal(FLUENT_URI_URI, parse(FLUENT_URI_URI, "http://A/b")) &&
+           !is_plainly_normal(FLUENT_URI_URI, no) && by_pairs() &&
            version() >> 16 == FLUENT_URI_VERSION_MAJOR && !error_name(11) &&
            *error_name(FLUENT_URI_NOT_UTF8) == "FLUENT_URI_NOT_UTF8";
 }

@@ -1,9 +1,9 @@
 /* libFuzzer on the border. Of any bytes, each call stays within what it is given: a text is beside
- * a page that cannot be read, and a call changes only what the header lets it write, of buffers
- * with canaries between them. What the calls return agrees. With SECOND_BUILD a second build of the
- * library, whose names begin with second_, makes every call too, and writes the same bytes. Without
- * libFuzzer, `fuzz FILE..` runs files. */
+ * a page that cannot be read, and a call changes only what the header lets it write, between
+ * canaries. What the calls return agrees. With SECOND_BUILD a second build of the library, by names
+ * that begin with second_, writes the same bytes. Without libFuzzer, `fuzz FILE..` runs files. */
 #define _DEFAULT_SOURCE
+#include "laws.h"
 #include "test.h"
 #include <sys/mman.h>
 
@@ -14,13 +14,13 @@ enum { PAGE = 4096, CANARY = 32, ROOM = 4096, TEXTS = 4, LINES = 8 };
           : (fprintf(stderr, "%s:%d: call %d: %s\n", __FILE__, __LINE__, call, #it), abort()))
 
 #define EACH_CALL(IT) \
-    IT(parse) IT(normalize) IT(to_uri) IT(decode) IT(encode) IT(resolve) IT(resolve_normalized) \
-    IT(relativize) IT(mend) IT(mend_link) IT(normalize_batch) IT(to_uri_batch) \
-    IT(component_batch) IT(resolve_batch) IT(resolve_normalized_batch) IT(relativize_batch) \
-    IT(mend_batch) IT(mend_link_batch) IT(decode_batch) IT(encode_batch) IT(normalize_batch64) \
-    IT(to_uri_batch64) IT(component_batch64) IT(resolve_batch64) IT(resolve_normalized_batch64) \
-    IT(relativize_batch64) IT(mend_batch64) IT(mend_link_batch64) IT(decode_batch64) \
-    IT(encode_batch64) IT(parse_batch) IT(parse_batch64) IT(normalize_lines)
+    IT(parse) IT(decode) IT(encode) IT(mend_component) IT(normalize) IT(to_uri) IT(resolve) \
+    IT(resolve_normalized) IT(relativize) IT(mend) IT(mend_link) IT(normalize_batch) \
+    IT(to_uri_batch) IT(component_batch) IT(resolve_batch) IT(resolve_normalized_batch) \
+    IT(relativize_batch) IT(mend_batch) IT(mend_link_batch) IT(decode_batch) IT(encode_batch) \
+    IT(normalize_batch64) IT(to_uri_batch64) IT(component_batch64) IT(resolve_batch64) \
+    IT(resolve_normalized_batch64) IT(relativize_batch64) IT(mend_batch64) IT(mend_link_batch64) \
+    IT(decode_batch64) IT(encode_batch64) IT(parse_batch) IT(parse_batch64) IT(normalize_lines)
 
 enum {
 #define NUMBERED(NAME) call_##NAME,
@@ -101,6 +101,7 @@ static uint32_t made(const build *by, int call, const input *in, written *to) {
         WITH_BASE(resolve, in->kind) WITH_BASE(resolve_normalized, in->kind)
         WITH_BASE(relativize, NUMBERS) OF_COMPONENT(decode) OF_COMPONENT(encode)
     case call_parse: return by->parse(in->kind, ONE, to->parts);
+    case call_mend_component: return by->mend_component(in->component, ONE, OUT);
     case call_component_batch: return by->component_batch(in->kind, in->component, ONE, COLUMN);
     case call_component_batch64:
         return by->component_batch64(in->kind, in->component, ONE, COLUMN64);
@@ -116,9 +117,7 @@ static uint32_t made(const build *by, int call, const input *in, written *to) {
     }
 }
 
-static int makes_value(int call) {
-    return call < FIRST_BATCH && call != call_parse && call != call_decode && call != call_encode;
-}
+static int makes_value(int call) { return call > call_mend_component && call < FIRST_BATCH; }
 
 /* Nothing has changed but what the header lets the call write. */
 static void stays_within(int call, const input *in, const written *it) {
@@ -135,8 +134,7 @@ static void stays_within(int call, const input *in, const written *it) {
         if (call < FIRST_BATCH) {
             HOLDS(done <= in->size && it->outcome.which <= 1);
             if (it->error == 0 && length <= in->room) MAY_WRITE(out, length);
-            if (it->error == 0 && in->parts && makes_value(call))
-                MAY_WRITE(parts, sizeof *it->parts);
+            if (!it->error && in->parts && makes_value(call)) MAY_WRITE(parts, sizeof *it->parts);
         } else if (call == call_parse_batch || call == call_parse_batch64) {
             HOLDS(done < in->places);
             MAY_WRITE(parts, done * sizeof *it->parts);
@@ -187,6 +185,8 @@ static void parse_returns_spans(const input *in) {
     const fluent_uri_span spans[] = {it->scheme, it->authority, it->userinfo, it->host,
                                      it->port,   it->path,      it->query,    it->fragment};
     for (size_t i = 0; i < sizeof spans / sizeof *spans; i++) is_span(call, spans[i], in->size);
+    HOLDS(has_pairs_in_order(in->text, in->size));
+    HOLDS(is_normal_if_plain(in->kind, in->text, in->size, (int)in->component));
 }
 
 static uint8_t again[3 * ROOM];

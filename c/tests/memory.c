@@ -40,7 +40,7 @@ static int is_kept(size_t length) {
     return is_clear(0, CANARY) && is_clear(CANARY + length, sizeof whole);
 }
 
-enum { WORKS = 11 };
+enum { WORKS = 12 };
 static uint32_t ends[3];
 static uint8_t valid;
 
@@ -61,6 +61,8 @@ static uint32_t work(int which, size_t room) {
     case 7: return fluent_uri_relativize(2, 0, TEXT(base), TEXT("http://a/b/%7e/d"), out, room,
                                          NO_PARTS, &outcome);
     case 9: return fluent_uri_mend(2, TEXT("http://a/b c#d#e"), out, room, NO_PARTS, &outcome);
+    case 11: return fluent_uri_mend_component(FLUENT_URI_PATH, TEXT("%7e b\xc3\xa9#"), out, room,
+                                              &outcome);
     case 10: return fluent_uri_mend_link(1, TEXT(" /b\n c\t[ "), out, room, NO_PARTS, &outcome);
     default: return fluent_uri_normalize_lines(2, TEXT("A:%7e\nb"), out, room, &valid, 2 - 1, &outcome);
     }

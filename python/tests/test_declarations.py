@@ -21,8 +21,11 @@ TYPES = {
     "uint32_t *": {ours.OUT},
     "const uint64_t *": {ours.OUT},
     "uint64_t *": {ours.OUT},
+    "size_t *": {ours.OUT},
     "fluent_uri_parts *": {ours.OUT},
+    "const fluent_uri_parts *": {ours.OUT},
     "fluent_uri_outcome *": {ours.OUT},
+    "fluent_uri_pair *": {ours.OUT},
 }
 FIELDS = {"uint32_t": ctypes.c_uint32, "size_t": ctypes.c_size_t, "fluent_uri_span": ours.Span}
 

@@ -13,7 +13,7 @@ import urllib.parse
 import fluent_uri.parse
 
 PAGE = pathlib.Path(__file__).resolve().parents[2] / "docs" / "PYTHON.md"
-MODULES = ["", "._columns", "._errors", ".batch", ".parse"]
+MODULES = ["", "._columns", "._encoding", "._errors", "._paths", ".batch", ".parse"]
 COMPARE = PAGE.parents[1] / "python" / "compare-urllib"
 ROW = re.compile(r"^\| `(\w+\(.*?)` \| `(.*?)` \| `(.*?)` \|.*\|$", re.MULTILINE)
 
@@ -52,7 +52,8 @@ class Differences(unittest.TestCase):
 
 def load_tests(loader, tests, pattern):
     for name in MODULES:
-        tests.addTests(doctest.DocTestSuite(importlib.import_module(f"fluent_uri{name}")))
+        module = importlib.import_module(f"fluent_uri{name}")
+        tests.addTests(doctest.DocTestSuite(module, extraglobs={"Uri": fluent_uri.Uri}))
     tests.addTests(doctest.DocFileSuite(str(PAGE), module_relative=False, encoding="utf-8"))
     return tests
 

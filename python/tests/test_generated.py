@@ -133,6 +133,20 @@ CALLS = {
         plain(Dice.value),
     ),
     "normalize": (lambda p, value: value.normalize(), plain(Dice.value)),
+    "path": (
+        lambda p, value: [value.segments, value.encoded_segments, value.name, value.parent],
+        plain(Dice.value),
+    ),
+    "/": (lambda p, value, it: value / it, plain(Dice.value, Dice.any)),
+    "with_name": (lambda p, value, it: value.with_name(it), plain(Dice.value, Dice.any)),
+    "query_pairs": (
+        lambda p, value, **more: value.query_pairs(**more),
+        plain(Dice.value, plus_is_space=Dice.flag),
+    ),
+    "with_query": (
+        lambda p, value, *words, **more: value.with_query([words], **more),
+        plain(Dice.value, Dice.any, Dice.piece, plus_is_space=Dice.flag),
+    ),
     "twice": (lambda p, value: value.normalize().normalize(), plain(Dice.value)),
     "to_uri": (lambda p, value: value.to_uri(), plain(Dice.value)),
     "_to_uri": (lambda p, value, kind: value._to_uri(kind), plain(Dice.value, Dice.kind)),
@@ -162,7 +176,10 @@ CALLS = {
         plain(Dice.value),
     ),
     "decode": (lambda p, *words: p.decode(*words), plain(Dice.any, Dice.component)),
-    "encode": (lambda p, *words: p.encode(*words), plain(Dice.any, Dice.component)),
+    "encode": (
+        lambda p, *words, **more: p.encode(*words, **more),
+        plain(Dice.any, Dice.component, keep_encoded=Dice.flag),
+    ),
     "batch.parse": (lambda p, *words: p.batch.parse(*words), plain(Dice.texts, Dice.kind)),
     "batch.normalize": (lambda p, *words: p.batch.normalize(*words), plain(Dice.texts, Dice.kind)),
     "batch.is_valid": (lambda p, *words: p.batch.is_valid(*words), plain(Dice.texts, Dice.kind)),

@@ -34,6 +34,8 @@ def results():
         ]
         yield f"{name} normalised", lambda value=value: value.normalize()
         yield f"{name} twice", lambda value=value: value.normalize().normalize()
+        yield f"{name} by path", lambda value=value: [value / "a/", value.parent, value.segments]
+        yield f"{name} by pairs", lambda value=value: value.with_query({"a": "&"}).query_pairs()
         yield f"{name} said", lambda value=value: [str(value), repr(value), hash(value)]
         yield f"{name} compared", lambda value=value: [value == it for it in VALUES]
         yield f"{name} copied", lambda value=value: value.__reduce_ex__(4)
@@ -52,6 +54,7 @@ def results():
                     )
             yield f"{name} relativizes", lambda value=value: value.relativize(value)
     texts = ["HTTP://A", "a b", "é", "\ud800", f"x:{LONG}"]
+    yield "pairs", lambda: IriRef("?a=1&&b&é=%C3%A9&").query_pairs()
     yield "batch.parse", lambda: batch.parse(texts, Iri)
     yield "batch.normalize", lambda: batch.normalize(texts, Iri)
     yield "batch.parse, mended", lambda: batch.parse([*texts, *VALUES], IriRef, mend=True)

@@ -75,6 +75,7 @@ def wrong():
     }
 
 
+WITHOUT_ARGUMENT = {"normalize", "to_uri", "query_pairs"}
 VALUES = {"a value", "a reference", "an IRI"}
 TEXTS = {"str", *VALUES}
 ITERABLES = {"list", "tuple", "dict", "set", "generator"}
@@ -94,6 +95,12 @@ CALLS = {
     **{it.__name__: (it, TEXTS) for it in KINDS},
     "Reference": (fluent_uri.Reference, set()),
     "with_fragment": (VALUE.with_fragment, {"str", "None"}),
+    "/": (lambda it: VALUE / it, {"str"}),
+    "with_name": (VALUE.with_name, {"str"}),
+    "with_query": (VALUE.with_query, {"None"}),
+    "with_query, a pair": (lambda it: VALUE.with_query([it]), set()),
+    "with_query, a name": (lambda it: VALUE.with_query([(it, "")]), {"str"}),
+    "with_query, a value": (lambda it: VALUE.with_query({"a": it}), {"str"}),
     "resolve": (VALUE.resolve, TEXTS),
     "Iri.resolve": (Iri("x://é").resolve, TEXTS),
     "relativize": (VALUE.relativize, TEXTS),
@@ -109,6 +116,10 @@ CALLS = {
     "decode, component": (lambda it: decode("a", it), {"component", "int"}),
     "encode": (encode, {"str", "bytes", "bytearray", "memoryview"}),
     "encode, component": (lambda it: encode("a", it), {"component", "int"}),
+    "encode, kept": (
+        lambda it: encode(it, keep_encoded=True),
+        {"str", "bytes", "bytearray", "memoryview"},
+    ),
     "batch.parse": (batch.parse, ITERABLES),
     "batch.parse, a text": (lambda it: batch.parse([it]), TEXTS),
     "batch.parse, kind": (lambda it: batch.parse(["a:b"], it), CLASSES),
@@ -259,7 +270,7 @@ class Types(unittest.TestCase):
         for kind in KINDS:
             for name in dir(kind):
                 it = getattr(kind, name)
-                if name[0] != "_" and callable(it) and name not in ("normalize", "to_uri"):
+                if name[0] != "_" and callable(it) and name not in WITHOUT_ARGUMENT:
                     self.assertIn(name, named)
 
     def test_wrong_values_of_a_right_type(self):

@@ -40,6 +40,13 @@ iri: Iri = Iri.parse(uri)
 of_values: List[Optional[Iri]] = batch.parse([uri, "a:b"], Iri)
 bits: memoryview = batch.is_valid_column(b"a:b", array("I", [0, 3]), Uri)
 each: List[bool] = batch.is_valid(["a:b"])
+segments: Tuple[str, ...] = uri.segments + uri.encoded_segments
+below: Uri = uri / "a" / uri.name
+beside: IriRef = IriRef("a/b").parent.with_name("c")
+query_pairs: List[Tuple[str, str]] = uri.query_pairs(plus_is_space=True)
+with_pairs: Iri = iri.with_query(query_pairs).with_query({"a": "b"}, plus_is_space=True)
+with_none: Reference = any_kind.with_query(None)
+kept: str = encode("a%20b", keep_encoded=True)
 short: List[Optional[str]] = batch.relativize(uri, ["a:b"], prefer_relative_path=True)
 mended: UriRef = UriRef.mend("a b")
 link: Iri = Iri.mend_link(" a:b c ")

@@ -26,3 +26,5 @@ def works(package):
     assert type(package.Iri.parse(uri)) is package.Iri and isinstance(uri, package.Reference)
     assert [type(it) for it in package.batch.parse(["a:b"], package.IriRef)] == [package.IriRef]
     assert package.decode(package.encode("é")) == "é".encode()
+    assert str(uri / "x/y") == "HTTP://u@a/b/%7ec/x%2Fy" and uri.segments == ("b", "~c")
+    assert uri.with_query([("x", "&")]).query_pairs() == [("x", "&")]

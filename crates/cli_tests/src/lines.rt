@@ -2,7 +2,7 @@
 use cookbook::attributes::note_attribute;
 use cookbook::frontier::Frontier;
 use cookbook::links::print_page;
-use cookbook::pairs::{Pair, print_pairs, query_of};
+use cookbook::pairs::print_pairs;
 use cookbook::parts::parts_of;
 use cookbook::reach::reach;
 use cookbook::refusal::Failure;
@@ -17,6 +17,7 @@ use std::collections::BTreeMap;
 use std::process::Abort;
 use test_support::{equal, prints};
 use uri_links::links::{Outcome, Register};
+use uri_query::{Pair, query_of};
 
 /// Copies literal words for a test of the programs of `cookbook`.
 fn owned(alloc: Global, words: &[&str]) -> Result<Vec<String>, AllocError> {

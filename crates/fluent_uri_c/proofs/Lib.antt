@@ -1,6 +1,7 @@
 mod AsciiBlocks
 mod Batches
 mod Bits
+mod ComponentMending
 mod Decoded
 mod HostNames
 mod LinesOf
@@ -9,6 +10,8 @@ mod OtherErrors
 mod ParsedBases
 mod PartColumns
 mod Places
+mod PlainTexts
+mod QueryPairs
 mod References
 mod Rejected
 mod Targets

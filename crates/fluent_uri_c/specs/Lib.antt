@@ -6,11 +6,14 @@ pub mod Errors
 pub mod Full
 pub mod Kinds
 pub mod Lines
+pub mod MendedComponents
 pub mod Mends
 pub mod Names
 pub mod Options
 pub mod Outcomes
+pub mod Pairs
 pub mod PartColumns
+pub mod PlainTexts
 pub mod Relatives
 pub mod Results
 pub mod Sets

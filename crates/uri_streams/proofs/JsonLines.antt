@@ -9,7 +9,7 @@ use Rattle.std.specs.Str.Lossy.{replacement_bytes}
 use Rattle.std.proofs.lemmas.List.Elements.{recursion_from_All}
 use Rattle.std.proofs.lemmas.Str.{IsUtf8-append, IsUtf8-encode, IsUtf8-nil}
 use Rattle.std.proofs.lemmas.Str.{IsUtf8-from_is_utf8}
-use Rattle.cookbook.specs.Pairs.{decode_pair}
+use Rattle.uri_query.specs.Pairs.{decode_pair}
 use Rattle.fluent_uri.specs.Components.{components, recompose}
 use Rattle.fluent_uri.specs.Grammar.{IsTextOf}
 use Rattle.uri_pct.specs.Pieces.{Piece, WellFormed, IllFormed, IsOfCharacter, char_of, lossy_piece}

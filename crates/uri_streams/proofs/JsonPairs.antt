@@ -4,7 +4,7 @@ use Rattle.std.proofs.Common.{subst}
 use Rattle.std.specs.Prelude.{codes}
 use Rattle.std.specs.Str.{IsUtf8, chars, encode_utf8_all}
 use Rattle.std.proofs.lemmas.Str.{encodes-chars}
-use Rattle.cookbook.specs.Pairs.{NameAndValue}
+use Rattle.uri_query.specs.Pairs.{NameAndValue}
 use Rattle.uri_streams.specs.JsonTexts.{JsonValue, Array, String, Elements, EndOfArray, Element}
 use Rattle.uri_streams.specs.JsonTexts.{IsStructural, RepresentsValue, RepresentsElements}
 use Rattle.uri_streams.specs.JsonTexts.{RepresentsMoreElements, IsJsonTextOf}

@@ -2,7 +2,7 @@
 use Rattle.std.specs.Prelude.{ℕ, List, [], ◌∷◌, codes, Option, Some, None, option_map}
 use Rattle.std.specs.Prelude.{option_and_then}
 use Rattle.std.specs.Str.{chars}
-use Rattle.cookbook.specs.Pairs.{NameAndValue}
+use Rattle.uri_query.specs.Pairs.{NameAndValue}
 use Rattle.fluent_uri.specs.Authority.{authority_parts}
 use Rattle.fluent_uri.specs.Components.{Components}
 use Rattle.fluent_uri.specs.Hosts.{host_kind}

@@ -14,7 +14,7 @@ pub mod Runs
 pub mod Models
 pub mod CommandLines
 pub mod Statuses
-pub use Rattle.cookbook.specs.Pairs
+pub use Rattle.uri_query.specs.Pairs
 pub use Rattle.fluent_uri.specs.Authority
 pub use Rattle.fluent_uri.specs.Components
 pub use Rattle.fluent_uri.specs.Grammar

@@ -3,7 +3,7 @@ use Rattle.std.specs.Prelude.{ℕ, ◌+◌, ◌%◌, ◌==◌, List, [], ◌∷�
 use Rattle.std.specs.Prelude.{Option, Some, None, if◌then◌else◌}
 use Rattle.std.specs.List.{flat_map}
 use Rattle.std.specs.Str.{chars}
-use Rattle.cookbook.specs.Pairs.{NameAndValue, decode_pairs}
+use Rattle.uri_query.specs.Pairs.{NameAndValue, decode_pairs}
 
 -- the code of the hexadecimal digit of a number below 16, in lower case, for an escape in JSON
 abbrev pub hex_digit : ℕ → ℕ

@@ -1,16 +1,16 @@
 //! The pairs of a query as a line of JSON.
 ghost use Rattle.std.specs.Prelude.{◌≡◌, ◌++◌, ◌<◌, IfOk, OnOk, map, option_map, string_bytes};
-ghost use Rattle.cookbook.specs.Pairs.{pair_texts};
+ghost use Rattle.uri_query.specs.Pairs.{pair_texts};
 ghost use Rattle.fluent_uri.specs.EncodedTexts.{text_of};
 ghost use Rattle.uri_streams.specs.Queries as spec;
 ghost use Rattle.uri_streams.specs.Queries.{control_json, escaped_char, escaped_text};
 ghost use Rattle.uri_streams.specs.Queries.{following_pairs_json, pair_json, pairs_json};
 ghost use Rattle.uri_streams.specs.Queries.{pairs_of_query};
 
-use cookbook::pairs::{Pair, pairs_of};
 use fluent_uri::pct_enc::EStr;
 use fluent_uri::pct_enc::encoder::IQuery;
 use std::alloc::{AllocError, Global};
+use uri_query::{Pair, pairs_of};
 
 /// Returns the decoded pairs of a query as a JSON array, which is empty if there is no query.
 ///

@@ -30,6 +30,7 @@ if not getattr(sys, "_is_gil_enabled", lambda: True)():
 from fluent_uri import _calls, _native
 from fluent_uri._calls import is_compiled
 from fluent_uri._calls import text_of as _text_of
+from fluent_uri._encoding import Component, decode, encode
 from fluent_uri._errors import (
     ParseError,
     ParseErrorKind,
@@ -37,10 +38,11 @@ from fluent_uri._errors import (
     ResolveErrorKind,
 )
 from fluent_uri._errors import exact as _exact
-from fluent_uri._errors import utf8_of as _utf8_of
+from fluent_uri._paths import DotSegmentError, PathsAndQueries
 
 __all__ = [
     "Component",
+    "DotSegmentError",
     "HostKind",
     "Iri",
     "IriRef",
@@ -73,19 +75,8 @@ class HostKind(enum.IntEnum):
     IPV_FUTURE = 4
 
 
-class Component(enum.IntEnum):
-    """The components whose characters `decode` and `encode` know."""
-
-    USERINFO = 0
-    REG_NAME = 1
-    PATH = 2
-    QUERY = 3
-    FRAGMENT = 4
-    DATA = 8
-
-
 @_calls.finished
-class Reference(_calls.Reference):
+class Reference(_calls.Reference, PathsAndQueries):
     """What the four kinds have in common: the base of each, and of no other class.
 
     >>> isinstance(Uri.parse("a:b"), Reference)
@@ -298,57 +289,11 @@ def _reference_kind(base: _Absolute) -> Union[Type[UriRef], Type[IriRef]]:
     return UriRef if issubclass(type(base), Uri) else IriRef
 
 
-for _error in (ParseError, ParseErrorKind, ResolveError, ResolveErrorKind):
-    _error.__module__ = __name__
-
-
-def decode(text: str, component: Component = Component.PATH) -> bytes:
-    """Returns the bytes that a component stands for. They may be no UTF-8, and `+` is no space.
-
-    >>> decode("a%20%C3%A9").decode()
-    'a é'
-
-    Raises `ParseError` if the component may not hold the text, and `ValueError` for `DATA`.
-    """
-    number = _number_of(component)
-    return _native.result(_native.decode, number, _utf8_of(_exact(text)))
-
-
-def encode(data: Union[str, bytes], component: Component = Component.DATA) -> str:
-    """Returns the bytes, or the text in UTF-8, as a component. Each character that the component
-    may hold stays, and every other byte is percent-encoded.
-
-    >>> encode("a b/é")
-    'a%20b%2F%C3%A9'
-    >>> encode("a b/é", Component.PATH)
-    'a%20b/%C3%A9'
-
-    Raises `ParseError` if the text has a surrogate, which has no UTF-8.
-    """
-    number = _number_of(component)
-    return _native.result(_native.encode, number, _bytes_of(data)).decode()
-
-
-def _number_of(component: Component) -> int:
-    """The number of a component, which may be given by that."""
-    if type(component) is not Component and type(component) is not int:
-        raise TypeError(f"a component is a Component, not {type(component)!r}")
-    return int(Component(component))
-
-
-def _bytes_of(data: Any) -> bytes:
-    """The bytes of an object that has some, or of a text."""
-    if issubclass(type(data), str):
-        text = _exact(data)
-        try:
-            return text.encode()
-        except UnicodeEncodeError as error:
-            at = error.start
-        raise ParseError(ParseErrorKind.NOT_UTF8, len(text[:at].encode()), at)
-    if issubclass(type(data), (bytes, bytearray, memoryview)):
-        return memoryview(data).tobytes()
-    raise TypeError(f"what is encoded is a str or bytes, not {type(data)!r}")
-
+for _named in (
+    *(ParseError, ParseErrorKind, ResolveError, ResolveErrorKind, DotSegmentError),
+    *(Component, decode, encode),
+):
+    _named.__module__ = __name__
 
 # It needs what is above.
 from fluent_uri import batch  # noqa: E402

@@ -23,6 +23,7 @@ __all__ = [
     "kind_of",
     "mend_all",
     "normalize_all",
+    "pairs_in",
     "parse_all",
     "text_given",
     "text_of",
@@ -43,6 +44,7 @@ if TYPE_CHECKING:
         kind_of,
         mend_all,
         normalize_all,
+        pairs_in,
         parse_all,
         text_given,
         text_of,
@@ -65,6 +67,7 @@ else:
     kind_of, text_of, text_given = _chosen.kind_of, _chosen.text_of, _chosen.text_given
     are_valid, normalize_all = _chosen.are_valid, _chosen.normalize_all
     mend_all, parse_all = _chosen.mend_all, _chosen.parse_all
+    pairs_in = _chosen.pairs_in
 
 BASES = (Uri, UriRef, Iri, IriRef)
 _Class = TypeVar("_Class")

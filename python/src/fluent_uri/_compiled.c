@@ -235,6 +235,7 @@ static PyMethodDef functions[] = {
     {"normalize_all", normalize_all, METH_VARARGS, NULL},
     {"are_valid", are_valid, METH_VARARGS, NULL},
     {"mend_all", mend_all, METH_VARARGS, NULL},
+    {"pairs_in", pairs_in, METH_O, NULL},
     {"kind_of", module_kind_of, METH_O, NULL},
     {"text_of", text_of, METH_O, NULL},
     {"text_given", module_text_given, METH_O, NULL},

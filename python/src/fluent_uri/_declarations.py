@@ -60,6 +60,10 @@ class Parts(ctypes.Structure):
     ]
 
 
+class Pair(ctypes.Structure):
+    _fields_ = [("name", Span), ("value", Span)]
+
+
 class Outcome(ctypes.Structure):
     _fields_ = [
         ("error", ctypes.c_uint32),
@@ -82,6 +86,7 @@ FUNCTIONS: Dict[str, Tuple[Any, ...]] = {
     "version": (),
     "error_name": (NUMBER, *_BUFFER, OUT),
     "parse": (NUMBER, *_TEXT, OUT),
+    "is_plainly_normal": (NUMBER, *_TEXT, OUT),
     "normalize": (NUMBER, *_TEXT, *_BUFFER, *_BUFFER, OUT),
     "resolve": (NUMBER, *_TEXT, *_TEXT, *_BUFFER, *_BUFFER, OUT),
     "resolve_normalized": (NUMBER, *_TEXT, *_TEXT, *_BUFFER, *_BUFFER, OUT),
@@ -91,6 +96,8 @@ FUNCTIONS: Dict[str, Tuple[Any, ...]] = {
     "mend_link": (NUMBER, *_TEXT, *_BUFFER, *_BUFFER, OUT),
     "decode": (NUMBER, *_TEXT, *_BUFFER, OUT),
     "encode": (NUMBER, *_TEXT, *_BUFFER, OUT),
+    "mend_component": (NUMBER, *_TEXT, *_BUFFER, OUT),
+    "next_pair": (*_TEXT, OUT, OUT),
     "normalize_batch": (NUMBER, *_BUFFER, *_BUFFER, *_BUFFER, *_BUFFER, *_BUFFER, OUT),
     "normalize_batch64": (NUMBER, *_BUFFER, *_BUFFER, *_BUFFER, *_BUFFER, *_BUFFER, OUT),
     "to_uri_batch": (NUMBER, *_BUFFER, *_BUFFER, *_BUFFER, *_BUFFER, *_BUFFER, OUT),

@@ -25,6 +25,8 @@
 #define KINDS 4
 
 typedef uint32_t parse_call(uint32_t, const uint8_t *, size_t, fluent_uri_parts *);
+typedef uint32_t test_call(uint32_t, const uint8_t *, size_t, const fluent_uri_parts *);
+typedef uint32_t next_call(const uint8_t *, size_t, size_t *, fluent_uri_pair *);
 typedef uint32_t text_call(uint32_t, const uint8_t *, size_t, uint8_t *, size_t,
                            fluent_uri_parts *, size_t, fluent_uri_outcome *);
 typedef uint32_t pair_call(uint32_t, const uint8_t *, size_t, const uint8_t *, size_t, uint8_t *,
@@ -34,6 +36,8 @@ typedef uint32_t option_call(uint32_t, uint32_t, const uint8_t *, size_t, const 
 
 typedef struct {
     parse_call *parse; /* NULL before `open` */
+    test_call *is_plainly_normal;
+    next_call *next_pair;
     text_call *normalize, *to_uri, *mend, *mend_link;
     pair_call *resolve, *resolve_normalized;
     option_call *relativize;
@@ -67,6 +71,8 @@ static PyObject *module_open(PyObject *module, PyObject *words) {
     Functions found;
     if (!state || !PyArg_ParseTuple(words, "O!O", &PyDict_Type, &addresses, &error_of)) return NULL;
     if (taken(addresses, "parse", &found.parse) < 0 ||
+        taken(addresses, "is_plainly_normal", &found.is_plainly_normal) < 0 ||
+        taken(addresses, "next_pair", &found.next_pair) < 0 ||
         taken(addresses, "normalize", &found.normalize) < 0 ||
         taken(addresses, "to_uri", &found.to_uri) < 0 ||
         taken(addresses, "mend", &found.mend) < 0 ||

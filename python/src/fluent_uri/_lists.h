@@ -71,4 +71,42 @@ static PyObject *are_valid(PyObject *module, PyObject *words) {
     return each_of(words, is_of_kind);
 }
 
+/* A part of a query, or None where it is absent. */
+static PyObject *span_of(const Utf8 *query, fluent_uri_span span) {
+    if (span.start == SIZE_MAX) return Py_NewRef(Py_None);
+    return PyUnicode_DecodeUTF8((const char *)query->at + span.start,
+                                (Py_ssize_t)(span.end - span.start), "surrogatepass");
+}
+
+/* Adds a pair of a name and a value to a list. */
+static int add_pair(PyObject *list, const Utf8 *query, const fluent_uri_pair *at) {
+    PyObject *name = span_of(query, at->name), *value = name ? span_of(query, at->value) : NULL;
+    PyObject *pair = value ? PyTuple_Pack(2, name, value) : NULL;
+    int status = pair ? PyList_Append(list, pair) : -1;
+    Py_XDECREF(pair);
+    Py_XDECREF(value);
+    Py_XDECREF(name);
+    return status;
+}
+
+/* pairs_in(query): a list of the pairs of a str as they are: a name, and a value or None. */
+static PyObject *pairs_in(PyObject *module, PyObject *query) {
+    State *state = PyModule_GetState(module);
+    size_t position = 0;
+    fluent_uri_pair pair;
+    Utf8 utf8;
+    if (!state || !state->call.next_pair) return PyErr_Format(PyExc_TypeError, "not opened");
+    if (!PyUnicode_Check(query))
+        return PyErr_Format(PyExc_TypeError, "a query is a str, not %R", Py_TYPE(query));
+    PyObject *list = PyList_New(0);
+    if (!list || utf8_of(Py_NewRef(query), &utf8) < 0) {
+        Py_XDECREF(list);
+        return NULL;
+    }
+    while (list && state->call.next_pair(utf8.at, (size_t)utf8.size, &position, &pair))
+        if (add_pair(list, &utf8, &pair) < 0) Py_CLEAR(list);
+    Py_DECREF(utf8.held);
+    return list;
+}
+
 #endif

@@ -88,6 +88,7 @@ def addresses() -> Dict[str, int]:
 
 
 parse = function("parse")
+is_plainly_normal = function("is_plainly_normal")
 normalize = function("normalize")
 resolve = function("resolve")
 resolve_normalized = function("resolve_normalized")
@@ -97,6 +98,8 @@ decode = function("decode")
 encode = function("encode")
 mend = function("mend")
 mend_link = function("mend_link")
+mend_component = function("mend_component")
+next_pair = function("next_pair")
 
 
 # The size of a room for a result at first, and of the largest that is kept.

@@ -2,12 +2,13 @@
 
 from __future__ import annotations
 
+import ctypes
 import struct
 from typing import Any, Callable, List, Optional, Set, Tuple, Type, TypeVar, Union
 
 from fluent_uri import _native
 from fluent_uri._columns import Given, joined
-from fluent_uri._declarations import OPTIONS
+from fluent_uri._declarations import OPTIONS, Pair
 from fluent_uri._errors import ParseError, exact, utf8_of
 
 Self = TypeVar("Self", bound="Reference")
@@ -188,6 +189,11 @@ class Reference:
 
     def normalize(self: Self) -> Self:
         """Returns the normal form (RFC 3986, section 6.2.2)."""
+        data, parts = self.__utf8(), self.__parts
+        if not isinstance(parts, bytes):
+            parts = _PARTS.pack(*parts)
+        if _native.is_plainly_normal(self._number, data, len(data), parts):
+            return self
         return self.__made(type(self), _native.normalize, (self._number,))
 
     def _resolve(self: Self, reference: Union[str, Reference], normalize: bool) -> Self:
@@ -340,3 +346,20 @@ def normalize_all(cls: Type[Reference], texts: Tuple[Any, ...]) -> List[Optional
     data, ends = joined(utf8_of(text_given(it)) for it in texts)
     made = Given(data, ends).done("normalize", words, lambda size, count: size + 2 * count)
     return made.texts()
+
+
+def pairs_in(query: str) -> List[Tuple[str, Optional[str]]]:
+    """The pairs of a query as they are: names and values, or None for a value without `=`."""
+    data, position, pair = utf8_of(query), ctypes.c_size_t(), Pair()
+    words = data, len(data), ctypes.addressof(position), ctypes.addressof(pair)
+    found: List[Tuple[str, Optional[str]]] = []
+    while _native.next_pair(*words):
+        found.append((_span_of(data, pair.name) or "", _span_of(data, pair.value)))
+    return found
+
+
+def _span_of(data: bytes, at: Any) -> Optional[str]:
+    """A part of a query, or None where it is absent."""
+    if at.start == _ABSENT:
+        return None
+    return data[at.start : at.end].decode("utf-8", "surrogatepass")

@@ -1,5 +1,6 @@
 use Rattle.std.proofs.Common.{◌≡◌, drop, map, string_bytes}
-use Rattle.cookbook.specs.Pairs.{lines_from, lines_text, pair_texts}
+use Rattle.uri_query.specs.Pairs.{pair_texts}
+use Rattle.cookbook.specs.PairLines.{lines_from, lines_text}
 use Rattle.cookbook.proofs.pairs.lines_of.Given as goal
 
 abbrev pub invariant-loop-pair : goal.invariant-loop-pair

@@ -1,6 +1,6 @@
 -- What was written, and what is left to write.
 use Rattle.std.proofs.Common.{◌≡◌, ◌++◌, map, string_bytes, take}
-use Rattle.cookbook.specs.Pairs.{pair_texts}
+use Rattle.uri_query.specs.Pairs.{pair_texts}
 use Rattle.uri_streams.specs.Queries.{following_pairs_json}
 use Rattle.uri_streams.proofs.queries.push_following_pairs.Given as goal
 

@@ -22,27 +22,27 @@ use Rattle.fluent_uri.specs.Sets.{allows, allows_past_ascii, data_set}
 use Rattle.fluent_uri.specs.Texts.{lacks}
 use Rattle.fluent_uri.specs.Tokens.{Octet, bytes_decoded_from, print, text_of_token, tokens}
 use Rattle.fluent_uri.proofs.Calling.{calling, lossy_text-is-utf8_lossy}
-use Rattle.cookbook.specs.Pairs.{append_pair, data_text, decode_nonempty_substrings, decode_pair}
-use Rattle.cookbook.specs.Pairs.{decode_pairs, decode_text, pair_text, pair_texts, query_from}
-use Rattle.cookbook.specs.Pairs.{query_text, text_after_equals, text_before_equals}
-use Rattle.cookbook.specs.declared.pairs.Pair.{Pair}
-use Rattle.cookbook.proofs.Cuts.{text_after_equals-append, text_before_equals-append}
+use Rattle.uri_query.specs.Pairs.{append_pair, data_text, decode_nonempty_substrings, decode_pair}
+use Rattle.uri_query.specs.Pairs.{decode_pairs, decode_text, pair_text, pair_texts, query_from}
+use Rattle.uri_query.specs.Pairs.{query_text, text_after_equals, text_before_equals}
+use Rattle.uri_query.specs.declared.pairs.Pair.{Pair}
+use Rattle.uri_query.proofs.Cuts.{text_after_equals-append, text_before_equals-append}
 
--- cookbook, pairs of a query: a digit of a percent-encoded octet is not `&` (38)
+-- pairs of a query: a digit of a percent-encoded octet is not `&` (38)
 digit_is_no_ampersand : (n : ℕ) → eqb (digit_glyph true n) 38 ≡ false
 digit_is_no_ampersand n = ⊎_elim
     (λ e. grind (arith, e))
     (λ e. grind (arith, e))
     (cases_Bool (nat_lt n 10))
 
--- cookbook, pairs of a query: a digit of a percent-encoded octet is not `=` (61)
+-- pairs of a query: a digit of a percent-encoded octet is not `=` (61)
 digit_is_no_equals_sign : (n : ℕ) → eqb (digit_glyph true n) 61 ≡ false
 digit_is_no_equals_sign n = ⊎_elim
     (λ e. grind (arith, e))
     (λ e. grind (arith, e))
     (cases_Bool (nat_lt n 10))
 
--- cookbook, pairs of a query: a character that data may have literally is of ASCII
+-- pairs of a query: a character that data may have literally is of ASCII
 allowed_char_is_ascii : (c : ℕ) → allows data_set c ≡ true → c < 128
 unfolding allows_past_ascii
 allowed_char_is_ascii c e = ⊎_elim
@@ -54,21 +54,21 @@ allowed_char_is_ascii c e = ⊎_elim
 module _ (d : ℕ) (percent : eqb 37 d ≡ false)
     (digit : (n : ℕ) → eqb (digit_glyph true n) d ≡ false)
     (reserved : allows data_set d ≡ false) where
-  -- cookbook, pairs of a query: the octets of bytes lack it
+  -- pairs of a query: the octets of bytes lack it
   octets_lack : (bs : List ℕ) → lacks d (print (map Octet bs)) ≡ true
   octets_lack [] = refl
   octets_lack (b ∷ bs) =
       and_from _ _ (ap not percent) (and_from _ _ (ap not (digit (b / 16)))
       (and_from _ _ (ap not (digit (b % 16))) (octets_lack bs)))
 
-  -- cookbook, pairs of a query: a character that data may have literally is another
+  -- pairs of a query: a character that data may have literally is another
   unreserved_char_is_another : (c : ℕ) → allows data_set c ≡ true → eqb c d ≡ false
   unreserved_char_is_another c e = ⊎_elim
       (λ h. absurd (false≢true (sym reserved ∙ ap (allows data_set) (sym (eqb-true c d h)) ∙ e)))
       (λ h. h)
       (cases_Bool (eqb c d))
 
-  -- cookbook, pairs of a query: a character that is encoded as data lacks it
+  -- pairs of a query: a character that is encoded as data lacks it
   encoded_char_lacks : (c : ℕ) → lacks d (print (encode_char data_set c)) ≡ true
   encoded_char_lacks c = ⊎_elim
       (λ e. ap (λ ts. lacks d (print ts)) (cond-true _ _ _ e)
@@ -77,7 +77,7 @@ module _ (d : ℕ) (percent : eqb 37 d ≡ false)
       (λ e. ap (λ ts. lacks d (print ts)) (cond-false _ _ _ e) ∙ octets_lack (encode_utf8 c))
       (cases_Bool (allows data_set c))
 
-  -- cookbook, pairs of a query: characters that are encoded as data lack it
+  -- pairs of a query: characters that are encoded as data lack it
   encoded_chars_lack : (cs : List ℕ) → lacks d (print (flat_map (encode_char data_set) cs)) ≡ true
   encoded_chars_lack [] = refl
   encoded_chars_lack (c ∷ cs) =
@@ -87,16 +87,16 @@ module _ (d : ℕ) (percent : eqb 37 d ≡ false)
       (print (flat_map (encode_char data_set) cs))
       ∙ and_from _ _ (encoded_char_lacks c) (encoded_chars_lack cs)
 
--- cookbook, pairs of a query: data has no `&` (38)
+-- pairs of a query: data has no `&` (38)
 data_has_no_ampersand : (text : List ℕ) → lacks 38 (data_text text) ≡ true
 data_has_no_ampersand text = encoded_chars_lack 38 refl digit_is_no_ampersand refl (chars text)
 
--- cookbook, pairs of a query: data has no `=` (61)
+-- pairs of a query: data has no `=` (61)
 data_has_no_equals_sign : (text : List ℕ) → lacks 61 (data_text text) ≡ true
 data_has_no_equals_sign text =
     encoded_chars_lack 61 refl digit_is_no_equals_sign refl (chars text)
 
--- cookbook, pairs of a query: data decodes to the text that was encoded
+-- pairs of a query: data decodes to the text that was encoded
 data_decodes_to_its_text : (text : List ℕ) → IsUtf8 text → decode_text (data_text text) ≡ text
 data_decodes_to_its_text text u =
     let parsed : tokens (data_text text) ≡ encode_text data_set text = search calling in
@@ -104,7 +104,7 @@ data_decodes_to_its_text text u =
     ap (λ ts. lossy_text (bytes_decoded_from ts)) parsed
     ∙ ap lossy_text decoded ∙ lossy_text-is-utf8_lossy text ∙ utf8_lossy-IsUtf8 text u
 
--- cookbook, pairs of a query: the text of a pair decodes to the pair
+-- pairs of a query: the text of a pair decodes to the pair
 pair_is_decoded : (name value : List ℕ) → IsUtf8 name → IsUtf8 value
     → decode_pair (pair_text (name, value)) ≡ (name, value)
 pair_is_decoded name value u v =
@@ -118,21 +118,21 @@ pair_is_decoded name value u v =
       (ap decode_text (ap text_after_equals whole ∙ after) ∙ data_decodes_to_its_text value v) i,
     )
 
--- cookbook, pairs of a query: the text of a pair has no `&` (38)
+-- pairs of a query: the text of a pair has no `&` (38)
 pair_has_no_ampersand : (name value : List ℕ) → lacks 38 (pair_text (name, value)) ≡ true
 pair_has_no_ampersand name value =
     list_all-append _ (data_text name ++ codes "=") (data_text value)
     ∙ and_from _ _ (list_all-append _ (data_text name) (codes "=")
     ∙ and_from _ _ (data_has_no_ampersand name) refl) (data_has_no_ampersand value)
 
--- cookbook, pairs of a query: a text with a byte in it is not empty
+-- pairs of a query: a text with a byte in it is not empty
 joined_text_is_not_empty : (before : List ℕ) (b : ℕ) (after : List ℕ)
     → is_empty ((before ++ b ∷ []) ++ after) ≡ false
 joined_text_is_not_empty [] b after = refl
 joined_text_is_not_empty (c ∷ cs) b after = refl
 
--- cookbook, pairs of a query: a text without `&` (38) is one substring
-text_without_ampersand_is_one_piece : (text : List ℕ) → lacks 38 text ≡ true
+-- pairs of a query: a text without `&` (38) is one substring
+pub text_without_ampersand_is_one_piece : (text : List ℕ) → lacks 38 text ≡ true
     → slice_split (λ b. eqb b 38) text ≡ text ∷ []
 text_without_ampersand_is_one_piece [] e = refl
 text_without_ampersand_is_one_piece (c ∷ cs) e =
@@ -140,13 +140,13 @@ text_without_ampersand_is_one_piece (c ∷ cs) e =
     cond-false _ _ _ (not-true _ p.0)
     ∙ ap (onto_first c) (text_without_ampersand_is_one_piece cs p.1)
 
--- cookbook, pairs of a query: with one more byte in the first substring, the last is the same
+-- pairs of a query: with one more byte in the first substring, the last is the same
 first_byte_and_last_piece : (c : ℕ) (pieces : List (List ℕ)) (last : List ℕ) → 0 < length pieces
     → onto_first c (pieces ++ last ∷ []) ≡ onto_first c pieces ++ last ∷ []
 first_byte_and_last_piece c [] last h = absurd (omega (arith, h))
 first_byte_and_last_piece c (piece ∷ pieces) last h = refl
 
--- cookbook, pairs of a query: what follows a `&` (38) is one more substring
+-- pairs of a query: what follows a `&` (38) is one more substring
 text_after_ampersand_is_last_piece : (text piece : List ℕ) → lacks 38 piece ≡ true
     → slice_split (λ b. eqb b 38) (text ++ 38 ∷ piece)
     ≡ slice_split (λ b. eqb b 38) text ++ piece ∷ []
@@ -163,7 +163,7 @@ text_after_ampersand_is_last_piece (c ∷ cs) piece e =
     ∙ sym (ap (λ pieces. pieces ++ piece ∷ []) (cond-false _ _ _ h)))
     (cases_Bool (eqb c 38))
 
--- cookbook, pairs of a query: the substring of a pair is decoded to that pair alone
+-- pairs of a query: the substring of a pair is decoded to that pair alone
 piece_of_pair_is_decoded : (name value : List ℕ) → IsUtf8 name → IsUtf8 value
     → decode_nonempty_substrings (pair_text (name, value) ∷ []) ≡ (name, value) ∷ []
 piece_of_pair_is_decoded name value u v =
@@ -171,7 +171,7 @@ piece_of_pair_is_decoded name value u v =
     (joined_text_is_not_empty (data_text name) 61 (data_text value))
     ∙ ap (λ pair. pair ∷ []) (pair_is_decoded name value u v)
 
--- cookbook, pairs of a query: a query with one more pair has one more decoded pair
+-- pairs of a query: a query with one more pair has one more decoded pair
 one_more_pair_is_decoded : (text name value : List ℕ) → IsUtf8 name → IsUtf8 value
     → decode_pairs (append_pair text (name, value)) ≡ decode_pairs text ++ (name, value) ∷ []
 one_more_pair_is_decoded [] name value u v =
@@ -189,7 +189,7 @@ one_more_pair_is_decoded (c ∷ cs) name value u v =
     (filter (λ text. not (is_empty text)) (piece ∷ []))
     ∙ ap (λ pairs. decode_pairs (c ∷ cs) ++ pairs) (piece_of_pair_is_decoded name value u v)
 
--- cookbook, pairs of a query: a query with more pairs has these decoded pairs too
+-- pairs of a query: a query with more pairs has these decoded pairs too
 more_pairs_are_decoded : (text : List ℕ) (pairs : List Pair)
     → decode_pairs (query_from text (map pair_texts pairs))
     ≡ decode_pairs text ++ map pair_texts pairs
@@ -201,7 +201,7 @@ more_pairs_are_decoded text (pair ∷ pairs) =
     (IsUtf8-string_bytes pair.name) (IsUtf8-string_bytes pair.value))
     ∙ append_assoc (decode_pairs text) (pair_texts pair ∷ []) (map pair_texts pairs)
 
--- cookbook, pairs of a query: the query that is made of pairs has these pairs
+-- pairs of a query: the query that is made of pairs has these pairs
 pub query_of_pairs_has_these_pairs : (pairs : List Pair)
     → decode_pairs (query_text (map pair_texts pairs)) ≡ map pair_texts pairs
 query_of_pairs_has_these_pairs pairs = more_pairs_are_decoded [] pairs

@@ -1,7 +1,7 @@
 use Rattle.std.proofs.Common.{◌≡◌, drop, map}
 use Rattle.fluent_uri.specs.EStrings.{owned_text}
-use Rattle.cookbook.specs.Pairs.{pair_texts, query_from, query_text}
-use Rattle.cookbook.proofs.pairs.query_of.Given as goal
+use Rattle.uri_query.specs.Pairs.{pair_texts, query_from, query_text}
+use Rattle.uri_query.proofs.pairs.query_of.Given as goal
 
 abbrev pub invariant-loop-pair : goal.invariant-loop-pair
 invariant-loop-pair l =

@@ -7,7 +7,7 @@ use Rattle.fluent_uri.specs.Encoding.{encode_text}
 use Rattle.fluent_uri.specs.Pieces.{lossy_text}
 use Rattle.fluent_uri.specs.Sets.{data_set}
 use Rattle.fluent_uri.specs.Tokens.{print, bytes_decoded_from, tokens}
-use Rattle.cookbook.specs.declared.pairs.Pair.{Pair}
+use Rattle.uri_query.specs.declared.pairs.Pair.{Pair}
 
 -- the byte `&`, which separates the pairs of a query
 abbrev pub ampersand : ℕ
@@ -43,13 +43,21 @@ text_after_equals (b ∷ bs) = if b == equals_sign then bs else text_after_equal
 abbrev pub decode_pair : List ℕ → NameAndValue
 decode_pair piece = (decode_text (text_before_equals piece), decode_text (text_after_equals piece))
 
+-- those of some substrings of a query that are not empty
+abbrev pub those_with_bytes : List (List ℕ) → List (List ℕ)
+those_with_bytes pieces = filter (λ piece. not (is_empty piece)) pieces
+
+-- the substrings of a query between its `&` that are not empty: each is a pair
+abbrev pub nonempty_substrings : List ℕ → List (List ℕ)
+nonempty_substrings query = those_with_bytes (slice_split (λ b. b == ampersand) query)
+
 -- the decoded pairs of those substrings of a query that are not empty
 abbrev pub decode_nonempty_substrings : List (List ℕ) → List NameAndValue
-decode_nonempty_substrings pieces = map decode_pair (filter (λ piece. not (is_empty piece)) pieces)
+decode_nonempty_substrings pieces = map decode_pair (those_with_bytes pieces)
 
 -- the decoded pairs of a query: one for each substring between its `&` that is not empty
 abbrev pub decode_pairs : List ℕ → List NameAndValue
-decode_pairs query = decode_nonempty_substrings (slice_split (λ b. b == ampersand) query)
+decode_pairs query = map decode_pair (nonempty_substrings query)
 
 -- a name or a value as a query has it: percent-encoded as data
 abbrev pub data_text : List ℕ → List ℕ
@@ -72,13 +80,3 @@ query_from text (pair ∷ pairs) = query_from (append_pair text pair) pairs
 -- the query of pairs, separated by `&`
 abbrev pub query_text : List NameAndValue → List ℕ
 query_text pairs = query_from [] pairs
-
--- a text with a line `name is value` for each pair at its end
-abbrev pub lines_from : List ℕ → List NameAndValue → List ℕ
-lines_from text [] = text
-lines_from text (pair ∷ pairs) =
-    lines_from ((((text ++ pair.0) ++ codes " is ") ++ pair.1) ++ codes "\n") pairs
-
--- the lines that are printed for pairs of a query, each `name is value`
-abbrev pub lines_text : List NameAndValue → List ℕ
-lines_text pairs = lines_from [] pairs

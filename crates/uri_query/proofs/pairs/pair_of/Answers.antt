@@ -1,5 +1,5 @@
-use Rattle.cookbook.proofs.Cuts.{decode_pair-of-halves}
-use Rattle.cookbook.proofs.pairs.pair_of.Goals as goal
+use Rattle.uri_query.proofs.Cuts.{decode_pair-of-halves}
+use Rattle.uri_query.proofs.pairs.pair_of.Goals as goal
 
 pub returns : goal.returns
 returns g c =

@@ -1,8 +1,8 @@
 use Rattle.std.proofs.Common.{◌≡◌, ◌++◌, map}
 use Rattle.fluent_uri.specs.EncodedTexts.{text_of}
 use Rattle.fluent_uri.specs.EncodedTexts.{substrings_left}
-use Rattle.cookbook.specs.Pairs.{pair_texts, decode_pairs, decode_nonempty_substrings}
-use Rattle.cookbook.proofs.pairs.pairs_of.Given as goal
+use Rattle.uri_query.specs.Pairs.{pair_texts, decode_pairs, decode_nonempty_substrings}
+use Rattle.uri_query.proofs.pairs.pairs_of.Given as goal
 
 -- the decoded pairs, and those of the remaining substrings
 abbrev pub invariant-loop-piece : goal.invariant-loop-piece

@@ -1,0 +1,96 @@
+-- A component, mended from left to right: what a scan passes stays, and the character where it stops
+-- becomes octets.
+use Rattle.std.proofs.Common.{◌≡◌, ℕ, ◌+◌, ◌-◌, ◌<◌, ◌≤◌, true, List, ◌++◌, length, take, drop}
+use Rattle.std.proofs.Common.{map, sym, ap, ◌∙◌, arith, ⊎_elim, append_assoc, length-append}
+use Rattle.std.proofs.Common.{length-drop}
+use Rattle.std.specs.Prelude.{encode_utf8, slice_range}
+use Rattle.std.specs.Str.{IsUtf8, IsCharBoundary}
+use Rattle.std.proofs.lemmas.Bool.{cases_lt}
+use Rattle.std.proofs.lemmas.List.{drop-drop, take_at}
+use Rattle.std.proofs.lemmas.List.Edits.{between_none}
+use Rattle.std.proofs.lemmas.Str.{IsUtf8-drop}
+use Rattle.uri_pct.specs.Prefixes.{valid_prefix}
+use Rattle.uri_pct.specs.Sets.{TableSet, LacksPercent}
+use Rattle.uri_pct.specs.Tokens.{Octet, print}
+use Rattle.uri_mend.specs.MendedParts.{mended}
+use Rattle.uri_mend.proofs.ComponentProgress.{nothing-is-scanned-after-scan}
+use Rattle.uri_mend.proofs.MendedSteps.{scanned-prefix-is-kept, unscanned-char-is-encoded}
+
+-- mended components for C: the octets of a part of a text
+abbrev octets_between : List ℕ → ℕ → ℕ → List ℕ
+octets_between text start end = print (map Octet (slice_range text start end))
+
+-- mended components for C: what is between a position and that after a character is the character
+char-is-part-of-text : (text : List ℕ) (end next c : ℕ) → end ≤ next → next ≤ length text
+    → drop end text ≡ encode_utf8 c ++ drop next text → slice_range text end next ≡ encode_utf8 c
+char-is-part-of-text text end next c order inside joined =
+    let size : next - end ≡ length (encode_utf8 c) = omega (
+      arith,
+      ap length joined,
+      length-append (encode_utf8 c) (drop next text),
+      length-drop end text,
+      length-drop next text,
+      order,
+      inside,
+    ) in
+    ap (take (next - end)) joined ∙ take_at (encode_utf8 c) (drop next text) (next - end) (sym size)
+
+module _ (set : TableSet) (lacks : LacksPercent set) (octets : set.pct_encoded ≡ true)
+    (text : List ℕ) (u : IsUtf8 text) where
+  -- what a scan passes stays
+  scanned-run-stays : (done end : ℕ) → IsCharBoundary text done
+      → end ≡ done + valid_prefix set (drop done text)
+      → mended set (drop done text) ≡ slice_range text done end ++ mended set (drop end text)
+  scanned-run-stays done end at here =
+      let rest : List ℕ = drop done text in
+      let n = valid_prefix set rest in
+      let size : n ≡ end - done = omega (arith, here) in
+      scanned-prefix-is-kept set lacks octets rest (IsUtf8-drop text done u at)
+      ∙ ap (λ k. take k rest ++ mended set (drop n rest)) size
+      ∙ ap (λ t. take (end - done) rest ++ mended set t)
+      (drop-drop n done text ∙ ap (λ k. drop k text) (sym here))
+
+  -- the character where a scan stops becomes octets
+  char-after-run-becomes-octets : (end next c : ℕ) → IsCharBoundary text end → end ≤ next
+      → next ≤ length text → valid_prefix set (drop end text) ≡ 0
+      → drop end text ≡ encode_utf8 c ++ drop next text
+      → mended set (drop end text) ≡ octets_between text end next ++ mended set (drop next text)
+  char-after-run-becomes-octets end next c at order inside stop joined =
+      unscanned-char-is-encoded set lacks octets (drop end text) (drop next text) c
+      (IsUtf8-drop text end u at) joined stop
+      ∙ ap (λ bytes. print (map Octet bytes) ++ mended set (drop next text))
+      (sym (char-is-part-of-text text end next c order inside joined))
+
+  -- what is left at a position, by what a scan passes and the character after that, if there is one
+  pub mended-rest-by-run-and-char : (done end next : ℕ) → IsCharBoundary text done
+      → IsCharBoundary text end → IsCharBoundary text next
+      → end ≡ done + valid_prefix set (drop done text) → end ≤ next
+      → (end < length text → (c : ℕ) × (drop end text ≡ encode_utf8 c ++ drop next text))
+      → (length text ≤ end → next ≡ end)
+      → mended set (drop done text)
+      ≡ slice_range text done end ++ (octets_between text end next ++ mended set (drop next text))
+  mended-rest-by-run-and-char done end next from at to here order char last =
+      scanned-run-stays done end from here
+      ∙ ap (λ t. slice_range text done end ++ t)
+      (⊎_elim
+      (λ (more : end < length text).
+      let found = char more in
+      char-after-run-becomes-octets end next found.0 at order to.0
+      (nothing-is-scanned-after-scan set text done end here) found.1)
+      (λ (none : length text ≤ end).
+      let same = last none in
+      sym (ap (λ n. octets_between text end n ++ mended set (drop n text)) same
+      ∙ ap (λ bytes. print (map Octet bytes) ++ mended set (drop end text))
+      (between_none text end)))
+      (cases_lt end (length text)))
+
+-- mended components for C: a text that grows by a run and octets
+pub text-grows-by-run-and-octets : (old mid new run octets rest left whole : List ℕ)
+    → mid ≡ old ++ run → new ≡ mid ++ octets → left ≡ run ++ (octets ++ rest)
+    → old ++ left ≡ whole → new ++ rest ≡ whole
+text-grows-by-run-and-octets old mid new run octets rest left whole first second step before =
+    ap (λ t. t ++ rest) (second ∙ ap (λ t. t ++ octets) first)
+    ∙ append_assoc (old ++ run) octets rest
+    ∙ append_assoc old run (octets ++ rest)
+    ∙ ap (λ t. old ++ t) (sym step)
+    ∙ before

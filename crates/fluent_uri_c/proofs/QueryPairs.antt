@@ -1,0 +1,66 @@
+-- The next pair of a query, as C gets it.
+use Rattle.std.proofs.Common.{◌≡◌, ℕ, ◌<◌, ◌≤◌, List, [], refl, sym, subst, ◌∙◌, arith}
+use Rattle.std.proofs.Common.{⊎_elim, drop, length, ◌+◌}
+use Rattle.std.specs.Prelude.{Some, slice_range}
+use Rattle.std.proofs.lemmas.Bool.{cases_lt, cond-false, cond-true, le-ltb, lt-ltb}
+use Rattle.uri_query.specs.declared.places.PairPlace.{PairPlace}
+use Rattle.uri_query.specs.Pairs.{nonempty_substrings}
+use Rattle.uri_query.specs.Places.{IsNextPair, pair_at, value_of_pair}
+use Rattle.fluent_uri_c.specs.declared.queries.Pair.{Pair}
+use Rattle.fluent_uri_c.specs.Pairs.{LeavesPair, value_span}
+use Rattle.fluent_uri_c.specs.Spans.{IsSpan}
+
+-- pairs for C: where no pair is left, nothing changes
+pub no-pair-is-left : (query : List ℕ) (from : ℕ) (pair : Pair)
+    → nonempty_substrings (drop from query) ≡ [] → LeavesPair query from from pair pair 0
+no-pair-is-left query from pair none = record {
+  number = omega arith;
+  pair = λ e. absurd (omega (arith, e));
+  none = λ _. none;
+  position = λ _. refl;
+  kept = λ _. refl;
+}
+
+module _ (query : List ℕ) (from : ℕ) (place : PairPlace) (next : IsNextPair query from place) where
+  -- pairs for C: the value of the next pair is at its span
+  value-is-at-span : IsSpan query (place.name_end + 1) (value_of_pair (pair_at query place))
+      (value_span place)
+  value-is-at-span = ⊎_elim
+      (λ (more : place.name_end < place.end).
+      let is = lt-ltb place.name_end place.end more in
+      subst (λ part. IsSpan query (place.name_end + 1) part (value_span place))
+      (sym (cond-true _ _ _ is) ∙ next.value)
+      (subst (IsSpan query (place.name_end + 1)
+      (Some (slice_range query (place.name_end + 1) place.end)))
+      (sym (cond-true _ _ _ is))
+      (refl, omega (arith, more), next.within, refl)))
+      (λ (last : place.end ≤ place.name_end).
+      let is = le-ltb place.name_end place.end last in
+      subst (λ part. IsSpan query (place.name_end + 1) part (value_span place))
+      (sym (cond-false _ _ _ is) ∙ next.value)
+      (cond-false _ _ _ is))
+      (cases_lt place.name_end place.end)
+
+  -- pairs for C: the next pair is the one that is reported
+  pub next-pair-is-reported : (old : Pair)
+      → LeavesPair query from place.end old (record {
+        name = record { start = place.start; end = place.name_end };
+        value = value_span place;
+      }) 1
+  next-pair-is-reported old = record {
+    number = omega arith;
+    pair = λ _. record {
+      start = next.start;
+      some = next.some;
+      within = next.within;
+      rest = next.rest;
+      name = (refl, next.name_start, name-is-within, next.name);
+      value = value-is-at-span;
+    };
+    none = λ e. absurd (omega (arith, e));
+    position = λ e. absurd (omega (arith, e));
+    kept = λ e. absurd (omega (arith, e));
+  }
+    where
+      name-is-within : place.name_end ≤ length query
+      name-is-within = omega (arith, next.name_end, next.within)

@@ -1,0 +1,3 @@
+pub mod Cuts
+pub mod PairPlaces
+pub mod PairsAgain
