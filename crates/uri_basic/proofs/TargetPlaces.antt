@@ -52,14 +52,6 @@ record HasPrefix (scheme authority : Option (List ℕ)) (t : Components) : Type 
   scheme_is : t.scheme ≡ scheme
   authority_is : t.authority ≡ authority
 
--- targets: a reference with a scheme brings its own scheme and authority
-prefix-of-reference : (b r : Components) → is_some r.scheme ≡ true
-    → HasPrefix r.scheme r.authority (target b r)
-prefix-of-reference b r s =
-    cond_both (is_some r.scheme) _ _ (HasPrefix r.scheme r.authority)
-    (λ _. record { scheme_is = refl; authority_is = refl })
-    (λ f. absurd (both_ways (is_some r.scheme) f s))
-
 -- targets: a reference with an authority alone is after the base's scheme
 prefix-of-authority : (b r : Components) → is_some r.scheme ≡ false → is_some r.authority ≡ true
     → HasPrefix b.scheme r.authority (target b r)
@@ -104,15 +96,6 @@ places-by-prefix scheme authority t places p s start end = record {
   host_start = start ∙ (λ i. host_start_after (sym p.scheme_is i) (sym p.authority_is i));
   host_end = end ∙ (λ i. host_end_after (sym p.scheme_is i) (sym p.authority_is i));
 }
-
--- targets: a reference with a scheme has the target's positions up to the host
-pub places-of-reference : (b r : Components) (own : PackedPositions) → own ≡ packed (positions_of r)
-    → is_some r.scheme ≡ true → ArePlacesToHost (target b r) own
-places-of-reference b r own at s =
-    places-by-prefix r.scheme r.authority (target b r) own (prefix-of-reference b r s)
-    (ap (λ (p : PackedPositions). p.scheme_end) at)
-    (ap (λ (p : PackedPositions). p.host_start) at)
-    (ap (λ (p : PackedPositions). p.host_end) at)
 
 -- targets: the base has the target's positions up to the host of a reference with no prefix
 pub places-of-base : (b r : Components) (places : PackedPositions)
