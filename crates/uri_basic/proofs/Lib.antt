@@ -4,6 +4,7 @@ pub mod Segments
 pub mod Places
 pub mod Kept
 pub mod Targets
+pub mod TargetPlaces
 pub mod SameRemovals
 pub mod SameTargets
 mod TargetRows

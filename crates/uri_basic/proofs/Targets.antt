@@ -197,7 +197,7 @@ unambiguous-path-is-no-authority (Some a) path h = tt
 
 -- targets: the components of a target's text are those of the target, if its path is not parsed as
 -- an authority (RFC 3986, sections 3.3, 5.2.2 and 5.3)
-basic-target-has-its-components : (base reference : List ℕ)
+pub basic-target-has-its-components : (base reference : List ℕ)
     → is_some (components base).scheme ≡ true
     → is_ambiguous (target (components base) (components reference)) ≡ false
     → components (recompose (target (components base) (components reference)))
@@ -306,7 +306,7 @@ module _ (kind : Kind) (sets : HasComponentSets kind) where
       }
 
 -- general fact on options, for targets: of two ways one is taken
-result-by-test : (test : Bool) (text other : List ℕ)
+pub result-by-test : (test : Bool) (text other : List ℕ)
     → cond test (Err PathStartsWithDoubleSlash) (Ok text) ≡ Ok other
     → (test ≡ false) × (text ≡ other)
 result-by-test true text other e = absurd (cc)

@@ -35,11 +35,12 @@ pub fn rejected_targets_have_no_text()
 {}
 
 /// A reference that leads from a base to a target, such as the one that `relativize` makes, leads
-/// there by the basic algorithm too, if none of the differences concerns it (RFC 3986, section 5.2).
+/// there by the basic algorithm too, if none of the differences concerns it (RFC 3986, section
+/// 5.2).
 ///
-/// From `http://a/b/c` to `http://a/b/x`, `x` leads by both. From `y:` to `x:.` and to `x:/.//`, the
-/// references that `relativize` makes are these targets themselves: by the basic algorithm the one
-/// resolves to `x:`, and the other is rejected.
+/// From `http://a/b/c` to `http://a/b/x`, `x` leads by both. From `y:` to `x:.` and to `x:/.//`,
+/// the references that `relativize` makes are these targets themselves: by the basic algorithm the
+/// one resolves to `x:`, and the other is rejected.
 pub fn references_lead_to_targets_where_nothing_deviates()
     ensures { (base target reference : List ℕ) → LeadsTo base target reference
         → NothingDeviates (without_fragment (components base)) (components reference)

@@ -2,24 +2,26 @@
 ghost use Rattle.std.specs.Prelude.{◌≡◌, IfErr, IfOk, Ok, string_bytes};
 ghost use Rattle.uri_parts.specs.Components.{components};
 ghost use Rattle.uri_parts.specs.Grammar.{IsTextOf};
+ghost use Rattle.uri_parts.specs.PackedPositions.{ArePackedPositionsOf};
 ghost use Rattle.uri_basic.specs.Resolving.{IsBasicError, base_of};
 ghost use Rattle.uri_basic.specs.Target.{basic_resolution_of_texts};
 
 use crate::error::BasicResolveError;
-use crate::target_text::target_text;
+use crate::target_text::{BasicTarget, target_text};
 use std::alloc::Global;
 use uri_ops::traits::{RefOf, Ri, RiMaybeRef};
-use uri_parts::core_text::Core;
 
-/// Returns the text of the target of a reference against a base.
+/// Returns the text of the target of a reference against a base, with its positions.
 fn resolve_to_text<B: Ri, Q: RefOf<B>>(
     alloc: Global,
     base: &B,
     reference: &Q,
-) -> Result<String, BasicResolveError>
-    ensures of_kind { IfOk result (λ text. IsTextOf B.kind (string_bytes text)) }
-    ensures target { IfOk result (λ text. basic_resolution_of_texts (B.text base.now)
-        (Q.text reference.now) ≡ Ok (string_bytes text)) }
+) -> Result<BasicTarget, BasicResolveError>
+    ensures of_kind { IfOk result (λ made. IsTextOf B.kind (string_bytes made.text)) }
+    ensures at { IfOk result (λ made.
+        ArePackedPositionsOf (string_bytes made.text) made.positions) }
+    ensures target { IfOk result (λ made. basic_resolution_of_texts (B.text base.now)
+        (Q.text reference.now) ≡ Ok (string_bytes made.text)) }
     ensures error { IfErr result (IsBasicError (components (B.text base.now))
         (components (Q.text reference.now))) }
 {
@@ -81,9 +83,7 @@ impl<R: Ri> BasicResolver<R> {
         ensures error { IfErr result (IsBasicError (components (R.text (base_of self.now)))
             (components (Q.text reference.now))) }
     {
-        let text = resolve_to_text(alloc, &self.base, reference)?;
-        let target = Core::<R::Kind, String>::of_text(text);
-        let positions = target.borrow().packed_positions();
-        Ok(R::make_owned(target.into_string(), positions))
+        let target = resolve_to_text(alloc, &self.base, reference)?;
+        Ok(R::make_owned(target.text, target.positions))
     }
 }

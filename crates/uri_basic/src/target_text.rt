@@ -1,12 +1,14 @@
 //! The text of a target by the basic algorithm (RFC 3986, sections 5.2.2 and 5.3).
-ghost use Rattle.std.specs.Prelude.{◌≡◌, ◌++◌, ℕ, List, IfErr, IfOk, OnOk, Ok, is_some};
-ghost use Rattle.std.specs.Prelude.{string_bytes};
+ghost use Rattle.std.specs.Prelude.{◌≡◌, ◌≤◌, ◌+◌, ◌++◌, ℕ, List, [], IfErr, IfOk, OnOk, Ok};
+ghost use Rattle.std.specs.Prelude.{is_some, length, string_bytes};
 ghost use Rattle.uri_pct.specs.Texts.{Pushes};
 ghost use Rattle.uri_parts.specs.Components.{components};
 ghost use Rattle.uri_parts.specs.CoreTexts.{core_text};
+ghost use Rattle.uri_parts.specs.PackedPositions.{packed};
+ghost use Rattle.uri_parts.specs.Positions.{positions_of};
 ghost use Rattle.uri_ops.specs.Dots.{up_to_last_slash};
 ghost use Rattle.uri_ops.specs.Models.Places.{before_path};
-ghost use Rattle.uri_basic.specs.Models.Pieces.{after_path};
+ghost use Rattle.uri_basic.specs.Models.Pieces.{ArePlacesToHost, after_path};
 ghost use Rattle.uri_basic.specs.Resolving.{IsBasicError};
 ghost use Rattle.uri_basic.specs.Target.{basic_resolution, is_ambiguous, merge, target};
 
@@ -20,6 +22,14 @@ use std::alloc::{AllocError, Global};
 use uri_ops::path::slashes::{begins_with_slash, begins_with_two_slashes};
 use uri_parts::core_text::Core;
 use uri_parts::kind::Kind;
+use uri_parts::packed_positions::PackedPositions;
+
+/// The text of a target by the basic algorithm, and where its components are.
+#[derive(Drop)]
+pub(crate) struct BasicTarget {
+    pub(crate) text: String,
+    pub(crate) positions: PackedPositions,
+}
 
 /// Returns whether a target has an authority.
 fn has_authority<B: Kind, R: Kind>(base: Core<B, &str>, reference: Core<R, &str>) -> bool
@@ -50,6 +60,46 @@ fn push_before_path<B: Kind, R: Kind>(
         return out.push_str(before_path(reference));
     }
     out.push_str(before_path(base))
+}
+
+/// Returns where the host of a reference, whose text and positions these are, begins and ends in a
+/// target that has this scheme with its `:` before the reference's authority.
+fn host_after_scheme(text: &str, places: PackedPositions, scheme: &str) -> (usize, usize)
+    requires start { places.host_start ≤ length text.now }
+    requires end { places.host_end ≤ length text.now }
+    ensures start { result.0 ≡ length scheme.now + places.host_start }
+    ensures end { result.1 ≡ length scheme.now + places.host_end }
+{
+    let by = scheme.len();
+    (by + places.host_start, by + places.host_end)
+}
+
+/// Returns positions that are those of a target up to the end of its host.
+fn places_to_host<B: Kind, R: Kind>(
+    base: Core<B, &str>,
+    reference: Core<R, &str>,
+) -> PackedPositions
+    ensures { let t = target (components (core_text base.entry))
+        (components (core_text reference.entry)) in ArePlacesToHost t result }
+{
+    let own = reference.packed_positions();
+    if reference.has_scheme() {
+        return own;
+    }
+    let places = base.packed_positions();
+    if !reference.has_authority() {
+        return places;
+    }
+    let text = reference.as_str();
+    let (start, end) = host_after_scheme(text, own, scheme_with_delimiter(base));
+    PackedPositions {
+        scheme_end: places.scheme_end,
+        host_start: start,
+        host_end: end,
+        path_start: places.path_start,
+        path_end: places.path_end,
+        query_end: places.query_end,
+    }
 }
 
 /// Returns the base's path to merge a reference's path with, or `/` if it is empty after an
@@ -109,45 +159,64 @@ fn push_after_path<B: Kind, R: Kind>(
     out.push_str(fragment_with_delimiter(reference))
 }
 
-/// Appends a target up to the end of its path, and returns whether the path would be parsed as an
-/// authority.
+/// Appends a target up to the end of its path to what is empty, and returns where the path begins,
+/// and whether it would be parsed as an authority.
 fn push_to_path_end<B: Kind, R: Kind>(
     base: Core<B, &str>,
     reference: Core<R, &str>,
     out: &mut String,
-) -> Result<bool, AllocError>
+) -> Result<(usize, bool), AllocError>
     ensures text { let t = target (components (core_text base.entry))
         (components (core_text reference.entry)) in
         OnOk result (Pushes out.old out.new (before_path t ++ t.path)) }
+    ensures start { let t = target (components (core_text base.entry))
+        (components (core_text reference.entry)) in
+        string_bytes out.old ≡ [] → IfOk result (λ written. written.0 ≡ length (before_path t)) }
     ensures ambiguous { let t = target (components (core_text base.entry))
         (components (core_text reference.entry)) in
-        IfOk result (λ ambiguous. ambiguous ≡ is_ambiguous t) }
+        IfOk result (λ written. written.1 ≡ is_ambiguous t) }
 {
     push_before_path(base, reference, out)?;
     let start = out.len();
     push_path(base, reference, out)?;
     if has_authority(base, reference) {
-        return Ok(false);
+        return Ok((start, false));
     }
-    Ok(begins_with_two_slashes(&out.as_bytes()[start..]))
+    let is_ambiguous = begins_with_two_slashes(&out.as_bytes()[start..]);
+    Ok((start, is_ambiguous))
 }
 
-/// Returns the text of the target of a reference against a base (RFC 3986, section 5.2).
+/// Returns the target of a reference against a base (RFC 3986, section 5.2).
 pub(crate) fn target_text<B: Kind, R: Kind>(
     alloc: Global,
     base: Core<B, &str>,
     reference: Core<R, &str>,
-) -> Result<String, BasicResolveError>
-    ensures target { IfOk result (λ text. basic_resolution (components (core_text base.entry))
-        (components (core_text reference.entry)) ≡ Ok (string_bytes text)) }
+) -> Result<BasicTarget, BasicResolveError>
+    ensures target { IfOk result (λ made. basic_resolution (components (core_text base.entry))
+        (components (core_text reference.entry)) ≡ Ok (string_bytes made.text)) }
+    ensures positions { let t = target (components (core_text base.entry))
+        (components (core_text reference.entry)) in
+        IfOk result (λ made. made.positions ≡ packed (positions_of t)) }
     ensures error { IfErr result (IsBasicError (components (core_text base.entry))
         (components (core_text reference.entry))) }
 {
     let capacity = base.as_str().len().saturating_add(reference.as_str().len());
     let mut text = String::with_capacity(alloc, capacity.saturating_add(1))?;
-    if push_to_path_end(base, reference, &mut text)? {
+    let (path_start, is_ambiguous) = push_to_path_end(base, reference, &mut text)?;
+    if is_ambiguous {
         return Err(BasicResolveError::PathStartsWithDoubleSlash);
     }
+    let path_end = text.len();
     push_after_path(base, reference, &mut text)?;
-    Ok(text)
+    let places = places_to_host(base, reference);
+    let query_end = text.len() - fragment_with_delimiter(reference).len();
+    let positions = PackedPositions {
+        scheme_end: places.scheme_end,
+        host_start: places.host_start,
+        host_end: places.host_end,
+        path_start,
+        path_end,
+        query_end,
+    };
+    Ok(BasicTarget { text, positions })
 }

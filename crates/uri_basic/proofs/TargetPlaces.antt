@@ -1,0 +1,241 @@
+-- Where the components of a target are.
+use Rattle.std.proofs.Common.{◌≡◌, ℕ, ◌+◌, ◌-◌, ◌≤◌, true, false, List, [], ◌++◌, length}
+use Rattle.std.proofs.Common.{refl, sym, ap, subst, ◌∙◌, arith, option_map, unwrap_or}
+use Rattle.std.specs.Prelude.{Err, IfOk, None, Ok, Option, Result, Some, codes, is_some}
+use Rattle.std.specs.Str.{IsUtf8}
+use Rattle.std.proofs.lemmas.Bool.{both_ways, cond_both, false≢true}
+use Rattle.std.proofs.lemmas.List.{length-append}
+use Rattle.uri_parts.specs.Components.{Components, components, marked, recompose, starts}
+use Rattle.uri_parts.specs.Grammar.{IsOfKind, IsTextOf, Kind}
+use Rattle.uri_parts.specs.PackedPositions.{ArePackedPositionsOf, packed}
+use Rattle.uri_parts.specs.Positions.{authority_at, delimited_length, host_end_of}
+use Rattle.uri_parts.specs.Positions.{positions_of}
+use Rattle.uri_parts.specs.declared.packed_positions.PackedPositions.{PackedPositions}
+use Rattle.uri_parts.specs.declared.positions.AuthorityPositions.{AuthorityPositions}
+use Rattle.uri_parts.proofs.Splitting.Recompose.{recompose-components}
+use Rattle.uri_ops.specs.Dots.{is_empty}
+use Rattle.uri_ops.specs.Models.Places.{before_path}
+use Rattle.uri_ops.proofs.Normal.WrittenPlaces.{length-before_path-is-path_start}
+use Rattle.uri_ops.proofs.Normal.WrittenPlaces.{length-with-delimiter-after}
+use Rattle.uri_ops.proofs.Targeting.Swaps.{text-of-kind-has-needed-scheme}
+use Rattle.uri_ops.proofs.Targeting.TextViews.{host-ends-within-authority}
+use Rattle.uri_basic.specs.Models.Pieces.{ArePlacesToHost, after_path}
+use Rattle.uri_basic.specs.Target.{basic_resolution_of_texts, is_ambiguous, target}
+use Rattle.uri_basic.proofs.Targets.{basic-target-has-its-components, result-by-test}
+
+-- general fact on results, for targets: what follows from two facts of a value
+pub if-both-ok : {T E : Type 0} (result : Result T E) (P Q R : T → Type 0)
+    → ((made : T) → P made → Q made → R made) → IfOk result P → IfOk result Q → IfOk result R
+if-both-ok (Ok made) P Q R f p q = f made p q
+if-both-ok (Err error) P Q R f p q = tt
+
+-- targets: what the basic algorithm returns has the positions that the target has; the texts are
+-- what the code holds of the base, in two steps, and of the reference
+pub basic-result-is-at : (kind : Kind) → kind.needs_scheme ≡ true
+    → (b r held base : List ℕ) → b ≡ held → held ≡ base → IsUtf8 held → IsOfKind kind base
+    → (text : List ℕ) (places : PackedPositions) → basic_resolution_of_texts b r ≡ Ok text
+    → places ≡ packed (positions_of (target (components b) (components r)))
+    → ArePackedPositionsOf text places
+basic-result-is-at kind needs b r held base at same utf8 of_kind text places e is =
+    let t = target (components b) (components r) in
+    let f = result-by-test (is_ambiguous t) (recompose t) text e in
+    let w : IsTextOf kind b = record {
+      utf8 = subst IsUtf8 (sym at) utf8;
+      grammar = subst (IsOfKind kind) (sym (at ∙ same)) of_kind;
+    } in
+    is ∙ ap (λ (p : Components). packed (positions_of p))
+    (sym (basic-target-has-its-components b r (text-of-kind-has-needed-scheme kind b needs w) f.0)
+    ∙ ap components f.1)
+
+-- targets: the scheme and the authority are these
+record HasPrefix (scheme authority : Option (List ℕ)) (t : Components) : Type 0 where
+  scheme_is : t.scheme ≡ scheme
+  authority_is : t.authority ≡ authority
+
+-- targets: a reference with an authority alone is after the base's scheme
+prefix-of-authority : (b r : Components) → is_some r.scheme ≡ false → is_some r.authority ≡ true
+    → HasPrefix b.scheme r.authority (target b r)
+prefix-of-authority b r s a =
+    cond_both (is_some r.scheme) _ _ (HasPrefix b.scheme r.authority)
+    (λ f. absurd (both_ways (is_some r.scheme) s f))
+    (λ _. cond_both (is_some r.authority) _ _ (HasPrefix b.scheme r.authority)
+    (λ _. record { scheme_is = refl; authority_is = refl })
+    (λ f. absurd (both_ways (is_some r.authority) f a)))
+
+-- targets: a reference with neither takes the base's
+prefix-of-base : (b r : Components) → is_some r.scheme ≡ false → is_some r.authority ≡ false
+    → HasPrefix b.scheme b.authority (target b r)
+prefix-of-base b r s a =
+    cond_both (is_some r.scheme) _ _ (HasPrefix b.scheme b.authority)
+    (λ f. absurd (both_ways (is_some r.scheme) s f))
+    (λ _. cond_both (is_some r.authority) _ _ (HasPrefix b.scheme b.authority)
+    (λ f. absurd (both_ways (is_some r.authority) a f))
+    (λ _. cond_both (is_empty r.path) _ _ (HasPrefix b.scheme b.authority)
+    (λ _. record { scheme_is = refl; authority_is = refl })
+    (λ _. cond_both (starts 47 r.path) _ _ (HasPrefix b.scheme b.authority)
+    (λ _. record { scheme_is = refl; authority_is = refl })
+    (λ _. record { scheme_is = refl; authority_is = refl }))))
+
+-- targets: where the host of an authority begins and ends, after a scheme, or 0 if there is none
+abbrev host_start_after : Option (List ℕ) → Option (List ℕ) → ℕ
+host_start_after scheme authority = unwrap_or (option_map (λ (a : AuthorityPositions). a.host_start)
+    (option_map (authority_at (delimited_length 1 scheme + 2)) authority)) 0
+
+abbrev host_end_after : Option (List ℕ) → Option (List ℕ) → ℕ
+host_end_after scheme authority = unwrap_or (option_map (λ (a : AuthorityPositions). a.host_end)
+    (option_map (authority_at (delimited_length 1 scheme + 2)) authority)) 0
+
+-- targets: positions up to the host are those of scheme and authority
+places-by-prefix : (scheme authority : Option (List ℕ)) (t : Components) (places : PackedPositions)
+    → HasPrefix scheme authority t
+    → places.scheme_end ≡ unwrap_or (option_map length scheme) 0
+    → places.host_start ≡ host_start_after scheme authority
+    → places.host_end ≡ host_end_after scheme authority → ArePlacesToHost t places
+places-by-prefix scheme authority t places p s start end = record {
+  scheme_end = s ∙ ap (λ o. unwrap_or (option_map length o) 0) (sym p.scheme_is);
+  host_start = start ∙ (λ i. host_start_after (sym p.scheme_is i) (sym p.authority_is i));
+  host_end = end ∙ (λ i. host_end_after (sym p.scheme_is i) (sym p.authority_is i));
+}
+
+-- targets: the base has the target's positions up to the host of a reference with no prefix
+pub places-of-base : (b r : Components) (places : PackedPositions)
+    → places ≡ packed (positions_of b) → is_some r.scheme ≡ false → is_some r.authority ≡ false
+    → ArePlacesToHost (target b r) places
+places-of-base b r places at s a =
+    places-by-prefix b.scheme b.authority (target b r) places (prefix-of-base b r s a)
+    (ap (λ (p : PackedPositions). p.scheme_end) at)
+    (ap (λ (p : PackedPositions). p.host_start) at)
+    (ap (λ (p : PackedPositions). p.host_end) at)
+
+-- targets: an authority without a scheme, after a scheme, is further on by this
+moved-host : (scheme none authority : Option (List ℕ)) → is_some none ≡ false
+    → is_some authority ≡ true
+    → (host_start_after scheme authority
+    ≡ delimited_length 1 scheme + host_start_after none authority)
+    × (host_end_after scheme authority
+    ≡ delimited_length 1 scheme + host_end_after none authority)
+moved-host scheme (Some s) authority e f = absurd (false≢true (sym e))
+moved-host scheme None None e f = absurd (false≢true f)
+moved-host scheme None (Some a) e f = (omega arith, omega arith)
+
+-- targets: the base's scheme and the moved host are the target's positions up to the host
+pub places-of-authority : (b r : Components) (own from made : PackedPositions) (scheme : List ℕ)
+    → own ≡ packed (positions_of r) → from ≡ packed (positions_of b)
+    → scheme ≡ marked [] b.scheme (codes ":")
+    → is_some r.scheme ≡ false → is_some r.authority ≡ true
+    → made.scheme_end ≡ from.scheme_end
+    → made.host_start ≡ length scheme + own.host_start
+    → made.host_end ≡ length scheme + own.host_end → ArePlacesToHost (target b r) made
+places-of-authority b r own from made scheme at base is s a ends starts stops =
+    let long : length scheme ≡ delimited_length 1 b.scheme =
+    ap length is ∙ length-with-delimiter-after b.scheme 58 in
+    let moved = moved-host b.scheme r.scheme r.authority s a in
+    places-by-prefix b.scheme r.authority (target b r) made (prefix-of-authority b r s a)
+    (ends ∙ ap (λ (p : PackedPositions). p.scheme_end) base)
+    (starts
+    ∙ (λ i. long i + ap (λ (p : PackedPositions). p.host_start) at i) ∙ sym moved.0)
+    (stops
+    ∙ (λ i. long i + ap (λ (p : PackedPositions). p.host_end) at i) ∙ sym moved.1)
+
+-- targets: the host of a text is within it, by its scheme and authority
+host-within-parts : (scheme authority : Option (List ℕ)) (rest : List ℕ)
+    → ((a : List ℕ) → authority ≡ Some a → host_end_of a ≤ length a)
+    → (host_start_after scheme authority
+    ≤ length (marked [] scheme (codes ":") ++ (marked (codes "//") authority [] ++ rest)))
+    × (host_end_after scheme authority
+    ≤ length (marked [] scheme (codes ":") ++ (marked (codes "//") authority [] ++ rest)))
+host-within-parts scheme None rest h = (omega arith, omega arith)
+host-within-parts scheme (Some a) rest h =
+    let s = marked [] scheme (codes ":") in
+    let bound = h a refl in
+    let total : length (s ++ ((codes "//" ++ a ++ []) ++ rest))
+    ≡ delimited_length 1 scheme + (2 + length a + length rest) = omega (
+      arith,
+      length-append s ((codes "//" ++ a ++ []) ++ rest),
+      length-append (codes "//" ++ a ++ []) rest,
+      length-append (codes "//" ++ a) [],
+      length-append (codes "//") a,
+      length-with-delimiter-after scheme 58,
+    ) in (omega (arith, total, bound), omega (arith, total, bound))
+
+-- targets: the host of a text of the kind is within it
+pub host-is-within-text : (kind : Kind) (text : List ℕ) (own : PackedPositions) → IsTextOf kind text
+    → own ≡ packed (positions_of (components text))
+    → (own.host_start ≤ length text) × (own.host_end ≤ length text)
+host-is-within-text kind text own w at =
+    let p = components text in
+    let in_parts = host-within-parts p.scheme p.authority (p.path ++ after_path p)
+    (λ a e. host-ends-within-authority kind text w a e) in
+    let whole : length (recompose p) ≡ length text = ap length (recompose-components text) in (
+      omega (arith, ap (λ (q : PackedPositions). q.host_start) at, in_parts.0, whole),
+      omega (arith, ap (λ (q : PackedPositions). q.host_end) at, in_parts.1, whole),
+    )
+
+-- targets: the query ends before the fragment, which is the last of what is after the path
+query-ends-before-fragment : (query fragment : Option (List ℕ)) (n : ℕ)
+    → length (marked (codes "?") query [] ++ marked (codes "#") fragment [])
+    ≡ n + length (marked (codes "#") fragment [])
+    → (end : ℕ) → unwrap_or (option_map (λ q. end + 1 + length q) query) end ≡ end + n
+query-ends-before-fragment None fragment n e end = omega (arith, e)
+query-ends-before-fragment (Some q) fragment n e end = omega (
+  arith,
+  e,
+  length-append (codes "?" ++ q ++ []) (marked (codes "#") fragment []),
+  length-append (codes "?" ++ q) [],
+  length-append (codes "?") q,
+)
+
+-- targets: the positions of a target, by its texts up to the path, with the path, and whole
+pub written-target-is-at : (t : Components) (places made : PackedPositions) (o1 o2 o3 last : List ℕ)
+    → ArePlacesToHost t places → o1 ≡ before_path t → o2 ≡ o1 ++ t.path
+    → o3 ≡ o2 ++ after_path t → last ≡ marked (codes "#") t.fragment []
+    → made.scheme_end ≡ places.scheme_end → made.host_start ≡ places.host_start
+    → made.host_end ≡ places.host_end → made.path_start ≡ length o1 → made.path_end ≡ length o2
+    → made.query_end ≡ length o3 - length last → made ≡ packed (positions_of t)
+written-target-is-at t places made o1 o2 o3 last to e1 e2 e3 el s hs he ps pe qe =
+    let suffix = marked (codes "#") t.fragment [] in
+    let before : length o1 ≡ (positions_of t).path_start =
+    ap length e1 ∙ length-before_path-is-path_start t in
+    let stop : length o2 ≡ (positions_of t).path_end =
+    omega (arith, before, ap length e2, length-append o1 t.path) in
+    let n = length (marked (codes "?") t.query []) in
+    let query = query-ends-before-fragment t.query t.fragment n
+    (length-append (marked (codes "?") t.query []) suffix) (positions_of t).path_end in
+    let end : made.query_end ≡ (packed (positions_of t)).query_end = omega (
+      arith,
+      qe,
+      query,
+      stop,
+      ap length e3,
+      ap length el,
+      length-append o2 (after_path t),
+      length-append (marked (codes "?") t.query []) suffix,
+    ) in
+    λ i. record {
+      scheme_end = (s ∙ to.scheme_end) i;
+      host_start = (hs ∙ to.host_start) i;
+      host_end = (he ∙ to.host_end) i;
+      path_start = (ps ∙ before) i;
+      path_end = (pe ∙ stop) i;
+      query_end = end i;
+    }
+
+-- targets: the fragment is the reference's
+pub fragment-of-target : (b r : Components) → (target b r).fragment ≡ r.fragment
+fragment-of-target b r =
+    let P : Components → Type 0 = λ t. t.fragment ≡ r.fragment in
+    cond_both (is_some r.scheme) _ _ P (λ _. refl)
+    (λ _. cond_both (is_some r.authority) _ _ P (λ _. refl)
+    (λ _. cond_both (is_empty r.path) _ _ P (λ _. refl)
+    (λ _. cond_both (starts 47 r.path) _ _ P (λ _. refl) (λ _. refl))))
+
+-- targets: the fragment is no longer than the text that it ends
+pub fragment-fits-in-target : (t : Components) (o2 o3 last : List ℕ) → o3 ≡ o2 ++ after_path t
+    → last ≡ marked (codes "#") t.fragment [] → length last ≤ length o3
+fragment-fits-in-target t o2 o3 last e3 el = omega (
+  arith,
+  ap length e3,
+  ap length el,
+  length-append o2 (after_path t),
+  length-append (marked (codes "?") t.query []) (marked (codes "#") t.fragment []),
+)
