@@ -75,6 +75,13 @@ class References(unittest.TestCase):
             self.assertTrue(self.valid(schema, [1], store=store), it)
             self.assertFalse(self.valid(schema, ["a"], store=store), it)
 
+    def test_an_empty_fragment_is_of_the_document(self):
+        made = UriRefResolver("", {})
+        made.store["http://h/a#"] = {"b": 1}
+        for it in ("http://h/a", "http://h/a#", "http://h:80/a#"):
+            self.assertEqual(made.resolve(it)[1], {"b": 1})
+        self.assertEqual(made.resolve("http://h/a#/b")[1], 1)
+
     def test_a_base_of_any_scheme(self):
         # RFC 3986, section 5.2.2. A `urn:` has no hierarchy, and a fragment is resolved against it.
         for base in ("urn:example:a", "tag:a,2000:b", "x:/a/b", ""):
@@ -115,13 +122,12 @@ class References(unittest.TestCase):
     def test_an_id_that_is_none_is_of_nothing(self):
         schema = {
             "$id": "http://h/a",
-            "enum": [{"$id": "http://a b/"}, 1],
-            "items": {"$ref": "#/definitions/a"},
-            "definitions": {"a": {"type": "integer"}},
+            "items": {"$ref": "c"},
+            "definitions": {"b": {"const": {"$id": "http://a b/"}}},
         }
-        self.assertTrue(self.valid(schema, 1))
-        del schema["enum"][1]
-        self.assertFalse(self.valid(schema, [1]))
+        store = {"http://h/c": {"type": "integer"}}
+        self.assertTrue(self.valid(schema, [1], store=store))
+        self.assertFalse(self.valid(schema, ["a"], store=store))
 
     def test_differences(self):
         def calls(resolver, checker, target):

@@ -33,8 +33,7 @@ REFRESH_NAME = re.compile(f"url[{SPACE}]*=[{SPACE}]*", re.I | re.A)
 # tries another way where it fails, so each style sheet is read once.
 CSS_STRING = r""""(?:[^"\\\n]|\\.)*["\n]?|'(?:[^'\\\n]|\\.)*['\n]?"""
 CSS_TOKEN = re.compile(
-    rf"/\*.*?(?:\*/|\Z)|\\.|{CSS_STRING}|(?<![-\w])(?:url\([{SPACE}]*|@import(?![-\w]))",
-    re.I | re.S,
+    rf"/\*.*?(?:\*/|\Z)|\\.|{CSS_STRING}|(?<![-\w])url\([{SPACE}]*|@import", re.I | re.S
 )
 CSS_WORD = re.compile(
     rf"""{CSS_STRING}|(?:[^{SPACE}"'()\\]|\\[0-9a-f]{{1,6}}[{SPACE}]?|\\[^\n])+""", re.I | re.S
@@ -85,7 +84,6 @@ def make_links_relative(tree, base_url, prefer_relative_path=True):
 
 def _rewrite(tree, base_url, written_from):
     page = base_url if isinstance(base_url, Reference) else Iri.parse(base_url)
-    page = page.with_fragment(None)
     rejected, edits = [], []
     elements = list(tree.iter(etree.Element))
     base, bases = _base_of(elements, page, rejected)
@@ -191,7 +189,7 @@ def _of_candidates(text):
 
 def _of_refresh(element, text):
     """The link of a refresh (HTML, section 4.2.5.3), with its quotes."""
-    if element.get("http-equiv", "").strip(SPACE).lower() != "refresh":
+    if element.get("http-equiv", "").lower() != "refresh":
         return
     before = REFRESH.match(text)
     if before:
@@ -256,7 +254,7 @@ def _in_sizes(reference, target):
 
 def _in_refresh(reference, target):
     """What is not taken for a mark or a name before a link."""
-    is_taken = reference[:1] in ("'", ";", ",") or reference[:3].lower() == "url"
+    is_taken = reference[:1] in ("'", ";", ",") or REFRESH_NAME.match(reference)
     return f"./{reference}" if is_taken else reference or target
 
 

@@ -74,8 +74,6 @@ class _InTurtle:
     """What reads IRIs in Turtle, TriG and Notation3."""
 
     _uri_ref2 = _with_names(notation3.SinkParser.uri_ref2, join=resolve)
-    directive = _with_names(notation3.SinkParser.directive, join=resolve)
-    sparqlDirective = _with_names(notation3.SinkParser.sparqlDirective, join=resolve)
 
     def uri_ref2(self, argstr, i, res):
         try:

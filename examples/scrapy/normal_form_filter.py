@@ -44,9 +44,7 @@ class NormalFormFingerprinter:
         """Returns 20 bytes."""
         made = self._known.get(request)
         if made is None:
-            # A lone surrogate is in no URL that `Request` makes. Here it is a text of its own.
-            url = normal_url(request.url).encode("utf-8", "surrogatepass")
-            method = request.method.encode("utf-8", "surrogatepass")
+            url, method = normal_url(request.url).encode(), request.method.encode()
             # The lengths say where each ends.
             data = b"%d %d %b%b%b" % (len(url), len(method), url, method, request.body)
             made = self._known[request] = hashlib.blake2b(data, digest_size=20).digest()
