@@ -47,7 +47,7 @@ class Formats(unittest.TestCase):
             self.assertEqual(checked(it, "iri"), valid, it)
             self.assertFalse(checked(it, "uri"), it)
 
-    def test_what_is_no_text_has_every_format(self):
+    def test_an_instance_that_is_not_a_string_has_every_format(self):
         for it in (None, 1, 1.5, True, [], {}, b"\xff"):
             self.assertTrue(checked(it, "uri"), it)
         self.assertFalse(checked("a:\ud800", "iri"))
@@ -119,7 +119,7 @@ class References(unittest.TestCase):
             resolver = UriRefResolver.from_schema(schema, id_of=Draft7Validator.ID_OF)
             self.assertRaises(RefResolutionError, resolver.resolve, reference)
 
-    def test_an_id_that_is_none_is_of_nothing(self):
+    def test_a_malformed_id_is_of_nothing(self):
         schema = {
             "$id": "http://h/a",
             "items": {"$ref": "c"},

@@ -68,7 +68,7 @@ def absolute(html, base=PAGE):
 
 
 class Rewriter(unittest.TestCase):
-    def test_what_lxml_does_right_is_done_alike(self):
+    def test_links_are_made_absolute_as_lxml_does(self):
         for link, target in LINKS:
             html = "".join(it.format(link, link) for it in PLACES)
             stock = tree_of(html)
@@ -89,7 +89,7 @@ class Rewriter(unittest.TestCase):
             tree, rejected = absolute(f'<a href="{link}">x</a>')
             self.assertEqual(tree.find(".//a").get("href"), target)
             self.assertEqual(rejected, [])
-        # The name of a map is no link.
+        # The name of a map is not a link.
         tree, _ = absolute('<img usemap="#m">')
         self.assertEqual(tree.find(".//img").get("usemap"), "#m")
         tree, _ = absolute('<a href="é">x</a>', Uri(PAGE))
@@ -124,7 +124,7 @@ class Rewriter(unittest.TestCase):
         tree = tree_of(html)
         make_links_relative(tree, PAGE)
         self.assertEqual(tree.find(".//a").get("href"), "../e/f#g")
-        # What is no base, or no base of relative links, stays, and the page is the base.
+        # A base that is malformed, or has no hierarchy, stays, and the page is the base.
         for it in ("http://a b/", "urn:a:b"):
             tree, rejected = absolute(f'<base href="{it}"><a href="f">x</a>')
             self.assertEqual(tree.find(".//a").get("href"), "http://example.com/d/f")
@@ -235,7 +235,7 @@ class Rewriter(unittest.TestCase):
         tree = tree_of('<a href="/x">x</a>')
         make_links_relative(tree, PAGE, prefer_relative_path=False)
         self.assertEqual(tree.find(".//a").get("href"), "/x")
-        # There is no empty link in a list or in a style sheet.
+        # A list or a style sheet has no empty link.
         tree = tree_of('<a ping="page.html">x</a><style>a{b:url(page.html)}</style>')
         make_links_relative(tree, PAGE)
         address = "http://example.com/d/page.html"
