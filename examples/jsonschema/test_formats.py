@@ -47,7 +47,7 @@ class Formats(unittest.TestCase):
             self.assertEqual(checked(it, "iri"), valid, it)
             self.assertFalse(checked(it, "uri"), it)
 
-    def test_what_is_no_text_has_every_format(self):
+    def test_an_instance_that_is_not_a_string_has_every_format(self):
         for it in (None, 1, 1.5, True, [], {}, b"\xff"):
             self.assertTrue(checked(it, "uri"), it)
         self.assertFalse(checked("a:\ud800", "iri"))
@@ -74,6 +74,13 @@ class References(unittest.TestCase):
             schema = {"$id": "http://example.com/c/d", "items": {"$ref": it}}
             self.assertTrue(self.valid(schema, [1], store=store), it)
             self.assertFalse(self.valid(schema, ["a"], store=store), it)
+
+    def test_an_empty_fragment_is_of_the_document(self):
+        made = UriRefResolver("", {})
+        made.store["http://h/a#"] = {"b": 1}
+        for it in ("http://h/a", "http://h/a#", "http://h:80/a#"):
+            self.assertEqual(made.resolve(it)[1], {"b": 1})
+        self.assertEqual(made.resolve("http://h/a#/b")[1], 1)
 
     def test_a_base_of_any_scheme(self):
         # RFC 3986, section 5.2.2. A `urn:` has no hierarchy, and a fragment is resolved against it.
@@ -112,16 +119,15 @@ class References(unittest.TestCase):
             resolver = UriRefResolver.from_schema(schema, id_of=Draft7Validator.ID_OF)
             self.assertRaises(RefResolutionError, resolver.resolve, reference)
 
-    def test_an_id_that_is_none_is_of_nothing(self):
+    def test_a_malformed_id_is_of_nothing(self):
         schema = {
             "$id": "http://h/a",
-            "enum": [{"$id": "http://a b/"}, 1],
-            "items": {"$ref": "#/definitions/a"},
-            "definitions": {"a": {"type": "integer"}},
+            "items": {"$ref": "c"},
+            "definitions": {"b": {"const": {"$id": "http://a b/"}}},
         }
-        self.assertTrue(self.valid(schema, 1))
-        del schema["enum"][1]
-        self.assertFalse(self.valid(schema, [1]))
+        store = {"http://h/c": {"type": "integer"}}
+        self.assertTrue(self.valid(schema, [1], store=store))
+        self.assertFalse(self.valid(schema, ["a"], store=store))
 
     def test_differences(self):
         def calls(resolver, checker, target):

@@ -25,7 +25,8 @@ EARLY_DRAFTS = {f"http://json-schema.org/draft-0{it}/schema": it for it in (3, 4
 
 def uri_format_checker(validator=jsonschema.Draft202012Validator):
     """Returns a checker of all formats that jsonschema has for the draft. Those of URIs and IRIs
-    are checked by the grammar of RFC 3986 or RFC 3987. What is no text has every format."""
+    are checked by the grammar of RFC 3986 or RFC 3987. An instance that is not a string has every
+    format."""
     made = jsonschema.FormatChecker(())
     made.checkers = dict(validator.FORMAT_CHECKER.checkers)
     schema = str(validator.META_SCHEMA.get("$schema")).rstrip("#")
@@ -67,8 +68,8 @@ def target(base, reference):
 
 
 def _target_or_text(base, reference):
-    """The target, or the reference itself, which is no URI then. So an `$id` that is none is the
-    URI of nothing."""
+    """The target, or the reference itself if it has none. Then it is not a URI, so an `$id` that
+    cannot be mended is the URI of nothing."""
     try:
         return target(base, reference)
     except jsonschema.RefResolutionError:

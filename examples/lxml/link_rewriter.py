@@ -33,8 +33,7 @@ REFRESH_NAME = re.compile(f"url[{SPACE}]*=[{SPACE}]*", re.I | re.A)
 # tries another way where it fails, so each style sheet is read once.
 CSS_STRING = r""""(?:[^"\\\n]|\\.)*["\n]?|'(?:[^'\\\n]|\\.)*['\n]?"""
 CSS_TOKEN = re.compile(
-    rf"/\*.*?(?:\*/|\Z)|\\.|{CSS_STRING}|(?<![-\w])(?:url\([{SPACE}]*|@import(?![-\w]))",
-    re.I | re.S,
+    rf"/\*.*?(?:\*/|\Z)|\\.|{CSS_STRING}|(?<![-\w])url\([{SPACE}]*|@import", re.I | re.S
 )
 CSS_WORD = re.compile(
     rf"""{CSS_STRING}|(?:[^{SPACE}"'()\\]|\\[0-9a-f]{{1,6}}[{SPACE}]?|\\[^\n])+""", re.I | re.S
@@ -66,8 +65,8 @@ class _Link(NamedTuple):
 def make_links_absolute(tree, base_url):
     """Makes each link of a tree the URI or IRI of its target. Returns a list of `Rejected`.
 
-    `base_url` is the address of the page. The `href` of a `base` is taken into account, and is
-    dropped. Raises `ParseError` if the address is none, and then changes nothing.
+    `base_url` is the address of the page. The first `href` of a `base` is the base of the links,
+    and each is dropped. Raises `ParseError` if the address is not an IRI. Then nothing changes.
     """
     return _rewrite(tree, base_url, lambda base, targets: targets)
 
@@ -85,7 +84,6 @@ def make_links_relative(tree, base_url, prefer_relative_path=True):
 
 def _rewrite(tree, base_url, written_from):
     page = base_url if isinstance(base_url, Reference) else Iri.parse(base_url)
-    page = page.with_fragment(None)
     rejected, edits = [], []
     elements = list(tree.iter(etree.Element))
     base, bases = _base_of(elements, page, rejected)
@@ -116,8 +114,8 @@ def _rewrite(tree, base_url, written_from):
 
 
 def _base_of(elements, page, rejected):
-    """The base of the links: the first `href` of a `base`, or else the page; and each `base` with
-    a `href`. If that is none, HTML takes the page, and it stays."""
+    """The base of the links, and each `base` whose `href` is to be dropped. The base is the first
+    such `href`. If that cannot be one, it stays, and the page is the base, as in HTML."""
     bases = [it for it in elements if _name(it) == "base" and "href" in it.attrib]
     if bases:
         link = bases[0].get("href")
@@ -191,7 +189,7 @@ def _of_candidates(text):
 
 def _of_refresh(element, text):
     """The link of a refresh (HTML, section 4.2.5.3), with its quotes."""
-    if element.get("http-equiv", "").strip(SPACE).lower() != "refresh":
+    if element.get("http-equiv", "").lower() != "refresh":
         return
     before = REFRESH.match(text)
     if before:
@@ -237,8 +235,8 @@ def _unescaped(match):
     return chr(number) if is_scalar else "\ufffd"
 
 
-# What is written in the place of a link: a reference, which may be empty where a link may be, or
-# else its target.
+# What is written in place of a link: a reference, or the target where an empty reference is not a
+# link.
 
 
 def _as_it_is(reference, target):
@@ -250,13 +248,13 @@ def _in_list(reference, target):
 
 
 def _in_sizes(reference, target):
-    """What no comma is taken from, as from the start of a candidate."""
+    """A comma at the start would be one before the candidate."""
     return f"./{reference}" if reference[:1] == "," else reference or target
 
 
 def _in_refresh(reference, target):
-    """What is not taken for a mark or a name before a link."""
-    is_taken = reference[:1] in ("'", ";", ",") or reference[:3].lower() == "url"
+    """A mark at the start, or `url=`, would be one before the link."""
+    is_taken = reference[:1] in ("'", ";", ",") or REFRESH_NAME.match(reference)
     return f"./{reference}" if is_taken else reference or target
 
 

@@ -68,7 +68,7 @@ def absolute(html, base=PAGE):
 
 
 class Rewriter(unittest.TestCase):
-    def test_what_lxml_does_right_is_done_alike(self):
+    def test_links_are_made_absolute_as_lxml_does(self):
         for link, target in LINKS:
             html = "".join(it.format(link, link) for it in PLACES)
             stock = tree_of(html)
@@ -89,6 +89,9 @@ class Rewriter(unittest.TestCase):
             tree, rejected = absolute(f'<a href="{link}">x</a>')
             self.assertEqual(tree.find(".//a").get("href"), target)
             self.assertEqual(rejected, [])
+        # The name of a map is not a link.
+        tree, _ = absolute('<img usemap="#m">')
+        self.assertEqual(tree.find(".//img").get("usemap"), "#m")
         tree, _ = absolute('<a href="é">x</a>', Uri(PAGE))
         self.assertEqual(tree.find(".//a").get("href"), "http://example.com/d/%C3%A9")
 
@@ -121,7 +124,7 @@ class Rewriter(unittest.TestCase):
         tree = tree_of(html)
         make_links_relative(tree, PAGE)
         self.assertEqual(tree.find(".//a").get("href"), "../e/f#g")
-        # What is no base, or no base of relative links, stays, and the page is the base.
+        # A base that is malformed, or has no hierarchy, stays, and the page is the base.
         for it in ("http://a b/", "urn:a:b"):
             tree, rejected = absolute(f'<base href="{it}"><a href="f">x</a>')
             self.assertEqual(tree.find(".//a").get("href"), "http://example.com/d/f")
@@ -133,6 +136,7 @@ class Rewriter(unittest.TestCase):
         for given, wanted in (
             ("a.png 1x, b.png 2x", "P/a.png 1x, P/b.png 2x"),
             ("a.png", "P/a.png"),
+            ("a.png, b.png 2x", "P/a.png, P/b.png 2x"),
             (" a.png,b.png 2x", " P/a.png,b.png 2x"),
             ("a.png, ,b,c.png 1w,d.png", "P/a.png, ,P/b,c.png 1w,P/d.png"),
             ("a.png x(1,2) 3w, b.png", "P/a.png x(1,2) 3w, P/b.png"),
@@ -156,6 +160,7 @@ class Rewriter(unittest.TestCase):
             ('a{b:url("c\\\nd")}', 'a{b:url("P/cd")}'),
             ("a{b:url()}", "a{b:url()}"),
             ("a{b:url(c d)}", "a{b:url(c d)}"),
+            ("a{b:url(c url(d) url(e)}", 'a{b:url(c url(d) url("P/e")}'),
             ("/* url(c) */ url(/*)", '/* url(c) */ url("http://example.com/*")'),
             ("a{b:'url(c)' url('c)d')}", "a{b:'url(c)' url(\"P/c)d\")}"),
             ("a{b:my-url(c) \\url(c) x '", "a{b:my-url(c) \\url(c) x '"),
@@ -184,6 +189,7 @@ class Rewriter(unittest.TestCase):
             ("5", "5"),
             ("0 ; ", "0 ; "),
             ("x; url=a", "x; url=a"),
+            ("0;url:a", "0;url:a"),
         ):
             tree = tree_of('<meta http-equiv="Refresh"><meta name="x">')
             for it in tree.iter("meta"):
@@ -226,7 +232,10 @@ class Rewriter(unittest.TestCase):
         self.assertEqual(tree.find(".//img").get("srcset"), "./,a 1x")
         self.assertEqual([it.get("content") for it in meta], ["0;url=./'a", "0;./url=a", "0 ./;"])
         self.assertEqual(tree.find(".//a").get("href"), "../x")
-        # There is no empty link in a list or in a style sheet.
+        tree = tree_of('<a href="/x">x</a>')
+        make_links_relative(tree, PAGE, prefer_relative_path=False)
+        self.assertEqual(tree.find(".//a").get("href"), "/x")
+        # A list or a style sheet has no empty link.
         tree = tree_of('<a ping="page.html">x</a><style>a{b:url(page.html)}</style>')
         make_links_relative(tree, PAGE)
         address = "http://example.com/d/page.html"

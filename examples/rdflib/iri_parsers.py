@@ -43,7 +43,7 @@ def _term(text):
 
 
 def invalid_iris(graph):
-    """Returns the set of what is a `URIRef` in a graph, and no absolute IRI."""
+    """Returns the set of the `URIRef`s of a graph that are not absolute IRIs."""
     found = list({it for triple in graph for it in triple if isinstance(it, URIRef)})
     return {it for it, valid in zip(found, batch.is_valid(found, Iri)) if not valid}
 
@@ -63,8 +63,8 @@ def _with_names(function, **names):
 
 class _Sink(notation3.RDFSink):
     def newSymbol(self, *args):
-        # What is in `<>` is what `resolve` returned. A prefixed name may have characters that no
-        # IRI has: of those past ASCII the grammar of Turtle decides.
+        # An IRI in `<>` comes from `resolve`, which checked it. A prefixed name may have characters
+        # past ASCII that RFC 3987 does not have, as U+FFFD: the grammar of Turtle decides.
         text = args[0]
         Uri.parse(text if text.isascii() else _PAST_ASCII.sub("x", text))
         return _term(text)
@@ -74,14 +74,12 @@ class _InTurtle:
     """What reads IRIs in Turtle, TriG and Notation3."""
 
     _uri_ref2 = _with_names(notation3.SinkParser.uri_ref2, join=resolve)
-    directive = _with_names(notation3.SinkParser.directive, join=resolve)
-    sparqlDirective = _with_names(notation3.SinkParser.sparqlDirective, join=resolve)
 
     def uri_ref2(self, argstr, i, res):
         try:
             return self._uri_ref2(argstr, i, res)
         except ValueError as error:
-            self.BadSyntax(argstr, i, f"no IRI: {error}")
+            self.BadSyntax(argstr, i, f"malformed IRI: {error}")
 
 
 class _TurtleSinkParser(_InTurtle, notation3.SinkParser):
@@ -93,7 +91,7 @@ class _TrigSinkParser(_InTurtle, trig.TrigSinkParser):
 
 
 class TurtleParser(notation3.TurtleParser):
-    """Parses Turtle. Raises `BadSyntax` where an IRI is none, or has no target."""
+    """Parses Turtle. Raises `BadSyntax` if an IRI is malformed or has no target."""
 
     parse = _with_names(
         notation3.TurtleParser.parse, RDFSink=_Sink, SinkParser=_TurtleSinkParser
@@ -120,11 +118,11 @@ class _XmlHandler(rdfxml.RDFXMLHandler):
         try:
             return iri(uri if base is None else resolve(base, uri))
         except ValueError as error:
-            self.error(f"no IRI: {uri!r}: {error}")
+            self.error(f"malformed IRI {uri!r}: {error}")
 
 
 class XmlParser(rdfxml.RDFXMLParser):
-    """Parses RDF/XML. Raises `ParserError` where an IRI is none, or has no target."""
+    """Parses RDF/XML. Raises `ParserError` if an IRI is malformed or has no target."""
 
     parse = _with_names(
         rdfxml.RDFXMLParser.parse,

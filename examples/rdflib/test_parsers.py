@@ -73,7 +73,7 @@ class Parsers(unittest.TestCase):
         # The fragment of a base plays no part (RFC 3986, section 5.1).
         self.assertEqual(subjects("<> <p:p> 1 .", "turtle", "http://a/b#c"), {"http://a/b"})
 
-    def test_what_is_no_iri_is_an_error(self):
+    def test_a_malformed_iri_is_an_error(self):
         for it in ("a b", "http://a b/", "%zz", "//[1", "a|b", "\\u0020", "\\uD800", "x:%"):
             for format in ("turtle", "n3", "trig"):
                 with self.assertRaises(BadSyntax, msg=(it, format)) as caught:
@@ -82,7 +82,7 @@ class Parsers(unittest.TestCase):
         for it in ("a b", "http://a b/", "%zz", "x:%"):
             for made in (XML.format("", it, ""), XML.format("", "", it)):
                 self.assertRaises(ParserError, subjects, made, "xml")
-        # A local name may escape what no IRI has.
+        # A local name may escape a character that an IRI must not have.
         for it in ("q:a\\%zz", "q:a\\#b\\#c"):
             self.assertRaises(BadSyntax, subjects, f"@prefix q: <x:> . {it} <p:p> 1 .", "turtle")
 

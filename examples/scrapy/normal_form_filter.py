@@ -14,8 +14,8 @@ from scrapy.dupefilters import RFPDupeFilter
 def normal_url(url):
     """Returns the normal form of what a URL is mended to, without its fragment.
 
-    An authority without a path gets the path `/` (RFC 3986, section 6.2.3). What cannot be mended
-    is returned as it is. It is no URI, so it is the normal form of none.
+    An authority without a path gets the path `/` (RFC 3986, section 6.2.3). A URL that cannot be
+    mended is returned as it is. It is not a URI, so it differs from every normal form.
     """
     try:
         uri = Uri.mend(url)
@@ -44,9 +44,7 @@ class NormalFormFingerprinter:
         """Returns 20 bytes."""
         made = self._known.get(request)
         if made is None:
-            # A lone surrogate is in no URL that `Request` makes. Here it is a text of its own.
-            url = normal_url(request.url).encode("utf-8", "surrogatepass")
-            method = request.method.encode("utf-8", "surrogatepass")
+            url, method = normal_url(request.url).encode(), request.method.encode()
             # The lengths say where each ends.
             data = b"%d %d %b%b%b" % (len(url), len(method), url, method, request.body)
             made = self._known[request] = hashlib.blake2b(data, digest_size=20).digest()
@@ -54,7 +52,7 @@ class NormalFormFingerprinter:
 
 
 class NormalFormDupeFilter(RFPDupeFilter):
-    """Filters by `NormalFormFingerprinter`, whatever the project takes for its HTTP cache."""
+    """Filters by `NormalFormFingerprinter`. The project may have another one for its cache."""
 
     def __init__(self, path=None, debug=False, *, fingerprinter=None):
         if not isinstance(fingerprinter, NormalFormFingerprinter):

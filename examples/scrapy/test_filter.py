@@ -55,7 +55,7 @@ class Filter(unittest.TestCase):
         }
         self.assertEqual(len(made), 18)
 
-    def test_what_is_no_uri_is_a_text_of_its_own(self):
+    def test_a_url_that_cannot_be_mended_is_a_text_of_its_own(self):
         for it in ("http://a b/", "http://[/", "http://a b/#c", "http://h:x/", "\ud800:"):
             self.assertEqual(normal_url(it), it)
         self.assertNotEqual(fingerprint("http://a b/"), fingerprint("http://a%20b/"))
