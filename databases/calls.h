@@ -116,17 +116,18 @@ static inline int32_t uri_port_number(uri_bytes digits) {
     return port;
 }
 
-/* Finds the next nonempty pair of a query from *POSITION on, and goes past it: what is between two
- * `&`, split at its first `=`. Returns 0 if there is none. */
+/* Finds the next pair of a query from *POSITION on, and goes past it. The value of one without `=` is
+ * empty. Returns 0 if there is none. */
 static inline int uri_next_pair(uri_bytes query, size_t *position, uri_bytes *name,
                                 uri_bytes *value) {
-    size_t start = *position, end, equals;
-    while (start < query.len && query.at[start] == '&') start++;
-    for (end = start; end < query.len && query.at[end] != '&'; end++) continue;
-    for (equals = start; equals < end && query.at[equals] != '='; equals++) continue;
-    *position = end;
-    name->at = query.at + start, name->len = equals - start;
-    value->at = query.at + equals + (equals < end), value->len = end - (equals + (equals < end));
-    return start < end;
+    fluent_uri_pair pair;
+    if (!fluent_uri_next_pair(query.at, query.len, position, &pair)) return 0;
+    name->at = query.at + pair.name.start, name->len = pair.name.end - pair.name.start;
+    value->at = name->at, value->len = 0;
+    if (pair.value.start != SIZE_MAX) {
+        value->at = query.at + pair.value.start;
+        value->len = pair.value.end - pair.value.start;
+    }
+    return 1;
 }
 #endif

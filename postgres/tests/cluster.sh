@@ -44,7 +44,7 @@ make_cluster() {
     name=$1
     shift
     rm -rf "${work:?}/$name"
-    $as initdb -D "$work/$name" -E UTF8 --locale=C.UTF-8 -U postgres "$@" > "$work/initdb.log" ||
+    $as initdb -N -D "$work/$name" -E UTF8 --locale=C.UTF-8 -U postgres "$@" > "$work/initdb.log" ||
         fail "initdb of $name"
 }
 
