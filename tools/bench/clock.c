@@ -6,7 +6,7 @@
  * A round passes over the row's texts again and again for a millisecond, with one call a text. Each
  * pass has an order of its own, since a processor learns the branches of one that is repeated;
  * in-order keeps that of the row. What is printed of a round: the nanoseconds of processor time of
- * a pass, without what `bench` takes for no work, and how many of the texts are accepted. */
+ * a pass, those of one in which `bench` has no work, and how many of the texts are accepted. */
 #include "rows.h"
 #include <string.h>
 #include <time.h>
@@ -88,9 +88,8 @@ int main(int count, char **words) {
     }
     while (scanf("%zu", &asked) == 1 && asked < held) {
         it = &rows[asked];
-        double both = took(&it->row, it->passes);
-        double work = (both - took(&it->idle, it->passes)) / (double)it->passes;
-        printf("%.3f %zu\n", work, it->accepted);
+        double passes = (double)it->passes, whole = took(&it->row, it->passes) / passes;
+        printf("%.3f %.3f %zu\n", whole, took(&it->idle, it->passes) / passes, it->accepted);
         fflush(stdout);
     }
     return 0;

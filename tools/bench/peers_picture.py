@@ -69,6 +69,6 @@ def drawn(page, title, ours, limit):
         bold = {"font_weight": "bold"} if cells[0] == ours else {}
         bold["text_anchor"] = "end"
         out.append(text(NAMES - 12, TOP + at * ROW + 13, cells[0], "ink", **bold))
-    told = "Shorter is better. The line is the limit: to test each byte once, and to copy the result."
+    told = "Shorter is better. The line is the limit: each byte is tested once, the result copied."
     out.append(text(NAMES, height - 12, told, "quiet"))
     return "\n".join([*out, "</svg>"]) + "\n"

@@ -6,8 +6,8 @@
 #include <stdio.h>
 #include <stdlib.h>
 
-/* Does the work so many times. What it writes into is not `static`: a compiler drops what is written
- * into an array that nothing reads. */
+/* Does the work so many times. What it writes into is not `static`: a compiler drops what is
+ * written into an array that nothing reads. */
 uint64_t bench(uint32_t work, const uint8_t *text, size_t text_length, const uint8_t *base,
                size_t base_length, uint64_t rounds);
 

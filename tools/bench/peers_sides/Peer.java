@@ -106,7 +106,7 @@ final class Peer {
                 accepted = pass(row);
                 sum += CLOCK.getCurrentThreadCpuTime() - began;
             }
-            System.out.printf("%.3f %d%n", (double) sum / passes, accepted);
+            System.out.printf("%.3f 0 %d%n", (double) sum / passes, accepted);
         }
     }
 }

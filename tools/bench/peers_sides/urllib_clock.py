@@ -58,7 +58,7 @@ def main():
             forget()
             some, accepted = passed(work, pairs)
             took, passes = took + some, passes + 1
-        print(f"{took / passes:.3f} {accepted}", flush=True)
+        print(f"{took / passes:.3f} 0 {accepted}", flush=True)
 
 
 if __name__ == "__main__":

@@ -119,6 +119,6 @@ func main() {
 			some, of := passed(it, rand.Perm(len(it.pairs)))
 			sum, accepted = sum+some, of
 		}
-		fmt.Printf("%.3f %d\n", float64(sum)/float64(passes), accepted)
+		fmt.Printf("%.3f 0 %d\n", float64(sum)/float64(passes), accepted)
 	}
 }
