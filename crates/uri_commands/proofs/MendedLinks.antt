@@ -1,7 +1,8 @@
 -- What a call of `uri_mend` returned is what a link is mended to.
-use Rattle.std.proofs.Common.{◌≡◌, ℕ, Bool, List, None, Result, Some, ap, sym, subst, ◌∙◌, string_bytes}
-use Rattle.std.specs.Prelude.{IfErr, IfSome, if◌then◌else◌}
-use Rattle.std.proofs.lemmas.Result.{IfErr-weaker}
+use Rattle.std.proofs.Common.{◌≡◌, ℕ, Bool, List, None, Result, Some, true, ap, sym, subst, ◌∙◌}
+use Rattle.std.proofs.Common.{string_bytes}
+use Rattle.std.specs.Prelude.{IfErr, IfOk, IfSome, if◌then◌else◌}
+use Rattle.std.proofs.lemmas.Result.{IfErr-weaker, IfOk-weaker}
 use Rattle.fluent_uri.specs.Grammar.{Kind}
 use Rattle.fluent_uri.specs.declared.ParseError.{ParseError}
 use Rattle.uri_commands.specs.Commands.{Mend, kind_named}
@@ -14,7 +15,7 @@ use Rattle.uri_commands.specs.declared.refusal.CommandError.TheVariants.{Text, B
 use Rattle.uri_commands.specs.declared.refusal.CommandError.TheVariants.{Target}
 use Rattle.uri_commands.specs.declared.refusal.CommandError.TheVariants.{OutOfMemory, OutputFailed}
 use Rattle.uri_mend.specs.Mended.{IsMended}
-use Rattle.uri_mend.specs.Mending.{mended_text}
+use Rattle.uri_mend.specs.Mending.{can_be_mended, mended_text}
 use Rattle.uri_mend.specs.Refusing.{IsMendErrorOf}
 use Rattle.uri_mend.specs.Trimming.{trimmed_link}
 use Rattle.uri_mend.specs.declared.error.MendError.TheVariants.{Unmendable}
@@ -68,3 +69,19 @@ error-of-link-is-error-of-mend name kind text result same is = IfErr-weaker resu
     of-each (Target e) is = absurd is
     of-each OutOfMemory is = is
     of-each OutputFailed is = absurd is
+
+-- links: one that was mended can be mended
+pub mended-link-can-be-mended : {A E : Type 0} (bytes : A → List ℕ) (name : KindName) (kind : Kind)
+    (text : List ℕ) (result : Result A E) → kind_named name ≡ kind
+    → IfOk result (λ link. IsMended kind (trimmed_link text) (bytes link))
+    → IfOk result (λ link. can_be_mended (kind_named name) (trimmed_link text) ≡ true)
+mended-link-can-be-mended bytes name kind text result same is = IfOk-weaker result _ _
+    (λ link e. subst (λ k. can_be_mended k (trimmed_link text) ≡ true) (sym same) e.mendable) is
+
+-- links: one that was mended has the text that is defined
+pub mended-link-has-mended-text : {A E : Type 0} (bytes : A → List ℕ) (name : KindName)
+    (kind : Kind) (text : List ℕ) (result : Result A E) → kind_named name ≡ kind
+    → IfOk result (λ link. IsMended kind (trimmed_link text) (bytes link))
+    → IfOk result (λ link. bytes link ≡ mended_text (kind_named name) (trimmed_link text))
+mended-link-has-mended-text bytes name kind text result same is = IfOk-weaker result _ _
+    (λ link e. subst (λ k. bytes link ≡ mended_text k (trimmed_link text)) (sym same) e.text) is
