@@ -217,7 +217,9 @@ static PyObject *normal_form(const State *state, int kind, PyObject *object) {
     Py_ssize_t length;
     const char *text = PyUnicode_AsUTF8AndSize(self->text, &length);
     if (!text) return NULL;
-    if (state->call.is_plainly_normal((uint32_t)kind, (const uint8_t *)text, (size_t)length,
+    /* (the test finds no text with octets normal) */
+    if (!memchr(text, '%', (size_t)length) &&
+        state->call.is_plainly_normal((uint32_t)kind, (const uint8_t *)text, (size_t)length,
                                       &self->parts))
         return Py_NewRef(object);
     if (length <= ROOM - BESIDE) {
