@@ -141,13 +141,10 @@ fn is_unchanged(text: &[u8], parts: &Parts) -> bool
     ensures { result ≡ true → AreSpansOf text.now parts.now
         → IsPlain text.now × AreUnchanged (components text.now) }
 {
-    if parts.port.end <= text.len()
-        || !is_scheme_lower(text, parts.scheme)
-        || !is_host_plain(text, parts.host)
-    {
+    if parts.port.end <= text.len() || !is_plain(text) || !is_scheme_lower(text, parts.scheme) {
         return false;
     }
-    is_plain(text)
+    is_host_plain(text, parts.host)
 }
 
 /// Returns 1 only if a text of the kind, of which `fluent_uri_parse` wrote these parts, is its own

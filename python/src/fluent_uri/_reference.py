@@ -189,12 +189,16 @@ class Reference:
 
     def normalize(self: Self) -> Self:
         """Returns the normal form (RFC 3986, section 6.2.2)."""
+        if "%" not in self.__text and self.__is_plainly_normal():
+            return self
+        return self.__made(type(self), _native.normalize, (self._number,))
+
+    def __is_plainly_normal(self) -> int:
         data, parts = self.__utf8(), self.__parts
         if not isinstance(parts, bytes):
             parts = _PARTS.pack(*parts)
-        if _native.is_plainly_normal(self._number, data, len(data), parts):
-            return self
-        return self.__made(type(self), _native.normalize, (self._number,))
+        found: int = _native.is_plainly_normal(self._number, data, len(data), parts)
+        return found
 
     def _resolve(self: Self, reference: Union[str, Reference], normalize: bool) -> Self:
         call = _native.resolve_normalized if normalize else _native.resolve

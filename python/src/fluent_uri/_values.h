@@ -203,17 +203,42 @@ static PyObject *mended(const State *state, PyObject *cls, const Call *it, PyObj
     return Py_NewRef(given);
 }
 
-/* The normal form of a value. It is the value itself if its text does not change. Of most such
- * texts the library finds that by their parts, and then nothing is parsed or made. */
+/* Whether a value has what most texts have that are not in their normal form. */
+static int is_hardly_normal(const Reference *self, const char *text) {
+    return (*text >= 'A' && *text <= 'Z') || self->parts.port.start != SIZE_MAX;
+}
+
+/* The normal form of a value. It is the value itself if its text does not change. The library finds
+ * that of most such texts by their parts, and then nothing is parsed. Of others nothing is made: so
+ * the parts of the result are asked for at once only where the text will hardly be its own. */
 static PyObject *normal_form(const State *state, int kind, PyObject *object) {
     Reference *self = (Reference *)object;
     PyObject *cls = (PyObject *)Py_TYPE(self);
     Py_ssize_t length;
     const char *text = PyUnicode_AsUTF8AndSize(self->text, &length);
     if (!text) return NULL;
-    if (state->call.is_plainly_normal((uint32_t)kind, (const uint8_t *)text, (size_t)length,
+    /* (the test finds no text with octets normal) */
+    if (!memchr(text, '%', (size_t)length) &&
+        state->call.is_plainly_normal((uint32_t)kind, (const uint8_t *)text, (size_t)length,
                                       &self->parts))
         return Py_NewRef(object);
+    if (length <= ROOM - BESIDE) {
+        uint8_t room[ROOM];
+        fluent_uri_outcome outcome;
+        fluent_uri_parts parts;
+        size_t size = (size_t)length, takes_parts = (size_t)is_hardly_normal(self, text);
+        uint32_t error = state->call.normalize((uint32_t)kind, (const uint8_t *)text, size, room,
+                                               ROOM, &parts, takes_parts, &outcome);
+        if (!error && outcome.length == size && memcmp(room, text, size) == 0)
+            return Py_NewRef(object);
+        if (!error && outcome.length <= ROOM) {
+            size = outcome.length;
+            if (!takes_parts) state->call.parse((uint32_t)kind, room, size, &parts);
+            text = (const char *)room;
+            return value_of(cls, PyUnicode_DecodeUTF8(text, (Py_ssize_t)size, NULL), &parts);
+        }
+    }
+    /* It is long, or an error. */
     Call it = {.kind = (uint32_t)kind, .one = state->call.normalize};
     return value_result_of(state, cls, &it, object, NULL);
 }

@@ -11,15 +11,16 @@ returns c = λ e spans.
     let text = c.args.text.now in
     let parts = c.args.parts.now in
     let p : Components = components text in
-    let plain = c.is_plain.ensures e in
-    (plain, record {
-      scheme = scheme-in-lower-case-is-normal p.scheme
-          (c.is_scheme_lower.ensures c.if-not-is_scheme_lower.false p.scheme spans.scheme);
-      authority = plain-authority-is-unchanged p.authority
-          (c.is_host_plain.ensures c.if-not-is_host_plain.false (host_start text)
-          (host_of p.authority) spans.host)
-          (component-past-text-is-absent text (port_start text) (port_of p.authority) parts.port
-          spans.port c.if-parts-text.false);
-      path = path-of-plain-text-is-unchanged text p.path p.scheme (path_start text) parts.path
-          plain spans.path;
-    })
+    let plain = c.is_plain.ensures c.if-not-is_plain.false in (
+      plain,
+      record {
+        scheme = scheme-in-lower-case-is-normal p.scheme
+            (c.is_scheme_lower.ensures c.if-not-is_scheme_lower.false p.scheme spans.scheme);
+        authority = plain-authority-is-unchanged p.authority
+            (c.is_host_plain.ensures e (host_start text) (host_of p.authority) spans.host)
+            (component-past-text-is-absent text (port_start text) (port_of p.authority) parts.port
+            spans.port c.if-parts-text.false);
+        path = path-of-plain-text-is-unchanged text p.path p.scheme (path_start text) parts.path
+            plain spans.path;
+      },
+    )
