@@ -99,14 +99,6 @@ pub component-is-at-span : (P : List ℕ → Type 0) (text : List ℕ) (start : 
 component-is-at-span P text start None at h here = tt
 component-is-at-span P text start (Some part) at h here = subst P here.3 h
 
--- plain texts: at a span that is not within the text no component is present
-pub component-is-within-text : (P : List ℕ → Type 0) (text : List ℕ) (start : ℕ)
-    (part : Option (List ℕ)) (at : Span) → (at.start ≤ at.end → at.end ≤ length text → ⊥)
-    → IsSpan text start part at → IfSome part P
-component-is-within-text P text start None at outside here = tt
-component-is-within-text P text start (Some part) at outside here =
-    absurd (outside here.1 here.2)
-
 -- plain texts: a component that ends after the text is absent
 pub component-past-text-is-absent : (text : List ℕ) (start : ℕ) (part : Option (List ℕ)) (at : Span)
     → IsSpan text start part at → length text < at.end → part ≡ None

@@ -10,17 +10,6 @@ use Rattle.fluent_uri_c.specs.declared.queries.Pair.{Pair}
 use Rattle.fluent_uri_c.specs.Pairs.{LeavesPair, value_span}
 use Rattle.fluent_uri_c.specs.Spans.{IsSpan}
 
--- pairs for C: where no pair is left, nothing changes
-pub no-pair-is-left : (query : List ℕ) (from : ℕ) (pair : Pair)
-    → nonempty_substrings (drop from query) ≡ [] → LeavesPair query from from pair pair 0
-no-pair-is-left query from pair none = record {
-  number = omega arith;
-  pair = λ e. absurd (omega (arith, e));
-  none = λ _. none;
-  position = λ _. refl;
-  kept = λ _. refl;
-}
-
 module _ (query : List ℕ) (from : ℕ) (place : PairPlace) (next : IsNextPair query from place) where
   -- pairs for C: the value of the next pair is at its span
   value-is-at-span : IsSpan query (place.name_end + 1) (value_of_pair (pair_at query place))
