@@ -88,7 +88,7 @@ passing-is-valid set None e = tt
 passing-is-valid set (Some x) e = (text-for-set set x e).1
 
 -- building for C: userinfo, host and port, each by its rule, are an authority, which has them again
-pub recomposed-authority-has-its-parts : (kind : Kind) → HasComponentSets kind
+recomposed-authority-has-its-parts : (kind : Kind) → HasComponentSets kind
     → (user port : Option (List ℕ)) (host : List ℕ)
     → absent_or_passes user (is_text_for kind.userinfo) ≡ true
     → is_host_text kind.reg_name host ≡ true

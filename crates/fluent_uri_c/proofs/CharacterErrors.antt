@@ -13,7 +13,7 @@ use Rattle.uri_pct.specs.Tokens.{is_valid_for}
 use Rattle.uri_pct.proofs.ValidTexts.Cuts.{is_valid_for_is_scanned_to_end}
 use Rattle.uri_pct.proofs.ValidTexts.Prefixes.{valid_prefix_is_at_most_length}
 use Rattle.uri_parts.specs.Components.{starts}
-use Rattle.uri_parts.specs.Errors.{stray_percent, unexpected}
+use Rattle.uri_parts.specs.Errors.{unexpected}
 use Rattle.uri_parts.specs.Scanning.{is_next, scan_end}
 use Rattle.uri_parts.proofs.Parsing.NextBytes.{text_ends_where_position_is_length}
 use Rattle.uri_ops.specs.BuilderParts.{is_text_for}
@@ -51,13 +51,6 @@ module _ (set : TableSet) (text : List ℕ) (end : ℕ) (utf8 : IsUtf8 text)
       ∙ eq-eqb end (length text) whole in
       let none : component_refusal set text ≡ None = rw (sym here, percent, left) refl in
       rw (sym (utf8_error-of-utf8 text utf8 possible), none) refl
-
-  -- components for C: a `%` where the scan ends is an error, if octets are allowed
-  pub stray-percent-is-error : set.pct_encoded ≡ true → is_next text percent_sign end ≡ true
-      → component_error set text ≡ Some (parse_rejection (stray_percent end))
-  stray-percent-is-error encoded next =
-      component_error-of-refusal set text end utf8 possible here (stray_percent end)
-      (rw (sym here, encoded, next) refl)
 
   -- components for C: another character where the scan ends is unexpected
   pub other-character-is-error : (set.pct_encoded && is_next text percent_sign end) ≡ false

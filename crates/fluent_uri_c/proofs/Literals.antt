@@ -29,7 +29,7 @@ suffixes-are-compared b s f = same-test (bytes_eq (b ++ s) (b ++ f)) (bytes_eq f
 
 -- hosts for C: what begins with `[` (91) is a host if an address is before the first `]`, and that
 -- is the end
-pub literal-is-tested-by-its-cut : (names : TableSet) (rest : List ℕ)
+literal-is-tested-by-its-cut : (names : TableSet) (rest : List ℕ)
     → is_host names (91 ∷ rest) ≡ (bytes_eq (from_any (codes "]") rest) (codes "]")
     && (is_some (ipv6_value (before_any (codes "]") rest))
     || is_ipv_future (before_any (codes "]") rest)))
