@@ -68,7 +68,11 @@ enum fluent_uri_error {
     FLUENT_URI_OUT_OF_MEMORY = 8,
     FLUENT_URI_INVALID_ARGUMENT = 9,          /**< no such kind, component or option; bad offsets;
                                                * a text longer than PTRDIFF_MAX */
-    FLUENT_URI_FULL = 10                      /**< a batch: an output is too small */
+    FLUENT_URI_FULL = 10,                     /**< a batch: an output is too small */
+    FLUENT_URI_NONEMPTY_ROOTLESS_PATH = 11,   /**< to build: a host, and a path without a `/` */
+    FLUENT_URI_PATH_STARTS_WITH_DOUBLE_SLASH = 12, /**< to build: the same without a host */
+    FLUENT_URI_FIRST_PATH_SEGMENT_CONTAINS_COLON = 13, /**< to build: with no scheme nor host */
+    FLUENT_URI_MISSING_COMPONENT = 14         /**< to build: no scheme, or no host, is given */
 };
 
 /** The outputs that are too small where a batch returns FLUENT_URI_FULL, and what is needed of
@@ -129,11 +133,17 @@ typedef struct {
     fluent_uri_span name, value;
 } fluent_uri_pair;
 
+/** Where the components of a reference are in a text, of which it is built. */
+typedef struct {
+    fluent_uri_span scheme, userinfo, host, port, path, query, fragment;
+} fluent_uri_components;
+
 /** What a call reports. */
 typedef struct {
     uint32_t error;
     uint32_t which;  /**< the text that is rejected: 0 the first, or the base; 1 the other one; of
-                      * FLUENT_URI_FULL: enum fluent_uri_buffer */
+                      * FLUENT_URI_FULL: enum fluent_uri_buffer; of fluent_uri_build: enum
+                      * fluent_uri_component */
     size_t index;    /**< where in it; of a batch: how many texts are done */
     size_t length;   /**< how long the result is; of a batch: how long the results so far are */
     size_t needed;   /**< of FLUENT_URI_FULL: how much of that output is needed, at most SIZE_MAX;
@@ -188,6 +198,20 @@ uint32_t fluent_uri_relativize(uint32_t kind, uint32_t options, const uint8_t *b
                                size_t base_len, const uint8_t *target, size_t target_len,
                                uint8_t *out, size_t out_len, fluent_uri_parts *parts,
                                size_t parts_len, fluent_uri_outcome *outcome);
+
+/** Writes the text of the kind that has these components, which are bytes of TEXT without their
+ * delimiters (RFC 3986, section 5.3): no other text is parsed as these. A component is absent where
+ * both its offsets are SIZE_MAX; a path that is absent is empty. To replace a component of a text,
+ * pass the spans of its parts, and for that component the span of what comes after the text.
+ *
+ * outcome->which is the component that is rejected, and outcome->index the byte of it: a character
+ * that it may not have, as `?` in a path, or a `%` that begins no octet; of what begins with `[`
+ * and is no address, FLUENT_URI_INVALID_IPV6_ADDR at 1. A span that is not within TEXT is
+ * FLUENT_URI_INVALID_ARGUMENT. FLUENT_URI_MISSING_COMPONENT: a URI or an IRI has no scheme, or
+ * userinfo or a port are without a host. */
+uint32_t fluent_uri_build(uint32_t kind, const uint8_t *text, size_t text_len,
+                          const fluent_uri_components *components, uint8_t *out, size_t out_len,
+                          fluent_uri_parts *parts, size_t parts_len, fluent_uri_outcome *outcome);
 
 /** Writes an IRI or an IRI reference as a URI or a URI reference (RFC 3987, section 3.1). */
 uint32_t fluent_uri_to_uri(uint32_t kind, const uint8_t *text, size_t text_len, uint8_t *out,

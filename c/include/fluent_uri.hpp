@@ -127,6 +127,41 @@ inline bool is_plainly_normal(std::uint32_t kind, const parts &text) noexcept {
                                                 &text.parts_) == 1;
 }
 
+/** The components of a reference to build, without their delimiters; one that is not there is
+ * absent. */
+struct components {
+    parts::component scheme, userinfo, host, port;
+    std::string_view path;
+    parts::component query, fragment;
+
+    components() = default;
+
+    /** Those of a text, to change some of them. */
+    explicit components(const parts &of) noexcept
+        : scheme(of.scheme()), userinfo(of.userinfo()), host(of.host()), port(of.port()),
+          path(of.path().value_or(std::string_view())), query(of.query()), fragment(of.fragment()) {
+    }
+};
+
+/** The text of the kind that has these components (RFC 3986, section 5.3). `why.which` is the
+ * component that is rejected, an `enum fluent_uri_component`, and `why.index` the byte of it. */
+inline result build(std::uint32_t kind, const components &from) {
+    std::string text;
+    auto span = [&](const parts::component &it) -> fluent_uri_span {
+        if (!it) return {SIZE_MAX, SIZE_MAX};
+        text += *it;
+        return {text.size() - it->size(), text.size()};
+    };
+    fluent_uri_components spans{span(from.scheme), span(from.userinfo), span(from.host),
+                                span(from.port),   span(from.path),     span(from.query),
+                                span(from.fragment)};
+    auto most = text.size() + 7;
+    return detail::make(most, [&](std::uint8_t *out, std::size_t room, auto *outcome) {
+        return fluent_uri_build(kind, detail::bytes(text), text.size(), &spans, out, room, nullptr,
+                                0, outcome);
+    });
+}
+
 /** The normal form (RFC 3986, section 6.2.2). */
 inline result normalize(std::uint32_t kind, std::string_view text) {
     return detail::make_of_one(fluent_uri_normalize, kind, text);

@@ -34,6 +34,12 @@ static const char *const texts = "//U@H:80/%7e/.?q#f a:b";
 static const uint32_t offsets[TEXTS + 1] = {0, 18, 18, 19, 22, 22};
 static const uint64_t offsets64[TEXTS + 1] = {0, 18, 18, 19, 22, 22};
 
+/* The components of a text: its scheme, host, path and query. */
+static const fluent_uri_components components = {
+    {0, 4}, {SIZE_MAX, SIZE_MAX}, {7, 8}, {SIZE_MAX, SIZE_MAX}, {8, 12}, {13, 14},
+    {SIZE_MAX, SIZE_MAX},
+};
+
 #define SINGLES(IT) \
     IT(error_name, fluent_uri_error_name(4, BYTES)) \
     IT(parse, fluent_uri_parse(1, TEXT("//h/p"), at(PARTS))) \
@@ -43,6 +49,7 @@ static const uint64_t offsets64[TEXTS + 1] = {0, 18, 18, 19, 22, 22};
     IT(resolve_normalized, fluent_uri_resolve_normalized(0, BASE, TEXT("//H:80"), VALUE)) \
     IT(mend, fluent_uri_mend(1, TEXT("//h/a b%"), VALUE)) \
     IT(mend_link, fluent_uri_mend_link(1, TEXT(" //h/a\n b\t#[ "), VALUE)) \
+    IT(build, fluent_uri_build(0, BASE, &components, VALUE)) \
     IT(relativize, fluent_uri_relativize(0, 0, BASE, TEXT("http://a/d?q"), VALUE)) \
     IT(decode, fluent_uri_decode(FLUENT_URI_PATH, TEXT("a%20/b"), BYTES)) \
     IT(encode, fluent_uri_encode(FLUENT_URI_DATA, TEXT("a b/"), BYTES)) \

@@ -163,6 +163,95 @@ static void mends(void) {
     CHECK(fluent_uri_mend(1, TEXT("a b"), SHORT(4)) == 0 && outcome.length == 5 && out[0] == '#');
 }
 
+/* Builds a text of components, in the order of fluent_uri_components. NULL is an absent one. */
+static uint32_t build(uint32_t kind, const char *const given[7]) {
+    char text[256];
+    size_t length = 0;
+    fluent_uri_span spans[7];
+    fluent_uri_components components;
+    for (int i = 0; i < 7; i++) {
+        spans[i].start = spans[i].end = SIZE_MAX;
+        if (!given[i]) continue;
+        spans[i].start = length;
+        memcpy(text + length, given[i], strlen(given[i]));
+        spans[i].end = length += strlen(given[i]);
+    }
+    memcpy(&components, spans, sizeof components);
+    return fluent_uri_build(kind, (const uint8_t *)text, length, &components, VALUE);
+}
+
+#define BUILD(KIND, ...) build(KIND, (const char *const[7]){__VA_ARGS__})
+
+static void builds(void) {
+    /* RFC 3986, section 3; IRIs of RFC 3987, section 3.1; an authority of section 3.2.2. */
+    CHECK(gives(BUILD(0, "foo", 0, "example.com", "8042", "/over/there", "name=ferret", "nose"),
+                "foo://example.com:8042/over/there?name=ferret#nose"));
+    CHECK(gives(BUILD(0, "urn", 0, 0, 0, "example:animal:ferret:nose", 0, 0),
+                "urn:example:animal:ferret:nose"));
+    CHECK(gives(BUILD(2, "http", 0, "r\xc3\xa9sum\xc3\xa9.example.org", 0, "/", 0, 0),
+                "http://r\xc3\xa9sum\xc3\xa9.example.org/"));
+    CHECK(gives(BUILD(1, 0, "", "[2001:db8::7]", "", "", "", ""), "//@[2001:db8::7]:?#"));
+    CHECK(gives(BUILD(1, 0, 0, "[v1.fe:d]", 0, 0, 0, 0), "//[v1.fe:d]"));
+    CHECK(gives(BUILD(3, 0, 0, 0, 0, 0, 0, 0), ""));
+    CHECK(gives(BUILD(1, 0, 0, "", 0, "//", 0, 0), "////"));
+    /* A component with another's delimiter is rejected, and so is one that is malformed. */
+    CHECK(rejects(BUILD(0, "a:b", 0, 0, 0, "", 0, 0), 2, FLUENT_URI_SCHEME, 1));
+    CHECK(rejects(BUILD(0, "1a", 0, 0, 0, "", 0, 0), 2, FLUENT_URI_SCHEME, 0));
+    CHECK(rejects(BUILD(0, "", 0, 0, 0, "", 0, 0), 2, FLUENT_URI_SCHEME, 0));
+    CHECK(rejects(BUILD(0, "a", "b@c", "", 0, "", 0, 0), 2, FLUENT_URI_USERINFO, 1));
+    CHECK(rejects(BUILD(0, "a", 0, "b:80", 0, "", 0, 0), 2, FLUENT_URI_HOST, 1));
+    CHECK(rejects(BUILD(0, "a", 0, "b/c", 0, "", 0, 0), 2, FLUENT_URI_HOST, 1));
+    CHECK(rejects(BUILD(0, "a", 0, "[::g]", 0, "", 0, 0), 3, FLUENT_URI_HOST, 1));
+    CHECK(rejects(BUILD(0, "a", 0, "[::1]:80", 0, "", 0, 0), 3, FLUENT_URI_HOST, 1));
+    CHECK(rejects(BUILD(0, "a", 0, "[v.a]", 0, "", 0, 0), 3, FLUENT_URI_HOST, 1));
+    CHECK(rejects(BUILD(0, "a", 0, "b", "8x", "", 0, 0), 2, FLUENT_URI_PORT, 1));
+    CHECK(rejects(BUILD(0, "a", 0, "b", 0, "/a?b", 0, 0), 2, FLUENT_URI_PATH, 2));
+    CHECK(rejects(BUILD(0, "a", 0, "b", 0, "/%2", 0, 0), 1, FLUENT_URI_PATH, 1));
+    CHECK(rejects(BUILD(0, "a", 0, "b", 0, "/\xc3\xa9", 0, 0), 2, FLUENT_URI_PATH, 1));
+    CHECK(rejects(BUILD(2, "a", 0, "b", 0, "/\xc3", 0, 0), 4, FLUENT_URI_PATH, 1));
+    CHECK(rejects(BUILD(0, "a", 0, "b", 0, "", "c#d", 0), 2, FLUENT_URI_QUERY, 1));
+    CHECK(rejects(BUILD(0, "a", 0, "b", 0, "", "c", "d#e"), 2, FLUENT_URI_FRAGMENT, 1));
+    /* What they have to be together: sections 3, 3.2, 3.3 and 4.2. */
+    CHECK(rejects(BUILD(0, 0, 0, "a", 0, "", 0, 0), FLUENT_URI_MISSING_COMPONENT,
+                  FLUENT_URI_SCHEME, 0));
+    CHECK(rejects(BUILD(1, 0, "a", 0, 0, "", 0, 0), FLUENT_URI_MISSING_COMPONENT,
+                  FLUENT_URI_HOST, 0));
+    CHECK(rejects(BUILD(1, 0, 0, 0, "1", "", 0, 0), FLUENT_URI_MISSING_COMPONENT,
+                  FLUENT_URI_HOST, 0));
+    CHECK(rejects(BUILD(1, 0, 0, "a", 0, "b", 0, 0), FLUENT_URI_NONEMPTY_ROOTLESS_PATH,
+                  FLUENT_URI_PATH, 0));
+    CHECK(rejects(BUILD(0, "a", 0, 0, 0, "//b", 0, 0), FLUENT_URI_PATH_STARTS_WITH_DOUBLE_SLASH,
+                  FLUENT_URI_PATH, 0));
+    CHECK(rejects(BUILD(1, 0, 0, 0, 0, "a:b", 0, 0),
+                  FLUENT_URI_FIRST_PATH_SEGMENT_CONTAINS_COLON, FLUENT_URI_PATH, 0));
+    CHECK(rejects(BUILD(4, "a", 0, 0, 0, "", 0, 0), 9, 0, 0));
+}
+
+/* A component is replaced by one after the text. A span beyond the text is rejected. */
+static void replaces(void) {
+    const char *text = "http://u@h:80/p?q#f/x";
+    size_t length = strlen(text);
+    fluent_uri_parts p;
+    CHECK(fluent_uri_parse(0, (const uint8_t *)text, length - 2, &p) == 0);
+    fluent_uri_components it = {p.scheme, p.userinfo, p.host, p.port, p.path, p.query, p.fragment};
+    CHECK(gives(fluent_uri_build(0, TEXT(text), &it, VALUE), "http://u@h:80/p?q#f"));
+    it.path.start = length - 2, it.path.end = length;
+    it.query.start = it.query.end = SIZE_MAX;
+    CHECK(gives(fluent_uri_build(0, TEXT(text), &it, VALUE), "http://u@h:80/x#f"));
+    memset(out, '#', sizeof out);
+    CHECK(fluent_uri_build(0, TEXT(text), &it, SHORT(16)) == 0 && outcome.length == 17);
+    CHECK(out[0] == '#' && has_parts_of("http://u@h:80/x#f"));
+    it.path.end = length + 1;
+    CHECK(rejects(fluent_uri_build(0, TEXT(text), &it, VALUE), 9, FLUENT_URI_PATH, 0));
+    it.path.start = SIZE_MAX;
+    CHECK(rejects(fluent_uri_build(0, TEXT(text), &it, VALUE), 9, FLUENT_URI_PATH, 0));
+    it.path.start = 2, it.path.end = 1;
+    CHECK(rejects(fluent_uri_build(0, TEXT(text), &it, VALUE), 9, FLUENT_URI_PATH, 0));
+    it.path.start = 0, it.path.end = SIZE_MAX;
+    CHECK(rejects(fluent_uri_build(0, TEXT(text), &it, VALUE), 9, FLUENT_URI_PATH, 0));
+    CHECK(rejects(fluent_uri_build(0, (const uint8_t *)text, SIZE_MAX, &it, VALUE), 9, 0, 0));
+}
+
 static void converts(void) {
     CHECK(gives(fluent_uri_to_uri(2, TEXT("http://a/\xc3\xa9"), VALUE), "http://a/%C3%A9"));
     CHECK(gives(fluent_uri_to_uri(3, TEXT("\xc3\xa9"), VALUE), "%C3%A9"));
@@ -313,7 +402,7 @@ static void tells_of_itself(void) {
     CHECK((fluent_uri_version() >> 8 & 0xff) == FLUENT_URI_VERSION_MINOR);
     CHECK(gives_bytes(fluent_uri_error_name(0, BYTES), "FLUENT_URI_OK"));
     CHECK(gives_bytes(fluent_uri_error_name(FLUENT_URI_FULL, BYTES), "FLUENT_URI_FULL"));
-    CHECK(rejects(fluent_uri_error_name(11, BYTES), 9, 0, 0));
+    CHECK(rejects(fluent_uri_error_name(15, BYTES), 9, 0, 0));
 }
 
 int main(void) {
@@ -325,6 +414,8 @@ int main(void) {
     resolves();
     relativizes();
     mends();
+    builds();
+    replaces();
     converts();
     mends_components();
     finds_what_is_plainly_normal();

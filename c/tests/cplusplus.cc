@@ -32,7 +32,14 @@ static bool by_strings() {
     auto rejected = resolve(FLUENT_URI_URI, "http://a/", "a b");
     // Longer than the first buffer: a zone's worth of octets.
     auto longer = to_uri(FLUENT_URI_IRI_REF, "\u00e9\u00e9\u00e9\u00e9");
-    return p && p.scheme() == "http" && p.userinfo() == "u" && p.host() == "h" && p.port() == "80" &&
+    components of(p), none;
+    of.path = "/x", of.query.reset();
+    none.path = "a?b";
+    auto built = build(FLUENT_URI_URI, of), unbuilt = build(FLUENT_URI_URI_REF, none);
+    return built && *built == "http://u@h:80/x#f" && !unbuilt &&
+           unbuilt.why.error == FLUENT_URI_UNEXPECTED_CHAR &&
+           unbuilt.why.which == FLUENT_URI_PATH && unbuilt.why.index == 1 &&
+           p && p.scheme() == "http" && p.userinfo() == "u" && p.host() == "h" && p.port() == "80" &&
            p.path() == "/p" && p.query() == "q" && p.fragment() == "f" &&
            p.host_kind() == FLUENT_URI_REG_NAME && !no && no.why().index == 1 &&
            !no.scheme() && !rejected && rejected.why.which == 1 && rejected.why.index == 1 &&
@@ -52,7 +59,7 @@ static bool by_strings() {
            is_plainly_normal(FLUENT_URI_URI, parse(FLUENT_URI_URI, "http://a/b")) &&
            !is_plainly_normal(FLUENT_URI_URI, parse(FLUENT_URI_URI, "http://A/b")) &&
            !is_plainly_normal(FLUENT_URI_URI, no) && by_pairs() &&
-           version() >> 16 == FLUENT_URI_VERSION_MAJOR && !error_name(11) &&
+           version() >> 16 == FLUENT_URI_VERSION_MAJOR && !error_name(15) &&
            *error_name(FLUENT_URI_NOT_UTF8) == "FLUENT_URI_NOT_UTF8";
 }
 #endif

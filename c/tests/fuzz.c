@@ -15,7 +15,7 @@ enum { PAGE = 4096, CANARY = 32, ROOM = 4096, TEXTS = 4, LINES = 8 };
 
 #define EACH_CALL(IT) \
     IT(parse) IT(decode) IT(encode) IT(mend_component) IT(normalize) IT(to_uri) IT(resolve) \
-    IT(resolve_normalized) IT(relativize) IT(mend) IT(mend_link) IT(normalize_batch) \
+    IT(resolve_normalized) IT(relativize) IT(build) IT(mend) IT(mend_link) IT(normalize_batch) \
     IT(to_uri_batch) IT(component_batch) IT(resolve_batch) IT(resolve_normalized_batch) \
     IT(relativize_batch) IT(mend_batch) IT(mend_link_batch) IT(decode_batch) IT(encode_batch) \
     IT(normalize_batch64) IT(to_uri_batch64) IT(component_batch64) IT(resolve_batch64) \
@@ -58,6 +58,7 @@ typedef struct {
     size_t size, one_size, other_size;
     const uint32_t *offsets;
     const uint64_t *offsets64;
+    fluent_uri_components components;
 } input;
 
 /* What a call returns and writes. All is '#' before. */
@@ -102,6 +103,7 @@ static uint32_t made(const build *by, int call, const input *in, written *to) {
         WITH_BASE(relativize, NUMBERS) OF_COMPONENT(decode) OF_COMPONENT(encode)
     case call_parse: return by->parse(in->kind, ONE, to->parts);
     case call_mend_component: return by->mend_component(in->component, ONE, OUT);
+    case call_build: return by->build(in->kind, ONE, &in->components, VALUE);
     case call_component_batch: return by->component_batch(in->kind, in->component, ONE, COLUMN);
     case call_component_batch64:
         return by->component_batch64(in->kind, in->component, ONE, COLUMN64);
@@ -132,7 +134,7 @@ static void stays_within(int call, const input *in, const written *it) {
         allowed.outcome = it->outcome;
         HOLDS(it->outcome.error == it->error);
         if (call < FIRST_BATCH) {
-            HOLDS(done <= in->size && it->outcome.which <= 1);
+            HOLDS(done <= in->size && it->outcome.which <= (call == call_build ? 7 : 1));
             if (it->error == 0 && length <= in->room) MAY_WRITE(out, length);
             if (!it->error && in->parts && makes_value(call)) MAY_WRITE(parts, sizeof *it->parts);
         } else if (call == call_parse_batch || call == call_parse_batch64) {
@@ -257,6 +259,54 @@ static void mended_texts_agree(const input *in) {
               (it->outcome.length > in->room || !memcmp(it->out, in->text, in->size)));
 }
 
+static int is_same_part(const input *in, fluent_uri_span given, const written *it,
+                        fluent_uri_span made) {
+    if (given.start == SIZE_MAX || made.start == SIZE_MAX) return given.start == made.start;
+    size_t size = given.end - given.start;
+    return made.end - made.start == size &&
+           !memcmp(in->text + given.start, it->out + made.start, size);
+}
+
+/* A text that is built has the components that were given, and a text is built of its own. */
+static void built_texts_agree(const input *in) {
+    int call = call_build;
+    const written *it = &results[call];
+    const fluent_uri_components *given = &in->components;
+    const fluent_uri_parts *own = results[call_parse].parts;
+    fluent_uri_parts made;
+    if (is_there(call, in)) {
+        HOLDS(!fluent_uri_parse(in->kind, it->out, it->outcome.length, &made));
+        fluent_uri_span path = given->path;
+        if (path.start == SIZE_MAX) path.start = path.end = 0;
+        HOLDS(is_same_part(in, given->scheme, it, made.scheme));
+        HOLDS(is_same_part(in, given->userinfo, it, made.userinfo));
+        HOLDS(is_same_part(in, given->host, it, made.host));
+        HOLDS(is_same_part(in, given->port, it, made.port));
+        HOLDS(is_same_part(in, path, it, made.path));
+        HOLDS(is_same_part(in, given->query, it, made.query));
+        HOLDS(is_same_part(in, given->fragment, it, made.fragment));
+    }
+    if (results[call_parse].error) return;
+    const fluent_uri_components spans = {own->scheme, own->userinfo, own->host, own->port,
+                                         own->path,   own->query,    own->fragment};
+    HOLDS(!fluent_uri_build(in->kind, in->text, in->size, &spans, again, sizeof again, NO_PARTS,
+                            &outcome));
+    HOLDS(outcome.length == in->size && !memcmp(again, in->text, in->size));
+}
+
+/* Spans by bytes of the data: most are within it, and some are absent. */
+static fluent_uri_components given_by(const uint8_t *data, size_t size) {
+    fluent_uri_span at[7];
+    fluent_uri_components made;
+    for (size_t i = 0; i < 7; i++) {
+        uint8_t start = data[2 * i % size], end = data[(2 * i + 1) % size];
+        at[i].start = start % 3 ? SIZE_MAX : start % (size + 1);
+        at[i].end = start % 3 ? SIZE_MAX : at[i].start + end % (size + 2 - at[i].start);
+    }
+    memcpy(&made, at, sizeof made);
+    return made;
+}
+
 /* The single call of a batch, on a text of its column. */
 static uint32_t one_of(int call, const input *in, const uint8_t *text, size_t size) {
 #define BASE in->one, in->one_size
@@ -321,12 +371,12 @@ static void columns_agree(const input *in) {
 
 #ifdef LIBFUZZER
 /* The library is not instrumented: what it returns tells libFuzzer which inputs are new. */
-__attribute__((section("__libfuzzer_extra_counters"))) static uint8_t seen[1 << 14];
+__attribute__((section("__libfuzzer_extra_counters"))) static uint8_t seen[1 << 15];
 
 static void tells_what_is_new(void) {
     for (int call = 0; call < CALLS; call++) {
         size_t index = call ? results[call].outcome.index : results[call].parts->index;
-        seen[((size_t)call * 11 + results[call].error) * 32 + (index < 31 ? index : 31)] = 1;
+        seen[((size_t)call * 15 + results[call].error) * 32 + (index < 31 ? index : 31)] = 1;
     }
     const fluent_uri_parts *it = results[call_parse].parts;
     const fluent_uri_span spans[] = {it->scheme, it->authority, it->userinfo, it->port,
@@ -334,7 +384,7 @@ static void tells_what_is_new(void) {
     unsigned shape = it->host_kind;
     for (size_t i = 0; i < sizeof spans / sizeof *spans; i++)
         shape = shape * 2 + (spans[i].start < spans[i].end);
-    seen[CALLS * 11 * 32 + shape] = 1;
+    seen[CALLS * 15 * 32 + shape] = 1;
 }
 #endif
 
@@ -361,6 +411,7 @@ int LLVMFuzzerTestOneInput(const uint8_t *data, size_t size) {
     in.room = (size_t)data[2] * 16, in.places = (size_t)TEXTS + 1 - (size_t)lacks_a_place;
     in.parts = data[2] % 3;
     data += 3, size -= 3;
+    in.components = given_by(data, size);
     in.size = size, in.one_size = half, in.other_size = size - half;
     in.text = beside(0, at_end, data, size);
     in.one = beside(1, at_end, data, half);
@@ -379,6 +430,7 @@ int LLVMFuzzerTestOneInput(const uint8_t *data, size_t size) {
     parts_agree(&in);
     single_calls_agree(&in);
     mended_texts_agree(&in);
+    built_texts_agree(&in);
     columns_agree(&in);
 #ifdef LIBFUZZER
     tells_what_is_new();

@@ -40,7 +40,7 @@ static int is_kept(size_t length) {
     return is_clear(0, CANARY) && is_clear(CANARY + length, sizeof whole);
 }
 
-enum { WORKS = 12 };
+enum { WORKS = 13 };
 static uint32_t ends[3];
 static uint8_t valid;
 
@@ -64,6 +64,11 @@ static uint32_t work(int which, size_t room) {
     case 11: return fluent_uri_mend_component(FLUENT_URI_PATH, TEXT("%7e b\xc3\xa9#"), out, room,
                                               &outcome);
     case 10: return fluent_uri_mend_link(1, TEXT(" /b\n c\t[ "), out, room, NO_PARTS, &outcome);
+    case 12: {
+        const fluent_uri_span none = {SIZE_MAX, SIZE_MAX};
+        const fluent_uri_components it = {{0, 4}, none, {7, 8}, none, {8, 12}, none, {1, 4}};
+        return fluent_uri_build(2, TEXT(base), &it, out, room, NO_PARTS, &outcome);
+    }
     default: return fluent_uri_normalize_lines(2, TEXT("A:%7e\nb"), out, room, &valid, 2 - 1, &outcome);
     }
 }

@@ -5,7 +5,8 @@ import pathlib
 import re
 import unittest
 
-from fluent_uri import Component, HostKind, ParseErrorKind, ResolveErrorKind, _native
+from fluent_uri import BuildErrorKind, Component, HostKind, ParseErrorKind, ResolveErrorKind
+from fluent_uri import _native
 from fluent_uri import _declarations as ours
 
 ROOT = pathlib.Path(__file__).resolve().parents[2]
@@ -26,6 +27,7 @@ TYPES = {
     "const fluent_uri_parts *": {ours.OUT},
     "fluent_uri_outcome *": {ours.OUT},
     "fluent_uri_pair *": {ours.OUT},
+    "const fluent_uri_components *": {ours.OUT},
 }
 FIELDS = {"uint32_t": ctypes.c_uint32, "size_t": ctypes.c_size_t, "fluent_uri_span": ours.Span}
 
@@ -74,7 +76,7 @@ class Declarations(unittest.TestCase):
         self.assertEqual(constants("host_kind"), ours.HOST_KINDS)
 
     def test_enums(self):
-        for kind in [ParseErrorKind, ResolveErrorKind]:
+        for kind in [ParseErrorKind, ResolveErrorKind, BuildErrorKind]:
             for it in kind:
                 self.assertEqual(ours.ERRORS[it.name], it)
         for it in HostKind:
@@ -83,7 +85,8 @@ class Declarations(unittest.TestCase):
             self.assertEqual(ours.COMPONENTS["HOST" if it.name == "REG_NAME" else it.name], it)
 
     def test_structs(self):
-        for name, struct in [("span", ours.Span), ("parts", ours.Parts), ("outcome", ours.Outcome)]:
+        for name, struct in [("span", ours.Span), ("parts", ours.Parts), ("outcome", ours.Outcome),
+                             ("components", ours.Components)]:
             self.assertEqual(list(fields(name)), list(struct._fields_))
 
 

@@ -13,7 +13,7 @@ import urllib.parse
 import fluent_uri.parse
 
 PAGE = pathlib.Path(__file__).resolve().parents[2] / "docs" / "PYTHON.md"
-MODULES = ["", "._columns", "._encoding", "._errors", "._paths", ".batch", ".parse"]
+MODULES = ["", "._building", "._columns", "._encoding", "._errors", "._paths", ".batch", ".parse"]
 COMPARE = PAGE.parents[1] / "python" / "compare-urllib"
 ROW = re.compile(r"^\| `(\w+\(.*?)` \| `(.*?)` \| `(.*?)` \|.*\|$", re.MULTILINE)
 

@@ -101,6 +101,14 @@ CALLS = {
     "with_query, a pair": (lambda it: VALUE.with_query([it]), set()),
     "with_query, a name": (lambda it: VALUE.with_query([(it, "")]), {"str"}),
     "with_query, a value": (lambda it: VALUE.with_query({"a": it}), {"str"}),
+    **{f"build, {it}": (lambda given, it=it: Uri.build(**{"scheme": "x", "host": "h", it: given}),
+                        {"str", "None"})
+       for it in ["scheme", "userinfo", "path", "query", "fragment"]},
+    **{f"replace, {it}": (lambda given, it=it: VALUE.replace(**{it: given}), {"str", "None"})
+       for it in ["scheme", "userinfo", "host", "path", "query", "fragment"]},
+    "build, host": (lambda it: Uri.build(scheme="x", host=it), {"str", "None"}),
+    "build, port": (lambda it: Uri.build(scheme="x", host="h", port=it), {"str", "int", "None"}),
+    "replace, port": (lambda it: VALUE.replace(port=it), {"str", "int", "None"}),
     "resolve": (VALUE.resolve, TEXTS),
     "Iri.resolve": (Iri("x://é").resolve, TEXTS),
     "relativize": (VALUE.relativize, TEXTS),

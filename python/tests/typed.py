@@ -1,8 +1,10 @@
 """What mypy must know of the calls: this file is checked, and not run."""
 
 from array import array
+from ipaddress import ip_address
 from typing import Dict, List, Optional, Tuple
 
+from fluent_uri import BuildError, BuildErrorKind
 from fluent_uri import HostKind, Iri, IriRef, ParseError, ParseErrorKind, Reference, Uri, UriRef
 from fluent_uri import batch, decode, encode
 from fluent_uri.parse import ParseResult, SplitResult, parse_qs, parse_qsl, quote, unquote
@@ -16,7 +18,10 @@ number: Optional[int] = uri.port_number
 normal: Uri = uri.normalize()
 target: Uri = uri.resolve(UriRef("c"), normalize=True)
 bare: Uri = uri.with_fragment(None)
+built: Iri = Iri.build(scheme="http", host=ip_address("::1"), port=80, path="/", query=None)
+replaced: Uri = uri.replace(host="a", port="80", path="/x", fragment=None)
 made: Uri = Iri("http://é/").to_uri()
+of_names: Uri = Iri("http://é/").to_uri(ascii_host=lambda host: host.encode("idna").decode())
 made_ref: UriRef = IriRef("é").to_uri()
 data: bytes = decode("a")
 text: str = encode("a") + encode(b"a")
@@ -55,6 +60,11 @@ links: List[Optional[str]] = batch.join_links(uri, [" a b "])
 of_mended: List[Optional[IriRef]] = batch.parse(["a b"], IriRef, mend=True)
 mended_column: batch.Column = batch.mend_link_column(b"a b", array("I", [0, 3]))
 relative: UriRef = uri.relativize("http://a/b c", prefer_relative_path=True, mend=True)
+
+
+def which(error: BuildError) -> str:
+    kind: BuildErrorKind = error.kind
+    return error.component + kind.name + str(error.index + error.char_index)
 
 
 def where(error: ParseError) -> int:

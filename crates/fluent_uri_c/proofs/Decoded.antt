@@ -51,7 +51,7 @@ module _ (set : TableSet) (text : List ℕ) (end : ℕ) (utf8 : IsUtf8 text)
       (cases_lt end (length text))
 
   -- decoding for C: the error of bytes that are UTF-8 is that of a scan
-  component_error-of-refusal : (e : _) → component_refusal set text ≡ Some e
+  pub component_error-of-refusal : (e : _) → component_refusal set text ≡ Some e
       → component_error set text ≡ Some (parse_rejection e)
   component_error-of-refusal e is =
       rw (sym (utf8_error-of-utf8 text utf8 possible)) (ap (option_map parse_rejection) is)

@@ -1,10 +1,13 @@
 mod AsciiBlocks
 mod Batches
 mod Bits
+mod BuiltTexts
+mod CharacterErrors
 mod ComponentMending
 mod Decoded
 mod HostNames
 mod LinesOf
+mod Literals
 mod Mends
 mod OtherErrors
 mod ParsedBases

@@ -22,6 +22,10 @@ number_of-is-not-zero Of.PathUnderflow e = omega arith
 number_of-is-not-zero Of.OutOfMemory e = omega arith
 number_of-is-not-zero Of.InvalidArgument e = omega arith
 number_of-is-not-zero Of.Full e = omega arith
+number_of-is-not-zero Of.NonemptyRootlessPath e = omega arith
+number_of-is-not-zero Of.PathStartsWithDoubleSlash e = omega arith
+number_of-is-not-zero Of.FirstPathSegmentContainsColon e = omega arith
+number_of-is-not-zero Of.MissingComponent e = omega arith
 
 -- exports for C: rejected bytes have the parts of their rejection
 rejected-parts-of-some : (o : _) (why : Rejection) (parts : Parts) → Some why ≡ o → parts

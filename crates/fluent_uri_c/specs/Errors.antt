@@ -25,6 +25,10 @@ number_of Of.PathUnderflow = 7
 number_of Of.OutOfMemory = 8
 number_of Of.InvalidArgument = 9
 number_of Of.Full = 10
+number_of Of.NonemptyRootlessPath = 11
+number_of Of.PathStartsWithDoubleSlash = 12
+number_of Of.FirstPathSegmentContainsColon = 13
+number_of Of.MissingComponent = 14
 
 -- the rejection of a call for an error at an index of its first text
 abbrev pub rejected_at : Error → ℕ → Rejection
@@ -37,6 +41,10 @@ rejected error = rejected_at error 0
 -- the rejection of a call, moved to its second text, which is the reference
 abbrev pub in_reference : Rejection → Rejection
 in_reference why = record why { which = 1 }
+
+-- the rejection of a call, said of the component with a number of the C header
+abbrev pub in_component : ℕ → Rejection → Rejection
+in_component n why = record why { which = n }
 
 -- the error of the C header for a kind of parse error
 abbrev pub error_of_kind : ParseErrorKind → Error

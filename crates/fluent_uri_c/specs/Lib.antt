@@ -1,9 +1,11 @@
 pub mod Bases
+pub mod Building
 pub mod Columns
 pub mod Components
 pub mod Endings
 pub mod Errors
 pub mod Full
+pub mod Given
 pub mod Kinds
 pub mod Lines
 pub mod MendedComponents

@@ -19,7 +19,11 @@ error_name n =
     else (if n == 7 then Some (codes "FLUENT_URI_PATH_UNDERFLOW")
     else (if n == 8 then Some (codes "FLUENT_URI_OUT_OF_MEMORY")
     else (if n == 9 then Some (codes "FLUENT_URI_INVALID_ARGUMENT")
-    else (if n == 10 then Some (codes "FLUENT_URI_FULL") else None))))))))))
+    else (if n == 10 then Some (codes "FLUENT_URI_FULL")
+    else (if n == 11 then Some (codes "FLUENT_URI_NONEMPTY_ROOTLESS_PATH")
+    else (if n == 12 then Some (codes "FLUENT_URI_PATH_STARTS_WITH_DOUBLE_SLASH")
+    else (if n == 13 then Some (codes "FLUENT_URI_FIRST_PATH_SEGMENT_CONTAINS_COLON")
+    else (if n == 14 then Some (codes "FLUENT_URI_MISSING_COMPONENT") else None))))))))))))))
 
 -- the result of `fluent_uri_error_name` for an error with a number of the C header
 abbrev pub error_name_result : ℕ → Returned

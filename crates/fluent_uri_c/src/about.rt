@@ -30,6 +30,10 @@ fn name_of(error: u32) -> Option<&'static str>
         8 => Some("FLUENT_URI_OUT_OF_MEMORY"),
         9 => Some("FLUENT_URI_INVALID_ARGUMENT"),
         10 => Some("FLUENT_URI_FULL"),
+        11 => Some("FLUENT_URI_NONEMPTY_ROOTLESS_PATH"),
+        12 => Some("FLUENT_URI_PATH_STARTS_WITH_DOUBLE_SLASH"),
+        13 => Some("FLUENT_URI_FIRST_PATH_SEGMENT_CONTAINS_COLON"),
+        14 => Some("FLUENT_URI_MISSING_COMPONENT"),
         _ => None,
     }
 }

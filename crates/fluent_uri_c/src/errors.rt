@@ -1,6 +1,7 @@
 //! Why a call rejects its arguments.
 ghost use Rattle.std.specs.Prelude.{◌≡◌, ◌≢◌, ◌≤◌};
-ghost use Rattle.fluent_uri_c.specs.Errors.{number_of, in_reference, rejected, rejected_at};
+ghost use Rattle.fluent_uri_c.specs.Errors.{in_component, in_reference, number_of, rejected};
+ghost use Rattle.fluent_uri_c.specs.Errors.{rejected_at};
 
 use fluent_uri::resolve::ResolveError;
 use fluent_uri::{ParseError, ParseErrorKind};
@@ -20,14 +21,18 @@ pub enum Error {
     OutOfMemory,
     InvalidArgument,
     Full,
+    NonemptyRootlessPath,
+    PathStartsWithDoubleSlash,
+    FirstPathSegmentContainsColon,
+    MissingComponent,
 }
 
 impl Error {
-    /// Returns the number of the error in the header, from 1 to 10.
+    /// Returns the number of the error in the header, from 1 to 14.
     pub fn number(self) -> u32
         ensures number { result ≡ number_of self }
         ensures error { result ≢ 0 }
-        ensures small { result ≤ 10 }
+        ensures small { result ≤ 14 }
     {
         match self {
             Error::InvalidPctEncodedOctet => 1,
@@ -40,6 +45,10 @@ impl Error {
             Error::OutOfMemory => 8,
             Error::InvalidArgument => 9,
             Error::Full => 10,
+            Error::NonemptyRootlessPath => 11,
+            Error::PathStartsWithDoubleSlash => 12,
+            Error::FirstPathSegmentContainsColon => 13,
+            Error::MissingComponent => 14,
         }
     }
 }
@@ -68,6 +77,17 @@ impl Rejection {
             error,
             which: 0,
             index,
+        }
+    }
+
+    /// Returns the rejection, said of the component with this number of the header.
+    pub fn in_component(self, which: u32) -> Rejection
+        ensures { result ≡ in_component which self }
+    {
+        Rejection {
+            error: self.error,
+            which,
+            index: self.index,
         }
     }
 

@@ -28,10 +28,15 @@ if not getattr(sys, "_is_gil_enabled", lambda: True)():
     raise ImportError("fluent_uri needs Python's global lock: run Python with PYTHON_GIL=1")
 
 from fluent_uri import _calls, _native
+from fluent_uri._building import AsciiHost as _AsciiHost
+from fluent_uri._building import Buildable as _Buildable
+from fluent_uri._building import with_ascii_host as _with_ascii_host
 from fluent_uri._calls import is_compiled
 from fluent_uri._calls import text_of as _text_of
 from fluent_uri._encoding import Component, decode, encode
 from fluent_uri._errors import (
+    BuildError,
+    BuildErrorKind,
     ParseError,
     ParseErrorKind,
     ResolveError,
@@ -41,6 +46,8 @@ from fluent_uri._errors import exact as _exact
 from fluent_uri._paths import DotSegmentError, PathsAndQueries
 
 __all__ = [
+    "BuildError",
+    "BuildErrorKind",
     "Component",
     "DotSegmentError",
     "HostKind",
@@ -76,7 +83,7 @@ class HostKind(enum.IntEnum):
 
 
 @_calls.finished
-class Reference(_calls.Reference, PathsAndQueries):
+class Reference(_calls.Reference, PathsAndQueries, _Buildable):
     """What the four kinds have in common: the base of each, and of no other class.
 
     >>> isinstance(Uri.parse("a:b"), Reference)
@@ -239,14 +246,16 @@ class IriRef(_calls.IriRef, Reference):
 
     __slots__ = ()
 
-    def to_uri(self) -> UriRef:
+    def to_uri(self, *, ascii_host: Optional[_AsciiHost] = None) -> UriRef:
         """Returns the URI reference: each character past ASCII as the octets of its UTF-8
         (RFC 3987, section 3.1).
 
         >>> IriRef.parse("/é").to_uri()
         UriRef('/%C3%A9')
+
+        So is a host, which DNS has by another name: see `Iri.to_uri` for `ascii_host`.
         """
-        return self._to_uri(UriRef)
+        return _with_ascii_host(self, ascii_host)._to_uri(UriRef)
 
 
 @_calls.finished
@@ -274,14 +283,27 @@ class Iri(_Absolute, _calls.Iri):
         """
         return self._relativize(Iri.mend(target) if mend else target, IriRef, prefer_relative_path)
 
-    def to_uri(self) -> Uri:
+    def to_uri(self, *, ascii_host: Optional[_AsciiHost] = None) -> Uri:
         """Returns the URI: each character past ASCII as the octets of its UTF-8 (RFC 3987,
         section 3.1).
 
         >>> Iri.parse("http://a/é").to_uri()
         Uri('http://a/%C3%A9')
+
+        **A host past ASCII is then a name that DNS does not have.** With `ascii_host`, a function
+        from such a host to its name in ASCII, the host is replaced by what that returns, as that
+        section allows; a host that is ASCII stays. `idna.encode` of the package `idna` makes one.
+
+        >>> iri = Iri.parse("http://bücher.example/é")
+        >>> iri.to_uri()
+        Uri('http://b%C3%BCcher.example/%C3%A9')
+        >>> iri.to_uri(ascii_host=lambda host: host.encode("idna").decode())
+        Uri('http://xn--bcher-kva.example/%C3%A9')
+
+        Raises what the function raises, `BuildError` if its result is no host, and `ValueError` if
+        that is not ASCII.
         """
-        return self._to_uri(Uri)
+        return _with_ascii_host(self, ascii_host)._to_uri(Uri)
 
 
 def _reference_kind(base: _Absolute) -> Union[Type[UriRef], Type[IriRef]]:
@@ -291,7 +313,7 @@ def _reference_kind(base: _Absolute) -> Union[Type[UriRef], Type[IriRef]]:
 
 for _named in (
     *(ParseError, ParseErrorKind, ResolveError, ResolveErrorKind, DotSegmentError),
-    *(Component, decode, encode),
+    *(BuildError, BuildErrorKind, Component, decode, encode),
 ):
     _named.__module__ = __name__
 

@@ -23,6 +23,10 @@ ERRORS = {
     "OUT_OF_MEMORY": 8,
     "INVALID_ARGUMENT": 9,
     "FULL": 10,
+    "NONEMPTY_ROOTLESS_PATH": 11,
+    "PATH_STARTS_WITH_DOUBLE_SLASH": 12,
+    "FIRST_PATH_SEGMENT_CONTAINS_COLON": 13,
+    "MISSING_COMPONENT": 14,
 }
 COMPONENTS = {
     "USERINFO": 0,
@@ -64,6 +68,18 @@ class Pair(ctypes.Structure):
     _fields_ = [("name", Span), ("value", Span)]
 
 
+class Components(ctypes.Structure):
+    _fields_ = [
+        ("scheme", Span),
+        ("userinfo", Span),
+        ("host", Span),
+        ("port", Span),
+        ("path", Span),
+        ("query", Span),
+        ("fragment", Span),
+    ]
+
+
 class Outcome(ctypes.Structure):
     _fields_ = [
         ("error", ctypes.c_uint32),
@@ -91,6 +107,7 @@ FUNCTIONS: Dict[str, Tuple[Any, ...]] = {
     "resolve": (NUMBER, *_TEXT, *_TEXT, *_BUFFER, *_BUFFER, OUT),
     "resolve_normalized": (NUMBER, *_TEXT, *_TEXT, *_BUFFER, *_BUFFER, OUT),
     "relativize": (NUMBER, NUMBER, *_TEXT, *_TEXT, *_BUFFER, *_BUFFER, OUT),
+    "build": (NUMBER, *_TEXT, OUT, *_BUFFER, *_BUFFER, OUT),
     "to_uri": (NUMBER, *_TEXT, *_BUFFER, *_BUFFER, OUT),
     "mend": (NUMBER, *_TEXT, *_BUFFER, *_BUFFER, OUT),
     "mend_link": (NUMBER, *_TEXT, *_BUFFER, *_BUFFER, OUT),

@@ -24,6 +24,19 @@ class ResolveErrorKind(enum.IntEnum):
     PATH_UNDERFLOW = 7
 
 
+class BuildErrorKind(enum.IntEnum):
+    """Why no text is built of components."""
+
+    INVALID_PCT_ENCODED_OCTET = 1
+    UNEXPECTED_CHAR = 2
+    INVALID_IPV6_ADDR = 3
+    NOT_UTF8 = 4
+    NONEMPTY_ROOTLESS_PATH = 11
+    PATH_STARTS_WITH_DOUBLE_SLASH = 12
+    FIRST_PATH_SEGMENT_CONTAINS_COLON = 13
+    MISSING_COMPONENT = 14
+
+
 _MESSAGES = {
     1: "invalid percent-encoded octet",
     2: "unexpected character",
@@ -33,6 +46,10 @@ _MESSAGES = {
     6: "when base has a rootless path and no authority, reference should either have scheme, "
     "be empty or start with '#'",
     7: "underflow occurred in path resolution",
+    11: "when authority is present, path should either be empty or start with '/'",
+    12: "when authority is not present, path should not start with \"//\"",
+    13: "when neither scheme nor authority is present, first path segment should not contain ':'",
+    14: "missing component",
 }
 
 
@@ -80,6 +97,43 @@ class ResolveError(ValueError):
         return _MESSAGES[self.kind]
 
 
+class BuildError(ValueError):
+    """Components are not those of a text of the kind.
+
+    >>> from fluent_uri import Uri
+    >>> try:
+    ...     Uri.build(scheme="http", host="a", path="/b?c")
+    ... except BuildError as error:
+    ...     error.kind.name, error.component, error.index
+    ('UNEXPECTED_CHAR', 'path', 2)
+
+    `kind` says what is wrong, and `component` in which one. `index` says at which byte of its
+    UTF-8, and `char_index` at which character of the `str`; they are 0 where it is no character.
+    """
+
+    kind: BuildErrorKind
+    component: str
+    index: int
+    char_index: int
+
+    KINDS = frozenset(BuildErrorKind)
+
+    def __init__(self, kind: int, component: str, index: int, char_index: int) -> None:
+        self.kind = BuildErrorKind(kind)
+        self.component = component
+        self.index = index
+        self.char_index = char_index
+        super().__init__(self.kind, component, index, char_index)
+
+    def __str__(self) -> str:
+        if self.kind > ParseErrorKind.NOT_UTF8:
+            return f"{_MESSAGES[self.kind]}: {self.component}"
+        said = f"{_MESSAGES[self.kind]} at index {self.index} of the {self.component}"
+        if self.index != self.char_index:
+            said += f" (character {self.char_index})"
+        return said
+
+
 def exact(text: str) -> str:
     """The text of a str, also of one of a subclass."""
     if type(text) is str:
@@ -106,6 +160,11 @@ def error_of(number: int, index: int, data: bytes, is_link: bool = False) -> Exc
         return ParseError(number, index, len(data[:index].decode("utf-8", "surrogatepass")))
     if number in _RESOLVING:
         return ResolveError(number)
+    return number_error(number, index)
+
+
+def number_error(number: int, index: int) -> Exception:
+    """The exception for a number that says nothing of a text."""
     if number == OUT_OF_MEMORY:
         return MemoryError()
     if number == INVALID_ARGUMENT:

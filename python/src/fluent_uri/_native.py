@@ -100,6 +100,7 @@ mend = function("mend")
 mend_link = function("mend_link")
 mend_component = function("mend_component")
 next_pair = function("next_pair")
+build = function("build")
 
 
 # The size of a room for a result at first, and of the largest that is kept.
@@ -196,4 +197,20 @@ def _called(
             raise error_of(error, index, words[-2], call is mend_link)
         if length <= room.size:
             return room, length
+        room = _taken(length)
+
+
+def built(kind: int, data: bytes, spans: bytes) -> Tuple[bytes, int, int, int]:
+    """The text that is built of components, whose spans of the data are `fluent_uri_components`;
+    or no bytes, and the error, the component that is rejected, and the index in it."""
+    room = _taken(len(data) + 64)
+    while True:
+        error: int = build(kind, data, len(data), spans, room.address, room.size, None, 0,
+                           room.outcome_address)
+        outcome = room.outcome
+        which, index, length = outcome.which, outcome.index, outcome.length
+        if error or length <= room.size:
+            made = b"" if error else room.view[:length].tobytes()
+            _given_back(room)
+            return made, error, which, index
         room = _taken(length)

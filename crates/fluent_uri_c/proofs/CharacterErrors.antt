@@ -1,0 +1,62 @@
+-- Where a component ends whose characters are those of a set, and its error there.
+use Rattle.std.proofs.Common.{◌≡◌, ℕ, ◌<◌, ◌≤◌, true, false, ◌&&◌, List, length, refl, sym, ap, ◌∙◌}
+use Rattle.std.proofs.Common.{arith, zero-add}
+use Rattle.std.specs.Prelude.{Some, None, IsTrue}
+use Rattle.std.specs.Str.{IsUtf8}
+use Rattle.std.proofs.lemmas.Bool.{and_from, and_right, eq-eqb, ne_eqb}
+use Rattle.std.proofs.lemmas.List.{drop_all}
+use Rattle.std.proofs.lemmas.Str.{is_utf8-from_IsUtf8}
+use Rattle.uri_pct.specs.Delimiters.{percent_sign}
+use Rattle.uri_pct.specs.Prefixes.{valid_prefix}
+use Rattle.uri_pct.specs.Sets.{LacksPercent, TableSet}
+use Rattle.uri_pct.specs.Tokens.{is_valid_for}
+use Rattle.uri_pct.proofs.ValidTexts.Cuts.{is_valid_for_is_scanned_to_end}
+use Rattle.uri_pct.proofs.ValidTexts.Prefixes.{valid_prefix_is_at_most_length}
+use Rattle.uri_parts.specs.Components.{starts}
+use Rattle.uri_parts.specs.Errors.{unexpected}
+use Rattle.uri_parts.specs.Scanning.{is_next, scan_end}
+use Rattle.uri_parts.proofs.Parsing.NextBytes.{text_ends_where_position_is_length}
+use Rattle.uri_ops.specs.BuilderParts.{is_text_for}
+use Rattle.fluent_uri_c.specs.Errors.{parse_rejection}
+use Rattle.fluent_uri_c.specs.Results.{component_error, component_refusal, is_possible_length}
+use Rattle.fluent_uri_c.proofs.Decoded.{component_error-of-refusal}
+use Rattle.fluent_uri_c.proofs.ValidBytes.{utf8_error-of-utf8}
+
+module _ (set : TableSet) (text : List ℕ) (end : ℕ) (utf8 : IsUtf8 text)
+    (possible : IsTrue (is_possible_length text)) (here : end ≡ scan_end text set 0) where
+  prefix : end ≡ valid_prefix set text
+  prefix = here ∙ zero-add (valid_prefix set text)
+
+  -- components for C: a scan ends within the text
+  pub scan-is-within : end ≤ length text
+  scan-is-within =
+      let most = valid_prefix_is_at_most_length set text in
+      let at = prefix in
+      omega (arith, at, most)
+
+  -- components for C: a text that is scanned to its end passes its test
+  pub scanned-text-passes : LacksPercent set → end ≡ length text → is_text_for set text ≡ true
+  unfolding is_text_for
+  scanned-text-passes lacks whole = and_from _ _ (is_utf8-from_IsUtf8 text utf8)
+      (is_valid_for_is_scanned_to_end set text lacks utf8
+      ∙ eq-eqb (valid_prefix set text) (length text) (sym prefix ∙ whole))
+
+  -- components for C: a text that is scanned to its end has no error
+  pub scanned-text-has-no-error : end ≡ length text → component_error set text ≡ None
+  scanned-text-has-no-error whole =
+      let percent : (set.pct_encoded && is_next text percent_sign end) ≡ false =
+      and_right set.pct_encoded _
+      (ap (starts percent_sign) (drop_all end text (omega (arith, whole)))) in
+      let left = text_ends_where_position_is_length end text (omega (arith, whole))
+      ∙ eq-eqb end (length text) whole in
+      let none : component_refusal set text ≡ None = rw (sym here, percent, left) refl in
+      rw (sym (utf8_error-of-utf8 text utf8 possible), none) refl
+
+  -- components for C: another character where the scan ends is unexpected
+  pub other-character-is-error : (set.pct_encoded && is_next text percent_sign end) ≡ false
+      → end < length text → component_error set text ≡ Some (parse_rejection (unexpected end))
+  other-character-is-error percent less =
+      let left = text_ends_where_position_is_length end text (omega (arith, less))
+      ∙ ne_eqb end (length text) (λ e. omega (arith, e, less)) in
+      component_error-of-refusal set text end utf8 possible here (unexpected end)
+      (rw (sym here, percent, left) refl)
