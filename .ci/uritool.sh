@@ -7,7 +7,7 @@ set -u
 root=$(cd "$(dirname "$0")/.." && pwd)
 built=${1:-$root/crates/uritool/out/uritool}
 at_once=${2:-4}
-usage='usage: uritool parse KIND TEXT | normalize KIND TEXT | mend KIND TEXT | resolve uri|iri BASE REF | links BASE REF...'
+usage='usage: uritool parse KIND TEXT | [--scheme-rules] normalize KIND TEXT | mend KIND TEXT | resolve uri|iri BASE REF | [--scheme-rules] links BASE REF...'
 notice='uritool: this run is checked and not yet proved; ./build proves and builds the program'
 opaque="refused when base has a rootless path and no authority, reference should either have scheme, be empty or start with '#'"
 bad=$(printf 'a\377')

@@ -64,6 +64,7 @@ DEPS = (
     "uri_mend",
     "uri_query",
     "uri_links",
+    "uri_setting",
     "uri_rules",
     "uri_basic",
     "fluent_uri",

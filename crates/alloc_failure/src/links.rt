@@ -1,15 +1,17 @@
 //! A register of links, which a failed allocation leaves as it was.
 use crate::requests::{end, report};
 use crate::values::is_text;
-use fluent_uri::normalize::{DefaultPort, Normalizer};
+use fluent_uri::normalize::Normalizer;
 use fluent_uri::{Uri, UriRef};
 use std::alloc::AllocError;
 use std::process::Abort;
 use test_support::equal;
 use uri_links::links::{Outcome, Register};
+use uri_links::targets::TargetNormalizer;
+use uri_rules::SchemeNormalizer;
 
 /// Checks in a test of denied memory that the register of links has these targets.
-fn has_targets<R: Abort, P: DefaultPort>(rt: &R, register: &Register<P>, targets: &[&str]) {
+fn has_targets<R: Abort, N: TargetNormalizer>(rt: &R, register: &Register<N>, targets: &[&str]) {
     equal(register.len(), targets.len()).expect(rt, "how many targets");
     for (id, &wanted) in targets.iter().enumerate() {
         let target = register.target(id).expect(rt, wanted);
@@ -29,9 +31,9 @@ fn reference<'a, R: Abort>(rt: &R, text: &'a str) -> UriRef<&'a str> {
 
 /// Notes a link in a register, and checks the outcome. If memory is denied, the register still has
 /// the targets `held`, and notes the link again.
-fn notes<R: Abort + Print, P: DefaultPort>(
+fn notes<R: Abort + Print, N: TargetNormalizer>(
     rt: &R,
-    register: &mut Register<P>,
+    register: &mut Register<N>,
     text: &str,
     held: &[&str],
     wanted: Outcome,
@@ -75,6 +77,22 @@ fn second_link(rt: HostRuntime) {
     notes(&rt, &mut register, "b", &[], Outcome::New(0));
     notes(&rt, &mut register, "c", &["s:/b"], Outcome::New(1));
     has_targets(&rt, &register, &["s:/b", "s:/c"]);
+    end(&rt, rt.alloc());
+}
+
+/// Tests a register by the rules of schemes that notes links while memory is denied.
+#[test]
+fn links_by_rules(rt: HostRuntime) {
+    let mut register = Register::new(rt.alloc(), SchemeNormalizer::new());
+    notes(&rt, &mut register, "http://a", &[], Outcome::New(0));
+    notes(
+        &rt,
+        &mut register,
+        "http://a/",
+        &["http://a/"],
+        Outcome::Known(0),
+    );
+    has_targets(&rt, &register, &["http://a/"]);
     end(&rt, rt.alloc());
 }
 

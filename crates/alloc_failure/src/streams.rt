@@ -75,7 +75,7 @@ fn written_by<R: Abort + Print>(rt: &R, alloc: Global, job: &Job<'_>, input: &st
 /// Tests `urilines normalize` while memory is denied.
 #[test]
 fn normalized_lines(rt: HostRuntime) {
-    let command = Command::Each(LineCommand::Normalize(KindName::Uri));
+    let command = Command::Each(LineCommand::Normalize(KindName::Uri, false));
     // The third line does not fit into the buffer.
     let input = "a S:%7e b\n\nc s:0123456789012345 d\n";
     let text = "a s:~ b\nerror: no field 2\nc s:0123456789012345 d\n";
@@ -125,7 +125,7 @@ fn mended_lines(rt: HostRuntime) {
 /// ends.
 #[test]
 fn lines_mended_first(rt: HostRuntime) {
-    let mut job = on_fields(Command::Each(LineCommand::Normalize(KindName::Uri)));
+    let mut job = on_fields(Command::Each(LineCommand::Normalize(KindName::Uri, false)));
     job.is_mended = true;
     job.is_null = true;
     written_by(&rt, rt.alloc(), &job, "a S:b\n|c\0", "a s:b%7Cc\0");
@@ -135,7 +135,7 @@ fn lines_mended_first(rt: HostRuntime) {
 #[test]
 fn unique_lines(rt: HostRuntime) {
     let hasher = RandomState::new(&rt).expect(&rt, "random numbers");
-    let command = Command::Unique(KindName::Uri, hasher);
+    let command = Command::Unique(KindName::Uri, false, hasher);
     written(
         &rt,
         rt.alloc(),
@@ -150,5 +150,11 @@ fn unique_lines(rt: HostRuntime) {
 fn noted_lines(rt: HostRuntime) {
     let base = Uri::<&str>::parse("s:/a").expect(&rt, "base");
     let text = "a new 0 s:/b\na known 0 s:/b\n";
-    written(&rt, rt.alloc(), Command::Links(base), "a b\na %62\n", text);
+    written(
+        &rt,
+        rt.alloc(),
+        Command::Links(base, false),
+        "a b\na %62\n",
+        text,
+    );
 }

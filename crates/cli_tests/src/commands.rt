@@ -11,7 +11,7 @@ use uri_commands::run::run;
 use uri_commands::sink::Sink;
 
 const USAGE: &str =
-    "usage: uritool parse KIND TEXT | normalize KIND TEXT | mend KIND TEXT | resolve uri|iri BASE REF | links BASE REF...\n";
+    "usage: uritool parse KIND TEXT | [--scheme-rules] normalize KIND TEXT | mend KIND TEXT | resolve uri|iri BASE REF | [--scheme-rules] links BASE REF...\n";
 
 const WHOLE: &[&str] = &[
     "parse",
@@ -76,6 +76,16 @@ const SUCCESSES: &[(&[&str], &str)] = &[
     (&["normalize", "uri-ref", "%C3%a9"], "%C3%A9\n"),
     (&["normalize", "iri", "HTTP://R%c3%89/É"], "http://rÉ/É\n"),
     (&["normalize", "iri-ref", "/%C3%41%A9%C3%A9"], "/%C3A%A9é\n"),
+    // Normal forms by the rules of schemes.
+    (
+        &["--scheme-rules", "normalize", "uri", "HTTP://h:80"],
+        "http://h/\n",
+    ),
+    (
+        &["--scheme-rules", "normalize", "iri", "file://localhost/é"],
+        "file:///é\n",
+    ),
+    (&["--scheme-rules", "normalize", "uri-ref", "//h"], "//h\n"),
     // Links of pages, mended.
     (&["mend", "uri-ref", " a b?[1]\n "], "a%20b?%5B1%5D\n"),
     (&["mend", "iri", "x:é%\n\t7e"], "x:é%7e\n"),
@@ -120,6 +130,17 @@ const SUCCESSES: &[(&[&str], &str)] = &[
     (
         &["links", "http://x/#f", "a"],
         "refused base should not have fragment\n",
+    ),
+    (
+        &[
+            "--scheme-rules",
+            "links",
+            "http://x",
+            "//a",
+            "//a:80/",
+            "?q",
+        ],
+        "new 0 http://a/\nknown 0 http://a/\nnew 1 http://x/?q\n",
     ),
     // A base with a fragment rejects each reference, one with a scheme too.
     (

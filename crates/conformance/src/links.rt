@@ -1,11 +1,13 @@
 //! Links that are registered by the normal forms of their targets.
-use fluent_uri::normalize::{DefaultPort, Normalizer};
+use fluent_uri::normalize::Normalizer;
 use fluent_uri::resolve::ResolveError;
 use fluent_uri::{Uri, UriRef};
 use std::alloc::AllocError;
 use std::process::Abort;
 use test_support::equal;
 use uri_links::links::{Outcome, Register};
+use uri_links::targets::TargetNormalizer;
+use uri_rules::SchemeNormalizer;
 
 /// References in order, with their outcomes, and the targets that a register then has.
 struct Row {
@@ -52,7 +54,7 @@ const ROWS: &[Row] = &[
 ];
 
 /// Checks in a test that a register of links has these targets, and no further one.
-fn has_targets<R: Abort, P: DefaultPort>(rt: &R, register: &Register<P>, targets: &[&str]) {
+fn has_targets<R: Abort, N: TargetNormalizer>(rt: &R, register: &Register<N>, targets: &[&str]) {
     equal(register.len(), targets.len()).expect(rt, "how many targets");
     for (id, &wanted) in targets.iter().enumerate() {
         let target = register.target(id).expect(rt, wanted);
@@ -81,11 +83,34 @@ fn noted_together(rt: HostRuntime) {
     }
 }
 
+/// Tests that a register normalises targets by the rules of its normaliser.
+#[test]
+fn noted_by_the_rules_of_the_normaliser(rt: HostRuntime) {
+    let base = Uri::<&str>::parse("x:").expect(&rt, "base");
+    let outcomes = [Outcome::New(0), Outcome::Known(0), Outcome::New(1)];
+    let mut ruled = Register::new(rt.alloc(), SchemeNormalizer::new());
+    let mut plain = Register::new(rt.alloc(), Normalizer::new());
+    let texts = ["http://a", "HTTP://A:80/", "file://localhost/b"];
+    for (id, (&text, &wanted)) in texts.iter().zip(&outcomes).enumerate() {
+        let reference = UriRef::<&str>::parse(text).expect(&rt, text);
+        let noted = ruled.note(&base, &reference).expect(&rt, "memory");
+        equal(noted, wanted).expect(&rt, text);
+        let noted = plain.note(&base, &reference).expect(&rt, "memory");
+        equal(noted, Outcome::New(id)).expect(&rt, text);
+    }
+    has_targets(&rt, &ruled, &["http://a/", "file:///b"]);
+    has_targets(
+        &rt,
+        &plain,
+        &["http://a", "http://a/", "file://localhost/b"],
+    );
+}
+
 /// Notes a link in a test of outcomes. If an allocation fails, checks that the register keeps what
 /// it had, and notes the link again.
-fn noted<R: Abort, P: DefaultPort>(
+fn noted<R: Abort, N: TargetNormalizer>(
     rt: &R,
-    register: &mut Register<P>,
+    register: &mut Register<N>,
     base: &Uri<&str>,
     reference: &UriRef<&str>,
     held: &[&str],

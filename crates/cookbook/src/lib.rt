@@ -12,6 +12,7 @@ pub mod parts;
 pub mod reach;
 pub mod refusal;
 pub mod relative;
+pub mod ruled;
 pub mod segments;
 pub mod service;
 pub mod visits;

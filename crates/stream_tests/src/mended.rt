@@ -22,7 +22,7 @@ fn writes<R: Abort>(rt: &R, alloc: Global, command: Command<'_>, input: &str, ou
 #[test]
 fn lines_are_mended_first(rt: HostRuntime) {
     let alloc = rt.alloc();
-    let command = Command::Each(LineCommand::Normalize(KindName::Uri));
+    let command = Command::Each(LineCommand::Normalize(KindName::Uri, false));
     let output = "http://h/a%20b\nhttp://h/50%25\r\nerror: unexpected character at index 8\n";
     let input = "HTTP://h/a b\n \thttp://h/50%\r\nhttp://a b/";
     writes(&rt, alloc, command, input, output);
@@ -31,7 +31,7 @@ fn lines_are_mended_first(rt: HostRuntime) {
     let command = Command::Each(LineCommand::Query(KindName::IriRef));
     writes(&rt, alloc, command, "?a=[1]\n", "[[\"a\",\"[1]\"]]\n");
     let hasher = RandomState::new(&rt).expect(&rt, "random numbers");
-    let command = Command::Unique(KindName::Uri, hasher);
+    let command = Command::Unique(KindName::Uri, false, hasher);
     writes(&rt, alloc, command, "x: |\nX:%20%7c\n", "x:%20%7C\n");
 }
 
@@ -60,7 +60,13 @@ fn references_and_targets_are_mended_first(rt: HostRuntime) {
     let output = "c%7Cd\nerror: target: unexpected character at index 1\n";
     writes(&rt, alloc, command, "http://a/c|d\nc\n", output);
     let output = "new 0 http://a/c%20d\nknown 0 http://a/c%20d\n";
-    writes(&rt, alloc, Command::Links(base), "c d\n c%20d \n", output);
+    writes(
+        &rt,
+        alloc,
+        Command::Links(base, false),
+        "c d\n c%20d \n",
+        output,
+    );
 }
 
 /// A kind, an input and the output of `mend`.

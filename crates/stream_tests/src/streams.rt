@@ -91,7 +91,7 @@ fn input(alloc: Global, number: usize) -> Result<Vec<u8>, AllocError> {
 #[test]
 fn reads_may_end_anywhere(rt: HostRuntime) {
     let alloc = rt.alloc();
-    let job = with_defaults(LineCommand::Normalize(KindName::Uri));
+    let job = with_defaults(LineCommand::Normalize(KindName::Uri, false));
     for number in 0..216 {
         let input = input(alloc, number).expect(&rt, "memory");
         let bytes = input.as_slice();
@@ -129,7 +129,7 @@ const NORMALIZED: &[(&[u8], &[u8])] = &[
 #[test]
 fn writes_a_line_for_each(rt: HostRuntime) {
     let alloc = rt.alloc();
-    let job = with_defaults(LineCommand::Normalize(KindName::Uri));
+    let job = with_defaults(LineCommand::Normalize(KindName::Uri, false));
     for &(input, output) in NORMALIZED {
         let got = written(alloc, &job, input).ok().expect(&rt, "run");
         equal(got.1.as_slice(), output).expect(&rt, "output");
@@ -245,7 +245,7 @@ const FIELDS: &[(OnError, &[u8], &[u8])] = &[
 #[test]
 fn a_field_is_worked_on_alone(rt: HostRuntime) {
     let alloc = rt.alloc();
-    let mut job = with_defaults(LineCommand::Normalize(KindName::Uri));
+    let mut job = with_defaults(LineCommand::Normalize(KindName::Uri, false));
     job.field = Some(Field {
         before: 1,
         delimiter: b'|',
@@ -263,7 +263,7 @@ fn repeated_lines_are_known(rt: HostRuntime) {
     let alloc = rt.alloc();
     let hasher = RandomState::new(&rt).expect(&rt, "random numbers");
     let mut job = with_defaults(LineCommand::Parse(KindName::Uri));
-    job.command = Command::Unique(KindName::Uri, hasher);
+    job.command = Command::Unique(KindName::Uri, false, hasher);
     let got = both_outputs(alloc, &job, b"HTTP://h\r\nx:\nhttp://h:80\na b\nX:\n");
     let got = got.ok().expect(&rt, "run");
     equal(
@@ -272,7 +272,7 @@ fn repeated_lines_are_known(rt: HostRuntime) {
     )
     .expect(&rt, "unique");
     let base = Uri::<&str>::parse("http://a/b").expect(&rt, "base");
-    job.command = Command::Links(base);
+    job.command = Command::Links(base, false);
     let got = both_outputs(alloc, &job, b"c\nd\n./%63\na b\n")
         .ok()
         .expect(&rt, "run");
@@ -283,13 +283,38 @@ fn repeated_lines_are_known(rt: HostRuntime) {
     .expect(&rt, "links");
 }
 
+/// Tests that `--scheme-rules` has normal forms by the rules of schemes.
+#[test]
+fn rules_of_schemes(rt: HostRuntime) {
+    let alloc = rt.alloc();
+    let hasher = RandomState::new(&rt).expect(&rt, "random numbers");
+    let base = Uri::<&str>::parse("x://y").expect(&rt, "base");
+    let commands = [
+        Command::Each(LineCommand::Normalize(KindName::Uri, true)),
+        Command::Unique(KindName::Uri, true, hasher),
+        Command::Links(base, true),
+    ];
+    let outputs = [
+        "http://a/\nhttp://a/\nfile:///b\n",
+        "http://a/\nfile:///b\n",
+        "new 0 http://a/\nknown 0 http://a/\nnew 1 file:///b\n",
+    ];
+    for (&command, &output) in commands.iter().zip(&outputs) {
+        let mut job = with_defaults(LineCommand::Parse(KindName::Uri));
+        job.command = command;
+        let got = both_outputs(alloc, &job, b"http://a\nHTTP://A:80/\nfile://localhost/b\n");
+        let got = got.ok().expect(&rt, "run");
+        equal(got.0.as_slice(), output.as_bytes()).expect(&rt, output);
+    }
+}
+
 /// Tests that a run of `urilines` that may be denied memory writes a prefix of its output.
 #[test]
 fn denied_memory_leaves_a_prefix(rt: HostRuntime) {
     let alloc = rt.alloc();
     let hasher = RandomState::new(&rt).expect(&rt, "random numbers");
     let mut job = with_defaults(LineCommand::Parse(KindName::Uri));
-    job.command = Command::Unique(KindName::Uri, hasher);
+    job.command = Command::Unique(KindName::Uri, false, hasher);
     let input: &[u8] = b"HTTP://h\nx:\na b\nhttp://h:80\ny:\n";
     let output: &[u8] = b"http://h\nx:\nerror: unexpected character at index 1\ny:\n";
     let Ok(reader) = BufReader::with_capacity(alloc, CAPACITY, input) else {

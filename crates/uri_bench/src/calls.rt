@@ -7,11 +7,22 @@ use fluent_uri::{Iri, IriRef, ParseError, Uri, UriRef};
 use std::alloc::Global;
 use uri_links::links::{Outcome, Register};
 use uri_mend::Mend;
+use uri_setting::RuleSetting;
 
 /// A counted call: parses a text as a URI.
 #[inline(never)]
 pub fn parse_uri(text: &str) -> Result<Uri<&str>, ParseError> {
     Uri::<&str>::parse(text)
+}
+
+/// A counted call: parses a text as a URI, and normalises it by the rules of its scheme if
+/// `scheme_rules` is true.
+#[inline(never)]
+pub fn normalize_by_setting(alloc: Global, text: &str, scheme_rules: bool) -> Option<Uri<String>> {
+    let setting = RuleSetting { scheme_rules };
+    setting
+        .normalize(alloc, &Uri::<&str>::parse(text).ok()?)
+        .ok()
 }
 
 /// A counted call: parses a text as a URI reference.
@@ -135,7 +146,7 @@ pub fn build(alloc: Global, parts: Uri<&str>) -> Option<Uri<String>> {
 /// `None` if either fails.
 #[inline(never)]
 pub fn note(
-    register: &mut Register<SchemeDefaults>,
+    register: &mut Register<Normalizer<SchemeDefaults>>,
     base: &Uri<&str>,
     reference: &str,
 ) -> Option<Outcome> {

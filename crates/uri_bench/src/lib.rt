@@ -60,6 +60,8 @@ pub extern "C" fn bench(alloc: Global, work: u32, text: &[u8], base: &[u8], roun
         19 => length_of!(rounds, call::mend_uri_ref(alloc, text)),
         20 => length_of!(rounds, call::mend_iri_ref(alloc, text)),
         21 => length_of!(rounds, call::mend_copy(alloc, text)),
+        22 => length_of!(rounds, call::normalize_by_setting(alloc, text, false)),
+        23 => length_of!(rounds, call::normalize_by_setting(alloc, text, true)),
         _ => REJECTED,
     }
 }

@@ -1,9 +1,9 @@
 -- Which command the words make.
-use Rattle.std.proofs.Common.{◌≡◌, ◌≤◌, ◌<◌, ◌-◌, take, ℕ, eqb, List, [], ◌∷◌}
+use Rattle.std.proofs.Common.{◌≡◌, ◌≤◌, ◌<◌, ◌-◌, take, ℕ, eqb, List, [], ◌∷◌, false, true}
 use Rattle.std.proofs.Common.{drop, length, get_or, String, string_bytes, refl, sym, ap, ◌∙◌}
-use Rattle.std.proofs.Common.{arith}
+use Rattle.std.proofs.Common.{arith, inl, inr}
 use Rattle.std.proofs.lemmas.List.{length-drop, take_all}
-use Rattle.std.specs.Prelude.{if◌then◌else◌}
+use Rattle.std.specs.Prelude.{if◌then◌else◌, Option, Some, None, MatchOption, codes}
 use Rattle.uri_commands.specs.declared.command.BaseName.{BaseName}
 use Rattle.uri_commands.specs.declared.command.BaseName.TheVariants as bases
 use Rattle.uri_commands.specs.declared.command.KindName.{KindName}
@@ -11,6 +11,8 @@ use Rattle.uri_commands.specs.declared.command.KindName.TheVariants.{Uri, UriRef
 use Rattle.uri_commands.specs.Commands.{Command, Parse, Normalize, Mend, Resolve, Links}
 use Rattle.uri_commands.specs.Commands.{output_of}
 use Rattle.uri_commands.specs.Commands.{texts, words_of}
+use Rattle.uri_commands.specs.Commands.{AreWordsOfLinks, AreWordsOfResolve, AreWordsOfTextCommand}
+use Rattle.uri_commands.specs.Commands.{AreWordsOfRuledLinks, AreWordsOfRuledNormalize, IsCommand}
 
 -- commands: the first three words are those that were taken, and the rest follows
 bytes-of-three-and-rest : {Z : Type 0} (words : List (String Z)) (a b c : String Z)
@@ -34,6 +36,31 @@ bytes-of-three-and-others words a b c least x y z =
     take_all (length words - 3) (drop 3 words) (omega (arith, length-drop 3 words)) in
     bytes-of-three-and-rest words a b c least x y z
     ∙ ap (λ l. string_bytes a ∷ string_bytes b ∷ string_bytes c ∷ texts l) (sym rest)
+
+-- commands: the bytes of four words of a command line and of those after them
+pub bytes-of-four-and-others : {Z : Type 0} (words : List (String Z)) (a b c d : String Z)
+    → 4 ≤ length words
+    → a ≡ get_or words 0 a → b ≡ get_or words 1 b → c ≡ get_or words 2 c → d ≡ get_or words 3 d
+    → texts words
+    ≡ string_bytes a ∷ string_bytes b ∷ string_bytes c ∷ string_bytes d
+    ∷ texts (take (length words - 4) (drop 4 words))
+bytes-of-four-and-others words a b c d least x y z w =
+    let rest : take (length words - 4) (drop 4 words) ≡ drop 4 words =
+    take_all (length words - 4) (drop 4 words) (omega (arith, length-drop 4 words)) in
+    bytes-of-four-and-rest words a b c d least x y z w
+    ∙ ap (λ l. string_bytes a ∷ string_bytes b ∷ string_bytes c ∷ string_bytes d ∷ texts l)
+    (sym rest)
+  where
+    bytes-of-four-and-rest : {Z : Type 0} (words : List (String Z)) (a b c d : String Z)
+        → 4 ≤ length words
+        → a ≡ get_or words 0 a → b ≡ get_or words 1 b → c ≡ get_or words 2 c → d ≡ get_or words 3 d
+        → texts words ≡ string_bytes a ∷ string_bytes b ∷ string_bytes c ∷ string_bytes d
+        ∷ texts (drop 4 words)
+    bytes-of-four-and-rest [] a b c d least x y z w = absurd (omega arith)
+    bytes-of-four-and-rest (u ∷ []) a b c d least x y z w = absurd (omega arith)
+    bytes-of-four-and-rest (u ∷ v ∷ []) a b c d least x y z w = absurd (omega arith)
+    bytes-of-four-and-rest (u ∷ v ∷ s ∷ []) a b c d least x y z w = absurd (omega arith)
+    bytes-of-four-and-rest (u ∷ v ∷ s ∷ t ∷ rest) a b c d least x y z w = cc
 
 -- commands: the bytes of four words of a command line
 pub bytes-of-four-words : {Z : Type 0} (words : List (String Z)) (a b c d : String Z)
@@ -66,10 +93,12 @@ command_named words =
     let word = get_or words 1 [] in
     let text = get_or words 2 [] in
     if eqb first 112 then Parse (kind_named word) text
-    else if eqb first 110 then Normalize (kind_named word) text
+    else if eqb first 110 then Normalize false (kind_named word) text
     else if eqb first 109 then Mend (kind_named word) text
     else if eqb first 114 then Resolve (base_named word) text (get_or words 3 [])
-    else Links word text (drop 3 words)
+    else if eqb first 108 then Links false word text (drop 3 words)
+    else if eqb (get_or word 0 0) 110 then Normalize true (kind_named text) (get_or words 3 [])
+    else Links true text (get_or words 3 []) (drop 4 words)
 
 -- commands: the words of a command make that command
 command_named-words_of : (a : Command) → command_named (words_of a) ≡ a
@@ -78,17 +107,22 @@ command_named-words_of (Parse Uri s) = refl
 command_named-words_of (Parse UriRef s) = refl
 command_named-words_of (Parse Iri s) = refl
 command_named-words_of (Parse IriRef s) = refl
-command_named-words_of (Normalize Uri s) = refl
-command_named-words_of (Normalize UriRef s) = refl
-command_named-words_of (Normalize Iri s) = refl
-command_named-words_of (Normalize IriRef s) = refl
+command_named-words_of (Normalize false Uri s) = refl
+command_named-words_of (Normalize true Uri s) = refl
+command_named-words_of (Normalize false UriRef s) = refl
+command_named-words_of (Normalize true UriRef s) = refl
+command_named-words_of (Normalize false Iri s) = refl
+command_named-words_of (Normalize true Iri s) = refl
+command_named-words_of (Normalize false IriRef s) = refl
+command_named-words_of (Normalize true IriRef s) = refl
 command_named-words_of (Mend Uri s) = refl
 command_named-words_of (Mend UriRef s) = refl
 command_named-words_of (Mend Iri s) = refl
 command_named-words_of (Mend IriRef s) = refl
 command_named-words_of (Resolve bases.Uri s r) = refl
 command_named-words_of (Resolve bases.Iri s r) = refl
-command_named-words_of (Links s r rs) = refl
+command_named-words_of (Links false s r rs) = refl
+command_named-words_of (Links true s r rs) = refl
 
 -- commands: no two commands have the same words
 words_of_injective : (a b : Command) → words_of a ≡ words_of b → a ≡ b
@@ -98,3 +132,34 @@ words_of_injective a b same = sym (command_named-words_of a) ∙ ap command_name
 -- commands: those with the same words have the same output
 pub same-words-same-output : (a b : Command) → words_of a ≡ words_of b → output_of a ≡ output_of b
 same-words-same-output a b same = ap output_of (words_of_injective a b same)
+
+-- commands: words of none of the five forms are no command
+words-of-no-form-are-no-command : (words : List (List ℕ)) → ¬ (AreWordsOfTextCommand words)
+    → ¬ (AreWordsOfResolve words) → ¬ (AreWordsOfLinks words)
+    → ¬ (AreWordsOfRuledNormalize words) → ¬ (AreWordsOfRuledLinks words)
+    → (command : Command) → words ≡ words_of command → ⊥
+words-of-no-form-are-no-command words t r l n k (Parse name text) is =
+    t (codes "parse", name, text, is, inl refl)
+words-of-no-form-are-no-command words t r l n k (Normalize false name text) is =
+    t (codes "normalize", name, text, is, inr (inl refl))
+words-of-no-form-are-no-command words t r l n k (Normalize true name text) is =
+    n (name, text, is)
+words-of-no-form-are-no-command words t r l n k (Mend name text) is =
+    t (codes "mend", name, text, is, inr (inr refl))
+words-of-no-form-are-no-command words t r l n k (Resolve name base reference) is =
+    r (name, base, reference, is)
+words-of-no-form-are-no-command words t r l n k (Links false base reference others) is =
+    l (base, reference, others, is)
+words-of-no-form-are-no-command words t r l n k (Links true base reference others) is =
+    k (base, reference, others, is)
+
+-- commands: if the words are of none of the first four forms, the last one decides whether they are
+-- a command
+pub last-form-decides : {C : Type 0} (words : List (List ℕ)) (result : Option C) (P : C → Type 0)
+    → ¬ (AreWordsOfTextCommand words) → ¬ (AreWordsOfResolve words) → ¬ (AreWordsOfLinks words)
+    → ¬ (AreWordsOfRuledNormalize words)
+    → MatchOption result (¬ (AreWordsOfRuledLinks words)) P
+    → MatchOption result (¬ (IsCommand words)) P
+last-form-decides words (Some command) P t r l n h = h
+last-form-decides words None P t r l n h =
+    λ it. words-of-no-form-are-no-command words t r l n h it.0 it.1

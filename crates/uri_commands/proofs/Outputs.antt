@@ -1,5 +1,5 @@
 -- A command that fails since its output cannot be written.
-use Rattle.std.proofs.Common.{◌≡◌, List, ◌∷◌, ◌++◌, ℕ, true, Some, None, Result, codes, ap}
+use Rattle.std.proofs.Common.{◌≡◌, Bool, List, ◌∷◌, ◌++◌, ℕ, true, Some, None, Result, codes, ap}
 use Rattle.std.specs.Prelude.{IfErr, if◌then◌else◌}
 use Rattle.fluent_uri.specs.Components.{components}
 use Rattle.fluent_uri.specs.Grammar.{IsOfKind, uri, uri_ref}
@@ -32,14 +32,15 @@ failed-output-is-error-of-parse name text result is given =
 
 -- commands: if the output of `normalize` cannot be written, that failure is its error,
 -- as the text is of its kind
-pub failed-output-is-error-of-normalize : {A : Type 0} (name : KindName) (text : List ℕ)
+pub failed-output-is-error-of-normalize : {A : Type 0} (by_rules : Bool) (name : KindName)
+    (text : List ℕ)
     (result : Result A CommandError)
     → IsOfKind (kind_named name) text
     → IfErr result (λ why. why ≡ OutputFailed)
-    → IfErr result (IsErrorOfCommand (Normalize name text))
-failed-output-is-error-of-normalize name text result is given =
-    let lines = normal_form_of (kind_named name) text ++ codes "\n" in
-    if_err-of-equal-error (IsErrorOfCommand (Normalize name text)) result OutputFailed given
+    → IfErr result (IsErrorOfCommand (Normalize by_rules name text))
+failed-output-is-error-of-normalize by_rules name text result is given =
+    let lines = normal_form_of by_rules (kind_named name) text ++ codes "\n" in
+    if_err-of-equal-error (IsErrorOfCommand (Normalize by_rules name text)) result OutputFailed given
     (lines, ap (λ b. if b then Some lines else None) is)
 
 -- commands: if the output of `mend` cannot be written, that failure is its error,
@@ -69,12 +70,12 @@ failed-output-is-error-of-resolve name base reference target result b r t given 
 
 -- commands: if the output of `links` cannot be written, that failure is its error,
 -- as the texts are of their kinds
-pub failed-output-is-error-of-links : {A : Type 0} (base reference : List ℕ)
+pub failed-output-is-error-of-links : {A : Type 0} (by_rules : Bool) (base reference : List ℕ)
     (others : List (List ℕ))
     (result : Result A CommandError)
     → IsOfKind uri base → are_of_kind uri_ref (reference ∷ others) ≡ true
     → IfErr result (λ why. why ≡ OutputFailed)
-    → IfErr result (IsErrorOfCommand (Links base reference others))
-failed-output-is-error-of-links base reference others result b r given =
-    if_err-of-equal-error (IsErrorOfCommand (Links base reference others)) result OutputFailed given
-    (link_lines base (reference ∷ others), cc (b, r))
+    → IfErr result (IsErrorOfCommand (Links by_rules base reference others))
+failed-output-is-error-of-links by_rules base reference others result b r given =
+    if_err-of-equal-error (IsErrorOfCommand (Links by_rules base reference others)) result OutputFailed given
+    (link_lines by_rules base (reference ∷ others), cc (b, r))

@@ -32,7 +32,7 @@ error_line why = codes "error: " ++ command_error_text why ++ codes "\n"
 
 -- the line on the error output of `uritool` for words that make no command
 abbrev pub usage_line : List ℕ
-usage_line = codes "usage: uritool parse KIND TEXT | normalize KIND TEXT | mend KIND TEXT | resolve uri|iri BASE REF | links BASE REF...\n"
+usage_line = codes "usage: uritool parse KIND TEXT | [--scheme-rules] normalize KIND TEXT | mend KIND TEXT | resolve uri|iri BASE REF | [--scheme-rules] links BASE REF...\n"
 
 -- a text of a command of `uritool` is not of the kind, and this is its parse error
 abbrev pub IsErrorOf : Kind → List ℕ → ParseError → Type 0
@@ -57,8 +57,8 @@ IsErrorOfLink kind text why = ⊥
 -- noted.
 abbrev pub IsErrorOfCommand : Command → CommandError → Type 0
 IsErrorOfCommand (Parse name text) (Text e) = IsErrorOf (kind_named name) text e
-IsErrorOfCommand (Normalize name text) (Text e) = IsErrorOf (kind_named name) text e
-IsErrorOfCommand (Normalize name text) OutOfMemory = IsOfKind (kind_named name) text
+IsErrorOfCommand (Normalize by_rules name text) (Text e) = IsErrorOf (kind_named name) text e
+IsErrorOfCommand (Normalize by_rules name text) OutOfMemory = IsOfKind (kind_named name) text
 IsErrorOfCommand (Mend name text) (Text e) = IsErrorOfLink (kind_named name) text (Text e)
 IsErrorOfCommand (Mend name text) OutOfMemory = IsErrorOfLink (kind_named name) text OutOfMemory
 IsErrorOfCommand (Resolve name base reference) (Base e) = IsErrorOf (kind_of_base name) base e
@@ -67,10 +67,10 @@ IsErrorOfCommand (Resolve name base reference) (Reference e) =
 IsErrorOfCommand (Resolve name base reference) (Target e) =
     IsOfKind (kind_of_base name) base × IsOfKind (kind_of_references name) reference
     × IsErrorWithUnderflowAllowed (components base) (components reference) e
-IsErrorOfCommand (Links base reference others) (Base e) = IsErrorOf uri base e
-IsErrorOfCommand (Links base reference others) (Reference e) =
+IsErrorOfCommand (Links by_rules base reference others) (Base e) = IsErrorOf uri base e
+IsErrorOfCommand (Links by_rules base reference others) (Reference e) =
     IsOfKind uri base × IsErrorOfFirst uri_ref (reference ∷ others) e
-IsErrorOfCommand (Links base reference others) OutOfMemory =
+IsErrorOfCommand (Links by_rules base reference others) OutOfMemory =
     IsOfKind uri base × (are_of_kind uri_ref (reference ∷ others) ≡ true)
 -- the command has an output, and writing it failed
 IsErrorOfCommand command OutputFailed = (lines : List ℕ) × (output_of command ≡ Some lines)

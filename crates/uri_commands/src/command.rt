@@ -1,6 +1,7 @@
 //! The command that the words of a command line make.
 ghost use Rattle.std.specs.Prelude.{◌≡◌, ◌≢◌, ◌∷◌, [], MatchOption};
 ghost use Rattle.uri_commands.specs.Commands.{AreWordsOfLinks, AreWordsOfResolve};
+ghost use Rattle.uri_commands.specs.Commands.{AreWordsOfRuledLinks, AreWordsOfRuledNormalize};
 ghost use Rattle.uri_commands.specs.Commands.{AreWordsOfTextCommand, IsCommand};
 ghost use Rattle.uri_commands.specs.Commands.{IsNameOfTextCommand, word_of_base, word_of_kind};
 ghost use Rattle.uri_commands.specs.Commands.{words_of, texts};
@@ -33,14 +34,15 @@ pub enum BaseName {
 pub enum Command<'a> {
     /// `parse KIND TEXT`
     Parse(KindName, &'a str),
-    /// `normalize KIND TEXT`
-    Normalize(KindName, &'a str),
+    /// `normalize KIND TEXT`, by the rules of schemes if the `bool` is true (`--scheme-rules`)
+    Normalize(KindName, &'a str, bool),
     /// `mend KIND TEXT`
     Mend(KindName, &'a str),
     /// `resolve uri|iri BASE REF`
     Resolve(BaseName, &'a str, &'a str),
-    /// `links BASE REF...`: the base, the first reference and the others
-    Links(&'a str, &'a str, &'a [String]),
+    /// `links BASE REF...`: the base, the first reference and the others, by the rules of schemes if
+    /// the `bool` is true (`--scheme-rules`)
+    Links(&'a str, &'a str, &'a [String], bool),
 }
 
 impl<'a> Command<'a> {
@@ -55,7 +57,13 @@ impl<'a> Command<'a> {
         if let Some(command) = resolve_from_words(words) {
             return Some(command);
         }
-        links_from_words(words)
+        if let Some(command) = links_from_words(words) {
+            return Some(command);
+        }
+        if let Some(command) = ruled_normalize_from_words(words) {
+            return Some(command);
+        }
+        ruled_links_from_words(words)
     }
 }
 
@@ -80,7 +88,7 @@ fn text_command<'a>(name: &str, kind: KindName, text: &'a str) -> Option<Command
 {
     match name {
         "parse" => Some(Command::Parse(kind, text)),
-        "normalize" => Some(Command::Normalize(kind, text)),
+        "normalize" => Some(Command::Normalize(kind, text, false)),
         "mend" => Some(Command::Mend(kind, text)),
         _ => None,
     }
@@ -107,7 +115,36 @@ fn links_from_words(words: &[String]) -> Option<Command<'_>>
 {
     match words {
         [command, base, reference, others @ ..] if command.as_str() == "links" => {
-            Some(Command::Links(base.as_str(), reference.as_str(), others))
+            Some(Command::Links(base.as_str(), reference.as_str(), others, false))
+        }
+        _ => None,
+    }
+}
+
+/// Returns the command `normalize` of the words after the option `--scheme-rules`, if they make it.
+fn ruled_normalize_from_words(words: &[String]) -> Option<Command<'_>>
+    ensures { MatchOption result (¬ AreWordsOfRuledNormalize (texts words.now))
+        (λ c. texts words.now ≡ words_of (contract_command c)) }
+{
+    match words {
+        [option, command, kind, text]
+            if option.as_str() == "--scheme-rules" && command.as_str() == "normalize" => {
+            let kind = kind_named(kind.as_str())?;
+            Some(Command::Normalize(kind, text.as_str(), true))
+        }
+        _ => None,
+    }
+}
+
+/// Returns the command `links` of the words after the option `--scheme-rules`, if they make it.
+fn ruled_links_from_words(words: &[String]) -> Option<Command<'_>>
+    ensures { MatchOption result (¬ AreWordsOfRuledLinks (texts words.now))
+        (λ c. texts words.now ≡ words_of (contract_command c)) }
+{
+    match words {
+        [option, command, base, reference, others @ ..]
+            if option.as_str() == "--scheme-rules" && command.as_str() == "links" => {
+            Some(Command::Links(base.as_str(), reference.as_str(), others, true))
         }
         _ => None,
     }

@@ -112,10 +112,12 @@ fn run_command<O: Write>(
 {
     match command {
         Command::Parse(kind, text) => parse(kind, text, out),
-        Command::Normalize(kind, text) => normalize(alloc, kind, text, out),
+        Command::Normalize(kind, text, rules) => normalize(alloc, kind, text, rules, out),
         Command::Mend(kind, text) => mend(alloc, kind, text, out),
         Command::Resolve(kind, base, reference) => resolve(alloc, kind, base, reference, out),
-        Command::Links(base, reference, others) => links(alloc, base, reference, others, out),
+        Command::Links(base, reference, others, rules) => {
+            links(alloc, base, reference, others, rules, out)
+        }
     }
 }
 
@@ -138,18 +140,19 @@ fn normalize<O: Write>(
     alloc: Global,
     kind: KindName,
     text: &str,
+    scheme_rules: bool,
     out: &mut Sink<O>,
 ) -> Result<(), CommandError>
     ensures succeeded { OnOk result
-        (Prints (O.contents out.old.writer) (O.contents out.new.writer) (Normalize kind text.now)) }
-    ensures refused { IfErr result (IsErrorOfCommand (Normalize kind text.now)) }
-    ensures keeps { output_of (Normalize kind text.now) ≡ None
+        (Prints (O.contents out.old.writer) (O.contents out.new.writer) (Normalize scheme_rules kind text.now)) }
+    ensures refused { IfErr result (IsErrorOfCommand (Normalize scheme_rules kind text.now)) }
+    ensures keeps { output_of (Normalize scheme_rules kind text.now) ≡ None
         → Keeps (O.contents out.old.writer) (O.contents out.new.writer) }
     ensures kept { IfErr result (λ why.
         why ≢ OutputFailed → Keeps (O.contents out.old.writer) (O.contents out.new.writer)) }
     ensures writing { out.new.has_failed ≡ (has_output_failed result || out.old.has_failed) }
 {
-    let normal = normalize_text(alloc, kind, text)?;
+    let normal = normalize_text(alloc, kind, text, scheme_rules)?;
     print_line(out, normal.as_str())
 }
 
@@ -200,19 +203,20 @@ fn links<O: Write>(
     base: &str,
     reference: &str,
     others: &[String],
+    scheme_rules: bool,
     out: &mut Sink<O>,
 ) -> Result<(), CommandError>
     ensures succeeded { OnOk result (Prints (O.contents out.old.writer) (O.contents out.new.writer)
-        (Links base.now reference.now (texts others.now))) }
+        (Links scheme_rules base.now reference.now (texts others.now))) }
     ensures refused { IfErr result
-        (IsErrorOfCommand (Links base.now reference.now (texts others.now))) }
-    ensures keeps { output_of (Links base.now reference.now (texts others.now)) ≡ None
+        (IsErrorOfCommand (Links scheme_rules base.now reference.now (texts others.now))) }
+    ensures keeps { output_of (Links scheme_rules base.now reference.now (texts others.now)) ≡ None
         → Keeps (O.contents out.old.writer) (O.contents out.new.writer) }
     ensures kept { IfErr result (λ why.
         why ≢ OutputFailed → Keeps (O.contents out.old.writer) (O.contents out.new.writer)) }
     ensures writing { out.new.has_failed ≡ (has_output_failed result || out.old.has_failed) }
 {
-    let noted = noted(alloc, base, reference, others)?;
+    let noted = noted(alloc, base, reference, others, scheme_rules)?;
     written(noted.write_lines(out))
 }
 

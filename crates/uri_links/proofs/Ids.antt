@@ -7,9 +7,8 @@ use Rattle.std.proofs.lemmas.List.Elements.{All-from_recursion}
 use Rattle.std.proofs.lemmas.List.Quantifiers.{position-Some}
 use Rattle.fluent_uri.specs.Components.{components}
 use Rattle.fluent_uri.specs.Grammar.{uri}
-use Rattle.fluent_uri.specs.Meaning.{meaning_of}
 use Rattle.fluent_uri.specs.Normal.{normal_text}
-use Rattle.fluent_uri.specs.Ports.{PortFunction}
+use Rattle.uri_rules.specs.Rules.{Rules, meaning_under}
 use Rattle.fluent_uri.specs.Target.{TargetError, resolution_of}
 use Rattle.fluent_uri.specs.SameMeanings.{same_meaning}
 use Rattle.uri_links.specs.Outcomes.{outcome_of, outcomes_of, index_of_meaning, outcome_of_lookup}
@@ -32,69 +31,69 @@ id-in-range-of-longer texts after (Known id) l h = omega arith
 id-in-range-of-longer texts after (Refused error) l h = tt
 
 -- register of links: the outcome of looking a target up has an id in range
-outcome_of_lookup-fits : (ports : PortFunction) (texts : List (List ℕ)) (target : List ℕ)
+outcome_of_lookup-fits : (rules : Rules) (texts : List (List ℕ)) (target : List ℕ)
     (place : Option ℕ)
-    → index_of_meaning ports texts (meaning_of uri ports target) ≡ place
+    → index_of_meaning rules texts (meaning_under uri rules target) ≡ place
     → IsInRangeAfter texts (outcome_of_lookup place texts
-    (normal_text (meaning_of uri ports target)))
-outcome_of_lookup-fits ports texts target (Some place) e = (
-  (position-Some (λ text. same_meaning (meaning_of uri ports text) (meaning_of uri ports target))
+    (normal_text (meaning_under uri rules target)))
+outcome_of_lookup-fits rules texts target (Some place) e = (
+  (position-Some (λ text. same_meaning (meaning_under uri rules text) (meaning_under uri rules target))
       texts place [] e).0,
   omega arith,
 )
-outcome_of_lookup-fits ports texts target None e =
-    let l = length-append texts (normal_text (meaning_of uri ports target) ∷ []) in
+outcome_of_lookup-fits rules texts target None e =
+    let l = length-append texts (normal_text (meaning_under uri rules target) ∷ []) in
     (omega arith, omega arith)
 
 -- register of links: the outcome of a resolved reference has an id in range
-outcome_of_resolution-fits : (ports : PortFunction) (texts : List (List ℕ))
+outcome_of_resolution-fits : (rules : Rules) (texts : List (List ℕ))
     (resolution : Result (List ℕ) TargetError)
-    → IsInRangeAfter texts (outcome_of_resolution ports texts resolution)
-outcome_of_resolution-fits ports texts (Ok target) =
-    outcome_of_lookup-fits ports texts target
-    (index_of_meaning ports texts (meaning_of uri ports target)) refl
-outcome_of_resolution-fits ports texts (Err refusal) = (tt, omega arith)
+    → IsInRangeAfter texts (outcome_of_resolution rules texts resolution)
+outcome_of_resolution-fits rules texts (Ok target) =
+    outcome_of_lookup-fits rules texts target
+    (index_of_meaning rules texts (meaning_under uri rules target)) refl
+outcome_of_resolution-fits rules texts (Err refusal) = (tt, omega arith)
 
 -- register of links: the outcome of a reference has an id in range
-outcome_of-fits : (ports : PortFunction) (base : List ℕ) (texts : List (List ℕ))
+outcome_of-fits : (rules : Rules) (base : List ℕ) (texts : List (List ℕ))
     (reference : List ℕ)
-    → IsInRangeAfter texts (outcome_of ports base texts reference)
+    → IsInRangeAfter texts (outcome_of rules base texts reference)
 unfolding outcome_of
-outcome_of-fits ports base texts reference =
-    outcome_of_resolution-fits ports texts (resolution_of (components base) (components reference))
+outcome_of-fits rules base texts reference =
+    outcome_of_resolution-fits rules texts (resolution_of (components base) (components reference))
 
 -- register of links: the outcomes of references leave as many texts at least
-outcomes_of-removes-no-text : (ports : PortFunction) (base : List ℕ)
+outcomes_of-removes-no-text : (rules : Rules) (base : List ℕ)
     (texts references : List (List ℕ))
-    → length texts ≤ length (outcomes_of ports base texts references).1
+    → length texts ≤ length (outcomes_of rules base texts references).1
 unfolding outcomes_of
-outcomes_of-removes-no-text ports base texts [] = omega arith
-outcomes_of-removes-no-text ports base texts (reference ∷ references) =
-    let first = (outcome_of-fits ports base texts reference).1 in
-    let others = outcomes_of-removes-no-text ports base (outcome_of ports base texts reference).1
+outcomes_of-removes-no-text rules base texts [] = omega arith
+outcomes_of-removes-no-text rules base texts (reference ∷ references) =
+    let first = (outcome_of-fits rules base texts reference).1 in
+    let others = outcomes_of-removes-no-text rules base (outcome_of rules base texts reference).1
     references in
     omega arith
 
 -- register of links: the outcomes of references have ids in range
-outcomes_of-ids-in-range : (ports : PortFunction) (base : List ℕ) (texts references : List (List ℕ))
-    → AllByRecursion (IdIsInRange (outcomes_of ports base texts references).1)
-    (outcomes_of ports base texts references).0
+outcomes_of-ids-in-range : (rules : Rules) (base : List ℕ) (texts references : List (List ℕ))
+    → AllByRecursion (IdIsInRange (outcomes_of rules base texts references).1)
+    (outcomes_of rules base texts references).0
 unfolding outcomes_of
-outcomes_of-ids-in-range ports base texts [] = tt
-outcomes_of-ids-in-range ports base texts (reference ∷ references) =
-    let first = outcome_of ports base texts reference in (
-      id-in-range-of-longer first.1 (outcomes_of ports base first.1 references).1 first.0
-          (outcomes_of-removes-no-text ports base first.1 references)
-          (outcome_of-fits ports base texts reference).0,
-      outcomes_of-ids-in-range ports base
+outcomes_of-ids-in-range rules base texts [] = tt
+outcomes_of-ids-in-range rules base texts (reference ∷ references) =
+    let first = outcome_of rules base texts reference in (
+      id-in-range-of-longer first.1 (outcomes_of rules base first.1 references).1 first.0
+          (outcomes_of-removes-no-text rules base first.1 references)
+          (outcome_of-fits rules base texts reference).0,
+      outcomes_of-ids-in-range rules base
           first.1 references,
     )
 
 -- register of links: the ids in the outcomes of references are indices into its texts
-pub ids-are-in-range : (ports : PortFunction) (base : List ℕ) (texts references : List (List ℕ))
+pub ids-are-in-range : (rules : Rules) (base : List ℕ) (texts references : List (List ℕ))
     (outcomes : List Outcome) (after : List (List ℕ))
-    → outcomes_of ports base texts references ≡ (outcomes, after) → All (IdIsInRange after) outcomes
-ids-are-in-range ports base texts references outcomes after e =
+    → outcomes_of rules base texts references ≡ (outcomes, after) → All (IdIsInRange after) outcomes
+ids-are-in-range rules base texts references outcomes after e =
     All-from_recursion (IdIsInRange after) outcomes
     (subst (λ (o : List Outcome × List (List ℕ)). AllByRecursion (IdIsInRange o.1) o.0) e
-    (outcomes_of-ids-in-range ports base texts references))
+    (outcomes_of-ids-in-range rules base texts references))

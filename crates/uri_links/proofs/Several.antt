@@ -3,39 +3,39 @@ use Rattle.std.proofs.Common.{◌≡◌, ℕ, ◌+◌, ◌<◌, List, [], ◌∷
 use Rattle.std.proofs.Common.{Err, refl, sym, ap, ◌∙◌}
 use Rattle.std.specs.Prelude.{OnErr, Result}
 use Rattle.std.proofs.lemmas.List.{map-append, take_more}
-use Rattle.fluent_uri.specs.Ports.{PortFunction}
+use Rattle.uri_rules.specs.Rules.{Rules, meaning_under}
 use Rattle.uri_links.specs.Outcomes.{outcome_of, outcomes_of}
 use Rattle.uri_links.specs.declared.links.Outcome.{Outcome}
 
 -- register of links: the outcomes and texts after one more reference
-abbrev with_one : PortFunction → List ℕ → List ℕ → List Outcome × List (List ℕ)
+abbrev with_one : Rules → List ℕ → List ℕ → List Outcome × List (List ℕ)
     → List Outcome × List (List ℕ)
-with_one ports base reference before = let last = outcome_of ports base before.1 reference in
+with_one rules base reference before = let last = outcome_of rules base before.1 reference in
     (before.0 ++ last.0 ∷ [], last.1)
 
 -- register of links: the outcomes of one more reference are those before, and its own
-outcomes_of-one-more : (ports : PortFunction) (base : List ℕ) (texts references : List (List ℕ))
+outcomes_of-one-more : (rules : Rules) (base : List ℕ) (texts references : List (List ℕ))
     (reference : List ℕ)
-    → outcomes_of ports base texts (references ++ reference ∷ [])
-    ≡ with_one ports base reference (outcomes_of ports base texts references)
+    → outcomes_of rules base texts (references ++ reference ∷ [])
+    ≡ with_one rules base reference (outcomes_of rules base texts references)
 unfolding outcomes_of
-outcomes_of-one-more ports base texts [] reference = refl
-outcomes_of-one-more ports base texts (first ∷ references) reference =
-    let one = outcome_of ports base texts first in
+outcomes_of-one-more rules base texts [] reference = refl
+outcomes_of-one-more rules base texts (first ∷ references) reference =
+    let one = outcome_of rules base texts first in
     ap (λ (others : List Outcome × List (List ℕ)). (one.0 ∷ others.0, others.1))
-    (outcomes_of-one-more ports base one.1 references reference)
+    (outcomes_of-one-more rules base one.1 references reference)
 
 module _ {A : Type 0} (text_of : A → List ℕ) (base : List ℕ) (texts : List (List ℕ))
     (references : List A) where
   -- the outcomes of the first n references, and the texts after them
-  abbrev pub AreFirstOutcomes : PortFunction → ℕ → List Outcome → List (List ℕ) → Type 0
-  AreFirstOutcomes ports n outcomes after = outcomes_of ports base texts
+  abbrev pub AreFirstOutcomes : Rules → ℕ → List Outcome → List (List ℕ) → Type 0
+  AreFirstOutcomes rules n outcomes after = outcomes_of rules base texts
       (map text_of (take n references))
       ≡ (outcomes, after)
 
-  pub first-outcomes-of-none : (ports : PortFunction) → AreFirstOutcomes ports 0 [] texts
+  pub first-outcomes-of-none : (rules : Rules) → AreFirstOutcomes rules 0 [] texts
   unfolding outcomes_of
-  first-outcomes-of-none ports = refl
+  first-outcomes-of-none rules = refl
 
   one_more : (n : ℕ) (reference : A) → n < length references
       → reference ≡ get_or references n reference
@@ -46,26 +46,26 @@ module _ {A : Type 0} (text_of : A → List ℕ) (base : List ℕ) (texts : List
       ∙ map-append text_of (take n references) (get_or references n reference ∷ [])
       ∙ ap (λ r. map text_of (take n references) ++ text_of r ∷ []) (sym e)
 
-  pub first-outcomes-of-one-more : (ports held : PortFunction) (n : ℕ) (reference : A)
+  pub first-outcomes-of-one-more : (rules held : Rules) (n : ℕ) (reference : A)
       (outcomes : List Outcome)
       (before after : List (List ℕ)) (outcome : Outcome)
       → n < length references → reference ≡ get_or references n reference
-      → held ≡ ports → AreFirstOutcomes ports n outcomes before
+      → held ≡ rules → AreFirstOutcomes rules n outcomes before
       → outcome_of held base before (text_of reference) ≡ (outcome, after)
-      → AreFirstOutcomes ports (n + 1) (outcomes ++ outcome ∷ []) after
-  first-outcomes-of-one-more ports held n reference outcomes before after outcome h e p come f =
-      ap (outcomes_of ports base texts) (one_more n reference h e)
-      ∙ outcomes_of-one-more ports base texts (map text_of (take n references)) (text_of reference)
-      ∙ ap (with_one ports base (text_of reference)) come
+      → AreFirstOutcomes rules (n + 1) (outcomes ++ outcome ∷ []) after
+  first-outcomes-of-one-more rules held n reference outcomes before after outcome h e p come f =
+      ap (outcomes_of rules base texts) (one_more n reference h e)
+      ∙ outcomes_of-one-more rules base texts (map text_of (take n references)) (text_of reference)
+      ∙ ap (with_one rules base (text_of reference)) come
       ∙ ap (λ (last : Outcome × List (List ℕ)). (outcomes ++ last.0 ∷ [], last.1))
       (ap (λ q. outcome_of q base before (text_of reference)) (sym p) ∙ f)
 
   -- after an error, some prefix of the references was noted
-  pub prefix : {X E : Type 0} (result : Result X E) (ports : PortFunction) (n : ℕ)
+  pub prefix : {X E : Type 0} (result : Result X E) (rules : Rules) (n : ℕ)
       (outcomes : List Outcome) (after : List (List ℕ))
-      → AreFirstOutcomes ports n outcomes after
+      → AreFirstOutcomes rules n outcomes after
       → OnErr result
-      ((n : ℕ) × (after ≡ (outcomes_of ports base texts (map text_of (take n references))).1))
-  prefix (Ok _) ports n outcomes after come = tt
-  prefix (Err _) ports n outcomes after come =
+      ((n : ℕ) × (after ≡ (outcomes_of rules base texts (map text_of (take n references))).1))
+  prefix (Ok _) rules n outcomes after come = tt
+  prefix (Err _) rules n outcomes after come =
       (n, sym (ap (λ (all : List Outcome × List (List ℕ)). all.1) come))

@@ -9,9 +9,8 @@ use Rattle.std.proofs.lemmas.List.Folds.{list_all-append}
 use Rattle.std.proofs.lemmas.Map.Keys.{IsDistinct-push}
 use Rattle.std.proofs.lemmas.Str.{is_utf8-from_IsUtf8}
 use Rattle.fluent_uri.specs.Grammar.{IsTextOf, uri}
-use Rattle.fluent_uri.specs.Meaning.{meaning_of}
 use Rattle.fluent_uri.specs.Normal.{normal_text}
-use Rattle.fluent_uri.specs.Ports.{PortFunction}
+use Rattle.uri_rules.specs.Rules.{Rules, meaning_under}
 use Rattle.uri_links.specs.Registered.{AreNormal, AreUris, is_uri_text}
 use Rattle.uri_links.proofs.Places.{position-None-no-element-passes}
 
@@ -21,10 +20,10 @@ unfolding IsDistinct
 no-texts-are-distinct texts e = rw e tt
 
 -- register of links: normal texts and one more are normal texts
-normal-append : (ports : PortFunction) (texts : List (List ℕ)) (text : List ℕ)
-    → AreNormal ports texts → normal_text (meaning_of uri ports text) ≡ text
-    → AreNormal ports (texts ++ text ∷ [])
-normal-append ports texts text h e = map-append _ texts (text ∷ []) ∙ (λ i. h i ++ e i ∷ [])
+normal-append : (rules : Rules) (texts : List (List ℕ)) (text : List ℕ)
+    → AreNormal rules texts → normal_text (meaning_under uri rules text) ≡ text
+    → AreNormal rules (texts ++ text ∷ [])
+normal-append rules texts text h e = map-append _ texts (text ∷ []) ∙ (λ i. h i ++ e i ∷ [])
 
 -- register of links: URIs and one more are URIs
 uris-append : (texts : List (List ℕ)) (text : List ℕ) → AreUris texts → IsTextOf uri text
@@ -39,11 +38,11 @@ pub uris-after-adding : (texts after : List (List ℕ)) (text : List ℕ) → af
 uris-after-adding texts after text a h is = subst AreUris (sym a) (uris-append texts text h is)
 
 -- register of links: with one more normal text, all its texts are normal
-pub normal-after-adding : (ports : PortFunction) (texts after : List (List ℕ)) (text : List ℕ)
-    → after ≡ texts ++ text ∷ [] → AreNormal ports texts
-    → normal_text (meaning_of uri ports text) ≡ text → AreNormal ports after
-normal-after-adding ports texts after text a h e =
-    subst (AreNormal ports) (sym a) (normal-append ports texts text h e)
+pub normal-after-adding : (rules : Rules) (texts after : List (List ℕ)) (text : List ℕ)
+    → after ≡ texts ++ text ∷ [] → AreNormal rules texts
+    → normal_text (meaning_under uri rules text) ≡ text → AreNormal rules after
+normal-after-adding rules texts after text a h e =
+    subst (AreNormal rules) (sym a) (normal-append rules texts text h e)
 
 -- register of links: with a text that it lacks, its texts are distinct
 pub distinct-after-adding : (texts after : List (List ℕ)) (text : List ℕ) → after

@@ -1,12 +1,12 @@
 -- The outcomes of noting references, and the texts of the register afterwards (RFC 3986, sections
--- 5.2 and 6.2.2).
+-- 5.2 and 6.2).
 use Rattle.std.specs.Prelude.{ℕ, List, [], ◌∷◌, ◌++◌, length, Option, Some, None, Result, Ok, Err}
 use Rattle.std.specs.Prelude.{position}
 use Rattle.fluent_uri.specs.Components.{components}
 use Rattle.fluent_uri.specs.Grammar.{uri}
-use Rattle.fluent_uri.specs.Meaning.{Meaning, meaning_of}
+use Rattle.fluent_uri.specs.Meaning.{Meaning}
 use Rattle.fluent_uri.specs.Normal.{normal_text}
-use Rattle.fluent_uri.specs.Ports.{PortFunction}
+use Rattle.uri_rules.specs.Rules.{Rules, meaning_under}
 use Rattle.fluent_uri.specs.Target.{TargetError, BaseWithFragment}
 use Rattle.fluent_uri.specs.Target.{InvalidReferenceAgainstOpaqueBase}
 use Rattle.fluent_uri.specs.Target.{resolution_of}
@@ -21,10 +21,10 @@ abbrev pub resolve_error_of : TargetError → ResolveError
 resolve_error_of BaseWithFragment = Of.BaseWithFragment
 resolve_error_of InvalidReferenceAgainstOpaqueBase = Of.InvalidReferenceAgainstOpaqueBase
 
--- the index of the first text of a register of links that has this meaning, under the port function
-abbrev pub index_of_meaning : PortFunction → List (List ℕ) → Meaning → Option ℕ
-index_of_meaning ports texts meaning =
-    position (λ text. same_meaning (meaning_of uri ports text) meaning) texts
+-- the index of the first text of a register of links that has this meaning, under the rules
+abbrev pub index_of_meaning : Rules → List (List ℕ) → Meaning → Option ℕ
+index_of_meaning rules texts meaning =
+    position (λ text. same_meaning (meaning_under uri rules text) meaning) texts
 
 -- The outcome for a target, by the index at which it was found, and a register's texts afterwards;
 -- the last text is its normal form.
@@ -36,28 +36,28 @@ outcome_of_lookup None texts normal = (New (length texts), texts ++ normal ∷ [
 -- The outcome of noting what a reference resolves to in a register with these texts, and the texts
 -- afterwards.
 -- A target is looked up by its meaning, and an error is `Refused`.
-abbrev pub outcome_of_resolution : PortFunction → List (List ℕ) → Result (List ℕ) TargetError
+abbrev pub outcome_of_resolution : Rules → List (List ℕ) → Result (List ℕ) TargetError
     → Outcome
     × List (List ℕ)
-outcome_of_resolution ports texts (Err refusal) = (Refused (resolve_error_of refusal), texts)
-outcome_of_resolution ports texts (Ok target) =
-    let meaning = meaning_of uri ports target in outcome_of_lookup
-    (index_of_meaning ports texts meaning)
+outcome_of_resolution rules texts (Err refusal) = (Refused (resolve_error_of refusal), texts)
+outcome_of_resolution rules texts (Ok target) =
+    let meaning = meaning_under uri rules target in outcome_of_lookup
+    (index_of_meaning rules texts meaning)
     texts
     (normal_text meaning)
 
 -- the outcome of noting one reference against the base, the first text, in a register with these
 -- texts, and the texts afterwards
-unfoldable pub outcome_of : PortFunction → List ℕ → List (List ℕ) → List ℕ → Outcome × List (List ℕ)
-outcome_of ports base texts reference =
-    outcome_of_resolution ports texts (resolution_of (components base) (components reference))
+unfoldable pub outcome_of : Rules → List ℕ → List (List ℕ) → List ℕ → Outcome × List (List ℕ)
+outcome_of rules base texts reference =
+    outcome_of_resolution rules texts (resolution_of (components base) (components reference))
 
 -- the outcomes of noting references against the base in order, and the register's texts afterwards;
 -- the lists are these texts, and the references
-unfoldable pub outcomes_of : PortFunction → List ℕ → List (List ℕ) → List (List ℕ) → List Outcome
+unfoldable pub outcomes_of : Rules → List ℕ → List (List ℕ) → List (List ℕ) → List Outcome
     × List (List ℕ)
-outcomes_of ports base texts [] = ([], texts)
-outcomes_of ports base texts (reference ∷ references) =
-    let first = outcome_of ports base texts reference in
-    let others = outcomes_of ports base first.1 references in
+outcomes_of rules base texts [] = ([], texts)
+outcomes_of rules base texts (reference ∷ references) =
+    let first = outcome_of rules base texts reference in
+    let others = outcomes_of rules base first.1 references in
     (first.0 ∷ others.0, others.1)

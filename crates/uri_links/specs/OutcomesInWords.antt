@@ -1,32 +1,32 @@
--- Outcomes, stated by equality of meanings (RFC 3986, sections 5.2 and 6.2.2).
+-- Outcomes, stated by equality of meanings (RFC 3986, sections 5.2 and 6.2).
 use Rattle.std.specs.Prelude.{◌≡◌, ◌<◌, ℕ, List, Some, Ok, Err, length, slice_get}
 use Rattle.fluent_uri.specs.Components.{components}
 use Rattle.fluent_uri.specs.Grammar.{uri}
-use Rattle.fluent_uri.specs.Meaning.{Meaning, meaning_of}
-use Rattle.fluent_uri.specs.Ports.{PortFunction}
+use Rattle.fluent_uri.specs.Meaning.{Meaning}
+use Rattle.uri_rules.specs.Rules.{Rules, meaning_under}
 use Rattle.fluent_uri.specs.Target.{TargetError, resolution_of}
 use Rattle.uri_links.specs.Outcomes.{resolve_error_of}
 use Rattle.uri_links.specs.declared.links.Outcome.{Outcome}
 use Rattle.uri_links.specs.declared.links.Outcome.TheVariants.{New, Known, Refused}
 
--- the text of a register of links at this index has this meaning, under the port function
-abbrev pub HasMeaningAt : PortFunction → List (List ℕ) → ℕ → Meaning → Type 0
-HasMeaningAt ports texts place meaning =
-    (text : List ℕ) × ((slice_get texts place ≡ Some text) × (meaning_of uri ports text ≡ meaning))
+-- the text of a register of links at this index has this meaning, under the rules
+abbrev pub HasMeaningAt : Rules → List (List ℕ) → ℕ → Meaning → Type 0
+HasMeaningAt rules texts place meaning =
+    (text : List ℕ) × ((slice_get texts place ≡ Some text) × (meaning_under uri rules text ≡ meaning))
 
 -- The outcome of noting a reference, the last text, against the base, the first, in a register with
 -- these texts, stated by meanings.
 -- A target is known if the text at its id has the same meaning, and new if no text has. A reference
 -- without a target has the outcome `Refused`.
-abbrev pub IsOutcome : PortFunction → List ℕ → List (List ℕ) → List ℕ → Outcome → Type 0
-IsOutcome ports base texts reference (New id) =
+abbrev pub IsOutcome : Rules → List ℕ → List (List ℕ) → List ℕ → Outcome → Type 0
+IsOutcome rules base texts reference (New id) =
     (target : List ℕ) × ((resolution_of (components base) (components reference) ≡ Ok target)
     × (id ≡ length texts)
-    × ((place : ℕ) → ¬ (HasMeaningAt ports texts place (meaning_of uri ports target))))
-IsOutcome ports base texts reference (Known id) =
+    × ((place : ℕ) → ¬ (HasMeaningAt rules texts place (meaning_under uri rules target))))
+IsOutcome rules base texts reference (Known id) =
     (target : List ℕ) × ((resolution_of (components base) (components reference) ≡ Ok target)
-    × HasMeaningAt ports texts id (meaning_of uri ports target))
-IsOutcome ports base texts reference (Refused error) =
+    × HasMeaningAt rules texts id (meaning_under uri rules target))
+IsOutcome rules base texts reference (Refused error) =
     (refusal : TargetError) × ((resolution_of (components base) (components reference)
     ≡ Err refusal)
     × (error ≡ resolve_error_of refusal))

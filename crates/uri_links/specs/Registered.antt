@@ -1,11 +1,10 @@
--- The invariants of the texts of a register (RFC 3986, section 6.2.2).
+-- The invariants of the texts of a register (RFC 3986, section 6.2).
 use Rattle.std.specs.Prelude.{◌≡◌, ◌&&◌, ℕ, Bool, true, List, bytes_eq, map}
 use Rattle.std.specs.List.{IsDistinct, list_all}
 use Rattle.std.specs.Str.{is_utf8}
 use Rattle.fluent_uri.specs.Grammar.{is_of_kind, uri}
-use Rattle.fluent_uri.specs.Meaning.{meaning_of}
 use Rattle.fluent_uri.specs.Normal.{normal_text}
-use Rattle.fluent_uri.specs.Ports.{PortFunction}
+use Rattle.uri_rules.specs.Rules.{Rules, meaning_under}
 
 -- whether a text may be in a register of links: it is valid UTF-8 and a URI
 abbrev pub is_uri_text : List ℕ → Bool
@@ -15,9 +14,9 @@ is_uri_text text = is_utf8 text && is_of_kind uri text
 abbrev pub AreUris : List (List ℕ) → Type 0
 AreUris texts = list_all is_uri_text texts ≡ true
 
--- each text of a register of links is its own normal text, under the port function
-abbrev pub AreNormal : PortFunction → List (List ℕ) → Type 0
-AreNormal ports texts = map (λ text. normal_text (meaning_of uri ports text)) texts ≡ texts
+-- each text of a register of links is its own normal text, under the rules
+abbrev pub AreNormal : Rules → List (List ℕ) → Type 0
+AreNormal rules texts = map (λ text. normal_text (meaning_under uri rules text)) texts ≡ texts
 
 -- no two texts of a register of links are equal
 abbrev pub AreDistinct : List (List ℕ) → Type 0

@@ -4,3 +4,4 @@
 
 pub mod links;
 mod search_tree;
+pub mod targets;

@@ -1,19 +1,18 @@
-//! A register of links (RFC 3986, sections 5.2 and 6.2.2). Two references are one link exactly if
-//! their targets, each against its base, are equivalent under the register's default ports.
+//! A register of links (RFC 3986, sections 5.2 and 6.2). Two references are one link exactly if
+//! their targets, each against its base, are equivalent under the register's rules.
 ghost use Rattle.std.specs.Prelude.{◌≡◌, ◌≢◌, ◌↔◌, ◌≤◌, ◌∷◌, ◌++◌, ℕ, [], None, true, is_ok};
 ghost use Rattle.std.specs.Prelude.{length, map, option_map, slice_get, take, IfOk, IfErr, OnErr};
 ghost use Rattle.std.specs.Prelude.{OnOk, IsNone, List, All, bytes_eq, position};
 ghost use Rattle.std.specs.List.{IsDistinct-prop};
 ghost use Rattle.fluent_uri.specs.Components.{components};
 ghost use Rattle.fluent_uri.specs.Grammar.{IsTextOf, uri, uri_ref};
-ghost use Rattle.fluent_uri.specs.Meaning.{meaning_of};
 ghost use Rattle.fluent_uri.specs.Normal.{normal_text};
-ghost use Rattle.fluent_uri.specs.NormalTargets.{IsNormalTarget};
-ghost use Rattle.fluent_uri.specs.Normalizers.{ports_of};
 ghost use Rattle.fluent_uri.specs.Resolving.{IsErrorWithUnderflowAllowed};
 ghost use Rattle.fluent_uri.specs.Target.{resolution_of};
 ghost use Rattle.fluent_uri.specs.Uris.{uri_ref_text};
 ghost use Rattle.fluent_uri.specs.Uris.{uri_text};
+ghost use Rattle.uri_rules.specs.Rules.{meaning_under};
+ghost use Rattle.uri_rules.specs.Targets.{IsNormalFormOfTargetUnder};
 ghost use Rattle.uri_links.specs.Outcomes.{outcome_of, outcomes_of, outcome_of_lookup};
 ghost use Rattle.uri_links.specs.OutcomesInWords.{IdIsInRange, IsOutcome};
 ghost use Rattle.uri_links.specs.Registered.{AreDistinct, AreNormal, AreUris};
@@ -21,8 +20,8 @@ ghost use Rattle.uri_links.specs.SearchTrees.{IsSearchTree, found_id, hash_of, s
 ghost use Rattle.uri_links.specs.declared.search_tree.SearchEnd.TheVariants.{Missing};
 
 use crate::search_tree::{Node, SearchEnd, add_node, hash_of, search};
-use fluent_uri::normalize::{DefaultPort, Normalizer};
-use fluent_uri::resolve::{ResolveError, Resolver};
+use crate::targets::TargetNormalizer;
+use fluent_uri::resolve::ResolveError;
 use fluent_uri::{Uri, UriRef, laws};
 use std::alloc::{AllocError, Global};
 
@@ -55,19 +54,19 @@ pub enum Outcome {
 /// | `../a/%63` | `Known(1)` | `http://x/a/c` |
 ///
 /// ```
-/// let mut register = Register::new(alloc, Normalizer::new());
+/// let mut register = Register::new(alloc, RuleSetting { scheme_rules });
 /// let outcomes = register.note_all(&base, references.as_slice())?;
 /// ```
 #[derive(Drop)]
-pub struct Register<P: DefaultPort> {
+pub struct Register<N: TargetNormalizer> {
     alloc: Global,
-    normalizer: Normalizer<P>,
+    normalizer: N,
     targets: Vec<Uri<String>>,
     nodes: Vec<Node>,
     // Each text is a URI.
     pub ghost uris: { AreUris (map uri_text targets.items) },
     // Each is its own normal text.
-    pub ghost normal: { AreNormal (P.port_of (ports_of normalizer)) (map uri_text targets.items) },
+    pub ghost normal: { AreNormal (N.rules_applied normalizer) (map uri_text targets.items) },
     // No two are equal.
     pub ghost distinct: { AreDistinct
         (map uri_text targets.items) } by { IsDistinct-prop bytes_eq (map uri_text targets.items) },
@@ -95,18 +94,21 @@ fn text_of(target: &Uri<String>) -> &str
     target.as_str()
 }
 
-impl<P: DefaultPort> Register<P> {
-    ghost use Rattle.uri_links.specs.Registers.{port_function_of, texts_of};
+impl<N: TargetNormalizer> Register<N> {
+    ghost use Rattle.uri_links.specs.Registers.{target_rules, texts_of};
 
-    /// Returns an empty register, which normalises targets under the normaliser's default ports.
+    /// Returns an empty register, which normalises targets under the normaliser's rules: default
+    /// ports alone for a `Normalizer`, and those of schemes too for a `SchemeNormalizer` (RFC 3986,
+    /// section 6.2.3).
     ///
     /// Path underflow is never an error, whatever the normaliser's setting. The register keeps
     /// `alloc` for later calls. This call allocates nothing.
     ///
-    /// The new register's `len` is 0.
-    pub fn new(alloc: Global, normalizer: Normalizer<P>) -> Register<P>
+    /// The new register's `len` is 0. With `SchemeNormalizer::new()`, the register notes
+    /// `http://a` and `http://a/` as one link.
+    pub fn new(alloc: Global, normalizer: N) -> Register<N>
         ensures empty { texts_of result ≡ [] }
-        ensures ports { port_function_of result ≡ P.port_of (ports_of normalizer) }
+        ensures rules { target_rules result ≡ N.rules_applied normalizer }
     {
         Register {
             alloc,
@@ -135,23 +137,6 @@ impl<P: DefaultPort> Register<P> {
         Some(self.targets.get(id)?.borrow())
     }
 
-    /// Returns the normal form of a reference's target against a base.
-    fn normal_target(
-        &self,
-        base: &Uri<&str>,
-        reference: &UriRef<&str>,
-    ) -> Result<Uri<String>, ResolveError>
-        ensures target { IfOk result (λ target.
-            IsNormalTarget uri uri_ref (port_function_of self.now)
-            (uri_text base.now) (uri_ref_text reference.now) (uri_text target)) }
-        ensures refusal { IfErr result
-            (IsErrorWithUnderflowAllowed (components (uri_text base.now))
-            (components (uri_ref_text reference.now))) }
-    {
-        let resolver = Resolver::with_base(*base);
-        resolver.resolve_normalized(self.alloc, reference, &self.normalizer)
-    }
-
     /// Searches for the registered target with this text.
     fn search(&self, text: &str, hash: u64) -> SearchEnd
         requires { hash ≡ hash_of text.now }
@@ -174,13 +159,13 @@ impl<P: DefaultPort> Register<P> {
         requires missing { search self.old.nodes.items (texts_of self.old) (uri_text target)
             ≡ Missing parent right }
         requires new { position (bytes_eq (uri_text target)) (texts_of self.old) ≡ None }
-        requires normal { normal_text (meaning_of uri (port_function_of self.old) (uri_text target))
+        requires normal { normal_text (meaning_under uri (target_rules self.old) (uri_text target))
             ≡ uri_text target }
         ensures id { IfOk result (λ id. id ≡ length (texts_of self.old)) }
         ensures added { OnOk result
             (texts_of self.new ≡ texts_of self.old ++ uri_text target ∷ []) }
         ensures kept { OnErr result (texts_of self.new ≡ texts_of self.old) }
-        ensures ports { port_function_of self.new ≡ port_function_of self.old }
+        ensures rules { target_rules self.new ≡ target_rules self.old }
     {
         let id = self.len();
         self.targets.push(target)?;
@@ -195,14 +180,14 @@ impl<P: DefaultPort> Register<P> {
 
     /// Returns the outcome for a normal target, and registers it if it is new.
     fn note_target(&mut self, target: Uri<String>) -> Result<Outcome, AllocError>
-        requires { normal_text (meaning_of uri (port_function_of self.old) (uri_text target))
+        requires { normal_text (meaning_under uri (target_rules self.old) (uri_text target))
             ≡ uri_text target }
         ensures noted { IfOk result (λ outcome.
             outcome_of_lookup (position (bytes_eq (uri_text target)) (texts_of self.old))
             (texts_of self.old)
             (uri_text target) ≡ (outcome, texts_of self.new)) }
         ensures kept { OnErr result (texts_of self.new ≡ texts_of self.old) }
-        ensures ports { port_function_of self.new ≡ port_function_of self.old }
+        ensures rules { target_rules self.new ≡ target_rules self.old }
     {
         let text = text_of(&target);
         let hash = hash_of(text);
@@ -233,20 +218,20 @@ impl<P: DefaultPort> Register<P> {
         reference: &UriRef<&str>,
     ) -> Result<Outcome, AllocError>
         ensures noted { IfOk result (λ outcome.
-            outcome_of (port_function_of self.old) (uri_text base.now) (texts_of self.old)
+            outcome_of (target_rules self.old) (uri_text base.now) (texts_of self.old)
             (uri_ref_text reference.now) ≡ (outcome, texts_of self.new)) }
         // The same, by equality of meanings in place of a comparison.
         ensures meant { IfOk result
-            (IsOutcome (port_function_of self.old) (uri_text base.now) (texts_of self.old)
+            (IsOutcome (target_rules self.old) (uri_text base.now) (texts_of self.old)
             (uri_ref_text reference.now)) }
         ensures kept { OnErr result (texts_of self.new ≡ texts_of self.old) }
-        ensures ports { port_function_of self.new ≡ port_function_of self.old }
+        ensures rules { target_rules self.new ≡ target_rules self.old }
         // If allocation failed, the reference has a target.
         ensures refused { OnErr result (is_ok (resolution_of (components (uri_text base.now))
             (components (uri_ref_text reference.now))) ≡ true) }
     {
         laws::meanings_are_equal_if_their_parts_are();
-        match self.normal_target(base, reference) {
+        match self.normalizer.normal_target(self.alloc, base, reference) {
             Ok(target) => self.note_target(target),
             Err(error) => refused(error),
         }
@@ -268,14 +253,14 @@ impl<P: DefaultPort> Register<P> {
         references: &[UriRef<&str>],
     ) -> Result<Vec<Outcome>, AllocError>
         ensures noted { IfOk result (λ outcomes.
-            outcomes_of (port_function_of self.old) (uri_text base.now) (texts_of self.old)
+            outcomes_of (target_rules self.old) (uri_text base.now) (texts_of self.old)
             (map uri_ref_text references.now) ≡ (outcomes.items, texts_of self.new)) }
         // Each id that is returned has a registered target.
         ensures ids { IfOk result (λ outcomes. All (IdIsInRange (texts_of self.new)) outcomes.items) }
         ensures prefix { OnErr result ((n : ℕ) × (texts_of self.new ≡
-            (outcomes_of (port_function_of self.old) (uri_text base.now) (texts_of self.old)
+            (outcomes_of (target_rules self.old) (uri_text base.now) (texts_of self.old)
             (map uri_ref_text (take n references.now))).1)) }
-        ensures ports { port_function_of self.new ≡ port_function_of self.old }
+        ensures rules { target_rules self.new ≡ target_rules self.old }
     {
         let mut outcomes = Vec::with_capacity(self.alloc, references.len())?;
         for reference in references {

@@ -1,13 +1,13 @@
 -- The result under a task, by its command.
-use Rattle.std.proofs.Common.{◌≡◌, ℕ, true, List, Result, Ok, Err, IfOk, refl, ap, sym}
+use Rattle.std.proofs.Common.{◌≡◌, ℕ, Bool, true, List, Result, Ok, Err, IfOk, refl, ap, sym}
 use Rattle.std.proofs.Common.{subst, ◌∙◌, Some}
 use Rattle.std.specs.Prelude.{codes, ◌++◌, if◌then◌else◌}
 use Rattle.fluent_uri.specs.Grammar.{IsOfKind, Kind, is_of_kind, uri_ref}
-use Rattle.fluent_uri.specs.Ports.{PortFunction}
 use Rattle.fluent_uri.specs.Refusals.{refusal}
-use Rattle.fluent_uri.specs.SchemePorts.{default_port}
 use Rattle.fluent_uri.specs.declared.ParseError.{ParseError}
 use Rattle.uri_commands.specs.Messages.{error_text}
+use Rattle.uri_rules.specs.Rules.{Rules}
+use Rattle.uri_setting.specs.Settings.{rules_set}
 use Rattle.uri_links.specs.Outcomes.{outcome_of}
 use Rattle.uri_streams.specs.Results.{LineResult, Error, kind_named, normalize_result}
 use Rattle.uri_streams.specs.Results.{parse_message}
@@ -19,6 +19,7 @@ use Rattle.uri_streams.specs.Fields.{no_text_message}
 use Rattle.uri_streams.specs.declared.results.LineResult.{LineResult as Returned}
 use Rattle.uri_streams.specs.declared.command.Command.{Command}
 use Rattle.uri_streams.specs.declared.command.Command.TheVariants.{Each, Unique, Links}
+use Rattle.uri_streams.specs.declared.command.KindName.{KindName}
 use Rattle.uri_streams.specs.declared.task.Task.{Task}
 use Rattle.uri_streams.specs.declared.task.Task.TheVariants as tasks
 use Rattle.uri_streams.specs.declared.command.LineCommand.{LineCommand}
@@ -49,68 +50,75 @@ pub GivesText-of-unique : {E : Type 0} (own own_new : UniqueTask) (task task_new
     (text : List ℕ) (result : Result Returned E) → task ≡ tasks.Unique own
     → task_new ≡ tasks.Unique own_new
     → ((known : Known) → HasMet own.met known → IfOk result (λ line_result.
-    (result_in line_result ≡ (unique_result (kind_named own.kind) known text).0)
-    × HasMet own_new.met (unique_result (kind_named own.kind) known text).1))
-    → own_new.kind ≡ own.kind → GivesText task task_new text result
-GivesText-of-unique own own_new task task_new text (Err error) e e_new is k command known
+    (result_in line_result
+    ≡ (unique_result own.scheme_rules (kind_named own.kind) known text).0)
+    × HasMet own_new.met (unique_result own.scheme_rules (kind_named own.kind) known text).1))
+    → own_new.kind ≡ own.kind → own_new.scheme_rules ≡ own.scheme_rules → GivesText task task_new text result
+GivesText-of-unique own own_new task task_new text (Err error) e e_new is k r command known
     remembers = tt
-GivesText-of-unique own own_new task task_new text (Ok line_result) e e_new is k
+GivesText-of-unique own own_new task task_new text (Ok line_result) e e_new is k r
     (Each command) known
     remembers =
     absurd (subst (λ t. Remembers t (Each command) known) e remembers)
-GivesText-of-unique own own_new task task_new text (Ok line_result) e e_new is k
-    (Unique kind hasher) known
+GivesText-of-unique own own_new task task_new text (Ok line_result) e e_new is k r
+    (Unique kind by_rules hasher) known
     remembers =
-    let same = subst (λ t. Remembers t (Unique kind hasher) known) e remembers in
-    let processed = is known same.1 in (
-      processed.0 ∙ ap (λ n. (unique_result (kind_named n) known text).0) same.0,
-      subst (λ t. Remembers t (Unique kind hasher) (unique_result (kind_named kind) known text).1)
+    let same = subst (λ t. Remembers t (Unique kind by_rules hasher) known) e remembers in
+    let processed = is known same.2 in
+    let given : Bool → KindName → LineResult × Known =
+    λ b n. unique_result b (kind_named n) known text in (
+      processed.0 ∙ (λ i. (given (same.1 i) (same.0 i)).0),
+      subst (λ t. Remembers t (Unique kind by_rules hasher) (given by_rules kind).1)
           (sym e_new) (
             k ∙ same.0,
-            subst (λ n. HasMet own_new.met (unique_result (kind_named n) known text).1)
-                same.0 processed.1,
+            r ∙ same.1,
+            subst (λ b. HasMet own_new.met (given b kind).1) same.1
+                (subst (λ n. HasMet own_new.met (given own.scheme_rules n).1) same.0 processed.1),
           ),
     )
-GivesText-of-unique own own_new task task_new text (Ok line_result) e e_new is k
-    (Links base) known remembers =
-    absurd (subst (λ t. Remembers t (Links base) known) e remembers)
+GivesText-of-unique own own_new task task_new text (Ok line_result) e e_new is k r
+    (Links base by_rules) known remembers =
+    absurd (subst (λ t. Remembers t (Links base by_rules) known) e remembers)
 
 -- lines: what `urilines unique` writes is decided by the normal form, or the error
-pub unique_result-of-normalize_result : (kind : Kind) (known : Known) (text : List ℕ)
-    (line_result : LineResult)
-    → line_result ≡ normalize_result kind text → text_if_new known line_result
-    ≡ unique_result kind known text
+pub unique_result-of-normalize_result : (by_rules : Bool) (kind : Kind) (known : Known)
+    (text : List ℕ) (line_result : LineResult)
+    → line_result ≡ normalize_result by_rules kind text → text_if_new known line_result
+    ≡ unique_result by_rules kind known text
 unfolding unique_result
-unique_result-of-normalize_result kind known text line_result is = ap (text_if_new known) is
+unique_result-of-normalize_result by_rules kind known text line_result is = ap (text_if_new known) is
 
 -- lines: what `urilines links` writes of a reference is the outcome that the register of links
 -- defines
-pub link_result-of-outcome : {E : Type 0} (base : List ℕ) (known known_new : Known)
-    (text reference : List ℕ)
-    (ports : PortFunction) (result : Result Returned E) → ports ≡ default_port
+pub link_result-of-outcome : {E : Type 0} (by_rules : Bool) (base : List ℕ)
+    (known known_new : Known) (text reference : List ℕ)
+    (rules : Rules) (result : Result Returned E) → rules ≡ rules_set by_rules
     → is_of_kind uri_ref text ≡ true → reference ≡ text
     → IfOk result (λ line_result. (result_in line_result, known_new)
-    ≡ noted_result (outcome_of ports base known reference))
-    → IfOk result (λ line_result. (result_in line_result, known_new) ≡ link_result base known text)
+    ≡ noted_result (outcome_of rules base known reference))
+    → IfOk result (λ line_result.
+    (result_in line_result, known_new) ≡ link_result by_rules base known text)
 unfolding link_result
-link_result-of-outcome base known known_new text reference ports (Err error) p of_kind same is = tt
-link_result-of-outcome base known known_new text reference ports
+link_result-of-outcome by_rules base known known_new text reference rules (Err error) p of_kind
+    same is = tt
+link_result-of-outcome by_rules base known known_new text reference rules
     (Ok line_result) p of_kind same is =
     is ∙ ap (λ f. noted_result (outcome_of f base known reference)) p
-    ∙ ap (λ t. noted_result (outcome_of default_port base known t)) same
-    ∙ sym (ap (λ b. if b then noted_result (outcome_of default_port base known text)
+    ∙ ap (λ t. noted_result (outcome_of (rules_set by_rules) base known t)) same
+    ∙ sym (ap (λ b. if b then noted_result (outcome_of (rules_set by_rules) base known text)
     else (Error (codes "reference: " ++ parse_message uri_ref text), known)) of_kind)
 
 -- lines: what `urilines links` writes of a text that is no reference is the error that is defined
 -- for it
-pub link_result-of-error : (base : List ℕ) (known : Known) (text : List ℕ) (e : ParseError)
+pub link_result-of-error : (by_rules : Bool) (base : List ℕ) (known : Known) (text : List ℕ)
+    (e : ParseError)
     → ¬ (IsOfKind uri_ref text) → refusal uri_ref text ≡ Some e
-    → (Error (codes "reference: " ++ error_text e), known) ≡ link_result base known text
+    → (Error (codes "reference: " ++ error_text e), known) ≡ link_result by_rules base known text
 unfolding link_result
-link_result-of-error base known text e not_of_kind is =
+link_result-of-error by_rules base known text e not_of_kind is =
     ap (λ m. (Error (codes "reference: " ++ m), known))
     (error_text-is-parse_message uri_ref text e is)
-    ∙ sym (ap (λ b. if b then noted_result (outcome_of default_port base known text)
+    ∙ sym (ap (λ b. if b then noted_result (outcome_of (rules_set by_rules) base known text)
     else (Error (codes "reference: " ++ parse_message uri_ref text), known))
     (not-true-is-false (is_of_kind uri_ref text) not_of_kind))
 
@@ -118,31 +126,31 @@ link_result-of-error base known text e not_of_kind is =
 pub command-of-each : (own : LineCommand) (command : Command) (known : Known)
     → Remembers (tasks.Each own) command known → Each own ≡ command
 command-of-each own (Each other) known is = ap Each is
-command-of-each own (Unique kind hasher) known is = absurd is
-command-of-each own (Links base) known is = absurd is
+command-of-each own (Unique kind by_rules hasher) known is = absurd is
+command-of-each own (Links base by_rules) known is = absurd is
 
 -- lines: a line without a text is an error for the task of `unique`
 pub no_text_result-of-unique : (own : UniqueTask) (command : Command) (known : Known)
     (why : NoText) → Remembers (tasks.Unique own) command known
     → Error (no_text_message why) ≡ no_text_result command why
 no_text_result-of-unique own (Each other) known why is = absurd is
-no_text_result-of-unique own (Unique kind hasher) known why is = at why
+no_text_result-of-unique own (Unique kind by_rules hasher) known why is = at why
   where
-    at : (w : NoText) → Error (no_text_message w) ≡ no_text_result (Unique kind hasher) w
+    at : (w : NoText) → Error (no_text_message w) ≡ no_text_result (Unique kind by_rules hasher) w
     at (TooLong most) = refl
     at (NoField before) = refl
     at (NotUtf8 index) = refl
-no_text_result-of-unique own (Links base) known why is = absurd is
+no_text_result-of-unique own (Links base by_rules) known why is = absurd is
 
 -- lines: a line without a text is an error for the task of `links`
 pub no_text_result-of-links : (own : LinksTask) (command : Command) (known : Known)
     (why : NoText) → Remembers (tasks.Links own) command known
     → Error (no_text_message why) ≡ no_text_result command why
 no_text_result-of-links own (Each other) known why is = absurd is
-no_text_result-of-links own (Unique kind hasher) known why is = absurd is
-no_text_result-of-links own (Links base) known why is = at why
+no_text_result-of-links own (Unique kind by_rules hasher) known why is = absurd is
+no_text_result-of-links own (Links base by_rules) known why is = at why
   where
-    at : (w : NoText) → Error (no_text_message w) ≡ no_text_result (Links base) w
+    at : (w : NoText) → Error (no_text_message w) ≡ no_text_result (Links base by_rules) w
     at (TooLong most) = refl
     at (NoField before) = refl
     at (NotUtf8 index) = refl

@@ -5,14 +5,14 @@ use Rattle.fluent_uri.specs.Components.{components}
 use Rattle.fluent_uri.specs.Grammar.{Kind, IsOfKind, is_of_kind}
 use Rattle.fluent_uri.specs.Refusals.{refusal}
 use Rattle.fluent_uri.specs.declared.ParseError.{ParseError}
-use Rattle.fluent_uri.specs.Normalizers.{IsNormalForm}
-use Rattle.fluent_uri.specs.SchemePorts.{default_port}
 use Rattle.fluent_uri.specs.Resolving.{IsErrorWithUnderflowAllowed}
 use Rattle.fluent_uri.specs.Target.{resolution_of_texts}
 use Rattle.fluent_uri.specs.declared.resolve.ResolveError.{ResolveError}
 use Rattle.fluent_uri.specs.declared.resolve.ResolveError.TheVariants as errors
 use Rattle.std.specs.Prelude.{IfOk, if◌then◌else◌, unwrap_or, option_map}
 use Rattle.uri_commands.specs.Messages.{error_text, resolve_error_text}
+use Rattle.uri_rules.specs.NormalForms.{IsNormalFormUnder}
+use Rattle.uri_setting.specs.Settings.{rules_set}
 use Rattle.uri_mend.specs.Mending.{can_be_mended, mended_text}
 use Rattle.uri_mend.specs.Refusing.{IsMendErrorOf}
 use Rattle.uri_mend.specs.Trimming.{trimmed_link}
@@ -32,18 +32,20 @@ use Rattle.uri_streams.specs.declared.fault.LineError.TheVariants.{Refused}
 use Rattle.uri_commands.specs.declared.refusal.CommandError.TheVariants.{Target}
 
 -- lines: the normal form that a call returns is the one that is written
-normal_form_is : (kind : Kind) (text normal : List ℕ)
-    → IsNormalForm kind default_port text normal → normal ≡ normal_form_of kind text
+normal_form_is : (by_rules : Bool) (kind : Kind) (text normal : List ℕ)
+    → IsNormalFormUnder kind (rules_set by_rules) text normal
+    → normal ≡ normal_form_of by_rules kind text
 unfolding normal_form_of
-normal_form_is kind text normal is = is.text.text
+normal_form_is by_rules kind text normal is = is.text
 
 -- lines: what `urilines normalize` writes of a text of the kind is its normal form
-pub normalize_result-of-kind : (kind : Kind) (text normal : List ℕ) → IsOfKind kind text
-    → IsNormalForm kind default_port text normal → Text normal ≡ normalize_result kind text
+pub normalize_result-of-kind : (by_rules : Bool) (kind : Kind) (text normal : List ℕ)
+    → IsOfKind kind text → IsNormalFormUnder kind (rules_set by_rules) text normal
+    → Text normal ≡ normalize_result by_rules kind text
 unfolding normalize_result
-normalize_result-of-kind kind text normal of_kind is =
-    ap Text (normal_form_is kind text normal is)
-    ∙ sym (ap (λ b. if b then Text (normal_form_of kind text) else Error (parse_message kind text))
+normalize_result-of-kind by_rules kind text normal of_kind is =
+    ap Text (normal_form_is by_rules kind text normal is)
+    ∙ sym (ap (λ b. if b then Text (normal_form_of by_rules kind text) else Error (parse_message kind text))
     of_kind)
 
 -- lines: the message of a text's error is the one that its rejection defines
@@ -59,13 +61,13 @@ not-true-is-false true h = absurd (h refl)
 not-true-is-false false h = refl
 
 -- lines: what `urilines normalize` writes of a text that is not of the kind is its error
-pub normalize_result-of-error : (kind : Kind) (text : List ℕ) (e : ParseError)
+pub normalize_result-of-error : (by_rules : Bool) (kind : Kind) (text : List ℕ) (e : ParseError)
     → ¬ (IsOfKind kind text)
-    → refusal kind text ≡ Some e → Error (error_text e) ≡ normalize_result kind text
+    → refusal kind text ≡ Some e → Error (error_text e) ≡ normalize_result by_rules kind text
 unfolding normalize_result
-normalize_result-of-error kind text e not_of_kind is =
+normalize_result-of-error by_rules kind text e not_of_kind is =
     ap Error (error_text-is-parse_message kind text e is)
-    ∙ sym (ap (λ b. if b then Text (normal_form_of kind text) else Error (parse_message kind text))
+    ∙ sym (ap (λ b. if b then Text (normal_form_of by_rules kind text) else Error (parse_message kind text))
     (not-true-is-false (is_of_kind kind text) not_of_kind))
 
 -- lines: what `urilines parse` writes of a text is its components as JSON

@@ -68,8 +68,8 @@ IsBaseOf line (bases.Iri base) = (line.kind ≡ Some kinds.Iri) × IsWord line.b
 -- the command that a command line of `urilines` asks for; the other argument is the keys that
 -- `unique` hashes with
 abbrev pub IsCommandOf : CommandLine → RandomState → Command → Type 0
-IsCommandOf line hasher (Each (Normalize kind)) =
-    (line.command ≡ names.Normalize) × (line.kind ≡ Some kind)
+IsCommandOf line hasher (Each (Normalize kind by_rules)) =
+    (line.command ≡ names.Normalize) × (line.kind ≡ Some kind) × (line.scheme_rules ≡ by_rules)
 IsCommandOf line hasher (Each (Resolve base)) =
     (line.command ≡ names.Resolve) × IsBaseOf line base
 IsCommandOf line hasher (Each (Relativize base prefers)) =
@@ -82,10 +82,12 @@ IsCommandOf line hasher (Each (Parse kind)) =
     (line.command ≡ names.Parse) × (line.kind ≡ Some kind)
 IsCommandOf line hasher (Each (Query kind)) =
     (line.command ≡ names.Query) × (line.kind ≡ Some kind)
-IsCommandOf line hasher (Unique kind keys) =
-    (line.command ≡ names.Unique) × (line.kind ≡ Some kind) × (keys ≡ hasher)
-IsCommandOf line hasher (Links base) =
+IsCommandOf line hasher (Unique kind by_rules keys) =
+    (line.command ≡ names.Unique) × (line.kind ≡ Some kind) × (line.scheme_rules ≡ by_rules)
+    × (keys ≡ hasher)
+IsCommandOf line hasher (Links base by_rules) =
     (line.command ≡ names.Links) × IsWord line.base (uri_text base)
+    × (line.scheme_rules ≡ by_rules)
 
 -- the bytes of the delimiter of a command line of `urilines`: a tab if none is given
 abbrev pub delimiter_of : CommandLine → List ℕ

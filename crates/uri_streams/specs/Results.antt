@@ -5,10 +5,8 @@ use Rattle.std.specs.Prelude.{option_map, if◌then◌else◌}
 use Rattle.fluent_uri.specs.Components.{components}
 use Rattle.fluent_uri.specs.Grammar.{Kind, uri, uri_ref, iri, iri_ref, is_of_kind}
 use Rattle.fluent_uri.specs.Iris.{iri_text}
-use Rattle.fluent_uri.specs.Meaning.{meaning_of}
 use Rattle.fluent_uri.specs.Normal.{normal_text}
 use Rattle.fluent_uri.specs.Refusals.{refusal}
-use Rattle.fluent_uri.specs.SchemePorts.{default_port}
 use Rattle.fluent_uri.specs.Target.{TargetError, BaseWithFragment}
 use Rattle.fluent_uri.specs.Target.{InvalidReferenceAgainstOpaqueBase}
 use Rattle.fluent_uri.specs.Target.{resolution_of}
@@ -18,6 +16,8 @@ use Rattle.uri_commands.specs.Messages.{error_text, resolve_error_text}
 use Rattle.uri_mend.specs.Mending.{can_be_mended, mended_text}
 use Rattle.uri_mend.specs.Trimming.{trimmed_link}
 use Rattle.uri_relative.specs.Rule.{reference_to}
+use Rattle.uri_rules.specs.Rules.{meaning_under}
+use Rattle.uri_setting.specs.Settings.{rules_set}
 use Rattle.uri_streams.specs.Json.{json_of}
 use Rattle.uri_streams.specs.Queries.{query_json}
 use Rattle.uri_streams.specs.declared.command.Base.{Base}
@@ -63,15 +63,16 @@ target_kind (bases.Iri base) = iri
 abbrev pub parse_message : Kind → List ℕ → List ℕ
 parse_message kind text = unwrap_or (option_map error_text (refusal kind text)) []
 
--- the normal form of a text of the kind, under the default ports of schemes (section 6.2.2)
-unfoldable pub normal_form_of : Kind → List ℕ → List ℕ
-normal_form_of kind text = normal_text (meaning_of kind default_port text)
+-- the normal form of a text of the kind, where the Bool is whether it is by the rules of schemes, or
+-- by their default ports alone (section 6.2.3)
+unfoldable pub normal_form_of : Bool → Kind → List ℕ → List ℕ
+normal_form_of by_rules kind text = normal_text (meaning_under kind (rules_set by_rules) text)
 
 -- the result of `urilines normalize` for a line: the normal form of a text of the kind, or the
--- parse error
-unfoldable pub normalize_result : Kind → List ℕ → LineResult
-normalize_result kind text =
-    if is_of_kind kind text then Text (normal_form_of kind text)
+-- parse error; the Bool is whether `--scheme-rules` is given
+unfoldable pub normalize_result : Bool → Kind → List ℕ → LineResult
+normalize_result by_rules kind text =
+    if is_of_kind kind text then Text (normal_form_of by_rules kind text)
     else Error (parse_message kind text)
 
 -- the result of `urilines resolve` for a line whose reference has this resolution: the target, or
@@ -143,7 +144,8 @@ query_result kind text =
 
 -- the result of a line under a command of `urilines` that does the same with each line
 abbrev pub command_result : LineCommand → List ℕ → LineResult
-command_result (Normalize kind) text = normalize_result (kind_named kind) text
+command_result (Normalize kind by_rules) text =
+    normalize_result by_rules (kind_named kind) text
 command_result (Resolve base) text = resolve_result (reference_kind base) (base_text base) text
 command_result (Relativize base prefers) text =
     relativize_result prefers (target_kind base) (base_text base) text
@@ -154,7 +156,7 @@ command_result (Query kind) text = query_result (kind_named kind) text
 
 -- the kind of the texts that a command of `urilines` gets of lines
 abbrev pub text_kind : LineCommand → Kind
-text_kind (Normalize kind) = kind_named kind
+text_kind (Normalize kind by_rules) = kind_named kind
 text_kind (Resolve base) = reference_kind base
 text_kind (Relativize base prefers) = target_kind base
 text_kind (Check kind is_inverted) = kind_named kind

@@ -30,8 +30,9 @@ pub enum Base<'a> {
 /// are.
 #[derive(Clone, Copy)]
 pub enum LineCommand<'a> {
-    /// `normalize KIND`: the normal form of the text takes its place.
-    Normalize(KindName),
+    /// `normalize KIND`: the normal form of the text takes its place. If the `bool` is true
+    /// (`--scheme-rules`), it is by the rules of schemes.
+    Normalize(KindName, bool),
     /// `resolve uri|iri BASE`: the target of the text against the base takes its place.
     Resolve(Base<'a>),
     /// `relativize uri|iri BASE`: a reference that leads to the text from the base takes its place.
@@ -56,9 +57,11 @@ pub enum Command<'a> {
     /// A command that does the same with each line.
     Each(LineCommand<'a>),
     /// `unique KIND`: the normal form of a line's text takes its place the first time that its
-    /// meaning comes. The normal forms that were met are kept, hashed with these keys.
-    Unique(KindName, RandomState),
+    /// meaning comes. If the `bool` is true (`--scheme-rules`), it is by the rules of schemes. The
+    /// normal forms that were met are kept, hashed with these keys.
+    Unique(KindName, bool, RandomState),
     /// `links BASE`: whether the target of a line's text against the base is new, the target's id
-    /// and the target take the text's place. The targets that were met are kept.
-    Links(Uri<&'a str>),
+    /// and the target take the text's place. If the `bool` is true (`--scheme-rules`), targets are
+    /// normalised by the rules of schemes. The targets that were met are kept.
+    Links(Uri<&'a str>, bool),
 }

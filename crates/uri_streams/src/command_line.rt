@@ -58,6 +58,8 @@ pub struct CommandLine<'a> {
     pub is_mended: bool,
     /// Whether `--prefer-relative` is given.
     pub prefers_relative: bool,
+    /// Whether `--scheme-rules` is given.
+    pub scheme_rules: bool,
     /// The number of a field, from 1, if `--field` gives it.
     pub field: Option<u32>,
     /// What is between two fields, if `--delimiter` gives it.
@@ -190,7 +192,9 @@ fn command<'a>(line: &CommandLine<'a>, hasher: RandomState) -> Result<Command<'a
     ensures { MatchResult result (IsCommandOf line.now hasher) (IsErrorOfLine line.now) }
 {
     Ok(match line.command {
-        CommandName::Normalize => Command::Each(LineCommand::Normalize(kind(line)?)),
+        CommandName::Normalize => {
+            Command::Each(LineCommand::Normalize(kind(line)?, line.scheme_rules))
+        }
         CommandName::Resolve => Command::Each(LineCommand::Resolve(base(line)?)),
         CommandName::Relativize => {
             Command::Each(LineCommand::Relativize(base(line)?, line.prefers_relative))
@@ -199,8 +203,8 @@ fn command<'a>(line: &CommandLine<'a>, hasher: RandomState) -> Result<Command<'a
         CommandName::Mend => Command::Each(LineCommand::Mend(kind(line)?)),
         CommandName::Parse => Command::Each(LineCommand::Parse(kind(line)?)),
         CommandName::Query => Command::Each(LineCommand::Query(kind(line)?)),
-        CommandName::Unique => Command::Unique(kind(line)?, hasher),
-        CommandName::Links => Command::Links(uri_base(line)?),
+        CommandName::Unique => Command::Unique(kind(line)?, line.scheme_rules, hasher),
+        CommandName::Links => Command::Links(uri_base(line)?, line.scheme_rules),
     })
 }
 

@@ -28,8 +28,8 @@ pub(crate) fn text_kind(command: &Command<'_>) -> KindName
 {
     match command {
         Command::Each(command) => line_text_kind(command),
-        Command::Unique(kind, _) => *kind,
-        Command::Links(_) => KindName::UriRef,
+        Command::Unique(kind, _, _) => *kind,
+        Command::Links(_, _) => KindName::UriRef,
     }
 }
 
@@ -38,7 +38,7 @@ fn line_text_kind(command: &LineCommand<'_>) -> KindName
     ensures { kind_named result ≡ results.text_kind command.now }
 {
     match command {
-        LineCommand::Normalize(kind) => *kind,
+        LineCommand::Normalize(kind, _) => *kind,
         LineCommand::Resolve(Base::Uri(_)) => KindName::UriRef,
         LineCommand::Resolve(Base::Iri(_)) => KindName::IriRef,
         LineCommand::Relativize(Base::Uri(_), _) => KindName::Uri,

@@ -25,6 +25,7 @@ use fluent_uri::{Iri, IriRef, ParseError, Uri, UriRef};
 use std::alloc::{AllocError, Global};
 use uri_commands::refusal::CommandError;
 use uri_relative::Relativizer;
+use uri_setting::RuleSetting;
 
 /// The result of a line of an input: a text, no line, or an error.
 #[derive(Drop)]
@@ -54,7 +55,7 @@ pub(crate) fn command_result(
         result_in line_result ≡ results.command_result command.now text.now) }
 {
     match command {
-        LineCommand::Normalize(kind) => normalize(alloc, *kind, text),
+        LineCommand::Normalize(kind, scheme_rules) => normalize(alloc, *kind, *scheme_rules, text),
         LineCommand::Resolve(base) => resolve(alloc, base, text),
         LineCommand::Relativize(base, prefers) => relativize(alloc, base, *prefers, text),
         LineCommand::Check(kind, is_inverted) => Ok(check(*kind, *is_inverted, text)),
@@ -64,66 +65,91 @@ pub(crate) fn command_result(
     }
 }
 
-/// Returns the result of `urilines normalize` for a text: its normal form, or an error if it is not
-/// of the kind.
+/// Returns the result of `urilines normalize` for a text: its normal form, by the rules of its
+/// scheme if `scheme_rules` is true, or an error if it is not of the kind.
 #[inline(always)]
-pub(crate) fn normalize(alloc: Global, kind: KindName, text: &str) -> Result<LineResult, AllocError>
+pub(crate) fn normalize(
+    alloc: Global,
+    kind: KindName,
+    scheme_rules: bool,
+    text: &str,
+) -> Result<LineResult, AllocError>
     ensures result { IfOk result (λ line_result.
-        result_in line_result ≡ normalize_result (kind_named kind) text.now) }
+        result_in line_result ≡ normalize_result scheme_rules (kind_named kind) text.now) }
     ensures owned { IfOk result IsOwned }
 {
     match kind {
-        KindName::Uri => normalize_uri(alloc, text),
-        KindName::UriRef => normalize_uri_ref(alloc, text),
-        KindName::Iri => normalize_iri(alloc, text),
-        KindName::IriRef => normalize_iri_ref(alloc, text),
+        KindName::Uri => normalize_uri(alloc, scheme_rules, text),
+        KindName::UriRef => normalize_uri_ref(alloc, scheme_rules, text),
+        KindName::Iri => normalize_iri(alloc, scheme_rules, text),
+        KindName::IriRef => normalize_iri_ref(alloc, scheme_rules, text),
     }
 }
 
 /// Returns the result of `urilines normalize uri` for a text: its normal form, or an error if it is
 /// not a URI.
-fn normalize_uri(alloc: Global, text: &str) -> Result<LineResult, AllocError>
-    ensures result { IfOk result (λ line. result_in line ≡ normalize_result test.uri text.now) }
+fn normalize_uri(alloc: Global, scheme_rules: bool, text: &str) -> Result<LineResult, AllocError>
+    ensures result { IfOk result (λ line. result_in line ≡ normalize_result scheme_rules test.uri text.now) }
     ensures owned { IfOk result IsOwned }
 {
     match Uri::<&str>::parse(text) {
-        Ok(uri) => Ok(LineResult::Text(uri.normalize(alloc)?.into_string())),
+        Ok(uri) => {
+            let setting = RuleSetting { scheme_rules };
+            Ok(LineResult::Text(setting.normalize(alloc, &uri)?.into_string()))
+        }
         Err(error) => Ok(not_of_kind(error)),
     }
 }
 
 /// Returns the result of `urilines normalize uri-ref` for a text: its normal form, or an error if
 /// it is not a URI reference.
-fn normalize_uri_ref(alloc: Global, text: &str) -> Result<LineResult, AllocError>
-    ensures result { IfOk result (λ line. result_in line ≡ normalize_result test.uri_ref text.now) }
+fn normalize_uri_ref(
+    alloc: Global,
+    scheme_rules: bool,
+    text: &str,
+) -> Result<LineResult, AllocError>
+    ensures result { IfOk result (λ line. result_in line ≡ normalize_result scheme_rules test.uri_ref text.now) }
     ensures owned { IfOk result IsOwned }
 {
     match UriRef::<&str>::parse(text) {
-        Ok(uri_ref) => Ok(LineResult::Text(uri_ref.normalize(alloc)?.into_string())),
+        Ok(uri_ref) => {
+            let setting = RuleSetting { scheme_rules };
+            Ok(LineResult::Text(setting.normalize(alloc, &uri_ref)?.into_string()))
+        }
         Err(error) => Ok(not_of_kind(error)),
     }
 }
 
 /// Returns the result of `urilines normalize iri` for a text: its normal form, or an error if it is
 /// not an IRI.
-fn normalize_iri(alloc: Global, text: &str) -> Result<LineResult, AllocError>
-    ensures result { IfOk result (λ line. result_in line ≡ normalize_result test.iri text.now) }
+fn normalize_iri(alloc: Global, scheme_rules: bool, text: &str) -> Result<LineResult, AllocError>
+    ensures result { IfOk result (λ line. result_in line ≡ normalize_result scheme_rules test.iri text.now) }
     ensures owned { IfOk result IsOwned }
 {
     match Iri::<&str>::parse(text) {
-        Ok(iri) => Ok(LineResult::Text(iri.normalize(alloc)?.into_string())),
+        Ok(iri) => {
+            let setting = RuleSetting { scheme_rules };
+            Ok(LineResult::Text(setting.normalize(alloc, &iri)?.into_string()))
+        }
         Err(error) => Ok(not_of_kind(error)),
     }
 }
 
 /// Returns the result of `urilines normalize iri-ref` for a text: its normal form, or an error if
 /// it is not an IRI reference.
-fn normalize_iri_ref(alloc: Global, text: &str) -> Result<LineResult, AllocError>
-    ensures result { IfOk result (λ line. result_in line ≡ normalize_result test.iri_ref text.now) }
+fn normalize_iri_ref(
+    alloc: Global,
+    scheme_rules: bool,
+    text: &str,
+) -> Result<LineResult, AllocError>
+    ensures result { IfOk result (λ line. result_in line ≡ normalize_result scheme_rules test.iri_ref text.now) }
     ensures owned { IfOk result IsOwned }
 {
     match IriRef::<&str>::parse(text) {
-        Ok(iri_ref) => Ok(LineResult::Text(iri_ref.normalize(alloc)?.into_string())),
+        Ok(iri_ref) => {
+            let setting = RuleSetting { scheme_rules };
+            Ok(LineResult::Text(setting.normalize(alloc, &iri_ref)?.into_string()))
+        }
         Err(error) => Ok(not_of_kind(error)),
     }
 }

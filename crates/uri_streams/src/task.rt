@@ -1,11 +1,11 @@
 //! A command with what it remembers of earlier lines.
-ghost use Rattle.std.specs.Prelude.{◌≡◌, [], ℕ, List, IfOk, IsTrue, string_bytes};
+ghost use Rattle.std.specs.Prelude.{◌≡◌, [], ℕ, Bool, List, IfOk, IsTrue, string_bytes};
 ghost use Rattle.std.specs.Str.{IsAscii};
-ghost use Rattle.fluent_uri.specs.SchemePorts.{default_port};
 ghost use Rattle.fluent_uri.specs.Uris.{uri_ref_text, uri_text};
 ghost use Rattle.uri_commands.specs.Links.{text_at};
 ghost use Rattle.uri_links.specs.Outcomes.{outcome_of};
-ghost use Rattle.uri_links.specs.Registers.{port_function_of, texts_of};
+ghost use Rattle.uri_links.specs.Registers.{target_rules, texts_of};
+ghost use Rattle.uri_setting.specs.Settings.{rules_set};
 ghost use Rattle.uri_streams.specs.Results.{Text, kind_named};
 ghost use Rattle.uri_streams.specs.Returned.{IsResult, result_in, text_in};
 ghost use Rattle.uri_streams.specs.Tasks as tasks;
@@ -19,11 +19,11 @@ use crate::job::Job;
 use crate::mending::{mended, text_kind};
 use crate::met::MetTexts;
 use crate::results::{LineResult, command_result, normalize, passed_if};
-use fluent_uri::normalize::{Normalizer, SchemeDefaults};
 use fluent_uri::{Uri, UriRef};
 use std::alloc::{AllocError, Global};
 use uri_commands::refusal::CommandError;
 use uri_links::links::{Outcome, Register};
+use uri_setting::RuleSetting;
 
 /// A command with what it remembers of earlier lines.
 #[derive(Drop)]
@@ -41,6 +41,8 @@ pub(crate) enum Task<'a> {
 pub(crate) struct UniqueTask {
     /// The kind of each line's text.
     kind: KindName,
+    /// Whether the normal forms are by the rules of schemes.
+    scheme_rules: bool,
     /// The normal forms that were met in earlier lines.
     met: MetTexts,
 }
@@ -51,7 +53,7 @@ pub(crate) struct LinksTask<'a> {
     /// The base that each line is resolved against.
     base: Uri<&'a str>,
     /// The targets that were met in earlier lines, each with its id.
-    register: Register<SchemeDefaults>,
+    register: Register<RuleSetting>,
 }
 
 impl<'a> Task<'a> {
@@ -61,13 +63,14 @@ impl<'a> Task<'a> {
     {
         match command {
             Command::Each(command) => Task::Each(command),
-            Command::Unique(kind, hasher) => Task::Unique(UniqueTask {
+            Command::Unique(kind, scheme_rules, hasher) => Task::Unique(UniqueTask {
                 kind,
+                scheme_rules,
                 met: MetTexts::new(alloc, hasher),
             }),
-            Command::Links(base) => Task::Links(LinksTask {
+            Command::Links(base, scheme_rules) => Task::Links(LinksTask {
                 base,
-                register: Register::new(alloc, Normalizer::new()),
+                register: Register::new(alloc, RuleSetting { scheme_rules }),
             }),
         }
     }
@@ -178,7 +181,7 @@ fn no_text_result(command: &LineCommand<'_>, why: NoText) -> LineResult
 {
     match command {
         LineCommand::Check(_, is_inverted) => no_text_checked(*is_inverted, why),
-        LineCommand::Normalize(_) => LineResult::Error(LineError::NoText(why)),
+        LineCommand::Normalize(_, _) => LineResult::Error(LineError::NoText(why)),
         LineCommand::Resolve(_) => LineResult::Error(LineError::NoText(why)),
         LineCommand::Relativize(_, _) => LineResult::Error(LineError::NoText(why)),
         LineCommand::Mend(_) => LineResult::Error(LineError::NoText(why)),
@@ -206,11 +209,12 @@ impl UniqueTask {
     fn result_for(&mut self, alloc: Global, text: &str) -> Result<LineResult, AllocError>
         ensures output { (known : List (List ℕ)) → HasMet self.old.met known
             → IfOk result (λ line_result.
-            (result_in line_result ≡ (unique_result (kind_named self.old.kind) known text.now).0)
-            × HasMet self.new.met (unique_result (kind_named self.old.kind) known text.now).1) }
+            (result_in line_result ≡ (unique_result self.old.scheme_rules (kind_named self.old.kind) known text.now).0)
+            × HasMet self.new.met (unique_result self.old.scheme_rules (kind_named self.old.kind) known text.now).1) }
         ensures kind { self.new.kind ≡ self.old.kind }
+        ensures rules { self.new.scheme_rules ≡ self.old.scheme_rules }
     {
-        match normalize(alloc, self.kind, text)? {
+        match normalize(alloc, self.kind, self.scheme_rules, text)? {
             LineResult::Text(normal) => text_if_new(alloc, &mut self.met, normal),
             LineResult::Error(fault) => Ok(LineResult::Error(fault)),
             LineResult::Unchanged => unreachable!(),
@@ -223,11 +227,11 @@ impl<'a> LinksTask<'a> {
     /// Returns the result of `urilines links` for a text: whether its target is new, the target's
     /// id and the target, or an error.
     fn result_for(&mut self, alloc: Global, text: &str) -> Result<LineResult, AllocError>
-        ensures output { port_function_of self.old.register ≡ default_port
+        ensures output { (by_rules : Bool) → target_rules self.old.register ≡ rules_set by_rules
             → IfOk result (λ line_result. (result_in line_result, texts_of self.new.register)
-            ≡ link_result (uri_text self.old.base) (texts_of self.old.register) text.now) }
+            ≡ link_result by_rules (uri_text self.old.base) (texts_of self.old.register) text.now) }
         ensures base { self.new.base ≡ self.old.base }
-        ensures ports { port_function_of self.new.register ≡ port_function_of self.old.register }
+        ensures rules { target_rules self.new.register ≡ target_rules self.old.register }
     {
         link(alloc, &self.base, &mut self.register, text)
     }
@@ -253,13 +257,13 @@ fn text_if_new(alloc: Global, met: &mut MetTexts, normal: String) -> Result<Line
 fn link(
     alloc: Global,
     base: &Uri<&str>,
-    register: &mut Register<SchemeDefaults>,
+    register: &mut Register<RuleSetting>,
     text: &str,
 ) -> Result<LineResult, AllocError>
-    ensures output { port_function_of register.old ≡ default_port → IfOk result (λ line_result.
+    ensures output { (by_rules : Bool) → target_rules register.old ≡ rules_set by_rules → IfOk result (λ line_result.
         (result_in line_result, texts_of register.new)
-        ≡ link_result (uri_text base.now) (texts_of register.old) text.now) }
-    ensures ports { port_function_of register.new ≡ port_function_of register.old }
+        ≡ link_result by_rules (uri_text base.now) (texts_of register.old) text.now) }
+    ensures rules { target_rules register.new ≡ target_rules register.old }
 {
     match UriRef::<&str>::parse(text) {
         Ok(reference) => note(alloc, base, register, &reference),
@@ -272,13 +276,13 @@ fn link(
 fn note(
     alloc: Global,
     base: &Uri<&str>,
-    register: &mut Register<SchemeDefaults>,
+    register: &mut Register<RuleSetting>,
     reference: &UriRef<&str>,
 ) -> Result<LineResult, AllocError>
     ensures output { IfOk result (λ line_result. (result_in line_result, texts_of register.new)
-        ≡ noted_result (outcome_of (port_function_of register.old) (uri_text base.now)
+        ≡ noted_result (outcome_of (target_rules register.old) (uri_text base.now)
         (texts_of register.old) (uri_ref_text reference.now))) }
-    ensures ports { port_function_of register.new ≡ port_function_of register.old }
+    ensures rules { target_rules register.new ≡ target_rules register.old }
 {
     let outcome = register.note(base, reference)?;
     outcome_result(alloc, register, outcome)
@@ -287,7 +291,7 @@ fn note(
 /// Returns the result of `urilines links` for the outcome of noting a target in the register.
 fn outcome_result(
     alloc: Global,
-    register: &Register<SchemeDefaults>,
+    register: &Register<RuleSetting>,
     outcome: Outcome,
 ) -> Result<LineResult, AllocError>
     ensures { IfOk result (λ line_result.
@@ -307,7 +311,7 @@ fn outcome_result(
 fn link_line(
     alloc: Global,
     word: &str,
-    register: &Register<SchemeDefaults>,
+    register: &Register<RuleSetting>,
     id: usize,
 ) -> Result<LineResult, AllocError>
     ensures { IfOk result (λ line_result.
@@ -318,7 +322,7 @@ fn link_line(
 }
 
 /// Returns the text of the target with this id in the register, or an empty text if there is none.
-fn target_text(register: &Register<SchemeDefaults>, id: usize) -> &str
+fn target_text(register: &Register<RuleSetting>, id: usize) -> &str
     ensures { result.now ≡ text_at (texts_of register.now) id }
 {
     match register.target(id) {

@@ -60,7 +60,8 @@ fn with_commands<'a>(alloc: Global, words: Words<'a>) -> Result<Words<'a>, Alloc
 fn normalize<'a>(alloc: Global) -> Result<Words<'a>, AllocError> {
     Words::new(alloc, "normalize")
         .about("Write the normal form of each line")
-        .arg(kind(alloc))
+        .arg(kind(alloc))?
+        .arg(scheme_rules(alloc))
 }
 
 /// Returns the command `urilines resolve` with its arguments, for the parser of the command line.
@@ -114,14 +115,16 @@ fn query<'a>(alloc: Global) -> Result<Words<'a>, AllocError> {
 fn unique<'a>(alloc: Global) -> Result<Words<'a>, AllocError> {
     Words::new(alloc, "unique")
         .about("Write the normal form of each line the first time that its meaning comes")
-        .arg(kind(alloc))
+        .arg(kind(alloc))?
+        .arg(scheme_rules(alloc))
 }
 
 /// Returns the command `urilines links` with its arguments, for the parser of the command line.
 fn links<'a>(alloc: Global) -> Result<Words<'a>, AllocError> {
     Words::new(alloc, "links")
         .about("Write whether the target of each line is new, its id and itself")
-        .arg(base_text(alloc))
+        .arg(base_text(alloc))?
+        .arg(scheme_rules(alloc))
 }
 
 /// Returns the option `--field` for the parser of the command line: the number of the field that a
@@ -215,6 +218,15 @@ fn prefer_relative<'a>(alloc: Global) -> Arg<'a> {
         .help("Write a relative path even if that from the root is shorter")
 }
 
+/// Returns the option `--scheme-rules` for the parser of the command line: normal forms are by the
+/// rules of schemes.
+fn scheme_rules<'a>(alloc: Global) -> Arg<'a> {
+    Arg::new(alloc, "scheme-rules")
+        .long("scheme-rules")
+        .action(ArgAction::SetTrue)
+        .help("Normalize by the rules of schemes: http://a is http://a/")
+}
+
 /// Returns the argument of `urilines` for the kind of a base, for the parser of the command line.
 fn base_kind<'a>(alloc: Global) -> Arg<'a> {
     Arg::new(alloc, "kind")
@@ -281,6 +293,10 @@ fn command_line<'a>(command: CommandName, words: &ArgMatches<'a>) -> CommandLine
         ≡ Some (codes "true") → result.prefers_relative ≡ true }
     ensures no_prefer_relative { one_text (found_of words.now) (codes "prefer-relative") ≡ None
         → result.prefers_relative ≡ false }
+    ensures scheme_rules { one_text (found_of words.now) (codes "scheme-rules")
+        ≡ Some (codes "true") → result.scheme_rules ≡ true }
+    ensures no_scheme_rules { one_text (found_of words.now) (codes "scheme-rules") ≡ None
+        → result.scheme_rules ≡ false }
     ensures mend { one_text (found_of words.now) (codes "mend") ≡ Some (codes "true")
         → result.is_mended ≡ true }
     ensures no_mend { one_text (found_of words.now) (codes "mend") ≡ None
@@ -300,6 +316,7 @@ fn command_line<'a>(command: CommandName, words: &ArgMatches<'a>) -> CommandLine
         is_inverted: words.get_flag("invert"),
         is_mended: words.get_flag("mend"),
         prefers_relative: words.get_flag("prefer-relative"),
+        scheme_rules: words.get_flag("scheme-rules"),
         field: words.get_one::<u32>("field"),
         delimiter: words.get_str("delimiter"),
         is_null: words.get_flag("null"),

@@ -1,17 +1,17 @@
 use Rattle.std.proofs.Common.{refl}
 use Rattle.fluent_uri.specs.Uris.{uri_ref_text, uri_text}
-use Rattle.uri_links.specs.Registers.{port_function_of, texts_of}
+use Rattle.uri_links.specs.Registers.{target_rules, texts_of}
 use Rattle.uri_streams.proofs.Tasks.{link_result-of-outcome, link_result-of-error}
 use Rattle.uri_streams.proofs.task.link.Goals as goal
 
 pub returns-in-Ok-clause-output : goal.returns-in-Ok-clause-output
-returns-in-Ok-clause-output c = λ ports.
-    link_result-of-outcome (uri_text c.args.base.now) (texts_of c.args.register.now)
+returns-in-Ok-clause-output c = λ by_rules rules.
+    link_result-of-outcome by_rules (uri_text c.args.base.now) (texts_of c.args.register.now)
     (texts_of c.note.new.register) c.args.text.now (uri_ref_text c.in-Ok.reference)
-    (port_function_of c.args.register.now) c.note.result ports
+    (target_rules c.args.register.now) c.note.result rules
     (c.in-Ok.ensures.accepts.0 refl) c.in-Ok.ensures.text c.note.ensures.output
 
 pub returns-in-Err-clause-output : goal.returns-in-Err-clause-output
-returns-in-Err-clause-output c = λ ports.
-    link_result-of-error (uri_text c.args.base.now) (texts_of c.args.register.now) c.args.text.now
+returns-in-Err-clause-output c = λ by_rules rules.
+    link_result-of-error by_rules (uri_text c.args.base.now) (texts_of c.args.register.now) c.args.text.now
     c.in-Err.error (λ of_kind. cc (c.in-Err.ensures.accepts.1 of_kind)) c.in-Err.ensures.refused

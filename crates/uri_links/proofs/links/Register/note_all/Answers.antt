@@ -1,7 +1,7 @@
 use Rattle.std.proofs.Common.{◌+◌, ◌∙◌, ap, map, take, refl, sym}
 use Rattle.fluent_uri.specs.Uris.{uri_ref_text}
 use Rattle.fluent_uri.specs.Uris.{uri_text}
-use Rattle.uri_links.specs.Registers.{port_function_of, texts_of}
+use Rattle.uri_links.specs.Registers.{target_rules, texts_of}
 use Rattle.uri_links.proofs.Ids.{ids-are-in-range}
 use Rattle.uri_links.proofs.Several.{prefix, first-outcomes-of-one-more, first-outcomes-of-none}
 use Rattle.uri_links.proofs.links.Register.note_all.Goals as goal
@@ -10,7 +10,7 @@ pub returns-in_err-outcomes-clause-prefix : goal.returns-in_err-outcomes-clause-
 returns-in_err-outcomes-clause-prefix g c =
     prefix uri_ref_text _ _ c.args.references.now c.from_residual.result _ 0 _ _
     (first-outcomes-of-none uri_ref_text (uri_text c.args.base.now) (texts_of c.args.self.now)
-    c.args.references.now (port_function_of c.args.self.now))
+    c.args.references.now (target_rules c.args.self.now))
 
 pub returns-in_err-outcome-clause-prefix : goal.returns-in_err-outcome-clause-prefix
 returns-in_err-outcome-clause-prefix g c =
@@ -22,9 +22,9 @@ returns-in_err-outcome-clause-prefix g c =
 
 pub loop-reference-init : goal.loop-reference-init
 loop-reference-init g c = record {
-  ports = refl;
+  rules = refl;
   noted = first-outcomes-of-none uri_ref_text (uri_text c.args.base.now) (texts_of c.args.self.now)
-      c.args.references.now (port_function_of c.args.self.now)
+      c.args.references.now (target_rules c.args.self.now)
       ∙ ap (λ outcomes. (outcomes, texts_of c.args.self.now)) (sym c.in_ok-outcomes.ensures.items);
 }
 
@@ -34,31 +34,31 @@ returns-in_err-push-clause-prefix g c =
     (c.loop-reference.reference-index + 1) _ _
     (first-outcomes-of-one-more uri_ref_text (uri_text c.args.base.now) (texts_of c.args.self.now)
     c.args.references.now
-    (port_function_of c.args.self.now) (port_function_of c.loop-reference.self)
+    (target_rules c.args.self.now) (target_rules c.loop-reference.self)
     c.loop-reference.reference-index c.reference-item.result
     c.loop-reference.outcomes.items (texts_of c.loop-reference.self) (texts_of c.note.new.self)
     c.in_ok-outcome.outcome c.loop-reference-test.true c.reference-item.is
-    c.loop-reference.invariant.ports c.loop-reference.invariant.noted
+    c.loop-reference.invariant.rules c.loop-reference.invariant.noted
     c.in_ok-outcome.ensures.noted)
 
 pub loop-reference-preserved : goal.loop-reference-preserved
 loop-reference-preserved g c = record {
-  ports = c.note.ensures.ports ∙ c.loop-reference.invariant.ports;
+  rules = c.note.ensures.rules ∙ c.loop-reference.invariant.rules;
   noted = first-outcomes-of-one-more uri_ref_text (uri_text c.args.base.now)
       (texts_of c.args.self.now)
-      c.args.references.now (port_function_of c.args.self.now)
-      (port_function_of c.loop-reference.self) c.loop-reference.reference-index
+      c.args.references.now (target_rules c.args.self.now)
+      (target_rules c.loop-reference.self) c.loop-reference.reference-index
       c.reference-item.result
       c.loop-reference.outcomes.items (texts_of c.loop-reference.self) (texts_of c.note.new.self)
       c.in_ok-outcome.outcome c.loop-reference-test.true c.reference-item.is
-      c.loop-reference.invariant.ports c.loop-reference.invariant.noted
+      c.loop-reference.invariant.rules c.loop-reference.invariant.noted
       c.in_ok-outcome.ensures.noted
       ∙ ap (λ outcomes. (outcomes, texts_of c.note.new.self)) (sym c.in_ok-push.ensures.items);
 }
 
 pub returns-clause-ids : goal.returns-clause-ids
 returns-clause-ids g c =
-    ids-are-in-range (port_function_of c.args.self.now) (uri_text c.args.base.now)
+    ids-are-in-range (target_rules c.args.self.now) (uri_text c.args.base.now)
     (texts_of c.args.self.now)
     (map uri_ref_text (take c.loop-reference.reference-index c.args.references.now))
     c.loop-reference.outcomes.items (texts_of c.loop-reference.self)
