@@ -64,12 +64,12 @@ static inline uint32_t uri_write(uri_call call, uint32_t number, uint32_t option
                                  fluent_uri_outcome *outcome) {
     switch (call) {
     case URI_NORMALIZE:
-        return fluent_uri_normalize(number, a.at, a.len, out, room, NULL, 0, outcome);
+        return fluent_uri_normalize(number, options, a.at, a.len, out, room, NULL, 0, outcome);
     case URI_RESOLVE:
         return fluent_uri_resolve(number, a.at, a.len, b.at, b.len, out, room, NULL, 0, outcome);
     case URI_RESOLVE_NORMALIZED:
-        return fluent_uri_resolve_normalized(number, a.at, a.len, b.at, b.len, out, room, NULL, 0,
-                                             outcome);
+        return fluent_uri_resolve_normalized(number, options, a.at, a.len, b.at, b.len, out, room,
+                                             NULL, 0, outcome);
     case URI_RELATIVIZE:
         return fluent_uri_relativize(number, options, a.at, a.len, b.at, b.len, out, room, NULL, 0,
                                      outcome);

@@ -89,8 +89,11 @@ enum fluent_uri_buffer {
 /** The options, bits that are added. A call that has an argument of them says which it takes: any
  * other bit is FLUENT_URI_INVALID_ARGUMENT. */
 enum fluent_uri_option {
-    FLUENT_URI_PREFER_RELATIVE_PATH = 1 /**< a relative path also where the path from the root is
-                                         * shorter, as for pages that are read from a disk */
+    FLUENT_URI_PREFER_RELATIVE_PATH = 1, /**< a relative path also where the path from the root is
+                                          * shorter, as for pages that are read from a disk */
+    FLUENT_URI_SCHEME_RULES = 2          /**< normalising by the rules of schemes (RFC 3986, section
+                                          * 6.2.3): http://a is http://a/, and file://localhost/a is
+                                          * file:///a */
 };
 
 /** The components that a number names. */
@@ -171,10 +174,12 @@ uint32_t fluent_uri_parse(uint32_t kind, const uint8_t *text, size_t text_len,
 uint32_t fluent_uri_is_plainly_normal(uint32_t kind, const uint8_t *text, size_t text_len,
                                       const fluent_uri_parts *parts);
 
-/** Writes the normal form (RFC 3986, section 6.2.2; default ports are left out). */
-uint32_t fluent_uri_normalize(uint32_t kind, const uint8_t *text, size_t text_len, uint8_t *out,
-                              size_t out_len, fluent_uri_parts *parts, size_t parts_len,
-                              fluent_uri_outcome *outcome);
+/** Writes the normal form (RFC 3986, section 6.2.2; default ports are left out, which is of section
+ * 6.2.3). OPTIONS is 0 or FLUENT_URI_SCHEME_RULES: with it the form is that of the whole of section
+ * 6.2.3. Forms with it and without it are no keys of one table. */
+uint32_t fluent_uri_normalize(uint32_t kind, uint32_t options, const uint8_t *text, size_t text_len,
+                              uint8_t *out, size_t out_len, fluent_uri_parts *parts,
+                              size_t parts_len, fluent_uri_outcome *outcome);
 
 /** Writes the target of a reference against a base (RFC 3986, section 5.2). KIND is that of the
  * base, a URI or an IRI; the reference is one of URIs or of IRIs. */
@@ -183,10 +188,11 @@ uint32_t fluent_uri_resolve(uint32_t kind, const uint8_t *base, size_t base_len,
                             size_t out_len, fluent_uri_parts *parts, size_t parts_len,
                             fluent_uri_outcome *outcome);
 
-/** Writes the normal form of that target. */
-uint32_t fluent_uri_resolve_normalized(uint32_t kind, const uint8_t *base, size_t base_len,
-                                       const uint8_t *reference, size_t reference_len, uint8_t *out,
-                                       size_t out_len, fluent_uri_parts *parts, size_t parts_len,
+/** Writes the normal form of that target, by the options of fluent_uri_normalize. */
+uint32_t fluent_uri_resolve_normalized(uint32_t kind, uint32_t options, const uint8_t *base,
+                                       size_t base_len, const uint8_t *reference,
+                                       size_t reference_len, uint8_t *out, size_t out_len,
+                                       fluent_uri_parts *parts, size_t parts_len,
                                        fluent_uri_outcome *outcome);
 
 /** Writes a short reference that leads from a base to a target, the inverse of fluent_uri_resolve:
@@ -286,15 +292,16 @@ uint32_t fluent_uri_next_pair(const uint8_t *query, size_t query_len, size_t *po
  *
  * FLUENT_URI_OUT_OF_MEMORY: malloc or realloc failed. Calls that take no memory do not return it.
  */
-uint32_t fluent_uri_normalize_batch(uint32_t kind, const uint8_t *texts, size_t texts_len,
-                                    const uint32_t *offsets, size_t offsets_len, uint8_t *out,
-                                    size_t out_len, uint32_t *out_offsets, size_t out_offsets_len,
-                                    uint8_t *valid, size_t valid_len, fluent_uri_outcome *outcome);
+uint32_t fluent_uri_normalize_batch(uint32_t kind, uint32_t options, const uint8_t *texts,
+                                    size_t texts_len, const uint32_t *offsets, size_t offsets_len,
+                                    uint8_t *out, size_t out_len, uint32_t *out_offsets,
+                                    size_t out_offsets_len, uint8_t *valid, size_t valid_len,
+                                    fluent_uri_outcome *outcome);
 /** The same with offsets of 64 bits. */
-uint32_t fluent_uri_normalize_batch64(uint32_t kind, const uint8_t *texts, size_t texts_len,
-                                      const uint64_t *offsets, size_t offsets_len, uint8_t *out,
-                                      size_t out_len, uint64_t *out_offsets, size_t out_offsets_len,
-                                      uint8_t *valid, size_t valid_len,
+uint32_t fluent_uri_normalize_batch64(uint32_t kind, uint32_t options, const uint8_t *texts,
+                                      size_t texts_len, const uint64_t *offsets, size_t offsets_len,
+                                      uint8_t *out, size_t out_len, uint64_t *out_offsets,
+                                      size_t out_offsets_len, uint8_t *valid, size_t valid_len,
                                       fluent_uri_outcome *outcome);
 
 /** Converts a column of IRIs, or of IRI references, as fluent_uri_to_uri does. */
@@ -322,19 +329,21 @@ uint32_t fluent_uri_resolve_batch64(uint32_t kind, const uint8_t *base, size_t b
                                     size_t valid_len, fluent_uri_outcome *outcome);
 
 /** Resolves a column of references against one base, and normalises the targets. */
-uint32_t fluent_uri_resolve_normalized_batch(uint32_t kind, const uint8_t *base, size_t base_len,
-                                             const uint8_t *texts, size_t texts_len,
-                                             const uint32_t *offsets, size_t offsets_len,
-                                             uint8_t *out, size_t out_len, uint32_t *out_offsets,
-                                             size_t out_offsets_len, uint8_t *valid,
-                                             size_t valid_len, fluent_uri_outcome *outcome);
+uint32_t fluent_uri_resolve_normalized_batch(uint32_t kind, uint32_t options, const uint8_t *base,
+                                             size_t base_len, const uint8_t *texts,
+                                             size_t texts_len, const uint32_t *offsets,
+                                             size_t offsets_len, uint8_t *out, size_t out_len,
+                                             uint32_t *out_offsets, size_t out_offsets_len,
+                                             uint8_t *valid, size_t valid_len,
+                                             fluent_uri_outcome *outcome);
 /** The same with offsets of 64 bits. */
-uint32_t fluent_uri_resolve_normalized_batch64(uint32_t kind, const uint8_t *base, size_t base_len,
-                                               const uint8_t *texts, size_t texts_len,
-                                               const uint64_t *offsets, size_t offsets_len,
-                                               uint8_t *out, size_t out_len, uint64_t *out_offsets,
-                                               size_t out_offsets_len, uint8_t *valid,
-                                               size_t valid_len, fluent_uri_outcome *outcome);
+uint32_t fluent_uri_resolve_normalized_batch64(uint32_t kind, uint32_t options, const uint8_t *base,
+                                               size_t base_len, const uint8_t *texts,
+                                               size_t texts_len, const uint64_t *offsets,
+                                               size_t offsets_len, uint8_t *out, size_t out_len,
+                                               uint64_t *out_offsets, size_t out_offsets_len,
+                                               uint8_t *valid, size_t valid_len,
+                                               fluent_uri_outcome *outcome);
 
 /** Makes references that lead from one base to a column of targets, as fluent_uri_relativize
  * does. */
@@ -422,7 +431,8 @@ uint32_t fluent_uri_parse_batch64(uint32_t kind, const uint8_t *texts, size_t te
                                   fluent_uri_parts *parts, size_t parts_len,
                                   fluent_uri_outcome *outcome);
 
-/** Writes the normal form of each line, with a newline after each. What is between newlines is a
+/** Writes the normal form of each line, with a newline after each, by the options of
+ * fluent_uri_normalize. What is between newlines is a
  * line, so N - 1 newlines part N lines: after a newline at the end of LINES there is an empty
  * line, and a caller whose lines each end in one leaves the last one out. A carriage return is of
  * its line, which is rejected at it, as it is no character of a URI. The line of a text that is
@@ -432,10 +442,10 @@ uint32_t fluent_uri_parse_batch64(uint32_t kind, const uint8_t *texts, size_t te
  * them. Where the call ends early, the caller can go on with the line that begins there:
  * FLUENT_URI_FULL if what is written for it does not fit what is left of OUT, or there is no
  * errors[i] for it; FLUENT_URI_OUT_OF_MEMORY if malloc or realloc failed.
- * FLUENT_URI_INVALID_ARGUMENT: there is no such kind, or LINES is longer than PTRDIFF_MAX, and
- * nothing is written. */
-uint32_t fluent_uri_normalize_lines(uint32_t kind, const uint8_t *lines, size_t lines_len,
-                                    uint8_t *out, size_t out_len, uint8_t *errors,
+ * FLUENT_URI_INVALID_ARGUMENT: there is no such kind or option, or LINES is longer than
+ * PTRDIFF_MAX, and nothing is written. */
+uint32_t fluent_uri_normalize_lines(uint32_t kind, uint32_t options, const uint8_t *lines,
+                                    size_t lines_len, uint8_t *out, size_t out_len, uint8_t *errors,
                                     size_t errors_len, fluent_uri_outcome *outcome);
 
 #ifdef __cplusplus

@@ -162,9 +162,13 @@ inline result build(std::uint32_t kind, const components &from) {
     });
 }
 
-/** The normal form (RFC 3986, section 6.2.2). */
-inline result normalize(std::uint32_t kind, std::string_view text) {
-    return detail::make_of_one(fluent_uri_normalize, kind, text);
+/** The normal form (RFC 3986, sections 6.2.2 and 6.2.3); the options are 0 or
+ * FLUENT_URI_SCHEME_RULES. */
+inline result normalize(std::uint32_t kind, std::uint32_t options, std::string_view text) {
+    return detail::make(text.size() + 1, [&](std::uint8_t *out, std::size_t room, auto *outcome) {
+        return fluent_uri_normalize(kind, options, detail::bytes(text), text.size(), out, room,
+                                    nullptr, 0, outcome);
+    });
 }
 
 /** The target of a reference against a base of the kind (RFC 3986, section 5.2). */
@@ -172,10 +176,15 @@ inline result resolve(std::uint32_t kind, std::string_view base, std::string_vie
     return detail::make_of_two(fluent_uri_resolve, kind, base, reference);
 }
 
-/** The normal form of that target. */
-inline result resolve_normalized(std::uint32_t kind, std::string_view base,
+/** The normal form of that target; the options are 0 or FLUENT_URI_SCHEME_RULES. */
+inline result resolve_normalized(std::uint32_t kind, std::uint32_t options, std::string_view base,
                                  std::string_view reference) {
-    return detail::make_of_two(fluent_uri_resolve_normalized, kind, base, reference);
+    auto most = base.size() + reference.size() + 3;
+    return detail::make(most, [&](std::uint8_t *out, std::size_t room, auto *outcome) {
+        return fluent_uri_resolve_normalized(kind, options, detail::bytes(base), base.size(),
+                                             detail::bytes(reference), reference.size(), out, room,
+                                             nullptr, 0, outcome);
+    });
 }
 
 /** A reference that leads from a base to a target, both of the kind; the options are 0 or

@@ -43,10 +43,10 @@ static const fluent_uri_components components = {
 #define SINGLES(IT) \
     IT(error_name, fluent_uri_error_name(4, BYTES)) \
     IT(parse, fluent_uri_parse(1, TEXT("//h/p"), at(PARTS))) \
-    IT(normalize, fluent_uri_normalize(1, TEXT("//H/%7e/."), VALUE)) \
+    IT(normalize, fluent_uri_normalize(1, 0, TEXT("//H/%7e/."), VALUE)) \
     IT(to_uri, fluent_uri_to_uri(3, TEXT("//\xc3\xa9/p?q"), VALUE)) \
     IT(resolve, fluent_uri_resolve(0, BASE, TEXT("../d#f"), VALUE)) \
-    IT(resolve_normalized, fluent_uri_resolve_normalized(0, BASE, TEXT("//H:80"), VALUE)) \
+    IT(resolve_normalized, fluent_uri_resolve_normalized(0, 0, BASE, TEXT("//H:80"), VALUE)) \
     IT(mend, fluent_uri_mend(1, TEXT("//h/a b%"), VALUE)) \
     IT(mend_link, fluent_uri_mend_link(1, TEXT(" //h/a\n b\t#[ "), VALUE)) \
     IT(build, fluent_uri_build(0, BASE, &components, VALUE)) \
@@ -55,10 +55,10 @@ static const fluent_uri_components components = {
     IT(encode, fluent_uri_encode(FLUENT_URI_DATA, TEXT("a b/"), BYTES)) \
     IT(mend_component, fluent_uri_mend_component(FLUENT_URI_DATA, TEXT("%20 /"), BYTES))
 #define COLUMNS(IT) \
-    IT(normalize_batch, fluent_uri_normalize_batch(1, COLUMN(offsets))) \
+    IT(normalize_batch, fluent_uri_normalize_batch(1, 0, COLUMN(offsets))) \
     IT(to_uri_batch, fluent_uri_to_uri_batch(3, COLUMN(offsets))) \
     IT(resolve_batch, fluent_uri_resolve_batch(0, BASE, COLUMN(offsets))) \
-    IT(resolve_normalized_batch, fluent_uri_resolve_normalized_batch(0, BASE, COLUMN(offsets))) \
+    IT(resolve_normalized_batch, fluent_uri_resolve_normalized_batch(0, 0, BASE, COLUMN(offsets))) \
     IT(relativize_batch, fluent_uri_relativize_batch(0, 1, BASE, COLUMN(offsets))) \
     IT(mend_batch, fluent_uri_mend_batch(1, COLUMN(offsets))) \
     IT(mend_link_batch, fluent_uri_mend_link_batch(1, COLUMN(offsets))) \
@@ -66,11 +66,11 @@ static const fluent_uri_components components = {
     IT(encode_batch, fluent_uri_encode_batch(FLUENT_URI_DATA, COLUMN(offsets))) \
     IT(component_batch, fluent_uri_component_batch(1, FLUENT_URI_PATH, COLUMN(offsets)))
 #define COLUMNS64(IT) \
-    IT(normalize_batch64, fluent_uri_normalize_batch64(1, COLUMN(offsets64))) \
+    IT(normalize_batch64, fluent_uri_normalize_batch64(1, 0, COLUMN(offsets64))) \
     IT(to_uri_batch64, fluent_uri_to_uri_batch64(3, COLUMN(offsets64))) \
     IT(resolve_batch64, fluent_uri_resolve_batch64(0, BASE, COLUMN(offsets64))) \
     IT(resolve_normalized_batch64, \
-       fluent_uri_resolve_normalized_batch64(0, BASE, COLUMN(offsets64))) \
+       fluent_uri_resolve_normalized_batch64(0, 0, BASE, COLUMN(offsets64))) \
     IT(relativize_batch64, fluent_uri_relativize_batch64(0, 1, BASE, COLUMN(offsets64))) \
     IT(mend_batch64, fluent_uri_mend_batch64(1, COLUMN(offsets64))) \
     IT(mend_link_batch64, fluent_uri_mend_link_batch64(1, COLUMN(offsets64))) \
@@ -83,7 +83,8 @@ static const fluent_uri_components components = {
     IT(parse_batch64, \
        fluent_uri_parse_batch64(1, TEXT(texts), offsets64, TEXTS + 1, ROOM_OF(PARTS), &outcome)) \
     IT(normalize_lines, \
-       fluent_uri_normalize_lines(1, TEXT("A:\n \n//H"), ROOM_OF(OUT), ROOM_OF(ERRORS), &outcome))
+       fluent_uri_normalize_lines(1, 0, TEXT("A:\n \n//H"), ROOM_OF(OUT), ROOM_OF(ERRORS), \
+                                  &outcome))
 
 enum {
 #define NUMBERED(NAME, CALL) call_##NAME,

@@ -73,31 +73,53 @@ static void parses(void) {
 static void normalizes(void) {
     const char *text = "HTTP://Example.com:80/a/./b/%7Efoo";
     const char *normal = "http://example.com/a/b/~foo";
-    CHECK(gives(fluent_uri_normalize(0, TEXT(text), VALUE), normal));
+    CHECK(gives(fluent_uri_normalize(0, 0, TEXT(text), VALUE), normal));
     /* If the buffer is too short, the length and the parts are reported, and nothing is written. */
     memset(out, '#', sizeof out);
     memset(&made, '#', sizeof made);
-    CHECK(fluent_uri_normalize(0, TEXT(text), SHORT(26)) == 0 && outcome.length == 27);
+    CHECK(fluent_uri_normalize(0, 0, TEXT(text), SHORT(26)) == 0 && outcome.length == 27);
     CHECK(out[0] == '#' && out[25] == '#' && has_parts_of(normal));
-    CHECK(gives(fluent_uri_normalize(0, TEXT(text), SHORT(27)), normal) && out[27] == '#');
+    CHECK(gives(fluent_uri_normalize(0, 0, TEXT(text), SHORT(27)), normal) && out[27] == '#');
     memset(out, '#', sizeof out);
-    CHECK(gives(fluent_uri_normalize(0, TEXT(text), SHORT(28)), normal) && out[27] == '#');
+    CHECK(gives(fluent_uri_normalize(0, 0, TEXT(text), SHORT(28)), normal) && out[27] == '#');
     /* No pointer is needed where there is nothing. */
-    CHECK(fluent_uri_normalize(0, TEXT(text), NULL, 0, NO_PARTS, &outcome) == 0);
+    CHECK(fluent_uri_normalize(0, 0, TEXT(text), NULL, 0, NO_PARTS, &outcome) == 0);
     CHECK(outcome.length == 27);
-    CHECK(fluent_uri_normalize(1, NULL, 0, NULL, 0, NO_PARTS, &outcome) == 0);
+    CHECK(fluent_uri_normalize(1, 0, NULL, 0, NULL, 0, NO_PARTS, &outcome) == 0);
     CHECK(outcome.length == 0);
     /* Of more parts only the first are written. */
     fluent_uri_parts two[2] = {{.index = 7}, {.index = 7}};
-    CHECK(fluent_uri_normalize(1, TEXT("a"), NULL, 0, two, 2, &outcome) == 0);
+    CHECK(fluent_uri_normalize(1, 0, TEXT("a"), NULL, 0, two, 2, &outcome) == 0);
     CHECK(two[0].index == 0 && two[0].path.end == 1 && two[1].index == 7);
     /* A rejected call leaves the buffer and the parts as they were. */
     memset(out, '#', sizeof out);
     made.index = 7;
-    CHECK(rejects(fluent_uri_normalize(0, TEXT("a:b c"), VALUE), 2, 0, 3));
-    CHECK(rejects(fluent_uri_normalize(9, TEXT("a:"), VALUE), 9, 0, 0));
-    CHECK(rejects(fluent_uri_normalize(0, TEXT("a:\xc3"), VALUE), 4, 0, 2));
+    CHECK(rejects(fluent_uri_normalize(0, 0, TEXT("a:b c"), VALUE), 2, 0, 3));
+    CHECK(rejects(fluent_uri_normalize(9, 0, TEXT("a:"), VALUE), 9, 0, 0));
+    CHECK(rejects(fluent_uri_normalize(0, 0, TEXT("a:\xc3"), VALUE), 4, 0, 2));
     CHECK(out[0] == '#' && made.index == 7);
+}
+
+/* The rules of schemes, by their option alone. */
+static void normalizes_by_rules(void) {
+    static const char *const rows[][3] = {
+        {"HTTP://A", "http://a", "http://a/"},
+        {"wss://a:443?q", "wss://a?q", "wss://a/?q"},
+        {"file://LOCALHOST/a", "file://localhost/a", "file:///a"},
+        {"foo://a", "foo://a", "foo://a"},
+    };
+    for (size_t i = 0; i < sizeof rows / sizeof *rows; i++) {
+        CHECK(gives(fluent_uri_normalize(0, 0, TEXT(rows[i][0]), VALUE), rows[i][1]));
+        CHECK(gives(fluent_uri_normalize(0, FLUENT_URI_SCHEME_RULES, TEXT(rows[i][0]), VALUE),
+                    rows[i][2]));
+        CHECK(gives(fluent_uri_resolve_normalized(0, FLUENT_URI_SCHEME_RULES, TEXT("a://b"),
+                                                  TEXT(rows[i][0]), VALUE), rows[i][2]));
+    }
+    for (uint32_t options = 1; options < 9; options += 1 + (options == 1)) {
+        CHECK(rejects(fluent_uri_normalize(0, options, TEXT("a:"), VALUE), 9, 0, 0));
+        CHECK(rejects(fluent_uri_resolve_normalized(0, options, TEXT("a:"), TEXT(""), VALUE),
+                      9, 0, 0));
+    }
 }
 
 static void resolves(void) {
@@ -110,7 +132,8 @@ static void resolves(void) {
     CHECK(rejects(fluent_uri_resolve(0, TEXT("a:b"), TEXT("g"), SHORT(9)),
                   FLUENT_URI_INVALID_REFERENCE_AGAINST_OPAQUE_BASE, 0, 0));
     CHECK(rejects(fluent_uri_resolve(1, TEXT(base), TEXT("g"), SHORT(9)), 9, 0, 0));
-    CHECK(gives(fluent_uri_resolve_normalized(0, TEXT(base), TEXT("//A:80"), VALUE), "http://a"));
+    CHECK(gives(fluent_uri_resolve_normalized(0, 0, TEXT(base), TEXT("//A:80"), VALUE),
+                "http://a"));
     CHECK(gives(fluent_uri_resolve(2, TEXT("http://a/"), TEXT("\xc3\xa9"), VALUE),
                 "http://a/\xc3\xa9"));
 }
@@ -298,7 +321,7 @@ static void finds_what_is_plainly_normal(void) {
     };
     for (size_t i = 0; i < sizeof normal / sizeof *normal; i++) {
         CHECK(is_plain(FLUENT_URI_URI, normal[i]) && is_plain(FLUENT_URI_IRI_REF, normal[i]));
-        CHECK(gives(fluent_uri_normalize(FLUENT_URI_URI, TEXT(normal[i]), VALUE), normal[i]));
+        CHECK(gives(fluent_uri_normalize(FLUENT_URI_URI, 0, TEXT(normal[i]), VALUE), normal[i]));
     }
     CHECK(is_plain(FLUENT_URI_URI_REF, "") && is_plain(FLUENT_URI_URI_REF, "../a//b"));
     CHECK(is_plain(FLUENT_URI_IRI, "http://\xc3\xa9/\xe6\xbc\xa2"));
@@ -367,11 +390,11 @@ static void rejects_lengths(void) {
         size_t length = lengths[i];
         CHECK(fluent_uri_parse(0, text, length, &made) == FLUENT_URI_INVALID_ARGUMENT);
         CHECK(made.error == FLUENT_URI_INVALID_ARGUMENT && made.index == 0);
-        CHECK(rejects(fluent_uri_normalize(0, text, length, VALUE), 9, 0, 0));
+        CHECK(rejects(fluent_uri_normalize(0, 0, text, length, VALUE), 9, 0, 0));
         CHECK(rejects(fluent_uri_to_uri(2, text, length, VALUE), 9, 0, 0));
         CHECK(rejects(fluent_uri_resolve(0, text, length, text, 2, VALUE), 9, 0, 0));
         CHECK(rejects(fluent_uri_resolve(0, text, 2, text, length, VALUE), 9, 1, 0));
-        CHECK(rejects(fluent_uri_resolve_normalized(0, text, length, text, 2, VALUE), 9, 0, 0));
+        CHECK(rejects(fluent_uri_resolve_normalized(0, 0, text, length, text, 2, VALUE), 9, 0, 0));
         CHECK(rejects(fluent_uri_relativize(0, 0, text, 2, text, length, VALUE), 9, 1, 0));
         CHECK(rejects(fluent_uri_mend(0, text, length, VALUE), 9, 0, 0));
         CHECK(rejects(fluent_uri_mend_link(0, text, length, VALUE), 9, 0, 0));
@@ -384,12 +407,12 @@ static void rejects_lengths(void) {
 /* A text of no bytes needs no pointer. */
 static void takes_null(void) {
     CHECK(fluent_uri_parse(1, NULL, 0, &made) == 0 && made.path.start == 0 && made.path.end == 0);
-    CHECK(gives(fluent_uri_normalize(1, NULL, 0, VALUE), ""));
-    CHECK(rejects(fluent_uri_normalize(0, NULL, 0, VALUE), 2, 0, 0));
+    CHECK(gives(fluent_uri_normalize(1, 0, NULL, 0, VALUE), ""));
+    CHECK(rejects(fluent_uri_normalize(0, 0, NULL, 0, VALUE), 2, 0, 0));
     CHECK(gives(fluent_uri_to_uri(3, NULL, 0, VALUE), ""));
     CHECK(gives(fluent_uri_resolve(0, TEXT("a://b/c?d"), NULL, 0, VALUE), "a://b/c?d"));
     CHECK(rejects(fluent_uri_resolve(0, NULL, 0, NULL, 0, VALUE), 2, 0, 0));
-    CHECK(gives(fluent_uri_resolve_normalized(0, TEXT("A://B/c"), NULL, 0, VALUE), "a://b/c"));
+    CHECK(gives(fluent_uri_resolve_normalized(0, 0, TEXT("A://B/c"), NULL, 0, VALUE), "a://b/c"));
     CHECK(rejects(fluent_uri_relativize(0, 0, TEXT("a://b"), NULL, 0, VALUE), 2, 1, 0));
     CHECK(gives(fluent_uri_mend(1, NULL, 0, VALUE), ""));
     CHECK(gives(fluent_uri_mend_link(1, NULL, 0, VALUE), ""));
@@ -411,6 +434,7 @@ int main(void) {
     tells_of_itself();
     parses();
     normalizes();
+    normalizes_by_rules();
     resolves();
     relativizes();
     mends();

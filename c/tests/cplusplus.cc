@@ -11,7 +11,7 @@ static bool by_the_c_header() {
     const char *text = "HTTP://A/%61";
     std::uint8_t out[32];
     fluent_uri_outcome outcome;
-    return fluent_uri_normalize(FLUENT_URI_URI, reinterpret_cast<const std::uint8_t *>(text),
+    return fluent_uri_normalize(FLUENT_URI_URI, 0, reinterpret_cast<const std::uint8_t *>(text),
                                 std::strlen(text), out, sizeof out, nullptr, 0, &outcome) == 0 &&
            outcome.length == 10 && std::memcmp(out, "http://a/a", 10) == 0;
 }
@@ -43,10 +43,13 @@ static bool by_strings() {
            p.path() == "/p" && p.query() == "q" && p.fragment() == "f" &&
            p.host_kind() == FLUENT_URI_REG_NAME && !no && no.why().index == 1 &&
            !no.scheme() && !rejected && rejected.why.which == 1 && rejected.why.index == 1 &&
-           *normalize(FLUENT_URI_URI, "HTTP://A/%61") == "http://a/a" &&
-           *normalize(FLUENT_URI_URI_REF, std::string_view()) == "" &&
+           *normalize(FLUENT_URI_URI, 0, "HTTP://A/%61") == "http://a/a" &&
+           *normalize(FLUENT_URI_URI_REF, 0, std::string_view()) == "" &&
+           *normalize(FLUENT_URI_URI, FLUENT_URI_SCHEME_RULES, "http://a") == "http://a/" &&
+           *resolve_normalized(FLUENT_URI_URI, FLUENT_URI_SCHEME_RULES, "a:", "http://b") ==
+               "http://b/" &&
            *resolve(FLUENT_URI_URI, "http://a/b/c", "../d") == "http://a/d" &&
-           *resolve_normalized(FLUENT_URI_URI, "http://a/", "//B:80") == "http://b" &&
+           *resolve_normalized(FLUENT_URI_URI, 0, "http://a/", "//B:80") == "http://b" &&
            *relativize(FLUENT_URI_URI, 0, "http://a/b/c", "http://a/d") == "/d" &&
            *relativize(FLUENT_URI_URI, FLUENT_URI_PREFER_RELATIVE_PATH, "http://a/b/c",
                        "http://a/d") == "../d" &&

@@ -50,7 +50,7 @@ static const build second = {
 #endif
 
 typedef struct {
-    uint32_t kind, component, options;
+    uint32_t kind, component, options, rules;
     /* Of the outputs: bytes, offsets, and parts of a result. */
     size_t room, places, parts;
     /* The text, and the same as two. */
@@ -84,10 +84,10 @@ static uint32_t made(const build *by, int call, const input *in, written *to) {
     &to->outcome
 #define COLUMN64 in->offsets64, TEXTS + 1, to->out, in->room, to->ends64, in->places, to->valid, \
     1, &to->outcome
-#define OF_KIND(NAME) \
-    case call_##NAME: return by->NAME(in->kind, ONE, VALUE); \
-    case call_##NAME##_batch: return by->NAME##_batch(in->kind, ONE, COLUMN); \
-    case call_##NAME##_batch64: return by->NAME##_batch64(in->kind, ONE, COLUMN64);
+#define OF_KIND(NAME, NUMBERS) \
+    case call_##NAME: return by->NAME(NUMBERS, ONE, VALUE); \
+    case call_##NAME##_batch: return by->NAME##_batch(NUMBERS, ONE, COLUMN); \
+    case call_##NAME##_batch64: return by->NAME##_batch64(NUMBERS, ONE, COLUMN64);
 #define WITH_BASE(NAME, NUMBERS) \
     case call_##NAME: return by->NAME(NUMBERS, TWO, VALUE); \
     case call_##NAME##_batch: return by->NAME##_batch(NUMBERS, TWO, COLUMN); \
@@ -96,11 +96,13 @@ static uint32_t made(const build *by, int call, const input *in, written *to) {
     case call_##NAME: return by->NAME(in->component, ONE, OUT); \
     case call_##NAME##_batch: return by->NAME##_batch(in->component, ONE, COLUMN); \
     case call_##NAME##_batch64: return by->NAME##_batch64(in->component, ONE, COLUMN64);
-#define NUMBERS in->kind, in->options
+#define RULED in->kind, in->rules
+#define RELATIVE in->kind, in->options
     switch (call) {
-        OF_KIND(normalize) OF_KIND(to_uri) OF_KIND(mend) OF_KIND(mend_link)
-        WITH_BASE(resolve, in->kind) WITH_BASE(resolve_normalized, in->kind)
-        WITH_BASE(relativize, NUMBERS) OF_COMPONENT(decode) OF_COMPONENT(encode)
+        OF_KIND(normalize, RULED) OF_KIND(to_uri, in->kind) OF_KIND(mend, in->kind)
+        OF_KIND(mend_link, in->kind) WITH_BASE(resolve, in->kind)
+        WITH_BASE(resolve_normalized, RULED) WITH_BASE(relativize, RELATIVE)
+        OF_COMPONENT(decode) OF_COMPONENT(encode)
     case call_parse: return by->parse(in->kind, ONE, to->parts);
     case call_mend_component: return by->mend_component(in->component, ONE, OUT);
     case call_build: return by->build(in->kind, ONE, &in->components, VALUE);
@@ -114,7 +116,7 @@ static uint32_t made(const build *by, int call, const input *in, written *to) {
         return by->parse_batch64(in->kind, ONE, in->offsets64, TEXTS + 1, to->parts,
                                  in->places - 1, &to->outcome);
     default:
-        return by->normalize_lines(in->kind, ONE, to->out, in->room, to->errors, LINES,
+        return by->normalize_lines(RULED, ONE, to->out, in->room, to->errors, LINES,
                                    &to->outcome);
     }
 }
@@ -221,8 +223,8 @@ static void single_calls_agree(const input *in) {
     const written *it = &results[call];
     HOLDS(it->error == results[call_parse].error);
     if (is_there(call, in))
-        is_same(call, fluent_uri_normalize(in->kind, it->out, it->outcome.length, again,
-                                           sizeof again, NO_PARTS, &outcome));
+        is_same(call, fluent_uri_normalize(in->kind, in->rules, it->out, it->outcome.length,
+                                           again, sizeof again, NO_PARTS, &outcome));
     call = call_encode, it = &results[call];
     if (is_there(call, in) && in->component < FLUENT_URI_DATA) {
         HOLDS(fluent_uri_decode(in->component, it->out, it->outcome.length, again, sizeof again,
@@ -232,7 +234,7 @@ static void single_calls_agree(const input *in) {
     call = call_resolve_normalized, it = &results[call];
     HOLDS(it->error == results[call_resolve].error);
     if (is_there(call, in) && is_there(call_resolve, in))
-        is_same(call, fluent_uri_normalize(in->kind, results[call_resolve].out,
+        is_same(call, fluent_uri_normalize(in->kind, in->rules, results[call_resolve].out,
                                            results[call_resolve].outcome.length, again,
                                            sizeof again, NO_PARTS, &outcome));
     /* A reference that leads to a target: resolved, it is that target as it is resolved. */
@@ -312,11 +314,12 @@ static uint32_t one_of(int call, const input *in, const uint8_t *text, size_t si
 #define BASE in->one, in->one_size
 #define AGAIN again, sizeof again, NO_PARTS, &outcome
     switch (call) {
-    case call_normalize_batch: return fluent_uri_normalize(in->kind, text, size, AGAIN);
+    case call_normalize_batch:
+        return fluent_uri_normalize(in->kind, in->rules, text, size, AGAIN);
     case call_to_uri_batch: return fluent_uri_to_uri(in->kind, text, size, AGAIN);
     case call_resolve_batch: return fluent_uri_resolve(in->kind, BASE, text, size, AGAIN);
     case call_resolve_normalized_batch:
-        return fluent_uri_resolve_normalized(in->kind, BASE, text, size, AGAIN);
+        return fluent_uri_resolve_normalized(in->kind, in->rules, BASE, text, size, AGAIN);
     case call_relativize_batch:
         return fluent_uri_relativize(in->kind, in->options, BASE, text, size, AGAIN);
     case call_mend_batch: return fluent_uri_mend(in->kind, text, size, AGAIN);
@@ -359,8 +362,8 @@ static void columns_agree(const input *in) {
     for (size_t i = 0; i < it->outcome.index; i++) {
         size_t to = from;
         while (to < in->size && in->text[to] != '\n') to++;
-        uint32_t error = fluent_uri_normalize(in->kind, in->text + from, to - from, again,
-                                              sizeof again, NO_PARTS, &outcome);
+        uint32_t error = fluent_uri_normalize(in->kind, in->rules, in->text + from, to - from,
+                                              again, sizeof again, NO_PARTS, &outcome);
         size_t length = error ? 0 : outcome.length;
         HOLDS(it->errors[i] == error && !memcmp(it->out + at, again, length));
         HOLDS(it->out[at + length] == '\n');
@@ -407,7 +410,8 @@ int LLVMFuzzerTestOneInput(const uint8_t *data, size_t size) {
     if (size < 3 || size > 1000) return 0;
     int at_end = data[0] >> 7, is_wild = data[0] >> 6 & 1, lacks_a_place = data[0] >> 5 & 1;
     size_t half = (size_t)data[1] % (size - 2);
-    input in = {.kind = data[0] % 5, .component = data[1] % 10, .options = data[2] / 3 % 3};
+    input in = {.kind = data[0] % 5, .component = data[1] % 10, .options = data[2] / 3 % 3,
+                .rules = data[2] / 9 % 2 * FLUENT_URI_SCHEME_RULES};
     in.room = (size_t)data[2] * 16, in.places = (size_t)TEXTS + 1 - (size_t)lacks_a_place;
     in.parts = data[2] % 3;
     data += 3, size -= 3;

@@ -36,7 +36,7 @@ static inline int is_normal_if_plain(uint32_t kind, const uint8_t *text, size_t 
     fluent_uri_outcome outcome;
     if (fluent_uri_parse(kind, text, size, &parts) == 0 &&
         fluent_uri_is_plainly_normal(kind, text, size, &parts) && size <= sizeof out &&
-        fluent_uri_normalize(kind, text, size, out, sizeof out, NULL, 0, &outcome) == 0 &&
+        fluent_uri_normalize(kind, 0, text, size, out, sizeof out, NULL, 0, &outcome) == 0 &&
         (outcome.length != size || memcmp(out, text, size)))
         return 0;
     memset(&parts, value, sizeof parts);

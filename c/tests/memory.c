@@ -48,16 +48,16 @@ static uint32_t work(int which, size_t room) {
     static const char *const base = "http://a/b/c", *const text = "HTTP://A:80/%7e/./\xc3\xa9";
     static const uint32_t offsets[] = {0, 20};
     switch (which) {
-    case 0: return fluent_uri_normalize(2, TEXT(text), out, room, NO_PARTS, &outcome);
+    case 0: return fluent_uri_normalize(2, 0, TEXT(text), out, room, NO_PARTS, &outcome);
     case 1: return fluent_uri_resolve(2, TEXT(base), TEXT("../../\xc3\xa9/%7e"), out, room, NO_PARTS,
                                       &outcome);
-    case 2: return fluent_uri_resolve_normalized(2, TEXT(base), TEXT("../%7e"), out, room, NO_PARTS,
-                                                 &outcome);
+    case 2: return fluent_uri_resolve_normalized(2, 0, TEXT(base), TEXT("../%7e"), out, room,
+                                                 NO_PARTS, &outcome);
     case 3: return fluent_uri_to_uri(2, TEXT(text), out, room, NO_PARTS, &outcome);
     case 4: return fluent_uri_decode(FLUENT_URI_PATH, TEXT("%7e%20%41/"), out, room, &outcome);
     case 5: return fluent_uri_encode(FLUENT_URI_QUERY, TEXT("a b\xff#"), out, room, &outcome);
-    case 6: return fluent_uri_normalize_batch(2, TEXT(text), offsets, 2, out, room, ends, 2, &valid,
-                                              1, &outcome);
+    case 6: return fluent_uri_normalize_batch(2, 0, TEXT(text), offsets, 2, out, room, ends, 2,
+                                              &valid, 1, &outcome);
     case 7: return fluent_uri_relativize(2, 0, TEXT(base), TEXT("http://a/b/%7e/d"), out, room,
                                          NO_PARTS, &outcome);
     case 9: return fluent_uri_mend(2, TEXT("http://a/b c#d#e"), out, room, NO_PARTS, &outcome);
@@ -69,7 +69,8 @@ static uint32_t work(int which, size_t room) {
         const fluent_uri_components it = {{0, 4}, none, {7, 8}, none, {8, 12}, none, {1, 4}};
         return fluent_uri_build(2, TEXT(base), &it, out, room, NO_PARTS, &outcome);
     }
-    default: return fluent_uri_normalize_lines(2, TEXT("A:%7e\nb"), out, room, &valid, 2 - 1, &outcome);
+    default: return fluent_uri_normalize_lines(2, 0, TEXT("A:%7e\nb"), out, room, &valid, 2 - 1,
+                                               &outcome);
     }
 }
 

@@ -107,13 +107,13 @@ static long run(const char *op, int count) {
         return (long)put(sprintf(made, "name") > 0 ? 4 : 0, "", text + p.host.start,
                          p.host.end - p.host.start);
     if (!strcmp(op, "normalize"))
-        return written(fluent_uri_normalize((uint32_t)kind, bytes(1), lengths[1], VALUE));
+        return written(fluent_uri_normalize((uint32_t)kind, 0, bytes(1), lengths[1], VALUE));
     if (!strcmp(op, "resolve"))
         return written(fluent_uri_resolve((uint32_t)kind, bytes(1), lengths[1], bytes(2), lengths[2],
                                           VALUE));
     if (!strcmp(op, "resolve-normalized"))
-        return written(fluent_uri_resolve_normalized((uint32_t)kind, bytes(1), lengths[1], bytes(2),
-                                                     lengths[2], VALUE));
+        return written(fluent_uri_resolve_normalized((uint32_t)kind, 0, bytes(1), lengths[1],
+                                                     bytes(2), lengths[2], VALUE));
     if (!strcmp(op, "relativize") || !strcmp(op, "relativize-path")) {
         uint32_t options = op[strlen("relativize")] ? FLUENT_URI_PREFER_RELATIVE_PATH : 0;
         return written(fluent_uri_relativize((uint32_t)kind, options, bytes(1), lengths[1],

@@ -17,7 +17,7 @@ static int is_right(size_t which, int rounds) {
         uint8_t out[64];
         fluent_uri_outcome outcome;
         fluent_uri_parts parts;
-        if (fluent_uri_normalize(0, (uint8_t *)text, (size_t)length, out, sizeof out, NO_PARTS,
+        if (fluent_uri_normalize(0, 0, (uint8_t *)text, (size_t)length, out, sizeof out, NO_PARTS,
                                  &outcome) ||
             !is_text(out, outcome.length, wanted) ||
             fluent_uri_parse(0, (uint8_t *)text, (size_t)length, &parts) || parts.host.start != 7)

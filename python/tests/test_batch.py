@@ -56,6 +56,39 @@ class Lists(unittest.TestCase):
             self.assertEqual(batch.normalize(TEXTS, kind), wanted)
             self.assertEqual(batch.normalize(URLS, kind), wanted[: len(URLS)])
 
+    def test_rules_of_schemes(self):
+        texts = ["http://A", "http://a/", "file://LocalHost/a", "foo://a", "wss://h?q", "a b"]
+        ruled = ["http://a/", "http://a/", "file:///a", "foo://a", "wss://h/?q"]
+        for kind in [Uri, UriRef, Iri, IriRef]:
+            for text, wanted in zip(texts, ruled):
+                value = kind.parse(text)
+                self.assertEqual(str(value.normalize(scheme_rules=True)), wanted)
+                self.assertEqual(value.normalize(scheme_rules=False), value.normalize())
+            made = batch.normalize(texts[:5], kind, scheme_rules=True)
+            self.assertEqual(made, ruled)
+        self.assertEqual(batch.normalize(texts, scheme_rules=True), ruled + [None])
+        column = batch.normalize_column(*batch.column(texts), scheme_rules=True)
+        self.assertEqual(column.texts(), ruled + [None])
+        for base in [Uri.parse("x://y"), Iri.parse("x://y")]:
+            both = {"normalize": True, "scheme_rules": True}
+            targets = [str(base.resolve(it, **both)) for it in texts[:5]]
+            self.assertEqual(targets, ruled)
+            self.assertEqual([str(base.join_link(it, **both)) for it in texts[:5]], ruled)
+            self.assertEqual(batch.resolve(base, texts, **both)[:5], ruled)
+            self.assertEqual(batch.join_links(base, texts, **both)[:5], ruled)
+            calls = [
+                lambda: base.resolve("a", scheme_rules=True),
+                lambda: base.join_link("a", scheme_rules=True),
+                lambda: batch.resolve(base, ["a"], scheme_rules=True),
+                lambda: batch.join_links(base, ["a"], scheme_rules=True),
+            ]
+            for call in calls:
+                with self.assertRaisesRegex(TypeError, "scheme_rules goes with normalize"):
+                    call()
+        for words, named in [((True,), {}), ((), {"other": True})]:
+            with self.assertRaises(TypeError):
+                Uri.parse("a:").normalize(*words, **named)
+
     def test_resolve(self):
         for base in [Uri.parse("http://a/b/c/d;p?q"), Iri.parse("foo:bar"), Iri.parse("a://é/#x")]:
             for normalize in [False, True]:

@@ -123,7 +123,8 @@ CALLS = {
     "mend_link": (lambda p, kind, text: kind.mend_link(text), plain(Dice.kind, Dice.any)),
     "join_link": (
         lambda p, value, *words, **more: value.join_link(*words, **more),
-        plain(Dice.base, Dice.any, normalize=Dice.flag, keep_fragment=Dice.flag),
+        plain(Dice.base, Dice.any, normalize=Dice.flag, scheme_rules=Dice.flag,
+              keep_fragment=Dice.flag),
     ),
     "of another kind": (lambda p, kind, it: kind.parse(it), plain(Dice.kind, Dice.value)),
     "is a Reference": (lambda p, it: isinstance(it, p.Reference), plain(Dice.any)),
@@ -132,7 +133,11 @@ CALLS = {
         lambda p, value: [getattr(value, it) for it in NAMES],
         plain(Dice.value),
     ),
-    "normalize": (lambda p, value: value.normalize(), plain(Dice.value)),
+    "normalize": (
+        lambda p, value, **more: value.normalize(**more),
+        plain(Dice.value, scheme_rules=Dice.flag),
+    ),
+    "normalize, without a word": (lambda p, value: value.normalize(), plain(Dice.value)),
     "path": (
         lambda p, value: [value.segments, value.encoded_segments, value.name, value.parent],
         plain(Dice.value),
@@ -152,7 +157,7 @@ CALLS = {
     "_to_uri": (lambda p, value, kind: value._to_uri(kind), plain(Dice.value, Dice.kind)),
     "resolve": (
         lambda p, value, *words, **more: value.resolve(*words, **more),
-        plain(Dice.base, Dice.any, normalize=Dice.flag, mend=Dice.flag),
+        plain(Dice.base, Dice.any, normalize=Dice.flag, scheme_rules=Dice.flag, mend=Dice.flag),
     ),
     "relativize": (
         lambda p, value, *words, **more: value.relativize(*words, **more),
@@ -181,7 +186,10 @@ CALLS = {
         plain(Dice.any, Dice.component, keep_encoded=Dice.flag),
     ),
     "batch.parse": (lambda p, *words: p.batch.parse(*words), plain(Dice.texts, Dice.kind)),
-    "batch.normalize": (lambda p, *words: p.batch.normalize(*words), plain(Dice.texts, Dice.kind)),
+    "batch.normalize": (
+        lambda p, *words, **more: p.batch.normalize(*words, **more),
+        plain(Dice.texts, Dice.kind, scheme_rules=Dice.flag),
+    ),
     "batch.is_valid": (lambda p, *words: p.batch.is_valid(*words), plain(Dice.texts, Dice.kind)),
     "batch.to_uri": (lambda p, *words: p.batch.to_uri(*words), plain(Dice.texts, Dice.kind)),
     "batch.query": (lambda p, *words: p.batch.query(*words), plain(Dice.texts, Dice.kind)),
@@ -193,7 +201,8 @@ CALLS = {
     "batch.mend_link": (lambda p, *words: p.batch.mend_link(*words), plain(Dice.texts, Dice.kind)),
     "batch.join_links": (
         lambda p, *words, **more: p.batch.join_links(*words, **more),
-        plain(Dice.base, Dice.texts, normalize=Dice.flag, keep_fragment=Dice.flag),
+        plain(Dice.base, Dice.texts, normalize=Dice.flag, scheme_rules=Dice.flag,
+              keep_fragment=Dice.flag),
     ),
     "batch, mended": (
         lambda p, name, *words: getattr(p.batch, name)(*words, mend=True),
@@ -202,7 +211,7 @@ CALLS = {
     ),
     "batch.resolve": (
         lambda p, *words, **more: p.batch.resolve(*words, **more),
-        plain(Dice.base, Dice.texts, normalize=Dice.flag),
+        plain(Dice.base, Dice.texts, normalize=Dice.flag, scheme_rules=Dice.flag),
     ),
     "batch.component": (
         lambda p, *words: p.batch.component(*words),

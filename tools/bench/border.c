@@ -20,7 +20,7 @@ uint64_t bench(uint32_t work, const uint8_t *text, size_t text_length, const uin
             outcome.length = text_length;
             break;
         case NORMALIZE_URI:
-            error = fluent_uri_normalize(FLUENT_URI_URI, text, text_length, out, sizeof out,
+            error = fluent_uri_normalize(FLUENT_URI_URI, 0, text, text_length, out, sizeof out,
                                          NULL, 0, &outcome);
             break;
         case RESOLVE_URI:

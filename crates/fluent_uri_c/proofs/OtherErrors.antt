@@ -25,7 +25,7 @@ use Rattle.fluent_uri_c.specs.Errors.{error_of_kind, in_reference, number_of, pa
 use Rattle.fluent_uri_c.specs.Errors.{rejected, rejected_at}
 use Rattle.fluent_uri_c.specs.Kinds.{base_numbered, iri_numbered, kind_numbered}
 use Rattle.fluent_uri_c.specs.Mends.{mend_link_result, mend_result, unmendable_error}
-use Rattle.fluent_uri_c.specs.Options.{path_preference}
+use Rattle.fluent_uri_c.specs.Options.{path_preference, rules_choice}
 use Rattle.fluent_uri_c.specs.Relatives.{relativize_result}
 use Rattle.fluent_uri_c.specs.Results.{IsReturnedOrDenied, Returned, second_text_error, with_base}
 use Rattle.fluent_uri_c.specs.Results.{component_error, component_refusal}
@@ -131,17 +131,19 @@ of_mapped_text : (f : List ℕ → List ℕ) (r : Returned) → is_out_of_memory
 of_mapped_text f (Ok text) p = refl
 of_mapped_text f (Err why) p = p
 
-of_normal_resolution : (kind : Kind) (base reference : List ℕ)
-    → is_out_of_memory (normal_resolution kind base reference) ≡ false
+of_normal_resolution : (by_rules : Bool) (kind : Kind) (base reference : List ℕ)
+    → is_out_of_memory (normal_resolution by_rules kind base reference) ≡ false
 unfolding normal_resolution
-of_normal_resolution kind base reference = of_mapped_text (normal_form_of kind)
+of_normal_resolution by_rules kind base reference = of_mapped_text (normal_form_of by_rules kind)
     (resolution base reference) (of_resolution base reference)
 
 -- exports for C: normalising is not defined to return that memory is out
-pub normalize_result-is-other : (n : ℕ) (text : List ℕ)
-    → is_out_of_memory (normalize_result n text) ≡ false
-normalize_result-is-other n text = of_valid_number (kind_numbered n) _
-    (λ kind. of_rejection_or_result (text_error kind text) _ (of_text_error kind text) refl)
+pub normalize_result-is-other : (n options : ℕ) (text : List ℕ)
+    → is_out_of_memory (normalize_result n options text) ≡ false
+normalize_result-is-other n options text = of_valid_number (rules_choice options) _
+    (λ by_rules. of_valid_number (kind_numbered n) _
+    (λ kind. of_rejection_or_result (text_error kind text)
+    (Ok (normal_form_of by_rules kind text)) (of_text_error kind text) refl))
 
 -- exports for C: converting is not defined to return that memory is out
 pub to_uri_result-is-other : (n : ℕ) (text : List ℕ)
@@ -158,12 +160,14 @@ resolve_result-is-other n base reference = of_base n base _
     (of_resolution base reference))
 
 -- exports for C: resolving and normalising are not defined to return that memory is out
-pub resolve_normalized_result-is-other : (n : ℕ) (base reference : List ℕ)
-    → is_out_of_memory (resolve_normalized_result n base reference) ≡ false
-resolve_normalized_result-is-other n base reference = of_base n base _
+pub resolve_normalized_result-is-other : (n options : ℕ) (base reference : List ℕ)
+    → is_out_of_memory (resolve_normalized_result n options base reference) ≡ false
+resolve_normalized_result-is-other n options base reference =
+    of_valid_number (rules_choice options) _ (λ by_rules. of_base n base _
     (λ kind. of_rejection_or_result (second_text_error (reference_kind kind) reference)
-    (normal_resolution kind base reference) (of_second_text (reference_kind kind) reference)
-    (of_normal_resolution kind base reference))
+    (normal_resolution by_rules kind base reference)
+    (of_second_text (reference_kind kind) reference)
+    (of_normal_resolution by_rules kind base reference)))
 
 -- exports for C: relativizing is not defined to return that memory is out
 pub relativize_result-is-other : (n options : ℕ) (base target : List ℕ)

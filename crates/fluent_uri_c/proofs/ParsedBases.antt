@@ -9,7 +9,7 @@ use Rattle.fluent_uri_c.specs.declared.errors.Rejection.{Rejection}
 use Rattle.fluent_uri_c.specs.Bases.{IsBaseOf, IsParsedBase, by_base}
 use Rattle.fluent_uri_c.specs.Bases.{normal_target_by, reference_by, target_by}
 use Rattle.fluent_uri_c.specs.Kinds.{base_numbered}
-use Rattle.fluent_uri_c.specs.Options.{path_preference}
+use Rattle.fluent_uri_c.specs.Options.{path_preference, rules_choice}
 use Rattle.fluent_uri_c.specs.Relatives.{reference_from, relativize_result}
 use Rattle.fluent_uri_c.specs.Results.{Returned, normal_target_from, rejection_or_result}
 use Rattle.fluent_uri_c.specs.Results.{resolve_normalized_result, resolve_result, target_from}
@@ -49,11 +49,20 @@ target_by-is-resolve_result n bytes base reference is =
     of_base (λ kind text. target_from kind text reference) n bytes base is
 
 -- exports for C: the same of normal targets
-pub normal_target_by-is-resolve_normalized_result : (n : ℕ) (bytes : List ℕ) (base : Base)
+pub normal_target_by-is-resolve_normalized_result : (n options : ℕ) (bytes : List ℕ) (base : Base)
     (reference : List ℕ) → IsBaseOf n bytes base
-    → normal_target_by base reference ≡ resolve_normalized_result n bytes reference
-normal_target_by-is-resolve_normalized_result n bytes base reference is =
-    of_base (λ kind text. normal_target_from kind text reference) n bytes base is
+    → normal_target_by options base reference ≡ resolve_normalized_result n options bytes reference
+normal_target_by-is-resolve_normalized_result n options bytes base reference is =
+    of_choice (rules_choice options)
+  where
+    of_choice : (o : Option Bool)
+        → with_valid_number o
+        (λ by_rules. by_base (λ k t. normal_target_from by_rules k t reference) base)
+        ≡ with_valid_number o
+        (λ by_rules. with_base n bytes (λ k. normal_target_from by_rules k bytes reference))
+    of_choice None = refl
+    of_choice (Some by_rules) =
+        of_base (λ k t. normal_target_from by_rules k t reference) n bytes base is
 
 of_preference : (o : Option Bool) (n : ℕ) (bytes : List ℕ) (base : Base) (target : List ℕ)
     → IsBaseOf n bytes base

@@ -14,7 +14,8 @@ use Rattle.uri_ops.specs.Dots.{IsAbsolute, lacks_dot_segments, underflows}
 use Rattle.uri_ops.specs.Models.LeadingSegments.{has_slash_dot_at}
 use Rattle.uri_ops.specs.Models.Unchanged.{AreUnchanged, IsLiteral, IsUnchangedAuthority}
 use Rattle.uri_ops.specs.Models.Unchanged.{IsUnchangedPath}
-use Rattle.uri_ops.specs.Normal.{normal_scheme}
+use Rattle.uri_ops.specs.Normal.{normal_scheme, normal_text}
+use Rattle.uri_rules.proofs.RuledMeanings.{meaning-under-ports-alone}
 use Rattle.uri_ops.proofs.Normal.UnchangedTexts.{unchanged-text-is-its-normal-text}
 use Rattle.uri_ops.proofs.Paths.DotLaws.{remove-dots-of-dotless, dotless-path-does-not-underflow}
 use Rattle.uri_ops.proofs.TextKinds.FourKinds.{uri-has-component-sets, uri_ref-has-component-sets}
@@ -120,10 +121,11 @@ plain-authority-is-unchanged (Some a) host port = record {
 -- plain texts: a text of a kind that normalising keeps is the result
 normal-result-of-plain-text : (kind : Kind) (text : List ℕ) → HasComponentSets kind
     → IsLiteral text → AreUnchanged (components text) → IsPossibleText kind text
-    → parse_error (Some kind) text ≡ None → normal_result kind text ≡ Ok text
+    → parse_error (Some kind) text ≡ None → normal_result false kind text ≡ Ok text
 unfolding normal_form_of
 normal-result-of-plain-text kind text sets literal kept possible none =
-    ap (λ why. rejection_or_result why (Ok (normal_form_of kind text))) none
+    ap (λ why. rejection_or_result why (Ok (normal_form_of false kind text))) none
+    ∙ ap (λ m. Ok (normal_text m)) (meaning-under-ports-alone kind default_port text)
     ∙ ap Ok (sym (unchanged-text-is-its-normal-text kind sets default_port text possible.0 literal
     kept))
 
@@ -131,7 +133,7 @@ normal-result-of-plain-text kind text sets literal kept possible none =
 normal-result-of-kind : (kind : Option Kind) (text : List ℕ) → IfSome kind HasComponentSets
     → IsLiteral text → AreUnchanged (components text)
     → IsSomeAnd kind (λ k. IsPossibleText k text) → parse_error kind text ≡ None
-    → with_valid_number kind (λ k. normal_result k text) ≡ Ok text
+    → with_valid_number kind (λ k. normal_result false k text) ≡ Ok text
 normal-result-of-kind None text sets literal kept possible none = absurd possible
 normal-result-of-kind (Some kind) text sets literal kept possible none =
     normal-result-of-plain-text kind text sets literal kept possible none
@@ -154,7 +156,7 @@ numbered-kind-has-component-sets n =
 -- plain texts: a text of which the parser wrote these parts is its own normal form
 pub plain-text-is-its-result : (n : ℕ) (text : List ℕ) (parts : Parts) → IsLiteral text
     → AreUnchanged (components text) → ArePartsOf (kind_numbered n) text parts → parts.error ≡ 0
-    → normalize_result n text ≡ Ok text
+    → normalize_result n 0 text ≡ Ok text
 plain-text-is-its-result n text parts literal kept of_text e =
     normal-result-of-kind (kind_numbered n) text (numbered-kind-has-component-sets n) literal kept
     (of_text.accepts.0 e) (of_text.none e)

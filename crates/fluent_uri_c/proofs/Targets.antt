@@ -1,17 +1,17 @@
 -- What resolving returns is the result that is defined.
-use Rattle.std.proofs.Common.{◌≡◌, ◌⊎◌, ℕ, List, inl, inr, refl, sym, ap, ◌∙◌}
+use Rattle.std.proofs.Common.{◌≡◌, ◌⊎◌, ℕ, Bool, List, inl, inr, refl, sym, ap, ◌∙◌}
 use Rattle.std.specs.Prelude.{Result, Ok, Err, None, IsOk}
 use Rattle.std.specs.Result.{result_map_both}
 use Rattle.std.proofs.lemmas.Bool.{false≢true}
 use Rattle.uri_parts.specs.Components.{components}
 use Rattle.uri_parts.specs.Grammar.{Kind}
-use Rattle.uri_parts.specs.SchemePorts.{default_port}
 use Rattle.uri_ops.specs.declared.resolve.error.ResolveError.{ResolveError}
 use Rattle.uri_ops.specs.declared.resolve.error.ResolveError.TheVariants as Of
-use Rattle.uri_ops.specs.NormalTargets.{IsNormalTarget}
-use Rattle.uri_ops.specs.Normalizers.{IsNormalForm}
 use Rattle.uri_ops.specs.Resolving.{IsErrorWithUnderflowAllowed}
 use Rattle.uri_ops.specs.Target as Target
+use Rattle.uri_rules.specs.NormalForms.{IsNormalFormUnder}
+use Rattle.uri_rules.specs.Targets.{IsNormalFormOfTargetUnder}
+use Rattle.uri_setting.specs.Settings.{rules_set}
 use Rattle.fluent_uri_c.specs.declared.errors.Error.TheVariants.{OutOfMemory}
 use Rattle.fluent_uri_c.specs.declared.errors.Rejection.{Rejection}
 use Rattle.fluent_uri_c.specs.Errors.{rejected, resolve_rejection}
@@ -53,29 +53,29 @@ resolution-of-error base reference Of.OutOfMemory h =
     inl (refl, is_ok_mapped (λ target. target) error_of_target _ h)
 
 -- exports for C: the result of resolving, normalised; or the rejection
-normal_of : Kind → Returned → Returned
-normal_of kind r = result_map_both (normal_form_of kind) (λ why. why) r
+normal_of : Bool → Kind → Returned → Returned
+normal_of by_rules kind r = result_map_both (normal_form_of by_rules kind) (λ why. why) r
 
 -- exports for C: what resolving and normalising return is the
 -- normal target that the contract defines
-pub normal_resolution-of-target : (kind of_reference : Kind) (base reference normal : List ℕ)
-    → IsNormalTarget kind of_reference default_port base reference normal
-    → normal_resolution kind base reference ≡ Ok normal
+pub normal_resolution-of-target : (by_rules : Bool) (kind : Kind) (base reference normal : List ℕ)
+    → IsNormalFormOfTargetUnder kind (rules_set by_rules) base reference normal
+    → normal_resolution by_rules kind base reference ≡ Ok normal
 unfolding normal_resolution normal_of normal_form_of
-normal_resolution-of-target kind of_reference base reference normal is =
-    let found = is.target in
-    ap (normal_of kind) (resolution-of-target base reference found.0 found.1.0)
-    ∙ ap Ok (sym found.1.1.text.text)
+normal_resolution-of-target by_rules kind base reference normal found =
+    ap (normal_of by_rules kind) (resolution-of-target base reference found.0 found.1.0)
+    ∙ ap Ok (sym found.1.1.text)
 
 -- exports for C: an error of resolving is the one that the contract defines, or that memory is out
-pub normal_resolution-of-error : (kind : Kind) (base reference : List ℕ) (error : ResolveError)
+pub normal_resolution-of-error : (by_rules : Bool) (kind : Kind) (base reference : List ℕ)
+    (error : ResolveError)
     → IsErrorWithUnderflowAllowed (components base) (components reference) error
-    → IsErrorOf (normal_resolution kind base reference) (resolve_rejection error)
+    → IsErrorOf (normal_resolution by_rules kind base reference) (resolve_rejection error)
 unfolding normal_resolution normal_of
-normal_resolution-of-error kind base reference error h = elim
+normal_resolution-of-error by_rules kind base reference error h = elim
     (resolution-of-error base reference error h) [
-      | inl e ↦ inl (e.0, is_ok_mapped (normal_form_of kind) (λ why. why) _ e.1)
-      | inr e ↦ inr (ap (normal_of kind) e)
+      | inl e ↦ inl (e.0, is_ok_mapped (normal_form_of by_rules kind) (λ why. why) _ e.1)
+      | inr e ↦ inr (ap (normal_of by_rules kind) e)
     ]
 
 -- exports for C: if a returned rejection is that of an error,
@@ -86,12 +86,12 @@ pub returned-rejection-is-of-error : (returned : Returned) (why : Rejection) (er
 returned-rejection-is-of-error returned why error e h = rw e h
 
 -- exports for C: what normalising returns is the normal form that the contract defines
-pub normal_result-of-normal-form : (kind : Kind) (bytes text normal : List ℕ) → None
-    ≡ text_error kind bytes
-    → text ≡ bytes → IsNormalForm kind default_port text normal
-    → normal_result kind bytes ≡ Ok normal
+pub normal_result-of-normal-form : (by_rules : Bool) (kind : Kind) (bytes text normal : List ℕ)
+    → None ≡ text_error kind bytes
+    → text ≡ bytes → IsNormalFormUnder kind (rules_set by_rules) text normal
+    → normal_result by_rules kind bytes ≡ Ok normal
 unfolding normal_form_of
-normal_result-of-normal-form kind bytes text normal none same is =
-    ap (λ o. rejection_or_result o (Ok (normal_form_of kind bytes))) (sym none)
-    ∙ ap (λ t. Ok (normal_form_of kind t)) (sym same)
-    ∙ ap Ok (sym is.text.text)
+normal_result-of-normal-form by_rules kind bytes text normal none same is =
+    ap (λ o. rejection_or_result o (Ok (normal_form_of by_rules kind bytes))) (sym none)
+    ∙ ap (λ t. Ok (normal_form_of by_rules kind t)) (sym same)
+    ∙ ap Ok (sym is.text)

@@ -1,7 +1,7 @@
 -- What is written of lines, and what a batch of them leaves.
 use Rattle.std.proofs.Common.{◌≡◌, ◌≢◌, ℕ, zero, suc, ◌+◌, ◌<◌, ◌≤◌, List, [], ◌∷◌, ◌++◌, length, take}
 use Rattle.std.proofs.Common.{drop, refl, sym, ap, ◌∙◌, arith, append_assoc, length-append, true}
-use Rattle.std.proofs.Common.{false, Bool}
+use Rattle.std.proofs.Common.{false, Bool, ◌⊎◌, inl, inr}
 use Rattle.std.specs.Prelude.{Some, None, IsSome, IsTrue, cond, slice_get, nat_lt}
 use Rattle.std.specs.List.{position, position_or_len}
 use Rattle.std.specs.Result.{result_ok}
@@ -13,6 +13,7 @@ use Rattle.fluent_uri_c.specs.Columns.{bytes_of, joined_results}
 use Rattle.fluent_uri_c.specs.declared.outcome.Outcome.{Outcome}
 use Rattle.fluent_uri_c.specs.Endings.{EndsAt}
 use Rattle.fluent_uri_c.specs.Kinds.{kind_numbered}
+use Rattle.fluent_uri_c.specs.Options.{rules_choice}
 use Rattle.fluent_uri_c.specs.Outcomes.{outcome_of_batch}
 use Rattle.fluent_uri_c.specs.Lines.{HasConsumed, IsFullAt, LeavesLines, LineBuffers}
 use Rattle.fluent_uri_c.specs.Lines.{TakesMemoryAt, is_newline, lines_of, newline}
@@ -72,18 +73,18 @@ two-writes-are-one out one two bytes at end byte ends inside first second =
     ∙ ap (λ l. take at out ++ l) (sym (append_assoc bytes (byte ∷ []) _))
 
 -- lines for C: what is written for line n is its normal form and a newline
-pub written_at-of-line : (kind : ℕ) (input line bytes : List ℕ) (n : ℕ)
-    → bytes ≡ bytes_of (result_ok (normalize_result kind line))
+pub written_at-of-line : (kind options : ℕ) (input line bytes : List ℕ) (n : ℕ)
+    → bytes ≡ bytes_of (result_ok (normalize_result kind options line))
     → slice_get (lines_of input) n ≡ Some line
-    → bytes ++ newline ∷ [] ≡ bytes_of (written_at kind input n)
-written_at-of-line kind input line bytes n made here =
+    → bytes ++ newline ∷ [] ≡ bytes_of (written_at kind options input n)
+written_at-of-line kind options input line bytes n made here =
     rw here (ap (λ b. b ++ newline ∷ []) made)
 
 -- lines for C: the number of the error of line n is the one that normalising it returns
-pub error_number_at-of-line : (kind : ℕ) (input line : List ℕ) (n number : ℕ)
-    → number ≡ number_returned (normalize_result kind line)
-    → slice_get (lines_of input) n ≡ Some line → Some number ≡ error_number_at kind input n
-error_number_at-of-line kind input line n number made here = rw here (ap Some made)
+pub error_number_at-of-line : (kind options : ℕ) (input line : List ℕ) (n number : ℕ)
+    → number ≡ number_returned (normalize_result kind options line)
+    → slice_get (lines_of input) n ≡ Some line → Some number ≡ error_number_at kind options input n
+error_number_at-of-line kind options input line n number made here = rw here (ap Some made)
 
 -- lines for C: a number up to 3 is of one of the four kinds
 valid_kind : (kind : ℕ) → kind ≤ 3 → IsSome (kind_numbered kind)
@@ -92,6 +93,11 @@ valid_kind (suc zero) h = refl
 valid_kind (suc (suc zero)) h = refl
 valid_kind (suc (suc (suc zero))) h = refl
 valid_kind (suc (suc (suc (suc n)))) h = absurd (omega arith)
+
+-- lines for C: the options are none, or that for the rules of schemes
+valid_options : (options : ℕ) → (options ≡ 0) ⊎ (options ≡ 2) → IsSome (rules_choice options)
+valid_options options (inl none) = rw none refl
+valid_options options (inr rules) = rw rules refl
 
 -- lines for C: before a line that is there, the lines before it are done, up to where it begins
 pub consumed-before-line : (input : List ℕ) (done start : ℕ) → done < length (lines_of input)
@@ -112,27 +118,28 @@ consumed-after-last-line input done end last all = record {
 
 -- lines for C: normalising a batch of lines leaves the buffers that its contract defines;
 -- done: how many were processed
-pub leaves_lines : (kind : ℕ) (input : List ℕ) (old new : LineBuffers) (outcome : Outcome)
+pub leaves_lines : (kind options : ℕ) (input : List ℕ) (old new : LineBuffers) (outcome : Outcome)
     (number which needed done at consumed returned : ℕ) → kind ≤ 3
+    → (options ≡ 0) ⊎ (options ≡ 2)
     → IsTrue (is_possible_length input) → returned ≡ number
     → outcome ≡ outcome_of_batch number which needed done at consumed
     → (number ≢ 10 → (which ≡ 0) × (needed ≡ 0))
-    → new.bytes ≡ joined_results (written_at kind input) done
-    ++ drop (length (joined_results (written_at kind input) done)) old.bytes
-    → at ≡ length (joined_results (written_at kind input) done)
-    → ((i : ℕ) → i < done → slice_get new.errors i ≡ error_number_at kind input i)
+    → new.bytes ≡ joined_results (written_at kind options input) done
+    ++ drop (length (joined_results (written_at kind options input) done)) old.bytes
+    → at ≡ length (joined_results (written_at kind options input) done)
+    → ((i : ℕ) → i < done → slice_get new.errors i ≡ error_number_at kind options input i)
     → drop done new.errors ≡ drop done old.errors
-    → EndsAt (length (lines_of input)) (slice_get (lines_of input)) (TakesMemoryAt kind input)
-    (IsFullAt kind input old.bytes old.errors which needed) done number
+    → EndsAt (length (lines_of input)) (slice_get (lines_of input)) (TakesMemoryAt kind options input)
+    (IsFullAt kind options input old.bytes old.errors which needed) done number
     → HasConsumed input done consumed
-    → LeavesLines kind input old new outcome returned
-leaves_lines kind input old new outcome number which needed done at consumed returned valid possible
+    → LeavesLines kind options input old new outcome returned
+leaves_lines kind options input old new outcome number which needed done at consumed returned valid chosen possible
     same is
     full bytes total errors others end left =
     rw (same, is) (record {
       error = refl;
       full = full;
-      invalid = λ none. absurd (false≢true (sym none ∙ and_from _ _ (valid_kind kind valid) possible));
+      invalid = λ none. absurd (false≢true (sym none ∙ and_from _ _ (and_from _ _ (valid_kind kind valid) (valid_options options chosen)) possible));
       done = λ _. record {
         bytes = bytes;
         total = total;

@@ -11,6 +11,7 @@ use Rattle.fluent_uri_c.specs.Endings.{EndsAt}
 use Rattle.fluent_uri_c.specs.Errors.{number_of}
 use Rattle.fluent_uri_c.specs.Full.{as_size, errors_buffer, out_buffer}
 use Rattle.fluent_uri_c.specs.Kinds.{kind_numbered}
+use Rattle.fluent_uri_c.specs.Options.{rules_choice}
 use Rattle.fluent_uri_c.specs.Results.{Returned, is_possible_length, normalize_result}
 
 -- the byte that separates the lines of a batch over lines
@@ -31,35 +32,35 @@ abbrev pub number_returned : Returned → ℕ
 number_returned (Ok text) = 0
 number_returned (Err why) = number_of why.error
 
--- what a batch over lines writes for a text of the kind with this number: its normal form, or
--- nothing if it is rejected, and a newline
-abbrev pub written_line : ℕ → List ℕ → List ℕ
-written_line kind text = bytes_of (result_ok (normalize_result kind text)) ++ newline ∷ []
+-- what a batch over lines writes for a text: its normal form, or nothing if it is rejected, and a
+-- newline; the numbers are those of its kind and of the options
+abbrev pub written_line : ℕ → ℕ → List ℕ → List ℕ
+written_line kind options text = bytes_of (result_ok (normalize_result kind options text)) ++ newline ∷ []
 
 -- what a batch over lines writes for the line at an index of the input, if there is one; the first
--- number is that of the kind
-abbrev pub written_at : ℕ → List ℕ → ℕ → Option (List ℕ)
-written_at kind input i = option_map (written_line kind) (slice_get (lines_of input) i)
+-- numbers are those of the kind and of the options
+abbrev pub written_at : ℕ → ℕ → List ℕ → ℕ → Option (List ℕ)
+written_at kind options input i = option_map (written_line kind options) (slice_get (lines_of input) i)
 
 -- the number of the error of the line at an index of a batch's input, if there is one; the first
--- number is that of the kind
-abbrev pub error_number_at : ℕ → List ℕ → ℕ → Option ℕ
-error_number_at kind input i =
-    option_map (λ text. number_returned (normalize_result kind text))
+-- numbers are those of the kind and of the options
+abbrev pub error_number_at : ℕ → ℕ → List ℕ → ℕ → Option ℕ
+error_number_at kind options input i =
+    option_map (λ text. number_returned (normalize_result kind options text))
     (slice_get (lines_of input) i)
 
 -- a batch over lines takes memory for the line at an index, which has a normal form; the first
--- number is that of the kind
-abbrev pub TakesMemoryAt : ℕ → List ℕ → ℕ → Type 0
-TakesMemoryAt kind input i =
-    IsSomeAnd (slice_get (lines_of input) i) (λ text. IsOk (normalize_result kind text))
+-- numbers are those of the kind and of the options
+abbrev pub TakesMemoryAt : ℕ → ℕ → List ℕ → ℕ → Type 0
+TakesMemoryAt kind options input i =
+    IsSomeAnd (slice_get (lines_of input) i) (λ text. IsOk (normalize_result kind options text))
 
 -- A batch over lines has no room for the line after `done` others: it does not fit the buffer, or
 -- the number of its error the errors.
 -- The last two numbers say which is full, and how long it must be.
-abbrev pub IsFullAt : ℕ → List ℕ → List ℕ → List ℕ → ℕ → ℕ → ℕ → Type 0
-IsFullAt kind input buffer errors which needed done =
-    let end = length (joined_results (written_at kind input) (suc done)) in
+abbrev pub IsFullAt : ℕ → ℕ → List ℕ → List ℕ → List ℕ → ℕ → ℕ → ℕ → Type 0
+IsFullAt kind options input buffer errors which needed done =
+    let end = length (joined_results (written_at kind options input) (suc done)) in
     ((which ≡ out_buffer) × (length buffer < end) × (needed ≡ as_size end))
     ⊎ ((which ≡ errors_buffer) × (length errors ≤ done) × (needed ≡ as_size (done + 1)))
 
@@ -79,29 +80,29 @@ pub record LineBuffers : Type 0 where
 abbrev pub line_buffers : List ℕ → List ℕ → LineBuffers
 line_buffers bytes errors = record { bytes = bytes; errors = errors }
 
--- What a batch over lines leaves if there is such a kind: what is written for the lines that are
+-- What a batch over lines leaves if there are such a kind and such options: what is written for the lines that are
 -- done, and their numbers.
 -- The lines are one after the other. After these, everything is as it was.
-pub record HasWritten (kind : ℕ) (input : List ℕ) (old new : LineBuffers) (outcome : Outcome)
+pub record HasWritten (kind options : ℕ) (input : List ℕ) (old new : LineBuffers) (outcome : Outcome)
     (number : ℕ) : Type 0 where
-  pub bytes : new.bytes ≡ joined_results (written_at kind input) outcome.index
-      ++ drop (length (joined_results (written_at kind input) outcome.index)) old.bytes
-  pub total : outcome.length ≡ length (joined_results (written_at kind input) outcome.index)
-  pub errors : (i : ℕ) → i < outcome.index → slice_get new.errors i ≡ error_number_at kind input i
+  pub bytes : new.bytes ≡ joined_results (written_at kind options input) outcome.index
+      ++ drop (length (joined_results (written_at kind options input) outcome.index)) old.bytes
+  pub total : outcome.length ≡ length (joined_results (written_at kind options input) outcome.index)
+  pub errors : (i : ℕ) → i < outcome.index → slice_get new.errors i ≡ error_number_at kind options input i
   pub other_errors : drop outcome.index new.errors ≡ drop outcome.index old.errors
   pub end : EndsAt (length (lines_of input)) (slice_get (lines_of input))
-      (TakesMemoryAt kind input)
-      (IsFullAt kind input old.bytes old.errors outcome.which outcome.needed)
+      (TakesMemoryAt kind options input)
+      (IsFullAt kind options input old.bytes old.errors outcome.which outcome.needed)
       outcome.index number
   pub consumed : HasConsumed input outcome.index outcome.consumed
 
 -- What the batch that normalises lines writes to its buffers, reports in its outcome and returns as
 -- a number.
--- If there is no such kind, or the input is too long, it does nothing.
-pub record LeavesLines (kind : ℕ) (input : List ℕ) (old new : LineBuffers) (outcome : Outcome)
+-- If there is no such kind or no such option, or the input is too long, it does nothing.
+pub record LeavesLines (kind options : ℕ) (input : List ℕ) (old new : LineBuffers) (outcome : Outcome)
     (number : ℕ) : Type 0 where
   pub error : outcome.error ≡ number
   pub full : SaysFullIfFull outcome number
-  pub invalid : IsFalse (is_some (kind_numbered kind) && is_possible_length input) → (number ≡ 9) × (outcome.index ≡ 0)
+  pub invalid : IsFalse (is_some (kind_numbered kind) && is_some (rules_choice options) && is_possible_length input) → (number ≡ 9) × (outcome.index ≡ 0)
       × (outcome.length ≡ 0) × (outcome.consumed ≡ 0) × (new ≡ old)
-  pub done : IsTrue (is_some (kind_numbered kind) && is_possible_length input) → HasWritten kind input old new outcome number
+  pub done : IsTrue (is_some (kind_numbered kind) && is_some (rules_choice options) && is_possible_length input) → HasWritten kind options input old new outcome number

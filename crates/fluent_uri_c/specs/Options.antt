@@ -5,9 +5,20 @@ use Rattle.std.specs.Prelude.{ℕ, Bool, true, false, ◌==◌, Option, Some, No
 abbrev pub prefer_relative_path : ℕ
 prefer_relative_path = 1
 
+-- and that normalising is by the rules of schemes (section 6.2.3)
+abbrev pub scheme_rules : ℕ
+scheme_rules = 2
+
 -- whether a relative path is preferred, by the options of a call that makes references, if it has
 -- no other option
 abbrev pub path_preference : ℕ → Option Bool
 path_preference options =
     if options == 0 then Some false
     else (if options == prefer_relative_path then Some true else None)
+
+-- whether normalising is by the rules of schemes, by the options of a call that normalises, if it
+-- has no other option
+abbrev pub rules_choice : ℕ → Option Bool
+rules_choice options =
+    if options == 0 then Some false
+    else (if options == scheme_rules then Some true else None)

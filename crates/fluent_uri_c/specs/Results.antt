@@ -8,22 +8,23 @@ use Rattle.std.specs.Str.Lossy.{utf8_valid_len}
 use Rattle.fluent_uri.specs.Encoded.{encode_past_ascii}
 use Rattle.fluent_uri.specs.Encoding.{encode_bytes}
 use Rattle.fluent_uri.specs.Grammar.{Kind, IsTextOf}
-use Rattle.fluent_uri.specs.Meaning.{meaning_of}
 use Rattle.fluent_uri.specs.Normal.{normal_text}
 use Rattle.fluent_uri.specs.NormalTargets.{reference_kind}
 use Rattle.fluent_uri.specs.Refusals.{refusal}
-use Rattle.fluent_uri.specs.SchemePorts.{default_port}
 use Rattle.fluent_uri.specs.Sets.{TableSet}
 use Rattle.fluent_uri.specs.Target as Target
 use Rattle.fluent_uri.specs.Tokens.{print, bytes_decoded_from, tokens}
 use Rattle.uri_parts.specs.Errors.{unexpected}
 use Rattle.uri_parts.specs.Refusals.{OptionalParseError, ◌>>=◌}
 use Rattle.uri_parts.specs.Scanning.{is_at_end, scan}
+use Rattle.uri_rules.specs.Rules.{meaning_under}
+use Rattle.uri_setting.specs.Settings.{rules_set}
 use Rattle.fluent_uri_c.specs.declared.errors.Error.TheVariants as Of
 use Rattle.fluent_uri_c.specs.declared.errors.Rejection.{Rejection}
 use Rattle.fluent_uri_c.specs.Errors.{in_reference, number_of, parse_rejection, rejected}
 use Rattle.fluent_uri_c.specs.Errors.{rejected_at}
 use Rattle.fluent_uri_c.specs.Kinds.{kind_numbered, base_numbered, iri_numbered}
+use Rattle.fluent_uri_c.specs.Options.{rules_choice}
 use Rattle.fluent_uri_c.specs.Sets.{encoding_set, decoding_set}
 
 -- what a call for C returns before it is written: a text, or the rejection that says why there is
@@ -82,14 +83,16 @@ IsPossibleUtf8 bytes = IsUtf8 bytes × IsTrue (is_possible_length bytes)
 abbrev pub IsPossibleText : Kind → List ℕ → Type 0
 IsPossibleText kind bytes = IsTextOf kind bytes × IsTrue (is_possible_length bytes)
 
--- the normal form of a text of the kind, under the default ports of schemes (section 6.2.2)
-unfoldable pub normal_form_of : Kind → List ℕ → List ℕ
-normal_form_of kind text = normal_text (meaning_of kind default_port text)
+-- the normal form of a text of the kind, where the Bool is whether it is by the rules of schemes, or
+-- by their default ports alone (section 6.2.3)
+unfoldable pub normal_form_of : Bool → Kind → List ℕ → List ℕ
+normal_form_of by_rules kind text = normal_text (meaning_under kind (rules_set by_rules) text)
 
 -- the result of a call for C that normalises bytes as a text of the kind: its normal form, or why
--- they are rejected
-abbrev pub normal_result : Kind → List ℕ → Returned
-normal_result kind text = rejection_or_result (text_error kind text) (Ok (normal_form_of kind text))
+-- they are rejected; the Bool is whether it is by the rules of schemes
+abbrev pub normal_result : Bool → Kind → List ℕ → Returned
+normal_result by_rules kind text =
+    rejection_or_result (text_error kind text) (Ok (normal_form_of by_rules kind text))
 
 -- the result of a call for C that converts an IRI, of the kind, to a URI: characters past ASCII are
 -- percent-encoded (RFC 3987, section 3.1)
@@ -108,10 +111,10 @@ resolution base reference =
     result_map_both (λ target. target) error_of_target (Target.resolution_of_texts base reference)
 
 -- the normal form of the target of a base and a reference, in this order, as a text of the kind, or
--- why there is no target
-unfoldable pub normal_resolution : Kind → List ℕ → List ℕ → Returned
-normal_resolution kind base reference =
-    result_map_both (normal_form_of kind) (λ why. why) (resolution base reference)
+-- why there is no target; the Bool is whether it is by the rules of schemes
+unfoldable pub normal_resolution : Bool → Kind → List ℕ → List ℕ → Returned
+normal_resolution by_rules kind base reference =
+    result_map_both (normal_form_of by_rules kind) (λ why. why) (resolution base reference)
 
 -- why a call for C rejects its second text as one of the kind, if it does
 abbrev pub second_text_error : Kind → List ℕ → Option Rejection
@@ -125,11 +128,11 @@ target_from kind base reference =
     (resolution base reference)
 
 -- the result of a call for C that resolves a reference against a text of the kind, the base, and
--- normalises the target; the base comes first
-abbrev pub normal_target_from : Kind → List ℕ → List ℕ → Returned
-normal_target_from kind base reference =
+-- normalises the target, by the rules of schemes if the Bool is true; the base comes first
+abbrev pub normal_target_from : Bool → Kind → List ℕ → List ℕ → Returned
+normal_target_from by_rules kind base reference =
     rejection_or_result (second_text_error (reference_kind kind) reference)
-    (normal_resolution kind base reference)
+    (normal_resolution by_rules kind base reference)
 
 -- the parse error of a component that has characters of the set alone, if it has one: it is scanned
 -- from left to right, and what is left over is unexpected
@@ -155,9 +158,12 @@ abbrev pub encoded_as_result : TableSet → List ℕ → Returned
 encoded_as_result set bytes =
     rejection_or_result (length_error bytes) (Ok (print (encode_bytes set bytes)))
 
--- the result of `fluent_uri_normalize` for a text of the kind with a number of the C header
-abbrev pub normalize_result : ℕ → List ℕ → Returned
-normalize_result n text = with_valid_number (kind_numbered n) λ kind. normal_result kind text
+-- the result of `fluent_uri_normalize` for a text; the numbers are those of its kind and of the
+-- options in the C header
+abbrev pub normalize_result : ℕ → ℕ → List ℕ → Returned
+normalize_result n options text =
+    with_valid_number (rules_choice options) λ by_rules. with_valid_number (kind_numbered n)
+    λ kind. normal_result by_rules kind text
 
 -- the result of `fluent_uri_to_uri` for a text of the kind with a number of the C header
 abbrev pub to_uri_result : ℕ → List ℕ → Returned
@@ -175,11 +181,12 @@ with_base n base result =
 abbrev pub resolve_result : ℕ → List ℕ → List ℕ → Returned
 resolve_result n base reference = with_base n base λ kind. target_from kind base reference
 
--- the result of `fluent_uri_resolve_normalized` for a base and a reference, in this order, where
--- the kind of the base has a number of the C header
-abbrev pub resolve_normalized_result : ℕ → List ℕ → List ℕ → Returned
-resolve_normalized_result n base reference =
-    with_base n base λ kind. normal_target_from kind base reference
+-- the result of `fluent_uri_resolve_normalized` for a base and a reference, in this order; the
+-- numbers are those of the base's kind and of the options in the C header
+abbrev pub resolve_normalized_result : ℕ → ℕ → List ℕ → List ℕ → Returned
+resolve_normalized_result n options base reference =
+    with_valid_number (rules_choice options) λ by_rules. with_base n base
+    λ kind. normal_target_from by_rules kind base reference
 
 -- the result of `fluent_uri_decode` for a component with a number of the C header
 abbrev pub decode_result : ℕ → List ℕ → Returned

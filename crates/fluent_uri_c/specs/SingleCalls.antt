@@ -5,7 +5,7 @@ use Rattle.fluent_uri_c.specs.Kinds.{kind_numbered, base_numbered, iri_numbered}
 use Rattle.fluent_uri_c.specs.Components.{component_result}
 use Rattle.fluent_uri_c.specs.Results.{normalize_result, to_uri_result, resolve_result}
 use Rattle.fluent_uri_c.specs.Mends.{mend_link_result, mend_link_takes_memory, mend_result}
-use Rattle.fluent_uri_c.specs.Options.{path_preference}
+use Rattle.fluent_uri_c.specs.Options.{path_preference, rules_choice}
 use Rattle.fluent_uri_c.specs.Relatives.{relativize_result}
 use Rattle.fluent_uri_c.specs.Results.{decode_result, encode_result, is_possible_length}
 use Rattle.fluent_uri_c.specs.Results.{resolve_normalized_result}
@@ -19,12 +19,13 @@ pub record SingleCall : Type 0 where
   pub takes_memory : List ℕ → Bool
   pub result : List ℕ → Option (List ℕ)
 
--- the call of a batch that normalises texts of the kind with a number of the C header
-abbrev pub normalizing : ℕ → SingleCall
-normalizing kind = record {
-  is_valid = is_some (kind_numbered kind);
-  takes_memory = λ text. is_ok (normalize_result kind text);
-  result = λ text. result_ok (normalize_result kind text);
+-- the call of a batch that normalises texts; the numbers are those of their kind and of the options
+-- in the C header
+abbrev pub normalizing : ℕ → ℕ → SingleCall
+normalizing kind options = record {
+  is_valid = is_some (kind_numbered kind) && is_some (rules_choice options);
+  takes_memory = λ text. is_ok (normalize_result kind options text);
+  result = λ text. result_ok (normalize_result kind options text);
 }
 
 -- the call of a batch that converts texts of the kind of IRIs with a number of the C header to URIs
@@ -45,12 +46,13 @@ resolving kind base = record {
 }
 
 -- the call of a batch that resolves references against a base, and normalises the targets; the
--- number is that of the base's kind
-abbrev pub resolving_normalized : ℕ → List ℕ → SingleCall
-resolving_normalized kind base = record {
-  is_valid = is_some (base_numbered kind) && is_possible_length base;
-  takes_memory = λ text. is_ok (resolve_normalized_result kind base text);
-  result = λ text. result_ok (resolve_normalized_result kind base text);
+-- numbers are those of the base's kind and of the options in the C header
+abbrev pub resolving_normalized : ℕ → ℕ → List ℕ → SingleCall
+resolving_normalized kind options base = record {
+  is_valid = is_some (base_numbered kind) && is_some (rules_choice options)
+      && is_possible_length base;
+  takes_memory = λ text. is_ok (resolve_normalized_result kind options base text);
+  result = λ text. result_ok (resolve_normalized_result kind options base text);
 }
 
 -- the call of a batch that makes references which lead from a base to targets; the numbers are

@@ -1,6 +1,6 @@
 //! A base of references, which a batch parses once.
 use crate::errors::{Error, Rejection};
-use crate::numbered::prefers_relative_path;
+use crate::numbered::{prefers_relative_path, rule_setting};
 use crate::texts::{self, parsed};
 use fluent_uri::{Iri, IriRef, Uri};
 use std::alloc::Global;
@@ -52,21 +52,27 @@ impl<'a> Base<'a> {
         }
     }
 
-    /// Returns the normal form of the target of a reference against the base.
+    /// Returns the normal form of the target of a reference against the base, by options of the
+    /// header.
     pub fn normal_target(
         &self,
         alloc: Global,
+        options: u32,
         reference: &[u8],
     ) -> Result<IriRef<String>, Rejection>
-        ensures { IsReturnedAs reference_text (normal_target_by self.now reference.now) result }
+        ensures { IsReturnedAs reference_text
+            (normal_target_by options self.now reference.now) result }
     {
+        let Some(setting) = rule_setting(options) else {
+            return Err(Rejection::of(Error::InvalidArgument));
+        };
         match self {
-            Base::Uri(base) => {
-                Ok(IriRef::from(texts::normal_target_from::<UriRefKind>(alloc, base, reference)?))
-            }
-            Base::Iri(base) => {
-                Ok(IriRef::from(texts::normal_target_from::<IriRefKind>(alloc, base, reference)?))
-            }
+            Base::Uri(base) => Ok(IriRef::from(texts::normal_target_from::<UriRefKind>(
+                alloc, base, reference, setting,
+            )?)),
+            Base::Iri(base) => Ok(IriRef::from(texts::normal_target_from::<IriRefKind>(
+                alloc, base, reference, setting,
+            )?)),
             Base::Rejected(why) => Err(*why),
         }
     }

@@ -39,24 +39,25 @@ pub fn batch_result<'a>(
     }
 }
 
-/// Normalises texts of a kind.
+/// Normalises texts of a kind, by options.
 #[derive(Clone, Copy)]
 struct Normalize {
     alloc: Global,
     kind: u32,
+    options: u32,
 }
 
 impl Call for Normalize {
-    ghost definition = { λ call. normalizing call.kind };
+    ghost definition = { λ call. normalizing call.kind call.options };
 
-    /// Returns whether the number is one of the four kinds.
+    /// Returns whether the numbers are one of the four kinds, and options of this call.
     fn is_valid(&self) -> bool {
-        self.kind <= 3
+        self.kind <= 3 && (self.options == 0 || self.options == 2)
     }
 
     /// Returns the normal form of a text, if it is of the kind.
     fn call<'a>(&self, text: &'a [u8]) -> Result<Option<CallResult<'a>>, AllocError> {
-        batch_result(numbered::normal_form(self.alloc, self.kind, text))
+        batch_result(numbered::normal_form(self.alloc, self.kind, self.options, text))
     }
 }
 
@@ -108,11 +109,12 @@ impl<'b> Call for Resolve<'b> {
     }
 }
 
-/// Resolves references against a base of a kind, and normalises the targets.
+/// Resolves references against a base of a kind, and normalises the targets by options.
 #[derive(Clone, Copy)]
 struct ResolveNormalized<'a> {
     alloc: Global,
     kind: u32,
+    options: u32,
     bytes: &'a [u8],
     base: Base<'a>,
 }
@@ -120,26 +122,30 @@ struct ResolveNormalized<'a> {
 impl<'b> Call for ResolveNormalized<'b> {
     ghost use Rattle.fluent_uri_c.specs.Bases.{IsBaseOf};
 
-    ghost definition = { λ call. resolving_normalized call.kind call.bytes.now };
+    ghost definition = { λ call. resolving_normalized call.kind call.options call.bytes.now };
 
     ghost is_ready = { λ call. IsBaseOf call.kind call.bytes.now call.base };
 
-    /// Returns whether the number is a base's kind, a URI or an IRI, and the base can be there.
+    /// Returns whether the numbers are a base's kind, a URI or an IRI, and options of this call, and
+    /// the base can be there.
     fn is_valid(&self) -> bool {
-        (self.kind == 0 || self.kind == 2) && is_possible_length(self.bytes)
+        (self.kind == 0 || self.kind == 2)
+            && (self.options == 0 || self.options == 2)
+            && is_possible_length(self.bytes)
     }
 
     /// Returns the normal form of the target of a reference against the base, if it has one.
     fn call<'a>(&self, text: &'a [u8]) -> Result<Option<CallResult<'a>>, AllocError> {
-        batch_result(self.base.normal_target(self.alloc, text))
+        batch_result(self.base.normal_target(self.alloc, self.options, text))
     }
 }
 
-/// Writes the normal form of each text of a column.
+/// Writes the normal form of each text of a column, by options.
 #[unsafe(no_mangle)]
 pub extern "C" fn fluent_uri_normalize_batch(
     alloc: Global,
     kind: u32,
+    options: u32,
     texts: &[u8],
     offsets: &[u32],
     out: &mut [u8],
@@ -147,11 +153,15 @@ pub extern "C" fn fluent_uri_normalize_batch(
     valid: &mut [u8],
     outcome: &mut Outcome,
 ) -> u32
-    ensures { LeavesColumn (normalizing kind) (column32 texts.now offsets.now)
+    ensures { LeavesColumn (normalizing kind options) (column32 texts.now offsets.now)
         (buffers out.old out_offsets.old valid.old) (buffers out.new out_offsets.new valid.new)
         outcome.new result }
 {
-    let call = Normalize { alloc, kind };
+    let call = Normalize {
+        alloc,
+        kind,
+        options,
+    };
     column(&call, texts, offsets, out, out_offsets, valid, outcome)
 }
 
@@ -201,11 +211,12 @@ pub extern "C" fn fluent_uri_resolve_batch(
     column(&call, texts, offsets, out, out_offsets, valid, outcome)
 }
 
-/// Writes the normal form of the target of each reference of a column.
+/// Writes the normal form of the target of each reference of a column, by options.
 #[unsafe(no_mangle)]
 pub extern "C" fn fluent_uri_resolve_normalized_batch(
     alloc: Global,
     kind: u32,
+    options: u32,
     base: &[u8],
     texts: &[u8],
     offsets: &[u32],
@@ -214,24 +225,26 @@ pub extern "C" fn fluent_uri_resolve_normalized_batch(
     valid: &mut [u8],
     outcome: &mut Outcome,
 ) -> u32
-    ensures { LeavesColumn (resolving_normalized kind base.now) (column32 texts.now offsets.now)
+    ensures { LeavesColumn (resolving_normalized kind options base.now) (column32 texts.now offsets.now)
         (buffers out.old out_offsets.old valid.old) (buffers out.new out_offsets.new valid.new)
         outcome.new result }
 {
     let call = ResolveNormalized {
         alloc,
         kind,
+        options,
         bytes: base,
         base: Base::parse(kind, base),
     };
     column(&call, texts, offsets, out, out_offsets, valid, outcome)
 }
 
-/// Writes the normal form of each text of a column, with offsets of 64 bits.
+/// Writes the normal form of each text of a column, by options, with offsets of 64 bits.
 #[unsafe(no_mangle)]
 pub extern "C" fn fluent_uri_normalize_batch64(
     alloc: Global,
     kind: u32,
+    options: u32,
     texts: &[u8],
     offsets: &[u64],
     out: &mut [u8],
@@ -239,11 +252,15 @@ pub extern "C" fn fluent_uri_normalize_batch64(
     valid: &mut [u8],
     outcome: &mut Outcome,
 ) -> u32
-    ensures { LeavesColumn (normalizing kind) (column64 texts.now offsets.now)
+    ensures { LeavesColumn (normalizing kind options) (column64 texts.now offsets.now)
         (buffers out.old out_offsets.old valid.old) (buffers out.new out_offsets.new valid.new)
         outcome.new result }
 {
-    let call = Normalize { alloc, kind };
+    let call = Normalize {
+        alloc,
+        kind,
+        options,
+    };
     column(&call, texts, offsets, out, out_offsets, valid, outcome)
 }
 
@@ -293,11 +310,12 @@ pub extern "C" fn fluent_uri_resolve_batch64(
     column(&call, texts, offsets, out, out_offsets, valid, outcome)
 }
 
-/// Writes the normal form of the target of each reference of a column, with offsets of 64 bits.
+/// Writes the normal form of the target of each reference of a column, by options, with offsets of 64 bits.
 #[unsafe(no_mangle)]
 pub extern "C" fn fluent_uri_resolve_normalized_batch64(
     alloc: Global,
     kind: u32,
+    options: u32,
     base: &[u8],
     texts: &[u8],
     offsets: &[u64],
@@ -306,13 +324,14 @@ pub extern "C" fn fluent_uri_resolve_normalized_batch64(
     valid: &mut [u8],
     outcome: &mut Outcome,
 ) -> u32
-    ensures { LeavesColumn (resolving_normalized kind base.now) (column64 texts.now offsets.now)
+    ensures { LeavesColumn (resolving_normalized kind options base.now) (column64 texts.now offsets.now)
         (buffers out.old out_offsets.old valid.old) (buffers out.new out_offsets.new valid.new)
         outcome.new result }
 {
     let call = ResolveNormalized {
         alloc,
         kind,
+        options,
         bytes: base,
         base: Base::parse(kind, base),
     };

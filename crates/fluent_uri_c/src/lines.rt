@@ -106,14 +106,14 @@ struct Line {
 
 /// Returns what a batch writes for a line: the normal form if it is a text of the kind, or an empty
 /// text and the number of the error.
-fn normal_line(alloc: Global, kind: u32, text: &[u8]) -> Result<Line, AllocError>
+fn normal_line(alloc: Global, kind: u32, options: u32, text: &[u8]) -> Result<Line, AllocError>
     ensures text { IfOk result (λ line. string_bytes line.text
-        ≡ bytes_of (result_ok (normalize_result kind text.now))) }
+        ≡ bytes_of (result_ok (normalize_result kind options text.now))) }
     ensures number { IfOk result (λ line. line.number
-        ≡ number_returned (normalize_result kind text.now)) }
-    ensures memory { IfErr result (λ _. IsOk (normalize_result kind text.now)) }
+        ≡ number_returned (normalize_result kind options text.now)) }
+    ensures memory { IfErr result (λ _. IsOk (normalize_result kind options text.now)) }
 {
-    match numbered::normal_form(alloc, kind, text) {
+    match numbered::normal_form(alloc, kind, options, text) {
         Ok(value) => Ok(Line {
             text: value.into_string(),
             number: 0,
@@ -128,28 +128,29 @@ fn normal_line(alloc: Global, kind: u32, text: &[u8]) -> Result<Line, AllocError
     }
 }
 
-/// Writes the normal form of each line, with a newline after each. The line of a text that is
+/// Writes the normal form of each line by options, with a newline after each. The line of a text that is
 /// rejected is empty, and `errors` has the number of its error.
 #[unsafe(no_mangle)]
 pub extern "C" fn fluent_uri_normalize_lines(
     alloc: Global,
     kind: u32,
+    options: u32,
     lines: &[u8],
     out: &mut [u8],
     errors: &mut [u8],
     outcome: &mut Outcome,
 ) -> u32
-    ensures { LeavesLines kind lines.now (line_buffers out.old errors.old)
+    ensures { LeavesLines kind options lines.now (line_buffers out.old errors.old)
         (line_buffers out.new errors.new) outcome.new result }
 {
-    if kind > 3 || !is_possible_length(lines) {
+    if kind > 3 || !(options == 0 || options == 2) || !is_possible_length(lines) {
         return report_progress(9, 0, 0, outcome);
     }
     let mut at = 0usize;
     let mut start = 0usize;
     for index in 0..errors.len() {
         let end = line_end(lines, start);
-        let Ok(line) = normal_line(alloc, kind, &lines[start..end]) else {
+        let Ok(line) = normal_line(alloc, kind, options, &lines[start..end]) else {
             return report_lines(8, NOT_FULL, index, at, start, outcome);
         };
         let next = match push_line(line.text.as_bytes(), at, out) {

@@ -1,12 +1,12 @@
 //! What each call returns for the kind of a number. A value of any kind is one of IRI references too,
 //! so that what follows is compiled once.
-ghost use Rattle.std.specs.Prelude.{◌≡◌, IfOk, IsSomeAnd};
+ghost use Rattle.std.specs.Prelude.{◌≡◌, IfOk, IsSomeAnd, option_map};
 ghost use Rattle.fluent_uri.specs.References.{reference_text};
 ghost use Rattle.uri_mend.specs.Mended.{IsMended};
 ghost use Rattle.uri_mend.specs.Trimming.{trimmed_link};
 ghost use Rattle.fluent_uri_c.specs.Kinds.{base_numbered, kind_numbered};
 ghost use Rattle.fluent_uri_c.specs.Mends.{mend_link_result, mend_link_takes_memory, mend_result};
-ghost use Rattle.fluent_uri_c.specs.Options.{path_preference};
+ghost use Rattle.fluent_uri_c.specs.Options.{path_preference, rules_choice};
 ghost use Rattle.fluent_uri_c.specs.Relatives.{IsReferenceToTarget, relativize_result};
 ghost use Rattle.fluent_uri_c.specs.Results.{IsReturnedAs, IsReturnedOrDenied, normalize_result};
 ghost use Rattle.fluent_uri_c.specs.Results.{resolve_normalized_result, resolve_result};
@@ -17,16 +17,40 @@ use crate::texts;
 use fluent_uri::IriRef;
 use std::alloc::Global;
 use uri_parts::kind::{IriKind, IriRefKind, UriKind, UriRefKind};
+use uri_setting::RuleSetting;
 
-/// Returns the normal form of a text of the kind with this number of the header.
-pub fn normal_form(alloc: Global, kind: u32, text: &[u8]) -> Result<IriRef<String>, Rejection>
-    ensures { IsReturnedAs reference_text (normalize_result kind text.now) result }
+/// Returns the setting of a normaliser that options of the header ask for, if they are options of a
+/// call that normalises.
+pub fn rule_setting(options: u32) -> Option<RuleSetting>
+    ensures { option_map (λ setting. setting.scheme_rules) result ≡ rules_choice options }
 {
+    match options {
+        0 => Some(RuleSetting {
+            scheme_rules: false,
+        }),
+        2 => Some(RuleSetting { scheme_rules: true }),
+        _ => None,
+    }
+}
+
+/// Returns the normal form of a text of the kind with this number of the header, by options of the
+/// header.
+pub fn normal_form(
+    alloc: Global,
+    kind: u32,
+    options: u32,
+    text: &[u8],
+) -> Result<IriRef<String>, Rejection>
+    ensures { IsReturnedAs reference_text (normalize_result kind options text.now) result }
+{
+    let Some(setting) = rule_setting(options) else {
+        return Err(Rejection::of(Error::InvalidArgument));
+    };
     match kind {
-        0 => Ok(IriRef::from(texts::normal_form::<UriKind>(alloc, text)?)),
-        1 => Ok(IriRef::from(texts::normal_form::<UriRefKind>(alloc, text)?)),
-        2 => Ok(IriRef::from(texts::normal_form::<IriKind>(alloc, text)?)),
-        3 => texts::normal_form::<IriRefKind>(alloc, text),
+        0 => Ok(IriRef::from(texts::normal_form::<UriKind>(alloc, text, setting)?)),
+        1 => Ok(IriRef::from(texts::normal_form::<UriRefKind>(alloc, text, setting)?)),
+        2 => Ok(IriRef::from(texts::normal_form::<IriKind>(alloc, text, setting)?)),
+        3 => texts::normal_form::<IriRefKind>(alloc, text, setting),
         _ => Err(Rejection::of(Error::InvalidArgument)),
     }
 }
@@ -59,19 +83,23 @@ pub fn target(
 }
 
 /// Returns the normal form of the target of a reference against a base of the kind with this number
-/// of the header.
+/// of the header, by options of the header.
 pub fn normal_target(
     alloc: Global,
     kind: u32,
+    options: u32,
     base: &[u8],
     reference: &[u8],
 ) -> Result<IriRef<String>, Rejection>
-    ensures { IsReturnedAs reference_text (resolve_normalized_result kind base.now reference.now)
-        result }
+    ensures { IsReturnedAs reference_text
+        (resolve_normalized_result kind options base.now reference.now) result }
 {
+    let Some(setting) = rule_setting(options) else {
+        return Err(Rejection::of(Error::InvalidArgument));
+    };
     match kind {
-        0 => Ok(IriRef::from(texts::normal_target::<UriRefKind>(alloc, base, reference)?)),
-        2 => Ok(IriRef::from(texts::normal_target::<IriRefKind>(alloc, base, reference)?)),
+        0 => Ok(IriRef::from(texts::normal_target::<UriRefKind>(alloc, base, reference, setting)?)),
+        2 => Ok(IriRef::from(texts::normal_target::<IriRefKind>(alloc, base, reference, setting)?)),
         _ => Err(Rejection::of(Error::InvalidArgument)),
     }
 }

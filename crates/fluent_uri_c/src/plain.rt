@@ -153,7 +153,7 @@ fn is_unchanged(text: &[u8], parts: &Parts) -> bool
 pub extern "C" fn fluent_uri_is_plainly_normal(kind: u32, text: &[u8], parts: &Parts) -> u32
     ensures number { result ≤ 1 }
     ensures normal { result ≡ 1 → ArePartsOf (kind_numbered kind) text.now parts.now
-        → parts.now.error ≡ 0 → normalize_result kind text.now ≡ Ok text.now }
+        → parts.now.error ≡ 0 → normalize_result kind 0 text.now ≡ Ok text.now }
 {
     if kind > 3 || !is_unchanged(text, parts) {
         return 0;

@@ -23,21 +23,23 @@ pub extern "C" fn fluent_uri_parse(kind: u32, text: &[u8], parts: &mut Parts) ->
     parts.error
 }
 
-/// Writes the normal form of a text of the kind, and its parts if there is room for these.
+/// Writes the normal form of a text of the kind by options, and its parts if there is room for
+/// these.
 #[unsafe(no_mangle)]
 pub extern "C" fn fluent_uri_normalize(
     alloc: Global,
     kind: u32,
+    options: u32,
     text: &[u8],
     out: &mut [u8],
     parts: &mut [Parts],
     outcome: &mut Outcome,
 ) -> u32
-    ensures { LeavesValue (normalize_result kind text.now) out.old out.new parts.old parts.new
+    ensures { LeavesValue (normalize_result kind options text.now) out.old out.new parts.old parts.new
         outcome.new result }
 {
     put_value_or_report(
-        numbered::normal_form(alloc, kind, text),
+        numbered::normal_form(alloc, kind, options, text),
         out,
         parts,
         outcome,
@@ -66,22 +68,23 @@ pub extern "C" fn fluent_uri_resolve(
     )
 }
 
-/// Writes the normal form of the target of a reference against a base of the kind.
+/// Writes the normal form of the target of a reference against a base of the kind, by options.
 #[unsafe(no_mangle)]
 pub extern "C" fn fluent_uri_resolve_normalized(
     alloc: Global,
     kind: u32,
+    options: u32,
     base: &[u8],
     reference: &[u8],
     out: &mut [u8],
     parts: &mut [Parts],
     outcome: &mut Outcome,
 ) -> u32
-    ensures { LeavesValue (resolve_normalized_result kind base.now reference.now)
+    ensures { LeavesValue (resolve_normalized_result kind options base.now reference.now)
         out.old out.new parts.old parts.new outcome.new result }
 {
     put_value_or_report(
-        numbered::normal_target(alloc, kind, base, reference),
+        numbered::normal_target(alloc, kind, options, base, reference),
         out,
         parts,
         outcome,

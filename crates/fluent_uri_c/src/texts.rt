@@ -17,8 +17,6 @@ ghost use Rattle.fluent_uri_c.specs.Results.{normal_resolution, resolution, utf8
 
 use crate::ascii::is_ascii;
 use crate::errors::{Error, Rejection};
-use fluent_uri::normalize::Normalizer;
-use fluent_uri::resolve::Resolver;
 use fluent_uri::roles::{BaseKind, RefKind};
 use fluent_uri::{Iri, IriRef, Reference, Uri, UriRef};
 use std::alloc::Global;
@@ -28,6 +26,7 @@ use uri_parts::kind::{IriKind, IriRefKind, Kind};
 use uri_parts::parse::parse;
 use uri_relative::Relativizer;
 use uri_relative::relative::RelativeKind;
+use uri_setting::RuleSetting;
 
 /// Returns whether bytes that C hands over are no more than `PTRDIFF_MAX`, so that they can be there.
 #[inline(always)]
@@ -75,10 +74,15 @@ pub fn parsed<'a, K: Kind>(bytes: &'a [u8]) -> Result<Reference<K, &'a str>, Rej
 }
 
 /// Returns the normal form of bytes that are a text of the kind.
-pub fn normal_form<K: Kind>(alloc: Global, bytes: &[u8]) -> Result<Reference<K, String>, Rejection>
-    ensures { IsReturnedAs reference_text (normal_result K.kind bytes.now) result }
+pub fn normal_form<K: Kind>(
+    alloc: Global,
+    bytes: &[u8],
+    setting: RuleSetting,
+) -> Result<Reference<K, String>, Rejection>
+    ensures { IsReturnedAs reference_text
+        (normal_result setting.scheme_rules K.kind bytes.now) result }
 {
-    Ok(parsed::<K>(bytes)?.normalize(alloc)?)
+    Ok(setting.normalize(alloc, &parsed::<K>(bytes)?)?)
 }
 
 /// Returns bytes that are an IRI as a URI.
@@ -119,12 +123,12 @@ fn resolve_normalized_text<K: RefKind>(
     alloc: Global,
     base: &Reference<K::Base, &str>,
     reference: &Reference<K, &str>,
+    setting: RuleSetting,
 ) -> Result<Reference<K::Base, String>, Rejection>
-    ensures { IsReturnedAs reference_text (normal_resolution K.Base.kind
+    ensures { IsReturnedAs reference_text (normal_resolution setting.scheme_rules K.Base.kind
         (reference_text base.now) (reference_text reference.now)) result }
 {
-    let resolver = Resolver::with_base(*base);
-    match resolver.resolve_normalized(alloc, reference, &Normalizer::new()) {
+    match setting.resolve_normalized(alloc, base, reference) {
         Ok(target) => Ok(target),
         Err(error) => Err(Rejection::from(error)),
     }
@@ -152,12 +156,13 @@ pub fn normal_target_from<K: RefKind>(
     alloc: Global,
     base: &Reference<K::Base, &str>,
     reference: &[u8],
+    setting: RuleSetting,
 ) -> Result<Reference<K::Base, String>, Rejection>
-    ensures { IsReturnedAs reference_text
-        (normal_target_from K.Base.kind (reference_text base.now) reference.now) result }
+    ensures { IsReturnedAs reference_text (normal_target_from setting.scheme_rules K.Base.kind
+        (reference_text base.now) reference.now) result }
 {
     match parsed::<K>(reference) {
-        Ok(reference) => resolve_normalized_text(alloc, base, &reference),
+        Ok(reference) => resolve_normalized_text(alloc, base, &reference, setting),
         Err(why) => Err(why.in_reference()),
     }
 }
@@ -200,12 +205,13 @@ pub fn normal_target<K: RefKind>(
     alloc: Global,
     base: &[u8],
     reference: &[u8],
+    setting: RuleSetting,
 ) -> Result<Reference<K::Base, String>, Rejection>
     ensures { IsReturnedAs reference_text (rejection_or_result (text_error K.Base.kind base.now)
-        (normal_target_from K.Base.kind base.now reference.now)) result }
+        (normal_target_from setting.scheme_rules K.Base.kind base.now reference.now)) result }
 {
     let base = parsed::<K::Base>(base)?;
-    normal_target_from::<K>(alloc, &base, reference)
+    normal_target_from::<K>(alloc, &base, reference, setting)
 }
 
 /// Returns a reference that leads from a base to a target, both as bytes, as `reference_from` does.

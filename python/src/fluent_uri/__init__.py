@@ -164,6 +164,7 @@ class _Absolute(Reference):
         reference: Union[str, Reference],
         *,
         normalize: bool = False,
+        scheme_rules: bool = False,
         mend: bool = False,
     ) -> _Absolute_:
         """Returns the target of a reference against this as its base (RFC 3986, section 5.2).
@@ -171,19 +172,21 @@ class _Absolute(Reference):
         >>> Uri.parse("http://a/b/c/d;p?q").resolve("../%7eg", normalize=True)
         Uri('http://a/b/~g')
 
-        With `normalize` it returns the normal form of the target, and with `mend` that of what the
-        reference is mended to. Raises `ParseError` if the reference is not one of the kind, and
+        With `normalize` it returns the normal form of the target, which is by the rules of schemes
+        if `scheme_rules` is true, and with `mend` that of what the reference is mended to. Raises `ParseError` if the reference is not one of the kind, and
         `ResolveError` if it has no target.
         """
+        _calls.rules_of_normal(normalize, scheme_rules)
         if mend:
             reference = _reference_kind(self).mend(reference)
-        return self._resolve(reference, normalize)
+        return self._resolve(reference, normalize, scheme_rules)
 
     def join_link(
         self: _Absolute_,
         link: Union[str, Reference],
         *,
         normalize: bool = False,
+        scheme_rules: bool = False,
         keep_fragment: bool = True,
     ) -> _Absolute_:
         """Returns the target of a link of a page, as an attribute such as `href` has it, against
@@ -193,11 +196,12 @@ class _Absolute(Reference):
         Uri('http://a/x%20y?%5B1%5D')
 
         The fragment of the address plays no part. With `normalize` it returns the normal form of
-        the target. Raises `ParseError` if the link cannot be mended, and `ResolveError` if it has
+        the target, which is by the rules of schemes if `scheme_rules` is true. Raises `ParseError` if the link cannot be mended, and `ResolveError` if it has
         no target.
         """
+        _calls.rules_of_normal(normalize, scheme_rules)
         base = self if self.fragment is None else self.with_fragment(None)
-        target = base._resolve(_reference_kind(self).mend_link(link), normalize)
+        target = base._resolve(_reference_kind(self).mend_link(link), normalize, scheme_rules)
         if keep_fragment or target.fragment is None:
             return target
         return target.with_fragment(None)

@@ -25,6 +25,7 @@ __all__ = [
     "normalize_all",
     "pairs_in",
     "parse_all",
+    "rules_of_normal",
     "text_given",
     "text_of",
 ]
@@ -87,3 +88,9 @@ def finished(cls: Type[_Class]) -> Type[_Class]:
             if name not in _OF_ITS_OWN:
                 setattr(base, name, value)
     return base
+
+
+def rules_of_normal(normalize: bool, scheme_rules: bool) -> None:
+    """The rules of schemes are those of a normal form: without one they are an error."""
+    if scheme_rules and not normalize:
+        raise TypeError("scheme_rules goes with normalize")

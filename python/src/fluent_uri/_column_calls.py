@@ -5,6 +5,7 @@ from __future__ import annotations
 from typing import TYPE_CHECKING, Any, Optional, Tuple, Type, Union
 
 from fluent_uri import Iri, IriRef, Uri, UriRef, _calls
+from fluent_uri._calls import rules_of_normal
 from fluent_uri._columns import Column, Given
 from fluent_uri._declarations import COMPONENTS, KINDS, OPTIONS
 from fluent_uri._errors import exact, utf8_of
@@ -21,13 +22,15 @@ def normalize_column(
     offsets: Any,
     kind: _AnyKind = Uri,
     *,
+    scheme_rules: bool = False,
     mend: bool = False,
     validity: Any = None,
     large: bool = False,
     start: int = 0,
     count: Optional[int] = None,
 ) -> Column:
-    """Returns the normal forms of a column, with no text where one is not of the kind.
+    """Returns the normal forms of a column, with no text where one is not of the kind. With
+    `scheme_rules` they are those of `normalize(scheme_rules=True)`.
 
     Offsets are of 32 or 64 bits, as the buffer's items are. Of a buffer of bytes they are of 32, or
     of 64 with `large`. A text that `validity` leaves out is left out of the result. `count` texts
@@ -43,7 +46,13 @@ def normalize_column(
     """
     number = _calls.kind_of(kind)
     texts = _mended(number, mend, Given(data, offsets, validity, large, start, count))
-    return texts.done("normalize", (number,), lambda size, count: size + 2 * count)
+    words = (number, _rules(scheme_rules))
+    return texts.done("normalize", words, lambda size, count: size + 2 * count)
+
+
+def _rules(scheme_rules: bool) -> int:
+    """The options of a normal form."""
+    return OPTIONS["SCHEME_RULES"] if scheme_rules else 0
 
 
 def mend_column(
@@ -103,6 +112,7 @@ def resolve_column(
     offsets: Any,
     *,
     normalize: bool = False,
+    scheme_rules: bool = False,
     mend: bool = False,
     validity: Any = None,
     large: bool = False,
@@ -110,11 +120,14 @@ def resolve_column(
     count: Optional[int] = None,
 ) -> Column:
     """Returns the targets of a column of references against a base, as `normalize_column` does."""
-    words = _base(base)
-    reference = words[0] + KINDS["URI_REF"] - KINDS["URI"]
+    rules_of_normal(normalize, scheme_rules)
+    number, text, length = _base(base)
+    reference = number + KINDS["URI_REF"] - KINDS["URI"]
     texts = _mended(reference, mend, Given(data, offsets, validity, large, start, count))
     name = "resolve_normalized" if normalize else "resolve"
-    return texts.done(name, words, lambda size, count: size + count * (words[2] + 2))
+    options = (_rules(scheme_rules),) if normalize else ()
+    words = (number, *options, text, length)
+    return texts.done(name, words, lambda size, count: size + count * (length + 3))
 
 
 def relativize_column(

@@ -51,11 +51,23 @@ static PyObject *base_new(PyTypeObject *cls, PyObject *words, PyObject *named) {
     return PyErr_Format(PyExc_TypeError, "not a class of a kind: %R", cls);
 }
 
-static PyObject *reference_normalize(PyObject *self, PyObject *unused) {
+/* The options of a normal form, by whether it is by the rules of schemes. */
+static uint32_t options_of(int scheme_rules) {
+    return scheme_rules ? FLUENT_URI_SCHEME_RULES : 0;
+}
+
+/* normalize(*, scheme_rules) */
+static PyObject *reference_normalize(PyObject *self, PyObject *const *words, Py_ssize_t count,
+                                     PyObject *names) {
     State *state;
+    Py_ssize_t named = names ? PyTuple_Size(names) : 0;
+    int by_rules = 0;
+    if (count || named > 1 || (named && PyUnicode_CompareWithASCIIString(PyTuple_GetItem(names, 0),
+                                                                         "scheme_rules")))
+        return PyErr_Format(PyExc_TypeError, "normalize() takes scheme_rules alone, by its name");
+    if (named && (by_rules = PyObject_IsTrue(words[0])) < 0) return NULL;
     int kind = kind_of_class(Py_TYPE(self), &state);
-    (void)unused;
-    return kind < 0 ? NULL : normal_form(state, kind, self);
+    return kind < 0 ? NULL : normal_form(state, kind, options_of(by_rules), self);
 }
 
 /* Whether a call that takes so many words was given them. */
@@ -65,16 +77,18 @@ static int takes(Py_ssize_t wanted, Py_ssize_t count) {
     return 0;
 }
 
-/* _resolve(reference, normalizes) */
+/* _resolve(reference, normalizes, scheme_rules): the last only counts if it normalizes. */
 static PyObject *reference_resolve(PyObject *self, PyObject *const *words, Py_ssize_t count) {
     State *state;
     PyObject *cls = (PyObject *)Py_TYPE(self);
-    int normalizes = takes(2, count) ? PyObject_IsTrue(words[1]) : -1;
-    int kind = normalizes < 0 ? -1 : kind_of(cls, &state);
+    int normalizes = takes(3, count) ? PyObject_IsTrue(words[1]) : -1;
+    int by_rules = normalizes < 0 ? -1 : PyObject_IsTrue(words[2]);
+    int kind = by_rules < 0 ? -1 : kind_of(cls, &state);
     if (kind < 0) return NULL;
-    pair_call *resolve = normalizes ? state->call.resolve_normalized : state->call.resolve;
-    Call it = {.kind = (uint32_t)kind, .two = resolve};
-    return value_result_of(state, cls, &it, self, words[0]);
+    Call resolve = {.kind = (uint32_t)kind, .two = state->call.resolve};
+    Call normal = {.kind = (uint32_t)kind, .with_options = state->call.resolve_normalized,
+                   .options = options_of(by_rules)};
+    return value_result_of(state, cls, normalizes ? &normal : &resolve, self, words[0]);
 }
 
 /* The kind of a value, if the class given for its result is of the kind that is `further` on. */
@@ -154,8 +168,11 @@ static PyMethodDef class_methods[] = {
 };
 
 static PyMethodDef reference_methods[] = {
-    {"normalize", reference_normalize, METH_NOARGS,
-     "normalize($self, /)\n--\n\nReturns the normal form (RFC 3986, section 6.2.2)."},
+    {"normalize", (PyCFunction)(void (*)(void))reference_normalize, METH_FASTCALL | METH_KEYWORDS,
+     "normalize($self, /, *, scheme_rules=False)\n--\n\n"
+     "Returns the normal form (RFC 3986, section 6.2.2), without a default or empty port (section\n"
+     "6.2.3). With `scheme_rules` it is that of the whole of section 6.2.3: `http://a` is\n"
+     "`http://a/`."},
     {"_resolve", (PyCFunction)(void (*)(void))reference_resolve, METH_FASTCALL, NULL},
     {"_relativize", (PyCFunction)(void (*)(void))reference_relativize, METH_FASTCALL, NULL},
     {"_to_uri", reference_to_uri, METH_O, NULL},

@@ -41,7 +41,7 @@ COMPONENTS = {
 }
 HOST_KINDS = {"NO_HOST": 0, "REG_NAME": 1, "IPV4": 2, "IPV6": 3, "IPV_FUTURE": 4}
 BUFFERS = {"OUT": 0, "OUT_OFFSETS": 1, "VALID": 2, "PARTS": 3, "LINE_ERRORS": 4, "OFFSET_WIDTH": 5}
-OPTIONS = {"PREFER_RELATIVE_PATH": 1}
+OPTIONS = {"PREFER_RELATIVE_PATH": 1, "SCHEME_RULES": 2}
 
 
 class Span(ctypes.Structure):
@@ -103,9 +103,9 @@ FUNCTIONS: Dict[str, Tuple[Any, ...]] = {
     "error_name": (NUMBER, *_BUFFER, OUT),
     "parse": (NUMBER, *_TEXT, OUT),
     "is_plainly_normal": (NUMBER, *_TEXT, OUT),
-    "normalize": (NUMBER, *_TEXT, *_BUFFER, *_BUFFER, OUT),
+    "normalize": (NUMBER, NUMBER, *_TEXT, *_BUFFER, *_BUFFER, OUT),
     "resolve": (NUMBER, *_TEXT, *_TEXT, *_BUFFER, *_BUFFER, OUT),
-    "resolve_normalized": (NUMBER, *_TEXT, *_TEXT, *_BUFFER, *_BUFFER, OUT),
+    "resolve_normalized": (NUMBER, NUMBER, *_TEXT, *_TEXT, *_BUFFER, *_BUFFER, OUT),
     "relativize": (NUMBER, NUMBER, *_TEXT, *_TEXT, *_BUFFER, *_BUFFER, OUT),
     "build": (NUMBER, *_TEXT, OUT, *_BUFFER, *_BUFFER, OUT),
     "to_uri": (NUMBER, *_TEXT, *_BUFFER, *_BUFFER, OUT),
@@ -115,17 +115,17 @@ FUNCTIONS: Dict[str, Tuple[Any, ...]] = {
     "encode": (NUMBER, *_TEXT, *_BUFFER, OUT),
     "mend_component": (NUMBER, *_TEXT, *_BUFFER, OUT),
     "next_pair": (*_TEXT, OUT, OUT),
-    "normalize_batch": (NUMBER, *_BUFFER, *_BUFFER, *_BUFFER, *_BUFFER, *_BUFFER, OUT),
-    "normalize_batch64": (NUMBER, *_BUFFER, *_BUFFER, *_BUFFER, *_BUFFER, *_BUFFER, OUT),
+    "normalize_batch": (NUMBER, NUMBER, *_BUFFER, *_BUFFER, *_BUFFER, *_BUFFER, *_BUFFER, OUT),
+    "normalize_batch64": (NUMBER, NUMBER, *_BUFFER, *_BUFFER, *_BUFFER, *_BUFFER, *_BUFFER, OUT),
     "to_uri_batch": (NUMBER, *_BUFFER, *_BUFFER, *_BUFFER, *_BUFFER, *_BUFFER, OUT),
     "to_uri_batch64": (NUMBER, *_BUFFER, *_BUFFER, *_BUFFER, *_BUFFER, *_BUFFER, OUT),
     "resolve_batch": (NUMBER, *_TEXT, *_BUFFER, *_BUFFER, *_BUFFER, *_BUFFER, *_BUFFER, OUT),
     "resolve_batch64": (NUMBER, *_TEXT, *_BUFFER, *_BUFFER, *_BUFFER, *_BUFFER, *_BUFFER, OUT),
     "resolve_normalized_batch": (
-        NUMBER, *_TEXT, *_BUFFER, *_BUFFER, *_BUFFER, *_BUFFER, *_BUFFER, OUT,
+        NUMBER, NUMBER, *_TEXT, *_BUFFER, *_BUFFER, *_BUFFER, *_BUFFER, *_BUFFER, OUT,
     ),
     "resolve_normalized_batch64": (
-        NUMBER, *_TEXT, *_BUFFER, *_BUFFER, *_BUFFER, *_BUFFER, *_BUFFER, OUT,
+        NUMBER, NUMBER, *_TEXT, *_BUFFER, *_BUFFER, *_BUFFER, *_BUFFER, *_BUFFER, OUT,
     ),
     "relativize_batch": (
         NUMBER, NUMBER, *_TEXT, *_BUFFER, *_BUFFER, *_BUFFER, *_BUFFER, *_BUFFER, OUT,
@@ -145,5 +145,5 @@ FUNCTIONS: Dict[str, Tuple[Any, ...]] = {
     "component_batch64": (NUMBER, NUMBER, *_BUFFER, *_BUFFER, *_BUFFER, *_BUFFER, *_BUFFER, OUT),
     "parse_batch": (NUMBER, *_BUFFER, *_BUFFER, *_BUFFER, OUT),
     "parse_batch64": (NUMBER, *_BUFFER, *_BUFFER, *_BUFFER, OUT),
-    "normalize_lines": (NUMBER, *_BUFFER, *_BUFFER, *_BUFFER, OUT),
+    "normalize_lines": (NUMBER, NUMBER, *_BUFFER, *_BUFFER, *_BUFFER, OUT),
 }

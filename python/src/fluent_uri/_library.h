@@ -29,6 +29,9 @@ typedef uint32_t test_call(uint32_t, const uint8_t *, size_t, const fluent_uri_p
 typedef uint32_t next_call(const uint8_t *, size_t, size_t *, fluent_uri_pair *);
 typedef uint32_t text_call(uint32_t, const uint8_t *, size_t, uint8_t *, size_t,
                            fluent_uri_parts *, size_t, fluent_uri_outcome *);
+/* (with options) */
+typedef uint32_t ruled_call(uint32_t, uint32_t, const uint8_t *, size_t, uint8_t *, size_t,
+                            fluent_uri_parts *, size_t, fluent_uri_outcome *);
 typedef uint32_t pair_call(uint32_t, const uint8_t *, size_t, const uint8_t *, size_t, uint8_t *,
                            size_t, fluent_uri_parts *, size_t, fluent_uri_outcome *);
 typedef uint32_t option_call(uint32_t, uint32_t, const uint8_t *, size_t, const uint8_t *, size_t,
@@ -38,9 +41,10 @@ typedef struct {
     parse_call *parse; /* NULL before `open` */
     test_call *is_plainly_normal;
     next_call *next_pair;
-    text_call *normalize, *to_uri, *mend, *mend_link;
-    pair_call *resolve, *resolve_normalized;
-    option_call *relativize;
+    text_call *to_uri, *mend, *mend_link;
+    ruled_call *normalize;
+    pair_call *resolve;
+    option_call *resolve_normalized, *relativize;
 } Functions;
 
 typedef struct {

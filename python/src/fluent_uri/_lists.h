@@ -36,7 +36,7 @@ static PyObject *parsed_or_none(const State *state, int kind, PyObject *cls, PyO
 static PyObject *normal_or_none(const State *state, int kind, PyObject *cls, PyObject *given) {
     PyObject *text = text_given(given), *made = NULL;
     Utf8 utf8 = {0};
-    Call it = {.kind = (uint32_t)kind, .one = state->call.normalize};
+    Call it = {.kind = (uint32_t)kind, .ruled = state->call.normalize};
     (void)cls;
     if (!text) return NULL;
     if (utf8_of(Py_NewRef(text), &utf8) == 0)

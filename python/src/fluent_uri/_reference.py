@@ -20,6 +20,7 @@ _ABSENT = 2**64 - 1
 # Of a component, where its start is among them.
 _SCHEME, _AUTHORITY, _USERINFO, _HOST, _PORT, _PATH, _QUERY, _FRAGMENT = range(3, 19, 2)
 _RELATIVE = OPTIONS["PREFER_RELATIVE_PATH"]
+_RULES = OPTIONS["SCHEME_RULES"]
 # The classes of the kinds, which users see; a subclass of one is none.
 FINISHED: Set[type] = set()
 
@@ -187,11 +188,14 @@ class Reference:
             return self
         return made_of.__of(made.decode(), made, parts)
 
-    def normalize(self: Self) -> Self:
-        """Returns the normal form (RFC 3986, section 6.2.2)."""
-        if "%" not in self.__text and self.__is_plainly_normal():
+    def normalize(self: Self, *, scheme_rules: bool = False) -> Self:
+        """Returns the normal form (RFC 3986, section 6.2.2), without a default or empty port
+        (section 6.2.3). With `scheme_rules` it is that of the whole of section 6.2.3: `http://a` is
+        `http://a/`."""
+        if not scheme_rules and "%" not in self.__text and self.__is_plainly_normal():
             return self
-        return self.__made(type(self), _native.normalize, (self._number,))
+        numbers = self._number, _RULES if scheme_rules else 0
+        return self.__made(type(self), _native.normalize, numbers)
 
     def __is_plainly_normal(self) -> int:
         data, parts = self.__utf8(), self.__parts
@@ -200,9 +204,14 @@ class Reference:
         found: int = _native.is_plainly_normal(self._number, data, len(data), parts)
         return found
 
-    def _resolve(self: Self, reference: Union[str, Reference], normalize: bool) -> Self:
-        call = _native.resolve_normalized if normalize else _native.resolve
-        return self.__made(type(self), call, (self._number,), Reference.__other(reference))
+    def _resolve(
+        self: Self, reference: Union[str, Reference], normalize: bool, scheme_rules: bool
+    ) -> Self:
+        other = Reference.__other(reference)
+        if not normalize:
+            return self.__made(type(self), _native.resolve, (self._number,), other)
+        numbers = self._number, _RULES if scheme_rules else 0
+        return self.__made(type(self), _native.resolve_normalized, numbers, other)
 
     def _relativize(
         self, target: Union[str, Reference], made_of: Type[Made], prefers_relative_path: bool
@@ -346,7 +355,7 @@ def _is_of(number: int, given: Any) -> bool:
 
 def normalize_all(cls: Type[Reference], texts: Tuple[Any, ...]) -> List[Optional[str]]:
     """The normal form of each text, or None where it is not of the kind."""
-    words = (kind_of(cls),)
+    words = (kind_of(cls), 0)
     data, ends = joined(utf8_of(text_given(it)) for it in texts)
     made = Given(data, ends).done("normalize", words, lambda size, count: size + 2 * count)
     return made.texts()

@@ -55,6 +55,7 @@ static PyObject *rejected(const State *state, int lax, uint32_t number, size_t i
 typedef struct {
     uint32_t kind;
     text_call *one;
+    ruled_call *ruled;
     pair_call *two;
     option_call *with_options;
     uint32_t options;
@@ -64,6 +65,9 @@ static uint32_t call(const Call *it, const Utf8 *first, const Utf8 *second, uint
                      size_t size, fluent_uri_parts *parts, fluent_uri_outcome *outcome) {
     size_t length = (size_t)first->size;
     if (it->one) return it->one(it->kind, first->at, length, out, size, parts, !!parts, outcome);
+    if (it->ruled)
+        return it->ruled(it->kind, it->options, first->at, length, out, size, parts, !!parts,
+                         outcome);
     if (it->with_options)
         return it->with_options(it->kind, it->options, first->at, length, second->at,
                                 (size_t)second->size, out, size, parts, !!parts, outcome);

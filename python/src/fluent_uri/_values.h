@@ -170,7 +170,7 @@ static PyObject *value_result_of(const State *state, PyObject *cls, const Call *
     Utf8 first = {0}, second = {0};
     fluent_uri_parts parts;
     PyObject *text = ((Reference *)self)->text, *made = NULL;
-    PyObject *same = cls == (PyObject *)Py_TYPE(self) && it->one ? text : NULL;
+    PyObject *same = cls == (PyObject *)Py_TYPE(self) && !reference ? text : NULL;
     if ((!reference || utf8_of(text_given(reference), &second) == 0) &&
         utf8_of(Py_NewRef(text), &first) == 0)
         made = result_of(state, it, &first, reference ? &second : NULL, same, 0, &parts);
@@ -208,17 +208,17 @@ static int is_hardly_normal(const Reference *self, const char *text) {
     return (*text >= 'A' && *text <= 'Z') || self->parts.port.start != SIZE_MAX;
 }
 
-/* The normal form of a value. It is the value itself if its text does not change. The library finds
+/* The normal form of a value, by options. It is the value itself if its text does not change. The library finds
  * that of most such texts by their parts, and then nothing is parsed. Of others nothing is made: so
  * the parts of the result are asked for at once only where the text will hardly be its own. */
-static PyObject *normal_form(const State *state, int kind, PyObject *object) {
+static PyObject *normal_form(const State *state, int kind, uint32_t options, PyObject *object) {
     Reference *self = (Reference *)object;
     PyObject *cls = (PyObject *)Py_TYPE(self);
     Py_ssize_t length;
     const char *text = PyUnicode_AsUTF8AndSize(self->text, &length);
     if (!text) return NULL;
-    /* (the test finds no text with octets normal) */
-    if (!memchr(text, '%', (size_t)length) &&
+    /* (the test finds no text with octets normal, and knows no option) */
+    if (!options && !memchr(text, '%', (size_t)length) &&
         state->call.is_plainly_normal((uint32_t)kind, (const uint8_t *)text, (size_t)length,
                                       &self->parts))
         return Py_NewRef(object);
@@ -227,8 +227,8 @@ static PyObject *normal_form(const State *state, int kind, PyObject *object) {
         fluent_uri_outcome outcome;
         fluent_uri_parts parts;
         size_t size = (size_t)length, takes_parts = (size_t)is_hardly_normal(self, text);
-        uint32_t error = state->call.normalize((uint32_t)kind, (const uint8_t *)text, size, room,
-                                               ROOM, &parts, takes_parts, &outcome);
+        uint32_t error = state->call.normalize((uint32_t)kind, options, (const uint8_t *)text,
+                                               size, room, ROOM, &parts, takes_parts, &outcome);
         if (!error && outcome.length == size && memcmp(room, text, size) == 0)
             return Py_NewRef(object);
         if (!error && outcome.length <= ROOM) {
@@ -239,7 +239,7 @@ static PyObject *normal_form(const State *state, int kind, PyObject *object) {
         }
     }
     /* It is long, or an error. */
-    Call it = {.kind = (uint32_t)kind, .one = state->call.normalize};
+    Call it = {.kind = (uint32_t)kind, .ruled = state->call.normalize, .options = options};
     return value_result_of(state, cls, &it, object, NULL);
 }
 

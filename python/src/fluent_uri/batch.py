@@ -100,11 +100,16 @@ def is_valid(texts: _Texts, kind: _AnyKind = Uri) -> List[bool]:
 
 
 def normalize(
-    texts: _Texts, kind: _AnyKind = Uri, *, mend: bool = False
+    texts: _Texts, kind: _AnyKind = Uri, *, scheme_rules: bool = False, mend: bool = False
 ) -> List[Optional[str]]:
-    """Returns the normal form of each text, or None where it is not of the kind."""
-    if mend:
-        return normalize_column(*column(texts), kind, mend=True).texts()
+    """Returns the normal form of each text, or None where it is not of the kind.
+
+    >>> normalize(["http://A", "file://localhost/a"], scheme_rules=True)
+    ['http://a/', 'file:///a']
+    """
+    if mend or scheme_rules:
+        made = normalize_column(*column(texts), kind, scheme_rules=scheme_rules, mend=mend)
+        return made.texts()
     return _calls.normalize_all(kind, tuple(_each(texts)))
 
 
@@ -129,6 +134,7 @@ def join_links(
     links: _Texts,
     *,
     normalize: bool = False,
+    scheme_rules: bool = False,
     keep_fragment: bool = True,
 ) -> List[Optional[str]]:
     """Returns the target of each link of a page, as `base.join_link` does, or None where there is
@@ -143,7 +149,12 @@ def join_links(
     kind: _AnyKind = IriRef if issubclass(type(base), Iri) else UriRef
     made = mend_link_column(*column(links), kind)
     targets = resolve_column(
-        base, made.data, made.offsets, normalize=normalize, validity=made.validity
+        base,
+        made.data,
+        made.offsets,
+        normalize=normalize,
+        scheme_rules=scheme_rules,
+        validity=made.validity,
     ).texts()
     if keep_fragment:
         return targets
@@ -158,10 +169,17 @@ def to_uri(
 
 
 def resolve(
-    base: Union[Uri, Iri], references: _Texts, *, normalize: bool = False, mend: bool = False
+    base: Union[Uri, Iri],
+    references: _Texts,
+    *,
+    normalize: bool = False,
+    scheme_rules: bool = False,
+    mend: bool = False,
 ) -> List[Optional[str]]:
     """Returns the target of each reference against a base, or None where there is none."""
-    return resolve_column(base, *column(references), normalize=normalize, mend=mend).texts()
+    return resolve_column(
+        base, *column(references), normalize=normalize, scheme_rules=scheme_rules, mend=mend
+    ).texts()
 
 
 def relativize(

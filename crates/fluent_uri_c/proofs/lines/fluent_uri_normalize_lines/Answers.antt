@@ -18,9 +18,9 @@ returns-in_default c =
     let before = c.loop-index.invariant in
     let line = IsLine-from-position c.args.lines.now c.loop-index.index c.loop-index.start
     c.line_end-end.result before.0 before.1 c.line_end-end.ensures.end in
-    leaves_lines c.args.kind c.args.lines.now (line_buffers c.args.out.now c.args.errors.now)
+    leaves_lines c.args.kind c.args.options c.args.lines.now (line_buffers c.args.out.now c.args.errors.now)
     (line_buffers _ _) _ 8 0 0 c.loop-index.index c.loop-index.at c.loop-index.start _
-    (omega arith) (search rules) c.report_lines.ensures.number
+    (omega arith) (search rules) (search rules) c.report_lines.ensures.number
     c.report_lines.ensures.outcome (λ _. (refl, refl))
     before.2 before.3 before.5 before.6
     (inr (inl (refl, line.more, ap is_some line.here, rw line.here c.in_default.ensures.memory)))
@@ -29,12 +29,12 @@ returns-in_default c =
 pub returns-in-Err : goal.returns-in-Err
 returns-in-Err c =
     let n = c.loop-index.index in
-    let at = written_at c.args.kind c.args.lines.now in
+    let at = written_at c.args.kind c.args.options c.args.lines.now in
     let before = c.loop-index.invariant in
     let line = IsLine-from-position c.args.lines.now n c.loop-index.start c.line_end-end.result
     before.0 before.1
     c.line_end-end.ensures.end in
-    let bytes = written_at-of-line c.args.kind c.args.lines.now _ c.as_bytes.result.now n
+    let bytes = written_at-of-line c.args.kind c.args.options c.args.lines.now _ c.as_bytes.result.now n
     (c.as_bytes.ensures.value ∙ c.in-Ok.ensures.text) line.here in
     let long : length (joined_results at (suc n))
     ≡ c.loop-index.at + length (c.as_bytes.result.now ++ newline ∷ []) =
@@ -43,9 +43,9 @@ returns-in-Err c =
     ∙ ap (λ l. c.loop-index.at + length l) (sym bytes) in
     let full : length c.args.out.now < length (joined_results at (suc n)) =
     omega (arith, long, c.in-Err.ensures.full, c.loop-index.auto.out) in
-    leaves_lines c.args.kind c.args.lines.now (line_buffers c.args.out.now c.args.errors.now)
+    leaves_lines c.args.kind c.args.options c.args.lines.now (line_buffers c.args.out.now c.args.errors.now)
     (line_buffers _ _) _ 10 0 c.in-Err.needed n c.loop-index.at c.loop-index.start _
-    (omega arith) (search rules) c.report_lines-in-Err.ensures.number
+    (omega arith) (search rules) (search rules) c.report_lines-in-Err.ensures.number
     c.report_lines-in-Err.ensures.outcome (λ ne. absurd (ne refl))
     (c.in-Err.ensures.kept ∙ before.2) before.3 before.5 before.6
     (inr (inr (inr (
@@ -63,23 +63,23 @@ returns-in-Err c =
 pub returns-then-end-lines : goal.returns-then-end-lines
 returns-then-end-lines c =
     let n = c.loop-index.index in
-    let at = written_at c.args.kind c.args.lines.now in
+    let at = written_at c.args.kind c.args.options c.args.lines.now in
     let before = c.loop-index.invariant in
     let line = IsLine-from-position c.args.lines.now n c.loop-index.start c.line_end-end.result
     before.0 before.1
     c.line_end-end.ensures.end in
-    let bytes = written_at-of-line c.args.kind c.args.lines.now _ c.as_bytes.result.now n
+    let bytes = written_at-of-line c.args.kind c.args.options c.args.lines.now _ c.as_bytes.result.now n
     (c.as_bytes.ensures.value ∙ c.in-Ok.ensures.text) line.here in
-    let number = error_number_at-of-line c.args.kind c.args.lines.now _ n c.in-Ok.line.number
+    let number = error_number_at-of-line c.args.kind c.args.options c.args.lines.now _ n c.in-Ok.line.number
     c.in-Ok.ensures.number line.here in
     let inside : n < length c.loop-index.errors = search rules in
-    leaves_lines c.args.kind c.args.lines.now (line_buffers c.args.out.now c.args.errors.now)
+    leaves_lines c.args.kind c.args.options c.args.lines.now (line_buffers c.args.out.now c.args.errors.now)
     (line_buffers _ _) _ 0 0 0 (n + 1) c.in-Ok-push_line.next c.line_end-end.result _
-    (omega arith) (search rules) c.report_lines-then-end-lines.ensures.number
+    (omega arith) (search rules) (search rules) c.report_lines-then-end-lines.ensures.number
     c.report_lines-then-end-lines.ensures.outcome (λ _. (refl, refl))
     (buffer-of-one-more-result at n _ _ before.3 bytes _ _ _ before.2 c.in-Ok-push_line.ensures.written)
     (end-of-one-more-result at n _ _ before.3 bytes _ c.in-Ok-push_line.ensures.end)
-    (items-up-to-set-item (error_number_at c.args.kind c.args.lines.now) c.loop-index.errors n
+    (items-up-to-set-item (error_number_at c.args.kind c.args.options c.args.lines.now) c.loop-index.errors n
     c.in-Ok.line.number inside number before.5)
     (later-items-unchanged c.args.errors.now c.loop-index.errors n c.in-Ok.line.number before.6)
     (inl (refl, sym (line.last (omega arith))))
@@ -88,14 +88,14 @@ returns-then-end-lines c =
 pub loop-index-preserved : goal.loop-index-preserved
 loop-index-preserved c =
     let n = c.loop-index.index in
-    let at = written_at c.args.kind c.args.lines.now in
+    let at = written_at c.args.kind c.args.options c.args.lines.now in
     let before = c.loop-index.invariant in
     let line = IsLine-from-position c.args.lines.now n c.loop-index.start c.line_end-end.result
     before.0 before.1
     c.line_end-end.ensures.end in
-    let bytes = written_at-of-line c.args.kind c.args.lines.now _ c.as_bytes.result.now n
+    let bytes = written_at-of-line c.args.kind c.args.options c.args.lines.now _ c.as_bytes.result.now n
     (c.as_bytes.ensures.value ∙ c.in-Ok.ensures.text) line.here in
-    let number = error_number_at-of-line c.args.kind c.args.lines.now _ n c.in-Ok.line.number
+    let number = error_number_at-of-line c.args.kind c.args.options c.args.lines.now _ n c.in-Ok.line.number
     c.in-Ok.ensures.number line.here in
     let inside : n < length c.loop-index.errors = search rules in
     let below : c.line_end-end.result < length c.args.lines.now =
@@ -105,7 +105,7 @@ loop-index-preserved c =
       buffer-of-one-more-result at n _ _ before.3 bytes _ _ _ before.2 c.in-Ok-push_line.ensures.written,
       end-of-one-more-result at n _ _ before.3 bytes _ c.in-Ok-push_line.ensures.end,
       c.in-Ok-push_line.ensures.inside,
-      items-up-to-set-item (error_number_at c.args.kind c.args.lines.now) c.loop-index.errors n
+      items-up-to-set-item (error_number_at c.args.kind c.args.options c.args.lines.now) c.loop-index.errors n
           c.in-Ok.line.number inside number before.5,
       later-items-unchanged c.args.errors.now c.loop-index.errors n c.in-Ok.line.number before.6,
     )
@@ -122,10 +122,10 @@ returns c =
     c.loop-index.start) c.saturating_add.ensures
     ∙ ap (λ k. outcome_of_batch 10 4 (as_size (length c.loop-index.errors + 1)) k c.loop-index.at
     c.loop-index.start) (sym same) in
-    leaves_lines c.args.kind c.args.lines.now (line_buffers c.args.out.now c.args.errors.now)
+    leaves_lines c.args.kind c.args.options c.args.lines.now (line_buffers c.args.out.now c.args.errors.now)
     (line_buffers _ _) _ 10 4 (as_size (length c.loop-index.errors + 1)) c.loop-index.index
     c.loop-index.at c.loop-index.start _
-    (omega arith) (search rules) c.report_lines-2.ensures.number outcome (λ ne. absurd (ne refl)) before.2 before.3
+    (omega arith) (search rules) (search rules) c.report_lines-2.ensures.number outcome (λ ne. absurd (ne refl)) before.2 before.3
     before.5 before.6
     (inr (inr (inr (
       refl,

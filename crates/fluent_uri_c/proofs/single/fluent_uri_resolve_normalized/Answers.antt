@@ -3,6 +3,6 @@ use Rattle.fluent_uri_c.proofs.single.fluent_uri_resolve_normalized.Goals as goa
 
 pub returns : goal.returns
 returns c =
-    c.put_value_or_report.ensures _ (resolve_normalized_result c.args.kind c.args.base.now
+    c.put_value_or_report.ensures _ (resolve_normalized_result c.args.kind c.args.options c.args.base.now
     c.args.reference.now)
     c.normal_target.ensures

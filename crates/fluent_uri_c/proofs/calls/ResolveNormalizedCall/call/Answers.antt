@@ -9,17 +9,17 @@ pub returns-clause-made : goal.returns-clause-made
 returns-clause-made c =
     let call = c.args.self.now in
     c.batch_result.ensures.made _
-    (resolve_normalized_result call.kind call.bytes.now c.args.text.now)
+    (resolve_normalized_result call.kind call.options call.bytes.now c.args.text.now)
     (subst (λ (r : Returned). IsReturnedAs reference_text r c.normal_target.result)
-    (normal_target_by-is-resolve_normalized_result call.kind call.bytes.now call.base
+    (normal_target_by-is-resolve_normalized_result call.kind call.options call.bytes.now call.base
     c.args.text.now c.requires) c.normal_target.ensures)
 
 pub returns-clause-memory : goal.returns-clause-memory
 returns-clause-memory c =
     let call = c.args.self.now in
     c.batch_result.ensures.memory _
-    (resolve_normalized_result call.kind call.bytes.now c.args.text.now)
-    (resolve_normalized_result-is-other call.kind call.bytes.now c.args.text.now)
+    (resolve_normalized_result call.kind call.options call.bytes.now c.args.text.now)
+    (resolve_normalized_result-is-other call.kind call.options call.bytes.now c.args.text.now)
     (subst (λ (r : Returned). IsReturnedAs reference_text r c.normal_target.result)
-    (normal_target_by-is-resolve_normalized_result call.kind call.bytes.now call.base
+    (normal_target_by-is-resolve_normalized_result call.kind call.options call.bytes.now call.base
     c.args.text.now c.requires) c.normal_target.ensures)
