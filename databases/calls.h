@@ -13,7 +13,7 @@ typedef struct {
 /* By enum fluent_uri_kind: the words of SQL, and those of messages. */
 static const char *const uri_kinds[] = {"uri", "uri-ref", "iri", "iri-ref"};
 static const char *const uri_titles[] = {"a URI", "a URI reference", "an IRI", "an IRI reference"};
-enum { URI_KINDS = 4, URI_COMPONENTS = 9, URI_OPTIONS = 1 };
+enum { URI_KINDS = 4, URI_COMPONENTS = 9, URI_OPTIONS = 2 };
 
 /* By enum fluent_uri_component. */
 static const char *const uri_components[] = {
@@ -21,7 +21,7 @@ static const char *const uri_components[] = {
 };
 
 /* By bit, of enum fluent_uri_option. */
-static const char *const uri_options[] = {"prefer-relative-path"};
+static const char *const uri_options[] = {"prefer-relative-path", "scheme-rules"};
 
 /* Returns the number of a word among COUNT words, or -1. */
 static inline int uri_number(const char *const *words, int count, const char *at, size_t len) {
@@ -64,12 +64,12 @@ static inline uint32_t uri_write(uri_call call, uint32_t number, uint32_t option
                                  fluent_uri_outcome *outcome) {
     switch (call) {
     case URI_NORMALIZE:
-        return fluent_uri_normalize(number, a.at, a.len, out, room, NULL, 0, outcome);
+        return fluent_uri_normalize(number, options, a.at, a.len, out, room, NULL, 0, outcome);
     case URI_RESOLVE:
         return fluent_uri_resolve(number, a.at, a.len, b.at, b.len, out, room, NULL, 0, outcome);
     case URI_RESOLVE_NORMALIZED:
-        return fluent_uri_resolve_normalized(number, a.at, a.len, b.at, b.len, out, room, NULL, 0,
-                                             outcome);
+        return fluent_uri_resolve_normalized(number, options, a.at, a.len, b.at, b.len, out, room,
+                                             NULL, 0, outcome);
     case URI_RELATIVIZE:
         return fluent_uri_relativize(number, options, a.at, a.len, b.at, b.len, out, room, NULL, 0,
                                      outcome);
