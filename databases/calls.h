@@ -13,7 +13,7 @@ typedef struct {
 /* By enum fluent_uri_kind: the words of SQL, and those of messages. */
 static const char *const uri_kinds[] = {"uri", "uri-ref", "iri", "iri-ref"};
 static const char *const uri_titles[] = {"a URI", "a URI reference", "an IRI", "an IRI reference"};
-enum { URI_KINDS = 4, URI_COMPONENTS = 9, URI_OPTIONS = 1 };
+enum { URI_KINDS = 4, URI_COMPONENTS = 9, URI_OPTIONS = 2 };
 
 /* By enum fluent_uri_component. */
 static const char *const uri_components[] = {
@@ -21,7 +21,7 @@ static const char *const uri_components[] = {
 };
 
 /* By bit, of enum fluent_uri_option. */
-static const char *const uri_options[] = {"prefer-relative-path"};
+static const char *const uri_options[] = {"prefer-relative-path", "scheme-rules"};
 
 /* Returns the number of a word among COUNT words, or -1. */
 static inline int uri_number(const char *const *words, int count, const char *at, size_t len) {

@@ -71,6 +71,10 @@ SELECT * FROM uri_query('?é=ü', 'iri-ref');
 SELECT * FROM uri_query('a b');
 SELECT * FROM uri_query('x:', 'url');
 SELECT count(*) FROM uri_query;
+-- The rules of schemes (RFC 3986, section 6.2.3).
+SELECT uri_normal('http://a'), uri_normal('http://a', 'uri', 'scheme-rules'),
+       uri_resolve_normal('http://a/b', '//a', 'uri', 'scheme-rules');
+SELECT uri_normal('http://a', 'uri', 'prefer-relative-path');
 -- Limits.
 .limit length 1000
 SELECT length(uri_normal('http://a/' || replace(hex(zeroblob(450)), '0', 'a')));
