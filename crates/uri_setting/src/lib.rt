@@ -1,5 +1,5 @@
-//! The setting of the programs and of the exports for C: whether they normalise by the rules of
-//! schemes, or by default ports alone (RFC 3986, section 6.2.3).
+//! The setting of the programs: whether they normalise by the rules of schemes, or by default ports
+//! alone (RFC 3986, section 6.2.3).
 #![tactic(auto)]
 
 pub mod rule_setting;
