@@ -296,12 +296,12 @@ static void built_texts_agree(const input *in) {
     HOLDS(outcome.length == in->size && !memcmp(again, in->text, in->size));
 }
 
-/* Spans by bytes of the data: most are within it, and some are absent. */
+/* Spans by bytes of the data: most are within it, and some are absent. Of no data all are. */
 static fluent_uri_components given_by(const uint8_t *data, size_t size) {
     fluent_uri_span at[7];
     fluent_uri_components made;
     for (size_t i = 0; i < 7; i++) {
-        uint8_t start = data[2 * i % size], end = data[(2 * i + 1) % size];
+        uint8_t start = size ? data[2 * i % size] : 1, end = size ? data[(2 * i + 1) % size] : 0;
         at[i].start = start % 3 ? SIZE_MAX : start % (size + 1);
         at[i].end = start % 3 ? SIZE_MAX : at[i].start + end % (size + 2 - at[i].start);
     }
