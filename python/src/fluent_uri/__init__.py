@@ -173,8 +173,8 @@ class _Absolute(Reference):
         Uri('http://a/b/~g')
 
         With `normalize` it returns the normal form of the target, which is by the rules of schemes
-        if `scheme_rules` is true, and with `mend` that of what the reference is mended to. Raises `ParseError` if the reference is not one of the kind, and
-        `ResolveError` if it has no target.
+        if `scheme_rules` is true. With `mend` the reference is mended first. Raises `ParseError` if
+        the reference is not one of the kind, and `ResolveError` if it has no target.
         """
         _calls.rules_of_normal(normalize, scheme_rules)
         if mend:
@@ -196,8 +196,8 @@ class _Absolute(Reference):
         Uri('http://a/x%20y?%5B1%5D')
 
         The fragment of the address plays no part. With `normalize` it returns the normal form of
-        the target, which is by the rules of schemes if `scheme_rules` is true. Raises `ParseError` if the link cannot be mended, and `ResolveError` if it has
-        no target.
+        the target, which is by the rules of schemes if `scheme_rules` is true. Raises `ParseError`
+        if the link cannot be mended, and `ResolveError` if it has no target.
         """
         _calls.rules_of_normal(normalize, scheme_rules)
         base = self if self.fragment is None else self.with_fragment(None)
