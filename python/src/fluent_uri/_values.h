@@ -208,9 +208,10 @@ static int is_hardly_normal(const Reference *self, const char *text) {
     return (*text >= 'A' && *text <= 'Z') || self->parts.port.start != SIZE_MAX;
 }
 
-/* The normal form of a value, by options. It is the value itself if its text does not change. The library finds
- * that of most such texts by their parts, and then nothing is parsed. Of others nothing is made: so
- * the parts of the result are asked for at once only where the text will hardly be its own. */
+/* The normal form of a value, by options. It is the value itself if its text does not change. The
+ * library finds that of most such texts by their parts, and then nothing is parsed. Of others
+ * nothing is made: so the parts of the result are asked for at once only where the text will hardly
+ * be its own. */
 static PyObject *normal_form(const State *state, int kind, uint32_t options, PyObject *object) {
     Reference *self = (Reference *)object;
     PyObject *cls = (PyObject *)Py_TYPE(self);
