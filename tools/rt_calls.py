@@ -39,9 +39,10 @@ class Function(NamedTuple):
 
 
 class File:
-    def __init__(self, path):
-        crate, _, *parts = path.relative_to(CRATES).with_suffix("").parts
-        self.crate, self.module = crate, "::".join(it for it in parts if it not in ("lib", "main"))
+    def __init__(self, path, folder):
+        crate, _, *parts = path.relative_to(folder).with_suffix("").parts
+        self.crate, self.source = crate, folder / crate / "src"
+        self.module = "::".join(it for it in parts if it not in ("lib", "main"))
         text = re.sub(r"//.*", "", path.read_text(encoding="utf-8"))
         self.lines = text.splitlines()
         code = re.sub(r"^ *ghost use [^;]+;", "", text, flags=re.M)
@@ -57,9 +58,12 @@ class File:
             start, _, group = it.partition("::{")
             for one in group.rstrip("}").split(",") if group else [start.rpartition("::")[2]]:
                 name, _, here = one.strip().partition(" as ")
-                path = start
-                if name == "self" or not group:
+                if name == "self":
                     path, _, name = start.rpartition("::")
+                else:
+                    path = start if group else start.rpartition("::")[0]
+                if (self.source / path.split("::")[0]).with_suffix(".rt").is_file():
+                    path = f"crate::{path}"
                 yield here or name, (re.sub(r"^crate\b", self.crate, path), name)
 
     def read(self):
@@ -113,9 +117,9 @@ class File:
 class Calls:
     """The functions of these crates, and what each calls."""
 
-    def __init__(self, crates):
-        paths = [path for it in crates for path in sorted(CRATES.glob(f"{it}/src/**/*.rt"))]
-        self.files = [File(it) for it in paths]
+    def __init__(self, crates, folder=CRATES):
+        paths = [path for it in crates for path in sorted(folder.glob(f"{it}/src/**/*.rt"))]
+        self.files = [File(it, folder) for it in paths]
         self.file_of, self.by_name, self.aliases = {}, {}, {}
         for file in self.files:
             self.aliases |= dict(ALIAS.findall("\n".join(file.lines)))
