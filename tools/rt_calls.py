@@ -66,6 +66,14 @@ class File:
                     path = f"crate::{path}"
                 yield here or name, (re.sub(r"^crate\b", self.crate, path), name)
 
+    def paths_of(self, parts):
+        """The modules that a path before a call may name."""
+        if parts[0] in self.imports:
+            return ["::".join((*self.imports[parts[0]], *parts[1:]))]
+        below = [self.crate, *self.module.split("::")] if self.module else [self.crate]
+        starts = ([], [self.crate], below) if parts[0] != "crate" else ([self.crate],)
+        return ["::".join([*it, *parts[parts[0] == "crate" :]]) for it in starts]
+
     def read(self):
         owners, at = [], 0
         while at < len(self.lines):
@@ -145,18 +153,18 @@ class Calls:
             own = [it for it in named if it.owner == function.owner]
             return next((it for it in own if it.module == file.module), next(iter(own), None))
         if before.endswith("."):
-            known = [it for it in named if it.owner and it.owner in file.types]
             given = re.search(rf"\b{before[:-1] or '-'}: ([^,)]*)", function.head)
-            known = [it for it in known if not given or it.owner in WORD.findall(given[1])]
+            types = set(WORD.findall(given[1])) if given else file.types
+            known = [it for it in named if it.owner and it.owner in types]
             return known[0] if len({it.owner for it in known}) == 1 else None
         if before:
-            owner = re.sub(r"::<.*?>", "", before).rstrip(":").split("::")[-1]
+            parts = re.sub(r"::<.*?>", "", before).removesuffix("::").split("::")
+            owner = self.aliases.get(parts[-1], parts[-1])
             owner = function.owner if owner == "Self" else owner
-            owner = self.aliases.get(owner, owner)
             if owner[:1].isupper():
                 return next((it for it in named if it.owner == owner), None)
-            path = "::".join(file.imports.get(owner, (file.crate, owner)))
-            return next((it for it in named if it.place == path and not it.owner), None)
+            paths = file.paths_of(parts)
+            return next((it for it in named if it.place in paths and not it.owner), None)
         if name in file.imports:
             path, there = file.imports[name]
             named = self.by_name.get(there, [])
