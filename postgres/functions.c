@@ -83,13 +83,14 @@ PG_FUNCTION_INFO_V1(uri_resolve);
 Datum uri_resolve(PG_FUNCTION_ARGS) {
     uri_value base;
     uri_bytes reference = uri_bytes_of(PG_GETARG_TEXT_PP(1));
+    uint32 options = PG_GETARG_BOOL(2) ? FLUENT_URI_BASIC : 0;
     fluent_uri_outcome outcome;
     text *target;
 
     uri_read(URI_VALUE(0), &base);
-    target = written(URI_RESOLVE, base.kind, 0, base.text, reference, &outcome);
+    target = written(URI_RESOLVE, base.kind, options, base.text, reference, &outcome);
     if (target != NULL) PG_RETURN_POINTER(uri_value_or_error(base.kind, uri_bytes_of(target)));
-    if (outcome.error >= FLUENT_URI_BASE_WITH_FRAGMENT)
+    if (outcome.error > FLUENT_URI_NOT_UTF8)
         ereport(ERROR, (errcode(ERRCODE_INVALID_PARAMETER_VALUE),
                         errmsg("the reference has no target: %s", uri_message(outcome.error))));
     ereport(ERROR, (errcode(ERRCODE_INVALID_TEXT_REPRESENTATION),
