@@ -97,7 +97,7 @@ chown -R 1000:1000 "$machine/home/user"
 printf '#!/bin/sh\nexit 101\n' > "$machine/usr/sbin/policy-rc.d"
 chmod 755 "$machine/usr/sbin/policy-rc.d"
 inside 'what the packages need is not to be had' \
-    'apt-get update; apt-get install -y python3 sqlite3 postgresql-15'
+    'apt-get update; apt-get install -y --no-install-recommends python3 sqlite3 postgresql-15'
 files_of_machine > "$work/before"
 echo 'fresh-install: a root file system without kit and compiler'
 
@@ -144,8 +144,9 @@ mkdir "$machine/home/user/docs" "$machine/home/user/databases"
 cp "$root/docs/C.md" "$root/docs/DATABASES.md" "$machine/home/user/docs/"
 cp "$root/databases/statements" "$machine/home/user/databases/"
 chown -R 1000:1000 "$machine/home/user"
-user 'the statements for SQLite of docs/DATABASES.md' "databases/statements 'Statements for SQLite' \
-    sqlite3 -batch -cmd '.load /usr/lib/sqlite3/fluent_uri' :memory:"
+user 'the statements for SQLite of docs/DATABASES.md' "
+    databases/statements 'Statements for SQLite' \
+        sqlite3 -batch -cmd '.load /usr/lib/sqlite3/fluent_uri' :memory:"
 user 'the statements for PostgreSQL of docs/DATABASES.md' "
     pg_virtualenv -v 15 -i '--locale=C.UTF-8 --encoding=UTF8' sh -euc '
         psql -qX -c \"CREATE EXTENSION fluent_uri\"

@@ -255,7 +255,8 @@ git reset -q --hard "v$version"
 sed -i "s/^## $version, .*/## $version, not released yet/" CHANGELOG.md
 git commit -q -a -m undated
 tagged './check passed' '' "Checked-tree: $(git rev-parse 'HEAD^{tree}')" "Checked-by: $IDENTITY"
-refuses "CHANGELOG.md lacks '## $version, 2026-01-02', the day of debian/changelog" "$version"
+refuses "CHANGELOG.md lacks '## $version, 2026-01-02', the day of debian/changelog in UTC" \
+    "$version"
 git reset -q --hard HEAD~
 tools/checked "$(tools/checked)"
 git tag -f -a -F out/check.passed "v$version" > "$work/out"
