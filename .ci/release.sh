@@ -306,6 +306,8 @@ for it in out/release/*.deb; do
         must "$file in $it" 0 $?
     done
 done
+must 'the components that load extensions' 2 \
+    "$(grep -c HAS_PREREQUISITE "out/release/fluent-uri-$version.spdx.json")"
 must 'the target of arm64' 1 "$(grep -c 'logic=proved.* target=aarch64-unknown-linux-gnu' \
     "out/release/fluent-uri-$version-arm64.proved.txt")"
 rm -rf "$work/files"
