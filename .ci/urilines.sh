@@ -56,6 +56,11 @@ is too-long-return 1 'x:3456\r\nx:345\r\n' 'error: line over 5 bytes\r\nx:345\r\
 is null 1 'HTTP://h\0x:a\nb' 'http://h\0error: unexpected character at index 3\0' normalize uri -0
 is resolve 0 '../g\n?y' 'http://a/b/g\nhttp://a/b/c/d;p?y\n' resolve uri 'http://a/b/c/d;p?q'
 is resolve-iri 1 'é\na b\n' 'http://a/é\nerror: reference: unexpected character at index 1\n' resolve iri http://a
+is resolve-fragment 0 'g\n\n?y' 'http://a/g\nhttp://a/b?c\nhttp://a/b?y\n' resolve uri 'http://a/b?c#f'
+is resolve-basic 0 '%%2E%%2E/g\n?q\nfoo:a/../b\n' 'http://a/%%2E%%2E/g\nhttp://a/./b?q\nfoo:/b\n' resolve --basic uri 'http://a/./b#f'
+is resolve-basic-iri 1 'é\n/.//b\na b\n' 'foo:é\nerror: target has no authority, and its path would start with '"'//'"'\nerror: reference: unexpected character at index 1\n' resolve --basic iri foo:ö
+is links-fragment 0 'c\n#d\n' 'new 0 http://a/c\nnew 1 http://a/b#d\n' links http://a/b#f
+is basic-elsewhere 2 '' '' relativize --basic uri http://a
 is relativize 1 'http://a/b/x\nhttp://a/b/c/../d:e#f\nhttps://a\na\n' 'x\n./d:e#f\nhttps://a\nerror: target: unexpected character at index 1\n' relativize uri http://a/b/c
 is relativize-iri 0 'http://é/a/é?ü\nhttp://é/b\n' 'é?ü\n/b\n' relativize iri 'http://é/a/c#d'
 is prefer-relative 0 'http://a/x\nhttp://a/b/c/d\nhttp://b/x\n' '../../x\n\n//b/x\n' relativize --prefer-relative uri http://a/b/c/d

@@ -86,8 +86,17 @@ fn normalized_lines(rt: HostRuntime) {
 #[test]
 fn resolved_lines(rt: HostRuntime) {
     let base = Uri::<&str>::parse("s:/a").expect(&rt, "base");
-    let command = Command::Each(LineCommand::Resolve(Base::Uri(base)));
+    let command = Command::Each(LineCommand::Resolve(Base::Uri(base), false));
     written(&rt, rt.alloc(), command, "a b\na c\n", "a s:/b\na s:/c\n");
+}
+
+/// Tests `urilines resolve --basic` while memory is denied.
+#[test]
+fn lines_resolved_by_the_basic_algorithm(rt: HostRuntime) {
+    let base = Uri::<&str>::parse("s:/a").expect(&rt, "base");
+    let command = Command::Each(LineCommand::Resolve(Base::Uri(base), true));
+    let text = "a s:/%2e\na error: target has no authority, and its path would start with '//'\n";
+    written(&rt, rt.alloc(), command, "a %2e\na .//b\n", text);
 }
 
 /// Tests `urilines parse` while memory is denied.

@@ -52,7 +52,7 @@ fn lines_that_can_be_mended_pass_as_they_stand(rt: HostRuntime) {
 fn references_and_targets_are_mended_first(rt: HostRuntime) {
     let alloc = rt.alloc();
     let base = Uri::<&str>::parse("http://a/b").expect(&rt, "base");
-    let command = Command::Each(LineCommand::Resolve(Base::Uri(base)));
+    let command = Command::Each(LineCommand::Resolve(Base::Uri(base), false));
     let output =
         "http://a/c%20d\nerror: reference: unexpected character at index 3\nhttp://a/%C3%A9\n";
     writes(&rt, alloc, command, " c d\n//h\\@e\né", output);

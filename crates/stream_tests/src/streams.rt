@@ -141,7 +141,7 @@ fn writes_a_line_for_each(rt: HostRuntime) {
 fn each_command_and_option_has_its_output(rt: HostRuntime) {
     let alloc = rt.alloc();
     let base = Uri::<&str>::parse("http://a/b/c/d;p?q").expect(&rt, "base");
-    let resolve = with_defaults(LineCommand::Resolve(Base::Uri(base)));
+    let resolve = with_defaults(LineCommand::Resolve(Base::Uri(base), false));
     let got = both_outputs(alloc, &resolve, b"../g\r\na b\n")
         .ok()
         .expect(&rt, "run");

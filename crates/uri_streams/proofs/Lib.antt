@@ -1,4 +1,5 @@
 pub mod AsciiLines
+mod BasicTargets
 pub mod TextResults
 pub mod CheckedLines
 pub mod Cuts

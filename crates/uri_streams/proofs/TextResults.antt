@@ -22,7 +22,7 @@ use Rattle.uri_streams.specs.Results.{mend_result}
 use Rattle.uri_streams.specs.Queries.{query_json}
 use Rattle.uri_streams.specs.Results.{parse_result, parse_message, query_result, resolve_result}
 use Rattle.uri_streams.specs.Json.{json_of}
-use Rattle.uri_streams.specs.Results.{resolution_result, target_result}
+use Rattle.uri_streams.specs.Results.{resolution_result, target_result, target_result_by}
 use Rattle.uri_streams.specs.Results.{base_text, reference_kind}
 use Rattle.uri_streams.specs.declared.command.Base.{Base}
 use Rattle.uri_streams.specs.Returned.{result_in}
@@ -109,24 +109,25 @@ query_result-of-error kind text e not_of_kind is =
     else Error (parse_message kind text)) (not-true-is-false (is_of_kind kind text) not_of_kind))
 
 -- lines: what `urilines resolve` writes of a reference is the result for base and reference
-resolve_result-of-reference : (kind : Kind) (base text : List ℕ) (line_result : LineResult)
-    → IsOfKind kind text
-    → line_result ≡ target_result base text → line_result ≡ resolve_result kind base text
+resolve_result-of-reference : (is_basic : Bool) (kind : Kind) (base text : List ℕ)
+    (line_result : LineResult) → IsOfKind kind text
+    → line_result ≡ target_result_by is_basic base text
+    → line_result ≡ resolve_result is_basic kind base text
 unfolding resolve_result
-resolve_result-of-reference kind base text line_result of_kind is =
-    is ∙ sym (ap (λ b. if b then target_result base text
+resolve_result-of-reference is_basic kind base text line_result of_kind is =
+    is ∙ sym (ap (λ b. if b then target_result_by is_basic base text
     else Error (codes "reference: " ++ parse_message kind text)) of_kind)
 
 -- lines: what `urilines resolve` writes of a text that is no reference is the error that is defined
 -- for it
-resolve_result-of-error : (kind : Kind) (base text : List ℕ) (e : ParseError)
+resolve_result-of-error : (is_basic : Bool) (kind : Kind) (base text : List ℕ) (e : ParseError)
     → ¬ (IsOfKind kind text)
     → refusal kind text ≡ Some e
-    → Error (codes "reference: " ++ error_text e) ≡ resolve_result kind base text
+    → Error (codes "reference: " ++ error_text e) ≡ resolve_result is_basic kind base text
 unfolding resolve_result
-resolve_result-of-error kind base text e not_of_kind is =
+resolve_result-of-error is_basic kind base text e not_of_kind is =
     ap (λ m. Error (codes "reference: " ++ m)) (error_text-is-parse_message kind text e is)
-    ∙ sym (ap (λ b. if b then target_result base text
+    ∙ sym (ap (λ b. if b then target_result_by is_basic base text
     else Error (codes "reference: " ++ parse_message kind text))
     (not-true-is-false (is_of_kind kind text)
     not_of_kind))
@@ -166,34 +167,34 @@ target_result-of-returned-error base reference e (Err failure) is error some = t
 
 -- lines: what `urilines resolve` writes of a reference is the result that is defined for it, for a
 -- base that is a URI or an IRI
-pub resolve_result-of-either-base : {E : Type 0} (base : Base) (base_is : List ℕ) (kind : Kind)
-    (text reference : List ℕ) (result : Result Returned E) → base_text base ≡ base_is
-    → reference_kind base ≡ kind
+pub resolve_result-of-either-base : {E : Type 0} (is_basic : Bool) (base : Base)
+    (base_is : List ℕ) (kind : Kind) (text reference : List ℕ) (result : Result Returned E)
+    → base_text base ≡ base_is → reference_kind base ≡ kind
     → IsOfKind kind text → reference ≡ text
-    → IfOk result (λ line_result. result_in line_result ≡ target_result base_is reference)
     → IfOk result (λ line_result. result_in line_result
-    ≡ resolve_result (reference_kind base) (base_text
-    base) text)
-resolve_result-of-either-base base base_is kind text reference (Ok line_result) same_base same_kind
-    of_kind same_text
-    is =
-    resolve_result-of-reference (reference_kind base) (base_text base) text (result_in line_result)
+    ≡ target_result_by is_basic base_is reference)
+    → IfOk result (λ line_result. result_in line_result
+    ≡ resolve_result is_basic (reference_kind base) (base_text base) text)
+resolve_result-of-either-base is_basic base base_is kind text reference (Ok line_result) same_base
+    same_kind of_kind same_text is =
+    resolve_result-of-reference is_basic (reference_kind base) (base_text base) text
+    (result_in line_result)
     (subst (λ k. IsOfKind k text) (sym same_kind) of_kind)
-    (is ∙ ap (target_result base_is) same_text ∙ ap (λ b. target_result b text) (sym same_base))
-resolve_result-of-either-base base base_is kind text reference (Err failure) same_base
-    same_kind of_kind
-    same_text is = tt
+    (is ∙ ap (target_result_by is_basic base_is) same_text
+    ∙ ap (λ b. target_result_by is_basic b text) (sym same_base))
+resolve_result-of-either-base is_basic base base_is kind text reference (Err failure) same_base
+    same_kind of_kind same_text is = tt
 
 -- lines: what `urilines resolve` writes of a text that is no reference is the error that is defined
 -- for it
-pub resolve_result-of-either-base-error : (base : Base) (kind : Kind) (text : List ℕ)
-    (e : ParseError)
+pub resolve_result-of-either-base-error : (is_basic : Bool) (base : Base) (kind : Kind)
+    (text : List ℕ) (e : ParseError)
     → reference_kind base ≡ kind → ¬ (IsOfKind kind text) → refusal kind text ≡ Some e
-    → Error (codes "reference: " ++ error_text e) ≡ resolve_result (reference_kind base) (base_text
-    base) text
-resolve_result-of-either-base-error base kind text e same_kind not_of_kind is =
-    resolve_result-of-error kind (base_text base) text e not_of_kind is
-    ∙ ap (λ k. resolve_result k (base_text base) text) (sym same_kind)
+    → Error (codes "reference: " ++ error_text e)
+    ≡ resolve_result is_basic (reference_kind base) (base_text base) text
+resolve_result-of-either-base-error is_basic base kind text e same_kind not_of_kind is =
+    resolve_result-of-error is_basic kind (base_text base) text e not_of_kind is
+    ∙ ap (λ k. resolve_result is_basic k (base_text base) text) (sym same_kind)
 
 -- lines: what `urilines mend` writes, if a link can be mended or not
 mend_result_if : Kind → List ℕ → Bool → LineResult

@@ -1,4 +1,4 @@
--- The lines that `check` passes, as they stand.
+-- The lines that `check` passes, as they are.
 use Rattle.std.specs.Prelude.{◌≡◌, ◌⊎◌, ℕ, Bool, true, false, not, ◌&&◌, List, [], ◌∷◌, length}
 use Rattle.std.specs.Prelude.{nat_lt, Result, Ok, Err, if◌then◌else◌}
 use Rattle.std.specs.List.{filter}

@@ -4,6 +4,7 @@ use Rattle.std.specs.Prelude.{◌||◌, ◌==◌, codes, nat_lt, Option, Some, N
 use Rattle.std.specs.Prelude.{unwrap_or}
 use Rattle.std.specs.Borrow.{Bor}
 use Rattle.std.specs.declared.hash.RandomState.{RandomState}
+use Rattle.uri_parts.specs.Fragments.{IsWithFragment}
 use Rattle.fluent_uri.specs.Grammar.{Kind, iri, uri}
 use Rattle.fluent_uri.specs.Refusals.{refusal}
 use Rattle.fluent_uri.specs.Uris.{uri_text}
@@ -60,18 +61,26 @@ word_of_mode modes.Stop = codes "stop"
 abbrev pub IsWord : Option (Bor (List ℕ)) → List ℕ → Type 0
 IsWord word text = option_map (λ w. w.now) word ≡ Some text
 
--- the base of a command line of `urilines`: its text, and its kind by its name
+-- a word of a command line of `urilines` is there, and this is its text without its fragment
+-- (section 5.1)
+abbrev pub IsWordOfBase : Option (Bor (List ℕ)) → List ℕ → Type 0
+IsWordOfBase word bare =
+    (text : List ℕ) × (IsWord word text × IsWithFragment text None bare)
+
+-- the base of a command line of `urilines`: its text without its fragment, and its kind by its name
 abbrev pub IsBaseOf : CommandLine → Base → Type 0
-IsBaseOf line (bases.Uri base) = (line.kind ≡ Some kinds.Uri) × IsWord line.base (uri_text base)
-IsBaseOf line (bases.Iri base) = (line.kind ≡ Some kinds.Iri) × IsWord line.base (iri_text base)
+IsBaseOf line (bases.Uri base) =
+    (line.kind ≡ Some kinds.Uri) × IsWordOfBase line.base (uri_text base)
+IsBaseOf line (bases.Iri base) =
+    (line.kind ≡ Some kinds.Iri) × IsWordOfBase line.base (iri_text base)
 
 -- the command that a command line of `urilines` asks for; the other argument is the keys that
 -- `unique` hashes with
 abbrev pub IsCommandOf : CommandLine → RandomState → Command → Type 0
 IsCommandOf line hasher (Each (Normalize kind by_rules)) =
     (line.command ≡ names.Normalize) × (line.kind ≡ Some kind) × (line.scheme_rules ≡ by_rules)
-IsCommandOf line hasher (Each (Resolve base)) =
-    (line.command ≡ names.Resolve) × IsBaseOf line base
+IsCommandOf line hasher (Each (Resolve base is_basic)) =
+    (line.command ≡ names.Resolve) × IsBaseOf line base × (line.is_basic ≡ is_basic)
 IsCommandOf line hasher (Each (Relativize base prefers)) =
     (line.command ≡ names.Relativize) × IsBaseOf line base × (line.prefers_relative ≡ prefers)
 IsCommandOf line hasher (Each (Check kind is_inverted)) =
@@ -86,7 +95,7 @@ IsCommandOf line hasher (Unique kind by_rules keys) =
     (line.command ≡ names.Unique) × (line.kind ≡ Some kind) × (line.scheme_rules ≡ by_rules)
     × (keys ≡ hasher)
 IsCommandOf line hasher (Links base by_rules) =
-    (line.command ≡ names.Links) × IsWord line.base (uri_text base)
+    (line.command ≡ names.Links) × IsWordOfBase line.base (uri_text base)
     × (line.scheme_rules ≡ by_rules)
 
 -- the bytes of the delimiter of a command line of `urilines`: a tab if none is given

@@ -25,7 +25,7 @@ line_result job known line = cut_result job known (line_cut job line).text
 abbrev pub line_ending : Bool → Bool → List ℕ
 line_ending is_null is_return = if is_return then codes "\r\n" else end_byte is_null ∷ []
 
--- what ends the output of this line under a job, unless it passes as it stands: what ended the
+-- what ends the output of this line under a job, unless it passes as it is: what ended the
 -- line, or would have ended the last one
 abbrev pub line_end : Job → List ℕ → List ℕ
 line_end job line = line_ending job.is_null (has_return job.is_null line)
@@ -45,7 +45,7 @@ is_stop mode = false
 pub record ProcessedLine : Type 0 where
   -- from 1
   pub number : ℕ
-  -- as it stands in the input, with what ends it
+  -- as it is in the input, with what ends it
   pub line : List ℕ
   -- the fields before the one that the command gets
   pub before : List ℕ
@@ -84,7 +84,7 @@ error_output errors.Drop before message after = []
 error_output errors.Stderr before message after = []
 error_output errors.Stop before message after = []
 
--- what is written for a line with this result; the texts are the line as it stands, and what is
+-- what is written for a line with this result; the texts are the line as it is, and what is
 -- before and after its field
 abbrev pub result_output : OnError → List ℕ → List ℕ → LineResult → List ℕ → List ℕ
 result_output mode line before (Text text) after = (before ++ text) ++ after

@@ -12,6 +12,8 @@ use Rattle.fluent_uri.specs.Target.{InvalidReferenceAgainstOpaqueBase}
 use Rattle.fluent_uri.specs.Target.{resolution_of}
 use Rattle.fluent_uri.specs.Uris.{uri_text}
 use Rattle.fluent_uri.specs.declared.resolve.ResolveError.TheVariants as resolve_errors
+use Rattle.uri_basic.specs.Target.{BasicTargetError, PathStartsWithDoubleSlash}
+use Rattle.uri_basic.specs.Target.{basic_resolution_of_texts}
 use Rattle.uri_commands.specs.Messages.{error_text, resolve_error_text}
 use Rattle.uri_mend.specs.Mending.{can_be_mended, mended_text}
 use Rattle.uri_mend.specs.Trimming.{trimmed_link}
@@ -30,7 +32,7 @@ use Rattle.uri_streams.specs.declared.command.KindName.{KindName}
 use Rattle.uri_streams.specs.declared.command.KindName.TheVariants as kinds
 
 -- the result of a line of an input: a text in place of the one that the command got, the line as it
--- stands, no line, or an error with its message
+-- is, no line, or an error with its message
 pub data LineResult : Type 0 where
   Text : List ℕ → LineResult
   Unchanged : LineResult
@@ -90,11 +92,34 @@ unfoldable pub target_result : List ℕ → List ℕ → LineResult
 target_result base reference =
     resolution_result (resolution_of (components base) (components reference))
 
+-- the message of `urilines resolve --basic` for a target that has no authority and a path that
+-- begins with `//`
+abbrev pub double_slash_message : List ℕ
+double_slash_message = codes "target has no authority, and its path would start with '//'"
+
+-- the result of `urilines resolve --basic` for a line whose reference has this resolution: the
+-- target, or why there is none
+abbrev pub basic_resolution_result : Result (List ℕ) BasicTargetError → LineResult
+basic_resolution_result (Ok target) = Text target
+basic_resolution_result (Err PathStartsWithDoubleSlash) = Error double_slash_message
+
+-- the result of `urilines resolve --basic` for a base and a reference, in this order: the target by
+-- the basic algorithm, or why there is none (section 5.2)
+unfoldable pub basic_target_result : List ℕ → List ℕ → LineResult
+basic_target_result base reference =
+    basic_resolution_result (basic_resolution_of_texts base reference)
+
+-- the result of `urilines resolve` for a base and a reference, in this order; the Bool is whether
+-- `--basic` is given
+abbrev pub target_result_by : Bool → List ℕ → List ℕ → LineResult
+target_result_by is_basic base reference =
+    if is_basic then basic_target_result base reference else target_result base reference
+
 -- the result of `urilines resolve` for a base and a line, in this order: the target, if the line is
--- a reference of the kind
-unfoldable pub resolve_result : Kind → List ℕ → List ℕ → LineResult
-resolve_result kind base text =
-    if is_of_kind kind text then target_result base text
+-- a reference of the kind; the Bool is whether `--basic` is given
+unfoldable pub resolve_result : Bool → Kind → List ℕ → List ℕ → LineResult
+resolve_result is_basic kind base text =
+    if is_of_kind kind text then target_result_by is_basic base text
     else Error (codes "reference: " ++ parse_message kind text)
 
 -- the result of `urilines relativize` for a base and a line, in this order: a reference that leads
@@ -111,7 +136,7 @@ unfoldable pub passes_check : Kind → Bool → List ℕ → Bool
 passes_check kind is_inverted text =
     if is_inverted then not (is_of_kind kind text) else is_of_kind kind text
 
--- the result of `urilines check` for a line that passes, or does not: the line as it stands, or no
+-- the result of `urilines check` for a line that passes, or does not: the line as it is, or no
 -- line
 abbrev pub passed_if : Bool → LineResult
 passed_if passes = if passes then Unchanged else NoLine
@@ -146,7 +171,8 @@ query_result kind text =
 abbrev pub command_result : LineCommand → List ℕ → LineResult
 command_result (Normalize kind by_rules) text =
     normalize_result by_rules (kind_named kind) text
-command_result (Resolve base) text = resolve_result (reference_kind base) (base_text base) text
+command_result (Resolve base is_basic) text =
+    resolve_result is_basic (reference_kind base) (base_text base) text
 command_result (Relativize base prefers) text =
     relativize_result prefers (target_kind base) (base_text base) text
 command_result (Check kind is_inverted) text = check_result (kind_named kind) is_inverted text
@@ -157,7 +183,7 @@ command_result (Query kind) text = query_result (kind_named kind) text
 -- the kind of the texts that a command of `urilines` gets of lines
 abbrev pub text_kind : LineCommand → Kind
 text_kind (Normalize kind by_rules) = kind_named kind
-text_kind (Resolve base) = reference_kind base
+text_kind (Resolve base is_basic) = reference_kind base
 text_kind (Relativize base prefers) = target_kind base
 text_kind (Check kind is_inverted) = kind_named kind
 text_kind (Mend kind) = kind_named kind

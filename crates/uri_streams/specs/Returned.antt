@@ -4,6 +4,7 @@ use Rattle.std.specs.Borrow.{Bor}
 use Rattle.uri_commands.specs.Refusals.{command_error_text}
 use Rattle.uri_streams.specs.Fields.{Cut, no_text_message}
 use Rattle.uri_streams.specs.Results.{LineResult, Text, Unchanged, NoLine, Error}
+use Rattle.uri_streams.specs.Results.{double_slash_message}
 use Rattle.uri_streams.specs.Tasks.{Known, Remembers}
 use Rattle.uri_streams.specs.declared.results.LineResult.{LineResult as Returned}
 use Rattle.uri_streams.specs.declared.command.Command.{Command}
@@ -21,6 +22,7 @@ abbrev pub line_error_message : LineError → List ℕ
 line_error_message (faults.NoText why) = no_text_message why
 line_error_message (Refused why) = command_error_text why
 line_error_message (Target error) = codes "target: " ++ error_text error
+line_error_message faults.PathStartsWithDoubleSlash = double_slash_message
 
 -- the text that the command gets of a line, or why it gets none
 abbrev pub text_in : Result (Bor (List ℕ)) NoText → Result (List ℕ) NoText

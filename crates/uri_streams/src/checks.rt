@@ -9,7 +9,7 @@ ghost use Rattle.uri_streams.specs.declared.job.Job.{Job};
 
 /// The outputs of `check` and `check --invert`, merged by line, make up the input.
 ///
-/// Each line is in one of the two outputs as it stands, in its order: with what ends it, a newline
+/// Each line is in one of the two outputs as it is, in its order: with what ends it, a newline
 /// or `\r` and a newline, or without one at the end of the input. A line that lacks the field, or
 /// is not UTF-8, is not of the kind, so it is in the output of `check --invert`.
 ///

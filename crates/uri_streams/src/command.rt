@@ -16,8 +16,8 @@ pub enum KindName {
     IriRef,
 }
 
-/// A base that lines are resolved against or relativized to: a URI or an IRI. Its references are
-/// URI references or IRI references.
+/// A base that lines are resolved against or relativized to: a URI or an IRI without a fragment.
+/// Its references are URI references or IRI references.
 #[derive(Clone, Copy)]
 pub enum Base<'a> {
     /// A URI, the base of URI references.
@@ -33,8 +33,9 @@ pub enum LineCommand<'a> {
     /// `normalize KIND`: the normal form of the text takes its place. If the `bool` is true
     /// (`--scheme-rules`), it is by the rules of schemes.
     Normalize(KindName, bool),
-    /// `resolve uri|iri BASE`: the target of the text against the base takes its place.
-    Resolve(Base<'a>),
+    /// `resolve uri|iri BASE`: the target of the text against the base takes its place. If the
+    /// `bool` is true (`--basic`), it is by the basic algorithm of RFC 3986, section 5.2.
+    Resolve(Base<'a>, bool),
     /// `relativize uri|iri BASE`: a reference that leads to the text from the base takes its place.
     /// If the `bool` is true (`--prefer-relative`), its path is relative even if the path from the
     /// root is shorter.

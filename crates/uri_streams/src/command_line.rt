@@ -1,18 +1,18 @@
 //! The job that the words of a command line make.
 ghost use Rattle.std.specs.Prelude.{◌≡◌, ◌≢◌, MatchOption, MatchResult, None, Some};
-ghost use Rattle.fluent_uri.specs.Iris.{iri_text};
-ghost use Rattle.fluent_uri.specs.Uris.{uri_text};
-ghost use Rattle.fluent_uri.specs.Grammar.{iri, uri};
-ghost use Rattle.uri_streams.specs.CommandLines.{IsBaseOf, IsCommandOf, IsErrorOfBase, IsErrorOfField};
+ghost use Rattle.fluent_uri.specs.References.{reference_text};
+ghost use Rattle.uri_streams.specs.CommandLines.{IsBaseOf, IsCommandOf, IsErrorOfBase};
+ghost use Rattle.uri_streams.specs.CommandLines.{IsErrorOfField};
 ghost use Rattle.uri_streams.specs.CommandLines.{IsDelimiterOf, IsErrorOfDelimiter};
 ghost use Rattle.uri_streams.specs.CommandLines.{is_in_no_text, is_only_kept, keeps_shape};
 ghost use Rattle.uri_streams.specs.CommandLines.{IsErrorOfLine, IsFieldOf};
-ghost use Rattle.uri_streams.specs.CommandLines.{IsJobOf, IsRejectedBase, IsWord, mode_of};
+ghost use Rattle.uri_streams.specs.CommandLines.{IsJobOf, IsRejectedBase, IsWordOfBase, mode_of};
 ghost use Rattle.uri_streams.specs.CommandLines.{word_of_command, word_of_kind, word_of_mode};
 
 use crate::command::{Base, Command, KindName, LineCommand};
 use crate::job::{Field, Job, OnError};
-use fluent_uri::{Iri, Uri};
+use fluent_uri::Reference;
+use fluent_uri::roles::BaseKind;
 use std::fmt::{self, Display};
 use std::hash::RandomState;
 use uri_commands::refusal::CommandError;
@@ -60,6 +60,8 @@ pub struct CommandLine<'a> {
     pub prefers_relative: bool,
     /// Whether `--scheme-rules` is given.
     pub scheme_rules: bool,
+    /// Whether `--basic` is given.
+    pub is_basic: bool,
     /// The number of a field, from 1, if `--field` gives it.
     pub field: Option<u32>,
     /// What is between two fields, if `--delimiter` gives it.
@@ -195,7 +197,7 @@ fn command<'a>(line: &CommandLine<'a>, hasher: RandomState) -> Result<Command<'a
         CommandName::Normalize => {
             Command::Each(LineCommand::Normalize(kind(line)?, line.scheme_rules))
         }
-        CommandName::Resolve => Command::Each(LineCommand::Resolve(base(line)?)),
+        CommandName::Resolve => Command::Each(LineCommand::Resolve(base(line)?, line.is_basic)),
         CommandName::Relativize => {
             Command::Each(LineCommand::Relativize(base(line)?, line.prefers_relative))
         }
@@ -204,7 +206,7 @@ fn command<'a>(line: &CommandLine<'a>, hasher: RandomState) -> Result<Command<'a
         CommandName::Parse => Command::Each(LineCommand::Parse(kind(line)?)),
         CommandName::Query => Command::Each(LineCommand::Query(kind(line)?)),
         CommandName::Unique => Command::Unique(kind(line)?, line.scheme_rules, hasher),
-        CommandName::Links => Command::Links(uri_base(line)?, line.scheme_rules),
+        CommandName::Links => Command::Links(base_of_kind(line)?, line.scheme_rules),
     })
 }
 
@@ -219,39 +221,27 @@ fn kind(line: &CommandLine<'_>) -> Result<KindName, CommandLineError>
     }
 }
 
-/// Returns the base, parsed as the kind that is given for it.
+/// Returns the base without its fragment, parsed as the kind that is given for it.
 fn base<'a>(line: &CommandLine<'a>) -> Result<Base<'a>, CommandLineError>
     ensures { MatchResult result (IsBaseOf line.now) (IsErrorOfBase line.now) }
 {
     match line.kind {
-        Some(KindName::Uri) => Ok(Base::Uri(uri_base(line)?)),
-        Some(KindName::Iri) => Ok(Base::Iri(iri_base(line)?)),
+        Some(KindName::Uri) => Ok(Base::Uri(base_of_kind(line)?)),
+        Some(KindName::Iri) => Ok(Base::Iri(base_of_kind(line)?)),
         _ => Err(CommandLineError::Words),
     }
 }
 
-/// Returns the base, parsed as a URI.
-fn uri_base<'a>(line: &CommandLine<'a>) -> Result<Uri<&'a str>, CommandLineError>
-    ensures { MatchResult result (λ base. IsWord line.now.base (uri_text base))
-        (IsRejectedBase line.now uri) }
+/// Returns the base, parsed as one of the kind, without its fragment (RFC 3986, section 5.1).
+fn base_of_kind<'a, K: BaseKind>(
+    line: &CommandLine<'a>,
+) -> Result<Reference<K, &'a str>, CommandLineError>
+    ensures { MatchResult result (λ base. IsWordOfBase line.now.base (reference_text base))
+        (IsRejectedBase line.now K.kind) }
 {
     match line.base {
-        Some(text) => match Uri::<&str>::parse(text) {
-            Ok(base) => Ok(base),
-            Err(error) => Err(CommandLineError::Base(CommandError::Base(error))),
-        },
-        None => Err(CommandLineError::Words),
-    }
-}
-
-/// Returns the base, parsed as an IRI.
-fn iri_base<'a>(line: &CommandLine<'a>) -> Result<Iri<&'a str>, CommandLineError>
-    ensures { MatchResult result (λ base. IsWord line.now.base (iri_text base))
-        (IsRejectedBase line.now iri) }
-{
-    match line.base {
-        Some(text) => match Iri::<&str>::parse(text) {
-            Ok(base) => Ok(base),
+        Some(text) => match Reference::<K, &str>::parse(text) {
+            Ok(base) => Ok(base.strip_fragment()),
             Err(error) => Err(CommandLineError::Base(CommandError::Base(error))),
         },
         None => Err(CommandLineError::Words),
@@ -308,8 +298,8 @@ fn is_in_no_text(byte: u8) -> bool
 }
 
 /// Returns whether a normal form, a relative reference and what a link is mended to have this byte
-/// only if the text has it,
-/// and no message has it: `!`, `$`, `&`, `(`, `)`, `*`, `+`, `,`, `;`, `=`, `?` or `@`.
+/// only if the text has it, and no message has it: `!`, `$`, `&`, `(`, `)`, `*`, `+`, `,`, `;`,
+/// `=`, `?` or `@`.
 fn is_only_kept(byte: u8) -> bool
     ensures { result ≡ is_only_kept byte }
 {

@@ -40,6 +40,8 @@ pub(crate) enum LineError {
     Refused(CommandError),
     /// The text of the line, a target to relativize, is not of the kind of the base.
     Target(ParseError),
+    /// The target by the basic algorithm has no authority, and a path that begins with `//`.
+    PathStartsWithDoubleSlash,
 }
 
 /// Prints the message of the error of a line, without the `error: ` before it.
@@ -55,6 +57,9 @@ impl Display for LineError {
             LineError::NoText(why) => write!(f, "{why}"),
             LineError::Refused(refusal) => write!(f, "{refusal}"),
             LineError::Target(error) => write!(f, "target: {}", CommandError::Text(error)),
+            LineError::PathStartsWithDoubleSlash => {
+                write!(f, "target has no authority, and its path would start with '//'")
+            }
         }
     }
 }

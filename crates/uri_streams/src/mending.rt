@@ -39,8 +39,8 @@ fn line_text_kind(command: &LineCommand<'_>) -> KindName
 {
     match command {
         LineCommand::Normalize(kind, _) => *kind,
-        LineCommand::Resolve(Base::Uri(_)) => KindName::UriRef,
-        LineCommand::Resolve(Base::Iri(_)) => KindName::IriRef,
+        LineCommand::Resolve(Base::Uri(_), _) => KindName::UriRef,
+        LineCommand::Resolve(Base::Iri(_), _) => KindName::IriRef,
         LineCommand::Relativize(Base::Uri(_), _) => KindName::Uri,
         LineCommand::Relativize(Base::Iri(_), _) => KindName::Iri,
         LineCommand::Check(kind, _) => *kind,

@@ -120,7 +120,7 @@ fn stops_at_error(errors: OnError) -> bool
 /// A line, and what is before and after its result in the output.
 #[derive(Clone, Copy)]
 struct Around<'a> {
-    /// The line as it stands in the input, with what ends it.
+    /// The line as it is in the input, with what ends it.
     line: &'a [u8],
     /// The fields before the one that the command gets, each with its delimiter.
     before: &'a [u8],

@@ -2,9 +2,10 @@
 ghost use Rattle.std.specs.Prelude.{◌≡◌, ◌↔◌, IfErr, IfOk, IsOk, Some, ◌≢◌};
 ghost use Rattle.fluent_uri.specs.Grammar as test;
 ghost use Rattle.fluent_uri.specs.Grammar.{IsOfKind};
-ghost use Rattle.fluent_uri.specs.Iris.{iri_ref_text, iri_text};
+ghost use Rattle.fluent_uri.specs.Iris.{iri_text};
+ghost use Rattle.fluent_uri.specs.References.{reference_text};
 ghost use Rattle.fluent_uri.specs.Refusals.{refusal};
-ghost use Rattle.fluent_uri.specs.Uris.{uri_ref_text, uri_text};
+ghost use Rattle.fluent_uri.specs.Uris.{uri_text};
 ghost use Rattle.uri_relative.specs.Rule.{reference_to};
 ghost use Rattle.uri_streams.specs.Results as results;
 ghost use Rattle.uri_streams.specs.Results.{base_text, check_result};
@@ -12,7 +13,8 @@ ghost use Rattle.uri_streams.specs.Results.{passes_check};
 ghost use Rattle.uri_streams.specs.Results.{kind_named, mend_result, normalize_result};
 ghost use Rattle.uri_streams.specs.Results.{parse_result, query_result};
 ghost use Rattle.uri_streams.specs.Results.{reference_kind, relativize_result, target_kind};
-ghost use Rattle.uri_streams.specs.Results.{resolve_result, target_result};
+ghost use Rattle.uri_streams.specs.Results.{basic_target_result, resolve_result, target_result};
+ghost use Rattle.uri_streams.specs.Results.{target_result_by};
 ghost use Rattle.uri_streams.specs.Returned.{IsOwned, result_in};
 
 use crate::command::{Base, KindName, LineCommand};
@@ -21,8 +23,10 @@ use crate::json::json;
 use crate::mending::mended;
 use crate::queries::query_json;
 use fluent_uri::resolve::ResolveError;
-use fluent_uri::{Iri, IriRef, ParseError, Uri, UriRef};
+use fluent_uri::roles::RefKind;
+use fluent_uri::{Iri, IriRef, ParseError, Reference, Uri, UriRef};
 use std::alloc::{AllocError, Global};
+use uri_basic::{BasicResolveError, BasicResolver};
 use uri_commands::refusal::CommandError;
 use uri_relative::Relativizer;
 use uri_setting::RuleSetting;
@@ -32,7 +36,7 @@ use uri_setting::RuleSetting;
 pub(crate) enum LineResult {
     /// This text replaces that of the line.
     Text(String),
-    /// The line passes as it stands.
+    /// The line passes as it is.
     Unchanged,
     /// The line has no output.
     NoLine,
@@ -56,7 +60,7 @@ pub(crate) fn command_result(
 {
     match command {
         LineCommand::Normalize(kind, scheme_rules) => normalize(alloc, *kind, *scheme_rules, text),
-        LineCommand::Resolve(base) => resolve(alloc, base, text),
+        LineCommand::Resolve(base, is_basic) => resolve(alloc, base, *is_basic, text),
         LineCommand::Relativize(base, prefers) => relativize(alloc, base, *prefers, text),
         LineCommand::Check(kind, is_inverted) => Ok(check(*kind, *is_inverted, text)),
         LineCommand::Mend(kind) => mend(alloc, *kind, text),
@@ -89,7 +93,8 @@ pub(crate) fn normalize(
 /// Returns the result of `urilines normalize uri` for a text: its normal form, or an error if it is
 /// not a URI.
 fn normalize_uri(alloc: Global, scheme_rules: bool, text: &str) -> Result<LineResult, AllocError>
-    ensures result { IfOk result (λ line. result_in line ≡ normalize_result scheme_rules test.uri text.now) }
+    ensures result { IfOk result (λ line.
+        result_in line ≡ normalize_result scheme_rules test.uri text.now) }
     ensures owned { IfOk result IsOwned }
 {
     match Uri::<&str>::parse(text) {
@@ -108,7 +113,8 @@ fn normalize_uri_ref(
     scheme_rules: bool,
     text: &str,
 ) -> Result<LineResult, AllocError>
-    ensures result { IfOk result (λ line. result_in line ≡ normalize_result scheme_rules test.uri_ref text.now) }
+    ensures result { IfOk result (λ line.
+        result_in line ≡ normalize_result scheme_rules test.uri_ref text.now) }
     ensures owned { IfOk result IsOwned }
 {
     match UriRef::<&str>::parse(text) {
@@ -123,7 +129,8 @@ fn normalize_uri_ref(
 /// Returns the result of `urilines normalize iri` for a text: its normal form, or an error if it is
 /// not an IRI.
 fn normalize_iri(alloc: Global, scheme_rules: bool, text: &str) -> Result<LineResult, AllocError>
-    ensures result { IfOk result (λ line. result_in line ≡ normalize_result scheme_rules test.iri text.now) }
+    ensures result { IfOk result (λ line.
+        result_in line ≡ normalize_result scheme_rules test.iri text.now) }
     ensures owned { IfOk result IsOwned }
 {
     match Iri::<&str>::parse(text) {
@@ -142,7 +149,8 @@ fn normalize_iri_ref(
     scheme_rules: bool,
     text: &str,
 ) -> Result<LineResult, AllocError>
-    ensures result { IfOk result (λ line. result_in line ≡ normalize_result scheme_rules test.iri_ref text.now) }
+    ensures result { IfOk result (λ line.
+        result_in line ≡ normalize_result scheme_rules test.iri_ref text.now) }
     ensures owned { IfOk result IsOwned }
 {
     match IriRef::<&str>::parse(text) {
@@ -162,18 +170,23 @@ fn not_of_kind(error: ParseError) -> LineResult
 }
 
 /// Returns the result of `urilines resolve` for a text: its target against the base, or why it has
-/// none.
-fn resolve(alloc: Global, base: &Base<'_>, text: &str) -> Result<LineResult, AllocError>
+/// none. `is_basic` is whether the target is by the basic algorithm.
+fn resolve(
+    alloc: Global,
+    base: &Base<'_>,
+    is_basic: bool,
+    text: &str,
+) -> Result<LineResult, AllocError>
     ensures { IfOk result (λ line. result_in line
-        ≡ resolve_result (reference_kind base.now) (base_text base.now) text.now) }
+        ≡ resolve_result is_basic (reference_kind base.now) (base_text base.now) text.now) }
 {
     match base {
         Base::Uri(base) => match UriRef::<&str>::parse(text) {
-            Ok(reference) => resolve_uri(alloc, base, &reference),
+            Ok(reference) => resolve_reference(alloc, base, is_basic, &reference),
             Err(error) => Ok(reference_error_result(error)),
         },
         Base::Iri(base) => match IriRef::<&str>::parse(text) {
-            Ok(reference) => resolve_iri(alloc, base, &reference),
+            Ok(reference) => resolve_reference(alloc, base, is_basic, &reference),
             Err(error) => Ok(reference_error_result(error)),
         },
     }
@@ -186,15 +199,32 @@ fn reference_error_result(error: ParseError) -> LineResult
     LineResult::Error(LineError::Refused(CommandError::Reference(error)))
 }
 
-/// Returns the result of `urilines resolve uri` for a reference: its target against the base, or
-/// why it has none (RFC 3986, section 5.2).
-fn resolve_uri(
+/// Returns the result of `urilines resolve` for a reference: its target against the base, or why it
+/// has none. `is_basic` is whether the target is by the basic algorithm.
+fn resolve_reference<K: RefKind>(
     alloc: Global,
-    base: &Uri<&str>,
-    reference: &UriRef<&str>,
+    base: &Reference<K::Base, &str>,
+    is_basic: bool,
+    reference: &Reference<K, &str>,
+) -> Result<LineResult, AllocError>
+    ensures { IfOk result (λ line. result_in line ≡ target_result_by is_basic
+        (reference_text base.now) (reference_text reference.now)) }
+{
+    if is_basic {
+        return basic_target(alloc, base, reference);
+    }
+    target(alloc, base, reference)
+}
+
+/// Returns the result of `urilines resolve` without `--basic` for a reference: its target against
+/// the base, or why it has none (RFC 3986, section 5.2).
+fn target<K: RefKind>(
+    alloc: Global,
+    base: &Reference<K::Base, &str>,
+    reference: &Reference<K, &str>,
 ) -> Result<LineResult, AllocError>
     ensures { IfOk result (λ line. result_in line
-        ≡ target_result (uri_text base.now) (uri_ref_text reference.now)) }
+        ≡ target_result (reference_text base.now) (reference_text reference.now)) }
 {
     match reference.resolve_against(alloc, base) {
         Ok(target) => Ok(LineResult::Text(target.into_string())),
@@ -202,19 +232,19 @@ fn resolve_uri(
     }
 }
 
-/// Returns the result of `urilines resolve iri` for a reference: its target against the base, or
-/// why it has none (RFC 3986, section 5.2).
-fn resolve_iri(
+/// Returns the result of `urilines resolve --basic` for a reference: its target against the base by
+/// the basic algorithm, or why it has none (RFC 3986, section 5.2).
+fn basic_target<K: RefKind>(
     alloc: Global,
-    base: &Iri<&str>,
-    reference: &IriRef<&str>,
+    base: &Reference<K::Base, &str>,
+    reference: &Reference<K, &str>,
 ) -> Result<LineResult, AllocError>
     ensures { IfOk result (λ line. result_in line
-        ≡ target_result (iri_text base.now) (iri_ref_text reference.now)) }
+        ≡ basic_target_result (reference_text base.now) (reference_text reference.now)) }
 {
-    match reference.resolve_against(alloc, base) {
+    match BasicResolver::with_base(*base).resolve(alloc, reference) {
         Ok(target) => Ok(LineResult::Text(target.into_string())),
-        Err(error) => resolve_error_result(error),
+        Err(error) => basic_error_result(error),
     }
 }
 
@@ -228,6 +258,21 @@ fn resolve_error_result(error: ResolveError) -> Result<LineResult, AllocError>
     match error {
         ResolveError::OutOfMemory => Err(AllocError),
         error => Ok(LineResult::Error(LineError::Refused(CommandError::Target(error)))),
+    }
+}
+
+/// Returns the result of `urilines resolve --basic` for a reference that has no target: the error
+/// of the basic algorithm, unless that is a failed allocation.
+fn basic_error_result(error: BasicResolveError) -> Result<LineResult, AllocError>
+    ensures output { IfOk result (λ line_result.
+        line_result ≡ LineResult.Error LineError.PathStartsWithDoubleSlash) }
+    ensures memory { IfOk result (λ _. error ≢ BasicResolveError.OutOfMemory) }
+{
+    match error {
+        BasicResolveError::OutOfMemory => Err(AllocError),
+        BasicResolveError::PathStartsWithDoubleSlash => {
+            Ok(LineResult::Error(LineError::PathStartsWithDoubleSlash))
+        }
     }
 }
 
@@ -294,7 +339,7 @@ fn relativize_iri(
     Ok(LineResult::Text(iri_ref.into_string()))
 }
 
-/// Returns the result of `urilines check` for a text: its line as it stands, or no line.
+/// Returns the result of `urilines check` for a text: its line as it is, or no line.
 fn check(kind: KindName, is_inverted: bool, text: &str) -> LineResult
     ensures { result_in result ≡ check_result (kind_named kind) is_inverted text.now }
 {

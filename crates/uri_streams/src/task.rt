@@ -182,7 +182,7 @@ fn no_text_result(command: &LineCommand<'_>, why: NoText) -> LineResult
     match command {
         LineCommand::Check(_, is_inverted) => no_text_checked(*is_inverted, why),
         LineCommand::Normalize(_, _) => LineResult::Error(LineError::NoText(why)),
-        LineCommand::Resolve(_) => LineResult::Error(LineError::NoText(why)),
+        LineCommand::Resolve(_, _) => LineResult::Error(LineError::NoText(why)),
         LineCommand::Relativize(_, _) => LineResult::Error(LineError::NoText(why)),
         LineCommand::Mend(_) => LineResult::Error(LineError::NoText(why)),
         LineCommand::Parse(_) => LineResult::Error(LineError::NoText(why)),
@@ -208,9 +208,9 @@ impl UniqueTask {
     /// before, no line if it was, or an error.
     fn result_for(&mut self, alloc: Global, text: &str) -> Result<LineResult, AllocError>
         ensures output { (known : List (List ℕ)) → HasMet self.old.met known
-            → IfOk result (λ line_result.
-            (result_in line_result ≡ (unique_result self.old.scheme_rules (kind_named self.old.kind) known text.now).0)
-            × HasMet self.new.met (unique_result self.old.scheme_rules (kind_named self.old.kind) known text.now).1) }
+            → IfOk result (λ line_result. let next = unique_result self.old.scheme_rules
+            (kind_named self.old.kind) known text.now in
+            (result_in line_result ≡ next.0) × HasMet self.new.met next.1) }
         ensures kind { self.new.kind ≡ self.old.kind }
         ensures rules { self.new.scheme_rules ≡ self.old.scheme_rules }
     {
@@ -260,8 +260,8 @@ fn link(
     register: &mut Register<RuleSetting>,
     text: &str,
 ) -> Result<LineResult, AllocError>
-    ensures output { (by_rules : Bool) → target_rules register.old ≡ rules_set by_rules → IfOk result (λ line_result.
-        (result_in line_result, texts_of register.new)
+    ensures output { (by_rules : Bool) → target_rules register.old ≡ rules_set by_rules
+        → IfOk result (λ line_result. (result_in line_result, texts_of register.new)
         ≡ link_result by_rules (uri_text base.now) (texts_of register.old) text.now) }
     ensures rules { target_rules register.new ≡ target_rules register.old }
 {

@@ -69,7 +69,8 @@ fn resolve<'a>(alloc: Global) -> Result<Words<'a>, AllocError> {
     Words::new(alloc, "resolve")
         .about("Write the target of each line against a base")
         .arg(base_kind(alloc))?
-        .arg(base_text(alloc))
+        .arg(base_text(alloc))?
+        .arg(basic(alloc))
 }
 
 /// Returns the command `urilines relativize` with its arguments, for the parser of the command
@@ -85,7 +86,7 @@ fn relativize<'a>(alloc: Global) -> Result<Words<'a>, AllocError> {
 /// Returns the command `urilines check` with its arguments, for the parser of the command line.
 fn check<'a>(alloc: Global) -> Result<Words<'a>, AllocError> {
     Words::new(alloc, "check")
-        .about("Pass on the lines that are of a kind as they stand")
+        .about("Pass on the lines that are of a kind, unchanged")
         .arg(kind(alloc))?
         .arg(invert(alloc))
 }
@@ -218,6 +219,15 @@ fn prefer_relative<'a>(alloc: Global) -> Arg<'a> {
         .help("Write a relative path even if that from the root is shorter")
 }
 
+/// Returns the option `--basic` for the parser of the command line: targets are by the basic
+/// algorithm.
+fn basic<'a>(alloc: Global) -> Arg<'a> {
+    Arg::new(alloc, "basic")
+        .long("basic")
+        .action(ArgAction::SetTrue)
+        .help("Resolve by the basic algorithm of RFC 3986, section 5.2, to the letter")
+}
+
 /// Returns the option `--scheme-rules` for the parser of the command line: normal forms are by the
 /// rules of schemes.
 fn scheme_rules<'a>(alloc: Global) -> Arg<'a> {
@@ -241,7 +251,7 @@ fn base_text<'a>(alloc: Global) -> Arg<'a> {
     Arg::new(alloc, "base")
         .value_name("BASE")
         .required(true)
-        .help("The base, without a fragment")
+        .help("The base, whose fragment plays no part")
 }
 
 /// Returns the argument of `urilines` for the kind of each line, for the parser of the command
@@ -297,6 +307,10 @@ fn command_line<'a>(command: CommandName, words: &ArgMatches<'a>) -> CommandLine
         ≡ Some (codes "true") → result.scheme_rules ≡ true }
     ensures no_scheme_rules { one_text (found_of words.now) (codes "scheme-rules") ≡ None
         → result.scheme_rules ≡ false }
+    ensures basic { one_text (found_of words.now) (codes "basic") ≡ Some (codes "true")
+        → result.is_basic ≡ true }
+    ensures no_basic { one_text (found_of words.now) (codes "basic") ≡ None
+        → result.is_basic ≡ false }
     ensures mend { one_text (found_of words.now) (codes "mend") ≡ Some (codes "true")
         → result.is_mended ≡ true }
     ensures no_mend { one_text (found_of words.now) (codes "mend") ≡ None
@@ -317,6 +331,7 @@ fn command_line<'a>(command: CommandName, words: &ArgMatches<'a>) -> CommandLine
         is_mended: words.get_flag("mend"),
         prefers_relative: words.get_flag("prefer-relative"),
         scheme_rules: words.get_flag("scheme-rules"),
+        is_basic: words.get_flag("basic"),
         field: words.get_one::<u32>("field"),
         delimiter: words.get_str("delimiter"),
         is_null: words.get_flag("null"),

@@ -1,0 +1,45 @@
+-- What the basic algorithm returns is the result of a text.
+use Rattle.std.proofs.Common.{◌≡◌, ◌≢◌, ℕ, List, Result, Ok, Err, refl, sym, ap, ◌∙◌, subst}
+use Rattle.std.specs.Prelude.{IfOk}
+use Rattle.fluent_uri.specs.Components.{components}
+use Rattle.uri_basic.specs.declared.error.BasicResolveError.{BasicResolveError}
+use Rattle.uri_basic.specs.declared.error.BasicResolveError.TheVariants as errors
+use Rattle.uri_basic.specs.Resolving.{IsBasicError}
+use Rattle.uri_basic.specs.Target.{basic_resolution_of_texts}
+use Rattle.uri_streams.specs.Results.{Text, Error, basic_resolution_result, basic_target_result}
+use Rattle.uri_streams.specs.Results.{double_slash_message}
+use Rattle.uri_streams.specs.Returned.{result_in}
+use Rattle.uri_streams.specs.declared.fault.LineError.TheVariants.{PathStartsWithDoubleSlash}
+use Rattle.uri_streams.specs.declared.results.LineResult.{LineResult as Returned}
+use Rattle.uri_streams.specs.declared.results.LineResult.TheVariants as returned
+
+-- lines: what `urilines resolve --basic` writes of a target is its text
+pub basic_target_result-of-target : (base given reference target : List ℕ) → given ≡ base
+    → basic_resolution_of_texts given reference ≡ Ok target
+    → Text target ≡ basic_target_result base reference
+unfolding basic_target_result
+basic_target_result-of-target base given reference target same is =
+    ap basic_resolution_result
+    (sym (subst (λ b. basic_resolution_of_texts b reference ≡ Ok target) same is))
+
+-- lines: what `urilines resolve --basic` writes of an error is the one that is defined
+basic_target_result-of-error : (base reference : List ℕ) (e : BasicResolveError)
+    → IsBasicError (components base) (components reference) e → e ≢ errors.OutOfMemory
+    → Error double_slash_message ≡ basic_target_result base reference
+unfolding basic_target_result
+basic_target_result-of-error base reference errors.PathStartsWithDoubleSlash is some =
+    ap basic_resolution_result (sym is)
+basic_target_result-of-error base reference errors.OutOfMemory is some = absurd (some refl)
+
+-- lines: an error of the basic algorithm, but for lack of memory, is the one that is defined for
+-- base and reference
+pub basic_target_result-of-returned-error : {E : Type 0} (base given reference : List ℕ)
+    (e : BasicResolveError) (result : Result Returned E) → given ≡ base
+    → IsBasicError (components given) (components reference) e
+    → IfOk result (λ line_result. line_result ≡ returned.Error PathStartsWithDoubleSlash)
+    → IfOk result (λ line_result. e ≢ errors.OutOfMemory)
+    → IfOk result (λ line_result. result_in line_result ≡ basic_target_result base reference)
+basic_target_result-of-returned-error base given reference e (Ok line_result) same is error some =
+    ap result_in error ∙ basic_target_result-of-error base reference e
+    (subst (λ b. IsBasicError (components b) (components reference) e) same is) some
+basic_target_result-of-returned-error base given reference e (Err failure) same is error some = tt
