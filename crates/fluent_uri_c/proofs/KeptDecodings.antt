@@ -1,23 +1,21 @@
 -- Components each byte of which normalising keeps are their own decoded form.
-use Rattle.std.proofs.Common.{◌≡◌, ◌+◌, ◌*◌, ◌/◌, ◌%◌, ◌<◌, ◌≤◌, ◌-◌, ℕ, zero, suc, Bool, true}
+use Rattle.std.proofs.Common.{◌≡◌, ◌<◌, ◌≤◌, ◌-◌, ℕ, zero, suc, Bool, true}
 use Rattle.std.proofs.Common.{false}
-use Rattle.std.proofs.Common.{not, ◌&&◌, ◌||◌, cond, List, [], ◌∷◌, ◌++◌, ◌∙◌, ap, arith, drop, eqb}
-use Rattle.std.proofs.Common.{ltb}
+use Rattle.std.proofs.Common.{not, ◌&&◌, List, [], ◌∷◌, ◌++◌, ◌∙◌, ap, arith, drop, eqb}
 use Rattle.std.proofs.Common.{add-zero, get_or, length, refl, subst, sym, take, ⊎_elim}
-use Rattle.std.specs.Char.{digit_value, is_ascii_hexdigit, is_ascii_uppercase, to_ascii_lowercase}
-use Rattle.std.specs.Fmt.{digit_glyph}
-use Rattle.std.specs.List.{position_or_len, prefix_len}
+use Rattle.std.specs.Char.{is_ascii_uppercase, to_ascii_lowercase}
+use Rattle.std.specs.List.{position_or_len}
 use Rattle.std.specs.Str.{IsUtf8, str_to_ascii_lowercase}
-use Rattle.std.proofs.lemmas.Bool.{agree_below_at, and_from, and_parts, cases_Bool, cases_lt}
-use Rattle.std.proofs.lemmas.Bool.{cond-false, eqb-true, false≢true, ltb-true, ne_eqb, not-false}
+use Rattle.std.proofs.lemmas.Bool.{and_parts, cases_Bool, cases_lt}
+use Rattle.std.proofs.lemmas.Bool.{cond-false, eqb-true, false≢true, ne_eqb, not-false}
 use Rattle.std.proofs.lemmas.Bool.{not-true}
 use Rattle.std.proofs.lemmas.Bool.Decides.{nat_tests}
 use Rattle.std.proofs.lemmas.List.{drop_all, get_or-drop, length-drop, take-append-drop}
 use Rattle.std.proofs.lemmas.List.Sums.{prefix_len_stops}
 use Rattle.std.proofs.lemmas.Str.{IsUtf8-drop}
 use Rattle.uri_pct.specs.Chunks.{widest_set}
-use Rattle.uri_pct.specs.DecodeUnreserved.{LacksPastAscii, decode_octet, decode_unreserved}
-use Rattle.uri_pct.specs.Sets.{TableSet, is_unreserved}
+use Rattle.uri_pct.specs.DecodeUnreserved.{LacksPastAscii, decode_unreserved}
+use Rattle.uri_pct.specs.Sets.{TableSet}
 use Rattle.uri_pct.specs.Texts.{lacks}
 use Rattle.uri_pct.specs.Tokens.{IsValidFor, Octet, print, text_of_token}
 use Rattle.uri_pct.proofs.Decodings.Decoding.{BeginsWithOctet, boundary_after_octet}

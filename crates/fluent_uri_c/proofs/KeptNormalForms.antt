@@ -1,11 +1,11 @@
 -- A text each byte of which normalising keeps, with plain components, is its own normal text.
-use Rattle.std.proofs.Common.{◌≡◌, ◌&&◌, ◌||◌, ◌++◌, ◌∙◌, ℕ, Bool, true, false, cond, List, [], ap}
+use Rattle.std.proofs.Common.{◌≡◌, ◌||◌, ◌++◌, ◌∙◌, ℕ, Bool, true, false, cond, List, [], ap}
 use Rattle.std.proofs.Common.{refl}
 use Rattle.std.proofs.Common.{option_map, subst, sym}
 use Rattle.std.specs.Prelude.{codes, Option, Some, None, IfNone, IfSome, is_some}
 use Rattle.std.specs.Option.{option_and_then}
 use Rattle.std.specs.Str.{IsUtf8, str_to_ascii_lowercase}
-use Rattle.std.proofs.lemmas.Bool.{and_parts, cond-false, false≢true}
+use Rattle.std.proofs.lemmas.Bool.{cond-false, false≢true}
 use Rattle.uri_pct.specs.Chunks.{widest_set}
 use Rattle.uri_pct.specs.DecodeUnreserved.{LacksPastAscii, decode_unreserved}
 use Rattle.uri_pct.specs.Sets.{LacksPercent, TableSet, reg_name_set}
@@ -14,11 +14,11 @@ use Rattle.uri_pct.proofs.Decodings.Decoding.{every_set_is_subset_of_widest}
 use Rattle.uri_pct.proofs.ValidTexts.EStrs.{valid_for_superset}
 use Rattle.uri_pct.proofs.Tests.{IfSome-weaken}
 use Rattle.uri_parts.specs.Authority.{AuthorityParts, IsAuthorityFor, authority_parts}
-use Rattle.uri_parts.specs.Authority.{is_authority_for, recompose_authority}
+use Rattle.uri_parts.specs.Authority.{recompose_authority}
 use Rattle.uri_parts.specs.Components.{Components, IsSplitOf, components, has_authority, marked}
 use Rattle.uri_parts.specs.Components.{recompose, starts}
 use Rattle.uri_parts.specs.Grammar.{IsTextOf, Kind, is_authority}
-use Rattle.uri_parts.specs.Hosts.{host_kind, ipv4_value, is_host, name_kind}
+use Rattle.uri_parts.specs.Hosts.{host_kind, ipv4_value, is_host}
 use Rattle.uri_parts.specs.Ports.{PortFunction}
 use Rattle.uri_parts.proofs.Authorities.Authority.{is_authority_for-sound, names_exclude_delimiters}
 use Rattle.uri_parts.proofs.Authorities.AuthorityPlaces.{kind_of_unbracketed_host}

@@ -1,9 +1,9 @@
 -- Texts each byte of which normalising keeps, and their parts.
-use Rattle.std.proofs.Common.{◌≡◌, ◌+◌, ◌<◌, ℕ, zero, suc, Bool, true, false, not, ◌&&◌, ◌||◌, List}
-use Rattle.std.proofs.Common.{[], ◌∷◌, ◌++◌, ◌∙◌, ap, arith, eqb, get_or, length, refl, sym}
+use Rattle.std.proofs.Common.{◌≡◌, ◌+◌, ℕ, suc, Bool, true, false, not, ◌&&◌, ◌||◌, List}
+use Rattle.std.proofs.Common.{[], ◌∷◌, ◌++◌, ◌∙◌, ap, arith, eqb, get_or, refl, sym}
 use Rattle.std.specs.Prelude.{Option, Some, None, IfSome}
 use Rattle.std.specs.List.{list_any}
-use Rattle.std.proofs.lemmas.Bool.{and_from, and_parts, not-true, not_from_false, or_from}
+use Rattle.std.proofs.lemmas.Bool.{and_from, and_parts, not-true, or_from}
 use Rattle.uri_parts.specs.Components.{marked, starts}
 use Rattle.fluent_uri_c.specs.PlainTexts.{IsPlain, is_kept_octet}
 

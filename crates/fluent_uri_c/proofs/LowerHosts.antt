@@ -1,8 +1,10 @@
 -- Hosts in lower case but for the digits of octets, byte by byte.
 use Rattle.std.proofs.Common.{◌≡◌, ◌+◌, ◌<◌, ℕ, zero, suc, true, false, List, [], ◌∷◌}
-use Rattle.std.proofs.Common.{◌∙◌, eqb, get_or, drop, length, refl, ap, arith, ◌≤◌, ◌-◌}
-use Rattle.std.specs.Char.{is_ascii_uppercase}
-use Rattle.std.proofs.lemmas.Bool.{cond-true, cond-false, and_from, not_from_false}
+use Rattle.std.proofs.Common.{◌∙◌, eqb, get_or, drop, length, refl, ap, arith, ◌≤◌, ◌-◌, ⊎_elim}
+use Rattle.std.specs.Char.{is_ascii_uppercase, to_ascii_lowercase}
+use Rattle.std.specs.Str.{str_to_ascii_lowercase}
+use Rattle.std.proofs.lemmas.Bool.{and_from, cases_Bool, cond-false, cond-true, not_from_false}
+use Rattle.std.proofs.lemmas.Bool.Decides.{nat_tests}
 use Rattle.std.proofs.lemmas.List.{drop_all, drop_more}
 use Rattle.fluent_uri_c.specs.PlainTexts.{is_lower_after}
 
@@ -41,6 +43,24 @@ module _ (bytes : List ℕ) (i : ℕ) (within : i < length bytes) where
   other-byte-is-lower digits none percent lower e = ap (λ d. is_lower_after d (drop i bytes)) none
       ∙ ap (is_lower_after 0) next
       ∙ cond-false (eqb byte 37) _ _ percent ∙ and_from _ _ (not_from_false _ lower) e
+
+-- lower hosts: a byte that stays in lower case is no letter in upper case
+lowered-byte-is-no-upper-case : (b : ℕ) → to_ascii_lowercase b ≡ b → is_ascii_uppercase b ≡ false
+lowered-byte-is-no-upper-case b e = grind (arith, nat_tests)
+
+-- lower hosts: a text that stays in lower case is, whatever digits of an octet it begins with
+pub lowered-text-is-lower : (digits : ℕ) (text : List ℕ) → str_to_ascii_lowercase text ≡ text
+    → is_lower_after digits text ≡ true
+unfolding is_lower_after
+lowered-text-is-lower zero [] e = refl
+lowered-text-is-lower (suc digits) [] e = refl
+lowered-text-is-lower (suc digits) (b ∷ text) e = lowered-text-is-lower digits text (ap (drop 1) e)
+lowered-text-is-lower zero (b ∷ text) e = ⊎_elim
+    (λ percent. cond-true (eqb b 37) _ _ percent ∙ lowered-text-is-lower 2 text (ap (drop 1) e))
+    (λ other. cond-false (eqb b 37) _ _ other ∙ and_from _ _
+    (not_from_false _ (lowered-byte-is-no-upper-case b (ap (λ x. get_or x 0 0) e)))
+    (lowered-text-is-lower 0 text (ap (drop 1) e)))
+    (cases_Bool (eqb b 37))
 
 -- lower hosts: at the end of a text nothing is left
 pub end-is-lower : (digits i : ℕ) (bytes : List ℕ) → length bytes ≤ i

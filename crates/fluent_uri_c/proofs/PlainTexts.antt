@@ -1,7 +1,7 @@
 -- Plain texts: those that are found to be their own normal forms by their bytes and their parts.
 use Rattle.std.proofs.Common.{◌≡◌, ℕ, ◌<◌, Bool, true, false, cond, eqb, ltb, length, List, arith}
 use Rattle.std.proofs.Common.{refl}
-use Rattle.std.proofs.Common.{sym, ap, subst, ◌∙◌, ⊎_elim}
+use Rattle.std.proofs.Common.{sym, ap, subst, ◌∙◌}
 use Rattle.std.specs.Prelude.{Option, Some, None, Ok, IfSome, IsSomeAnd, slice_range}
 use Rattle.std.specs.Str.{str_to_ascii_lowercase}
 use Rattle.std.proofs.lemmas.Bool.{eqb-true, false≢true}

@@ -128,7 +128,7 @@ fn is_plain(bytes: &[u8], past_ascii: bool) -> bool
     is_kept_at(bytes, last + LANES, past_ascii)
 }
 
-/// Returns whether a scheme is in lower case: no ASCII letter is in upper case.
+/// Returns whether a scheme, or a host, is in lower case: no ASCII letter is in upper case.
 fn is_lower(bytes: &[u8]) -> bool
     ensures { result ≡ true → str_to_ascii_lowercase bytes.now ≡ bytes.now }
 {
@@ -190,7 +190,7 @@ fn is_host_plain(text: &[u8], at: Span) -> bool
     if begins_with_bracket(host) {
         return false;
     }
-    is_lower_host(host)
+    is_lower(host) || is_lower_host(host)
 }
 
 /// Returns `true` only if normalising keeps a text whose components are at these spans, under any
