@@ -63,10 +63,11 @@ export LIBRARY
     "$work/fuzz_rows" 100000 1 | cut -f 4,6 > "$work/forms"
     grep '^    ("' "$root/crates/uri_parts/src/default_ports.rt" >> "$work/forms"
     rules=$(grep 'is_one_of(scheme' "$root/crates/uri_rules/src/scheme_rules.rt" | sha256sum)
-    version=$(sed -n 's/^#define URI_FORM_VERSION //p' "$root/postgres/values.h")
+    version=$(sed -n 's/^#define FLUENT_URI_NORMAL_VERSION //p' "$root/c/include/fluent_uri.h")
     now="$version $(sha256sum < "$work/forms" | cut -d ' ' -f 1) ${rules%% *}"
     [ "$now" = "$(cat "$root/databases/forms")" ] ||
-        fail "normal forms are not those of databases/forms: raise URI_FORM_VERSION, and write the \
+        fail "normal forms are not those of databases/forms: raise normal_version of \
+crates/fluent_uri_c and FLUENT_URI_NORMAL_VERSION of the header, and write the \
 number and these digests there: ${now#* }"
 }
 

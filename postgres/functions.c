@@ -222,6 +222,9 @@ Datum uri_version(PG_FUNCTION_ARGS) {
         psprintf("%u.%u.%u", version >> 16 & 255, version >> 8 & 255, version & 255)));
 }
 
+PG_FUNCTION_INFO_V1(uri_normal_version);
+Datum uri_normal_version(PG_FUNCTION_ARGS) { PG_RETURN_INT32((int32)fluent_uri_normal_version()); }
+
 /* ---- Encoding and decoding ---- */
 
 static uint32 component_named(text *name) {

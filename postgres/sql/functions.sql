@@ -79,4 +79,4 @@ SELECT u, n, value
 FROM (VALUES ('x:?a=1&b=2'::uri), ('x:?b=3'), ('x:y')) AS known (u), uri_query_pairs(u)
 WHERE name = 'b' ORDER BY u;
 
-SELECT uri_version() ~ '^\d+\.\d+\.\d+$' AS version;
+SELECT uri_version() ~ '^\d+\.\d+\.\d+$' AS version, uri_normal_version() > 0 AS forms;

@@ -14,14 +14,17 @@ The words are a command of `uritool` (parse, normalize, resolve, links), or one 
                                     percent-encoded text, a table, an authority or a builder return
     relativize, relativize-path, relativize-query
                                     the reference that leads from a URI to another, or its query
-    mend, mend-owned, mend-link KIND TEXT, trim DATA
-                                    the reference that a text is mended to; the link in a page's
-                                    text, which is percent-encoded
+    mend, mend-owned, mend-link, mend-path, mend-query KIND TEXT, trim DATA
+                                    the reference that a text is mended to, or its path or query; the
+                                    link in a page's text, which is percent-encoded
     rules WAY URI, rules resolve URI REFERENCE
                                     the normal form under the rules of schemes: `normalize`,
                                     `by-default`, or with `strictly` without underflow, and its
                                     `path`; that of a target
     basic URI REFERENCE             the target by the basic algorithm
+    ascii-host, with-ascii-host, to-ascii-uri IRI-REFERENCE
+                                    the host in ASCII, borrowed or owned; the reference, or its
+                                    URI, with its host in ASCII
     lines OPTION.. WORD.. INPUT     what `urilines` makes of an input: how many lines and errors,
                                     and both outputs (`shows/lines.txt` has the options)
     recipe NAME WORD..              what a program of `cookbook` returns or writes, or `uri_query`
@@ -67,6 +70,7 @@ DEPS = (
     "uri_setting",
     "uri_rules",
     "uri_basic",
+    "uri_idna",
     "fluent_uri",
     "uri_parts",
     "uri_pct",

@@ -1,0 +1,2 @@
+pub mod AsciiHosts
+pub mod AsciiReferences
