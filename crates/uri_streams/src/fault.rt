@@ -58,7 +58,10 @@ impl Display for LineError {
             LineError::Refused(refusal) => write!(f, "{refusal}"),
             LineError::Target(error) => write!(f, "target: {}", CommandError::Text(error)),
             LineError::PathStartsWithDoubleSlash => {
-                write!(f, "target has no authority, and its path would start with '//'")
+                write!(
+                    f,
+                    "target has no authority, and its path would start with '//'"
+                )
             }
         }
     }
