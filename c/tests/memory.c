@@ -40,7 +40,7 @@ static int is_kept(size_t length) {
     return is_clear(0, CANARY) && is_clear(CANARY + length, sizeof whole);
 }
 
-enum { WORKS = 13 };
+enum { WORKS = 14 };
 static uint32_t ends[3];
 static uint8_t valid;
 
@@ -64,6 +64,7 @@ static uint32_t work(int which, size_t room) {
     case 11: return fluent_uri_mend_component(FLUENT_URI_PATH, TEXT("%7e b\xc3\xa9#"), out, room,
                                               &outcome);
     case 10: return fluent_uri_mend_link(1, TEXT(" /b\n c\t[ "), out, room, NO_PARTS, &outcome);
+    case 13: return fluent_uri_origin(0, TEXT("HTTP://A:81/b"), out, room, &outcome);
     case 12: {
         const fluent_uri_span none = {SIZE_MAX, SIZE_MAX};
         const fluent_uri_components it = {{0, 4}, none, {7, 8}, none, {8, 12}, none, {1, 4}};
@@ -101,6 +102,6 @@ int main(void) {
         }
     }
     /* By the shared library the requests are its own malloc's, which this file replaces too. */
-    CHECK(counts >= 8);
+    CHECK(counts >= 9);
     return ended("memory");
 }

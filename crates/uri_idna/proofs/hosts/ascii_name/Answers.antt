@@ -1,0 +1,12 @@
+use Rattle.std.proofs.Common.{◌≡◌, true, sym, ap}
+use Rattle.uri_pct.specs.Chunks.{widest_set}
+use Rattle.uri_pct.proofs.Decodings.Decoding.{every_set_is_subset_of_widest}
+use Rattle.uri_pct.proofs.ValidTexts.EStrs.{valid_for_superset}
+use Rattle.uri_idna.proofs.hosts.ascii_name.Goals as goal
+
+pub of_text-requires : goal.of_text-requires
+of_text-requires g c =
+    let set = g.R.Encoder.set in
+    valid_for_superset set widest_set c.as_str-text.result.now
+    (every_set_is_subset_of_widest set g.met.R.Encoder.lacks_percent)
+    c.as_str-text.ensures.valid

@@ -1,0 +1,8 @@
+//! Hosts as names for DNS: in ASCII, by UTS 46, with the flags of RFC 3987, section 3.1.
+#![tactic(auto)]
+
+pub mod error;
+pub mod hosts;
+
+pub use error::AsciiHostError;
+pub use hosts::ascii_host;
