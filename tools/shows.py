@@ -22,6 +22,7 @@ The words are a command of `uritool` (parse, normalize, resolve, links), or one 
                                     `by-default`, or with `strictly` without underflow, and its
                                     `path`; that of a target
     basic URI REFERENCE             the target by the basic algorithm
+    ascii-host IRI-REFERENCE        the host in ASCII, borrowed or owned
     lines OPTION.. WORD.. INPUT     what `urilines` makes of an input: how many lines and errors,
                                     and both outputs (`shows/lines.txt` has the options)
     recipe NAME WORD..              what a program of `cookbook` returns or writes, or `uri_query`
@@ -67,6 +68,7 @@ DEPS = (
     "uri_setting",
     "uri_rules",
     "uri_basic",
+    "uri_idna",
     "fluent_uri",
     "uri_parts",
     "uri_pct",
