@@ -1,1 +1,3 @@
+pub mod AsciiNames
 pub mod Names
+pub mod Replaced

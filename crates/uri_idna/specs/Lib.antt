@@ -1,1 +1,2 @@
 pub mod AsciiHosts
+pub mod AsciiReferences

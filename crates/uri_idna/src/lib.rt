@@ -3,6 +3,8 @@
 
 pub mod error;
 pub mod hosts;
+pub mod references;
 
 pub use error::AsciiHostError;
 pub use hosts::ascii_host;
+pub use references::{to_uri_with_ascii_host, with_ascii_host};

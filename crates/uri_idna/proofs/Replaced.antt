@@ -1,0 +1,210 @@
+-- A text whose host is replaced by its form in ASCII has its other components unchanged.
+use Rattle.std.proofs.Common.{◌≡◌, ℕ, Bool, true, false, ◌&&◌, ◌||◌, not, List, [], ◌++◌, refl}
+use Rattle.std.proofs.Common.{ap, sym, subst, ◌∙◌}
+use Rattle.std.specs.Prelude.{Option, Some, None, IfNone, IfSome, IsSomeAnd, codes, is_some}
+use Rattle.std.specs.Prelude.{option_map}
+use Rattle.std.specs.Str.{IsUtf8}
+use Rattle.std.proofs.lemmas.Str.{IsUtf8-append}
+use Rattle.uri_pct.specs.Sets.{digit_set}
+use Rattle.uri_parts.specs.Authority.{AuthorityParts, IsAuthorityFor, authority_parts}
+use Rattle.uri_parts.specs.Authority.{recompose_authority}
+use Rattle.uri_parts.specs.Components.{Components, IsAbemptyPath, IsSplitOf, Lacks, components}
+use Rattle.uri_parts.specs.Components.{has_scheme, marked, recompose}
+use Rattle.uri_parts.specs.Grammar.{IsOfKind, IsTextOf, Kind, components_meet_rules}
+use Rattle.uri_parts.specs.Grammar.{has_colon_in_first_segment, is_authority}
+use Rattle.uri_parts.proofs.Theorems.{authority_parts-are-unique, components-are-split-of-text}
+use Rattle.uri_parts.proofs.Theorems.{is_authority_for-complete, is_authority_for-sound}
+use Rattle.uri_parts.proofs.Theorems.{only-split-is-components, recompose-components}
+use Rattle.uri_ops.specs.BuilderParts.{is_authority_text}
+use Rattle.uri_ops.specs.ComponentSets.{HasComponentSets}
+use Rattle.uri_ops.proofs.Builders.BuilderAuthorities.{authority-lacks-its-ends}
+use Rattle.uri_ops.proofs.Builders.BuilderAuthorities.{authority-text-from-rule}
+use Rattle.uri_ops.proofs.Builders.BuilderAuthorities.{authority-text-is-utf8}
+use Rattle.uri_ops.proofs.Builders.BuilderAuthorities.{authority-text-meets-rule}
+use Rattle.uri_ops.proofs.Meanings.AsciiCharacters.{ascii-bytes-are-utf8}
+use Rattle.uri_ops.proofs.Meanings.AuthorityMeanings.{authority-parts-are-utf8}
+use Rattle.uri_ops.proofs.Meanings.AuthorityMeanings.{kind-sets-lack-authority-delimiters}
+use Rattle.uri_idna.specs.AsciiHosts.{ascii_host}
+use Rattle.uri_ops.proofs.Meanings.TextParts.{ArePartsOfKind, components-of-kind-meet-grammar}
+use Rattle.uri_ops.proofs.Normal.NormalTexts.{text-has-parts-of-kind}
+use Rattle.uri_idna.specs.AsciiReferences.{HasAsciiHost, IsAuthorityWithAsciiHost}
+use Rattle.uri_idna.specs.AsciiReferences.{IsWithAsciiHost, ascii_components, with_ascii_host}
+use Rattle.uri_idna.specs.AsciiReferences.{with_authority, with_host}
+use Rattle.uri_idna.proofs.AsciiNames.{ascii-host-is-host}
+
+-- replacing a host: a component between ASCII delimiters is UTF-8
+marked-is-utf8 : (before after : List ℕ) (part : Option (List ℕ)) → IsUtf8 before → IsUtf8 after
+    → IfSome part IsUtf8 → IsUtf8 (marked before part after)
+marked-is-utf8 before after None b a e = ascii-bytes-are-utf8 [] refl
+marked-is-utf8 before after (Some x) b a e = IsUtf8-append (before ++ x) after
+    (IsUtf8-append before x b e) a
+
+-- replacing a host: the parts of an authority with its host in ASCII
+abbrev with_ascii : List ℕ → List ℕ → AuthorityParts
+with_ascii authority host = record (authority_parts authority) { host = host }
+
+-- replacing a host: an authority with its host in ASCII is one of the kind, with these parts
+authority-with-ascii-host : (kind : Kind) → HasComponentSets kind → (authority host : List ℕ)
+    → IsUtf8 authority → is_authority kind authority ≡ true
+    → ascii_host (authority_parts authority).host ≡ Some host
+    → (is_authority_text kind (with_host authority host) ≡ true)
+    × (authority_parts (with_host authority host) ≡ with_ascii authority host)
+authority-with-ascii-host kind sets authority host utf8 rule e =
+    let p : AuthorityParts = authority_parts authority in
+    let new : AuthorityParts = record p { host = host } in
+    let text : List ℕ = recompose_authority new in
+    let apart = kind-sets-lack-authority-delimiters kind sets in
+    let h = is_authority_for-sound kind.userinfo kind.reg_name authority rule in
+    let u = authority-parts-are-utf8 p.userinfo p.port p.host (subst IsUtf8 (sym h.whole) utf8) in
+    let made = ascii-host-is-host kind sets p.host host (record { utf8 = u.host; host = h.host }) e in
+    let utf8' : IsUtf8 text = IsUtf8-append (marked [] p.userinfo (codes "@"))
+    (host ++ marked (codes ":") p.port [])
+    (marked-is-utf8 [] (codes "@") p.userinfo (ascii-bytes-are-utf8 [] refl)
+    (ascii-bytes-are-utf8 (codes "@") refl) u.userinfo)
+    (IsUtf8-append host (marked (codes ":") p.port []) made.utf8
+    (marked-is-utf8 (codes ":") [] p.port (ascii-bytes-are-utf8 (codes ":") refl)
+    (ascii-bytes-are-utf8 [] refl) u.port)) in
+    let grammar : IsAuthorityFor kind.userinfo kind.reg_name text new = record {
+      whole = refl;
+      userinfo = h.userinfo;
+      host = made.host;
+      port = h.port;
+    } in (
+      authority-text-from-rule kind text utf8'
+          (is_authority_for-complete kind.userinfo kind.reg_name apart text new utf8' grammar),
+      authority_parts-are-unique kind.userinfo kind.reg_name apart text new utf8' grammar,
+    )
+
+-- replacing a host: a text that begins with `//` has no scheme
+slashes-are-no-scheme : (scheme : Option (List ℕ)) (authority rest : List ℕ)
+    → IfNone scheme (has_scheme (marked [] scheme (codes ":")
+    ++ (marked (codes "//") (Some authority) [] ++ rest)) ≡ false)
+slashes-are-no-scheme None authority rest = refl
+slashes-are-no-scheme (Some s) authority rest = tt
+
+-- replacing a host: components with another authority of the kind are of the kind
+replaced-components-are-of-kind : (kind : Kind) (p : Components) (old new : List ℕ)
+    → p.authority ≡ Some old → IsUtf8 new → is_authority kind new ≡ true → ArePartsOfKind kind p
+    → ArePartsOfKind kind (with_authority p new)
+replaced-components-are-of-kind kind p old new had utf8 rule w = record {
+  scheme = w.scheme;
+  authority = (utf8, rule);
+  path = w.path;
+  query = w.query;
+  fragment = w.fragment;
+  needs = subst (λ (o : Option (List ℕ)). (is_some p.scheme || (not kind.needs_scheme
+      && (is_some o || not (has_colon_in_first_segment p.path)))) ≡ true) had w.needs;
+}
+
+-- replacing a host: components with another authority of the kind are those of their text
+replaced-components-are-split : (kind : Kind) → HasComponentSets kind → (text : List ℕ)
+    (p : Components) (old new : List ℕ) → p.authority ≡ Some old
+    → is_authority_text kind new ≡ true → IsSplitOf text p
+    → IsSplitOf (recompose (with_authority p new)) (with_authority p new)
+replaced-components-are-split kind sets text p old new had rule s = record {
+  whole = refl;
+  scheme = s.scheme;
+  authority = (
+    authority-lacks-its-ends kind sets new rule,
+    (subst (λ (o : Option (List ℕ)). IfSome o (λ a. Lacks (codes "/?#") a
+        × IsAbemptyPath p.path)) had s.authority).1,
+  );
+  path = s.path;
+  query = s.query;
+  no_scheme = slashes-are-no-scheme p.scheme new
+      (p.path ++ (marked (codes "?") p.query [] ++ marked (codes "#") p.fragment []));
+  no_authority = tt;
+}
+
+module _ (kind : Kind) (sets : HasComponentSets kind) (text old host : List ℕ)
+    (w : IsTextOf kind text) (had : (components text).authority ≡ Some old)
+    (e : ascii_host (authority_parts old).host ≡ Some host) where
+  -- replacing a host: the components of a text with its host in ASCII
+  replaced : Components
+  replaced = with_authority (components text) (with_host old host)
+
+  old-authority-is-of-kind : IsUtf8 old × (is_authority kind old ≡ true)
+  old-authority-is-of-kind = subst (λ (o : Option (List ℕ)).
+      IfSome o (λ a. IsUtf8 a × (is_authority kind a ≡ true))) had
+      (text-has-parts-of-kind kind text w).authority
+
+  new-authority : (is_authority_text kind (with_host old host) ≡ true)
+      × (authority_parts (with_host old host) ≡ with_ascii old host)
+  new-authority = authority-with-ascii-host kind sets old host old-authority-is-of-kind.0
+      old-authority-is-of-kind.1 e
+
+  -- they are those of the text that they make up
+  components-of-replaced : components (recompose replaced) ≡ replaced
+  unfolding replaced
+  components-of-replaced = only-split-is-components _ _
+      (replaced-components-are-split kind sets text (components text) old (with_host old host) had
+      new-authority.0 (components-are-split-of-text text))
+
+  -- which is of the kind
+  pub replaced-text-is-of-kind : (made : List ℕ)
+      → made ≡ recompose (with_authority (components text) (with_host old host))
+      → IsOfKind kind made
+  unfolding replaced
+  replaced-text-is-of-kind made is =
+      let rule = new-authority.0 in
+      ap (λ t. components_meet_rules kind (components t)) is
+      ∙ ap (components_meet_rules kind) components-of-replaced
+      ∙ components-of-kind-meet-grammar kind replaced
+      (replaced-components-are-of-kind kind (components text) old (with_host old host) had
+      (authority-text-is-utf8 kind (with_host old host) rule)
+      (authority-text-meets-rule kind (with_host old host) rule)
+      (text-has-parts-of-kind kind text w))
+
+  -- and differs from it in the host alone
+  new-authority-has-ascii-host : IsWithAsciiHost old (with_host old host)
+  new-authority-has-ascii-host =
+      let parts = new-authority.1 in
+      record {
+        userinfo = ap (λ (p : AuthorityParts). p.userinfo) parts;
+        port = ap (λ (p : AuthorityParts). p.port) parts;
+        host = e ∙ sym (ap (λ (p : AuthorityParts). Some p.host) parts);
+      }
+
+  pub replaced-text-has-ascii-host : (made : List ℕ)
+      → made ≡ recompose (with_authority (components text) (with_host old host))
+      → HasAsciiHost text made
+  unfolding replaced
+  replaced-text-has-ascii-host made is =
+      let same : components made ≡ replaced = ap components is ∙ components-of-replaced in
+      record {
+        scheme = ap (λ (c : Components). c.scheme) same;
+        authority = subst (λ (o : Option (List ℕ)). IsAuthorityWithAsciiHost o
+            (components made).authority) (sym had)
+            (subst (λ (o : Option (List ℕ)). IsSomeAnd o (IsWithAsciiHost old))
+            (sym (ap (λ (c : Components). c.authority) same)) new-authority-has-ascii-host);
+        path = ap (λ (c : Components). c.path) same;
+        query = ap (λ (c : Components). c.query) same;
+        fragment = ap (λ (c : Components). c.fragment) same;
+      }
+
+  -- it is the text that the definition has
+  pub replaced-text-is-defined : (made : List ℕ)
+      → made ≡ recompose (with_authority (components text) (with_host old host))
+      → with_ascii_host text ≡ Some made
+  replaced-text-is-defined made is =
+      ap (λ a. option_map recompose (ascii_components (components text) a)) had
+      ∙ ap (λ h. option_map recompose (option_map (λ x. with_authority (components text)
+      (with_host old x)) h)) e
+      ∙ ap Some (sym is)
+
+-- a text without an authority stays
+pub text-without-authority-stays : (text : List ℕ) → (components text).authority ≡ None
+    → with_ascii_host text ≡ Some text
+text-without-authority-stays text none =
+    ap (λ a. option_map recompose (ascii_components (components text) a)) none
+    ∙ ap Some (recompose-components text)
+
+pub text-without-authority-has-ascii-host : (text : List ℕ) → (components text).authority ≡ None
+    → HasAsciiHost text text
+text-without-authority-has-ascii-host text none = record {
+  scheme = refl;
+  authority = subst (λ (o : Option (List ℕ)). IsAuthorityWithAsciiHost o o) (sym none) refl;
+  path = refl;
+  query = refl;
+  fragment = refl;
+}
