@@ -22,7 +22,9 @@ The words are a command of `uritool` (parse, normalize, resolve, links), or one 
                                     `by-default`, or with `strictly` without underflow, and its
                                     `path`; that of a target
     basic URI REFERENCE             the target by the basic algorithm
-    ascii-host IRI-REFERENCE        the host in ASCII, borrowed or owned
+    ascii-host, with-ascii-host, to-ascii-uri IRI-REFERENCE
+                                    the host in ASCII, borrowed or owned; the reference, or its
+                                    URI, with its host in ASCII
     lines OPTION.. WORD.. INPUT     what `urilines` makes of an input: how many lines and errors,
                                     and both outputs (`shows/lines.txt` has the options)
     recipe NAME WORD..              what a program of `cookbook` returns or writes, or `uri_query`

@@ -253,7 +253,9 @@ uint32_t fluent_uri_build(uint32_t kind, const uint8_t *text, size_t text_len,
                           const fluent_uri_components *components, uint8_t *out, size_t out_len,
                           fluent_uri_parts *parts, size_t parts_len, fluent_uri_outcome *outcome);
 
-/** Writes an IRI or an IRI reference as a URI or a URI reference (RFC 3987, section 3.1). */
+/** Writes an IRI or an IRI reference as a URI or a URI reference (RFC 3987, section 3.1). A host past
+ * ASCII is percent-encoded too: a name that DNS does not have. For a name in Punycode, replace the
+ * host by fluent_uri_build first. */
 uint32_t fluent_uri_to_uri(uint32_t kind, const uint8_t *text, size_t text_len, uint8_t *out,
                            size_t out_len, fluent_uri_parts *parts, size_t parts_len,
                            fluent_uri_outcome *outcome);

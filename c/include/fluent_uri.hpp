@@ -229,7 +229,8 @@ inline result relativize(std::uint32_t kind, std::uint32_t options, std::string_
     });
 }
 
-/** An IRI or an IRI reference as a URI or a URI reference (RFC 3987, section 3.1). */
+/** An IRI or an IRI reference as a URI or a URI reference (RFC 3987, section 3.1). A host past ASCII
+ * is percent-encoded too: a name that DNS does not have. */
 inline result to_uri(std::uint32_t kind, std::string_view text) {
     return detail::make_of_one(fluent_uri_to_uri, kind, text);
 }
