@@ -4,7 +4,7 @@ A crate's file `mutants.lock` has a line for each mutant that was rejected:
 
     NAME DIGEST rejected SHOWN GOALS
 
-DIGEST is of all that the verdict depends on (mutant_digest.py), so a line whose digest is another
+DIGEST is of all that the verdict depends on (digest.py), so a line whose digest is another
 one is stale and counts for nothing. SHOWN is `-`, or what a run of the mutant showed (shows.py):
 `seen:N:SUM` where each of its N lines `shows:` printed both outputs, and `nothing:SUM` where it says
 that no difference is visible. SUM is of these lines, which DIGEST does not cover. GOALS are the clauses
@@ -20,7 +20,7 @@ import subprocess
 import tempfile
 import threading
 
-from mutant_digest import FOLDERS, Digests
+from .digest import FOLDERS, Digests
 
 REJECTED, NONE = "rejected", "-"
 # The folders of mutants.

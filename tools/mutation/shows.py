@@ -53,7 +53,7 @@ import subprocess
 import tempfile
 from typing import NamedTuple
 
-from chosen import LIBRARY, Chosen
+from .chosen import LIBRARY, Chosen
 
 PROGRAM = "shows"
 DEPS = (

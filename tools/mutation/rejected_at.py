@@ -15,8 +15,8 @@ After a table, `Mutants of helpers:` names more, which turn what these functions
 import re
 from typing import NamedTuple
 
-import judge
-from mutant_lock import stem_of
+from . import judge
+from .lock import stem_of
 
 PAGE = "docs/GUARANTEES.md"
 # The goal of a lone clause, which has no name.
