@@ -32,12 +32,25 @@ use Rattle.uri_idna.specs.AsciiReferences.{IsWithAsciiHost, ascii_components, wi
 use Rattle.uri_idna.specs.AsciiReferences.{with_authority, with_host}
 use Rattle.uri_idna.proofs.AsciiNames.{ascii-host-is-host}
 
--- replacing a host: a component between ASCII delimiters is UTF-8
-marked-is-utf8 : (before after : List ℕ) (part : Option (List ℕ)) → IsUtf8 before → IsUtf8 after
-    → IfSome part IsUtf8 → IsUtf8 (marked before part after)
-marked-is-utf8 before after None b a e = ascii-bytes-are-utf8 [] refl
-marked-is-utf8 before after (Some x) b a e = IsUtf8-append (before ++ x) after
-    (IsUtf8-append before x b e) a
+-- replacing a host: a host and the port after it are UTF-8
+host-before-port-is-utf8 : (host : List ℕ) (port : Option (List ℕ)) → IsUtf8 host
+    → IfSome port IsUtf8 → IsUtf8 (host ++ marked (codes ":") port [])
+host-before-port-is-utf8 host None h p = IsUtf8-append host [] h (ascii-bytes-are-utf8 [] refl)
+host-before-port-is-utf8 host (Some digits) h p =
+    IsUtf8-append host ((codes ":" ++ digits) ++ []) h
+    (IsUtf8-append (codes ":" ++ digits) []
+    (IsUtf8-append (codes ":") digits (ascii-bytes-are-utf8 (codes ":") refl) p)
+    (ascii-bytes-are-utf8 [] refl))
+
+-- replacing a host: so is an authority of which each part is UTF-8
+authority-of-utf8-is-utf8 : (user : Option (List ℕ)) (host : List ℕ) (port : Option (List ℕ))
+    → IfSome user IsUtf8 → IsUtf8 host → IfSome port IsUtf8
+    → IsUtf8 (marked [] user (codes "@") ++ (host ++ marked (codes ":") port []))
+authority-of-utf8-is-utf8 None host port u h p = host-before-port-is-utf8 host port h p
+authority-of-utf8-is-utf8 (Some user) host port u h p =
+    IsUtf8-append (user ++ codes "@") (host ++ marked (codes ":") port [])
+    (IsUtf8-append user (codes "@") u (ascii-bytes-are-utf8 (codes "@") refl))
+    (host-before-port-is-utf8 host port h p)
 
 -- replacing a host: the parts of an authority with its host in ASCII
 abbrev with_ascii : List ℕ → List ℕ → AuthorityParts
@@ -57,13 +70,8 @@ authority-with-ascii-host kind sets authority host utf8 rule e =
     let h = is_authority_for-sound kind.userinfo kind.reg_name authority rule in
     let u = authority-parts-are-utf8 p.userinfo p.port p.host (subst IsUtf8 (sym h.whole) utf8) in
     let made = ascii-host-is-host kind sets p.host host (record { utf8 = u.host; host = h.host }) e in
-    let utf8' : IsUtf8 text = IsUtf8-append (marked [] p.userinfo (codes "@"))
-    (host ++ marked (codes ":") p.port [])
-    (marked-is-utf8 [] (codes "@") p.userinfo (ascii-bytes-are-utf8 [] refl)
-    (ascii-bytes-are-utf8 (codes "@") refl) u.userinfo)
-    (IsUtf8-append host (marked (codes ":") p.port []) made.utf8
-    (marked-is-utf8 (codes ":") [] p.port (ascii-bytes-are-utf8 (codes ":") refl)
-    (ascii-bytes-are-utf8 [] refl) u.port)) in
+    let utf8' : IsUtf8 text =
+    authority-of-utf8-is-utf8 p.userinfo host p.port u.userinfo made.utf8 u.port in
     let grammar : IsAuthorityFor kind.userinfo kind.reg_name text new = record {
       whole = refl;
       userinfo = h.userinfo;

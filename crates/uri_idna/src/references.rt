@@ -1,13 +1,15 @@
 //! References with their hosts in ASCII (RFC 3987, section 3.1).
-ghost use Rattle.std.specs.Prelude.{◌≡◌, [], IfErr, IfOk, OnOk, Some, codes, option_copied};
+ghost use Rattle.std.specs.Prelude.{◌≡◌, [], IfErr, IfOk, None, OnOk, Some, codes, option_copied};
 ghost use Rattle.std.specs.Prelude.{option_map, string_bytes};
 ghost use Rattle.uri_pct.specs.EncodedTexts.{text_of};
 ghost use Rattle.uri_pct.specs.Texts.{Pushes};
+ghost use Rattle.uri_parts.specs.Authority.{authority_parts};
 ghost use Rattle.uri_parts.specs.AuthorityTexts.{authority_text};
 ghost use Rattle.uri_parts.specs.Components.{components, marked, recompose};
 ghost use Rattle.uri_parts.specs.CoreTexts.{core_text};
 ghost use Rattle.uri_ops.specs.Encoded.{encode_past_ascii};
 ghost use Rattle.fluent_uri.specs.References.{reference_text};
+ghost use Rattle.uri_idna.specs.AsciiHosts.{ascii_host};
 ghost use Rattle.uri_idna.specs.AsciiReferences.{HasAsciiHost, IsAsciiHostErrorOf};
 ghost use Rattle.uri_idna.specs.AsciiReferences.{with_ascii_host, with_authority, with_host};
 
@@ -125,6 +127,38 @@ fn text_with_host<K: Kind, U: Encoder, R: Encoder>(
     Ok(text)
 }
 
+/// Returns a reference with this host, which is its own in ASCII.
+fn replaced<K: Kind>(
+    alloc: Global,
+    core: Core<K, &str>,
+    authority: Authority<'_, K::UserinfoE, K::RegNameE>,
+    host: &str,
+) -> Result<Reference<K, String>, AllocError>
+    requires authority { (components (core_text core)).authority
+        ≡ Some (authority_text authority) }
+    requires host { ascii_host (authority_parts (authority_text authority)).host ≡ Some host.now }
+    ensures text { IfOk result (λ made.
+        with_ascii_host (core_text core.entry) ≡ Some (reference_text made)) }
+    ensures others { IfOk result (λ made.
+        HasAsciiHost (core_text core.entry) (reference_text made)) }
+{
+    let own = core.borrow();
+    let text = text_with_host(alloc, own, authority, host)?;
+    Ok(Reference::of_core(Core::of_text(text)))
+}
+
+/// Returns a copy of a reference without an authority.
+fn copied<K: Kind>(alloc: Global, core: Core<K, &str>) -> Result<Reference<K, String>, AllocError>
+    requires { (components (core_text core)).authority ≡ None }
+    ensures text { IfOk result (λ made.
+        with_ascii_host (core_text core.entry) ≡ Some (reference_text made)) }
+    ensures others { IfOk result (λ made.
+        HasAsciiHost (core_text core.entry) (reference_text made)) }
+{
+    let text = String::from_str(alloc, core.as_str())?;
+    Ok(Reference::of_core(Core::of_text(text)))
+}
+
 /// Returns a reference with its host in ASCII, as `ascii_host` returns it (RFC 3987, section 3.1).
 /// Nothing else changes: a reference without an authority stays, and so does one whose host stays.
 ///
@@ -150,13 +184,9 @@ pub fn with_ascii_host<K: Kind>(
     match core.authority() {
         Some(authority) => {
             let host = ascii_host(alloc, authority)?;
-            let text = text_with_host(alloc, core, authority, host.as_str())?;
-            Ok(Reference::of_core(Core::of_text(text)))
+            Ok(replaced(alloc, core, authority, host.as_str())?)
         }
-        None => {
-            let text = String::from_str(alloc, core.as_str())?;
-            Ok(Reference::of_core(Core::of_text(text)))
-        }
+        None => Ok(copied(alloc, core)?),
     }
 }
 
