@@ -24,7 +24,7 @@ use uri_setting::RuleSetting;
 /// Appends a port as a number, with its `:`, if there is one.
 fn push_port(port: Option<u16>, to: &mut String) -> Result<(), AllocError>
     ensures { OnOk result (Pushes to.old to.new
-        (marked (codes ":") (option_map decimal port.entry) [])) }
+        (marked (codes ":") (option_map decimal port) [])) }
 {
     match port {
         Some(port) => {
@@ -44,7 +44,7 @@ fn origin_text(
     port: Option<u16>,
 ) -> Result<String, AllocError>
     ensures { IfOk result (λ text. string_bytes text ≡ scheme.now ++ (codes "://" ++ (host.now
-        ++ marked (codes ":") (option_map decimal port.entry) []))) }
+        ++ marked (codes ":") (option_map decimal port) []))) }
 {
     let mut text = String::new(alloc);
     text.push_str(scheme)?;

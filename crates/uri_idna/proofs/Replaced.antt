@@ -206,13 +206,3 @@ pub text-without-authority-stays : (text : List ℕ) → (components text).autho
 text-without-authority-stays text none =
     ap (λ a. option_map recompose (ascii_components (components text) a)) none
     ∙ ap Some (recompose-components text)
-
-pub text-without-authority-has-ascii-host : (text : List ℕ) → (components text).authority ≡ None
-    → HasAsciiHost text text
-text-without-authority-has-ascii-host text none = record {
-  scheme = refl;
-  authority = subst (λ (o : Option (List ℕ)). IsAuthorityWithAsciiHost o o) (sym none) refl;
-  path = refl;
-  query = refl;
-  fragment = refl;
-}

@@ -1,15 +1,50 @@
-use Rattle.std.proofs.Common.{◌≡◌, ◌∙◌, ap, refl, sym, subst}
+use Rattle.std.proofs.Common.{◌∙◌, ap}
 use Rattle.std.specs.Prelude.{string_bytes}
 use Rattle.uri_parts.specs.AuthorityTexts.{authority_text}
+use Rattle.uri_parts.specs.Components.{components, recompose}
 use Rattle.uri_parts.specs.CoreTexts.{core_text}
 use Rattle.uri_ops.proofs.TextKinds.FourKinds.{one-of-four-kinds-has-sets}
+use Rattle.fluent_uri.specs.References.{reference_text}
+use Rattle.uri_idna.specs.AsciiReferences.{with_authority, with_host}
+use Rattle.uri_idna.proofs.Replaced.{replaced-text-has-ascii-host, replaced-text-is-defined}
 use Rattle.uri_idna.proofs.Replaced.{replaced-text-is-of-kind}
 use Rattle.uri_idna.proofs.references.replaced.Goals as goal
 
 pub of_text-requires : goal.of_text-requires
 of_text-requires g c =
     let kind = g.K.Kind.kind in
+    let old = authority_text c.args.authority in
+    let host = c.args.host.now in
     replaced-text-is-of-kind kind (one-of-four-kinds-has-sets kind g.met.K.Kind.known)
-    (core_text c.args.core) (authority_text c.args.authority) c.args.host.now
+    (core_text c.args.core) old host
     (record { utf8 = c.borrow-own.ensures.utf8; grammar = c.borrow-own.ensures.of_kind })
-    c.requires.authority c.requires.host (string_bytes c.in_ok-text.text) c.in_ok-text.ensures
+    c.requires.authority c.requires.host (string_bytes c.in_ok-text.text)
+    (c.in_ok-text.ensures
+    ∙ ap (λ t. recompose (with_authority (components t) (with_host old host)))
+    c.borrow-own.ensures.text)
+
+pub returns-clause-others : goal.returns-clause-others
+returns-clause-others g c =
+    let kind = g.K.Kind.kind in
+    let old = authority_text c.args.authority in
+    let host = c.args.host.now in
+    replaced-text-has-ascii-host kind (one-of-four-kinds-has-sets kind g.met.K.Kind.known)
+    (core_text c.args.core) old host
+    (record { utf8 = c.borrow-own.ensures.utf8; grammar = c.borrow-own.ensures.of_kind })
+    c.requires.authority c.requires.host (reference_text c.of_core.result)
+    (c.of_core.ensures ∙ c.of_text.ensures ∙ c.in_ok-text.ensures
+    ∙ ap (λ t. recompose (with_authority (components t) (with_host old host)))
+    c.borrow-own.ensures.text)
+
+pub returns-clause-text : goal.returns-clause-text
+returns-clause-text g c =
+    let kind = g.K.Kind.kind in
+    let old = authority_text c.args.authority in
+    let host = c.args.host.now in
+    replaced-text-is-defined kind (one-of-four-kinds-has-sets kind g.met.K.Kind.known)
+    (core_text c.args.core) old host
+    (record { utf8 = c.borrow-own.ensures.utf8; grammar = c.borrow-own.ensures.of_kind })
+    c.requires.authority c.requires.host (reference_text c.of_core.result)
+    (c.of_core.ensures ∙ c.of_text.ensures ∙ c.in_ok-text.ensures
+    ∙ ap (λ t. recompose (with_authority (components t) (with_host old host)))
+    c.borrow-own.ensures.text)
