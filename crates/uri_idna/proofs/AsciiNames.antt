@@ -86,9 +86,9 @@ equal-some-texts x y e = ap (λ o. unwrap_or o []) e
 ascii-name-is-host : (kind : Kind) → HasComponentSets kind → (host made : List ℕ)
     → IsHostText kind.reg_name host → ascii_name host ≡ Some made → IsHostText kind.reg_name made
 ascii-name-is-host kind sets host made h e = elim (cases_Bool (is_ascii_text (name_bytes host))) [
-  | inl yes ↦ subst (IsHostText kind.reg_name)
-      (equal-some-texts host made (sym (cond-true _ _ _ yes) ∙ e)) h
-  | inr no ↦ dns-name-is-host kind sets (name_bytes host) made (sym (cond-false _ _ _ no) ∙ e)
+  | inl plain ↦ subst (IsHostText kind.reg_name)
+      (equal-some-texts host made (sym (cond-true _ _ _ plain) ∙ e)) h
+  | inr other ↦ dns-name-is-host kind sets (name_bytes host) made (sym (cond-false _ _ _ other) ∙ e)
 ]
 
 ascii-host-of-kind-is-host : (kind : Kind) → HasComponentSets kind → (host made : List ℕ)
