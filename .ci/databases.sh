@@ -55,18 +55,20 @@ does 'the library cannot be built' make -s -C "$root/c" OUT="$work/c" ARCHIVE="$
 LIBRARY=$work/c/libfluent_uri_c.a
 export LIBRARY
 
-# The number of normal forms changes where any of them does: those of random texts, and the rows of
-# default ports.
+# The number of normal forms changes where any of them does: those of random texts, the rows of
+# default ports, and the schemes that have other rules.
 {
     does 'the random texts cannot be built' cc -std=c99 -O1 -I"$root/c/include" \
         "$root/postgres/tests/fuzz_rows.c" "$LIBRARY" -o "$work/fuzz_rows"
     "$work/fuzz_rows" 100000 1 | cut -f 4,6 > "$work/forms"
     grep '^    ("' "$root/crates/uri_parts/src/default_ports.rt" >> "$work/forms"
-    version=$(sed -n 's/^#define URI_FORM_VERSION //p' "$root/postgres/values.h")
-    now="$version $(sha256sum < "$work/forms" | cut -d ' ' -f 1)"
+    rules=$(grep 'is_one_of(scheme' "$root/crates/uri_rules/src/scheme_rules.rt" | sha256sum)
+    version=$(sed -n 's/^#define FLUENT_URI_NORMAL_VERSION //p' "$root/c/include/fluent_uri.h")
+    now="$version $(sha256sum < "$work/forms" | cut -d ' ' -f 1) ${rules%% *}"
     [ "$now" = "$(cat "$root/databases/forms")" ] ||
-        fail "normal forms are not those of databases/forms: raise URI_FORM_VERSION, and write the \
-number and this digest there: ${now#* }"
+        fail "normal forms are not those of databases/forms: raise normal_version of \
+crates/fluent_uri_c and FLUENT_URI_NORMAL_VERSION of the header, and write the \
+number and these digests there: ${now#* }"
 }
 
 if has sqlite3 'try its extension' && has_header sqlite3.h 'build the extension of SQLite'; then

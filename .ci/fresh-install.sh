@@ -28,6 +28,7 @@ machine=$work/root
 mkdir "$machine"
 version=$(sed -n 's/.*  fluent-uri-\(.*\)-source\.tar\.gz$/\1/p' "$folder/SHA256SUMS")
 names='libfluent-uri0 libfluent-uri-dev python3-fluent-uri fluent-uri-tools'
+names="$names libsqlite3-mod-fluent-uri postgresql-15-fluent-uri"
 
 fail() {
     [ ! -s "$work/log" ] || tail -n 60 "$work/log"
@@ -92,7 +93,11 @@ chown -R 1000:1000 "$machine/home/user"
 
 ! ls "$machine"/usr/bin/*cc "$machine/usr/bin/rt" "$machine/opt/"* 2> /dev/null ||
     fail 'there is a compiler or a kit'
-inside 'what the packages need is not to be had' 'apt-get update; apt-get install -y python3'
+# (no server is started as it is installed)
+printf '#!/bin/sh\nexit 101\n' > "$machine/usr/sbin/policy-rc.d"
+chmod 755 "$machine/usr/sbin/policy-rc.d"
+inside 'what the packages need is not to be had' \
+    'apt-get update; apt-get install -y --no-install-recommends python3 sqlite3 postgresql-15'
 files_of_machine > "$work/before"
 echo 'fresh-install: a root file system without kit and compiler'
 
@@ -118,6 +123,7 @@ path=/over/there
 query=name=ferret
 fragment=nose
 http://example.com/a/b/~foo
+http://h/a%20b?x=%5B1%5D
 http://a/b/g
 new 0 http://x/
 known 0 http://x/
@@ -134,6 +140,18 @@ sed -n '/^## Quick start/,/^## /s/^    //p' "$root/docs/PYTHON.md" \
 user 'the quick start of docs/PYTHON.md' 'python3 -m doctest quick-start
     python3 -c "import fluent_uri, sys; sys.exit(not fluent_uri.is_compiled)"'
 echo 'fresh-install: the first commands of README.md, a million lines, the quick start of PYTHON.md'
+mkdir "$machine/home/user/docs" "$machine/home/user/databases"
+cp "$root/docs/C.md" "$root/docs/DATABASES.md" "$machine/home/user/docs/"
+cp "$root/databases/statements" "$machine/home/user/databases/"
+chown -R 1000:1000 "$machine/home/user"
+user 'the statements for SQLite of docs/DATABASES.md' "
+    databases/statements 'Statements for SQLite' \
+        sqlite3 -batch -cmd '.load /usr/lib/sqlite3/fluent_uri' :memory:"
+user 'the statements for PostgreSQL of docs/DATABASES.md' "
+    pg_virtualenv -v 15 -i '--locale=C.UTF-8 --encoding=UTF8' sh -euc '
+        psql -qX -c \"CREATE EXTENSION fluent_uri\"
+        databases/statements \"Statements for PostgreSQL\" psql -qAtX'"
+echo 'fresh-install: the statements of DATABASES.md in SQLite, and in a cluster of PostgreSQL'
 
 # On an old processor: one line, and no signal.
 emulator=$(command -v qemu-x86_64-static || true)
@@ -156,7 +174,9 @@ if [ -n "$emulator" ]; then
     done
     old 'import fluent_uri' 1 'ImportError: libfluent_uri_c.so.0 needs a processor of x86-64-v2' \
         /usr/bin/python3 -c 'import fluent_uri'
-    echo 'fresh-install: the programs and the Python package say that a Core 2 Duo is too old'
+    old 'the extension of SQLite' 1 'CPU ISA level is lower than required' \
+        /usr/bin/sqlite3 :memory: '.load /usr/lib/sqlite3/fluent_uri'
+    echo 'fresh-install: programs, Python and SQLite say that a Core 2 Duo is too old'
 else
     echo 'fresh-install: skipped: there is no qemu-x86_64-static for an old processor'
 fi
@@ -172,8 +192,6 @@ echo 'fresh-install: nothing is left after removing, and after purging'
 inside 'a compiler' 'apt-get install -y gcc g++ libc6-dev pkg-config python3-dev python3-venv \
     /root/new/libfluent-uri*.deb'
 cp -R "$root/debian/tests/examples" "$machine/home/user/"
-mkdir "$machine/home/user/docs"
-cp "$root/docs/C.md" "$machine/home/user/docs/"
 chown -R 1000:1000 "$machine/home/user"
 user 'the programs of docs/C.md' 'sh ./examples .'
 prints 'the programs of docs/C.md' "http://example.com/a/b/~foo
@@ -201,7 +219,7 @@ if command -v autopkgtest > /dev/null; then
     env -u TMPDIR autopkgtest --no-built-binaries "$folder"/*_amd64.deb \
         "$work/fluent-uri-$version/" \
         -- chroot "$machine" > "$work/log" 2>&1 || fail 'autopkgtest'
-    grep -E '^(c|python|programs) +(PASS|FAIL|SKIP)' "$work/log" | sort -u |
+    grep -E '^(c|python|programs|sqlite|postgresql) +(PASS|FAIL|SKIP)' "$work/log" | sort -u |
         sed 's/^/fresh-install: autopkgtest: /'
 else
     echo 'fresh-install: skipped: there is no autopkgtest'

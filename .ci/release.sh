@@ -34,7 +34,7 @@ has cc 'make what stands for the programs' || ends
 
 # The copy, as a release has it.
 tree=$work/tree
-mkdir "$tree" "$work/bin" "$work/kit" "$work/kit/c"
+mkdir "$tree" "$work/bin" "$work/kit" "$work/kit/c" "$work/kit/bin"
 tar -C "$root" --exclude=out --exclude=.git --exclude=mutants --exclude=proofs -cf - . |
     tar -C "$tree" -xf -
 cd "$tree" || exit 2
@@ -115,6 +115,17 @@ lib | run)
 esac
 RT
 chmod +x "$work/bin/rt"
+# (the folder of the copy's own that rt keeps its work in is in the file `stores`)
+cat > "$work/kit/bin/rt" <<'KIT'
+import os
+import subprocess
+STORE = WORK = "/that/others/share"
+def main(words):
+    here = os.environ["WORK"]
+    with open(f"{here}/stores", "a") as it:
+        print(STORE, WORK, file=it)
+    return subprocess.call([f"{here}/bin/rt", *words])
+KIT
 IDENTITY='rattle-kit-0 logic 0' WORK=$work PATH=$work/bin:$PATH
 export IDENTITY WORK PATH
 
@@ -164,9 +175,8 @@ for it in git dpkg-buildpackage dh dh_python3 lintian aarch64-linux-gnu-gcc aarc
     qemu-aarch64; do
     has "$it" 'make packages' || ends
 done
-headers=$(/usr/bin/python3 -c 'import sysconfig; print(sysconfig.get_path("include"))')
-[ -f "$headers/Python.h" ] || {
-    echo 'release: skipped: /usr/bin/python3 has no Python.h to make packages'
+dpkg-checkbuilddeps > "$work/out" 2>&1 || {
+    echo "release: skipped: no packages are made: $(cat "$work/out")"
     ends
 }
 
@@ -245,7 +255,8 @@ git reset -q --hard "v$version"
 sed -i "s/^## $version, .*/## $version, not released yet/" CHANGELOG.md
 git commit -q -a -m undated
 tagged './check passed' '' "Checked-tree: $(git rev-parse 'HEAD^{tree}')" "Checked-by: $IDENTITY"
-refuses "CHANGELOG.md lacks '## $version, 2026-01-02', the day of debian/changelog" "$version"
+refuses "CHANGELOG.md lacks '## $version, 2026-01-02', the day of debian/changelog in UTC" \
+    "$version"
 git reset -q --hard HEAD~
 tools/checked "$(tools/checked)"
 git tag -f -a -F out/check.passed "v$version" > "$work/out"
@@ -267,10 +278,14 @@ libfluent-uri-dev_${version}_amd64.deb
 libfluent-uri-dev_${version}_arm64.deb
 libfluent-uri0_${version}_amd64.deb
 libfluent-uri0_${version}_arm64.deb
+libsqlite3-mod-fluent-uri_${version}_amd64.deb
+postgresql-15-fluent-uri_${version}_amd64.deb
 python3-fluent-uri_${version}_amd64.deb" \
     "$(LC_ALL=C ls out/release | sed 's/none-.*\.whl/none-PLATFORM.whl/')"
 (cd out/release && sha256sum --quiet -c SHA256SUMS)
 must 'the digests' 0 $?
+kept=$tree/out/release.work/kept
+must 'where the checks of a release keep their work' "$kept $kept/work" "$(sort -u "$work/stores")"
 must 'the statement names the tag' 1 "$(grep -c "the tag v$version, with the tree" \
     "out/release/fluent-uri-$version.proved.txt")"
 count=$(cd tools && python3 -Bc 'from handed_on import PRODUCTS
@@ -291,6 +306,8 @@ for it in out/release/*.deb; do
         must "$file in $it" 0 $?
     done
 done
+must 'the components that load extensions' 2 \
+    "$(grep -c HAS_PREREQUISITE "out/release/fluent-uri-$version.spdx.json")"
 must 'the target of arm64' 1 "$(grep -c 'logic=proved.* target=aarch64-unknown-linux-gnu' \
     "out/release/fluent-uri-$version-arm64.proved.txt")"
 rm -rf "$work/files"
@@ -302,7 +319,9 @@ proved=$tree/out/release/fluent-uri-$version.proved.txt
 must 'the digests of what is installed' 0 $?
 for it in bin/uritool bin/urilines share/man/man1/urilines.1.gz include/fluent_uri.h \
     share/bash-completion/completions/urilines share/zsh/vendor-completions/_uritool \
-    share/fish/vendor_completions.d/urilines.fish lib/python3/dist-packages/fluent_uri/batch.py; do
+    share/fish/vendor_completions.d/urilines.fish lib/python3/dist-packages/fluent_uri/batch.py \
+    lib/sqlite3/fluent_uri.so lib/postgresql/15/lib/fluent_uri.so \
+    share/postgresql/15/extension/fluent_uri.control; do
     must "the packages have $it" 1 "$([ -e "$work/files/usr/$it" ] && echo 1)"
 done
 must 'the wheel has the statement' 1 \
@@ -314,7 +333,7 @@ has faketime 'build on another day' && later='faketime -f +40d'
 $later tools/release --verify "$tree/out/release" > "$work/out" 2> "$work/err"
 must 'the status of a second build' 0 $?
 must 'the line of a second build' \
-    "release: $tree/out/release is $version, byte for byte: 14 files" "$(tail -n 1 "$work/out")"
+    "release: $tree/out/release is $version, byte for byte: 16 files" "$(tail -n 1 "$work/out")"
 cp "$tree/LICENSE" "$tree/out/release/fluent-uri-$version.spdx.json"
 tools/release --verify "$tree/out/release" > "$work/out" 2> "$work/err"
 must 'the status of a release with another file' 1 $?

@@ -99,10 +99,38 @@ Datum uri_resolve(PG_FUNCTION_ARGS) {
                               uri_character_at(reference, outcome.index), outcome.index)));
 }
 
+/* The bit of the option that an argument names, or 0 without that argument. */
+static uint32 option_of(FunctionCallInfo fcinfo, int number) {
+    uri_bytes word;
+    int bit;
+
+    if (PG_NARGS() <= number) return 0;
+    word = uri_bytes_of(PG_GETARG_TEXT_PP(number));
+    bit = uri_number(uri_options, URI_OPTIONS, (const char *) word.at, word.len);
+    if (bit < 0)
+        ereport(ERROR, (errcode(ERRCODE_INVALID_PARAMETER_VALUE), errmsg("no such option"),
+                        errhint("uri_normalize has the option scheme-rules, and uri_relativize "
+                                "prefer-relative-path.")));
+    return UINT32_C(1) << bit;
+}
+
+/* The normal form of a value under an option. An equivalent text gives the same one, so this takes
+ * the normal form without options, which is at hand. */
+PG_FUNCTION_INFO_V1(uri_normalize_under);
+Datum uri_normalize_under(PG_FUNCTION_ARGS) {
+    uri_value it;
+    uint32 options = option_of(fcinfo, 1);
+
+    uri_read(URI_VALUE(0), &it);
+    PG_RETURN_POINTER(uri_value_or_error(
+        it.kind,
+        uri_bytes_of(written_of_values(URI_NORMALIZE, it.kind, options, it.form, none))));
+}
+
 PG_FUNCTION_INFO_V1(uri_relativize);
 Datum uri_relativize(PG_FUNCTION_ARGS) {
     uri_value base, target;
-    uint32 options = PG_GETARG_BOOL(2) ? FLUENT_URI_PREFER_RELATIVE_PATH : 0;
+    uint32 options = option_of(fcinfo, 2);
 
     uri_read(URI_VALUE(0), &base);
     uri_read(URI_VALUE(1), &target);
@@ -192,6 +220,9 @@ Datum uri_version(PG_FUNCTION_ARGS) {
     PG_RETURN_TEXT_P(cstring_to_text(
         psprintf("%u.%u.%u", version >> 16 & 255, version >> 8 & 255, version & 255)));
 }
+
+PG_FUNCTION_INFO_V1(uri_normal_version);
+Datum uri_normal_version(PG_FUNCTION_ARGS) { PG_RETURN_INT32((int32)fluent_uri_normal_version()); }
 
 /* ---- Encoding and decoding ---- */
 

@@ -10,11 +10,11 @@
 
 #include "../databases/calls.h"
 
-/* The number of the library's normal forms. A change of any of them, as by another default port,
- * takes the next number: older values then compare by a form that is made anew, and indexes need
- * REINDEX (docs/DATABASES.md). It has six bits of the head. */
+/* The version of the library's normal forms. Values of an older one compare by a form that is made
+ * anew, and indexes need REINDEX (docs/DATABASES.md). It has six bits of the head. (A test sets
+ * another.) */
 #ifndef URI_FORM_VERSION
-#define URI_FORM_VERSION 1
+#define URI_FORM_VERSION FLUENT_URI_NORMAL_VERSION
 #endif
 
 /* A value is a varlena: a head, and then the text if it is its own normal form. Else the length of

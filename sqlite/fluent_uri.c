@@ -81,6 +81,11 @@ static void write_version(sqlite3_context *context, int count, sqlite3_value **v
     sqlite3_result_text(context, text, -1, SQLITE_TRANSIENT);
 }
 
+static void write_normal_version(sqlite3_context *context, int count, sqlite3_value **values) {
+    (void)count, (void)values;
+    sqlite3_result_int64(context, fluent_uri_normal_version());
+}
+
 /* ---- Collations ---- */
 
 typedef struct {
@@ -162,6 +167,7 @@ static const function functions[] = {
     {"uri_query", 1, 2, write_component, &numbers[FLUENT_URI_QUERY]},
     {"uri_fragment", 1, 2, write_component, &numbers[FLUENT_URI_FRAGMENT]},
     {"uri_version", 0, 0, write_version, NULL},
+    {"uri_normal_version", 0, 0, write_normal_version, NULL},
 };
 
 static int collate(sqlite3 *db, const char *name, uint32_t kind) {

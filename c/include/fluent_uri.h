@@ -47,6 +47,9 @@ extern "C" {
 #define FLUENT_URI_VERSION_MAJOR 0
 #define FLUENT_URI_VERSION_MINOR 1
 
+/** The version of normal forms, as fluent_uri_normal_version returns it. */
+#define FLUENT_URI_NORMAL_VERSION 1
+
 /** The kinds of texts. */
 enum fluent_uri_kind {
     FLUENT_URI_URI = 0,     /**< RFC 3986, section 3 */
@@ -165,10 +168,20 @@ typedef struct {
 /** The version of the library: a byte each for major, minor and patch, as 0x000100 for 0.1.0. */
 uint32_t fluent_uri_version(void);
 
+/** The version of normal forms, which changes where any of them does. Forms of two versions are not
+ * keys of one table: a program that keeps some compares the number with the one that it kept beside
+ * them. */
+uint32_t fluent_uri_normal_version(void);
+
 /** Writes the name of an error, as FLUENT_URI_NOT_UTF8. Takes no memory. Returns
  * FLUENT_URI_INVALID_ARGUMENT if there is no such error. */
 uint32_t fluent_uri_error_name(uint32_t error, uint8_t *out, size_t out_len,
                                fluent_uri_outcome *outcome);
+
+/** Writes what is wrong, by the number of an error, as `unexpected character`. Of a number that no
+ * error has it writes `unknown error`. Takes no memory. */
+uint32_t fluent_uri_error_message(uint32_t error, uint8_t *out, size_t out_len,
+                                  fluent_uri_outcome *outcome);
 
 /** Parses a text, and reports where its components are. Takes no memory. */
 uint32_t fluent_uri_parse(uint32_t kind, const uint8_t *text, size_t text_len,
@@ -177,7 +190,7 @@ uint32_t fluent_uri_parse(uint32_t kind, const uint8_t *text, size_t text_len,
 /** Returns 1 only if a text is its own normal form, and else 0: a cheap test before
  * fluent_uri_normalize, which parses the text again and takes memory. PARTS are what
  * fluent_uri_parse wrote of the text as one of the kind, without an error. Of a few normal texts it
- * returns 0, as of those with a `%`, a port, or a `/` before a `.`. Takes no memory. */
+ * returns 0, as of those with a port, or a `/` before a `.`. Takes no memory. */
 uint32_t fluent_uri_is_plainly_normal(uint32_t kind, const uint8_t *text, size_t text_len,
                                       const fluent_uri_parts *parts);
 

@@ -78,10 +78,20 @@ result make_of_two(Call call, std::uint32_t kind, std::string_view one, std::str
 /** The version of the library: a byte each for major, minor and patch. */
 inline std::uint32_t version() noexcept { return fluent_uri_version(); }
 
+/** The version of normal forms, which changes where any of them does. */
+inline std::uint32_t normal_version() noexcept { return fluent_uri_normal_version(); }
+
 /** The name of an error of fluent_uri.h, if there is such an error. */
 inline result error_name(std::uint32_t error) {
     return detail::make(64, [&](std::uint8_t *out, std::size_t room, auto *outcome) {
         return fluent_uri_error_name(error, out, room, outcome);
+    });
+}
+
+/** What is wrong, by the number of an error of fluent_uri.h: `unknown error` of any other number. */
+inline result error_message(std::uint32_t error) {
+    return detail::make(128, [&](std::uint8_t *out, std::size_t room, auto *outcome) {
+        return fluent_uri_error_message(error, out, room, outcome);
     });
 }
 

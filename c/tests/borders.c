@@ -42,6 +42,7 @@ static const fluent_uri_components components = {
 
 #define SINGLES(IT) \
     IT(error_name, fluent_uri_error_name(4, BYTES)) \
+    IT(error_message, fluent_uri_error_message(4, BYTES)) \
     IT(parse, fluent_uri_parse(1, TEXT("//h/p"), at(PARTS))) \
     IT(normalize, fluent_uri_normalize(1, 0, TEXT("//H/%7e/."), VALUE)) \
     IT(to_uri, fluent_uri_to_uri(3, TEXT("//\xc3\xa9/p?q"), VALUE)) \

@@ -318,6 +318,11 @@ static void finds_what_is_plainly_normal(void) {
         "http://example.com/a/b/~foo?x=1#y", "a:", "a:b", "http://u@h", "urn:example:Animal:Ferret",
         "http://127.0.0.1/", "http://Us@h/A?B#C", "x:/a/b.c/d..e/f.", "http://h/a?b=..",
         "file:///0123456789/0123456789/0123456789/0123456789",
+        /* Octets that stay, also after a `/` and over the borders of sixteen bytes. */
+        "http://h/%2F", "http://h/%2F..", "x:/%2F./a%20b", "http://u%3A@h%5Bost/a%7C?b%26#c%23",
+        "http://h/%00%0A%1F%20%21%25%2A%2C%2F%3A%3F%40%5B%5E%60%7B%7D%7F", "a:?%22", "a:%2F#",
+        "http://h/01234%2F", "http://h/012345%2F", "http://h/0123456%2F", "http://h/01234567%2F",
+        "http://h/0123456789abcdef/%2F..%2F%2F/0123456789abcdef",
     };
     for (size_t i = 0; i < sizeof normal / sizeof *normal; i++) {
         CHECK(is_plain(FLUENT_URI_URI, normal[i]) && is_plain(FLUENT_URI_IRI_REF, normal[i]));
@@ -325,13 +330,19 @@ static void finds_what_is_plainly_normal(void) {
     }
     CHECK(is_plain(FLUENT_URI_URI_REF, "") && is_plain(FLUENT_URI_URI_REF, "../a//b"));
     CHECK(is_plain(FLUENT_URI_IRI, "http://\xc3\xa9/\xe6\xbc\xa2"));
+    /* Octets past ASCII stay in a URI, and may be characters of an IRI. */
+    CHECK(is_plain(FLUENT_URI_URI, "http://%C3%A9/%E6%BC%A2?%FF#%80"));
+    CHECK(is_plain(FLUENT_URI_URI_REF, "%E2%80%8E/0123456789%C3%A9"));
+    CHECK(!is_plain(FLUENT_URI_IRI, "http://h/%C3%A9") && !is_plain(FLUENT_URI_IRI_REF, "%C3%A9"));
     /* What is not normal. */
     static const char *const others[] = {
         "HTTP://h/", "hTtp://h/", "http://H/", "http://h/%7e", "http://h/%2f", "http://h:80/",
         "http://h:/", "http://[::A]/", "http://[0:0::1]/", "x:/.", "x:/..", "x:/a/./b", "x:/a/../b",
         "http://h/0123456789/012345/./b", "http://h/0123456789/0123456/./b",
         "http://h/0123456789/01234567/../b", "http://h/0123456789abcdef/..",
-        "x:/a/%2e/b", "http://h/0123456789/0123456789/0123456789/%41",
+        "x:/a/%2e/b", "http://h/0123456789/0123456789/0123456789/%41", "x:%7e", "x:%2E", "x:%2D",
+        "x:%5F", "x:%30", "x:%39", "x:%5A", "x:%61", "x:%7A", "x:%2a", "x:%2F%2f", "http://%2cA/",
+        "http://A%2C/", "x:/%2F/.", "http://h/0123456789%2F/.", "http://h/012345678%2F%2f",
     };
     for (size_t i = 0; i < sizeof others / sizeof *others; i++)
         CHECK(!is_plain(FLUENT_URI_URI, others[i]) && !is_plain(FLUENT_URI_IRI_REF, others[i]));
@@ -426,6 +437,13 @@ static void tells_of_itself(void) {
     CHECK(gives_bytes(fluent_uri_error_name(0, BYTES), "FLUENT_URI_OK"));
     CHECK(gives_bytes(fluent_uri_error_name(FLUENT_URI_FULL, BYTES), "FLUENT_URI_FULL"));
     CHECK(rejects(fluent_uri_error_name(15, BYTES), 9, 0, 0));
+    CHECK(fluent_uri_normal_version() == FLUENT_URI_NORMAL_VERSION);
+    CHECK(gives_bytes(fluent_uri_error_message(FLUENT_URI_UNEXPECTED_CHAR, BYTES),
+                      "unexpected character"));
+    CHECK(gives_bytes(fluent_uri_error_message(FLUENT_URI_BASE_WITH_FRAGMENT, BYTES),
+                      "base should not have fragment"));
+    CHECK(gives_bytes(fluent_uri_error_message(15, BYTES), "unknown error"));
+    CHECK(gives_bytes(fluent_uri_error_message(UINT32_MAX, BYTES), "unknown error"));
 }
 
 int main(void) {

@@ -77,6 +77,8 @@ static bool by_strings() {
            !is_plainly_normal(FLUENT_URI_URI, parse(FLUENT_URI_URI, "http://A/b")) &&
            !is_plainly_normal(FLUENT_URI_URI, no) && by_pairs() && by_hosts() &&
            version() >> 16 == FLUENT_URI_VERSION_MAJOR && !error_name(15) &&
+           normal_version() == FLUENT_URI_NORMAL_VERSION &&
+           *error_message(FLUENT_URI_UNEXPECTED_CHAR) == "unexpected character" &&
            *error_name(FLUENT_URI_NOT_UTF8) == "FLUENT_URI_NOT_UTF8";
 }
 #endif

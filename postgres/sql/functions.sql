@@ -7,6 +7,19 @@ SELECT uri_host('http://é.example/ü?ö#ä') AS host, uri_path('http://é.examp
 SELECT uri_normalize('HTTP://Example.com:80/a/./b/../%7Efoo'::uri);
 SELECT uri_normalize(uri_normalize('HTTP://Example.com:80/a/./b/../%7Efoo'::uri));
 
+-- The rules of schemes (RFC 3986, section 6.2.3; RFC 8089, section 2).
+SELECT uri_normalize(u) AS without, uri_normalize(u, 'scheme-rules') AS with_rules
+FROM unnest(ARRAY['http://example.com', 'http://example.com/', 'http://example.com:/',
+                  'HTTP://Example.com:80?q', 'file://localhost/etc/fstab', 'x://a', 'mailto:a@b',
+                  'urn:']::uri[]) AS given (u);
+SELECT uri_normalize('http://é.example'::iri, 'scheme-rules');
+SELECT uri_normalize('http://a'::uri, 'scheme-rules') = 'http://a/'::uri AS under_rules,
+       'http://a'::uri = 'http://a/'::uri AS without,
+       uri_normalize('http://a'::uri, NULL) IS NULL AS of_null;
+SELECT uri_normalize('http://a'::uri, 'SCHEME-RULES');
+SELECT uri_normalize('http://a'::uri, 'prefer-relative-path');
+SELECT uri_relativize('http://a/b'::uri, 'http://a/c'::uri, 'scheme-rules');
+
 -- RFC 3986, section 5.4.
 SELECT reference, uri_resolve('http://a/b/c/d;p?q'::uri, reference)
 FROM unnest(ARRAY['g:h', 'g', './g', 'g/', '/g', '//g', '?y', 'g?y', '#s', '', '.', '..', '../g',
@@ -20,7 +33,7 @@ SELECT uri_relativize('http://a/b/c/d'::uri, 'http://a/b/e'::uri),
        uri_relativize('http://a/b/c/d'::uri, 'x:y'::uri),
        uri_relativize('http://a/é/c'::iri, 'http://a/é/ü'::iri);
 SELECT uri_relativize('http://a/b/c/d/'::uri, 'http://a/x'::uri) AS shorter,
-       uri_relativize('http://a/b/c/d/'::uri, 'http://a/x'::uri, prefer_relative => true)
+       uri_relativize('http://a/b/c/d/'::uri, 'http://a/x'::uri, 'prefer-relative-path')
            AS relative;
 SELECT to_uri('http://é.example/ü?ö#ä');
 
@@ -63,4 +76,4 @@ SELECT u, n, value
 FROM (VALUES ('x:?a=1&b=2'::uri), ('x:?b=3'), ('x:y')) AS known (u), uri_query_pairs(u)
 WHERE name = 'b' ORDER BY u;
 
-SELECT uri_version() ~ '^\d+\.\d+\.\d+$' AS version;
+SELECT uri_version() ~ '^\d+\.\d+\.\d+$' AS version, uri_normal_version() > 0 AS forms;

@@ -208,17 +208,28 @@ class Normal(unittest.TestCase):
 
     def test_the_value_itself(self):
         for text in ("http://h/a/b?c=..#d", "http://h:8080/a", "http://h/%20", "x:/.well-known/a",
-                     "http://[::1]/", "http://h/" + "a/" * 2000):
+                     "http://[::1]/", "http://h/" + "a/" * 2000, "http://h/%2F..", "x:%00%7F?%3D",
+                     "http://u%3A@h%5B/" + "%2F/" * 2000):
             for kind in (Uri, UriRef, Iri, IriRef):
                 value = kind(text)
                 self.assertIs(value.normalize(), value)
                 _ = value.host
                 self.assertIs(value.normalize(), value)
 
+    def test_octets_past_ascii(self):
+        for kind in (Uri, UriRef):
+            value = kind("http://%C3%A9/%E6%BC%A2")
+            self.assertIs(value.normalize(), value)
+        for kind in (Iri, IriRef):
+            self.assertEqual(str(kind("http://%C3%A9/%E6%BC%A2").normalize()), "http://é/漢")
+            value = kind("http://h/%FF")
+            self.assertIs(value.normalize(), value)
+
     def test_another_value(self):
         for text, wanted in [("HTTP://h/", "http://h/"), ("http://H/", "http://h/"),
                              ("x:/a/./b", "x:/a/b"), ("http://h:80/", "http://h/"),
-                             ("x:/%7e", "x:/~"), ("x:/" + "a/" * 2000 + "..", None)]:
+                             ("x:/%7e", "x:/~"), ("x:%2f", "x:%2F"), ("x:/%2F/.", "x:/%2F/"),
+                             ("x:/" + "a/" * 2000 + "..", None)]:
             for kind in (Uri, UriRef, Iri, IriRef):
                 made = kind(text).normalize()
                 self.assertEqual(str(made), wanted or "x:/" + "a/" * 1999)

@@ -300,6 +300,7 @@ class Errors(unittest.TestCase):
         project = pathlib.Path(__file__).resolve().parents[1] / "pyproject.toml"
         version = f'version = "{fluent_uri.__version__}"'
         self.assertIn(version, project.read_text(encoding="utf-8").splitlines())
+        self.assertGreater(fluent_uri.normal_version, 0)
         for name in fluent_uri.__all__:
             self.assertTrue(hasattr(fluent_uri, name))
 

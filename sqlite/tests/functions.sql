@@ -1,6 +1,6 @@
 .mode list
 .nullvalue NULL
-SELECT uri_version() GLOB '[0-9]*.[0-9]*.[0-9]*';
+SELECT uri_version() GLOB '[0-9]*.[0-9]*.[0-9]*', typeof(uri_normal_version());
 SELECT uri_normal('HTTP://Example.com:80/a/./b/%7Efoo'), uri_normal('HTTP://a/%c3%a9', 'iri');
 SELECT uri_scheme(u), uri_authority(u), uri_userinfo(u), uri_host(u), uri_port(u), uri_path(u),
        uri_query(u), uri_fragment(u)

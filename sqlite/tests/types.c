@@ -57,7 +57,7 @@ int main(void) {
             try(db, "SELECT name FROM %s(", "uri_query", count, which);
     sqlite3_finalize(names);
     CHECK(sqlite3_close(db) == SQLITE_OK);
-    CHECK(tried == 21);
+    CHECK(tried == 22);
     printf("types: %d functions, %ld results, %ld errors, %ld with NULL\n", tried, rows, errors,
            nulls);
     return 0;

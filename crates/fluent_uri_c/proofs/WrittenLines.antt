@@ -133,13 +133,14 @@ pub leaves_lines : (kind options : ℕ) (input : List ℕ) (old new : LineBuffer
     (IsFullAt kind options input old.bytes old.errors which needed) done number
     → HasConsumed input done consumed
     → LeavesLines kind options input old new outcome returned
-leaves_lines kind options input old new outcome number which needed done at consumed returned valid chosen possible
-    same is
-    full bytes total errors others end left =
+leaves_lines kind options input old new outcome number which needed done at consumed returned valid
+    chosen possible same is full bytes total errors others end left =
+    let is_valid = and_from _ _
+    (and_from _ _ (valid_kind kind valid) (valid_options options chosen)) possible in
     rw (same, is) (record {
       error = refl;
       full = full;
-      invalid = λ none. absurd (false≢true (sym none ∙ and_from _ _ (and_from _ _ (valid_kind kind valid) (valid_options options chosen)) possible));
+      invalid = λ none. absurd (false≢true (sym none ∙ is_valid));
       done = λ _. record {
         bytes = bytes;
         total = total;

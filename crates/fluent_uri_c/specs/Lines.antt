@@ -80,21 +80,27 @@ pub record LineBuffers : Type 0 where
 abbrev pub line_buffers : List ℕ → List ℕ → LineBuffers
 line_buffers bytes errors = record { bytes = bytes; errors = errors }
 
--- What a batch over lines leaves if there are such a kind and such options: what is written for the lines that are
--- done, and their numbers.
--- The lines are one after the other. After these, everything is as it was.
+-- What a batch over lines leaves if there are such a kind and such options: what is written for the
+-- lines that are done, and their numbers. The lines are one after the other. After these, everything
+-- is as it was.
 pub record HasWritten (kind options : ℕ) (input : List ℕ) (old new : LineBuffers) (outcome : Outcome)
     (number : ℕ) : Type 0 where
   pub bytes : new.bytes ≡ joined_results (written_at kind options input) outcome.index
       ++ drop (length (joined_results (written_at kind options input) outcome.index)) old.bytes
   pub total : outcome.length ≡ length (joined_results (written_at kind options input) outcome.index)
-  pub errors : (i : ℕ) → i < outcome.index → slice_get new.errors i ≡ error_number_at kind options input i
+  pub errors : (i : ℕ) → i < outcome.index
+      → slice_get new.errors i ≡ error_number_at kind options input i
   pub other_errors : drop outcome.index new.errors ≡ drop outcome.index old.errors
   pub end : EndsAt (length (lines_of input)) (slice_get (lines_of input))
       (TakesMemoryAt kind options input)
       (IsFullAt kind options input old.bytes old.errors outcome.which outcome.needed)
       outcome.index number
   pub consumed : HasConsumed input outcome.index outcome.consumed
+
+-- whether there are such a kind and such options, and lines of such a length
+abbrev pub are_lines_valid : ℕ → ℕ → List ℕ → Bool
+are_lines_valid kind options input =
+    is_some (kind_numbered kind) && is_some (rules_choice options) && is_possible_length input
 
 -- What the batch that normalises lines writes to its buffers, reports in its outcome and returns as
 -- a number.
@@ -103,6 +109,7 @@ pub record LeavesLines (kind options : ℕ) (input : List ℕ) (old new : LineBu
     (number : ℕ) : Type 0 where
   pub error : outcome.error ≡ number
   pub full : SaysFullIfFull outcome number
-  pub invalid : IsFalse (is_some (kind_numbered kind) && is_some (rules_choice options) && is_possible_length input) → (number ≡ 9) × (outcome.index ≡ 0)
-      × (outcome.length ≡ 0) × (outcome.consumed ≡ 0) × (new ≡ old)
-  pub done : IsTrue (is_some (kind_numbered kind) && is_some (rules_choice options) && is_possible_length input) → HasWritten kind options input old new outcome number
+  pub invalid : IsFalse (are_lines_valid kind options input) → (number ≡ 9)
+      × (outcome.index ≡ 0) × (outcome.length ≡ 0) × (outcome.consumed ≡ 0) × (new ≡ old)
+  pub done : IsTrue (are_lines_valid kind options input)
+      → HasWritten kind options input old new outcome number

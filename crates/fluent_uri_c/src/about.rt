@@ -1,6 +1,7 @@
-//! The version of the library, and the names of its errors.
-ghost use Rattle.std.specs.Prelude.{◌≡◌, option_copied};
-ghost use Rattle.fluent_uri_c.specs.Names.{error_name, error_name_result, version};
+//! The versions of the library and of its normal forms, and the names and messages of its errors.
+ghost use Rattle.std.specs.Prelude.{◌≡◌, Ok, option_copied};
+ghost use Rattle.fluent_uri_c.specs.Names.{error_message, error_name, error_name_result};
+ghost use Rattle.fluent_uri_c.specs.Names.{normal_version, version};
 ghost use Rattle.fluent_uri_c.specs.Outcomes.{LeavesText};
 
 use crate::errors::{Error, Rejection};
@@ -12,6 +13,15 @@ pub extern "C" fn fluent_uri_version() -> u32
     ensures { result ≡ version }
 {
     0x000100
+}
+
+/// Returns the version of normal forms, which changes where any of them does. Forms of two versions
+/// are not keys of one table.
+#[unsafe(no_mangle)]
+pub extern "C" fn fluent_uri_normal_version() -> u32
+    ensures { result ≡ normal_version }
+{
+    1
 }
 
 /// Returns the name, in the header, of the error with this number, if there is one.
@@ -50,4 +60,44 @@ pub extern "C" fn fluent_uri_error_name(error: u32, out: &mut [u8], outcome: &mu
         }
         None => report(Rejection::of(Error::InvalidArgument), outcome),
     }
+}
+
+/// Returns the message of the error with this number, or that it is unknown.
+fn message_of(error: u32) -> &'static str
+    ensures { result.now ≡ error_message error }
+{
+    match error {
+        0 => "no error",
+        1 => "invalid percent-encoded octet",
+        2 => "unexpected character",
+        3 => "invalid IPv6 address",
+        4 => "not UTF-8",
+        5 => "base should not have fragment",
+        6 => {
+            "when base has a rootless path and no authority, reference should either have scheme, \
+            be empty or start with '#'"
+        }
+        7 => "underflow occurred in path resolution",
+        8 => "out of memory",
+        9 => "invalid argument",
+        10 => "output too small",
+        11 => "when authority is present, path should either be empty or start with '/'",
+        12 => "when authority is not present, path should not start with \"//\"",
+        13 => {
+            "when neither scheme nor authority is present, first path segment should not \
+            contain ':'"
+        }
+        14 => "missing component",
+        _ => "unknown error",
+    }
+}
+
+/// Writes what is wrong, by the number of an error: the message of the crate's error, without an
+/// index. Of a number that no error has it writes that the error is unknown.
+#[unsafe(no_mangle)]
+pub extern "C" fn fluent_uri_error_message(error: u32, out: &mut [u8], outcome: &mut Outcome) -> u32
+    ensures { LeavesText (Ok (error_message error)) out.old out.new outcome.new result }
+{
+    put(message_of(error).as_bytes(), out, outcome);
+    0
 }

@@ -69,7 +69,7 @@ impl Call for Decode {
         self.component <= 4
     }
 
-    /// Returns the bytes that a component stands for, if the text is one.
+    /// Returns the bytes that a component decodes to, if the text is one.
     fn call<'a>(&self, text: &'a [u8]) -> Result<Option<CallResult<'a>>, AllocError> {
         decoded_result(decoded(self.alloc, self.component, text))
     }
@@ -96,7 +96,7 @@ impl Call for Encode {
     }
 }
 
-/// Writes the bytes that each component of a column stands for.
+/// Writes the bytes that each component of a column decodes to.
 #[unsafe(no_mangle)]
 pub extern "C" fn fluent_uri_decode_batch(
     alloc: Global,
@@ -116,7 +116,7 @@ pub extern "C" fn fluent_uri_decode_batch(
     column(&call, texts, offsets, out, out_offsets, valid, outcome)
 }
 
-/// Writes the bytes that each component of a column stands for, with offsets of 64 bits.
+/// Writes the bytes that each component of a column decodes to, with offsets of 64 bits.
 #[unsafe(no_mangle)]
 pub extern "C" fn fluent_uri_decode_batch64(
     alloc: Global,

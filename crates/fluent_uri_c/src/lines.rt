@@ -128,8 +128,8 @@ fn normal_line(alloc: Global, kind: u32, options: u32, text: &[u8]) -> Result<Li
     }
 }
 
-/// Writes the normal form of each line by options, with a newline after each. The line of a text that is
-/// rejected is empty, and `errors` has the number of its error.
+/// Writes the normal form of each line by options, with a newline after each. The line of a text
+/// that is rejected is empty, and `errors` has the number of its error.
 #[unsafe(no_mangle)]
 pub extern "C" fn fluent_uri_normalize_lines(
     alloc: Global,

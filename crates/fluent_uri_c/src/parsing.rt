@@ -55,7 +55,8 @@ pub extern "C" fn fluent_uri_parse_batch(
     parse_column(kind, texts, offsets, parts, outcome)
 }
 
-/// Parses each text of a column as the kind, with offsets of 64 bits, and writes the parts of each, or its error.
+/// Parses each text of a column as the kind, with offsets of 64 bits, and writes the parts of each,
+/// or its error.
 #[unsafe(no_mangle)]
 pub extern "C" fn fluent_uri_parse_batch64(
     kind: u32,

@@ -107,7 +107,7 @@ pub extern "C" fn fluent_uri_to_uri(
     put_value_or_report(numbered::as_uri(alloc, kind, text), out, parts, outcome)
 }
 
-/// Writes the bytes that a component stands for.
+/// Writes the bytes that a component decodes to.
 #[unsafe(no_mangle)]
 pub extern "C" fn fluent_uri_decode(
     alloc: Global,

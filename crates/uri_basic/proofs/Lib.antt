@@ -7,4 +7,8 @@ pub mod Targets
 pub mod TargetPlaces
 pub mod SameRemovals
 pub mod SameTargets
+pub mod DotSegments
+pub mod LiteralDots
+pub mod RelativePaths
+pub mod Relativized
 mod TargetRows

@@ -99,7 +99,7 @@ last-segment-begins-after-prefix d i ends within none place =
     (sym (ap before_last_slash ends.1 ∙ before-last-slash-is-prefix p [] refl))
 
 -- paths: nothing is before the last `/` of a text without one
-before-last-slash-of-segment : (p : List ℕ) → has_slash p ≡ false → before_last_slash p ≡ []
+pub before-last-slash-of-segment : (p : List ℕ) → has_slash p ≡ false → before_last_slash p ≡ []
 before-last-slash-of-segment [] e = refl
 before-last-slash-of-segment (c ∷ p) e = cond-false _ _ _ (or_parts (c == 47) (has_slash p) e).1
 

@@ -54,7 +54,7 @@ same-target base r d t is_d is_t path same whole clear =
     ∙ whole ∙ sym is_t
 
 -- targets: an empty base path to merge with is after an authority, if the base is not opaque
-base-with-empty-path-has-authority : (o : Option (List ℕ)) (path : List ℕ)
+pub base-with-empty-path-has-authority : (o : Option (List ℕ)) (path : List ℕ)
     → (is_none o && not (starts 47 path)) ≡ false → path ≡ [] → is_some o ≡ true
 base-with-empty-path-has-authority None path e h =
     absurd (false≢true (sym e ∙ ap (λ t. not (starts 47 t)) h))
@@ -75,7 +75,7 @@ same-merged-path base path opaque last = ⊎_elim
     (cases_Bool (is_empty base.path))
 
 -- general fact on options, for components: one that is there is not absent
-present-component-is-not-absent : (o : Option (List ℕ)) → is_some o ≡ true → is_none o ≡ false
+pub present-component-is-not-absent : (o : Option (List ℕ)) → is_some o ≡ true → is_none o ≡ false
 present-component-is-not-absent None h = absurd (false≢true h)
 present-component-is-not-absent (Some x) h = refl
 

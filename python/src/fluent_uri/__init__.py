@@ -66,10 +66,14 @@ __all__ = [
     "decode",
     "encode",
     "is_compiled",
+    "normal_version",
 ]
 __version__ = "0.1.0"
 if not _native.has_version(__version__):
     raise ImportError(f"{_native.path} is not of the version {__version__} of this package")
+
+#: The version of normal forms, which changes where any of them does: keep it beside stored forms.
+normal_version: int = _native.function("normal_version")()
 
 _Reference_ = TypeVar("_Reference_", bound="Reference")
 _Absolute_ = TypeVar("_Absolute_", bound="_Absolute")

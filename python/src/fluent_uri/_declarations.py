@@ -101,7 +101,9 @@ _BUFFER = (OUT, SIZE)
 
 FUNCTIONS: Dict[str, Tuple[Any, ...]] = {
     "version": (),
+    "normal_version": (),
     "error_name": (NUMBER, *_BUFFER, OUT),
+    "error_message": (NUMBER, *_BUFFER, OUT),
     "parse": (NUMBER, *_TEXT, OUT),
     "is_plainly_normal": (NUMBER, *_TEXT, OUT),
     "host_address": (NUMBER, *_TEXT, *_BUFFER, OUT),

@@ -37,20 +37,11 @@ class BuildErrorKind(enum.IntEnum):
     MISSING_COMPONENT = 14
 
 
-_MESSAGES = {
-    1: "invalid percent-encoded octet",
-    2: "unexpected character",
-    3: "invalid IPv6 address",
-    4: "not Unicode text",
-    5: "base should not have fragment",
-    6: "when base has a rootless path and no authority, reference should either have scheme, "
-    "be empty or start with '#'",
-    7: "underflow occurred in path resolution",
-    11: "when authority is present, path should either be empty or start with '/'",
-    12: "when authority is not present, path should not start with \"//\"",
-    13: "when neither scheme nor authority is present, first path segment should not contain ':'",
-    14: "missing component",
-}
+def _message(number: int) -> str:
+    """What is wrong, by the number of an error: the library's words."""
+    from fluent_uri import _native  # (which raises these errors)
+
+    return _native.error_message(number)
 
 
 class ParseError(ValueError):
@@ -78,7 +69,7 @@ class ParseError(ValueError):
         super().__init__(self.kind, index, char_index)
 
     def __str__(self) -> str:
-        said = f"{_MESSAGES[self.kind]} at index {self.index}"
+        said = f"{_message(self.kind)} at index {self.index}"
         if self.index != self.char_index:
             said += f" (character {self.char_index})"
         return said
@@ -94,7 +85,7 @@ class ResolveError(ValueError):
         super().__init__(self.kind)
 
     def __str__(self) -> str:
-        return _MESSAGES[self.kind]
+        return _message(self.kind)
 
 
 class BuildError(ValueError):
@@ -127,8 +118,8 @@ class BuildError(ValueError):
 
     def __str__(self) -> str:
         if self.kind > ParseErrorKind.NOT_UTF8:
-            return f"{_MESSAGES[self.kind]}: {self.component}"
-        said = f"{_MESSAGES[self.kind]} at index {self.index} of the {self.component}"
+            return f"{_message(self.kind)}: {self.component}"
+        said = f"{_message(self.kind)} at index {self.index} of the {self.component}"
         if self.index != self.char_index:
             said += f" (character {self.char_index})"
         return said

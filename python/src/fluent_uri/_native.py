@@ -87,6 +87,7 @@ def addresses() -> Dict[str, int]:
     return {it: ctypes.cast(call, ctypes.c_void_p).value or 0 for it, call in found.items() if call}
 
 
+message_of = function("error_message")
 parse = function("parse")
 is_plainly_normal = function("is_plainly_normal")
 normalize = function("normalize")
@@ -220,6 +221,14 @@ def port_number(kind: int, data: bytes) -> Optional[int]:
         raise ValueError("port is above 65535")
     number: int = port.value
     return number if number < 65536 else None
+
+
+def error_message(number: int) -> str:
+    """What is wrong, by the number of an error."""
+    room, length = _called(message_of, [number], 0, False)
+    message = room.view[:length].tobytes().decode()
+    _given_back(room)
+    return message
 
 
 def built(kind: int, data: bytes, spans: bytes) -> Tuple[bytes, int, int, int]:

@@ -192,7 +192,7 @@ class Reference:
         """Returns the normal form (RFC 3986, section 6.2.2), without a default or empty port
         (section 6.2.3). With `scheme_rules` it is that of the whole of section 6.2.3: `http://a` is
         `http://a/`."""
-        if not scheme_rules and "%" not in self.__text and self.__is_plainly_normal():
+        if not scheme_rules and self.__is_plainly_normal():
             return self
         numbers = self._number, _RULES if scheme_rules else 0
         return self.__made(type(self), _native.normalize, numbers)

@@ -218,10 +218,9 @@ static PyObject *normal_form(const State *state, int kind, uint32_t options, PyO
     Py_ssize_t length;
     const char *text = PyUnicode_AsUTF8AndSize(self->text, &length);
     if (!text) return NULL;
-    /* (the test finds no text with octets normal, and knows no option) */
-    if (!options && !memchr(text, '%', (size_t)length) &&
-        state->call.is_plainly_normal((uint32_t)kind, (const uint8_t *)text, (size_t)length,
-                                      &self->parts))
+    /* (the test knows no option) */
+    if (!options && state->call.is_plainly_normal((uint32_t)kind, (const uint8_t *)text,
+                                                  (size_t)length, &self->parts))
         return Py_NewRef(object);
     if (length <= ROOM - BESIDE) {
         uint8_t room[ROOM];

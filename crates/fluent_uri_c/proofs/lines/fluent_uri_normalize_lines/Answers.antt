@@ -125,7 +125,8 @@ returns c =
     leaves_lines c.args.kind c.args.options c.args.lines.now (line_buffers c.args.out.now c.args.errors.now)
     (line_buffers _ _) _ 10 4 (as_size (length c.loop-index.errors + 1)) c.loop-index.index
     c.loop-index.at c.loop-index.start _
-    (omega arith) (search rules) (search rules) c.report_lines-2.ensures.number outcome (λ ne. absurd (ne refl)) before.2 before.3
+    (omega arith) (search rules) (search rules) c.report_lines-2.ensures.number outcome
+    (λ ne. absurd (ne refl)) before.2 before.3
     before.5 before.6
     (inr (inr (inr (
       refl,

@@ -1,11 +1,11 @@
-use Rattle.std.proofs.Common.{◌≡◌, ◌≤◌, ◌<◌, ◌-◌, ℕ, false, length}
-use Rattle.uri_ops.specs.Models.LeadingSegments.{has_slash_dot_at}
+use Rattle.std.proofs.Common.{◌≡◌, ◌≤◌, ◌<◌, ◌-◌, ℕ, true, length}
+use Rattle.fluent_uri_c.specs.PlainTexts.{is_kept_at}
 use Rattle.fluent_uri_c.proofs.plain.is_short_plain.Given as goal
 
 abbrev pub invariant-loop-i : goal.invariant-loop-i
 invariant-loop-i l = record {
   within : l.i ≤ length l.bytes;
-  no_dots : (k : ℕ) → k < l.i → has_slash_dot_at l.bytes k ≡ false;
+  kept : (k : ℕ) → k < l.i → is_kept_at l.past_ascii l.bytes k ≡ true;
 }
 
 abbrev pub decreases-loop-i : goal.decreases-loop-i

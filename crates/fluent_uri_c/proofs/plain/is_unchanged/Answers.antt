@@ -1,8 +1,8 @@
 use Rattle.uri_parts.specs.Components.{Components, components}
-use Rattle.fluent_uri_c.specs.Spans.{host_of, host_start, path_start, port_of, port_start}
+use Rattle.fluent_uri_c.specs.Spans.{host_of, host_start, port_of, port_start}
+use Rattle.fluent_uri_c.proofs.KeptNormalForms.{plain-path-is-unchanged}
+use Rattle.fluent_uri_c.proofs.PlainTexts.{authority-without-port-is-plain}
 use Rattle.fluent_uri_c.proofs.PlainTexts.{component-past-text-is-absent}
-use Rattle.fluent_uri_c.proofs.PlainTexts.{path-of-plain-text-is-unchanged}
-use Rattle.fluent_uri_c.proofs.PlainTexts.{plain-authority-is-unchanged}
 use Rattle.fluent_uri_c.proofs.PlainTexts.{scheme-in-lower-case-is-normal}
 use Rattle.fluent_uri_c.proofs.plain.is_unchanged.Goals as goal
 
@@ -16,11 +16,10 @@ returns c = λ e spans.
       record {
         scheme = scheme-in-lower-case-is-normal p.scheme
             (c.is_scheme_lower.ensures c.if-not-is_scheme_lower.false p.scheme spans.scheme);
-        authority = plain-authority-is-unchanged p.authority
+        authority = authority-without-port-is-plain p.authority
             (c.is_host_plain.ensures e (host_start text) (host_of p.authority) spans.host)
             (component-past-text-is-absent text (port_start text) (port_of p.authority) parts.port
             spans.port c.if-parts-text.false);
-        path = path-of-plain-text-is-unchanged text p.path p.scheme (path_start text) parts.path
-            plain spans.path;
+        path = plain-path-is-unchanged c.args.past_ascii text plain;
       },
     )

@@ -5,7 +5,8 @@ use Rattle.fluent_uri_c.proofs.calls.NormalizeCall.call.Goals as goal
 pub returns-clause-made : goal.returns-clause-made
 returns-clause-made c =
     let call = c.args.self.now in
-    c.batch_result.ensures.made _ (normalize_result call.kind call.options c.args.text.now) c.normal_form.ensures
+    c.batch_result.ensures.made _ (normalize_result call.kind call.options c.args.text.now)
+    c.normal_form.ensures
 
 pub returns-clause-memory : goal.returns-clause-memory
 returns-clause-memory c =

@@ -1,0 +1,161 @@
+-- Which targets of the basic algorithm have a segment `.` or `..`: RFC 3986, sections 5.2.2, 5.2.4.
+use Rattle.std.proofs.Common.{◌≡◌, ℕ, true, false, not, List, [], ◌∷◌, ◌++◌, ◌&&◌, refl, sym, ap}
+use Rattle.std.proofs.Common.{◌∙◌, append_assoc, inl, ⊎_elim}
+use Rattle.std.specs.Prelude.{Ok, bytes_eq, codes, is_none, is_some}
+use Rattle.std.specs.List.{list_any}
+use Rattle.std.proofs.lemmas.Bool.{and_from, and_parts, both_ways, cases_Bool}
+use Rattle.std.proofs.lemmas.Bool.{cond_both, or_from, or_parts}
+use Rattle.std.proofs.lemmas.List.{append-nil}
+use Rattle.uri_pct.proofs.Tests.{not_some_is_none}
+use Rattle.uri_pct.specs.Delimiters.{slash}
+use Rattle.uri_parts.specs.Components.{Components, components, recompose, starts}
+use Rattle.uri_ops.specs.Dots.{before_last_slash, has_slash, is_empty, last_segment}
+use Rattle.uri_ops.proofs.Paths.SlashedSegments.{NoSlashes, first-segment-and-rest-lack-slashes}
+use Rattle.uri_ops.proofs.Paths.SlashedSegments.{segments-of-joined-segments, slashed}
+use Rattle.uri_basic.specs.Deviations.{has_literal_dot_segment, is_literal_dot_segment}
+use Rattle.uri_basic.specs.Deviations.{takes_base_path}
+use Rattle.uri_basic.specs.Models.Directories.{IsDirectoryOrNothing, after_segment, parent}
+use Rattle.uri_basic.specs.Removal.{remove_dot_segments}
+use Rattle.uri_basic.specs.Target.{basic_resolution_of_texts, is_ambiguous, merge, target}
+use Rattle.uri_basic.proofs.DotSegments.{literal-dots-at-slash}
+use Rattle.uri_basic.proofs.Kept.{property-of-path-by-segments, removal-by-segments}
+use Rattle.uri_basic.proofs.Kept.{text-is-cut-at-last-slash}
+use Rattle.uri_basic.proofs.Places.{before-last-slash-of-segment}
+use Rattle.uri_basic.proofs.SameTargets.{present-component-is-not-absent}
+use Rattle.uri_basic.proofs.Segments.{directory-after-segment, kept_of}
+use Rattle.uri_basic.proofs.Targets.{basic-target-has-its-components, result-by-test}
+
+-- removing dot segments: before its last `/` a text has no `.` and `..`, if it has none
+no-literal-dot-before-last-slash : (t : List ℕ) → has_literal_dot_segment t ≡ false
+    → has_literal_dot_segment (before_last_slash t) ≡ false
+no-literal-dot-before-last-slash t e = ⊎_elim
+    (λ h. (or_parts _ _ (sym (literal-dots-at-slash (before_last_slash t) (last_segment t))
+    ∙ ap has_literal_dot_segment (sym (text-is-cut-at-last-slash t h)) ∙ e)).0)
+    (λ h. ap has_literal_dot_segment (before-last-slash-of-segment t h))
+    (cases_Bool (has_slash t))
+
+-- removing dot segments: a text has no `.` and `..` with a `/` after it, if it has none
+no-literal-dot-with-slash : (t : List ℕ) → has_literal_dot_segment t ≡ false
+    → has_literal_dot_segment (t ++ codes "/") ≡ false
+no-literal-dot-with-slash t e = literal-dots-at-slash t [] ∙ or_from _ _ e refl
+
+-- removing dot segments: the parent of a directory has no `.` and `..`, if it has none
+no-literal-dot-in-parent : (kept : List ℕ) → has_literal_dot_segment kept ≡ false
+    → has_literal_dot_segment (parent kept) ≡ false
+unfolding parent
+no-literal-dot-in-parent kept e =
+    cond_both (is_empty kept) [] (before_last_slash (before_last_slash kept) ++ codes "/")
+    (λ t. has_literal_dot_segment t ≡ false) (λ _. refl)
+    (λ _. no-literal-dot-with-slash (before_last_slash (before_last_slash kept))
+    (no-literal-dot-before-last-slash (before_last_slash kept)
+    (no-literal-dot-before-last-slash kept e)))
+
+-- removing dot segments: a directory and a text after it have no `.` and `..`, if both have none
+no-literal-dot-after-directory : (kept t : List ℕ) → IsDirectoryOrNothing kept
+    → has_literal_dot_segment kept ≡ false → has_literal_dot_segment t ≡ false
+    → has_literal_dot_segment (kept ++ t) ≡ false
+no-literal-dot-after-directory kept t closed e f = ⊎_elim
+    (λ n. ap (λ k. has_literal_dot_segment (k ++ t)) n ∙ f)
+    (λ d. ap (λ k. has_literal_dot_segment (k ++ t)) d.1
+    ∙ ap has_literal_dot_segment (append_assoc d.0 (codes "/") t)
+    ∙ literal-dots-at-slash d.0 t
+    ∙ or_from _ _ (or_parts _ _ (sym (literal-dots-at-slash d.0 [])
+    ∙ ap has_literal_dot_segment (sym d.1) ∙ e)).0 f)
+    closed
+
+-- removing dot segments: a segment that is neither `.` nor `..` has none
+no-literal-dot-in-other-segment : (s : List ℕ) → has_slash s ≡ false
+    → bytes_eq s (codes ".") ≡ false → bytes_eq s (codes "..") ≡ false
+    → has_literal_dot_segment s ≡ false
+unfolding slashed
+no-literal-dot-in-other-segment s lacks single double =
+    ap has_literal_dot_segment (sym (append-nil s))
+    ∙ ap (list_any is_literal_dot_segment)
+    (segments-of-joined-segments s [] (and_from _ _ (ap not lacks) refl))
+    ∙ or_from _ _ (or_from _ _ single double) refl
+
+-- removing dot segments: what is kept after a segment has no `.` and `..`, if what is kept has none
+no-literal-dot-after-segment : (kept s piece : List ℕ) → has_literal_dot_segment kept ≡ false
+    → (bytes_eq s (codes ".") ≡ false → bytes_eq s (codes "..") ≡ false
+    → has_literal_dot_segment (kept ++ piece) ≡ false)
+    → has_literal_dot_segment (after_segment kept s piece) ≡ false
+unfolding after_segment
+no-literal-dot-after-segment kept s piece e more =
+    cond_both (bytes_eq s (codes ".")) kept _ (λ t. has_literal_dot_segment t ≡ false) (λ _. e)
+    (λ single. cond_both (bytes_eq s (codes "..")) (parent kept) (kept ++ piece)
+    (λ t. has_literal_dot_segment t ≡ false) (λ _. no-literal-dot-in-parent kept e)
+    (more single))
+
+-- removing dot segments: what is kept of segments has no `.` and `..`
+no-literal-dot-is-kept : (kept s : List ℕ) (rest : List (List ℕ)) → IsDirectoryOrNothing kept
+    → has_literal_dot_segment kept ≡ false → NoSlashes (s ∷ rest)
+    → has_literal_dot_segment (kept_of kept s rest) ≡ false
+unfolding kept_of
+no-literal-dot-is-kept kept s [] closed e lack =
+    no-literal-dot-after-segment kept s s e
+    (λ single double. no-literal-dot-after-directory kept s closed e
+    (no-literal-dot-in-other-segment s (first-segment-and-rest-lack-slashes s [] lack).0
+    single double))
+no-literal-dot-is-kept kept s (t ∷ rest) closed e lack =
+    let g = first-segment-and-rest-lack-slashes s (t ∷ rest) lack in
+    no-literal-dot-is-kept (after_segment kept s (s ++ codes "/")) t rest
+    (directory-after-segment kept s closed)
+    (no-literal-dot-after-segment kept s (s ++ codes "/") e
+    (λ single double. no-literal-dot-after-directory kept (s ++ codes "/") closed e
+    (no-literal-dot-with-slash s (no-literal-dot-in-other-segment s g.0 single double))))
+    g.1
+
+-- removing dot segments: no segment `.` or `..` is left of any path
+removal-leaves-no-literal-dot : (path : List ℕ)
+    → has_literal_dot_segment (remove_dot_segments path) ≡ false
+removal-leaves-no-literal-dot = property-of-path-by-segments
+    (λ path. has_literal_dot_segment (remove_dot_segments path) ≡ false)
+    (λ s rest lack. ap has_literal_dot_segment (removal-by-segments s rest lack)
+    ∙ no-literal-dot-is-kept [] s rest (inl refl) refl lack)
+
+-- targets: one has no segment `.` or `..`, unless its path is the base's
+target-has-no-literal-dot : (base r : Components) → takes_base_path r ≡ false
+    → has_literal_dot_segment (target base r).path ≡ false
+target-has-no-literal-dot base r own =
+    let P = λ (c : Components). has_literal_dot_segment c.path ≡ false in
+    cond_both (is_some r.scheme) _ _ P (λ _. removal-leaves-no-literal-dot r.path)
+    (λ s. cond_both (is_some r.authority) _ _ P (λ _. removal-leaves-no-literal-dot r.path)
+    (λ a. cond_both (is_empty r.path) _ _ P
+    (λ e. absurd (both_ways _ own (and_from _ _
+    (and_from _ _ (not_some_is_none r.scheme s) (not_some_is_none r.authority a)) e)))
+    (λ _. cond_both (starts slash r.path) _ _ P (λ _. removal-leaves-no-literal-dot r.path)
+    (λ _. removal-leaves-no-literal-dot (merge base r.path)))))
+
+-- targets: with a reference that takes the base's path, the target has it
+target-has-taken-path : (base r : Components) → takes_base_path r ≡ true
+    → (target base r).path ≡ base.path
+target-has-taken-path base r takes =
+    let P = λ (c : Components). c.path ≡ base.path in
+    let empty = and_parts (is_none r.scheme && is_none r.authority) _ takes in
+    let none = and_parts (is_none r.scheme) _ empty.0 in
+    cond_both (is_some r.scheme) _ _ P
+    (λ s. absurd (both_ways _ (present-component-is-not-absent r.scheme s) none.0))
+    (λ _. cond_both (is_some r.authority) _ _ P
+    (λ a. absurd (both_ways _ (present-component-is-not-absent r.authority a) none.1))
+    (λ _. cond_both (is_empty r.path) _ _ P (λ _. refl)
+    (λ e. absurd (both_ways _ e empty.1))))
+
+-- targets: only a reference that takes the base's path leads to a target with a segment `.` or `..`
+pub target-with-literal-dot-has-base-path : (base target reference : List ℕ)
+    → is_some (components base).scheme ≡ true
+    → basic_resolution_of_texts base reference ≡ Ok target
+    → has_literal_dot_segment (components target).path ≡ true
+    → (takes_base_path (components reference) ≡ true)
+    × ((components target).path ≡ (components base).path)
+target-with-literal-dot-has-base-path base text reference some e literal =
+    let b = components base in
+    let r = components reference in
+    let f = result-by-test (is_ambiguous (target b r)) (recompose (target b r)) text e in
+    let same : (components text).path ≡ (target b r).path =
+    ap (λ t. (components t).path) (sym f.1)
+    ∙ ap (λ (c : Components). c.path) (basic-target-has-its-components base reference some f.0) in
+    let takes : takes_base_path r ≡ true = ⊎_elim (λ h. h)
+    (λ h. absurd (both_ways _ (ap has_literal_dot_segment same ∙ target-has-no-literal-dot b r h)
+    literal))
+    (cases_Bool (takes_base_path r)) in
+    (takes, same ∙ target-has-taken-path b r takes)

@@ -1,0 +1,297 @@
+-- The paths of relativized references: how they are parsed, and what they lead to.
+use Rattle.std.proofs.Common.{◌≡◌, ℕ, zero, suc, ◌-◌, ◌<◌, Bool, true, false, not, cond, eqb, List}
+use Rattle.std.proofs.Common.{[], ◌∷◌, ◌++◌, ◌&&◌, ◌||◌, take, drop, refl, sym, ap, ◌∙◌, subst, inr}
+use Rattle.std.proofs.Common.{⊎_elim, arith, append_assoc, true≢false}
+use Rattle.std.specs.Prelude.{None, Option, codes, is_none, is_some, nat_lt}
+use Rattle.std.specs.List.{list_all}
+use Rattle.std.proofs.lemmas.Bool.{and_from, and_parts, and_right, cond-false, cond-true, cond_both}
+use Rattle.std.proofs.lemmas.Bool.{eq-eqb, eqb-true, false≢true, ltb-true, or_cases, or_left}
+use Rattle.std.proofs.lemmas.Bool.{or_parts}
+use Rattle.std.proofs.lemmas.List.{take-append-drop}
+use Rattle.std.proofs.lemmas.List.Folds.{list_all-append}
+use Rattle.uri_pct.proofs.Tests.{eq_true_from_IsTrue}
+use Rattle.uri_pct.specs.Delimiters.{slash}
+use Rattle.uri_pct.specs.Sets.{is_one_of}
+use Rattle.uri_parts.specs.Components.{Components, IsAbemptyPath, Lacks, has_authority, starts}
+use Rattle.uri_parts.specs.Grammar.{has_colon_in_first_segment}
+use Rattle.uri_parts.proofs.Splitting.Marks.{cons_is_not_nil}
+use Rattle.uri_ops.specs.Dots.{IsAbsolute, directory, is_empty, lacks_dot_segments, or_slash}
+use Rattle.uri_ops.specs.Dots.{up_to_last_slash}
+use Rattle.uri_ops.specs.Dots as Dots
+use Rattle.uri_ops.specs.Target.{guarded, is_opaque}
+use Rattle.uri_ops.proofs.Paths.DotLaws.{directory-is-absolute, remove-dots-of-dotless}
+use Rattle.uri_ops.proofs.Paths.PathCharacters.{lacked-delimiters-fail-test}
+use Rattle.uri_ops.proofs.Paths.PathCharacters.{test-of-delimiters-gives-lacks}
+use Rattle.uri_ops.proofs.Paths.TakenSegments.{absolute-path-is-slash-and-rest}
+use Rattle.uri_ops.proofs.Targeting.Targets.{appended-absolute-path-is-absolute}
+use Rattle.uri_relative.specs.Relative.{IsSharedPrefix, double_dots, needs_leading_dot}
+use Rattle.uri_relative.specs.Relative.{relative_path, slashes}
+use Rattle.uri_relative.specs.Rule.{path_from_base, shared_directory_len}
+use Rattle.uri_relative.specs.Rule.{shortest_or_preferred_path}
+use Rattle.uri_relative.proofs.Climbs.{merged-relative-path-leads-to-path}
+use Rattle.uri_relative.proofs.Climbs.{remove_dot_segments-follows-dots}
+use Rattle.uri_relative.proofs.Ways.{guard-counts-as-no-segment, rootless-path-has-no-authority}
+use Rattle.uri_basic.specs.Deviations.{has_encoded_dot_segment}
+use Rattle.uri_basic.specs.Removal.{remove_dot_segments}
+use Rattle.uri_basic.specs.Target.{merge}
+use Rattle.uri_basic.proofs.DotSegments.{directory-of-dotless-path-is-up-to-last-slash}
+use Rattle.uri_basic.proofs.DotSegments.{dotless-path-has-no-encoded-dot}
+use Rattle.uri_basic.proofs.DotSegments.{dotless-path-has-no-literal-dot}
+use Rattle.uri_basic.proofs.DotSegments.{encoded-dots-after-directory}
+use Rattle.uri_basic.proofs.DotSegments.{encoded-dots-at-slash}
+use Rattle.uri_basic.proofs.SameRemovals.{removal-of-path-without-dots, same-removal}
+use Rattle.uri_basic.proofs.SameTargets.{base-with-empty-path-has-authority}
+
+-- relativized paths: what holds of a rest, and with `../` before it, holds after n `../`
+property-of-rest-holds-after-double-dots : (P : List ℕ → Type 0)
+    → ((t : List ℕ) → P t → P (codes "../" ++ t)) → (n : ℕ) (rest : List ℕ) → P rest
+    → P (double_dots n ++ rest)
+unfolding double_dots
+property-of-rest-holds-after-double-dots P up zero rest h = h
+property-of-rest-holds-after-double-dots P up (suc n) rest h =
+    up (double_dots n ++ rest) (property-of-rest-holds-after-double-dots P up n rest h)
+
+-- relativized paths: what holds of `.`, `..` and the rest, and with `./` or `../` before, holds of
+-- each relative path to the rest
+property-of-rest-holds-of-relative-path : (P : List ℕ → Type 0) → P (codes ".") → P (codes "..")
+    → ((t : List ℕ) → P t → P (codes "./" ++ t)) → ((t : List ℕ) → P t → P (codes "../" ++ t))
+    → (n : ℕ) (rest : List ℕ) → P rest → P (relative_path n rest)
+property-of-rest-holds-of-relative-path P dot double stay up n rest h =
+    cond_both (eqb n 0) _ _ P
+    (λ _. cond_both (is_empty rest) _ _ P (λ _. dot)
+    (λ _. cond_both (needs_leading_dot rest) _ _ P (λ _. stay rest h) (λ _. h)))
+    (λ _. cond_both (is_empty rest) _ _ P
+    (λ _. property-of-rest-holds-after-double-dots P up (n - 1) (codes "..") double)
+    (λ _. property-of-rest-holds-after-double-dots P up n rest h))
+
+-- relativized paths: the path is not empty, has no leading `/`, and no `:` in its first segment
+record IsRelativePath (way : List ℕ) : Type 0 where
+  some : is_empty way ≡ false
+  rootless : starts slash way ≡ false
+  no_scheme : has_colon_in_first_segment way ≡ false
+
+-- relativized paths: n `../` and `..` are relative
+double-dots-and-last-are-relative : (n : ℕ) → IsRelativePath (double_dots n ++ codes "..")
+unfolding double_dots
+double-dots-and-last-are-relative zero =
+    record { some = refl; rootless = refl; no_scheme = refl }
+double-dots-and-last-are-relative (suc n) =
+    record { some = refl; rootless = refl; no_scheme = refl }
+
+-- relativized paths: some `../` and a rest are relative
+some-double-dots-are-relative : (n : ℕ) (rest : List ℕ) → eqb n 0 ≡ false
+    → IsRelativePath (double_dots n ++ rest)
+unfolding double_dots
+some-double-dots-are-relative zero rest e = absurd (true≢false e)
+some-double-dots-are-relative (suc n) rest e =
+    record { some = refl; rootless = refl; no_scheme = refl }
+
+-- relativized paths: each is relative
+relative-path-is-relative : (n : ℕ) (rest : List ℕ) → IsRelativePath (relative_path n rest)
+relative-path-is-relative n rest =
+    cond_both (eqb n 0) _ _ IsRelativePath
+    (λ _. cond_both (is_empty rest) _ _ IsRelativePath
+    (λ _. record { some = refl; rootless = refl; no_scheme = refl })
+    (λ some. cond_both (needs_leading_dot rest) _ _ IsRelativePath
+    (λ _. record { some = refl; rootless = refl; no_scheme = refl })
+    (λ plain.
+    let p = or_parts (starts slash rest) (has_colon_in_first_segment rest) plain in
+    record { some = some; rootless = p.0; no_scheme = p.1 })))
+    (λ e. cond_both (is_empty rest) _ _ IsRelativePath
+    (λ _. double-dots-and-last-are-relative (n - 1))
+    (λ _. some-double-dots-are-relative n rest e))
+
+-- relativized paths: an equal first byte makes the shared prefix one byte longer, if it ends in `/`
+-- (47) still
+equal-first-byte-extends-shared-prefix : (a b : ℕ) (base path : List ℕ) (n : ℕ) → a ≡ b
+    → (eqb a 47 || nat_lt 0 n) ≡ true → (0 < n → IsSharedPrefix n base path)
+    → IsSharedPrefix (suc n) (a ∷ base) (b ∷ path)
+equal-first-byte-extends-shared-prefix a b base path zero e k shared = record {
+  same = ap (λ c. c ∷ []) e;
+  closed = (
+    [],
+    ap (λ c. c ∷ []) (⊎_elim (eqb-true a 47) (λ h. absurd (omega (arith, ltb-true 0 0 h)))
+        (or_cases (eqb a 47) (nat_lt 0 0) k)),
+  );
+}
+equal-first-byte-extends-shared-prefix a b base path (suc n) e k shared =
+    let s = shared (omega arith) in
+    record {
+      same = ap (λ c. c ∷ take (suc n) base) e ∙ ap (λ t. b ∷ t) s.same;
+      closed = (a ∷ s.closed.0, ap (λ t. a ∷ t) s.closed.1);
+    }
+
+-- relativized paths: the prefix of the length `shared_directory_len` is shared and ends in `/`
+shared-directory-is-shared-prefix : (base path : List ℕ) → 0 < shared_directory_len base path
+    → IsSharedPrefix (shared_directory_len base path) base path
+unfolding shared_directory_len
+shared-directory-is-shared-prefix [] path h = absurd (omega (arith, h))
+shared-directory-is-shared-prefix (a ∷ base) [] h = absurd (omega (arith, h))
+shared-directory-is-shared-prefix (a ∷ base) (b ∷ path) h =
+    let n = shared_directory_len base path in
+    cond_both (eqb a b && (eqb a 47 || nat_lt 0 n)) (suc n) 0
+    (λ m. 0 < m → IsSharedPrefix m (a ∷ base) (b ∷ path))
+    (λ e _. let both = and_parts (eqb a b) _ e in
+    equal-first-byte-extends-shared-prefix a b base path n (eqb-true a b both.0) both.1
+    (shared-directory-is-shared-prefix base path))
+    (λ _ none. absurd (omega (arith, none))) h
+
+-- relativized paths: two that begin with `/` share that
+absolute-paths-share-a-directory : (base path : List ℕ) → IsAbsolute base → IsAbsolute path
+    → 0 < shared_directory_len base path
+unfolding shared_directory_len
+absolute-paths-share-a-directory [] path h k = absurd (false≢true (eq_true_from_IsTrue _ h))
+absolute-paths-share-a-directory (a ∷ base) [] h k =
+    absurd (false≢true (eq_true_from_IsTrue _ k))
+absolute-paths-share-a-directory (a ∷ base) (b ∷ path) h k =
+    let one = eq_true_from_IsTrue _ h in
+    let same = eqb-true a 47 one ∙ sym (eqb-true b 47 (eq_true_from_IsTrue _ k)) in
+    let n = shared_directory_len base path in
+    let e : shared_directory_len (a ∷ base) (b ∷ path) ≡ suc n =
+    cond-true _ _ _ (and_from _ _ (eq-eqb a b same) (or_left _ _ one)) in
+    omega (arith, e)
+
+-- relativized paths: a path is what it shares with the base's, without the last `/`, and the rest
+path-is-shared-prefix-and-rest : (n : ℕ) (base path : List ℕ) (s : IsSharedPrefix n base path)
+    → path ≡ s.closed.0 ++ 47 ∷ drop n path
+path-is-shared-prefix-and-rest n base path s =
+    sym (take-append-drop n path) ∙ ap (λ t. t ++ drop n path) (sym s.same ∙ s.closed.1)
+    ∙ append_assoc s.closed.0 (codes "/") (drop n path)
+
+-- relativized paths: the path begins with `/`, has no dot segment, and neither `?` nor `#`
+pub record IsFinalPath (path : List ℕ) : Type 0 where
+  pub absolute : IsAbsolute path
+  pub dotless : lacks_dot_segments path ≡ true
+  pub lacks : Lacks (codes "?#") path
+
+-- relativized paths: a reference with this path, and without a scheme and an authority, is parsed
+-- with it, and leads from the base to the other path by the basic algorithm
+pub record LeadsByPath (base : Components) (path way : List ℕ) : Type 0 where
+  pub some : is_empty way ≡ false
+  pub no_authority : has_authority way ≡ false
+  pub no_scheme : has_colon_in_first_segment way ≡ false
+  pub lacks : Lacks (codes "?#") way
+  pub leads : cond (starts slash way) (remove_dot_segments way)
+      (remove_dot_segments (merge base way)) ≡ path
+
+-- relativized paths: the path from the root, guarded if it begins with `//` (double), leads to
+-- itself
+rooted-path-leads-to-path : (base : Components) (rest : List ℕ) (double : Bool)
+    → has_authority (47 ∷ rest) ≡ double → IsFinalPath (47 ∷ rest)
+    → LeadsByPath base (47 ∷ rest) (cond double (codes "/." ++ (47 ∷ rest)) (47 ∷ rest))
+rooted-path-leads-to-path base rest true e w =
+    let literal : has_encoded_dot_segment (codes "/." ++ (47 ∷ rest)) ≡ false =
+    dotless-path-has-no-encoded-dot (47 ∷ rest) w.dotless in
+    record {
+      some = refl;
+      no_authority = refl;
+      no_scheme = refl;
+      lacks = test-of-delimiters-gives-lacks (codes "?#") (codes "/." ++ (47 ∷ rest))
+          (lacked-delimiters-fail-test (codes "?#") (47 ∷ rest) w.lacks);
+      leads = sym (same-removal (codes "/." ++ (47 ∷ rest)) refl literal)
+          ∙ guard-counts-as-no-segment Dots.remove_dot_segments remove_dot_segments-follows-dots
+          (47 ∷ rest) refl
+          ∙ remove-dots-of-dotless (47 ∷ rest) refl w.dotless;
+    }
+rooted-path-leads-to-path base rest false e w = record {
+  some = refl;
+  no_authority = e;
+  no_scheme = refl;
+  lacks = w.lacks;
+  leads = removal-of-path-without-dots (47 ∷ rest)
+      (dotless-path-has-no-literal-dot (47 ∷ rest) w.dotless);
+}
+
+-- relativized paths: the path from the root, guarded, leads to the path
+path-from-root-leads-to-path : (base : Components) (path : List ℕ) → IsFinalPath path
+    → LeadsByPath base path (guarded None path)
+path-from-root-leads-to-path base path w =
+    subst (λ p. IsFinalPath p → LeadsByPath base p (guarded None p))
+    (sym (absolute-path-is-slash-and-rest path w.absolute))
+    (λ v. rooted-path-leads-to-path base (drop 1 path) (has_authority (47 ∷ drop 1 path)) refl v)
+    w
+
+-- targets: a path without dot segments is merged after its directory, and an empty one (o: the
+-- authority) after `/`
+path-is-merged-after-directory : (o : Option (List ℕ)) (path way : List ℕ)
+    → (is_none o && not (starts 47 path)) ≡ false → IsAbemptyPath path
+    → lacks_dot_segments path ≡ true
+    → cond (is_some o && is_empty path) (codes "/" ++ way) (up_to_last_slash path ++ way)
+    ≡ directory (or_slash path) ++ way
+unfolding directory
+path-is-merged-after-directory o [] way e h dotless =
+    cond-true _ _ _ (and_from _ _ (base-with-empty-path-has-authority o [] e refl) refl)
+path-is-merged-after-directory o (c ∷ path) way e h dotless =
+    cond-false _ _ _ (and_right (is_some o) false refl)
+    ∙ ap (λ t. t ++ way) (directory-of-dotless-path-is-up-to-last-slash (c ∷ path)
+    (⊎_elim (λ none. absurd (cons_is_not_nil c path none)) (λ absolute. absolute) h) dotless)
+
+-- relativized paths: the path to merge with is `/` if it is empty, and begins with `/`
+path-or-slash-is-absolute : (path : List ℕ) → IsAbemptyPath path → IsAbsolute (or_slash path)
+path-or-slash-is-absolute [] h = refl
+path-or-slash-is-absolute (c ∷ path) h = ⊎_elim (λ none. absurd (cons_is_not_nil c path none))
+    (λ absolute. absolute) h
+
+-- relativized paths: a path with `/` for an empty one has no dot segment, if it has none itself
+path-or-slash-is-dotless : (path : List ℕ) → lacks_dot_segments path ≡ true
+    → lacks_dot_segments (or_slash path) ≡ true
+path-or-slash-is-dotless [] e = refl
+path-or-slash-is-dotless (c ∷ path) e = e
+
+-- relativized paths: the relative one leads from the base to the path, if the base is not opaque
+-- and has no dot segment
+relative-path-leads-to-path : (base : Components) (path : List ℕ) → is_opaque base ≡ false
+    → IsAbemptyPath base.path → lacks_dot_segments base.path ≡ true → IsFinalPath path
+    → LeadsByPath base path (path_from_base base.path path)
+relative-path-leads-to-path base path opaque rooted dotless w =
+    let given = or_slash base.path in
+    let absolute = path-or-slash-is-absolute base.path rooted in
+    let given_dotless = path-or-slash-is-dotless base.path dotless in
+    let n = shared_directory_len given path in
+    let s = shared-directory-is-shared-prefix given path
+    (absolute-paths-share-a-directory given path absolute w.absolute) in
+    let whole = path-is-shared-prefix-and-rest n given path s in
+    let climbs = slashes (drop n given) in
+    let way = path_from_base base.path path in
+    let r = relative-path-is-relative climbs (drop n path) in
+    let other = λ (c : ℕ). not (is_one_of (codes "?#") c) in
+    let encoded = property-of-rest-holds-of-relative-path
+    (λ t. has_encoded_dot_segment t ≡ false) refl refl (λ t e. e) (λ t e. e) climbs (drop n path)
+    (or_parts (has_encoded_dot_segment s.closed.0) _
+    (sym (encoded-dots-at-slash s.closed.0 (drop n path))
+    ∙ ap has_encoded_dot_segment (sym whole)
+    ∙ dotless-path-has-no-encoded-dot path w.dotless)).1 in
+    let lacking = property-of-rest-holds-of-relative-path
+    (λ t. list_all other t ≡ true) refl refl (λ t e. e) (λ t e. e) climbs (drop n path)
+    (and_parts (list_all other s.closed.0) (list_all other (47 ∷ drop n path))
+    (sym (list_all-append other s.closed.0 (47 ∷ drop n path))
+    ∙ ap (list_all other) (sym whole)
+    ∙ lacked-delimiters-fail-test (codes "?#") path w.lacks)).1 in
+    record {
+      some = r.some;
+      no_authority = rootless-path-has-no-authority way r.rootless;
+      no_scheme = r.no_scheme;
+      lacks = test-of-delimiters-gives-lacks (codes "?#") way lacking;
+      leads = cond-false _ _ _ r.rootless
+          ∙ ap remove_dot_segments
+          (path-is-merged-after-directory base.authority base.path way opaque rooted dotless)
+          ∙ sym (same-removal (directory given ++ way)
+          (appended-absolute-path-is-absolute (directory given) way
+          (directory-is-absolute given (inr absolute)))
+          (encoded-dots-after-directory given way absolute given_dotless encoded))
+          ∙ merged-relative-path-leads-to-path n given path absolute given_dotless w.absolute
+          w.dotless s;
+    }
+
+-- relativized paths: the one that is chosen leads from the base to the path, if the base is not
+-- opaque
+pub chosen-path-leads-to-path : (prefers : Bool) (base : Components) (path : List ℕ)
+    → is_opaque base ≡ false → IsAbemptyPath base.path → IsFinalPath path
+    → LeadsByPath base path (shortest_or_preferred_path prefers base.path path)
+unfolding shortest_or_preferred_path
+chosen-path-leads-to-path prefers base path opaque rooted w =
+    cond_both (lacks_dot_segments base.path && _) (path_from_base base.path path)
+    (guarded None path) (LeadsByPath base path)
+    (λ e. relative-path-leads-to-path base path opaque rooted
+    (and_parts (lacks_dot_segments base.path) _ e).0 w)
+    (λ _. path-from-root-leads-to-path base path w)

@@ -1,0 +1,353 @@
+-- What the references of `relativize` lead to by the basic algorithm: RFC 3986, section 5.2.
+use Rattle.std.proofs.Common.{◌≡◌, ℕ, Bool, true, false, not, cond, List, [], ◌++◌, ◌&&◌, refl, sym}
+use Rattle.std.proofs.Common.{ap, ◌∙◌, subst, true≢false, ⊎_elim}
+use Rattle.std.specs.Prelude.{IfNone, IfSome, None, Ok, Option, Some, bytes_eq, codes, is_none}
+use Rattle.std.specs.Prelude.{is_some}
+use Rattle.std.specs.Option.{option_eq}
+use Rattle.std.proofs.lemmas.Bool.{and_parts, both_ways, cases_Bool, cond-false, cond-true}
+use Rattle.std.proofs.lemmas.Bool.{cond_both, false≢true}
+use Rattle.std.proofs.lemmas.Slice.Eq.{bytes_eq-Decides}
+use Rattle.uri_pct.proofs.Tests.{eq_true_from_IsTrue}
+use Rattle.uri_pct.specs.Delimiters.{slash}
+use Rattle.uri_parts.specs.Components.{Components, IsSplitOf, Lacks, components, has_authority}
+use Rattle.uri_parts.specs.Components.{has_scheme, marked, recompose, starts}
+use Rattle.uri_parts.specs.Grammar.{has_colon_in_first_segment}
+use Rattle.uri_parts.proofs.Splitting.Marks.{IsEmptyOrMarked-query_text}
+use Rattle.uri_parts.proofs.Splitting.Recompose.{components-are-split-of-text}
+use Rattle.uri_parts.proofs.Splitting.Recompose.{equal-to-true-is-IsTrue, recompose-components}
+use Rattle.uri_parts.proofs.Splitting.Splits.{only-split-is-components}
+use Rattle.uri_ops.specs.Dots.{IsAbsolute, lacks_dot_segments}
+use Rattle.uri_ops.specs.Dots as Dots
+use Rattle.uri_ops.specs.Resolving.{with_final_path}
+use Rattle.uri_ops.specs.Target.{guarded, is_opaque}
+use Rattle.uri_ops.proofs.Meanings.ComponentEnds.{no_scheme}
+use Rattle.uri_ops.proofs.Paths.DotLaws.{removing-dots-keeps-absolute}
+use Rattle.uri_ops.proofs.Paths.DotLaws.{removing-dots-leaves-no-dot-segment}
+use Rattle.uri_ops.proofs.Paths.PathCharacters.{test-of-delimiters-gives-lacks}
+use Rattle.uri_ops.proofs.Paths.TakenSegments.{absolute-path-is-slash-and-rest}
+use Rattle.uri_relative.specs.Forms.{from_authority}
+use Rattle.uri_relative.specs.Leading.{settled}
+use Rattle.uri_relative.specs.Rule.{has_same_authority, has_same_authority_and_path}
+use Rattle.uri_relative.specs.Rule.{has_same_query, has_same_scheme, reference_components}
+use Rattle.uri_relative.specs.Rule.{reference_to, shortest_or_preferred_path}
+use Rattle.uri_relative.proofs.Leading.{settled-text-has-settled-components}
+use Rattle.uri_relative.proofs.RootedTargets.{base-that-is-not-opaque-is-rooted}
+use Rattle.uri_relative.proofs.Settled.{dotless-target-is-settled, final-path-is-idempotent}
+use Rattle.uri_relative.proofs.Settled.{rootless-target-is-settled}
+use Rattle.uri_basic.specs.Deviations.{has_literal_dot_segment}
+use Rattle.uri_basic.specs.Removal.{remove_dot_segments}
+use Rattle.uri_basic.specs.Target.{basic_resolution, basic_resolution_of_texts, is_ambiguous, merge}
+use Rattle.uri_basic.specs.Target.{target}
+use Rattle.uri_basic.proofs.DotSegments.{dotless-path-has-no-literal-dot}
+use Rattle.uri_basic.proofs.RelativePaths.{IsFinalPath, LeadsByPath, chosen-path-leads-to-path}
+use Rattle.uri_basic.proofs.SameRemovals.{removal-of-path-without-dots}
+
+-- relativized references: two components that pass the test of equality are equal
+components-that-pass-test-are-equal : (p q : Option (List ℕ)) → option_eq bytes_eq p q ≡ true
+    → p ≡ q
+components-that-pass-test-are-equal None None e = refl
+components-that-pass-test-are-equal None (Some b) e = absurd (false≢true e)
+components-that-pass-test-are-equal (Some a) None e = absurd (false≢true e)
+components-that-pass-test-are-equal (Some a) (Some b) e = ap Some ((bytes_eq-Decides a b).0 e)
+
+-- targets to relativize: a target with a scheme, without removable dot segments, and with none of
+-- `.` and `..`
+record IsPlainTarget (t : Components) : Type 0 where
+  split : IsSplitOf (recompose t) t
+  scheme : is_some t.scheme ≡ true
+  settled : with_final_path t ≡ t
+  literal : has_literal_dot_segment t.path ≡ false
+
+-- targets to relativize: the guard `/.` of an absolute path is a segment `.`
+guard-is-literal-dot-segment : (path : List ℕ) → IsAbsolute path
+    → has_literal_dot_segment (codes "/." ++ path) ≡ true
+guard-is-literal-dot-segment path h =
+    subst (λ p. has_literal_dot_segment (codes "/." ++ p) ≡ true)
+    (sym (absolute-path-is-slash-and-rest path h)) refl
+
+-- targets to relativize: a path that is guarded to one without a segment `.` has no guard; o: the
+-- authority
+guarded-path-without-dots-is-the-path : (o : Option (List ℕ)) (path whole : List ℕ)
+    → IsAbsolute path → guarded o path ≡ whole → has_literal_dot_segment whole ≡ false
+    → path ≡ whole
+guarded-path-without-dots-is-the-path o path whole h g literal =
+    cond_both (is_none o && has_authority path) (codes "/." ++ path) path
+    (λ p. p ≡ whole → path ≡ whole)
+    (λ _ e. absurd (both_ways _ literal
+    (ap has_literal_dot_segment (sym e) ∙ guard-is-literal-dot-segment path h)))
+    (λ _ e. e) g
+
+-- targets to relativize: a path that begins with `/` is its own path without dot segments
+plain-path-is-without-dots : (t : Components) → IsPlainTarget t → IsAbsolute t.path
+    → Dots.remove_dot_segments t.path ≡ t.path
+plain-path-is-without-dots t w h =
+    guarded-path-without-dots-is-the-path t.authority (Dots.remove_dot_segments t.path) t.path
+    (removing-dots-keeps-absolute t.path h)
+    (sym (ap (guarded t.authority) (cond-true _ _ _ (eq_true_from_IsTrue _ h)))
+    ∙ ap (λ (c : Components). c.path) w.settled)
+    w.literal
+
+-- targets to relativize: a path that begins with `/` has no dot segment
+plain-path-is-final : (t : Components) → IsPlainTarget t → IsAbsolute t.path → IsFinalPath t.path
+plain-path-is-final t w h = record {
+  absolute = h;
+  dotless = subst (λ p. lacks_dot_segments p ≡ true) (plain-path-is-without-dots t w h)
+      (removing-dots-leaves-no-dot-segment t.path h);
+  lacks = w.split.path;
+}
+
+-- general fact on options, for targets: a path is not parsed as an authority, if it is not where
+-- there is none
+path-after-authority-is-not-ambiguous : (o : Option (List ℕ)) (test : Bool)
+    → IfNone o (test ≡ false) → (is_none o && test) ≡ false
+path-after-authority-is-not-ambiguous None test h = h
+path-after-authority-is-not-ambiguous (Some a) test h = refl
+
+-- relativized references: the text of one that has its components leads to the target, if they do
+text-of-leading-reference-leads : (base t r : Components) → IsPlainTarget t
+    → IsSplitOf (recompose r) r → target base r ≡ t
+    → basic_resolution base (components (recompose r)) ≡ Ok (recompose t)
+text-of-leading-reference-leads base t r w split leads =
+    ap (λ c. basic_resolution base c) (only-split-is-components (recompose r) r split)
+    ∙ cond-false _ _ _ (ap is_ambiguous leads
+    ∙ path-after-authority-is-not-ambiguous t.authority (has_authority t.path)
+    w.split.no_authority)
+    ∙ ap (λ c. Ok (recompose c)) leads
+
+-- relativized references: the target leads to itself
+whole-target-leads-to-itself : (base t : Components) → IsPlainTarget t → target base t ≡ t
+whole-target-leads-to-itself base t w =
+    cond-true _ _ _ w.scheme
+    ∙ ap (λ p. record t { path = p }) (removal-of-path-without-dots t.path w.literal)
+
+-- relativized references: a text that begins with `//` has no scheme
+authority-form-has-no-scheme : (o : Option (List ℕ)) (path : List ℕ) (q f : Option (List ℕ))
+    → is_some o ≡ true
+    → has_scheme (recompose (record {
+      scheme = None;
+      authority = o;
+      path = path;
+      query = q;
+      fragment = f;
+    })) ≡ false
+authority-form-has-no-scheme None path q f e = absurd (false≢true e)
+authority-form-has-no-scheme (Some a) path q f e = refl
+
+-- relativized references: one that begins with `//` is parsed as its components
+authority-form-is-split : (t : Components) → IsPlainTarget t → is_some t.authority ≡ true
+    → IsSplitOf (recompose (record t { scheme = None })) (record t { scheme = None })
+authority-form-is-split t w some = record {
+  whole = refl;
+  scheme = tt;
+  authority = w.split.authority;
+  path = w.split.path;
+  query = w.split.query;
+  no_scheme = authority-form-has-no-scheme t.authority t.path t.query t.fragment some;
+  no_authority = w.split.no_authority;
+}
+
+-- relativized references: one that begins with `//` leads to the target
+authority-form-leads-to-target : (base t : Components) → IsPlainTarget t
+    → is_some t.authority ≡ true → base.scheme ≡ t.scheme
+    → target base (record t { scheme = None }) ≡ t
+authority-form-leads-to-target base t w some s =
+    let r : Components = record t { scheme = base.scheme; path = remove_dot_segments t.path } in
+    let e : target base (record t { scheme = None }) ≡ r = cond-true _ _ _ some in
+    e ∙ ap (λ x. record t { scheme = x; path = remove_dot_segments t.path }) s
+    ∙ ap (λ p. record t { path = p }) (removal-of-path-without-dots t.path w.literal)
+
+-- relativized references: one of a path, a query and the target's fragment is parsed as these
+path-form-is-split : (t : Components) (path : List ℕ) (query : Option (List ℕ))
+    → Lacks (codes "?#") path → has_colon_in_first_segment path ≡ false
+    → has_authority path ≡ false → IfSome query (λ q. Lacks (codes "#") q)
+    → IsSplitOf
+    (recompose (record t { scheme = None; authority = None; path = path; query = query }))
+    (record t { scheme = None; authority = None; path = path; query = query })
+path-form-is-split t path query lacks colon slashes q = record {
+  whole = refl;
+  scheme = tt;
+  authority = tt;
+  path = lacks;
+  query = q;
+  no_scheme = no_scheme path (marked (codes "?") query [] ++ marked (codes "#") t.fragment []) colon
+      (IsEmptyOrMarked-query_text query t.fragment);
+  no_authority = slashes;
+}
+
+-- relativized references: one without a path is parsed as its query and fragment
+pathless-form-is-split : (t : Components) (query : Option (List ℕ))
+    → IfSome query (λ q. Lacks (codes "#") q)
+    → IsSplitOf (recompose (record t { scheme = None; authority = None; path = []; query = query }))
+    (record t { scheme = None; authority = None; path = []; query = query })
+pathless-form-is-split t query q =
+    path-form-is-split t [] query (test-of-delimiters-gives-lacks (codes "?#") [] refl) refl refl q
+
+-- relativized references: the target of one with a path, by the path that it begins with
+target-of-path-by-case : (base t : Components) (rooted : Bool) (one other : List ℕ)
+    → cond rooted
+    (let c : Components = record base {
+      path = one;
+      query = t.query;
+      fragment = t.fragment;
+    } in c)
+    (let c : Components = record base {
+      path = other;
+      query = t.query;
+      fragment = t.fragment;
+    } in c)
+    ≡ record base { path = cond rooted one other; query = t.query; fragment = t.fragment }
+target-of-path-by-case base t true one other = refl
+target-of-path-by-case base t false one other = refl
+
+-- relativized references: one with a path leads to the target
+path-form-leads-to-target : (base t : Components) (way : List ℕ) → base.scheme ≡ t.scheme
+    → base.authority ≡ t.authority → LeadsByPath base t.path way
+    → target base (record t { scheme = None; authority = None; path = way }) ≡ t
+path-form-leads-to-target base t way s a w =
+    let c : Components = record base {
+      path = cond (starts slash way) (remove_dot_segments way)
+          (remove_dot_segments (merge base way));
+      query = t.query;
+      fragment = t.fragment;
+    } in
+    let e : target base (record t { scheme = None; authority = None; path = way }) ≡ c =
+    cond-false _ _ _ w.some
+    ∙ target-of-path-by-case base t (starts slash way) (remove_dot_segments way)
+    (remove_dot_segments (merge base way)) in
+    e ∙ (λ i. record t { scheme = s i; authority = a i; path = w.leads i })
+
+-- relativized references: one of a fragment alone, or empty, leads to the target
+fragment-form-leads-to-target : (base t : Components) → base.scheme ≡ t.scheme
+    → base.authority ≡ t.authority → base.path ≡ t.path → base.query ≡ t.query
+    → target base (record t { scheme = None; authority = None; path = []; query = None }) ≡ t
+fragment-form-leads-to-target base t s a p q =
+    λ i. record t { scheme = s i; authority = a i; path = p i; query = q i }
+
+-- relativized references: one that begins with `?` leads to the target
+query-form-leads-to-target : (base t : Components) → base.scheme ≡ t.scheme
+    → base.authority ≡ t.authority → base.path ≡ t.path → is_some t.query ≡ true
+    → target base (record t { scheme = None; authority = None; path = [] }) ≡ t
+query-form-leads-to-target base t s a p some =
+    let q : cond (is_some t.query) t.query base.query ≡ t.query = cond-true _ _ _ some in
+    λ i. record t { scheme = s i; authority = a i; path = p i; query = q i }
+
+-- general fact on booleans, for relativized references: what is not false is true
+not-of-test-fails : (test : Bool) → not test ≡ false → test ≡ true
+not-of-test-fails true e = refl
+not-of-test-fails false e = absurd (true≢false e)
+
+module _ (prefers : Bool) (base : List ℕ) (t : Components) (w : IsPlainTarget t) where
+  -- the reference leads from the base to the target
+  abbrev Leads : Components → Type 0
+  Leads r = basic_resolution (components base) (components (recompose r)) ≡ Ok (recompose t)
+
+  target-leads : Leads t
+  target-leads = text-of-leading-reference-leads (components base) t t w w.split
+      (whole-target-leads-to-itself (components base) t w)
+
+  authority-leads : (components base).scheme ≡ t.scheme → Leads (from_authority t)
+  authority-leads s = cond_both (is_some t.authority) (record t { scheme = None }) t Leads
+      (λ some. text-of-leading-reference-leads (components base) t (record t { scheme = None }) w
+      (authority-form-is-split t w some)
+      (authority-form-leads-to-target (components base) t w some s))
+      (λ _. target-leads)
+
+  path-leads : (components base).scheme ≡ t.scheme → (components base).authority ≡ t.authority
+      → is_opaque (components base) ≡ false → IsAbsolute t.path
+      → Leads (record t {
+        scheme = None;
+        authority = None;
+        path = shortest_or_preferred_path prefers (components base).path
+            (Dots.remove_dot_segments t.path);
+      })
+  path-leads s a opaque h =
+      let path = shortest_or_preferred_path prefers (components base).path
+      (Dots.remove_dot_segments t.path) in
+      let by : LeadsByPath (components base) t.path path =
+      subst (λ p. LeadsByPath (components base) t.path
+      (shortest_or_preferred_path prefers (components base).path p))
+      (sym (plain-path-is-without-dots t w h))
+      (chosen-path-leads-to-path prefers (components base) t.path opaque
+      (base-that-is-not-opaque-is-rooted base opaque) (plain-path-is-final t w h)) in
+      text-of-leading-reference-leads (components base) t
+      (record t { scheme = None; authority = None; path = path }) w
+      (path-form-is-split t path t.query by.lacks by.no_scheme by.no_authority w.split.query)
+      (path-form-leads-to-target (components base) t path s a by)
+
+  made-reference-leads : Leads (reference_components prefers (components base) t)
+  unfolding reference_components
+  made-reference-leads =
+      let b = components base in
+      cond_both (not (has_same_scheme b t)) _ _ Leads (λ _. target-leads)
+      (λ same. let s = components-that-pass-test-are-equal b.scheme t.scheme
+      (not-of-test-fails _ same) in
+      cond_both (has_same_authority_and_path b t && has_same_query b t) _ _ Leads
+      (λ e. let both = and_parts (has_same_authority_and_path b t) _ e in
+      let place = and_parts (has_same_authority b t) _ both.0 in
+      text-of-leading-reference-leads b t
+      (record t { scheme = None; authority = None; path = []; query = None }) w
+      (pathless-form-is-split t None tt)
+      (fragment-form-leads-to-target b t s
+      (components-that-pass-test-are-equal b.authority t.authority place.0)
+      ((bytes_eq-Decides b.path t.path).0 place.1)
+      (components-that-pass-test-are-equal b.query t.query both.1)))
+      (λ _. cond_both (is_opaque b) _ _ Leads (λ _. target-leads)
+      (λ opaque. cond_both (has_same_authority_and_path b t && is_some t.query) _ _ Leads
+      (λ e. let both = and_parts (has_same_authority_and_path b t) _ e in
+      let place = and_parts (has_same_authority b t) _ both.0 in
+      text-of-leading-reference-leads b t
+      (record t { scheme = None; authority = None; path = [] }) w
+      (pathless-form-is-split t t.query w.split.query)
+      (query-form-leads-to-target b t s
+      (components-that-pass-test-are-equal b.authority t.authority place.0)
+      ((bytes_eq-Decides b.path t.path).0 place.1) both.1))
+      (λ _. cond_both (has_same_authority b t && starts slash t.path) _ _ Leads
+      (λ e. let both = and_parts (has_same_authority b t) _ e in
+      path-leads s (components-that-pass-test-are-equal b.authority t.authority both.0) opaque
+      (equal-to-true-is-IsTrue _ both.1))
+      (λ _. authority-leads s)))))
+
+-- targets to relativize: the settled target is plain, if it has no segment `.` or `..`
+settled-target-is-plain : (text : List ℕ) → is_some (components text).scheme ≡ true
+    → has_literal_dot_segment (settled text).path ≡ false → IsPlainTarget (settled text)
+settled-target-is-plain text some literal = record {
+  split = subst (IsSplitOf (recompose (settled text)))
+      (settled-text-has-settled-components text some)
+      (components-are-split-of-text (recompose (settled text)));
+  scheme = some;
+  settled = final-path-is-idempotent (components text);
+  literal = literal;
+}
+
+-- targets to relativize: a target without dot segments is settled
+target-without-dots-is-settled : (text : List ℕ)
+    → lacks_dot_segments (components text).path ≡ true → settled text ≡ components text
+target-without-dots-is-settled text dotless = ⊎_elim
+    (λ h. dotless-target-is-settled (components text)
+    (components-are-split-of-text text).no_authority (equal-to-true-is-IsTrue _ h) dotless)
+    (λ h. rootless-target-is-settled (components text) h)
+    (cases_Bool (starts slash (components text).path))
+
+-- relativized references: by the basic algorithm they lead to settled targets without a segment
+-- `.` or `..`
+pub reference-to-settled-target-leads : (prefers : Bool) (base target : List ℕ)
+    → is_some (components target).scheme ≡ true
+    → has_literal_dot_segment (settled target).path ≡ false
+    → basic_resolution_of_texts base (reference_to prefers base target)
+    ≡ Ok (recompose (settled target))
+unfolding reference_to
+reference-to-settled-target-leads prefers base target some literal =
+    made-reference-leads prefers base (settled target) (settled-target-is-plain target some literal)
+
+-- relativized references: by the basic algorithm they lead to targets without dot segments
+pub reference-to-target-without-dots-leads : (prefers : Bool) (base target : List ℕ)
+    → is_some (components target).scheme ≡ true
+    → lacks_dot_segments (components target).path ≡ true
+    → basic_resolution_of_texts base (reference_to prefers base target) ≡ Ok target
+reference-to-target-without-dots-leads prefers base target some dotless =
+    let same = target-without-dots-is-settled target dotless in
+    reference-to-settled-target-leads prefers base target some
+    (ap (λ (c : Components). has_literal_dot_segment c.path) same
+    ∙ dotless-path-has-no-literal-dot (components target).path dotless)
+    ∙ ap (λ c. Ok (recompose c)) same
+    ∙ ap (λ x. Ok x) (recompose-components target)
