@@ -13,7 +13,7 @@ typedef struct {
 /* By enum fluent_uri_kind: the words of SQL, and those of messages. */
 static const char *const uri_kinds[] = {"uri", "uri-ref", "iri", "iri-ref"};
 static const char *const uri_titles[] = {"a URI", "a URI reference", "an IRI", "an IRI reference"};
-enum { URI_KINDS = 4, URI_COMPONENTS = 9, URI_OPTIONS = 2 };
+enum { URI_KINDS = 4, URI_COMPONENTS = 9, URI_OPTIONS = 3 };
 
 /* By enum fluent_uri_component. */
 static const char *const uri_components[] = {
@@ -21,7 +21,7 @@ static const char *const uri_components[] = {
 };
 
 /* By bit, of enum fluent_uri_option. */
-static const char *const uri_options[] = {"prefer-relative-path", "scheme-rules"};
+static const char *const uri_options[] = {"prefer-relative-path", "scheme-rules", "basic"};
 
 /* Returns the number of a word among COUNT words, or -1. */
 static inline int uri_number(const char *const *words, int count, const char *at, size_t len) {
@@ -36,9 +36,10 @@ static inline const char *uri_message(uint32_t error) {
     case FLUENT_URI_UNEXPECTED_CHAR: return "unexpected character";
     case FLUENT_URI_INVALID_IPV6_ADDR: return "invalid IPv6 address";
     case FLUENT_URI_NOT_UTF8: return "not UTF-8";
-    case FLUENT_URI_BASE_WITH_FRAGMENT: return "the base has a fragment";
     case FLUENT_URI_INVALID_REFERENCE_AGAINST_OPAQUE_BASE:
         return "a relative reference against an opaque base";
+    case FLUENT_URI_PATH_STARTS_WITH_DOUBLE_SLASH:
+        return "the target has no authority, and its path would start with //";
     default: return "no such kind, component or option";
     }
 }
@@ -66,7 +67,8 @@ static inline uint32_t uri_write(uri_call call, uint32_t number, uint32_t option
     case URI_NORMALIZE:
         return fluent_uri_normalize(number, options, a.at, a.len, out, room, NULL, 0, outcome);
     case URI_RESOLVE:
-        return fluent_uri_resolve(number, a.at, a.len, b.at, b.len, out, room, NULL, 0, outcome);
+        return fluent_uri_resolve(number, options, a.at, a.len, b.at, b.len, out, room, NULL, 0,
+                                  outcome);
     case URI_RESOLVE_NORMALIZED:
         return fluent_uri_resolve_normalized(number, options, a.at, a.len, b.at, b.len, out, room,
                                              NULL, 0, outcome);

@@ -79,26 +79,6 @@ static text *written_of_values(uri_call call, uint32 kind, uint32 options, uri_b
     return made;
 }
 
-PG_FUNCTION_INFO_V1(uri_resolve);
-Datum uri_resolve(PG_FUNCTION_ARGS) {
-    uri_value base;
-    uri_bytes reference = uri_bytes_of(PG_GETARG_TEXT_PP(1));
-    fluent_uri_outcome outcome;
-    text *target;
-
-    uri_read(URI_VALUE(0), &base);
-    target = written(URI_RESOLVE, base.kind, 0, base.text, reference, &outcome);
-    if (target != NULL) PG_RETURN_POINTER(uri_value_or_error(base.kind, uri_bytes_of(target)));
-    if (outcome.error >= FLUENT_URI_BASE_WITH_FRAGMENT)
-        ereport(ERROR, (errcode(ERRCODE_INVALID_PARAMETER_VALUE),
-                        errmsg("the reference has no target: %s", uri_message(outcome.error))));
-    ereport(ERROR, (errcode(ERRCODE_INVALID_TEXT_REPRESENTATION),
-                    errmsg("invalid reference: \"%s\"", uri_shown(reference)),
-                    errdetail("Not %s: %s at character %d (index %zu).", uri_titles[base.kind | 1],
-                              uri_message(outcome.error),
-                              uri_character_at(reference, outcome.index), outcome.index)));
-}
-
 /* The bit of the option that an argument names, or 0 without that argument. */
 static uint32 option_of(FunctionCallInfo fcinfo, int number) {
     uri_bytes word;
@@ -109,9 +89,30 @@ static uint32 option_of(FunctionCallInfo fcinfo, int number) {
     bit = uri_number(uri_options, URI_OPTIONS, (const char *) word.at, word.len);
     if (bit < 0)
         ereport(ERROR, (errcode(ERRCODE_INVALID_PARAMETER_VALUE), errmsg("no such option"),
-                        errhint("uri_normalize has the option scheme-rules, and uri_relativize "
-                                "prefer-relative-path.")));
+                        errhint("uri_normalize has the option scheme-rules, uri_relativize "
+                                "prefer-relative-path, and uri_resolve basic.")));
     return UINT32_C(1) << bit;
+}
+
+PG_FUNCTION_INFO_V1(uri_resolve);
+Datum uri_resolve(PG_FUNCTION_ARGS) {
+    uri_value base;
+    uri_bytes reference = uri_bytes_of(PG_GETARG_TEXT_PP(1));
+    uint32 options = option_of(fcinfo, 2);
+    fluent_uri_outcome outcome;
+    text *target;
+
+    uri_read(URI_VALUE(0), &base);
+    target = written(URI_RESOLVE, base.kind, options, base.text, reference, &outcome);
+    if (target != NULL) PG_RETURN_POINTER(uri_value_or_error(base.kind, uri_bytes_of(target)));
+    if (outcome.error > FLUENT_URI_NOT_UTF8)
+        ereport(ERROR, (errcode(ERRCODE_INVALID_PARAMETER_VALUE),
+                        errmsg("the reference has no target: %s", uri_message(outcome.error))));
+    ereport(ERROR, (errcode(ERRCODE_INVALID_TEXT_REPRESENTATION),
+                    errmsg("invalid reference: \"%s\"", uri_shown(reference)),
+                    errdetail("Not %s: %s at character %d (index %zu).", uri_titles[base.kind | 1],
+                              uri_message(outcome.error),
+                              uri_character_at(reference, outcome.index), outcome.index)));
 }
 
 /* The normal form of a value under an option. An equivalent text gives the same one, so this takes

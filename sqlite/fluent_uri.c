@@ -150,7 +150,7 @@ static const function functions[] = {
     {"uri_error", 1, 2, write_error, NULL},
     {"uri_error_position", 1, 2, error_position, NULL},
     {"uri_normal", 1, 3, uri_write_text, &normalize},
-    {"uri_resolve", 2, 3, uri_write_text, &resolve},
+    {"uri_resolve", 2, 4, uri_write_text, &resolve},
     {"uri_resolve_normal", 2, 4, uri_write_text, &resolve_normal},
     {"uri_relativize", 2, 4, uri_write_text, &relativize},
     {"iri_to_uri", 1, 2, uri_write_text, &to_uri},

@@ -51,7 +51,7 @@ static void reject_call(sqlite3_context *context, uri_call call, uint32_t number
     const char *why = uri_message(outcome->error);
     sqlite3_int64 index = (sqlite3_int64)outcome->index;
     if (outcome->error == FLUENT_URI_OUT_OF_MEMORY) sqlite3_result_error_nomem(context);
-    else if (outcome->error >= FLUENT_URI_BASE_WITH_FRAGMENT)
+    else if (outcome->error > FLUENT_URI_NOT_UTF8)
         sqlite3_result_error(context, why, -1);
     else if (call == URI_DECODE)
         uri_reject(context, sqlite3_mprintf("cannot be decoded as %s: %s at index %lld",

@@ -65,7 +65,7 @@ enum fluent_uri_error {
     FLUENT_URI_UNEXPECTED_CHAR = 2,           /**< index: of the character, or the text's end */
     FLUENT_URI_INVALID_IPV6_ADDR = 3,         /**< index: of the byte after the `[` */
     FLUENT_URI_NOT_UTF8 = 4,                  /**< index: of the first byte that is not UTF-8 */
-    FLUENT_URI_BASE_WITH_FRAGMENT = 5,
+    FLUENT_URI_BASE_WITH_FRAGMENT = 5,        /**< reserved: no call returns it */
     FLUENT_URI_INVALID_REFERENCE_AGAINST_OPAQUE_BASE = 6,
     FLUENT_URI_PATH_UNDERFLOW = 7,            /**< reserved: no call returns it */
     FLUENT_URI_OUT_OF_MEMORY = 8,
@@ -73,7 +73,8 @@ enum fluent_uri_error {
                                                * a text longer than PTRDIFF_MAX */
     FLUENT_URI_FULL = 10,                     /**< a batch: an output is too small */
     FLUENT_URI_NONEMPTY_ROOTLESS_PATH = 11,   /**< to build: a host, and a path without a `/` */
-    FLUENT_URI_PATH_STARTS_WITH_DOUBLE_SLASH = 12, /**< to build: the same without a host */
+    FLUENT_URI_PATH_STARTS_WITH_DOUBLE_SLASH = 12, /**< to build: the same without a host; so of a
+                                               * target by FLUENT_URI_BASIC */
     FLUENT_URI_FIRST_PATH_SEGMENT_CONTAINS_COLON = 13, /**< to build: with no scheme nor host */
     FLUENT_URI_MISSING_COMPONENT = 14         /**< to build: no scheme, or no host, is given */
 };
@@ -94,9 +95,11 @@ enum fluent_uri_buffer {
 enum fluent_uri_option {
     FLUENT_URI_PREFER_RELATIVE_PATH = 1, /**< a relative path also where the path from the root is
                                           * shorter, as for pages that are read from a disk */
-    FLUENT_URI_SCHEME_RULES = 2          /**< normalising by the rules of schemes (RFC 3986, section
+    FLUENT_URI_SCHEME_RULES = 2,         /**< normalising by the rules of schemes (RFC 3986, section
                                           * 6.2.3): http://a is http://a/, and file://localhost/a is
                                           * file:///a */
+    FLUENT_URI_BASIC = 4                 /**< resolving by the basic algorithm as RFC 3986, section
+                                          * 5.2, prints it, and its strict form */
 };
 
 /** The components that a number names. */
@@ -229,13 +232,17 @@ uint32_t fluent_uri_normalize(uint32_t kind, uint32_t options, const uint8_t *te
                               size_t parts_len, fluent_uri_outcome *outcome);
 
 /** Writes the target of a reference against a base (RFC 3986, section 5.2). KIND is that of the
- * base, a URI or an IRI; the reference is one of URIs or of IRIs. */
-uint32_t fluent_uri_resolve(uint32_t kind, const uint8_t *base, size_t base_len,
+ * base, a URI or an IRI; the reference is one of URIs or of IRIs. The target is that of the base
+ * without its fragment (section 5.1). OPTIONS is 0 or FLUENT_URI_BASIC: with it a base may be
+ * opaque, and a target that has no authority and a path that begins with `//` is
+ * FLUENT_URI_PATH_STARTS_WITH_DOUBLE_SLASH. docs/C.md has all differences. */
+uint32_t fluent_uri_resolve(uint32_t kind, uint32_t options, const uint8_t *base, size_t base_len,
                             const uint8_t *reference, size_t reference_len, uint8_t *out,
                             size_t out_len, fluent_uri_parts *parts, size_t parts_len,
                             fluent_uri_outcome *outcome);
 
-/** Writes the normal form of that target, by the options of fluent_uri_normalize. */
+/** Writes the normal form of the target that fluent_uri_resolve writes without options, by the
+ * options of fluent_uri_normalize. */
 uint32_t fluent_uri_resolve_normalized(uint32_t kind, uint32_t options, const uint8_t *base,
                                        size_t base_len, const uint8_t *reference,
                                        size_t reference_len, uint8_t *out, size_t out_len,
@@ -364,18 +371,19 @@ uint32_t fluent_uri_to_uri_batch64(uint32_t kind, const uint8_t *texts, size_t t
                                    size_t out_len, uint64_t *out_offsets, size_t out_offsets_len,
                                    uint8_t *valid, size_t valid_len, fluent_uri_outcome *outcome);
 
-/** Resolves a column of references against one base, which is parsed once. */
-uint32_t fluent_uri_resolve_batch(uint32_t kind, const uint8_t *base, size_t base_len,
-                                  const uint8_t *texts, size_t texts_len, const uint32_t *offsets,
-                                  size_t offsets_len, uint8_t *out, size_t out_len,
-                                  uint32_t *out_offsets, size_t out_offsets_len, uint8_t *valid,
-                                  size_t valid_len, fluent_uri_outcome *outcome);
+/** Resolves a column of references against one base, which is parsed once, as fluent_uri_resolve
+ * does. */
+uint32_t fluent_uri_resolve_batch(uint32_t kind, uint32_t options, const uint8_t *base,
+                                  size_t base_len, const uint8_t *texts, size_t texts_len,
+                                  const uint32_t *offsets, size_t offsets_len, uint8_t *out,
+                                  size_t out_len, uint32_t *out_offsets, size_t out_offsets_len,
+                                  uint8_t *valid, size_t valid_len, fluent_uri_outcome *outcome);
 /** The same with offsets of 64 bits. */
-uint32_t fluent_uri_resolve_batch64(uint32_t kind, const uint8_t *base, size_t base_len,
-                                    const uint8_t *texts, size_t texts_len, const uint64_t *offsets,
-                                    size_t offsets_len, uint8_t *out, size_t out_len,
-                                    uint64_t *out_offsets, size_t out_offsets_len, uint8_t *valid,
-                                    size_t valid_len, fluent_uri_outcome *outcome);
+uint32_t fluent_uri_resolve_batch64(uint32_t kind, uint32_t options, const uint8_t *base,
+                                    size_t base_len, const uint8_t *texts, size_t texts_len,
+                                    const uint64_t *offsets, size_t offsets_len, uint8_t *out,
+                                    size_t out_len, uint64_t *out_offsets, size_t out_offsets_len,
+                                    uint8_t *valid, size_t valid_len, fluent_uri_outcome *outcome);
 
 /** Resolves a column of references against one base, and normalises the targets. */
 uint32_t fluent_uri_resolve_normalized_batch(uint32_t kind, uint32_t options, const uint8_t *base,

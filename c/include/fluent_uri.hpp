@@ -63,13 +63,14 @@ template <typename Call> result make_of_one(Call call, std::uint32_t kind, std::
     });
 }
 
-/** The same of a call on two texts. */
+/** The same of a call on two texts, by options. */
 template <typename Call>
-result make_of_two(Call call, std::uint32_t kind, std::string_view one, std::string_view other) {
-    auto most = one.size() + other.size() + 2;
+result make_of_two(Call call, std::uint32_t kind, std::uint32_t options, std::string_view one,
+                   std::string_view other) {
+    auto most = one.size() + other.size() + 3;
     return make(most, [&](std::uint8_t *out, std::size_t room, auto *outcome) {
-        return call(kind, bytes(one), one.size(), bytes(other), other.size(), out, room, nullptr, 0,
-                    outcome);
+        return call(kind, options, bytes(one), one.size(), bytes(other), other.size(), out, room,
+                    nullptr, 0, outcome);
     });
 }
 
@@ -211,32 +212,25 @@ inline result normalize(std::uint32_t kind, std::uint32_t options, std::string_v
     });
 }
 
-/** The target of a reference against a base of the kind (RFC 3986, section 5.2). */
-inline result resolve(std::uint32_t kind, std::string_view base, std::string_view reference) {
-    return detail::make_of_two(fluent_uri_resolve, kind, base, reference);
+/** The target of a reference against a base of the kind without its fragment (RFC 3986, sections
+ * 5.1 and 5.2); the options are 0 or FLUENT_URI_BASIC. */
+inline result resolve(std::uint32_t kind, std::uint32_t options, std::string_view base,
+                      std::string_view reference) {
+    return detail::make_of_two(fluent_uri_resolve, kind, options, base, reference);
 }
 
-/** The normal form of that target; the options are 0 or FLUENT_URI_SCHEME_RULES. */
+/** The normal form of the target that `resolve` returns without options; the options are 0 or
+ * FLUENT_URI_SCHEME_RULES. */
 inline result resolve_normalized(std::uint32_t kind, std::uint32_t options, std::string_view base,
                                  std::string_view reference) {
-    auto most = base.size() + reference.size() + 3;
-    return detail::make(most, [&](std::uint8_t *out, std::size_t room, auto *outcome) {
-        return fluent_uri_resolve_normalized(kind, options, detail::bytes(base), base.size(),
-                                             detail::bytes(reference), reference.size(), out, room,
-                                             nullptr, 0, outcome);
-    });
+    return detail::make_of_two(fluent_uri_resolve_normalized, kind, options, base, reference);
 }
 
 /** A reference that leads from a base to a target, both of the kind; the options are 0 or
  * FLUENT_URI_PREFER_RELATIVE_PATH. */
 inline result relativize(std::uint32_t kind, std::uint32_t options, std::string_view base,
                          std::string_view target) {
-    auto most = base.size() + target.size() + 2;
-    return detail::make(most, [&](std::uint8_t *out, std::size_t room, auto *outcome) {
-        return fluent_uri_relativize(kind, options, detail::bytes(base), base.size(),
-                                     detail::bytes(target), target.size(), out, room, nullptr, 0,
-                                     outcome);
-    });
+    return detail::make_of_two(fluent_uri_relativize, kind, options, base, target);
 }
 
 /** An IRI or an IRI reference as a URI or a URI reference (RFC 3987, section 3.1). A host past ASCII

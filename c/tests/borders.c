@@ -46,7 +46,8 @@ static const fluent_uri_components components = {
     IT(parse, fluent_uri_parse(1, TEXT("//h/p"), at(PARTS))) \
     IT(normalize, fluent_uri_normalize(1, 0, TEXT("//H/%7e/."), VALUE)) \
     IT(to_uri, fluent_uri_to_uri(3, TEXT("//\xc3\xa9/p?q"), VALUE)) \
-    IT(resolve, fluent_uri_resolve(0, BASE, TEXT("../d#f"), VALUE)) \
+    IT(resolve, fluent_uri_resolve(0, 0, BASE, TEXT("../d#f"), VALUE)) \
+    IT(resolve_basic, fluent_uri_resolve(0, FLUENT_URI_BASIC, BASE, TEXT("../d#f"), VALUE)) \
     IT(resolve_normalized, fluent_uri_resolve_normalized(0, 0, BASE, TEXT("//H:80"), VALUE)) \
     IT(mend, fluent_uri_mend(1, TEXT("//h/a b%"), VALUE)) \
     IT(mend_link, fluent_uri_mend_link(1, TEXT(" //h/a\n b\t#[ "), VALUE)) \
@@ -60,7 +61,7 @@ static const fluent_uri_components components = {
 #define COLUMNS(IT) \
     IT(normalize_batch, fluent_uri_normalize_batch(1, 0, COLUMN(offsets))) \
     IT(to_uri_batch, fluent_uri_to_uri_batch(3, COLUMN(offsets))) \
-    IT(resolve_batch, fluent_uri_resolve_batch(0, BASE, COLUMN(offsets))) \
+    IT(resolve_batch, fluent_uri_resolve_batch(0, 0, BASE, COLUMN(offsets))) \
     IT(resolve_normalized_batch, fluent_uri_resolve_normalized_batch(0, 0, BASE, COLUMN(offsets))) \
     IT(relativize_batch, fluent_uri_relativize_batch(0, 1, BASE, COLUMN(offsets))) \
     IT(mend_batch, fluent_uri_mend_batch(1, COLUMN(offsets))) \
@@ -71,7 +72,7 @@ static const fluent_uri_components components = {
 #define COLUMNS64(IT) \
     IT(normalize_batch64, fluent_uri_normalize_batch64(1, 0, COLUMN(offsets64))) \
     IT(to_uri_batch64, fluent_uri_to_uri_batch64(3, COLUMN(offsets64))) \
-    IT(resolve_batch64, fluent_uri_resolve_batch64(0, BASE, COLUMN(offsets64))) \
+    IT(resolve_batch64, fluent_uri_resolve_batch64(0, 0, BASE, COLUMN(offsets64))) \
     IT(resolve_normalized_batch64, \
        fluent_uri_resolve_normalized_batch64(0, 0, BASE, COLUMN(offsets64))) \
     IT(relativize_batch64, fluent_uri_relativize_batch64(0, 1, BASE, COLUMN(offsets64))) \

@@ -122,19 +122,68 @@ static void normalizes_by_rules(void) {
     }
 }
 
+/* What a base's fragment is plays no part in a target. */
+static void resolves_against_a_fragment(void) {
+    static const char *const references[] = {"", "#g", "?q", "c", "../c", "//c", "x:c"};
+    for (size_t i = 0; i < sizeof references / sizeof *references; i++) {
+        for (uint32_t options = 0; options <= FLUENT_URI_BASIC; options += FLUENT_URI_BASIC) {
+            char wanted[64];
+            CHECK(fluent_uri_resolve(0, options, TEXT("http://a/b?d"), TEXT(references[i]),
+                                     VALUE) == 0);
+            sprintf(wanted, "%.*s", (int)outcome.length, (const char *)out);
+            CHECK(gives(fluent_uri_resolve(0, options, TEXT("http://a/b?d#f"), TEXT(references[i]),
+                                           VALUE), wanted));
+        }
+    }
+    CHECK(gives(fluent_uri_resolve_normalized(0, 0, TEXT("http://A/b#f"), TEXT("%7e"), VALUE),
+                "http://a/~"));
+    /* It is a part of the text that is parsed. */
+    CHECK(rejects(fluent_uri_resolve(0, 0, TEXT("a:#f#"), TEXT("g"), VALUE), 2, 0, 4));
+    CHECK(rejects(fluent_uri_resolve(0, 0, TEXT("a:b#f"), TEXT("g"), VALUE),
+                  FLUENT_URI_INVALID_REFERENCE_AGAINST_OPAQUE_BASE, 0, 0));
+}
+
+/* The differences that docs/C.md lists: base, reference, target without options, and by the basic
+ * algorithm. */
+static void resolves_by_the_basic_algorithm(void) {
+    static const char *const rows[][4] = {
+        {"http://a/b", "%2E%2E/g", "http://a/g", "http://a/%2E%2E/g"},
+        {"http://a/b/..", "g", "http://a/g", "http://a/b/g"},
+        {"http://a/./b", "?q", "http://a/b?q", "http://a/./b?q"},
+        {"http://a/", "foo:a/../b", "foo:a/../b", "foo:/b"},
+        {"foo:b", "g", NULL, "foo:g"},
+        {"foo:/a", ".//b", "foo:/.//b", NULL},
+    };
+    for (size_t i = 0; i < sizeof rows / sizeof *rows; i++) {
+        const char *const *it = rows[i];
+        uint32_t error = fluent_uri_resolve(0, 0, TEXT(it[0]), TEXT(it[1]), VALUE);
+        if (it[2]) CHECK(gives(error, it[2]));
+        else CHECK(rejects(error, FLUENT_URI_INVALID_REFERENCE_AGAINST_OPAQUE_BASE, 0, 0));
+        error = fluent_uri_resolve(0, FLUENT_URI_BASIC, TEXT(it[0]), TEXT(it[1]), VALUE);
+        if (it[3]) CHECK(gives(error, it[3]));
+        else CHECK(rejects(error, FLUENT_URI_PATH_STARTS_WITH_DOUBLE_SLASH, 0, 0));
+    }
+    CHECK(gives(fluent_uri_resolve(2, FLUENT_URI_BASIC, TEXT("x:\xc3\xb6/"), TEXT("\xc3\xa9"),
+                                   VALUE), "x:\xc3\xb6/\xc3\xa9"));
+    CHECK(rejects(fluent_uri_resolve(0, FLUENT_URI_BASIC, TEXT("a:"), TEXT("a b"), VALUE),
+                  2, 1, 1));
+    for (uint32_t options = 1; options < 9; options++) {
+        if (options == FLUENT_URI_BASIC) continue;
+        CHECK(rejects(fluent_uri_resolve(0, options, TEXT("a:"), TEXT(""), VALUE), 9, 0, 0));
+    }
+}
+
 static void resolves(void) {
     const char *base = "http://a/b/c/d;p?q";
-    CHECK(gives(fluent_uri_resolve(0, TEXT(base), TEXT("../g"), VALUE), "http://a/b/g"));
-    CHECK(rejects(fluent_uri_resolve(0, TEXT(base), TEXT("a b"), SHORT(9)), 2, 1, 1));
-    CHECK(rejects(fluent_uri_resolve(0, TEXT("a b"), TEXT("a b"), SHORT(9)), 2, 0, 1));
-    CHECK(rejects(fluent_uri_resolve(0, TEXT("a:#f"), TEXT("g"), SHORT(9)),
-                  FLUENT_URI_BASE_WITH_FRAGMENT, 0, 0));
-    CHECK(rejects(fluent_uri_resolve(0, TEXT("a:b"), TEXT("g"), SHORT(9)),
+    CHECK(gives(fluent_uri_resolve(0, 0, TEXT(base), TEXT("../g"), VALUE), "http://a/b/g"));
+    CHECK(rejects(fluent_uri_resolve(0, 0, TEXT(base), TEXT("a b"), SHORT(9)), 2, 1, 1));
+    CHECK(rejects(fluent_uri_resolve(0, 0, TEXT("a b"), TEXT("a b"), SHORT(9)), 2, 0, 1));
+    CHECK(rejects(fluent_uri_resolve(0, 0, TEXT("a:b"), TEXT("g"), SHORT(9)),
                   FLUENT_URI_INVALID_REFERENCE_AGAINST_OPAQUE_BASE, 0, 0));
-    CHECK(rejects(fluent_uri_resolve(1, TEXT(base), TEXT("g"), SHORT(9)), 9, 0, 0));
+    CHECK(rejects(fluent_uri_resolve(1, 0, TEXT(base), TEXT("g"), SHORT(9)), 9, 0, 0));
     CHECK(gives(fluent_uri_resolve_normalized(0, 0, TEXT(base), TEXT("//A:80"), VALUE),
                 "http://a"));
-    CHECK(gives(fluent_uri_resolve(2, TEXT("http://a/"), TEXT("\xc3\xa9"), VALUE),
+    CHECK(gives(fluent_uri_resolve(2, 0, TEXT("http://a/"), TEXT("\xc3\xa9"), VALUE),
                 "http://a/\xc3\xa9"));
 }
 
@@ -403,8 +452,8 @@ static void rejects_lengths(void) {
         CHECK(made.error == FLUENT_URI_INVALID_ARGUMENT && made.index == 0);
         CHECK(rejects(fluent_uri_normalize(0, 0, text, length, VALUE), 9, 0, 0));
         CHECK(rejects(fluent_uri_to_uri(2, text, length, VALUE), 9, 0, 0));
-        CHECK(rejects(fluent_uri_resolve(0, text, length, text, 2, VALUE), 9, 0, 0));
-        CHECK(rejects(fluent_uri_resolve(0, text, 2, text, length, VALUE), 9, 1, 0));
+        CHECK(rejects(fluent_uri_resolve(0, 0, text, length, text, 2, VALUE), 9, 0, 0));
+        CHECK(rejects(fluent_uri_resolve(0, 0, text, 2, text, length, VALUE), 9, 1, 0));
         CHECK(rejects(fluent_uri_resolve_normalized(0, 0, text, length, text, 2, VALUE), 9, 0, 0));
         CHECK(rejects(fluent_uri_relativize(0, 0, text, 2, text, length, VALUE), 9, 1, 0));
         CHECK(rejects(fluent_uri_mend(0, text, length, VALUE), 9, 0, 0));
@@ -421,8 +470,8 @@ static void takes_null(void) {
     CHECK(gives(fluent_uri_normalize(1, 0, NULL, 0, VALUE), ""));
     CHECK(rejects(fluent_uri_normalize(0, 0, NULL, 0, VALUE), 2, 0, 0));
     CHECK(gives(fluent_uri_to_uri(3, NULL, 0, VALUE), ""));
-    CHECK(gives(fluent_uri_resolve(0, TEXT("a://b/c?d"), NULL, 0, VALUE), "a://b/c?d"));
-    CHECK(rejects(fluent_uri_resolve(0, NULL, 0, NULL, 0, VALUE), 2, 0, 0));
+    CHECK(gives(fluent_uri_resolve(0, 0, TEXT("a://b/c?d"), NULL, 0, VALUE), "a://b/c?d"));
+    CHECK(rejects(fluent_uri_resolve(0, 0, NULL, 0, NULL, 0, VALUE), 2, 0, 0));
     CHECK(gives(fluent_uri_resolve_normalized(0, 0, TEXT("A://B/c"), NULL, 0, VALUE), "a://b/c"));
     CHECK(rejects(fluent_uri_relativize(0, 0, TEXT("a://b"), NULL, 0, VALUE), 2, 1, 0));
     CHECK(gives(fluent_uri_mend(1, NULL, 0, VALUE), ""));
@@ -454,6 +503,8 @@ int main(void) {
     normalizes();
     normalizes_by_rules();
     resolves();
+    resolves_against_a_fragment();
+    resolves_by_the_basic_algorithm();
     relativizes();
     mends();
     builds();

@@ -68,10 +68,18 @@ static void others(void) {
                                        &valid, 1, &outcome) == 0);
     CHECK(wide_ends[1] == 9 && wide_ends[2] == 9 && wide_ends[3] == 14 && valid == 5);
     const uint32_t links[] = {0, 4, 5, 7}, targets[] = {0, 12, 15}, octets[] = {0, 5, 8};
-    CHECK(fluent_uri_resolve_batch(0, TEXT(base), TEXT("../g /x"), links, 4, out, sizeof out, ends, 4,
-                                   &valid, 1, &outcome) == 0);
+    CHECK(fluent_uri_resolve_batch(0, 0, TEXT(base), TEXT("../g /x"), links, 4, out, sizeof out,
+                                   ends, 4, &valid, 1, &outcome) == 0);
     CHECK(ends[1] == 12 && ends[2] == 12 && ends[3] == 22);
     CHECK(!memcmp(out, "http://a/b/ghttp://a/x", 22) && valid == 5);
+    const uint32_t paths[] = {0, 4, 5};
+    for (uint32_t option = 0; option <= FLUENT_URI_BASIC; option += FLUENT_URI_BASIC) {
+        CHECK(fluent_uri_resolve_batch(0, option, TEXT("foo:/a#f"), TEXT(".//bg"), paths, 3, out,
+                                       sizeof out, ends, 3, &valid, 1, &outcome) == 0);
+        CHECK(ends[1] == (option ? 0 : 9) && ends[2] == ends[1] + 6);
+        CHECK(!memcmp(out, option ? "foo:/g" : "foo:/.//bfoo:/g", ends[2]));
+        CHECK((valid & 3) == (option ? 2 : 3));
+    }
     CHECK(fluent_uri_resolve_normalized_batch(0, 0, TEXT(base), TEXT("../g /x"), links, 4, out,
                                               sizeof out, ends, 4, &valid, 1, &outcome) == 0);
     CHECK(ends[3] == 22);
@@ -166,8 +174,15 @@ static void invalid(void) {
                                          &valid, 1, &outcome) == FLUENT_URI_INVALID_ARGUMENT);
         CHECK(fluent_uri_to_uri_batch(1, TEXT(data), offsets, 4, out, sizeof out, ends, length,
                                       &valid, 1, &outcome) == FLUENT_URI_INVALID_ARGUMENT);
-        CHECK(fluent_uri_resolve_batch(1, TEXT("a:"), TEXT(data), offsets, 4, out, sizeof out, ends,
-                                       length, &valid, 1, &outcome) == FLUENT_URI_INVALID_ARGUMENT);
+        CHECK(fluent_uri_resolve_batch(1, 0, TEXT("a:"), TEXT(data), offsets, 4, out, sizeof out,
+                                       ends, length, &valid, 1, &outcome) ==
+              FLUENT_URI_INVALID_ARGUMENT);
+        CHECK(fluent_uri_resolve_batch(0, 2, TEXT("a:"), TEXT(data), offsets, 4, out, sizeof out,
+                                       ends, length, &valid, 1, &outcome) ==
+              FLUENT_URI_INVALID_ARGUMENT);
+        CHECK(fluent_uri_resolve_normalized_batch(0, FLUENT_URI_BASIC, TEXT("a:"), TEXT(data),
+                                                  offsets, 4, out, sizeof out, ends, length, &valid,
+                                                  1, &outcome) == FLUENT_URI_INVALID_ARGUMENT);
         CHECK(fluent_uri_relativize_batch(1, 0, TEXT("a:"), TEXT(data), offsets, 4, out, sizeof out,
                                           ends, length, &valid, 1, &outcome) ==
               FLUENT_URI_INVALID_ARGUMENT);
@@ -191,7 +206,7 @@ static void invalid(void) {
         const uint8_t *text = (const uint8_t *)data;
         CHECK(fluent_uri_normalize_batch(0, 0, text, length, offsets, 4, out, sizeof out, ends, 4,
                                          &valid, 1, &outcome) == FLUENT_URI_INVALID_ARGUMENT);
-        CHECK(fluent_uri_resolve_batch(0, text, length, TEXT(data), offsets, 4, out, sizeof out,
+        CHECK(fluent_uri_resolve_batch(0, 0, text, length, TEXT(data), offsets, 4, out, sizeof out,
                                        ends, 4, &valid, 1, &outcome) ==
               FLUENT_URI_INVALID_ARGUMENT);
         CHECK(fluent_uri_parse_batch(0, text, length, offsets, 4, &parts, 1, &outcome) ==

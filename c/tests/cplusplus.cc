@@ -43,7 +43,7 @@ static bool by_strings() {
     using namespace fluent_uri;
     auto p = parse(FLUENT_URI_URI, "http://u@h:80/p?q#f");
     auto no = parse(FLUENT_URI_URI, "a b");
-    auto rejected = resolve(FLUENT_URI_URI, "http://a/", "a b");
+    auto rejected = resolve(FLUENT_URI_URI, 0, "http://a/", "a b");
     // Longer than the first buffer: a zone's worth of octets.
     auto longer = to_uri(FLUENT_URI_IRI_REF, "\u00e9\u00e9\u00e9\u00e9");
     components of(p), none;
@@ -62,7 +62,8 @@ static bool by_strings() {
            *normalize(FLUENT_URI_URI, FLUENT_URI_SCHEME_RULES, "http://a") == "http://a/" &&
            *resolve_normalized(FLUENT_URI_URI, FLUENT_URI_SCHEME_RULES, "a:", "http://b") ==
                "http://b/" &&
-           *resolve(FLUENT_URI_URI, "http://a/b/c", "../d") == "http://a/d" &&
+           *resolve(FLUENT_URI_URI, 0, "http://a/b/c", "../d") == "http://a/d" &&
+           *resolve(FLUENT_URI_URI, FLUENT_URI_BASIC, "foo:b#f", "g") == "foo:g" &&
            *resolve_normalized(FLUENT_URI_URI, 0, "http://a/", "//B:80") == "http://b" &&
            *relativize(FLUENT_URI_URI, 0, "http://a/b/c", "http://a/d") == "/d" &&
            *relativize(FLUENT_URI_URI, FLUENT_URI_PREFER_RELATIVE_PATH, "http://a/b/c",

@@ -50,7 +50,7 @@ static const build second = {
 #endif
 
 typedef struct {
-    uint32_t kind, component, options, rules;
+    uint32_t kind, component, options, rules, basic;
     /* Of the outputs: bytes, offsets, and parts of a result. */
     size_t room, places, parts;
     /* The text, and the same as two. */
@@ -98,9 +98,10 @@ static uint32_t made(const build *by, int call, const input *in, written *to) {
     case call_##NAME##_batch64: return by->NAME##_batch64(in->component, ONE, COLUMN64);
 #define RULED in->kind, in->rules
 #define RELATIVE in->kind, in->options
+#define RESOLVING in->kind, in->basic
     switch (call) {
         OF_KIND(normalize, RULED) OF_KIND(to_uri, in->kind) OF_KIND(mend, in->kind)
-        OF_KIND(mend_link, in->kind) WITH_BASE(resolve, in->kind)
+        OF_KIND(mend_link, in->kind) WITH_BASE(resolve, RESOLVING)
         WITH_BASE(resolve_normalized, RULED) WITH_BASE(relativize, RELATIVE)
         OF_COMPONENT(decode) OF_COMPONENT(encode)
     case call_parse: return by->parse(in->kind, ONE, to->parts);
@@ -233,17 +234,22 @@ static void single_calls_agree(const input *in) {
         HOLDS(outcome.length == in->size && !memcmp(again, in->text, in->size));
     }
     call = call_resolve_normalized, it = &results[call];
-    HOLDS(it->error == results[call_resolve].error);
-    if (is_there(call, in) && is_there(call_resolve, in))
+    HOLDS(in->basic || it->error == results[call_resolve].error);
+    if (!in->basic && is_there(call, in) && is_there(call_resolve, in))
         is_same(call, fluent_uri_normalize(in->kind, in->rules, results[call_resolve].out,
                                            results[call_resolve].outcome.length, again,
                                            sizeof again, NO_PARTS, &outcome));
-    /* A reference that leads to a target: resolved, it is that target as it is resolved. */
+    /* A reference that leads to a target: resolved, it is that target as it is resolved. Each has a
+     * target, whatever the base's fragment is. */
     call = call_resolve, it = &results[call_relativize];
-    if (is_there(call_relativize, in) && is_there(call, in))
-        is_same(call, fluent_uri_resolve(in->kind, in->one, in->one_size, it->out,
-                                         it->outcome.length, again, sizeof again, NO_PARTS,
-                                         &outcome));
+    if (is_there(call_relativize, in)) {
+        HOLDS(!fluent_uri_resolve(in->kind, 0, in->one, in->one_size, it->out, it->outcome.length,
+                                  again, sizeof again, NO_PARTS, &outcome));
+        if (!in->basic && is_there(call, in))
+            is_same(call, fluent_uri_resolve(in->kind, 0, in->one, in->one_size, it->out,
+                                             it->outcome.length, again, sizeof again, NO_PARTS,
+                                             &outcome));
+    }
 }
 
 /* A text that is mended stays as it is when it is mended again, and a text of the kind at once. */
@@ -318,7 +324,8 @@ static uint32_t one_of(int call, const input *in, const uint8_t *text, size_t si
     case call_normalize_batch:
         return fluent_uri_normalize(in->kind, in->rules, text, size, AGAIN);
     case call_to_uri_batch: return fluent_uri_to_uri(in->kind, text, size, AGAIN);
-    case call_resolve_batch: return fluent_uri_resolve(in->kind, BASE, text, size, AGAIN);
+    case call_resolve_batch:
+        return fluent_uri_resolve(in->kind, in->basic, BASE, text, size, AGAIN);
     case call_resolve_normalized_batch:
         return fluent_uri_resolve_normalized(in->kind, in->rules, BASE, text, size, AGAIN);
     case call_relativize_batch:
@@ -412,7 +419,8 @@ int LLVMFuzzerTestOneInput(const uint8_t *data, size_t size) {
     int at_end = data[0] >> 7, is_wild = data[0] >> 6 & 1, lacks_a_place = data[0] >> 5 & 1;
     size_t half = (size_t)data[1] % (size - 2);
     input in = {.kind = data[0] % 5, .component = data[1] % 10, .options = data[2] / 3 % 3,
-                .rules = data[2] / 9 % 2 * FLUENT_URI_SCHEME_RULES};
+                .rules = data[2] / 9 % 2 * FLUENT_URI_SCHEME_RULES,
+                .basic = data[2] / 18 % 2 * FLUENT_URI_BASIC};
     in.room = (size_t)data[2] * 16, in.places = (size_t)TEXTS + 1 - (size_t)lacks_a_place;
     in.parts = data[2] % 3;
     data += 3, size -= 3;

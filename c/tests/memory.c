@@ -40,7 +40,7 @@ static int is_kept(size_t length) {
     return is_clear(0, CANARY) && is_clear(CANARY + length, sizeof whole);
 }
 
-enum { WORKS = 14 };
+enum { WORKS = 15 };
 static uint32_t ends[3];
 static uint8_t valid;
 
@@ -49,8 +49,8 @@ static uint32_t work(int which, size_t room) {
     static const uint32_t offsets[] = {0, 20};
     switch (which) {
     case 0: return fluent_uri_normalize(2, 0, TEXT(text), out, room, NO_PARTS, &outcome);
-    case 1: return fluent_uri_resolve(2, TEXT(base), TEXT("../../\xc3\xa9/%7e"), out, room, NO_PARTS,
-                                      &outcome);
+    case 1: return fluent_uri_resolve(2, 0, TEXT(base), TEXT("../../\xc3\xa9/%7e"), out, room,
+                                      NO_PARTS, &outcome);
     case 2: return fluent_uri_resolve_normalized(2, 0, TEXT(base), TEXT("../%7e"), out, room,
                                                  NO_PARTS, &outcome);
     case 3: return fluent_uri_to_uri(2, TEXT(text), out, room, NO_PARTS, &outcome);
@@ -65,6 +65,8 @@ static uint32_t work(int which, size_t room) {
                                               &outcome);
     case 10: return fluent_uri_mend_link(1, TEXT(" /b\n c\t[ "), out, room, NO_PARTS, &outcome);
     case 13: return fluent_uri_origin(0, TEXT("HTTP://A:81/b"), out, room, &outcome);
+    case 14: return fluent_uri_resolve(0, FLUENT_URI_BASIC, TEXT(base), TEXT("../../c/%7e"), out,
+                                       room, NO_PARTS, &outcome);
     case 12: {
         const fluent_uri_span none = {SIZE_MAX, SIZE_MAX};
         const fluent_uri_components it = {{0, 4}, none, {7, 8}, none, {8, 12}, none, {1, 4}};

@@ -69,8 +69,6 @@ static const uint8_t *bytes(int i) { return (const uint8_t *)words[i]; }
 
 /* What a call wrote, or the message of its error. */
 static long written(uint32_t error) {
-    if (error == FLUENT_URI_BASE_WITH_FRAGMENT)
-        return sprintf(made, "error BaseWithFragment");
     if (error == FLUENT_URI_INVALID_REFERENCE_AGAINST_OPAQUE_BASE)
         return sprintf(made, "error InvalidReferenceAgainstOpaqueBase");
     if (error) return sprintf(made, "error %u", error);
@@ -136,9 +134,11 @@ static long run(const char *op, int count) {
     if (!strcmp(op, "default-port")) return default_port();
     if (!strcmp(op, "normalize"))
         return written(fluent_uri_normalize((uint32_t)kind, 0, bytes(1), lengths[1], VALUE));
+    /* Here the fragment of a base plays no part. */
+    if (!strncmp(op, "resolve", 7) && p.fragment.start != SIZE_MAX) return -1;
     if (!strcmp(op, "resolve"))
-        return written(fluent_uri_resolve((uint32_t)kind, bytes(1), lengths[1], bytes(2), lengths[2],
-                                          VALUE));
+        return written(fluent_uri_resolve((uint32_t)kind, 0, bytes(1), lengths[1], bytes(2),
+                                          lengths[2], VALUE));
     if (!strcmp(op, "resolve-normalized"))
         return written(fluent_uri_resolve_normalized((uint32_t)kind, 0, bytes(1), lengths[1],
                                                      bytes(2), lengths[2], VALUE));
@@ -199,6 +199,36 @@ static int mends(char *row) {
     return has_mended(fluent_uri_mend_link(kind, bytes(1), size, VALUE), fields[2], fields[3]);
 }
 
+/* Whether a row OPERATION KIND BASE REFERENCE TARGET of basic_rows holds: with its option where it is
+ * `basic`, without where it is `resolver`, and either way where it is `both`. */
+static int resolves(char *row) {
+    char *fields[5];
+    for (int i = 0; i < 5; i++) {
+        if (!row) return 0;
+        fields[i] = row;
+        row = strchr(row, ' ');
+        if (row) *row++ = 0;
+    }
+    uint32_t kind = (uint32_t)kind_of(fields[1], strlen(fields[1]));
+    const char *wanted = fields[4];
+    for (uint32_t options = 0; options <= FLUENT_URI_BASIC; options += FLUENT_URI_BASIC) {
+        if (!strcmp(fields[0], options ? "resolver" : "basic")) continue;
+        uint32_t error = fluent_uri_resolve(kind, options, TEXT(fields[2]), TEXT(fields[3]), VALUE);
+        const char *got =
+            error == FLUENT_URI_PATH_STARTS_WITH_DOUBLE_SLASH ? "PathStartsWithDoubleSlash"
+            : error ? "InvalidReferenceAgainstOpaqueBase"
+                    : (const char *)out;
+        size_t length = error ? strlen(got) : outcome.length;
+        if (length != strlen(wanted) || memcmp(got, wanted, length)) return 0;
+    }
+    return 1;
+}
+
+static int is_resolved(const char *row) {
+    return !strncmp(row, "basic ", 6) || !strncmp(row, "both ", 5) ||
+           (!strncmp(row, "resolver ", 9) && !strstr(row, " BaseWithFragment"));
+}
+
 int main(int argc, char **argv) {
     for (int i = 1; i < argc; i++) {
         FILE *file = fopen(argv[i], "r");
@@ -210,6 +240,10 @@ int main(int argc, char **argv) {
             if (!arrow && kind_of(line, strcspn(line, " ")) >= 0) {
                 tried++;
                 if (!mends(line)) failed++, printf("fail %s:%d\n", argv[i], number);
+            }
+            if (!arrow && is_resolved(line)) {
+                tried++;
+                if (!resolves(line)) failed++, printf("fail %s:%d\n", argv[i], number);
             }
             if (!arrow) continue;
             static char op[64], wanted[MOST];

@@ -20,14 +20,12 @@ _PAST_ASCII = re.compile("[^\x00-\x7f]")
 
 
 def resolve(base, reference):
-    """Returns the target of an IRI reference against a base, whose fragment plays no part. Raises
-    `ValueError`."""
-    return str(_base(base).resolve(reference))
+    """Returns the target of an IRI reference against a base, whose fragment plays no part, by the
+    basic algorithm, as RDF asks for it (RFC 3986, section 5.2). Raises `ValueError`."""
+    return str(_base(base).resolve(reference, basic=True))
 
 
-@lru_cache(16)
-def _base(base):
-    return Iri.parse(base).with_fragment(None)
+_base = lru_cache(16)(Iri.parse)
 
 
 def iri(text):

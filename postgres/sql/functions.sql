@@ -29,6 +29,9 @@ SELECT uri_resolve('http://a/'::uri, 'ü');
 SELECT uri_resolve('http://a/'::uri, 'a b');
 SELECT uri_resolve('http://a/#f'::uri, 'b');
 SELECT uri_resolve('mailto:a@b'::uri, 'b');
+SELECT uri_resolve('mailto:a@b'::uri, 'b', 'basic'),
+       uri_resolve('x:/a'::iri, '%2e%2e/b', 'basic');
+SELECT uri_resolve('x:/a'::uri, './/b', 'basic');
 SELECT uri_relativize('http://a/b/c/d'::uri, 'http://a/b/e'::uri),
        uri_relativize('http://a/b/c/d'::uri, 'x:y'::uri),
        uri_relativize('http://a/é/c'::iri, 'http://a/é/ü'::iri);

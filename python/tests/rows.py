@@ -34,7 +34,6 @@ ERRORS = {
     "INVALID_PCT_ENCODED_OCTET": "InvalidPctEncodedOctet",
     "UNEXPECTED_CHAR": "UnexpectedChar",
     "INVALID_IPV6_ADDR": "InvalidIpv6Addr",
-    "BASE_WITH_FRAGMENT": "BaseWithFragment",
     "INVALID_REFERENCE_AGAINST_OPAQUE_BASE": "InvalidReferenceAgainstOpaqueBase",
     "PATH_UNDERFLOW": "PathUnderflow",
 }
@@ -169,6 +168,9 @@ def strip_fragment(kind, text):
 
 
 def target(base, reference, normalize):
+    # Here the fragment of a base plays no part.
+    if base.fragment is not None:
+        raise Skipped
     try:
         return [str(base.resolve(reference, normalize=normalize))]
     except ResolveError as error:

@@ -157,7 +157,8 @@ CALLS = {
     "_to_uri": (lambda p, value, kind: value._to_uri(kind), plain(Dice.value, Dice.kind)),
     "resolve": (
         lambda p, value, *words, **more: value.resolve(*words, **more),
-        plain(Dice.base, Dice.any, normalize=Dice.flag, scheme_rules=Dice.flag, mend=Dice.flag),
+        plain(Dice.base, Dice.any, basic=Dice.flag, normalize=Dice.flag,
+              scheme_rules=Dice.flag, mend=Dice.flag),
     ),
     "relativize": (
         lambda p, value, *words, **more: value.relativize(*words, **more),
@@ -211,7 +212,8 @@ CALLS = {
     ),
     "batch.resolve": (
         lambda p, *words, **more: p.batch.resolve(*words, **more),
-        plain(Dice.base, Dice.texts, normalize=Dice.flag, scheme_rules=Dice.flag),
+        plain(Dice.base, Dice.texts, basic=Dice.flag, normalize=Dice.flag,
+              scheme_rules=Dice.flag),
     ),
     "batch.component": (
         lambda p, *words: p.batch.component(*words),

@@ -77,8 +77,9 @@ def errors():
             for call in [value.mend, value.mend_link, value.join_link]:
                 yield f"mend {text[:9]!r}", lambda call=call, text=text: call(f" //{text}\n")
         yield f"decode {text[:9]!r}", lambda text=text: decode(text)
-    yield "a base with a fragment", lambda: Uri("x:#a").resolve("b")
     yield "an opaque base", lambda: Uri("x:a").resolve("b")
+    yield "a path from `//`", lambda: Uri("x:/a").resolve(".//b", basic=True)
+    yield "basic and normalize", lambda: Uri("x:/a").resolve("b", basic=True, normalize=True)
     yield "a text that is none", lambda: batch.parse(["a:b"] * 5 + [5])
     yield "a normal form of none", lambda: batch.normalize(["A:b"] * 5 + [5])
     yield "words that are not there", lambda: Uri()

@@ -278,7 +278,7 @@ class Errors(unittest.TestCase):
 
     def test_references_without_a_target(self):
         for base, reference, kind in [
-            ("http://a/#x", "g", ResolveErrorKind.BASE_WITH_FRAGMENT),
+            ("foo:bar#x", "g", ResolveErrorKind.INVALID_REFERENCE_AGAINST_OPAQUE_BASE),
             ("foo:bar", "g", ResolveErrorKind.INVALID_REFERENCE_AGAINST_OPAQUE_BASE),
         ]:
             for normalize in [False, True]:

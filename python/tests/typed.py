@@ -48,6 +48,8 @@ iri: Iri = Iri.parse(uri)
 of_values: List[Optional[Iri]] = batch.parse([uri, "a:b"], Iri)
 bits: memoryview = batch.is_valid_column(b"a:b", array("I", [0, 3]), Uri)
 each: List[bool] = batch.is_valid(["a:b"])
+by_the_letter: Uri = uri.resolve("c", basic=True)
+all_by_the_letter: List[Optional[str]] = batch.resolve(uri, ["c"], basic=True)
 ruled: Uri = uri.normalize(scheme_rules=True).resolve("a", normalize=True, scheme_rules=True)
 all_ruled: List[Optional[str]] = batch.normalize(["a:b"], Uri, scheme_rules=True)
 segments: Tuple[str, ...] = uri.segments + uri.encoded_segments

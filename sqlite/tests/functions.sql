@@ -36,6 +36,9 @@ SELECT uri_resolve('http://a/b/c/d;p?q', '../g'), uri_resolve_normal('HTTP://a/b
        uri_resolve('http://a/é/', 'ü', 'iri'), uri_relativize('http://a/b/c', 'http://a/b/d?e');
 SELECT uri_resolve('http://a#f', 'b');
 SELECT uri_resolve('mailto:a', 'b');
+SELECT uri_resolve('mailto:a', 'b', 'uri', 'basic'), uri_resolve('x:/a', '%2e%2e/b', 'iri', 'basic');
+SELECT uri_resolve('x:/a', './/b', 'uri', 'basic');
+SELECT uri_resolve_normal('x:/a', 'b', 'uri', 'basic');
 SELECT uri_resolve('http://a', 'b c');
 SELECT uri_resolve('a', 'b');
 SELECT uri_relativize('http://a', 'b');

@@ -24,7 +24,7 @@ uint64_t bench(uint32_t work, const uint8_t *text, size_t text_length, const uin
                                          NULL, 0, &outcome);
             break;
         case RESOLVE_URI:
-            error = fluent_uri_resolve(FLUENT_URI_URI, base, base_length, text, text_length, out,
+            error = fluent_uri_resolve(FLUENT_URI_URI, 0, base, base_length, text, text_length, out,
                                        sizeof out, NULL, 0, &outcome);
             break;
         case TO_URI:

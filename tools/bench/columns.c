@@ -23,7 +23,7 @@ int main(int argc, char **argv) {
     &outcome
     for (long round = atol(argv[2]); round > 0; round--) {
         switch (argv[1][0]) {
-        case 'r': error = fluent_uri_resolve_batch(0, base, size, COLUMN); break;
+        case 'r': error = fluent_uri_resolve_batch(0, 0, base, size, COLUMN); break;
         case 'n': error = fluent_uri_resolve_normalized_batch(0, 0, base, size, COLUMN); break;
         default: error = fluent_uri_relativize_batch(0, 0, base, size, COLUMN);
         }

@@ -11,11 +11,14 @@ use Rattle.uri_parts.specs.declared.error.ParseErrorKind.{ParseErrorKind}
 use Rattle.uri_parts.specs.declared.error.ParseErrorKind.TheVariants.{InvalidPctEncodedOctet}
 use Rattle.uri_parts.specs.declared.error.ParseErrorKind.TheVariants.{UnexpectedChar}
 use Rattle.uri_parts.specs.declared.error.ParseErrorKind.TheVariants.{InvalidIpv6Addr}
+use Rattle.uri_parts.specs.Components.{components}
 use Rattle.uri_parts.specs.Grammar.{Kind}
 use Rattle.uri_parts.specs.Refusals.{refusal}
 use Rattle.uri_ops.specs.NormalTargets.{reference_kind}
 use Rattle.uri_ops.specs.Target as Target
+use Rattle.uri_relative.specs.Leading.{without_fragment}
 use Rattle.uri_relative.specs.Rule.{reference_to}
+use Rattle.uri_basic.specs.Target as Basic
 use Rattle.uri_mend.specs.Mending.{can_be_mended, mended_text}
 use Rattle.uri_mend.specs.Trimming.{trimmed_link}
 use Rattle.fluent_uri_c.specs.declared.errors.Error.TheVariants.{OutOfMemory, InvalidArgument}
@@ -25,12 +28,12 @@ use Rattle.fluent_uri_c.specs.Errors.{error_of_kind, in_reference, number_of, pa
 use Rattle.fluent_uri_c.specs.Errors.{rejected, rejected_at}
 use Rattle.fluent_uri_c.specs.Kinds.{base_numbered, iri_numbered, kind_numbered}
 use Rattle.fluent_uri_c.specs.Mends.{mend_link_result, mend_result, unmendable_error}
-use Rattle.fluent_uri_c.specs.Options.{path_preference, rules_choice}
+use Rattle.fluent_uri_c.specs.Options.{basic_choice, path_preference, rules_choice}
 use Rattle.fluent_uri_c.specs.Relatives.{relativize_result}
 use Rattle.fluent_uri_c.specs.Results.{IsReturnedOrDenied, Returned, second_text_error, with_base}
-use Rattle.fluent_uri_c.specs.Results.{component_error, component_refusal}
+use Rattle.fluent_uri_c.specs.Results.{basic_resolution, component_error, component_refusal}
 use Rattle.fluent_uri_c.specs.Results.{decode_result, encode_result}
-use Rattle.fluent_uri_c.specs.Results.{error_of_target}
+use Rattle.fluent_uri_c.specs.Results.{error_of_basic_target, error_of_target, resolution_by}
 use Rattle.fluent_uri_c.specs.Results.{first_rejection, is_out_of_memory, is_possible_length}
 use Rattle.fluent_uri_c.specs.Results.{length_error, normal_form_of, normal_resolution}
 use Rattle.fluent_uri_c.specs.Results.{normalize_result}
@@ -124,7 +127,25 @@ of_target_error (Err Target.InvalidReferenceAgainstOpaqueBase) = refl
 
 of_resolution : (base reference : List ℕ) → is_out_of_memory (resolution base reference) ≡ false
 unfolding resolution
-of_resolution base reference = of_target_error (Target.resolution_of_texts base reference)
+of_resolution base reference =
+    of_target_error (Target.resolution_of (without_fragment (components base))
+    (components reference))
+
+of_basic_target_error : (r : Result (List ℕ) Basic.BasicTargetError)
+    → is_out_of_memory (result_map_both (λ target. target) error_of_basic_target r) ≡ false
+of_basic_target_error (Ok target) = refl
+of_basic_target_error (Err Basic.PathStartsWithDoubleSlash) = refl
+
+of_basic_resolution : (base reference : List ℕ)
+    → is_out_of_memory (basic_resolution base reference) ≡ false
+unfolding basic_resolution
+of_basic_resolution base reference =
+    of_basic_target_error (Basic.basic_resolution_of_texts base reference)
+
+of_resolution_by : (is_basic : Bool) (base reference : List ℕ)
+    → is_out_of_memory (resolution_by is_basic base reference) ≡ false
+of_resolution_by true base reference = of_basic_resolution base reference
+of_resolution_by false base reference = of_resolution base reference
 
 of_mapped_text : (f : List ℕ → List ℕ) (r : Returned) → is_out_of_memory r ≡ false
     → is_out_of_memory (result_map_both f (λ why. why) r) ≡ false
@@ -152,12 +173,14 @@ to_uri_result-is-other n text = of_valid_number (iri_numbered n) _
     (λ kind. of_rejection_or_result (text_error kind text) _ (of_text_error kind text) refl)
 
 -- exports for C: resolving is not defined to return that memory is out
-pub resolve_result-is-other : (n : ℕ) (base reference : List ℕ)
-    → is_out_of_memory (resolve_result n base reference) ≡ false
-resolve_result-is-other n base reference = of_base n base _
+pub resolve_result-is-other : (n options : ℕ) (base reference : List ℕ)
+    → is_out_of_memory (resolve_result n options base reference) ≡ false
+resolve_result-is-other n options base reference =
+    of_valid_number (basic_choice options) _ (λ is_basic. of_base n base _
     (λ kind. of_rejection_or_result (second_text_error (reference_kind kind) reference)
-    (resolution base reference) (of_second_text (reference_kind kind) reference)
-    (of_resolution base reference))
+    (resolution_by is_basic base reference)
+    (of_second_text (reference_kind kind) reference)
+    (of_resolution_by is_basic base reference)))
 
 -- exports for C: resolving and normalising are not defined to return that memory is out
 pub resolve_normalized_result-is-other : (n options : ℕ) (base reference : List ℕ)

@@ -9,7 +9,7 @@ use Rattle.fluent_uri_c.specs.declared.errors.Rejection.{Rejection}
 use Rattle.fluent_uri_c.specs.Bases.{IsBaseOf, IsParsedBase, by_base}
 use Rattle.fluent_uri_c.specs.Bases.{normal_target_by, reference_by, target_by}
 use Rattle.fluent_uri_c.specs.Kinds.{base_numbered}
-use Rattle.fluent_uri_c.specs.Options.{path_preference, rules_choice}
+use Rattle.fluent_uri_c.specs.Options.{basic_choice, path_preference, rules_choice}
 use Rattle.fluent_uri_c.specs.Relatives.{reference_from, relativize_result}
 use Rattle.fluent_uri_c.specs.Results.{Returned, normal_target_from, rejection_or_result}
 use Rattle.fluent_uri_c.specs.Results.{resolve_normalized_result, resolve_result, target_from}
@@ -43,10 +43,18 @@ of_base result n bytes (Rejected why) is =
     of_rejected_base (base_numbered n) bytes why (λ k. result k bytes) is
 
 -- exports for C: the target by a base is what resolving against its bytes returns
-pub target_by-is-resolve_result : (n : ℕ) (bytes : List ℕ) (base : Base) (reference : List ℕ)
-    → IsBaseOf n bytes base → target_by base reference ≡ resolve_result n bytes reference
-target_by-is-resolve_result n bytes base reference is =
-    of_base (λ kind text. target_from kind text reference) n bytes base is
+pub target_by-is-resolve_result : (n options : ℕ) (bytes : List ℕ) (base : Base)
+    (reference : List ℕ) → IsBaseOf n bytes base
+    → target_by options base reference ≡ resolve_result n options bytes reference
+target_by-is-resolve_result n options bytes base reference is = of_choice (basic_choice options)
+  where
+    of_choice : (o : Option Bool)
+        → with_valid_number o
+        (λ is_basic. by_base (λ k t. target_from is_basic k t reference) base)
+        ≡ with_valid_number o
+        (λ is_basic. with_base n bytes (λ k. target_from is_basic k bytes reference))
+    of_choice None = refl
+    of_choice (Some is_basic) = of_base (λ k t. target_from is_basic k t reference) n bytes base is
 
 -- exports for C: the same of normal targets
 pub normal_target_by-is-resolve_normalized_result : (n options : ℕ) (bytes : List ℕ) (base : Base)

@@ -1,34 +1,44 @@
 -- What resolving returns is the result that is defined.
-use Rattle.std.proofs.Common.{◌≡◌, ◌⊎◌, ℕ, Bool, List, inl, inr, refl, sym, ap, ◌∙◌}
-use Rattle.std.specs.Prelude.{Result, Ok, Err, None, IsOk}
+use Rattle.std.proofs.Common.{◌≡◌, ◌⊎◌, ℕ, Bool, false, List, inl, inr, refl, sym, ap, ◌∙◌, subst}
+use Rattle.std.specs.Prelude.{Result, Ok, Err, None, IsOk, IsTrue}
 use Rattle.std.specs.Result.{result_map_both}
 use Rattle.std.proofs.lemmas.Bool.{false≢true}
-use Rattle.uri_parts.specs.Components.{components}
+use Rattle.uri_parts.specs.Components.{Components, components}
+use Rattle.uri_parts.specs.Fragments.{IsWithFragment}
 use Rattle.uri_parts.specs.Grammar.{Kind}
 use Rattle.uri_ops.specs.declared.resolve.error.ResolveError.{ResolveError}
 use Rattle.uri_ops.specs.declared.resolve.error.ResolveError.TheVariants as Of
 use Rattle.uri_ops.specs.Resolving.{IsErrorWithUnderflowAllowed}
 use Rattle.uri_ops.specs.Target as Target
+use Rattle.uri_relative.specs.Leading.{without_fragment}
 use Rattle.uri_rules.specs.NormalForms.{IsNormalFormUnder}
 use Rattle.uri_rules.specs.Targets.{IsNormalFormOfTargetUnder}
 use Rattle.uri_setting.specs.Settings.{rules_set}
+use Rattle.uri_basic.specs.declared.error.BasicResolveError.{BasicResolveError}
+use Rattle.uri_basic.specs.declared.error.BasicResolveError.TheVariants as OfBasic
+use Rattle.uri_basic.specs.Resolving.{IsBasicError}
+use Rattle.uri_basic.specs.Target as Basic
 use Rattle.fluent_uri_c.specs.declared.errors.Error.TheVariants.{OutOfMemory}
 use Rattle.fluent_uri_c.specs.declared.errors.Rejection.{Rejection}
-use Rattle.fluent_uri_c.specs.Errors.{rejected, resolve_rejection}
-use Rattle.fluent_uri_c.specs.Results.{Returned, error_of_target, normal_form_of, text_error}
-use Rattle.fluent_uri_c.specs.Results.{normal_resolution, normal_result, resolution}
-use Rattle.fluent_uri_c.specs.Results.{rejection_or_result}
+use Rattle.fluent_uri_c.specs.Errors.{basic_resolve_rejection, rejected, resolve_rejection}
+use Rattle.fluent_uri_c.specs.Results.{IsReturnedAs, IsTargetReturned, Returned, basic_resolution}
+use Rattle.fluent_uri_c.specs.Results.{error_of_basic_target, error_of_target, normal_form_of}
+use Rattle.fluent_uri_c.specs.Results.{normal_resolution, normal_result, resolution, resolution_by}
+use Rattle.fluent_uri_c.specs.Results.{rejection_or_result, takes_memory_for_target, text_error}
 
 -- exports for C: the result of resolving: a target, or the rejection
 returned_of : Result (List ℕ) Target.TargetError → Returned
 returned_of r = result_map_both (λ target. target) error_of_target r
 
--- exports for C: what resolving returns is the target that the export's contract defines
-pub resolution-of-target : (base reference target : List ℕ)
-    → Target.resolution_of_texts base reference ≡ Ok target
+-- exports for C: what resolving against the base without its fragment (bare) returns is the target
+-- that the export's contract defines
+pub resolution-of-target : (base bare reference target : List ℕ) → IsWithFragment base None bare
+    → Target.resolution_of_texts bare reference ≡ Ok target
     → resolution base reference ≡ Ok target
 unfolding resolution returned_of
-resolution-of-target base reference target e = ap returned_of e
+resolution-of-target base bare reference target is e =
+    ap returned_of
+    (subst (λ b. Target.resolution_of b (components reference) ≡ Ok target) is.parts e)
 
 -- exports for C: mapping a result keeps whether there is a value
 is_ok_mapped : {A B E F : Type 0} (f : A → B) (g : E → F) (r : Result A E) → IsOk r
@@ -41,16 +51,26 @@ is_ok_mapped f g (Err e) h = absurd (false≢true h)
 abbrev IsErrorOf : Returned → Rejection → Type 0
 IsErrorOf returned why = ((why ≡ rejected OutOfMemory) × IsOk returned) ⊎ (returned ≡ Err why)
 
--- exports for C: if resolving fails, memory is out or the error is the one that is defined
-pub resolution-of-error : (base reference : List ℕ) (error : ResolveError)
-    → IsErrorWithUnderflowAllowed (components base) (components reference) error
+returned_of-error : (b r : Components) (error : ResolveError)
+    → IsErrorWithUnderflowAllowed b r error
+    → IsErrorOf (returned_of (Target.resolution_of b r)) (resolve_rejection error)
+unfolding returned_of
+returned_of-error b r Of.BaseWithFragment h = inr (ap returned_of h)
+returned_of-error b r Of.InvalidReferenceAgainstOpaqueBase h = inr (ap returned_of h)
+returned_of-error b r Of.PathUnderflow h = absurd h
+returned_of-error b r Of.OutOfMemory h =
+    inl (refl, is_ok_mapped (λ target. target) error_of_target _ h)
+
+-- exports for C: if resolving against the base without its fragment (bare) fails, memory is out or
+-- the error is the one that is defined
+pub resolution-of-error : (base bare reference : List ℕ) (error : ResolveError)
+    → IsWithFragment base None bare
+    → IsErrorWithUnderflowAllowed (components bare) (components reference) error
     → IsErrorOf (resolution base reference) (resolve_rejection error)
 unfolding resolution returned_of
-resolution-of-error base reference Of.BaseWithFragment h = inr (ap returned_of h)
-resolution-of-error base reference Of.InvalidReferenceAgainstOpaqueBase h = inr (ap returned_of h)
-resolution-of-error base reference Of.PathUnderflow h = absurd h
-resolution-of-error base reference Of.OutOfMemory h =
-    inl (refl, is_ok_mapped (λ target. target) error_of_target _ h)
+resolution-of-error base bare reference error is h =
+    returned_of-error (without_fragment (components base)) (components reference) error
+    (subst (λ b. IsErrorWithUnderflowAllowed b (components reference) error) is.parts h)
 
 -- exports for C: the result of resolving, normalised; or the rejection
 normal_of : Bool → Kind → Returned → Returned
@@ -58,22 +78,23 @@ normal_of by_rules kind r = result_map_both (normal_form_of by_rules kind) (λ w
 
 -- exports for C: what resolving and normalising return is the
 -- normal target that the contract defines
-pub normal_resolution-of-target : (by_rules : Bool) (kind : Kind) (base reference normal : List ℕ)
-    → IsNormalFormOfTargetUnder kind (rules_set by_rules) base reference normal
+pub normal_resolution-of-target : (by_rules : Bool) (kind : Kind)
+    (base bare reference normal : List ℕ) → IsWithFragment base None bare
+    → IsNormalFormOfTargetUnder kind (rules_set by_rules) bare reference normal
     → normal_resolution by_rules kind base reference ≡ Ok normal
 unfolding normal_resolution normal_of normal_form_of
-normal_resolution-of-target by_rules kind base reference normal found =
-    ap (normal_of by_rules kind) (resolution-of-target base reference found.0 found.1.0)
+normal_resolution-of-target by_rules kind base bare reference normal is found =
+    ap (normal_of by_rules kind) (resolution-of-target base bare reference found.0 is found.1.0)
     ∙ ap Ok (sym found.1.1.text)
 
 -- exports for C: an error of resolving is the one that the contract defines, or that memory is out
-pub normal_resolution-of-error : (by_rules : Bool) (kind : Kind) (base reference : List ℕ)
-    (error : ResolveError)
-    → IsErrorWithUnderflowAllowed (components base) (components reference) error
+pub normal_resolution-of-error : (by_rules : Bool) (kind : Kind) (base bare reference : List ℕ)
+    (error : ResolveError) → IsWithFragment base None bare
+    → IsErrorWithUnderflowAllowed (components bare) (components reference) error
     → IsErrorOf (normal_resolution by_rules kind base reference) (resolve_rejection error)
 unfolding normal_resolution normal_of
-normal_resolution-of-error by_rules kind base reference error h = elim
-    (resolution-of-error base reference error h) [
+normal_resolution-of-error by_rules kind base bare reference error is h = elim
+    (resolution-of-error base bare reference error is h) [
       | inl e ↦ inl (e.0, is_ok_mapped (normal_form_of by_rules kind) (λ why. why) _ e.1)
       | inr e ↦ inr (ap (normal_of by_rules kind) e)
     ]
@@ -95,3 +116,70 @@ normal_result-of-normal-form by_rules kind bytes text normal none same is =
     ap (λ o. rejection_or_result o (Ok (normal_form_of by_rules kind bytes))) (sym none)
     ∙ ap (λ t. Ok (normal_form_of by_rules kind t)) (sym same)
     ∙ ap Ok (sym is.text)
+
+-- exports for C: the result of the basic algorithm: a target, or the rejection
+basic_of : Result (List ℕ) Basic.BasicTargetError → Returned
+basic_of r = result_map_both (λ target. target) error_of_basic_target r
+
+-- exports for C: what the basic algorithm returns is the target that the contract defines
+pub basic_resolution-of-target : (base given reference target : List ℕ) → given ≡ base
+    → Basic.basic_resolution_of_texts given reference ≡ Ok target
+    → basic_resolution base reference ≡ Ok target
+unfolding basic_resolution basic_of
+basic_resolution-of-target base given reference target same e =
+    ap basic_of (subst (λ b. Basic.basic_resolution_of_texts b reference ≡ Ok target) same e)
+
+-- exports for C: the basic algorithm may take memory for any target
+takes_memory_for_basic : (r : Result (List ℕ) Basic.BasicTargetError)
+    → IsTrue (takes_memory_for_target (basic_of r))
+unfolding basic_of
+takes_memory_for_basic (Ok target) = refl
+takes_memory_for_basic (Err Basic.PathStartsWithDoubleSlash) = refl
+
+-- exports for C: an error of a call that resolves is that memory is out, where it takes memory, or
+-- the defined one
+abbrev IsTargetErrorOf : Returned → Rejection → Type 0
+IsTargetErrorOf returned why =
+    ((why ≡ rejected OutOfMemory) × IsTrue (takes_memory_for_target returned))
+    ⊎ (returned ≡ Err why)
+
+basic_of-error : (b r : Components) (error : BasicResolveError) → IsBasicError b r error
+    → IsTargetErrorOf (basic_of (Basic.basic_resolution b r)) (basic_resolve_rejection error)
+unfolding basic_of
+basic_of-error b r OfBasic.PathStartsWithDoubleSlash h = inr (ap basic_of h)
+basic_of-error b r OfBasic.OutOfMemory h =
+    inl (refl, takes_memory_for_basic (Basic.basic_resolution b r))
+
+-- exports for C: if the basic algorithm fails, memory is out or the error is the one that is
+-- defined
+pub basic_resolution-of-error : (base given reference : List ℕ) (why : Rejection)
+    (error : BasicResolveError) → given ≡ base → why ≡ basic_resolve_rejection error
+    → IsBasicError (components given) (components reference) error
+    → IsTargetErrorOf (basic_resolution base reference) why
+unfolding basic_resolution basic_of
+basic_resolution-of-error base given reference why error same e h =
+    rw e (basic_of-error (components base) (components reference) error
+    (subst (λ b. IsBasicError (components b) (components reference) error) same h))
+
+ok-takes-memory : (returned : Returned) → IsOk returned
+    → IsTrue (takes_memory_for_target returned)
+ok-takes-memory (Ok target) h = refl
+ok-takes-memory (Err why) h = absurd (false≢true h)
+
+returned-if-returned-as : {T : Type 0} → (bytes : T → List ℕ) (returned : Returned)
+    (made : Result T Rejection) → IsReturnedAs bytes returned made
+    → IsTargetReturned bytes returned made
+returned-if-returned-as bytes returned (Ok value) h = h
+returned-if-returned-as bytes returned (Err why) h = elim h [
+  | inl p ↦ inl (p.0, ok-takes-memory returned p.1)
+  | inr e ↦ inr e
+]
+
+-- exports for C: what is returned without the basic algorithm is what a call that resolves may
+-- return
+pub target-is-returned : {T : Type 0} → (bytes : T → List ℕ) (base reference : List ℕ)
+    (is_basic : Bool) (made : Result T Rejection) → is_basic ≡ false
+    → IsReturnedAs bytes (resolution base reference) made
+    → IsTargetReturned bytes (resolution_by is_basic base reference) made
+target-is-returned bytes base reference is_basic made e h =
+    rw e (returned-if-returned-as bytes (resolution base reference) made h)

@@ -5,7 +5,7 @@ use Rattle.fluent_uri.specs.References.{reference_text}
 use Rattle.fluent_uri_c.specs.declared.bases.Base.{Base}
 use Rattle.fluent_uri_c.specs.declared.bases.Base.TheVariants.{Iri, Rejected, Uri}
 use Rattle.fluent_uri_c.specs.Kinds.{base_numbered}
-use Rattle.fluent_uri_c.specs.Options.{path_preference, rules_choice}
+use Rattle.fluent_uri_c.specs.Options.{basic_choice, path_preference, rules_choice}
 use Rattle.fluent_uri_c.specs.Relatives.{reference_from}
 use Rattle.fluent_uri_c.specs.Results.{Returned, normal_target_from, target_from, text_error}
 use Rattle.fluent_uri_c.specs.Results.{with_valid_number}
@@ -31,9 +31,11 @@ by_base result (Uri base) = result uri (reference_text base)
 by_base result (Iri base) = result iri (reference_text base)
 by_base result (Rejected why) = Err why
 
--- the target of a reference against a base
-abbrev pub target_by : Base → List ℕ → Returned
-target_by base reference = by_base (λ kind text. target_from kind text reference) base
+-- the target of a reference against a base, by the options of a call
+abbrev pub target_by : ℕ → Base → List ℕ → Returned
+target_by options base reference =
+    with_valid_number (basic_choice options) λ is_basic.
+    by_base (λ kind text. target_from is_basic kind text reference) base
 
 -- the normal form of the target of a reference against a base, by the options of a call
 abbrev pub normal_target_by : ℕ → Base → List ℕ → Returned

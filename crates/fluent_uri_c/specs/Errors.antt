@@ -7,6 +7,8 @@ use Rattle.uri_parts.specs.declared.error.ParseErrorKind.TheVariants.{Unexpected
 use Rattle.uri_parts.specs.declared.error.ParseErrorKind.TheVariants.{InvalidIpv6Addr}
 use Rattle.uri_ops.specs.declared.resolve.error.ResolveError.{ResolveError}
 use Rattle.uri_ops.specs.declared.resolve.error.ResolveError.TheVariants as Resolve
+use Rattle.uri_basic.specs.declared.error.BasicResolveError.{BasicResolveError}
+use Rattle.uri_basic.specs.declared.error.BasicResolveError.TheVariants as Basic
 use Rattle.uri_mend.specs.declared.error.MendError.{MendError}
 use Rattle.uri_mend.specs.declared.error.MendError.TheVariants as Mend
 use Rattle.fluent_uri_c.specs.declared.errors.Error.{Error}
@@ -67,6 +69,11 @@ error_of_resolving Resolve.OutOfMemory = Of.OutOfMemory
 -- the rejection of a call for an error of resolving
 abbrev pub resolve_rejection : ResolveError → Rejection
 resolve_rejection e = rejected (error_of_resolving e)
+
+-- the rejection of a call for an error of resolving by the basic algorithm
+abbrev pub basic_resolve_rejection : BasicResolveError → Rejection
+basic_resolve_rejection Basic.PathStartsWithDoubleSlash = rejected Of.PathStartsWithDoubleSlash
+basic_resolve_rejection Basic.OutOfMemory = rejected Of.OutOfMemory
 
 -- the rejection of a call for an error of mending
 abbrev pub mend_rejection : MendError → Rejection

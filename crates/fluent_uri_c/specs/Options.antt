@@ -9,6 +9,10 @@ prefer_relative_path = 1
 abbrev pub scheme_rules : ℕ
 scheme_rules = 2
 
+-- and that resolving is by the basic algorithm (section 5.2)
+abbrev pub basic : ℕ
+basic = 4
+
 -- whether a relative path is preferred, by the options of a call that makes references, if it has
 -- no other option
 abbrev pub path_preference : ℕ → Option Bool
@@ -22,3 +26,10 @@ abbrev pub rules_choice : ℕ → Option Bool
 rules_choice options =
     if options == 0 then Some false
     else (if options == scheme_rules then Some true else None)
+
+-- whether resolving is by the basic algorithm, by the options of a call that resolves, if it has no
+-- other option
+abbrev pub basic_choice : ℕ → Option Bool
+basic_choice options =
+    if options == 0 then Some false
+    else (if options == basic then Some true else None)

@@ -1,10 +1,11 @@
 -- The result of each call for its arguments: a text, or why there is none.
-use Rattle.std.specs.Prelude.{◌≡◌, ◌⊎◌, ℕ, ◌^◌, Bool, false, ◌==◌, List, length, nat_lt, Option}
+use Rattle.std.specs.Prelude.{◌≡◌, ◌⊎◌, ℕ, ◌^◌, Bool, false, true, ◌==◌, List, length, nat_lt, Option}
 use Rattle.std.specs.Prelude.{Some, None}
 use Rattle.std.specs.Prelude.{Result, Ok, Err, IsTrue, option_map, if◌then◌else◌}
 use Rattle.std.specs.Str.{IsUtf8}
 use Rattle.std.specs.Result.{is_ok, result_map_both}
 use Rattle.std.specs.Str.Lossy.{utf8_valid_len}
+use Rattle.fluent_uri.specs.Components.{components}
 use Rattle.fluent_uri.specs.Encoded.{encode_past_ascii}
 use Rattle.fluent_uri.specs.Encoding.{encode_bytes}
 use Rattle.fluent_uri.specs.Grammar.{Kind, IsTextOf}
@@ -17,14 +18,16 @@ use Rattle.fluent_uri.specs.Tokens.{print, bytes_decoded_from, tokens}
 use Rattle.uri_parts.specs.Errors.{unexpected}
 use Rattle.uri_parts.specs.Refusals.{OptionalParseError, ◌>>=◌}
 use Rattle.uri_parts.specs.Scanning.{is_at_end, scan}
+use Rattle.uri_relative.specs.Leading.{without_fragment}
 use Rattle.uri_rules.specs.Rules.{meaning_under}
 use Rattle.uri_setting.specs.Settings.{rules_set}
+use Rattle.uri_basic.specs.Target as Basic
 use Rattle.fluent_uri_c.specs.declared.errors.Error.TheVariants as Of
 use Rattle.fluent_uri_c.specs.declared.errors.Rejection.{Rejection}
 use Rattle.fluent_uri_c.specs.Errors.{in_reference, number_of, parse_rejection, rejected}
 use Rattle.fluent_uri_c.specs.Errors.{rejected_at}
 use Rattle.fluent_uri_c.specs.Kinds.{kind_numbered, base_numbered, iri_numbered}
-use Rattle.fluent_uri_c.specs.Options.{rules_choice}
+use Rattle.fluent_uri_c.specs.Options.{basic_choice, rules_choice}
 use Rattle.fluent_uri_c.specs.Sets.{encoding_set, decoding_set}
 
 -- what a call for C returns before it is written: a text, or the rejection that says why there is
@@ -105,10 +108,29 @@ error_of_target Target.BaseWithFragment = rejected Of.BaseWithFragment
 error_of_target Target.InvalidReferenceAgainstOpaqueBase =
     rejected Of.InvalidReferenceAgainstOpaqueBase
 
--- the target of a base and a reference, in this order, or why there is none (section 5.2)
+-- the target of a base and a reference, in this order, or why there is none: that of the base
+-- without its fragment (sections 5.1 and 5.2)
 unfoldable pub resolution : List ℕ → List ℕ → Returned
 resolution base reference =
-    result_map_both (λ target. target) error_of_target (Target.resolution_of_texts base reference)
+    result_map_both (λ target. target) error_of_target
+    (Target.resolution_of (without_fragment (components base)) (components reference))
+
+-- the rejection of a call for the reason that a target by the basic algorithm is not a text
+abbrev pub error_of_basic_target : Basic.BasicTargetError → Rejection
+error_of_basic_target Basic.PathStartsWithDoubleSlash = rejected Of.PathStartsWithDoubleSlash
+
+-- the target of a base and a reference, in this order, by the basic algorithm, which does not look
+-- at the base's fragment, or why there is none (section 5.2)
+unfoldable pub basic_resolution : List ℕ → List ℕ → Returned
+basic_resolution base reference =
+    result_map_both (λ target. target) error_of_basic_target
+    (Basic.basic_resolution_of_texts base reference)
+
+-- the target of a base and a reference, in this order, or why there is none; the Bool is whether it
+-- is by the basic algorithm
+abbrev pub resolution_by : Bool → List ℕ → List ℕ → Returned
+resolution_by is_basic base reference =
+    if is_basic then basic_resolution base reference else resolution base reference
 
 -- the normal form of the target of a base and a reference, in this order, as a text of the kind, or
 -- why there is no target; the Bool is whether it is by the rules of schemes
@@ -121,11 +143,11 @@ abbrev pub second_text_error : Kind → List ℕ → Option Rejection
 second_text_error kind bytes = option_map in_reference (text_error kind bytes)
 
 -- the result of a call for C that resolves a reference against a text of the kind, the base, which
--- comes first
-abbrev pub target_from : Kind → List ℕ → List ℕ → Returned
-target_from kind base reference =
+-- comes first; the Bool is whether it does so by the basic algorithm
+abbrev pub target_from : Bool → Kind → List ℕ → List ℕ → Returned
+target_from is_basic kind base reference =
     rejection_or_result (second_text_error (reference_kind kind) reference)
-    (resolution base reference)
+    (resolution_by is_basic base reference)
 
 -- the result of a call for C that resolves a reference against a text of the kind, the base, and
 -- normalises the target, by the rules of schemes if the Bool is true; the base comes first
@@ -176,10 +198,12 @@ with_base n base result =
     with_valid_number (base_numbered n) λ kind. rejection_or_result (text_error kind base)
     (result kind)
 
--- the result of `fluent_uri_resolve` for a base and a reference, in this order, where the kind of
--- the base has a number of the C header
-abbrev pub resolve_result : ℕ → List ℕ → List ℕ → Returned
-resolve_result n base reference = with_base n base λ kind. target_from kind base reference
+-- the result of `fluent_uri_resolve` for a base and a reference, in this order; the numbers are
+-- those of the base's kind and of the options in the C header
+abbrev pub resolve_result : ℕ → ℕ → List ℕ → List ℕ → Returned
+resolve_result n options base reference =
+    with_valid_number (basic_choice options) λ is_basic. with_base n base
+    λ kind. target_from is_basic kind base reference
 
 -- the result of `fluent_uri_resolve_normalized` for a base and a reference, in this order; the
 -- numbers are those of the base's kind and of the options in the C header
@@ -209,3 +233,16 @@ IsReturnedOrDenied takes_memory bytes returned (Err why) =
 -- returns
 abbrev pub IsReturnedAs : {T : Type 0} → (T → List ℕ) → Returned → Result T Rejection → Type 0
 IsReturnedAs bytes returned made = IsReturnedOrDenied (is_ok returned) bytes returned made
+
+-- whether a call for C that resolves takes memory, by its result: for a target, and for one whose
+-- path would be parsed as an authority, of which the text is made
+abbrev pub takes_memory_for_target : Returned → Bool
+takes_memory_for_target (Ok target) = true
+takes_memory_for_target (Err why) = number_of why.error == 12
+
+-- a call for C that resolves returns its defined result, or perhaps that an allocation failed; the
+-- function has the bytes of what it returns
+abbrev pub IsTargetReturned : {T : Type 0} → (T → List ℕ) → Returned → Result T Rejection
+    → Type 0
+IsTargetReturned bytes returned made =
+    IsReturnedOrDenied (takes_memory_for_target returned) bytes returned made

@@ -5,10 +5,10 @@ use Rattle.fluent_uri_c.specs.Kinds.{kind_numbered, base_numbered, iri_numbered}
 use Rattle.fluent_uri_c.specs.Components.{component_result}
 use Rattle.fluent_uri_c.specs.Results.{normalize_result, to_uri_result, resolve_result}
 use Rattle.fluent_uri_c.specs.Mends.{mend_link_result, mend_link_takes_memory, mend_result}
-use Rattle.fluent_uri_c.specs.Options.{path_preference, rules_choice}
+use Rattle.fluent_uri_c.specs.Options.{basic_choice, path_preference, rules_choice}
 use Rattle.fluent_uri_c.specs.Relatives.{relativize_result}
 use Rattle.fluent_uri_c.specs.Results.{decode_result, encode_result, is_possible_length}
-use Rattle.fluent_uri_c.specs.Results.{resolve_normalized_result}
+use Rattle.fluent_uri_c.specs.Results.{resolve_normalized_result, takes_memory_for_target}
 use Rattle.fluent_uri_c.specs.Sets.{decoding_set, encoding_set}
 
 -- A call on one text, which a batch makes for each text of a column.
@@ -36,13 +36,14 @@ converting kind = record {
   result = λ text. result_ok (to_uri_result kind text);
 }
 
--- the call of a batch that resolves references against a base; the number is that of the base's
--- kind in the C header
-abbrev pub resolving : ℕ → List ℕ → SingleCall
-resolving kind base = record {
-  is_valid = is_some (base_numbered kind) && is_possible_length base;
-  takes_memory = λ text. is_ok (resolve_result kind base text);
-  result = λ text. result_ok (resolve_result kind base text);
+-- the call of a batch that resolves references against a base; the numbers are those of the base's
+-- kind and of the options in the C header
+abbrev pub resolving : ℕ → ℕ → List ℕ → SingleCall
+resolving kind options base = record {
+  is_valid = is_some (base_numbered kind) && is_some (basic_choice options)
+      && is_possible_length base;
+  takes_memory = λ text. takes_memory_for_target (resolve_result kind options base text);
+  result = λ text. result_ok (resolve_result kind options base text);
 }
 
 -- the call of a batch that resolves references against a base, and normalises the targets; the

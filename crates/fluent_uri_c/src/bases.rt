@@ -1,6 +1,6 @@
 //! A base of references, which a batch parses once.
 use crate::errors::{Error, Rejection};
-use crate::numbered::{prefers_relative_path, rule_setting};
+use crate::numbered::{is_basic, prefers_relative_path, rule_setting};
 use crate::texts::{self, parsed};
 use fluent_uri::{Iri, IriRef, Uri};
 use std::alloc::Global;
@@ -18,7 +18,7 @@ impl<'a> Base<'a> {
     ghost use Rattle.fluent_uri.specs.References.{reference_text};
     ghost use Rattle.fluent_uri_c.specs.Bases.{IsBaseOf, normal_target_by};
     ghost use Rattle.fluent_uri_c.specs.Bases.{reference_by, target_by};
-    ghost use Rattle.fluent_uri_c.specs.Results.{IsReturnedAs};
+    ghost use Rattle.fluent_uri_c.specs.Results.{IsReturnedAs, IsTargetReturned};
 
     /// Parses bytes as a base of the kind with this number of the header.
     pub fn parse(kind: u32, bytes: &'a [u8]) -> Base<'a>
@@ -37,16 +37,26 @@ impl<'a> Base<'a> {
         }
     }
 
-    /// Returns the target of a reference against the base.
-    pub fn target(&self, alloc: Global, reference: &[u8]) -> Result<IriRef<String>, Rejection>
-        ensures { IsReturnedAs reference_text (target_by self.now reference.now) result }
+    /// Returns the target of a reference against the base, by options of the header.
+    pub fn target(
+        &self,
+        alloc: Global,
+        options: u32,
+        reference: &[u8],
+    ) -> Result<IriRef<String>, Rejection>
+        ensures { IsTargetReturned reference_text (target_by options self.now reference.now) result }
     {
+        let Some(is_basic) = is_basic(options) else {
+            return Err(Rejection::of(Error::InvalidArgument));
+        };
         match self {
             Base::Uri(base) => {
-                Ok(IriRef::from(texts::target_from::<UriRefKind>(alloc, base, reference)?))
+                let target = texts::target_from::<UriRefKind>(alloc, is_basic, base, reference)?;
+                Ok(IriRef::from(target))
             }
             Base::Iri(base) => {
-                Ok(IriRef::from(texts::target_from::<IriRefKind>(alloc, base, reference)?))
+                let target = texts::target_from::<IriRefKind>(alloc, is_basic, base, reference)?;
+                Ok(IriRef::from(target))
             }
             Base::Rejected(why) => Err(*why),
         }

@@ -82,11 +82,13 @@ impl Call for ToUri {
     }
 }
 
-/// Resolves references against a base of a kind: its bytes, and what these are parsed to.
+/// Resolves references against a base of a kind by options: the base's bytes, and what these are
+/// parsed to.
 #[derive(Clone, Copy)]
 struct Resolve<'a> {
     alloc: Global,
     kind: u32,
+    options: u32,
     bytes: &'a [u8],
     base: Base<'a>,
 }
@@ -94,18 +96,21 @@ struct Resolve<'a> {
 impl<'b> Call for Resolve<'b> {
     ghost use Rattle.fluent_uri_c.specs.Bases.{IsBaseOf};
 
-    ghost definition = { λ call. resolving call.kind call.bytes.now };
+    ghost definition = { λ call. resolving call.kind call.options call.bytes.now };
 
     ghost is_ready = { λ call. IsBaseOf call.kind call.bytes.now call.base };
 
-    /// Returns whether the number is a base's kind, a URI or an IRI, and the base can be there.
+    /// Returns whether the numbers are a base's kind, a URI or an IRI, and options of this call, and
+    /// the base can be there.
     fn is_valid(&self) -> bool {
-        (self.kind == 0 || self.kind == 2) && is_possible_length(self.bytes)
+        (self.kind == 0 || self.kind == 2)
+            && (self.options == 0 || self.options == 4)
+            && is_possible_length(self.bytes)
     }
 
     /// Returns the target of a reference against the base, if it has one.
     fn call<'a>(&self, text: &'a [u8]) -> Result<Option<CallResult<'a>>, AllocError> {
-        batch_result(self.base.target(self.alloc, text))
+        batch_result(self.base.target(self.alloc, self.options, text))
     }
 }
 
@@ -185,11 +190,12 @@ pub extern "C" fn fluent_uri_to_uri_batch(
     column(&call, texts, offsets, out, out_offsets, valid, outcome)
 }
 
-/// Writes the target of each reference of a column.
+/// Writes the target of each reference of a column, by options.
 #[unsafe(no_mangle)]
 pub extern "C" fn fluent_uri_resolve_batch(
     alloc: Global,
     kind: u32,
+    options: u32,
     base: &[u8],
     texts: &[u8],
     offsets: &[u32],
@@ -198,13 +204,14 @@ pub extern "C" fn fluent_uri_resolve_batch(
     valid: &mut [u8],
     outcome: &mut Outcome,
 ) -> u32
-    ensures { LeavesColumn (resolving kind base.now) (column32 texts.now offsets.now)
+    ensures { LeavesColumn (resolving kind options base.now) (column32 texts.now offsets.now)
         (buffers out.old out_offsets.old valid.old) (buffers out.new out_offsets.new valid.new)
         outcome.new result }
 {
     let call = Resolve {
         alloc,
         kind,
+        options,
         bytes: base,
         base: Base::parse(kind, base),
     };
@@ -225,8 +232,8 @@ pub extern "C" fn fluent_uri_resolve_normalized_batch(
     valid: &mut [u8],
     outcome: &mut Outcome,
 ) -> u32
-    ensures { LeavesColumn (resolving_normalized kind options base.now) (column32 texts.now offsets.now)
-        (buffers out.old out_offsets.old valid.old) (buffers out.new out_offsets.new valid.new)
+    ensures { LeavesColumn (resolving_normalized kind options base.now)
+        (column32 texts.now offsets.now) (buffers out.old out_offsets.old valid.old) (buffers out.new out_offsets.new valid.new)
         outcome.new result }
 {
     let call = ResolveNormalized {
@@ -284,11 +291,12 @@ pub extern "C" fn fluent_uri_to_uri_batch64(
     column(&call, texts, offsets, out, out_offsets, valid, outcome)
 }
 
-/// Writes the target of each reference of a column, with offsets of 64 bits.
+/// Writes the target of each reference of a column, by options, with offsets of 64 bits.
 #[unsafe(no_mangle)]
 pub extern "C" fn fluent_uri_resolve_batch64(
     alloc: Global,
     kind: u32,
+    options: u32,
     base: &[u8],
     texts: &[u8],
     offsets: &[u64],
@@ -297,20 +305,22 @@ pub extern "C" fn fluent_uri_resolve_batch64(
     valid: &mut [u8],
     outcome: &mut Outcome,
 ) -> u32
-    ensures { LeavesColumn (resolving kind base.now) (column64 texts.now offsets.now)
+    ensures { LeavesColumn (resolving kind options base.now) (column64 texts.now offsets.now)
         (buffers out.old out_offsets.old valid.old) (buffers out.new out_offsets.new valid.new)
         outcome.new result }
 {
     let call = Resolve {
         alloc,
         kind,
+        options,
         bytes: base,
         base: Base::parse(kind, base),
     };
     column(&call, texts, offsets, out, out_offsets, valid, outcome)
 }
 
-/// Writes the normal form of the target of each reference of a column, by options, with offsets of 64 bits.
+/// Writes the normal form of the target of each reference of a column, by options, with offsets of
+/// 64 bits.
 #[unsafe(no_mangle)]
 pub extern "C" fn fluent_uri_resolve_normalized_batch64(
     alloc: Global,
@@ -324,8 +334,8 @@ pub extern "C" fn fluent_uri_resolve_normalized_batch64(
     valid: &mut [u8],
     outcome: &mut Outcome,
 ) -> u32
-    ensures { LeavesColumn (resolving_normalized kind options base.now) (column64 texts.now offsets.now)
-        (buffers out.old out_offsets.old valid.old) (buffers out.new out_offsets.new valid.new)
+    ensures { LeavesColumn (resolving_normalized kind options base.now)
+        (column64 texts.now offsets.now) (buffers out.old out_offsets.old valid.old) (buffers out.new out_offsets.new valid.new)
         outcome.new result }
 {
     let call = ResolveNormalized {

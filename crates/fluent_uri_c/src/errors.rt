@@ -6,6 +6,7 @@ ghost use Rattle.fluent_uri_c.specs.Errors.{rejected_at};
 use fluent_uri::resolve::ResolveError;
 use fluent_uri::{ParseError, ParseErrorKind};
 use std::alloc::AllocError;
+use uri_basic::BasicResolveError;
 use uri_mend::MendError;
 
 /// What is wrong: the errors of the header.
@@ -137,6 +138,20 @@ impl From<ResolveError> for Rejection {
             }
             ResolveError::PathUnderflow => Error::PathUnderflow,
             ResolveError::OutOfMemory => Error::OutOfMemory,
+        })
+    }
+}
+
+impl From<BasicResolveError> for Rejection {
+    ghost use Rattle.fluent_uri_c.specs.Errors.{basic_resolve_rejection};
+
+    ghost from_gives = { λ error why. why ≡ basic_resolve_rejection error };
+
+    /// Returns the rejection, by a number of the header, for an error of the basic algorithm.
+    fn from(error: BasicResolveError) -> Rejection {
+        Rejection::of(match error {
+            BasicResolveError::PathStartsWithDoubleSlash => Error::PathStartsWithDoubleSlash,
+            BasicResolveError::OutOfMemory => Error::OutOfMemory,
         })
     }
 }

@@ -6,9 +6,10 @@ ghost use Rattle.uri_mend.specs.Mended.{IsMended};
 ghost use Rattle.uri_mend.specs.Trimming.{trimmed_link};
 ghost use Rattle.fluent_uri_c.specs.Kinds.{base_numbered, kind_numbered};
 ghost use Rattle.fluent_uri_c.specs.Mends.{mend_link_result, mend_link_takes_memory, mend_result};
-ghost use Rattle.fluent_uri_c.specs.Options.{path_preference, rules_choice};
+ghost use Rattle.fluent_uri_c.specs.Options.{basic_choice, path_preference, rules_choice};
 ghost use Rattle.fluent_uri_c.specs.Relatives.{IsReferenceToTarget, relativize_result};
-ghost use Rattle.fluent_uri_c.specs.Results.{IsReturnedAs, IsReturnedOrDenied, normalize_result};
+ghost use Rattle.fluent_uri_c.specs.Results.{IsReturnedAs, IsReturnedOrDenied, IsTargetReturned};
+ghost use Rattle.fluent_uri_c.specs.Results.{normalize_result};
 ghost use Rattle.fluent_uri_c.specs.Results.{resolve_normalized_result, resolve_result};
 ghost use Rattle.fluent_uri_c.specs.Results.{to_uri_result};
 
@@ -66,18 +67,36 @@ pub fn as_uri(alloc: Global, kind: u32, text: &[u8]) -> Result<IriRef<String>, R
     }
 }
 
-/// Returns the target of a reference against a base of the kind with this number of the header.
+/// Returns whether options of the header ask for the basic algorithm, if they are options of a call
+/// that resolves.
+pub fn is_basic(options: u32) -> Option<bool>
+    ensures { result ≡ basic_choice options }
+{
+    match options {
+        0 => Some(false),
+        4 => Some(true),
+        _ => None,
+    }
+}
+
+/// Returns the target of a reference against a base of the kind with this number of the header, by
+/// options of the header.
 pub fn target(
     alloc: Global,
     kind: u32,
+    options: u32,
     base: &[u8],
     reference: &[u8],
 ) -> Result<IriRef<String>, Rejection>
-    ensures { IsReturnedAs reference_text (resolve_result kind base.now reference.now) result }
+    ensures { IsTargetReturned reference_text
+        (resolve_result kind options base.now reference.now) result }
 {
+    let Some(is_basic) = is_basic(options) else {
+        return Err(Rejection::of(Error::InvalidArgument));
+    };
     match kind {
-        0 => Ok(IriRef::from(texts::target::<UriRefKind>(alloc, base, reference)?)),
-        2 => Ok(IriRef::from(texts::target::<IriRefKind>(alloc, base, reference)?)),
+        0 => Ok(IriRef::from(texts::target::<UriRefKind>(alloc, is_basic, base, reference)?)),
+        2 => Ok(IriRef::from(texts::target::<IriRefKind>(alloc, is_basic, base, reference)?)),
         _ => Err(Rejection::of(Error::InvalidArgument)),
     }
 }

@@ -4,9 +4,9 @@ ghost use Rattle.fluent_uri_c.specs.Kinds.{kind_numbered};
 ghost use Rattle.fluent_uri_c.specs.Outcomes.{LeavesText};
 ghost use Rattle.fluent_uri_c.specs.Results.{decode_result, encode_result, normalize_result};
 ghost use Rattle.fluent_uri_c.specs.Results.{resolve_normalized_result, resolve_result};
-ghost use Rattle.fluent_uri_c.specs.Results.{to_uri_result};
+ghost use Rattle.fluent_uri_c.specs.Results.{takes_memory_for_target, to_uri_result};
 ghost use Rattle.fluent_uri_c.specs.Spans.{ArePartsOf};
-ghost use Rattle.fluent_uri_c.specs.Values.{LeavesValue};
+ghost use Rattle.fluent_uri_c.specs.Values.{LeavesValue, LeavesValueOrDenied};
 
 use crate::outcome::{Outcome, put, put_or_report, put_value_or_report, report};
 use crate::parts::{Parts, parse};
@@ -46,29 +46,32 @@ pub extern "C" fn fluent_uri_normalize(
     )
 }
 
-/// Writes the target of a reference against a base of the kind.
+/// Writes the target of a reference against a base of the kind without its fragment, by options.
 #[unsafe(no_mangle)]
 pub extern "C" fn fluent_uri_resolve(
     alloc: Global,
     kind: u32,
+    options: u32,
     base: &[u8],
     reference: &[u8],
     out: &mut [u8],
     parts: &mut [Parts],
     outcome: &mut Outcome,
 ) -> u32
-    ensures { LeavesValue (resolve_result kind base.now reference.now)
+    ensures { let returned = resolve_result kind options base.now reference.now in
+        LeavesValueOrDenied (takes_memory_for_target returned) returned
         out.old out.new parts.old parts.new outcome.new result }
 {
     put_value_or_report(
-        numbered::target(alloc, kind, base, reference),
+        numbered::target(alloc, kind, options, base, reference),
         out,
         parts,
         outcome,
     )
 }
 
-/// Writes the normal form of the target of a reference against a base of the kind, by options.
+/// Writes the normal form of the target of a reference against a base of the kind without its
+/// fragment, by options.
 #[unsafe(no_mangle)]
 pub extern "C" fn fluent_uri_resolve_normalized(
     alloc: Global,

@@ -8,7 +8,8 @@ ghost use Rattle.uri_mend.specs.Trimming.{trimmed_link};
 ghost use Rattle.fluent_uri_c.specs.Mends.{mended_link_result, mended_result};
 ghost use Rattle.fluent_uri_c.specs.Mends.{takes_memory_for_link};
 ghost use Rattle.fluent_uri_c.specs.Relatives.{IsReferenceToTarget, reference_from};
-ghost use Rattle.fluent_uri_c.specs.Results.{IsReturnedAs, IsReturnedOrDenied, encoded_result};
+ghost use Rattle.fluent_uri_c.specs.Results.{IsReturnedAs, IsReturnedOrDenied, IsTargetReturned};
+ghost use Rattle.fluent_uri_c.specs.Results.{basic_resolution, encoded_result, resolution_by};
 ghost use Rattle.fluent_uri_c.specs.Results.{normal_result};
 ghost use Rattle.fluent_uri_c.specs.Results.{normal_target_from, rejection_or_result};
 ghost use Rattle.fluent_uri_c.specs.Results.{target_from, text_error};
@@ -20,6 +21,7 @@ use crate::errors::{Error, Rejection};
 use fluent_uri::roles::{BaseKind, RefKind};
 use fluent_uri::{Iri, IriRef, Reference, Uri, UriRef};
 use std::alloc::Global;
+use uri_basic::BasicResolver;
 use uri_mend::Mend;
 use uri_parts::core_text::Core;
 use uri_parts::kind::{IriKind, IriRefKind, Kind};
@@ -101,7 +103,7 @@ pub fn uri_ref_of_iri_ref(alloc: Global, bytes: &[u8]) -> Result<UriRef<String>,
     Ok(value.to_uri_ref(alloc)?)
 }
 
-/// Returns the target of a reference against a base, both parsed from bytes.
+/// Returns the target of a reference against a base without its fragment, both parsed from bytes.
 #[inline(always)]
 fn resolve_text<K: RefKind>(
     alloc: Global,
@@ -111,13 +113,47 @@ fn resolve_text<K: RefKind>(
     ensures { IsReturnedAs reference_text
         (resolution (reference_text base.now) (reference_text reference.now)) result }
 {
-    match reference.resolve_against(alloc, base) {
+    match reference.resolve_against(alloc, &base.strip_fragment()) {
         Ok(target) => Ok(target),
         Err(error) => Err(Rejection::from(error)),
     }
 }
 
-/// Returns the normal form of the target of a reference against a base, both parsed from bytes.
+/// Returns the target of a reference against a base by the basic algorithm, both parsed from bytes.
+fn resolve_text_by_basic_algorithm<K: RefKind>(
+    alloc: Global,
+    base: &Reference<K::Base, &str>,
+    reference: &Reference<K, &str>,
+) -> Result<Reference<K::Base, String>, Rejection>
+    ensures { IsTargetReturned reference_text
+        (basic_resolution (reference_text base.now) (reference_text reference.now)) result }
+{
+    match BasicResolver::with_base(*base).resolve(alloc, reference) {
+        Ok(target) => Ok(target),
+        Err(error) => Err(Rejection::from(error)),
+    }
+}
+
+/// Returns the target of a reference against a base, both parsed from bytes. The flag says whether
+/// it is by the basic algorithm.
+#[inline(always)]
+fn resolve_text_by<K: RefKind>(
+    alloc: Global,
+    is_basic: bool,
+    base: &Reference<K::Base, &str>,
+    reference: &Reference<K, &str>,
+) -> Result<Reference<K::Base, String>, Rejection>
+    ensures { IsTargetReturned reference_text
+        (resolution_by is_basic (reference_text base.now) (reference_text reference.now)) result }
+{
+    if is_basic {
+        return resolve_text_by_basic_algorithm(alloc, base, reference);
+    }
+    resolve_text(alloc, base, reference)
+}
+
+/// Returns the normal form of the target of a reference against a base without its fragment, both
+/// parsed from bytes.
 #[inline(always)]
 fn resolve_normalized_text<K: RefKind>(
     alloc: Global,
@@ -128,24 +164,26 @@ fn resolve_normalized_text<K: RefKind>(
     ensures { IsReturnedAs reference_text (normal_resolution setting.scheme_rules K.Base.kind
         (reference_text base.now) (reference_text reference.now)) result }
 {
-    match setting.resolve_normalized(alloc, base, reference) {
+    match setting.resolve_normalized(alloc, &base.strip_fragment(), reference) {
         Ok(target) => Ok(target),
         Err(error) => Err(Rejection::from(error)),
     }
 }
 
-/// Returns the target of a reference, as bytes, against a base.
+/// Returns the target of a reference, as bytes, against a base. The flag says whether it is by the
+/// basic algorithm.
 #[inline(always)]
 pub fn target_from<K: RefKind>(
     alloc: Global,
+    is_basic: bool,
     base: &Reference<K::Base, &str>,
     reference: &[u8],
 ) -> Result<Reference<K::Base, String>, Rejection>
-    ensures { IsReturnedAs reference_text
-        (target_from K.Base.kind (reference_text base.now) reference.now) result }
+    ensures { IsTargetReturned reference_text
+        (target_from is_basic K.Base.kind (reference_text base.now) reference.now) result }
 {
     match parsed::<K>(reference) {
-        Ok(reference) => resolve_text(alloc, base, &reference),
+        Ok(reference) => resolve_text_by(alloc, is_basic, base, &reference),
         Err(why) => Err(why.in_reference()),
     }
 }
@@ -187,17 +225,20 @@ pub fn reference_from<K: RelativeKind>(
     }
 }
 
-/// Returns the target of a reference against a base, both as bytes.
+/// Returns the target of a reference against a base, both as bytes. The flag says whether it is by
+/// the basic algorithm.
 pub fn target<K: RefKind>(
     alloc: Global,
+    is_basic: bool,
     base: &[u8],
     reference: &[u8],
 ) -> Result<Reference<K::Base, String>, Rejection>
-    ensures { IsReturnedAs reference_text (rejection_or_result (text_error K.Base.kind base.now)
-        (target_from K.Base.kind base.now reference.now)) result }
+    ensures { IsTargetReturned reference_text
+        (rejection_or_result (text_error K.Base.kind base.now)
+        (target_from is_basic K.Base.kind base.now reference.now)) result }
 {
     let base = parsed::<K::Base>(base)?;
-    target_from::<K>(alloc, &base, reference)
+    target_from::<K>(alloc, is_basic, &base, reference)
 }
 
 /// Returns the normal form of the target of a reference against a base, both as bytes.

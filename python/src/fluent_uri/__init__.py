@@ -158,23 +158,30 @@ class _Absolute(Reference):
         self: _Absolute_,
         reference: Union[str, Reference],
         *,
+        basic: bool = False,
         normalize: bool = False,
         scheme_rules: bool = False,
         mend: bool = False,
     ) -> _Absolute_:
-        """Returns the target of a reference against this as its base (RFC 3986, section 5.2).
+        """Returns the target of a reference against this as its base (RFC 3986, section 5.2). The
+        fragment of a base plays no part (section 5.1).
 
         >>> Uri.parse("http://a/b/c/d;p?q").resolve("../%7eg", normalize=True)
         Uri('http://a/b/~g')
 
-        With `normalize` it returns the normal form of the target, which is by the rules of schemes
-        if `scheme_rules` is true. With `mend` the reference is mended first. Raises `ParseError` if
-        the reference is not one of the kind, and `ResolveError` if it has no target.
+        With `basic` the target is that of the basic algorithm, as section 5.2 prints it. With
+        `normalize` it returns the normal form of the target, which is by the rules of schemes if
+        `scheme_rules` is true. With `mend` the reference is mended first. Raises `ParseError` if
+        the reference is not one of the kind, `ResolveError` if it has no target, and `TypeError`
+        for `basic` with `normalize`.
+
+        >>> Uri.parse("http://a/b").resolve("%2E%2E/g", basic=True)
+        Uri('http://a/%2E%2E/g')
         """
-        _calls.rules_of_normal(normalize, scheme_rules)
+        _calls.rules_of_normal(normalize, scheme_rules, basic)
         if mend:
             reference = _reference_kind(self).mend(reference)
-        return self._resolve(reference, normalize, scheme_rules)
+        return self._resolve(reference, basic, normalize, scheme_rules)
 
     def join_link(
         self: _Absolute_,
@@ -195,8 +202,8 @@ class _Absolute(Reference):
         if the link cannot be mended, and `ResolveError` if it has no target.
         """
         _calls.rules_of_normal(normalize, scheme_rules)
-        base = self if self.fragment is None else self.with_fragment(None)
-        target = base._resolve(_reference_kind(self).mend_link(link), normalize, scheme_rules)
+        mended = _reference_kind(self).mend_link(link)
+        target = self._resolve(mended, False, normalize, scheme_rules)
         if keep_fragment or target.fragment is None:
             return target
         return target.with_fragment(None)

@@ -90,7 +90,10 @@ def finished(cls: Type[_Class]) -> Type[_Class]:
     return base
 
 
-def rules_of_normal(normalize: bool, scheme_rules: bool) -> None:
-    """The rules of schemes are those of a normal form: without one they are an error."""
+def rules_of_normal(normalize: bool, scheme_rules: bool, basic: bool = False) -> None:
+    """The rules of schemes are those of a normal form: without one they are an error. So is a
+    normal form with the basic algorithm."""
     if scheme_rules and not normalize:
         raise TypeError("scheme_rules goes with normalize")
+    if basic and normalize:
+        raise TypeError("basic does not go with normalize: normalize the target")

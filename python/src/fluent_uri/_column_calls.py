@@ -111,6 +111,7 @@ def resolve_column(
     data: Any,
     offsets: Any,
     *,
+    basic: bool = False,
     normalize: bool = False,
     scheme_rules: bool = False,
     mend: bool = False,
@@ -119,14 +120,15 @@ def resolve_column(
     start: int = 0,
     count: Optional[int] = None,
 ) -> Column:
-    """Returns the targets of a column of references against a base, as `normalize_column` does."""
-    rules_of_normal(normalize, scheme_rules)
+    """Returns the targets of a column of references against a base, as `normalize_column` does. With
+    `basic` they are those of `resolve(basic=True)`."""
+    rules_of_normal(normalize, scheme_rules, basic)
     number, text, length = _base(base)
     reference = number + KINDS["URI_REF"] - KINDS["URI"]
     texts = _mended(reference, mend, Given(data, offsets, validity, large, start, count))
     name = "resolve_normalized" if normalize else "resolve"
-    options = (_rules(scheme_rules),) if normalize else ()
-    words = (number, *options, text, length)
+    options = _rules(scheme_rules) if normalize else OPTIONS["BASIC"] if basic else 0
+    words = (number, options, text, length)
     return texts.done(name, words, lambda size, count: size + count * (length + 3))
 
 

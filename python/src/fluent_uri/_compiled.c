@@ -77,15 +77,18 @@ static int takes(Py_ssize_t wanted, Py_ssize_t count) {
     return 0;
 }
 
-/* _resolve(reference, normalizes, scheme_rules): the last only counts if it normalizes. */
+/* _resolve(reference, basic, normalizes, scheme_rules): the second only counts if it does not
+ * normalize, and the last one if it does. */
 static PyObject *reference_resolve(PyObject *self, PyObject *const *words, Py_ssize_t count) {
     State *state;
     PyObject *cls = (PyObject *)Py_TYPE(self);
-    int normalizes = takes(3, count) ? PyObject_IsTrue(words[1]) : -1;
-    int by_rules = normalizes < 0 ? -1 : PyObject_IsTrue(words[2]);
+    int basic = takes(4, count) ? PyObject_IsTrue(words[1]) : -1;
+    int normalizes = basic < 0 ? -1 : PyObject_IsTrue(words[2]);
+    int by_rules = normalizes < 0 ? -1 : PyObject_IsTrue(words[3]);
     int kind = by_rules < 0 ? -1 : kind_of(cls, &state);
     if (kind < 0) return NULL;
-    Call resolve = {.kind = (uint32_t)kind, .two = state->call.resolve};
+    Call resolve = {.kind = (uint32_t)kind, .with_options = state->call.resolve,
+                    .options = basic ? FLUENT_URI_BASIC : 0};
     Call normal = {.kind = (uint32_t)kind, .with_options = state->call.resolve_normalized,
                    .options = options_of(by_rules)};
     return value_result_of(state, cls, normalizes ? &normal : &resolve, self, words[0]);

@@ -41,7 +41,7 @@ COMPONENTS = {
 }
 HOST_KINDS = {"NO_HOST": 0, "REG_NAME": 1, "IPV4": 2, "IPV6": 3, "IPV_FUTURE": 4}
 BUFFERS = {"OUT": 0, "OUT_OFFSETS": 1, "VALID": 2, "PARTS": 3, "LINE_ERRORS": 4, "OFFSET_WIDTH": 5}
-OPTIONS = {"PREFER_RELATIVE_PATH": 1, "SCHEME_RULES": 2}
+OPTIONS = {"PREFER_RELATIVE_PATH": 1, "SCHEME_RULES": 2, "BASIC": 4}
 PORTS = {"NO_PORT": 65536, "EMPTY_PORT": 65537, "PORT_TOO_LARGE": 65538}
 
 
@@ -111,7 +111,7 @@ FUNCTIONS: Dict[str, Tuple[Any, ...]] = {
     "default_port": (*_TEXT,),
     "origin": (NUMBER, *_TEXT, *_BUFFER, OUT),
     "normalize": (NUMBER, NUMBER, *_TEXT, *_BUFFER, *_BUFFER, OUT),
-    "resolve": (NUMBER, *_TEXT, *_TEXT, *_BUFFER, *_BUFFER, OUT),
+    "resolve": (NUMBER, NUMBER, *_TEXT, *_TEXT, *_BUFFER, *_BUFFER, OUT),
     "resolve_normalized": (NUMBER, NUMBER, *_TEXT, *_TEXT, *_BUFFER, *_BUFFER, OUT),
     "relativize": (NUMBER, NUMBER, *_TEXT, *_TEXT, *_BUFFER, *_BUFFER, OUT),
     "build": (NUMBER, *_TEXT, OUT, *_BUFFER, *_BUFFER, OUT),
@@ -126,8 +126,12 @@ FUNCTIONS: Dict[str, Tuple[Any, ...]] = {
     "normalize_batch64": (NUMBER, NUMBER, *_BUFFER, *_BUFFER, *_BUFFER, *_BUFFER, *_BUFFER, OUT),
     "to_uri_batch": (NUMBER, *_BUFFER, *_BUFFER, *_BUFFER, *_BUFFER, *_BUFFER, OUT),
     "to_uri_batch64": (NUMBER, *_BUFFER, *_BUFFER, *_BUFFER, *_BUFFER, *_BUFFER, OUT),
-    "resolve_batch": (NUMBER, *_TEXT, *_BUFFER, *_BUFFER, *_BUFFER, *_BUFFER, *_BUFFER, OUT),
-    "resolve_batch64": (NUMBER, *_TEXT, *_BUFFER, *_BUFFER, *_BUFFER, *_BUFFER, *_BUFFER, OUT),
+    "resolve_batch": (
+        NUMBER, NUMBER, *_TEXT, *_BUFFER, *_BUFFER, *_BUFFER, *_BUFFER, *_BUFFER, OUT,
+    ),
+    "resolve_batch64": (
+        NUMBER, NUMBER, *_TEXT, *_BUFFER, *_BUFFER, *_BUFFER, *_BUFFER, *_BUFFER, OUT,
+    ),
     "resolve_normalized_batch": (
         NUMBER, NUMBER, *_TEXT, *_BUFFER, *_BUFFER, *_BUFFER, *_BUFFER, *_BUFFER, OUT,
     ),

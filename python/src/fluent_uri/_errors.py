@@ -17,11 +17,13 @@ class ParseErrorKind(enum.IntEnum):
 
 
 class ResolveErrorKind(enum.IntEnum):
-    """Why a reference has no target against a base."""
+    """Why a reference has no target against a base. No call raises `BASE_WITH_FRAGMENT` or
+    `PATH_UNDERFLOW`."""
 
     BASE_WITH_FRAGMENT = 5
     INVALID_REFERENCE_AGAINST_OPAQUE_BASE = 6
     PATH_UNDERFLOW = 7
+    PATH_STARTS_WITH_DOUBLE_SLASH = 12
 
 
 class BuildErrorKind(enum.IntEnum):

@@ -32,8 +32,6 @@ typedef uint32_t text_call(uint32_t, const uint8_t *, size_t, uint8_t *, size_t,
 /* (with options) */
 typedef uint32_t ruled_call(uint32_t, uint32_t, const uint8_t *, size_t, uint8_t *, size_t,
                             fluent_uri_parts *, size_t, fluent_uri_outcome *);
-typedef uint32_t pair_call(uint32_t, const uint8_t *, size_t, const uint8_t *, size_t, uint8_t *,
-                           size_t, fluent_uri_parts *, size_t, fluent_uri_outcome *);
 typedef uint32_t option_call(uint32_t, uint32_t, const uint8_t *, size_t, const uint8_t *, size_t,
                              uint8_t *, size_t, fluent_uri_parts *, size_t, fluent_uri_outcome *);
 
@@ -43,8 +41,7 @@ typedef struct {
     next_call *next_pair;
     text_call *to_uri, *mend, *mend_link;
     ruled_call *normalize;
-    pair_call *resolve;
-    option_call *resolve_normalized, *relativize;
+    option_call *resolve, *resolve_normalized, *relativize;
 } Functions;
 
 typedef struct {

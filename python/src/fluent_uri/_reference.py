@@ -20,7 +20,7 @@ _ABSENT = 2**64 - 1
 # Of a component, where its start is among them.
 _SCHEME, _AUTHORITY, _USERINFO, _HOST, _PORT, _PATH, _QUERY, _FRAGMENT = range(3, 19, 2)
 _RELATIVE = OPTIONS["PREFER_RELATIVE_PATH"]
-_RULES = OPTIONS["SCHEME_RULES"]
+_RULES, _BASIC = OPTIONS["SCHEME_RULES"], OPTIONS["BASIC"]
 # The classes of the kinds, which users see; a subclass of one is none.
 FINISHED: Set[type] = set()
 
@@ -205,11 +205,16 @@ class Reference:
         return found
 
     def _resolve(
-        self: Self, reference: Union[str, Reference], normalize: bool, scheme_rules: bool
+        self: Self,
+        reference: Union[str, Reference],
+        basic: bool,
+        normalize: bool,
+        scheme_rules: bool,
     ) -> Self:
         other = Reference.__other(reference)
         if not normalize:
-            return self.__made(type(self), _native.resolve, (self._number,), other)
+            numbers = self._number, _BASIC if basic else 0
+            return self.__made(type(self), _native.resolve, numbers, other)
         numbers = self._number, _RULES if scheme_rules else 0
         return self.__made(type(self), _native.resolve_normalized, numbers, other)
 

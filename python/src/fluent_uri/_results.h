@@ -56,7 +56,6 @@ typedef struct {
     uint32_t kind;
     text_call *one;
     ruled_call *ruled;
-    pair_call *two;
     option_call *with_options;
     uint32_t options;
 } Call;
@@ -68,11 +67,8 @@ static uint32_t call(const Call *it, const Utf8 *first, const Utf8 *second, uint
     if (it->ruled)
         return it->ruled(it->kind, it->options, first->at, length, out, size, parts, !!parts,
                          outcome);
-    if (it->with_options)
-        return it->with_options(it->kind, it->options, first->at, length, second->at,
-                                (size_t)second->size, out, size, parts, !!parts, outcome);
-    return it->two(it->kind, first->at, length, second->at, (size_t)second->size, out, size, parts,
-                   !!parts, outcome);
+    return it->with_options(it->kind, it->options, first->at, length, second->at,
+                            (size_t)second->size, out, size, parts, !!parts, outcome);
 }
 
 /* The result as a str, and its parts where they are asked for. It is `same` itself where the first

@@ -143,9 +143,6 @@ def join_links(
     >>> join_links(Uri("http://a/b#c"), [" x y ", "http://a b/", "#d"], keep_fragment=False)
     ['http://a/x%20y', None, 'http://a/b']
     """
-    # (what is no base is a TypeError below)
-    if issubclass(type(base), Reference):
-        base = base.with_fragment(None)
     kind: _AnyKind = IriRef if issubclass(type(base), Iri) else UriRef
     made = mend_link_column(*column(links), kind)
     targets = resolve_column(
@@ -172,13 +169,24 @@ def resolve(
     base: Union[Uri, Iri],
     references: _Texts,
     *,
+    basic: bool = False,
     normalize: bool = False,
     scheme_rules: bool = False,
     mend: bool = False,
 ) -> List[Optional[str]]:
-    """Returns the target of each reference against a base, or None where there is none."""
+    """Returns the target of each reference against a base, or None where there is none. With `basic`
+    they are those of `base.resolve(basic=True)`.
+
+    >>> resolve(Uri("foo:b"), ["g", "?q"]), resolve(Uri("foo:b"), ["g", "?q"], basic=True)
+    ([None, None], ['foo:g', 'foo:b?q'])
+    """
     return resolve_column(
-        base, *column(references), normalize=normalize, scheme_rules=scheme_rules, mend=mend
+        base,
+        *column(references),
+        basic=basic,
+        normalize=normalize,
+        scheme_rules=scheme_rules,
+        mend=mend,
     ).texts()
 
 

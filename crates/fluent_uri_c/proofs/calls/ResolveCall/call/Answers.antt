@@ -1,6 +1,6 @@
 use Rattle.std.proofs.Common.{subst}
 use Rattle.fluent_uri.specs.References.{reference_text}
-use Rattle.fluent_uri_c.specs.Results.{IsReturnedAs, Returned, resolve_result}
+use Rattle.fluent_uri_c.specs.Results.{IsTargetReturned, Returned, resolve_result}
 use Rattle.fluent_uri_c.proofs.ParsedBases.{target_by-is-resolve_result}
 use Rattle.fluent_uri_c.proofs.OtherErrors.{resolve_result-is-other}
 use Rattle.fluent_uri_c.proofs.calls.ResolveCall.call.Goals as goal
@@ -9,17 +9,17 @@ pub returns-clause-made : goal.returns-clause-made
 returns-clause-made c =
     let call = c.args.self.now in
     c.batch_result.ensures.made _
-    (resolve_result call.kind call.bytes.now c.args.text.now)
-    (subst (λ (r : Returned). IsReturnedAs reference_text r c.target.result)
-    (target_by-is-resolve_result call.kind call.bytes.now call.base
+    (resolve_result call.kind call.options call.bytes.now c.args.text.now)
+    (subst (λ (r : Returned). IsTargetReturned reference_text r c.target.result)
+    (target_by-is-resolve_result call.kind call.options call.bytes.now call.base
     c.args.text.now c.requires) c.target.ensures)
 
 pub returns-clause-memory : goal.returns-clause-memory
 returns-clause-memory c =
     let call = c.args.self.now in
     c.batch_result.ensures.memory _
-    (resolve_result call.kind call.bytes.now c.args.text.now)
-    (resolve_result-is-other call.kind call.bytes.now c.args.text.now)
-    (subst (λ (r : Returned). IsReturnedAs reference_text r c.target.result)
-    (target_by-is-resolve_result call.kind call.bytes.now call.base
+    (resolve_result call.kind call.options call.bytes.now c.args.text.now)
+    (resolve_result-is-other call.kind call.options call.bytes.now c.args.text.now)
+    (subst (λ (r : Returned). IsTargetReturned reference_text r c.target.result)
+    (target_by-is-resolve_result call.kind call.options call.bytes.now call.base
     c.args.text.now c.requires) c.target.ensures)
