@@ -14,9 +14,9 @@ The words are a command of `uritool` (parse, normalize, resolve, links), or one 
                                     percent-encoded text, a table, an authority or a builder return
     relativize, relativize-path, relativize-query
                                     the reference that leads from a URI to another, or its query
-    mend, mend-owned, mend-link KIND TEXT, trim DATA
-                                    the reference that a text is mended to; the link in a page's
-                                    text, which is percent-encoded
+    mend, mend-owned, mend-link, mend-path, mend-query KIND TEXT, trim DATA
+                                    the reference that a text is mended to, or its path or query; the
+                                    link in a page's text, which is percent-encoded
     rules WAY URI, rules resolve URI REFERENCE
                                     the normal form under the rules of schemes: `normalize`,
                                     `by-default`, or with `strictly` without underflow, and its

@@ -5,6 +5,7 @@ use fluent_uri::pct_enc::{CowStr, EStr, EString};
 use fluent_uri::resolve::Resolver;
 use fluent_uri::{Iri, IriRef, ParseError, Uri, UriRef};
 use std::alloc::Global;
+use uri_basic::BasicResolver;
 use uri_links::links::{Outcome, Register};
 use uri_mend::Mend;
 use uri_setting::RuleSetting;
@@ -93,6 +94,26 @@ pub fn resolve_values(
     reference: UriRef<&str>,
 ) -> Option<Uri<String>> {
     reference.resolve_against(alloc, &base).ok()
+}
+
+/// A counted call: resolves a URI reference by a resolver. `None` if that fails.
+#[inline(never)]
+pub fn resolve(
+    alloc: Global,
+    resolver: &Resolver<Uri<&str>>,
+    reference: UriRef<&str>,
+) -> Option<Uri<String>> {
+    resolver.resolve(alloc, &reference).ok()
+}
+
+/// A counted call: resolves a URI reference by the basic algorithm. `None` if that fails.
+#[inline(never)]
+pub fn resolve_basic(
+    alloc: Global,
+    resolver: &BasicResolver<Uri<&str>>,
+    reference: UriRef<&str>,
+) -> Option<Uri<String>> {
+    resolver.resolve(alloc, &reference).ok()
 }
 
 /// A counted call: parses a URI and a URI reference, and returns the normal form of the target.

@@ -6,8 +6,10 @@ mod calls;
 
 use crate::calls as call;
 use fluent_uri::normalize::Normalizer;
+use fluent_uri::resolve::Resolver;
 use fluent_uri::{Iri, Uri, UriRef};
 use std::alloc::Global;
+use uri_basic::BasicResolver;
 use uri_links::links::Register;
 
 /// What is returned for a text that is rejected, in place of the length of a result.
@@ -62,6 +64,8 @@ pub extern "C" fn bench(alloc: Global, work: u32, text: &[u8], base: &[u8], roun
         21 => length_of!(rounds, call::mend_copy(alloc, text)),
         22 => length_of!(rounds, call::normalize_by_setting(alloc, text, false)),
         23 => length_of!(rounds, call::normalize_by_setting(alloc, text, true)),
+        24 => resolve(alloc, base, text, rounds),
+        25 => resolve_basic(alloc, base, text, rounds),
         _ => REJECTED,
     }
 }
@@ -76,6 +80,32 @@ fn resolve_values(alloc: Global, base: &str, reference: &str, rounds: u64) -> u6
         return REJECTED;
     };
     length_of!(rounds, call::resolve_values(alloc, base, reference))
+}
+
+/// Resolves a URI reference by a resolver in so many counted rounds, and returns the length of the
+/// target, or `REJECTED`.
+fn resolve(alloc: Global, base: &str, reference: &str, rounds: u64) -> u64 {
+    let Ok(base) = Uri::<&str>::parse(base) else {
+        return REJECTED;
+    };
+    let Ok(reference) = UriRef::<&str>::parse(reference) else {
+        return REJECTED;
+    };
+    let resolver = Resolver::with_base(base);
+    length_of!(rounds, call::resolve(alloc, &resolver, reference))
+}
+
+/// Resolves a URI reference by the basic algorithm in so many counted rounds, and returns the length
+/// of the target, or `REJECTED`.
+fn resolve_basic(alloc: Global, base: &str, reference: &str, rounds: u64) -> u64 {
+    let Ok(base) = Uri::<&str>::parse(base) else {
+        return REJECTED;
+    };
+    let Ok(reference) = UriRef::<&str>::parse(reference) else {
+        return REJECTED;
+    };
+    let resolver = BasicResolver::with_base(base);
+    length_of!(rounds, call::resolve_basic(alloc, &resolver, reference))
 }
 
 /// Decodes the path of an IRI in so many counted rounds, and returns the length of the text, or
