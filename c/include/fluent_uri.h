@@ -124,6 +124,13 @@ enum fluent_uri_host_kind {
     FLUENT_URI_IPV_FUTURE = 4
 };
 
+/** What fluent_uri_port_number writes of a port that has no number from 0 to 65535. */
+enum fluent_uri_port {
+    FLUENT_URI_NO_PORT = 65536,       /**< there is no port, perhaps no authority */
+    FLUENT_URI_EMPTY_PORT = 65537,    /**< nothing is after the `:` */
+    FLUENT_URI_PORT_TOO_LARGE = 65538 /**< the number is above 65535, which no kind forbids */
+};
+
 /** The bytes from `start` up to `end`; both are SIZE_MAX where the component is absent. */
 typedef struct {
     size_t start, end;
@@ -190,6 +197,33 @@ uint32_t fluent_uri_parse(uint32_t kind, const uint8_t *text, size_t text_len,
 uint32_t fluent_uri_is_plainly_normal(uint32_t kind, const uint8_t *text, size_t text_len,
                                       const fluent_uri_parts *parts);
 
+/** Writes the octets of the address that the host of a text is, in network order: 4 if
+ * fluent_uri_parse reports FLUENT_URI_IPV4 of the text, 16 if it reports FLUENT_URI_IPV6, and else
+ * none, so that outcome->length is 0 (RFC 3986, section 3.2.2). Takes no memory. */
+uint32_t fluent_uri_host_address(uint32_t kind, const uint8_t *text, size_t text_len, uint8_t *out,
+                                 size_t out_len, fluent_uri_outcome *outcome);
+
+/** Sets *PORT to the number of the port of a text, from 0 to 65535, or to one of enum
+ * fluent_uri_port where there is none (RFC 3986, section 3.2.3). Leading zeros make no difference.
+ * If it returns an error, of which fluent_uri_parse reports the index, *PORT is as it was. Takes no
+ * memory. */
+uint32_t fluent_uri_port_number(uint32_t kind, const uint8_t *text, size_t text_len,
+                                uint32_t *port);
+
+/** Returns the default port of a scheme, as normalising knows it, or 0 if it has none. The case of
+ * ASCII letters makes no difference: of `HTTP` it is 80. Takes no memory. */
+uint32_t fluent_uri_default_port(const uint8_t *scheme, size_t scheme_len);
+
+/** Writes the origin of a URI in ASCII, as `http://example.com:8080` (RFC 6454, section 6.2): scheme
+ * and host of its normal form, and the port where it is not the scheme's default one. KIND is
+ * FLUENT_URI_URI or FLUENT_URI_URI_REF: an IRI is converted first.
+ *
+ * outcome->length is 0 if the text has no origin of its own: its scheme has no default port, as
+ * `file`, `data` and `urn` have none; it has no host, or an empty one; or its port is above 65535.
+ * RFC 6454 writes `null` there, but no two such texts have the same origin. */
+uint32_t fluent_uri_origin(uint32_t kind, const uint8_t *text, size_t text_len, uint8_t *out,
+                           size_t out_len, fluent_uri_outcome *outcome);
+
 /** Writes the normal form (RFC 3986, section 6.2.2; default ports are left out, which is of section
  * 6.2.3). OPTIONS is 0 or FLUENT_URI_SCHEME_RULES: with it the form is that of the whole of section
  * 6.2.3. Forms with it and without it are no keys of one table. */
@@ -239,7 +273,9 @@ uint32_t fluent_uri_build(uint32_t kind, const uint8_t *text, size_t text_len,
                           const fluent_uri_components *components, uint8_t *out, size_t out_len,
                           fluent_uri_parts *parts, size_t parts_len, fluent_uri_outcome *outcome);
 
-/** Writes an IRI or an IRI reference as a URI or a URI reference (RFC 3987, section 3.1). */
+/** Writes an IRI or an IRI reference as a URI or a URI reference (RFC 3987, section 3.1). A host past
+ * ASCII is percent-encoded too: a name that DNS does not have. For a name in Punycode, replace the
+ * host by fluent_uri_build first. */
 uint32_t fluent_uri_to_uri(uint32_t kind, const uint8_t *text, size_t text_len, uint8_t *out,
                            size_t out_len, fluent_uri_parts *parts, size_t parts_len,
                            fluent_uri_outcome *outcome);

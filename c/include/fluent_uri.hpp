@@ -138,6 +138,36 @@ inline bool is_plainly_normal(std::uint32_t kind, const parts &text) noexcept {
                                                 &text.parts_) == 1;
 }
 
+/** The octets of the address that the host of a text is, 4 or 16 in network order; none if the host
+ * is a name or there is none. */
+inline result host_address(std::uint32_t kind, std::string_view text) {
+    return detail::make(16, [&](std::uint8_t *out, std::size_t room, auto *outcome) {
+        return fluent_uri_host_address(kind, detail::bytes(text), text.size(), out, room, outcome);
+    });
+}
+
+/** The number of a text's port, from 0 to 65535, or one of `enum fluent_uri_port` where there is
+ * none; nothing if the text is rejected. */
+inline std::optional<std::uint32_t> port_number(std::uint32_t kind, std::string_view text) noexcept {
+    std::uint32_t port;
+    if (fluent_uri_port_number(kind, detail::bytes(text), text.size(), &port)) return std::nullopt;
+    return port;
+}
+
+/** The default port of a scheme, if it has one. */
+inline std::optional<std::uint16_t> default_port(std::string_view scheme) noexcept {
+    auto port = fluent_uri_default_port(detail::bytes(scheme), scheme.size());
+    if (port == 0) return std::nullopt;
+    return static_cast<std::uint16_t>(port);
+}
+
+/** The origin of a URI in ASCII (RFC 6454, section 6.2); empty if the text has none of its own. */
+inline result origin(std::uint32_t kind, std::string_view text) {
+    return detail::make(text.size(), [&](std::uint8_t *out, std::size_t room, auto *outcome) {
+        return fluent_uri_origin(kind, detail::bytes(text), text.size(), out, room, outcome);
+    });
+}
+
 /** The components of a reference to build, without their delimiters; one that is not there is
  * absent. */
 struct components {
@@ -203,7 +233,8 @@ inline result relativize(std::uint32_t kind, std::uint32_t options, std::string_
     return detail::make_of_two(fluent_uri_relativize, kind, options, base, target);
 }
 
-/** An IRI or an IRI reference as a URI or a URI reference (RFC 3987, section 3.1). */
+/** An IRI or an IRI reference as a URI or a URI reference (RFC 3987, section 3.1). A host past ASCII
+ * is percent-encoded too: a name that DNS does not have. */
 inline result to_uri(std::uint32_t kind, std::string_view text) {
     return detail::make_of_one(fluent_uri_to_uri, kind, text);
 }

@@ -55,7 +55,9 @@ static const fluent_uri_components components = {
     IT(relativize, fluent_uri_relativize(0, 0, BASE, TEXT("http://a/d?q"), VALUE)) \
     IT(decode, fluent_uri_decode(FLUENT_URI_PATH, TEXT("a%20/b"), BYTES)) \
     IT(encode, fluent_uri_encode(FLUENT_URI_DATA, TEXT("a b/"), BYTES)) \
-    IT(mend_component, fluent_uri_mend_component(FLUENT_URI_DATA, TEXT("%20 /"), BYTES))
+    IT(mend_component, fluent_uri_mend_component(FLUENT_URI_DATA, TEXT("%20 /"), BYTES)) \
+    IT(host_address, fluent_uri_host_address(1, TEXT("//[::1]:80"), BYTES)) \
+    IT(origin, fluent_uri_origin(0, TEXT("HTTP://A:81/b"), BYTES))
 #define COLUMNS(IT) \
     IT(normalize_batch, fluent_uri_normalize_batch(1, 0, COLUMN(offsets))) \
     IT(to_uri_batch, fluent_uri_to_uri_batch(3, COLUMN(offsets))) \

@@ -25,6 +25,20 @@ static bool by_pairs() {
            !second.value && third.name == "" && third.value == "c=" && !none && query.empty();
 }
 
+static bool by_hosts() {
+    using namespace fluent_uri;
+    auto address = host_address(FLUENT_URI_URI, "http://[::1]:8080/");
+    auto no_address = host_address(FLUENT_URI_URI, "http://a/");
+    auto own = origin(FLUENT_URI_URI, "HTTP://u@A:8080/b"), none = origin(FLUENT_URI_URI, "urn:a");
+    return address && address->size() == 16 && (*address)[15] == 1 && no_address &&
+           no_address->empty() && !host_address(FLUENT_URI_URI, "a b") &&
+           port_number(FLUENT_URI_URI, "a://b:080") == 80u &&
+           port_number(FLUENT_URI_URI, "a://b:") == std::uint32_t{FLUENT_URI_EMPTY_PORT} &&
+           !port_number(FLUENT_URI_URI, "a b") && default_port("HTTPS") == 443 &&
+           !default_port("urn") && own && *own == "http://a:8080" && none && none->empty() &&
+           !origin(FLUENT_URI_IRI, "http://a/");
+}
+
 static bool by_strings() {
     using namespace fluent_uri;
     auto p = parse(FLUENT_URI_URI, "http://u@h:80/p?q#f");
@@ -62,7 +76,7 @@ static bool by_strings() {
            *mend_component(FLUENT_URI_PATH, "a%20b c") == "a%20b%20c" &&
            is_plainly_normal(FLUENT_URI_URI, parse(FLUENT_URI_URI, "http://a/b")) &&
            !is_plainly_normal(FLUENT_URI_URI, parse(FLUENT_URI_URI, "http://A/b")) &&
-           !is_plainly_normal(FLUENT_URI_URI, no) && by_pairs() &&
+           !is_plainly_normal(FLUENT_URI_URI, no) && by_pairs() && by_hosts() &&
            version() >> 16 == FLUENT_URI_VERSION_MAJOR && !error_name(15) &&
            normal_version() == FLUENT_URI_NORMAL_VERSION &&
            *error_message(FLUENT_URI_UNEXPECTED_CHAR) == "unexpected character" &&

@@ -192,6 +192,7 @@ static void parse_returns_spans(const input *in) {
     for (size_t i = 0; i < sizeof spans / sizeof *spans; i++) is_span(call, spans[i], in->size);
     HOLDS(has_pairs_in_order(in->text, in->size));
     HOLDS(is_normal_if_plain(in->kind, in->text, in->size, (int)in->component));
+    HOLDS(has_host_of_its_kind(in->kind, in->text, in->size));
 }
 
 static uint8_t again[3 * ROOM];

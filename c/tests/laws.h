@@ -43,4 +43,28 @@ static inline int is_normal_if_plain(uint32_t kind, const uint8_t *text, size_t 
     return fluent_uri_is_plainly_normal(kind, text, size, &parts) <= 1;
 }
 
+/* An address has the octets of its kind of host, a port is a number if it has digits below 65536, and
+ * an origin is its own. */
+static inline int has_host_of_its_kind(uint32_t kind, const uint8_t *text, size_t size) {
+    static const size_t octets[] = {0, 0, 4, 16, 0};
+    static uint8_t out[16], origin[1 << 16], again[1 << 16];
+    fluent_uri_parts parts;
+    fluent_uri_outcome outcome;
+    uint32_t port = 7, error = fluent_uri_parse(kind, text, size, &parts);
+    if (fluent_uri_host_address(kind, text, size, out, sizeof out, &outcome) != error) return 0;
+    if (fluent_uri_port_number(kind, text, size, &port) != error) return 0;
+    if (error) return port == 7 && outcome.error == error && outcome.index == parts.index;
+    if (outcome.length != octets[parts.host_kind]) return 0;
+    if ((port == FLUENT_URI_NO_PORT) != (parts.port.start == SIZE_MAX)) return 0;
+    if ((port == FLUENT_URI_EMPTY_PORT) !=
+        (parts.port.start != SIZE_MAX && parts.port.start == parts.port.end))
+        return 0;
+    error = fluent_uri_origin(kind, text, size, origin, sizeof origin, &outcome);
+    if (error) return error == FLUENT_URI_INVALID_ARGUMENT && kind > FLUENT_URI_URI_REF;
+    size_t length = outcome.length;
+    if (length == 0 || length > sizeof origin) return 1;
+    return fluent_uri_origin(0, origin, length, again, sizeof again, &outcome) == 0 &&
+           outcome.length == length && !memcmp(origin, again, length);
+}
+
 #endif

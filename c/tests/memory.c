@@ -40,7 +40,7 @@ static int is_kept(size_t length) {
     return is_clear(0, CANARY) && is_clear(CANARY + length, sizeof whole);
 }
 
-enum { WORKS = 14 };
+enum { WORKS = 15 };
 static uint32_t ends[3];
 static uint8_t valid;
 
@@ -64,7 +64,8 @@ static uint32_t work(int which, size_t room) {
     case 11: return fluent_uri_mend_component(FLUENT_URI_PATH, TEXT("%7e b\xc3\xa9#"), out, room,
                                               &outcome);
     case 10: return fluent_uri_mend_link(1, TEXT(" /b\n c\t[ "), out, room, NO_PARTS, &outcome);
-    case 13: return fluent_uri_resolve(0, FLUENT_URI_BASIC, TEXT(base), TEXT("../../c/%7e"), out,
+    case 13: return fluent_uri_origin(0, TEXT("HTTP://A:81/b"), out, room, &outcome);
+    case 14: return fluent_uri_resolve(0, FLUENT_URI_BASIC, TEXT(base), TEXT("../../c/%7e"), out,
                                        room, NO_PARTS, &outcome);
     case 12: {
         const fluent_uri_span none = {SIZE_MAX, SIZE_MAX};
@@ -103,6 +104,6 @@ int main(void) {
         }
     }
     /* By the shared library the requests are its own malloc's, which this file replaces too. */
-    CHECK(counts >= 8);
+    CHECK(counts >= 9);
     return ended("memory");
 }

@@ -76,6 +76,30 @@ static long written(uint32_t error) {
     return (long)outcome.length;
 }
 
+/* The host of the row's text, which is no name, in the words of the rows. */
+static long address(uint32_t kind) {
+    fluent_uri_host_address(kind, bytes(1), lengths[1], out, MOST, &outcome);
+    size_t length = outcome.length, at = 0;
+    if (length == 0) return sprintf(made, "ipvfuture");
+    at = (size_t)sprintf(made, length == 4 ? "ipv4" : "ipv6");
+    for (size_t i = 0; i < length; i += length == 4 ? 1 : 2)
+        at += (size_t)(length == 4 ? sprintf(made + at, " %d", out[i])
+                                   : sprintf(made + at, " %x", out[i] << 8 | out[i + 1]));
+    return (long)at;
+}
+
+static long default_port(void) {
+    uint32_t port = fluent_uri_default_port(bytes(0), lengths[0]);
+    return port ? sprintf(made, "%u", port) : sprintf(made, "none");
+}
+
+static long port(uint32_t kind) {
+    uint32_t port;
+    fluent_uri_port_number(kind, bytes(1), lengths[1], &port);
+    if (port == FLUENT_URI_PORT_TOO_LARGE) return sprintf(made, "error");
+    return port > 65535 ? sprintf(made, "none") : sprintf(made, "%u", port);
+}
+
 /* What follows the texts of a call that makes a value. */
 #define VALUE out, MOST, NO_PARTS, &outcome
 
@@ -104,6 +128,10 @@ static long run(const char *op, int count) {
     if (!strcmp(op, "host") && p.host_kind == FLUENT_URI_REG_NAME)
         return (long)put(sprintf(made, "name") > 0 ? 4 : 0, "", text + p.host.start,
                          p.host.end - p.host.start);
+    if (!strcmp(op, "host") && p.host_kind != FLUENT_URI_NO_HOST)
+        return address((uint32_t)kind);
+    if (!strcmp(op, "port") && !p.error) return port((uint32_t)kind);
+    if (!strcmp(op, "default-port")) return default_port();
     if (!strcmp(op, "normalize"))
         return written(fluent_uri_normalize((uint32_t)kind, 0, bytes(1), lengths[1], VALUE));
     /* Here the fragment of a base plays no part. */

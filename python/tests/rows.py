@@ -39,7 +39,6 @@ ERRORS = {
 }
 # What the package has no call for.
 WITHOUT_A_CALL = {
-    "default-port",
     "normalize-strict",
     "normalize-under",
     "print-ipv4",
@@ -115,13 +114,17 @@ def authority(kind, text):
 def host(kind, text):
     value = KINDS[kind].parse(text)
     if value.host_kind is HostKind.REG_NAME:
+        assert value.host_address is None
         return ["name", value.host]
+    address = value.host_address
     if value.host_kind is HostKind.IPV4:
-        return ["ipv4", *map(str, ipaddress.IPv4Address(value.host).packed)]
+        assert address == ipaddress.IPv4Address(value.host)
+        return ["ipv4", *map(str, address.packed)]
     if value.host_kind is HostKind.IPV_FUTURE:
+        assert address is None
         return ["ipvfuture"]
-    packed = ipaddress.IPv6Address(value.host[1:-1]).packed
-    return ["ipv6", *(f"{it:x}" for it in struct.unpack(">8H", packed))]
+    assert address == ipaddress.IPv6Address(value.host[1:-1])
+    return ["ipv6", *(f"{it:x}" for it in struct.unpack(">8H", address.packed))]
 
 
 def ipv6(kind, text):
@@ -137,6 +140,11 @@ def port(kind, text):
         number = KINDS[kind].parse(text).port_number
     except ValueError:
         return ["error"]
+    return ["none" if number is None else str(number)]
+
+
+def default_port(scheme):
+    number = UriRef.build(scheme=scheme).default_port
     return ["none" if number is None else str(number)]
 
 
@@ -256,6 +264,7 @@ CALLS = {
     "host": host,
     "ipv6": ipv6,
     "port": port,
+    "default-port": default_port,
     "normalize": normalize,
     "encode-as-uri": encode_as_uri,
     "with-fragment": with_fragment,

@@ -74,6 +74,7 @@ class Declarations(unittest.TestCase):
         self.assertEqual(constants("error"), ours.ERRORS)
         self.assertEqual(constants("component"), ours.COMPONENTS)
         self.assertEqual(constants("host_kind"), ours.HOST_KINDS)
+        self.assertEqual(constants("port"), ours.PORTS)
 
     def test_enums(self):
         for kind in [ParseErrorKind, ResolveErrorKind, BuildErrorKind]:

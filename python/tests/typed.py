@@ -1,8 +1,8 @@
 """What mypy must know of the calls: this file is checked, and not run."""
 
 from array import array
-from ipaddress import ip_address
-from typing import Dict, List, Optional, Tuple
+from ipaddress import IPv4Address, IPv6Address, ip_address
+from typing import Dict, List, Optional, Tuple, Union
 
 from fluent_uri import BuildError, BuildErrorKind
 from fluent_uri import HostKind, Iri, IriRef, ParseError, ParseErrorKind, Reference, Uri, UriRef
@@ -15,6 +15,9 @@ host: Optional[str] = uri.host
 path: str = uri.path
 kind: Optional[HostKind] = uri.host_kind
 number: Optional[int] = uri.port_number
+default: Optional[int] = uri.default_port
+address: Union[IPv4Address, IPv6Address, None] = uri.host_address
+origin: Optional[str] = uri.origin
 normal: Uri = uri.normalize()
 target: Uri = uri.resolve(UriRef("c"), normalize=True)
 bare: Uri = uri.with_fragment(None)

@@ -25,6 +25,7 @@ mod PlainTexts
 mod QueryPairs
 mod References
 mod Rejected
+mod SchemeTexts
 mod Targets
 mod ValidBytes
 mod WrittenLines

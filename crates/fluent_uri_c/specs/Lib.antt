@@ -1,3 +1,4 @@
+pub mod Addresses
 pub mod Bases
 pub mod Building
 pub mod Columns
@@ -12,10 +13,12 @@ pub mod MendedComponents
 pub mod Mends
 pub mod Names
 pub mod Options
+pub mod Origins
 pub mod Outcomes
 pub mod Pairs
 pub mod PartColumns
 pub mod PlainTexts
+pub mod PortNumbers
 pub mod Relatives
 pub mod Results
 pub mod Sets

@@ -43,6 +43,8 @@ from fluent_uri._errors import (
     ResolveErrorKind,
 )
 from fluent_uri._errors import exact as _exact
+from fluent_uri._hosts import Hosts as _Hosts
+from fluent_uri._hosts import WithOrigin as _WithOrigin
 from fluent_uri._paths import DotSegmentError, PathsAndQueries
 
 __all__ = [
@@ -87,7 +89,7 @@ class HostKind(enum.IntEnum):
 
 
 @_calls.finished
-class Reference(_calls.Reference, PathsAndQueries, _Buildable):
+class Reference(_calls.Reference, PathsAndQueries, _Hosts, _Buildable):
     """What the four kinds have in common: the base of each, and of no other class.
 
     >>> isinstance(Uri.parse("a:b"), Reference)
@@ -102,17 +104,6 @@ class Reference(_calls.Reference, PathsAndQueries, _Buildable):
         """The kind of the host, or None where there is no authority."""
         kind = self._host_kind
         return HostKind(kind) if kind else None
-
-    @property
-    def port_number(self) -> Optional[int]:
-        """The number of the port, or None where the port is absent or empty. Raises `ValueError` if
-        it is above 65535, which no kind forbids."""
-        if not self.port:
-            return None
-        digits = self.port.lstrip("0") or "0"
-        if len(digits) > 5 or int(digits) > 65535:
-            raise ValueError("port is above 65535")
-        return int(digits)
 
     def with_fragment(self: _Reference_, fragment: Optional[str]) -> _Reference_:
         """Returns the same with this fragment in place of its own, or with none if it is None.
@@ -219,14 +210,14 @@ class _Absolute(Reference):
 
 
 @_calls.finished
-class UriRef(_calls.UriRef, Reference):
+class UriRef(_calls.UriRef, Reference, _WithOrigin):
     """A URI or a relative reference (RFC 3986, section 4.1)."""
 
     __slots__ = ()
 
 
 @_calls.finished
-class Uri(_Absolute, _calls.Uri):
+class Uri(_Absolute, _calls.Uri, _WithOrigin):
     """A URI (RFC 3986, section 3)."""
 
     __slots__ = ()

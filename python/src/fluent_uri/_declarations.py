@@ -42,6 +42,7 @@ COMPONENTS = {
 HOST_KINDS = {"NO_HOST": 0, "REG_NAME": 1, "IPV4": 2, "IPV6": 3, "IPV_FUTURE": 4}
 BUFFERS = {"OUT": 0, "OUT_OFFSETS": 1, "VALID": 2, "PARTS": 3, "LINE_ERRORS": 4, "OFFSET_WIDTH": 5}
 OPTIONS = {"PREFER_RELATIVE_PATH": 1, "SCHEME_RULES": 2, "BASIC": 4}
+PORTS = {"NO_PORT": 65536, "EMPTY_PORT": 65537, "PORT_TOO_LARGE": 65538}
 
 
 class Span(ctypes.Structure):
@@ -105,6 +106,10 @@ FUNCTIONS: Dict[str, Tuple[Any, ...]] = {
     "error_message": (NUMBER, *_BUFFER, OUT),
     "parse": (NUMBER, *_TEXT, OUT),
     "is_plainly_normal": (NUMBER, *_TEXT, OUT),
+    "host_address": (NUMBER, *_TEXT, *_BUFFER, OUT),
+    "port_number": (NUMBER, *_TEXT, OUT),
+    "default_port": (*_TEXT,),
+    "origin": (NUMBER, *_TEXT, *_BUFFER, OUT),
     "normalize": (NUMBER, NUMBER, *_TEXT, *_BUFFER, *_BUFFER, OUT),
     "resolve": (NUMBER, NUMBER, *_TEXT, *_TEXT, *_BUFFER, *_BUFFER, OUT),
     "resolve_normalized": (NUMBER, NUMBER, *_TEXT, *_TEXT, *_BUFFER, *_BUFFER, OUT),

@@ -6,9 +6,9 @@ import ctypes
 import os
 import pathlib
 from itertools import islice
-from typing import Any, Callable, Dict, List, Tuple
+from typing import Any, Callable, Dict, List, Optional, Tuple
 
-from fluent_uri._declarations import FUNCTIONS, NUMBER, SONAME, Outcome, Parts
+from fluent_uri._declarations import FUNCTIONS, NUMBER, PORTS, SONAME, Outcome, Parts
 from fluent_uri._errors import error_of
 
 
@@ -102,6 +102,10 @@ mend_link = function("mend_link")
 mend_component = function("mend_component")
 next_pair = function("next_pair")
 build = function("build")
+host_address = function("host_address")
+_default_port = function("default_port")
+origin = function("origin")
+_port_number = function("port_number")
 
 
 # The size of a room for a result at first, and of the largest that is kept.
@@ -199,6 +203,24 @@ def _called(
         if length <= room.size:
             return room, length
         room = _taken(length)
+
+
+def default_port(scheme: bytes) -> int:
+    """The default port of a scheme, or 0 if it has none."""
+    port: int = _default_port(scheme, len(scheme))
+    return port
+
+
+def port_number(kind: int, data: bytes) -> Optional[int]:
+    """The number of a text's port, or None where it is absent or empty."""
+    port = NUMBER()
+    error = _port_number(kind, data, len(data), ctypes.addressof(port))
+    if error:
+        raise error_of(error, 0, data)
+    if port.value == PORTS["PORT_TOO_LARGE"]:
+        raise ValueError("port is above 65535")
+    number: int = port.value
+    return number if number < 65536 else None
 
 
 def error_message(number: int) -> str:
