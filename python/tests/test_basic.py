@@ -9,7 +9,7 @@ from fluent_uri import Iri, ResolveError, ResolveErrorKind, Uri, batch
 from fluent_uri.parse import urljoin
 
 ROOT = pathlib.Path(__file__).resolve().parents[2]
-# A row of a page: a case, a base and a reference, and what is made of them with `basic` and without.
+# A row of a page: a case, a base and a reference, and what comes of them with `basic` and without.
 ROW = re.compile(r"^\| .* \| `([^`]+)`, `([^`]+)` \| `([^`]+)` \| `([^`]+)` \|$", re.MULTILINE)
 KINDS = {"uri": Uri, "iri": Iri}
 NAMES = {

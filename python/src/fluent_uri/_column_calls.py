@@ -120,8 +120,9 @@ def resolve_column(
     start: int = 0,
     count: Optional[int] = None,
 ) -> Column:
-    """Returns the targets of a column of references against a base, as `normalize_column` does. With
-    `basic` they are those of `resolve(basic=True)`."""
+    """Returns the targets of a column of references against a base, as `normalize_column` does.
+
+    With `basic` they are those of `resolve(basic=True)`."""
     rules_of_normal(normalize, scheme_rules, basic)
     number, text, length = _base(base)
     reference = number + KINDS["URI_REF"] - KINDS["URI"]

@@ -174,8 +174,9 @@ def resolve(
     scheme_rules: bool = False,
     mend: bool = False,
 ) -> List[Optional[str]]:
-    """Returns the target of each reference against a base, or None where there is none. With `basic`
-    they are those of `base.resolve(basic=True)`.
+    """Returns the target of each reference against a base, or None where there is none.
+
+    With `basic` they are those of `base.resolve(basic=True)`.
 
     >>> resolve(Uri("foo:b"), ["g", "?q"]), resolve(Uri("foo:b"), ["g", "?q"], basic=True)
     ([None, None], ['foo:g', 'foo:b?q'])
