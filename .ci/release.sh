@@ -87,7 +87,7 @@ int main(void) {
 C
 {
     echo '#include "fluent_uri.h"'
-    sed -n '/^uint32_t fluent_uri_/,/;/p' c/include/fluent_uri.h | sed 's/;/ { return 0; }/'
+    sed -n '/^uint32_t fluent_uri_/ { :a; /;/!{ N; ba; }; s/;/ { return 0; }/p; }' c/include/fluent_uri.h
 } > "$work/exports.c"
 for it in urilines uritool; do
     cc -O2 "$work/$it.c" -o "$work/$it" || exit 2
