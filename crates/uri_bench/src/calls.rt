@@ -7,7 +7,7 @@ use fluent_uri::{Iri, IriRef, ParseError, Uri, UriRef};
 use std::alloc::Global;
 use uri_basic::BasicResolver;
 use uri_links::links::{Outcome, Register};
-use uri_mend::Mend;
+use uri_mend::{Mend, MendError};
 use uri_setting::RuleSetting;
 
 /// A counted call: parses a text as a URI.
@@ -187,16 +187,16 @@ pub fn copy_uri_ref(alloc: Global, text: &str) -> Option<UriRef<String>> {
     UriRef::<&str>::parse(text).ok()?.to_owned(alloc).ok()
 }
 
-/// A counted call: mends a text to a URI reference. `None` if that fails.
+/// A counted call: mends a text to a URI reference.
 #[inline(never)]
-pub fn mend_uri_ref(alloc: Global, text: &str) -> Option<UriRef<String>> {
-    UriRef::<String>::mend(alloc, text).ok()
+pub fn mend_uri_ref(alloc: Global, text: &str) -> Result<UriRef<String>, MendError> {
+    UriRef::<String>::mend(alloc, text)
 }
 
-/// A counted call: mends a text to an IRI reference. `None` if that fails.
+/// A counted call: mends a text to an IRI reference.
 #[inline(never)]
-pub fn mend_iri_ref(alloc: Global, text: &str) -> Option<IriRef<String>> {
-    IriRef::<String>::mend(alloc, text).ok()
+pub fn mend_iri_ref(alloc: Global, text: &str) -> Result<IriRef<String>, MendError> {
+    IriRef::<String>::mend(alloc, text)
 }
 
 /// A counted call: copies a text, and mends the copy to a URI reference. `None` if either fails.

@@ -3,7 +3,7 @@
 -- what they did.
 use Rattle.std.proofs.Common.{◌≡◌, ℕ, true, false, List, [], ◌∷◌, ◌++◌, map, refl, sym, ap}
 use Rattle.std.proofs.Common.{subst, ◌∙◌, ⊎_elim, inl, inr}
-use Rattle.std.specs.Prelude.{Option, Some, None, IfSome, option_map, Result, Ok, Err, IfOk, IfErr}
+use Rattle.std.specs.Prelude.{Option, Some, None, IfSome, option_map}
 use Rattle.std.specs.Char.{encode_utf8}
 use Rattle.std.specs.List.{list_all, flat_map}
 use Rattle.std.specs.Str.{IsUtf8}
@@ -195,15 +195,3 @@ module _ (kind : Kind) (sets : HasComponentSets kind) (text : List ℕ) (u : IsU
         fragment = valid-part-encodes-mended-part kind.fragment p.fragment q.fragment
             sets.fragment.percent parts.fragment valid.fragment h.fragment;
       }
-
--- general fact on results, for mending: what follows of each value does so of the one that is there
-pub IfOk-follows : {A E : Type 0} (r : Result A E) (P Q : A → Type 0) → ((x : A) → P x → Q x)
-    → IfOk r P → IfOk r Q
-IfOk-follows (Ok x) P Q f h = f x h
-IfOk-follows (Err e) P Q f h = tt
-
--- general fact on results, for mending: what follows of each error does so of the one that is there
-pub IfErr-follows : {A E : Type 0} (r : Result A E) (P Q : E → Type 0) → ((e : E) → P e → Q e)
-    → IfErr r P → IfErr r Q
-IfErr-follows (Ok x) P Q f h = tt
-IfErr-follows (Err e) P Q f h = f e h

@@ -1,10 +1,10 @@
 //! Components, mended (RFC 3986, sections 2.1 and 2.4).
-ghost use Rattle.std.specs.Prelude.{◌≡◌, ◌+◌, ◌-◌, ◌<◌, ◌≤◌, ◌||◌, ◌++◌, ℕ, [], IfOk, drop, false, length};
-ghost use Rattle.std.specs.Prelude.{map, slice_index, take, true};
+ghost use Rattle.std.specs.Prelude.{◌≡◌, ◌+◌, ◌-◌, ◌<◌, ◌≤◌, ◌&&◌, ◌||◌, ◌++◌, ℕ, [], IfOk, drop, false};
+ghost use Rattle.std.specs.Prelude.{length, map, nat_lt, not, slice_index, take, true};
 ghost use Rattle.std.specs.Str.{IsCharBoundary};
 ghost use Rattle.uri_pct.specs.Masks.{has_bit};
 ghost use Rattle.uri_pct.specs.Prefixes.{valid_prefix};
-ghost use Rattle.uri_pct.specs.Sets.{is_one_of};
+ghost use Rattle.uri_pct.specs.Sets.{allows, is_one_of};
 ghost use Rattle.uri_pct.specs.Tables.{set_of};
 ghost use Rattle.uri_pct.specs.Tokens.{Octet, print, text_of_token};
 ghost use Rattle.uri_parts.specs.Components.{before_any, from_any};
@@ -61,6 +61,17 @@ fn never_end(table: &Table, text: &str, start: usize) -> usize
     run_end(NEVER_LOW, NEVER_HIGH, bytes, start)
 }
 
+/// Returns whether a text has a byte at this position that is the code of no character which the
+/// table allows.
+#[inline(always)]
+fn lacks_byte(table: &Table, text: &str, at: usize) -> bool
+    ensures { result
+        ≡ (nat_lt at (length text.now) && not (allows (set_of table.now) (slice_index text.now at))) }
+{
+    let bytes = text.as_bytes();
+    at < bytes.len() && !table.allows(char::from(bytes[at]))
+}
+
 /// Returns where a run of characters ends that begins at `start`, and that the table lacks. A `%` at
 /// the end of the run may begin an octet, and is left out.
 #[inline(always)]
@@ -70,6 +81,10 @@ fn lacked_end(table: &Table, text: &str, start: usize) -> usize
     requires boundary { IsCharBoundary text.now start }
     ensures { IsLackedRun (set_of table.now) text.now start result }
 {
+    // Most runs are empty, as after the `]` of `[]`, and this costs less than a scan.
+    if !lacks_byte(table, text, start) {
+        return start;
+    }
     let end = never_end(table, text, start);
     if end == start {
         return start;

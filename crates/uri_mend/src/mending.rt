@@ -221,25 +221,17 @@ fn mend_invalid<K: Kind>(
     }
 }
 
-/// Returns a copy of a reference.
-fn copied<K: Kind>(alloc: Global, core: Core<K, &str>) -> Result<Reference<K, String>, MendError>
-    ensures text { IfOk result (λ made. reference_text made ≡ core_text core.entry) }
-    ensures memory { IfErr result (λ error. error ≡ OutOfMemory) }
-{
-    match core.to_owned(alloc) {
-        Ok(copy) => Ok(Reference::of_core(copy)),
-        Err(_) => Err(MendError::OutOfMemory),
-    }
-}
-
 /// Returns the reference that a text is mended to, or the text itself if it is one.
+///
+/// Each `?` returns its error at once. Without them the two results are one value, which LLVM copies
+/// twice more.
 fn mended_reference<K: Kind>(alloc: Global, text: &str) -> Result<Reference<K, String>, MendError>
     ensures mended { IfOk result (λ made. IsMended K.kind text.now (reference_text made)) }
     ensures refused { IfErr result (IsMendErrorOf K.kind text.now) }
 {
-    match parsed::<K>(text) {
-        Ok(core) => copied(alloc, core),
-        Err(error) => mend_invalid(alloc, text, error),
+    match Reference::<K, &str>::parse(text) {
+        Ok(value) => Ok(value.to_owned(alloc)?),
+        Err(error) => Ok(mend_invalid(alloc, text, error)?),
     }
 }
 

@@ -6,6 +6,10 @@ use Rattle.uri_mend.proofs.EncodedRuns.{empty-run-is-lacked, run-before-percent-
 use Rattle.uri_mend.proofs.EncodedRuns.{run-is-lacked}
 use Rattle.uri_mend.proofs.component.lacked_end.Goals as goal
 
+pub returns-then-not-lacks_byte : goal.returns-then-not-lacks_byte
+returns-then-not-lacks_byte c = empty-run-is-lacked (set_of c.args.table.now) c.args.text.now
+    c.args.start c.requires.boundary
+
 pub returns-then-end-start : goal.returns-then-end-start
 returns-then-end-start c = empty-run-is-lacked (set_of c.args.table.now) c.args.text.now c.args.start
     c.requires.boundary

@@ -1,4 +1,4 @@
-use Rattle.std.proofs.Common.{sym, ap, ◌∙◌}
+use Rattle.std.proofs.Common.{ap, ◌∙◌}
 use Rattle.uri_parts.specs.Grammar.{is_of_kind}
 use Rattle.uri_mend.proofs.LinkPrefixes.{link-of-cut}
 use Rattle.uri_mend.proofs.Unchanged.{prefix-is-of-kind-iff-mendable}
