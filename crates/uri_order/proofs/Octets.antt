@@ -1,0 +1,38 @@
+-- The decimal digits of an octet.
+use Rattle.std.proofs.Common.{◌≡◌, ℕ, ◌/◌, ◌%◌, ◌<◌, ◌^◌, ◌≤◌, Bool, List, [], ◌∷◌, ◌++◌, ltb, arith}
+use Rattle.std.proofs.Common.{inl, inr, cond}
+use Rattle.std.proofs.lemmas.Bool.{cases_lt}
+use Rattle.std.proofs.lemmas.Bool.Decides.{nat_tests}
+use Rattle.std.proofs.lemmas.Fmt.{decimal_digit, decimal_step}
+use Rattle.std.specs.Char.{digit_char}
+use Rattle.std.specs.Fmt.{decimal}
+
+-- a digit, or nothing for a leading zero
+abbrev unless_leading : Bool → ℕ → List ℕ
+unless_leading leading d = cond leading [] (digit_char d ∷ [])
+
+-- a number below 1000 is its decimal digits, without leading zeros
+pub decimal_has_no_leading_zeros : (n : ℕ) → n < 1000 → decimal n
+    ≡ unless_leading (ltb n 100) (n / 100)
+    ++ (unless_leading (ltb n 10) (n / 10 % 10) ++ digit_char (n % 10) ∷ [])
+decimal_has_no_leading_zeros n small = elim (cases_lt n 10) [
+  | inl one ↦ rw (decimal_digit n one) (grind (arith, nat_tests))
+  | inr more ↦ elim (cases_lt n 100) [
+    | inl two ↦
+        let fits : n < 2 ^ 64 = omega arith in
+        let tens : n / 10 < 10 = omega arith in
+        rw (decimal_step n more fits, decimal_digit (n / 10) tens) (grind (arith, nat_tests))
+    | inr three ↦
+        let fits : n < 2 ^ 64 = omega arith in
+        let tens : 10 ≤ n / 10 = omega arith in
+        let fits_tens : n / 10 < 2 ^ 64 = omega arith in
+        let hundreds : n / 10 / 10 < 10 = omega arith in
+        let same : n / 10 / 10 ≡ n / 100 = omega arith in
+        rw (
+          decimal_step n more fits,
+          decimal_step (n / 10) tens fits_tens,
+          decimal_digit (n / 10 / 10) hundreds,
+          same,
+        ) (grind (arith, nat_tests))
+  ]
+]

@@ -1,0 +1,50 @@
+-- The last token of a text that normalising decodes, and the tokens before it: RFC 3986, section
+-- 6.2.2.2; RFC 3987, section 5.3.2.3.
+use Rattle.std.specs.Prelude.{◌≡◌, ◌≢◌, ℕ, ◌+◌, true, List, [], ◌∷◌, ◌++◌}
+use Rattle.std.specs.Prelude.{length, map, slice_index}
+use Rattle.std.specs.Char.{IsScalar, encode_utf8}
+use Rattle.uri_pct.specs.Sets.{TableSet}
+use Rattle.uri_pct.specs.Chunks.{widest_set}
+use Rattle.uri_pct.specs.Delimiters.{percent_sign}
+use Rattle.uri_pct.specs.Tokens.{Token, Octet, tokens, IsValidFor}
+use Rattle.uri_pct.specs.DecodeUnreserved.{is_decodable}
+
+-- the tokens of the text are those of the text before, which is valid too, and then these
+pub record EndsIn (text before : List ℕ) (ts : List Token) : Type 0 where
+  pub tokens : tokens text ≡ tokens before ++ ts
+  pub valid : IsValidFor widest_set before
+
+-- the third byte from the end, if there is one, is not `%`
+abbrev pub LacksPercentThird : List ℕ → Type 0
+LacksPercentThird text = (n : ℕ) → n + 3 ≡ length text → slice_index text n ≢ percent_sign
+
+-- the last token, if there is one, is a character
+abbrev pub EndInNoOctet : List Token → Type 0
+EndInNoOctet ts = (before : List Token) (value : ℕ) → ts ≡ before ++ Octet value ∷ [] → ⊥
+
+-- no decodable character ends the bytes: none of their suffixes is its UTF-8
+abbrev pub EndInNoDecodable : TableSet → List ℕ → Type 0
+EndInNoDecodable set bytes =
+    (before : List ℕ) (c : ℕ) → IsScalar c → is_decodable set c ≡ true
+    → bytes ≡ before ++ encode_utf8 c → ⊥
+
+-- no decodable character ends the tokens as octets: none of their suffixes is the octets of its
+-- UTF-8
+abbrev pub TokensEndInNoDecodable : TableSet → List Token → Type 0
+TokensEndInNoDecodable set ts =
+    (before : List Token) (c : ℕ) → IsScalar c → is_decodable set c ≡ true
+    → ts ≡ before ++ map Octet (encode_utf8 c) → ⊥
+
+-- the bytes are not the UTF-8 of a decodable character
+abbrev pub AreNoDecodable : TableSet → List ℕ → Type 0
+AreNoDecodable set bytes =
+    (c : ℕ) → IsScalar c → is_decodable set c ≡ true → bytes ≡ encode_utf8 c → ⊥
+
+-- the bytes are the UTF-8 of the character, which is decodable
+abbrev pub AreDecodable : TableSet → List ℕ → ℕ → Type 0
+AreDecodable set bytes c = (is_decodable set c ≡ true) × (bytes ≡ encode_utf8 c)
+
+-- the octets of the decodable character end the text, and the text before is before them
+abbrev pub EndsInDecodable : TableSet → List ℕ → List ℕ → ℕ → Type 0
+EndsInDecodable set text before c =
+    (is_decodable set c ≡ true) × EndsIn text before (map Octet (encode_utf8 c))
