@@ -1,14 +1,13 @@
 -- The hosts that ToASCII writes are hosts of every kind.
 use Rattle.std.proofs.Common.{◌≡◌, ℕ, Bool, true, false, ◌||◌, eqb, List, [], refl, ap, sym, ◌∙◌}
 use Rattle.std.proofs.Common.{arith, inl, inr, subst}
-use Rattle.std.specs.Prelude.{Option, Some, None, codes, unwrap_or}
+use Rattle.std.specs.Prelude.{Some, codes, unwrap_or}
 use Rattle.std.specs.Char.{is_ascii_digit, is_ascii_lowercase}
 use Rattle.std.specs.List.{list_any}
 use Rattle.std.proofs.lemmas.Bool.{cases_Bool, cond-false, cond-true, or_parts}
 use Rattle.std.proofs.lemmas.Bool.Decides.{nat_tests}
 use Rattle.std.proofs.lemmas.List.Elements.{All-weaker}
 use Rattle.std.proofs.lemmas.List.Sums.{list_all-from_AllPass}
-use Rattle.idna.specs.AsciiDenyList.{denies}
 use Rattle.idna.specs.declared.deny_list.TheConstants.AsciiDenyList.{STD3}
 use Rattle.idna.specs.declared.options.Hyphens.TheVariants.{CheckFirstLast}
 use Rattle.idna.specs.declared.options.DnsLength.TheVariants.{VerifyAllowRootDot}

@@ -10,6 +10,12 @@ use thiserror::Error;
 /// # Examples
 ///
 /// The host `%FF` is rejected as `NameNotUtf8`, and `é..example` as `InvalidName`.
+///
+/// ```
+/// AsciiHostError::NameNotUtf8 => Error::NameNotUtf8,
+/// AsciiHostError::InvalidName => Error::InvalidName,
+/// AsciiHostError::OutOfMemory => Error::OutOfMemory,
+/// ```
 #[derive(Clone, Copy, Debug, PartialEq, Eq, Error)]
 pub enum AsciiHostError {
     /// The host is a name that does not decode to UTF-8 (RFC 3986, section 3.2.2).

@@ -58,7 +58,7 @@ fn dns_name(alloc: Global, name: &[u8]) -> Result<String, AsciiHostError>
     }
 }
 
-/// Returns a registered name in ASCII: itself, unless it stands for characters past ASCII.
+/// Returns a registered name in ASCII: itself, if its decoded text is in ASCII.
 #[tactic(auto, using(crate::proofs::Names::unencoded_ascii_name_stays))]
 fn ascii_name<'a, R: Encoder>(
     alloc: Global,
@@ -102,8 +102,15 @@ fn ascii_name<'a, R: Encoder>(
 ///
 /// # Examples
 ///
-/// Of `bücher.example` and of `b%C3%BCcher.example` it is `xn--bcher-kva.example`, of `faß.de`
-/// `xn--fa-hia.de`, of `Example.com` and `a_b%21` these themselves, and of `[::1]` `[::1]`.
+/// | Host | In ASCII |
+/// |---|---|
+/// | `bücher.example`, `b%C3%BCcher.example` | `xn--bcher-kva.example` |
+/// | `faß.de` | `xn--fa-hia.de` |
+/// | `Example.com`, `a_b%21`, `[::1]` | itself |
+///
+/// ```
+/// let host = ascii_host(alloc, authority)?;
+/// ```
 pub fn ascii_host<'a, U: Encoder, R: Encoder>(
     alloc: Global,
     authority: Authority<'a, U, R>,

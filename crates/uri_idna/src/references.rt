@@ -1,6 +1,6 @@
 //! References with their hosts in ASCII (RFC 3987, section 3.1).
-ghost use Rattle.std.specs.Prelude.{◌≡◌, [], IfErr, IfOk, None, OnOk, Some, codes, option_copied};
-ghost use Rattle.std.specs.Prelude.{option_map, string_bytes};
+ghost use Rattle.std.specs.Prelude.{◌≡◌, [], IfErr, IfOk, IsSomeAnd, None, OnOk, Some, codes};
+ghost use Rattle.std.specs.Prelude.{option_copied, option_map, string_bytes};
 ghost use Rattle.uri_pct.specs.EncodedTexts.{text_of};
 ghost use Rattle.uri_pct.specs.Texts.{Pushes};
 ghost use Rattle.uri_parts.specs.Authority.{authority_parts};
@@ -118,7 +118,7 @@ fn text_with_host<K: Kind, U: Encoder, R: Encoder>(
         ≡ recompose (with_authority (components (core_text core.entry))
         (with_host (authority_text authority.entry) host.now))) }
 {
-    let mut text = String::new(alloc);
+    let mut text = String::with_capacity(alloc, core.as_str().len() + host.len())?;
     push_marked("", scheme_of(core), ":", &mut text)?;
     push_authority(authority, host, &mut text)?;
     text.push_str(core.path().as_str())?;
@@ -168,8 +168,14 @@ fn copied<K: Kind>(alloc: Global, core: Core<K, &str>) -> Result<Reference<K, St
 ///
 /// # Examples
 ///
-/// Of `http://user@bücher.example:80/é?q#f` it is `http://user@xn--bcher-kva.example:80/é?q#f`, and of
-/// `é` it is `é`.
+/// | Reference | With its host in ASCII |
+/// |---|---|
+/// | `http://user@bücher.example:80/é?q#f` | `http://user@xn--bcher-kva.example:80/é?q#f` |
+/// | `é` | `é` |
+///
+/// ```
+/// Ok(with_ascii_host(alloc, iri)?.to_uri(alloc)?)
+/// ```
 pub fn with_ascii_host<K: Kind>(
     alloc: Global,
     value: &Reference<K, &str>,
@@ -200,10 +206,19 @@ pub fn with_ascii_host<K: Kind>(
 ///
 /// # Examples
 ///
-/// Of `http://bücher.example/é` it is `http://xn--bcher-kva.example/%C3%A9`.
+/// Of `http://bücher.example/é` it is `http://xn--bcher-kva.example/%C3%A9`:
+///
+/// ```
+/// match to_uri_with_ascii_host(alloc, &iri) {
+///     Ok(uri) => Ok(uri),
+///     Err(error) => Err(Rejection::from(error)),
+/// }
+/// ```
 pub fn to_uri_with_ascii_host(alloc: Global, iri: &Iri<&str>) -> Result<Uri<String>, AsciiHostError>
     ensures text { IfOk result (λ made. option_map encode_past_ascii
         (with_ascii_host (reference_text iri.now)) ≡ Some (reference_text made)) }
+    ensures others { IfOk result (λ _. IsSomeAnd (with_ascii_host (reference_text iri.now))
+        (HasAsciiHost (reference_text iri.now))) }
     ensures error { IfErr result (IsAsciiHostErrorOf (reference_text iri.now)) }
 {
     Ok(with_ascii_host(alloc, iri)?.to_uri(alloc)?)

@@ -1,4 +1,3 @@
-use Rattle.std.proofs.Common.{◌≡◌, true, sym, ap}
 use Rattle.uri_pct.specs.Chunks.{widest_set}
 use Rattle.uri_pct.proofs.Decodings.Decoding.{every_set_is_subset_of_widest}
 use Rattle.uri_pct.proofs.ValidTexts.EStrs.{valid_for_superset}
