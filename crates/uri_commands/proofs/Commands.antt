@@ -6,8 +6,8 @@ use Rattle.std.proofs.lemmas.List.{length-drop, take_all}
 use Rattle.std.specs.Prelude.{if◌then◌else◌, Option, Some, None, MatchOption, codes}
 use Rattle.uri_commands.specs.declared.command.BaseName.{BaseName}
 use Rattle.uri_commands.specs.declared.command.BaseName.TheVariants as bases
-use Rattle.uri_commands.specs.declared.command.KindName.{KindName}
-use Rattle.uri_commands.specs.declared.command.KindName.TheVariants.{Uri, UriRef, Iri, IriRef}
+use Rattle.uri_commands.specs.declared.kinds.KindName.{KindName}
+use Rattle.uri_commands.specs.declared.kinds.KindName.TheVariants.{Uri, UriRef, Iri, IriRef}
 use Rattle.uri_commands.specs.Commands.{Command, Parse, Normalize, Mend, Resolve, Links}
 use Rattle.uri_commands.specs.Commands.{output_of}
 use Rattle.uri_commands.specs.Commands.{texts, words_of}

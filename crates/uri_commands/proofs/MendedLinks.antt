@@ -5,10 +5,11 @@ use Rattle.std.specs.Prelude.{IfErr, IfOk, IfSome, if◌then◌else◌}
 use Rattle.std.proofs.lemmas.Result.{IfErr-weaker, IfOk-weaker}
 use Rattle.fluent_uri.specs.Grammar.{Kind}
 use Rattle.fluent_uri.specs.declared.ParseError.{ParseError}
-use Rattle.uri_commands.specs.Commands.{Mend, kind_named}
+use Rattle.uri_commands.specs.Commands.{Mend}
+use Rattle.uri_commands.specs.Kinds.{kind_named}
 use Rattle.uri_commands.specs.MendedLinks.{IsMendedLink, mended_link}
 use Rattle.uri_commands.specs.Refusals.{IsErrorOfCommand, IsErrorOfLink}
-use Rattle.uri_commands.specs.declared.command.KindName.{KindName}
+use Rattle.uri_commands.specs.declared.kinds.KindName.{KindName}
 use Rattle.uri_commands.specs.declared.mending.MendedLink.{MendedLink}
 use Rattle.uri_commands.specs.declared.refusal.CommandError.{CommandError}
 use Rattle.uri_commands.specs.declared.refusal.CommandError.TheVariants.{Text, Base, Reference}

@@ -1,23 +1,41 @@
 -- The normal form that `normalize` returns is the one that is printed.
-use Rattle.std.proofs.Common.{◌≡◌, ◌∙◌, ap, sym, ℕ, Bool, List}
+use Rattle.std.proofs.Common.{◌≡◌, sym, subst, ℕ, Bool, List, Result}
+use Rattle.std.specs.Prelude.{IfErr}
+use Rattle.std.proofs.lemmas.Result.{IfErr-weaker}
 use Rattle.fluent_uri.specs.Grammar.{Kind}
 use Rattle.uri_rules.specs.NormalForms.{IsNormalFormUnder}
 use Rattle.uri_setting.specs.Settings.{rules_set}
-use Rattle.uri_commands.specs.Commands.{normal_form_of}
+use Rattle.uri_commands.specs.Commands.{Normalize}
+use Rattle.uri_commands.specs.Kinds.{kind_named, normal_form_of}
+use Rattle.uri_commands.specs.Refusals.{IsErrorOfCommand, IsErrorOfNormalForm}
+use Rattle.uri_commands.specs.declared.kinds.KindName.{KindName}
+use Rattle.uri_commands.specs.declared.refusal.CommandError.{CommandError}
+use Rattle.uri_commands.specs.declared.refusal.CommandError.TheVariants.{Text, Base, Reference}
+use Rattle.uri_commands.specs.declared.refusal.CommandError.TheVariants.{Target}
+use Rattle.uri_commands.specs.declared.refusal.CommandError.TheVariants.{OutOfMemory, OutputFailed}
 
--- commands: the normal form that a call returns is the one that `normalize` prints
+-- commands: the normal form that a call returns is the one that is written
 pub normal_form_is : (by_rules : Bool) (kind : Kind) (text normal : List ℕ)
     → IsNormalFormUnder kind (rules_set by_rules) text normal
     → normal ≡ normal_form_of by_rules kind text
 unfolding normal_form_of
 normal_form_is by_rules kind text normal is = is.text
 
--- commands: what `normalize` prints for a parsed text is the normal form of the text, as one of the
--- kind that is named
-pub printed-text-is-normal-form : (by_rules : Bool) (kind named : Kind)
-    (text parsed normal printed : List ℕ) → named ≡ kind → parsed ≡ text → printed ≡ normal
-    → IsNormalFormUnder kind (rules_set by_rules) parsed normal
-    → printed ≡ normal_form_of by_rules named text
-printed-text-is-normal-form by_rules kind named text parsed normal printed n p e is =
-    e ∙ normal_form_is by_rules kind parsed normal is ∙ ap (normal_form_of by_rules kind) p
-    ∙ ap (λ k. normal_form_of by_rules k text) (sym n)
+-- commands: an error that is right for a text of which the normal form is asked for is one of
+-- `normalize`
+pub error-of-normal-form-is-error-of-normalize : {A : Type 0} (by_rules : Bool) (name : KindName)
+    (kind : Kind) (text : List ℕ) (result : Result A CommandError) → kind_named name ≡ kind
+    → IfErr result (IsErrorOfNormalForm kind text)
+    → IfErr result (IsErrorOfCommand (Normalize by_rules name text))
+error-of-normal-form-is-error-of-normalize by_rules name kind text result same is =
+    IfErr-weaker result _ _
+    (λ why e. of-each why (subst (λ k. IsErrorOfNormalForm k text why) (sym same) e)) is
+  where
+    of-each : (why : CommandError) → IsErrorOfNormalForm (kind_named name) text why
+        → IsErrorOfCommand (Normalize by_rules name text) why
+    of-each (Text e) is = is
+    of-each (Base e) is = absurd is
+    of-each (Reference e) is = absurd is
+    of-each (Target e) is = absurd is
+    of-each OutOfMemory is = is
+    of-each OutputFailed is = absurd is

@@ -4,8 +4,10 @@ use Rattle.std.specs.Prelude.{IfErr, if◌then◌else◌}
 use Rattle.fluent_uri.specs.Components.{components}
 use Rattle.fluent_uri.specs.Grammar.{IsOfKind, uri, uri_ref}
 use Rattle.uri_commands.specs.Commands.{Parse, Normalize, Mend, Resolve, Links}
-use Rattle.uri_commands.specs.Commands.{are_of_kind, kind_named}
-use Rattle.uri_commands.specs.Commands.{kind_of_base, kind_of_references, normal_form_of}
+use Rattle.uri_commands.specs.Commands.{are_of_kind}
+use Rattle.uri_commands.specs.Kinds.{kind_named}
+use Rattle.uri_commands.specs.Commands.{kind_of_base, kind_of_references}
+use Rattle.uri_commands.specs.Kinds.{normal_form_of}
 use Rattle.uri_commands.specs.Commands.{target_text}
 use Rattle.uri_commands.specs.Lines.{component_lines}
 use Rattle.uri_commands.specs.Links.{link_lines}
@@ -13,7 +15,7 @@ use Rattle.uri_mend.specs.Mending.{can_be_mended, mended_text}
 use Rattle.uri_mend.specs.Trimming.{trimmed_link}
 use Rattle.uri_commands.specs.Refusals.{IsErrorOfCommand}
 use Rattle.uri_commands.specs.declared.command.BaseName.{BaseName}
-use Rattle.uri_commands.specs.declared.command.KindName.{KindName}
+use Rattle.uri_commands.specs.declared.kinds.KindName.{KindName}
 use Rattle.uri_commands.specs.declared.refusal.CommandError.{CommandError}
 use Rattle.uri_commands.specs.declared.refusal.CommandError.TheVariants.{OutputFailed}
 use Rattle.uri_commands.proofs.Refusals.{if_err-of-equal-error}

@@ -7,32 +7,15 @@ use Rattle.std.specs.List.{list_all}
 use Rattle.std.specs.Result.{result_ok}
 use Rattle.fluent_uri.specs.Components.{components}
 use Rattle.fluent_uri.specs.Grammar.{Kind, uri, uri_ref, iri, iri_ref, is_of_kind}
-use Rattle.fluent_uri.specs.Normal.{normal_text}
 use Rattle.fluent_uri.specs.Target.{resolution_of}
-use Rattle.uri_rules.specs.Rules.{meaning_under}
-use Rattle.uri_setting.specs.Settings.{rules_set}
+use Rattle.uri_commands.specs.Kinds.{kind_named, normal_form_of, word_of_kind}
 use Rattle.uri_commands.specs.Lines.{component_lines}
 use Rattle.uri_commands.specs.Links.{link_lines}
 use Rattle.uri_mend.specs.Mending.{can_be_mended, mended_text}
 use Rattle.uri_mend.specs.Trimming.{trimmed_link}
 use Rattle.uri_commands.specs.declared.command.BaseName.{BaseName}
 use Rattle.uri_commands.specs.declared.command.BaseName.TheVariants as bases
-use Rattle.uri_commands.specs.declared.command.KindName.{KindName}
-use Rattle.uri_commands.specs.declared.command.KindName.TheVariants.{Uri, UriRef, Iri, IriRef}
-
--- the kind that a name on the command line of `uritool` stands for
-abbrev pub kind_named : KindName → Kind
-kind_named Uri = uri
-kind_named UriRef = uri_ref
-kind_named Iri = iri
-kind_named IriRef = iri_ref
-
--- the word for a kind on the command line of `uritool`
-abbrev pub word_of_kind : KindName → List ℕ
-word_of_kind Uri = codes "uri"
-word_of_kind UriRef = codes "uri-ref"
-word_of_kind Iri = codes "iri"
-word_of_kind IriRef = codes "iri-ref"
+use Rattle.uri_commands.specs.declared.kinds.KindName.{KindName}
 
 -- the kind of a base, by its name on the command line of `uritool`
 abbrev pub kind_of_base : BaseName → Kind
@@ -74,11 +57,6 @@ words_of (Mend name text) = codes "mend" ∷ word_of_kind name ∷ text ∷ []
 words_of (Resolve name base reference) = codes "resolve" ∷ word_of_base name ∷ base ∷ reference ∷ []
 words_of (Links by_rules base reference others) =
     with_option by_rules (codes "links" ∷ base ∷ reference ∷ others)
-
--- the normal form of a text of the kind, where the Bool is whether it is by the rules of schemes, or
--- by their default ports alone (section 6.2.3)
-unfoldable pub normal_form_of : Bool → Kind → List ℕ → List ℕ
-normal_form_of by_rules kind text = normal_text (meaning_under kind (rules_set by_rules) text)
 
 -- the target of a base and a reference, in this order, if there is one (section 5.2)
 unfoldable pub target_text : List ℕ → List ℕ → Option (List ℕ)

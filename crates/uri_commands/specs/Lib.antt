@@ -3,6 +3,7 @@ pub mod Texts
 pub mod Messages
 pub mod Links
 pub mod MendedLinks
+pub mod Kinds
 pub mod Commands
 pub mod Asked
 pub mod Refusals

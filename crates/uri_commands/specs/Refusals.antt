@@ -5,7 +5,8 @@ use Rattle.fluent_uri.specs.Grammar.{Kind, IsOfKind, uri, uri_ref}
 use Rattle.fluent_uri.specs.Refusals.{refusal}
 use Rattle.fluent_uri.specs.Resolving.{IsErrorWithUnderflowAllowed}
 use Rattle.uri_commands.specs.Commands.{Command, Parse, Normalize, Mend, Resolve, Links}
-use Rattle.uri_commands.specs.Commands.{are_of_kind, kind_named, kind_of_base}
+use Rattle.uri_commands.specs.Commands.{are_of_kind, kind_of_base}
+use Rattle.uri_commands.specs.Kinds.{kind_named}
 use Rattle.uri_commands.specs.Commands.{kind_of_references, output_of}
 use Rattle.uri_mend.specs.Refusing.{IsLinkErrorOf}
 use Rattle.uri_mend.specs.declared.error.MendError.TheVariants as mend_errors
@@ -52,21 +53,40 @@ IsErrorOfLink kind text (Text e) = IsLinkErrorOf kind text (Unmendable e)
 IsErrorOfLink kind text OutOfMemory = IsLinkErrorOf kind text mend_errors.OutOfMemory
 IsErrorOfLink kind text why = ⊥
 
+-- the error is right for a text of which the normal form of the kind is asked for
+abbrev pub IsErrorOfNormalForm : Kind → List ℕ → CommandError → Type 0
+IsErrorOfNormalForm kind text (Text e) = IsErrorOf kind text e
+IsErrorOfNormalForm kind text OutOfMemory = IsOfKind kind text
+IsErrorOfNormalForm kind text why = ⊥
+
+-- The error is right for a base and a reference, in this order, of which the target is asked for.
+-- The kinds are those of the base and of the reference.
+abbrev pub IsErrorOfTarget : Kind → Kind → List ℕ → List ℕ → CommandError → Type 0
+IsErrorOfTarget base_kind kind base reference (Base e) = IsErrorOf base_kind base e
+IsErrorOfTarget base_kind kind base reference (Reference e) =
+    IsOfKind base_kind base × IsErrorOf kind reference e
+IsErrorOfTarget base_kind kind base reference (Target e) =
+    IsOfKind base_kind base × IsOfKind kind reference
+    × IsErrorWithUnderflowAllowed (components base) (components reference) e
+IsErrorOfTarget base_kind kind base reference why = ⊥
+
 -- The command of `uritool` fails with this error.
 -- A base is parsed before its references, and all references are parsed before any is resolved or
 -- noted.
 abbrev pub IsErrorOfCommand : Command → CommandError → Type 0
 IsErrorOfCommand (Parse name text) (Text e) = IsErrorOf (kind_named name) text e
-IsErrorOfCommand (Normalize by_rules name text) (Text e) = IsErrorOf (kind_named name) text e
-IsErrorOfCommand (Normalize by_rules name text) OutOfMemory = IsOfKind (kind_named name) text
+IsErrorOfCommand (Normalize by_rules name text) (Text e) =
+    IsErrorOfNormalForm (kind_named name) text (Text e)
+IsErrorOfCommand (Normalize by_rules name text) OutOfMemory =
+    IsErrorOfNormalForm (kind_named name) text OutOfMemory
 IsErrorOfCommand (Mend name text) (Text e) = IsErrorOfLink (kind_named name) text (Text e)
 IsErrorOfCommand (Mend name text) OutOfMemory = IsErrorOfLink (kind_named name) text OutOfMemory
-IsErrorOfCommand (Resolve name base reference) (Base e) = IsErrorOf (kind_of_base name) base e
+IsErrorOfCommand (Resolve name base reference) (Base e) =
+    IsErrorOfTarget (kind_of_base name) (kind_of_references name) base reference (Base e)
 IsErrorOfCommand (Resolve name base reference) (Reference e) =
-    IsOfKind (kind_of_base name) base × IsErrorOf (kind_of_references name) reference e
+    IsErrorOfTarget (kind_of_base name) (kind_of_references name) base reference (Reference e)
 IsErrorOfCommand (Resolve name base reference) (Target e) =
-    IsOfKind (kind_of_base name) base × IsOfKind (kind_of_references name) reference
-    × IsErrorWithUnderflowAllowed (components base) (components reference) e
+    IsErrorOfTarget (kind_of_base name) (kind_of_references name) base reference (Target e)
 IsErrorOfCommand (Links by_rules base reference others) (Base e) = IsErrorOf uri base e
 IsErrorOfCommand (Links by_rules base reference others) (Reference e) =
     IsOfKind uri base × IsErrorOfFirst uri_ref (reference ∷ others) e

@@ -3,22 +3,12 @@ ghost use Rattle.std.specs.Prelude.{◌≡◌, ◌≢◌, ◌∷◌, [], MatchOp
 ghost use Rattle.uri_commands.specs.Commands.{AreWordsOfLinks, AreWordsOfResolve};
 ghost use Rattle.uri_commands.specs.Commands.{AreWordsOfRuledLinks, AreWordsOfRuledNormalize};
 ghost use Rattle.uri_commands.specs.Commands.{AreWordsOfTextCommand, IsCommand};
-ghost use Rattle.uri_commands.specs.Commands.{IsNameOfTextCommand, word_of_base, word_of_kind};
+ghost use Rattle.uri_commands.specs.Commands.{IsNameOfTextCommand, word_of_base};
 ghost use Rattle.uri_commands.specs.Commands.{words_of, texts};
 ghost use Rattle.uri_commands.specs.Asked.{contract_command};
+ghost use Rattle.uri_commands.specs.Kinds.{word_of_kind};
 
-/// A kind, by its name on the command line.
-#[derive(Clone, Copy)]
-pub enum KindName {
-    /// `uri`
-    Uri,
-    /// `uri-ref`
-    UriRef,
-    /// `iri`
-    Iri,
-    /// `iri-ref`
-    IriRef,
-}
+use crate::kinds::{KindName, kind_named};
 
 /// A kind of base, by its name on the command line.
 #[derive(Clone, Copy)]
@@ -146,20 +136,6 @@ fn ruled_links_from_words(words: &[String]) -> Option<Command<'_>>
             if option.as_str() == "--scheme-rules" && command.as_str() == "links" => {
             Some(Command::Links(base.as_str(), reference.as_str(), others, true))
         }
-        _ => None,
-    }
-}
-
-/// Returns the kind that a word of the command line names, if there is one.
-fn kind_named(word: &str) -> Option<KindName>
-    ensures { MatchOption result ((k : _) → word.now ≢ word_of_kind k)
-        (λ k. word.now ≡ word_of_kind k) }
-{
-    match word {
-        "uri" => Some(KindName::Uri),
-        "uri-ref" => Some(KindName::UriRef),
-        "iri" => Some(KindName::Iri),
-        "iri-ref" => Some(KindName::IriRef),
         _ => None,
     }
 }

@@ -2,6 +2,7 @@
 #![tactic(auto)]
 
 mod command;
+pub mod kinds;
 mod lines;
 mod links;
 mod mend;

@@ -1,13 +1,14 @@
 //! The command `mend KIND TEXT`.
 ghost use Rattle.std.specs.Prelude.{◌≡◌, IfErr, IfOk, false, string_bytes, true};
-ghost use Rattle.uri_commands.specs.Commands.{Mend, kind_named};
+ghost use Rattle.uri_commands.specs.Commands.{Mend};
+ghost use Rattle.uri_commands.specs.Kinds.{kind_named};
 ghost use Rattle.uri_commands.specs.Ends.{has_output_failed};
 ghost use Rattle.uri_commands.specs.Refusals.{IsErrorOfCommand, IsErrorOfLink};
 ghost use Rattle.uri_mend.specs.Mended.{IsMended};
 ghost use Rattle.uri_mend.specs.Mending.{can_be_mended, mended_text};
 ghost use Rattle.uri_mend.specs.Trimming.{trimmed_link};
 
-use crate::command::KindName;
+use crate::kinds::KindName;
 use crate::refusal::CommandError;
 use fluent_uri::Reference;
 use fluent_uri::kind::{IriKind, IriRefKind, Kind, UriKind, UriRefKind};

@@ -1,13 +1,15 @@
 //! The command `normalize KIND TEXT` (RFC 3986, section 6.2).
 ghost use Rattle.std.specs.Prelude.{◌≡◌, false, IfOk, IfErr, string_bytes};
 ghost use Rattle.fluent_uri.specs.Grammar.{IsOfKind};
-ghost use Rattle.uri_commands.specs.Commands.{Normalize, kind_named, normal_form_of};
+ghost use Rattle.uri_commands.specs.Commands.{Normalize};
 ghost use Rattle.uri_commands.specs.Ends.{has_output_failed};
-ghost use Rattle.uri_commands.specs.Refusals.{IsErrorOfCommand};
+ghost use Rattle.uri_commands.specs.Kinds.{kind_named, normal_form_of};
+ghost use Rattle.uri_commands.specs.Refusals.{IsErrorOfCommand, IsErrorOfNormalForm};
 
-use crate::command::KindName;
+use crate::kinds::KindName;
 use crate::refusal::CommandError;
-use fluent_uri::{Iri, IriRef, Uri, UriRef};
+use fluent_uri::Reference;
+use fluent_uri::kind::{IriKind, IriRefKind, Kind, UriKind, UriRefKind};
 use std::alloc::Global;
 use uri_setting::RuleSetting;
 
@@ -17,7 +19,6 @@ use uri_setting::RuleSetting;
 /// # Errors
 ///
 /// Returns `Text` if the text is not of the kind, and `OutOfMemory` if allocation fails.
-#[tactic(auto, using(crate::proofs::NormalForms::normal_form_is))]
 pub fn normalize_text(
     alloc: Global,
     kind: KindName,
@@ -30,19 +31,28 @@ pub fn normalize_text(
         ≡ normal_form_of scheme_rules (kind_named kind) text.now) }
     ensures unwritten { has_output_failed result ≡ false }
 {
+    match kind {
+        KindName::Uri => normal_form::<UriKind>(alloc, text, scheme_rules),
+        KindName::UriRef => normal_form::<UriRefKind>(alloc, text, scheme_rules),
+        KindName::Iri => normal_form::<IriKind>(alloc, text, scheme_rules),
+        KindName::IriRef => normal_form::<IriRefKind>(alloc, text, scheme_rules),
+    }
+}
+
+/// Parses a text as the kind, and returns its normal form.
+#[tactic(auto, using(crate::proofs::NormalForms::normal_form_is))]
+fn normal_form<K: Kind>(
+    alloc: Global,
+    text: &str,
+    scheme_rules: bool,
+) -> Result<String, CommandError>
+    ensures of_kind { IfOk result (λ _. IsOfKind K.kind text.now) }
+    ensures refused { IfErr result (IsErrorOfNormalForm K.kind text.now) }
+    ensures normal { IfOk result (λ normal. string_bytes normal
+        ≡ normal_form_of scheme_rules K.kind text.now) }
+    ensures unwritten { has_output_failed result ≡ false }
+{
+    let value = Reference::<K, &str>::parse(text)?;
     let setting = RuleSetting { scheme_rules };
-    Ok(match kind {
-        KindName::Uri => setting
-            .normalize(alloc, &Uri::<&str>::parse(text)?)?
-            .into_string(),
-        KindName::UriRef => setting
-            .normalize(alloc, &UriRef::<&str>::parse(text)?)?
-            .into_string(),
-        KindName::Iri => setting
-            .normalize(alloc, &Iri::<&str>::parse(text)?)?
-            .into_string(),
-        KindName::IriRef => setting
-            .normalize(alloc, &IriRef::<&str>::parse(text)?)?
-            .into_string(),
-    })
+    Ok(setting.normalize(alloc, &value)?.into_string())
 }

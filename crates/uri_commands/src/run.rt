@@ -4,8 +4,8 @@ ghost use Rattle.std.specs.Prelude.{◌≢◌, ◌||◌, codes, false, not, true
 ghost use Rattle.std.specs.Io.KnownBytes.{Appends, Keeps};
 ghost use Rattle.uri_commands.specs.Commands.{Command as Asked, Parse, Normalize, Mend, Resolve};
 ghost use Rattle.uri_commands.specs.Commands.{Links};
-ghost use Rattle.uri_commands.specs.Commands.{IsCommand, Prints, kind_named, words_of, output_of};
-ghost use Rattle.uri_commands.specs.Commands.{texts};
+ghost use Rattle.uri_commands.specs.Commands.{IsCommand, Prints, output_of, texts, words_of};
+ghost use Rattle.uri_commands.specs.Kinds.{kind_named};
 ghost use Rattle.uri_commands.specs.Asked.{contract_command};
 ghost use Rattle.uri_commands.specs.Ends.{IsSuccess, IsFailure, WritesLineOrPrefix};
 ghost use Rattle.uri_commands.specs.Ends.{has_output_failed, is_output_failure};
@@ -16,7 +16,8 @@ ghost use Rattle.uri_commands.specs.declared.refusal.CommandError.TheVariants.{O
 ghost use Rattle.fluent_uri.specs.Components.{components};
 ghost use Rattle.fluent_uri.specs.Grammar.{IsOfKind};
 
-use crate::command::{BaseName, Command, KindName};
+use crate::command::{BaseName, Command};
+use crate::kinds::{KindName, parse_as_iri_ref};
 use crate::lines::Texts;
 use crate::links::noted;
 use crate::mend::mended;
@@ -25,7 +26,7 @@ use crate::refusal::CommandError;
 use crate::sink::{Sink, put_both};
 use crate::target::target;
 use crate::usage::show_usage;
-use fluent_uri::{Iri, IriRef, ParseError, Uri, UriRef};
+use fluent_uri::ParseError;
 use std::alloc::Global;
 use std::io::Write;
 
@@ -249,10 +250,5 @@ fn parse_components(kind: KindName, text: &str) -> Result<Texts<'_>, ParseError>
     ensures texts { IfOk result (λ texts. components_in texts ≡ components text.now) }
     ensures error { IfErr result (IsErrorOf (kind_named kind) text.now) }
 {
-    match kind {
-        KindName::Uri => Ok(Texts::from(IriRef::from(Uri::<&str>::parse(text)?))),
-        KindName::UriRef => Ok(Texts::from(IriRef::from(UriRef::<&str>::parse(text)?))),
-        KindName::Iri => Ok(Texts::from(IriRef::from(Iri::<&str>::parse(text)?))),
-        KindName::IriRef => Ok(Texts::from(IriRef::<&str>::parse(text)?)),
-    }
+    Ok(Texts::from(parse_as_iri_ref(kind, text)?))
 }

@@ -3,10 +3,7 @@ ghost use Rattle.std.specs.Prelude.{◌≡◌, false, IfOk, IfErr, Some, string_
 ghost use Rattle.fluent_uri.specs.Components.{components};
 ghost use Rattle.fluent_uri.specs.Grammar.{IsOfKind};
 ghost use Rattle.fluent_uri.specs.Resolving.{IsErrorWithUnderflowAllowed};
-ghost use Rattle.fluent_uri.specs.Iris.{iri_ref_text};
-ghost use Rattle.fluent_uri.specs.Iris.{iri_text};
-ghost use Rattle.fluent_uri.specs.Uris.{uri_ref_text};
-ghost use Rattle.fluent_uri.specs.Uris.{uri_text};
+ghost use Rattle.fluent_uri.specs.References.{reference_text};
 ghost use Rattle.uri_commands.specs.Commands.{Resolve, kind_of_base, kind_of_references};
 ghost use Rattle.uri_commands.specs.Commands.{target_text};
 ghost use Rattle.uri_commands.specs.Ends.{has_output_failed};
@@ -15,7 +12,8 @@ ghost use Rattle.uri_commands.specs.Refusals.{IsErrorOfCommand};
 use crate::command::BaseName;
 use crate::refusal::CommandError;
 use fluent_uri::resolve::ResolveError;
-use fluent_uri::{Iri, IriRef, Uri, UriRef};
+use fluent_uri::roles::RefKind;
+use fluent_uri::{Iri, IriRef, Reference, Uri, UriRef};
 use std::alloc::Global;
 
 /// Parses the base and the reference of `resolve`, and returns the target. Path underflow is not an
@@ -43,40 +41,26 @@ pub fn target(
         BaseName::Uri => {
             let base = Uri::<&str>::parse(base).map_err(CommandError::Base)?;
             let reference = UriRef::<&str>::parse(reference).map_err(CommandError::Reference)?;
-            uri_target(alloc, base, reference)?.into_string()
+            target_of(alloc, &base, &reference)?.into_string()
         }
         BaseName::Iri => {
             let base = Iri::<&str>::parse(base).map_err(CommandError::Base)?;
             let reference = IriRef::<&str>::parse(reference).map_err(CommandError::Reference)?;
-            iri_target(alloc, base, reference)?.into_string()
+            target_of(alloc, &base, &reference)?.into_string()
         }
     })
 }
 
-/// Returns the target that `resolve uri` prints, of a URI reference against a URI.
-fn uri_target(
+/// Returns the target of a reference against a base.
+fn target_of<K: RefKind>(
     alloc: Global,
-    base: Uri<&str>,
-    reference: UriRef<&str>,
-) -> Result<Uri<String>, ResolveError>
-    ensures target { IfOk result (λ target. target_text (uri_text base.entry)
-        (uri_ref_text reference.entry) ≡ Some (uri_text target)) }
+    base: &Reference<K::Base, &str>,
+    reference: &Reference<K, &str>,
+) -> Result<Reference<K::Base, String>, ResolveError>
+    ensures target { IfOk result (λ target. target_text (reference_text base.now)
+        (reference_text reference.now) ≡ Some (reference_text target)) }
     ensures refusal { IfErr result (IsErrorWithUnderflowAllowed
-        (components (uri_text base.entry)) (components (uri_ref_text reference.entry))) }
+        (components (reference_text base.now)) (components (reference_text reference.now))) }
 {
-    reference.resolve_against(alloc, &base)
-}
-
-/// Returns the target that `resolve iri` prints, of an IRI reference against an IRI.
-fn iri_target(
-    alloc: Global,
-    base: Iri<&str>,
-    reference: IriRef<&str>,
-) -> Result<Iri<String>, ResolveError>
-    ensures target { IfOk result (λ target. target_text (iri_text base.entry)
-        (iri_ref_text reference.entry) ≡ Some (iri_text target)) }
-    ensures refusal { IfErr result (IsErrorWithUnderflowAllowed
-        (components (iri_text base.entry)) (components (iri_ref_text reference.entry))) }
-{
-    reference.resolve_against(alloc, &base)
+    reference.resolve_against(alloc, base)
 }

@@ -1,6 +1,6 @@
 use Rattle.std.proofs.Common.{ap, string_bytes}
 use Rattle.fluent_uri.specs.Grammar.{uri, uri_ref, iri, iri_ref}
-use Rattle.uri_commands.specs.Commands.{kind_named}
+use Rattle.uri_commands.specs.Kinds.{kind_named}
 use Rattle.uri_commands.proofs.MendedLinks.{error-of-link-is-error-of-mend, mended-link-can-be-mended}
 use Rattle.uri_commands.proofs.MendedLinks.{mended-link-has-mended-text}
 use Rattle.uri_commands.proofs.mend.mended.Goals as goal

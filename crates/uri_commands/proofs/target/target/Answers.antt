@@ -54,13 +54,13 @@ returns-in_err-reference-in-Iri-clause-refused c =
     c.parse-in-Iri-2.ensures.refused c.map_err-in-Iri-2.ensures.cases
     c.in_err-reference-in-Iri.was c.from_residual-in_err-reference-in-Iri.ensures.1
 
-pub returns-in_err-uri_target-in-Uri-clause-refused
-    : goal.returns-in_err-uri_target-in-Uri-clause-refused
-returns-in_err-uri_target-in-Uri-clause-refused c = search rules
+pub returns-in_err-target_of-in-Uri-clause-refused
+    : goal.returns-in_err-target_of-in-Uri-clause-refused
+returns-in_err-target_of-in-Uri-clause-refused c = search rules
 
-pub returns-in_err-iri_target-in-Iri-clause-refused
-    : goal.returns-in_err-iri_target-in-Iri-clause-refused
-returns-in_err-iri_target-in-Iri-clause-refused c = search rules
+pub returns-in_err-target_of-in-Iri-clause-refused
+    : goal.returns-in_err-target_of-in-Iri-clause-refused
+returns-in_err-target_of-in-Iri-clause-refused c = search rules
 
 pub returns-clause-target : goal.returns-clause-target
 returns-clause-target c = search rules

@@ -1,7 +1,0 @@
-use Rattle.fluent_uri.specs.Uris.{uri_text}
-use Rattle.uri_commands.proofs.Targets.{target_text-of-resolved}
-use Rattle.uri_commands.proofs.target.uri_target.Goals as goal
-
-pub returns-clause-target : goal.returns-clause-target
-returns-clause-target c = target_text-of-resolved uri_text _ _ c.resolve_against.result
-    c.resolve_against.ensures.target
