@@ -10,8 +10,8 @@ use Rattle.uri_streams.specs.Results.{Text, Error, basic_resolution_result, basi
 use Rattle.uri_streams.specs.Results.{double_slash_message}
 use Rattle.uri_streams.specs.Returned.{result_in}
 use Rattle.uri_streams.specs.declared.fault.LineError.TheVariants.{PathStartsWithDoubleSlash}
-use Rattle.uri_streams.specs.declared.results.LineResult.{LineResult as Returned}
-use Rattle.uri_streams.specs.declared.results.LineResult.TheVariants as returned
+use Rattle.uri_streams.specs.declared.line_result.LineResult.{LineResult as Returned}
+use Rattle.uri_streams.specs.declared.line_result.LineResult.TheVariants as returned
 
 -- lines: what `urilines resolve --basic` writes of a target is its text
 pub basic_target_result-of-target : (base given reference target : List ℕ) → given ≡ base

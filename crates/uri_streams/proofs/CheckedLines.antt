@@ -17,9 +17,10 @@ use Rattle.uri_streams.specs.Outputs.{error_output, is_error, is_last, is_stop, 
 use Rattle.uri_streams.specs.Outputs.{line_output}
 use Rattle.uri_streams.specs.Outputs.{line_result, output_of, processed, processed_lines}
 use Rattle.uri_streams.specs.Outputs.{result_output}
-use Rattle.uri_streams.specs.Results.{LineResult, kind_named, passed_if, passes_check}
+use Rattle.uri_commands.specs.Kinds.{kind_named}
+use Rattle.uri_streams.specs.Results.{LineResult, passed_if, passes_check}
 use Rattle.uri_streams.specs.Tasks.{Known, cut_result, given_text}
-use Rattle.uri_streams.specs.declared.command.KindName.{KindName}
+use Rattle.uri_commands.specs.declared.kinds.KindName.{KindName}
 use Rattle.uri_streams.specs.declared.fault.NoText.{NoText}
 use Rattle.uri_streams.specs.declared.fault.NoText.TheVariants.{NoField, NotUtf8, TooLong}
 use Rattle.uri_streams.specs.declared.job.Field.{Field}

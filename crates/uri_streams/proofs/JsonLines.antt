@@ -20,8 +20,8 @@ use Rattle.uri_streams.specs.Json.{json_of}
 use Rattle.uri_streams.specs.JsonTexts.{JsonValue, IsJsonTextOf}
 use Rattle.uri_streams.specs.JsonValues.{components_value, query_value}
 use Rattle.uri_streams.specs.Queries.{pairs_of_query, query_json}
-use Rattle.uri_streams.specs.Results.{kind_named}
-use Rattle.uri_streams.specs.declared.command.KindName.{KindName}
+use Rattle.uri_commands.specs.Kinds.{kind_named}
+use Rattle.uri_commands.specs.declared.kinds.KindName.{KindName}
 use Rattle.uri_streams.proofs.JsonComponents.{equal-objects-have-equal-components}
 use Rattle.uri_streams.proofs.JsonObjects.{json_of-is-json-object}
 use Rattle.uri_streams.proofs.JsonPairs.{AreUtf8, pairs-are-json-array}

@@ -26,4 +26,3 @@ pub mod Streams
 pub mod Tasks
 pub mod Tests
 pub mod Uniques
-pub mod Relatives

@@ -4,15 +4,11 @@ use Rattle.std.specs.Prelude.{IsUtf8, if◌then◌else◌}
 use Rattle.std.specs.Str.{is_utf8}
 use Rattle.std.specs.Str.Lossy.{utf8_valid_len}
 use Rattle.std.proofs.lemmas.Str.{IsUtf8-from_is_utf8, is_utf8-from_IsUtf8}
+use Rattle.uri_streams.proofs.Tests.{not-true-is-false}
 use Rattle.uri_streams.specs.Tasks.{Known, bytes_result, given_text, no_text_result}
 use Rattle.uri_streams.specs.Tasks.{text_result}
 use Rattle.uri_streams.specs.declared.fault.NoText.TheVariants.{NotUtf8}
 use Rattle.uri_streams.specs.declared.job.Job.{Job}
-
--- general fact on booleans, for results of lines: what is not true is false
-is_false : (b : Bool) → (b ≡ true → ⊥) → b ≡ false
-is_false true h = absurd (h refl)
-is_false false h = refl
 
 -- lines: the result of bytes in UTF-8 is that of the text that they give
 pub bytes_result-of-utf8 : (job : Job) (known : Known) (bytes : List ℕ) → IsUtf8 bytes
@@ -26,7 +22,7 @@ bytes_result-of-utf8 job known bytes is =
 pub bytes_result-of-non-utf8 : (job : Job) (known : Known) (bytes : List ℕ) → ¬ (IsUtf8 bytes)
     → (no_text_result job.command (NotUtf8 (utf8_valid_len bytes)), known)
     ≡ bytes_result job known bytes
-bytes_result-of-non-utf8 job known bytes not-true-is-false =
+bytes_result-of-non-utf8 job known bytes is_not =
     sym (ap (λ b. if b then text_result job.command known (given_text job bytes)
     else (no_text_result job.command (NotUtf8 (utf8_valid_len bytes)), known))
-    (is_false (is_utf8 bytes) (λ yes. not-true-is-false (IsUtf8-from_is_utf8 bytes yes))))
+    (not-true-is-false (is_utf8 bytes) (λ yes. is_not (IsUtf8-from_is_utf8 bytes yes))))

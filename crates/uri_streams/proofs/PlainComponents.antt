@@ -30,9 +30,9 @@ use Rattle.uri_ops.proofs.Meanings.TextParts.{components-of-utf8-are-utf8}
 use Rattle.uri_ops.proofs.Meanings.TextParts.{grammar-gives-components-of-kind}
 use Rattle.uri_ops.proofs.Paths.PathCharacters.{lacked-delimiters-fail-test}
 use Rattle.uri_streams.specs.JsonTexts.{is_unescaped}
-use Rattle.uri_streams.specs.Results.{kind_named}
-use Rattle.uri_streams.specs.declared.command.KindName.{KindName}
-use Rattle.uri_streams.specs.declared.command.KindName.TheVariants as kinds
+use Rattle.uri_commands.specs.Kinds.{kind_named}
+use Rattle.uri_commands.specs.declared.kinds.KindName.{KindName}
+use Rattle.uri_commands.specs.declared.kinds.KindName.TheVariants as kinds
 use Rattle.uri_streams.proofs.JsonStringTexts.{IsPlain, ascii-is-plain}
 use Rattle.uri_streams.proofs.JsonObjects.{IsPlainIfPresent, HasPlainAuthority, HasPlainComponents}
 

@@ -9,13 +9,9 @@ use Rattle.std.specs.Prelude.{◌&&◌, nat_lt, not}
 use Rattle.std.proofs.Math.Seq.{get_or-append_right, take-append-add}
 use Rattle.std.proofs.lemmas.List.{nil_from_length}
 use Rattle.std.proofs.lemmas.List.Elements.{All-get_or}
+use Rattle.uri_streams.proofs.Tests.{not-true-is-false}
 use Rattle.uri_streams.specs.Lines.{end_byte, ends_with_return, has_return, return_after}
 use Rattle.uri_streams.specs.Outputs.{line_ending}
-
--- general fact on booleans, for ends of lines: what is not true is false
-is_false : (b : Bool) → (b ≡ true → ⊥) → b ≡ false
-is_false true h = absurd (h refl)
-is_false false h = refl
 
 -- lines: the last byte of two lists is that of the second, where that has one
 ends_with_byte-append : (byte : ℕ) (xs ys : List ℕ) → 0 < length ys
@@ -59,7 +55,7 @@ ends_with_byte-of-lacking byte xs none = at (nat_lt 0 (length xs)) refl
     at true is =
         let some : 0 < length xs = ltb-true 0 (length xs) is in
         ap (λ c. c && (get_or xs (length xs - 1) 0 == byte)) is
-        ∙ is_false (get_or xs (length xs - 1) 0 == byte)
+        ∙ not-true-is-false (get_or xs (length xs - 1) 0 == byte)
         (λ same. All-get_or (λ x. x ≢ byte) xs (length xs - 1) 0 (omega (arith, some)) none
         (eqb-true (get_or xs (length xs - 1) 0) byte same))
     at false is = ap (λ c. c && (get_or xs (length xs - 1) 0 == byte)) is

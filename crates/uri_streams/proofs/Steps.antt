@@ -9,7 +9,7 @@ use Rattle.std.proofs.lemmas.List.Elements.{All-nil}
 use Rattle.std.specs.Io.BufRead.{drop_through, DropsConsumable, DropsThrough, take_through}
 use Rattle.std.specs.Io.KnownBytes.{Appends, Consumes, Keeps, prepend_known}
 use Rattle.uri_commands.specs.Prefixes.{AppendsPrefix}
-use Rattle.uri_streams.specs.Causes.{caused_by_input}
+use Rattle.uri_streams.specs.Causes.{caused_by_input, is_input_cause}
 use Rattle.uri_streams.specs.Lines.{end_byte, ends_with_return, lines_of}
 use Rattle.uri_streams.specs.Fields.{Cut}
 use Rattle.uri_streams.specs.Outputs.{line_ending, is_error, is_stop, line_cut}
@@ -26,7 +26,7 @@ use Rattle.uri_streams.specs.Runs.{ErrorOutput, Reports, ReportsPrefix}
 use Rattle.uri_streams.specs.Tasks.{Known, Remembers, cut_result}
 use Rattle.uri_streams.specs.declared.failure.Cause.{Cause}
 use Rattle.uri_streams.specs.declared.job.Job.{Job}
-use Rattle.uri_streams.specs.declared.results.LineResult.{LineResult as Returned}
+use Rattle.uri_streams.specs.declared.line_result.LineResult.{LineResult as Returned}
 use Rattle.uri_streams.specs.declared.output.StepResult.{StepResult}
 use Rattle.uri_streams.specs.declared.task.Task.{Task}
 use Rattle.uri_streams.proofs.Cuts.{StandsFor, StandsFor-of-limited-line}
@@ -39,39 +39,42 @@ use Rattle.uri_streams.proofs.Reports.{ReportsPrefix-of-longer, ReportsPrefix-of
 use Rattle.uri_streams.proofs.Returns.{output-end-is-line-end}
 use Rattle.uri_streams.proofs.Streams.{processed_lines-of-first-line, lines_after_first}
 
--- lines: one that was read in parts is the first line that is left;
--- the equations replace equal arguments
-pub ReadsFirstLine-of-read : (left left_new : Option (List ℕ)) (end end_is limit : ℕ)
-    (line line_is : List ℕ)
-    (read : Option Bool) (is_return : Bool) → end ≡ end_is → line ≡ line_is
-    → read ≡ Some is_return → IfSome read (ReadsFirstLine left left_new end limit line)
-    → ReadsFirstLine left left_new end_is limit line_is is_return
-ReadsFirstLine-of-read left left_new end end_is limit line line_is read is_return e l r taken =
-    subst (λ n. ReadsFirstLine left left_new n limit line_is is_return) e
-    (subst (λ b. ReadsFirstLine left left_new end limit b is_return) l
-    (subst (λ o. IfSome o (ReadsFirstLine left left_new end limit line)) r taken))
-
 -- lines: the first line of known bytes is taken, and these bytes stand for it
-abbrev pub HasLine : Job → Option (List ℕ) → Option (List ℕ) → List ℕ → Bool → Type 0
-HasLine job left left_new line is_return = IfSome left (λ xs. (0 < length xs)
-    × StandsFor job line (take_through (end_byte job.is_null) xs)
-    × (left_new ≡ Some (drop_through (end_byte job.is_null) xs))
-    × (is_return ≡ ends_with_return (end_byte job.is_null)
-    (take_through (end_byte job.is_null) xs)))
+pub record HasLine (job : Job) (left left_new : Option (List ℕ)) (line : List ℕ)
+    (is_return : Bool) : Type 0 where
+  pub taken : IfSome left (λ xs. (0 < length xs)
+      × StandsFor job line (take_through (end_byte job.is_null) xs)
+      × (left_new ≡ Some (drop_through (end_byte job.is_null) xs))
+      × (is_return ≡ ends_with_return (end_byte job.is_null)
+      (take_through (end_byte job.is_null) xs)))
 
--- lines: one that was read in parts, up to the limit, is a line of the job
-pub HasLine-of-read : (job : Job) (left left_new : Option (List ℕ)) (limit : ℕ) (line : List ℕ)
-    (is_return : Bool) → limit ≡ job.max_line + 3
-    → ReadsFirstLine left left_new (end_byte job.is_null) limit line is_return
-    → HasLine job left left_new line is_return
-HasLine-of-read job None left_new limit line is_return limit_is taken = tt
-HasLine-of-read job (Some xs) left_new limit line is_return limit_is taken = (
-  taken.0,
-  subst (λ l. StandsFor job l (take_through (end_byte job.is_null) xs)) (sym taken.1)
-      (StandsFor-of-limited-line job limit (take_through (end_byte job.is_null) xs) limit_is),
-  taken.2,
-  taken.3,
-)
+-- lines: one that was read in parts, up to the limit, is a line of the job; the equations replace
+-- equal arguments
+pub HasLine-of-read : (job : Job) (left left_new : Option (List ℕ)) (end : ℕ)
+    (line line_is : List ℕ) (read : Option Bool) (is_return : Bool)
+    → end ≡ end_byte job.is_null → line ≡ line_is → read ≡ Some is_return
+    → IfSome read (ReadsFirstLine left left_new end (job.max_line + 3) line)
+    → HasLine job left left_new line_is is_return
+HasLine-of-read job left left_new end line line_is read is_return e l r taken =
+    of-first left
+    (subst (λ n. ReadsFirstLine left left_new n (job.max_line + 3) line_is is_return) e
+    (subst (λ b. ReadsFirstLine left left_new end (job.max_line + 3) b is_return) l
+    (subst (λ o. IfSome o (ReadsFirstLine left left_new end (job.max_line + 3) line)) r taken)))
+  where
+    of-first : (o : Option (List ℕ))
+        → ReadsFirstLine o left_new (end_byte job.is_null) (job.max_line + 3) line_is is_return
+        → HasLine job o left_new line_is is_return
+    of-first None first = record { taken = tt }
+    of-first (Some xs) first = record {
+      taken = (
+        first.0,
+        subst (λ l. StandsFor job l (take_through (end_byte job.is_null) xs)) (sym first.1)
+            (StandsFor-of-limited-line job (job.max_line + 3)
+            (take_through (end_byte job.is_null) xs) refl),
+        first.2,
+        first.3,
+      );
+    }
 
 -- lines: one that was read whole is the first line that is left
 HasLine-of-whole-line : (job : Job) (left left_new : Option (List ℕ)) (line : List ℕ)
@@ -80,25 +83,27 @@ HasLine-of-whole-line : (job : Job) (left left_new : Option (List ℕ)) (line : 
     × DropsThrough left left_new (end_byte job.is_null) → 0 < length line
     → is_return ≡ ends_with_return (end_byte job.is_null) line
     → HasLine job left left_new line is_return
-HasLine-of-whole-line job None left_new line is_return all some return = tt
-HasLine-of-whole-line job (Some xs) left_new line is_return all some return = (
-  take_through_nonempty (end_byte job.is_null) xs (omega (arith, some, ap length all.0)),
-  inl all.0,
-  all.1,
-  return ∙ ap (ends_with_return (end_byte job.is_null)) all.0,
-)
+HasLine-of-whole-line job None left_new line is_return all some return = record { taken = tt }
+HasLine-of-whole-line job (Some xs) left_new line is_return all some return = record {
+  taken = (
+    take_through_nonempty (end_byte job.is_null) xs (omega (arith, some, ap length all.0)),
+    inl all.0,
+    all.1,
+    return ∙ ap (ends_with_return (end_byte job.is_null)) all.0,
+  );
+}
 
 -- lines: one that is taken from the buffer is a line of the job
 pub HasLine-buffered : (job : Job) (unknown : Bool) (buffer : List ℕ)
-    (inner left_new : Option (List ℕ)) (line : List ℕ) (is_return : Bool)
+    (inner left_new : Option (List ℕ)) (line : List ℕ)
     → IsBufferedLine (end_byte job.is_null) buffer line
     → DropsConsumable (cond unknown None (prepend_known buffer inner)) left_new
     (Some (length buffer)) (length line)
-    → is_return ≡ ends_with_return (end_byte job.is_null) line
-    → HasLine job (cond unknown None (prepend_known buffer inner)) left_new line is_return
-HasLine-buffered job unknown buffer inner left_new line is_return first drops return =
+    → HasLine job (cond unknown None (prepend_known buffer inner)) left_new line
+    (ends_with_return (end_byte job.is_null) line)
+HasLine-buffered job unknown buffer inner left_new line first drops =
     HasLine-of-whole-line job (cond unknown None (prepend_known buffer inner)) left_new
-    line is_return
+    line (ends_with_return (end_byte job.is_null) line)
     (Consumes_through (end_byte job.is_null) (cond unknown None (prepend_known buffer inner))
     (cond unknown None (prepend_known buffer inner)) left_new [] line
     (Consumes-nil (cond unknown None (prepend_known buffer inner)))
@@ -108,7 +113,7 @@ HasLine-buffered job unknown buffer inner left_new line is_return first drops re
     (Consumes-buffered unknown buffer inner left_new (length line) first.within drops))
     first.lacks_end (λ _. first.ends)
     (λ none. absurd (omega (arith, first.some, none))))
-    first.some return
+    first.some refl
 
 module _ (job : Job) (before : ℕ) (task task_new : Task) (left left_new : Option (List ℕ))
     (held mid held_new : Option (List ℕ)) (err err_new : ErrorOutput) (line : List ℕ)
@@ -124,7 +129,7 @@ module _ (job : Job) (before : ℕ) (task task_new : Task) (left left_new : Opti
     has_here = subst (λ o. HasLine job o left_new line is_return) is_left has
 
     same_cut : line_cut job line ≡ line_cut job whole
-    same_cut = line_cut-if-StandsFor job line whole has_here.1
+    same_cut = line_cut-if-StandsFor job line whole has_here.taken.1
 
     same_result : line_result job known line ≡ line_result job known whole
     same_result = ap (λ (c : Cut). cut_result job known c.text) same_cut
@@ -132,15 +137,15 @@ module _ (job : Job) (before : ℕ) (task task_new : Task) (left left_new : Opti
     output_is : bytes_output job known line end
         ≡ line_output job (processed job (before + 1) known whole)
     output_is =
-        bytes_output-if-StandsFor job known line whole end has_here.1
+        bytes_output-if-StandsFor job known line whole end has_here.taken.1
         ∙ ap (bytes_output job known whole)
-        (output-end-is-line-end job.is_null is_return whole has_here.3)
+        (output-end-is-line-end job.is_null is_return whole has_here.taken.3)
 
     first_output : output_of job (processed_lines job before known (lines_of (end_byte job.is_null)
         xs))
         ≡ bytes_output job known line end ++ output_of job (lines_after_first job before known xs)
     first_output =
-        ap (output_of job) (processed_lines-of-first-line job before known xs has_here.0)
+        ap (output_of job) (processed_lines-of-first-line job before known xs has_here.taken.0)
         ∙ ap (λ l. l ++ output_of job (lines_after_first job before known xs)) (sym output_is)
 
     first_report : errors_of job (processed_lines job before known (lines_of (end_byte job.is_null)
@@ -148,7 +153,7 @@ module _ (job : Job) (before : ℕ) (task task_new : Task) (left left_new : Opti
         ≡ bytes_report job (before + 1) known line
         ++ errors_of job (lines_after_first job before known xs)
     first_report =
-        ap (errors_of job) (processed_lines-of-first-line job before known xs has_here.0)
+        ap (errors_of job) (processed_lines-of-first-line job before known xs has_here.taken.0)
         ∙ ap (λ (l : LineResult × Known). result_report job.errors (before + 1) l.0
         ++ errors_of job (lines_after_first job before known xs)) (sym same_result)
 
@@ -159,40 +164,45 @@ module _ (job : Job) (before : ℕ) (task task_new : Task) (left left_new : Opti
     where
       at : (o : Option (List ℕ)) → left ≡ o
           → Steps job before task o left_new held held_new err err_new task_new step
-      at None e = tt
-      at (Some xs) e = λ known remembers.
-          let has' = has_here xs known e in
-          let same = same_result xs known e in
-          let w = written known remembers in
-          inl (
-            has'.0,
-            has'.2,
-            subst (Appends held held_new) (output_is xs known e)
-                (Appends-after-Keeps held mid held_new _ kept w.0),
-            w.2,
-            w.3 ∙ ap (λ (r : LineResult × Known). is_error r.0) same,
-            w.4 ∙ ap (λ (r : LineResult × Known). is_error r.0 && is_stop job.errors) same,
-            subst (λ (r : LineResult × Known). Remembers task_new job.command r.1) same w.5,
-            subst (λ (r : LineResult × Known). Reports err err_new
-                (result_report job.errors (before + 1) r.0)) same w.1,
-          )
+      at None e = record { stepped = tt }
+      at (Some xs) e = record {
+        stepped = λ known remembers.
+            let has' = (has_here xs known e).taken in
+            let same = same_result xs known e in
+            let w = written.written known remembers in
+            inl (
+              has'.0,
+              has'.2,
+              subst (Appends held held_new) (output_is xs known e)
+                  (Appends-after-Keeps held mid held_new _ kept w.0),
+              w.2,
+              w.3 ∙ ap (λ (r : LineResult × Known). is_error r.0) same,
+              w.4 ∙ ap (λ (r : LineResult × Known). is_error r.0 && is_stop job.errors) same,
+              subst (λ (r : LineResult × Known). Remembers task_new job.command r.1) same w.5,
+              subst (λ (r : LineResult × Known). Reports err err_new
+                  (result_report job.errors (before + 1) r.0)) same w.1,
+            );
+      }
 
-  StepFails-in-writing : (cause : Cause)
+  StepFails-in-writing : (cause : Cause) → is_input_cause cause ≡ false
       → WritesOutputPrefix job (before + 1) task line end mid held_new err err_new cause
       → StepFails job before task left left_new held held_new err err_new cause
-  StepFails-in-writing cause prefix = at left refl
+  StepFails-in-writing cause reading prefix = at left refl
     where
       at : (o : Option (List ℕ)) → left ≡ o
           → StepFails job before task o left_new held held_new err err_new cause
-      at None e = tt
-      at (Some xs) e = λ known remembers. (
-        subst (AppendsPrefix held held_new) (sym (first_output xs known e))
-            (AppendsPrefix-of-longer held held_new _ _
-            (AppendsPrefix-after-Keeps held mid held_new _ kept (prefix.1 known remembers).0)),
-        subst (ReportsPrefix err err_new) (sym (first_report xs known e))
-            (ReportsPrefix-of-longer err err_new _ _ (prefix.1 known remembers).1),
-        λ input. absurd (cc (input, prefix.0)),
-      )
+      at None e = record { failed = tt }
+      at (Some xs) e = record {
+        failed = λ known remembers. (
+          subst (AppendsPrefix held held_new) (sym (first_output xs known e))
+              (AppendsPrefix-of-longer held held_new _ _
+              (AppendsPrefix-after-Keeps held mid held_new _ kept
+              (prefix.prefix known remembers).0)),
+          subst (ReportsPrefix err err_new) (sym (first_report xs known e))
+              (ReportsPrefix-of-longer err err_new _ _ (prefix.prefix known remembers).1),
+          λ input. absurd (cc (input, reading)),
+        );
+      }
 
 -- what is written for a cut of a line is written for the line
 module _ (job : Job) (number : ℕ) (task task_new : Task) (line end : List ℕ)
@@ -221,33 +231,34 @@ module _ (job : Job) (number : ℕ) (task task_new : Task) (line end : List ℕ)
       (cut.after ++ end) held held_new err err_new)
       → IfOk result (WritesLineOutput job number task line end held held_new err err_new task_new)
   WritesLineOutput-of-cut (Err cause) written = tt
-  WritesLineOutput-of-cut (Ok step) (output, reported, counts, error, last) = λ known remembers.
-      let given = gives known remembers in
-      let same : cut_result job known cut.text ≡ line_result job known line =
-      ap (λ (c : Cut). cut_result job known c.text) cut_is in
-      let is : is_error (result_in made) ≡ is_error (line_result job known line).0 =
-      ap is_error given.0 ∙ ap (λ (r : LineResult × Known). is_error r.0) same in (
-        subst (Appends held held_new) (made_is known remembers) output,
-        subst (Reports err err_new) (reported_is known remembers) reported,
-        counts,
-        error ∙ is,
-        last ∙ ap (λ b. b && is_stop job.errors) is,
-        subst (λ (r : LineResult × Known). Remembers task_new job.command r.1) same given.1,
-      )
+  WritesLineOutput-of-cut (Ok step) (output, reported, counts, error, last) = record {
+    written = λ known remembers.
+        let given = gives known remembers in
+        let same : cut_result job known cut.text ≡ line_result job known line =
+        ap (λ (c : Cut). cut_result job known c.text) cut_is in
+        let is : is_error (result_in made) ≡ is_error (line_result job known line).0 =
+        ap is_error given.0 ∙ ap (λ (r : LineResult × Known). is_error r.0) same in (
+          subst (Appends held held_new) (made_is known remembers) output,
+          subst (Reports err err_new) (reported_is known remembers) reported,
+          counts,
+          error ∙ is,
+          last ∙ ap (λ b. b && is_stop job.errors) is,
+          subst (λ (r : LineResult × Known). Remembers task_new job.command r.1) same given.1,
+        );
+  }
 
-  pub WritesPrefix-cut : (result : Result StepResult Cause) → caused_by_input result ≡ false
+  pub WritesPrefix-cut : (result : Result StepResult Cause)
       → AppendsPrefix held held_new (result_output job.errors line cut.before (result_in made)
       (cut.after ++ end))
       → ReportsPrefix err err_new (result_report job.errors number (result_in made))
       → IfErr result (WritesOutputPrefix job number task line end held held_new err err_new)
-  WritesPrefix-cut (Ok step) reading prefix reported = tt
-  WritesPrefix-cut (Err cause) reading prefix reported = (
-    reading,
-    λ known remembers. (
+  WritesPrefix-cut (Ok step) prefix reported = tt
+  WritesPrefix-cut (Err cause) prefix reported = record {
+    prefix = λ known remembers. (
       subst (AppendsPrefix held held_new) (made_is known remembers) prefix,
       subst (ReportsPrefix err err_new) (reported_is known remembers) reported,
-    ),
-  )
+    );
+  }
 
 -- what is written of a line is a step, or a failure
 module _ (job : Job) (before : ℕ) (task task_new : Task) (left left_new : Option (List ℕ))
@@ -268,13 +279,14 @@ module _ (job : Job) (before : ℕ) (task task_new : Task) (left left_new : Opti
     line-output-result-is-step (Err cause) written = tt
 
     pub failed-line-output-fails-step : (result : Result StepResult Cause)
+        → caused_by_input result ≡ false
         → IfErr result (WritesOutputPrefix job (before + 1) task line shown mid held_new err err_new)
         → IfErr result (StepFails job before task left left_new held held_new err err_new)
-    failed-line-output-fails-step (Ok step) prefix = tt
-    failed-line-output-fails-step (Err cause) prefix =
+    failed-line-output-fails-step (Ok step) reading prefix = tt
+    failed-line-output-fails-step (Err cause) reading prefix =
         StepFails-in-writing job before task task_new left left_new held mid held_new err err_new line
         is_return has
-        kept cause
+        kept cause reading
         (subst (λ e. WritesOutputPrefix job (before + 1) task line e mid held_new err err_new cause)
         shown_is prefix)
 
@@ -286,10 +298,12 @@ pub StepFails-in-reading : (job : Job) (before : ℕ) (task : Task)
     → Reports err err_new []
     → StepFails job before task left left_new held held_new err err_new cause
 StepFails-in-reading job before task None left_new held held_new err err_new cause stopped kept
-    none = tt
+    none = record { failed = tt }
 StepFails-in-reading job before task (Some xs) left_new held held_new err err_new cause stopped kept
-    none = λ known remembers. (
-      AppendsPrefix-of-kept held held_new _ kept,
-      ReportsPrefix-of-nothing err err_new _ none,
-      λ input. (kept, none, stopped),
-    )
+    none = record {
+      failed = λ known remembers. (
+        AppendsPrefix-of-kept held held_new _ kept,
+        ReportsPrefix-of-nothing err err_new _ none,
+        λ input. (kept, none, stopped),
+      );
+    }

@@ -184,23 +184,24 @@ module _ (job : Job) where
 
       so_far : step.is_last ≡ false → HasWrittenSoFar job (number + 1) task_new
           (Some xs) c h j d f s u tally_new
-      so_far more = (
-        lines ++ line ∷ [],
-        (line_result job known first).1,
-        drop_through (end_byte job.is_null) rest,
-        is.1,
-        held_new,
-        whole_new ∙ ap (λ l. (lines ++ line ∷ []) ++ l)
-            (lines_after_first-unless-last number known rest (sym is.5 ∙
-            more)),
-        is.6,
-        count_new,
-        lines_are,
-        errors_so_far,
-        few_new,
-        reported_new,
-        saw_new,
-      )
+      so_far more = record {
+        so_far = (
+          lines ++ line ∷ [],
+          (line_result job known first).1,
+          drop_through (end_byte job.is_null) rest,
+          is.1,
+          held_new,
+          whole_new ∙ ap (λ l. (lines ++ line ∷ []) ++ l)
+              (lines_after_first-unless-last number known rest (sym is.5 ∙ more)),
+          is.6,
+          count_new,
+          lines_are,
+          errors_so_far,
+          few_new,
+          reported_new,
+          saw_new,
+        );
+      }
 
       last : step.is_last ≡ true → WritesOutput job (Some xs) h j d f s u tally_new
       last ends =
@@ -253,22 +254,25 @@ pub HasWrittenSoFar-at-start : (job : Job) (task : Task) (a h : Option (List ℕ
     (s : Option (List Tally)) (tally : Tally)
     → Remembers task job.command [] → tally.lines ≡ 0 → tally.errors ≡ 0
     → HasWrittenSoFar job 0 task a a h h d d s s tally
-HasWrittenSoFar-at-start job task None h d s tally remembers lines errors = tt
-HasWrittenSoFar-at-start job task (Some xs) h d s tally remembers lines errors = (
-  [],
-  [],
-  xs,
-  refl,
-  Appends-nil h,
-  refl,
-  remembers,
-  refl,
-  lines,
-  errors,
-  omega (arith, errors),
-  Reports-nothing d,
-  Sees-nothing s,
-)
+HasWrittenSoFar-at-start job task None h d s tally remembers lines errors =
+    record { so_far = tt }
+HasWrittenSoFar-at-start job task (Some xs) h d s tally remembers lines errors = record {
+  so_far = (
+    [],
+    [],
+    xs,
+    refl,
+    Appends-nil h,
+    refl,
+    remembers,
+    refl,
+    lines,
+    errors,
+    omega (arith, errors),
+    Reports-nothing d,
+    Sees-nothing s,
+  );
+}
 
 -- streams: after a step that is not the last, one line more has been written and tallied;
 -- a, b, c: what is left to read, h, i, j: what the writer holds, d, e, f: the error output,
@@ -283,9 +287,10 @@ pub HasWrittenSoFar-after-step : (job : Job) (number : ℕ) (task task_new : Tas
     → Steps job number task b c i j e f task_new step
     → step.is_last ≡ false → HasWrittenSoFar job (number + 1) task_new a c h j d f s u tally_new
 HasWrittenSoFar-after-step job number task task_new None b c h i j d e f s t u tally tally_new step
-    fits ln en looks so st more = tt
+    fits ln en looks so st more = record { so_far = tt }
 HasWrittenSoFar-after-step job number task task_new (Some xs) b c h i j d e f s t u tally tally_new
-    step fits ln en looks (
+    step fits ln en looks so st more =
+    let (
       lines,
       known,
       rest,
@@ -299,9 +304,9 @@ HasWrittenSoFar-after-step job number task task_new (Some xs) b c h i j d e f s 
       few,
       reported,
       saw,
-    ) st more =
-    let stepped = (subst (λ o. Steps job number task o c i j e f task_new step) left st) known
-    remembers in
+    ) = so.so_far in
+    let stepped = (subst (λ o. Steps job number task o c i j e f task_new step) left st).stepped
+    known remembers in
     ⊎_elim (λ (is : WritesLine job number known rest c i j e f task_new step).
     so_far job number task xs b c h i j d e f s t u task_new tally tally_new step fits ln en lines
     known rest left held whole remembers count lines_are errors_are few reported saw looks is more)
@@ -322,7 +327,8 @@ pub HasWrittenSoFar-then-last-step : (job : Job) (number : ℕ) (task task_new :
 HasWrittenSoFar-then-last-step job number task task_new None b c h i j d e f s t u tally tally_new
     step fits ln en looks so st ends = tt
 HasWrittenSoFar-then-last-step job number task task_new (Some xs) b c h i j d e f s t u tally
-    tally_new step fits ln en looks (
+    tally_new step fits ln en looks so st ends =
+    let (
       lines,
       known,
       rest,
@@ -336,9 +342,9 @@ HasWrittenSoFar-then-last-step job number task task_new (Some xs) b c h i j d e 
       few,
       reported,
       saw,
-    ) st ends =
-    let stepped = (subst (λ o. Steps job number task o c i j e f task_new step) left st) known
-    remembers in
+    ) = so.so_far in
+    let stepped = (subst (λ o. Steps job number task o c i j e f task_new step) left st).stepped
+    known remembers in
     ⊎_elim (λ (is : WritesLine job number known rest c i j e f task_new step).
     last job number task xs b c h i j d e f s t u task_new tally tally_new step fits ln en lines
     known rest left held whole remembers count lines_are errors_are few reported saw looks is ends)

@@ -9,17 +9,18 @@ use Rattle.uri_commands.specs.Messages.{error_text}
 use Rattle.uri_rules.specs.Rules.{Rules}
 use Rattle.uri_setting.specs.Settings.{rules_set}
 use Rattle.uri_links.specs.Outcomes.{outcome_of}
-use Rattle.uri_streams.specs.Results.{LineResult, Error, kind_named, normalize_result}
+use Rattle.uri_commands.specs.Kinds.{kind_named}
+use Rattle.uri_streams.specs.Results.{LineResult, Error, normalize_result}
 use Rattle.uri_streams.specs.Results.{parse_message}
 use Rattle.uri_streams.specs.Returned.{IsResult, result_in}
 use Rattle.uri_streams.specs.Tasks.{HasMet, Known, Remembers, text_if_new, link_result}
 use Rattle.uri_streams.specs.Tasks.{no_text_result, noted_result}
 use Rattle.uri_streams.specs.Tasks.{text_result, unique_result}
 use Rattle.uri_streams.specs.Fields.{no_text_message}
-use Rattle.uri_streams.specs.declared.results.LineResult.{LineResult as Returned}
+use Rattle.uri_streams.specs.declared.line_result.LineResult.{LineResult as Returned}
 use Rattle.uri_streams.specs.declared.command.Command.{Command}
 use Rattle.uri_streams.specs.declared.command.Command.TheVariants.{Each, Unique, Links}
-use Rattle.uri_streams.specs.declared.command.KindName.{KindName}
+use Rattle.uri_commands.specs.declared.kinds.KindName.{KindName}
 use Rattle.uri_streams.specs.declared.task.Task.{Task}
 use Rattle.uri_streams.specs.declared.task.Task.TheVariants as tasks
 use Rattle.uri_streams.specs.declared.command.LineCommand.{LineCommand}
@@ -27,7 +28,8 @@ use Rattle.uri_streams.specs.declared.fault.NoText.{NoText}
 use Rattle.uri_streams.specs.declared.fault.NoText.TheVariants.{NoField, NotUtf8, TooLong}
 use Rattle.uri_streams.specs.declared.task.LinksTask.{LinksTask}
 use Rattle.uri_streams.specs.declared.task.UniqueTask.{UniqueTask}
-use Rattle.uri_streams.proofs.TextResults.{not-true-is-false, error_text-is-parse_message}
+use Rattle.uri_streams.proofs.Tests.{not-true-is-false}
+use Rattle.uri_streams.proofs.TextResults.{error_text-is-parse_message}
 
 -- lines: after a result that adds nothing, the task remembers what it did before
 pub IsResult-that-remembers-the-same : (command : Command) (next : LineResult × Known)

@@ -6,10 +6,10 @@ use Rattle.std.specs.Str.{is_utf8}
 use Rattle.fluent_uri.specs.Grammar.{is_of_kind}
 use Rattle.uri_streams.specs.Lines.{end_byte, line_text, lines_of}
 use Rattle.uri_streams.specs.Outputs.{line_cut, output_of, processed_in}
-use Rattle.uri_streams.specs.Results.{kind_named}
+use Rattle.uri_commands.specs.Kinds.{kind_named}
 use Rattle.uri_streams.specs.Tasks.{given_text}
 use Rattle.uri_streams.specs.declared.command.Command.TheVariants.{Each}
-use Rattle.uri_streams.specs.declared.command.KindName.{KindName}
+use Rattle.uri_commands.specs.declared.kinds.KindName.{KindName}
 use Rattle.uri_streams.specs.declared.command.LineCommand.TheVariants.{Check}
 use Rattle.uri_streams.specs.declared.fault.NoText.{NoText}
 use Rattle.uri_streams.specs.declared.job.Job.{Job}

@@ -16,8 +16,8 @@ use Rattle.uri_streams.specs.declared.command.Base.{Base}
 use Rattle.uri_streams.specs.declared.command.Base.TheVariants as bases
 use Rattle.uri_streams.specs.declared.command.Command.{Command}
 use Rattle.uri_streams.specs.declared.command.Command.TheVariants.{Each, Unique, Links}
-use Rattle.uri_streams.specs.declared.command.KindName.{KindName}
-use Rattle.uri_streams.specs.declared.command.KindName.TheVariants as kinds
+use Rattle.uri_commands.specs.declared.kinds.KindName.{KindName}
+use Rattle.uri_commands.specs.declared.kinds.KindName.TheVariants as kinds
 use Rattle.uri_streams.specs.declared.command.LineCommand.TheVariants.{Normalize, Resolve, Check}
 use Rattle.uri_streams.specs.declared.command.LineCommand.TheVariants.{Mend, Parse, Query}
 use Rattle.uri_streams.specs.declared.command.LineCommand.TheVariants.{Relativize}
@@ -42,13 +42,6 @@ word_of_command names.Parse = codes "parse"
 word_of_command names.Query = codes "query"
 word_of_command names.Unique = codes "unique"
 word_of_command names.Links = codes "links"
-
--- the word for a kind on the command line of `urilines`
-abbrev pub word_of_kind : KindName → List ℕ
-word_of_kind kinds.Uri = codes "uri"
-word_of_kind kinds.UriRef = codes "uri-ref"
-word_of_kind kinds.Iri = codes "iri"
-word_of_kind kinds.IriRef = codes "iri-ref"
 
 -- the word of `--errors` for what happens to a line that is an error
 abbrev pub word_of_mode : OnError → List ℕ

@@ -1,13 +1,16 @@
 -- What private functions say of a run on its way.
 use Rattle.std.specs.Prelude.{◌≡◌, ◌≢◌, ◌<◌, ◌≤◌, ◌+◌, ◌⊎◌, ℕ, List, [], ◌++◌, length, take, All}
 use Rattle.std.specs.Prelude.{Bool, true, false, Option, Some, IfSome, ◌&&◌, ◌-◌, slice_index}
+use Rattle.std.specs.Prelude.{◌||◌, IfErr, IfOk, Result}
 use Rattle.std.specs.Io.{StopsAt}
 use Rattle.std.specs.Io.BufRead.{take_through, drop_through}
-use Rattle.std.specs.Io.Buffered.{reader_buffer}
+use Rattle.std.specs.Io.Buffered.{reader_buffer, reader_remaining}
 use Rattle.std.specs.Io.KnownBytes.{Appends, Consumes, Keeps}
 use Rattle.std.specs.declared.io.buffered.BufReader.{BufReader}
 use Rattle.uri_commands.specs.Prefixes.{AppendsPrefix}
-use Rattle.uri_streams.specs.Causes.{is_input_cause}
+use Rattle.uri_commands.specs.Sinks.{KeepsFinalError}
+use Rattle.uri_commands.specs.declared.sink.Sink.{Sink}
+use Rattle.uri_streams.specs.Causes.{caused_by_input, caused_by_output, is_input_cause}
 use Rattle.uri_streams.specs.Lines.{end_byte, ends_with_return, lines_of}
 use Rattle.uri_streams.specs.Outputs.{ProcessedLine, error_count, is_error, is_last, is_stop}
 use Rattle.uri_streams.specs.Outputs.{line_cut}
@@ -15,13 +18,14 @@ use Rattle.uri_streams.specs.Outputs.{line_output, line_result, output_of, proce
 use Rattle.uri_streams.specs.Outputs.{errors_of, processed_in, processed_lines, result_output}
 use Rattle.uri_streams.specs.Outputs.{line_report, result_report, tallies_of}
 use Rattle.uri_streams.specs.Results.{LineResult}
-use Rattle.uri_streams.specs.Runs.{ErrorOutput, Reports, ReportsPrefix, Sees}
+use Rattle.uri_streams.specs.Runs.{ErrorOutput, Reports, ReportsPrefix, Sees, error_output_of}
 use Rattle.uri_streams.specs.Tasks.{Known, Remembers}
 use Rattle.uri_streams.specs.declared.failure.Cause.{Cause}
 use Rattle.uri_streams.specs.declared.job.Job.{Job}
 use Rattle.uri_streams.specs.declared.job.OnError.{OnError}
 use Rattle.uri_streams.specs.declared.output.StepResult.{StepResult}
 use Rattle.uri_streams.specs.declared.run.Tally.{Tally}
+use Rattle.uri_streams.specs.declared.source.Source.{Source}
 use Rattle.uri_streams.specs.declared.task.Task.{Task}
 
 -- A run reads a line: what is left to read, before and after (`_new`), loses its first line.
@@ -77,25 +81,24 @@ WritesResult errors number line before line_result after held held_new err err_n
 
 -- a step of a run writes the output of a line with this number, these bytes and this end; `task`,
 -- `held`, `err`: the task, what the writer holds, and the error output, before and after (`_new`)
-abbrev pub WritesLineOutput : Job → ℕ → Task → List ℕ → List ℕ → Option (List ℕ) → Option (List ℕ)
-    → ErrorOutput → ErrorOutput → Task → StepResult → Type 0
-WritesLineOutput job number task line end held held_new err err_new task_new step =
-    (known : Known) → Remembers task job.command known
-    → Appends held held_new (bytes_output job known line end)
-    × Reports err err_new (bytes_report job number known line) × (step.is_line ≡ true)
-    × (step.is_error ≡ is_error (line_result job known line).0)
-    × (step.is_last ≡ (is_error (line_result job known line).0 && is_stop job.errors))
-    × Remembers task_new job.command (line_result job known line).1
+pub record WritesLineOutput (job : Job) (number : ℕ) (task : Task) (line end : List ℕ)
+    (held held_new : Option (List ℕ)) (err err_new : ErrorOutput) (task_new : Task)
+    (step : StepResult) : Type 0 where
+  pub written : (known : Known) → Remembers task job.command known
+      → Appends held held_new (bytes_output job known line end)
+      × Reports err err_new (bytes_report job number known line) × (step.is_line ≡ true)
+      × (step.is_error ≡ is_error (line_result job known line).0)
+      × (step.is_last ≡ (is_error (line_result job known line).0 && is_stop job.errors))
+      × Remembers task_new job.command (line_result job known line).1
 
 -- A step of a run writes a prefix of the output of a line with this number, these bytes and this
--- end, and then the writer or an allocation fails.
+-- end, and then fails.
 -- `held`, `err`: what the writer holds, and the error output, before and after (`_new`).
-abbrev pub WritesOutputPrefix : Job → ℕ → Task → List ℕ → List ℕ → Option (List ℕ)
-    → Option (List ℕ) → ErrorOutput → ErrorOutput → Cause → Type 0
-WritesOutputPrefix job number task line end held held_new err err_new cause =
-    (is_input_cause cause ≡ false) × ((known : Known) → Remembers task job.command known
-    → AppendsPrefix held held_new (bytes_output job known line end)
-    × ReportsPrefix err err_new (bytes_report job number known line))
+pub record WritesOutputPrefix (job : Job) (number : ℕ) (task : Task) (line end : List ℕ)
+    (held held_new : Option (List ℕ)) (err err_new : ErrorOutput) (cause : Cause) : Type 0 where
+  pub prefix : (known : Known) → Remembers task job.command known
+      → AppendsPrefix held held_new (bytes_output job known line end)
+      × ReportsPrefix err err_new (bytes_report job number known line)
 
 -- A step of a run processes the first line of what is left to read, `xs`, and writes its output.
 -- `before`: how many lines came before; `known`: what is known from these; `held`, `err`: what the
@@ -123,41 +126,67 @@ FindsEnd xs held held_new err err_new step =
 -- input.
 -- `left`, `held`, `err`: what is left to read, what the writer holds, and the error output, before
 -- and after (`_new`); `before`: how many lines came before.
-abbrev pub Steps : Job → ℕ → Task → Option (List ℕ) → Option (List ℕ) → Option (List ℕ)
-    → Option (List ℕ) → ErrorOutput → ErrorOutput → Task → StepResult → Type 0
-Steps job before task left left_new held held_new err err_new task_new step = IfSome left (λ xs.
-    (known : Known) → Remembers task job.command known
-    → WritesLine job before known xs left_new held held_new err err_new task_new step
-    ⊎ FindsEnd xs held held_new err err_new step)
+pub record Steps (job : Job) (before : ℕ) (task : Task)
+    (left left_new held held_new : Option (List ℕ)) (err err_new : ErrorOutput) (task_new : Task)
+    (step : StepResult) : Type 0 where
+  pub stepped : IfSome left (λ xs. (known : Known) → Remembers task job.command known
+      → WritesLine job before known xs left_new held held_new err err_new task_new step
+      ⊎ FindsEnd xs held held_new err err_new step)
 
 -- A step of a run fails: a prefix of the output for what is left to read is written, and nothing if
 -- the reader failed.
 -- `left`, `held`, `err`: what is left to read, what the writer holds, and the error output, before
 -- and after (`_new`); `before`: how many lines came before.
-abbrev pub StepFails : Job → ℕ → Task → Option (List ℕ) → Option (List ℕ) → Option (List ℕ)
-    → Option (List ℕ) → ErrorOutput → ErrorOutput → Cause → Type 0
-StepFails job before task left left_new held held_new err err_new cause = IfSome left (λ xs.
-    (known : Known) → Remembers task job.command known
-    → AppendsPrefix held held_new
-    (output_of job (processed_lines job before known (lines_of (end_byte job.is_null) xs)))
-    × ReportsPrefix err err_new
-    (errors_of job (processed_lines job before known (lines_of (end_byte job.is_null) xs)))
-    × (is_input_cause cause ≡ true → Keeps held held_new × Reports err err_new []
-    × ReadsPartOfLine left left_new (end_byte job.is_null)))
+pub record StepFails (job : Job) (before : ℕ) (task : Task)
+    (left left_new held held_new : Option (List ℕ)) (err err_new : ErrorOutput) (cause : Cause)
+    : Type 0 where
+  pub failed : IfSome left (λ xs. (known : Known) → Remembers task job.command known
+      → AppendsPrefix held held_new
+      (output_of job (processed_lines job before known (lines_of (end_byte job.is_null) xs)))
+      × ReportsPrefix err err_new
+      (errors_of job (processed_lines job before known (lines_of (end_byte job.is_null) xs)))
+      × (is_input_cause cause ≡ true → Keeps held held_new × Reports err err_new []
+      × ReadsPartOfLine left left_new (end_byte job.is_null)))
+
+-- What failed in a call of a run is what its result says, and the reader or the writer keeps the
+-- error.
+-- Both are given before and after (`_new`).
+pub record KeepsFailures {T R W : Type 0} (result : Result T Cause) (reader reader_new : Source R)
+    (writer writer_new : Sink W) : Type 0 where
+  pub reading : reader_new.has_failed ≡ (caused_by_input result || reader.has_failed)
+  pub writing : writer_new.has_failed ≡ (caused_by_output result || writer.has_failed)
+  pub read_error : caused_by_input result ≡ true → KeepsFinalError reader_new.error
+  pub write_error : caused_by_output result ≡ true → KeepsFinalError writer_new.error
+
+-- A call is a step of a run: it succeeds or fails as one, and keeps its failures.
+-- The functions tell what is left to read, and what the writers hold. `before`: how many lines came
+-- before; `task`, `reader`, `writer`, `err`: before and after (`_new`).
+pub record IsStepOf {R W E : Type 0} (job : Job) (before : ℕ) (remaining : R → Option (List ℕ))
+    (contents : W → Option (List ℕ)) (reported : E → Option (List ℕ)) (task task_new : Task)
+    (reader reader_new : Source R) (writer writer_new : Sink W) (err err_new : Sink E)
+    (result : Result StepResult Cause) : Type 0 where
+  pub steps : IfOk result (Steps job before task (reader_remaining remaining reader.reader)
+      (reader_remaining remaining reader_new.reader) (contents writer.writer)
+      (contents writer_new.writer) (error_output_of reported err)
+      (error_output_of reported err_new) task_new)
+  pub fails : IfErr result (StepFails job before task (reader_remaining remaining reader.reader)
+      (reader_remaining remaining reader_new.reader) (contents writer.writer)
+      (contents writer_new.writer) (error_output_of reported err)
+      (error_output_of reported err_new))
+  pub failures : KeepsFailures result reader reader_new writer writer_new
 
 -- In the middle of a run: what was written is the output for the lines that were processed, and
 -- what is left to read comes after these.
 -- `left`, `held`, `err`, `seen`: what is left to read, what the writer holds, the error output, and
 -- the tallies that the observer saw, at the beginning and now (`_new`); `number`: how many lines
 -- were processed.
-abbrev pub HasWrittenSoFar : Job → ℕ → Task → Option (List ℕ) → Option (List ℕ) → Option (List ℕ)
-    → Option (List ℕ) → ErrorOutput → ErrorOutput → Option (List Tally) → Option (List Tally)
-    → Tally → Type 0
-HasWrittenSoFar job number task left left_new held held_new err err_new seen seen_new tally =
-    IfSome left (λ xs. (lines : List ProcessedLine) × (known : Known) × (rest : List ℕ)
-    × (left_new ≡ Some rest) × Appends held held_new (output_of job lines)
-    × (processed_in job xs
-    ≡ lines ++ processed_lines job number known (lines_of (end_byte job.is_null) rest))
-    × Remembers task job.command known × (length lines ≡ number) × (tally.lines ≡ number)
-    × (tally.errors ≡ error_count lines) × (tally.errors ≤ number)
-    × Reports err err_new (errors_of job lines) × Sees seen seen_new (tallies_of lines))
+pub record HasWrittenSoFar (job : Job) (number : ℕ) (task : Task)
+    (left left_new held held_new : Option (List ℕ)) (err err_new : ErrorOutput)
+    (seen seen_new : Option (List Tally)) (tally : Tally) : Type 0 where
+  pub so_far : IfSome left (λ xs. (lines : List ProcessedLine) × (known : Known)
+      × (rest : List ℕ) × (left_new ≡ Some rest) × Appends held held_new (output_of job lines)
+      × (processed_in job xs
+      ≡ lines ++ processed_lines job number known (lines_of (end_byte job.is_null) rest))
+      × Remembers task job.command known × (length lines ≡ number) × (tally.lines ≡ number)
+      × (tally.errors ≡ error_count lines) × (tally.errors ≤ number)
+      × Reports err err_new (errors_of job lines) × Sees seen seen_new (tallies_of lines))

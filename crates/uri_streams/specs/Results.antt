@@ -5,7 +5,6 @@ use Rattle.std.specs.Prelude.{option_map, if◌then◌else◌}
 use Rattle.fluent_uri.specs.Components.{components}
 use Rattle.fluent_uri.specs.Grammar.{Kind, uri, uri_ref, iri, iri_ref, is_of_kind}
 use Rattle.fluent_uri.specs.Iris.{iri_text}
-use Rattle.fluent_uri.specs.Normal.{normal_text}
 use Rattle.fluent_uri.specs.Refusals.{refusal}
 use Rattle.fluent_uri.specs.Target.{TargetError, BaseWithFragment}
 use Rattle.fluent_uri.specs.Target.{InvalidReferenceAgainstOpaqueBase}
@@ -14,12 +13,11 @@ use Rattle.fluent_uri.specs.Uris.{uri_text}
 use Rattle.fluent_uri.specs.declared.resolve.ResolveError.TheVariants as resolve_errors
 use Rattle.uri_basic.specs.Target.{BasicTargetError, PathStartsWithDoubleSlash}
 use Rattle.uri_basic.specs.Target.{basic_resolution_of_texts}
+use Rattle.uri_commands.specs.Kinds.{kind_named, normal_form_of}
 use Rattle.uri_commands.specs.Messages.{error_text, resolve_error_text}
 use Rattle.uri_mend.specs.Mending.{can_be_mended, mended_text}
 use Rattle.uri_mend.specs.Trimming.{trimmed_link}
 use Rattle.uri_relative.specs.Rule.{reference_to}
-use Rattle.uri_rules.specs.Rules.{meaning_under}
-use Rattle.uri_setting.specs.Settings.{rules_set}
 use Rattle.uri_streams.specs.Json.{json_of}
 use Rattle.uri_streams.specs.Queries.{query_json}
 use Rattle.uri_streams.specs.declared.command.Base.{Base}
@@ -28,8 +26,6 @@ use Rattle.uri_streams.specs.declared.command.LineCommand.{LineCommand}
 use Rattle.uri_streams.specs.declared.command.LineCommand.TheVariants.{Normalize, Resolve, Check}
 use Rattle.uri_streams.specs.declared.command.LineCommand.TheVariants.{Relativize}
 use Rattle.uri_streams.specs.declared.command.LineCommand.TheVariants.{Mend, Parse, Query}
-use Rattle.uri_streams.specs.declared.command.KindName.{KindName}
-use Rattle.uri_streams.specs.declared.command.KindName.TheVariants as kinds
 
 -- the result of a line of an input: a text in place of the one that the command got, the line as it
 -- is, no line, or an error with its message
@@ -38,13 +34,6 @@ pub data LineResult : Type 0 where
   Unchanged : LineResult
   NoLine : LineResult
   Error : List ℕ → LineResult
-
--- the kind that a name on the command line of `urilines` stands for
-abbrev pub kind_named : KindName → Kind
-kind_named kinds.Uri = uri
-kind_named kinds.UriRef = uri_ref
-kind_named kinds.Iri = iri
-kind_named kinds.IriRef = iri_ref
 
 -- the text of a base that is given on the command line of `urilines`
 abbrev pub base_text : Base → List ℕ
@@ -65,17 +54,17 @@ target_kind (bases.Iri base) = iri
 abbrev pub parse_message : Kind → List ℕ → List ℕ
 parse_message kind text = unwrap_or (option_map error_text (refusal kind text)) []
 
--- the normal form of a text of the kind, where the Bool is whether it is by the rules of schemes, or
--- by their default ports alone (section 6.2.3)
-unfoldable pub normal_form_of : Bool → Kind → List ℕ → List ℕ
-normal_form_of by_rules kind text = normal_text (meaning_under kind (rules_set by_rules) text)
+-- the result of a line whose text a command parses as the kind: the last argument if it is of the
+-- kind, and otherwise its parse error, after what it is an error of
+abbrev pub parsed_result : List ℕ → Kind → List ℕ → LineResult → LineResult
+parsed_result subject kind text result =
+    if is_of_kind kind text then result else Error (subject ++ parse_message kind text)
 
 -- the result of `urilines normalize` for a line: the normal form of a text of the kind, or the
 -- parse error; the Bool is whether `--scheme-rules` is given
 unfoldable pub normalize_result : Bool → Kind → List ℕ → LineResult
 normalize_result by_rules kind text =
-    if is_of_kind kind text then Text (normal_form_of by_rules kind text)
-    else Error (parse_message kind text)
+    parsed_result [] kind text (Text (normal_form_of by_rules kind text))
 
 -- the result of `urilines resolve` for a line whose reference has this resolution: the target, or
 -- why there is none
@@ -119,16 +108,14 @@ target_result_by is_basic base reference =
 -- a reference of the kind; the Bool is whether `--basic` is given
 unfoldable pub resolve_result : Bool → Kind → List ℕ → List ℕ → LineResult
 resolve_result is_basic kind base text =
-    if is_of_kind kind text then target_result_by is_basic base text
-    else Error (codes "reference: " ++ parse_message kind text)
+    parsed_result (codes "reference: ") kind text (target_result_by is_basic base text)
 
 -- the result of `urilines relativize` for a base and a line, in this order: a reference that leads
 -- from the base to the line, if that is of the kind; the Bool is whether a relative path is
 -- preferred
 unfoldable pub relativize_result : Bool → Kind → List ℕ → List ℕ → LineResult
 relativize_result prefers kind base text =
-    if is_of_kind kind text then Text (reference_to prefers base text)
-    else Error (codes "target: " ++ parse_message kind text)
+    parsed_result (codes "target: ") kind text (Text (reference_to prefers base text))
 
 -- whether `urilines check` keeps a line: it is of the kind, or with `--invert`, which the Bool is,
 -- it is not
@@ -156,16 +143,12 @@ mend_result kind text =
 -- the result of `urilines parse` for a line: the components of a text of the kind as JSON, or the
 -- parse error
 unfoldable pub parse_result : Kind → List ℕ → LineResult
-parse_result kind text =
-    if is_of_kind kind text then Text (json_of (components text))
-    else Error (parse_message kind text)
+parse_result kind text = parsed_result [] kind text (Text (json_of (components text)))
 
 -- the result of `urilines query` for a line: the decoded pairs of its query as JSON, if it is a
 -- text of the kind
 unfoldable pub query_result : Kind → List ℕ → LineResult
-query_result kind text =
-    if is_of_kind kind text then Text (query_json (components text).query)
-    else Error (parse_message kind text)
+query_result kind text = parsed_result [] kind text (Text (query_json (components text).query))
 
 -- the result of a line under a command of `urilines` that does the same with each line
 abbrev pub command_result : LineCommand → List ℕ → LineResult

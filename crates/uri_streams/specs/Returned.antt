@@ -6,11 +6,11 @@ use Rattle.uri_streams.specs.Fields.{Cut, no_text_message}
 use Rattle.uri_streams.specs.Results.{LineResult, Text, Unchanged, NoLine, Error}
 use Rattle.uri_streams.specs.Results.{double_slash_message}
 use Rattle.uri_streams.specs.Tasks.{Known, Remembers}
-use Rattle.uri_streams.specs.declared.results.LineResult.{LineResult as Returned}
+use Rattle.uri_streams.specs.declared.line_result.LineResult.{LineResult as Returned}
 use Rattle.uri_streams.specs.declared.command.Command.{Command}
 use Rattle.uri_streams.specs.declared.cut.Cut.{Cut as ReturnedCut}
 use Rattle.uri_streams.specs.declared.task.Task.{Task}
-use Rattle.uri_streams.specs.declared.results.LineResult.TheVariants as returned
+use Rattle.uri_streams.specs.declared.line_result.LineResult.TheVariants as returned
 use Rattle.uri_streams.specs.declared.fault.LineError.{LineError}
 use Rattle.uri_streams.specs.declared.fault.LineError.TheVariants.{Refused, Target}
 use Rattle.uri_streams.specs.declared.fault.LineError.TheVariants as faults

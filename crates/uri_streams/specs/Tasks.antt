@@ -16,7 +16,8 @@ use Rattle.uri_links.specs.Registers.{target_rules, texts_of}
 use Rattle.uri_links.specs.declared.links.Outcome.{Outcome}
 use Rattle.uri_links.specs.declared.links.Outcome.TheVariants as outcomes
 use Rattle.uri_streams.specs.Fields.{no_text_message}
-use Rattle.uri_streams.specs.Results.{LineResult, Text, NoLine, Error, command_result, kind_named}
+use Rattle.uri_commands.specs.Kinds.{kind_named}
+use Rattle.uri_streams.specs.Results.{LineResult, Text, NoLine, Error, command_result}
 use Rattle.uri_streams.specs.Results.{normalize_result, parse_message, passed_if}
 use Rattle.uri_streams.specs.Results.{text_kind as line_text_kind}
 use Rattle.uri_streams.specs.declared.command.Command.{Command}

@@ -4,7 +4,7 @@ ghost use Rattle.std.specs.List.{AllPass, concat, filter};
 ghost use Rattle.uri_streams.specs.Checks.{AreMergedFrom, checking, is_passed, is_within_maximum};
 ghost use Rattle.uri_streams.specs.Checks.{lines_for, lines_within_maximum, output_for};
 ghost use Rattle.uri_streams.specs.Checks.{passes_over_errors};
-ghost use Rattle.uri_streams.specs.declared.command.KindName.{KindName};
+ghost use Rattle.uri_commands.specs.declared.kinds.KindName.{KindName};
 ghost use Rattle.uri_streams.specs.declared.job.Job.{Job};
 
 /// The outputs of `check` and `check --invert`, merged by line, make up the input.

@@ -2,19 +2,7 @@
 
 use fluent_uri::{Iri, Uri};
 use std::hash::RandomState;
-
-/// One of the four kinds, by its name on the command line of `urilines`.
-#[derive(Clone, Copy)]
-pub enum KindName {
-    /// `uri`: a URI (RFC 3986, section 3).
-    Uri,
-    /// `uri-ref`: a URI reference (RFC 3986, section 4.1).
-    UriRef,
-    /// `iri`: an IRI (RFC 3987, section 2.2).
-    Iri,
-    /// `iri-ref`: an IRI reference (RFC 3987, section 2.2).
-    IriRef,
-}
+pub use uri_commands::kinds::KindName;
 
 /// A base that lines are resolved against or relativized to: a URI or an IRI without a fragment.
 /// Its references are URI references or IRI references.

@@ -7,7 +7,7 @@ ghost use Rattle.uri_streams.specs.CommandLines.{IsDelimiterOf, IsErrorOfDelimit
 ghost use Rattle.uri_streams.specs.CommandLines.{is_in_no_text, is_only_kept, keeps_shape};
 ghost use Rattle.uri_streams.specs.CommandLines.{IsErrorOfLine, IsFieldOf};
 ghost use Rattle.uri_streams.specs.CommandLines.{IsJobOf, IsRejectedBase, IsWordOfBase, mode_of};
-ghost use Rattle.uri_streams.specs.CommandLines.{word_of_command, word_of_kind, word_of_mode};
+ghost use Rattle.uri_streams.specs.CommandLines.{word_of_command, word_of_mode};
 
 use crate::command::{Base, Command, KindName, LineCommand};
 use crate::job::{Field, Job, OnError};
@@ -15,6 +15,7 @@ use fluent_uri::Reference;
 use fluent_uri::roles::BaseKind;
 use std::fmt::{self, Display};
 use std::hash::RandomState;
+pub use uri_commands::kinds::kind_named;
 use uri_commands::refusal::CommandError;
 
 /// How many bytes the text of a line may have, if `--max-line` doesn't say it: 1 MiB.
@@ -120,20 +121,6 @@ pub fn command_named(word: &str) -> Option<CommandName>
         "query" => Some(CommandName::Query),
         "unique" => Some(CommandName::Unique),
         "links" => Some(CommandName::Links),
-        _ => None,
-    }
-}
-
-/// Returns the kind of this name, if there is one.
-pub fn kind_named(word: &str) -> Option<KindName>
-    ensures { MatchOption result ((kind : _) → word.now ≢ word_of_kind kind)
-        (λ kind. word.now ≡ word_of_kind kind) }
-{
-    match word {
-        "uri" => Some(KindName::Uri),
-        "uri-ref" => Some(KindName::UriRef),
-        "iri" => Some(KindName::Iri),
-        "iri-ref" => Some(KindName::IriRef),
         _ => None,
     }
 }

@@ -9,8 +9,8 @@ ghost use Rattle.uri_streams.specs.JsonTexts.{IsJsonTextOf, JsonValue};
 ghost use Rattle.uri_streams.specs.JsonValues.{components_value, named_components, present};
 ghost use Rattle.uri_streams.specs.JsonValues.{query_value};
 ghost use Rattle.uri_streams.specs.Queries.{pairs_of_query, query_json};
-ghost use Rattle.uri_streams.specs.Results.{kind_named};
-ghost use Rattle.uri_streams.specs.declared.command.KindName.{KindName};
+ghost use Rattle.uri_commands.specs.Kinds.{kind_named};
+ghost use Rattle.uri_commands.specs.declared.kinds.KindName.{KindName};
 
 /// A JSON text represents one value (RFC 8259).
 ///

@@ -1,13 +1,14 @@
 //! The text of a line, mended as the link of a page.
 ghost use Rattle.std.specs.Prelude.{◌≡◌, IfOk};
+ghost use Rattle.uri_commands.specs.Kinds.{kind_named};
 ghost use Rattle.uri_commands.specs.MendedLinks.{IsMendedLink};
 ghost use Rattle.uri_streams.specs.Results as results;
-ghost use Rattle.uri_streams.specs.Results.{kind_named};
 ghost use Rattle.uri_streams.specs.Tasks as tasks;
 
-use crate::command::{Base, Command, KindName, LineCommand};
+use crate::command::{Base, Command, LineCommand};
 use fluent_uri::kind::{IriKind, IriRefKind, UriKind, UriRefKind};
 use std::alloc::{AllocError, Global};
+use uri_commands::kinds::KindName;
 use uri_commands::mending::{MendedLink, mended_link};
 
 /// Returns what a text is mended to for the kind.

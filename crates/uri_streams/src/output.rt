@@ -1,5 +1,5 @@
 //! Writing the output of a line.
-ghost use Rattle.std.specs.Prelude.{◌≡◌, ◌||◌, ◌++◌, IfErr, IfOk, OnOk, string_bytes};
+ghost use Rattle.std.specs.Prelude.{◌≡◌, ◌||◌, ◌++◌, ◌+◌, IfErr, IfOk, OnOk, string_bytes};
 ghost use Rattle.std.specs.Prelude.{◌&&◌, IsTrue, false, not, true};
 ghost use Rattle.std.specs.Str.{IsAscii};
 ghost use Rattle.std.specs.Io.KnownBytes.{Appends};
@@ -15,9 +15,10 @@ ghost use Rattle.uri_commands.specs.Sinks.{KeepsFinalError};
 use crate::cut::{Cut, line_cut, whole_text};
 use crate::failure::Cause;
 use crate::fault::LineError;
-use crate::job::{Job, OnError};
-use crate::results::LineResult;
+use crate::job::OnError;
+use crate::line_result::LineResult;
 use crate::source::Line;
+use crate::step::Step;
 use crate::task::Task;
 use std::alloc::{AllocError, Global};
 use std::io::Write;
@@ -35,40 +36,39 @@ pub(crate) struct StepResult {
     pub is_last: bool,
 }
 
-/// Writes the output of a line under a job, and `end` after it. `number` is that of the line, for
-/// the message of an error.
+/// Writes the output of the line of a step.
 #[inline(always)]
 pub(crate) fn write_line<W: Write, E: Write>(
-    alloc: Global,
-    job: &Job<'_>,
+    step: Step<'_>,
     task: &mut Task<'_>,
     line: Line<'_>,
-    end: &[u8],
-    number: u64,
     writer: &mut Sink<W>,
     err: &mut Sink<E>,
 ) -> Result<StepResult, Cause>
     requires { IsTrue line.is_ascii → IsAscii line.bytes.now }
-    ensures whole { IfOk result (WritesLineOutput job.now number task.old line.entry.bytes.now
-        end.now (W.contents writer.old.writer) (W.contents writer.new.writer)
+    ensures whole { IfOk result (WritesLineOutput step.entry.job.now (step.entry.before + 1)
+        task.old line.entry.bytes.now line.entry.end.now (W.contents writer.old.writer)
+        (W.contents writer.new.writer)
         (error_output_of E.contents err.old) (error_output_of E.contents err.new) task.new) }
-    ensures prefix { IfErr result (WritesOutputPrefix job.now number task.old line.entry.bytes.now
-        end.now (W.contents writer.old.writer) (W.contents writer.new.writer)
+    ensures prefix { IfErr result (WritesOutputPrefix step.entry.job.now (step.entry.before + 1)
+        task.old line.entry.bytes.now line.entry.end.now (W.contents writer.old.writer)
+        (W.contents writer.new.writer)
         (error_output_of E.contents err.old) (error_output_of E.contents err.new)) }
+    ensures reading { caused_by_input result ≡ false }
     ensures writing { writer.new.has_failed ≡ (caused_by_output result || writer.old.has_failed) }
     ensures write_error { caused_by_output result ≡ true → KeepsFinalError writer.new.error }
 {
-    let Some(text) = whole_text(job, line.bytes) else {
-        return write_cut(alloc, job, task, line.bytes, end, number, writer, err);
+    let Some(text) = whole_text(step.job, line.bytes) else {
+        return write_cut(step, task, line, writer, err);
     };
-    let line_result = task.bytes_result(alloc, job, text, line.is_ascii)?;
+    let line_result = task.bytes_result(step.alloc, step.job, text, line.is_ascii)?;
     let around = Around {
         line: line.bytes,
         before: b"",
         after: b"",
-        end,
+        end: line.end,
     };
-    write_result(alloc, job.errors, line_result, around, number, writer, err)
+    write_result(step, line_result, around, writer, err)
 }
 
 /// Writes the output of a line that `line_cut` cuts: the command gets one field of it, or it may be
@@ -76,21 +76,21 @@ pub(crate) fn write_line<W: Write, E: Write>(
 #[cold]
 #[inline(never)]
 fn write_cut<W: Write, E: Write>(
-    alloc: Global,
-    job: &Job<'_>,
+    step: Step<'_>,
     task: &mut Task<'_>,
-    line: &[u8],
-    end: &[u8],
-    number: u64,
+    line: Line<'_>,
     writer: &mut Sink<W>,
     err: &mut Sink<E>,
 ) -> Result<StepResult, Cause>
-    ensures whole { IfOk result (WritesLineOutput job.now number task.old line.now end.now
-        (W.contents writer.old.writer) (W.contents writer.new.writer)
+    ensures whole { IfOk result (WritesLineOutput step.entry.job.now (step.entry.before + 1)
+        task.old line.entry.bytes.now line.entry.end.now (W.contents writer.old.writer)
+        (W.contents writer.new.writer)
         (error_output_of E.contents err.old) (error_output_of E.contents err.new) task.new) }
-    ensures prefix { IfErr result (WritesOutputPrefix job.now number task.old line.now end.now
-        (W.contents writer.old.writer) (W.contents writer.new.writer)
+    ensures prefix { IfErr result (WritesOutputPrefix step.entry.job.now (step.entry.before + 1)
+        task.old line.entry.bytes.now line.entry.end.now (W.contents writer.old.writer)
+        (W.contents writer.new.writer)
         (error_output_of E.contents err.old) (error_output_of E.contents err.new)) }
+    ensures reading { caused_by_input result ≡ false }
     ensures writing { writer.new.has_failed ≡ (caused_by_output result || writer.old.has_failed) }
     ensures write_error { caused_by_output result ≡ true → KeepsFinalError writer.new.error }
 {
@@ -98,15 +98,15 @@ fn write_cut<W: Write, E: Write>(
         before,
         text,
         after,
-    } = line_cut(job, line);
-    let line_result = task.result_for(alloc, job, text)?;
+    } = line_cut(step.job, line.bytes);
+    let line_result = task.result_for(step.alloc, step.job, text)?;
     let around = Around {
-        line,
+        line: line.bytes,
         before,
         after,
-        end,
+        end: line.end,
     };
-    write_result(alloc, job.errors, line_result, around, number, writer, err)
+    write_result(step, line_result, around, writer, err)
 }
 
 /// Returns whether a line that is an error ends the run, as `--errors stop` asks.
@@ -130,30 +130,28 @@ struct Around<'a> {
     end: &'a [u8],
 }
 
-/// Writes the result of a line, with what is around it, or the line itself. `number` is that of the
-/// line, for the message of an error.
+/// Writes the result of a line, with what is around it, or the line itself.
 #[inline(always)]
 fn write_result<W: Write, E: Write>(
-    alloc: Global,
-    errors: OnError,
+    step: Step<'_>,
     line_result: LineResult,
     around: Around<'_>,
-    number: u64,
     writer: &mut Sink<W>,
     err: &mut Sink<E>,
 ) -> Result<StepResult, Cause>
-    ensures whole { IfOk result (WritesResult errors number around.entry.line.now
-        around.entry.before.now (result_in line_result)
+    ensures whole { IfOk result (WritesResult step.entry.job.now.errors (step.entry.before + 1)
+        around.entry.line.now around.entry.before.now (result_in line_result)
         (around.entry.after.now ++ around.entry.end.now)
         (W.contents writer.old.writer) (W.contents writer.new.writer)
         (error_output_of E.contents err.old) (error_output_of E.contents err.new)) }
     ensures prefix { AppendsPrefix (W.contents writer.old.writer)
-        (W.contents writer.new.writer) (result_output errors around.entry.line.now
-        around.entry.before.now (result_in line_result)
+        (W.contents writer.new.writer) (result_output step.entry.job.now.errors
+        around.entry.line.now around.entry.before.now (result_in line_result)
         (around.entry.after.now ++ around.entry.end.now)) }
     ensures reports { ReportsPrefix (error_output_of E.contents err.old)
         (error_output_of E.contents err.new)
-        (result_report errors number (result_in line_result)) }
+        (result_report step.entry.job.now.errors (step.entry.before + 1)
+        (result_in line_result)) }
     ensures reading { caused_by_input result ≡ false }
     ensures writing { writer.new.has_failed ≡ (caused_by_output result || writer.old.has_failed) }
     ensures write_error { caused_by_output result ≡ true → KeepsFinalError writer.new.error }
@@ -161,22 +159,22 @@ fn write_result<W: Write, E: Write>(
     match line_result {
         LineResult::Text(text) => {
             if put_around(writer, text.as_bytes(), around) {
-                Ok(StepResult::of_line(false, errors))
+                Ok(StepResult::of_line(false, step.job.errors))
             } else {
                 Err(Cause::Output)
             }
         }
         LineResult::Unchanged => {
             if writer.put(around.line) {
-                Ok(StepResult::of_line(false, errors))
+                Ok(StepResult::of_line(false, step.job.errors))
             } else {
                 Err(Cause::Output)
             }
         }
-        LineResult::NoLine => Ok(StepResult::of_line(false, errors)),
+        LineResult::NoLine => Ok(StepResult::of_line(false, step.job.errors)),
         LineResult::Error(fault) => {
-            write_error(alloc, errors, fault, around, number, writer, err)?;
-            Ok(StepResult::of_line(true, errors))
+            write_error(step, fault, around, writer, err)?;
+            Ok(StepResult::of_line(true, step.job.errors))
         }
     }
 }
@@ -219,33 +217,35 @@ fn put_around<W: Write>(writer: &mut Sink<W>, text: &[u8], around: Around<'_>) -
 #[cold]
 #[inline(never)]
 fn write_error<W: Write, E: Write>(
-    alloc: Global,
-    errors: OnError,
+    step: Step<'_>,
     fault: LineError,
     around: Around<'_>,
-    number: u64,
     writer: &mut Sink<W>,
     err: &mut Sink<E>,
 ) -> Result<(), Cause>
     ensures whole { OnOk result (Appends (W.contents writer.old.writer)
-        (W.contents writer.new.writer) (error_output errors around.entry.before.now
-        (line_error_message fault) (around.entry.after.now ++ around.entry.end.now))) }
+        (W.contents writer.new.writer) (error_output step.entry.job.now.errors
+        around.entry.before.now (line_error_message fault)
+        (around.entry.after.now ++ around.entry.end.now))) }
     ensures prefix { AppendsPrefix (W.contents writer.old.writer)
-        (W.contents writer.new.writer) (error_output errors around.entry.before.now
-        (line_error_message fault) (around.entry.after.now ++ around.entry.end.now)) }
+        (W.contents writer.new.writer) (error_output step.entry.job.now.errors
+        around.entry.before.now (line_error_message fault)
+        (around.entry.after.now ++ around.entry.end.now)) }
     ensures reported { OnOk result (Reports (error_output_of E.contents err.old)
         (error_output_of E.contents err.new)
-        (error_report errors number (line_error_message fault))) }
+        (error_report step.entry.job.now.errors (step.entry.before + 1)
+        (line_error_message fault))) }
     ensures reports { ReportsPrefix (error_output_of E.contents err.old)
         (error_output_of E.contents err.new)
-        (error_report errors number (line_error_message fault)) }
+        (error_report step.entry.job.now.errors (step.entry.before + 1)
+        (line_error_message fault)) }
     ensures reading { caused_by_input result ≡ false }
     ensures writing { writer.new.has_failed ≡ (caused_by_output result || writer.old.has_failed) }
     ensures write_error { caused_by_output result ≡ true → KeepsFinalError writer.new.error }
 {
-    match errors {
+    match step.job.errors {
         OnError::Line => {
-            let text = format!(in alloc; "error: {fault}")?;
+            let text = format!(in step.alloc; "error: {fault}")?;
             if put_around(writer, text.as_bytes(), around) {
                 Ok(())
             } else {
@@ -253,25 +253,25 @@ fn write_error<W: Write, E: Write>(
             }
         }
         OnError::Drop => Ok(()),
-        OnError::Stderr => Ok(show_error(alloc, fault, number, err)?),
-        OnError::Stop => Ok(show_error(alloc, fault, number, err)?),
+        OnError::Stderr => Ok(show_error(step, fault, err)?),
+        OnError::Stop => Ok(show_error(step, fault, err)?),
     }
 }
 
 /// Writes the message of a line that is an error to the error output, with the number of the line.
 fn show_error<E: Write>(
-    alloc: Global,
+    step: Step<'_>,
     fault: LineError,
-    number: u64,
     err: &mut Sink<E>,
 ) -> Result<(), AllocError>
     ensures reported { OnOk result (Reports (error_output_of E.contents err.old)
         (error_output_of E.contents err.new)
-        (reported_error number (line_error_message fault))) }
+        (reported_error (step.entry.before + 1) (line_error_message fault))) }
     ensures reports { ReportsPrefix (error_output_of E.contents err.old)
-        (error_output_of E.contents err.new) (reported_error number (line_error_message fault)) }
+        (error_output_of E.contents err.new)
+        (reported_error (step.entry.before + 1) (line_error_message fault)) }
 {
-    let message = reported_error(alloc, fault, number)?;
+    let message = reported_error(step.alloc, fault, step.number())?;
     show(err, message.as_str());
     Ok(())
 }

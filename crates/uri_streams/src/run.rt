@@ -1,6 +1,6 @@
 //! Processing each line of an input.
-ghost use Rattle.std.specs.Prelude.{◌≡◌, ◌||◌, ◌+◌, ◌-◌, ◌^◌, ◌<◌, min, IfErr, IfOk};
-ghost use Rattle.std.specs.Prelude.{◌&&◌, false, not, true, if◌then◌else◌, ◌∷◌, [], List, None};
+ghost use Rattle.std.specs.Prelude.{◌≡◌, ◌||◌, ◌+◌, ◌-◌, ◌^◌, min, IfErr, IfOk};
+ghost use Rattle.std.specs.Prelude.{false, true, if◌then◌else◌, ◌∷◌, [], List, None};
 ghost use Rattle.std.specs.Prelude.{IfSome, OnOk, Option};
 ghost use Rattle.std.specs.Io.KnownBytes.{Keeps};
 ghost use Rattle.std.specs.Io.Buffered.{reader_remaining};
@@ -9,17 +9,17 @@ ghost use Rattle.uri_streams.specs.Causes.{is_input_cause, is_output, is_output_
 ghost use Rattle.uri_streams.specs.Causes.{HasFinalError, reading_failed, writing_failed};
 ghost use Rattle.uri_streams.specs.declared.failure.Cause.{Cause};
 ghost use Rattle.uri_commands.specs.Sinks.{KeepsFinalError};
-ghost use Rattle.uri_streams.specs.Outputs as outputs;
-ghost use Rattle.uri_streams.specs.Models.{StepFails, Steps};
+ghost use Rattle.uri_streams.specs.Models.{IsStepOf, KeepsFailures};
 ghost use Rattle.uri_streams.specs.Runs.{FailsAfterPrefix, Sees, StopsAfterPrefix};
 ghost use Rattle.uri_streams.specs.Runs.{WritesOutput, error_output_of};
 
 use crate::failure::{Cause, Failure};
 use crate::job::Job;
-use crate::line_ends::{ends_with_return, line_ending};
+use crate::line_ends::{line_end, line_ending};
 use crate::lines::read_line;
 use crate::output::{StepResult, write_line};
 use crate::source::{Line, Source};
+use crate::step::Step;
 use crate::task::Task;
 use std::alloc::Global;
 use std::io::{Read, Write};
@@ -118,10 +118,7 @@ fn process_lines<R: Read, W: Write, E: Write, V: Watch>(
         (W.contents writer.new.writer) (error_output_of E.contents err.old)
         (error_output_of E.contents err.new) (is_input_cause cause)) }
     ensures flushed { OnOk result (writer.new.is_flushed ≡ true) }
-    ensures reading { reader.new.has_failed ≡ (caused_by_input result || reader.old.has_failed) }
-    ensures writing { writer.new.has_failed ≡ (caused_by_output result || writer.old.has_failed) }
-    ensures read_error { caused_by_input result ≡ true → KeepsFinalError reader.new.error }
-    ensures write_error { caused_by_output result ≡ true → KeepsFinalError writer.new.error }
+    ensures failures { KeepsFailures result reader.old reader.new writer.old writer.new }
 {
     let mut task = Task::new(alloc, job.command);
     let mut line = Vec::new(alloc);
@@ -130,9 +127,12 @@ fn process_lines<R: Read, W: Write, E: Write, V: Watch>(
         errors: 0,
     };
     for number in 0..u64::MAX {
-        let step = process_line(
-            alloc, job, &mut task, reader, writer, err, &mut line, number,
-        )?;
+        let before = Step {
+            alloc,
+            job: &*job,
+            before: number,
+        };
+        let step = process_line(before, &mut task, reader, writer, err, &mut line)?;
         tally.count(step);
         show_tally(watch, step, tally);
         if step.is_last {
@@ -159,6 +159,7 @@ fn flushed<W: Write>(writer: &mut Sink<W>, tally: Tally) -> Result<Tally, Cause>
     ensures flushed { OnOk result (writer.new.is_flushed ≡ true) }
     ensures tally { IfOk result (λ same. same ≡ tally) }
     ensures cause { IfErr result (λ cause. cause ≡ Cause.Output) }
+    ensures reading { caused_by_input result ≡ false }
     ensures writing { writer.new.has_failed ≡ (caused_by_output result || writer.old.has_failed) }
     ensures write_error { caused_by_output result ≡ true → KeepsFinalError writer.new.error }
 {
@@ -207,105 +208,57 @@ impl Tally {
     }
 }
 
-/// Processes the next line of an input: in the buffer, if it is whole there. `before` is how many
-/// lines were processed before it.
+/// Processes the next line of an input: in the buffer, if it is whole there.
 #[inline(always)]
 fn process_line<R: Read, W: Write, E: Write>(
-    alloc: Global,
-    job: &Job<'_>,
+    step: Step<'_>,
     task: &mut Task<'_>,
     reader: &mut Source<R>,
     writer: &mut Sink<W>,
     err: &mut Sink<E>,
     parts: &mut Vec<u8>,
-    before: u64,
 ) -> Result<StepResult, Cause>
-    requires { before < 2 ^ 64 - 1 }
-    ensures steps { IfOk result (Steps job.now before task.old
-        (reader_remaining R.remaining reader.old.reader)
-        (reader_remaining R.remaining reader.new.reader) (W.contents writer.old.writer)
-        (W.contents writer.new.writer) (error_output_of E.contents err.old)
-        (error_output_of E.contents err.new) task.new) }
-    ensures fails { IfErr result (StepFails job.now before task.old
-        (reader_remaining R.remaining reader.old.reader)
-        (reader_remaining R.remaining reader.new.reader) (W.contents writer.old.writer)
-        (W.contents writer.new.writer) (error_output_of E.contents err.old)
-        (error_output_of E.contents err.new)) }
-    ensures reading { reader.new.has_failed ≡ (caused_by_input result || reader.old.has_failed) }
-    ensures writing { writer.new.has_failed ≡ (caused_by_output result || writer.old.has_failed) }
-    ensures read_error { caused_by_input result ≡ true → KeepsFinalError reader.new.error }
-    ensures write_error { caused_by_output result ≡ true → KeepsFinalError writer.new.error }
+    ensures { IsStepOf step.entry.job.now step.entry.before R.remaining W.contents E.contents
+        task.old task.new reader.old reader.new writer.old writer.new err.old err.new result }
 {
-    let Some(line) = reader.buffered_line(job.is_null) else {
-        return process_parts(alloc, job, task, reader, writer, err, parts, before);
+    let Some(line) = reader.buffered_line(step.job.is_null) else {
+        return process_parts(step, task, reader, writer, err, parts);
     };
-    let is_return = ends_with_return(line_ending(job.is_null), line.bytes);
-    let end = line_end(job.is_null, is_return);
     let count = line.bytes.len();
-    let step = write_line(alloc, job, task, line, end, before + 1, writer, err);
+    let written = write_line(step, task, line, writer, err);
     reader.skip(count);
-    step
+    written
 }
 
-/// Reads the next line of an input in parts, and writes its output. `before` is how many lines were
-/// processed before it.
+/// Reads the next line of an input in parts, and writes its output.
 #[cold]
 #[inline(never)]
 fn process_parts<R: Read, W: Write, E: Write>(
-    alloc: Global,
-    job: &Job<'_>,
+    step: Step<'_>,
     task: &mut Task<'_>,
     reader: &mut Source<R>,
     writer: &mut Sink<W>,
     err: &mut Sink<E>,
     line: &mut Vec<u8>,
-    before: u64,
 ) -> Result<StepResult, Cause>
-    requires { before < 2 ^ 64 - 1 }
-    ensures steps { IfOk result (Steps job.now before task.old
-        (reader_remaining R.remaining reader.old.reader)
-        (reader_remaining R.remaining reader.new.reader) (W.contents writer.old.writer)
-        (W.contents writer.new.writer) (error_output_of E.contents err.old)
-        (error_output_of E.contents err.new) task.new) }
-    ensures fails { IfErr result (StepFails job.now before task.old
-        (reader_remaining R.remaining reader.old.reader)
-        (reader_remaining R.remaining reader.new.reader) (W.contents writer.old.writer)
-        (W.contents writer.new.writer) (error_output_of E.contents err.old)
-        (error_output_of E.contents err.new)) }
-    ensures reading { reader.new.has_failed ≡ (caused_by_input result || reader.old.has_failed) }
-    ensures writing { writer.new.has_failed ≡ (caused_by_output result || writer.old.has_failed) }
-    ensures read_error { caused_by_input result ≡ true → KeepsFinalError reader.new.error }
-    ensures write_error { caused_by_output result ≡ true → KeepsFinalError writer.new.error }
+    ensures { IsStepOf step.entry.job.now step.entry.before R.remaining W.contents E.contents
+        task.old task.new reader.old reader.new writer.old writer.new err.old err.new result }
 {
-    let limit = job.max_line as usize + 3;
-    match read_line(reader, writer, line_ending(job.is_null), limit, line)? {
+    let is_null = step.job.is_null;
+    let limit = step.job.max_line as usize + 3;
+    match read_line(reader, writer, line_ending(is_null), limit, line)? {
         Some(is_return) => {
-            let end = line_end(job.is_null, is_return);
             let line = Line {
                 bytes: line.as_slice(),
                 is_ascii: false,
+                end: line_end(is_null, is_return),
             };
-            write_line(alloc, job, task, line, end, before + 1, writer, err)
+            write_line(step, task, line, writer, err)
         }
         None => Ok(StepResult {
             is_line: false,
             is_error: false,
             is_last: true,
         }),
-    }
-}
-
-/// Returns what ends the output of a line: NUL if `is_null`, `\r` and a newline if only
-/// `is_return`, and otherwise a newline.
-#[inline(always)]
-fn line_end(is_null: bool, is_return: bool) -> &'static [u8]
-    ensures { result.now ≡ outputs.line_ending is_null (not is_null && is_return) }
-{
-    if is_null {
-        b"\0"
-    } else if is_return {
-        b"\r\n"
-    } else {
-        b"\n"
     }
 }

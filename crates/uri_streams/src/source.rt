@@ -15,11 +15,12 @@ ghost use Rattle.std.specs.Io.KnownBytes.{Consumes, IsAtEnd, Keeps};
 ghost use Rattle.uri_commands.specs.Sinks.{KeepsFinalError};
 ghost use Rattle.uri_streams.specs.Causes.{caused_by_input, caused_by_output, is_input_cause};
 ghost use Rattle.uri_streams.specs.Causes.{is_output_cause};
-ghost use Rattle.uri_streams.specs.Lines.{end_byte, return_after};
+ghost use Rattle.uri_streams.specs.Lines.{end_byte, ends_with_return, return_after};
 ghost use Rattle.uri_streams.specs.Models.{IsBufferedLine, IsFlushedIfDrained};
+ghost use Rattle.uri_streams.specs.Outputs as outputs;
 
 use crate::failure::Cause;
-use crate::line_ends::{ends_with, line_ending, strip_last_byte};
+use crate::line_ends::{ends_with, line_ending, output_end, strip_last_byte};
 use memchr::memchr;
 use std::io::{self, BufRead, BufReader, ErrorKind, Read};
 use std::simd::prelude::*;
@@ -71,6 +72,9 @@ impl<R: Read> Source<R> {
         ensures line { IfSome result (λ line.
             IsBufferedLine (end_byte is_null) (reader_buffer self.now.reader) line.bytes.now) }
         ensures ascii { IfSome result (λ line. IsTrue line.is_ascii → IsAscii line.bytes.now) }
+        ensures end { IfSome result (λ line.
+            line.end.now ≡ outputs.line_ending is_null
+            (not is_null && ends_with_return (end_byte is_null) line.bytes.now)) }
     {
         first_line(is_null, self.reader.buffer())
     }
@@ -189,6 +193,8 @@ pub(crate) struct Line<'a> {
     pub bytes: &'a [u8],
     /// Whether the line is known to be ASCII.
     pub is_ascii: bool,
+    /// What ends the output of the line.
+    pub end: &'a [u8],
 }
 
 /// Returns the first line of the bytes, with its end, if they have one. NUL ends it if `is_null`,
@@ -198,17 +204,22 @@ fn first_line(is_null: bool, bytes: &[u8]) -> Option<Line<'_>>
     ensures line { IfSome result (λ line.
         IsBufferedLine (end_byte is_null) bytes.now line.bytes.now) }
     ensures ascii { IfSome result (λ line. IsTrue line.is_ascii → IsAscii line.bytes.now) }
+    ensures end { IfSome result (λ line.
+        line.end.now ≡ outputs.line_ending is_null
+        (not is_null && ends_with_return (end_byte is_null) line.bytes.now)) }
 {
     if let Some(line) = first_ascii_line(is_null, bytes) {
         return Some(Line {
             bytes: line,
             is_ascii: true,
+            end: output_end(is_null, line),
         });
     }
     match memchr(line_ending(is_null), bytes) {
         Some(index) => Some(Line {
             bytes: &bytes[..index + 1],
             is_ascii: false,
+            end: output_end(is_null, &bytes[..index + 1]),
         }),
         None => None,
     }

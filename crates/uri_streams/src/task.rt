@@ -6,21 +6,24 @@ ghost use Rattle.uri_commands.specs.Links.{text_at};
 ghost use Rattle.uri_links.specs.Outcomes.{outcome_of};
 ghost use Rattle.uri_links.specs.Registers.{target_rules, texts_of};
 ghost use Rattle.uri_setting.specs.Settings.{rules_set};
-ghost use Rattle.uri_streams.specs.Results.{Text, kind_named};
+ghost use Rattle.uri_commands.specs.Kinds.{kind_named};
+ghost use Rattle.uri_streams.specs.Results.{Text};
 ghost use Rattle.uri_streams.specs.Returned.{IsResult, result_in, text_in};
 ghost use Rattle.uri_streams.specs.Tasks as tasks;
 ghost use Rattle.uri_streams.specs.Tasks.{HasMet, Remembers, cut_result, given_text, link_result};
 ghost use Rattle.uri_streams.specs.Tasks.{noted_result, unique_result};
 ghost use Rattle.uri_streams.specs.declared.command.Command.{Command};
 
-use crate::command::{Command, KindName, LineCommand};
+use crate::command::{Command, LineCommand};
 use crate::fault::{LineError, NoText};
 use crate::job::Job;
+use crate::line_result::{LineResult, refused};
 use crate::mending::{mended, text_kind};
 use crate::met::MetTexts;
-use crate::results::{LineResult, command_result, normalize, passed_if};
+use crate::results::{command_result, normalize, passed_if};
 use fluent_uri::{Uri, UriRef};
 use std::alloc::{AllocError, Global};
+use uri_commands::kinds::KindName;
 use uri_commands::refusal::CommandError;
 use uri_links::links::{Outcome, Register};
 use uri_setting::RuleSetting;
@@ -267,7 +270,7 @@ fn link(
 {
     match UriRef::<&str>::parse(text) {
         Ok(reference) => note(alloc, base, register, &reference),
-        Err(error) => Ok(LineResult::Error(LineError::Refused(CommandError::Reference(error)))),
+        Err(error) => Ok(refused(CommandError::Reference(error))),
     }
 }
 
@@ -300,9 +303,7 @@ fn outcome_result(
     match outcome {
         Outcome::New(id) => link_line(alloc, "new", register, id),
         Outcome::Known(id) => link_line(alloc, "known", register, id),
-        Outcome::Refused(error) => Ok(LineResult::Error(LineError::Refused(CommandError::Target(
-            error,
-        )))),
+        Outcome::Refused(error) => Ok(refused(CommandError::Target(error))),
     }
 }
 

@@ -1,7 +1,8 @@
 -- What the words of a command line of `urilines` name.
 use Rattle.std.specs.Prelude.{◌≡◌, ◌≢◌, ℕ, List, Option, Some, None}
-use Rattle.uri_streams.specs.CommandLines.{word_of_kind, word_of_mode}
-use Rattle.uri_streams.specs.declared.command.KindName.{KindName}
+use Rattle.uri_commands.specs.Kinds.{word_of_kind}
+use Rattle.uri_streams.specs.CommandLines.{word_of_mode}
+use Rattle.uri_commands.specs.declared.kinds.KindName.{KindName}
 use Rattle.uri_streams.specs.declared.job.OnError.{OnError}
 
 -- the word, if it is there, names this kind, or it names none

@@ -1,4 +1,4 @@
-use Rattle.std.proofs.Common.{subst, sym, ◌++◌}
+use Rattle.std.proofs.Common.{◌+◌, subst, sym, ◌++◌}
 use Rattle.uri_streams.specs.Models.{WritesResult}
 use Rattle.uri_streams.specs.Outputs.{result_report}
 use Rattle.uri_streams.specs.Returned.{result_in}
@@ -10,12 +10,12 @@ pub returns-in_err-write_error-in-Error-clause-reports
 returns-in_err-write_error-in-Error-clause-reports g c =
     subst (λ r. ReportsPrefix (error_output_of g.E.Write.contents c.args.err.now)
     (error_output_of g.E.Write.contents c.write_error.new.err)
-    (result_report c.args.errors c.args.number (result_in r))) (sym c.in-Error.is)
+    (result_report c.args.step.job.now.errors (c.args.step.before + 1) (result_in r))) (sym c.in-Error.is)
     c.write_error.ensures.reports
 
 pub returns-clause-whole : goal.returns-clause-whole
 returns-clause-whole g c =
-    subst (λ r. WritesResult c.args.errors c.args.number c.args.around.line.now
+    subst (λ r. WritesResult c.args.step.job.now.errors (c.args.step.before + 1) c.args.around.line.now
     c.args.around.before.now (result_in r) (c.args.around.after.now ++ c.args.around.end.now)
     (g.W.Write.contents c.args.writer.now.writer)
     (g.W.Write.contents c.write_error.new.writer.writer)
@@ -33,5 +33,5 @@ pub returns-clause-reports : goal.returns-clause-reports
 returns-clause-reports g c =
     subst (λ r. ReportsPrefix (error_output_of g.E.Write.contents c.args.err.now)
     (error_output_of g.E.Write.contents c.write_error.new.err)
-    (result_report c.args.errors c.args.number (result_in r))) (sym c.in-Error.is)
+    (result_report c.args.step.job.now.errors (c.args.step.before + 1) (result_in r))) (sym c.in-Error.is)
     c.write_error.ensures.reports

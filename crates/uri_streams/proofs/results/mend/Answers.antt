@@ -3,7 +3,7 @@ use Rattle.uri_mend.specs.Refusing.{IsMendErrorOf}
 use Rattle.uri_mend.specs.Trimming.{trimmed_link}
 use Rattle.uri_mend.specs.declared.error.MendError.TheVariants.{Unmendable}
 use Rattle.uri_streams.proofs.TextResults.{mend_result-of-error, mend_result-of-mended}
-use Rattle.uri_streams.specs.Results.{kind_named}
+use Rattle.uri_commands.specs.Kinds.{kind_named}
 use Rattle.uri_streams.specs.Returned.{result_in}
 use Rattle.uri_streams.proofs.results.mend.Goals as goal
 
@@ -14,7 +14,7 @@ returns-in-None c =
 
 pub returns-in-Some : goal.returns-in-Some
 returns-in-Some c =
-    ap result_in c.not_of_kind.ensures
+    ap result_in c.refused.ensures
     ∙ mend_result-of-error (kind_named c.args.kind) c.args.text.now c.in-Some.error
     (subst (λ o. IfSome o (λ e. IsMendErrorOf (kind_named c.args.kind)
     (trimmed_link c.args.text.now) (Unmendable e))) c.in-Some.is c.in_ok-link.ensures.refused)

@@ -1,20 +1,22 @@
-use Rattle.std.proofs.Common.{ap, refl, ◌∙◌, string_bytes}
+use Rattle.std.proofs.Common.{[], ap, ◌∙◌}
 use Rattle.fluent_uri.specs.Components.{components}
-use Rattle.uri_streams.proofs.TextResults.{parse_result-of-kind, parse_result-of-error}
-use Rattle.uri_streams.specs.Results.{kind_named}
+use Rattle.uri_commands.specs.Kinds.{kind_named}
+use Rattle.uri_streams.proofs.TextResults.{parsed_result-of-error, parsed_result-of-kind}
 use Rattle.uri_streams.specs.Json.{json_of}
+use Rattle.uri_streams.specs.Results.{Text, parse_result}
 use Rattle.uri_streams.specs.Returned.{result_in}
 use Rattle.uri_streams.proofs.results.parse.Goals as goal
 
 pub returns-in_ok-json-in-Ok : goal.returns-in_ok-json-in-Ok
+unfolding parse_result
 returns-in_ok-json-in-Ok c =
-    parse_result-of-kind (kind_named c.args.kind) c.args.text.now
-    (string_bytes c.in_ok-json-in-Ok.field-0)
-    (c.in-Ok.ensures.accepts.0 refl)
-    (c.in_ok-json-in-Ok.ensures ∙ ap (λ t. json_of (components t)) c.in-Ok.ensures.text)
+    ap Text (c.in_ok-json-in-Ok.ensures ∙ ap (λ t. json_of (components t)) c.in-Ok.ensures.text)
+    ∙ parsed_result-of-kind [] (kind_named c.args.kind) c.args.text.now
+    (Text (json_of (components c.args.text.now))) c.in-Ok.ensures.accepts
 
 pub returns-in-Err : goal.returns-in-Err
+unfolding parse_result
 returns-in-Err c =
-    ap result_in c.not_of_kind.ensures
-    ∙ parse_result-of-error (kind_named c.args.kind) c.args.text.now c.in-Err.error
-    (λ of_kind. cc (c.in-Err.ensures.accepts.1 of_kind)) c.in-Err.ensures.refused
+    ap result_in c.refused.ensures
+    ∙ parsed_result-of-error [] (kind_named c.args.kind) c.args.text.now
+    (Text (json_of (components c.args.text.now))) c.in-Err.error c.in-Err.ensures.accepts c.in-Err.ensures.refused

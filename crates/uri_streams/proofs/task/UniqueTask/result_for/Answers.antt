@@ -1,6 +1,7 @@
 use Rattle.std.proofs.Common.{◌≡◌, ◌∙◌, IfOk, ap, refl, subst, sym}
 use Rattle.uri_streams.proofs.Tasks.{unique_result-of-normalize_result}
-use Rattle.uri_streams.specs.Results.{LineResult, Error, kind_named}
+use Rattle.uri_commands.specs.Kinds.{kind_named}
+use Rattle.uri_streams.specs.Results.{LineResult, Error}
 use Rattle.uri_streams.specs.Returned.{result_in, line_error_message}
 use Rattle.uri_streams.specs.Tasks.{HasMet, Known}
 use Rattle.uri_streams.proofs.task.UniqueTask.result_for.Goals as goal

@@ -3,7 +3,7 @@ use Rattle.fluent_uri.specs.References.{reference_text}
 use Rattle.uri_streams.proofs.BasicTargets.{basic_target_result-of-returned-error}
 use Rattle.uri_streams.proofs.BasicTargets.{basic_target_result-of-target}
 use Rattle.uri_streams.specs.Results.{Text}
-use Rattle.uri_streams.proofs.results.basic_target.Goals as goal
+use Rattle.uri_streams.proofs.targets.basic_target.Goals as goal
 
 pub returns-in-Ok : goal.returns-in-Ok
 returns-in-Ok g c =
@@ -15,4 +15,4 @@ pub returns-in-Err : goal.returns-in-Err
 returns-in-Err g c =
     basic_target_result-of-returned-error _ _ _ c.in-Err.error c.basic_error_result.result
     (ap reference_text c.with_base.ensures) c.in-Err.ensures.error
-    c.basic_error_result.ensures.output c.basic_error_result.ensures.memory
+    c.basic_error_result.ensures.output c.basic_error_result.ensures.some

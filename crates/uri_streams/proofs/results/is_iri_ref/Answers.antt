@@ -1,6 +1,0 @@
-use Rattle.std.proofs.Common.{◌∙◌}
-use Rattle.uri_streams.proofs.Tests.{equal-if-true-together}
-use Rattle.uri_streams.proofs.results.is_iri_ref.Goals as goal
-
-pub returns : goal.returns
-returns c = c.is_ok.ensures.value ∙ equal-if-true-together _ _ c.parse.ensures.accepts
