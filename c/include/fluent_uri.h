@@ -76,7 +76,9 @@ enum fluent_uri_error {
     FLUENT_URI_PATH_STARTS_WITH_DOUBLE_SLASH = 12, /**< to build: the same without a host; so of a
                                                * target by FLUENT_URI_BASIC */
     FLUENT_URI_FIRST_PATH_SEGMENT_CONTAINS_COLON = 13, /**< to build: with no scheme nor host */
-    FLUENT_URI_MISSING_COMPONENT = 14         /**< to build: no scheme, or no host, is given */
+    FLUENT_URI_MISSING_COMPONENT = 14,        /**< to build: no scheme, or no host, is given */
+    FLUENT_URI_NAME_NOT_UTF8 = 15,            /**< of a host in ASCII: its octets are not UTF-8 */
+    FLUENT_URI_INVALID_NAME = 16              /**< of a host in ASCII: UTS 46 rejects the name */
 };
 
 /** The outputs that are too small where a batch returns FLUENT_URI_FULL, and what is needed of
@@ -197,6 +199,26 @@ uint32_t fluent_uri_parse(uint32_t kind, const uint8_t *text, size_t text_len,
 uint32_t fluent_uri_is_plainly_normal(uint32_t kind, const uint8_t *text, size_t text_len,
                                       const fluent_uri_parts *parts);
 
+/** Returns 1 exactly if a text is of the kind and its own normal form under the default ports of
+ * schemes, and else 0. Takes no memory. */
+uint32_t fluent_uri_is_normal(uint32_t kind, const uint8_t *text, size_t text_len);
+
+/** Compares two texts as keys of a table: returns 0 if ONE is before OTHER, 1 if they are one key,
+ * and 2 if ONE is after OTHER. Texts of the kind are in the order of the bytes of their normal forms
+ * under the default ports of schemes, without the rules of schemes. They are one key exactly if they
+ * are equivalent. All other bytes are after these, in the order of the bytes. An unknown kind has no
+ * texts. This is a total order on all bytes, as indexes and qsort need it. Takes no memory. */
+uint32_t fluent_uri_compare(uint32_t kind, const uint8_t *one, size_t one_len, const uint8_t *other,
+                            size_t other_len);
+
+/** Writes the hash of a text as a key of a table. Returns 1 if it is a text of the kind, and else 0.
+ * What fluent_uri_compare finds to be one key has one hash. It is FNV-1a of 64 bits, which begins
+ * with 14695981039346656037 xor SEED: each byte is put in by xor, and the result is multiplied by
+ * 1099511628211. The bytes are those of the normal form, or of a text that is not of the kind, from
+ * the last to the first, and then 255. Takes no memory. */
+uint32_t fluent_uri_hash(uint32_t kind, uint64_t seed, const uint8_t *text, size_t text_len,
+                         uint64_t *hash);
+
 /** Writes the octets of the address that the host of a text is, in network order: 4 if
  * fluent_uri_parse reports FLUENT_URI_IPV4 of the text, 16 if it reports FLUENT_URI_IPV6, and else
  * none, so that outcome->length is 0 (RFC 3986, section 3.2.2). Takes no memory. */
@@ -223,6 +245,19 @@ uint32_t fluent_uri_default_port(const uint8_t *scheme, size_t scheme_len);
  * RFC 6454 writes `null` there, but no two such texts have the same origin. */
 uint32_t fluent_uri_origin(uint32_t kind, const uint8_t *text, size_t text_len, uint8_t *out,
                            size_t out_len, fluent_uri_outcome *outcome);
+
+/** Writes the host of a text in ASCII, as DNS has it: `xn--bcher-kva.example` of
+ * `b%C3%BCcher.example`, and of the same name with that character itself. A registered name is
+ * decoded (RFC 3986, section 2.1), and one with characters past ASCII is converted by ToASCII of
+ * UTS 46, section 4.2, without transitional processing and with the flags of RFC 3987, section 3.1.
+ * Every other host is written as it is: an address, and a name that decodes to ASCII.
+ * outcome->length is 0 if there is no authority, or an empty host.
+ *
+ * FLUENT_URI_NAME_NOT_UTF8: the name does not decode to UTF-8. FLUENT_URI_INVALID_NAME: it has
+ * characters past ASCII, and UTS 46 rejects it. outcome->index is then 0. Takes no memory for a
+ * host that is ASCII and has no `%`. */
+uint32_t fluent_uri_ascii_host(uint32_t kind, const uint8_t *text, size_t text_len, uint8_t *out,
+                               size_t out_len, fluent_uri_outcome *outcome);
 
 /** Writes the normal form (RFC 3986, section 6.2.2; default ports are left out, which is of section
  * 6.2.3). OPTIONS is 0 or FLUENT_URI_SCHEME_RULES: with it the form is that of the whole of section
@@ -274,11 +309,18 @@ uint32_t fluent_uri_build(uint32_t kind, const uint8_t *text, size_t text_len,
                           fluent_uri_parts *parts, size_t parts_len, fluent_uri_outcome *outcome);
 
 /** Writes an IRI or an IRI reference as a URI or a URI reference (RFC 3987, section 3.1). A host past
- * ASCII is percent-encoded too: a name that DNS does not have. For a name in Punycode, replace the
- * host by fluent_uri_build first. */
+ * ASCII is percent-encoded too: a name that DNS does not have, and that is never equal to the one
+ * that DNS has. For that one, call fluent_uri_to_uri_with_ascii_host. */
 uint32_t fluent_uri_to_uri(uint32_t kind, const uint8_t *text, size_t text_len, uint8_t *out,
                            size_t out_len, fluent_uri_parts *parts, size_t parts_len,
                            fluent_uri_outcome *outcome);
+
+/** The same with the host as fluent_uri_ascii_host writes it (RFC 3987, section 3.1), and with the
+ * errors of that call: `http://xn--bcher-kva.example/a` of `http://b%C3%BCcher.example/a`. Nothing
+ * but the host differs from what fluent_uri_to_uri writes. */
+uint32_t fluent_uri_to_uri_with_ascii_host(uint32_t kind, const uint8_t *text, size_t text_len,
+                                           uint8_t *out, size_t out_len, fluent_uri_parts *parts,
+                                           size_t parts_len, fluent_uri_outcome *outcome);
 
 /** Writes the text of the kind that a text is mended to, by the least change (RFC 3986, sections
  * 2.1 and 4.2). Each character that the path, the query or the fragment may not have is

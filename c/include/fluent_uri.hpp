@@ -138,6 +138,26 @@ inline bool is_plainly_normal(std::uint32_t kind, const parts &text) noexcept {
                                                 &text.parts_) == 1;
 }
 
+/** True exactly if a text is of the kind and its own normal form. */
+inline bool is_normal(std::uint32_t kind, std::string_view text) noexcept {
+    return fluent_uri_is_normal(kind, detail::bytes(text), text.size()) == 1;
+}
+
+/** Compares two texts as keys of a table: -1 if `one` is before `other`, 0 if they are one key, and 1
+ * if `one` is after `other`. Texts of the kind are in the order of their normal forms, and all other
+ * bytes are after these. */
+inline int compare(std::uint32_t kind, std::string_view one, std::string_view other) noexcept {
+    return static_cast<int>(fluent_uri_compare(kind, detail::bytes(one), one.size(),
+                                               detail::bytes(other), other.size())) - 1;
+}
+
+/** The hash of a text as a key of a table: what `compare` finds to be one key has one hash. */
+inline std::uint64_t hash(std::uint32_t kind, std::uint64_t seed, std::string_view text) noexcept {
+    std::uint64_t found;
+    fluent_uri_hash(kind, seed, detail::bytes(text), text.size(), &found);
+    return found;
+}
+
 /** The octets of the address that the host of a text is, 4 or 16 in network order; none if the host
  * is a name or there is none. */
 inline result host_address(std::uint32_t kind, std::string_view text) {
@@ -165,6 +185,13 @@ inline std::optional<std::uint16_t> default_port(std::string_view scheme) noexce
 inline result origin(std::uint32_t kind, std::string_view text) {
     return detail::make(text.size(), [&](std::uint8_t *out, std::size_t room, auto *outcome) {
         return fluent_uri_origin(kind, detail::bytes(text), text.size(), out, room, outcome);
+    });
+}
+
+/** The host of a text in ASCII, as DNS has it (RFC 3987, section 3.1); empty if there is none. */
+inline result ascii_host(std::uint32_t kind, std::string_view text) {
+    return detail::make(text.size(), [&](std::uint8_t *out, std::size_t room, auto *outcome) {
+        return fluent_uri_ascii_host(kind, detail::bytes(text), text.size(), out, room, outcome);
     });
 }
 
@@ -237,6 +264,11 @@ inline result relativize(std::uint32_t kind, std::uint32_t options, std::string_
  * is percent-encoded too: a name that DNS does not have. */
 inline result to_uri(std::uint32_t kind, std::string_view text) {
     return detail::make_of_one(fluent_uri_to_uri, kind, text);
+}
+
+/** The same with its host in ASCII, as `ascii_host` has it. */
+inline result to_uri_with_ascii_host(std::uint32_t kind, std::string_view text) {
+    return detail::make_of_one(fluent_uri_to_uri_with_ascii_host, kind, text);
 }
 
 /** The text of the kind that a text is mended to, by the least change. */

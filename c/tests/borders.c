@@ -46,6 +46,8 @@ static const fluent_uri_components components = {
     IT(parse, fluent_uri_parse(1, TEXT("//h/p"), at(PARTS))) \
     IT(normalize, fluent_uri_normalize(1, 0, TEXT("//H/%7e/."), VALUE)) \
     IT(to_uri, fluent_uri_to_uri(3, TEXT("//\xc3\xa9/p?q"), VALUE)) \
+    IT(to_uri_with_ascii_host, \
+       fluent_uri_to_uri_with_ascii_host(3, TEXT("//\xc3\xa9/p?q"), VALUE)) \
     IT(resolve, fluent_uri_resolve(0, 0, BASE, TEXT("../d#f"), VALUE)) \
     IT(resolve_basic, fluent_uri_resolve(0, FLUENT_URI_BASIC, BASE, TEXT("../d#f"), VALUE)) \
     IT(resolve_normalized, fluent_uri_resolve_normalized(0, 0, BASE, TEXT("//H:80"), VALUE)) \
@@ -57,7 +59,8 @@ static const fluent_uri_components components = {
     IT(encode, fluent_uri_encode(FLUENT_URI_DATA, TEXT("a b/"), BYTES)) \
     IT(mend_component, fluent_uri_mend_component(FLUENT_URI_DATA, TEXT("%20 /"), BYTES)) \
     IT(host_address, fluent_uri_host_address(1, TEXT("//[::1]:80"), BYTES)) \
-    IT(origin, fluent_uri_origin(0, TEXT("HTTP://A:81/b"), BYTES))
+    IT(origin, fluent_uri_origin(0, TEXT("HTTP://A:81/b"), BYTES)) \
+    IT(ascii_host, fluent_uri_ascii_host(3, TEXT("//u@\xc3\xa9:80"), BYTES))
 #define COLUMNS(IT) \
     IT(normalize_batch, fluent_uri_normalize_batch(1, 0, COLUMN(offsets))) \
     IT(to_uri_batch, fluent_uri_to_uri_batch(3, COLUMN(offsets))) \

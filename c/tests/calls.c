@@ -485,13 +485,13 @@ static void tells_of_itself(void) {
     CHECK((fluent_uri_version() >> 8 & 0xff) == FLUENT_URI_VERSION_MINOR);
     CHECK(gives_bytes(fluent_uri_error_name(0, BYTES), "FLUENT_URI_OK"));
     CHECK(gives_bytes(fluent_uri_error_name(FLUENT_URI_FULL, BYTES), "FLUENT_URI_FULL"));
-    CHECK(rejects(fluent_uri_error_name(15, BYTES), 9, 0, 0));
+    CHECK(rejects(fluent_uri_error_name(17, BYTES), 9, 0, 0));
     CHECK(fluent_uri_normal_version() == FLUENT_URI_NORMAL_VERSION);
     CHECK(gives_bytes(fluent_uri_error_message(FLUENT_URI_UNEXPECTED_CHAR, BYTES),
                       "unexpected character"));
     CHECK(gives_bytes(fluent_uri_error_message(FLUENT_URI_BASE_WITH_FRAGMENT, BYTES),
                       "base should not have fragment"));
-    CHECK(gives_bytes(fluent_uri_error_message(15, BYTES), "unknown error"));
+    CHECK(gives_bytes(fluent_uri_error_message(17, BYTES), "unknown error"));
     CHECK(gives_bytes(fluent_uri_error_message(UINT32_MAX, BYTES), "unknown error"));
 }
 

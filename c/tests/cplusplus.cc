@@ -39,6 +39,19 @@ static bool by_hosts() {
            !origin(FLUENT_URI_IRI, "http://a/");
 }
 
+static bool by_ascii_hosts() {
+    using namespace fluent_uri;
+    auto host = ascii_host(FLUENT_URI_IRI_REF, "//b\u00fccher.example");
+    auto uri = to_uri_with_ascii_host(FLUENT_URI_IRI, "http://b\u00fccher/\u00e9");
+    auto invalid = ascii_host(FLUENT_URI_IRI_REF, "//a..\u00e9");
+    auto octets = to_uri_with_ascii_host(FLUENT_URI_IRI_REF, "//%FF");
+    return host && *host == "xn--bcher-kva.example" && uri &&
+           *uri == "http://xn--bcher-kva/%C3%A9" && !invalid &&
+           invalid.why.error == FLUENT_URI_INVALID_NAME && !octets &&
+           octets.why.error == FLUENT_URI_NAME_NOT_UTF8 &&
+           ascii_host(FLUENT_URI_URI, "urn:a")->empty();
+}
+
 static bool by_strings() {
     using namespace fluent_uri;
     auto p = parse(FLUENT_URI_URI, "http://u@h:80/p?q#f");
@@ -77,7 +90,13 @@ static bool by_strings() {
            is_plainly_normal(FLUENT_URI_URI, parse(FLUENT_URI_URI, "http://a/b")) &&
            !is_plainly_normal(FLUENT_URI_URI, parse(FLUENT_URI_URI, "http://A/b")) &&
            !is_plainly_normal(FLUENT_URI_URI, no) && by_pairs() && by_hosts() &&
-           version() >> 16 == FLUENT_URI_VERSION_MAJOR && !error_name(15) &&
+           by_ascii_hosts() &&
+           is_normal(FLUENT_URI_URI, "http://a:8080/") && !is_normal(FLUENT_URI_URI, "http://A/") &&
+           compare(FLUENT_URI_URI, "HTTP://a:80/%7E", "http://a/~") == 0 &&
+           compare(FLUENT_URI_URI, "http://a", "") == -1 &&
+           compare(FLUENT_URI_URI, "b:", "A:") == 1 &&
+           hash(FLUENT_URI_URI, 1, "A:b") == hash(FLUENT_URI_URI, 1, "a:b") &&
+           version() >> 16 == FLUENT_URI_VERSION_MAJOR && !error_name(17) &&
            normal_version() == FLUENT_URI_NORMAL_VERSION &&
            *error_message(FLUENT_URI_UNEXPECTED_CHAR) == "unexpected character" &&
            *error_name(FLUENT_URI_NOT_UTF8) == "FLUENT_URI_NOT_UTF8";

@@ -14,8 +14,9 @@ enum { PAGE = 4096, CANARY = 32, ROOM = 4096, TEXTS = 4, LINES = 8 };
           : (fprintf(stderr, "%s:%d: call %d: %s\n", __FILE__, __LINE__, call, #it), abort()))
 
 #define EACH_CALL(IT) \
-    IT(parse) IT(decode) IT(encode) IT(mend_component) IT(normalize) IT(to_uri) IT(resolve) \
-    IT(resolve_normalized) IT(relativize) IT(build) IT(mend) IT(mend_link) IT(normalize_batch) \
+    IT(parse) IT(decode) IT(encode) IT(ascii_host) IT(mend_component) IT(normalize) IT(to_uri) \
+    IT(to_uri_with_ascii_host) IT(resolve) IT(resolve_normalized) IT(relativize) IT(build) \
+    IT(mend) IT(mend_link) IT(normalize_batch) \
     IT(to_uri_batch) IT(component_batch) IT(resolve_batch) IT(resolve_normalized_batch) \
     IT(relativize_batch) IT(mend_batch) IT(mend_link_batch) IT(decode_batch) IT(encode_batch) \
     IT(normalize_batch64) IT(to_uri_batch64) IT(component_batch64) IT(resolve_batch64) \
@@ -106,6 +107,8 @@ static uint32_t made(const build *by, int call, const input *in, written *to) {
         OF_COMPONENT(decode) OF_COMPONENT(encode)
     case call_parse: return by->parse(in->kind, ONE, to->parts);
     case call_mend_component: return by->mend_component(in->component, ONE, OUT);
+    case call_ascii_host: return by->ascii_host(in->kind, ONE, OUT);
+    case call_to_uri_with_ascii_host: return by->to_uri_with_ascii_host(in->kind, ONE, VALUE);
     case call_build: return by->build(in->kind, ONE, &in->components, VALUE);
     case call_component_batch: return by->component_batch(in->kind, in->component, ONE, COLUMN);
     case call_component_batch64:
@@ -193,6 +196,8 @@ static void parse_returns_spans(const input *in) {
     HOLDS(has_pairs_in_order(in->text, in->size));
     HOLDS(is_normal_if_plain(in->kind, in->text, in->size, (int)in->component));
     HOLDS(has_host_of_its_kind(in->kind, in->text, in->size));
+    HOLDS(has_ascii_host(in->kind, in->text, in->size));
+    HOLDS(is_order_of_normal_forms(in->kind, in->one, in->one_size, in->other, in->other_size));
 }
 
 static uint8_t again[3 * ROOM];
@@ -387,7 +392,7 @@ __attribute__((section("__libfuzzer_extra_counters"))) static uint8_t seen[1 << 
 static void tells_what_is_new(void) {
     for (int call = 0; call < CALLS; call++) {
         size_t index = call ? results[call].outcome.index : results[call].parts->index;
-        seen[((size_t)call * 15 + results[call].error) * 32 + (index < 31 ? index : 31)] = 1;
+        seen[((size_t)call * 17 + results[call].error) * 32 + (index < 31 ? index : 31)] = 1;
     }
     const fluent_uri_parts *it = results[call_parse].parts;
     const fluent_uri_span spans[] = {it->scheme, it->authority, it->userinfo, it->port,
@@ -395,7 +400,7 @@ static void tells_what_is_new(void) {
     unsigned shape = it->host_kind;
     for (size_t i = 0; i < sizeof spans / sizeof *spans; i++)
         shape = shape * 2 + (spans[i].start < spans[i].end);
-    seen[CALLS * 15 * 32 + shape] = 1;
+    seen[CALLS * 17 * 32 + shape] = 1;
 }
 #endif
 

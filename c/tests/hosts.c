@@ -1,4 +1,4 @@
-/* The host of a text as an address, ports as numbers, and origins. */
+/* The host of a text as an address and in ASCII, ports as numbers, and origins. */
 #include "laws.h"
 #include "test.h"
 
@@ -96,8 +96,81 @@ static void has_origins(void) {
               FLUENT_URI_INVALID_ARGUMENT);
 }
 
+/* The host in ASCII is the one that is wanted, and nothing is written after it. */
+static int has_ascii(const char *text, const char *wanted) {
+    memset(out, '#', sizeof out);
+    return fluent_uri_ascii_host(FLUENT_URI_IRI_REF, TEXT(text), out, sizeof out, &outcome) == 0 &&
+           is_text(out, outcome.length, wanted) && out[outcome.length] == '#' &&
+           has_ascii_host(FLUENT_URI_IRI_REF, TEXT(text));
+}
+
+static uint32_t ascii_error(uint32_t kind, const char *text) {
+    memset(out, '#', sizeof out);
+    uint32_t error = fluent_uri_ascii_host(kind, TEXT(text), out, sizeof out, &outcome);
+    CHECK(out[0] == '#' && outcome.length == 0 && has_ascii_host(kind, TEXT(text)));
+    return error;
+}
+
+static void has_ascii_hosts(void) {
+    /* The names of UTS 46, table 1, and of RFC 3492, section 7.1 (D). */
+    CHECK(has_ascii("//b\xc3\xbc" "cher.de", "xn--bcher-kva.de"));
+    CHECK(has_ascii("//B\xc3\x9c" "cher.de", "xn--bcher-kva.de"));
+    CHECK(has_ascii("//u@fa%C3%9f.de:80/%C3%9F", "xn--fa-hia.de"));
+    CHECK(has_ascii("//\xce\xb2\xcf\x8c\xce\xbb\xce\xbf\xcf\x82.com", "xn--nxasmm1c.com"));
+    CHECK(has_ascii("//pro\xc4\x8dprost\xc4\x9bnemluv\xc3\xad\xc4\x8d" "esky",
+                    "xn--proprostnemluvesky-uyb24dma41a"));
+    CHECK(has_ascii("//\xef\xbc\x91\xef\xbc\x92\xef\xbc\x97.0.0.1", "127.0.0.1"));
+    static const char *const own[] = {"Example.com", "a_b%21", "%41%2f", "[::1]", "[v1.a]",
+        "127.0.0.1", "xn--9ca", "XN--a", "-", ""};
+    for (size_t i = 0; i < sizeof own / sizeof *own; i++) {
+        char text[32] = "//";
+        CHECK(has_ascii(strcat(text, own[i]), own[i]));
+    }
+    CHECK(has_ascii("", "") && has_ascii("/\xc3\xa9", "") && has_ascii("urn:\xc3\xa9", ""));
+    CHECK(ascii_error(1, "//a%FF") == FLUENT_URI_NAME_NOT_UTF8 && outcome.index == 0);
+    CHECK(ascii_error(1, "//%C3%28.example") == FLUENT_URI_NAME_NOT_UTF8);
+    CHECK(ascii_error(3, "//a..\xc3\xa9") == FLUENT_URI_INVALID_NAME && outcome.index == 0);
+    CHECK(ascii_error(3, "//a_\xc3\xa9") == FLUENT_URI_INVALID_NAME);
+    CHECK(ascii_error(0, "http://-%C3%A9/") == FLUENT_URI_INVALID_NAME);
+    CHECK(ascii_error(0, "http://a b") == FLUENT_URI_UNEXPECTED_CHAR && outcome.index == 8);
+    CHECK(ascii_error(1, "//\xff") == FLUENT_URI_NOT_UTF8 && outcome.index == 2);
+    CHECK(ascii_error(4, "//a") == FLUENT_URI_INVALID_ARGUMENT);
+    CHECK(fluent_uri_ascii_host(1, (const uint8_t *)"", SIZE_MAX, out, 16, &outcome) ==
+          FLUENT_URI_INVALID_ARGUMENT);
+    /* A buffer that is too short stays as it is. */
+    memset(out, '#', sizeof out);
+    CHECK(fluent_uri_ascii_host(3, TEXT("//\xc3\xa9"), out, 6, &outcome) == 0);
+    CHECK(outcome.length == 7 && out[0] == '#');
+}
+
+static void converts_with_ascii_hosts(void) {
+    static const char *const iri = "http://\xc3\xbc@\xc3\xbc:80/\xc3\xbc?\xc3\xbc#\xc3\xbc";
+    fluent_uri_parts parts;
+    CHECK(fluent_uri_to_uri_with_ascii_host(2, TEXT(iri), out, sizeof out, &parts, 1, &outcome) ==
+          0);
+    CHECK(is_text(out, outcome.length, "http://%C3%BC@xn--tda:80/%C3%BC?%C3%BC#%C3%BC"));
+    CHECK(parts.error == 0 && parts.host_kind == FLUENT_URI_REG_NAME &&
+          parts.host.start == 14 && parts.host.end == 21);
+    CHECK(fluent_uri_to_uri_with_ascii_host(3, TEXT("\xc3\xbc"), out, sizeof out, NO_PARTS,
+                                            &outcome) == 0);
+    CHECK(is_text(out, outcome.length, "%C3%BC"));
+    memset(out, '#', sizeof out);
+    CHECK(fluent_uri_to_uri_with_ascii_host(2, TEXT("\xc3\xbc"), out, sizeof out, NO_PARTS,
+                                            &outcome) == FLUENT_URI_UNEXPECTED_CHAR);
+    CHECK(fluent_uri_to_uri_with_ascii_host(3, TEXT("//a..\xc3\xbc"), out, sizeof out, NO_PARTS,
+                                            &outcome) == FLUENT_URI_INVALID_NAME);
+    CHECK(fluent_uri_to_uri_with_ascii_host(3, TEXT("//%FF"), out, sizeof out, NO_PARTS,
+                                            &outcome) == FLUENT_URI_NAME_NOT_UTF8);
+    for (uint32_t kind = 0; kind < 2; kind++)
+        CHECK(fluent_uri_to_uri_with_ascii_host(kind, TEXT("http://a"), out, sizeof out, NO_PARTS,
+                                                &outcome) == FLUENT_URI_INVALID_ARGUMENT);
+    CHECK(out[0] == '#');
+}
+
 int main(void) {
     has_addresses();
+    has_ascii_hosts();
+    converts_with_ascii_hosts();
     has_ports();
     has_origins();
     return ended("hosts");

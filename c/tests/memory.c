@@ -40,7 +40,7 @@ static int is_kept(size_t length) {
     return is_clear(0, CANARY) && is_clear(CANARY + length, sizeof whole);
 }
 
-enum { WORKS = 15 };
+enum { WORKS = 17 };
 static uint32_t ends[3];
 static uint8_t valid;
 
@@ -65,6 +65,9 @@ static uint32_t work(int which, size_t room) {
                                               &outcome);
     case 10: return fluent_uri_mend_link(1, TEXT(" /b\n c\t[ "), out, room, NO_PARTS, &outcome);
     case 13: return fluent_uri_origin(0, TEXT("HTTP://A:81/b"), out, room, &outcome);
+    case 15: return fluent_uri_ascii_host(2, TEXT("http://a%C3%A9.b/"), out, room, &outcome);
+    case 16: return fluent_uri_to_uri_with_ascii_host(2, TEXT("http://\xc3\xa9/\xc3\xa9"), out,
+                                                      room, NO_PARTS, &outcome);
     case 14: return fluent_uri_resolve(0, FLUENT_URI_BASIC, TEXT(base), TEXT("../../c/%7e"), out,
                                        room, NO_PARTS, &outcome);
     case 12: {
@@ -77,8 +80,30 @@ static uint32_t work(int which, size_t room) {
     }
 }
 
+/* A text that is plainly its own normal form is written without a request. */
+static void test_unchanged(void) {
+    static const char *const text = "http://h/%2F/b?q#f";
+    static const uint32_t offsets[] = {0, 18};
+    asked = 0, left = 0;
+    for (uint32_t kind = 0; kind < 4; kind++) {
+        clear();
+        CHECK(!fluent_uri_normalize(kind, 0, TEXT(text), out, ROOM, NO_PARTS, &outcome));
+        CHECK(outcome.length == 18 && !memcmp(out, text, 18) && is_kept(18));
+        clear();
+        CHECK(!fluent_uri_normalize_batch(kind, 0, TEXT(text), offsets, 2, out, ROOM, ends, 2,
+                                          &valid, 1, &outcome));
+        CHECK(outcome.length == 18 && !memcmp(out, text, 18) && is_kept(18));
+        clear();
+        CHECK(!fluent_uri_normalize_lines(kind, 0, TEXT(text), out, ROOM, &valid, 1, &outcome));
+        CHECK(outcome.length == 19 && !memcmp(out, text, 18) && is_kept(19));
+    }
+    CHECK(asked == 0);
+    left = -1;
+}
+
 int main(void) {
     int counts = 0;
+    test_unchanged();
     for (int which = 0; which < WORKS; which++) {
         asked = 0, left = -1;
         clear();
@@ -104,6 +129,6 @@ int main(void) {
         }
     }
     /* By the shared library the requests are its own malloc's, which this file replaces too. */
-    CHECK(counts >= 9);
+    CHECK(counts >= 11);
     return ended("memory");
 }

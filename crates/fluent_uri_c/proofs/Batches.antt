@@ -2,8 +2,7 @@
 use Rattle.std.proofs.Common.{◌≡◌, ◌≢◌, ℕ, zero, suc, ◌+◌, ◌<◌, List, [], ◌∷◌, ◌++◌, length, set}
 use Rattle.std.proofs.Common.{take, drop, refl, sym, ap, subst, ◌∙◌, arith, append_assoc, ⊎_elim}
 use Rattle.std.proofs.Common.{length-append}
-use Rattle.std.specs.Prelude.{Option, Some, None, IsSome, IsSomeAnd, slice_get, is_some}
-use Rattle.std.specs.Prelude.{option_map}
+use Rattle.std.specs.Prelude.{Option, Some, None, IsSome, IsSomeAnd, slice_get, is_some, option_map}
 use Rattle.std.proofs.Math.Seq.{drop-append_seam, take-append_seam}
 use Rattle.std.proofs.lemmas.Bool.{cases_eq}
 use Rattle.std.proofs.lemmas.List.{drop-drop, drop-set-lt}
@@ -11,14 +10,14 @@ use Rattle.fluent_uri_c.specs.Columns.{Buffers, IsColumn, bit_of, buffers, bytes
 use Rattle.fluent_uri_c.specs.Columns.{number_of_bool}
 
 -- general fact on slices, for the buffers of a batch for C: what is set at an index is read there
-pub slice_get-set_same : {O : Type 0} → (xs : List O) (i : ℕ) (x : O) → i < length xs
+slice_get-set_same : {O : Type 0} → (xs : List O) (i : ℕ) (x : O) → i < length xs
     → slice_get (set xs i x) i ≡ Some x
 slice_get-set_same [] i x inside = absurd (omega arith)
 slice_get-set_same (y ∷ ys) zero x inside = refl
 slice_get-set_same (y ∷ ys) (suc i) x inside = slice_get-set_same ys i x (omega arith)
 
 -- general fact on slices, for the buffers of a batch for C: setting one index leaves the others
-pub slice_get-set_other : {O : Type 0} → (xs : List O) (i j : ℕ) (x : O) → (j ≡ i → ⊥)
+slice_get-set_other : {O : Type 0} → (xs : List O) (i j : ℕ) (x : O) → (j ≡ i → ⊥)
     → slice_get (set xs i x) j ≡ slice_get xs j
 slice_get-set_other [] i j x apart = refl
 slice_get-set_other (y ∷ ys) zero zero x apart = absurd (apart refl)
@@ -26,6 +25,17 @@ slice_get-set_other (y ∷ ys) zero (suc j) x apart = refl
 slice_get-set_other (y ∷ ys) (suc i) zero x apart = refl
 slice_get-set_other (y ∷ ys) (suc i) (suc j) x apart =
     slice_get-set_other ys i j x (λ e. apart (ap suc e))
+
+-- batches for C: what holds of each item before n, and of the one that is set there, holds of each
+-- up to n
+pub holds-up-to-set-item : {A : Type 0} → (P : ℕ → Option A → Type 0) (all : List A) (n : ℕ)
+    (here : A) → n < length all → P n (Some here) → ((i : ℕ) → i < n → P i (slice_get all i))
+    → (i : ℕ) → i < n + 1 → P i (slice_get (set all n here) i)
+holds-up-to-set-item P all n here inside holds before i below = ⊎_elim
+    (λ same. subst (λ k. P k (slice_get (set all n here) k)) (sym same)
+    (rw (slice_get-set_same all n here inside) holds))
+    (λ apart. rw (slice_get-set_other all n i here apart) (before i (omega arith)))
+    (cases_eq i n)
 
 module _ (at : ℕ → Option (List ℕ)) (n position : ℕ) (bytes : List ℕ)
     (here : position ≡ length (joined_results at n)) (made : bytes ≡ bytes_of (at n)) where
@@ -73,11 +83,6 @@ module _ (at : ℕ → Option (List ℕ)) (n position : ℕ) (bytes : List ℕ)
   end-of-one-more-result end ends = ends ∙ sym joined_results-length-of-one-more
 
 module _ {O : Type 0} (value : O → ℕ) (at : ℕ → Option (List ℕ)) where
-  end-of-set-offset : (ends : List O) (i n : ℕ) (end : O) → i < length ends → value end ≡ n
-      → IsSomeAnd (slice_get (set ends i end) i) (λ end. value end ≡ n)
-  end-of-set-offset ends i n end inside e =
-      rw (slice_get-set_same ends i end inside) e
-
   -- one more is done
   pub IsColumn-of-one-more-result : (n : ℕ) (old now : Buffers O) (next bits : List ℕ)
       (position : ℕ)
@@ -94,13 +99,10 @@ module _ {O : Type 0} (value : O → ℕ) (at : ℕ → Option (List ℕ)) where
       record {
         bytes = buffer-of-one-more-result at n position bytes here made old.bytes now.bytes next
             is.bytes written;
-        ends = λ i below. ⊎_elim
-            (λ e. subst (λ k. IsSomeAnd (slice_get (set now.ends (n + 1) offset) k)
-            (λ end. value end ≡ length (joined_results at k))) (sym e)
-            (end-of-set-offset now.ends (n + 1) (length (joined_results at (n + 1))) offset inside
-            (end-of-one-more-result at n position bytes here made (value offset) end)))
-            (λ ne. rw (slice_get-set_other now.ends (n + 1) i offset ne) (is.ends i (omega arith)))
-            (cases_eq i (n + 1));
+        ends = λ i below. holds-up-to-set-item
+            (λ k o. IsSomeAnd o (λ end. value end ≡ length (joined_results at k))) now.ends (n + 1)
+            offset inside (end-of-one-more-result at n position bytes here made (value offset) end)
+            (λ k less. is.ends k (omega arith)) i (omega arith);
         valid = λ i below. ⊎_elim
             (λ e. subst (λ k. bit_of bits k ≡ number_of_bool (is_some (at k))) (sym e) bit)
             (λ ne. others i ne ∙ is.valid i (omega arith))
@@ -127,13 +129,3 @@ pub later-items-unchanged : {A : Type 0} → (first all : List A) (n : ℕ) (her
 later-items-unchanged first all n here others =
     drop-set-lt (n + 1) all n here (omega arith)
     ∙ sym (drop-drop 1 n all) ∙ ap (drop 1) others ∙ drop-drop 1 n first
-
--- batches for C: each item up to n is right after item n is set, if those before it were
-pub items-up-to-set-item : {A : Type 0} → (at : ℕ → Option A) (all : List A) (n : ℕ) (here : A)
-    → n < length all → Some here ≡ at n → ((i : ℕ) → i < n → slice_get all i ≡ at i)
-    → (i : ℕ) → i < n + 1 → slice_get (set all n here) i ≡ at i
-items-up-to-set-item at all n here inside is before i below = ⊎_elim
-    (λ same. ap (slice_get (set all n here)) same ∙ slice_get-set_same all n here inside ∙ is
-    ∙ ap at (sym same))
-    (λ apart. slice_get-set_other all n i here apart ∙ before i (omega arith))
-    (cases_eq i n)

@@ -1,10 +1,8 @@
 -- The text that is built of components has them again.
-use Rattle.std.proofs.Common.{◌≡◌, ℕ, Bool, true, false, ◌&&◌, ◌||◌, not, List, [], ◌++◌, refl}
-use Rattle.std.proofs.Common.{ap, sym}
-use Rattle.std.proofs.Common.{◌∙◌, subst}
+use Rattle.std.proofs.Common.{◌≡◌, ℕ, Bool, true, false, ◌&&◌, ◌||◌, not, List, [], ◌++◌, refl, ap}
+use Rattle.std.proofs.Common.{sym, ◌∙◌, subst}
 use Rattle.std.specs.Prelude.{Option, Some, None, IfSome, codes, is_none, is_some, option_map}
-use Rattle.std.specs.Prelude.{slice_index}
-use Rattle.std.specs.Prelude.{unwrap_or}
+use Rattle.std.specs.Prelude.{slice_index, unwrap_or}
 use Rattle.std.specs.Char.{is_ascii_alphabetic}
 use Rattle.std.specs.Str.{IsUtf8, is_utf8}
 use Rattle.std.proofs.lemmas.Bool.{and_from, and_parts, cond-false, or_right}
@@ -31,9 +29,8 @@ use Rattle.uri_ops.proofs.Meanings.AuthorityMeanings.{kind-sets-lack-authority-d
 use Rattle.fluent_uri_c.specs.declared.building.ComponentSpans.{ComponentSpans}
 use Rattle.fluent_uri_c.specs.declared.errors.Rejection.{Rejection}
 use Rattle.fluent_uri_c.specs.Building.{HasGivenComponents, HasValidAuthority, HasValidTail}
-use Rattle.fluent_uri_c.specs.Building.{error_of_building, given, given_authority}
-use Rattle.fluent_uri_c.specs.Building.{given_components, is_host_text, missing, path_rejection}
-use Rattle.fluent_uri_c.specs.Building.{together_rejection}
+use Rattle.fluent_uri_c.specs.Building.{error_of_building, given, given_authority, given_components}
+use Rattle.fluent_uri_c.specs.Building.{is_host_text, missing, path_rejection, together_rejection}
 use Rattle.fluent_uri_c.specs.Errors.{in_component, rejected}
 use Rattle.fluent_uri_c.specs.Results.{first_rejection}
 

@@ -18,14 +18,28 @@ use Rattle.uri_parts.specs.Scanning.{is_next, scan_end}
 use Rattle.uri_parts.proofs.Parsing.NextBytes.{text_ends_where_position_is_length}
 use Rattle.uri_ops.specs.BuilderParts.{is_text_for}
 use Rattle.fluent_uri_c.specs.Errors.{parse_rejection}
-use Rattle.fluent_uri_c.specs.Results.{component_error, component_refusal, is_possible_length}
-use Rattle.fluent_uri_c.proofs.Decoded.{component_error-of-refusal}
+use Rattle.fluent_uri_c.specs.Results.{IsPossibleUtf8, component_error, component_refusal}
+use Rattle.fluent_uri_c.specs.Results.{is_possible_length}
 use Rattle.fluent_uri_c.proofs.ValidBytes.{utf8_error-of-utf8}
 
-module _ (set : TableSet) (text : List ℕ) (end : ℕ) (utf8 : IsUtf8 text)
-    (possible : IsTrue (is_possible_length text)) (here : end ≡ scan_end text set 0) where
+-- components for C: a text, and where a scan by the set ends in it
+pub record IsScanned (set : TableSet) (text : List ℕ) (end : ℕ) : Type 0 where
+  pub utf8 : IsUtf8 text
+  pub possible : IsTrue (is_possible_length text)
+  pub here : end ≡ scan_end text set 0
+
+-- components for C: bytes are scanned as their text is
+pub scanned-bytes : (set : TableSet) (bytes text : List ℕ) (end : ℕ) → IsPossibleUtf8 bytes
+    → text ≡ bytes → end ≡ scan_end text set 0 → IsScanned set bytes end
+scanned-bytes set bytes text end accepted same here = record {
+  utf8 = accepted.0;
+  possible = accepted.1;
+  here = here ∙ ap (λ (t : List ℕ). scan_end t set 0) same;
+}
+
+module _ (set : TableSet) (text : List ℕ) (end : ℕ) (is : IsScanned set text end) where
   prefix : end ≡ valid_prefix set text
-  prefix = here ∙ zero-add (valid_prefix set text)
+  prefix = is.here ∙ zero-add (valid_prefix set text)
 
   -- components for C: a scan ends within the text
   pub scan-is-within : end ≤ length text
@@ -37,8 +51,8 @@ module _ (set : TableSet) (text : List ℕ) (end : ℕ) (utf8 : IsUtf8 text)
   -- components for C: a text that is scanned to its end passes its test
   pub scanned-text-passes : LacksPercent set → end ≡ length text → is_text_for set text ≡ true
   unfolding is_text_for
-  scanned-text-passes lacks whole = and_from _ _ (is_utf8-from_IsUtf8 text utf8)
-      (is_valid_for_is_scanned_to_end set text lacks utf8
+  scanned-text-passes lacks whole = and_from _ _ (is_utf8-from_IsUtf8 text is.utf8)
+      (is_valid_for_is_scanned_to_end set text lacks is.utf8
       ∙ eq-eqb (valid_prefix set text) (length text) (sym prefix ∙ whole))
 
   -- components for C: a text that is scanned to its end has no error
@@ -49,8 +63,8 @@ module _ (set : TableSet) (text : List ℕ) (end : ℕ) (utf8 : IsUtf8 text)
       (ap (starts percent_sign) (drop_all end text (omega (arith, whole)))) in
       let left = text_ends_where_position_is_length end text (omega (arith, whole))
       ∙ eq-eqb end (length text) whole in
-      let none : component_refusal set text ≡ None = rw (sym here, percent, left) refl in
-      rw (sym (utf8_error-of-utf8 text utf8 possible), none) refl
+      let none : component_refusal set text ≡ None = rw (sym is.here, percent, left) refl in
+      rw (sym (utf8_error-of-utf8 text is.utf8 is.possible), none) refl
 
   -- components for C: another character where the scan ends is unexpected
   pub other-character-is-error : (set.pct_encoded && is_next text percent_sign end) ≡ false
@@ -58,5 +72,6 @@ module _ (set : TableSet) (text : List ℕ) (end : ℕ) (utf8 : IsUtf8 text)
   other-character-is-error percent less =
       let left = text_ends_where_position_is_length end text (omega (arith, less))
       ∙ ne_eqb end (length text) (λ e. omega (arith, e, less)) in
-      component_error-of-refusal set text end utf8 possible here (unexpected end)
-      (rw (sym here, percent, left) refl)
+      let some : component_refusal set text ≡ Some (unexpected end) =
+      rw (sym is.here, percent, left) refl in
+      rw (sym (utf8_error-of-utf8 text is.utf8 is.possible), some) refl

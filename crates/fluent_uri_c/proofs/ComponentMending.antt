@@ -1,8 +1,7 @@
 -- A component, mended from left to right: what a scan passes stays, and the character where it stops
 -- becomes octets.
-use Rattle.std.proofs.Common.{◌≡◌, ℕ, ◌+◌, ◌-◌, ◌<◌, ◌≤◌, true, List, ◌++◌, length, take, drop}
-use Rattle.std.proofs.Common.{map, sym, ap, ◌∙◌, arith, ⊎_elim, append_assoc, length-append}
-use Rattle.std.proofs.Common.{length-drop}
+use Rattle.std.proofs.Common.{◌≡◌, ℕ, ◌+◌, ◌-◌, ◌<◌, ◌≤◌, true, List, ◌++◌, length, take, drop, map}
+use Rattle.std.proofs.Common.{sym, ap, ◌∙◌, arith, ⊎_elim, append_assoc, length-append, length-drop}
 use Rattle.std.specs.Prelude.{encode_utf8, slice_range}
 use Rattle.std.specs.Str.{IsUtf8, IsCharBoundary}
 use Rattle.std.proofs.lemmas.Bool.{cases_lt}

@@ -6,7 +6,7 @@ use Rattle.std.specs.Char.{digit_value, is_ascii_digit}
 use Rattle.std.specs.Int.{IsInRange}
 use Rattle.std.specs.Net.Reader.{read_ipv4, read_octet}
 use Rattle.std.proofs.NetLemmas.Numbers.{NoDigit, read_number_empty}
-use Rattle.std.proofs.lemmas.Bool.{and_from, both_ways, cases_lt, false≢true}
+use Rattle.std.proofs.lemmas.Bool.{and_from, both_ways, cases_lt, not-true}
 use Rattle.std.proofs.lemmas.Str.Parse.{digit_from_value}
 use Rattle.uri_parts.specs.Hosts.{RegName, host_kind, ipv4_value}
 
@@ -23,11 +23,6 @@ no_digit c e = ⊎_elim
     (λ (large : 10 ≤ digit_value c). large)
     (cases_lt (digit_value c) 10)
 
--- general fact on booleans, for the C exports' test of a host
-is_not : (b : Bool) → IsTrue (not b) → b ≡ false
-is_not true h = absurd (false≢true h)
-is_not false h = refl
-
 -- exports for C: an empty host is a registered name
 pub empty_is_name : (host : List ℕ) → length host < 1 → host_kind host ≡ RegName
 unfolding host_kind
@@ -40,4 +35,4 @@ pub begins_as_name : (host : List ℕ) → is_ascii_digit (slice_index host 0) �
 unfolding host_kind
 begins_as_name [] digit bracket = rw (no_ipv4 [] (lit≤ tt))
 begins_as_name (c ∷ rest) digit bracket =
-    rw (is_not _ bracket, no_ipv4 (c ∷ rest) (no_digit c digit))
+    rw (not-true _ bracket, no_ipv4 (c ∷ rest) (no_digit c digit))

@@ -1,6 +1,5 @@
 -- A text each byte of which normalising keeps, with plain components, is its own normal text.
-use Rattle.std.proofs.Common.{◌≡◌, ◌||◌, ◌++◌, ◌∙◌, ℕ, Bool, true, false, cond, List, [], ap}
-use Rattle.std.proofs.Common.{refl}
+use Rattle.std.proofs.Common.{◌≡◌, ◌||◌, ◌++◌, ◌∙◌, ℕ, Bool, true, false, cond, List, [], ap, refl}
 use Rattle.std.proofs.Common.{option_map, subst, sym}
 use Rattle.std.specs.Prelude.{codes, Option, Some, None, IfNone, IfSome, is_some}
 use Rattle.std.specs.Option.{option_and_then}

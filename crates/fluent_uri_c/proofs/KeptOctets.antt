@@ -1,12 +1,9 @@
 -- The table of the octets that normalising keeps, entry by entry.
 use Rattle.std.proofs.Common.{◌≡◌, ◌+◌, ◌-◌, ◌*◌, ◌/◌, ◌%◌, ◌^◌, ◌<◌, ◌≤◌, ℕ, Bool, true, false}
-use Rattle.std.proofs.Common.{not}
-use Rattle.std.proofs.Common.{◌&&◌, ◌||◌, ◌∙◌, ◌⊎◌, inl, inr, eqb, ltb, get_or, bit_and, refl, sym}
-use Rattle.std.proofs.Common.{ap}
-use Rattle.std.proofs.Common.{arith}
+use Rattle.std.proofs.Common.{not, ◌&&◌, ◌||◌, ◌∙◌, ◌⊎◌, inl, inr, eqb, ltb, get_or, bit_and, refl}
+use Rattle.std.proofs.Common.{sym, ap, arith}
 use Rattle.std.specs.Int.{bit_at}
-use Rattle.std.proofs.lemmas.Bool.{agree_below_at, and_parts, lt-ltb, ne_eqb}
-use Rattle.std.proofs.lemmas.Bool.{false≢true}
+use Rattle.std.proofs.lemmas.Bool.{agree_below_at, and_parts, lt-ltb, ne_eqb, false≢true}
 use Rattle.std.proofs.lemmas.Nat.Bits.{shr_and_one}
 use Rattle.fluent_uri_c.specs.declared.plain.TheConstants.{KEPT_OCTETS}
 use Rattle.fluent_uri_c.specs.PlainTexts.{is_kept_octet}

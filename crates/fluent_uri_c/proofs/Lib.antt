@@ -1,10 +1,10 @@
 mod AsciiBlocks
+mod AsciiHosts
 mod Batches
 mod Bits
 mod BuiltTexts
 mod CharacterErrors
 mod ComponentMending
-mod Decoded
 mod HostNames
 mod KeptDecodings
 mod KeptNormalForms
@@ -16,9 +16,9 @@ mod Literals
 mod LowerHosts
 mod Mends
 mod OctetLanes
+mod Orders
 mod OtherErrors
 mod ParsedBases
-mod PartColumns
 mod Places
 mod PlainBlocks
 mod PlainTexts

@@ -1,7 +1,6 @@
 -- The test of a host in brackets.
-use Rattle.std.proofs.Common.{◌≡◌, ℕ, Bool, true, false, List, ◌∷◌, ◌++◌, refl, sym, ap, ◌∙◌}
-use Rattle.std.proofs.Common.{◌&&◌, ◌||◌}
-use Rattle.std.proofs.Common.{[], drop, eqb, length, not}
+use Rattle.std.proofs.Common.{◌≡◌, ℕ, Bool, true, false, List, ◌∷◌, ◌++◌, refl, sym, ap, ◌∙◌, ◌&&◌}
+use Rattle.std.proofs.Common.{◌||◌, [], drop, eqb, length, not}
 use Rattle.std.specs.Prelude.{bytes_eq, codes, is_some, nat_lt}
 use Rattle.std.specs.List.{prefix_len}
 use Rattle.std.proofs.lemmas.Bool.{eq-eqb, eqb-true, false≢true}

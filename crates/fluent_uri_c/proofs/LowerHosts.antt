@@ -31,7 +31,8 @@ module _ (bytes : List ℕ) (i : ℕ) (within : i < length bytes) where
   pub percent-begins-octet : (digits : ℕ) → digits ≡ 0 → byte ≡ 37 → is_lower_after 2 rest ≡ true
       → is_lower_after digits (drop i bytes) ≡ true
   unfolding is_lower_after
-  percent-begins-octet digits none percent e = ap (λ d. is_lower_after d (drop i bytes)) none
+  percent-begins-octet digits none percent e =
+      ap (λ d. is_lower_after d (drop i bytes)) none
       ∙ ap (is_lower_after 0) next
       ∙ cond-true (eqb byte 37) _ _ (ap (λ b. eqb b 37) percent) ∙ e
 
@@ -40,7 +41,8 @@ module _ (bytes : List ℕ) (i : ℕ) (within : i < length bytes) where
       → is_ascii_uppercase byte ≡ false → is_lower_after 0 rest ≡ true
       → is_lower_after digits (drop i bytes) ≡ true
   unfolding is_lower_after
-  other-byte-is-lower digits none percent lower e = ap (λ d. is_lower_after d (drop i bytes)) none
+  other-byte-is-lower digits none percent lower e =
+      ap (λ d. is_lower_after d (drop i bytes)) none
       ∙ ap (is_lower_after 0) next
       ∙ cond-false (eqb byte 37) _ _ percent ∙ and_from _ _ (not_from_false _ lower) e
 

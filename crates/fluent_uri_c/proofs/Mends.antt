@@ -3,6 +3,7 @@ use Rattle.std.proofs.Common.{◌≡◌, ◌⊎◌, ℕ, Bool, true, false, ◌|
 use Rattle.std.proofs.Common.{◌∙◌, subst}
 use Rattle.std.specs.Prelude.{IsTrue, None, Ok, Err}
 use Rattle.std.specs.Result.{is_ok}
+use Rattle.std.proofs.lemmas.Bool.{or_left, or_right}
 use Rattle.uri_parts.specs.Grammar.{Kind}
 use Rattle.uri_mend.specs.declared.error.MendError.{MendError}
 use Rattle.uri_mend.specs.declared.error.MendError.TheVariants.{OutOfMemory, Unmendable}
@@ -33,7 +34,7 @@ mended_link_result-of-mended kind bytes text made valid same is =
     (rw (sym (valid ∙ ap utf8_error (sym same)), is.mendable) (ap Ok (sym is.text)))
 
 -- exports for C: a rejection is that memory is out, where the call takes memory, or the defined one
-abbrev IsErrorOf : Bool → Returned → Rejection → Type 0
+abbrev pub IsErrorOf : Bool → Returned → Rejection → Type 0
 IsErrorOf takes_memory returned why =
     ((why ≡ rejected Of.OutOfMemory) × IsTrue takes_memory) ⊎ (returned ≡ Err why)
 
@@ -55,13 +56,6 @@ mended_result-of-error kind bytes text error why valid same is e =
     (mended_result-of-parsed-error kind bytes error valid
     (subst (λ t. IsMendErrorOf kind t error) same is))
 
-true-or : (b c : Bool) → b ≡ true → (b || c) ≡ true
-true-or b c e = rw e refl
-
-or-true : (b c : Bool) → c ≡ true → (b || c) ≡ true
-or-true true c e = refl
-or-true false c e = e
-
 mended_link_result-of-parsed-error : (kind : Kind) (text : List ℕ) (error : MendError)
     → None ≡ utf8_error text → IsLinkErrorOf kind text error
     → IsErrorOf (takes_memory_for_link kind text) (mended_link_result kind text)
@@ -71,13 +65,13 @@ mended_link_result-of-parsed-error kind text (Unmendable error) valid is =
 mended_link_result-of-parsed-error kind text OutOfMemory valid (inl is) =
     inl (
       refl,
-      true-or (is_ok (mended_link_result kind text)) (is_link_copied text)
+      or_left (is_ok (mended_link_result kind text)) (is_link_copied text)
           (rw (sym valid, is) refl),
     )
 mended_link_result-of-parsed-error kind text OutOfMemory valid (inr is) =
     inl (
       refl,
-      or-true (is_ok (mended_link_result kind text)) (is_link_copied text)
+      or_right (is_ok (mended_link_result kind text)) (is_link_copied text)
           (rw (sym valid, is) refl),
     )
 

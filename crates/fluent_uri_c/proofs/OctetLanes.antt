@@ -40,8 +40,8 @@ module _ (octets left lane : ℕ) (small : octets < 2 ^ 16)
       ∙ same (more + (1 + k)) ∙ ap (is_set_bit octets) index
 
   -- octets of sixteen bytes: what holds of those before a lane and of the next holds up to it
-  pub octets-up-to-lane : (P : ℕ → Type 0) → ((k : ℕ) → k < more → is_set_bit octets (lane + k)
-      ≡ false)
+  pub octets-up-to-lane : (P : ℕ → Type 0)
+      → ((k : ℕ) → k < more → is_set_bit octets (lane + k) ≡ false)
       → ((k : ℕ) → k < lane → bit_at octets k ≡ 1 → P k) → P (lane + more)
       → (k : ℕ) → k < lane + more + 1 → bit_at octets k ≡ 1 → P k
   octets-up-to-lane P none before next k h set = ⊎_elim
@@ -63,7 +63,8 @@ module _ (octets left lane : ℕ) (small : octets < 2 ^ 16)
       (λ (early : k < lane). before k early set)
       (λ (late : lane ≤ k).
       let index : lane + (k - lane) ≡ k = omega (arith, late) in
-      absurd (false≢true (sym (ap (λ m. eqb m 1) (bit_at-zero (k - lane)))
-      ∙ sym (ap (λ n. is_set_bit n (k - lane)) none) ∙ same (k - lane)
-      ∙ ap (is_set_bit octets) index ∙ ap (λ m. eqb m 1) set)))
+      let clear : false ≡ is_set_bit left (k - lane) =
+      sym (ap (λ n. is_set_bit n (k - lane)) none ∙ ap (λ m. eqb m 1) (bit_at-zero (k - lane))) in
+      absurd (false≢true (clear ∙ same (k - lane) ∙ ap (is_set_bit octets) index
+      ∙ ap (λ m. eqb m 1) set)))
       (cases_lt k lane)

@@ -58,7 +58,8 @@ module _ (past : Bool) (bs : List ℕ) (at slashes dots leads octets : ℕ)
         ∙ mask_bit_is_equality_of_byte 46 bs (at + 1) k (omega (arith, room)) h
         ∙ ap (λ i. eqb (get_or bs i 0) 46) index in
         sym (ap (λ b. b && is_set_bit dots k) slash ∙ ap (λ b. eqb byte 47 && b) dot)
-        ∙ sym (bit_of_bit_and slashes dots k) ∙ ap (λ m. is_set_bit m k) no_dots ∙ ap (λ m. eqb m 1) (bit_at-zero k)
+        ∙ sym (bit_of_bit_and slashes dots k) ∙ ap (λ m. is_set_bit m k) no_dots
+        ∙ ap (λ m. eqb m 1) (bit_at-zero k)
 
     abbrev octet_kept : Bool
     octet_kept = is_kept_octet past (get_or bs (at + k + 1) 0) (get_or bs (at + k + 2) 0)

@@ -1,18 +1,18 @@
 -- Plain texts: those that are found to be their own normal forms by their bytes and their parts.
-use Rattle.std.proofs.Common.{◌≡◌, ℕ, ◌<◌, Bool, true, false, cond, eqb, ltb, length, List, arith}
-use Rattle.std.proofs.Common.{refl}
-use Rattle.std.proofs.Common.{sym, ap, subst, ◌∙◌}
+use Rattle.std.proofs.Common.{◌≡◌, ◌∙◌, ◌||◌, ◌<◌, ℕ, Bool, true, false, not, cond, eqb, ltb, List}
+use Rattle.std.proofs.Common.{length, ap, arith, refl, subst, sym}
 use Rattle.std.specs.Prelude.{Option, Some, None, Ok, IfSome, IsSomeAnd, slice_range}
-use Rattle.std.specs.Str.{str_to_ascii_lowercase}
-use Rattle.std.proofs.lemmas.Bool.{eqb-true, false≢true}
+use Rattle.std.specs.Str.{IsUtf8, str_to_ascii_lowercase}
+use Rattle.std.proofs.lemmas.Bool.{eqb-true, false≢true, not-true, or_parts}
 use Rattle.fluent_uri.specs.Components.{components, starts}
-use Rattle.fluent_uri.specs.Grammar.{Kind, iri, iri_ref, uri, uri_ref}
+use Rattle.uri_pct.specs.Sets.{TableSet}
+use Rattle.uri_parts.specs.Grammar.{IsOfKind, IsTextOf, Kind, iri, iri_ref, kind_by_flags, uri}
+use Rattle.uri_parts.specs.Grammar.{uri_ref}
 use Rattle.fluent_uri.specs.SchemePorts.{default_port}
 use Rattle.uri_ops.specs.ComponentSets.{HasComponentSets}
 use Rattle.uri_ops.specs.Normal.{normal_scheme, normal_text}
 use Rattle.uri_rules.proofs.RuledMeanings.{meaning-under-ports-alone}
-use Rattle.uri_ops.proofs.TextKinds.FourKinds.{uri-has-component-sets, uri_ref-has-component-sets}
-use Rattle.uri_ops.proofs.TextKinds.FourKinds.{iri-has-component-sets, iri_ref-has-component-sets}
+use Rattle.uri_ops.proofs.TextKinds.FourKinds.{one-of-four-kinds-has-sets}
 use Rattle.fluent_uri_c.specs.declared.parts.Parts.{Parts}
 use Rattle.fluent_uri_c.specs.declared.parts.Span.{Span}
 use Rattle.fluent_uri_c.specs.Kinds.{kind_numbered}
@@ -21,7 +21,7 @@ use Rattle.fluent_uri_c.specs.Results.{IsPossibleText, normal_form_of, normal_re
 use Rattle.fluent_uri_c.specs.Results.{normalize_result, rejection_or_result, with_valid_number}
 use Rattle.fluent_uri_c.specs.Spans.{ArePartsOf, IsSpan, host_of, parse_error, port_of}
 use Rattle.fluent_uri_c.proofs.KeptNormalForms.{LacksPastAsciiIn, kept-text-is-its-normal-text}
-use Rattle.fluent_uri_c.proofs.KeptTexts.{keeps, plain-text-is-kept}
+use Rattle.fluent_uri_c.proofs.KeptTexts.{plain-text-is-kept}
 
 -- plain texts: normalising keeps an absent scheme and one in lower case
 pub scheme-in-lower-case-is-normal : (scheme : Option (List ℕ))
@@ -60,26 +60,60 @@ record IsKindOfPlainTexts (past : Bool) (kind : Kind) : Type 0 where
   sets : HasComponentSets kind
   none : past ≡ true → LacksPastAsciiIn kind
 
--- plain texts: a text of a kind that normalising keeps is the result
-normal-result-of-plain-text : (past : Bool) (kind : Kind) (text : List ℕ)
-    → IsKindOfPlainTexts past kind → keeps past text ≡ true → ArePlain (components text)
-    → IsPossibleText kind text → parse_error (Some kind) text ≡ None
-    → normal_result false kind text ≡ Ok text
+-- plain texts: a text of a kind that normalising keeps is its own normal form
+plain-text-of-kind-is-its-normal-form : (past : Bool) (kind : Kind) (text : List ℕ)
+    → IsKindOfPlainTexts past kind → IsPlain past text → ArePlain (components text)
+    → IsTextOf kind text → normal_form_of false kind text ≡ text
 unfolding normal_form_of
-normal-result-of-plain-text past kind text of_kind kept plain possible none =
-    ap (λ why. rejection_or_result why (Ok (normal_form_of false kind text))) none
-    ∙ ap (λ m. Ok (normal_text m)) (meaning-under-ports-alone kind default_port text)
-    ∙ ap Ok (sym (kept-text-is-its-normal-text kind of_kind.sets past of_kind.none default_port text
-    possible.0 kept plain))
+plain-text-of-kind-is-its-normal-form past kind text of_kind bytes plain w =
+    ap normal_text (meaning-under-ports-alone kind default_port text)
+    ∙ sym (kept-text-is-its-normal-text kind of_kind.sets past of_kind.none default_port text
+    w (plain-text-is-kept past text bytes) plain)
 
--- plain texts: so is it where the kind has a number
+-- plain texts: it is the result, where the kind has a number
 normal-result-of-kind : (past : Bool) (kind : Option Kind) (text : List ℕ)
-    → IfSome kind (IsKindOfPlainTexts past) → keeps past text ≡ true → ArePlain (components text)
+    → IfSome kind (IsKindOfPlainTexts past) → IsPlain past text → ArePlain (components text)
     → IsSomeAnd kind (λ k. IsPossibleText k text) → parse_error kind text ≡ None
     → with_valid_number kind (λ k. normal_result false k text) ≡ Ok text
-normal-result-of-kind past None text of_kind kept plain possible none = absurd possible
-normal-result-of-kind past (Some kind) text of_kind kept plain possible none =
-    normal-result-of-plain-text past kind text of_kind kept plain possible none
+normal-result-of-kind past None text of_kind bytes plain possible none = absurd possible
+normal-result-of-kind past (Some kind) text of_kind bytes plain possible none =
+    ap (λ why. rejection_or_result why (Ok (normal_form_of false kind text))) none
+    ∙ ap Ok (plain-text-of-kind-is-its-normal-form past kind text of_kind bytes plain possible.0)
+
+-- plain texts: without characters past ASCII in paths, no component of the kind has any
+kind-lacks-past-ascii : (needs : Bool) → LacksPastAsciiIn (kind_by_flags false needs)
+kind-lacks-past-ascii needs = record {
+  userinfo = (refl, refl);
+  reg_name = (refl, refl);
+  path = (refl, refl);
+  query = (refl, refl);
+  fragment = (refl, refl);
+}
+
+-- plain texts: one of the four kinds has the sets of components
+known-kind-is-of-plain-texts : (past : Bool) (kind : Kind)
+    → kind ≡ kind_by_flags kind.path.ucschar kind.needs_scheme
+    → (past ≡ true → kind.path.ucschar ≡ false) → IsKindOfPlainTexts past kind
+known-kind-is-of-plain-texts past kind known ascii = record {
+  sets = one-of-four-kinds-has-sets kind known;
+  none = λ e. subst LacksPastAsciiIn
+      (sym (known ∙ ap (λ b. kind_by_flags b kind.needs_scheme) (ascii e)))
+      (kind-lacks-past-ascii kind.needs_scheme);
+}
+
+-- plain texts: a text of one of the four kinds that normalising keeps is its own normal form; some:
+-- whether the path may have characters past ASCII
+pub plain-text-is-its-normal-form : (kind : Kind) (path : TableSet) (some : Bool) (text : List ℕ)
+    → kind ≡ kind_by_flags kind.path.ucschar kind.needs_scheme → path ≡ kind.path
+    → some ≡ (path.ucschar || path.iprivate) → IsPlain (not some) text
+    → ArePlain (components text) → IsUtf8 text → IsOfKind kind text
+    → normal_form_of false kind text ≡ text
+plain-text-is-its-normal-form kind path some text known same is bytes plain utf8 grammar =
+    plain-text-of-kind-is-its-normal-form (not some) kind text
+    (known-kind-is-of-plain-texts (not some) kind known
+    (λ e. ap (λ (set : TableSet). set.ucschar) (sym same)
+    ∙ (or_parts _ _ (sym is ∙ not-true some e)).0))
+    bytes plain (record { utf8 = utf8; grammar = grammar })
 
 -- plain texts: what each of two kinds has, the one that a test chooses has
 chosen-kind-is-of-plain-texts : (past b : Bool) (kind : Kind) (other : Option Kind)
@@ -88,43 +122,21 @@ chosen-kind-is-of-plain-texts : (past b : Bool) (kind : Kind) (other : Option Ki
 chosen-kind-is-of-plain-texts past true kind other it rest = it refl
 chosen-kind-is-of-plain-texts past false kind other it rest = rest
 
--- plain texts: in URIs, and URI references, no component has characters past ASCII
-uri-lacks-past-ascii : LacksPastAsciiIn uri
-uri-lacks-past-ascii = record {
-  userinfo = (refl, refl);
-  reg_name = (refl, refl);
-  path = (refl, refl);
-  query = (refl, refl);
-  fragment = (refl, refl);
-}
-
-uri_ref-lacks-past-ascii : LacksPastAsciiIn uri_ref
-uri_ref-lacks-past-ascii = record {
-  userinfo = (refl, refl);
-  reg_name = (refl, refl);
-  path = (refl, refl);
-  query = (refl, refl);
-  fragment = (refl, refl);
-}
-
 -- plain texts: each of the four kinds has the sets of components, and those with a number below 2
 -- lack characters past ASCII
 numbered-kind-is-of-plain-texts : (n : ℕ) → IfSome (kind_numbered n) (IsKindOfPlainTexts (ltb n 2))
 numbered-kind-is-of-plain-texts n =
-    chosen-kind-is-of-plain-texts (ltb n 2) (eqb n 0) uri _
-    (λ e. record { sets = uri-has-component-sets; none = λ _. uri-lacks-past-ascii })
-    (chosen-kind-is-of-plain-texts (ltb n 2) (eqb n 1) uri_ref _
-    (λ e. record { sets = uri_ref-has-component-sets; none = λ _. uri_ref-lacks-past-ascii })
-    (chosen-kind-is-of-plain-texts (ltb n 2) (eqb n 2) iri _
-    (λ e. record {
-      sets = iri-has-component-sets;
-      none = λ h. absurd (false≢true (sym (ap (λ m. ltb m 2) (eqb-true n 2 e)) ∙ h));
-    })
-    (chosen-kind-is-of-plain-texts (ltb n 2) (eqb n 3) iri_ref None
-    (λ e. record {
-      sets = iri_ref-has-component-sets;
-      none = λ h. absurd (false≢true (sym (ap (λ m. ltb m 2) (eqb-true n 3 e)) ∙ h));
-    }) tt)))
+    let below = ltb n 2 in
+    chosen-kind-is-of-plain-texts below (eqb n 0) uri _
+    (λ e. known-kind-is-of-plain-texts below uri refl (λ _. refl))
+    (chosen-kind-is-of-plain-texts below (eqb n 1) uri_ref _
+    (λ e. known-kind-is-of-plain-texts below uri_ref refl (λ _. refl))
+    (chosen-kind-is-of-plain-texts below (eqb n 2) iri _
+    (λ e. known-kind-is-of-plain-texts below iri refl
+    (λ h. absurd (false≢true (sym (ap (λ m. ltb m 2) (eqb-true n 2 e)) ∙ h))))
+    (chosen-kind-is-of-plain-texts below (eqb n 3) iri_ref None
+    (λ e. known-kind-is-of-plain-texts below iri_ref refl
+    (λ h. absurd (false≢true (sym (ap (λ m. ltb m 2) (eqb-true n 3 e)) ∙ h)))) tt)))
 
 -- plain texts: a text of which the parser wrote these parts is its own normal form
 pub plain-text-is-its-result : (n : ℕ) (text : List ℕ) (parts : Parts)
@@ -133,4 +145,4 @@ pub plain-text-is-its-result : (n : ℕ) (text : List ℕ) (parts : Parts)
     → normalize_result n 0 text ≡ Ok text
 plain-text-is-its-result n text parts bytes plain of_text e =
     normal-result-of-kind (ltb n 2) (kind_numbered n) text (numbered-kind-is-of-plain-texts n)
-    (plain-text-is-kept (ltb n 2) text bytes) plain (of_text.accepts.0 e) (of_text.none e)
+    bytes plain (of_text.accepts.0 e) (of_text.none e)

@@ -26,6 +26,8 @@ number_of-is-not-zero Of.NonemptyRootlessPath e = omega arith
 number_of-is-not-zero Of.PathStartsWithDoubleSlash e = omega arith
 number_of-is-not-zero Of.FirstPathSegmentContainsColon e = omega arith
 number_of-is-not-zero Of.MissingComponent e = omega arith
+number_of-is-not-zero Of.NameNotUtf8 e = omega arith
+number_of-is-not-zero Of.InvalidName e = omega arith
 
 -- exports for C: rejected bytes have the parts of their rejection
 rejected-parts-of-some : (o : _) (why : Rejection) (parts : Parts) → Some why ≡ o → parts

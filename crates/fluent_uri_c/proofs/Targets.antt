@@ -117,6 +117,14 @@ normal_result-of-normal-form by_rules kind bytes text normal none same is =
     ∙ ap (λ t. Ok (normal_form_of by_rules kind t)) (sym same)
     ∙ ap Ok (sym is.text)
 
+-- exports for C: a text that is its own normal form is what normalising returns
+pub normal_result-of-own-form : (by_rules : Bool) (kind : Kind) (bytes text form : List ℕ)
+    → None ≡ text_error kind bytes → text ≡ bytes → normal_form_of by_rules kind text ≡ text
+    → form ≡ text → normal_result by_rules kind bytes ≡ Ok form
+normal_result-of-own-form by_rules kind bytes text form none same own is =
+    ap (λ o. rejection_or_result o (Ok (normal_form_of by_rules kind bytes))) (sym none)
+    ∙ ap Ok (ap (normal_form_of by_rules kind) (sym same) ∙ own ∙ sym is)
+
 -- exports for C: the result of the basic algorithm: a target, or the rejection
 basic_of : Result (List ℕ) Basic.BasicTargetError → Returned
 basic_of r = result_map_both (λ target. target) error_of_basic_target r

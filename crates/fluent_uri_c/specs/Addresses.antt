@@ -6,8 +6,7 @@ use Rattle.fluent_uri.specs.Components.{components}
 use Rattle.fluent_uri.specs.Grammar.{Kind}
 use Rattle.fluent_uri.specs.Hosts as Hosts
 use Rattle.fluent_uri_c.specs.Kinds.{kind_numbered}
-use Rattle.fluent_uri_c.specs.Results.{Returned, rejection_or_result, text_error}
-use Rattle.fluent_uri_c.specs.Results.{with_valid_number}
+use Rattle.fluent_uri_c.specs.Results.{Returned, rejection_or_result, text_error, with_valid_number}
 
 -- the octets of a host of this kind, if it is an address: 4 of IPv4, and 16 of IPv6, the high octet
 -- of each segment first

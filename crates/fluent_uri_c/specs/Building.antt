@@ -1,7 +1,6 @@
 -- The reference that a call for C builds of components: RFC 3986, sections 3 and 5.3.
 use Rattle.std.specs.Prelude.{◌≡◌, ℕ, ◌-◌, ◌^◌, ◌==◌, ◌&&◌, ◌||◌, Bool, true, List, [], length}
-use Rattle.std.specs.Prelude.{nat_le}
-use Rattle.std.specs.Prelude.{Option, Some, None, Ok, IfSome, is_none, is_some, option_map}
+use Rattle.std.specs.Prelude.{nat_le, Option, Some, None, Ok, IfSome, is_none, is_some, option_map}
 use Rattle.std.specs.Prelude.{slice_index, slice_range, unwrap_or, if◌then◌else◌}
 use Rattle.std.specs.Char.{is_ascii_alphabetic}
 use Rattle.std.specs.Str.{is_utf8}

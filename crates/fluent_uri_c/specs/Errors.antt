@@ -31,6 +31,8 @@ number_of Of.NonemptyRootlessPath = 11
 number_of Of.PathStartsWithDoubleSlash = 12
 number_of Of.FirstPathSegmentContainsColon = 13
 number_of Of.MissingComponent = 14
+number_of Of.NameNotUtf8 = 15
+number_of Of.InvalidName = 16
 
 -- the rejection of a call for an error at an index of its first text
 abbrev pub rejected_at : Error → ℕ → Rejection

@@ -1,10 +1,12 @@
 pub mod Addresses
+pub mod AsciiHosts
 pub mod Bases
 pub mod Building
 pub mod Columns
 pub mod Components
 pub mod Endings
 pub mod Errors
+pub mod Fnv
 pub mod Full
 pub mod Given
 pub mod Kinds
@@ -12,7 +14,9 @@ pub mod Lines
 pub mod MendedComponents
 pub mod Mends
 pub mod Names
+pub mod NormalForms
 pub mod Options
+pub mod Orders
 pub mod Origins
 pub mod Outcomes
 pub mod Pairs

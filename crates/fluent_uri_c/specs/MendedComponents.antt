@@ -3,8 +3,7 @@
 use Rattle.std.specs.Prelude.{ℕ, List, Ok}
 use Rattle.fluent_uri.specs.Sets.{TableSet}
 use Rattle.uri_mend.specs.MendedParts.{mended}
-use Rattle.fluent_uri_c.specs.Results.{Returned, rejection_or_result, utf8_error}
-use Rattle.fluent_uri_c.specs.Results.{with_valid_number}
+use Rattle.fluent_uri_c.specs.Results.{Returned, rejection_or_result, utf8_error, with_valid_number}
 use Rattle.fluent_uri_c.specs.Sets.{encoding_set}
 
 -- the result of a call for C that mends bytes as a component by the set, or why they are rejected:

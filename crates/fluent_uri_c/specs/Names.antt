@@ -1,6 +1,5 @@
 -- The versions of the library and of its normal forms, and the names and messages of its errors.
-use Rattle.std.specs.Prelude.{ℕ, List, ◌==◌, ◌++◌, codes, Option, Some, None, Ok}
-use Rattle.std.specs.Prelude.{if◌then◌else◌}
+use Rattle.std.specs.Prelude.{ℕ, List, ◌==◌, ◌++◌, codes, Option, Some, None, Ok, if◌then◌else◌}
 use Rattle.fluent_uri_c.specs.Results.{Returned, with_valid_number}
 
 -- the version of the library, 0.1.0, as a number: a byte for each part
@@ -28,7 +27,9 @@ error_name n =
     else (if n == 11 then Some (codes "FLUENT_URI_NONEMPTY_ROOTLESS_PATH")
     else (if n == 12 then Some (codes "FLUENT_URI_PATH_STARTS_WITH_DOUBLE_SLASH")
     else (if n == 13 then Some (codes "FLUENT_URI_FIRST_PATH_SEGMENT_CONTAINS_COLON")
-    else (if n == 14 then Some (codes "FLUENT_URI_MISSING_COMPONENT") else None))))))))))))))
+    else (if n == 14 then Some (codes "FLUENT_URI_MISSING_COMPONENT")
+    else (if n == 15 then Some (codes "FLUENT_URI_NAME_NOT_UTF8")
+    else (if n == 16 then Some (codes "FLUENT_URI_INVALID_NAME") else None))))))))))))))))
 
 -- the result of `fluent_uri_error_name` for an error with a number of the C header
 abbrev pub error_name_result : ℕ → Returned
@@ -58,4 +59,6 @@ error_message n =
     then codes "when neither scheme nor authority is present, first path segment should "
     ++ codes "not contain ':'"
     else (if n == 14 then codes "missing component"
-    else codes "unknown error"))))))))))))))
+    else (if n == 15 then codes "registered name does not decode to valid UTF-8"
+    else (if n == 16 then codes "invalid domain name"
+    else codes "unknown error"))))))))))))))))

@@ -44,6 +44,8 @@ fn name_of(error: u32) -> Option<&'static str>
         12 => Some("FLUENT_URI_PATH_STARTS_WITH_DOUBLE_SLASH"),
         13 => Some("FLUENT_URI_FIRST_PATH_SEGMENT_CONTAINS_COLON"),
         14 => Some("FLUENT_URI_MISSING_COMPONENT"),
+        15 => Some("FLUENT_URI_NAME_NOT_UTF8"),
+        16 => Some("FLUENT_URI_INVALID_NAME"),
         _ => None,
     }
 }
@@ -88,6 +90,8 @@ fn message_of(error: u32) -> &'static str
             contain ':'"
         }
         14 => "missing component",
+        15 => "registered name does not decode to valid UTF-8",
+        16 => "invalid domain name",
         _ => "unknown error",
     }
 }

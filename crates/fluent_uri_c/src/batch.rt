@@ -7,6 +7,7 @@ ghost use Rattle.fluent_uri_c.specs.Columns.{column_of, call_result_bytes};
 ghost use Rattle.fluent_uri_c.specs.Full.{IsFull, ends_buffer, valid_buffer};
 
 use crate::columns::{Offset, is_possible_column, mark, text_at};
+use crate::normal_forms::NormalForm;
 use crate::outcome::{Full, Outcome, report_full, report_progress};
 use fluent_uri::pct_enc::CowSlice;
 use std::alloc::AllocError;
@@ -18,6 +19,20 @@ pub enum CallResult<'a> {
     Part(&'a [u8]),
     Text(String),
     Bytes(CowSlice<'a, u8>),
+}
+
+impl<'a> CallResult<'a> {
+    ghost use Rattle.fluent_uri_c.specs.NormalForms.{normal_form_text};
+
+    /// Returns a normal form as the result of a call.
+    pub fn of_normal_form(form: NormalForm<'a>) -> CallResult<'a>
+        ensures { call_result_bytes result ≡ normal_form_text form.entry }
+    {
+        match form {
+            NormalForm::Unchanged(value) => CallResult::Part(value.as_str().as_bytes()),
+            NormalForm::Made(value) => CallResult::Text(value.into_string()),
+        }
+    }
 }
 
 /// A call on one text, which a batch makes for each text of a column. One that takes memory has the
@@ -45,7 +60,7 @@ pub trait Call {
 }
 
 /// Returns the bytes of a result of a batch, or no bytes if there is none.
-fn bytes_of<'a>(made: &'a Option<CallResult<'a>>) -> &'a [u8]
+pub fn bytes_of<'a>(made: &'a Option<CallResult<'a>>) -> &'a [u8]
     ensures { result.now ≡ bytes_of (option_map call_result_bytes made.now) }
 {
     match made {

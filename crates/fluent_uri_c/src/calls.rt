@@ -57,7 +57,10 @@ impl Call for Normalize {
 
     /// Returns the normal form of a text, if it is of the kind.
     fn call<'a>(&self, text: &'a [u8]) -> Result<Option<CallResult<'a>>, AllocError> {
-        batch_result(numbered::normal_form(self.alloc, self.kind, self.options, text))
+        match numbered::normal_form(self.alloc, self.kind, self.options, text) {
+            Ok(form) => Ok(Some(CallResult::of_normal_form(form))),
+            Err(why) => batch_result(Err(why)),
+        }
     }
 }
 
@@ -233,8 +236,8 @@ pub extern "C" fn fluent_uri_resolve_normalized_batch(
     outcome: &mut Outcome,
 ) -> u32
     ensures { LeavesColumn (resolving_normalized kind options base.now)
-        (column32 texts.now offsets.now) (buffers out.old out_offsets.old valid.old) (buffers out.new out_offsets.new valid.new)
-        outcome.new result }
+        (column32 texts.now offsets.now) (buffers out.old out_offsets.old valid.old)
+        (buffers out.new out_offsets.new valid.new) outcome.new result }
 {
     let call = ResolveNormalized {
         alloc,
@@ -335,8 +338,8 @@ pub extern "C" fn fluent_uri_resolve_normalized_batch64(
     outcome: &mut Outcome,
 ) -> u32
     ensures { LeavesColumn (resolving_normalized kind options base.now)
-        (column64 texts.now offsets.now) (buffers out.old out_offsets.old valid.old) (buffers out.new out_offsets.new valid.new)
-        outcome.new result }
+        (column64 texts.now offsets.now) (buffers out.old out_offsets.old valid.old)
+        (buffers out.new out_offsets.new valid.new) outcome.new result }
 {
     let call = ResolveNormalized {
         alloc,

@@ -1,15 +1,14 @@
 //! Percent-encoding and decoding (RFC 3986, section 2.1).
-ghost use Rattle.std.specs.Prelude.{◌≡◌, IfOk, IsFalse, IsTrue, Some, string_bytes};
+ghost use Rattle.std.specs.Prelude.{◌≡◌, IfOk, IsTrue, string_bytes};
 ghost use Rattle.std.specs.Result.{result_err};
 ghost use Rattle.fluent_uri.specs.Cows.{cow_items};
 ghost use Rattle.fluent_uri.specs.EncodedTexts.{text_of};
-ghost use Rattle.fluent_uri.specs.Tokens.{is_valid_for};
 ghost use Rattle.fluent_uri_c.specs.Results.{IsReturnedAs, component_error, decode_result};
 ghost use Rattle.fluent_uri_c.specs.Results.{decoded_result, encode_result, encoded_as_result};
-ghost use Rattle.fluent_uri_c.specs.Results.{is_possible_length};
 
 use crate::errors::{Error, Rejection};
-use crate::texts::{is_possible_length, utf8_text};
+use crate::rules::read_characters;
+use crate::texts::is_possible_length;
 use fluent_uri::pct_enc::encoder::{
     Data, Encoder, Fragment, IFragment, IPath, IQuery, IRegName, IUserinfo, Path, Query, RegName,
     Userinfo,
@@ -17,33 +16,13 @@ use fluent_uri::pct_enc::encoder::{
 use fluent_uri::pct_enc::{CowSlice, EStr, EString};
 use std::alloc::Global;
 
-/// Returns why a text is not valid for the encoder's set: the first character that the set does not
-/// have, or a `%` that two hexadecimal digits do not follow.
-fn invalid_component<E: Encoder>(text: &str) -> Rejection
-    requires encoded { IsTrue (E.set).pct_encoded }
-    requires possible { IsTrue (is_possible_length text.now) }
-    requires invalid { IsFalse (is_valid_for E.set text.now) }
-    ensures { component_error E.set text.now ≡ Some result }
-{
-    let end = E::table().scan(text, 0);
-    if text.as_bytes()[end] == b'%' {
-        Rejection::at(Error::InvalidPctEncodedOctet, end)
-    } else {
-        Rejection::at(Error::UnexpectedChar, end)
-    }
-}
-
 /// Returns bytes that C hands over as a component, if they are valid for the encoder's set.
 fn valid_component<'a, E: Encoder>(bytes: &'a [u8]) -> Result<EStr<'a, E>, Rejection>
-    requires { IsTrue (E.set).pct_encoded }
     ensures text { IfOk result (λ component. text_of component ≡ bytes.now) }
     ensures rejected { result_err result ≡ component_error E.set bytes.now }
 {
-    let text = utf8_text(bytes)?;
-    match EStr::<E>::new(text) {
-        Some(component) => Ok(component),
-        None => Err(invalid_component::<E>(text)),
-    }
+    let text = read_characters(&E::table(), bytes)?;
+    Ok(EStr::new_or_panic(text))
 }
 
 /// Decodes bytes that C hands over as a component that is valid for the encoder's set.

@@ -26,14 +26,16 @@ pub enum Error {
     PathStartsWithDoubleSlash,
     FirstPathSegmentContainsColon,
     MissingComponent,
+    NameNotUtf8,
+    InvalidName,
 }
 
 impl Error {
-    /// Returns the number of the error in the header, from 1 to 14.
+    /// Returns the number of the error in the header, from 1 to 16.
     pub fn number(self) -> u32
         ensures number { result ≡ number_of self }
         ensures error { result ≢ 0 }
-        ensures small { result ≤ 14 }
+        ensures small { result ≤ 16 }
     {
         match self {
             Error::InvalidPctEncodedOctet => 1,
@@ -50,6 +52,8 @@ impl Error {
             Error::PathStartsWithDoubleSlash => 12,
             Error::FirstPathSegmentContainsColon => 13,
             Error::MissingComponent => 14,
+            Error::NameNotUtf8 => 15,
+            Error::InvalidName => 16,
         }
     }
 }

@@ -4,6 +4,7 @@
 
 mod about;
 mod ascii;
+mod ascii_hosts;
 mod bases;
 mod batch;
 mod building;
@@ -14,10 +15,13 @@ mod columns;
 mod component_mending;
 mod components;
 mod errors;
+mod fnv;
 mod hosts;
 mod lines;
 mod mending;
+mod normal_forms;
 mod numbered;
+mod order;
 mod origins;
 mod outcome;
 mod parsing;

@@ -1,15 +1,16 @@
 //! The batch over lines.
 ghost use Rattle.std.specs.Prelude.{◌≡◌, ◌+◌, ◌<◌, ◌≤◌, ◌++◌, [], ◌∷◌, length, drop, take};
-ghost use Rattle.std.specs.Prelude.{IfErr, IfOk, IsOk, OnErr, OnOk, string_bytes};
+ghost use Rattle.std.specs.Prelude.{IfErr, IfOk, IsOk, OnErr, OnOk, option_map};
 ghost use Rattle.std.specs.List.{position, position_or_len};
 ghost use Rattle.std.specs.Result.{result_ok};
-ghost use Rattle.fluent_uri_c.specs.Columns.{bytes_of};
+ghost use Rattle.fluent_uri_c.specs.Columns.{call_result_bytes};
 ghost use Rattle.fluent_uri_c.specs.Lines.{LeavesLines, is_newline, line_buffers, newline};
 ghost use Rattle.fluent_uri_c.specs.Lines.{number_returned};
 ghost use Rattle.fluent_uri_c.specs.Full.{as_size};
 ghost use Rattle.fluent_uri_c.specs.Outcomes.{outcome_of_batch};
 ghost use Rattle.fluent_uri_c.specs.Results.{normalize_result};
 
+use crate::batch::{CallResult, bytes_of};
 use crate::errors::Error;
 use crate::numbered;
 use crate::outcome::{Full, Outcome, report_progress};
@@ -97,31 +98,36 @@ fn report_lines(
     error
 }
 
-/// A line in normal form, which is empty where the text is rejected, and the number of its error.
+/// The normal form of a line, if the text is not rejected, and the number of its error.
 #[derive(Drop)]
-struct Line {
-    text: String,
+struct Line<'a> {
+    form: Option<CallResult<'a>>,
     number: u8,
 }
 
-/// Returns what a batch writes for a line: the normal form if it is a text of the kind, or an empty
-/// text and the number of the error.
-fn normal_line(alloc: Global, kind: u32, options: u32, text: &[u8]) -> Result<Line, AllocError>
-    ensures text { IfOk result (λ line. string_bytes line.text
-        ≡ bytes_of (result_ok (normalize_result kind options text.now))) }
+/// Returns what a batch writes for a line: the normal form if it is a text of the kind, or none and
+/// the number of the error.
+fn normal_line<'a>(
+    alloc: Global,
+    kind: u32,
+    options: u32,
+    text: &'a [u8],
+) -> Result<Line<'a>, AllocError>
+    ensures text { IfOk result (λ line. option_map call_result_bytes line.form
+        ≡ result_ok (normalize_result kind options text.now)) }
     ensures number { IfOk result (λ line. line.number
         ≡ number_returned (normalize_result kind options text.now)) }
     ensures memory { IfErr result (λ _. IsOk (normalize_result kind options text.now)) }
 {
     match numbered::normal_form(alloc, kind, options, text) {
-        Ok(value) => Ok(Line {
-            text: value.into_string(),
+        Ok(form) => Ok(Line {
+            form: Some(CallResult::of_normal_form(form)),
             number: 0,
         }),
         Err(why) => match why.error {
             Error::OutOfMemory => Err(AllocError),
             error => Ok(Line {
-                text: String::new(alloc),
+                form: None,
                 number: error.number() as u8,
             }),
         },
@@ -153,7 +159,7 @@ pub extern "C" fn fluent_uri_normalize_lines(
         let Ok(line) = normal_line(alloc, kind, options, &lines[start..end]) else {
             return report_lines(8, NOT_FULL, index, at, start, outcome);
         };
-        let next = match push_line(line.text.as_bytes(), at, out) {
+        let next = match push_line(bytes_of(&line.form), at, out) {
             Ok(next) => next,
             Err(needed) => {
                 let full = Full { buffer: 0, needed };

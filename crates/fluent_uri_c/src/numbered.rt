@@ -6,6 +6,7 @@ ghost use Rattle.uri_mend.specs.Mended.{IsMended};
 ghost use Rattle.uri_mend.specs.Trimming.{trimmed_link};
 ghost use Rattle.fluent_uri_c.specs.Kinds.{base_numbered, kind_numbered};
 ghost use Rattle.fluent_uri_c.specs.Mends.{mend_link_result, mend_link_takes_memory, mend_result};
+ghost use Rattle.fluent_uri_c.specs.NormalForms.{normal_form_text};
 ghost use Rattle.fluent_uri_c.specs.Options.{basic_choice, path_preference, rules_choice};
 ghost use Rattle.fluent_uri_c.specs.Relatives.{IsReferenceToTarget, relativize_result};
 ghost use Rattle.fluent_uri_c.specs.Results.{IsReturnedAs, IsReturnedOrDenied, IsTargetReturned};
@@ -14,6 +15,7 @@ ghost use Rattle.fluent_uri_c.specs.Results.{resolve_normalized_result, resolve_
 ghost use Rattle.fluent_uri_c.specs.Results.{to_uri_result};
 
 use crate::errors::{Error, Rejection};
+use crate::normal_forms::{self, NormalForm};
 use crate::texts;
 use fluent_uri::IriRef;
 use std::alloc::Global;
@@ -36,22 +38,22 @@ pub fn rule_setting(options: u32) -> Option<RuleSetting>
 
 /// Returns the normal form of a text of the kind with this number of the header, by options of the
 /// header.
-pub fn normal_form(
+pub fn normal_form<'a>(
     alloc: Global,
     kind: u32,
     options: u32,
-    text: &[u8],
-) -> Result<IriRef<String>, Rejection>
-    ensures { IsReturnedAs reference_text (normalize_result kind options text.now) result }
+    text: &'a [u8],
+) -> Result<NormalForm<'a>, Rejection>
+    ensures { IsReturnedAs normal_form_text (normalize_result kind options text.now) result }
 {
     let Some(setting) = rule_setting(options) else {
         return Err(Rejection::of(Error::InvalidArgument));
     };
     match kind {
-        0 => Ok(IriRef::from(texts::normal_form::<UriKind>(alloc, text, setting)?)),
-        1 => Ok(IriRef::from(texts::normal_form::<UriRefKind>(alloc, text, setting)?)),
-        2 => Ok(IriRef::from(texts::normal_form::<IriKind>(alloc, text, setting)?)),
-        3 => texts::normal_form::<IriRefKind>(alloc, text, setting),
+        0 => normal_forms::normal_form::<UriKind>(alloc, text, setting),
+        1 => normal_forms::normal_form::<UriRefKind>(alloc, text, setting),
+        2 => normal_forms::normal_form::<IriKind>(alloc, text, setting),
+        3 => normal_forms::normal_form::<IriRefKind>(alloc, text, setting),
         _ => Err(Rejection::of(Error::InvalidArgument)),
     }
 }

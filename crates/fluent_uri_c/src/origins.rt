@@ -11,8 +11,8 @@ ghost use Rattle.fluent_uri_c.specs.Outcomes.{LeavesText};
 ghost use Rattle.fluent_uri_c.specs.Results.{IsReturnedAs};
 
 use crate::errors::{Error, Rejection};
+use crate::normal_forms::normal_form;
 use crate::outcome::{Outcome, put_or_report};
-use crate::texts::normal_form;
 use fluent_uri::Reference;
 use fluent_uri::component::{Authority, Scheme};
 use fluent_uri::pct_enc::Encoder;

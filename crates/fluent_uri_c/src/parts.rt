@@ -118,7 +118,7 @@ fn host_kind<K: Kind>(value: &Reference<K, &str>) -> u32
 }
 
 /// Returns the span, for C, of the scheme of a text with these positions.
-fn scheme(text: &str, at: Positions) -> Span
+pub fn scheme(text: &str, at: Positions) -> Span
     requires { ArePositionsOf text.now at }
     ensures { IsSpan text.now 0 (components text.now).scheme result }
 {
@@ -165,7 +165,7 @@ fn userinfo<K: Kind>(text: &str, at: Positions) -> Span
 }
 
 /// Returns the span, for C, of the host of a text with these positions.
-fn host<K: Kind>(text: &str, at: Positions) -> Span
+pub fn host<K: Kind>(text: &str, at: Positions) -> Span
     requires at { ArePositionsOf text.now at }
     requires of_kind { IsOfKind K.kind text.now }
     ensures { IsSpan text.now (host_start text.now)
@@ -181,7 +181,7 @@ fn host<K: Kind>(text: &str, at: Positions) -> Span
 }
 
 /// Returns the span, for C, of the port of a text with these positions.
-fn port<K: Kind>(text: &str, at: Positions) -> Span
+pub fn port<K: Kind>(text: &str, at: Positions) -> Span
     requires at { ArePositionsOf text.now at }
     requires of_kind { IsOfKind K.kind text.now }
     ensures { IsSpan text.now (port_start text.now)

@@ -60,7 +60,7 @@ fn is_stray_percent(table: &Table, bytes: &[u8], end: usize) -> bool
 }
 
 /// Returns bytes as a text that has characters and percent-encoded octets of the table alone.
-fn read_characters<'a>(table: &Table, bytes: &'a [u8]) -> Result<&'a str, Rejection>
+pub fn read_characters<'a>(table: &Table, bytes: &'a [u8]) -> Result<&'a str, Rejection>
     requires { LacksPercent (set_of table.now) }
     ensures text { IfOk result (λ text. text.now ≡ bytes.now) }
     ensures valid { IfOk result (λ _. is_text_for (set_of table.now) bytes.now ≡ true) }

@@ -8,7 +8,9 @@ ghost use Rattle.fluent_uri_c.specs.Results.{takes_memory_for_target, to_uri_res
 ghost use Rattle.fluent_uri_c.specs.Spans.{ArePartsOf};
 ghost use Rattle.fluent_uri_c.specs.Values.{LeavesValue, LeavesValueOrDenied};
 
-use crate::outcome::{Outcome, put, put_or_report, put_value_or_report, report};
+use crate::outcome::{
+    Outcome, put, put_normal_form_or_report, put_or_report, put_value_or_report, report,
+};
 use crate::parts::{Parts, parse};
 use crate::{codes, numbered};
 use std::alloc::Global;
@@ -38,7 +40,7 @@ pub extern "C" fn fluent_uri_normalize(
     ensures { LeavesValue (normalize_result kind options text.now) out.old out.new parts.old parts.new
         outcome.new result }
 {
-    put_value_or_report(
+    put_normal_form_or_report(
         numbered::normal_form(alloc, kind, options, text),
         out,
         parts,

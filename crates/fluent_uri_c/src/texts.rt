@@ -10,7 +10,6 @@ ghost use Rattle.fluent_uri_c.specs.Mends.{takes_memory_for_link};
 ghost use Rattle.fluent_uri_c.specs.Relatives.{IsReferenceToTarget, reference_from};
 ghost use Rattle.fluent_uri_c.specs.Results.{IsReturnedAs, IsReturnedOrDenied, IsTargetReturned};
 ghost use Rattle.fluent_uri_c.specs.Results.{basic_resolution, encoded_result, resolution_by};
-ghost use Rattle.fluent_uri_c.specs.Results.{normal_result};
 ghost use Rattle.fluent_uri_c.specs.Results.{normal_target_from, rejection_or_result};
 ghost use Rattle.fluent_uri_c.specs.Results.{target_from, text_error};
 ghost use Rattle.fluent_uri_c.specs.Results.{IsPossibleText, IsPossibleUtf8, is_possible_length};
@@ -73,18 +72,6 @@ pub fn parsed<'a, K: Kind>(bytes: &'a [u8]) -> Result<Reference<K, &'a str>, Rej
         Ok(positions) => Ok(Reference::of_core(Core::new(text, positions))),
         Err(error) => Err(Rejection::from(error)),
     }
-}
-
-/// Returns the normal form of bytes that are a text of the kind.
-pub fn normal_form<K: Kind>(
-    alloc: Global,
-    bytes: &[u8],
-    setting: RuleSetting,
-) -> Result<Reference<K, String>, Rejection>
-    ensures { IsReturnedAs reference_text
-        (normal_result setting.scheme_rules K.kind bytes.now) result }
-{
-    Ok(setting.normalize(alloc, &parsed::<K>(bytes)?)?)
 }
 
 /// Returns bytes that are an IRI as a URI.

@@ -1,8 +1,7 @@
 use Rattle.std.proofs.Common.{◌+◌, ◌<◌, ◌∙◌, ap, length, rules, below_more}
 use Rattle.std.specs.Prelude.{is_some, option_and_then}
 use Rattle.fluent_uri_c.specs.Columns.{buffers, bytes_of, column_of, call_result_bytes}
-use Rattle.fluent_uri_c.specs.Columns.{number_of_bool}
-use Rattle.fluent_uri_c.specs.Columns.{result_in, text_in}
+use Rattle.fluent_uri_c.specs.Columns.{number_of_bool, result_in, text_in}
 use Rattle.fluent_uri_c.proofs.Batches.{IsColumn-of-one-more-result, end-of-one-more-result}
 use Rattle.fluent_uri_c.proofs.Batches.{is_some_mapped, equal-to-Some-is-some}
 use Rattle.fluent_uri_c.proofs.batch.fill.Goals as goal

@@ -6,7 +6,7 @@ use Rattle.fluent_uri_c.specs.Outcomes.{outcome_of_batch}
 use Rattle.fluent_uri_c.specs.Columns.{bytes_of, joined_results}
 use Rattle.fluent_uri_c.specs.Lines.{line_buffers, newline, error_number_at, written_at}
 use Rattle.fluent_uri_c.proofs.Batches.{buffer-of-one-more-result, end-of-one-more-result}
-use Rattle.fluent_uri_c.proofs.Batches.{items-up-to-set-item, later-items-unchanged}
+use Rattle.fluent_uri_c.proofs.Batches.{holds-up-to-set-item, later-items-unchanged}
 use Rattle.fluent_uri_c.proofs.LinesOf.{IsLine-from-position}
 use Rattle.fluent_uri_c.proofs.WrittenLines.{leaves_lines, error_number_at-of-line}
 use Rattle.fluent_uri_c.proofs.WrittenLines.{consumed-after-last-line, consumed-before-line}
@@ -34,10 +34,10 @@ returns-in-Err c =
     let line = IsLine-from-position c.args.lines.now n c.loop-index.start c.line_end-end.result
     before.0 before.1
     c.line_end-end.ensures.end in
-    let bytes = written_at-of-line c.args.kind c.args.options c.args.lines.now _ c.as_bytes.result.now n
-    (c.as_bytes.ensures.value ∙ c.in-Ok.ensures.text) line.here in
+    let bytes = written_at-of-line c.args.kind c.args.options c.args.lines.now _ c.bytes_of.result.now n
+    (c.bytes_of.ensures ∙ ap bytes_of c.in-Ok.ensures.text) line.here in
     let long : length (joined_results at (suc n))
-    ≡ c.loop-index.at + length (c.as_bytes.result.now ++ newline ∷ []) =
+    ≡ c.loop-index.at + length (c.bytes_of.result.now ++ newline ∷ []) =
     length-append (joined_results at n) (bytes_of (at n))
     ∙ ap (λ k. k + length (bytes_of (at n))) (sym before.3)
     ∙ ap (λ l. c.loop-index.at + length l) (sym bytes) in
@@ -68,8 +68,8 @@ returns-then-end-lines c =
     let line = IsLine-from-position c.args.lines.now n c.loop-index.start c.line_end-end.result
     before.0 before.1
     c.line_end-end.ensures.end in
-    let bytes = written_at-of-line c.args.kind c.args.options c.args.lines.now _ c.as_bytes.result.now n
-    (c.as_bytes.ensures.value ∙ c.in-Ok.ensures.text) line.here in
+    let bytes = written_at-of-line c.args.kind c.args.options c.args.lines.now _ c.bytes_of.result.now n
+    (c.bytes_of.ensures ∙ ap bytes_of c.in-Ok.ensures.text) line.here in
     let number = error_number_at-of-line c.args.kind c.args.options c.args.lines.now _ n c.in-Ok.line.number
     c.in-Ok.ensures.number line.here in
     let inside : n < length c.loop-index.errors = search rules in
@@ -79,7 +79,8 @@ returns-then-end-lines c =
     c.report_lines-then-end-lines.ensures.outcome (λ _. (refl, refl))
     (buffer-of-one-more-result at n _ _ before.3 bytes _ _ _ before.2 c.in-Ok-push_line.ensures.written)
     (end-of-one-more-result at n _ _ before.3 bytes _ c.in-Ok-push_line.ensures.end)
-    (items-up-to-set-item (error_number_at c.args.kind c.args.options c.args.lines.now) c.loop-index.errors n
+    (holds-up-to-set-item
+    (λ i o. o ≡ error_number_at c.args.kind c.args.options c.args.lines.now i) c.loop-index.errors n
     c.in-Ok.line.number inside number before.5)
     (later-items-unchanged c.args.errors.now c.loop-index.errors n c.in-Ok.line.number before.6)
     (inl (refl, sym (line.last (omega arith))))
@@ -93,8 +94,8 @@ loop-index-preserved c =
     let line = IsLine-from-position c.args.lines.now n c.loop-index.start c.line_end-end.result
     before.0 before.1
     c.line_end-end.ensures.end in
-    let bytes = written_at-of-line c.args.kind c.args.options c.args.lines.now _ c.as_bytes.result.now n
-    (c.as_bytes.ensures.value ∙ c.in-Ok.ensures.text) line.here in
+    let bytes = written_at-of-line c.args.kind c.args.options c.args.lines.now _ c.bytes_of.result.now n
+    (c.bytes_of.ensures ∙ ap bytes_of c.in-Ok.ensures.text) line.here in
     let number = error_number_at-of-line c.args.kind c.args.options c.args.lines.now _ n c.in-Ok.line.number
     c.in-Ok.ensures.number line.here in
     let inside : n < length c.loop-index.errors = search rules in
@@ -105,8 +106,9 @@ loop-index-preserved c =
       buffer-of-one-more-result at n _ _ before.3 bytes _ _ _ before.2 c.in-Ok-push_line.ensures.written,
       end-of-one-more-result at n _ _ before.3 bytes _ c.in-Ok-push_line.ensures.end,
       c.in-Ok-push_line.ensures.inside,
-      items-up-to-set-item (error_number_at c.args.kind c.args.options c.args.lines.now) c.loop-index.errors n
-          c.in-Ok.line.number inside number before.5,
+      holds-up-to-set-item
+          (λ i o. o ≡ error_number_at c.args.kind c.args.options c.args.lines.now i)
+          c.loop-index.errors n c.in-Ok.line.number inside number before.5,
       later-items-unchanged c.args.errors.now c.loop-index.errors n c.in-Ok.line.number before.6,
     )
 

@@ -1,8 +1,9 @@
 use Rattle.std.proofs.Common.{◌<◌, length, rules}
-use Rattle.fluent_uri_c.specs.Columns.{column_of}
+use Rattle.std.specs.Prelude.{IsSomeAnd}
+use Rattle.fluent_uri_c.specs.Columns.{column_of, text_in}
 use Rattle.fluent_uri_c.specs.Kinds.{kind_numbered}
-use Rattle.fluent_uri_c.proofs.Batches.{later-items-unchanged}
-use Rattle.fluent_uri_c.proofs.PartColumns.{parts-of-one-more-text}
+use Rattle.fluent_uri_c.specs.Spans.{ArePartsOf}
+use Rattle.fluent_uri_c.proofs.Batches.{holds-up-to-set-item, later-items-unchanged}
 use Rattle.fluent_uri_c.proofs.parsing.parse_column.Goals as goal
 
 pub loop-index-preserved : goal.loop-index-preserved
@@ -11,8 +12,8 @@ loop-index-preserved g c =
     let before = c.loop-index.invariant in
     let column = column_of g.O.Offset.value g.O.Offset.limit c.args.texts.now c.args.offsets.now in
     let inside : n < length c.loop-index.parts = search rules in (
-      parts-of-one-more-text (kind_numbered c.args.kind) column c.loop-index.parts n _
-          c.parse.new.parts
-          c.in-Some.ensures c.parse.ensures inside before.0,
+      holds-up-to-set-item (λ i o. IsSomeAnd (text_in column i)
+          (λ text. IsSomeAnd o (ArePartsOf (kind_numbered c.args.kind) text))) c.loop-index.parts n
+          c.parse.new.parts inside (rw (← c.in-Some.ensures) c.parse.ensures) before.0,
       later-items-unchanged c.args.parts.now c.loop-index.parts n c.parse.new.parts before.1,
     )

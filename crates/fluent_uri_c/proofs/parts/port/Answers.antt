@@ -1,4 +1,3 @@
-use Rattle.uri_parts.proofs.Splitting.ComponentPositions.{authority_is_at_positions}
 use Rattle.fluent_uri_c.proofs.Places.{IsSpan-of-equal-span, port-span-if-absent}
 use Rattle.fluent_uri_c.proofs.Places.{port-span-if-present}
 use Rattle.fluent_uri_c.proofs.parts.port.Goals as goal
@@ -6,13 +5,10 @@ use Rattle.fluent_uri_c.proofs.parts.port.Goals as goal
 pub returns-then-inside : goal.returns-then-inside
 returns-then-inside g c =
     port-span-if-present g.K.Kind.kind c.args.text.now c.args.at c.in-Some.inside c.requires.at
-    c.requires.of_kind c.in-Some.is (authority_is_at_positions c.args.text.now c.args.at c.utf8.text
-    c.requires.at c.in-Some.inside c.in-Some.is) c.if-inside.true
+    c.requires.of_kind c.utf8.text c.in-Some.is c.if-inside.true
 
 pub returns-else-inside : goal.returns-else-inside
 returns-else-inside g c =
     IsSpan-of-equal-span _ _ _ _ c.absent.ensures
-    (port-span-if-absent g.K.Kind.kind c.args.text.now c.args.at
-    c.in-Some.inside c.requires.at c.requires.of_kind c.in-Some.is (authority_is_at_positions
-    c.args.text.now c.args.at c.utf8.text c.requires.at c.in-Some.inside c.in-Some.is)
-    c.if-inside.false)
+    (port-span-if-absent g.K.Kind.kind c.args.text.now c.args.at c.in-Some.inside c.requires.at
+    c.requires.of_kind c.utf8.text c.in-Some.is c.if-inside.false)

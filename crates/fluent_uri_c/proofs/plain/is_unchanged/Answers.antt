@@ -6,20 +6,17 @@ use Rattle.fluent_uri_c.proofs.PlainTexts.{component-past-text-is-absent}
 use Rattle.fluent_uri_c.proofs.PlainTexts.{scheme-in-lower-case-is-normal}
 use Rattle.fluent_uri_c.proofs.plain.is_unchanged.Goals as goal
 
-pub returns : goal.returns
-returns c = λ e spans.
+pub returns-clause-components : goal.returns-clause-components
+returns-clause-components c = λ e scheme host port.
     let text = c.args.text.now in
-    let parts = c.args.parts.now in
     let p : Components = components text in
-    let plain = c.is_plain.ensures c.if-not-is_plain.false in (
-      plain,
-      record {
-        scheme = scheme-in-lower-case-is-normal p.scheme
-            (c.is_scheme_lower.ensures c.if-not-is_scheme_lower.false p.scheme spans.scheme);
-        authority = authority-without-port-is-plain p.authority
-            (c.is_host_plain.ensures e (host_start text) (host_of p.authority) spans.host)
-            (component-past-text-is-absent text (port_start text) (port_of p.authority) parts.port
-            spans.port c.if-parts-text.false);
-        path = plain-path-is-unchanged c.args.past_ascii text plain;
-      },
-    )
+    record {
+      scheme = scheme-in-lower-case-is-normal p.scheme
+          (c.is_scheme_lower.ensures c.if-not-is_scheme_lower.false p.scheme scheme);
+      authority = authority-without-port-is-plain p.authority
+          (c.is_host_plain.ensures e (host_start text) (host_of p.authority) host)
+          (component-past-text-is-absent text (port_start text) (port_of p.authority) c.args.port
+          port c.if-port-text.false);
+      path = plain-path-is-unchanged c.args.past_ascii text
+          (c.is_plain.ensures c.if-not-is_plain.false);
+    }

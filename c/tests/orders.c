@@ -1,0 +1,78 @@
+/* Texts as keys of a table: their order, their hashes, and which are normal. */
+#include "laws.h"
+#include "test.h"
+
+#include "../../databases/random_texts.h"
+
+static int order(uint32_t kind, const char *one, const char *other) {
+    return (int)fluent_uri_compare(kind, TEXT(one), TEXT(other)) - 1;
+}
+
+static uint64_t hash(uint32_t kind, uint64_t seed, const char *text) {
+    uint64_t found = 7;
+    CHECK(fluent_uri_hash(kind, seed, TEXT(text), &found) <= 1);
+    return found;
+}
+
+static void orders_texts(void) {
+    /* Each is one key with itself, and before those after it. */
+    static const char *const in_order[] = {"a:", "http://a/%7B", "http://a/b", "HTTP://A:80/b/%2e",
+        "http://b", "http://b:8080", "urn:a", "", "%", "//a", "a b", "\xff"};
+    static const int count = sizeof in_order / sizeof *in_order;
+    for (int i = 0; i < count; i++)
+        for (int j = 0; j < count; j++)
+            CHECK(order(FLUENT_URI_URI, in_order[i], in_order[j]) == (i > j) - (i < j));
+    CHECK(order(FLUENT_URI_URI, "HTTP://EXAMPLE.com:80/%7Ea/../b", "http://example.com/b") == 0);
+    CHECK(order(FLUENT_URI_IRI, "http://\xc3\xa9/", "http://%C3%A9/") == 0);
+    CHECK(order(FLUENT_URI_URI_REF, "//[::0:1]", "//[0::1]:") == 0);
+    CHECK(order(FLUENT_URI_URI, "http://a/b%2Fc", "http://a/b/c") != 0);
+    CHECK(order(FLUENT_URI_IRI, "//a", "//a") == 0 && order(FLUENT_URI_IRI, "//a", "//A") > 0);
+    /* A kind that is unknown has no texts. */
+    CHECK(order(4, "http://a", "HTTP://a") > 0 && order(4, "a", "a") == 0);
+}
+
+static void hashes_texts(void) {
+    /* The published hash of `foobar`, and one step more, for 255. */
+    CHECK(hash(4, 0, "raboof") == (0x85944171f73967e8 ^ 255) * 1099511628211);
+    CHECK(hash(4, 0, "") == (0xcbf29ce484222325 ^ 255) * 1099511628211);
+    CHECK(hash(FLUENT_URI_URI, 0, "raboof") == hash(4, 0, "raboof"));
+    CHECK(hash(FLUENT_URI_URI, 5, "HTTP://a:80/%7E") == hash(4, 5, "http://a/~"));
+    CHECK(hash(FLUENT_URI_URI, 5, "http://a") != hash(FLUENT_URI_URI, 6, "http://a"));
+    uint64_t found;
+    CHECK(fluent_uri_hash(FLUENT_URI_URI, 0, TEXT("http://a"), &found) == 1);
+    CHECK(fluent_uri_hash(FLUENT_URI_URI, 0, TEXT("//a"), &found) == 0);
+}
+
+static void finds_what_is_normal(void) {
+    static const char *const normal[] = {"http://a:8080/~", "http://[::1]/", "a:/b/%2F", "x:a/./b"};
+    static const char *const others[] = {"http://a:80", "http://A/", "http://a/%7e", "http://a:/",
+        "http://[::0:1]/", "a:/b/./", "A:", "a:%2f", "//a", "a b", ""};
+    for (size_t i = 0; i < sizeof normal / sizeof *normal; i++)
+        CHECK(fluent_uri_is_normal(FLUENT_URI_URI, TEXT(normal[i])) == 1);
+    for (size_t i = 0; i < sizeof others / sizeof *others; i++)
+        CHECK(fluent_uri_is_normal(FLUENT_URI_URI, TEXT(others[i])) == 0);
+    CHECK(fluent_uri_is_normal(4, TEXT("a:")) == 0);
+}
+
+/* Random texts: any two are in the order that normalising both gives, and any three in an order. */
+static void keeps_laws(long rounds) {
+    enum { TEXTS = 16, ROOM = 1024 };
+    static uint8_t texts[TEXTS][ROOM];
+    size_t lens[TEXTS] = {0};
+    seed_dice(1);
+    for (long round = 0; round < rounds; round++) {
+        int a = (int)(round % TEXTS), b = (int)dice(TEXTS), c = (int)dice(TEXTS);
+        uint32_t kind = dice(5);
+        lens[a] = random_text(texts[a], ROOM, 0);
+        CHECK(is_order_of_normal_forms(kind, texts[a], lens[a], texts[b], lens[b]));
+        CHECK(are_in_order(kind, texts[a], lens[a], texts[b], lens[b], texts[c], lens[c]));
+    }
+}
+
+int main(int count, char **words) {
+    orders_texts();
+    hashes_texts();
+    finds_what_is_normal();
+    keeps_laws(count > 1 ? atol(words[1]) : 100000);
+    return ended("orders");
+}

@@ -1,0 +1,122 @@
+-- Exports for C: the order of keys of tables, which are normal forms.
+use Rattle.std.proofs.Common.{◌≡◌, ◌↔◌, ◌⊎◌, inl, inr, ℕ, Bool, true, false, List, [], ◌∷◌, ◌++◌}
+use Rattle.std.proofs.Common.{refl, sym, ap, ◌∙◌, Option, Some, None, Ok, Ordering}
+use Rattle.std.proofs.Common.{Equal, reverse}
+use Rattle.std.proofs.lemmas.Map.Text.{is_eq-slice_cmp}
+use Rattle.std.proofs.lemmas.Slice.Eq.{bytes_eq-Decides}
+use Rattle.std.specs.Cmp.{Equal-is}
+use Rattle.std.specs.Hash as fed
+use Rattle.std.specs.List.{flat_map, fold}
+use Rattle.std.specs.Option.{unwrap_or}
+use Rattle.std.specs.Result.{result_ok}
+use Rattle.uri_parts.specs.Grammar.{Kind}
+use Rattle.uri_parts.specs.SchemePorts.{default_port}
+use Rattle.uri_ops.specs.Normal.{normal_text}
+use Rattle.uri_rules.proofs.RuledMeanings.{meaning-under-ports-alone}
+use Rattle.uri_order.specs.HashedTexts.{hashed_text}
+use Rattle.uri_order.specs.NormalForms.{normal_form}
+use Rattle.fluent_uri_c.specs.declared.fnv.Fnv.{Fnv}
+use Rattle.fluent_uri_c.specs.Fnv.{fnv_bytes, fnv_write}
+use Rattle.fluent_uri_c.specs.Orders.{AreOneKey, byte_order, key_order, normal_key}
+use Rattle.fluent_uri_c.specs.Orders.{order_of_keys}
+use Rattle.fluent_uri_c.specs.Results.{normal_form_of, normal_result, rejection_or_result, text_error}
+
+-- exports for C: normalising a text of the kind by default ports returns the normal form of the
+-- order
+normal_result-of-text : (kind : Kind) (bytes text : List ℕ) → None ≡ text_error kind bytes
+    → text ≡ bytes → normal_result false kind bytes ≡ Ok (normal_form kind default_port text)
+unfolding normal_form_of
+normal_result-of-text kind bytes text none same =
+    ap (λ o. rejection_or_result o (Ok (normal_form_of false kind bytes))) (sym none)
+    ∙ ap (λ m. Ok (normal_text m)) (meaning-under-ports-alone kind default_port bytes)
+    ∙ ap (λ t. Ok (normal_form kind default_port t)) (sym same)
+
+-- exports for C: two keys in order
+keys-in-order : (one other one_key other_key : Option (List ℕ)) (order : Ordering)
+    → one ≡ one_key → other ≡ other_key
+    → order_of_keys one_key other_key order ≡ order_of_keys one other order
+keys-in-order one other one_key other_key order e f =
+    ap (λ key. order_of_keys key other_key order) (sym e)
+    ∙ ap (λ key. order_of_keys one key order) (sym f)
+
+-- exports for C: the order of two texts of the kind is that of their normal forms
+pub order-of-two-texts : (kind : Kind) (one other first second : List ℕ) (order : Ordering)
+    → None ≡ text_error kind one → first ≡ one → None ≡ text_error kind other → second ≡ other
+    → byte_order (normal_form kind default_port first) (normal_form kind default_port second)
+    ≡ order_of_keys (result_ok (normal_result false kind one))
+    (result_ok (normal_result false kind other)) order
+order-of-two-texts kind one other first second order none same no_other same_other =
+    keys-in-order _ _ _ _ order (ap result_ok (normal_result-of-text kind one first none same))
+    (ap result_ok (normal_result-of-text kind other second no_other same_other))
+
+-- exports for C: bytes are equal in their order exactly if they are the same
+same-bytes-are-equal-in-order : (one other : List ℕ)
+    → (byte_order one other ≡ Equal) ↔ (one ≡ other)
+same-bytes-are-equal-in-order one other =
+    let test = is_eq-slice_cmp one other in
+    let same = bytes_eq-Decides one other in
+    let equal = Equal-is (byte_order one other) in
+    (λ e. same.0 (sym test ∙ equal.1 e), λ e. equal.0 (test ∙ same.1 e))
+
+-- exports for C: two texts with normal forms are one key exactly if these are equal
+same-keys : (one other : Option (List ℕ)) (raw raw_other : List ℕ) → (order_of_keys one other
+    (byte_order raw raw_other) ≡ Equal) ↔ (((normal : List ℕ) × ((one ≡ Some normal)
+    × (other ≡ Some normal))) ⊎ ((one ≡ None) × ((other ≡ None) × (raw ≡ raw_other))))
+same-keys (Some one) (Some other) raw raw_other =
+    let equal = same-bytes-are-equal-in-order one other in (
+      λ e. inl (other, (ap Some (equal.0 e), refl)),
+      λ h. elim h [
+        | inl w ↦ equal.1 (let same : one ≡ other = cc in same)
+        | inr w ↦ absurd (let no : ⊥ = cc in no)
+      ],
+    )
+same-keys (Some one) None raw raw_other = (
+  λ e. cc,
+  λ h. elim h [ inl w ↦ cc | inr w ↦ cc ],
+)
+same-keys None (Some other) raw raw_other = (
+  λ e. cc,
+  λ h. elim h [ inl w ↦ cc | inr w ↦ cc ],
+)
+same-keys None None raw raw_other =
+    let equal = same-bytes-are-equal-in-order raw raw_other in (
+      λ e. inr (refl, (refl, equal.0 e)),
+      λ h. elim h [ inl w ↦ cc | inr w ↦ equal.1 w.1.1 ],
+    )
+
+-- exports for C: keys are in order as one key exactly if they are one
+pub equal-keys-are-one : (kind : ℕ) (one other : List ℕ) (order : Ordering)
+    → order ≡ key_order kind one other → (order ≡ Equal) ↔ AreOneKey kind one other
+equal-keys-are-one kind one other order e =
+    let same = same-keys (normal_key kind one) (normal_key kind other) one other in
+    (λ equal. same.0 (sym e ∙ equal), λ h. e ∙ same.1 h)
+
+-- exports for C: a text of the kind is its own normal form exactly if normalising returns it
+pub own-normal-result : (kind : Kind) (bytes text : List ℕ) (is_normal : Bool)
+    → None ≡ text_error kind bytes → text ≡ bytes
+    → (is_normal ≡ true) ↔ (normal_form kind default_port text ≡ text)
+    → (is_normal ≡ true) ↔ (normal_result false kind bytes ≡ Ok bytes)
+own-normal-result kind bytes text is_normal none same h =
+    let made = normal_result-of-text kind bytes text none same in (
+      λ e. made ∙ ap Ok (h.0 e ∙ same),
+      λ e. h.1 (let own : normal_form kind default_port text ≡ bytes = cc in own ∙ sym same),
+    )
+
+-- exports for C: a hasher that is given the bytes one by one, and then 255, has their hash
+hasher-of-bytes : (hasher : Fnv) (bytes : List ℕ)
+    → (fold fnv_write hasher (flat_map fed.u8 bytes ++ fed.u8 255)).state
+    ≡ fnv_bytes hasher.state (bytes ++ 255 ∷ [])
+hasher-of-bytes hasher [] = refl
+hasher-of-bytes hasher (b ∷ bytes) = hasher-of-bytes (fnv_write hasher (b ∷ [])) bytes
+
+-- exports for C: the hash of a text of the kind is that of its normal form
+pub hash-of-text : (kind : Kind) (bytes text : List ℕ) (old new : Fnv)
+    → None ≡ text_error kind bytes → text ≡ bytes
+    → new ≡ fold fnv_write old (hashed_text (normal_form kind default_port text))
+    → new.state ≡ fnv_bytes old.state
+    (reverse (unwrap_or (result_ok (normal_result false kind bytes)) bytes) ++ 255 ∷ [])
+hash-of-text kind bytes text old new none same e =
+    ap (λ hasher. hasher.state) e
+    ∙ hasher-of-bytes old (reverse (normal_form kind default_port text))
+    ∙ ap (λ r. fnv_bytes old.state (reverse (unwrap_or (result_ok r) bytes) ++ 255 ∷ []))
+    (sym (normal_result-of-text kind bytes text none same))

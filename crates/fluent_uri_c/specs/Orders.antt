@@ -1,0 +1,58 @@
+-- The order of texts by their normal forms, and the hash of these: for tables and indexes.
+use Rattle.std.specs.Prelude.{◌≡◌, ◌⊎◌, ℕ, List, [], ◌∷◌, ◌++◌, Option, Some, None, bit_xor, reverse}
+use Rattle.std.specs.Cmp.Lexicographic.{slice_cmp}
+use Rattle.std.specs.Option.{unwrap_or}
+use Rattle.std.specs.Ordering.{nat_cmp}
+use Rattle.std.specs.Result.{result_ok}
+use Rattle.std.specs.declared.cmp.Ordering.{Ordering}
+use Rattle.std.specs.declared.cmp.Ordering.TheVariants.{Less, Equal, Greater}
+use Rattle.fluent_uri_c.specs.Fnv.{fnv_bytes}
+use Rattle.fluent_uri_c.specs.Results.{normalize_result}
+
+-- the normal form, under the default ports of schemes, of bytes that are a text of the kind with
+-- this number of the C header; other bytes have none
+abbrev pub normal_key : ℕ → List ℕ → Option (List ℕ)
+normal_key kind bytes = result_ok (normalize_result kind 0 bytes)
+
+-- the order of two texts, byte by byte
+abbrev pub byte_order : List ℕ → List ℕ → Ordering
+byte_order one other = slice_cmp nat_cmp one other
+
+-- the order of bytes by their normal forms, where there are any: what has one is before what has
+-- none. The last argument is the order where neither has one.
+abbrev pub order_of_keys : Option (List ℕ) → Option (List ℕ) → Ordering → Ordering
+order_of_keys (Some one) (Some other) order = byte_order one other
+order_of_keys (Some one) None order = Less
+order_of_keys None (Some other) order = Greater
+order_of_keys None None order = order
+
+-- the order of bytes for tables: texts of the kind by their normal forms, and after these all other
+-- bytes, as they are
+abbrev pub key_order : ℕ → List ℕ → List ℕ → Ordering
+key_order kind one other =
+    order_of_keys (normal_key kind one) (normal_key kind other) (byte_order one other)
+
+-- the number of an order in the C header
+abbrev pub order_number : Ordering → ℕ
+order_number Less = 0
+order_number Equal = 1
+order_number Greater = 2
+
+-- bytes that are one key of a table: texts of the kind with one normal form, or the same bytes that
+-- are no such text
+abbrev pub AreOneKey : ℕ → List ℕ → List ℕ → Type 0
+AreOneKey kind one other =
+    ((normal : List ℕ) × ((normal_key kind one ≡ Some normal)
+    × (normal_key kind other ≡ Some normal)))
+    ⊎ ((normal_key kind one ≡ None) × ((normal_key kind other ≡ None) × (one ≡ other)))
+
+-- the state of FNV-1a from which the hash with a seed begins: the offset basis of 64 bits, and the
+-- seed
+abbrev pub seeded : ℕ → ℕ
+seeded seed = bit_xor 14695981039346656037 seed
+
+-- the hash of bytes for tables: FNV-1a of the normal form, from its last byte to its first, and
+-- then of 255. Bytes that are no text of the kind are hashed as they are.
+abbrev pub key_hash : ℕ → ℕ → List ℕ → ℕ
+key_hash kind seed bytes =
+    fnv_bytes (seeded seed) (reverse (unwrap_or (normal_key kind bytes) bytes) ++ 255 ∷ [])
