@@ -267,9 +267,12 @@ class AsciiHosts(unittest.TestCase):
                 Iri("http://é/").to_uri(ascii_host=lambda host: wrong)
         with self.assertRaises(ZeroDivisionError):
             Iri("http://é/").to_uri(ascii_host=lambda host: 1 // 0)
-        for wrong in [True, "idna", 1]:
-            with self.assertRaises(TypeError):
-                Iri("http://é/").to_uri(ascii_host=wrong)
+        for wrong in ["idna", 1, b"", object()]:
+            for text in ["http://é/", "http://a/", "a:"]:
+                with self.assertRaises(TypeError):
+                    Iri(text).to_uri(ascii_host=wrong)
+        for no in [None, False]:
+            self.assertEqual(str(Iri("http://é/").to_uri(ascii_host=no)), "http://%C3%A9/")
 
 
 if __name__ == "__main__":

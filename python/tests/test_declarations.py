@@ -5,8 +5,8 @@ import pathlib
 import re
 import unittest
 
-from fluent_uri import BuildErrorKind, Component, HostKind, ParseErrorKind, ResolveErrorKind
-from fluent_uri import _native
+from fluent_uri import AsciiHostErrorKind, BuildErrorKind, Component, HostKind, ParseErrorKind
+from fluent_uri import ResolveErrorKind, _native
 from fluent_uri import _declarations as ours
 
 ROOT = pathlib.Path(__file__).resolve().parents[2]
@@ -16,6 +16,7 @@ COMMENT = re.compile(r"/\*.*?\*/", re.DOTALL)
 TYPES = {
     "uint32_t": {ours.NUMBER},
     "size_t": {ours.SIZE},
+    "uint64_t": {ours.WORD},
     "const uint8_t *": {ours.BYTES, ours.OUT},
     "uint8_t *": {ours.OUT},
     "const uint32_t *": {ours.OUT},
@@ -77,7 +78,7 @@ class Declarations(unittest.TestCase):
         self.assertEqual(constants("port"), ours.PORTS)
 
     def test_enums(self):
-        for kind in [ParseErrorKind, ResolveErrorKind, BuildErrorKind]:
+        for kind in [ParseErrorKind, ResolveErrorKind, BuildErrorKind, AsciiHostErrorKind]:
             for it in kind:
                 self.assertEqual(ours.ERRORS[it.name], it)
         for it in HostKind:

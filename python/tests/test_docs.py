@@ -1,4 +1,5 @@
-"""The examples of the package and of docs/PYTHON.md, and its table of what differs, run."""
+"""The examples of the package, of its README.md and of docs/PYTHON.md, and the table of what
+differs on that page, run."""
 
 import doctest
 import importlib
@@ -13,7 +14,12 @@ import urllib.parse
 import fluent_uri.parse
 
 PAGE = pathlib.Path(__file__).resolve().parents[2] / "docs" / "PYTHON.md"
-MODULES = ["", "._building", "._columns", "._encoding", "._errors", "._paths", ".batch", ".parse"]
+MODULES = [
+    *("", "._building", "._columns", "._encoding", "._errors", "._hosts", "._paths"),
+    *(".batch", ".parse"),
+]
+NAMES = {"Uri": fluent_uri.Uri, "Iri": fluent_uri.Iri}
+READ_ME = PAGE.parents[1] / "python" / "README.md"
 COMPARE = PAGE.parents[1] / "python" / "compare-urllib"
 ROW = re.compile(r"^\| `(\w+\(.*?)` \| `(.*?)` \| `(.*?)` \|.*\|$", re.MULTILINE)
 
@@ -53,8 +59,10 @@ class Differences(unittest.TestCase):
 def load_tests(loader, tests, pattern):
     for name in MODULES:
         module = importlib.import_module(f"fluent_uri{name}")
-        tests.addTests(doctest.DocTestSuite(module, extraglobs={"Uri": fluent_uri.Uri}))
-    tests.addTests(doctest.DocFileSuite(str(PAGE), module_relative=False, encoding="utf-8"))
+        tests.addTests(doctest.DocTestSuite(module, extraglobs=NAMES))
+    for page in [PAGE, READ_ME]:
+        how = {"module_relative": False, "encoding": "utf-8"}
+        tests.addTests(doctest.DocFileSuite(str(page), **how))
     return tests
 
 

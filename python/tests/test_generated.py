@@ -153,8 +153,16 @@ CALLS = {
         plain(Dice.value, Dice.any, Dice.piece, plus_is_space=Dice.flag),
     ),
     "twice": (lambda p, value: value.normalize().normalize(), plain(Dice.value)),
-    "to_uri": (lambda p, value: value.to_uri(), plain(Dice.value)),
+    "to_uri": (
+        lambda p, value, **more: value.to_uri(**more),
+        plain(Dice.value, ascii_host=Dice.flag),
+    ),
     "_to_uri": (lambda p, value, kind: value._to_uri(kind), plain(Dice.value, Dice.kind)),
+    "_to_uri_with_ascii_host": (
+        lambda p, value, kind: value._to_uri_with_ascii_host(kind),
+        plain(Dice.value, Dice.kind),
+    ),
+    "ascii_host": (lambda p, value: value.ascii_host, plain(Dice.value)),
     "resolve": (
         lambda p, value, *words, **more: value.resolve(*words, **more),
         plain(Dice.base, Dice.any, basic=Dice.flag, normalize=Dice.flag,

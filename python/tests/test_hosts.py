@@ -1,14 +1,26 @@
-"""The host and the port of a text: addresses against `ipaddress`, ports against `int`, and origins
-against RFC 6454."""
+"""The host and the port of a text: addresses against `ipaddress`, names in ASCII against the
+package `idna`, ports against `int`, and origins against RFC 6454."""
 
 import ipaddress
+import os
+import pathlib
 import pickle
 import random
+import re
+import subprocess
+import sys
 import unittest
 
-from fluent_uri import HostKind, Iri, IriRef, Reference, Uri, UriRef, _declarations, _native
+from fluent_uri import AsciiHostError, HostKind, Iri, IriRef, Reference, Uri, UriRef
+from fluent_uri import _declarations, _native
+
+try:
+    import idna
+except ImportError:
+    idna = None
 
 KINDS = [Uri, UriRef, Iri, IriRef]
+COMPARE = pathlib.Path(__file__).resolve().parents[1] / "compare-idna"
 # RFC 6454, sections 4 to 6: texts, and their origin.
 ORIGINS = [
     ("http://example.com/", "http://example.com"),
@@ -37,6 +49,73 @@ ORIGINS = [
     ("urn:a", None),
     ("about:blank", None),
 ]
+
+
+# Hosts, and their names in ASCII: by UTS 46, and by RFC 3492, section 7.1 (A, B, D, I and L), in
+# lower case.
+NAMES = [
+    ("bücher.de", "xn--bcher-kva.de"),
+    ("BÜCHER.de", "xn--bcher-kva.de"),
+    ("bu\u0308cher.de", "xn--bcher-kva.de"),
+    ("b%C3%BCcher.de", "xn--bcher-kva.de"),
+    ("faß.de", "xn--fa-hia.de"),
+    ("βόλος.com", "xn--nxasmm1c.com"),
+    ("日本語。ＪＰ", "xn--wgv71a119e.jp"),
+    ("ليهمابتكلموشعربي؟", "xn--egbpdaj6bu4bxfgehfvwxn"),
+    ("他们为什么不说中文", "xn--ihqwcrb4cv8a8dqg056pqjye"),
+    ("pročprostěnemluvíčesky", "xn--proprostnemluvesky-uyb24dma41a"),
+    ("почемужеонинеговорятпорусски", "xn--b1abfaaepdrnnbgefbadotcwatmq2g4l"),
+    ("3年b組金八先生", "xn--3b-ww4c5e180e575a65lsy2b"),
+    ("１２７.0.0.1", "127.0.0.1"),
+]
+# Hosts that stay, whatever DNS makes of them.
+KEPT = ["Example.com", "a_b%21", "%41%2F", "xn--9ca", "XN--a", "-", "", "127.0.0.1", "[::1]",
+        "[v1.a]"]
+REJECTED = [("%FF", "NAME_NOT_UTF8"), ("%C3%28.é", "NAME_NOT_UTF8"), ("a..é", "INVALID_NAME"),
+            ("a_é", "INVALID_NAME"), ("-é", "INVALID_NAME"), ("é" * 64, "INVALID_NAME"),
+            ("xn--a.é", "INVALID_NAME"), ("é%20", "INVALID_NAME"), ("é%2F", "INVALID_NAME")]
+
+
+class AsciiHosts(unittest.TestCase):
+    def test_names(self):
+        for host, name in [*NAMES, *((it, it) for it in KEPT)]:
+            value = IriRef.parse(f"//u@{host}:80/é?é#é")
+            self.assertEqual(value.ascii_host, name, host)
+            made = value.to_uri(ascii_host=True)
+            self.assertEqual((type(made), str(made)),
+                             (UriRef, f"//u@{name}:80/%C3%A9?%C3%A9#%C3%A9"))
+            self.assertEqual(made.ascii_host, name)
+            self.assertIs(type(Iri(f"x://{host}").to_uri(ascii_host=True)), Uri)
+            if host.isascii():
+                for kind in KINDS:
+                    self.assertEqual(kind.parse(f"x://{host}").ascii_host, name)
+
+    def test_a_text_without_a_host(self):
+        for text in ["", "/é", "?//é", "urn:é"]:
+            value = IriRef.parse(text)
+            self.assertIsNone(value.ascii_host)
+            self.assertEqual(value.to_uri(ascii_host=True), value.to_uri())
+
+    def test_rejected_hosts(self):
+        for host, kind in REJECTED:
+            value = IriRef.parse(f"//{host}/")
+            for call in [lambda: value.ascii_host, lambda: value.to_uri(ascii_host=True),
+                         lambda: Iri(f"x://{host}").to_uri(ascii_host=True)]:
+                with self.assertRaises(AsciiHostError, msg=host) as raised:
+                    call()
+                self.assertEqual(raised.exception.kind.name, kind, host)
+                again = pickle.loads(pickle.dumps(raised.exception))
+                self.assertEqual((again.kind, str(again)),
+                                 (raised.exception.kind, str(raised.exception)))
+
+    @unittest.skipUnless(idna, "there is no package idna")
+    @unittest.skipIf("TESTED_ONCE" in os.environ, "it does not hang on how calls are made")
+    def test_names_by_another_library(self):
+        """Random hosts: each name that the package `idna` has is our name; none is rejected."""
+        ran = subprocess.run([sys.executable, COMPARE, "2000"], capture_output=True, text=True)
+        self.assertEqual(ran.returncode, 0, ran.stdout[-2000:] + ran.stderr)
+        same = re.search(r"(\d+) the same name", ran.stdout)
+        self.assertGreater(int(same[1]) if same else 0, 500, ran.stdout)
 
 
 class Hosts(unittest.TestCase):
@@ -107,8 +186,9 @@ class Hosts(unittest.TestCase):
     def test_an_iri_has_the_origin_of_a_uri(self):
         self.assertFalse(hasattr(Iri.parse("http://a"), "origin"))
         iri = Iri.parse("http://bücher.example:80/")
-        made = iri.to_uri(ascii_host=lambda host: host.encode("idna").decode())
-        self.assertEqual(made.origin, "http://xn--bcher-kva.example")
+        for ascii_host in [True, lambda host: host.encode("idna").decode()]:
+            made = iri.to_uri(ascii_host=ascii_host)
+            self.assertEqual(made.origin, "http://xn--bcher-kva.example")
 
     def test_subclasses(self):
         class Own(Uri):
@@ -121,10 +201,11 @@ class Hosts(unittest.TestCase):
         self.assertEqual(own.host_address, ipaddress.ip_address("127.0.0.1"))
         self.assertEqual((own.port_number, own.default_port), (81, 80))
         self.assertEqual(own.origin, "http://127.0.0.1:81")
+        self.assertEqual(own.ascii_host, "127.0.0.1")
         self.assertEqual(pickle.loads(pickle.dumps(Uri("ws://a"))).origin, "ws://a")
 
     def test_properties_are_read_only_and_of_values(self):
-        for name in ["host_address", "port_number", "default_port", "origin"]:
+        for name in ["host_address", "ascii_host", "port_number", "default_port", "origin"]:
             with self.assertRaises(AttributeError):
                 setattr(Uri("a:b"), name, None)
             for wrong in [None, 5, "http://a", b"http://a", object(), Uri]:

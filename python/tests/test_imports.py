@@ -171,7 +171,8 @@ class Elsewhere(unittest.TestCase):
             "import importlib\nfresh = importlib.import_module('fluent_uri._compiled')\n"
             "try:\n    fresh.Uri('a:b')\nexcept TypeError:\n    pass\n"
             "for given in [{}, {'parse': 1}, {'parse': 'a'}, {'parse': 0}, 5, None]:\n"
-            "    try:\n        fresh.open(given, None)\n    except (ImportError, TypeError):\n"
+            "    try:\n        fresh.open(given, None, ValueError, ())\n"
+            "    except (ImportError, TypeError):\n"
             "        pass\n    else:\n        raise SystemExit('opened')\n"
             "assert _calls.Uri('a:b').path == 'b'"
         )

@@ -130,6 +130,8 @@ class Lies(unittest.TestCase):
         for given in [5, None, int, "Uri", Uri("a:b"), Iri, IriRef, _calls.Iri]:
             with self.assertRaises(TypeError):
                 Iri("a:b")._to_uri(given)
+            with self.assertRaises(TypeError):
+                Iri("a:b")._to_uri_with_ascii_host(given)
         for given in [5, None, int, "Uri", Iri, Uri, UriRef]:
             with self.assertRaises(TypeError):
                 Iri("a:b")._relativize("a:b", given)
@@ -137,6 +139,8 @@ class Lies(unittest.TestCase):
             for kind in KINDS:
                 with self.assertRaises(TypeError):
                     value._to_uri(kind)
+                with self.assertRaises(TypeError):
+                    value._to_uri_with_ascii_host(kind)
         with self.assertRaises(TypeError):
             _calls.kind_of(5)
         for given in [5, None, "a:b", Uri, object()]:

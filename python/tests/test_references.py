@@ -78,6 +78,7 @@ def errors():
                 yield f"mend {text[:9]!r}", lambda call=call, text=text: call(f" //{text}\n")
         yield f"decode {text[:9]!r}", lambda text=text: decode(text)
     yield "an opaque base", lambda: Uri("x:a").resolve("b")
+    yield "a host that has no name in ASCII", lambda: Iri("x://a..é").to_uri(ascii_host=True)
     yield "a path from `//`", lambda: Uri("x:/a").resolve(".//b", basic=True)
     yield "basic and normalize", lambda: Uri("x:/a").resolve("b", basic=True, normalize=True)
     yield "a text that is none", lambda: batch.parse(["a:b"] * 5 + [5])
@@ -89,6 +90,9 @@ def errors():
     yield "a value that is not of the kind", lambda: Uri.parse(Iri("x:é"))
     for given in [5, Iri, Uri, None]:
         yield "_to_uri", lambda given=given: Uri("a:b")._to_uri(given)
+        yield "_to_uri_with_ascii_host", (
+            lambda given=given: Uri("a:b")._to_uri_with_ascii_host(given)
+        )
         yield "_relativize", lambda given=given: Iri("a:b")._relativize("c", given)
 
 

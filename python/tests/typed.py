@@ -4,7 +4,7 @@ from array import array
 from ipaddress import IPv4Address, IPv6Address, ip_address
 from typing import Dict, List, Optional, Tuple, Union
 
-from fluent_uri import BuildError, BuildErrorKind
+from fluent_uri import AsciiHostError, AsciiHostErrorKind, BuildError, BuildErrorKind
 from fluent_uri import HostKind, Iri, IriRef, ParseError, ParseErrorKind, Reference, Uri, UriRef
 from fluent_uri import batch, decode, encode
 from fluent_uri.parse import ParseResult, SplitResult, parse_qs, parse_qsl, quote, unquote
@@ -18,6 +18,7 @@ number: Optional[int] = uri.port_number
 default: Optional[int] = uri.default_port
 address: Union[IPv4Address, IPv6Address, None] = uri.host_address
 origin: Optional[str] = uri.origin
+ascii_host: Optional[str] = uri.ascii_host
 normal: Uri = uri.normalize()
 target: Uri = uri.resolve(UriRef("c"), normalize=True)
 bare: Uri = uri.with_fragment(None)
@@ -25,7 +26,9 @@ built: Iri = Iri.build(scheme="http", host=ip_address("::1"), port=80, path="/",
 replaced: Uri = uri.replace(host="a", port="80", path="/x", fragment=None)
 made: Uri = Iri("http://é/").to_uri()
 of_names: Uri = Iri("http://é/").to_uri(ascii_host=lambda host: host.encode("idna").decode())
+of_dns: Uri = Iri("http://é/").to_uri(ascii_host=True)
 made_ref: UriRef = IriRef("é").to_uri()
+ref_of_dns: UriRef = IriRef("//é").to_uri(ascii_host=True)
 data: bytes = decode("a")
 text: str = encode("a") + encode(b"a")
 values: List[Optional[Uri]] = batch.parse(["a:b"])
@@ -72,6 +75,11 @@ relative: UriRef = uri.relativize("http://a/b c", prefer_relative_path=True, men
 def which(error: BuildError) -> str:
     kind: BuildErrorKind = error.kind
     return error.component + kind.name + str(error.index + error.char_index)
+
+
+def why(error: AsciiHostError) -> str:
+    kind: AsciiHostErrorKind = error.kind
+    return kind.name
 
 
 def where(error: ParseError) -> int:

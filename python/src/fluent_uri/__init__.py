@@ -35,6 +35,8 @@ from fluent_uri._calls import is_compiled
 from fluent_uri._calls import text_of as _text_of
 from fluent_uri._encoding import Component, decode, encode
 from fluent_uri._errors import (
+    AsciiHostError,
+    AsciiHostErrorKind,
     BuildError,
     BuildErrorKind,
     ParseError,
@@ -48,6 +50,8 @@ from fluent_uri._hosts import WithOrigin as _WithOrigin
 from fluent_uri._paths import DotSegmentError, PathsAndQueries
 
 __all__ = [
+    "AsciiHostError",
+    "AsciiHostErrorKind",
     "BuildError",
     "BuildErrorKind",
     "Component",
@@ -252,7 +256,7 @@ class IriRef(_calls.IriRef, Reference):
 
     __slots__ = ()
 
-    def to_uri(self, *, ascii_host: Optional[_AsciiHost] = None) -> UriRef:
+    def to_uri(self, *, ascii_host: _AsciiHost = None) -> UriRef:
         """Returns the URI reference: each character past ASCII as the octets of its UTF-8
         (RFC 3987, section 3.1).
 
@@ -261,6 +265,8 @@ class IriRef(_calls.IriRef, Reference):
 
         So is a host, which DNS has by another name: see `Iri.to_uri` for `ascii_host`.
         """
+        if ascii_host is True:
+            return self._to_uri_with_ascii_host(UriRef)
         return _with_ascii_host(self, ascii_host)._to_uri(UriRef)
 
 
@@ -289,26 +295,34 @@ class Iri(_Absolute, _calls.Iri):
         """
         return self._relativize(Iri.mend(target) if mend else target, IriRef, prefer_relative_path)
 
-    def to_uri(self, *, ascii_host: Optional[_AsciiHost] = None) -> Uri:
+    def to_uri(self, *, ascii_host: _AsciiHost = None) -> Uri:
         """Returns the URI: each character past ASCII as the octets of its UTF-8 (RFC 3987,
         section 3.1).
 
         >>> Iri.parse("http://a/é").to_uri()
         Uri('http://a/%C3%A9')
 
-        **A host past ASCII is then a name that DNS does not have.** With `ascii_host`, a function
-        from such a host to its name in ASCII, the host is replaced by what that returns, as that
-        section allows; a host that is ASCII stays. `idna.encode` of the package `idna` makes one.
+        **A host past ASCII is then a name that DNS does not have.** If `ascii_host` is true, the
+        host is the property `ascii_host`, as that section allows, and nothing else changes. Raises
+        `AsciiHostError` if the host has no such name.
 
         >>> iri = Iri.parse("http://bücher.example/é")
         >>> iri.to_uri()
         Uri('http://b%C3%BCcher.example/%C3%A9')
+        >>> iri.to_uri(ascii_host=True)
+        Uri('http://xn--bcher-kva.example/%C3%A9')
+
+        It may also be a function from such a host, as it is in the IRI, to its name in ASCII. A
+        host that is ASCII stays: the function is not called.
+
         >>> iri.to_uri(ascii_host=lambda host: host.encode("idna").decode())
         Uri('http://xn--bcher-kva.example/%C3%A9')
 
         Raises what the function raises, `BuildError` if its result is no host, and `ValueError` if
         that is not ASCII.
         """
+        if ascii_host is True:
+            return self._to_uri_with_ascii_host(Uri)
         return _with_ascii_host(self, ascii_host)._to_uri(Uri)
 
 
@@ -319,7 +333,7 @@ def _reference_kind(base: _Absolute) -> Union[Type[UriRef], Type[IriRef]]:
 
 for _named in (
     *(ParseError, ParseErrorKind, ResolveError, ResolveErrorKind, DotSegmentError),
-    *(BuildError, BuildErrorKind, Component, decode, encode),
+    *(BuildError, BuildErrorKind, AsciiHostError, AsciiHostErrorKind, Component, decode, encode),
 ):
     _named.__module__ = __name__
 

@@ -12,7 +12,8 @@ from fluent_uri._declarations import COMPONENTS, Components
 from fluent_uri._errors import BuildError, exact, number_error, utf8_of
 
 Address = Union[ipaddress.IPv4Address, ipaddress.IPv6Address]
-AsciiHost = Callable[[str], str]
+# What converts a host: the shared library if it is True, or a function.
+AsciiHost = Union[bool, Callable[[str], str], None]
 _Value = TypeVar("_Value", bound="Buildable")
 
 # The components in the order of `fluent_uri_components`, and what is written of one that is absent.
@@ -160,11 +161,13 @@ class Buildable:
         return _made(type(self), built(kind, given))
 
 
-def with_ascii_host(iri: _Value, ascii_host: Optional[AsciiHost]) -> _Value:
+def with_ascii_host(iri: _Value, ascii_host: AsciiHost) -> _Value:
     """An IRI or a reference with the host that the function makes of its own, unless that is
-    ASCII."""
-    if ascii_host is None:
+    ASCII; or the same if there is no function."""
+    if ascii_host is None or ascii_host is False:
         return iri
+    if isinstance(ascii_host, bool) or not callable(ascii_host):
+        raise TypeError(f"ascii_host is a function or a bool, not {type(ascii_host)!r}")
     host: Optional[str] = _calls.BASES[_kind_of(type(iri))].host.__get__(iri)
     if host is None or host.isascii():
         return iri

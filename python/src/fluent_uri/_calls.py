@@ -7,7 +7,7 @@ import os
 from typing import TYPE_CHECKING, Type, TypeVar
 
 from fluent_uri import _native
-from fluent_uri._errors import error_of
+from fluent_uri._errors import ParseError, ParseErrorKind, error_of
 
 __all__ = [
     "BASES",
@@ -56,7 +56,7 @@ else:
             raise ImportError("FLUENT_URI_CTYPES asks for ctypes")
         from fluent_uri import _compiled as _chosen
 
-        _chosen.open(_native.addresses(), error_of)
+        _chosen.open(_native.addresses(), error_of, ParseError, tuple(ParseErrorKind))
         is_compiled = True
     # (Python 3.12 cannot name a compiled module whose path is not UTF-8)
     except (ImportError, UnicodeEncodeError):

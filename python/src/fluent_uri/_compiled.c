@@ -105,12 +105,21 @@ static int kind_before(PyObject *self, PyObject *made_of, int further, State **s
     return -1;
 }
 
-static PyObject *reference_to_uri(PyObject *self, PyObject *made_of) {
+static PyObject *converted(PyObject *self, PyObject *made_of, int with_ascii_host) {
     State *state;
     int kind = kind_before(self, made_of, FLUENT_URI_URI - FLUENT_URI_IRI, &state);
     if (kind < 0) return NULL;
-    Call it = {.kind = (uint32_t)kind, .one = state->call.to_uri};
+    Call it = {.kind = (uint32_t)kind,
+               .one = with_ascii_host ? state->call.to_uri_with_ascii_host : state->call.to_uri};
     return value_result_of(state, made_of, &it, self, NULL);
+}
+
+static PyObject *reference_to_uri(PyObject *self, PyObject *made_of) {
+    return converted(self, made_of, 0);
+}
+
+static PyObject *reference_to_uri_with_ascii_host(PyObject *self, PyObject *made_of) {
+    return converted(self, made_of, 1);
 }
 
 /* _relativize(target, class of the result, prefers_relative_path) */
@@ -179,6 +188,7 @@ static PyMethodDef reference_methods[] = {
     {"_resolve", (PyCFunction)(void (*)(void))reference_resolve, METH_FASTCALL, NULL},
     {"_relativize", (PyCFunction)(void (*)(void))reference_relativize, METH_FASTCALL, NULL},
     {"_to_uri", reference_to_uri, METH_O, NULL},
+    {"_to_uri_with_ascii_host", reference_to_uri_with_ascii_host, METH_O, NULL},
     {"__getnewargs__", reference_getnewargs, METH_NOARGS, NULL},
     {NULL, NULL, 0, NULL},
 };

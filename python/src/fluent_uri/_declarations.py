@@ -27,6 +27,8 @@ ERRORS = {
     "PATH_STARTS_WITH_DOUBLE_SLASH": 12,
     "FIRST_PATH_SEGMENT_CONTAINS_COLON": 13,
     "MISSING_COMPONENT": 14,
+    "NAME_NOT_UTF8": 15,
+    "INVALID_NAME": 16,
 }
 COMPONENTS = {
     "USERINFO": 0,
@@ -94,7 +96,7 @@ class Outcome(ctypes.Structure):
 
 # Each argument by the type that the header gives it. A pointer is passed as an address, and that
 # of one text as bytes.
-NUMBER, SIZE = ctypes.c_uint32, ctypes.c_size_t
+NUMBER, SIZE, WORD = ctypes.c_uint32, ctypes.c_size_t, ctypes.c_uint64
 BYTES, OUT = ctypes.c_char_p, ctypes.c_void_p
 _TEXT = (BYTES, SIZE)
 _BUFFER = (OUT, SIZE)
@@ -106,16 +108,21 @@ FUNCTIONS: Dict[str, Tuple[Any, ...]] = {
     "error_message": (NUMBER, *_BUFFER, OUT),
     "parse": (NUMBER, *_TEXT, OUT),
     "is_plainly_normal": (NUMBER, *_TEXT, OUT),
+    "is_normal": (NUMBER, *_TEXT),
+    "compare": (NUMBER, *_TEXT, *_TEXT),
+    "hash": (NUMBER, WORD, *_TEXT, OUT),
     "host_address": (NUMBER, *_TEXT, *_BUFFER, OUT),
     "port_number": (NUMBER, *_TEXT, OUT),
     "default_port": (*_TEXT,),
     "origin": (NUMBER, *_TEXT, *_BUFFER, OUT),
+    "ascii_host": (NUMBER, *_TEXT, *_BUFFER, OUT),
     "normalize": (NUMBER, NUMBER, *_TEXT, *_BUFFER, *_BUFFER, OUT),
     "resolve": (NUMBER, NUMBER, *_TEXT, *_TEXT, *_BUFFER, *_BUFFER, OUT),
     "resolve_normalized": (NUMBER, NUMBER, *_TEXT, *_TEXT, *_BUFFER, *_BUFFER, OUT),
     "relativize": (NUMBER, NUMBER, *_TEXT, *_TEXT, *_BUFFER, *_BUFFER, OUT),
     "build": (NUMBER, *_TEXT, OUT, *_BUFFER, *_BUFFER, OUT),
     "to_uri": (NUMBER, *_TEXT, *_BUFFER, *_BUFFER, OUT),
+    "to_uri_with_ascii_host": (NUMBER, *_TEXT, *_BUFFER, *_BUFFER, OUT),
     "mend": (NUMBER, *_TEXT, *_BUFFER, *_BUFFER, OUT),
     "mend_link": (NUMBER, *_TEXT, *_BUFFER, *_BUFFER, OUT),
     "decode": (NUMBER, *_TEXT, *_BUFFER, OUT),

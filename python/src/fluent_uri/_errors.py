@@ -39,6 +39,13 @@ class BuildErrorKind(enum.IntEnum):
     MISSING_COMPONENT = 14
 
 
+class AsciiHostErrorKind(enum.IntEnum):
+    """Why a host has no name in ASCII."""
+
+    NAME_NOT_UTF8 = 15
+    INVALID_NAME = 16
+
+
 def _message(number: int) -> str:
     """What is wrong, by the number of an error: the library's words."""
     from fluent_uri import _native  # (which raises these errors)
@@ -84,6 +91,29 @@ class ResolveError(ValueError):
 
     def __init__(self, kind: int) -> None:
         self.kind = ResolveErrorKind(kind)
+        super().__init__(self.kind)
+
+    def __str__(self) -> str:
+        return _message(self.kind)
+
+
+class AsciiHostError(ValueError):
+    """A host has no name in ASCII: `kind` says why.
+
+    >>> from fluent_uri import IriRef
+    >>> for text in ["//%FF/", "//a..é/"]:
+    ...     try:
+    ...         IriRef.parse(text).ascii_host
+    ...     except AsciiHostError as error:
+    ...         print(f"{error.kind.name}: {error}")
+    NAME_NOT_UTF8: registered name does not decode to valid UTF-8
+    INVALID_NAME: invalid domain name
+    """
+
+    kind: AsciiHostErrorKind
+
+    def __init__(self, kind: int) -> None:
+        self.kind = AsciiHostErrorKind(kind)
         super().__init__(self.kind)
 
     def __str__(self) -> str:
@@ -153,6 +183,8 @@ def error_of(number: int, index: int, data: bytes, is_link: bool = False) -> Exc
         return ParseError(number, index, len(data[:index].decode("utf-8", "surrogatepass")))
     if number in _RESOLVING:
         return ResolveError(number)
+    if number in _HOSTS:
+        return AsciiHostError(number)
     return number_error(number, index)
 
 
@@ -167,3 +199,4 @@ def number_error(number: int, index: int) -> Exception:
 
 _PARSING = frozenset(ParseErrorKind)
 _RESOLVING = frozenset(ResolveErrorKind)
+_HOSTS = frozenset(AsciiHostErrorKind)

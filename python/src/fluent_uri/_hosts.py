@@ -1,4 +1,4 @@
-"""The host and the port of a text: an address, a number, and the origin of both."""
+"""The host and the port of a text: an address, a name in ASCII, a number, and the origin."""
 
 from __future__ import annotations
 
@@ -38,6 +38,27 @@ class Hosts:
         if not octets:
             return None
         return ipaddress.IPv4Address(octets) if len(octets) == 4 else ipaddress.IPv6Address(octets)
+
+    @property
+    def ascii_host(self) -> Optional[str]:
+        """The host in ASCII, as DNS has it, or None where there is no authority (RFC 3987, section
+        3.1).
+
+        >>> Iri.parse("http://bücher.example/").ascii_host
+        'xn--bcher-kva.example'
+        >>> Uri.parse("http://b%C3%BCcher.example/").ascii_host
+        'xn--bcher-kva.example'
+        >>> Uri.parse("http://Example.com/").ascii_host
+        'Example.com'
+
+        A name with characters past ASCII is converted by UTS 46, without transitional processing.
+        Every other host is returned as it is: an address, and a name that decodes to ASCII. Raises
+        `AsciiHostError` if the name does not decode to UTF-8, or UTS 46 rejects it.
+        """
+        kind = _kind_of(self)
+        if _calls.BASES[kind].host.__get__(self) is None:
+            return None
+        return _native.result(_native.ascii_host, kind, _text_of(self)).decode()
 
     @property
     def port_number(self) -> Optional[int]:

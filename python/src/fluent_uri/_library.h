@@ -39,7 +39,7 @@ typedef struct {
     parse_call *parse; /* NULL before `open` */
     test_call *is_plainly_normal;
     next_call *next_pair;
-    text_call *to_uri, *mend, *mend_link;
+    text_call *to_uri, *to_uri_with_ascii_host, *mend, *mend_link;
     ruled_call *normalize;
     option_call *resolve, *resolve_normalized, *relativize;
 } Functions;
@@ -47,6 +47,9 @@ typedef struct {
 typedef struct {
     Functions call;
     PyObject *error_of;  /* what makes an exception of (number, index, bytes) */
+    PyObject *parse_error; /* the class of those of a text, */
+    PyObject *error_kinds; /* its kinds, from that of the number 1 on, */
+    PyObject *error_names[3]; /* and its attributes: kind, index, char_index */
     PyObject *reference; /* the base of the types of the kinds */
     PyObject *class_call; /* the type of the class methods of a kind */
     PyObject *types[KINDS];
@@ -64,28 +67,44 @@ static int taken(PyObject *addresses, const char *name, void *to) {
     return 0;
 }
 
-/* open(addresses, error_of): takes the functions of the shared library, whose addresses ctypes has
- * by their names. It never closes a library. */
+/* Has what makes exceptions in place of what did so before. */
+static int takes_errors(State *state, PyObject *error_of, PyObject *parse_error, PyObject *kinds) {
+    static const char *const names[] = {"kind", "index", "char_index"};
+    PyObject *before[] = {state->error_of, state->parse_error, state->error_kinds};
+    for (int place = 0; place < 3; place++)
+        if (!state->error_names[place] &&
+            !(state->error_names[place] = PyUnicode_InternFromString(names[place])))
+            return -1;
+    state->error_of = Py_NewRef(error_of);
+    state->parse_error = Py_NewRef(parse_error);
+    state->error_kinds = Py_NewRef(kinds);
+    for (int place = 0; place < 3; place++) Py_XDECREF(before[place]);
+    return 0;
+}
+
+/* open(addresses, error_of, parse_error, kinds): takes the functions of the shared library, whose
+ * addresses ctypes has by their names, and what makes exceptions. It never closes a library. */
 static PyObject *module_open(PyObject *module, PyObject *words) {
     State *state = PyModule_GetState(module);
-    PyObject *addresses, *error_of;
+    PyObject *addresses, *error_of, *parse_error, *kinds;
     Functions found;
-    if (!state || !PyArg_ParseTuple(words, "O!O", &PyDict_Type, &addresses, &error_of)) return NULL;
+    if (!state || !PyArg_ParseTuple(words, "O!OO!O!", &PyDict_Type, &addresses, &error_of,
+                                    &PyType_Type, &parse_error, &PyTuple_Type, &kinds))
+        return NULL;
     if (taken(addresses, "parse", &found.parse) < 0 ||
         taken(addresses, "is_plainly_normal", &found.is_plainly_normal) < 0 ||
         taken(addresses, "next_pair", &found.next_pair) < 0 ||
         taken(addresses, "normalize", &found.normalize) < 0 ||
         taken(addresses, "to_uri", &found.to_uri) < 0 ||
+        taken(addresses, "to_uri_with_ascii_host", &found.to_uri_with_ascii_host) < 0 ||
         taken(addresses, "mend", &found.mend) < 0 ||
         taken(addresses, "mend_link", &found.mend_link) < 0 ||
         taken(addresses, "resolve", &found.resolve) < 0 ||
         taken(addresses, "resolve_normalized", &found.resolve_normalized) < 0 ||
         taken(addresses, "relativize", &found.relativize) < 0)
         return NULL;
-    PyObject *before = state->error_of;
+    if (takes_errors(state, error_of, parse_error, kinds) < 0) return NULL;
     state->call = found;
-    state->error_of = Py_NewRef(error_of);
-    Py_XDECREF(before);
     Py_RETURN_NONE;
 }
 
@@ -93,6 +112,8 @@ static int module_traverse(PyObject *module, visitproc visit, void *arg) {
     State *state = PyModule_GetState(module);
     if (!state) return 0;
     Py_VISIT(state->error_of);
+    Py_VISIT(state->parse_error);
+    Py_VISIT(state->error_kinds);
     Py_VISIT(state->reference);
     Py_VISIT(state->class_call);
     for (int kind = 0; kind < KINDS; kind++) Py_VISIT(state->types[kind]);
@@ -103,6 +124,9 @@ static int module_clear(PyObject *module) {
     State *state = PyModule_GetState(module);
     if (!state) return 0;
     Py_CLEAR(state->error_of);
+    Py_CLEAR(state->parse_error);
+    Py_CLEAR(state->error_kinds);
+    for (int place = 0; place < 3; place++) Py_CLEAR(state->error_names[place]);
     Py_CLEAR(state->reference);
     Py_CLEAR(state->class_call);
     for (int kind = 0; kind < KINDS; kind++) Py_CLEAR(state->types[kind]);

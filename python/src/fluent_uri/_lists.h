@@ -4,7 +4,15 @@
 
 #include "_values.h"
 
-typedef PyObject *each_call(const State *, int, PyObject *, PyObject *);
+/* What a call for many texts makes of each: values of this class and kind. */
+typedef struct {
+    const State *state;
+    int kind;
+    PyObject *cls;
+    int normal; /* above 0 if most of the texts before were in their normal form, else below */
+} Each;
+
+typedef PyObject *each_call(Each *, PyObject *);
 
 /* A list of what `each` makes of the texts of a tuple. */
 static PyObject *each_of(PyObject *words, each_call *each) {
@@ -12,13 +20,14 @@ static PyObject *each_of(PyObject *words, each_call *each) {
     State *state;
     if (!PyArg_ParseTuple(words, "OO!", &cls, &PyTuple_Type, &texts)) return NULL;
     int kind = kind_of(cls, &state);
+    Each it = {.state = state, .kind = kind, .cls = cls};
     Py_ssize_t count = PyTuple_Size(texts);
     PyObject *list = kind < 0 ? NULL : PyList_New(count);
     if (!list) return NULL;
     /* No handler of a signal finds the list by `gc` while it lacks items. */
     PyObject_GC_UnTrack(list);
     for (Py_ssize_t place = 0; place < count; place++) {
-        PyObject *made = each(state, kind, cls, PyTuple_GetItem(texts, place));
+        PyObject *made = each(&it, PyTuple_GetItem(texts, place));
         if (made) PyList_SetItem(list, place, made);
         if (!made || (place % 1024 == 1023 && PyErr_CheckSignals() < 0)) {
             Py_DECREF(list);
@@ -29,26 +38,49 @@ static PyObject *each_of(PyObject *words, each_call *each) {
     return list;
 }
 
-static PyObject *parsed_or_none(const State *state, int kind, PyObject *cls, PyObject *given) {
-    return parsed(state, kind, cls, given, 1);
+static PyObject *parsed_or_none(Each *it, PyObject *given) {
+    return parsed(it->state, it->kind, it->cls, given, 1);
 }
 
-static PyObject *normal_or_none(const State *state, int kind, PyObject *cls, PyObject *given) {
+static PyObject *validity(Each *it, PyObject *given) {
+    return is_of_kind(it->state, it->kind, it->cls, given);
+}
+
+/* Whether a text is of the kind, and found to be in its normal form by its parts. That takes less
+ * than to normalise it, and is lost where the text is in another form. So it is asked while most
+ * texts before were in their normal form, and else of one text in sixteen. */
+static int is_found_normal(Each *it, const Utf8 *utf8) {
+    const Functions *call = &it->state->call;
+    fluent_uri_parts parts;
+    uint32_t kind = (uint32_t)it->kind;
+    size_t size = (size_t)utf8->size;
+    if (it->normal < 0 && ++it->normal < 0) return 0;
+    if (!call->parse(kind, utf8->at, size, &parts) &&
+        call->is_plainly_normal(kind, utf8->at, size, &parts)) {
+        if (it->normal < 4) it->normal++;
+        return 1;
+    }
+    if (it->normal-- == 0) it->normal = -16;
+    return 0;
+}
+
+static PyObject *normal_or_none(Each *it, PyObject *given) {
     PyObject *text = text_given(given), *made = NULL;
     Utf8 utf8 = {0};
-    Call it = {.kind = (uint32_t)kind, .ruled = state->call.normalize};
-    (void)cls;
+    Call normal = {.kind = (uint32_t)it->kind, .ruled = it->state->call.normalize};
     if (!text) return NULL;
     if (utf8_of(Py_NewRef(text), &utf8) == 0)
-        made = result_of(state, &it, &utf8, NULL, text, 1, NULL);
+        made = is_found_normal(it, &utf8)
+                   ? Py_NewRef(text)
+                   : result_of(it->state, &normal, &utf8, NULL, text, 1, NULL);
     Py_XDECREF(utf8.held);
     Py_DECREF(text);
     return made;
 }
 
-static PyObject *mended_or_none(const State *state, int kind, PyObject *cls, PyObject *given) {
-    Call it = {.kind = (uint32_t)kind, .one = state->call.mend};
-    return mended(state, cls, &it, given, 1);
+static PyObject *mended_or_none(Each *it, PyObject *given) {
+    Call mend = {.kind = (uint32_t)it->kind, .one = it->state->call.mend};
+    return mended(it->state, it->cls, &mend, given, 1);
 }
 
 static PyObject *parse_all(PyObject *module, PyObject *words) {
@@ -68,7 +100,7 @@ static PyObject *mend_all(PyObject *module, PyObject *words) {
 
 static PyObject *are_valid(PyObject *module, PyObject *words) {
     (void)module;
-    return each_of(words, is_of_kind);
+    return each_of(words, validity);
 }
 
 /* A part of a query, or None where it is absent. */

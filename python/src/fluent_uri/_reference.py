@@ -229,6 +229,10 @@ class Reference:
         self.__check(made_of, self._number - 2)
         return self.__made(made_of, _native.to_uri, (self._number,))
 
+    def _to_uri_with_ascii_host(self, made_of: Type[Made]) -> Made:
+        self.__check(made_of, self._number - 2)
+        return self.__made(made_of, _native.to_uri_with_ascii_host, (self._number,))
+
     @staticmethod
     def __other(given: Any) -> bytes:
         made: bytes
