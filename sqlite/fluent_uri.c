@@ -88,42 +88,9 @@ static void write_normal_version(sqlite3_context *context, int count, sqlite3_va
 
 /* ---- Collations ---- */
 
-typedef struct {
-    const uint8_t *at;
-    size_t len;
-    uint8_t *heap, few[512];
-} key;
-
-/* The normal form, or the text itself if it is not of the kind: no such text is a normal form, so
- * keys are a total order on all texts. Without memory the key is the text, which may be wrong:
- * SQLite lets no collation fail. README.md says what follows. */
-static void key_of(uint32_t kind, uri_bytes text, key *it) {
-    fluent_uri_outcome outcome;
-    uint8_t *out = it->few;
-    size_t room = sizeof it->few;
-    it->at = text.at, it->len = text.len, it->heap = NULL;
-    while (uri_write(URI_NORMALIZE, kind, 0, text, text, out, room, &outcome) == 0) {
-        if (outcome.length <= room) {
-            it->at = out, it->len = outcome.length;
-            return;
-        }
-        out = it->heap = sqlite3_malloc64(room = outcome.length);
-        if (out == NULL) return;
-    }
-}
-
-static int compare(void *kind, int a_len, const void *a_at, int b_len, const void *b_at) {
-    uri_bytes one = {a_at, (size_t)a_len}, other = {b_at, (size_t)b_len};
-    key a, b;
-    int order;
-    if (a_len == b_len && memcmp(a_at, b_at, one.len) == 0) return 0;
-    key_of(*(const uint32_t *)kind, one, &a);
-    key_of(*(const uint32_t *)kind, other, &b);
-    order = memcmp(a.at, b.at, a.len < b.len ? a.len : b.len);
-    if (order == 0) order = (a.len > b.len) - (a.len < b.len);
-    sqlite3_free(a.heap);
-    sqlite3_free(b.heap);
-    return order;
+/* A total order on all texts, which takes no memory: URIs by meaning, and other texts after them. */
+static int compare(void *kind, int a_len, const void *a, int b_len, const void *b) {
+    return (int)fluent_uri_compare(*(const uint32_t *)kind, a, (size_t)a_len, b, (size_t)b_len) - 1;
 }
 
 /* ---- What is registered ---- */

@@ -82,6 +82,27 @@ static void ordered(sqlite3_stmt *less, text a, text b, text c) {
     CHECK(equal[3] == equal[0] && equal[0] + before[0] + before[3] == 1);
 }
 
+/* Of all texts, those in a unique column that compares by normal form are as many as their normal
+ * forms, and in their order. */
+static void unique(sqlite3_stmt *kept, sqlite3_stmt *form, text it) {
+    CHECK(run(kept, it, it, 0) == SQLITE_DONE);
+    CHECK(run(form, it, it, 0) == SQLITE_DONE);
+}
+
+static void ends_unique(void) {
+    static const char sql[] =
+        "WITH keys AS (SELECT uri_is('uri', t) AS is_uri, CASE WHEN uri_is('uri', t) THEN"
+        " uri_normal(t) ELSE t END AS form, row_number() OVER (ORDER BY t COLLATE URI) AS n"
+        " FROM kept), ranks AS (SELECT n, row_number() OVER (ORDER BY NOT is_uri, form"
+        " COLLATE BINARY) AS m FROM keys) SELECT (SELECT count(*) FROM kept)"
+        " = (SELECT count(*) FROM forms) AND NOT EXISTS (SELECT 1 FROM ranks WHERE n <> m),"
+        " (SELECT integrity_check FROM pragma_integrity_check)";
+    sqlite3_stmt *it = prepared(sql);
+    CHECK(sqlite3_step(it) == SQLITE_ROW && sqlite3_column_int(it, 0) == 1);
+    CHECK(strcmp((const char *)sqlite3_column_text(it, 1), "ok") == 0);
+    sqlite3_finalize(it);
+}
+
 int main(int count, char **words) {
     static uint8_t texts[TEXTS][ROOM];
     size_t lens[TEXTS] = {0};
@@ -89,7 +110,7 @@ int main(int count, char **words) {
     fluent_uri_outcome outcome;
     fluent_uri_parts parts;
     sqlite3_stmt *is, *normal, *resolve, *resolve_normal, *relativize, *decode, *encode, *ascii;
-    sqlite3_stmt *mend, *mend_link, *position, *query, *less, *part[PARTS];
+    sqlite3_stmt *mend, *mend_link, *position, *query, *less, *kept, *form, *part[PARTS];
     seed_dice(count > 2 ? strtoull(words[2], NULL, 10) : 1);
     db = opened(":memory:");
     is = prepared("SELECT uri_is(?3, ?1), ?2");
@@ -105,6 +126,12 @@ int main(int count, char **words) {
     position = prepared("SELECT uri_error_position(?1, ?3), ?2");
     query = prepared("SELECT name, value, ?2 FROM uri_query(?1, ?3)");
     less = prepared("SELECT ?1 < ?2 COLLATE URI, ?1 = ?2 COLLATE URI");
+    CHECK(!sqlite3_exec(db, "CREATE TABLE kept (t TEXT COLLATE URI UNIQUE);"
+                            "CREATE TABLE forms (is_uri, form TEXT, UNIQUE (is_uri, form))",
+                        NULL, NULL, NULL));
+    kept = prepared("INSERT OR IGNORE INTO kept SELECT ?1 WHERE ?2 IS NOT NULL");
+    form = prepared("INSERT OR IGNORE INTO forms SELECT uri_is('uri', ?1), CASE WHEN"
+                    " uri_is('uri', ?1) THEN uri_normal(?1) ELSE ?2 END");
     for (int i = 0; i < PARTS; i++) {
         char sql[100];
         sprintf(sql, "SELECT uri_%s(?1, ?3), ?2", uri_components[i]);
@@ -141,7 +168,9 @@ int main(int count, char **words) {
         SAME(URI_DECODE, FLUENT_URI_PATH, decode);
         SAME(URI_ENCODE, FLUENT_URI_PATH, encode);
         ordered(less, a, b, c);
+        unique(kept, form, a);
     }
+    ends_unique();
     printf("fuzz: %ld texts, %ld of their kind, %ld pairs\n", rounds, accepted, pairs);
     return 0;
 }

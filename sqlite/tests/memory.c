@@ -44,6 +44,10 @@ static const char *const statements[] = {
     "SELECT uri_mend('http://a/ b?[' || replace(hex(zeroblob(500)), '0', ' ')), uri_version()",
     "SELECT uri_mend_link(' a' || char(10) || 'b '), uri_normal('a b')",
     "SELECT uri_normal('a b')",
+    /* A column that compares by normal form. */
+    "INSERT INTO keys VALUES ('http://b'), ('HTTP://A:80/%7E') ON CONFLICT DO NOTHING"
+    " RETURNING url",
+    "SELECT count(*) FROM keys WHERE url = 'http://a/' || replace(hex(zeroblob(500)), '0', '%7e')",
 };
 
 /* Runs a statement, and returns its last row, or its error, as text. */
@@ -70,8 +74,11 @@ static int run(sqlite3 *db, const char *sql, char *row, size_t room) {
 }
 
 int main(void) {
-    static char expected[8192], row[8192];
-    long denied = 0, whole = 0, before;
+    static char expected[8192], row[8192], checked[64];
+    static const char of_each_key[] =
+        "SELECT count(*) = count(DISTINCT CASE WHEN uri_is('uri', url) THEN uri_normal(url)"
+        " ELSE url END) FROM keys";
+    long denied = 0, whole = 0, in_statement = 0, before;
     sqlite3_config(SQLITE_CONFIG_LOOKASIDE, 0, 0);
     sqlite3_initialize();
     before = live;
@@ -83,12 +90,18 @@ int main(void) {
             int error;
             CHECK(!sqlite3_exec(db, "CREATE TABLE links (url);"
                                     "INSERT INTO links VALUES ('http://a/~');"
-                                    "CREATE UNIQUE INDEX of_links ON links (uri_normal(url))",
+                                    "CREATE UNIQUE INDEX of_links ON links (uri_normal(url));"
+                                    "CREATE TABLE keys (url TEXT COLLATE URI UNIQUE);"
+                                    "INSERT INTO keys VALUES ('http://a/~'), ('a b')",
                                 NULL, NULL, NULL));
             asked = 0, left = at;
             error = run(db, statements[i], at < 0 ? expected : row, sizeof row);
-            left = -1;
-            if (at < 0) requests = asked, given = error;
+            in_statement = asked, left = -1;
+            CHECK(run(db, "PRAGMA integrity_check", checked, sizeof checked) == SQLITE_DONE);
+            CHECK(strcmp(checked, "ok|") == 0);
+            CHECK(run(db, of_each_key, checked, sizeof checked) == SQLITE_DONE);
+            CHECK(strcmp(checked, "1|") == 0);
+            if (at < 0) requests = in_statement, given = error;
             else if (error == SQLITE_NOMEM) denied++;
             else {
                 CHECK(error == given && strcmp(row, expected) == 0);

@@ -30,7 +30,7 @@ INSERT INTO texts VALUES ('http://A:80');
 SELECT count(*) FROM texts;
 CREATE VIEW forms AS SELECT CASE WHEN uri_is('uri', t) THEN uri_normal(t) END AS form FROM texts;
 SELECT * FROM forms;
--- A collation: URIs by meaning, and other texts by their bytes.
+-- A collation: URIs by meaning, and after them other texts by their bytes.
 CREATE TABLE spelt (t TEXT COLLATE URI);
 INSERT INTO spelt VALUES ('http://b'), ('HTTP://A:80'), ('http://a'), ('a b'), ('A b'),
     ('é:'), (''), ('http://a/%c3%a9');
