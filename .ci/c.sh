@@ -106,7 +106,7 @@ fi
 sanitized='-O1 -g -fsanitize=address,undefined -fno-sanitize-recover=all'
 # shellcheck disable=SC2086 # (words)
 if echo 'int main(void) { return 0; }' | cc $sanitized -x c - -o "$work/none" 2> "$work/log"; then
-    for it in borders calls columns hosts threads rows; do
+    for it in borders calls columns hosts orders threads rows; do
         # shellcheck disable=SC2086 # (words)
         does "sanitizers of cc: $it cannot be built" cc -std=c99 $sanitized -I"$root/c/include" \
             "$root/c/tests/$it.c" "$work/gcc/libfluent_uri_c.a" -pthread -o "$work/$it"
@@ -126,7 +126,7 @@ fi
 if has clang 'try a second compiler and the sanitizers'; then
     does 'clang: the tests fail' build clang CC=clang CXX=clang++ check
     flags=$sanitized
-    for it in borders calls columns hosts threads rows; do
+    for it in borders calls columns hosts orders threads rows; do
         # shellcheck disable=SC2086 # (words)
         does "sanitizers: $it cannot be built" clang -std=c99 $flags -I"$root/c/include" \
             "$root/c/tests/$it.c" "$work/gcc/libfluent_uri_c.a" -pthread -o "$work/$it"

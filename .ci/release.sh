@@ -35,6 +35,8 @@ has cc 'make what stands for the programs' || ends
 # The copy, as a release has it.
 tree=$work/tree
 mkdir "$tree" "$work/bin" "$work/kit" "$work/kit/c" "$work/kit/bin"
+mkdir -p "$work/kit/rlibs/core.rlib/toolchain" "$work/kit/rlibs/letters.rlib/toolchain" \
+    "$work/kit/rattle/letters"
 tar -C "$root" --exclude=out --exclude=.git --exclude=mutants --exclude=proofs -cf - . |
     tar -C "$tree" -xf -
 cd "$tree" || exit 2
@@ -95,6 +97,14 @@ done
 cc -O2 -fPIC -w -Ic/include -c "$work/exports.c" -o "$work/exports.o" || exit 2
 echo 'int fluent_uri_heap_stands_here;' | cc -fPIC -x c -c - -o "$work/heap.o" || exit 2
 ar rcsD "$work/kit/c/liblibc_c.a" "$work/heap.o"
+# (a library of the kit that all are linked with, and what its files say)
+for it in core:letters letters:; do
+    echo "dep ${it#*:}" > "$work/kit/rlibs/${it%:*}.rlib/format"
+    : > "$work/kit/rlibs/${it%:*}.rlib/toolchain/checked.a"
+done
+printf 'Copyright (c) 2020 A. Writer\n\nPermission is hereby granted, free of charge, to any\n%s' \
+    'person obtaining a copy of this software' > "$work/kit/rattle/letters/LICENSE-MIT"
+echo 'Apache License' > "$work/kit/rattle/letters/LICENSE-APACHE"
 cat > "$work/bin/rt" <<'RT'
 #!/bin/sh
 crate=$(basename "$PWD")
@@ -265,6 +275,9 @@ git tag -f -a -F out/check.passed "v$version" > "$work/out"
 tools/release "$version" > "$work/out" 2> "$work/err"
 must 'the status of a release' 0 $?
 [ -d out/release ] || { tail -n 40 "$work/err"; ends; }
+address=$(sed -n 's/^Maintainer: .*<\(.*\.example\)>$/\1/p' debian/control)
+must 'that an address takes no reports' "${address:+release: $address of debian/control takes no \
+reports (SECURITY.md)}" "$(grep 'takes no reports' "$work/err")"
 must 'the files of a release' "SHA256SUMS
 fluent-uri-$version-arm64.proved.txt
 fluent-uri-$version-arm64.spdx.json
@@ -308,9 +321,27 @@ for it in out/release/*.deb; do
 done
 must 'the components that load extensions' 2 \
     "$(grep -c HAS_PREREQUISITE "out/release/fluent-uri-$version.spdx.json")"
+must 'the licence and the notice of a library of the kit' 'MIT OR Apache-2.0
+Copyright (c) 2020 A. Writer' "$(/usr/bin/python3 -c 'import json, sys
+with open(sys.argv[1]) as it:
+    (found,) = [it for it in json.load(it)["packages"] if it["name"].endswith("-letters")]
+print(found["licenseDeclared"], found["copyrightText"], sep="\n")' \
+    "out/release/fluent-uri-$version.spdx.json")"
 must 'the target of arm64' 1 "$(grep -c 'logic=proved.* target=aarch64-unknown-linux-gnu' \
     "out/release/fluent-uri-$version-arm64.proved.txt")"
 rm -rf "$work/files"
+
+# A licence that debian/copyright lacks.
+for it in crates/*; do
+    echo 'logic=proved functions=3' > "out/$(basename "$it").verdict"
+done
+echo 'UNICODE LICENSE V3' > "$work/kit/rattle/letters/LICENSE-UNICODE"
+sed -i.whole '/^License: Unicode-3.0$/d' debian/copyright
+must 'a licence that debian/copyright lacks' \
+    "statement: debian/copyright lacks Unicode-3.0, the licence of $work/kit/rattle/letters" \
+    "$(SOURCE_DATE_EPOCH=0 tools/statement "$work/said" . LICENSE 2>&1)"
+rm "$work/kit/rattle/letters/LICENSE-UNICODE"
+mv debian/copyright.whole debian/copyright
 for it in out/release/*_amd64.deb; do
     dpkg-deb -x "$it" "$work/files"
 done
@@ -326,6 +357,12 @@ for it in bin/uritool bin/urilines share/man/man1/urilines.1.gz include/fluent_u
 done
 must 'the wheel has the statement' 1 \
     "$(/usr/bin/python3 -m zipfile -l out/release/*.whl | grep -c 'sboms/proved.txt')"
+must 'what all may read of the wheel, and how its description begins' '0o100644 # fluent_uri' \
+    "$(/usr/bin/python3 -c 'import sys, zipfile
+with zipfile.ZipFile(sys.argv[1]) as it:
+    (about,) = [name for name in it.namelist() if name.endswith(".dist-info/METADATA")]
+    print(*{oct(file.external_attr >> 16) for file in it.infolist()},
+          it.read(about).decode().split("\n\n")[1])' out/release/*.whl)"
 git clone -q . "$work/another"
 cd "$work/another" || exit 2
 later=

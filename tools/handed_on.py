@@ -11,6 +11,8 @@ import pathlib
 import tarfile
 import zipfile
 
+from repository import ROOT
+
 # Those that `./build` proves and builds for others. The first is compiled for aarch64 too.
 PRODUCTS = ("fluent_uri_c", "uritool", "urilines")
 # What the source distribution has beside the package.
@@ -18,12 +20,17 @@ BESIDE = pathlib.Path(__file__).resolve().parent / "source_distribution"
 SUFFIXES = (".py", ".c", ".h", ".pyi", ".typed")
 
 
-def zipped(name):
-    return zipfile.ZipInfo(name, (1980, 1, 1, 0, 0, 0))
+def make_wheel(tree):
+    """python/make-wheel of a tree, as a module."""
+    loader = importlib.machinery.SourceFileLoader("wheel", str(tree / "python" / "make-wheel"))
+    made = importlib.util.module_from_spec(importlib.util.spec_from_loader("wheel", loader))
+    loader.exec_module(made)
+    return made
 
 
 def add_statement(wheel, files):
     """Adds files to the folder sboms of a wheel, as PEP 770 has it."""
+    zipped = make_wheel(ROOT).zipped
     with zipfile.ZipFile(wheel) as it:
         held = {name: it.read(name) for name in it.namelist()}
     (record,) = [it for it in held if it.endswith(".dist-info/RECORD")]
@@ -42,27 +49,19 @@ def add_statement(wheel, files):
             it.writestr(zipped(name), data)
 
 
-def metadata(tree):
-    """The fields that python/make-wheel writes."""
-    loader = importlib.machinery.SourceFileLoader("wheel", str(tree / "python" / "make-wheel"))
-    made = importlib.util.module_from_spec(importlib.util.spec_from_loader("wheel", loader))
-    loader.exec_module(made)
-    return made.metadata()[1].decode()
-
-
 def source_distribution(tree, version, epoch, to):
     """Writes the source distribution of the Python package, in the folders of the repository."""
-    python, read_me = tree / "python", (BESIDE / "README.md").read_bytes()
-    fields = f"{metadata(tree)}Requires-External: libfluent_uri_c.so.0 (>={version})\n"
-    fields += "Description-Content-Type: text/markdown\n\n"
+    python = tree / "python"
+    fields, _, about = make_wheel(tree).metadata()[1].decode().partition("\n\n")
+    fields += f"\nRequires-External: libfluent_uri_c.so.0 (>={version})\n\n"
     files = {it.name: it for it in BESIDE.iterdir() if it.is_file()}
-    named = ("LICENSE", "c/include/fluent_uri.h", "python/build-compiled", "python/make-wheel",
-             "python/pyproject.toml")
+    named = ("LICENSE", "c/include/fluent_uri.h", "python/README.md", "python/build-compiled",
+             "python/make-wheel", "python/pyproject.toml")
     files.update({name: tree / name for name in named})
     files.update({f"python/src/fluent_uri/{it.name}": it
                   for it in (python / "src" / "fluent_uri").iterdir() if it.suffix in SUFFIXES})
     held = {name: it.read_bytes() for name, it in files.items()}
-    held["PKG-INFO"] = fields.encode() + read_me
+    held["PKG-INFO"] = (fields + about).encode()
     packed = io.BytesIO()
     with tarfile.open(fileobj=packed, mode="w", format=tarfile.PAX_FORMAT) as made:
         for name, data in sorted(held.items()):

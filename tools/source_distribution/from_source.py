@@ -13,7 +13,7 @@ def build_wheel(folder, config_settings=None, metadata_directory=None):
     if not pathlib.Path(library).is_file():
         sys.exit(
             "fluent_uri: this source distribution has no shared library: install libfluent-uri0, "
-            "and name libfluent_uri_c.so.0 in FLUENT_URI_LIBRARY (README.md)"
+            "and name libfluent_uri_c.so.0 in FLUENT_URI_LIBRARY (python/README.md)"
         )
     words = [sys.executable, HERE / "python" / "make-wheel", library, folder]
     made = subprocess.run(words, stdout=subprocess.PIPE, text=True, check=True).stdout
