@@ -11,6 +11,8 @@ from typing import NamedTuple
 ANSWERS = ("Answers.antt", "Invariants.antt", "Proof.antt")
 # Attributes that are hints to LLVM.
 HINTS = (["inline"], ["cold"])
+# What stands before the `use` of an item that passes its names on.
+PASSING = ("pub", ")")
 FOLDERS = ("src", "specs", "proofs")
 
 
@@ -89,10 +91,13 @@ class Function(NamedTuple):
     start: int
     body: range
     end: int
+    name: str
     is_body_kept: bool
     is_public: bool
     # Whether only its module and those below it can call it.
     is_private: bool
+    # Whether only who names it depends on it: a call of a trait's method can do without its name.
+    is_named: bool
 
 
 class Items:
@@ -195,47 +200,103 @@ class Items:
             it == "pub" and after != "(" for it, after in zip(words, [*words[1:], ""])
         )
         private = not block and "pub" not in words
-        return Function(start, range(body, end), end, bool(kept), bool(public), private)
+        kept, public, named = bool(kept), bool(public), not block and not kept
+        name = self.tokens[at + 1].text
+        return Function(start, range(body, end), end, name, kept, public, private, named)
 
 
-def without_bodies(data, tokens, is_hidden):
-    """Returns a source file without bodies, and without the functions that are hidden."""
-    left, last = [], 0
-    for it in Items(tokens).functions():
-        if is_hidden(it):
+class Imports:
+    """The names that each group of `use` and `ghost use` items of a file brings in."""
+
+    def __init__(self, groups):
+        self.groups = groups
+
+    def all(self):
+        return [sorted(it) for it in self.groups]
+
+    def beside(self, data, tokens):
+        """The text of these tokens, with the imports that it uses."""
+        names = {name for it in tokens for name in it.text.split(".")}
+        used = [sorted(it for it in group if is_used(it, names)) for group in self.groups]
+        return rendered(data, tokens) + "".join(f"\n{it}" for it in used if it)
+
+
+class Source:
+    """A source file without bodies: its functions that are called by their names, and the rest."""
+
+    def __init__(self, data, tokens):
+        left, last, heads = [], 0, []
+        # The names in the bodies that are kept.
+        self.names = set()
+        for it in Items(tokens).functions():
             left += tokens[last : it.start]
-        else:
-            left += tokens[last : it.end if it.is_body_kept else it.body.start]
-        last = it.end
-    rest, imports = ghost_imports(without_hints(left + tokens[last:]))
-    names = {name for it in rest for name in it.text.split(".")}
-    used = [sorted(it for it in group if is_used(it, names)) for group in imports]
-    return rendered(data, rest) + "".join(f"\n{it}" for it in used)
+            head = tokens[it.start : it.body.start]
+            if it.is_named:
+                heads.append((it, head))
+            elif it.is_body_kept:
+                self.names |= {word.text for word in tokens[it.body.start : it.end]}
+                left += tokens[it.start : it.end]
+            else:
+                left += head
+            last = it.end
+        rest, groups = imports_in(without_hints(left + tokens[last:]))
+        imports = Imports(groups)
+        self.imports = sum_of(imports.all())
+        self.rest = sum_of(imports.beside(data, rest))
+        self.heads = collections.defaultdict(list)
+        for it, head in heads:
+            text = imports.beside(data, without_hints(head))
+            self.heads[it.name].append((it, sum_of(text)))
+
+    def seen(self, names, is_hidden):
+        """The sums of the rest, and of the functions of these names that are not hidden."""
+        found = [it for name in names & self.heads.keys() for it in self.heads[name]]
+        return self.rest, sorted(text for it, text in found if not is_hidden(it))
 
 
-def ghost_imports(tokens):
-    """Returns the tokens without `ghost use` items, and the names that each group of these brings
-    in, each with its path."""
+class Written(NamedTuple):
+    """A function as its file has it: where, its name, and its text without comments."""
+
+    start: int
+    end: int
+    name: str
+    text: str
+
+
+def written_functions(data, tokens):
+    for it in Items(tokens).functions():
+        inside = without_hints(tokens[it.start : it.end])
+        yield Written(inside[0].start, inside[-1].end, it.name, rendered(data, inside))
+
+
+def imports_in(tokens):
+    """Returns the tokens without `use` items that pass nothing on, ghost ones too, and the names that
+    each group of these brings in, each with its path."""
     rest, groups, at = [], [], 0
     while at < len(tokens):
-        if [it.text for it in tokens[at : at + 2]] != ["ghost", "use"]:
+        words = [it.text for it in tokens[at : at + 2]]
+        is_ghost = words == ["ghost", "use"]
+        if not is_ghost and (words[:1] != ["use"] or rest and rest[-1].text in PASSING):
             rest.append(tokens[at])
             at += 1
             continue
         if not groups or groups[-1][0] != len(rest):
             groups.append((len(rest), set()))
         end = next(it for it in range(at, len(tokens)) if tokens[it].text == ";")
-        path, *names = " ".join(it.text for it in tokens[at + 2 : end]).split(" . { ")
-        named = names[0].removesuffix(" }").split(" , ") if names else [""]
-        groups[-1][1].update((path, it) for it in named)
+        begun = at + (2 if is_ghost else 1)
+        path, _, names = " ".join(it.text for it in tokens[begun:end]).partition(" { ")
+        named = [it for it in names.removesuffix(" }").split(" , ") if it.strip(" ,")]
+        groups[-1][1].update((path, it.strip(" ,")) for it in named or [""])
         at = end + 1
     return rest, [it for _, it in groups]
 
 
 def is_used(imported, names):
-    """Returns whether a name that is brought in is among these, or may be an operator."""
+    """Returns whether a name that is brought in, or a part of an operator, is among these, or may
+    be."""
     name = (imported[1] or imported[0]).split(" ")[-1].split(".")[-1]
-    return name in names or "◌" in name or not re.fullmatch(r"[\w-]+", name)
+    parts = [it for it in name.split("◌") if it]
+    return any(it in names or not re.fullmatch(r"[\w-]+|[≡≤≥≢↔∷∈∉]", it) for it in parts)
 
 
 def without_hints(tokens):
@@ -259,15 +320,14 @@ class Shape:
         self.kit = kit_of(rattle)
         files = [it for part in FOLDERS for it in sorted(self.folder.glob(f"{part}/**/*"))]
         self.files = [it for it in files if it.is_file()]
-        # The whole text of each file, and of a source file what is left without bodies: all, and
-        # what modules beside it and crates above see.
-        self.whole, self.own, self.beside, self.above = {}, {}, {}, {}
+        # The whole text of each file; each source file, and its functions.
+        self.whole, self.sources, self.functions = {}, {}, {}
         try:
             self.read(rattle)
         except (Unread, ValueError, IndexError):
             # (where the text cannot be taken apart, all of it counts)
             self.whole = {self.path(it): it.read_bytes().decode("latin-1") for it in self.files}
-            self.own, self.beside, self.above = (dict(self.whole) for _ in range(3))
+            self.sources, self.functions = {}, {}
 
     def path(self, file):
         return file.relative_to(self.folder).as_posix()
@@ -279,14 +339,11 @@ class Shape:
                 self.whole[self.path(it)] = it.read_bytes().decode("latin-1")
         for file, tokens in zip(read, tokens_of(rattle, [str(it) for it in read])):
             data, path = file.read_bytes(), self.path(file)
-            self.whole[path] = rendered(data, tokens)
-            if file.suffix == ".rt":
-                self.own[path] = without_bodies(data, tokens, lambda it: False)
-                self.beside[path] = without_bodies(data, tokens, lambda it: it.is_private)
-                self.above[path] = without_bodies(data, tokens, lambda it: not it.is_public)
-        for path, text in self.whole.items():
-            if path not in self.own and not is_answer(path):
-                self.own[path] = self.beside[path] = self.above[path] = text
+            is_source = file.suffix == ".rt"
+            self.whole[path] = rendered(data, without_hints(tokens) if is_source else tokens)
+            if is_source:
+                self.sources[path] = Source(data, tokens)
+                self.functions[path] = list(written_functions(data, tokens))
 
     @functools.cached_property
     def kind(self):
@@ -297,61 +354,54 @@ class Shape:
         return crate.name, sorted(map(repr, crate.said.items())), deps, of_kit
 
     @functools.cached_property
-    def names(self):
-        """The modules of proofs/ that the crate's texts name, with the file that names each."""
-        found = set()
-        for path, text in self.whole.items():
-            dotted = text.replace("::", ".")
-            for it in re.finditer(r"\b(\w+)\.proofs\.([\w.+-]+)", dotted):
-                crate = self.crate.name if it[1] == "crate" else it[1]
-                found.add((crate, it[2].rstrip("."), path))
-        return found
+    def definitions(self):
+        """The sums of the files that a contract depends on and that are no sources."""
+        texts = [it for it in self.whole if it not in self.sources and not is_of_proof(it)]
+        return [(it, sum_of(self.whole[it])) for it in sorted(texts)]
 
-    def opened(self, shapes):
-        """The paths of the functions whose goals or answers another file names."""
-        folders = {folder_of(it) for it in self.whole if is_answer(it)}
-        found = set()
-        for shape in shapes:
-            for crate, name, path in shape.names:
-                if crate != self.crate.name:
-                    continue
-                for it in folders:
-                    inside = shape is self and folder_of(path) == it
-                    if not inside and f"{name}.".startswith(it.replace("/", ".") + "."):
-                        found.add(it)
-        return found
-
-    @functools.cached_property
-    def by_module(self):
-        """The sum of each source file with a module, and of the proofs of its functions."""
-        found = collections.defaultdict(dict)
-        for path, text in self.whole.items():
-            if path.startswith("src/"):
-                found[self.module(path)][path] = sum_of(text)
-            elif is_answer(path):
-                found[self.module_of(path.split("/")[1:-1])][path] = sum_of(text)
-        return found
-
-    @functools.cached_property
-    def sums(self):
-        """The sum of each file as its own module sees it, and as those beside it do."""
-        return {it: (sum_of(self.own[it]), sum_of(self.beside[it])) for it in sorted(self.own)}
-
-    def seen_from(self, modules):
-        """The sums of the crate's files, each as it is seen from these modules: the private
-        functions of a module are seen from itself and from those below it."""
-        for path, (own, beside) in self.sums.items():
+    def seen_from(self, modules, names):
+        """The sums of the crate's files, each as modules of the crate see it that call functions of
+        these names: a private function is seen from its module, and from those below it."""
+        yield from self.definitions
+        for path, source in sorted(self.sources.items()):
             module = self.module(path)
             is_own = any(it[: len(module)] == module for it in modules)
-            yield path, own if is_own else beside
+            yield path, source.seen(names, lambda it: it.is_private and not is_own)
 
-    def modules_of(self, functions):
-        """The modules of these functions, named by `::` or by the folder of a proof."""
-        return sorted({self.module_of(re.split(r"::|/", it)) for it in functions})
+    def seen_above(self, names):
+        """The sums of the crate's files, as crates above see them that call functions of these names."""
+        yield from self.definitions
+        for path, source in sorted(self.sources.items()):
+            yield path, source.seen(names, lambda it: not it.is_public)
 
-    def touched(self, functions):
-        """The sums of the files of these functions, named by `::` or by the folder of a proof."""
-        return [sorted(self.by_module[it].items()) for it in self.modules_of(functions)]
+    @functools.cached_property
+    def kept_names(self):
+        return frozenset().union(*(it.names for it in self.sources.values()))
+
+    def answers_of(self, changes):
+        """The answers of the function at which the mutant has to fail."""
+        found = [it for it in self.whole if is_answer(it) and folder_of(it) == changes.folder]
+        return {it: self.whole[it] for it in found}
+
+    def changed_by(self, changes):
+        """The function that the mutant changes, or the file, where what it changes is not in the
+        function that it names."""
+        name = changes.name_of_function
+        return {(path, old): self.function_with(path, old, name) for path, old in changes.pairs}
+
+    def imports_of(self, paths):
+        """The sums of what these files import, by which the body of a mutant is read."""
+        return [self.sources[it].imports for it in sorted(paths) if it in self.sources]
+
+    def function_with(self, path, old, name):
+        """The text of the function of this name that has the old text, or else of its file."""
+        file = self.folder / path
+        data, old = file.read_bytes() if file.is_file() else b"", old.encode()
+        at = data.find(old)
+        for it in self.functions.get(path, ()) if data.count(old) == 1 else ():
+            if it.name == name and it.start <= at and at + len(old) <= it.end:
+                return it.text
+        return self.whole.get(path, "")
 
     def module(self, path):
         """The path of the module that a source file holds."""
@@ -368,11 +418,17 @@ class Shape:
         return next((it for it in fronts if it in self.modules), ())
 
 
+def is_of_proof(path):
+    """Returns whether a file is of proofs alone: of lemmas, or of the proof of one function. No
+    contract depends on it. The functions of a cycle are proved together."""
+    words = path.split("/")
+    return words[0] == "proofs" and not any(it.startswith("+") for it in words)
+
+
 def is_answer(path):
     """Returns whether a file is of the proof of one function, which nothing else reads."""
     words = path.split("/")
-    is_cycle = any(it.startswith("+") for it in words)
-    return words[0] == "proofs" and len(words) > 2 and words[-1] in ANSWERS and not is_cycle
+    return is_of_proof(path) and len(words) > 2 and words[-1] in ANSWERS
 
 
 def folder_of(path):
@@ -380,9 +436,37 @@ def folder_of(path):
     return "/".join(path.split("/")[1:-1])
 
 
-def judged(text):
-    """Returns a mutant without its lines `shows:`, which the prover does not read."""
-    return "\n".join(it for it in text.split("\n") if not it.startswith("shows:"))
+def words_of(*texts):
+    return frozenset(word for it in texts for word in re.findall(r"\w+", it))
+
+
+class Changes:
+    """What a mutant changes: in which function, and each text that it takes away, with its file."""
+
+    def __init__(self, mutant):
+        self.lines = mutant.text.split("\n")
+        self.function = mutant.function or ""
+        self.words = self.function.split("::")
+        self.folder, self.name_of_function = "/".join(self.words), self.words[-1]
+
+    @property
+    def pairs(self):
+        path = ""
+        for it in self.lines:
+            if it.startswith("file: "):
+                path = it[6:].strip()
+            elif it.startswith("old: "):
+                yield path, it[5:]
+
+    @property
+    def made(self):
+        """The texts that the mutant puts in place of others."""
+        return [it[5:] for it in self.lines if it.startswith("new: ")]
+
+    @property
+    def judged(self):
+        """The mutant without its lines `shows:`, which the prover does not read."""
+        return "\n".join(it for it in self.lines if not it.startswith("shows:"))
 
 
 class Digests:
@@ -395,20 +479,25 @@ class Digests:
         }
         judge = pathlib.Path(__file__).with_name("judge.py")
         self.judge = prover_of(rt.rtlib.RATTLE), judge.read_text(encoding="utf-8")
-        opened = {it: shape.opened(self.shapes.values()) for it, shape in self.shapes.items()}
-        self.below, self.more = {}, {}
-        for name, shape in self.shapes.items():
-            self.more[name] = shape.touched(opened[name])
-            self.below[name] = sum_of(shape.kind, sorted(shape.above.items()), self.more[name])
+        self.above = {}
 
     def of(self, mutant):
         """Returns the digest of a mutant of a crate."""
-        crate = mutant.crate
-        shape = self.shapes[crate.name]
-        files = [it[6:].strip() for it in mutant.text.split("\n") if it.startswith("file: ")]
-        named = ["/".join(shape.module(it)) for it in files if it.startswith("src/")]
-        named += [mutant.function] if mutant.function else []
-        own = shape.kind, list(shape.seen_from(shape.modules_of(named))), self.more[crate.name]
-        below = [(it.name, self.below[it.name]) for it in crate.below()]
-        parts = (self.judge, own, shape.touched(named), below, judged(mutant.text))
-        return sum_of(*parts)[:16]
+        shape, changes = self.shapes[mutant.crate.name], Changes(mutant)
+        below = [self.shapes[it.name] for it in mutant.crate.below()]
+        texts = shape.changed_by(changes)
+        names = words_of(*changes.made, *texts.values()).union(
+            *(it.kept_names for it in [shape, *below])
+        )
+        modules = {shape.module(path) for path, _ in texts} | {shape.module_of(changes.words)}
+        own = shape.kind, list(shape.seen_from(modules, names))
+        proof = sorted(shape.answers_of(changes).items()), sorted(texts.items())
+        imports = shape.imports_of({path for path, _ in texts})
+        above = [self.sum_above(it, names) for it in below]
+        return sum_of(self.judge, own, proof, imports, above, changes.judged)[:16]
+
+    def sum_above(self, shape, names):
+        name = shape.crate.name
+        if (name, names) not in self.above:
+            self.above[name, names] = sum_of(shape.kind, list(shape.seen_above(names)))
+        return self.above[name, names]
