@@ -11,7 +11,7 @@ use Rattle.uri_pct.specs.Sets.{LacksPercent, TableSet, reg_name_set}
 use Rattle.uri_pct.specs.Tokens.{IsValidFor, is_valid_for, print}
 use Rattle.uri_pct.proofs.Decodings.Decoding.{every_set_is_subset_of_widest}
 use Rattle.uri_pct.proofs.ValidTexts.EStrs.{valid_for_superset}
-use Rattle.uri_pct.proofs.Tests.{IfSome-weaken}
+use Rattle.uri_pct.proofs.General.{IfSome-weaken}
 use Rattle.uri_parts.specs.Authority.{AuthorityParts, IsAuthorityFor, authority_parts}
 use Rattle.uri_parts.specs.Authority.{recompose_authority}
 use Rattle.uri_parts.specs.Components.{Components, IsSplitOf, components, has_authority, marked}

@@ -6,7 +6,7 @@ use Rattle.std.specs.List.{list_any}
 use Rattle.std.proofs.lemmas.Bool.{and_from, and_parts, both_ways, cases_Bool}
 use Rattle.std.proofs.lemmas.Bool.{cond_both, or_from, or_parts}
 use Rattle.std.proofs.lemmas.List.{append-nil}
-use Rattle.uri_pct.proofs.Tests.{not_some_is_none}
+use Rattle.uri_pct.proofs.General.{not_some_is_none}
 use Rattle.uri_pct.specs.Delimiters.{slash}
 use Rattle.uri_parts.specs.Components.{Components, components, recompose, starts}
 use Rattle.uri_ops.specs.Dots.{before_last_slash, has_slash, is_empty, last_segment}

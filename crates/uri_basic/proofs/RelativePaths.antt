@@ -9,7 +9,7 @@ use Rattle.std.proofs.lemmas.Bool.{eq-eqb, eqb-true, false≢true, ltb-true, or_
 use Rattle.std.proofs.lemmas.Bool.{or_parts}
 use Rattle.std.proofs.lemmas.List.{take-append-drop}
 use Rattle.std.proofs.lemmas.List.Folds.{list_all-append}
-use Rattle.uri_pct.proofs.Tests.{eq_true_from_IsTrue}
+use Rattle.uri_pct.proofs.General.{eq_true_from_IsTrue}
 use Rattle.uri_pct.specs.Delimiters.{slash}
 use Rattle.uri_pct.specs.Sets.{is_one_of}
 use Rattle.uri_parts.specs.Components.{Components, IsAbemptyPath, Lacks, has_authority, starts}

@@ -12,7 +12,7 @@ use Rattle.uri_ops.specs.Target.{TargetError, resolution_of, target_of}
 use Rattle.uri_ops.proofs.Paths.DotLaws.{remove-dots-of-dotless}
 use Rattle.uri_ops.proofs.Paths.DotRuns.{empty-text-is-nil}
 use Rattle.uri_ops.proofs.Targeting.Swaps.{merging-base-is-not-opaque}
-use Rattle.uri_pct.proofs.Tests.{not_some_is_none}
+use Rattle.uri_pct.proofs.General.{not_some_is_none}
 use Rattle.uri_basic.specs.Deviations.{NothingDeviates, has_encoded_dot_segment}
 use Rattle.uri_basic.specs.Deviations.{has_literal_dot_segment, is_merged, takes_base_path}
 use Rattle.uri_relative.specs.Leading.{LeadsTo, settled, without_fragment}

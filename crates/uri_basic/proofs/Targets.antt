@@ -29,7 +29,7 @@ use Rattle.uri_ops.proofs.Paths.PathCharacters.{lacked-delimiters-fail-test}
 use Rattle.uri_ops.proofs.Paths.PathCharacters.{test-of-delimiters-gives-lacks}
 use Rattle.uri_ops.proofs.Targeting.Swaps.{text-of-kind-has-needed-scheme}
 use Rattle.uri_ops.proofs.Targeting.Targets.{appended-absolute-path-is-absolute}
-use Rattle.uri_pct.proofs.Tests.{eq_true_from_IsTrue}
+use Rattle.uri_pct.proofs.General.{eq_true_from_IsTrue}
 use Rattle.uri_basic.specs.Removal.{output_of, remove_dot_segments, run}
 use Rattle.uri_basic.specs.Target.{basic_resolution_of_texts, is_ambiguous, merge, target}
 use Rattle.uri_basic.specs.Target.{PathStartsWithDoubleSlash}

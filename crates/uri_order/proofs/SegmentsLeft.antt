@@ -10,7 +10,7 @@ use Rattle.std.proofs.lemmas.Bool.{and_from, and_parts, cond-false, cond-true}
 use Rattle.std.proofs.lemmas.Bool.{false≢true, not-true, not_from_false, or_parts, or_right}
 use Rattle.uri_pct.specs.Texts.{lacks}
 use Rattle.uri_pct.proofs.ValidTexts.Delimiters.{rsplit_once_cuts_at_last}
-use Rattle.uri_pct.proofs.Tests.{eq_true_from_IsTrue}
+use Rattle.uri_pct.proofs.General.{eq_true_from_IsTrue}
 use Rattle.uri_parts.specs.Components.{IsAbemptyPath}
 use Rattle.uri_parts.proofs.Splitting.Marks.{cons_is_not_nil}
 use Rattle.uri_parts.proofs.Splitting.Recompose.{equal-to-true-is-IsTrue}

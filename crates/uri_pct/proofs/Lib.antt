@@ -1,4 +1,4 @@
-pub mod Tests
+pub mod General
 pub mod TableSets
 pub mod LaneScans
 pub mod ValidTexts

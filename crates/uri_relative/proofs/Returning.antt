@@ -1,7 +1,7 @@
 -- A target leads back to the reference that it was resolved from, or to another that leads there.
 use Rattle.std.proofs.Common.{◌≡◌, ℕ, Bool, true, false, List, refl, sym, ap, ◌∙◌}
 use Rattle.std.specs.Prelude.{None, Ok, is_some}
-use Rattle.uri_pct.proofs.Tests.{None-from-not-is_some}
+use Rattle.uri_pct.proofs.General.{None-from-not-is_some}
 use Rattle.uri_parts.specs.Components.{Components, components, recompose}
 use Rattle.uri_ops.specs.Resolving.{with_final_path}
 use Rattle.uri_ops.specs.Target.{is_opaque_rejection, dotted_target, resolution_of}

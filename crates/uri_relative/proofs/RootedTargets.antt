@@ -8,7 +8,7 @@ use Rattle.std.proofs.lemmas.Bool.{false≢true, not-false, not_from_false}
 use Rattle.uri_pct.specs.Delimiters.{slash}
 use Rattle.uri_parts.specs.Components.{Components, IsAbemptyPath, Lacks, components, starts}
 use Rattle.uri_parts.specs.Grammar.{Kind}
-use Rattle.uri_pct.proofs.Tests.{not_some_is_none, eq_true_from_IsTrue}
+use Rattle.uri_pct.proofs.General.{not_some_is_none, eq_true_from_IsTrue}
 use Rattle.uri_parts.proofs.Splitting.Recompose.{components-are-split-of-text}
 use Rattle.uri_parts.proofs.Splitting.Recompose.{equal-to-true-is-IsTrue}
 use Rattle.uri_ops.specs.Dots.{is_empty}

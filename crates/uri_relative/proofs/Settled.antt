@@ -6,7 +6,7 @@ use Rattle.std.proofs.lemmas.Bool.{and_from, and_parts, both_ways, cases_Bool, c
 use Rattle.std.proofs.lemmas.Bool.{cond-false, eqb-true, false_from_ne_true, false≢true}
 use Rattle.std.proofs.lemmas.Str.{IsCharBoundary-after_ascii}
 use Rattle.std.specs.Str.{IsCharBoundary, IsUtf8}
-use Rattle.uri_pct.proofs.Tests.{eq_true_from_IsTrue}
+use Rattle.uri_pct.proofs.General.{eq_true_from_IsTrue}
 use Rattle.uri_pct.specs.Delimiters.{slash}
 use Rattle.uri_parts.specs.Components.{Components, starts, has_authority}
 use Rattle.uri_parts.proofs.Splitting.Recompose.{equal-to-true-is-IsTrue}

@@ -5,7 +5,7 @@ use Rattle.std.proofs.Common.{◌&&◌, ◌||◌, length, refl, sym, ap, ◌∙�
 use Rattle.std.specs.Prelude.{codes, Option, None, Some, IfNone, is_none, is_some}
 use Rattle.std.proofs.lemmas.Bool.{and_parts, both_ways, cases_Bool, cond-false, cond-true}
 use Rattle.std.proofs.lemmas.Bool.{false≢true, not-true}
-use Rattle.uri_pct.proofs.Tests.{eq_true_from_IsTrue}
+use Rattle.uri_pct.proofs.General.{eq_true_from_IsTrue}
 use Rattle.uri_pct.specs.Delimiters.{slash}
 use Rattle.uri_parts.specs.Components.{Components, IsAbemptyPath, has_authority}
 use Rattle.uri_parts.specs.Components.{marked, recompose, starts}

@@ -6,7 +6,7 @@ use Rattle.std.specs.Char.{encode_utf8}
 use Rattle.std.proofs.lemmas.Bool.{cond-false}
 use Rattle.std.proofs.lemmas.Str.{length-encode, len_utf8_bounds}
 use Rattle.uri_pct.specs.Tokens.{Token, Char, Octet, print}
-use Rattle.uri_pct.proofs.Tests.{is_some-option_map}
+use Rattle.uri_pct.proofs.General.{is_some-option_map}
 use Rattle.uri_parts.specs.Grammar.{Kind}
 use Rattle.uri_parts.specs.Ports.{PortFunction}
 use Rattle.uri_ops.specs.Dots.{is_empty}

@@ -6,7 +6,7 @@ use Rattle.std.specs.Option.{option_and_then}
 use Rattle.std.specs.Result.{result_map_both}
 use Rattle.std.specs.Str.{str_to_ascii_lowercase}
 use Rattle.std.proofs.lemmas.Bool.{cond_both}
-use Rattle.uri_pct.proofs.Tests.{is_some-option_map}
+use Rattle.uri_pct.proofs.General.{is_some-option_map}
 use Rattle.uri_parts.specs.Components.{Components, components, recompose, starts}
 use Rattle.uri_parts.specs.Grammar.{Kind, IsTextOf}
 use Rattle.uri_ops.specs.ComponentSets.{HasComponentSets}

@@ -10,7 +10,7 @@ use Rattle.std.proofs.lemmas.Bool.Decides.{nat_tests, Decides-below_and}
 use Rattle.std.proofs.lemmas.List.Folds.{list_all-append}
 use Rattle.std.proofs.lemmas.Str.{chars-append, IsUtf8-append, encode_ascii}
 use Rattle.std.proofs.lemmas.Str.{encodes-chars, scalars-chars}
-use Rattle.uri_pct.proofs.Tests.{IfSome-weaken, IfSome-combine}
+use Rattle.uri_pct.proofs.General.{IfSome-weaken, IfSome-combine}
 use Rattle.uri_pct.proofs.ValidTexts.Cuts.{excludes}
 use Rattle.uri_pct.specs.Sets.{TableSet, LacksPercent, is_one_of, digit_set, scheme_set}
 use Rattle.uri_pct.specs.Tokens.{IsValidFor}

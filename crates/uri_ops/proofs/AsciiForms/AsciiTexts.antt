@@ -32,7 +32,7 @@ use Rattle.uri_ops.proofs.Meanings.HostMeanings.{ipvfuture-is-userinfo-character
 use Rattle.uri_ops.proofs.Meanings.AuthorityMeanings.{authority-parts-are-utf8}
 use Rattle.uri_ops.proofs.Meanings.AllowedParts.{is_set_text, set-text-is-utf8, set-text-is-valid}
 use Rattle.uri_ops.proofs.Meanings.TextParts.{ArePartsOfKind}
-use Rattle.uri_pct.proofs.Tests.{IfSome-weaken, IfSome-combine}
+use Rattle.uri_pct.proofs.General.{IfSome-weaken, IfSome-combine}
 use Rattle.uri_ops.proofs.Normal.NormalTexts.{text-has-parts-of-kind}
 use Rattle.uri_ops.proofs.AsciiForms.EncodedAuthorities.{text-passing-ascii-test-is-ascii}
 use Rattle.uri_ops.proofs.AsciiForms.EncodedAuthorities.{bracketed-ascii-address-is-ascii}

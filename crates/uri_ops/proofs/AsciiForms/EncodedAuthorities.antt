@@ -54,7 +54,7 @@ use Rattle.uri_ops.proofs.AsciiForms.EncodedPaths.{encoding-of-append-is-append}
 use Rattle.uri_ops.proofs.AsciiForms.EncodedPaths.{ascii-text-is-its-own-encoding}
 use Rattle.uri_ops.proofs.AsciiForms.EncodedPaths.{encoding-keeps-leading-delimiter}
 use Rattle.uri_ops.proofs.AsciiForms.EncodedComponents.{encoding-keeps-delimiters}
-use Rattle.uri_pct.proofs.Tests.{IfSome-combine}
+use Rattle.uri_pct.proofs.General.{IfSome-combine}
 
 -- IRIs as URIs: a component's set without its characters past ASCII is a component's set
 ascii_set-is-component-set : (marks : List ℕ) (set : TableSet) → IsComponentSet marks set

@@ -21,7 +21,7 @@ use Rattle.uri_ops.proofs.AsciiForms.EncodedPaths.{encoding-keeps-leading-delimi
 use Rattle.uri_ops.proofs.AsciiForms.EncodedPaths.{encoding-keeps-emptiness}
 use Rattle.uri_ops.proofs.AsciiForms.EncodedPaths.{encoding-keeps-two-slashes}
 use Rattle.uri_ops.proofs.AsciiForms.EncodedPaths.{encoding-and-cutting-swap}
-use Rattle.uri_pct.proofs.Tests.{eq_true_from_IsTrue}
+use Rattle.uri_pct.proofs.General.{eq_true_from_IsTrue}
 use Rattle.uri_ops.proofs.Paths.DotRuns.{not-empty-has-length}
 use Rattle.uri_ops.proofs.Paths.Piecewise.{text-with-bytes-is-not-empty}
 

@@ -46,7 +46,7 @@ use Rattle.uri_ops.proofs.AsciiForms.EncodedComponents.{components-of-encoded-te
 use Rattle.uri_ops.proofs.Targeting.RefusalOrder.{result_or_target_error, map-of-result_or_error}
 use Rattle.uri_ops.proofs.Targeting.RefusalOrder.{rejected-results-are-equal}
 use Rattle.uri_ops.proofs.Targeting.RefusalOrder.{ok-result-has-no-opaque-rejection}
-use Rattle.uri_pct.proofs.Tests.{is_none-option_map, is_some-option_map, not_some_is_none}
+use Rattle.uri_pct.proofs.General.{is_none-option_map, is_some-option_map, not_some_is_none}
 
 -- IRIs as URIs, paths: segments in UTF-8, all but the first after a `/`, are UTF-8 together
 joined-utf8-segments-are-utf8 : (s : List ℕ) (rest : List (List ℕ)) → AllPass is_utf8 (s ∷ rest)

@@ -33,7 +33,7 @@ use Rattle.uri_ops.proofs.Meanings.ComponentEnds.{ends-are-excluded-from-set}
 use Rattle.uri_ops.proofs.Meanings.ComponentEnds.{fewer-characters-are-excluded-too}
 use Rattle.uri_ops.proofs.Meanings.HostMeanings.{bracketed-address-lacks-delimiters}
 use Rattle.uri_ops.proofs.Meanings.HostMeanings.{ipv_future_set-excludes-delimiters}
-use Rattle.uri_pct.proofs.Tests.{IfSome-combine, None-from-is_none}
+use Rattle.uri_pct.proofs.General.{IfSome-combine, None-from-is_none}
 use Rattle.uri_ops.proofs.Meanings.AsciiCharacters.{ascii-bytes-are-utf8}
 use Rattle.uri_ops.proofs.Paths.DotRuns.{empty-text-is-nil}
 

@@ -46,7 +46,7 @@ use Rattle.uri_ops.proofs.Meanings.AllowedParts.{is_set_text, set-text-from-utf8
 use Rattle.uri_ops.proofs.Meanings.AllowedParts.{empty-text-is-set-text}
 use Rattle.uri_ops.proofs.Meanings.AllowedParts.{set-text-is-utf8}
 use Rattle.uri_ops.proofs.Meanings.AllowedParts.{set-text-is-valid}
-use Rattle.uri_pct.proofs.Tests.{eq_true_from_IsTrue}
+use Rattle.uri_pct.proofs.General.{eq_true_from_IsTrue}
 use Rattle.uri_ops.proofs.Meanings.TextParts.{ArePartsOfKind, components-of-kind-meet-grammar}
 use Rattle.uri_ops.proofs.Normal.NormalComponents.{text-with-first-letter-is-not-empty}
 use Rattle.uri_parts.proofs.Splitting.Places.{authority_has_abempty_path}

@@ -42,7 +42,7 @@ use Rattle.uri_ops.proofs.Normal.NormalComponents.{NormalAuthoritiesKeepMeaning}
 use Rattle.uri_ops.proofs.Normal.NormalComponents.{normal-component-is-part}
 use Rattle.uri_ops.proofs.Normal.NormalComponents.{normal-component-decodes-as-component}
 use Rattle.uri_ops.proofs.Normal.NormalComponents.{part-lacks-excluded-characters}
-use Rattle.uri_pct.proofs.Tests.{IfSome-combine, IfSome-weaken}
+use Rattle.uri_pct.proofs.General.{IfSome-combine, IfSome-weaken}
 
 -- meanings of authorities: a set that has none of some delimiters excludes each of them
 no-delimiter-allowed-excludes-each : (set : TableSet) (marks : List ℕ) → list_any set.ascii marks

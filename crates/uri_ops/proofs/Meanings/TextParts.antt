@@ -15,7 +15,7 @@ use Rattle.uri_parts.specs.Grammar.{components_meet_rules}
 use Rattle.uri_parts.proofs.Parsing.ScanStops.{utf8_from_marks, utf8_after_ascii_byte}
 use Rattle.uri_parts.proofs.Parsing.ScanStops.{utf8_after_slashes}
 use Rattle.uri_ops.proofs.Meanings.AllowedParts.{is_set_text, set-text-from-utf8, set-text-is-valid}
-use Rattle.uri_pct.proofs.Tests.{IfSome-combine}
+use Rattle.uri_pct.proofs.General.{IfSome-combine}
 use Rattle.uri_parts.proofs.Parsing.WholeTexts.{utf8_after_authority, utf8_after_scheme}
 use Rattle.uri_parts.proofs.Authorities.NamesAndPorts.{utf8_before_marks}
 

@@ -44,7 +44,7 @@ use Rattle.uri_ops.proofs.Meanings.AsciiCharacters.{lowering-is-idempotent}
 use Rattle.uri_ops.proofs.Meanings.AsciiCharacters.{lowered-scheme-is-scheme}
 use Rattle.uri_ops.proofs.Meanings.AsciiCharacters.{lowered-scheme-is-utf8}
 use Rattle.uri_ops.proofs.Meanings.TextParts.{ArePartsOfKind}
-use Rattle.uri_pct.proofs.Tests.{eq_true_from_IsTrue}
+use Rattle.uri_pct.proofs.General.{eq_true_from_IsTrue}
 use Rattle.uri_parts.proofs.Splitting.Recompose.{equal-to-true-is-IsTrue}
 use Rattle.uri_ops.proofs.Meanings.ComponentEnds.{path-set-excludes-its-ends}
 use Rattle.uri_ops.proofs.Meanings.ComponentEnds.{query-set-excludes-its-end}

@@ -22,7 +22,7 @@ use Rattle.uri_ops.proofs.Meanings.AllowedParts.{set-text-from-utf8}
 use Rattle.uri_ops.proofs.Meanings.AllowedParts.{print_decoded}
 use Rattle.uri_ops.proofs.Paths.DecodedStarts.{decoding-keeps-two-slashes}
 use Rattle.uri_ops.proofs.Paths.DecodedStarts.{no-leading-slash-no-two-slashes}
-use Rattle.uri_pct.proofs.Tests.{is_some-option_map}
+use Rattle.uri_pct.proofs.General.{is_some-option_map}
 
 -- normal paths: a decoded path begins with `//` exactly if the path does
 decoded-path-keeps-two-slashes : (set : TableSet) → IsComponentSet (codes "?#[]") set

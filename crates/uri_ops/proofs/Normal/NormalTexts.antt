@@ -22,7 +22,7 @@ use Rattle.uri_ops.proofs.Normal.NormalComponents.{normal-components-are-of-kind
 use Rattle.uri_ops.proofs.Normal.NormalComponents.{normal-components-are-split}
 use Rattle.uri_ops.proofs.Normal.NormalComponents.{normal-components-have-same-meaning}
 use Rattle.uri_ops.proofs.Meanings.AuthorityMeanings.{normal-authorities-are-authorities}
-use Rattle.uri_pct.proofs.Tests.{IfSome-weaken}
+use Rattle.uri_pct.proofs.General.{IfSome-weaken}
 
 -- normal texts: a component in UTF-8, or none, with its delimiters (before, suffix) is UTF-8
 delimited-utf8-component-is-utf8 : (before suffix : List ℕ) (o : Option (List ℕ)) → IsUtf8 before

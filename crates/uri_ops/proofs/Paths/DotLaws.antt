@@ -28,7 +28,7 @@ use Rattle.uri_ops.proofs.Paths.SlashedSegments.{slashed-of-segments-is-text-aft
 use Rattle.uri_ops.proofs.Paths.SlashedSegments.{segments-of-text-lack-slashes}
 use Rattle.uri_ops.proofs.Paths.SlashedSegments.{segments-of-text-are-not-none}
 use Rattle.uri_ops.proofs.Paths.SlashedSegments.{segments-of-slashed-segments}
-use Rattle.uri_pct.proofs.Tests.{eq_true_from_IsTrue}
+use Rattle.uri_pct.proofs.General.{eq_true_from_IsTrue}
 
 -- paths: what holds of `/` before each of some segments holds of any list of one segment or more
 property-of-slashed-segments-not-none : (P : List ℕ → Type 0)

@@ -23,7 +23,7 @@ use Rattle.uri_ops.proofs.Paths.TakenSegments.{trailing-double-dot-leaves-slash}
 use Rattle.uri_ops.proofs.Paths.SlashedSegments.{slash-in-suffix-is-in-append}
 use Rattle.uri_ops.proofs.Paths.SlashedSegments.{before_last_slash-of-append}
 use Rattle.uri_ops.proofs.Paths.SlashedSegments.{last_segment-of-append}
-use Rattle.uri_pct.proofs.Tests.{eq_true_from_IsTrue}
+use Rattle.uri_pct.proofs.General.{eq_true_from_IsTrue}
 
 -- paths: what is before the last `/` (47) of two texts joined by it,
 -- the second without any, is the first

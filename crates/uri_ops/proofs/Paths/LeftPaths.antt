@@ -36,7 +36,7 @@ use Rattle.uri_ops.proofs.Paths.DotLaws.{dotless-path-does-not-underflow}
 use Rattle.uri_ops.proofs.Paths.TakenSegments.{removing-dots-after-directory}
 use Rattle.uri_ops.proofs.Paths.TakenSegments.{underflow-after-directory}
 use Rattle.uri_ops.proofs.Targeting.Targets.{appended-absolute-path-is-absolute}
-use Rattle.uri_pct.proofs.Tests.{eq_true_from_IsTrue}
+use Rattle.uri_pct.proofs.General.{eq_true_from_IsTrue}
 
 -- removing dot segments, segment by segment:
 -- it may begin with a directory that has none as kept, and the rest to do

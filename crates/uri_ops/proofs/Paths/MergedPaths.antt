@@ -26,7 +26,7 @@ use Rattle.uri_ops.proofs.Paths.DecodedPaths.{removing-dots-and-decoding-swap}
 use Rattle.uri_ops.proofs.Paths.PathMeanings.{guard-is-removed-as-dot-segment}
 use Rattle.uri_ops.proofs.Paths.PathMeanings.{path-without-dots-is-set-text}
 use Rattle.uri_ops.proofs.Normal.NormalComponents.{decoded-abempty-path-is-abempty}
-use Rattle.uri_pct.proofs.Tests.{eq_true_from_IsTrue}
+use Rattle.uri_pct.proofs.General.{eq_true_from_IsTrue}
 
 -- merged paths: the directory of a path with any text after it begins with `/`
 pub merged-path-is-absolute : (path y : List ℕ) → IsAbemptyPath path

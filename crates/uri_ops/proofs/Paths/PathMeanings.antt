@@ -30,7 +30,7 @@ use Rattle.uri_ops.proofs.Paths.DecodedPaths.{set-texts-join-at-slash, set-text-
 use Rattle.uri_ops.proofs.Paths.DecodedPaths.{removing-dots-and-decoding-swap}
 use Rattle.uri_ops.proofs.Paths.DecodedPaths.{dotless-set-text-is-set-text}
 use Rattle.uri_ops.proofs.Paths.DecodedStarts.{decoding-keeps-leading-slash}
-use Rattle.uri_pct.proofs.Tests.{eq_true_from_IsTrue}
+use Rattle.uri_pct.proofs.General.{eq_true_from_IsTrue}
 use Rattle.uri_parts.proofs.Splitting.Recompose.{equal-to-true-is-IsTrue}
 
 -- paths: one with its dot segments removed begins with `/` (47) exactly if it does before

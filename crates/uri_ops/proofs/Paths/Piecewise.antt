@@ -33,7 +33,7 @@ use Rattle.uri_ops.proofs.Paths.DecodedPaths.{decoding-keeps-first-slash}
 use Rattle.uri_ops.proofs.Paths.DecodedPaths.{removing-dots-and-decoding-swap}
 use Rattle.uri_ops.proofs.Paths.DecodedStarts.{decoding-keeps-emptiness}
 use Rattle.uri_ops.proofs.Paths.SegmentMaps.{KeepsDots}
-use Rattle.uri_pct.proofs.Tests.{eq_true_from_IsTrue}
+use Rattle.uri_pct.proofs.General.{eq_true_from_IsTrue}
 use Rattle.uri_ops.proofs.Paths.DotRuns.{not-empty-has-length}
 
 -- paths: a change that goes from `/` to `/`, and keeps which segments are dots, such as decoding

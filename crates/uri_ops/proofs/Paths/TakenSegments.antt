@@ -24,7 +24,7 @@ use Rattle.uri_ops.proofs.Paths.SlashedSegments.{segments-of-joined-segments}
 use Rattle.uri_ops.proofs.Paths.DotLaws.{rooted, path-after-slash-appends-its-segments}
 use Rattle.uri_ops.proofs.Paths.DotLaws.{appended-segments-lack-slashes}
 use Rattle.uri_ops.proofs.Paths.DotLaws.{segments-with-empty-last-lack-slashes}
-use Rattle.uri_pct.proofs.Tests.{eq_true_from_IsTrue}
+use Rattle.uri_pct.proofs.General.{eq_true_from_IsTrue}
 
 -- of a segment after ones without dot segments: what it leaves of them and what follows it are the
 -- same path

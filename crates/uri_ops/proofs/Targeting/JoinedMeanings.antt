@@ -37,7 +37,7 @@ use Rattle.uri_ops.proofs.Normal.NormalComponents.{normal-component-decodes-as-c
 use Rattle.uri_ops.proofs.Normal.NormalComponents.{normal-components-have-same-meaning}
 use Rattle.uri_ops.proofs.Meanings.AuthorityMeanings.{normal-authorities-are-authorities}
 use Rattle.uri_ops.proofs.Paths.MergedPaths.{merged-normal-paths-decode-as-merged}
-use Rattle.uri_pct.proofs.Tests.{is_none-option_map}
+use Rattle.uri_pct.proofs.General.{is_none-option_map}
 
 -- targets: the components of which these are the five
 abbrev pub components_of_parts : Option (List ℕ) → Option (List ℕ) → List ℕ → Option (List ℕ)

@@ -18,7 +18,7 @@ use Rattle.uri_ops.proofs.Paths.DotLaws.{directory-is-absolute}
 use Rattle.uri_ops.proofs.Targeting.Swaps.{merging-base-is-not-opaque}
 use Rattle.uri_ops.proofs.Targeting.Swaps.{base-that-is-not-opaque-has-abempty-path}
 use Rattle.uri_ops.proofs.Targeting.Targets.{appended-absolute-path-is-absolute}
-use Rattle.uri_pct.proofs.Tests.{eq_true_from_IsTrue, not_some_is_none}
+use Rattle.uri_pct.proofs.General.{eq_true_from_IsTrue, not_some_is_none}
 
 -- resolving: if the reference r has an authority, the target is r with the base's scheme
 dotted_target-with-authority-takes-base-scheme : (b r : Components) → is_some r.scheme ≡ false

@@ -27,7 +27,7 @@ use Rattle.uri_ops.proofs.Paths.LeftPaths.{dotless-path-after-directory-is-dotle
 use Rattle.uri_ops.proofs.Paths.GuardedPaths.{path-after-authority-needs-no-guard}
 use Rattle.uri_ops.proofs.Targeting.JoinedPieces.{joined-with-relative-path}
 use Rattle.uri_ops.proofs.Targeting.Targets.{appended-absolute-path-is-absolute}
-use Rattle.uri_pct.proofs.Tests.{eq_true_from_IsTrue, some_is_not_none, None-from-not-is_some}
+use Rattle.uri_pct.proofs.General.{eq_true_from_IsTrue, some_is_not_none, None-from-not-is_some}
 use Rattle.uri_ops.proofs.Paths.DotRuns.{empty-text-is-nil}
 
 -- resolving: the text of a base up to the last `/` of its path is the text up to its directory

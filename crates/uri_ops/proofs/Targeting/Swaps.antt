@@ -31,7 +31,7 @@ use Rattle.uri_ops.proofs.Targeting.JoinedMeanings.{joined-normal-components-hav
 use Rattle.uri_ops.proofs.Targeting.JoinedMeanings.{normal-components-are-rejected-alike}
 use Rattle.uri_ops.proofs.Targeting.RefusalOrder.{result_or_target_error, map-of-result_or_error}
 use Rattle.uri_ops.proofs.Targeting.RefusalOrder.{rejected-results-are-equal}
-use Rattle.uri_pct.proofs.Tests.{is_some-option_map}
+use Rattle.uri_pct.proofs.General.{is_some-option_map}
 use Rattle.uri_parts.proofs.TextKinds.KindSets.{with_scheme as scheme_where_needed}
 
 -- resolving: a target has a scheme, before its dot segments are removed,

@@ -26,7 +26,7 @@ use Rattle.uri_ops.proofs.Targeting.Swaps.{merging-base-is-not-opaque}
 use Rattle.uri_ops.proofs.Targeting.Swaps.{base-that-is-not-opaque-has-abempty-path}
 use Rattle.uri_ops.proofs.Targeting.RefusalOrder.{result_or_target_error}
 use Rattle.uri_ops.proofs.Targeting.RefusalOrder.{ok-result-has-no-opaque-rejection}
-use Rattle.uri_pct.proofs.Tests.{not_some_is_none}
+use Rattle.uri_pct.proofs.General.{not_some_is_none}
 
 module _ (kind : Kind) (sets : HasComponentSets kind) where
   -- components with a scheme, each of which meets its rule

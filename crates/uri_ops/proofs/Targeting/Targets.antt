@@ -18,7 +18,7 @@ use Rattle.uri_ops.proofs.Paths.DotLaws.{removing-dots-keeps-absolute, directory
 use Rattle.uri_ops.proofs.Paths.PathCharacters.{test-of-delimiters-gives-lacks}
 use Rattle.uri_ops.proofs.Paths.PathCharacters.{removing-dots-adds-no-character}
 use Rattle.uri_ops.proofs.Paths.PathCharacters.{directory-adds-no-character}
-use Rattle.uri_pct.proofs.Tests.{None-from-is_none}
+use Rattle.uri_pct.proofs.General.{None-from-is_none}
 use Rattle.uri_ops.proofs.Paths.DotRuns.{empty-text-is-nil}
 
 -- targets: components have a scheme, and each lacks the characters that would end it

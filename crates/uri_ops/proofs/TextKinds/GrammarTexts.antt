@@ -25,7 +25,7 @@ use Rattle.uri_ops.proofs.Meanings.AuthorityMeanings.{kind-sets-lack-authority-d
 use Rattle.uri_ops.proofs.TextKinds.FourKinds.{uri-has-component-sets, uri_ref-has-component-sets}
 use Rattle.uri_ops.proofs.TextKinds.FourKinds.{iri-has-component-sets, iri_ref-has-component-sets}
 use Rattle.uri_ops.proofs.Meanings.AllowedParts.{is_set_text, set-text-from-utf8, set-text-is-valid}
-use Rattle.uri_pct.proofs.Tests.{IfSome-weaken, IfSome-combine}
+use Rattle.uri_pct.proofs.General.{IfSome-weaken, IfSome-combine}
 use Rattle.uri_ops.proofs.Meanings.TextParts.{ArePartsOfKind, AreUtf8, components-of-utf8-are-utf8}
 use Rattle.uri_ops.proofs.Meanings.TextParts.{grammar-gives-components-of-kind}
 use Rattle.uri_ops.proofs.Meanings.TextParts.{components-of-kind-meet-grammar}

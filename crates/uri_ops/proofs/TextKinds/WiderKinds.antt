@@ -26,7 +26,7 @@ use Rattle.uri_ops.proofs.Meanings.TextParts.{components-of-utf8-are-utf8}
 use Rattle.uri_ops.proofs.Meanings.TextParts.{grammar-gives-components-of-kind}
 use Rattle.uri_ops.proofs.Meanings.TextParts.{components-of-kind-meet-grammar}
 use Rattle.uri_ops.proofs.Meanings.AuthorityMeanings.{kind-sets-lack-authority-delimiters}
-use Rattle.uri_pct.proofs.Tests.{IfSome-weaken}
+use Rattle.uri_pct.proofs.General.{IfSome-weaken}
 
 module _ (s t : TableSet) (w : IsSubset s t) where
   wider-set-allows-past-ascii : (c : ℕ) → allows_past_ascii s c ≡ true

@@ -46,7 +46,7 @@ use Rattle.uri_parts.proofs.Parsing.ScanStops.{utf8_after_mark}
 use Rattle.uri_parts.proofs.Authorities.WholeAuthorities.{parses_host_and_port}
 use Rattle.uri_parts.proofs.Authorities.WholeAuthorities.{parses_whole_authority}
 use Rattle.uri_parts.proofs.Splitting.Recompose.{text-with-mark-is-mark-and-rest}
-use Rattle.uri_pct.proofs.Tests.{or_false_is_the_same}
+use Rattle.uri_pct.proofs.General.{or_false_is_the_same}
 use Rattle.uri_parts.proofs.Authorities.HostPositions.{places, authority_at-without-userinfo}
 use Rattle.uri_parts.proofs.Authorities.HostPositions.{authority_at-with-userinfo}
 use Rattle.uri_parts.proofs.Authorities.UserinfoLengths.{host_offset-is-after-userinfo-and-at-sign}

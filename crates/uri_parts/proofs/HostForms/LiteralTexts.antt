@@ -10,7 +10,7 @@ use Rattle.std.proofs.lemmas.Bool.Decides.{nat_tests}
 use Rattle.uri_pct.specs.Sets.{is_one_of}
 use Rattle.uri_parts.specs.Components.{starts}
 use Rattle.uri_parts.specs.Hosts.{is_ipv_future}
-use Rattle.uri_pct.proofs.Tests.{eq_true_from_IsTrue}
+use Rattle.uri_pct.proofs.General.{eq_true_from_IsTrue}
 
 -- parsing IP literals: 118 and 86 are `v` and `V`, which begin an IPvFuture address
 pub byte-118-or-86-is-version-letter : (c : ℕ) → (eqb c 118 || eqb c 86) ≡ true

@@ -16,7 +16,7 @@ use Rattle.uri_parts.specs.Grammar.{Kind, absent_or_passes}
 use Rattle.uri_parts.proofs.Parsing.ScanStops.{parses_after-is-valid-before-mark, utf8_from_marks}
 use Rattle.uri_parts.proofs.Parsing.ScanStops.{utf8_after_ascii_byte}
 use Rattle.uri_parts.proofs.TextKinds.Separations.{SeparatesComponents}
-use Rattle.uri_pct.proofs.Tests.{and_true_is_the_same, or_false_is_the_same}
+use Rattle.uri_pct.proofs.General.{and_true_is_the_same, or_false_is_the_same}
 
 -- general fact on numbers, for comparing bytes in the parser
 eqb-is-symmetric : (a b : ℕ) → eqb b a ≡ true → eqb a b ≡ true

@@ -34,7 +34,7 @@ use Rattle.uri_parts.proofs.Splitting.Relative.{parses_relative-without-scheme}
 use Rattle.uri_parts.proofs.Splitting.Relative.{parses_relative-rejects-scheme}
 use Rattle.uri_parts.proofs.Splitting.Relative.{parses_relative-after-scheme-chars}
 use Rattle.uri_parts.proofs.Splitting.Cuts.{before_any-past-other, from_any-at-mark}
-use Rattle.uri_pct.proofs.Tests.{and_true_is_the_same}
+use Rattle.uri_pct.proofs.General.{and_true_is_the_same}
 
 -- general fact on booleans, for parsing a whole text
 and-of-six-regrouped : (a b p q f c : Bool)

@@ -11,7 +11,7 @@ use Rattle.uri_parts.specs.declared.positions.AuthorityPositions.{AuthorityPosit
 use Rattle.uri_parts.specs.Components.{components}
 use Rattle.uri_parts.specs.Positions.{ArePositionsOf, positions_of, before_fragment}
 use Rattle.uri_parts.proofs.Splitting.Recompose.{components-are-split-of-text}
-use Rattle.uri_pct.proofs.Tests.{None-from-not-is_some}
+use Rattle.uri_pct.proofs.General.{None-from-not-is_some}
 use Rattle.uri_parts.proofs.Splitting.Places.{IsComponentAt, authority-of-split-is-at-positions}
 use Rattle.uri_parts.proofs.Splitting.Places.{path-of-split-is-at-positions}
 use Rattle.uri_parts.proofs.Splitting.Places.{query-of-split-is-at-positions}

@@ -26,7 +26,7 @@ use Rattle.uri_parts.proofs.Splitting.Places.{recompose-before_hash, length-befo
 use Rattle.uri_parts.proofs.Splitting.Places.{boundary_before_mark, fragment-mark-is-component-mark}
 use Rattle.uri_parts.proofs.Splitting.Recompose.{components-are-split-of-text}
 use Rattle.uri_parts.proofs.Splitting.Splits.{only-split-is-components}
-use Rattle.uri_pct.proofs.Tests.{IfSome-weaken}
+use Rattle.uri_pct.proofs.General.{IfSome-weaken}
 
 -- splitting: a tail such as a fragment, after a text, makes no scheme of it
 tail-without-colon-keeps-first-colon : (marks prefix back tail : List ℕ) → Lacks marks prefix

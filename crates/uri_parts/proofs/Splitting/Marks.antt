@@ -12,7 +12,7 @@ use Rattle.uri_parts.specs.Components.{after_authority, after_query, when, Lacks
 use Rattle.uri_parts.specs.Components.{before_any, from_any}
 use Rattle.uri_parts.proofs.Splitting.Cuts.{IsEmptyOrMarked, empty-or-marked-for-more-marks}
 use Rattle.uri_parts.proofs.Splitting.Cuts.{cut-at-end-of-text-without-marks}
-use Rattle.uri_pct.proofs.Tests.{eq_true_from_IsTrue}
+use Rattle.uri_pct.proofs.General.{eq_true_from_IsTrue}
 
 -- recomposing: the text of a fragment with its `#`, or nothing
 abbrev pub fragment_text : Option (List ℕ) → List ℕ

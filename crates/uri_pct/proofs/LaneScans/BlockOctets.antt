@@ -11,7 +11,7 @@ use Rattle.std.proofs.lemmas.Bool.{and_from, and_right, not-true, not-false, leb
 use Rattle.uri_pct.specs.Texts.{has_hex_digits_after}
 use Rattle.uri_pct.specs.Models.ByteRuns.{AreCharactersOrOctets, IsLongestRun}
 use Rattle.uri_pct.specs.Models.LaneMasks.{is_lane_of_octet}
-use Rattle.uri_pct.proofs.Tests.{and_true_is_the_same}
+use Rattle.uri_pct.proofs.General.{and_true_is_the_same}
 use Rattle.uri_pct.proofs.TableSets.Masks.{bit_of_bit_and, bit_that_is_not_one_is_zero}
 use Rattle.uri_pct.proofs.LaneScans.LaneBits.{is_set_bit, trailing_zeros_is_first_set_lane}
 use Rattle.uri_pct.proofs.LaneScans.OctetLanes.{first_is_false_if_and_is_false}

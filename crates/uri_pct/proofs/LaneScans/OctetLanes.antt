@@ -19,7 +19,7 @@ use Rattle.uri_pct.proofs.LaneScans.LaneRuns.{MarksFailingLanes}
 use Rattle.uri_pct.proofs.LaneScans.LaneBits.{is_set_bit, bit_of_right_shift, bit_of_left_shift}
 use Rattle.uri_pct.proofs.LaneScans.LaneBits.{low_bit_of_left_shift_is_clear}
 use Rattle.uri_pct.proofs.LaneScans.LaneBits.{clear_lane_passes_test}
-use Rattle.uri_pct.proofs.Tests.{and_true_is_the_same}
+use Rattle.uri_pct.proofs.General.{and_true_is_the_same}
 
 -- sixteen bytes at a time: the two words of the table of digits have hexadecimal digits only
 pub char_of_hex_masks_is_hexdigit : (c : ℕ) → has_bit 0x03FF000000000000 0x0000007E0000007E c ≡ true

@@ -25,7 +25,7 @@ use Rattle.uri_pct.proofs.Unicode.CharacterPieces.{char_of_utf8_is_the_char}
 use Rattle.uri_pct.proofs.Unicode.FirstBytes.{no_range_follows_ascii_byte}
 use Rattle.uri_pct.proofs.ValidTexts.Allowed.{unreserved_is_ascii}
 use Rattle.uri_pct.proofs.UnreservedDecoding.Formatting.{encode_formatting_without_flags_keeps_tokens}
-use Rattle.uri_pct.proofs.Tests.{or_false_is_the_same}
+use Rattle.uri_pct.proofs.General.{or_false_is_the_same}
 
 -- unreserved octets of a URI: exactly unreserved characters are decoded,
 -- as the set has none past ASCII

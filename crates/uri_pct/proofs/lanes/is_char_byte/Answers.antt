@@ -3,7 +3,7 @@ use Rattle.std.specs.Prelude.{nat_le}
 use Rattle.std.proofs.lemmas.Bool.Decides.{nat_tests}
 use Rattle.uri_pct.specs.Masks.{has_bit}
 use Rattle.uri_pct.specs.Models.ByteRuns.{is_char_byte}
-use Rattle.uri_pct.proofs.Tests.{and_true_is_the_same}
+use Rattle.uri_pct.proofs.General.{and_true_is_the_same}
 use Rattle.uri_pct.proofs.TableSets.Masks.{has_bit_past_ascii_is_false}
 use Rattle.uri_pct.proofs.lanes.is_char_byte.Goals as goal
 

@@ -1,7 +1,7 @@
 use Rattle.std.proofs.Common.{sym, ap, ◌∙◌, []}
 use Rattle.std.specs.Prelude.{None}
 use Rattle.std.proofs.lemmas.Bool.{both_ways}
-use Rattle.uri_pct.proofs.Tests.{not_some_is_none}
+use Rattle.uri_pct.proofs.General.{not_some_is_none}
 use Rattle.uri_parts.specs.Components.{components, recompose}
 use Rattle.uri_parts.specs.CoreTexts.{core_text}
 use Rattle.uri_relative.proofs.Forms.{fragment-form-is-reference, query-form-is-reference}

@@ -1,7 +1,7 @@
 use Rattle.std.proofs.Common.{◌≡◌, ◌++◌, length, rules, string_bytes, subst, sym, ap, ◌∙◌}
 use Rattle.std.proofs.lemmas.Bool.{cond-true}
 use Rattle.std.proofs.lemmas.Str.{IsUtf8-string_bytes}
-use Rattle.uri_pct.proofs.Tests.{eq_true_from_IsTrue}
+use Rattle.uri_pct.proofs.General.{eq_true_from_IsTrue}
 use Rattle.uri_parts.specs.Components.{components}
 use Rattle.uri_parts.specs.CoreTexts.{core_text}
 use Rattle.uri_ops.specs.Dots.{IsAbsolute, remove_dot_segments}

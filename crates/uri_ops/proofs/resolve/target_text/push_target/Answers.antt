@@ -8,7 +8,7 @@ use Rattle.uri_ops.specs.Target.{dotted_target}
 use Rattle.uri_ops.proofs.Builders.BuilderGrowth.{string_len-is-length-of-bytes}
 use Rattle.uri_ops.proofs.Normal.WrittenPlaces.{pushed-prefix-and-path-have-positions}
 use Rattle.uri_ops.proofs.Targeting.JoinedPieces.{prefix-path-and-suffix-recompose}
-use Rattle.uri_pct.proofs.Tests.{is_some-option_map}
+use Rattle.uri_pct.proofs.General.{is_some-option_map}
 use Rattle.uri_ops.proofs.resolve.target_text.push_target.Goals as goal
 
 pub push_to_path_end-requires-clause-authority : goal.push_to_path_end-requires-clause-authority

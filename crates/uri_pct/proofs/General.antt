@@ -1,64 +1,62 @@
--- What a test says, and what holds of a part that may be absent.
+-- General facts for all crates: on tests, and on components that may be absent.
 use Rattle.std.proofs.Common.{◌≡◌, ℕ, Bool, true, false, ◌&&◌, ◌||◌, List, refl, rules}
 use Rattle.std.proofs.Common.{option_map, sym}
 use Rattle.std.proofs.lemmas.Bool.{false≢true}
 use Rattle.std.specs.Prelude.{Option, Some, None, IsTrue, IfSome, is_some, is_none}
 
--- general fact on booleans, for all crates: what code tests as true is equal to true
+-- what code tests as true is equal to true
 pub eq_true_from_IsTrue : (b : Bool) → IsTrue b → b ≡ true
 eq_true_from_IsTrue b h = search rules
 
--- general fact on options, for all crates: what holds of a component implies what follows from it
+-- what holds of a component implies what follows from it
 pub IfSome-weaken : (o : Option (List ℕ)) (P Q : List ℕ → Type 0) → ((x : List ℕ) → P x → Q x)
     → IfSome o P → IfSome o Q
 IfSome-weaken None P Q f h = tt
 IfSome-weaken (Some x) P Q f h = f x h
 
--- general fact on options, for all crates: two facts of a component are combined
+-- two facts of a component are combined
 pub IfSome-combine : (o : Option (List ℕ)) (P Q R : List ℕ → Type 0)
     → ((x : List ℕ) → P x → Q x → R x)
     → IfSome o P → IfSome o Q → IfSome o R
 IfSome-combine None P Q R f p q = tt
 IfSome-combine (Some x) P Q R f p q = f x p q
 
--- general fact on options, for all crates: mapping keeps whether there is a component
+-- mapping keeps whether there is a component
 pub is_some-option_map : {A B : Type 0} (f : A → B) (o : Option A) → is_some (option_map f o)
     ≡ is_some o
 is_some-option_map f None = refl
 is_some-option_map f (Some x) = refl
 
--- general fact on options, for all crates: mapping keeps whether there is no component
+-- mapping keeps whether there is no component
 pub is_none-option_map : {A B : Type 0} (f : A → B) (o : Option A) → is_none (option_map f o)
     ≡ is_none o
 is_none-option_map f None = refl
 is_none-option_map f (Some x) = refl
 
--- general fact on options, for all crates: a component that is there is not absent
+-- a component that is there is not absent
 pub some_is_not_none : {A : Type 0} (o : Option A) → is_some o ≡ true → is_none o ≡ false
 some_is_not_none None e = absurd (false≢true e)
 some_is_not_none (Some x) e = refl
 
--- general fact on options, for all crates: a component that is not there is absent
+-- a component that is not there is absent
 pub not_some_is_none : {A : Type 0} (o : Option A) → is_some o ≡ false → is_none o ≡ true
 not_some_is_none None e = refl
 not_some_is_none (Some x) e = absurd (false≢true (sym e))
 
--- general fact on options, for all crates: a component that is not there is `None`
+-- a component that is not there is `None`
 pub None-from-not-is_some : {A : Type 0} (o : Option A) → is_some o ≡ false → o ≡ None
 None-from-not-is_some None e = refl
 None-from-not-is_some (Some x) e = absurd (false≢true (sym e))
 
--- general fact on options, for all crates: a component that is absent is `None`
+-- a component that is absent is `None`
 pub None-from-is_none : {A : Type 0} (o : Option A) → is_none o ≡ true → o ≡ None
 None-from-is_none None e = refl
 None-from-is_none (Some x) e = absurd (false≢true e)
 
--- general fact on booleans, for all crates
 pub and_true_is_the_same : (b : Bool) → (b && true) ≡ b
 and_true_is_the_same true = refl
 and_true_is_the_same false = refl
 
--- general fact on booleans, for all crates
 pub or_false_is_the_same : (b : Bool) → (b || false) ≡ b
 or_false_is_the_same true = refl
 or_false_is_the_same false = refl
