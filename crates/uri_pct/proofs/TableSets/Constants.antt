@@ -25,61 +25,13 @@ agreeing_masks_are_set_of_test low high pct_encoded test same none =
     sets_equal_by_agreement (has_bit low high) test pct_encoded false false
     (has_bit-by-agreement low high test same none)
 
--- sets: no letter of ALPHA is past ASCII
-past_ascii_is_not_alphabetic : (c : ℕ) → 128 ≤ c → is_ascii_alphabetic c ≡ false
-past_ascii_is_not_alphabetic c h = grind (arith, nat_tests)
-
--- sets: no digit is past ASCII
-past_ascii_is_no_digit : (c : ℕ) → 128 ≤ c → is_ascii_digit c ≡ false
-past_ascii_is_no_digit c h = grind (arith, nat_tests)
-
 -- sets: a hexadecimal digit is below 128
 pub past_ascii_is_no_hexdigit : (c : ℕ) → 128 ≤ c → is_ascii_hexdigit c ≡ false
 past_ascii_is_no_hexdigit c h = grind (arith, nat_tests)
 
--- sets: no character of a scheme is past ASCII
-past_ascii_is_no_scheme_char : (c : ℕ) → 128 ≤ c → is_scheme_char c ≡ false
-past_ascii_is_no_scheme_char c h = grind (arith, nat_tests)
-
--- sets: no character of a URI's userinfo is past ASCII
-past_ascii_is_no_userinfo_char : (c : ℕ) → 128 ≤ c → is_userinfo_char c ≡ false
-past_ascii_is_no_userinfo_char c h = grind (arith, nat_tests)
-
--- sets: no character of a URI's registered name is past ASCII
-past_ascii_is_no_reg_name_char : (c : ℕ) → 128 ≤ c → is_reg_name_char c ≡ false
-past_ascii_is_no_reg_name_char c h = grind (arith, nat_tests)
-
--- sets: no character of a URI's path is past ASCII
-past_ascii_is_no_path_char : (c : ℕ) → 128 ≤ c → is_path_char c ≡ false
-past_ascii_is_no_path_char c h = grind (arith, nat_tests)
-
--- sets: no character of a URI's first segment is past ASCII
-past_ascii_is_no_segment_nz_nc_char : (c : ℕ) → 128 ≤ c → is_segment_nz_nc_char c ≡ false
-past_ascii_is_no_segment_nz_nc_char c h = grind (arith, nat_tests)
-
--- sets: no character of a URI's segment is past ASCII
-past_ascii_is_no_pchar : (c : ℕ) → 128 ≤ c → is_pchar c ≡ false
-past_ascii_is_no_pchar c h = grind (arith, nat_tests)
-
--- sets: no character of a URI's query is past ASCII
-past_ascii_is_no_query_char : (c : ℕ) → 128 ≤ c → is_query_char c ≡ false
-past_ascii_is_no_query_char c h = grind (arith, nat_tests)
-
 -- sets: an unreserved character is below 128
 pub past_ascii_is_not_unreserved : (c : ℕ) → 128 ≤ c → is_unreserved c ≡ false
 past_ascii_is_not_unreserved c h = grind (arith, nat_tests)
-
--- sets: no reserved character is past ASCII
-past_ascii_is_not_reserved : (c : ℕ) → 128 ≤ c → is_reserved c ≡ false
-past_ascii_is_not_reserved c h = grind (arith, nat_tests)
-
--- sets: no character of gen-delims is past ASCII
-past_ascii_is_no_gen_delim : (c : ℕ) → 128 ≤ c → is_gen_delim c ≡ false
-past_ascii_is_no_gen_delim c h = grind (arith, nat_tests)
-
--- sets: no character of sub-delims is past ASCII
-past_ascii_is_no_sub_delim : (c : ℕ) → 128 ≤ c → is_sub_delim c ≡ false
-past_ascii_is_no_sub_delim c h = grind (arith, nat_tests)
 
 -- the table of ALPHA (two words, then the flags pct_encoded,
 -- ucschar and iprivate) is its set (RFC 5234)
@@ -88,7 +40,7 @@ pub alpha_masks_are_alpha_set : set_of_masks 0x0000000000000000 0x07FFFFFE07FFFF
 unfolding has_bit
 alpha_masks_are_alpha_set = agreeing_masks_are_set_of_test 0x0000000000000000 0x07FFFFFE07FFFFFE
     false is_ascii_alphabetic refl
-    past_ascii_is_not_alphabetic
+    (λ c h. grind (arith, nat_tests))
 
 -- the table of DIGIT (two words, then the flags pct_encoded,
 -- ucschar and iprivate) is its set (RFC 5234)
@@ -96,7 +48,7 @@ pub digit_masks_are_digit_set : set_of_masks 0x03FF000000000000 0x00000000000000
     ≡ digit_set
 unfolding has_bit
 digit_masks_are_digit_set = agreeing_masks_are_set_of_test 0x03FF000000000000 0x0000000000000000
-    false is_ascii_digit refl past_ascii_is_no_digit
+    false is_ascii_digit refl (λ c h. grind (arith, nat_tests))
 
 -- the table of HEXDIG (two words, then the flags pct_encoded,
 -- ucschar and iprivate) is its set (RFC 5234)
@@ -112,7 +64,7 @@ pub scheme_masks_are_scheme_set : set_of_masks 0x03FF680000000000 0x07FFFFFE07FF
     false ≡ scheme_set
 unfolding has_bit
 scheme_masks_are_scheme_set = agreeing_masks_are_set_of_test 0x03FF680000000000 0x07FFFFFE07FFFFFE
-    false is_scheme_char refl past_ascii_is_no_scheme_char
+    false is_scheme_char refl (λ c h. grind (arith, nat_tests))
 
 -- the table of userinfo (two words and three flags) is its set (RFC 3986, section 3.2.1)
 pub userinfo_masks_are_userinfo_set : set_of_masks 0x2FFF7FD200000000 0x47FFFFFE87FFFFFE true
@@ -121,7 +73,7 @@ pub userinfo_masks_are_userinfo_set : set_of_masks 0x2FFF7FD200000000 0x47FFFFFE
 unfolding has_bit
 userinfo_masks_are_userinfo_set = agreeing_masks_are_set_of_test 0x2FFF7FD200000000
     0x47FFFFFE87FFFFFE true is_userinfo_char refl
-    past_ascii_is_no_userinfo_char
+    (λ c h. grind (arith, nat_tests))
 
 -- the table of an IPvFuture address (two words and three flags)
 -- is its set (RFC 3986, section 3.2.2)
@@ -131,7 +83,7 @@ pub ipv_future_masks_are_ipv_future_set : set_of_masks 0x2FFF7FD200000000 0x47FF
 unfolding has_bit
 ipv_future_masks_are_ipv_future_set = agreeing_masks_are_set_of_test 0x2FFF7FD200000000
     0x47FFFFFE87FFFFFE false is_userinfo_char refl
-    past_ascii_is_no_userinfo_char
+    (λ c h. grind (arith, nat_tests))
 
 -- the table of a registered name (two words and three flags) is its set (RFC 3986, section 3.2.2)
 pub reg_name_masks_are_reg_name_set : set_of_masks 0x2BFF7FD200000000 0x47FFFFFE87FFFFFE true
@@ -140,14 +92,14 @@ pub reg_name_masks_are_reg_name_set : set_of_masks 0x2BFF7FD200000000 0x47FFFFFE
 unfolding has_bit
 reg_name_masks_are_reg_name_set = agreeing_masks_are_set_of_test 0x2BFF7FD200000000
     0x47FFFFFE87FFFFFE true is_reg_name_char refl
-    past_ascii_is_no_reg_name_char
+    (λ c h. grind (arith, nat_tests))
 
 -- the table of a path (two words and three flags) is its set (RFC 3986, section 3.3)
 pub path_masks_are_path_set : set_of_masks 0x2FFFFFD200000000 0x47FFFFFE87FFFFFF true false false
     ≡ path_set
 unfolding has_bit
 path_masks_are_path_set = agreeing_masks_are_set_of_test 0x2FFFFFD200000000 0x47FFFFFE87FFFFFF true
-    is_path_char refl past_ascii_is_no_path_char
+    is_path_char refl (λ c h. grind (arith, nat_tests))
 
 -- the table of a segment without `:` (two words and three flags) is its set (RFC 3986, section 3.3)
 pub segment_nz_nc_masks_are_segment_nz_nc_set : set_of_masks 0x2BFF7FD200000000 0x47FFFFFE87FFFFFF
@@ -156,21 +108,21 @@ pub segment_nz_nc_masks_are_segment_nz_nc_set : set_of_masks 0x2BFF7FD200000000 
 unfolding has_bit
 segment_nz_nc_masks_are_segment_nz_nc_set = agreeing_masks_are_set_of_test 0x2BFF7FD200000000
     0x47FFFFFE87FFFFFF true is_segment_nz_nc_char refl
-    past_ascii_is_no_segment_nz_nc_char
+    (λ c h. grind (arith, nat_tests))
 
 -- the table of a segment (two words and three flags) is its set (RFC 3986, section 3.3)
 pub pchar_masks_are_pchar_set : set_of_masks 0x2FFF7FD200000000 0x47FFFFFE87FFFFFF true false false
     ≡ pchar_set
 unfolding has_bit
 pchar_masks_are_pchar_set = agreeing_masks_are_set_of_test 0x2FFF7FD200000000 0x47FFFFFE87FFFFFF
-    true is_pchar refl past_ascii_is_no_pchar
+    true is_pchar refl (λ c h. grind (arith, nat_tests))
 
 -- the table of a query (two words and three flags) is its set (RFC 3986, section 3.4)
 pub query_masks_are_query_set : set_of_masks 0xAFFFFFD200000000 0x47FFFFFE87FFFFFF true false false
     ≡ query_set
 unfolding has_bit
 query_masks_are_query_set = agreeing_masks_are_set_of_test 0xAFFFFFD200000000 0x47FFFFFE87FFFFFF
-    true is_query_char refl past_ascii_is_no_query_char
+    true is_query_char refl (λ c h. grind (arith, nat_tests))
 
 -- the table of a fragment (two words and three flags) is its set (RFC 3986, section 3.5)
 pub fragment_masks_are_fragment_set : set_of_masks 0xAFFFFFD200000000 0x47FFFFFE87FFFFFF true
@@ -178,7 +130,7 @@ pub fragment_masks_are_fragment_set : set_of_masks 0xAFFFFFD200000000 0x47FFFFFE
     ≡ fragment_set
 unfolding has_bit
 fragment_masks_are_fragment_set = agreeing_masks_are_set_of_test 0xAFFFFFD200000000
-    0x47FFFFFE87FFFFFF true is_query_char refl past_ascii_is_no_query_char
+    0x47FFFFFE87FFFFFF true is_query_char refl (λ c h. grind (arith, nat_tests))
 
 -- the table of unreserved characters (two words and three flags)
 -- is their set (RFC 3986, section 2.3)
@@ -196,7 +148,7 @@ pub reserved_masks_are_reserved_set : set_of_masks 0xAC009FDA00000000 0x00000000
     ≡ reserved_set
 unfolding has_bit
 reserved_masks_are_reserved_set = agreeing_masks_are_set_of_test 0xAC009FDA00000000
-    0x0000000028000001 false is_reserved refl past_ascii_is_not_reserved
+    0x0000000028000001 false is_reserved refl (λ c h. grind (arith, nat_tests))
 
 -- the table of gen-delims (two words and three flags) is their set (RFC 3986, section 2.2)
 pub gen_delims_masks_are_gen_delims_set : set_of_masks 0x8400800800000000 0x0000000028000001 false
@@ -205,7 +157,7 @@ pub gen_delims_masks_are_gen_delims_set : set_of_masks 0x8400800800000000 0x0000
 unfolding has_bit
 gen_delims_masks_are_gen_delims_set = agreeing_masks_are_set_of_test 0x8400800800000000
     0x0000000028000001 false is_gen_delim refl
-    past_ascii_is_no_gen_delim
+    (λ c h. grind (arith, nat_tests))
 
 -- the table of sub-delims (two words and three flags) is their set (RFC 3986, section 2.2)
 pub sub_delims_masks_are_sub_delims_set : set_of_masks 0x28001FD200000000 0x0000000000000000 false
@@ -214,7 +166,7 @@ pub sub_delims_masks_are_sub_delims_set : set_of_masks 0x28001FD200000000 0x0000
 unfolding has_bit
 sub_delims_masks_are_sub_delims_set = agreeing_masks_are_set_of_test 0x28001FD200000000
     0x0000000000000000 false is_sub_delim refl
-    past_ascii_is_no_sub_delim
+    (λ c h. grind (arith, nat_tests))
 
 -- tables: those of an IRI are those of a URI, with the flags ucschar and iprivate
 masks_with_flags_are_set_with_flags : (low high : ℕ) (set : TableSet) (ucschar iprivate : Bool)

@@ -1,4 +1,4 @@
-use Rattle.std.proofs.Common.{arith}
+use Rattle.std.proofs.Common.{arith, refl, rules}
 use Rattle.std.specs.Simd.Lanes.{chunk}
 use Rattle.uri_pct.specs.Masks.{has_bit}
 use Rattle.uri_pct.proofs.LaneScans.LaneMasks.{index_of_mask_byte_is_small}
@@ -13,77 +13,54 @@ use Rattle.uri_pct.proofs.LaneScans.BlockOctets.{start_is_within_block, block_wi
 use Rattle.uri_pct.proofs.LaneScans.BlockOctets.{first_left_lane_fails, bytes_before_left_lanes}
 use Rattle.uri_pct.proofs.LaneScans.BlockOctets.{left_percent_is_stray}
 use Rattle.uri_pct.proofs.lanes.first_run_end.Goals as goal
+use Rattle.uri_pct.proofs.lanes.first_run_end.Goals.{Else-mask-eq0}
+
+-- the mask marks the bytes of the block outside the set
+marks : (c : Else-mask-eq0) → MarksFailingLanesFrom (has_bit c.args.low c.args.high)
+    c.args.bytes.now c.args.start c.first_block_outside-block.result.0
+    c.first_block_outside-block.result.1
+marks c =
+    let b = c.first_block_outside-block.ensures in
+    record { below = b.below; lane = b.lane; before = b.before }
 
 -- no byte is outside the set
-pub returns-then-mask-eq0-clause-allowed : goal.returns-then-mask-eq0-clause-allowed
-returns-then-mask-eq0-clause-allowed c =
-    let b = c.first_block_outside-block in
-    let m : MarksFailingLanesFrom (has_bit c.args.low c.args.high) c.args.bytes.now c.args.start
-    b.result.0 b.result.1 =
-    record { below = b.ensures.below; lane = b.ensures.lane; before = b.ensures.before } in
-    passing_bytes_are_characters _ _ _ _
-    (run_goes_on_to_end _ _ _ _ _ m c.if-mask-eq0.true (b.ensures.last c.if-mask-eq0.true)
-    c.requires.within)
-
-pub returns-then-mask-eq0-clause-plain : goal.returns-then-mask-eq0-clause-plain
-returns-then-mask-eq0-clause-plain c = λ _.
-    let b = c.first_block_outside-block in
-    let m : MarksFailingLanesFrom (has_bit c.args.low c.args.high) c.args.bytes.now c.args.start
-    b.result.0 b.result.1 =
-    record { below = b.ensures.below; lane = b.ensures.lane; before = b.ensures.before } in
-    run_goes_on_to_end _ _ _ _ _ m c.if-mask-eq0.true (b.ensures.last c.if-mask-eq0.true)
-    c.requires.within
+pub returns-then-mask-eq0 : goal.returns-then-mask-eq0
+returns-then-mask-eq0 c =
+    let b = c.first_block_outside-block.ensures in
+    let run = run_goes_on_to_end _ _ _ _ _
+    (record { below = b.below; lane = b.lane; before = b.before })
+    c.if-mask-eq0.true (b.last c.if-mask-eq0.true) c.requires.within in
+    record {
+      from = run.from;
+      within = run.within;
+      allowed = passing_bytes_are_characters _ _ _ _ run;
+      ends = λ _. refl;
+      plain = λ _. run;
+      outside = λ _ h. absurd (omega arith);
+      stray = λ _ _ h _. absurd (omega arith);
+    }
 
 -- the first byte outside the set
 pub bounds-bytes-first : goal.bounds-bytes-first
 bounds-bytes-first c =
-    let b = c.first_block_outside-block in
-    let m : MarksFailingLanesFrom (has_bit c.args.low c.args.high) c.args.bytes.now c.args.start
-    b.result.0 b.result.1 =
-    record { below = b.ensures.below; lane = b.ensures.lane; before = b.ensures.before } in
-    let f = trailing_zeros_is_first_set_lane _ m.below c.if-mask-eq0.false in
-    omega (arith, b.ensures.room, f.0)
+    let b = c.first_block_outside-block.ensures in
+    let f = trailing_zeros_is_first_set_lane _ b.below c.if-mask-eq0.false in
+    omega (arith, b.room, f.0)
 
-pub returns-then-bytes-first-ne37-clause-from : goal.returns-then-bytes-first-ne37-clause-from
-returns-then-bytes-first-ne37-clause-from c =
-    let b = c.first_block_outside-block in
-    let m : MarksFailingLanesFrom (has_bit c.args.low c.args.high) c.args.bytes.now c.args.start
-    b.result.0 b.result.1 =
-    record { below = b.ensures.below; lane = b.ensures.lane; before = b.ensures.before } in
-    (run_ends_at_first_marked_byte _ _ _ _ _ m c.if-mask-eq0.false b.ensures.room).from
-
-pub returns-then-bytes-first-ne37-clause-within : goal.returns-then-bytes-first-ne37-clause-within
-returns-then-bytes-first-ne37-clause-within c =
-    let b = c.first_block_outside-block in
-    let m : MarksFailingLanesFrom (has_bit c.args.low c.args.high) c.args.bytes.now c.args.start
-    b.result.0 b.result.1 =
-    record { below = b.ensures.below; lane = b.ensures.lane; before = b.ensures.before } in
-    (run_ends_at_first_marked_byte _ _ _ _ _ m c.if-mask-eq0.false b.ensures.room).within
-
-pub returns-then-bytes-first-ne37-clause-allowed : goal.returns-then-bytes-first-ne37-clause-allowed
-returns-then-bytes-first-ne37-clause-allowed c =
-    let b = c.first_block_outside-block in
-    let m : MarksFailingLanesFrom (has_bit c.args.low c.args.high) c.args.bytes.now c.args.start
-    b.result.0 b.result.1 =
-    record { below = b.ensures.below; lane = b.ensures.lane; before = b.ensures.before } in
-    passing_bytes_are_characters _ _ _ _
-    (run_ends_at_first_marked_byte _ _ _ _ _ m c.if-mask-eq0.false b.ensures.room)
-
-pub returns-then-bytes-first-ne37-clause-plain : goal.returns-then-bytes-first-ne37-clause-plain
-returns-then-bytes-first-ne37-clause-plain c = λ _.
-    let b = c.first_block_outside-block in
-    let m : MarksFailingLanesFrom (has_bit c.args.low c.args.high) c.args.bytes.now c.args.start
-    b.result.0 b.result.1 =
-    record { below = b.ensures.below; lane = b.ensures.lane; before = b.ensures.before } in
-    run_ends_at_first_marked_byte _ _ _ _ _ m c.if-mask-eq0.false b.ensures.room
-
-pub returns-then-bytes-first-ne37-clause-outside : goal.returns-then-bytes-first-ne37-clause-outside
-returns-then-bytes-first-ne37-clause-outside c = λ _ inside.
-    let b = c.first_block_outside-block in
-    let m : MarksFailingLanesFrom (has_bit c.args.low c.args.high) c.args.bytes.now c.args.start
-    b.result.0 b.result.1 =
-    record { below = b.ensures.below; lane = b.ensures.lane; before = b.ensures.before } in
-    (run_ends_at_first_marked_byte _ _ _ _ _ m c.if-mask-eq0.false b.ensures.room).stop inside
+pub returns-then-bytes-first-ne37 : goal.returns-then-bytes-first-ne37
+returns-then-bytes-first-ne37 c =
+    let m = marks (goal.at.returns-then-bytes-first-ne37 c).Else-mask-eq0 in
+    let run = run_ends_at_first_marked_byte _ _ _ _ _ m c.if-mask-eq0.false
+    c.first_block_outside-block.ensures.room in
+    record {
+      from = run.from;
+      within = run.within;
+      allowed = passing_bytes_are_characters _ _ _ _ run;
+      ends = λ _. refl;
+      plain = λ _. run;
+      outside = λ _. run.stop;
+      stray = search rules;
+    }
 
 -- the keys of the block are those of its bytes
 pub outside_by_keys-no_digits-requires : goal.outside_by_keys-no_digits-requires
@@ -95,157 +72,75 @@ outside_by_keys-no_digits-requires c k h = index_of_mask_byte_is_small
 pub lanes_outside_octets-open-requires-clause-digits
     : goal.lanes_outside_octets-open-requires-clause-digits
 lanes_outside_octets-open-requires-clause-digits c = λ all k octet.
-    let b = c.first_block_outside-block in
-    let m : MarksFailingLanesFrom (has_bit c.args.low c.args.high) c.args.bytes.now c.args.start
-    b.result.0 b.result.1 =
-    record { below = b.ensures.below; lane = b.ensures.lane; before = b.ensures.before } in
+    let at = goal.at.lanes_outside_octets-open-requires-clause-digits c in
     let starts = c.octet_starts.ensures.starts k octet in
-    digits_of_octet_are_unmarked _ _ _ _ _ m all k starts.0 starts.2
+    digits_of_octet_are_unmarked _ _ _ _ _ (marks at.Else-mask-eq0) all k starts.0
+    starts.2
 
 -- the first lane outside the set and octets is before the last two lanes
-pub returns-then-certain-ne0-clause-from : goal.returns-then-certain-ne0-clause-from
-returns-then-certain-ne0-clause-from c =
-    let b = c.first_block_outside-block in
-    let m : MarksFailingLanesFrom (has_bit c.args.low c.args.high) c.args.bytes.now c.args.start
-    b.result.0 b.result.1 =
-    record { below = b.ensures.below; lane = b.ensures.lane; before = b.ensures.before } in
+pub returns-then-certain-ne0 : goal.returns-then-certain-ne0
+returns-then-certain-ne0 c =
+    let m = marks (goal.at.returns-then-certain-ne0 c).Else-mask-eq0 in
     let s = c.octet_starts in
     let o = c.lanes_outside_octets-open in
     let first = first_of_lower_lanes o.result o.ensures.below c.if-certain-ne0.true in
-    (first_left_lane_fails _ _ _ _ _ m s.result o.result c.if-mask-eq0.false
-    s.ensures.starts s.ensures.all o.ensures.lane _ first.1).0
-
-pub returns-then-certain-ne0-clause-within : goal.returns-then-certain-ne0-clause-within
-returns-then-certain-ne0-clause-within c =
-    let b = c.first_block_outside-block in
-    let m : MarksFailingLanesFrom (has_bit c.args.low c.args.high) c.args.bytes.now c.args.start
-    b.result.0 b.result.1 =
-    record { below = b.ensures.below; lane = b.ensures.lane; before = b.ensures.before } in
-    let s = c.octet_starts in
-    let o = c.lanes_outside_octets-open in
-    let first = first_of_lower_lanes o.result o.ensures.below c.if-certain-ne0.true in
-    omega (arith, b.ensures.room, first.0)
-
-pub returns-then-certain-ne0-clause-allowed : goal.returns-then-certain-ne0-clause-allowed
-returns-then-certain-ne0-clause-allowed c =
-    let b = c.first_block_outside-block in
-    let m : MarksFailingLanesFrom (has_bit c.args.low c.args.high) c.args.bytes.now c.args.start
-    b.result.0 b.result.1 =
-    record { below = b.ensures.below; lane = b.ensures.lane; before = b.ensures.before } in
-    let s = c.octet_starts in
-    let o = c.lanes_outside_octets-open in
-    let first = first_of_lower_lanes o.result o.ensures.below c.if-certain-ne0.true in
-    bytes_before_left_lanes _ _ _ _ _ m s.result o.result c.if-mask-eq0.false
-    s.ensures.starts s.ensures.all o.ensures.lane _ first.1
-
-pub returns-then-certain-ne0-clause-outside : goal.returns-then-certain-ne0-clause-outside
-returns-then-certain-ne0-clause-outside c = λ _ _.
-    let b = c.first_block_outside-block in
-    let m : MarksFailingLanesFrom (has_bit c.args.low c.args.high) c.args.bytes.now c.args.start
-    b.result.0 b.result.1 =
-    record { below = b.ensures.below; lane = b.ensures.lane; before = b.ensures.before } in
-    let s = c.octet_starts in
-    let o = c.lanes_outside_octets-open in
-    let first = first_of_lower_lanes o.result o.ensures.below c.if-certain-ne0.true in
-    (first_left_lane_fails _ _ _ _ _ m s.result o.result c.if-mask-eq0.false
-    s.ensures.starts s.ensures.all o.ensures.lane _ first.1).1
-
-pub returns-then-certain-ne0-clause-stray : goal.returns-then-certain-ne0-clause-stray
-returns-then-certain-ne0-clause-stray c = λ _ _ _ percent.
-    let b = c.first_block_outside-block in
-    let m : MarksFailingLanesFrom (has_bit c.args.low c.args.high) c.args.bytes.now c.args.start
-    b.result.0 b.result.1 =
-    record { below = b.ensures.below; lane = b.ensures.lane; before = b.ensures.before } in
-    let s = c.octet_starts in
-    let o = c.lanes_outside_octets-open in
-    let first = first_of_lower_lanes o.result o.ensures.below c.if-certain-ne0.true in
-    left_percent_is_stray _ _ _ _ _ m s.result o.result c.if-mask-eq0.false
-    s.ensures.starts s.ensures.all o.ensures.lane _ first.1 first.0 percent
+    let fails = first_left_lane_fails _ _ _ _ _ m s.result o.result c.if-mask-eq0.false
+    s.ensures.starts s.ensures.all o.ensures.lane _ first.1 in
+    record {
+      from = fails.0;
+      within = omega (arith, c.first_block_outside-block.ensures.room, first.0);
+      allowed = bytes_before_left_lanes _ _ _ _ _ m s.result o.result c.if-mask-eq0.false
+          s.ensures.starts s.ensures.all o.ensures.lane _ first.1;
+      ends = λ _. refl;
+      plain = search rules;
+      outside = λ _ _. fails.1;
+      stray = λ _ _ _. left_percent_is_stray _ _ _ _ _ m s.result o.result c.if-mask-eq0.false
+          s.ensures.starts s.ensures.all o.ensures.lane _ first.1 first.0;
+    }
 
 -- there is none
-pub returns-then-last-eq0-clause-from : goal.returns-then-last-eq0-clause-from
-returns-then-last-eq0-clause-from c =
-    let b = c.first_block_outside-block in
-    let m : MarksFailingLanesFrom (has_bit c.args.low c.args.high) c.args.bytes.now c.args.start
-    b.result.0 b.result.1 =
-    record { below = b.ensures.below; lane = b.ensures.lane; before = b.ensures.before } in
+pub returns-then-last-eq0 : goal.returns-then-last-eq0
+returns-then-last-eq0 c =
+    let m = marks (goal.at.returns-then-last-eq0 c).Else-mask-eq0 in
     let s = c.octet_starts in
     let o = c.lanes_outside_octets-open in
-    start_is_within_block _ _ _ _ _ m s.result o.result c.if-mask-eq0.false
-    s.ensures.starts s.ensures.all o.ensures.lane
-
-pub returns-then-last-eq0-clause-allowed : goal.returns-then-last-eq0-clause-allowed
-returns-then-last-eq0-clause-allowed c =
-    let b = c.first_block_outside-block in
-    let m : MarksFailingLanesFrom (has_bit c.args.low c.args.high) c.args.bytes.now c.args.start
-    b.result.0 b.result.1 =
-    record { below = b.ensures.below; lane = b.ensures.lane; before = b.ensures.before } in
-    let s = c.octet_starts in
-    let o = c.lanes_outside_octets-open in
-    block_without_left_lanes _ _ _ _ _ m s.result o.result c.if-mask-eq0.false
-    s.ensures.starts s.ensures.all o.ensures.lane
-    (no_lane_of_both_parts o.result c.if-certain-ne0.false c.if-last-eq0.true)
+    record {
+      from = start_is_within_block _ _ _ _ _ m s.result o.result c.if-mask-eq0.false
+          s.ensures.starts s.ensures.all o.ensures.lane;
+      within = search rules;
+      allowed = block_without_left_lanes _ _ _ _ _ m s.result o.result c.if-mask-eq0.false
+          s.ensures.starts s.ensures.all o.ensures.lane
+          (no_lane_of_both_parts o.result c.if-certain-ne0.false c.if-last-eq0.true);
+      ends = search rules;
+      plain = search rules;
+      outside = search rules;
+      stray = search rules;
+    }
 
 -- it is one of the last two lanes
 pub bounds-bytes-end : goal.bounds-bytes-end
 bounds-bytes-end c =
-    let b = c.first_block_outside-block in
-    let m : MarksFailingLanesFrom (has_bit c.args.low c.args.high) c.args.bytes.now c.args.start
-    b.result.0 b.result.1 =
-    record { below = b.ensures.below; lane = b.ensures.lane; before = b.ensures.before } in
-    let s = c.octet_starts in
     let o = c.lanes_outside_octets-open in
     let first = first_of_last_lanes o.result o.ensures.below c.if-certain-ne0.false
     c.if-last-eq0.false in
-    omega (arith, b.ensures.room, first.within)
+    omega (arith, c.first_block_outside-block.ensures.room, first.within)
 
-pub returns-clause-from : goal.returns-clause-from
-returns-clause-from c =
-    let b = c.first_block_outside-block in
-    let m : MarksFailingLanesFrom (has_bit c.args.low c.args.high) c.args.bytes.now c.args.start
-    b.result.0 b.result.1 =
-    record { below = b.ensures.below; lane = b.ensures.lane; before = b.ensures.before } in
+pub returns : goal.returns
+returns c =
+    let m = marks (goal.at.returns c).Else-mask-eq0 in
     let s = c.octet_starts in
     let o = c.lanes_outside_octets-open in
     let first = first_of_last_lanes o.result o.ensures.below c.if-certain-ne0.false
     c.if-last-eq0.false in
-    (first_left_lane_fails _ _ _ _ _ m s.result o.result c.if-mask-eq0.false
-    s.ensures.starts s.ensures.all o.ensures.lane _ first).0
-
-pub returns-clause-within : goal.returns-clause-within
-returns-clause-within c =
-    let b = c.first_block_outside-block in
-    let m : MarksFailingLanesFrom (has_bit c.args.low c.args.high) c.args.bytes.now c.args.start
-    b.result.0 b.result.1 =
-    record { below = b.ensures.below; lane = b.ensures.lane; before = b.ensures.before } in
-    let s = c.octet_starts in
-    let o = c.lanes_outside_octets-open in
-    let first = first_of_last_lanes o.result o.ensures.below c.if-certain-ne0.false
-    c.if-last-eq0.false in
-    omega (arith, b.ensures.room, first.within)
-
-pub returns-clause-allowed : goal.returns-clause-allowed
-returns-clause-allowed c =
-    let b = c.first_block_outside-block in
-    let m : MarksFailingLanesFrom (has_bit c.args.low c.args.high) c.args.bytes.now c.args.start
-    b.result.0 b.result.1 =
-    record { below = b.ensures.below; lane = b.ensures.lane; before = b.ensures.before } in
-    let s = c.octet_starts in
-    let o = c.lanes_outside_octets-open in
-    let first = first_of_last_lanes o.result o.ensures.below c.if-certain-ne0.false
-    c.if-last-eq0.false in
-    bytes_before_left_lanes _ _ _ _ _ m s.result o.result c.if-mask-eq0.false
-    s.ensures.starts s.ensures.all o.ensures.lane _ first
-
-pub returns-clause-outside : goal.returns-clause-outside
-returns-clause-outside c = λ _ _.
-    let b = c.first_block_outside-block in
-    let m : MarksFailingLanesFrom (has_bit c.args.low c.args.high) c.args.bytes.now c.args.start
-    b.result.0 b.result.1 =
-    record { below = b.ensures.below; lane = b.ensures.lane; before = b.ensures.before } in
-    let s = c.octet_starts in
-    let o = c.lanes_outside_octets-open in
-    let first = first_of_last_lanes o.result o.ensures.below c.if-certain-ne0.false
-    c.if-last-eq0.false in
-    (first_left_lane_fails _ _ _ _ _ m s.result o.result c.if-mask-eq0.false
-    s.ensures.starts s.ensures.all o.ensures.lane _ first).1
+    let fails = first_left_lane_fails _ _ _ _ _ m s.result o.result c.if-mask-eq0.false
+    s.ensures.starts s.ensures.all o.ensures.lane _ first in
+    record {
+      from = fails.0;
+      within = omega (arith, c.first_block_outside-block.ensures.room, first.within);
+      allowed = bytes_before_left_lanes _ _ _ _ _ m s.result o.result c.if-mask-eq0.false
+          s.ensures.starts s.ensures.all o.ensures.lane _ first;
+      ends = search rules;
+      plain = search rules;
+      outside = λ _ _. fails.1;
+      stray = search rules;
+    }
