@@ -16,8 +16,7 @@ IfSome-weaken (Some x) P Q f h = f x h
 
 -- two facts of a component are combined
 pub IfSome-combine : (o : Option (List ℕ)) (P Q R : List ℕ → Type 0)
-    → ((x : List ℕ) → P x → Q x → R x)
-    → IfSome o P → IfSome o Q → IfSome o R
+    → ((x : List ℕ) → P x → Q x → R x) → IfSome o P → IfSome o Q → IfSome o R
 IfSome-combine None P Q R f p q = tt
 IfSome-combine (Some x) P Q R f p q = f x p q
 

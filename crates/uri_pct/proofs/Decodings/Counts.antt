@@ -2,13 +2,14 @@
 use Rattle.std.proofs.Common.{ℕ, ◌+◌, ◌*◌, ◌≤◌, Bool, true, false, cond, List, [], ◌∷◌, length, ap}
 use Rattle.std.proofs.Common.{arith}
 use Rattle.std.specs.List.{slice_split}
-use Rattle.std.specs.Char.{encode_utf8, digit_value}
+use Rattle.std.specs.Char.{digit_value}
 use Rattle.std.specs.Str.{chars, IsUtf8}
 use Rattle.std.proofs.lemmas.List.Splits.{length-slice_split}
 use Rattle.std.proofs.lemmas.List.Sums.{count_by-le-length}
 use Rattle.std.proofs.lemmas.Str.{encodes-chars, length-le-encodes}
 use Rattle.uri_pct.specs.Tokens.{Token, Char, Octet, is_pct_encoded, tokens_from_chars, tokens}
 use Rattle.uri_pct.specs.Chunks.{Chunk, Text, Byte, prepend_to_chunks, chunks_of_tokens, chunks}
+use Rattle.std.proofs.lemmas.Bool.Decides.{nat_tests}
 
 -- decoding and splitting, counts: a text has at most one
 -- piece more than it has bytes, so their number fits usize
@@ -30,12 +31,7 @@ chunks_are_no_more_than_tokens : (ts : List Token) → length (chunks_of_tokens 
 unfolding chunks_of_tokens
 chunks_are_no_more_than_tokens [] = omega arith
 chunks_are_no_more_than_tokens (Char c ∷ ts) =
-    omega (
-      arith,
-      chunks_are_no_more_than_tokens ts,
-      prepend_adds_at_most_one_chunk (encode_utf8 c)
-          (chunks_of_tokens ts),
-    )
+    grind (arith, nat_tests, prepend_adds_at_most_one_chunk, chunks_are_no_more_than_tokens ts)
 chunks_are_no_more_than_tokens (Octet value ∷ ts) = omega (arith, chunks_are_no_more_than_tokens ts)
 
 -- decoding, counts: a text has no more tokens than characters

@@ -142,8 +142,7 @@ valid_chars_after_percent_give_octet (high ∷ low ∷ cs) s v = ⊎_elim
 
 -- decoding: if a text from a `%` on is valid, the `%` begins an octet
 valid_text_from_percent_begins_with_octet : (rest : List ℕ) → IsUtf8 rest
-    → IsValidFor widest_set (37 ∷ rest)
-    → BeginsWithOctet (37 ∷ rest)
+    → IsValidFor widest_set (37 ∷ rest) → BeginsWithOctet (37 ∷ rest)
 unfolding is_valid_for
 valid_text_from_percent_begins_with_octet rest u v =
     subst (λ x. BeginsWithOctet (37 ∷ x)) (encodes-chars rest u)
@@ -229,8 +228,7 @@ unencoded_prefix_is_nonempty (b ∷ rest) some other =
 
 -- decoding: characters before other tokens, by their bytes, are put before the chunks of these
 unencoded_prefix_is_prepended_to_chunks : (cs prefix : List ℕ) (ts : List Token)
-    → encode_utf8_all cs ≡ prefix
-    → 0 < length prefix
+    → encode_utf8_all cs ≡ prefix → 0 < length prefix
     → chunks_of_tokens (map Char cs ++ ts) ≡ prepend_to_chunks prefix (chunks_of_tokens ts)
 unencoded_prefix_is_prepended_to_chunks [] prefix ts e some = absurd (omega (arith, ap length e))
 unencoded_prefix_is_prepended_to_chunks (c ∷ cs) prefix ts e some =
@@ -269,9 +267,7 @@ text_before_percent_is_own_chunk text n u v within there = ⊎_elim
 
 -- decoding: the text before the first `%`, if it is not empty, is the first chunk
 unencoded_prefix_is_first_chunk : (text : List ℕ) (n : ℕ) → IsUtf8 text → IsValidFor widest_set text
-    → n
-    ≡ len_before_percent text
-    → 0 < length (take n text) → BeginsWithText text n
+    → n ≡ len_before_percent text → 0 < length (take n text) → BeginsWithText text n
 unfolding is_valid_for
 unencoded_prefix_is_first_chunk text n u v e some =
     let prefix = take n text in
@@ -324,8 +320,7 @@ bytes_from_percent_begin_with_octet bytes text same u v some e =
 pub bytes_begin_with_text_up_to_percent : (bytes text : List ℕ) (n : ℕ) → bytes ≡ text
     → IsUtf8 bytes
     → IsValidFor widest_set text → eqb (length bytes) 0 ≡ false → get_or bytes 0 0 ≢ 37
-    → n ≡ position_or_len (λ b. eqb b 37) bytes
-    → BeginsWithText text n × IsCharBoundary text n
+    → n ≡ position_or_len (λ b. eqb b 37) bytes → BeginsWithText text n × IsCharBoundary text n
 bytes_begin_with_text_up_to_percent bytes text n same u v some other e =
     let place : n ≡ position_or_len (λ b. eqb b 37) text = e
     ∙ ap (position_or_len (λ b. eqb b 37)) same in (

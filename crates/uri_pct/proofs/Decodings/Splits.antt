@@ -1,14 +1,12 @@
 -- What is left of a text that is split at a delimiter.
 use Rattle.std.proofs.Common.{◌≡◌, eqb, Some, refl}
 use Rattle.std.specs.List.{slice_split}
-use Rattle.uri_pct.specs.EncodedTexts.{text_of}
-use Rattle.uri_pct.specs.EncodedTexts.{substrings_left}
+use Rattle.uri_pct.specs.EncodedTexts.{text_of, substrings_left}
 use Rattle.uri_pct.specs.declared.pct_enc.EStr.{EStr}
 use Rattle.uri_pct.specs.declared.split.Split.{Split}
 
 -- decoding and splitting, iterators: the substrings
 -- that a `Split` has left are the split of the text that is left
 pub substrings_left_are_split_of_rest : {E : _} {g : _} (s : Split E g) (e : EStr E g)
-    → s.rest ≡ Some e
-    → substrings_left s ≡ slice_split (λ b. eqb b s.delimiter) (text_of e)
+    → s.rest ≡ Some e → substrings_left s ≡ slice_split (λ b. eqb b s.delimiter) (text_of e)
 substrings_left_are_split_of_rest s e h = rw h refl

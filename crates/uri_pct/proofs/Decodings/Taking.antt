@@ -5,13 +5,11 @@ use Rattle.std.specs.List.{flat_map}
 use Rattle.std.specs.Result.{OnOk, is_ok}
 use Rattle.std.specs.Str.{IsUtf8}
 use Rattle.std.proofs.lemmas.List.{append-nil}
-use Rattle.uri_pct.specs.Parts.{Part, Literal, pieces_of_parts}
-use Rattle.uri_pct.specs.Pieces.{lossy_piece, utf8_pieces}
+use Rattle.uri_pct.specs.Parts.{Part, Literal, pieces_of_parts, parts}
+use Rattle.uri_pct.specs.Pieces.{lossy_piece, utf8_pieces, lossy_text}
 use Rattle.uri_pct.specs.Models.TakenBytes.{TookText}
 use Rattle.uri_pct.specs.declared.decode_text.LossyText.{LossyText}
 use Rattle.uri_pct.specs.Chunks.{widest_set}
-use Rattle.uri_pct.specs.Parts.{parts}
-use Rattle.uri_pct.specs.Pieces.{lossy_text}
 use Rattle.uri_pct.specs.Tokens.{tokens, bytes_decoded_from, IsValidFor}
 use Rattle.uri_pct.proofs.Unicode.Lossy.{lossy_text_of_utf8_is_itself}
 use Rattle.uri_pct.proofs.Unicode.PartPieces.{parts_have_pieces_of_decoded_bytes}

@@ -1,12 +1,11 @@
 -- The tokens of encoded texts and bytes: `tokens` inverts `print` on them, and a set with octets
 -- allows them.
-use Rattle.std.proofs.Common.{◌≡◌, ℕ, suc, ◌+◌, ◌/◌, ◌%◌, ◌<◌, Bool, true, ltb, List, [], ◌∷◌}
+use Rattle.std.proofs.Common.{◌≡◌, ℕ, suc, ◌+◌, ◌%◌, ◌<◌, Bool, true, ltb, List, [], ◌∷◌}
 use Rattle.std.proofs.Common.{get_or, map, refl, sym, ap, ◌∙◌, arith, ⊎_elim}
 use Rattle.std.specs.List.{list_all, flat_map, All}
 use Rattle.std.specs.Char.{IsScalar, encode_utf8}
 use Rattle.std.specs.Str.{chars, IsUtf8, all_scalars}
 use Rattle.std.proofs.lemmas.Bool.{cases_Bool, cond-true, cond-false, and_parts, and_from, lt-ltb}
-use Rattle.std.proofs.lemmas.Bool.{le-ltb, cases_lt}
 use Rattle.std.proofs.lemmas.Bool.Decides.{nat_tests}
 use Rattle.std.proofs.lemmas.List.Folds.{list_all-append}
 use Rattle.std.proofs.lemmas.List.Elements.{All-head, All-tail}
@@ -50,26 +49,15 @@ two_continuation_bytes_are_eight_bit x y = and_from _ _ (lt-ltb (128 + x % 64) 2
 -- encoding: the UTF-8 of a character is bytes
 pub utf8_bytes_are_eight_bit : (c : ℕ) → IsScalar c → list_all is_eight_bit (encode_utf8 c) ≡ true
 unfolding encode_utf8
-utf8_bytes_are_eight_bit c scalar = ⊎_elim
-    (λ h. ap (list_all is_eight_bit) (encode_ascii c h)
-    ∙ and_from _ _ (lt-ltb c 256 (omega arith)) refl)
-    (λ h. let e = le-ltb c 128 h in ⊎_elim
-    (λ k. ap (list_all is_eight_bit) (cond-false _ _ _ e ∙ cond-true _ _ _ (lt-ltb c 2048 k))
-    ∙ and_from _ _ (lt-ltb (192 + c / 64) 256 (omega arith)) (continuation_byte_is_eight_bit c))
-    (λ k. ⊎_elim
-    (λ m. ap (list_all is_eight_bit) (cond-false _ _ _ e ∙ cond-false _ _ _ (le-ltb c 2048 k)
-    ∙ cond-true _ _ _ (lt-ltb c 65536 m))
-    ∙ and_from _ _ (lt-ltb (224 + c / 4096) 256 (omega arith))
-    (two_continuation_bytes_are_eight_bit (c / 64) c))
-    (λ m. let below = scalar_is_below_0x110000 c scalar in
-    ap (list_all is_eight_bit) (cond-false _ _ _ e ∙ cond-false _ _ _ (le-ltb c 2048 k)
-    ∙ cond-false _ _ _ (le-ltb c 65536 m))
-    ∙ and_from _ _ (lt-ltb (240 + c / 262144) 256 (omega arith))
-    (and_from _ _ (lt-ltb (128 + c / 4096 % 64) 256 (omega arith))
-    (two_continuation_bytes_are_eight_bit (c / 64) c)))
-    (cases_lt c 65536))
-    (cases_lt c 2048))
-    (cases_lt c 128)
+utf8_bytes_are_eight_bit c scalar =
+    grind (
+      arith,
+      nat_tests,
+      encode_ascii,
+      continuation_byte_is_eight_bit,
+      two_continuation_bytes_are_eight_bit,
+      scalar_is_below_0x110000,
+    )
 
 -- encoding: the octets of bytes are tokens that can be written
 pub octets_of_bytes_are_printable : (bytes : List ℕ) → list_all is_eight_bit bytes ≡ true
@@ -107,8 +95,7 @@ encoded_char_is_allowed set c o = ⊎_elim
 
 -- encoding: characters are encoded as tokens that can be written
 encoded_chars_are_printable : (set : TableSet) (cs : List ℕ) → LacksPercent set
-    → all_scalars cs ≡ true
-    → list_all is_printable (flat_map (encode_char set) cs) ≡ true
+    → all_scalars cs ≡ true → list_all is_printable (flat_map (encode_char set) cs) ≡ true
 encoded_chars_are_printable set [] lacks e = refl
 encoded_chars_are_printable set (c ∷ cs) lacks e =
     let p = and_parts _ (all_scalars cs) e in
@@ -148,8 +135,7 @@ encoded_piece_is_printable set (IllFormed bytes) lacks h small = octets_of_bytes
 
 -- encoding: the tokens that pieces of bytes are encoded as can be written
 encoded_pieces_are_printable : (set : TableSet) (ps : List Piece) → LacksPercent set
-    → All IsOfCharacter ps
-    → list_all is_eight_bit (bytes_of_pieces ps) ≡ true
+    → All IsOfCharacter ps → list_all is_eight_bit (bytes_of_pieces ps) ≡ true
     → list_all is_printable (flat_map (encode_piece set) ps) ≡ true
 encoded_pieces_are_printable set [] lacks h small = refl
 encoded_pieces_are_printable set (p ∷ ps) lacks h small =

@@ -15,8 +15,7 @@ joined_tokens_decode_to_joined_bytes ts us = flat_map-append bytes_of_one_token 
 
 -- encoding: the text that is written of encoded tokens has these tokens
 pub encoded_text_parses_to_its_tokens : (set : TableSet) (text : List ℕ) → LacksPercent set
-    → IsUtf8 text
-    → tokens (print (encode_text set text)) ≡ encode_text set text
+    → IsUtf8 text → tokens (print (encode_text set text)) ≡ encode_text set text
 encoded_text_parses_to_its_tokens set text lacks u =
     printed_tokens_parse_to_themselves (encode_text set text)
     (encoded_text_is_printable set text lacks u)

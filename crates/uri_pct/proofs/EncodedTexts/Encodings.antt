@@ -1,11 +1,11 @@
 -- The tokens that texts and bytes are encoded as.
 use Rattle.std.proofs.Common.{◌≡◌, ℕ, ◌+◌, ◌-◌, ◌≤◌, true, false, List, [], ◌∷◌, ◌++◌, length, take}
-use Rattle.std.proofs.Common.{drop, map, refl, sym, ap, ◌∙◌, arith, ⊎_elim, append_assoc}
+use Rattle.std.proofs.Common.{drop, map, refl, sym, ap, ◌∙◌, arith, append_assoc}
 use Rattle.std.specs.List.{flat_map, All}
 use Rattle.std.specs.Char.{encode_utf8, len_utf8}
 use Rattle.std.specs.Str.{chars, encode_utf8_all, all_scalars, IsUtf8}
 use Rattle.std.proofs.Math.Seq.{take-append_seam}
-use Rattle.std.proofs.lemmas.Bool.{cases_Bool, cond-true, cond-false, and_parts}
+use Rattle.std.proofs.lemmas.Bool.{cond-true, cond-false, and_parts}
 use Rattle.std.proofs.lemmas.List.{append-nil, drop-drop, length-take, take-append-le, take-take}
 use Rattle.std.proofs.lemmas.List.{nil_from_length}
 use Rattle.std.proofs.lemmas.List.Concat.{flat_map-append}
@@ -24,6 +24,7 @@ use Rattle.uri_pct.proofs.Unicode.Lossy.{piece_of_char, pieces_of_chars_come_bef
 use Rattle.uri_pct.proofs.Unicode.Runs.{no_bytes_have_no_pieces}
 use Rattle.uri_pct.proofs.Unicode.Pieces.{bytes_of_utf8_pieces_are_the_bytes}
 use Rattle.uri_pct.proofs.Unicode.Pieces.{take_then_take_is_take_of_sum}
+use Rattle.std.proofs.lemmas.Bool.Decides.{nat_tests}
 
 -- encoding: what is written of two lists of tokens is what is written of each
 pub print-append : (ts us : List Token) → print (ts ++ us) ≡ print ts ++ print us
@@ -55,10 +56,8 @@ octets_decode_to_their_bytes (b ∷ bytes) = ap (λ x. b ∷ x) (octets_decode_t
 -- encoding: decoding the tokens of an encoded character gives its bytes
 encoded_char_decodes_to_its_bytes : (set : TableSet) (c : ℕ)
     → bytes_decoded_from (encode_char set c) ≡ encode_utf8 c
-encoded_char_decodes_to_its_bytes set c = ⊎_elim
-    (λ e. ap bytes_decoded_from (cond-true _ _ _ e) ∙ append-nil (encode_utf8 c))
-    (λ e. ap bytes_decoded_from (cond-false _ _ _ e) ∙ octets_decode_to_their_bytes (encode_utf8 c))
-    (cases_Bool (allows set c))
+encoded_char_decodes_to_its_bytes set c =
+    grind (arith, nat_tests, append-nil, octets_decode_to_their_bytes)
 
 -- encoding: decoding the tokens of encoded characters gives their bytes
 encoded_chars_decode_to_their_bytes : (set : TableSet) (cs : List ℕ)
@@ -98,8 +97,7 @@ encoded_pieces_decode_to_their_bytes set (p ∷ ps) h =
 pub encoded_bytes_decode_to_themselves : (set : TableSet) (bytes : List ℕ)
     → bytes_decoded_from (encode_bytes set bytes) ≡ bytes
 encoded_bytes_decode_to_themselves set bytes = encoded_pieces_decode_to_their_bytes set
-    (utf8_pieces bytes)
-    (utf8_pieces-are-of-characters bytes)
+    (utf8_pieces bytes) (utf8_pieces-are-of-characters bytes)
     ∙ bytes_of_utf8_pieces_are_the_bytes bytes
 
 -- encoding: a run of a text, up to the next character, has this character (c) more
@@ -125,17 +123,12 @@ slice_with_one_more_char text start end c ordered e =
 -- encoding: a new text that begins with the old one does so with more after it
 pub append_keeps_prefix : (old new more : List ℕ) → take (length old) new ≡ old
     → take (length old) (new ++ more) ≡ old
-append_keeps_prefix old new more e =
-    let long : length old ≤ length new = omega (arith, length-take (length old) new, ap length e) in
-    take-append-le (length old) new more long ∙ e
+append_keeps_prefix old new more e = grind (arith, nat_tests, length-take, take-append-le)
 
 -- encoding: if a text begins with a longer one, it begins with what that begins with
 pub kept_prefix-transitive : (old mid new : List ℕ) → take (length old) mid ≡ old
-    → take (length mid) new ≡ mid
-    → take (length old) new ≡ old
-kept_prefix-transitive old mid new e f =
-    let long : length old ≤ length mid = omega (arith, length-take (length old) mid, ap length e) in
-    sym (take-take (length old) (length mid) new long) ∙ ap (take (length old)) f ∙ e
+    → take (length mid) new ≡ mid → take (length old) new ≡ old
+kept_prefix-transitive old mid new e f = grind (arith, nat_tests, length-take, take-take)
 
 -- encoding: the empty text is encoded as the empty text
 pub empty_text_is_encoded_as_nothing : (set : TableSet) → print (encode_text set []) ≡ []
@@ -180,35 +173,18 @@ pub encoded_bytes_after_chunk : (set : TableSet) (out mid new bytes text fault r
     → mid ≡ out ++ print (encode_text set text) → new ≡ mid ++ print (map Octet fault)
     → out ++ print (encode_bytes set bytes) ≡ all → new ++ print (encode_bytes set rest) ≡ all
 encoded_bytes_after_chunk set out mid new bytes text fault rest all u pieces first then whole =
-    let f = flat_map (encode_piece set) in
-    let parts : encode_bytes set bytes ≡ (encode_text set text ++ map Octet fault)
-    ++ encode_bytes set rest =
-    ap f pieces
-    ∙ flat_map-append (encode_piece set) (utf8_pieces text ++ ill_formed_piece_if_any fault)
-    (utf8_pieces rest)
-    ∙ ap (λ x. x ++ encode_bytes set rest)
-    (flat_map-append (encode_piece set) (utf8_pieces text) (ill_formed_piece_if_any fault)
-    ∙ ap (λ x. x ++ f (ill_formed_piece_if_any fault))
-    (pieces_of_text_are_encoded_as_text set text u)
-    ∙ ap (λ x. encode_text set text ++ x) (ill_formed_piece_is_encoded_as_octets set fault)) in
-    let printed : print (encode_bytes set bytes)
-    ≡ (print (encode_text set text) ++ print (map Octet fault))
-    ++ print (encode_bytes set rest) =
-    ap print parts ∙ print-append (encode_text set text ++ map Octet fault) (encode_bytes set rest)
-    ∙ ap (λ x. x ++ print (encode_bytes set rest))
-    (print-append (encode_text set text) (map Octet fault)) in
-    ap (λ x. x ++ print (encode_bytes set rest))
-    (then ∙ ap (λ x. x ++ print (map Octet fault)) first
-    ∙ append_assoc out (print (encode_text set text)) (print (map Octet fault)))
-    ∙ append_assoc out (print (encode_text set text) ++ print (map Octet fault))
-    (print (encode_bytes set rest))
-    ∙ ap (λ x. out ++ x) (sym printed) ∙ whole
+    grind (
+      arith,
+      nat_tests,
+      flat_map-append,
+      pieces_of_text_are_encoded_as_text,
+      ill_formed_piece_is_encoded_as_octets,
+      print-append,
+      append_assoc,
+    )
 
 -- encoding: at the end of the bytes, what was appended is all
 pub encoded_bytes_at_end : (set : TableSet) (out bytes all : List ℕ) → length bytes ≡ 0
     → out ++ print (encode_bytes set bytes) ≡ all → out ≡ all
 encoded_bytes_at_end set out bytes all none whole =
-    sym (append-nil out)
-    ∙ ap (λ x. out ++ print (flat_map (encode_piece set) x))
-    (sym (ap utf8_pieces (nil_from_length bytes none) ∙ no_bytes_have_no_pieces))
-    ∙ whole
+    grind (arith, nat_tests, append-nil, nil_from_length, no_bytes_have_no_pieces)

@@ -43,6 +43,5 @@ module _ (set : TableSet) (lacks : LacksPercent set)
       let f = run.from in
       let w = run.within in
       let e : start + (end - start) ≡ end = omega arith in
-      subst IsScannedTo e
-      (allowed_ascii_is_scanned (end - start) (omega arith)
+      subst IsScannedTo e (allowed_ascii_is_scanned (end - start) (omega arith)
       (λ k from to. run.pass k from (omega arith)))

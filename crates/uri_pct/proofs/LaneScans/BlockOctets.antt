@@ -7,7 +7,7 @@ use Rattle.std.specs.Char.{is_ascii_hexdigit}
 use Rattle.std.proofs.lemmas.Nat.{and_le_l}
 use Rattle.std.proofs.lemmas.Nat.Bits.{bit_at-zero, bit_at_above, bit_at_ones}
 use Rattle.std.proofs.lemmas.Bool.{cases_lt, cases_Bool, both_ways, eq-eqb, eqb-true, and_parts}
-use Rattle.std.proofs.lemmas.Bool.{and_from, and_right, not-true, not-false, leb-true, le-leb}
+use Rattle.std.proofs.lemmas.Bool.{and_from, and_right, not-true, leb-true, le-leb}
 use Rattle.uri_pct.specs.Texts.{has_hex_digits_after}
 use Rattle.uri_pct.specs.Models.ByteRuns.{AreCharactersOrOctets, IsLongestRun}
 use Rattle.uri_pct.specs.Models.LaneMasks.{is_lane_of_octet}
@@ -18,6 +18,7 @@ use Rattle.uri_pct.proofs.LaneScans.OctetLanes.{first_is_false_if_and_is_false}
 use Rattle.uri_pct.proofs.LaneScans.OctetLanes.{lane_without_origin_is_in_no_octet}
 use Rattle.uri_pct.proofs.LaneScans.OctetLanes.{no_octet_begins_before_lane_outside}
 use Rattle.uri_pct.proofs.LaneScans.OctetLanes.{octets_before_lane_outside_are_whole}
+use Rattle.std.proofs.lemmas.Bool.Decides.{nat_tests}
 
 -- bit k of the mask is set where the byte at i + k is one from start on that fails the test, and
 -- those from start to i pass it
@@ -121,9 +122,7 @@ module _ (test : ℕ → Bool) (bs : List ℕ) (start i mask : ℕ)
 
   unmarked_lane_passes : (k : ℕ) → k < 16 → start ≤ i + k → is_set_bit mask k ≡ false
       → test (get_or bs (i + k) 0) ≡ true
-  unmarked_lane_passes k h from e = not-false _
-      (sym (ap (λ b. b && not (test (get_or bs (i + k) 0))) (le-leb _ _ from))
-      ∙ sym (m.lane k h) ∙ e)
+  unmarked_lane_passes k h from e = grind (arith, nat_tests)
 
   bytes_before_lane_pass : (n : ℕ) → n ≤ 16 → ((k : ℕ) → k < n → is_set_bit mask k ≡ false)
       → (x : ℕ) → start ≤ x → x < i + n → test (get_or bs x 0) ≡ true
@@ -222,8 +221,7 @@ module _ (test : ℕ → Bool) (bs : List ℕ) (start i mask : ℕ)
           let none : is_set_bit begun k ≡ false =
           sym (ap (λ b. b && is_set_bit begun k) (le-leb i (start + j) l)) ∙ o in
           subst (λ p. test (get_or bs p 0) ≡ true) e
-          (unmarked_lane_passes k (omega arith) (omega arith)
-          (first_is_false_if_and_is_false _ _
+          (unmarked_lane_passes k (omega arith) (omega arith) (first_is_false_if_and_is_false _ _
           (sym (lane k (omega arith)) ∙ shut k (omega arith))
           (ap not (lane_without_origin_is_in_no_octet begun k none
           (origin_is_clear j k e (omega arith) fresh))))))
@@ -292,8 +290,7 @@ module _ (test : ℕ → Bool) (bs : List ℕ) (start i mask : ℕ)
           (λ (e : has_hex_digits_after bs (i + n) ≡ true).
           absurd (both_ways _
           (no_octet_begins_before_lane_outside begun n n first_left_lane_is_marked.1 (omega arith)
-          (omega arith))
-          (bit_of_bit_and octets mask n ∙ and_from _ _
+          (omega arith)) (bit_of_bit_and octets mask n ∙ and_from _ _
           (eq-eqb _ _ (all n (omega (arith, near)) percent e)) first_left_lane_is_marked.0)))
           (λ (e : has_hex_digits_after bs (i + n) ≡ false). e)
           (cases_Bool (has_hex_digits_after bs (i + n)))

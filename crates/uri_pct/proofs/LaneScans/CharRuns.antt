@@ -1,11 +1,10 @@
 -- A run of characters of ASCII and of parts of characters from U+00C0 to U+D7FF is scanned.
-use Rattle.std.proofs.Common.{◌≡◌, ℕ, zero, suc, ◌+◌, ◌<◌, ◌≤◌, Bool, true, false, not, eqb, List}
+use Rattle.std.proofs.Common.{◌≡◌, ℕ, zero, suc, ◌+◌, ◌<◌, ◌≤◌, Bool, true, not, eqb, List}
 use Rattle.std.proofs.Common.{length, get_or, drop, refl, sym, ap, subst, arith, ⊎_elim, ◌&&◌}
 use Rattle.std.specs.Prelude.{nat_le}
 use Rattle.std.specs.Str.{IsUtf8, IsCharBoundary}
 use Rattle.std.proofs.lemmas.Str.{IsCharBoundary-after_ascii}
-use Rattle.std.proofs.lemmas.Bool.{cases_lt, or_cases, or_right, and_from, and_parts}
-use Rattle.std.proofs.lemmas.Bool.{both_ways, eq-eqb, ne_eqb, not-true, leb-true}
+use Rattle.std.proofs.lemmas.Bool.{cases_lt, or_cases, or_right, both_ways}
 use Rattle.std.proofs.lemmas.Bool.Decides.{nat_tests}
 use Rattle.uri_pct.specs.Sets.{TableSet, LacksPercent}
 use Rattle.uri_pct.specs.Prefixes.{valid_prefix}
@@ -24,23 +23,13 @@ is_byte_of_char_part b = nat_le b 237 && not (nat_le b 127) && not (eqb b 194)
 -- may be in a character from U+00C0 to U+D7FF
 byte_from_128_to_237_is_char_part : (b : ℕ) → 128 ≤ b → b ≤ 237 → (b ≡ 194 → ⊥)
     → is_byte_of_char_part b ≡ true
-byte_from_128_to_237_is_char_part b from to other =
-    let near : nat_le b 237 ≡ true = grind (arith, nat_tests) in
-    let past : nat_le b 127 ≡ false = grind (arith, nat_tests) in
-    and_from _ _ (and_from _ _ near (ap not past)) (ap not (ne_eqb b 194 other))
+byte_from_128_to_237_is_char_part b from to other = grind (arith, nat_tests)
 
 -- sixteen bytes at a time: a byte of a character from U+00C0 to
 -- U+D7FF is from 80 to ED (237), but not C2 (194)
 char_part_is_from_128_to_237 : (b : ℕ) → is_byte_of_char_part b ≡ true → (128 ≤ b) × (b ≤ 237)
     × (b ≡ 194 → ⊥)
-char_part_is_from_128_to_237 b e =
-    let p = and_parts _ _ e in
-    let q = and_parts _ _ p.0 in
-    let past : nat_le b 127 ≡ false = not-true _ q.1 in (
-      grind (arith, nat_tests),
-      leb-true b 237 q.0,
-      λ f. both_ways _ (not-true _ p.1) (eq-eqb b 194 f),
-    )
+char_part_is_from_128_to_237 b e = grind (arith, nat_tests)
 
 module _ (set : TableSet) (lacks : LacksPercent set) (flag : set.ucschar ≡ true)
     (ascii : (b : ℕ) → set.ascii b ≡ true → b < 128) (bs : List ℕ) (u : IsUtf8 bs)
@@ -75,8 +64,7 @@ module _ (set : TableSet) (lacks : LacksPercent set) (flag : set.ucschar ≡ tru
   scanned_from_next_char_is_scanned_from_this i n e r = omega (arith, e, r)
 
   char_run_is_scanned_from_boundary : (steps i : ℕ) → end ≤ i + steps → i ≤ end → start ≤ i
-      → IsCharBoundary bs i
-      → IsScannedFrom i
+      → IsCharBoundary bs i → IsScannedFrom i
   char_run_is_scanned_from_boundary zero i far near from here = let e : end ≡ i = omega arith in
       ap (λ n. n + valid_prefix set (drop n bs)) e
   char_run_is_scanned_from_boundary (suc steps) i far near from here = ⊎_elim
@@ -120,8 +108,7 @@ module _ (set : TableSet) (lacks : LacksPercent set) (flag : set.ucschar ≡ tru
       (λ (l : i + 3 ≤ end). l) (cases_lt end (i + 3)) in
       scanned_from_next_char_is_scanned_from_this i 3 r.0
       (char_run_is_scanned_from_boundary steps (i + 3) (omega arith) room (omega arith) r.1))
-      (cases_lt b 224))
-      (or_cases _ _ (run.pass i from inside)))
+      (cases_lt b 224)) (or_cases _ _ (run.pass i from inside)))
       (λ (end_there : end ≤ i). let e : end ≡ i = omega arith in
       ap (λ n. n + valid_prefix set (drop n bs)) e)
       (cases_lt i end)
@@ -135,6 +122,4 @@ pub char_part_begins_nonempty_run : (ascii : ℕ → Bool) (bs : List ℕ) (star
     → IsLongestRun (is_char_byte ascii) bs start start → start < length bs
     → 195 ≤ get_or bs start 0 → get_or bs start 0 ≤ 237 → ⊥
 char_part_begins_nonempty_run ascii bs start run inside from to =
-    both_ways _ (run.stop inside)
-    (or_right _ _ (byte_from_128_to_237_is_char_part (get_or bs start 0) (omega arith) to
-    (λ e. omega arith)))
+    grind (arith, nat_tests, byte_from_128_to_237_is_char_part)

@@ -10,6 +10,7 @@ use Rattle.uri_pct.proofs.TableSets.Masks.{bit_of_bit_and, bit_of_bit_or}
 use Rattle.uri_pct.proofs.LaneScans.LaneBits.{is_set_bit, mask_bit_is_equality_of_byte}
 use Rattle.uri_pct.proofs.LaneScans.LaneBits.{equality_mask_is_below_2_16}
 use Rattle.uri_pct.proofs.LaneScans.LaneBits.{trailing_zeros_is_first_set_lane}
+use Rattle.std.proofs.lemmas.Bool.Decides.{nat_tests}
 
 -- sixteen bytes at a time: the mask of the lanes from i on that equal a byte
 abbrev mask_of_lanes_equal_to : ℕ → List ℕ → ℕ → ℕ
@@ -25,10 +26,7 @@ pub no_slash_dot_where_no_slash : (bs : List ℕ) (i slashes : ℕ) → i + 16 <
     ≡ mask_of_lanes_equal_to 47 bs i
     → slashes ≡ 0 → (k : ℕ) → k < 16 → is_slash_before_dot_or_percent bs (i + k) ≡ false
 no_slash_dot_where_no_slash bs i slashes room s none k h =
-    ap (λ b. b && (eqb (get_or bs (i + k + 1) 0) 46 || eqb (get_or bs (i + k + 1) 0) 37))
-    (sym (ap (λ m. is_set_bit m k) s ∙ mask_bit_is_equality_of_byte 47 bs i k
-    (omega (arith, room)) h)
-    ∙ ap (λ m. eqb (bit_at m k) 1) none ∙ ap (λ m. eqb m 1) (bit_at-zero k))
+    grind (arith, nat_tests, is_set_bit, mask_bit_is_equality_of_byte, bit_at-zero)
 
 module _ (bs : List ℕ) (i : ℕ) (room : i + 16 < length bs) (slashes dots octets : ℕ)
     (s : slashes ≡ mask_of_lanes_equal_to 47 bs i) (d : dots ≡ mask_of_lanes_equal_to 46 bs (i + 1))
@@ -43,8 +41,7 @@ module _ (bs : List ℕ) (i : ℕ) (room : i + 16 < length bs) (slashes dots oct
       bit_of_bit_and slashes (bit_or dots octets) k
       ∙ ap (λ b. b && is_set_bit (bit_or dots octets) k)
       (ap (λ m. is_set_bit m k) s ∙ mask_bit_is_equality_of_byte 47 bs i k (omega (arith, room)) h)
-      ∙ ap (λ b. eqb (get_or bs (i + k) 0) 47 && b)
-      (bit_of_bit_or dots octets k
+      ∙ ap (λ b. eqb (get_or bs (i + k) 0) 47 && b) (bit_of_bit_or dots octets k
       ∙ ap (λ b. b || is_set_bit octets k) (ap (λ m. is_set_bit m k) d
       ∙ mask_bit_is_equality_of_byte 46 bs (i + 1) k (omega (arith, room)) h)
       ∙ ap (λ b. eqb (get_or bs (i + 1 + k) 0) 46 || b)
@@ -63,8 +60,7 @@ module _ (bs : List ℕ) (i : ℕ) (room : i + 16 < length bs) (slashes dots oct
         × (bit_at slash_dot_mask (trailing_zeros w64 slash_dot_mask) ≡ 1)
         × ((k : ℕ) → k < trailing_zeros w64 slash_dot_mask → bit_at slash_dot_mask k ≡ 0)
     trailing_zeros_is_first_slash_dot_lane =
-        trailing_zeros_is_first_set_lane slash_dot_mask
-        (omega (
+        trailing_zeros_is_first_set_lane slash_dot_mask (omega (
           arith,
           s,
           equality_mask_is_below_2_16 47 bs i (omega (arith, room)),

@@ -175,8 +175,7 @@ pub swizzle_reads_bit_of_byte : (b : ℕ) → b < 256
     ≡ bit_in_mask_byte b
 unfolding bit_in_mask_byte
 swizzle_reads_bit_of_byte b h =
-    eqb-true _ _
-    (agree_below_at
+    eqb-true _ _ (agree_below_at
     (λ c. eqb (cond (zeroes 16 w8 (bit_and c 135)) 0 (get_or swizzle_bits (bit_and c 135) 0))
     (bit_in_mask_byte c)) (λ c. true) 256 b refl h)
 

@@ -1,16 +1,16 @@
 -- From the mask of a load to the bytes under it.
 use Rattle.std.proofs.Common.{◌≡◌, ℕ, ◌+◌, ◌-◌, ◌/◌, ◌%◌, ◌^◌, ◌<◌, ◌≤◌, Bool, true, false, not}
 use Rattle.std.proofs.Common.{cond, List, map, length, get_or, refl, sym, ap, subst, ◌∙◌, arith}
-use Rattle.std.proofs.Common.{inl, inr, w64, ⊎_elim, pow_mono}
+use Rattle.std.proofs.Common.{w64, pow_mono}
 use Rattle.std.specs.Int.{bit_at, trailing_zeros}
 use Rattle.std.specs.Simd.Lanes.{mask_l, chunk}
 use Rattle.std.proofs.lemmas.Nat.{shr-shr, shr_below}
 use Rattle.std.proofs.lemmas.Nat.Bits.{bit_at-zero, bit_at_above, bit_at-trailing_zeros}
 use Rattle.std.proofs.lemmas.Simd.{bit_mask_l, mask_l-lt, get_or-chunk, length-chunk}
-use Rattle.std.proofs.lemmas.Bool.{cases_lt}
 use Rattle.std.proofs.lemmas.List.{get_or_default, length-map}
 use Rattle.std.proofs.Math.ListN.{get_or-map}
 use Rattle.uri_pct.specs.Models.ByteRuns.{IsLongestRun}
+use Rattle.std.proofs.lemmas.Bool.Decides.{nat_tests}
 
 -- sixteen bytes at a time: bit k of the mask is set where the byte at i + k fails, for w bytes
 pub record MarksFailingLanes (test : ℕ → Bool) (bs : List ℕ) (i w mask : ℕ) : Type 0 where
@@ -46,8 +46,7 @@ shifted_mask_marks_later_lanes test bs i w s mask m = record {
 -- sixteen bytes at a time: a load of the last sixteen bytes, shifted right,
 -- marks the lanes from i on
 pub last_load_marks_failing_lanes : (test : ℕ → Bool) (bs : List ℕ) (i mask : ℕ) → 16 ≤ length bs
-    → i ≤ length bs
-    → length bs ≤ i + 16 → MarksFailingLanes test bs (length bs - 16) 16 mask
+    → i ≤ length bs → length bs ≤ i + 16 → MarksFailingLanes test bs (length bs - 16) 16 mask
     → MarksFailingLanes test bs i (length bs - i) (mask / 2 ^ (i - (length bs - 16)))
 last_load_marks_failing_lanes test bs i mask long within near m =
     let s : ℕ = i - (length bs - 16) in
@@ -92,13 +91,8 @@ module _ (test : ℕ → Bool) (bs : List ℕ) (i w mask : ℕ)
         (omega (arith, m.below, pow_mono {i = w} {j = 64} small))
 
     first_marked_lane_is_within_width : trailing_zeros w64 mask < w
-    first_marked_lane_is_within_width = ⊎_elim
-        (λ (h : trailing_zeros w64 mask < w). h)
-        (λ (h : w ≤ trailing_zeros w64 mask). let e =
-        bit_at_above mask w (trailing_zeros w64 mask) m.below h in let f =
-        trailing_zeros_is_first_marked_lane.1 in
-        absurd (omega arith))
-        (cases_lt (trailing_zeros w64 mask) w)
+    first_marked_lane_is_within_width =
+        grind (arith, nat_tests, bit_at_above, trailing_zeros_is_first_marked_lane)
 
     bytes_before_first_mark_pass : (k : ℕ) → i ≤ k → k < i + trailing_zeros w64 mask
         → test (get_or bs k 0) ≡ true
@@ -116,10 +110,7 @@ adjacent_passing_runs_join : (test : ℕ → Bool) (bs : List ℕ) (a m b : ℕ)
     → ((k : ℕ) → a ≤ k → k < m → test (get_or bs k 0) ≡ true)
     → ((k : ℕ) → m ≤ k → k < b → test (get_or bs k 0) ≡ true) → (k : ℕ) → a ≤ k → k < b
     → test (get_or bs k 0) ≡ true
-adjacent_passing_runs_join test bs a m b low high k from to = elim (cases_lt k m) [
-  | inl below ↦ low k from below
-  | inr past ↦ high k past to
-]
+adjacent_passing_runs_join test bs a m b low high k from to = grind (arith, nat_tests)
 
 -- where no lane is marked the run goes on, and else it ends at the first that is
 module _ (test : ℕ → Bool) (bs : List ℕ) (start i w mask : ℕ)

@@ -44,8 +44,7 @@ module _ (test : ℕ → Bool) (bs : List ℕ) (i misses others percents one two
     pub lanes_hold_bytes_of_encoded_text : (k : ℕ) → k < 16 → IsByteOfEncodedText test bs (i + k)
     lanes_hold_bytes_of_encoded_text k h = record {
       no_octet = λ e.
-          clear_lane_passes_test test bs i 16 misses k outside h
-          (first_is_false_if_and_is_false _ _
+          clear_lane_passes_test test bs i 16 misses k outside h (first_is_false_if_and_is_false _ _
           (sym (bit_of_bit_and_not misses percents k fits (omega arith))
           ∙ (neither_mask_of_unlinked_lanes_has_bit k).0) (ap not (here k h ∙ e)));
       first = λ e.

@@ -2,8 +2,7 @@
 use Rattle.std.proofs.Common.{◌≡◌, ℕ, ◌+◌, ◌-◌, ◌<◌, ◌≤◌, Bool, true, false, eqb, ltb, List}
 use Rattle.std.proofs.Common.{get_or, refl, sym, ap, ◌∙◌, arith, ◌&&◌}
 use Rattle.std.specs.Char.{is_ascii_hexdigit}
-use Rattle.std.proofs.lemmas.Bool.{and_parts, and_from, both_ways, lt-ltb}
-use Rattle.std.proofs.lemmas.Bool.{ltb-true, eqb-true}
+use Rattle.std.proofs.lemmas.Bool.{and_parts, and_from, both_ways, lt-ltb, ltb-true, eqb-true}
 use Rattle.uri_pct.specs.Texts.{has_hex_digits_after}
 use Rattle.uri_pct.specs.Models.ByteRuns.{AreCharactersOrOctets, IsByteOfEncodedText}
 
@@ -21,8 +20,7 @@ module _ (test : ℕ → Bool) (bs : List ℕ) (start i : ℕ)
       (linked q from to).first (ap (λ k. get_or bs k 0) (sym f) ∙ h)
 
   second_byte_after_percent_is_hexdigit : (p q : ℕ) → p + 2 ≡ q → start ≤ q → q < i
-      → get_or bs p 0 ≡ 37
-      → is_ascii_hexdigit (get_or bs q 0) ≡ true
+      → get_or bs p 0 ≡ 37 → is_ascii_hexdigit (get_or bs q 0) ≡ true
   second_byte_after_percent_is_hexdigit p q e from to h = let f : p ≡ q - 2 = omega arith in
       (linked q from to).second (ap (λ k. get_or bs k 0) (sym f) ∙ h)
 
@@ -46,8 +44,7 @@ module _ (test : ℕ → Bool) (bs : List ℕ) (start i : ℕ)
     octet_begins_before_hex_digits k e =
         let p = octet_begins_with_percent k e in
         let w = whole (start + k) (omega arith) (omega (arith, p.0)) p.1 in
-        and_from _ _
-        (byte_after_percent_is_hexdigit (start + k) (start + k + 1) refl (omega arith)
+        and_from _ _ (byte_after_percent_is_hexdigit (start + k) (start + k + 1) refl (omega arith)
         (omega arith) p.1)
         (second_byte_after_percent_is_hexdigit (start + k) (start + k + 2) refl (omega arith)
         (omega arith) p.1)
@@ -76,8 +73,7 @@ module _ (test : ℕ → Bool) (bs : List ℕ) (start i : ℕ)
 
   -- all bytes are characters and octets, if none of the last two is a `%`
   pub characters_or_octets_up_to_end : start ≤ i → (get_or bs (i - 1) 0 ≡ 37 → ⊥)
-      → (get_or bs (i - 2) 0 ≡ 37 → ⊥)
-      → AreCharactersOrOctets test bs start (i - start)
+      → (get_or bs (i - 2) 0 ≡ 37 → ⊥) → AreCharactersOrOctets test bs start (i - start)
   characters_or_octets_up_to_end from none nor =
       linked_bytes_are_characters_or_octets (i - start) (omega arith) (λ p first last e.
       let one : p ≡ i - 1 → ⊥ = λ (f : p ≡ i - 1). none (ap (λ k. get_or bs k 0) (sym f) ∙ e) in

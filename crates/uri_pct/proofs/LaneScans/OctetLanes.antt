@@ -7,7 +7,7 @@ use Rattle.std.specs.Char.{is_ascii_hexdigit}
 use Rattle.std.proofs.lemmas.Nat.{or_lt}
 use Rattle.std.proofs.lemmas.Nat.Bits.{bit_at_and, bit_at_above}
 use Rattle.std.proofs.lemmas.Bool.{cases_lt, both_ways, eqb-true, eq-eqb, and_from, or_from}
-use Rattle.std.proofs.lemmas.Bool.{or_parts, and_parts, and_right, cases_Bool, le-leb, lt-leb}
+use Rattle.std.proofs.lemmas.Bool.{or_parts, and_right, cases_Bool, le-leb, lt-leb}
 use Rattle.std.proofs.Math.Bool.{or-false}
 use Rattle.uri_pct.specs.Texts.{has_hex_digits_after}
 use Rattle.uri_pct.specs.Models.ByteRuns.{AreCharactersOrOctets}
@@ -20,6 +20,7 @@ use Rattle.uri_pct.proofs.LaneScans.LaneBits.{is_set_bit, bit_of_right_shift, bi
 use Rattle.uri_pct.proofs.LaneScans.LaneBits.{low_bit_of_left_shift_is_clear}
 use Rattle.uri_pct.proofs.LaneScans.LaneBits.{clear_lane_passes_test}
 use Rattle.uri_pct.proofs.General.{and_true_is_the_same}
+use Rattle.std.proofs.lemmas.Bool.Decides.{nat_tests}
 
 -- sixteen bytes at a time: the two words of the table of digits have hexadecimal digits only
 pub char_of_hex_masks_is_hexdigit : (c : ℕ) → has_bit 0x03FF000000000000 0x0000007E0000007E c ≡ true
@@ -73,17 +74,14 @@ module _ (bs : List ℕ) (i percents others : ℕ)
       let second = or_parts (is_set_bit others (2 + k)) (is_set_bit 196608 (2 + k))
       (sym (bit_of_bit_or others 196608 (2 + k)) ∙ sym (bit_of_right_shift all 2 k) ∙ suffix.1) in
       let not_15 : k ≡ 15 → ⊥ = λ d. both_ways _ (sym (ap (λ m. is_set_bit 196608 (1 + m)) d)
-      ∙ first.1)
-      refl in
+      ∙ first.1) refl in
       let not_14 : k ≡ 14 → ⊥ = λ d. both_ways _ (sym (ap (λ m. is_set_bit 196608 (2 + m)) d)
-      ∙ second.1)
-      refl in
+      ∙ second.1) refl in
       let room : k + 3 ≤ 16 = ⊎_elim (λ (h : k < 14). omega arith)
       (λ (h : 14 ≤ k). ⊎_elim (λ (l : k < 15). absurd (not_14 (omega arith)))
       (λ (l : 15 ≤ k). absurd (not_15 (omega arith))) (cases_lt k 15)) (cases_lt k 14) in
       let at_1 = char_of_hex_masks_is_hexdigit _
-      (clear_lane_passes_test _ bs i 16 others (1 + k) marks
-      (omega arith) first.0) in
+      (clear_lane_passes_test _ bs i 16 others (1 + k) marks (omega arith) first.0) in
       let at_2 = char_of_hex_masks_is_hexdigit _
       (clear_lane_passes_test _ bs i 16 others (2 + k) marks (omega arith) second.0) in (
         room,
@@ -104,12 +102,8 @@ lanes_left_uncovered misses begun = bit_and misses (bit_not w64 (lanes_covered_b
 -- sixteen bytes at a time: shifting the starts of octets left by s bits makes lane k - s lane k
 lane_of_shifted_starts : (begun s k : ℕ) → k < 64
     → is_set_bit (begun * 2 ^ s % 2 ^ 64) k ≡ (leb s k && is_set_bit begun (k - s))
-lane_of_shifted_starts begun s k h = ⊎_elim
-    (λ (l : k < s). low_bit_of_left_shift_is_clear begun s k h l
-    ∙ sym (ap (λ b. b && is_set_bit begun (k - s)) (lt-leb s k l)))
-    (λ (l : s ≤ k). bit_of_left_shift begun s k h l
-    ∙ sym (ap (λ b. b && is_set_bit begun (k - s)) (le-leb s k l)))
-    (cases_lt k s)
+lane_of_shifted_starts begun s k h =
+    grind (arith, nat_tests, low_bit_of_left_shift_is_clear, is_set_bit, bit_of_left_shift)
 
 -- sixteen bytes at a time: a lane is left uncovered if it is a miss and in no octet
 pub uncovered_lane_is_miss_outside_octets : (misses begun k : ℕ) → begun < 2 ^ 64 → k < 64
@@ -120,18 +114,15 @@ uncovered_lane_is_miss_outside_octets misses begun k fits h =
     let two : ℕ = begun * 2 ^ 2 % 2 ^ 64 in
     bit_of_bit_and_not misses (lanes_covered_by_octets begun) k
     (or_lt 64 _ _ (or_lt 64 _ _ fits (omega arith)) (omega arith)) h
-    ∙ ap (λ b. is_set_bit misses k && not b)
-    (bit_of_bit_or (bit_or begun one) two k
-    ∙ ap (λ b. b || is_set_bit two k)
-    (bit_of_bit_or begun one k
+    ∙ ap (λ b. is_set_bit misses k && not b) (bit_of_bit_or (bit_or begun one) two k
+    ∙ ap (λ b. b || is_set_bit two k) (bit_of_bit_or begun one k
     ∙ ap (λ b. is_set_bit begun k || b) (lane_of_shifted_starts begun 1 k h))
     ∙ ap (λ b. (is_set_bit begun k || (leb 1 k && is_set_bit begun (k - 1))) || b)
     (lane_of_shifted_starts begun 2 k h))
 
 -- sixteen bytes at a time: a lane is in no octet if none begins there or at one of the two before
 pub lane_without_origin_is_in_no_octet : (begun k : ℕ) → is_set_bit begun k ≡ false
-    → ((j : ℕ) → j < k → k ≤ j + 2 → is_set_bit begun j ≡ false)
-    → is_lane_of_octet begun k ≡ false
+    → ((j : ℕ) → j < k → k ≤ j + 2 → is_set_bit begun j ≡ false) → is_lane_of_octet begun k ≡ false
 lane_without_origin_is_in_no_octet begun k here before =
     or_from _ _ (or_from _ _ here (none 1 (omega arith) (omega arith)))
     (none 2 (omega arith) (omega arith))
@@ -196,31 +187,16 @@ miss_outside_digits_is_in_octet_that_begins_there misses starts k digits = ⊎_e
     before : is_set_bit misses k ≡ true → (s : ℕ)
         → ((j : ℕ) → is_set_bit starts j ≡ true → is_set_bit misses (j + s) ≡ false)
         → (leb s k && is_set_bit begun (k - s)) ≡ false
-    before set s none = ⊎_elim
-        (λ (l : k < s). ap (λ b. b && is_set_bit begun (k - s)) (lt-leb s k l))
-        (λ (l : s ≤ k). and_right (leb s k) _ (⊎_elim
-        (λ (o : is_set_bit begun (k - s) ≡ true).
-        let starts_there = (and_parts _ _ (sym (bit_of_bit_and starts misses (k - s)) ∙ o)).0 in
-        absurd (both_ways _ (ap (is_set_bit misses) (omega arith) ∙ none (k - s) starts_there) set))
-        (λ (o : is_set_bit begun (k - s) ≡ false). o)
-        (cases_Bool (is_set_bit begun (k - s)))))
-        (cases_lt k s)
+    before set s none = grind (arith, nat_tests, is_set_bit, bit_of_bit_and)
 
     here : is_set_bit misses k ≡ true → is_lane_of_octet begun k ≡ is_set_bit starts k
-    here set =
-        let one = before set 1 (λ j o. ap (λ n. eqb n 1) (digits j (eqb-true _ _ o)).0) in
-        let two = before set 2 (λ j o. ap (λ n. eqb n 1) (digits j (eqb-true _ _ o)).1) in
-        ap (λ b. (is_set_bit begun k || (leb 1 k && is_set_bit begun (k - 1))) || b) two
-        ∙ or-false _ ∙ ap (λ b. is_set_bit begun k || b) one ∙ or-false _
-        ∙ bit_of_bit_and starts misses k ∙ ap (λ b. is_set_bit starts k && b) set
-        ∙ and_true_is_the_same (is_set_bit starts k)
+    here set = grind (arith, nat_tests, is_set_bit, or-false, bit_of_bit_and, and_true_is_the_same)
 
 -- the bytes before the first lane that is a miss and in no octet
 module _ (test : ℕ → Bool) (bs : List ℕ) (i begun misses n : ℕ) (fits : begun < 2 ^ 64)
     (few : n ≤ 16)
     (starts : (k : ℕ) → bit_at begun k ≡ 1 → (k + 3 ≤ 16) × (get_or bs (i + k) 0 ≡ 37)
-    × (has_hex_digits_after bs (i + k) ≡ true))
-    (marks : MarksFailingLanes test bs i 16 misses)
+    × (has_hex_digits_after bs (i + k) ≡ true)) (marks : MarksFailingLanes test bs i 16 misses)
     (shut : (k : ℕ) → k < n → is_set_bit (lanes_left_uncovered misses begun) k ≡ false)
     (ends : n < 16 → is_set_bit (lanes_left_uncovered misses begun) n ≡ true) where
   pub covered_lanes_are_characters_or_octets : AreCharactersOrOctets test bs i n

@@ -56,8 +56,7 @@ pub hexdig_masks_are_hexdig_set : set_of_masks 0x03FF000000000000 0x0000007E0000
     false ≡ hexdig_set
 unfolding has_bit
 hexdig_masks_are_hexdig_set = agreeing_masks_are_set_of_test 0x03FF000000000000 0x0000007E0000007E
-    false is_ascii_hexdigit refl
-    past_ascii_is_no_hexdigit
+    false is_ascii_hexdigit refl past_ascii_is_no_hexdigit
 
 -- the table of scheme characters (two words and three flags) is their set (RFC 3986, section 3.1)
 pub scheme_masks_are_scheme_set : set_of_masks 0x03FF680000000000 0x07FFFFFE07FFFFFE false false
@@ -139,8 +138,7 @@ pub unreserved_masks_are_unreserved_set : set_of_masks 0x03FF600000000000 0x47FF
     ≡ unreserved_set
 unfolding has_bit
 unreserved_masks_are_unreserved_set = agreeing_masks_are_set_of_test 0x03FF600000000000
-    0x47FFFFFE87FFFFFE false is_unreserved refl
-    past_ascii_is_not_unreserved
+    0x47FFFFFE87FFFFFE false is_unreserved refl past_ascii_is_not_unreserved
 
 -- the table of reserved characters (two words and three flags) is their set (RFC 3986, section 2.2)
 pub reserved_masks_are_reserved_set : set_of_masks 0xAC009FDA00000000 0x0000000028000001 false
@@ -170,8 +168,7 @@ sub_delims_masks_are_sub_delims_set = agreeing_masks_are_set_of_test 0x28001FD20
 
 -- tables: those of an IRI are those of a URI, with the flags ucschar and iprivate
 masks_with_flags_are_set_with_flags : (low high : ℕ) (set : TableSet) (ucschar iprivate : Bool)
-    → set_of_masks low high true false false ≡ set
-    → set_of_masks low high true ucschar iprivate
+    → set_of_masks low high true false false ≡ set → set_of_masks low high true ucschar iprivate
     ≡ record set { ucschar = ucschar; iprivate = iprivate }
 masks_with_flags_are_set_with_flags low high set ucschar iprivate e =
     ap (λ (s : TableSet). record s { ucschar = ucschar; iprivate = iprivate }) e
@@ -181,8 +178,7 @@ pub iuserinfo_masks_are_iuserinfo_set : set_of_masks 0x2FFF7FD200000000 0x47FFFF
     true true false
     ≡ iuserinfo_set
 iuserinfo_masks_are_iuserinfo_set = masks_with_flags_are_set_with_flags 0x2FFF7FD200000000
-    0x47FFFFFE87FFFFFE userinfo_set true false
-    userinfo_masks_are_userinfo_set
+    0x47FFFFFE87FFFFFE userinfo_set true false userinfo_masks_are_userinfo_set
 
 -- the table of an IRI's registered name (two words and three
 -- flags) is its set (RFC 3987, section 2.2)
@@ -190,8 +186,7 @@ pub ireg_name_masks_are_ireg_name_set : set_of_masks 0x2BFF7FD200000000 0x47FFFF
     true true false
     ≡ ireg_name_set
 ireg_name_masks_are_ireg_name_set = masks_with_flags_are_set_with_flags 0x2BFF7FD200000000
-    0x47FFFFFE87FFFFFE reg_name_set true false
-    reg_name_masks_are_reg_name_set
+    0x47FFFFFE87FFFFFE reg_name_set true false reg_name_masks_are_reg_name_set
 
 -- the table of an IRI's path (two words and three flags) is its set (RFC 3987, section 2.2)
 pub ipath_masks_are_ipath_set : set_of_masks 0x2FFFFFD200000000 0x47FFFFFE87FFFFFF true true false
@@ -205,8 +200,7 @@ pub isegment_nz_nc_masks_are_isegment_nz_nc_set : set_of_masks 0x2BFF7FD20000000
     true true false
     ≡ isegment_nz_nc_set
 isegment_nz_nc_masks_are_isegment_nz_nc_set = masks_with_flags_are_set_with_flags 0x2BFF7FD200000000
-    0x47FFFFFE87FFFFFF segment_nz_nc_set true false
-    segment_nz_nc_masks_are_segment_nz_nc_set
+    0x47FFFFFE87FFFFFF segment_nz_nc_set true false segment_nz_nc_masks_are_segment_nz_nc_set
 
 -- the table of an IRI's query (two words and three flags) is its set (RFC 3987, section 2.2)
 pub iquery_masks_are_iquery_set : set_of_masks 0xAFFFFFD200000000 0x47FFFFFE87FFFFFF true true true
@@ -219,8 +213,7 @@ pub ifragment_masks_are_ifragment_set : set_of_masks 0xAFFFFFD200000000 0x47FFFF
     true true false
     ≡ ifragment_set
 ifragment_masks_are_ifragment_set = masks_with_flags_are_set_with_flags 0xAFFFFFD200000000
-    0x47FFFFFE87FFFFFF fragment_set true false
-    fragment_masks_are_fragment_set
+    0x47FFFFFE87FFFFFF fragment_set true false fragment_masks_are_fragment_set
 
 -- sets: what a set of characters alone allows passes the test of these
 allowed_character_passes_test : (test : ℕ → Bool) (c : ℕ) → allows (characters_only test) c

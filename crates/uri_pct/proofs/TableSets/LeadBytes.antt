@@ -4,8 +4,7 @@ use Rattle.std.proofs.Common.{◌∷◌, ◌++◌, length, get_or, drop, refl, s
 use Rattle.std.specs.Char.{encode_utf8, len_utf8, IsScalar}
 use Rattle.std.specs.Int.{is_in_range}
 use Rattle.std.specs.Str.{encode_utf8_all, all_scalars, IsUtf8, IsCharBoundary}
-use Rattle.std.proofs.lemmas.Bool.{cond-true, and_parts, and_from}
-use Rattle.std.proofs.lemmas.Bool.{or_left, leb-true}
+use Rattle.std.proofs.lemmas.Bool.{cond-true, and_parts, and_from, or_left, leb-true}
 use Rattle.std.proofs.lemmas.Bool.Decides.{nat_tests}
 use Rattle.std.proofs.lemmas.List.{get_or-drop, length-drop}
 use Rattle.std.proofs.lemmas.Str.{IsUtf8-drop, IsCharBoundary-past_char, drop_past_char}
@@ -119,8 +118,7 @@ char_from_a0_to_d7ff_is_ucschar c from to = ucschar_below_plane_1_is_low_ucschar
 -- tables, lead bytes: a set with `ucschar` has each
 -- character whose lead byte tells its length n here
 char_with_length_by_lead_is_allowed : (set : TableSet) (c n : ℕ) → set.ucschar ≡ true
-    → HasLengthByLead c n
-    → allows_past_ascii set c ≡ true
+    → HasLengthByLead c n → allows_past_ascii set c ≡ true
 unfolding allows_past_ascii
 char_with_length_by_lead_is_allowed set c n flag told = or_left _ _
     (and_from _ _ flag (char_from_a0_to_d7ff_is_ucschar c told.from told.to))
@@ -133,8 +131,7 @@ byte_in_lead_range_is_c3_to_ed b e = let p =
 
 -- tables, lead bytes: a scan passes an allowed character past ASCII, of n bytes at i
 pub scan_passes_char : (set : TableSet) (bs rest : List ℕ) (i c n : ℕ) → IsUtf8 bs
-    → IsCharBoundary bs i
-    → i < length bs → 128 ≤ get_or bs i 0 → drop i bs ≡ encode_utf8 c ++ rest
+    → IsCharBoundary bs i → i < length bs → 128 ≤ get_or bs i 0 → drop i bs ≡ encode_utf8 c ++ rest
     → allows_past_ascii set c ≡ true → len_utf8 c ≡ n
     → (valid_prefix set (drop i bs) ≡ valid_prefix set (drop (i + n) bs) + n)
     × IsCharBoundary bs (i + n)

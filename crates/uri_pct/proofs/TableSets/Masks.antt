@@ -10,9 +10,8 @@ use Rattle.std.proofs.lemmas.Nat.Bits.{shr_and_one, bit_at-zero, bit_at-lt, bit_
 use Rattle.std.proofs.lemmas.Nat.Bits.{bit_at_not, bit_at_set_same, bit_at_set_other}
 use Rattle.std.proofs.lemmas.Nat.Bits.{same_from_bits_below}
 use Rattle.std.proofs.lemmas.Bool.{cases_lt, cases_eq, cond-true, cond-false, lt-ltb, le-ltb}
-use Rattle.std.proofs.lemmas.Bool.{eq-eqb, ne_eqb, eqb-false, or_from, or_right, and_left}
-use Rattle.std.proofs.lemmas.Bool.{and_parts}
-use Rattle.std.proofs.lemmas.Bool.{agree_below, agree_below_at, both_ways}
+use Rattle.std.proofs.lemmas.Bool.{eq-eqb, ne_eqb, or_from, or_right, and_left, and_parts}
+use Rattle.std.proofs.lemmas.Bool.{agree_below, agree_below_at}
 use Rattle.std.proofs.lemmas.Bool.Decides.{nat_tests}
 use Rattle.uri_pct.specs.Masks.{has_bit}
 
@@ -37,9 +36,7 @@ has_bit_past_ascii_is_false low high c h = cond-false _ _ _ (le-ltb c 64 (omega 
 
 -- tables: the two words have ASCII characters only
 pub has_bit-only-ascii : (low high c : ℕ) → has_bit low high c ≡ true → c < 128
-has_bit-only-ascii low high c e = ⊎_elim (λ (below : c < 128). below)
-    (λ (past : 128 ≤ c). absurd (both_ways _ (has_bit_past_ascii_is_false low high c past) e))
-    (cases_lt c 128)
+has_bit-only-ascii low high c e = grind (arith, nat_tests, has_bit_past_ascii_is_false)
 
 -- tables: the bit of `%` (37) is in the low word
 pub has_bit_of_percent_is_bit_of_low : (low high : ℕ) → has_bit low high 37 ≡ eqb (bit_at low 37) 1
@@ -98,15 +95,13 @@ has_bit_is_test_if_words_agree : (low high : ℕ) (f : ℕ → Bool)
     → ((c : ℕ) → 64 ≤ c → c < 128 → eqb (bit_at high (c - 64)) 1 ≡ f c)
     → ((c : ℕ) → 128 ≤ c → f c ≡ false) → (c : ℕ) → has_bit low high c ≡ f c
 has_bit_is_test_if_words_agree low high f first second third c =
-    ⊎_elim
-    (λ (below : c < 64). has_bit_below_64_is_bit_of_low low high c below ∙ first c below)
-    (λ (from : 64 ≤ c).
-    ⊎_elim
-    (λ (below : c < 128). has_bit_from_64_is_bit_of_high low high c from below
-    ∙ second c from below)
-    (λ (past : 128 ≤ c). has_bit_past_ascii_is_false low high c past ∙ sym (third c past))
-    (cases_lt c 128))
-    (cases_lt c 64)
+    grind (
+      arith,
+      nat_tests,
+      has_bit_below_64_is_bit_of_low,
+      has_bit_from_64_is_bit_of_high,
+      has_bit_past_ascii_is_false,
+    )
 
 -- general fact on booleans, for joining tables
 binary_function_of_equals_is_equal : (f : Bool → Bool → Bool) {a a' b b' : Bool} → a ≡ a' → b ≡ b'
@@ -151,40 +146,35 @@ bit_of_bit_and_not a b i fits within =
 pub has_bit_of_joined_masks_is_or : (low high low' high' c : ℕ)
     → has_bit (bit_or low low') (bit_or high high') c ≡ (has_bit low high c || has_bit low' high' c)
 has_bit_of_joined_masks_is_or low high low' high' =
-    has_bit_is_test_if_words_agree (bit_or low low') (bit_or high high')
-    (λ c. has_bit low high c || has_bit low' high' c)
-    (λ c h. bit_of_bit_or low low' c
-    ∙ sym (binary_function_of_equals_is_equal (λ a b. a || b)
-    (has_bit_below_64_is_bit_of_low low high c h) (has_bit_below_64_is_bit_of_low low' high' c h)))
-    (λ c h k. bit_of_bit_or high high' (c - 64)
-    ∙ sym
-    (binary_function_of_equals_is_equal (λ a b. a || b)
-    (has_bit_from_64_is_bit_of_high low high c h k)
-    (has_bit_from_64_is_bit_of_high low' high' c h k)))
-    (λ c h. or_from (has_bit low high c) (has_bit low' high' c)
-    (has_bit_past_ascii_is_false low high c h)
-    (has_bit_past_ascii_is_false low' high' c h))
+    grind (
+      arith,
+      nat_tests,
+      has_bit_is_test_if_words_agree,
+      bit_or,
+      bit_of_bit_or,
+      binary_function_of_equals_is_equal,
+      has_bit_below_64_is_bit_of_low,
+      has_bit_from_64_is_bit_of_high,
+      has_bit_past_ascii_is_false,
+    )
 
 -- tables: the difference of two pairs of words has the characters
 -- of the first that the second lacks
 pub has_bit_of_mask_difference_is_and_not : (low high low' high' c : ℕ) → low' < 2 ^ 64
-    → high' < 2 ^ 64
-    → has_bit (bit_and low (bit_not w64 low')) (bit_and high (bit_not w64 high')) c
+    → high' < 2 ^ 64 → has_bit (bit_and low (bit_not w64 low')) (bit_and high (bit_not w64 high')) c
     ≡ (has_bit low high c && not (has_bit low' high' c))
 has_bit_of_mask_difference_is_and_not low high low' high' c fits fits' =
-    has_bit_is_test_if_words_agree (bit_and low (bit_not w64 low'))
-    (bit_and high (bit_not w64 high'))
-    (λ c. has_bit low high c && not (has_bit low' high' c))
-    (λ c h. bit_of_bit_and_not low low' c fits h
-    ∙ sym (binary_function_of_equals_is_equal (λ a b. a && not b)
-    (has_bit_below_64_is_bit_of_low low high c h) (has_bit_below_64_is_bit_of_low low' high' c h)))
-    (λ c h k. bit_of_bit_and_not high high' (c - 64) fits' (omega arith)
-    ∙ sym (binary_function_of_equals_is_equal (λ a b. a && not b)
-    (has_bit_from_64_is_bit_of_high low high c h k)
-    (has_bit_from_64_is_bit_of_high low' high' c h k)))
-    (λ c h. and_left (has_bit low high c) (not (has_bit low' high' c))
-    (has_bit_past_ascii_is_false low high c h))
-    c
+    grind (
+      arith,
+      nat_tests,
+      has_bit_is_test_if_words_agree,
+      bit_and,
+      bit_of_bit_and_not,
+      binary_function_of_equals_is_equal,
+      has_bit_below_64_is_bit_of_low,
+      has_bit_from_64_is_bit_of_high,
+      has_bit_past_ascii_is_false,
+    )
 
 -- bits, for tables: the bits of a word after its bit k is set
 bit_after_one_bit_is_set : (n k i : ℕ) → k < 64
@@ -212,8 +202,7 @@ has_bit_after_low_bit_is_set low high k c within =
     sym (has_bit_from_64_is_bit_of_high low high c h j) ∙ sym (or-false (has_bit low high c))
     ∙ ap (λ b. has_bit low high c || b) (sym (ne_eqb k c (λ (e : k ≡ c). omega arith))))
     (λ c h. or_from (has_bit low high c) (eqb k c) (has_bit_past_ascii_is_false low high c h)
-    (ne_eqb k c (λ (e : k ≡ c). omega arith)))
-    c
+    (ne_eqb k c (λ (e : k ≡ c). omega arith))) c
 
 -- general fact on numbers, for the high word of a table
 equality_is_kept_by_subtracting_64 : (k c : ℕ) → 64 ≤ k → 64 ≤ c → eqb (k - 64) (c - 64) ≡ eqb k c
@@ -234,8 +223,7 @@ has_bit_after_high_bit_is_set low high k c from within =
     (sym (has_bit_from_64_is_bit_of_high low high c h j))
     (equality_is_kept_by_subtracting_64 k c from h))
     (λ c h. or_from (has_bit low high c) (eqb k c) (has_bit_past_ascii_is_false low high c h)
-    (ne_eqb k c (λ (e : k ≡ c). omega arith)))
-    c
+    (ne_eqb k c (λ (e : k ≡ c). omega arith))) c
 
 -- tables: two words that are zero have no character
 pub has_bit-zero-masks : (c : ℕ) → has_bit 0 0 c ≡ false
@@ -245,10 +233,7 @@ has_bit-zero-masks = has_bit_is_test_if_words_agree 0 0 (λ c. false)
 
 -- bits, for tables: one that is not 1 is 0
 pub bit_that_is_not_one_is_zero : (n i : ℕ) → eqb (bit_at n i) 1 ≡ false → bit_at n i ≡ 0
-bit_that_is_not_one_is_zero n i e =
-    let ne : bit_at n i ≡ 1 → ⊥ = eqb-false (bit_at n i) 1 e in
-    let h : bit_at n i < 2 = bit_at-lt n i in
-    omega arith
+bit_that_is_not_one_is_zero n i e = grind (arith, nat_tests, bit_at-lt)
 
 -- bits, for tables: a word without any is 0
 number_without_set_bits_is_zero : (n : ℕ) → n < 2 ^ 64
@@ -266,8 +251,7 @@ low_mask_without_bits_is_zero low high fits none =
 
 -- tables: a high word without characters is 0
 pub high_mask_without_bits_is_zero : (low high : ℕ) → high < 2 ^ 64
-    → ((c : ℕ) → has_bit low high c ≡ false)
-    → high ≡ 0
+    → ((c : ℕ) → has_bit low high c ≡ false) → high ≡ 0
 high_mask_without_bits_is_zero low high fits none =
     number_without_set_bits_is_zero high fits
     (λ i h.

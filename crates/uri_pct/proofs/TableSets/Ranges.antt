@@ -44,9 +44,7 @@ in_planes_above_last_plane_is_false (suc n) c h =
 -- sets, for `ucschar`: the range of a plane n lacks its last two characters only
 range_of_plane_lacks_only_last_two : (n c : ℕ) → 65536 * n ≤ c → c < 65536 * n + 65536
     → is_in_range (65536 * n) (65536 * n + 65533) c ≡ leb (c % 65536) 65533
-range_of_plane_lacks_only_last_two n c from below =
-    let place : c % 65536 + 65536 * n ≡ c = omega arith in
-    grind (arith, nat_tests, place)
+range_of_plane_lacks_only_last_two n c from below = grind (arith, nat_tests)
 
 -- sets, for `ucschar`: the ranges of planes 1 to n lack the last two characters of each only
 planes_lack_only_last_two_of_each : (n c : ℕ) → 65536 ≤ c → c < 65536 * (n + 1)
@@ -113,8 +111,7 @@ ucschar_from_plane_14_is_one_range c h =
 
 -- sets: `iprivate` is three ranges (RFC 3987, section 2.2)
 pub iprivate_is_three_ranges : (c : ℕ)
-    → is_iprivate c
-    ≡ (is_in_range 0xE000 0xF8FF c || is_in_range 0xF0000 0xFFFFD c
+    → is_iprivate c ≡ (is_in_range 0xE000 0xF8FF c || is_in_range 0xF0000 0xFFFFD c
     || is_in_range 0x100000 0x10FFFD c)
 unfolding is_iprivate
 iprivate_is_three_ranges c = refl

@@ -3,17 +3,16 @@ use Rattle.std.proofs.Common.{◌≡◌, ℕ, ◌+◌, ◌^◌, ◌<◌, ◌≤�
 use Rattle.std.proofs.Common.{ap, ◌∙◌, arith, bit_or, ◌&&◌, ◌||◌, All, List, get_or}
 use Rattle.std.specs.Int.Bits.{bit_and, or_add_and}
 use Rattle.std.proofs.lemmas.Nat.{and_le_l, and_le_r}
-use Rattle.std.proofs.lemmas.Bool.{and_parts, or_parts, not-true, eqb-true, eqb-false, ltb-true}
-use Rattle.std.proofs.lemmas.Bool.{ne_eqb}
+use Rattle.std.proofs.lemmas.Bool.{and_parts, or_parts, not-true, eqb-true, ne_eqb}
 use Rattle.std.proofs.lemmas.List.Folds.{list_any_none}
 use Rattle.std.proofs.lemmas.List.Sums.{AllPass-from_list_all}
-use Rattle.std.proofs.Math.Dec.{ltb}
 use Rattle.std.specs.List.{list_all}
 use Rattle.uri_pct.specs.Sets.{TableSet, difference, IsSubset, is_one_of}
 use Rattle.uri_pct.specs.Masks.{has_bit, is_unencoded_ascii}
 use Rattle.uri_pct.specs.Tables.{empty_set}
 use Rattle.uri_pct.proofs.TableSets.Masks.{has_bit-zero-masks, low_mask_without_bits_is_zero}
 use Rattle.uri_pct.proofs.TableSets.Masks.{high_mask_without_bits_is_zero}
+use Rattle.std.proofs.lemmas.Bool.Decides.{nat_tests}
 
 -- tables: the set of the characters that pass a test, with three flags
 abbrev pub record_set : (ℕ → Bool) → Bool → Bool → Bool → TableSet
@@ -113,10 +112,6 @@ byte_unlike_all_is_not_one_of_them bytes c h = list_any_none (λ x. eqb x c) byt
 
 -- tables: the bytes of a text that a caller writes to make one are ASCII, and none is `%` (37)
 pub unencoded_ascii_is_below_128_and_no_percent : (bytes : List ℕ)
-    → list_all is_unencoded_ascii bytes ≡ true
-    → All (λ b. (b < 128) × (b ≡ 37 → ⊥)) bytes
-unencoded_ascii_is_below_128_and_no_percent bytes h = λ k d within.
-    let b = get_or bytes k d in
-    let parts = and_parts (ltb b 128) (not (eqb b 37))
-    (AllPass-from_list_all is_unencoded_ascii bytes h k d within) in
-    (ltb-true b 128 parts.0, eqb-false b 37 (not-true (eqb b 37) parts.1))
+    → list_all is_unencoded_ascii bytes ≡ true → All (λ b. (b < 128) × (b ≡ 37 → ⊥)) bytes
+unencoded_ascii_is_below_128_and_no_percent bytes h =
+    grind (arith, nat_tests, AllPass-from_list_all)

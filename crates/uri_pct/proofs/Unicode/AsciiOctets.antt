@@ -44,16 +44,14 @@ parts_from-ascii-octet run b suffix small =
 
 -- UTF-8 of decoded octets: a prefix of bytes past ASCII is past ASCII
 pub prefix_of_past_ascii_is_past_ascii : (prefix end bytes : List ℕ) → bytes ≡ prefix ++ end
-    → ArePastAscii bytes
-    → ArePastAscii prefix
+    → ArePastAscii bytes → ArePastAscii prefix
 prefix_of_past_ascii_is_past_ascii prefix end bytes same past = All-same (λ b. 128 ≤ b) _ _
     (sym (ap (take (length prefix)) same ∙ take-append_seam prefix end))
     (All-take (λ b. 128 ≤ b) (length prefix) bytes past)
 
 -- UTF-8 of decoded octets: in bytes past ASCII, each suffix is past ASCII
 pub suffix_of_past_ascii_is_past_ascii : (prefix end bytes : List ℕ) → bytes ≡ prefix ++ end
-    → ArePastAscii bytes
-    → ArePastAscii end
+    → ArePastAscii bytes → ArePastAscii end
 suffix_of_past_ascii_is_past_ascii prefix end bytes same past = All-same (λ b. 128 ≤ b) _ _
     (sym (ap (drop (length prefix)) same ∙ drop-append_seam prefix end))
     (All-drop (λ b. 128 ≤ b) (length prefix) bytes past)

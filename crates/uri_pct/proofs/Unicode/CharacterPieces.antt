@@ -13,22 +13,19 @@ use Rattle.std.proofs.lemmas.List.{append-nil}
 use Rattle.std.proofs.lemmas.List.Elements.{All-from_recursion}
 use Rattle.std.proofs.lemmas.Str.{encode_ascii, chars-encodes}
 use Rattle.std.proofs.lemmas.Bool.{cases_Bool, cond-true, cond-false, and_parts, and_left}
-use Rattle.std.proofs.lemmas.Bool.{and_right, leb-true, lt-leb, and_from, cases_lt}
-use Rattle.std.proofs.lemmas.Bool.{eqb-true}
+use Rattle.std.proofs.lemmas.Bool.{and_right, leb-true, lt-leb, and_from, cases_lt, eqb-true}
 use Rattle.std.proofs.lemmas.Bool.Decides.{nat_tests}
 use Rattle.uri_pct.specs.Pieces.{Piece, WellFormed, IllFormed, ByteRange, Row, is_in_byte_range}
 use Rattle.uri_pct.specs.Pieces.{continuation, well_formed_rows, begins_with_continuation, char_of}
 use Rattle.uri_pct.specs.Pieces.{IsOfCharacter, following_ranges, len_in_ranges}
-use Rattle.uri_pct.specs.Pieces.{first_piece_tail_len, first_piece, pieces_from}
-use Rattle.uri_pct.specs.Pieces.{utf8_pieces}
+use Rattle.uri_pct.specs.Pieces.{first_piece_tail_len, first_piece, pieces_from, utf8_pieces}
 use Rattle.uri_pct.proofs.Unicode.Pieces.{utf8_pieces_are_cut_at_non_continuation}
 use Rattle.uri_pct.proofs.Unicode.FirstBytes.{fitting_bytes_are_well_formed_first_piece}
 use Rattle.uri_pct.proofs.Unicode.FirstBytes.{no_range_follows_ascii_byte}
 use Rattle.uri_pct.proofs.Unicode.FirstBytes.{following_ranges_of_c2_to_df, following_ranges_of_e0}
 use Rattle.uri_pct.proofs.Unicode.FirstBytes.{following_ranges_of_e1_to_ec, following_ranges_of_ed}
-use Rattle.uri_pct.proofs.Unicode.FirstBytes.{following_ranges_of_ee_to_ef}
-use Rattle.uri_pct.proofs.Unicode.FirstBytes.{following_ranges_of_f0, following_ranges_of_f1_to_f3}
-use Rattle.uri_pct.proofs.Unicode.FirstBytes.{following_ranges_of_f4}
+use Rattle.uri_pct.proofs.Unicode.FirstBytes.{following_ranges_of_ee_to_ef, following_ranges_of_f0}
+use Rattle.uri_pct.proofs.Unicode.FirstBytes.{following_ranges_of_f1_to_f3, following_ranges_of_f4}
 
 -- UTF-8: the bytes of a character from U+0080 to U+07FF
 utf8_of_char_of_two_bytes : (c : ℕ) → 0x80 ≤ c → c < 0x800 → encode_utf8 c
@@ -68,10 +65,8 @@ char_of_two_bytes_begins_piece c rest low high = rw (utf8_of_char_of_two_bytes c
 
 -- UTF-8: a character of three bytes is a piece, if the second byte fits the row of the first
 char_of_three_bytes_begins_piece : (c : ℕ) (rest : List ℕ) (second : ByteRange) → 0x800 ≤ c
-    → c < 0x10000
-    → following_ranges (224 + c / 4096) ≡ Some (second ∷ continuation ∷ [])
-    → second.0 ≤ 128 + c / 64 % 64
-    → 128 + c / 64 % 64 ≤ second.1 → BeginsPiece c rest
+    → c < 0x10000 → following_ranges (224 + c / 4096) ≡ Some (second ∷ continuation ∷ [])
+    → second.0 ≤ 128 + c / 64 % 64 → 128 + c / 64 % 64 ≤ second.1 → BeginsPiece c rest
 char_of_three_bytes_begins_piece c rest second low high row from byte_within_bounds = rw
     (utf8_of_char_of_three_bytes c low high)
     (fitting_bytes_are_well_formed_first_piece (224 + c / 4096) (second ∷ continuation ∷ [])
@@ -83,8 +78,7 @@ char_of_four_bytes_begins_piece : (c : ℕ) (rest : List ℕ) (second : ByteRang
     → following_ranges (240 + c / 262144) ≡ Some (second ∷ continuation ∷ continuation ∷ [])
     → second.0 ≤ 128 + c / 4096 % 64 → 128 + c / 4096 % 64 ≤ second.1 → BeginsPiece c rest
 char_of_four_bytes_begins_piece c rest second low row from byte_within_bounds = rw
-    (utf8_of_char_of_four_bytes c low)
-    (fitting_bytes_are_well_formed_first_piece (240 + c / 262144)
+    (utf8_of_char_of_four_bytes c low) (fitting_bytes_are_well_formed_first_piece (240 + c / 262144)
     (second ∷ continuation ∷ continuation ∷ [])
     ((128 + c / 4096 % 64) ∷ (128 + c / 64 % 64) ∷ (128 + c % 64) ∷ []) rest row
     ((from, byte_within_bounds), ((omega arith, omega arith), ((omega arith, omega arith), tt))))
@@ -95,14 +89,11 @@ char_below_surrogates_begins_piece c rest high = ⊎_elim (λ h. ascii_char_begi
     (λ l1.
     ⊎_elim (λ h. char_of_two_bytes_begins_piece c rest l1 h) (λ l2.
     ⊎_elim (λ h. char_of_three_bytes_begins_piece c rest (0xA0, 0xBF) l2 (omega arith)
-    (following_ranges_of_e0 _ (omega arith)) (omega arith)
-    (omega arith)) (λ l3.
+    (following_ranges_of_e0 _ (omega arith)) (omega arith) (omega arith)) (λ l3.
     ⊎_elim (λ h. char_of_three_bytes_begins_piece c rest continuation l2 (omega arith)
-    (following_ranges_of_e1_to_ec _ (omega arith) (omega arith))
-    (omega arith) (omega arith))
+    (following_ranges_of_e1_to_ec _ (omega arith) (omega arith)) (omega arith) (omega arith))
     (λ l4. char_of_three_bytes_begins_piece c rest (0x80, 0x9F) l2 (omega arith)
-    (following_ranges_of_ed _ (omega arith)) (omega arith)
-    (omega arith))
+    (following_ranges_of_ed _ (omega arith)) (omega arith) (omega arith))
     (cases_lt c 0xD000)) (cases_lt c 0x1000)) (cases_lt c 0x800)) (cases_lt c 0x80)
 
 -- UTF-8: a character above the surrogates is a piece
@@ -110,14 +101,11 @@ char_above_surrogates_begins_piece : (c : ℕ) (rest : List ℕ) → 0xE000 ≤ 
     → BeginsPiece c rest
 char_above_surrogates_begins_piece c rest low high = ⊎_elim
     (λ h. char_of_three_bytes_begins_piece c rest continuation (omega arith) h
-    (following_ranges_of_ee_to_ef _ (omega arith) (omega arith))
-    (omega arith) (omega arith)) (λ l1.
+    (following_ranges_of_ee_to_ef _ (omega arith) (omega arith)) (omega arith) (omega arith)) (λ l1.
     ⊎_elim (λ h. char_of_four_bytes_begins_piece c rest (0x90, 0xBF) l1
-    (following_ranges_of_f0 _ (omega arith)) (omega arith)
-    (omega arith)) (λ l2.
+    (following_ranges_of_f0 _ (omega arith)) (omega arith) (omega arith)) (λ l2.
     ⊎_elim (λ h. char_of_four_bytes_begins_piece c rest continuation l1
-    (following_ranges_of_f1_to_f3 _ (omega arith) (omega arith)) (omega arith)
-    (omega arith))
+    (following_ranges_of_f1_to_f3 _ (omega arith) (omega arith)) (omega arith) (omega arith))
     (λ l3. char_of_four_bytes_begins_piece c rest (0x80, 0x8F) l1
     (following_ranges_of_f4 _ (omega arith)) (omega arith) (omega arith))
     (cases_lt c 0x100000)) (cases_lt c 0x40000)) (cases_lt c 0x10000)
@@ -228,22 +216,15 @@ char_above_surrogates_is_scalar c low high = grind (arith, nat_tests)
 
 -- UTF-8: two bytes b, t are the character of their value c
 two_bytes_are_utf8_of_their_value : (b t c : ℕ) → c + 12416 ≡ b * 64 + t → 0xC2 ≤ b → b ≤ 0xDF
-    → 0x80 ≤ t → t ≤ 0xBF
-    → encode_utf8 c ≡ b ∷ t ∷ []
+    → 0x80 ≤ t → t ≤ 0xBF → encode_utf8 c ≡ b ∷ t ∷ []
 two_bytes_are_utf8_of_their_value b t c e l h l1 h1 =
-    let first : 192 + c / 64 ≡ b = omega arith in
-    let second : 128 + c % 64 ≡ t = omega arith in
-    utf8_of_char_of_two_bytes c (omega arith) (omega arith) ∙ rw (first, second) refl
+    grind (arith, nat_tests, utf8_of_char_of_two_bytes)
 
 -- UTF-8: three bytes b, t, u are the character of their value c
 three_bytes_are_utf8_of_their_value : (b t u c : ℕ) → c + 925824 ≡ (b * 64 + t) * 64 + u → 0x800 ≤ c
-    → c < 0x10000
-    → 0x80 ≤ t → t ≤ 0xBF → 0x80 ≤ u → u ≤ 0xBF → encode_utf8 c ≡ b ∷ t ∷ u ∷ []
+    → c < 0x10000 → 0x80 ≤ t → t ≤ 0xBF → 0x80 ≤ u → u ≤ 0xBF → encode_utf8 c ≡ b ∷ t ∷ u ∷ []
 three_bytes_are_utf8_of_their_value b t u c e l h l1 h1 l2 h2 =
-    let first : 224 + c / 4096 ≡ b = omega arith in
-    let second : 128 + c / 64 % 64 ≡ t = omega arith in
-    let third : 128 + c % 64 ≡ u = omega arith in
-    utf8_of_char_of_three_bytes c l h ∙ rw (first, second, third) refl
+    grind (arith, nat_tests, utf8_of_char_of_three_bytes)
 
 -- UTF-8: four bytes b, t, u, v are the character of their value c
 four_bytes_are_utf8_of_their_value : (b t u v c : ℕ) → c + 63447168
@@ -251,11 +232,7 @@ four_bytes_are_utf8_of_their_value : (b t u v c : ℕ) → c + 63447168
     → 0x80 ≤ t → t ≤ 0xBF → 0x80 ≤ u → u ≤ 0xBF → 0x80 ≤ v → v ≤ 0xBF
     → encode_utf8 c ≡ b ∷ t ∷ u ∷ v ∷ []
 four_bytes_are_utf8_of_their_value b t u v c e l l1 h1 l2 h2 l3 h3 =
-    let first : 240 + c / 262144 ≡ b = omega arith in
-    let second : 128 + c / 4096 % 64 ≡ t = omega arith in
-    let third : 128 + c / 64 % 64 ≡ u = omega arith in
-    let fourth : 128 + c % 64 ≡ v = omega arith in
-    utf8_of_char_of_four_bytes c l ∙ rw (first, second, third, fourth) refl
+    grind (arith, nat_tests, utf8_of_char_of_four_bytes)
 
 -- UTF-8: pieces of two bytes are characters
 pieces_of_two_bytes_are_characters : (b : ℕ) → 0xC2 ≤ b → b ≤ 0xDF
@@ -273,8 +250,7 @@ pieces_of_two_bytes_are_characters b low high rest bytes e =
 
 -- UTF-8: pieces of three bytes are characters, if the range of the second allows no other number
 pieces_of_three_bytes_are_characters : (b : ℕ) (second : ByteRange) → 0xE0 ≤ b → 0x80 ≤ second.0
-    → second.1 ≤ 0xBF
-    → ((c t : ℕ) → second.0 ≤ t → t ≤ second.1 → (b * 64 + t) * 64 ≤ c + 925696
+    → second.1 ≤ 0xBF → ((c t : ℕ) → second.0 ≤ t → t ≤ second.1 → (b * 64 + t) * 64 ≤ c + 925696
     → c + 925696 < (b * 64 + t) * 64 + 64 → (0x800 ≤ c) × (c < 0x10000) × IsScalar c)
     → FormsCharacters b (Some (second ∷ continuation ∷ []))
 pieces_of_three_bytes_are_characters b second low least most fair rest bytes e =
@@ -388,8 +364,7 @@ piece_of_utf8_char_is_of_character bytes a =
 
 -- UTF-8: the first piece of bytes, which begins with b, is a character or ill-formed
 pub first_piece_is_of_character : (b : ℕ) (rest : List ℕ) (p : Piece)
-    → first_piece (following_ranges b) b rest ≡ p
-    → IsOfCharacter p
+    → first_piece (following_ranges b) b rest ≡ p → IsOfCharacter p
 first_piece_is_of_character b rest (WellFormed bytes) e = piece_of_utf8_char_is_of_character bytes
     (well_formed_pieces_are_characters b rest bytes e)
 first_piece_is_of_character b rest (IllFormed bytes) e = tt

@@ -106,13 +106,7 @@ char_has_encoding c = ⊎_elim
 pub char_past_ascii_begins_past_ascii : (c : ℕ) (rest : List ℕ) → 128 ≤ c
     → 128 ≤ get_or (encode_utf8 c ++ rest) 0 0
 unfolding encode_utf8
-char_past_ascii_begins_past_ascii c rest h =
-    let e = le-ltb c 128 h in
-    rw e (⊎_elim (λ k. let f = lt-ltb c 2048 k in rw f (omega arith))
-    (λ k. let f = le-ltb c 2048 k in
-    rw f (⊎_elim (λ m. let g = lt-ltb c 65536 m in rw g (omega arith))
-    (λ m. let g = le-ltb c 65536 m in rw g (omega arith)) (cases_lt c 65536)))
-    (cases_lt c 2048))
+char_past_ascii_begins_past_ascii c rest h = grind (arith, nat_tests)
 
 -- UTF-8: the first character of encoded ones is the first that was encoded
 pub first_of_encoded_chars_is_first_char : (c : ℕ) (cs : List ℕ) → all_scalars (c ∷ cs) ≡ true
@@ -135,8 +129,7 @@ first_byte_is_hexdigit_iff_first_char_is (c ∷ cs) = ⊎_elim (λ h. rw (encode
 
 -- UTF-8: characters begin with two hexadecimal digits exactly if their bytes do
 pub encoded_chars_begin_with_same_hex_digits : (cs : List ℕ)
-    → begins_with_hex_digits (encode_utf8_all cs)
-    ≡ begins_with_hex_digits cs
+    → begins_with_hex_digits (encode_utf8_all cs) ≡ begins_with_hex_digits cs
 unfolding begins_with_hex_digits
 encoded_chars_begin_with_same_hex_digits [] = refl
 encoded_chars_begin_with_same_hex_digits (c ∷ cs) = ⊎_elim

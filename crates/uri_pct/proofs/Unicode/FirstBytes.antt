@@ -1,16 +1,11 @@
 -- Which bytes may follow a first byte, row by row: Unicode, table 3-7.
-use Rattle.std.proofs.Common.{◌≡◌, ℕ, suc, ◌<◌, ◌≤◌, true}
-use Rattle.std.proofs.Common.{cond, eqb, List, [], ◌∷◌, ◌++◌, length, take, refl}
-use Rattle.std.proofs.Common.{ap, ◌∙◌, arith, Some}
+use Rattle.std.proofs.Common.{◌≡◌, ℕ, suc, ◌<◌, ◌≤◌, true, List, [], ◌∷◌, ◌++◌, length, refl, ap}
+use Rattle.std.proofs.Common.{◌∙◌, arith, Some}
 use Rattle.std.proofs.lemmas.List.{take_at, drop_at}
-use Rattle.std.proofs.lemmas.Bool.{cond-true}
-use Rattle.std.proofs.lemmas.Bool.{le-leb, and_from, eq-eqb}
+use Rattle.std.proofs.lemmas.Bool.{cond-true, le-leb, and_from}
 use Rattle.std.proofs.lemmas.Bool.Decides.{nat_tests}
-use Rattle.uri_pct.specs.Pieces.{WellFormed, IllFormed, ByteRange, is_in_byte_range}
-use Rattle.uri_pct.specs.Pieces.{continuation}
-use Rattle.uri_pct.specs.Pieces.{following_ranges, len_in_ranges, first_piece_tail_len, first_piece}
-use Rattle.uri_pct.specs.Pieces.{pieces_from}
-use Rattle.uri_pct.specs.Pieces.{utf8_pieces}
+use Rattle.uri_pct.specs.Pieces.{WellFormed, ByteRange, is_in_byte_range, continuation}
+use Rattle.uri_pct.specs.Pieces.{following_ranges, len_in_ranges, pieces_from, utf8_pieces}
 use Rattle.uri_pct.proofs.Unicode.Pieces.{pieces_from_are_pieces_after_skipped_bytes}
 
 -- UTF-8: the bytes fit a row of the table, whatever follows them
@@ -22,8 +17,7 @@ FitRanges (range ∷ ranges) (b ∷ rest) = ((range.0 ≤ b) × (b ≤ range.1))
 
 -- UTF-8: bytes that fit ranges are as many as these
 fitting_bytes_are_as_many_as_ranges : (ranges : List ByteRange) (tail : List ℕ)
-    → FitRanges ranges tail
-    → length tail ≡ length ranges
+    → FitRanges ranges tail → length tail ≡ length ranges
 fitting_bytes_are_as_many_as_ranges [] [] fits = refl
 fitting_bytes_are_as_many_as_ranges [] (b ∷ tail) fits = absurd fits
 fitting_bytes_are_as_many_as_ranges (range ∷ ranges) [] fits = absurd fits
@@ -32,15 +26,13 @@ fitting_bytes_are_as_many_as_ranges (range ∷ ranges) (b ∷ tail) fits = ap su
 
 -- UTF-8: a byte between the bounds of a range is in it
 byte_between_bounds_is_in_range : (range : ByteRange) (b : ℕ) → range.0 ≤ b → b ≤ range.1
-    → is_in_byte_range range b
-    ≡ true
+    → is_in_byte_range range b ≡ true
 byte_between_bounds_is_in_range range b low high = and_from _ _ (le-leb range.0 b low)
     (le-leb b range.1 high)
 
 -- UTF-8: bytes that fit ranges fit all of them, whatever follows
 fitting_bytes_reach_all_ranges : (ranges : List ByteRange) (tail rest : List ℕ)
-    → FitRanges ranges tail
-    → len_in_ranges ranges (tail ++ rest) ≡ length ranges
+    → FitRanges ranges tail → len_in_ranges ranges (tail ++ rest) ≡ length ranges
 fitting_bytes_reach_all_ranges [] tail rest fits = refl
 fitting_bytes_reach_all_ranges (range ∷ ranges) [] rest fits = absurd fits
 fitting_bytes_reach_all_ranges (range ∷ ranges) (b ∷ tail) rest fits =
@@ -50,25 +42,19 @@ fitting_bytes_reach_all_ranges (range ∷ ranges) (b ∷ tail) rest fits =
 -- UTF-8: a first byte and the bytes that fit its row are the first piece, a well-formed one
 pub fitting_bytes_are_well_formed_first_piece : (b : ℕ) (ranges : List ByteRange)
     (tail rest : List ℕ)
-    → following_ranges b ≡ Some ranges
-    → FitRanges ranges tail → utf8_pieces ((b ∷ tail) ++ rest)
+    → following_ranges b ≡ Some ranges → FitRanges ranges tail → utf8_pieces ((b ∷ tail) ++ rest)
     ≡ WellFormed (b ∷ tail) ∷ utf8_pieces rest
 unfolding pieces_from
 fitting_bytes_are_well_formed_first_piece b ranges tail rest row fits =
-    let n = length ranges in
-    let long = fitting_bytes_are_as_many_as_ranges ranges tail fits in
-    let all = fitting_bytes_reach_all_ranges ranges tail rest fits in
-    ap (λ r. first_piece r b (tail ++ rest) ∷ pieces_from (first_piece_tail_len r (tail ++ rest))
-    (tail ++ rest))
-    row
-    ∙ ap (λ m. cond (eqb m n) (WellFormed (b ∷ take m (tail ++ rest)))
-    (IllFormed (b ∷ take m (tail ++ rest))) ∷ pieces_from m (tail ++ rest)) all
-    ∙ ap (λ p. p ∷ pieces_from n (tail ++ rest))
-    (cond-true _ _ _ (eq-eqb n n refl)
-    ∙ ap (λ t. WellFormed (b ∷ t)) (take_at tail rest n long))
-    ∙ ap (λ ps. WellFormed (b ∷ tail) ∷ ps)
-    (pieces_from_are_pieces_after_skipped_bytes n (tail ++ rest)
-    ∙ ap utf8_pieces (drop_at tail rest n long))
+    grind (
+      arith,
+      nat_tests,
+      fitting_bytes_are_as_many_as_ranges,
+      fitting_bytes_reach_all_ranges,
+      take_at,
+      pieces_from_are_pieces_after_skipped_bytes,
+      drop_at,
+    )
 
 -- UTF-8: an ASCII byte is a character, and no byte follows it
 pub no_range_follows_ascii_byte : (b : ℕ) → b < 0x80 → following_ranges b ≡ Some []

@@ -1,12 +1,12 @@
 -- The length of an ill-formed piece is the number of its bytes that fit a row, as that of std.
-use Rattle.std.proofs.Common.{◌≡◌, ℕ, suc, ◌<◌, ◌≤◌, ◌⊎◌, List, [], ◌∷◌, ◌++◌, length, take, refl}
+use Rattle.std.proofs.Common.{◌≡◌, ℕ, suc, ◌<◌, ◌≤◌, ◌⊎◌, List, [], ◌∷◌, ◌++◌, length, refl}
 use Rattle.std.proofs.Common.{sym, ap, ◌∙◌, arith, ⊎_elim, Option, Some, None, subst, inl, inr}
 use Rattle.std.specs.Option.{unwrap_or}
 use Rattle.std.specs.Str.Lossy.{utf8_invalid_len, utf8_error_len, error_len_after_one}
 use Rattle.std.specs.Str.Lossy.{second_byte_min, second_byte_max}
-use Rattle.std.proofs.lemmas.Bool.{cases_Bool, cond-true, cases_lt, cases_eq, eq-eqb}
+use Rattle.std.proofs.lemmas.Bool.{cases_Bool, cond-true, cases_lt}
 use Rattle.std.proofs.lemmas.Bool.Decides.{nat_tests}
-use Rattle.uri_pct.specs.Pieces.{WellFormed, IllFormed, ByteRange, is_in_byte_range, continuation}
+use Rattle.uri_pct.specs.Pieces.{IllFormed, ByteRange, is_in_byte_range, continuation}
 use Rattle.uri_pct.specs.Pieces.{following_ranges, len_in_ranges, first_piece_tail_len, first_piece}
 use Rattle.uri_pct.proofs.Unicode.FirstBytes.{no_range_follows_ascii_byte}
 use Rattle.uri_pct.proofs.Unicode.FirstBytes.{following_ranges_of_c2_to_df, following_ranges_of_e0}
@@ -36,15 +36,8 @@ error_len_is_len_in_two_ranges : (b : ℕ) (rest : List ℕ)
 error_len_is_len_in_two_ranges b [] = refl
 error_len_is_len_in_two_ranges b (s ∷ []) = ⊎_elim (λ e. rw e refl) (λ e. rw e refl)
     (cases_Bool (is_in_byte_range (second_byte_min b, second_byte_max b) s))
-error_len_is_len_in_two_ranges b (s ∷ t ∷ []) = ⊎_elim
-    (λ e. rw e (⊎_elim (λ f. rw f refl) (λ f. rw f refl)
-    (cases_Bool (is_in_byte_range continuation t))))
-    (λ e. rw e refl) (cases_Bool (is_in_byte_range (second_byte_min b, second_byte_max b) s))
-error_len_is_len_in_two_ranges b (s ∷ t ∷ u ∷ rest) = ⊎_elim
-    (λ e. rw e (⊎_elim (λ f. rw f (grind (arith, nat_tests))) (λ f. rw f (grind (arith, nat_tests)))
-    (cases_Bool (is_in_byte_range continuation t))))
-    (λ e. rw e (grind (arith, nat_tests)))
-    (cases_Bool (is_in_byte_range (second_byte_min b, second_byte_max b) s))
+error_len_is_len_in_two_ranges b (s ∷ t ∷ []) = grind (arith, nat_tests)
+error_len_is_len_in_two_ranges b (s ∷ t ∷ u ∷ rest) = grind (arith, nat_tests)
 
 -- UTF-8: no more bytes fit ranges than there are ranges
 len_in_ranges_is_at_most_range_count : (ranges : List ByteRange) (text : List ℕ)
@@ -52,9 +45,7 @@ len_in_ranges_is_at_most_range_count : (ranges : List ByteRange) (text : List �
 len_in_ranges_is_at_most_range_count [] text = omega arith
 len_in_ranges_is_at_most_range_count (range ∷ ranges) [] = omega arith
 len_in_ranges_is_at_most_range_count (range ∷ ranges) (b ∷ rest) =
-    let h = len_in_ranges_is_at_most_range_count ranges rest in
-    ⊎_elim (λ e. rw e (omega arith)) (λ e. rw e (omega arith))
-    (cases_Bool (is_in_byte_range range b))
+    grind (arith, nat_tests, len_in_ranges_is_at_most_range_count ranges rest)
 
 -- UTF-8: if bytes do not fit all ranges, no more of them fit these and more ranges
 longer_row_fits_no_more_bytes : (ranges more : List ByteRange) (text : List ℕ)
@@ -84,13 +75,8 @@ row_without_unused_last_range_fits_as_many (range ∷ ranges) last (b ∷ rest) 
 -- UTF-8: the bytes after the first of an ill-formed piece do not fit all ranges that may follow it
 ill_formed_piece_misses_a_range : (b : ℕ) (ranges : List ByteRange) (rest bytes : List ℕ)
     → first_piece (Some ranges) b rest ≡ IllFormed bytes → len_in_ranges ranges rest < length ranges
-ill_formed_piece_misses_a_range b ranges rest bytes e = ⊎_elim
-    (λ same. let n = len_in_ranges ranges rest in
-    let w : WellFormed (b ∷ take n rest) ≡ IllFormed bytes =
-    sym (cond-true _ _ _ (eq-eqb n (length ranges) same))
-    ∙ e in cc)
-    (λ other. omega (arith, other, len_in_ranges_is_at_most_range_count ranges rest))
-    (cases_eq (len_in_ranges ranges rest) (length ranges))
+ill_formed_piece_misses_a_range b ranges rest bytes e =
+    grind (arith, nat_tests, len_in_ranges_is_at_most_range_count)
 
 -- ill-formed UTF-8: a piece whose first byte has this row is as long as std takes it
 abbrev pub HasStdInvalidLen : ℕ → Option (List ByteRange) → Type 0
@@ -100,13 +86,10 @@ HasStdInvalidLen b row = (rest bytes : List ℕ) → first_piece row b rest ≡ 
 -- ill-formed UTF-8: what std takes for ill-formed,
 -- from a first byte C2 to F4 on, fits the ranges of two bytes that may follow
 invalid_len_from_lead_is_len_in_two_ranges : (b : ℕ) (second : ByteRange) (rest : List ℕ)
-    → 0xC2 ≤ b → b ≤ 0xF4
-    → second_byte_min b ≡ second.0 → second_byte_max b ≡ second.1
+    → 0xC2 ≤ b → b ≤ 0xF4 → second_byte_min b ≡ second.0 → second_byte_max b ≡ second.1
     → utf8_invalid_len (b ∷ rest) ≡ suc (len_in_ranges (second ∷ continuation ∷ []) rest)
 invalid_len_from_lead_is_len_in_two_ranges b second rest low high least most =
-    invalid_len_from_lead_is_error_len b rest low high ∙ error_len_is_len_in_two_ranges b rest
-    ∙ ap (λ x. suc (len_in_ranges ((x, second_byte_max b) ∷ continuation ∷ []) rest)) least
-    ∙ ap (λ x. suc (len_in_ranges ((second.0, x) ∷ continuation ∷ []) rest)) most
+    grind (arith, nat_tests, invalid_len_from_lead_is_error_len, error_len_is_len_in_two_ranges)
 
 -- ill-formed UTF-8: a byte that begins no character is ill-formed by itself, as for std
 ill_formed_len_is_std_len_without_row : (b : ℕ) → (b < 0xC2) ⊎ (0xF4 < b) → HasStdInvalidLen b None
@@ -123,8 +106,7 @@ ill_formed_len_is_std_len_of_two_byte_row : (b : ℕ) (second : ByteRange) → 0
     → second_byte_min b ≡ second.0
     → second_byte_max b ≡ second.1 → HasStdInvalidLen b (Some (second ∷ []))
 ill_formed_len_is_std_len_of_two_byte_row b second low high least most rest bytes e =
-    ap suc
-    (sym (longer_row_fits_no_more_bytes (second ∷ []) (continuation ∷ []) rest
+    ap suc (sym (longer_row_fits_no_more_bytes (second ∷ []) (continuation ∷ []) rest
     (ill_formed_piece_misses_a_range b (second ∷ []) rest bytes e)))
     ∙ sym (invalid_len_from_lead_is_len_in_two_ranges b second rest low high least most)
 
@@ -138,8 +120,7 @@ ill_formed_len_is_std_len_of_three_byte_row b second low high least most rest by
 -- ill-formed UTF-8: an ill-formed piece is as long
 -- as for std, if its first byte calls for three more
 ill_formed_len_is_std_len_of_four_byte_row : (b : ℕ) (second : ByteRange) → 0xC2 ≤ b → b ≤ 0xF4
-    → second_byte_min b ≡ second.0
-    → second_byte_max b ≡ second.1
+    → second_byte_min b ≡ second.0 → second_byte_max b ≡ second.1
     → HasStdInvalidLen b (Some (second ∷ continuation ∷ continuation ∷ []))
 ill_formed_len_is_std_len_of_four_byte_row b second low high least most rest bytes e =
     let short : len_in_ranges (second ∷ continuation ∷ continuation ∷ []) rest < 3 =
@@ -167,12 +148,10 @@ ill_formed_len_is_std_len_below_e1 b high = ⊎_elim
     (ill_formed_len_is_std_len_without_row b (inl h))) (λ l2.
     ⊎_elim (λ h. subst (HasStdInvalidLen b) (sym (following_ranges_of_c2_to_df b l2 (omega arith)))
     (ill_formed_len_is_std_len_of_two_byte_row b continuation l2 (omega arith)
-    (grind (arith, nat_tests))
-    (grind (arith, nat_tests))))
+    (grind (arith, nat_tests)) (grind (arith, nat_tests))))
     (λ l3. subst (HasStdInvalidLen b) (sym (following_ranges_of_e0 b (omega arith)))
     (ill_formed_len_is_std_len_of_three_byte_row b (0xA0, 0xBF) l2 (omega arith)
-    (grind (arith, nat_tests))
-    (grind (arith, nat_tests))))
+    (grind (arith, nat_tests)) (grind (arith, nat_tests))))
     (cases_lt b 0xE0)) (cases_lt b 0xC2)) (cases_lt b 0x80)
 
 -- ill-formed UTF-8: an ill-formed piece is as long as for std, if its first byte is E1 to EF
@@ -181,16 +160,13 @@ ill_formed_len_is_std_len_from_e1_to_ef : (b : ℕ) → 0xE1 ≤ b → b < 0xF0
 ill_formed_len_is_std_len_from_e1_to_ef b low high =
     ⊎_elim (λ h. subst (HasStdInvalidLen b) (sym (following_ranges_of_e1_to_ec b low (omega arith)))
     (ill_formed_len_is_std_len_of_three_byte_row b continuation (omega arith) (omega arith)
-    (grind (arith, nat_tests))
-    (grind (arith, nat_tests)))) (λ l1.
+    (grind (arith, nat_tests)) (grind (arith, nat_tests)))) (λ l1.
     ⊎_elim (λ h. subst (HasStdInvalidLen b) (sym (following_ranges_of_ed b (omega arith)))
     (ill_formed_len_is_std_len_of_three_byte_row b (0x80, 0x9F) (omega arith) (omega arith)
-    (grind (arith, nat_tests))
-    (grind (arith, nat_tests))))
+    (grind (arith, nat_tests)) (grind (arith, nat_tests))))
     (λ l2. subst (HasStdInvalidLen b) (sym (following_ranges_of_ee_to_ef b l2 (omega arith)))
     (ill_formed_len_is_std_len_of_three_byte_row b continuation (omega arith) (omega arith)
-    (grind (arith, nat_tests))
-    (grind (arith, nat_tests))))
+    (grind (arith, nat_tests)) (grind (arith, nat_tests))))
     (cases_lt b 0xEE)) (cases_lt b 0xED)
 
 -- ill-formed UTF-8: an ill-formed piece is as long as for std, if its first byte is F0 or greater
@@ -198,16 +174,13 @@ ill_formed_len_is_std_len_from_f0 : (b : ℕ) → 0xF0 ≤ b → HasStdInvalidLe
 ill_formed_len_is_std_len_from_f0 b low =
     ⊎_elim (λ h. subst (HasStdInvalidLen b) (sym (following_ranges_of_f0 b (omega arith)))
     (ill_formed_len_is_std_len_of_four_byte_row b (0x90, 0xBF) (omega arith) (omega arith)
-    (grind (arith, nat_tests))
-    (grind (arith, nat_tests)))) (λ l1.
+    (grind (arith, nat_tests)) (grind (arith, nat_tests)))) (λ l1.
     ⊎_elim (λ h. subst (HasStdInvalidLen b) (sym (following_ranges_of_f1_to_f3 b l1 (omega arith)))
     (ill_formed_len_is_std_len_of_four_byte_row b continuation (omega arith) (omega arith)
-    (grind (arith, nat_tests))
-    (grind (arith, nat_tests)))) (λ l2.
+    (grind (arith, nat_tests)) (grind (arith, nat_tests)))) (λ l2.
     ⊎_elim (λ h. subst (HasStdInvalidLen b) (sym (following_ranges_of_f4 b (omega arith)))
     (ill_formed_len_is_std_len_of_four_byte_row b (0x80, 0x8F) (omega arith) (omega arith)
-    (grind (arith, nat_tests))
-    (grind (arith, nat_tests))))
+    (grind (arith, nat_tests)) (grind (arith, nat_tests))))
     (λ l3. subst (HasStdInvalidLen b) (sym (no_row_past_f4 b (omega arith)))
     (ill_formed_len_is_std_len_without_row b (inr (omega arith))))
     (cases_lt b 0xF5)) (cases_lt b 0xF4)) (cases_lt b 0xF1)

@@ -28,6 +28,7 @@ use Rattle.uri_pct.proofs.Unicode.CharacterPieces.{utf8_pieces-are-of-characters
 use Rattle.uri_pct.proofs.Unicode.CharacterPieces.{first_char_is_first_piece}
 use Rattle.uri_pct.proofs.Unicode.CharacterPieces.{first_piece_is_of_character}
 use Rattle.uri_pct.proofs.Unicode.IllFormedLengths.{ill_formed_len_is_std_len}
+use Rattle.std.proofs.lemmas.Bool.Decides.{nat_tests}
 
 unfoldable pub piece_of_char : ℕ → Piece
 piece_of_char c = WellFormed (encode_utf8 c)
@@ -67,8 +68,7 @@ utf8_has_well_formed_pieces bytes u =
 
 -- UTF-8: well-formed pieces of characters join to a text
 well_formed_pieces_join_to_utf8 : (ps : List Piece) → All IsOfCharacter ps
-    → list_all is_well_formed ps ≡ true
-    → IsUtf8 (bytes_of_pieces ps)
+    → list_all is_well_formed ps ≡ true → IsUtf8 (bytes_of_pieces ps)
 well_formed_pieces_join_to_utf8 [] h e = IsUtf8-nil
 well_formed_pieces_join_to_utf8 (WellFormed bytes ∷ ps) h e =
     let c = All-head IsOfCharacter (WellFormed bytes) ps h in
@@ -78,8 +78,7 @@ well_formed_pieces_join_to_utf8 (IllFormed bytes ∷ ps) h e = cc
 
 -- UTF-8: bytes whose pieces are well-formed are a text
 bytes_with_well_formed_pieces_are_utf8 : (bytes : List ℕ)
-    → list_all is_well_formed (utf8_pieces bytes) ≡ true
-    → IsUtf8 bytes
+    → list_all is_well_formed (utf8_pieces bytes) ≡ true → IsUtf8 bytes
 bytes_with_well_formed_pieces_are_utf8 bytes e = subst IsUtf8
     (bytes_of_utf8_pieces_are_the_bytes bytes)
     (well_formed_pieces_join_to_utf8 (utf8_pieces bytes) (utf8_pieces-are-of-characters bytes) e)
@@ -127,8 +126,7 @@ prefix_of_valid_len_is_longest_utf8 bs (suc m) k more within u = ⊎_elim
     (λ same. both_ways _ e
     (is_utf8-from_IsUtf8 (take (suc m) bs) (subst (λ n. IsUtf8 (take n bs)) same u)))
     (λ other. prefix_of_valid_len_is_longest_utf8 bs m k
-    (subst (λ n. n < k) (cond-false _ _ _ e) more)
-    (omega (arith, other)) u)
+    (subst (λ n. n < k) (cond-false _ _ _ e) more) (omega (arith, other)) u)
     (cases_eq k (suc m)))
     (cases_Bool (is_utf8 (take (suc m) bs)))
 
@@ -157,8 +155,7 @@ ill_formed_after_valid_prefix bs b rest (WellFormed bytes) suffix e =
     let long : length bs - n ≡ suc (length rest) = sym (length-drop n bs) ∙ ap length suffix in
     let within = first_piece_tail_is_within_rest (following_ranges b) rest in
     absurd (prefix_of_valid_len_is_longest_utf8 bs (length bs) (n + suc m) (omega arith)
-    (omega arith)
-    (subst IsUtf8 whole (IsUtf8-append (take n bs) bytes
+    (omega arith) (subst IsUtf8 whole (IsUtf8-append (take n bs) bytes
     (prefix_of_valid_len_is_utf8 bs (length bs)) text)))
 
 -- lossy UTF-8: the prefix that std finds to be UTF-8 is so
@@ -180,11 +177,7 @@ lossy_text_of_ill_formed_piece_is_replacement : (b : ℕ) (rest : List ℕ) (byt
     (drop (first_piece_tail_len (following_ranges b) rest) rest)
 unfolding pieces_from
 lossy_text_of_ill_formed_piece_is_replacement b rest bytes e =
-    ap (λ p. lossy_piece p ++ flat_map lossy_piece
-    (pieces_from (first_piece_tail_len (following_ranges b) rest) rest)) e
-    ∙ ap (λ ps. replacement_bytes ++ flat_map lossy_piece ps)
-    (pieces_from_are_pieces_after_skipped_bytes (first_piece_tail_len (following_ranges b) rest)
-    rest)
+    grind (arith, nat_tests, pieces_from_are_pieces_after_skipped_bytes)
 
 -- lossy UTF-8: the lossy text is that of std
 -- after an ill-formed part, if it is for all shorter bytes

@@ -1,6 +1,6 @@
 -- The pieces of a text's parts are those of the bytes that it decodes to.
 use Rattle.std.proofs.Common.{◌≡◌, ℕ, true, List, [], ◌∷◌, ◌++◌, map, refl, sym, ap, ◌∙◌}
-use Rattle.std.proofs.Common.{append_assoc}
+use Rattle.std.proofs.Common.{append_assoc, arith}
 use Rattle.std.specs.List.{list_all, flat_map}
 use Rattle.std.specs.Char.{encode_utf8, IsScalar}
 use Rattle.std.specs.Str.{chars, encode_utf8_all, IsUtf8}
@@ -12,7 +12,7 @@ use Rattle.uri_pct.specs.Chunks.{Chunk, Text, Byte, prepend_to_chunks, chunks_of
 use Rattle.uri_pct.specs.Chunks.{chunk_bytes, widest_set}
 use Rattle.uri_pct.specs.Decodes.{undecoded, decoded, bytes_left}
 use Rattle.uri_pct.specs.declared.decode.Decode.{Decode}
-use Rattle.uri_pct.specs.Parts.{Literal, Decoded, parts_from, parts, part_pieces, pieces_of_parts}
+use Rattle.uri_pct.specs.Parts.{Decoded, parts_from, parts, pieces_of_parts}
 use Rattle.uri_pct.specs.Pieces.{Piece, WellFormed, utf8_pieces}
 use Rattle.uri_pct.specs.Texts.{is_unencoded}
 use Rattle.uri_pct.specs.Tokens.{Token, Char, Octet, tokens_from_chars, tokens, bytes_decoded_from}
@@ -23,6 +23,7 @@ use Rattle.uri_pct.proofs.Unicode.CharacterPieces.{char_separates_utf8_pieces}
 use Rattle.uri_pct.proofs.Unicode.CharacterPieces.{first_char_is_first_piece}
 use Rattle.uri_pct.proofs.Decodings.Decoding.{tokens_after_unencoded_prefix}
 use Rattle.uri_pct.proofs.Unicode.Runs.{no_bytes_have_no_pieces, utf8_pieces_are_cut_after_text}
+use Rattle.std.proofs.lemmas.Bool.Decides.{nat_tests}
 
 -- UTF-8 of decoded parts: a text that is put before chunks comes before their bytes
 prepended_text_comes_before_chunk_bytes : (text : List ℕ) (ps : List Chunk)
@@ -35,8 +36,7 @@ prepended_text_comes_before_chunk_bytes text (Byte value ∷ ps) = refl
 
 -- UTF-8 of decoded parts: the chunks of tokens are joined the bytes that the tokens decode to
 pub chunks_have_bytes_of_their_tokens : (ts : List Token)
-    → flat_map chunk_bytes (chunks_of_tokens ts)
-    ≡ bytes_decoded_from ts
+    → flat_map chunk_bytes (chunks_of_tokens ts) ≡ bytes_decoded_from ts
 unfolding chunks_of_tokens
 chunks_have_bytes_of_their_tokens [] = refl
 chunks_have_bytes_of_their_tokens (Char c ∷ ts) = prepended_text_comes_before_chunk_bytes
@@ -79,9 +79,7 @@ pieces_of_run_before_text_chunk : (run text : List ℕ) (ps : List Chunk)
     ≡ utf8_pieces run ++ (utf8_pieces text ++ pieces_of_parts (parts_from [] ps))
 unfolding parts_from
 pieces_of_run_before_text_chunk run text ps =
-    flat_map-append part_pieces (map Decoded (utf8_pieces run)) (Literal text ∷ parts_from [] ps)
-    ∙ ap (λ x. x ++ (utf8_pieces text ++ pieces_of_parts (parts_from [] ps)))
-    (decoded_parts_have_their_pieces (utf8_pieces run))
+    grind (arith, nat_tests, flat_map-append, decoded_parts_have_their_pieces)
 
 -- UTF-8 of decoded parts: octets (run) and a literal text
 -- that joins the next have the pieces of each; ps: the chunks after them
@@ -96,8 +94,7 @@ pieces_of_run_before_prepended_text run text (Text more ∷ ps) u =
     (utf8_pieces_are_cut_after_text text more u)
     ∙ ap (λ x. utf8_pieces run ++ x)
     (append_assoc (utf8_pieces text) (utf8_pieces more) (pieces_of_parts (parts_from [] ps))
-    ∙ ap (λ x. utf8_pieces text ++ x)
-    (sym (pieces_of_run_before_text_chunk [] more ps
+    ∙ ap (λ x. utf8_pieces text ++ x) (sym (pieces_of_run_before_text_chunk [] more ps
     ∙ ap (λ x. x ++ (utf8_pieces more ++ pieces_of_parts (parts_from [] ps)))
     no_bytes_have_no_pieces)))
 pieces_of_run_before_prepended_text run text (Byte value ∷ ps) u = pieces_of_run_before_text_chunk
@@ -116,8 +113,7 @@ printable_char_is_scalar c e = (and_parts _ true (and_parts _ _ e).0).0
 
 -- UTF-8 of decoded parts: octets (run) and tokens have the pieces of the bytes that they decode to
 parts_after_run_have_pieces_of_decoded_bytes : (run : List ℕ) (ts : List Token)
-    → list_all is_printable ts ≡ true
-    → pieces_of_parts (parts_from run (chunks_of_tokens ts))
+    → list_all is_printable ts ≡ true → pieces_of_parts (parts_from run (chunks_of_tokens ts))
     ≡ utf8_pieces (run ++ bytes_decoded_from ts)
 unfolding chunks_of_tokens parts_from
 parts_after_run_have_pieces_of_decoded_bytes run [] e = decoded_parts_have_their_pieces
@@ -142,5 +138,4 @@ parts_after_run_have_pieces_of_decoded_bytes run (Char c ∷ ts) e =
 pub parts_have_pieces_of_decoded_bytes : (text : List ℕ) → IsValidFor widest_set text
     → pieces_of_parts (parts text) ≡ utf8_pieces (bytes_decoded_from (tokens text))
 parts_have_pieces_of_decoded_bytes text v = parts_after_run_have_pieces_of_decoded_bytes []
-    (tokens text)
-    (valid_text_has_printable_tokens widest_set text refl v)
+    (tokens text) (valid_text_has_printable_tokens widest_set text refl v)

@@ -1,18 +1,16 @@
 -- The pieces of bytes. Joined they are the bytes. What follows does not change the first ones. A
 -- byte that continues no character always begins one.
-use Rattle.std.proofs.Common.{◌≡◌, ℕ, zero, suc, ◌+◌, ◌<◌, ◌≤◌, Bool, true, false, cond, eqb, leb}
+use Rattle.std.proofs.Common.{◌≡◌, ℕ, zero, suc, ◌+◌, ◌≤◌, Bool, true, false, cond, leb}
 use Rattle.std.proofs.Common.{List, [], ◌∷◌, ◌++◌, length, take, drop, refl, sym, ap, ◌∙◌, arith}
 use Rattle.std.proofs.Common.{◌&&◌, ⊎_elim, Option, Some, None, option_map, subst, zero-add}
 use Rattle.std.specs.List.{list_all, find}
 use Rattle.std.proofs.lemmas.List.{take-take, drop-take, take_at, take-append-drop, take-append-le}
-use Rattle.std.proofs.lemmas.Bool.{cases_Bool, cond-true, cond-false, and_parts, and_left}
-use Rattle.std.proofs.lemmas.Bool.{and_right, and_cases, leb-true, lt-leb, leb-false}
-use Rattle.uri_pct.specs.Pieces.{Piece, WellFormed, IllFormed, ByteRange, Row, is_in_byte_range}
-use Rattle.uri_pct.specs.Pieces.{continuation, well_formed_rows, begins_with_continuation}
-use Rattle.uri_pct.specs.Pieces.{piece_bytes}
+use Rattle.std.proofs.lemmas.Bool.{cases_Bool, cond-true, cond-false, and_parts}
+use Rattle.uri_pct.specs.Pieces.{Piece, ByteRange, Row, is_in_byte_range, continuation}
+use Rattle.uri_pct.specs.Pieces.{well_formed_rows, begins_with_continuation, piece_bytes}
 use Rattle.uri_pct.specs.Pieces.{bytes_of_pieces, following_ranges, len_in_ranges}
-use Rattle.uri_pct.specs.Pieces.{first_piece_tail_len, first_piece}
-use Rattle.uri_pct.specs.Pieces.{pieces_from, utf8_pieces}
+use Rattle.uri_pct.specs.Pieces.{first_piece_tail_len, first_piece, pieces_from, utf8_pieces}
+use Rattle.std.proofs.lemmas.Bool.Decides.{nat_tests}
 
 -- UTF-8: no more bytes fit ranges than there are
 len_in_ranges_is_at_most_length : (ranges : List ByteRange) (text : List ℕ)
@@ -20,9 +18,7 @@ len_in_ranges_is_at_most_length : (ranges : List ByteRange) (text : List ℕ)
 len_in_ranges_is_at_most_length [] text = omega arith
 len_in_ranges_is_at_most_length (range ∷ ranges) [] = omega arith
 len_in_ranges_is_at_most_length (range ∷ ranges) (b ∷ rest) =
-    let h = len_in_ranges_is_at_most_length ranges rest in
-    ⊎_elim (λ e. rw e (omega arith)) (λ e. rw e (omega arith))
-    (cases_Bool (is_in_byte_range range b))
+    grind (arith, nat_tests, len_in_ranges_is_at_most_length ranges rest)
 
 -- UTF-8: the first piece takes no more of the rest than there is;
 -- row: which bytes may follow the first
@@ -35,9 +31,7 @@ first_piece_tail_is_within_rest (Some ranges) rest = len_in_ranges_is_at_most_le
 pub first_piece_has_first_bytes : (row : Option (List ByteRange)) (b : ℕ) (rest : List ℕ)
     → piece_bytes (first_piece row b rest) ≡ b ∷ take (first_piece_tail_len row rest) rest
 first_piece_has_first_bytes None b rest = refl
-first_piece_has_first_bytes (Some ranges) b rest =
-    ⊎_elim (λ e. rw e refl) (λ e. rw e refl)
-    (cases_Bool (eqb (len_in_ranges ranges rest) (length ranges)))
+first_piece_has_first_bytes (Some ranges) b rest = grind (arith, nat_tests)
 
 -- UTF-8: the pieces after k skipped bytes are those of the bytes after them
 pub pieces_from_are_pieces_after_skipped_bytes : (k : ℕ) (bytes : List ℕ) → pieces_from k bytes
@@ -97,25 +91,14 @@ following_ranges_are_continuations b = found_row_has_continuation_ranges b well_
 
 -- UTF-8: a byte that continues no character is in no range of bytes that may follow
 non_continuation_is_in_no_continuation_range : (range : ByteRange) (b : ℕ)
-    → is_continuation_range range ≡ true
-    → is_in_byte_range continuation b ≡ false
+    → is_continuation_range range ≡ true → is_in_byte_range continuation b ≡ false
     → is_in_byte_range range b ≡ false
 unfolding is_continuation_range
-non_continuation_is_in_no_continuation_range range b inner out =
-    let p = and_parts (leb 0x80 range.0) _ inner in
-    let low : 0x80 ≤ range.0 = leb-true 0x80 range.0 p.0 in
-    let high : range.1 ≤ 0xBF = leb-true range.1 0xBF p.1 in
-    ⊎_elim
-    (λ e. let below : b < 0x80 = leb-false 0x80 b e in
-    and_left _ _ (lt-leb range.0 b (omega arith)))
-    (λ e. let above : 0xBF < b = leb-false b 0xBF e in
-    and_right _ _ (lt-leb b range.1 (omega arith)))
-    (and_cases (leb 0x80 b) (leb b 0xBF) out)
+non_continuation_is_in_no_continuation_range range b inner out = grind (arith, nat_tests)
 
 -- UTF-8: what follows does not fit the ranges, if it begins with a byte that continues no character
 fitting_stops_at_non_continuation : (ranges : List ByteRange) (xs ys : List ℕ)
-    → list_all is_continuation_range ranges
-    ≡ true
+    → list_all is_continuation_range ranges ≡ true
     → begins_with_continuation ys ≡ false → len_in_ranges ranges (xs ++ ys)
     ≡ len_in_ranges ranges xs
 fitting_stops_at_non_continuation [] xs ys inner out = refl
@@ -146,11 +129,7 @@ first_piece_is_unchanged_by_suffix : (row : Option (List ByteRange)) (b : ℕ) (
     → first_piece row b (xs ++ ys) ≡ first_piece row b xs
 first_piece_is_unchanged_by_suffix None b xs ys same = refl
 first_piece_is_unchanged_by_suffix (Some ranges) b xs ys same =
-    let n = len_in_ranges ranges xs in
-    ap (λ m. cond (eqb m (length ranges)) (WellFormed (b ∷ take m (xs ++ ys)))
-    (IllFormed (b ∷ take m (xs ++ ys)))) same
-    ∙ ap (λ t. cond (eqb n (length ranges)) (WellFormed (b ∷ t)) (IllFormed (b ∷ t)))
-    (take-append-le n xs ys (len_in_ranges_is_at_most_length ranges xs))
+    grind (arith, nat_tests, take-append-le, len_in_ranges_is_at_most_length)
 
 -- UTF-8: where the first piece takes no byte of what follows,
 -- the pieces are cut there if those of the rest are
@@ -162,11 +141,7 @@ pub utf8_pieces_are_cut_after_first_if_rest_is : (x : ℕ) (xs ys : List ℕ)
     → utf8_pieces ((x ∷ xs) ++ ys) ≡ utf8_pieces (x ∷ xs) ++ utf8_pieces ys
 unfolding pieces_from
 utf8_pieces_are_cut_after_first_if_rest_is x xs ys same left =
-    let row = following_ranges x in
-    ap (λ p. p ∷ pieces_from (first_piece_tail_len row (xs ++ ys)) (xs ++ ys))
-    (first_piece_is_unchanged_by_suffix row x xs ys same)
-    ∙ ap (λ n. first_piece row x xs ∷ pieces_from n (xs ++ ys)) same
-    ∙ ap (λ ps. first_piece row x xs ∷ ps) left
+    grind (arith, nat_tests, first_piece_is_unchanged_by_suffix)
 
 -- UTF-8: pieces are cut before a byte that continues no character; k: how many bytes are skipped
 pieces_from_are_cut_at_non_continuation : (k : ℕ) (xs ys : List ℕ) → k ≤ length xs
@@ -193,16 +168,12 @@ utf8_pieces_are_cut_at_non_continuation xs ys out = pieces_from_are_cut_at_non_c
 
 -- UTF-8: if bytes are cut after those that fit ranges, as many fit
 cut_after_fitting_bytes_keeps_len_in_ranges : (ranges : List ByteRange) (text : List ℕ) (m : ℕ)
-    → len_in_ranges ranges text ≤ m
-    → len_in_ranges ranges (take m text) ≡ len_in_ranges ranges text
+    → len_in_ranges ranges text ≤ m → len_in_ranges ranges (take m text) ≡ len_in_ranges ranges text
 cut_after_fitting_bytes_keeps_len_in_ranges [] text m h = refl
 cut_after_fitting_bytes_keeps_len_in_ranges (range ∷ ranges) [] zero h = refl
 cut_after_fitting_bytes_keeps_len_in_ranges (range ∷ ranges) [] (suc m) h = refl
-cut_after_fitting_bytes_keeps_len_in_ranges (range ∷ ranges) (b ∷ rest) zero h = ⊎_elim
-    (λ e. let fits : suc (len_in_ranges ranges rest) ≤ 0 = subst (λ n. n ≤ 0)
-    (cond-true _ _ _ e) h in
-    absurd (omega arith))
-    (λ e. sym (cond-false _ _ _ e)) (cases_Bool (is_in_byte_range range b))
+cut_after_fitting_bytes_keeps_len_in_ranges (range ∷ ranges) (b ∷ rest) zero h =
+    grind (arith, nat_tests)
 cut_after_fitting_bytes_keeps_len_in_ranges (range ∷ ranges) (b ∷ rest) (suc m) h = ⊎_elim
     (λ e. let fits : suc (len_in_ranges ranges rest) ≤ suc m =
     subst (λ n. n ≤ suc m) (cond-true _ _ _ e) h in
@@ -219,16 +190,10 @@ cut_after_first_piece_keeps_its_tail_len (Some ranges) rest m h =
 
 -- UTF-8: a cut after the first piece leaves it as it is; row: which bytes may follow b
 cut_after_first_piece_keeps_it : (row : Option (List ByteRange)) (b : ℕ) (rest : List ℕ) (m : ℕ)
-    → first_piece_tail_len row rest ≤ m
-    → first_piece row b (take m rest) ≡ first_piece row b rest
+    → first_piece_tail_len row rest ≤ m → first_piece row b (take m rest) ≡ first_piece row b rest
 cut_after_first_piece_keeps_it None b rest m h = refl
 cut_after_first_piece_keeps_it (Some ranges) b rest m h =
-    let n = len_in_ranges ranges rest in
-    ap (λ j. cond (eqb j (length ranges)) (WellFormed (b ∷ take j (take m rest)))
-    (IllFormed (b ∷ take j (take m rest))))
-    (cut_after_fitting_bytes_keeps_len_in_ranges ranges rest m h)
-    ∙ ap (λ t. cond (eqb n (length ranges)) (WellFormed (b ∷ t)) (IllFormed (b ∷ t)))
-    (take-take n m rest h)
+    grind (arith, nat_tests, cut_after_fitting_bytes_keeps_len_in_ranges, take-take)
 
 -- general fact on lists, for pieces of UTF-8: of nothing, nothing is taken
 take_of_nothing_is_nothing : (n : ℕ) → take {A = ℕ} n [] ≡ []
@@ -287,8 +252,7 @@ first_pieces_are_pieces_of_own_bytes zero (suc j) (b ∷ rest) =
     (cut_after_first_piece_keeps_it row b rest (n + f.0) (omega arith))
     ∙ ap (λ m. first_piece row b rest ∷ pieces_from m kept)
     (cut_after_first_piece_keeps_its_tail_len row rest (n + f.0) (omega arith))
-    ∙ ap (λ ps. first_piece row b rest ∷ ps)
-    (pieces_from_are_pieces_after_skipped_bytes n kept
+    ∙ ap (λ ps. first_piece row b rest ∷ ps) (pieces_from_are_pieces_after_skipped_bytes n kept
     ∙ ap utf8_pieces (drop-take n f.0 rest ∙ sym f.1)
     ∙ first_pieces_are_pieces_of_own_bytes n j rest)
 
@@ -312,8 +276,7 @@ prefix_of_pieces_is_of_own_bytes ps qs cut =
 
 -- UTF-8: each list of pieces after the first is the pieces of its own bytes
 pieces_after_first_are_of_own_bytes : (bytes : List ℕ) (p : Piece) (ps : List Piece)
-    → utf8_pieces bytes ≡ p ∷ ps
-    → ArePiecesOfOwnBytes ps
+    → utf8_pieces bytes ≡ p ∷ ps → ArePiecesOfOwnBytes ps
 unfolding pieces_from
 pieces_after_first_are_of_own_bytes [] p ps e = cc
 pieces_after_first_are_of_own_bytes (b ∷ rest) p ps e =

@@ -1,15 +1,13 @@
 -- The pieces of a run of octets, by the parts that std finds in it.
 use Rattle.std.proofs.Common.{◌≡◌, ℕ, suc, ◌<◌, List, [], ◌∷◌, ◌++◌, length, take, drop, map, refl}
-use Rattle.std.proofs.Common.{sym, ap, ◌∙◌, subst, arith, append_assoc}
-use Rattle.std.proofs.Common.{true, ◌==◌}
+use Rattle.std.proofs.Common.{sym, ap, ◌∙◌, subst, arith, append_assoc, true, ◌==◌}
 use Rattle.std.specs.Str.{IsUtf8}
 use Rattle.std.specs.Str.Lossy.{utf8_valid_len, utf8_invalid_len}
 use Rattle.std.proofs.lemmas.Bool.{eqb-true}
 use Rattle.std.proofs.lemmas.List.{append-nil, nil_from_length, length-append}
 use Rattle.std.proofs.Math.Seq.{take-append_seam, drop-append_seam}
 use Rattle.uri_pct.specs.Pieces.{IllFormed, following_ranges, first_piece_tail_len, first_piece}
-use Rattle.uri_pct.specs.Pieces.{pieces_from, utf8_pieces}
-use Rattle.uri_pct.specs.Pieces.{piece_bytes}
+use Rattle.uri_pct.specs.Pieces.{pieces_from, utf8_pieces, piece_bytes}
 use Rattle.uri_pct.specs.Parts.{ill_formed_piece_if_any}
 use Rattle.uri_pct.proofs.Unicode.Pieces.{pieces_from_are_pieces_after_skipped_bytes}
 use Rattle.uri_pct.proofs.Unicode.Pieces.{first_piece_has_first_bytes}
@@ -18,6 +16,7 @@ use Rattle.uri_pct.proofs.Unicode.Lossy.{ill_formed_after_valid_prefix}
 use Rattle.uri_pct.proofs.Unicode.Lossy.{utf8_valid_len_prefix_is_utf8}
 use Rattle.uri_pct.proofs.Unicode.Lossy.{nonempty_bytes_have_first_byte}
 use Rattle.uri_pct.proofs.Unicode.IllFormedLengths.{ill_formed_len_is_std_len}
+use Rattle.std.proofs.lemmas.Bool.Decides.{nat_tests}
 
 -- UTF-8: no bytes have no pieces
 pub no_bytes_have_no_pieces : utf8_pieces [] ≡ []
@@ -46,16 +45,11 @@ utf8_pieces_are_cut_after_text text rest u =
 
 -- UTF-8: an ill-formed first piece is followed by the pieces of the rest
 ill_formed_first_piece_is_cut_off : (b : ℕ) (rest bytes : List ℕ)
-    → first_piece (following_ranges b) b rest
-    ≡ IllFormed bytes
-    → utf8_pieces (b ∷ rest)
+    → first_piece (following_ranges b) b rest ≡ IllFormed bytes → utf8_pieces (b ∷ rest)
     ≡ IllFormed bytes ∷ utf8_pieces (drop (first_piece_tail_len (following_ranges b) rest) rest)
 unfolding pieces_from
 ill_formed_first_piece_is_cut_off b rest bytes e =
-    ap (λ p. p ∷ pieces_from (first_piece_tail_len (following_ranges b) rest) rest) e
-    ∙ ap (λ ps. IllFormed bytes ∷ ps)
-    (pieces_from_are_pieces_after_skipped_bytes (first_piece_tail_len (following_ranges b) rest)
-    rest)
+    grind (arith, nat_tests, pieces_from_are_pieces_after_skipped_bytes)
 
 -- ill-formed UTF-8: after the longest prefix
 -- that is UTF-8 comes an ill-formed part, as long as std takes it
@@ -106,10 +100,7 @@ pieces_of_std_chunk_with_ill_formed_part bs valid invalid rest same text_len fau
 pieces_of_last_std_chunk : (bs valid rest : List ℕ) → bs ≡ valid ++ rest → length rest ≡ 0
     → utf8_pieces bs ≡ utf8_pieces valid ++ utf8_pieces rest
 pieces_of_last_std_chunk bs valid rest same last =
-    let no_rest : rest ≡ [] = nil_from_length rest last in
-    ap utf8_pieces same
-    ∙ rw no_rest (ap utf8_pieces (append-nil valid) ∙ sym (append-nil (utf8_pieces valid))
-    ∙ ap (λ ps. utf8_pieces valid ++ ps) (sym no_bytes_have_no_pieces))
+    grind (arith, nat_tests, nil_from_length, append-nil, no_bytes_have_no_pieces)
 
 -- ill-formed UTF-8: the pieces of one of std's chunks, and those after it
 pub utf8_pieces-of-std-chunk : (bs valid invalid rest : List ℕ) → bs ≡ valid ++ (invalid ++ rest)
@@ -121,6 +112,4 @@ utf8_pieces-of-std-chunk bs valid [] rest same text_len fault_len last =
     pieces_of_last_std_chunk bs valid rest same (last refl)
     ∙ ap (λ ps. ps ++ utf8_pieces rest) (sym (append-nil (utf8_pieces valid)))
 utf8_pieces-of-std-chunk bs valid (b ∷ bytes) rest same text_len fault_len last =
-    pieces_of_std_chunk_with_ill_formed_part bs valid (b ∷ bytes) rest same text_len fault_len
-    (omega arith)
-    ∙ sym (append_assoc (utf8_pieces valid) (IllFormed (b ∷ bytes) ∷ []) (utf8_pieces rest))
+    grind (arith, nat_tests, pieces_of_std_chunk_with_ill_formed_part, append_assoc)

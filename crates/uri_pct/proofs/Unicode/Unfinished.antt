@@ -8,7 +8,7 @@ use Rattle.std.proofs.lemmas.List.{append-nil, map-append, take_all, drop_all, t
 use Rattle.std.proofs.lemmas.Bool.{cases_Bool, cond-true, cond-false, and_parts, leb-true, cases_lt}
 use Rattle.std.proofs.lemmas.Bool.Decides.{nat_tests}
 use Rattle.uri_pct.specs.Chunks.{Chunk, Text, Byte}
-use Rattle.uri_pct.specs.Parts.{Literal, Decoded, parts_from}
+use Rattle.uri_pct.specs.Parts.{Decoded, parts_from}
 use Rattle.uri_pct.specs.Pieces.{ByteRange, Row, is_in_byte_range, continuation, well_formed_rows}
 use Rattle.uri_pct.specs.Pieces.{begins_with_continuation, following_ranges, len_in_ranges}
 use Rattle.uri_pct.specs.Pieces.{first_piece_tail_len, pieces_from, utf8_pieces}
@@ -69,8 +69,7 @@ unfinished_len_by_last_three third second last = cond (nat_lt 2 third) 3
 
 -- UTF-8: the length of an unfinished end depends on the last three bytes only
 unfinished_len_is_by_last_three_bytes : (bytes : List ℕ) (n : ℕ) → length bytes ≡ suc (suc (suc n))
-    → unfinished_len bytes
-    ≡ unfinished_len_by_last_three (following_byte_count (get_or bytes n 0))
+    → unfinished_len bytes ≡ unfinished_len_by_last_three (following_byte_count (get_or bytes n 0))
     (following_byte_count (get_or bytes (suc n) 0))
     (following_byte_count (get_or bytes (suc (suc n)) 0))
 unfolding unfinished_len unfinished_len_by_last_three
@@ -86,8 +85,7 @@ unfinished_len_is_by_last_three_bytes (a ∷ rest) (suc n) e =
 
 -- UTF-8: the length of an unfinished end, by how many bytes follow each of the last three
 pub unfinished_len_is_by_counts_of_last_three : (bytes : List ℕ) (third second last : ℕ)
-    → 3 ≤ length bytes
-    → third ≡ following_byte_count (get_or bytes (length bytes - 3) 0)
+    → 3 ≤ length bytes → third ≡ following_byte_count (get_or bytes (length bytes - 3) 0)
     → second ≡ following_byte_count (get_or bytes (length bytes - 2) 0)
     → last ≡ following_byte_count (get_or bytes (length bytes - 1) 0)
     → unfinished_len bytes ≡ unfinished_len_by_last_three third second last
@@ -104,8 +102,7 @@ unfinished_len_is_by_counts_of_last_three bytes third second last long e3 e2 e1 
 
 -- UTF-8: if there is a byte for each range, what follows them changes nothing
 suffix_of_enough_bytes_keeps_len_in_ranges : (ranges : List ByteRange) (xs ys : List ℕ)
-    → length ranges ≤ length xs
-    → len_in_ranges ranges (xs ++ ys) ≡ len_in_ranges ranges xs
+    → length ranges ≤ length xs → len_in_ranges ranges (xs ++ ys) ≡ len_in_ranges ranges xs
 suffix_of_enough_bytes_keeps_len_in_ranges [] xs ys h = refl
 suffix_of_enough_bytes_keeps_len_in_ranges (range ∷ ranges) [] ys h = absurd (omega arith)
 suffix_of_enough_bytes_keeps_len_in_ranges (range ∷ ranges) (x ∷ xs) ys h =
@@ -123,8 +120,7 @@ suffix_of_enough_bytes_keeps_tail_len (Some ranges) xs ys h =
 
 -- UTF-8: if the first byte calls for more bytes than follow it, all bytes are unfinished
 first_byte_lacking_bytes_makes_all_unfinished : (x : ℕ) (xs : List ℕ)
-    → nat_lt (length xs) (following_byte_count x) ≡ true
-    → unfinished_len (x ∷ xs) ≡ suc (length xs)
+    → nat_lt (length xs) (following_byte_count x) ≡ true → unfinished_len (x ∷ xs) ≡ suc (length xs)
 unfolding unfinished_len
 first_byte_lacking_bytes_makes_all_unfinished x xs e = cond-true _ _ _ e
 
@@ -147,8 +143,7 @@ finished_first_byte_has_enough_bytes x xs none = ⊎_elim
 -- UTF-8: if no character is unfinished at the end of xs,
 -- the pieces are those of xs and of what follows
 pieces_from_are_cut_after_finished_bytes : (k : ℕ) (xs ys : List ℕ) → k ≤ length xs
-    → unfinished_len xs ≡ 0
-    → pieces_from k (xs ++ ys) ≡ pieces_from k xs ++ utf8_pieces ys
+    → unfinished_len xs ≡ 0 → pieces_from k (xs ++ ys) ≡ pieces_from k xs ++ utf8_pieces ys
 unfolding pieces_from
 pieces_from_are_cut_after_finished_bytes zero [] ys h none = refl
 pieces_from_are_cut_after_finished_bytes (suc k) [] ys h none = absurd (omega arith)
@@ -168,18 +163,12 @@ unfinished_len_is_at_most_length : (xs : List ℕ) → unfinished_len xs ≤ len
 unfolding unfinished_len
 unfinished_len_is_at_most_length [] = omega arith
 unfinished_len_is_at_most_length (x ∷ xs) =
-    let h = unfinished_len_is_at_most_length xs in
-    ⊎_elim (λ e. rw e (omega arith)) (λ e. rw e (omega arith))
-    (cases_Bool (nat_lt (length xs) (following_byte_count x)))
+    grind (arith, nat_tests, unfinished_len_is_at_most_length xs)
 
 -- UTF-8: a byte that calls for others continues none
 lead_byte_is_no_continuation : (b : ℕ) → 0 < following_byte_count b
     → is_in_byte_range continuation b ≡ false
-lead_byte_is_no_continuation b some = ⊎_elim
-    (λ e. let p = and_parts (leb 0x80 b) _ e in
-    let high = leb-true b 0xBF p.1 in
-    let none = no_byte_follows_below_c2 b (omega arith) in absurd (omega arith))
-    (λ e. e) (cases_Bool (is_in_byte_range continuation b))
+lead_byte_is_no_continuation b some = grind (arith, nat_tests, no_byte_follows_below_c2)
 
 -- UTF-8: an unfinished character does not begin with a byte that continues one
 unfinished_end_begins_with_no_continuation : (xs ys : List ℕ) → 0 < unfinished_len xs
@@ -217,13 +206,10 @@ cut_before_unfinished_end_divides_no_piece bytes suffix =
 
 -- UTF-8: a cut that divides no piece of a run of octets also cuts the parts that the run decodes to
 pub parts_from_are_cut_where_pieces_are : (prefix end more : List ℕ) (suffix : List Chunk)
-    → CutsNoPiece prefix end
-    → parts_from (prefix ++ (end ++ more)) suffix
+    → CutsNoPiece prefix end → parts_from (prefix ++ (end ++ more)) suffix
     ≡ map Decoded (utf8_pieces prefix) ++ parts_from (end ++ more) suffix
 unfolding parts_from
-parts_from_are_cut_where_pieces_are prefix end more [] parted =
-    ap (map Decoded) (parted more) ∙ map-append Decoded (utf8_pieces prefix) (utf8_pieces (end
-    ++ more))
+parts_from_are_cut_where_pieces_are prefix end more [] parted = grind (arith, nat_tests, map-append)
 parts_from_are_cut_where_pieces_are prefix end more (Byte value ∷ chunks) parted =
     let longer : (prefix ++ (end ++ more)) ++ value ∷ [] ≡ prefix ++ (end ++ (more ++ value ∷ [])) =
     append_assoc prefix (end ++ more) (value ∷ [])
@@ -233,11 +219,7 @@ parts_from_are_cut_where_pieces_are prefix end more (Byte value ∷ chunks) part
     ∙ ap (λ x. map Decoded (utf8_pieces prefix) ++ parts_from x chunks)
     (sym (append_assoc end more (value ∷ [])))
 parts_from_are_cut_where_pieces_are prefix end more (Text text ∷ chunks) parted =
-    let suffix = Literal text ∷ parts_from [] chunks in
-    ap (λ ps. map Decoded ps ++ suffix) (parted more)
-    ∙ ap (λ ps. ps ++ suffix) (map-append Decoded (utf8_pieces prefix) (utf8_pieces (end ++ more)))
-    ∙ append_assoc (map Decoded (utf8_pieces prefix)) (map Decoded (utf8_pieces (end
-    ++ more))) suffix
+    grind (arith, nat_tests, map-append, append_assoc)
 
 -- UTF-8: the parts of a run of octets, cut before its unfinished end
 pub parts_from_are_cut_before_unfinished_end : (bytes : List ℕ) (suffix : List Chunk)

@@ -12,9 +12,8 @@ use Rattle.uri_pct.specs.Tokens.{print}
 use Rattle.uri_pct.specs.Pieces.{WellFormed, IllFormed, utf8_pieces, pieces_from, following_ranges}
 use Rattle.uri_pct.specs.Pieces.{lossy_text}
 use Rattle.uri_pct.specs.DecodeUnreserved.{decode_unreserved, decode_octet, decode_after_run}
-use Rattle.uri_pct.specs.DecodeUnreserved.{decode_run}
-use Rattle.uri_pct.specs.DecodeUnreserved.{is_decodable}
-use Rattle.uri_pct.specs.DecodeUnreserved.{is_bidi_formatting, is_never_literal, lower_token}
+use Rattle.uri_pct.specs.DecodeUnreserved.{decode_run, is_decodable, is_bidi_formatting}
+use Rattle.uri_pct.specs.DecodeUnreserved.{is_never_literal, lower_token}
 
 -- examples of unreserved octets: the set of an IRI's component, from that of a URI's
 iri_component_set : TableSet → TableSet
@@ -41,8 +40,7 @@ examples_of_decoded_uri_components :
     × (decoded_text query_set (codes "%4c%2b") ≡ codes "L%2B")
     × (decoded_text fragment_set (codes "%24%4d") ≡ codes "%24M")
 unfolding decoded_text decoded_lower_text chars encode_utf8 tokens_from_chars is_pct_encoded
-    pieces_from
-    following_ranges
+    pieces_from following_ranges
     decode_after_run decode_run is_decodable is_bidi_formatting is_never_literal allows_past_ascii
 examples_of_decoded_uri_components = (refl, refl, refl, refl, refl)
 
@@ -53,8 +51,7 @@ octets_past_ascii_stay_octets_in_uri : (decoded_text path_set (codes "/%c3%a9%61
     × (map decode_octet (tokens (codes "%c3%61%41"))
     ≡ decode_unreserved path_set (codes "%c3%61%41"))
 unfolding decoded_text chars encode_utf8 tokens_from_chars is_pct_encoded pieces_from
-    following_ranges decode_after_run
-    decode_run
+    following_ranges decode_after_run decode_run
     is_decodable is_bidi_formatting is_never_literal allows_past_ascii
 octets_past_ascii_stay_octets_in_uri = (refl, refl)
 
@@ -66,9 +63,7 @@ char_between_octets_keeps_them_apart : (decoded_text (iri_component_set path_set
     × (decoded_text (iri_component_set path_set) (codes "/%C3A%A9" ++ encode_utf8 0xE9)
     ≡ codes "/%C3A%A9" ++ encode_utf8 0xE9)
 unfolding decoded_text iri_component_set chars encode_utf8 tokens_from_chars is_pct_encoded
-    pieces_from
-    following_ranges
-    decode_after_run
+    pieces_from following_ranges decode_after_run
     decode_run is_decodable is_bidi_formatting is_never_literal allows_past_ascii is_ucschar
 char_between_octets_keeps_them_apart = (refl, refl)
 
@@ -77,9 +72,7 @@ char_after_31_octets_is_decoded : decoded_text (iri_component_set path_set)
     (repeat 31 (codes "%61") ++ codes "%C3%A9")
     ≡ repeat 31 (codes "a") ++ encode_utf8 0xE9
 unfolding decoded_text iri_component_set chars encode_utf8 tokens_from_chars is_pct_encoded
-    pieces_from
-    following_ranges
-    decode_after_run
+    pieces_from following_ranges decode_after_run
     decode_run is_decodable is_bidi_formatting is_never_literal allows_past_ascii is_ucschar
 char_after_31_octets_is_decoded = refl
 
@@ -90,9 +83,7 @@ bidi_override_becomes_octets : (decoded_text (iri_component_set path_set) (codes
     × (decoded_text (iri_component_set path_set) (codes "/" ++ encode_utf8 0x202E)
     ≡ codes "/%E2%80%AE")
 unfolding decoded_text iri_component_set chars encode_utf8 tokens_from_chars is_pct_encoded
-    pieces_from
-    following_ranges
-    decode_after_run
+    pieces_from following_ranges decode_after_run
     decode_run is_decodable is_bidi_formatting is_never_literal allows_past_ascii is_ucschar
 bidi_override_becomes_octets = (refl, refl)
 
@@ -104,9 +95,7 @@ formatting_char_keeps_octets_apart : (decoded_text (iri_component_set path_set)
     × (decoded_text (iri_component_set path_set) (codes "%C3%E2%80%8E%A9")
     ≡ codes "%C3%E2%80%8E%A9")
 unfolding decoded_text iri_component_set chars encode_utf8 tokens_from_chars is_pct_encoded
-    pieces_from
-    following_ranges
-    decode_after_run
+    pieces_from following_ranges decode_after_run
     decode_run is_decodable is_bidi_formatting is_never_literal allows_past_ascii is_ucschar
 formatting_char_keeps_octets_apart = (refl, refl)
 
@@ -116,8 +105,7 @@ bidi_embedding_in_query_stays_octets : decoded_text iquery_set (codes "%E2%80%AA
 unfolding decoded_text iquery_set chars encode_utf8 tokens_from_chars is_pct_encoded pieces_from
     following_ranges
     decode_after_run decode_run is_decodable is_bidi_formatting is_never_literal allows_past_ascii
-    is_ucschar
-    is_iprivate
+    is_ucschar is_iprivate
 bidi_embedding_in_query_stays_octets = refl
 
 -- examples of unreserved octets: U+202F and U+200D, beside formatting characters, are decoded
@@ -125,9 +113,7 @@ neighbours_of_formatting_chars_are_decoded : (decoded_text (iri_component_set pa
     (codes "%E2%80%AF") ≡ encode_utf8 0x202F)
     × (decoded_text (iri_component_set path_set) (codes "%E2%80%8D") ≡ encode_utf8 0x200D)
 unfolding decoded_text iri_component_set chars encode_utf8 tokens_from_chars is_pct_encoded
-    pieces_from
-    following_ranges
-    decode_after_run
+    pieces_from following_ranges decode_after_run
     decode_run is_decodable is_bidi_formatting is_never_literal allows_past_ascii is_ucschar
 neighbours_of_formatting_chars_are_decoded = (refl, refl)
 
@@ -136,9 +122,7 @@ formatting_char_after_30_octets_stays_octets : decoded_text (iri_component_set p
     (repeat 30 (codes "%61") ++ codes "%E2%80%8F")
     ≡ repeat 30 (codes "a") ++ codes "%E2%80%8F"
 unfolding decoded_text iri_component_set chars encode_utf8 tokens_from_chars is_pct_encoded
-    pieces_from
-    following_ranges
-    decode_after_run
+    pieces_from following_ranges decode_after_run
     decode_run is_decodable is_bidi_formatting is_never_literal allows_past_ascii is_ucschar
 formatting_char_after_30_octets_stays_octets = refl
 
@@ -147,11 +131,9 @@ private_use_is_decoded_in_query_only : (decoded_text iquery_set (codes "%EE%80%8
     ≡ encode_utf8 0xE000)
     × (decoded_text (iri_component_set path_set) (codes "%EE%80%80") ≡ codes "%EE%80%80")
 unfolding decoded_text iri_component_set iquery_set chars encode_utf8 tokens_from_chars
-    is_pct_encoded pieces_from
-    following_ranges
+    is_pct_encoded pieces_from following_ranges
     decode_after_run decode_run is_decodable is_bidi_formatting is_never_literal allows_past_ascii
-    is_ucschar
-    is_iprivate
+    is_ucschar is_iprivate
 private_use_is_decoded_in_query_only = (refl, refl)
 
 -- examples of unreserved octets: ASCII letters alone are lowered
@@ -160,8 +142,7 @@ only_ascii_letters_are_lowered : (decoded_lower_text (iri_component_set reg_name
     × (decoded_lower_text (iri_component_set reg_name_set) (codes "%41%c3%89")
     ≡ codes "a" ++ encode_utf8 0xC9)
 unfolding decoded_lower_text iri_component_set chars encode_utf8 tokens_from_chars is_pct_encoded
-    pieces_from
-    following_ranges
+    pieces_from following_ranges
     decode_after_run decode_run is_decodable is_bidi_formatting is_never_literal allows_past_ascii
     is_ucschar
 only_ascii_letters_are_lowered = (refl, refl)

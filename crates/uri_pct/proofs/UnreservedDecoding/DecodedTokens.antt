@@ -1,23 +1,21 @@
 -- What decoding unreserved octets keeps: the bytes, what the set allows, and what is on either side
 -- of a character.
-use Rattle.std.proofs.Common.{◌≡◌, ℕ, Bool, true, false, cond, List, [], ◌∷◌, ◌++◌, map, refl, sym}
-use Rattle.std.proofs.Common.{ap, ◌∙◌, ◌&&◌, ⊎_elim, append_assoc}
+use Rattle.std.proofs.Common.{◌≡◌, ℕ, Bool, true, false, List, [], ◌∷◌, ◌++◌, map, refl, sym, ap}
+use Rattle.std.proofs.Common.{◌∙◌, ◌&&◌, append_assoc, arith}
 use Rattle.std.specs.Char.{encode_utf8, IsScalar}
 use Rattle.std.specs.List.{list_all, list_any, flat_map, All}
 use Rattle.std.proofs.lemmas.List.{append-nil, map-append}
 use Rattle.std.proofs.lemmas.List.Concat.{flat_map-append}
 use Rattle.std.proofs.lemmas.List.Folds.{list_all-append}
 use Rattle.std.proofs.lemmas.List.Elements.{All-head, All-tail}
-use Rattle.std.proofs.lemmas.Bool.{cases_Bool, cond-true, cond-false, and_parts, and_from}
+use Rattle.std.proofs.lemmas.Bool.{and_parts, and_from}
 use Rattle.uri_pct.specs.Sets.{TableSet, LacksPercent, IsSubset, unreserved_set}
 use Rattle.uri_pct.specs.Tokens.{Token, Char, Octet, tokens, bytes_decoded_from, bytes_of_one_token}
-use Rattle.uri_pct.specs.Tokens.{print}
-use Rattle.uri_pct.specs.Tokens.{allows_token, is_valid_for, IsValidFor}
-use Rattle.uri_pct.specs.Pieces.{Piece, WellFormed, IllFormed, char_of, piece_bytes}
+use Rattle.uri_pct.specs.Tokens.{print, allows_token, is_valid_for, IsValidFor}
+use Rattle.uri_pct.specs.Pieces.{Piece, WellFormed, IllFormed, piece_bytes}
 use Rattle.uri_pct.specs.Pieces.{bytes_of_pieces, utf8_pieces, IsOfCharacter}
 use Rattle.uri_pct.specs.DecodeUnreserved.{is_printable, is_decodable, decode_piece, decode_run}
-use Rattle.uri_pct.specs.DecodeUnreserved.{decode_after_run}
-use Rattle.uri_pct.specs.DecodeUnreserved.{decode_tokens, is_never_literal, is_literal_formatting}
+use Rattle.uri_pct.specs.DecodeUnreserved.{decode_after_run, decode_tokens, is_literal_formatting}
 use Rattle.uri_pct.specs.DecodeUnreserved.{encode_formatting, decode_unreserved}
 use Rattle.uri_pct.proofs.Unicode.Pieces.{bytes_of_utf8_pieces_are_the_bytes}
 use Rattle.uri_pct.proofs.Unicode.CharacterPieces.{utf8_pieces-are-of-characters}
@@ -37,15 +35,14 @@ use Rattle.uri_pct.proofs.UnreservedDecoding.Formatting.{encode_formatting_keeps
 use Rattle.uri_pct.proofs.UnreservedDecoding.Formatting.{encode_formatting_keeps_tokens_allowed}
 use Rattle.uri_pct.proofs.UnreservedDecoding.Formatting.{encode_formatting_leaves_no_literal_formatting}
 use Rattle.uri_pct.proofs.EncodedTexts.Encodings.{octets_decode_to_their_bytes}
+use Rattle.std.proofs.lemmas.Bool.Decides.{nat_tests}
 
 -- unreserved octets: a piece of decoded bytes keeps its bytes
 decoded_piece_keeps_its_bytes : (set : TableSet) (p : Piece) → IsOfCharacter p
     → bytes_decoded_from (decode_piece set p) ≡ piece_bytes p
 decoded_piece_keeps_its_bytes set (IllFormed bytes) h = octets_decode_to_their_bytes bytes
-decoded_piece_keeps_its_bytes set (WellFormed bytes) h = ⊎_elim
-    (λ e. rw e (append-nil (encode_utf8 (char_of bytes)) ∙ h.1))
-    (λ e. rw e (octets_decode_to_their_bytes bytes))
-    (cases_Bool (is_decodable set (char_of bytes)))
+decoded_piece_keeps_its_bytes set (WellFormed bytes) h =
+    grind (arith, nat_tests, append-nil, octets_decode_to_their_bytes)
 
 -- unreserved octets: pieces of decoded bytes keep their bytes
 decoded_pieces_keep_their_bytes : (set : TableSet) (ps : List Piece) → All IsOfCharacter ps
@@ -72,10 +69,8 @@ decode_after_run_keeps_bytes : (set : TableSet) (run : List ℕ) (ts : List Toke
 unfolding decode_after_run
 decode_after_run_keeps_bytes set run [] = decode_run_keeps_bytes set run
     ∙ sym (append-nil run)
-decode_after_run_keeps_bytes set run (Octet value ∷ ts) = decode_after_run_keeps_bytes
-    set (run ++ value
-    ∷ []) ts
-    ∙ append_assoc run (value ∷ []) (bytes_decoded_from ts)
+decode_after_run_keeps_bytes set run (Octet value ∷ ts) =
+    grind (arith, nat_tests, append_assoc, decode_after_run_keeps_bytes set (run ++ value ∷ []) ts)
 decode_after_run_keeps_bytes set run (Char c ∷ ts) =
     flat_map-append bytes_of_one_token (decode_run set run) (Char c ∷ decode_after_run set [] ts)
     ∙ ap (λ x. x ++ (encode_utf8 c ++ bytes_decoded_from (decode_after_run set [] ts)))
@@ -110,15 +105,11 @@ decoded_piece_passes_test : (test : Token → Bool) (set : TableSet) (p : Piece)
     → PassesDecodable test set
     → list_all test (map Octet (piece_bytes p)) ≡ true → list_all test (decode_piece set p) ≡ true
 decoded_piece_passes_test test set (IllFormed bytes) h e = e
-decoded_piece_passes_test test set (WellFormed bytes) h e = ⊎_elim
-    (λ r. rw r (and_from _ true (h (char_of bytes) r) refl))
-    (λ r. rw r e)
-    (cases_Bool (is_decodable set (char_of bytes)))
+decoded_piece_passes_test test set (WellFormed bytes) h e = grind (arith, nat_tests)
 
 -- unreserved octets: decoded pieces pass a test that decodable characters and their octets pass
 decoded_pieces_pass_test : (test : Token → Bool) (set : TableSet) (ps : List Piece)
-    → PassesDecodable test set
-    → list_all test (map Octet (bytes_of_pieces ps)) ≡ true
+    → PassesDecodable test set → list_all test (map Octet (bytes_of_pieces ps)) ≡ true
     → list_all test (flat_map (decode_piece set) ps) ≡ true
 decoded_pieces_pass_test test set [] h e = refl
 decoded_pieces_pass_test test set (p ∷ ps) h e =
@@ -160,8 +151,7 @@ tokens_decoded_after_run_pass_test test set run (Char c ∷ ts) h e f =
 
 -- unreserved octets: decoded tokens can be written
 pub decode_tokens_keeps_tokens_printable : (set : TableSet) (ts : List Token)
-    → list_all is_printable ts ≡ true
-    → list_all is_printable (decode_tokens set ts) ≡ true
+    → list_all is_printable ts ≡ true → list_all is_printable (decode_tokens set ts) ≡ true
 decode_tokens_keeps_tokens_printable set ts e =
     tokens_decoded_after_run_pass_test is_printable set [] ts
     (λ c h. decodable_char_is_printable set c h) refl e
@@ -171,8 +161,7 @@ pub decode_unreserved_keeps_tokens_printable : (set : TableSet) (text : List ℕ
     → list_all is_printable (tokens text) ≡ true
     → list_all is_printable (decode_unreserved set text) ≡ true
 decode_unreserved_keeps_tokens_printable set text e = encode_formatting_keeps_tokens_printable set
-    (decode_tokens set (tokens text))
-    (decode_tokens_keeps_tokens_printable set (tokens text) e)
+    (decode_tokens set (tokens text)) (decode_tokens_keeps_tokens_printable set (tokens text) e)
 
 -- unreserved octets: if the set allows a text, it allows the decoded tokens
 pub decode_unreserved_keeps_tokens_allowed : (set : TableSet) (text : List ℕ)
@@ -182,8 +171,7 @@ unfolding is_valid_for
 decode_unreserved_keeps_tokens_allowed set text wide valid =
     encode_formatting_keeps_tokens_allowed set (decode_tokens set (tokens text))
     (tokens_decoded_after_run_pass_test (allows_token set) set [] (tokens text)
-    (λ c h. decodable_char_is_allowed set c wide h)
-    refl valid)
+    (λ c h. decodable_char_is_allowed set c wide h) refl valid)
 
 -- unreserved octets: if the set allows a text, the decoded text is valid for it
 pub printed_decode_unreserved_stays_valid : (set : TableSet) (text : List ℕ) → LacksPercent set
@@ -205,9 +193,7 @@ char_separates_decoding_after_run set run [] c us = refl
 char_separates_decoding_after_run set run (Octet value ∷ ts) c us =
     char_separates_decoding_after_run set (run ++ value ∷ []) ts c us
 char_separates_decoding_after_run set run (Char d ∷ ts) c us =
-    ap (λ x. decode_run set run ++ Char d ∷ x) (char_separates_decoding_after_run set [] ts c us)
-    ∙ sym (append_assoc (decode_run set run) (Char d ∷ decode_after_run set [] ts)
-    (Char c ∷ decode_tokens set us))
+    grind (arith, nat_tests, append_assoc, char_separates_decoding_after_run set [] ts c us)
 
 -- unreserved octets: a literal character parts the tokens before
 -- and after it, which are decoded each by themselves
@@ -217,20 +203,12 @@ char_separates_decoded_tokens set ts c us = char_separates_decoding_after_run se
 
 -- unreserved octets: the octets of a decodable character part a run as the character does
 decodable_char_octets_split_run : (set : TableSet) (run : List ℕ) (c : ℕ) (more : List ℕ)
-    → IsScalar c
-    → is_decodable set c ≡ true
+    → IsScalar c → is_decodable set c ≡ true
     → decode_run set (run ++ (encode_utf8 c ++ more)) ≡ decode_run set run ++ Char c
     ∷ decode_run set more
 unfolding decode_run
 decodable_char_octets_split_run set run c more scalar decodable =
-    let same = char_of_utf8_is_the_char c scalar in
-    ap (flat_map (decode_piece set)) (char_separates_utf8_pieces run c more scalar)
-    ∙ flat_map-append (decode_piece set) (utf8_pieces run)
-    (WellFormed (encode_utf8 c) ∷ utf8_pieces more)
-    ∙ ap (λ x. flat_map (decode_piece set) (utf8_pieces run)
-    ++ (x ++ flat_map (decode_piece set) (utf8_pieces more)))
-    (ap (λ d. cond (is_decodable set d) (Char d ∷ []) (map Octet (encode_utf8 c))) same
-    ∙ cond-true _ _ _ decodable)
+    grind (arith, nat_tests, char_of_utf8_is_the_char, char_separates_utf8_pieces, flat_map-append)
 
 -- unreserved octets: in a run, the octets
 -- of a decodable character decode to it, and it ends the run
@@ -247,10 +225,7 @@ decodable_char_octets_split_decoding set run c more (Octet value ∷ ts) scalar 
     ∙ ap (λ x. run ++ x) (append_assoc (encode_utf8 c) more (value ∷ [])))
     ∙ decodable_char_octets_split_decoding set run c (more ++ value ∷ []) ts scalar decodable
 decodable_char_octets_split_decoding set run c more (Char d ∷ ts) scalar decodable =
-    ap (λ x. x ++ Char d ∷ decode_after_run set [] ts)
-    (decodable_char_octets_split_run set run c more scalar decodable)
-    ∙ append_assoc (decode_run set run) (Char c ∷ decode_run set more) (Char d
-    ∷ decode_after_run set [] ts)
+    grind (arith, nat_tests, decodable_char_octets_split_run, append_assoc)
 
 -- unreserved octets: octets (more) before tokens lengthen the run of octets before them
 octets_before_tokens_lengthen_run : (set : TableSet) (run more : List ℕ) (ts : List Token)
@@ -282,8 +257,7 @@ decodable_char_octets_decode_as_char_after_run set run (Char d ∷ ts) c us scal
 -- unreserved octets: the octets of a decodable character decode to the character, in any context
 pub decodable_char_octets_decode_as_char : (set : TableSet) (ts : List Token) (c : ℕ)
     (us : List Token)
-    → IsScalar c
-    → is_decodable set c ≡ true
+    → IsScalar c → is_decodable set c ≡ true
     → decode_tokens set (ts ++ (map Octet (encode_utf8 c) ++ us))
     ≡ decode_tokens set (ts ++ Char c ∷ us)
 decodable_char_octets_decode_as_char set ts c us scalar decodable =
@@ -298,21 +272,15 @@ octets_of_formatting_chars_decode_as_chars set before (Octet value ∷ ts) =
     ∙ octets_of_formatting_chars_decode_as_chars set (before ++ Octet value ∷ []) ts
     ∙ ap (decode_tokens set) (append_assoc before (Octet value ∷ []) ts)
 octets_of_formatting_chars_decode_as_chars set before (Char c ∷ ts) =
-    let next =
-    ap (decode_tokens set) (sym (append_assoc before (Char c ∷ []) (encode_formatting set ts)))
-    ∙ octets_of_formatting_chars_decode_as_chars set (before ++ Char c ∷ []) ts
-    ∙ ap (decode_tokens set) (append_assoc before (Char c ∷ []) ts) in
-    ⊎_elim
-    (λ e.
-    ap (λ x. decode_tokens set (before ++ (x ++ encode_formatting set ts))) (cond-true _ _ _ e)
-    ∙ decodable_char_octets_decode_as_char set before c (encode_formatting set ts)
-    (never_literal_char_is_scalar_past_ascii set c e).1
-    (never_literal_char_is_decodable set c e)
-    ∙ next)
-    (λ e. ap (λ x. decode_tokens set (before
-    ++ (x ++ encode_formatting set ts))) (cond-false _ _ _ e)
-    ∙ next)
-    (cases_Bool (is_never_literal set c))
+    grind (
+      arith,
+      nat_tests,
+      append_assoc,
+      decodable_char_octets_decode_as_char,
+      never_literal_char_is_scalar_past_ascii,
+      never_literal_char_is_decodable,
+      octets_of_formatting_chars_decode_as_chars set (before ++ Char c ∷ []) ts,
+    )
 
 -- unreserved octets: the octets of a decodable character, written, decode as the character does
 pub printed_octets_of_decodable_char_decode_as_char : (set : TableSet) (before : List Token) (c : ℕ)
@@ -339,5 +307,4 @@ pub decode_unreserved_leaves_no_literal_formatting : (set : TableSet) (text : Li
     → (set.ucschar && set.pct_encoded) ≡ true
     → list_any is_literal_formatting (decode_unreserved set text) ≡ false
 decode_unreserved_leaves_no_literal_formatting set text e =
-    encode_formatting_leaves_no_literal_formatting set
-    (decode_tokens set (tokens text)) e
+    encode_formatting_leaves_no_literal_formatting set (decode_tokens set (tokens text)) e

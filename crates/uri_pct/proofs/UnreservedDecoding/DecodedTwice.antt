@@ -12,9 +12,8 @@ use Rattle.uri_pct.specs.Tokens.{Token, Char, Octet, tokens, print}
 use Rattle.uri_pct.specs.Pieces.{Piece, WellFormed, IllFormed, char_of, piece_bytes}
 use Rattle.uri_pct.specs.Pieces.{bytes_of_pieces, utf8_pieces}
 use Rattle.uri_pct.specs.DecodeUnreserved.{is_printable, is_decodable, decode_piece, decode_run}
-use Rattle.uri_pct.specs.DecodeUnreserved.{decode_after_run}
-use Rattle.uri_pct.specs.DecodeUnreserved.{decode_tokens, encode_formatting, decode_unreserved}
-use Rattle.uri_pct.specs.DecodeUnreserved.{lower_token}
+use Rattle.uri_pct.specs.DecodeUnreserved.{decode_after_run, decode_tokens, encode_formatting}
+use Rattle.uri_pct.specs.DecodeUnreserved.{decode_unreserved, lower_token}
 use Rattle.uri_pct.proofs.Unicode.Pieces.{ArePiecesOfOwnBytes, utf8_pieces-are-of-own-bytes}
 use Rattle.uri_pct.proofs.Unicode.Pieces.{prefix_of_pieces_is_of_own_bytes}
 use Rattle.uri_pct.proofs.Unicode.Pieces.{tail_of_pieces_is_of_own_bytes}
@@ -36,8 +35,7 @@ IsDecoded set run (Char c ∷ ts) = StaysOctets set run × IsDecoded set [] ts
 
 -- unreserved octets: tokens that are decoded already stay, after a run of octets that does
 decoding_decoded_tokens_keeps_them : (set : TableSet) (run : List ℕ) (ts : List Token)
-    → IsDecoded set run ts
-    → decode_after_run set run ts ≡ map Octet run ++ ts
+    → IsDecoded set run ts → decode_after_run set run ts ≡ map Octet run ++ ts
 unfolding decode_after_run
 decoding_decoded_tokens_keeps_them set run [] stays = stays ∙ sym (append-nil (map Octet run))
 decoding_decoded_tokens_keeps_them set run (Octet value ∷ ts) stays =
@@ -84,9 +82,7 @@ undecodable_pieces_stay_octets set (p ∷ ps) e =
 
 -- unreserved octets: a run of octets stays, if none of its pieces is decoded
 run_of_undecodable_pieces_stays_octets : (set : TableSet) (ps : List Piece) → ArePiecesOfOwnBytes ps
-    → list_all (is_undecoded set) ps
-    ≡ true
-    → StaysOctets set (bytes_of_pieces ps)
+    → list_all (is_undecoded set) ps ≡ true → StaysOctets set (bytes_of_pieces ps)
 unfolding decode_run
 run_of_undecodable_pieces_stays_octets set ps cut e = ap (flat_map (decode_piece set)) cut
     ∙ undecodable_pieces_stay_octets set ps e
@@ -115,8 +111,7 @@ decoded_piece_ends_run_before_it set done (WellFormed bytes) ps ts e stays suffi
 -- if the pieces before it stay octets and what follows is decoded
 decoded_run_before_decoded_tokens_is_decoded : (set : TableSet) (done ps : List Piece)
     (ts : List Token)
-    → ArePiecesOfOwnBytes (done ++ ps)
-    → list_all (is_undecoded set) done ≡ true
+    → ArePiecesOfOwnBytes (done ++ ps) → list_all (is_undecoded set) done ≡ true
     → ((run : List ℕ) → StaysOctets set run → IsDecoded set run ts)
     → IsDecoded set (bytes_of_pieces done) (flat_map (decode_piece set) ps ++ ts)
 decoded_run_before_decoded_tokens_is_decoded set done [] ts cut undecoded suffix =
@@ -135,16 +130,14 @@ decoded_run_before_decoded_tokens_is_decoded set done (p ∷ ps) ts cut undecode
     let next = subst (λ r. IsDecoded set r (flat_map (decode_piece set) ps ++ ts)) bytes
     (decoded_run_before_decoded_tokens_is_decoded set (done ++ p ∷ []) ps ts more all suffix) in
     let octets = octets_before_decoded_tokens_stay_decoded set (bytes_of_pieces done)
-    (piece_bytes p)
-    (flat_map (decode_piece set) ps ++ ts) next in
+    (piece_bytes p) (flat_map (decode_piece set) ps ++ ts) next in
     subst (IsDecoded set (bytes_of_pieces done))
     (sym (append_assoc (decode_piece set p) (flat_map (decode_piece set) ps) ts))
     (subst (λ x. IsDecoded set (bytes_of_pieces done) (x ++ (flat_map (decode_piece set) ps ++ ts)))
     (sym (undecodable_piece_stays_octets set p e)) octets))
     (λ e. decoded_piece_ends_run_before_it set done p ps ts e
     (run_of_undecodable_pieces_stays_octets set done (prefix_of_pieces_is_of_own_bytes done (p
-    ∷ ps) cut) undecoded)
-    (decoded_run_before_decoded_tokens_is_decoded set [] ps ts
+    ∷ ps) cut) undecoded) (decoded_run_before_decoded_tokens_is_decoded set [] ps ts
     (suffix_of_pieces_is_of_own_bytes (done ++ p ∷ []) ps
     (subst ArePiecesOfOwnBytes (sym (append_assoc done (p ∷ []) ps)) cut)) refl suffix))
     (cases_Bool (is_undecoded set p))
@@ -169,8 +162,7 @@ decode_after_run_gives_decoded_tokens set run (Char c ∷ ts) =
 pub decode_tokens_is_idempotent : (set : TableSet) (ts : List Token)
     → decode_tokens set (decode_tokens set ts) ≡ decode_tokens set ts
 decode_tokens_is_idempotent set ts = decoding_decoded_tokens_keeps_them set []
-    (decode_tokens set ts)
-    (decode_after_run_gives_decoded_tokens set [] ts)
+    (decode_tokens set ts) (decode_after_run_gives_decoded_tokens set [] ts)
 
 -- unreserved octets: decoding a text twice equals decoding it once
 pub decode_unreserved_is_idempotent : (set : TableSet) (text : List ℕ)
@@ -186,8 +178,7 @@ decode_unreserved_is_idempotent set text e =
 
 -- unreserved octets: decoded tokens in lower case are decoded; run: the octets before them
 lowered_decoded_tokens_are_decoded : (set : TableSet) (run : List ℕ) (ts : List Token)
-    → IsDecoded set run ts
-    → IsDecoded set run (map lower_token ts)
+    → IsDecoded set run ts → IsDecoded set run (map lower_token ts)
 lowered_decoded_tokens_are_decoded set run [] h = h
 lowered_decoded_tokens_are_decoded set run (Octet value ∷ ts) h = lowered_decoded_tokens_are_decoded
     set (run ++ value ∷ []) ts h

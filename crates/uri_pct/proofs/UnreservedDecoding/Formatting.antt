@@ -1,23 +1,21 @@
 -- Formatting characters of bidirectional text as octets: what that keeps.
 use Rattle.std.proofs.Common.{◌≡◌, ℕ, ◌<◌, ◌≤◌, Bool, true, false, List, [], ◌∷◌, ◌++◌, map, refl}
-use Rattle.std.proofs.Common.{sym, ap, ◌∙◌, arith, ◌&&◌, ⊎_elim}
+use Rattle.std.proofs.Common.{ap, ◌∙◌, arith, ◌&&◌}
 use Rattle.std.specs.Char.{IsScalar, encode_utf8, to_ascii_lowercase}
 use Rattle.std.specs.Int.{is_in_range}
 use Rattle.std.specs.List.{list_all, list_any}
 use Rattle.std.proofs.lemmas.List.{append-nil, map-append}
 use Rattle.std.proofs.lemmas.List.Concat.{flat_map-append}
 use Rattle.std.proofs.lemmas.List.Folds.{list_all-append}
-use Rattle.std.proofs.lemmas.Bool.{cases_Bool, cases_lt, cond-true, cond-false, and_parts, and_from}
-use Rattle.std.proofs.lemmas.Bool.{or_right, or_from}
+use Rattle.std.proofs.lemmas.Bool.{cond-false, and_parts, and_from, or_right}
 use Rattle.std.proofs.lemmas.Bool.Decides.{nat_tests}
 use Rattle.std.proofs.lemmas.Str.Ascii.{lowercase_ascii}
 use Rattle.uri_pct.specs.Sets.{TableSet, is_ucschar, allows_past_ascii}
 use Rattle.uri_pct.specs.Tokens.{Token, Char, Octet, bytes_decoded_from, bytes_of_one_token}
 use Rattle.uri_pct.specs.Tokens.{allows_token}
 use Rattle.uri_pct.specs.DecodeUnreserved.{is_printable, is_decodable, lower_token}
-use Rattle.uri_pct.specs.DecodeUnreserved.{is_bidi_formatting}
-use Rattle.uri_pct.specs.DecodeUnreserved.{is_never_literal, formatting_as_octets}
-use Rattle.uri_pct.specs.DecodeUnreserved.{is_literal_formatting}
+use Rattle.uri_pct.specs.DecodeUnreserved.{is_bidi_formatting, is_never_literal}
+use Rattle.uri_pct.specs.DecodeUnreserved.{formatting_as_octets, is_literal_formatting}
 use Rattle.uri_pct.specs.DecodeUnreserved.{encode_formatting}
 use Rattle.uri_pct.proofs.EncodedTexts.EncodedTokens.{octets_of_bytes_are_printable}
 use Rattle.uri_pct.proofs.EncodedTexts.EncodedTokens.{octets_are_allowed_if_pct_encoded}
@@ -74,9 +72,7 @@ ascii_char_is_no_formatting_char c h = grind (arith, nat_tests)
 
 -- unreserved octets: a set with octets and `ucschar` writes all formatting characters as octets
 pub never_literal_is_formatting_if_both_flags : (set : TableSet) (c : ℕ)
-    → (set.ucschar && set.pct_encoded)
-    ≡ true
-    → is_never_literal set c ≡ is_bidi_formatting c
+    → (set.ucschar && set.pct_encoded) ≡ true → is_never_literal set c ≡ is_bidi_formatting c
 unfolding is_never_literal
 never_literal_is_formatting_if_both_flags set c e = ap (λ b. b && is_bidi_formatting c) e
 
@@ -88,9 +84,7 @@ encode_formatting_without_flags_keeps_tokens set [] e = refl
 encode_formatting_without_flags_keeps_tokens set (Octet value ∷ ts) e =
     ap (λ us. Octet value ∷ us) (encode_formatting_without_flags_keeps_tokens set ts e)
 encode_formatting_without_flags_keeps_tokens set (Char c ∷ ts) e =
-    ap (λ us. us ++ encode_formatting set ts)
-    (cond-false _ _ _ (ap (λ b. b && is_bidi_formatting c) e))
-    ∙ ap (λ us. Char c ∷ us) (encode_formatting_without_flags_keeps_tokens set ts e)
+    grind (arith, nat_tests, encode_formatting_without_flags_keeps_tokens set ts e)
 
 -- general fact on booleans, for unreserved octets
 and_with_false_is_false : (x y : Bool) → (x && y && false) ≡ false
@@ -110,10 +104,8 @@ ascii_char_stays_literal set c h = cond-false _ _ _
 formatting_as_octets_keeps_bytes : (set : TableSet) (t : Token)
     → bytes_decoded_from (formatting_as_octets set t) ≡ bytes_of_one_token t
 formatting_as_octets_keeps_bytes set (Octet value) = refl
-formatting_as_octets_keeps_bytes set (Char c) = ⊎_elim
-    (λ e. ap bytes_decoded_from (cond-true _ _ _ e) ∙ octets_decode_to_their_bytes (encode_utf8 c))
-    (λ e. ap bytes_decoded_from (cond-false _ _ _ e) ∙ append-nil (encode_utf8 c))
-    (cases_Bool (is_never_literal set c))
+formatting_as_octets_keeps_bytes set (Char c) =
+    grind (arith, nat_tests, octets_decode_to_their_bytes, append-nil)
 
 -- unreserved octets: to write formatting characters as octets keeps the decoded bytes
 pub encode_formatting_keeps_bytes : (set : TableSet) (ts : List Token)
@@ -131,10 +123,7 @@ formatting_as_octets_passes_test : (test : Token → Bool) (set : TableSet) (t :
     → ((c : ℕ) → is_never_literal set c ≡ true → list_all test (map Octet (encode_utf8 c)) ≡ true)
     → test t ≡ true → list_all test (formatting_as_octets set t) ≡ true
 formatting_as_octets_passes_test test set (Octet value) octets e = and_from _ true e refl
-formatting_as_octets_passes_test test set (Char c) octets e = ⊎_elim
-    (λ h. ap (list_all test) (cond-true _ _ _ h) ∙ octets c h)
-    (λ h. ap (list_all test) (cond-false _ _ _ h) ∙ and_from _ true e refl)
-    (cases_Bool (is_never_literal set c))
+formatting_as_octets_passes_test test set (Char c) octets e = grind (arith, nat_tests)
 
 -- unreserved octets: tokens pass a test after their
 -- formatting characters become octets, if these pass
@@ -178,21 +167,15 @@ lowercase_keeps_char_past_ascii c h = grind (arith, nat_tests)
 formatting_as_octets_commutes_with_lowering : (set : TableSet) (t : Token)
     → map lower_token (formatting_as_octets set t) ≡ formatting_as_octets set (lower_token t)
 formatting_as_octets_commutes_with_lowering set (Octet value) = refl
-formatting_as_octets_commutes_with_lowering set (Char c) = ⊎_elim
-    (λ low. ap (map lower_token) (ascii_char_stays_literal set c low)
-    ∙ sym (ascii_char_stays_literal set (to_ascii_lowercase c) (lowercase_ascii c low)))
-    (λ high.
-    let same : formatting_as_octets set (Char (to_ascii_lowercase c))
-    ≡ formatting_as_octets set (Char c) =
-    ap (λ d. formatting_as_octets set (Char d)) (lowercase_keeps_char_past_ascii c high) in
-    ⊎_elim
-    (λ e. ap (map lower_token) (cond-true _ _ _ e) ∙ lowering_keeps_octets (encode_utf8 c)
-    ∙ sym (same ∙ cond-true _ _ _ e))
-    (λ e. ap (map lower_token) (cond-false _ _ _ e)
-    ∙ ap (λ d. Char d ∷ []) (lowercase_keeps_char_past_ascii c high)
-    ∙ sym (same ∙ cond-false _ _ _ e))
-    (cases_Bool (is_never_literal set c)))
-    (cases_lt c 128)
+formatting_as_octets_commutes_with_lowering set (Char c) =
+    grind (
+      arith,
+      nat_tests,
+      ascii_char_stays_literal,
+      lowercase_ascii,
+      lowercase_keeps_char_past_ascii,
+      lowering_keeps_octets,
+    )
 
 -- unreserved octets: percent-encoding formatting characters and lower case may swap
 pub encode_formatting_commutes_with_lowering : (set : TableSet) (ts : List Token)
@@ -208,13 +191,10 @@ encode_formatting_commutes_with_lowering set (t ∷ ts) =
 -- unreserved octets: an ASCII character separates the encoding before it from that after it
 pub ascii_char_separates_encode_formatting : (set : TableSet) (ts : List Token) (c : ℕ)
     (us : List Token)
-    → c < 128
-    → encode_formatting set (ts ++ Char c ∷ us)
+    → c < 128 → encode_formatting set (ts ++ Char c ∷ us)
     ≡ encode_formatting set ts ++ Char c ∷ encode_formatting set us
 ascii_char_separates_encode_formatting set ts c us low =
-    flat_map-append (formatting_as_octets set) ts (Char c ∷ us)
-    ∙ ap (λ x. encode_formatting set ts ++ (x ++ encode_formatting set us))
-    (ascii_char_stays_literal set c low)
+    grind (arith, nat_tests, flat_map-append, ascii_char_stays_literal)
 
 -- unreserved octets: octets are no literal formatting characters
 octets_are_no_literal_formatting : (bytes : List ℕ) (ts : List Token)
@@ -230,13 +210,11 @@ pub encode_formatting_leaves_no_literal_formatting : (set : TableSet) (ts : List
 encode_formatting_leaves_no_literal_formatting set [] e = refl
 encode_formatting_leaves_no_literal_formatting set (Octet value ∷ ts) e =
     encode_formatting_leaves_no_literal_formatting set ts e
-encode_formatting_leaves_no_literal_formatting set (Char c ∷ ts) e = ⊎_elim
-    (λ h.
-    ap (λ us. list_any is_literal_formatting (us ++ encode_formatting set ts)) (cond-true _ _ _ h)
-    ∙ octets_are_no_literal_formatting (encode_utf8 c) (encode_formatting set ts)
-    ∙ encode_formatting_leaves_no_literal_formatting set ts e)
-    (λ h.
-    ap (λ us. list_any is_literal_formatting (us ++ encode_formatting set ts)) (cond-false _ _ _ h)
-    ∙ or_from _ _ (sym (never_literal_is_formatting_if_both_flags set c e) ∙ h)
-    (encode_formatting_leaves_no_literal_formatting set ts e))
-    (cases_Bool (is_never_literal set c))
+encode_formatting_leaves_no_literal_formatting set (Char c ∷ ts) e =
+    grind (
+      arith,
+      nat_tests,
+      octets_are_no_literal_formatting,
+      never_literal_is_formatting_if_both_flags,
+      encode_formatting_leaves_no_literal_formatting set ts e,
+    )

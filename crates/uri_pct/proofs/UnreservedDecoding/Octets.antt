@@ -12,11 +12,9 @@ use Rattle.uri_pct.specs.Sets.{TableSet, allows_past_ascii, is_unreserved}
 use Rattle.uri_pct.specs.Tokens.{Token, Char, Octet, tokens}
 use Rattle.uri_pct.specs.Pieces.{Piece, WellFormed, IllFormed, ByteRange, is_in_byte_range, char_of}
 use Rattle.uri_pct.specs.Pieces.{piece_bytes, following_ranges, len_in_ranges, first_piece_tail_len}
-use Rattle.uri_pct.specs.Pieces.{first_piece, pieces_from}
-use Rattle.uri_pct.specs.Pieces.{IsOfCharacter}
+use Rattle.uri_pct.specs.Pieces.{first_piece, pieces_from, IsOfCharacter}
 use Rattle.uri_pct.specs.DecodeUnreserved.{LacksPastAscii, is_decodable, decode_octet, decode_piece}
-use Rattle.uri_pct.specs.DecodeUnreserved.{decode_run}
-use Rattle.uri_pct.specs.DecodeUnreserved.{decode_after_run, decode_unreserved}
+use Rattle.uri_pct.specs.DecodeUnreserved.{decode_run, decode_after_run, decode_unreserved}
 use Rattle.uri_pct.proofs.Unicode.Pieces.{is_continuation_range, are_continuation_ranges}
 use Rattle.uri_pct.proofs.Unicode.Pieces.{following_ranges_are_continuations}
 use Rattle.uri_pct.proofs.Unicode.Pieces.{first_piece_has_first_bytes}
@@ -26,6 +24,7 @@ use Rattle.uri_pct.proofs.Unicode.FirstBytes.{no_range_follows_ascii_byte}
 use Rattle.uri_pct.proofs.ValidTexts.Allowed.{unreserved_is_ascii}
 use Rattle.uri_pct.proofs.UnreservedDecoding.Formatting.{encode_formatting_without_flags_keeps_tokens}
 use Rattle.uri_pct.proofs.General.{or_false_is_the_same}
+use Rattle.std.proofs.lemmas.Bool.Decides.{nat_tests}
 
 -- unreserved octets of a URI: exactly unreserved characters are decoded,
 -- as the set has none past ASCII
@@ -55,14 +54,9 @@ bytes_past_ascii_stay_octets (b ∷ rest) e =
 -- unreserved octets of a URI: a byte that may follow a first one is past ASCII
 byte_in_continuation_range_is_past_ascii : (range : ByteRange) (b : ℕ) → is_continuation_range range
     ≡ true
-    → is_in_byte_range range b ≡ true
-    → leb 128 b ≡ true
+    → is_in_byte_range range b ≡ true → leb 128 b ≡ true
 unfolding is_continuation_range
-byte_in_continuation_range_is_past_ascii range b inner e =
-    let low : 0x80 ≤ range.0 = leb-true 0x80 range.0
-    (and_parts (leb 0x80 range.0) (leb range.1 0xBF) inner).0 in
-    let from : range.0 ≤ b = leb-true range.0 b (and_parts (leb range.0 b) (leb b range.1) e).0 in
-    le-leb 128 b (omega arith)
+byte_in_continuation_range_is_past_ascii range b inner e = grind (arith, nat_tests)
 
 -- unreserved octets of a URI: bytes that may follow a first one are past ASCII
 bytes_in_continuation_ranges_are_past_ascii : (ranges : List ByteRange) (text : List ℕ)
@@ -81,8 +75,7 @@ bytes_in_continuation_ranges_are_past_ascii (range ∷ ranges) (b ∷ rest) inne
 -- unreserved octets of a URI: all bytes of the first piece
 -- but its first are past ASCII; row: which may follow
 first_piece_tail_is_past_ascii : (row : Option (List ByteRange)) (text : List ℕ)
-    → are_continuation_ranges row
-    ≡ true
+    → are_continuation_ranges row ≡ true
     → list_all (leb 128) (take (first_piece_tail_len row text) text) ≡ true
 unfolding are_continuation_ranges
 first_piece_tail_is_past_ascii None text inner = refl
@@ -95,16 +88,7 @@ piece_past_ascii_stays_octets_in_uri : (set : TableSet) (p : Piece) → LacksPas
     → list_all (leb 128) (piece_bytes p) ≡ true → decode_piece set p ≡ map Octet (piece_bytes p)
 piece_past_ascii_stays_octets_in_uri set (IllFormed bytes) alone h e = refl
 piece_past_ascii_stays_octets_in_uri set (WellFormed bytes) alone h e =
-    let undecoded : is_decodable set (char_of bytes)
-    ≡ false = decodable_is_unreserved_in_uri set (char_of bytes) alone
-    ∙ false_from_ne_true _ (λ u.
-    let low = unreserved_is_ascii (char_of bytes) u in
-    let one : bytes ≡ char_of bytes ∷ [] = sym h.1 ∙ encode_ascii (char_of bytes) low in
-    let high : 128 ≤ char_of bytes =
-    leb-true 128 (char_of bytes)
-    (and_parts (leb 128 (char_of bytes)) true (sym (ap (list_all (leb 128)) one) ∙ e)).0 in
-    omega arith) in
-    cond-false _ _ _ undecoded
+    grind (arith, nat_tests, decodable_is_unreserved_in_uri, unreserved_is_ascii, encode_ascii)
 
 -- unreserved octets of a URI: an ASCII character is decoded as its octet is
 ascii_piece_is_decoded_as_octet_in_uri : (set : TableSet) (b : ℕ) → LacksPastAscii set → b < 128
@@ -120,8 +104,7 @@ ascii_piece_is_decoded_as_octet_in_uri set b alone low =
 -- unreserved octets of a URI: without characters past ASCII,
 -- a piece of bytes is decoded octet by octet
 piece_is_decoded_octet_by_octet_in_uri : (set : TableSet) (b : ℕ) (rest : List ℕ)
-    → LacksPastAscii set
-    → decode_piece set (first_piece (following_ranges b) b rest)
+    → LacksPastAscii set → decode_piece set (first_piece (following_ranges b) b rest)
     ≡ map decoded_octet_token (b ∷ take (first_piece_tail_len (following_ranges b) rest) rest)
 piece_is_decoded_octet_by_octet_in_uri set b rest alone = ⊎_elim
     (λ low. rw (no_range_follows_ascii_byte b low)
@@ -132,8 +115,7 @@ piece_is_decoded_octet_by_octet_in_uri set b rest alone = ⊎_elim
     (first_piece_tail_is_past_ascii (following_ranges b) rest
     (following_ranges_are_continuations b)) in
     piece_past_ascii_stays_octets_in_uri set (first_piece (following_ranges b) b rest) alone
-    (first_piece_is_of_character b rest _ refl)
-    (ap (list_all (leb 128)) bytes ∙ past)
+    (first_piece_is_of_character b rest _ refl) (ap (list_all (leb 128)) bytes ∙ past)
     ∙ ap (map Octet) bytes ∙ sym
     (bytes_past_ascii_stay_octets (b ∷ take (first_piece_tail_len (following_ranges b) rest) rest)
     past))
@@ -161,8 +143,7 @@ pieces_are_decoded_octet_by_octet_in_uri set zero (b ∷ rest) alone =
 -- unreserved octets of a URI: without characters past ASCII,
 -- a run of octets is decoded octet by octet
 run_is_decoded_octet_by_octet_in_uri : (set : TableSet) (run : List ℕ) → LacksPastAscii set
-    → decode_run set run
-    ≡ map decoded_octet_token run
+    → decode_run set run ≡ map decoded_octet_token run
 unfolding decode_run
 run_is_decoded_octet_by_octet_in_uri set run alone = pieces_are_decoded_octet_by_octet_in_uri set
     0 run alone

@@ -1,6 +1,6 @@
 -- `tokens` inverts `print`.
 use Rattle.std.proofs.Common.{◌≡◌, ℕ, ◌+◌, ◌*◌, ◌/◌, ◌%◌, ◌<◌, Bool, true, false, eqb, ltb, List}
-use Rattle.std.proofs.Common.{[], ◌∷◌, ◌++◌, refl, sym, ap, ◌∙◌, arith, ◌&&◌, lit<}
+use Rattle.std.proofs.Common.{[], ◌∷◌, ◌++◌, refl, sym, ap, ◌∙◌, arith, ◌&&◌}
 use Rattle.std.specs.List.{list_all, flat_map}
 use Rattle.std.specs.Char.{encode_utf8, digit_value, is_ascii_hexdigit}
 use Rattle.std.specs.Fmt.{digit_glyph}
@@ -12,9 +12,9 @@ use Rattle.std.proofs.lemmas.Bool.{and_parts, eqb-true, ltb-true, not-true}
 use Rattle.std.proofs.lemmas.List.{append-nil}
 use Rattle.uri_pct.specs.Sets.{TableSet}
 use Rattle.uri_pct.specs.Tokens.{Token, Char, Octet, tokens, tokens_from_chars, print}
-use Rattle.uri_pct.specs.Tokens.{text_of_token}
-use Rattle.uri_pct.specs.Tokens.{is_pct_encoded, allows_token, is_valid_for}
+use Rattle.uri_pct.specs.Tokens.{text_of_token, is_pct_encoded, allows_token, is_valid_for}
 use Rattle.uri_pct.specs.DecodeUnreserved.{is_printable}
+use Rattle.std.proofs.lemmas.Bool.Decides.{nat_tests}
 
 -- printing tokens: the digits of a byte, in either case, are two hexadecimal digits of its value
 abbrev pub are_digits_of_octet : Bool → ℕ → Bool
@@ -42,24 +42,14 @@ pub chars_of_token_encode_to_its_text : (t : Token) → is_printable t ≡ true
     → encode_utf8_all (chars_of_token t) ≡ text_of_token t
 chars_of_token_encode_to_its_text (Char c) e = append-nil (encode_utf8 c)
 chars_of_token_encode_to_its_text (Octet v) e =
-    let p = and_parts _ _ (and_parts _ _ (octet_digits_are_hexadecimal true v (ltb-true v 256 e))).0
-    in
-    let high = encode_ascii (digit_glyph true (v / 16)) (ltb-true _ 128 p.0) in
-    let low = encode_ascii (digit_glyph true (v % 16)) (ltb-true _ 128 p.1) in
-    let percent : encode_utf8 37 ≡ 37 ∷ [] = encode_ascii 37 (lit< tt) in
-    rw (percent, high, low) refl
+    grind (arith, nat_tests, octet_digits_are_hexadecimal, encode_ascii)
 
 -- printing tokens: the characters of one that can be written are scalar values
 chars_of_token_are_scalars : (t : Token) → is_printable t ≡ true → all_scalars (chars_of_token t)
     ≡ true
 chars_of_token_are_scalars (Char c) e = (and_parts _ _ e).0
 chars_of_token_are_scalars (Octet v) e =
-    let p = and_parts _ _ (and_parts _ _ (octet_digits_are_hexadecimal true v (ltb-true v 256 e))).0
-    in
-    let high : digit_glyph true (v / 16) < 128 = ltb-true _ 128 p.0 in
-    let low : digit_glyph true (v % 16) < 128 = ltb-true _ 128 p.1 in
-    and_from _ _ (low_scalar (digit_glyph true (v / 16)) (omega arith))
-    (and_from _ _ (low_scalar (digit_glyph true (v % 16)) (omega arith)) refl)
+    grind (arith, nat_tests, octet_digits_are_hexadecimal, low_scalar)
 
 -- printing tokens: a character that is not `%` (37) at the start of a text is a token
 pub char_but_percent_is_its_own_token : (c : ℕ) (cs : List ℕ) → eqb c 37 ≡ false
@@ -115,8 +105,7 @@ chars_of_tokens_are_scalars [] e = refl
 chars_of_tokens_are_scalars (t ∷ ts) e =
     let p = and_parts (is_printable t) (list_all is_printable ts) e in
     scalars-append (chars_of_token t) (flat_map chars_of_token ts)
-    (chars_of_token_are_scalars t p.0)
-    (chars_of_tokens_are_scalars ts p.1)
+    (chars_of_token_are_scalars t p.0) (chars_of_tokens_are_scalars ts p.1)
 
 -- printing tokens: the characters of written tokens are those of each token
 pub chars_of_printed_tokens : (ts : List Token) → list_all is_printable ts ≡ true
@@ -140,8 +129,7 @@ printed_tokens_are_utf8 ts e = (
 
 -- printing tokens: a set allows the text that is written of them if it allows them
 pub printed_tokens_are_valid_iff_allowed : (set : TableSet) (ts : List Token)
-    → list_all is_printable ts ≡ true
-    → is_valid_for set (print ts) ≡ list_all (allows_token set) ts
+    → list_all is_printable ts ≡ true → is_valid_for set (print ts) ≡ list_all (allows_token set) ts
 unfolding is_valid_for
 printed_tokens_are_valid_iff_allowed set ts e = ap (list_all (allows_token set))
     (printed_tokens_parse_to_themselves ts e)

@@ -1,6 +1,6 @@
 -- A text represents at most one list of characters and octets: its tokens.
-use Rattle.std.proofs.Common.{◌≡◌, ℕ, ◌+◌, ◌*◌, true, eqb, List, [], ◌∷◌, ◌++◌, refl}
-use Rattle.std.proofs.Common.{sym, ap, subst, ◌∙◌, ⊎_elim, lit<}
+use Rattle.std.proofs.Common.{◌≡◌, ℕ, ◌+◌, ◌*◌, true, eqb, List, [], ◌∷◌, ◌++◌, refl, sym, ap}
+use Rattle.std.proofs.Common.{subst, ◌∙◌, ⊎_elim, lit<, arith}
 use Rattle.std.specs.Prelude.{◌↔◌}
 use Rattle.std.specs.List.{list_all}
 use Rattle.std.specs.Char.{IsScalar, encode_utf8, digit_value, is_ascii_hexdigit}
@@ -19,6 +19,7 @@ use Rattle.uri_pct.proofs.UnreservedDecoding.Printing.{char_but_percent_is_its_o
 use Rattle.uri_pct.proofs.Unicode.Characters.{hexdigit_is_ascii}
 use Rattle.uri_pct.proofs.ValidTexts.Allowed.{valid_text_has_printable_tokens}
 use Rattle.uri_pct.proofs.ValidTexts.TokenCuts.{ascii_byte_is_first_of_chars}
+use Rattle.std.proofs.lemmas.Bool.Decides.{nat_tests}
 
 -- tokens printed and read: a character before any bytes is the first of their characters
 first_encoded_char_is_first_of_chars : (c : ℕ) (rest : List ℕ) → IsScalar c
@@ -30,28 +31,20 @@ first_encoded_char_is_first_of_chars c rest scalar = chars-append (encode_utf8 c
 
 -- tokens printed and read: a `%` and two hexadecimal digits at the start are an octet
 octet_text_is_first_token : (high low : ℕ) (rest : List ℕ) → is_ascii_hexdigit high ≡ true
-    → is_ascii_hexdigit low ≡ true
-    → tokens (37 ∷ high ∷ low ∷ rest)
+    → is_ascii_hexdigit low ≡ true → tokens (37 ∷ high ∷ low ∷ rest)
     ≡ Octet (16 * digit_value high + digit_value low) ∷ tokens rest
 unfolding tokens_from_chars is_pct_encoded
 octet_text_is_first_token high low rest h l =
-    ap tokens_from_chars (ascii_byte_is_first_of_chars 37 (high ∷ low ∷ rest) (lit< tt)
-    ∙ ap (λ x. 37 ∷ x) (ascii_byte_is_first_of_chars high (low ∷ rest) (hexdigit_is_ascii high h)
-    ∙ ap (λ x. high ∷ x) (ascii_byte_is_first_of_chars low rest (hexdigit_is_ascii low l))))
-    ∙ cond-true _ _ _ (and_from _ _ h l)
+    grind (arith, nat_tests, ascii_byte_is_first_of_chars, hexdigit_is_ascii)
 
 -- tokens printed and read: a text that represents a token, at the start, is read as it
 text_of_represented_token_is_first_token : (t : Token) (first rest : List ℕ)
-    → RepresentsToken first t
-    → tokens (first ++ rest) ≡ t ∷ tokens rest
+    → RepresentsToken first t → tokens (first ++ rest) ≡ t ∷ tokens rest
 text_of_represented_token_is_first_token (Char c) first rest h = ap (λ x. tokens (x ++ rest)) h.2
     ∙ ap tokens_from_chars (first_encoded_char_is_first_of_chars c rest h.0)
-    ∙ char_but_percent_is_its_own_token c (chars rest)
-    (ne_eqb c 37 h.1)
-text_of_represented_token_is_first_token (Octet value) first rest h = ap
-    (λ x. tokens (x ++ rest)) h.1.1.3
-    ∙ octet_text_is_first_token h.0 h.1.0 rest h.1.1.0 h.1.1.1
-    ∙ ap (λ n. Octet n ∷ tokens rest) (sym h.1.1.2)
+    ∙ char_but_percent_is_its_own_token c (chars rest) (ne_eqb c 37 h.1)
+text_of_represented_token_is_first_token (Octet value) first rest h =
+    grind (arith, nat_tests, octet_text_is_first_token)
 
 -- tokens printed and read: if a text represents some tokens, they are its tokens
 pub represented_tokens_are_tokens_of_text : (text : List ℕ) (ts : List Token) → Represents text ts
@@ -133,8 +126,7 @@ chars_represent_their_tokens (c ∷ high ∷ low ∷ cs) e = ⊎_elim
 
 -- tokens printed and read: if two digits follow each `%`, a text represents its tokens
 pub text_represents_its_printable_tokens : (text : List ℕ) → IsUtf8 text
-    → list_all is_printable (tokens text) ≡ true
-    → Represents text (tokens text)
+    → list_all is_printable (tokens text) ≡ true → Represents text (tokens text)
 text_represents_its_printable_tokens text u e =
     let same = ap chars (sym u.1.1) ∙ chars-encodes u.0 u.1.0 in
     let joined = chars_represent_their_tokens u.0
@@ -146,8 +138,7 @@ text_represents_its_printable_tokens text u e =
 -- tokens printed and read: a text is valid for a set
 -- exactly if it represents tokens that the set allows
 pub text_is_valid_iff_it_represents_allowed_tokens : (set : TableSet) (text : List ℕ)
-    → LacksPercent set → IsUtf8 text
-    → IsValidFor set text ↔ RepresentsWithin set text
+    → LacksPercent set → IsUtf8 text → IsValidFor set text ↔ RepresentsWithin set text
 unfolding is_valid_for
 text_is_valid_iff_it_represents_allowed_tokens set text lacks u = (
   λ e. (

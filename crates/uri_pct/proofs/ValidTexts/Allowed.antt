@@ -1,12 +1,12 @@
 -- If a set allows a text, its tokens and its decoded tokens are printable.
-use Rattle.std.proofs.Common.{◌≡◌, ℕ, ◌+◌, ◌*◌, ◌<◌, ◌≤◌, Bool, true, false, eqb, ltb, not, List}
-use Rattle.std.proofs.Common.{[], ◌∷◌, map, refl, sym, ap, ◌∙◌, arith, ◌&&◌, ⊎_elim, inl, inr, ◌⊎◌}
+use Rattle.std.proofs.Common.{◌≡◌, ℕ, ◌+◌, ◌*◌, ◌<◌, ◌≤◌, Bool, true, false, eqb, ltb, List}
+use Rattle.std.proofs.Common.{[], ◌∷◌, map, refl, sym, ap, ◌∙◌, arith, ◌&&◌, ⊎_elim, ◌⊎◌}
 use Rattle.std.specs.Char.{IsScalar, digit_value, is_ascii_hexdigit, to_ascii_lowercase}
 use Rattle.std.specs.Str.{all_scalars, chars}
 use Rattle.std.specs.List.{list_all}
 use Rattle.std.proofs.Math.Utf8.{low_scalar}
 use Rattle.std.proofs.lemmas.Bool.{cases_Bool, cond-true, cond-false, and_parts, and_from, or_cases}
-use Rattle.std.proofs.lemmas.Bool.{le-ltb, lt-ltb, not_from_false, not-true, ne_eqb, eqb-true}
+use Rattle.std.proofs.lemmas.Bool.{le-ltb, lt-ltb, not_from_false, ne_eqb, eqb-true}
 use Rattle.std.proofs.lemmas.Bool.{false≢true, false_from_ne_true, cases_lt}
 use Rattle.std.proofs.lemmas.Str.Ascii.{lowercase-lowercase}
 use Rattle.std.proofs.lemmas.Bool.Decides.{nat_tests}
@@ -50,8 +50,7 @@ pub allowed_char_is_printable : (set : TableSet) (c : ℕ) → LacksPercent set 
     → is_printable (Char c) ≡ true
 allowed_char_is_printable set c lacks e = ⊎_elim
     (λ h. let low : set.ascii c ≡ true = sym (cond-true _ _ _ (lt-ltb c 128 h)) ∙ e in
-    scalar_but_percent_is_printable c (low_scalar c (omega arith))
-    (false_from_ne_true _
+    scalar_but_percent_is_printable c (low_scalar c (omega arith)) (false_from_ne_true _
     (λ p. false≢true (sym lacks ∙ ap set.ascii (sym (eqb-true c 37 p)) ∙ low))))
     (λ h. let p = allowed_past_ascii_is_scalar set c (sym (cond-false _ _ _ (le-ltb c 128 h))
     ∙ e) in
@@ -78,10 +77,8 @@ decodable_char_is_printable set c e = ⊎_elim
 pub decodable_char_is_allowed : (set : TableSet) (c : ℕ) → IsSubset unreserved_set set
     → is_decodable set c ≡ true → allows set c ≡ true
 unfolding is_decodable
-decodable_char_is_allowed set c wide e = ⊎_elim
-    (λ u. cond-true _ _ _ (lt-ltb c 128 (unreserved_is_ascii c u)) ∙ wide.ascii c u)
-    (λ p. cond-false _ _ _ (le-ltb c 128 (allowed_past_ascii_is_scalar set c p).0) ∙ p)
-    (or_cases (is_unreserved c) (allows_past_ascii set c) e)
+decodable_char_is_allowed set c wide e =
+    grind (arith, nat_tests, unreserved_is_ascii, allowed_past_ascii_is_scalar)
 
 -- tokens of valid texts: the token is a character, or an octet of a byte
 is_char_or_byte_value : Token → Bool
@@ -121,8 +118,7 @@ octet_values_are_bytes (c ∷ high ∷ low ∷ rest) =
 
 -- tokens of valid texts: one that a set allows can be written
 allowed_token_is_printable : (set : TableSet) (t : Token) → LacksPercent set
-    → allows_token set t ≡ true
-    → is_char_or_byte_value t ≡ true → is_printable t ≡ true
+    → allows_token set t ≡ true → is_char_or_byte_value t ≡ true → is_printable t ≡ true
 unfolding is_char_or_byte_value
 allowed_token_is_printable set (Char c) lacks e b = allowed_char_is_printable set c lacks e
 allowed_token_is_printable set (Octet value) lacks e b = b
@@ -140,8 +136,7 @@ allowed_tokens_are_printable set (t ∷ ts) lacks e b =
 
 -- tokens of valid texts: those of a text that a set without `%` allows can be written
 pub valid_text_has_printable_tokens : (set : TableSet) (text : List ℕ) → LacksPercent set
-    → IsValidFor set text
-    → list_all is_printable (tokens text) ≡ true
+    → IsValidFor set text → list_all is_printable (tokens text) ≡ true
 unfolding is_valid_for
 valid_text_has_printable_tokens set text lacks valid =
     allowed_tokens_are_printable set (tokens text) lacks valid (octet_values_are_bytes (chars text))
@@ -154,30 +149,21 @@ lowered_char_is_printable c s e = grind (arith, nat_tests)
 -- tokens of valid texts: one that can be written can be in lower case
 lowered_token_is_printable : (t : Token) → is_printable t ≡ true → is_printable (lower_token t)
     ≡ true
-lowered_token_is_printable (Char c) e =
-    let p = and_parts (all_scalars (c ∷ [])) (not (eqb c 37)) e in
-    lowered_char_is_printable c p.0 (not-true _ p.1)
+lowered_token_is_printable (Char c) e = grind (arith, nat_tests, lowered_char_is_printable)
 lowered_token_is_printable (Octet value) e = e
 
 -- characters of valid texts: a letter in lower case is unreserved, and every other character stays
 lowered_char_is_the_same_or_unreserved : (c : ℕ) → (to_ascii_lowercase c ≡ c)
     ⊎ (is_unreserved (to_ascii_lowercase c) ≡ true)
-lowered_char_is_the_same_or_unreserved c = ⊎_elim (λ h. inl (cond-true _ _ _ (lt-ltb c 65 h))) (λ l.
-    ⊎_elim (λ h. inr (grind (arith, nat_tests)))
-    (λ k. inl (cond-false _ _ _ (le-ltb c 65 l) ∙ cond-false _ _ _ (le-ltb c 91 k)))
-    (cases_lt c 91))
-    (cases_lt c 65)
+lowered_char_is_the_same_or_unreserved c = grind (arith, nat_tests)
 
 -- tokens of valid texts: one that a set allows is allowed
 -- in lower case, if it has the unreserved characters
 lowered_token_is_allowed : (set : TableSet) (t : Token) → IsSubset unreserved_set set
     → allows_token set t ≡ true → allows_token set (lower_token t) ≡ true
 lowered_token_is_allowed set (Octet value) wide e = e
-lowered_token_is_allowed set (Char c) wide e = ⊎_elim
-    (λ same. ap (allows set) same ∙ e)
-    (λ u. cond-true _ _ _ (lt-ltb (to_ascii_lowercase c) 128
-    (unreserved_is_ascii (to_ascii_lowercase c) u)) ∙ wide.ascii (to_ascii_lowercase c) u)
-    (lowered_char_is_the_same_or_unreserved c)
+lowered_token_is_allowed set (Char c) wide e =
+    grind (arith, nat_tests, unreserved_is_ascii, lowered_char_is_the_same_or_unreserved)
 
 -- general fact on lists of tokens, for valid texts:
 -- if lowering a token keeps a test, lowering all tokens keeps it
@@ -200,16 +186,13 @@ pub lowered_tokens_are_allowed : (set : TableSet) (ts : List Token) → IsSubset
     → list_all (allows_token set) ts ≡ true
     → list_all (allows_token set) (map lower_token ts) ≡ true
 lowered_tokens_are_allowed set ts wide e = lowered_tokens_pass_kept_test (allows_token set)
-    (λ t h. lowered_token_is_allowed set t wide h) ts
-    e
+    (λ t h. lowered_token_is_allowed set t wide h) ts e
 
 -- tokens of valid texts: lower case twice is lower case once
 pub lowering_tokens_is_idempotent : (ts : List Token) → map lower_token (map lower_token ts)
     ≡ map lower_token ts
 lowering_tokens_is_idempotent [] = refl
-lowering_tokens_is_idempotent (Char c ∷ ts) = ap
-    (λ d. Char d ∷ map lower_token (map lower_token ts))
-    (lowercase-lowercase c)
-    ∙ ap (λ x. Char (to_ascii_lowercase c) ∷ x) (lowering_tokens_is_idempotent ts)
+lowering_tokens_is_idempotent (Char c ∷ ts) =
+    grind (arith, nat_tests, lowercase-lowercase, lowering_tokens_is_idempotent ts)
 lowering_tokens_is_idempotent (Octet value ∷ ts) = ap (λ x. Octet value ∷ x)
     (lowering_tokens_is_idempotent ts)

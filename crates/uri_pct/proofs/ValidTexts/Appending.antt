@@ -24,8 +24,7 @@ allowed_char_is_not_percent set c lacks e = false_from_ne_true _
 
 module _ (set : TableSet) (lacks : LacksPercent set) where
   tokens_of_chars_after_allowed_chars : (cs ds : List ℕ)
-      → list_all (allows_token set) (tokens_from_chars cs)
-      ≡ true
+      → list_all (allows_token set) (tokens_from_chars cs) ≡ true
       → tokens_from_chars (cs ++ ds) ≡ tokens_from_chars cs ++ tokens_from_chars ds
   unfolding tokens_from_chars
   tokens_of_chars_after_allowed_chars [] ds e = refl
@@ -35,8 +34,7 @@ module _ (set : TableSet) (lacks : LacksPercent set) where
   tokens_of_chars_after_allowed_chars (c ∷ d ∷ []) ds e =
       let p = and_parts (allows set c) (allows set d && true) e in
       char_but_percent_is_its_own_token c (d ∷ ds) (allowed_char_is_not_percent set c lacks p.0)
-      ∙ ap (λ ts. Char c ∷ ts)
-      (char_but_percent_is_its_own_token d ds
+      ∙ ap (λ ts. Char c ∷ ts) (char_but_percent_is_its_own_token d ds
       (allowed_char_is_not_percent set d lacks (and_parts (allows set d) true p.1).0))
   tokens_of_chars_after_allowed_chars (c ∷ high ∷ low ∷ cs) ds e = ⊎_elim
       (λ o.
@@ -59,8 +57,7 @@ module _ (set : TableSet) (lacks : LacksPercent set) where
       ∙ tokens_of_chars_after_allowed_chars (chars xs) (chars ys) e
 
   pub valid_text_after_valid_text_is_valid : (xs ys : List ℕ) → IsUtf8 xs → IsValidFor set xs
-      → IsValidFor set ys
-      → IsValidFor set (xs ++ ys)
+      → IsValidFor set ys → IsValidFor set (xs ++ ys)
   unfolding is_valid_for
   valid_text_after_valid_text_is_valid xs ys u e f =
       ap (list_all (allows_token set)) (tokens_of_text_after_valid_text xs ys u e)
@@ -74,8 +71,7 @@ module _ (set : TableSet) (lacks : LacksPercent set) where
       ∙ ap (λ us. tokens xs ++ us) (printed_tokens_parse_to_themselves ts p)
 
   pub printed_tokens_after_valid_text_are_valid : (xs : List ℕ) (ts : List Token) → IsUtf8 xs
-      → IsValidFor set xs
-      → list_all is_printable ts ≡ true → list_all (allows_token set) ts ≡ true
+      → IsValidFor set xs → list_all is_printable ts ≡ true → list_all (allows_token set) ts ≡ true
       → IsValidFor set (xs ++ print ts)
   printed_tokens_after_valid_text_are_valid xs ts u e p a =
       valid_text_after_valid_text_is_valid xs (print ts) u e

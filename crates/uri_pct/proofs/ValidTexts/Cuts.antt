@@ -12,7 +12,7 @@ use Rattle.std.proofs.lemmas.List.Sums.{prefix_len_is}
 use Rattle.std.proofs.lemmas.List.{take_all}
 use Rattle.std.proofs.lemmas.Bool.{cases_Bool, cond-true, cond-false}
 use Rattle.std.proofs.lemmas.Bool.{and_left, and_right, and_from, and_parts, eqb-true}
-use Rattle.std.proofs.lemmas.Bool.{ltb-true, not_from_false, not-true, both_ways, false≢true}
+use Rattle.std.proofs.lemmas.Bool.{ltb-true, not_from_false, not-true, false≢true}
 use Rattle.std.proofs.lemmas.Bool.Decides.{nat_tests}
 use Rattle.uri_pct.specs.Sets.{TableSet, LacksPercent, is_one_of}
 use Rattle.uri_pct.specs.Tokens.{is_valid_for}
@@ -59,25 +59,21 @@ module _ (set : TableSet) where
       (is_ascii_hexdigit b) (eqb b 37) e
 
   each_excluded_mark_is_excluded : (marks : List ℕ) → excludes set marks ≡ true → (b : ℕ)
-      → is_one_of marks b ≡ true
-      → is_excluded set b ≡ true
+      → is_one_of marks b ≡ true → is_excluded set b ≡ true
   each_excluded_mark_is_excluded marks e b m = test_holds_of_each (is_excluded set) marks e b m
 
   excluded_mark_is_ascii : (marks : List ℕ) → excludes set marks ≡ true → (b : ℕ)
-      → is_one_of marks b ≡ true
-      → b < 128
+      → is_one_of marks b ≡ true → b < 128
   excluded_mark_is_ascii marks e b m = ltb-true b 128
       (excluded_byte_is_ascii_outside_set b (each_excluded_mark_is_excluded marks e b m)).0
 
   excluded_mark_is_not_in_set : (marks : List ℕ) → excludes set marks ≡ true → (b : ℕ)
-      → is_one_of marks b ≡ true
-      → set.ascii b ≡ false
+      → is_one_of marks b ≡ true → set.ascii b ≡ false
   excluded_mark_is_not_in_set marks e b m =
       (excluded_byte_is_ascii_outside_set b (each_excluded_mark_is_excluded marks e b m)).1
 
   excluded_mark_is_no_hexdigit : (marks : List ℕ) → excludes set marks ≡ true → (b : ℕ)
-      → is_one_of marks b ≡ true
-      → is_ascii_hexdigit b ≡ false
+      → is_one_of marks b ≡ true → is_ascii_hexdigit b ≡ false
   excluded_mark_is_no_hexdigit marks e b m =
       (excluded_byte_is_ascii_outside_set b (each_excluded_mark_is_excluded marks e b m)).2
 
@@ -102,8 +98,7 @@ cond_is_at_most_bound_of_both false x y m f g = g refl
 
 -- scanning: how far a scan goes, by the first byte: it passes an octet or a character, or stops
 pub valid_prefix_by_first_byte : (set : TableSet) (b : ℕ) (bs : List ℕ)
-    → valid_prefix_from set 0 (b ∷ bs)
-    ≡ cond (set.pct_encoded && eqb b 37)
+    → valid_prefix_from set 0 (b ∷ bs) ≡ cond (set.pct_encoded && eqb b 37)
     (cond (begins_with_hex_digits bs) (valid_prefix_from set 2 bs + 1) 0)
     (cond (allows_first set b bs) (valid_prefix_from set (continuation_len b) bs + 1) 0)
 unfolding valid_prefix_from
@@ -125,8 +120,7 @@ module _ (marks : List ℕ) (set : TableSet) (lacks : LacksPercent set)
       (cases_Bool (is_one_of marks b))
 
   cut_at_mark_keeps_two_hexdigits : (bs : List ℕ)
-      → begins_with_hex_digits (take (length_before_marks marks bs) bs)
-      ≡ begins_with_hex_digits bs
+      → begins_with_hex_digits (take (length_before_marks marks bs) bs) ≡ begins_with_hex_digits bs
   unfolding begins_with_hex_digits
   cut_at_mark_keeps_two_hexdigits [] = refl
   cut_at_mark_keeps_two_hexdigits (b ∷ bs) =
@@ -137,9 +131,7 @@ module _ (marks : List ℕ) (set : TableSet) (lacks : LacksPercent set)
       (cases_Bool (is_one_of marks b))
 
   hexdigit_is_no_excluded_mark : (b : ℕ) → is_ascii_hexdigit b ≡ true → is_one_of marks b ≡ false
-  hexdigit_is_no_excluded_mark b h = ⊎_elim
-      (λ m. absurd (both_ways _ (excluded_mark_is_no_hexdigit set marks outside b m) h)) (λ m. m)
-      (cases_Bool (is_one_of marks b))
+  hexdigit_is_no_excluded_mark b h = grind (arith, nat_tests, excluded_mark_is_no_hexdigit)
 
   -- two digits are no marks
   hex_digits_hold_no_mark : (bs : List ℕ) → begins_with_hex_digits bs ≡ true
@@ -177,8 +169,7 @@ module _ (marks : List ℕ) (set : TableSet) (lacks : LacksPercent set)
       ∙ ap set.ascii d ∙ lacks
 
   stray_percent_before_cut_is_valid_iff_scanned : (b : ℕ) (bs : List ℕ)
-      → (set.pct_encoded && eqb b 37) ≡ true
-      → begins_with_hex_digits bs ≡ false
+      → (set.pct_encoded && eqb b 37) ≡ true → begins_with_hex_digits bs ≡ false
       → valid_from set 0 (b ∷ take (length_before_marks marks bs) bs)
       ≡ eqb (valid_prefix_from set 0 (b ∷ bs)) (suc (length_before_marks marks bs))
   stray_percent_before_cut_is_valid_iff_scanned b bs o h =
@@ -251,19 +242,13 @@ module _ (marks : List ℕ) (set : TableSet) (lacks : LacksPercent set)
       → valid_prefix_from set (continuation_len b) bs ≤ length_before_marks marks bs
       → valid_prefix_from set 0 (b ∷ bs) ≤ suc (length_before_marks marks bs)
   valid_prefix_with_first_byte_ends_by_mark b bs two one =
-      let m = length_before_marks marks bs in
-      let k = continuation_len b in
-      rw (valid_prefix_by_first_byte set b bs)
-      (cond_is_at_most_bound_of_both (set.pct_encoded && eqb b 37)
-      (cond (begins_with_hex_digits bs) (valid_prefix_from set 2 bs + 1) 0)
-      (cond (allows_first set b bs) (valid_prefix_from set k bs + 1) 0) (suc m)
-      (λ o. cond_is_at_most_bound_of_both (begins_with_hex_digits bs)
-      (valid_prefix_from set 2 bs + 1) 0 (suc m)
-      (λ h. let l = two o h in omega arith) (λ _. omega arith))
-      (λ _. cond_is_at_most_bound_of_both (allows_first set b bs) (valid_prefix_from set k bs + 1) 0
-      (suc m)
-      (λ _. omega arith)
-      (λ _. omega arith)))
+      grind (
+        arith,
+        nat_tests,
+        length_before_marks,
+        valid_prefix_by_first_byte,
+        cond_is_at_most_bound_of_both,
+      )
 
   valid_prefix_from_ends_by_mark : (k : ℕ) (bs : List ℕ) → passes_no_mark_within_chars marks k bs
       ≡ true
@@ -279,8 +264,7 @@ module _ (marks : List ℕ) (set : TableSet) (lacks : LacksPercent set)
       (λ e. rw (valid_prefix_at_mark_is_empty b bs e) (omega arith))
       (λ e. rw (length_before_marks_counts_other_byte marks b bs e)
       (valid_prefix_with_first_byte_ends_by_mark b bs
-      (λ o h. valid_prefix_from_ends_by_mark 2 bs
-      (hex_digits_hold_no_mark bs h
+      (λ o h. valid_prefix_from_ends_by_mark 2 bs (hex_digits_hold_no_mark bs h
       (skips_after_percent_begins_anew marks b bs (and_parts _ _ o).1 s)))
       (valid_prefix_from_ends_by_mark (continuation_len b) bs s)))
       (cases_Bool (is_one_of marks b))
@@ -309,8 +293,7 @@ length_before_no_marks_is_length text = prefix_len_is (λ c. not (is_one_of [] c
 
 -- scanning: a text is valid exactly if it is scanned to its end
 pub is_valid_for_is_scanned_to_end : (set : TableSet) (text : List ℕ) → LacksPercent set
-    → IsUtf8 text
-    → is_valid_for set text ≡ eqb (valid_prefix set text) (length text)
+    → IsUtf8 text → is_valid_for set text ≡ eqb (valid_prefix set text) (length text)
 is_valid_for_is_scanned_to_end set text lacks u =
     ap (is_valid_for set) (sym (take_all (length text) text (omega arith))
     ∙ ap (λ n. take n text) (sym (length_before_no_marks_is_length text)))

@@ -11,6 +11,7 @@ use Rattle.std.proofs.lemmas.List.{take-append-drop}
 use Rattle.std.proofs.lemmas.Str.Pattern.{IsSplitOnceResult, split_parts, NoCharPasses-char}
 use Rattle.std.proofs.lemmas.Str.Pattern.{drop_at_char}
 use Rattle.uri_pct.specs.Texts.{lacks, is_absolute, IsCutAtFirst, IsCutAtLast}
+use Rattle.std.proofs.lemmas.Bool.Decides.{nat_tests}
 
 -- general fact on lists of bytes, for splitting
 -- at a delimiter: a text lacks a byte that is at none of its indices
@@ -40,8 +41,7 @@ split_once_cuts_at_first d bs (Some x) h small = let p = split_parts d bs (Some 
 pub rsplit_once_cuts_at_last : (d : ℕ) (bs : List ℕ) (r : Option (Bor (List ℕ) × Bor (List ℕ)))
     → MatchOption r (RFindsChar d bs None)
     (λ x. SplitsAroundMatch (RFindsChar d) bs x.0.now x.1.now)
-    → d < 128
-    → MatchOption r (lacks d bs ≡ true) (λ x. IsCutAtLast d bs x.0.now x.1.now)
+    → d < 128 → MatchOption r (lacks d bs ≡ true) (λ x. IsCutAtLast d bs x.0.now x.1.now)
 rsplit_once_cuts_at_last d bs None h small = byte_at_no_index_is_lacked d bs
     (λ i l. NoCharPasses-char d bs i h small l)
 rsplit_once_cuts_at_last d bs (Some x) h small =
@@ -97,9 +97,7 @@ pub split_piece_before_first_delimiter_is_first : (d : ℕ) (text piece rest : L
     → IsCutAtFirst d text piece rest
     → slice_split (λ b. eqb b d) text ≡ piece ∷ slice_split (λ b. eqb b d) rest
 split_piece_before_first_delimiter_is_first d text piece rest cut =
-    ap (slice_split (λ b. eqb b d)) cut.0 ∙ delimiter_separates_split_pieces d piece rest
-    ∙ ap (λ ps. ps ++ slice_split (λ b. eqb b d) rest)
-    (text_without_delimiter_is_one_piece d piece cut.1)
+    grind (arith, nat_tests, delimiter_separates_split_pieces, text_without_delimiter_is_one_piece)
 
 -- splitting at a delimiter d: the pieces of a text are those of what is before the last d,
 -- and what is after it (piece)
@@ -107,17 +105,13 @@ pub split_piece_after_last_delimiter_is_last : (d : ℕ) (text rest piece : List
     → IsCutAtLast d text rest piece
     → slice_split (λ b. eqb b d) text ≡ slice_split (λ b. eqb b d) rest ++ piece ∷ []
 split_piece_after_last_delimiter_is_last d text rest piece cut =
-    ap (slice_split (λ b. eqb b d)) cut.0 ∙ delimiter_separates_split_pieces d rest piece
-    ∙ ap (λ ps. slice_split (λ b. eqb b d) rest ++ ps)
-    (text_without_delimiter_is_one_piece d piece cut.1)
+    grind (arith, nat_tests, delimiter_separates_split_pieces, text_without_delimiter_is_one_piece)
 
 -- splitting at a delimiter d: another byte x before the first piece leaves all without d
 onto_first_keeps_pieces_without_delimiter : (d x : ℕ) (piece : List ℕ) (pieces all : List (List ℕ))
     → all ≡ piece ∷ pieces
     → eqb x d ≡ false → list_all (lacks d) all ≡ true → list_all (lacks d) (onto_first x all) ≡ true
-onto_first_keeps_pieces_without_delimiter d x piece pieces all e other h =
-    let p = and_parts (lacks d piece) _ (sym (ap (list_all (lacks d)) e) ∙ h) in
-    rw e (and_from _ _ (and_from _ _ (not_from_false _ other) p.0) p.1)
+onto_first_keeps_pieces_without_delimiter d x piece pieces all e other h = grind (arith, nat_tests)
 
 -- splitting at a delimiter d: no piece has the delimiter
 pub substrings_lack_delimiter : (d : ℕ) (text : List ℕ)

@@ -1,17 +1,15 @@
 -- Texts that are valid for a set.
-use Rattle.std.proofs.Common.{◌≡◌, ℕ, ◌<◌, true, List, [], ◌∷◌, refl, sym, ◌∙◌, ◌&&◌, ⊎_elim}
+use Rattle.std.proofs.Common.{◌≡◌, ℕ, ◌<◌, true, List, [], ◌∷◌, refl, sym, ◌∙◌, ⊎_elim, arith}
 use Rattle.std.specs.List.{list_all}
 use Rattle.std.specs.Str.{chars}
-use Rattle.std.proofs.lemmas.Bool.{and_parts, and_from, or_cases, or_left, or_right, lt-ltb}
-use Rattle.std.proofs.lemmas.Bool.{cases_lt}
-use Rattle.uri_pct.specs.Sets.{TableSet, IsSubset, allows, allows_past_ascii, is_ucschar}
-use Rattle.uri_pct.specs.Sets.{is_iprivate}
+use Rattle.std.proofs.lemmas.Bool.{and_parts, and_from, lt-ltb, cases_lt}
+use Rattle.uri_pct.specs.Sets.{TableSet, IsSubset, allows, allows_past_ascii}
 use Rattle.uri_pct.specs.Tokens.{Token, Char, Octet, allows_token, is_valid_for, tokens}
-use Rattle.uri_pct.specs.Tokens.{tokens_from_chars}
-use Rattle.uri_pct.specs.Tokens.{text_of_token}
+use Rattle.uri_pct.specs.Tokens.{tokens_from_chars, text_of_token}
 use Rattle.uri_pct.proofs.UnreservedDecoding.Printing.{printed_tokens_are_valid_iff_allowed}
 use Rattle.uri_pct.proofs.ValidTexts.Validity.{ascii_char_is_allowed_iff_in_set}
 use Rattle.uri_pct.proofs.ValidTexts.Validity.{char_past_ascii_is_allowed_by_flags}
+use Rattle.std.proofs.lemmas.Bool.Decides.{nat_tests}
 
 -- valid texts: the empty text is valid for every set
 pub empty_text_is_valid : (set : TableSet) → is_valid_for set [] ≡ true
@@ -20,15 +18,9 @@ empty_text_is_valid set = refl
 
 -- valid texts: a greater set t has the characters past ASCII of s
 superset_allows_same_past_ascii : (s t : TableSet) (c : ℕ) → IsSubset s t
-    → allows_past_ascii s c ≡ true
-    → allows_past_ascii t c ≡ true
+    → allows_past_ascii s c ≡ true → allows_past_ascii t c ≡ true
 unfolding allows_past_ascii
-superset_allows_same_past_ascii s t c subset e = ⊎_elim
-    (λ u. let p = and_parts s.ucschar (is_ucschar c) u in
-    or_left _ _ (and_from _ _ (subset.ucschar p.0) p.1))
-    (λ u. let p = and_parts s.iprivate (is_iprivate c) u in
-    or_right _ _ (and_from _ _ (subset.iprivate p.0) p.1))
-    (or_cases (s.ucschar && is_ucschar c) (s.iprivate && is_iprivate c) e)
+superset_allows_same_past_ascii s t c subset e = grind (arith, nat_tests)
 
 -- valid texts: a greater set t has the characters of s
 superset_allows_same_char : (s t : TableSet) (c : ℕ) → IsSubset s t → allows s c ≡ true
@@ -55,8 +47,7 @@ tokens_allowed_by_superset s t (Octet value ∷ ts) subset e =
 
 -- valid texts: one that is valid for a set is valid for every larger one
 pub valid_for_superset : (s t : TableSet) (text : List ℕ) → IsSubset s t
-    → is_valid_for s text ≡ true
-    → is_valid_for t text ≡ true
+    → is_valid_for s text ≡ true → is_valid_for t text ≡ true
 unfolding is_valid_for
 valid_for_superset s t text subset e = tokens_allowed_by_superset s t (tokens text) subset e
 

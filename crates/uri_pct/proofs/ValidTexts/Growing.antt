@@ -44,8 +44,7 @@ subset_lacks_percent sub set subset lacks =
 
 -- owned valid texts: with encoded text after it, one is valid, and has the encoded tokens more
 pub grows_by_encoded_text : (set sub : TableSet) (old new text : List ℕ) → LacksPercent set
-    → IsSubset sub set
-    → sub.pct_encoded ≡ true → IsUtf8 old → IsUtf8 text → IsValidFor set old
+    → IsSubset sub set → sub.pct_encoded ≡ true → IsUtf8 old → IsUtf8 text → IsValidFor set old
     → new ≡ old ++ print (encode_text sub text) → Grows set old (encode_text sub text) new
 grows_by_encoded_text set sub old new text lacks subset o u v valid e =
     grows_by_tokens set old new (encode_text sub text) lacks u valid

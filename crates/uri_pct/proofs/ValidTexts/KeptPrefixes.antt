@@ -5,8 +5,7 @@ use Rattle.std.proofs.Common.{⊎_elim, append_assoc}
 use Rattle.std.specs.Char.{encode_utf8, len_utf8}
 use Rattle.std.specs.Str.{encode_utf8_all, all_scalars, IsUtf8, IsCharBoundary}
 use Rattle.std.proofs.Math.Seq.{take-append-add, drop-append-add}
-use Rattle.std.proofs.lemmas.Bool.{cases_Bool, cases_lt, cond-true, cond-false, and_parts}
-use Rattle.std.proofs.lemmas.Bool.{both_ways}
+use Rattle.std.proofs.lemmas.Bool.{cases_Bool, cond-true, cond-false, and_parts}
 use Rattle.std.proofs.lemmas.List.{append-nil, drop-drop, drop_all, map-append}
 use Rattle.std.proofs.lemmas.Str.{length-encode, IsUtf8-drop}
 use Rattle.uri_pct.specs.Sets.{TableSet, allows, allows_past_ascii}
@@ -21,6 +20,7 @@ use Rattle.uri_pct.proofs.EncodedTexts.Encodings.{slice_with_one_more_char}
 use Rattle.uri_pct.proofs.EncodedTexts.Encodings.{empty_text_is_encoded_as_nothing}
 use Rattle.uri_pct.proofs.ValidTexts.Prefixes.{nothing_is_scanned_after_valid_prefix}
 use Rattle.uri_pct.proofs.ValidTexts.PrefixSteps.{valid_prefix_by_first_char}
+use Rattle.std.proofs.lemmas.Bool.Decides.{nat_tests}
 
 -- valid prefixes: the set that allows the same characters, and no octets
 abbrev pub set_without_octets : TableSet → TableSet
@@ -28,13 +28,11 @@ set_without_octets set = record set { pct_encoded = false }
 
 -- valid prefixes: how far literal characters are kept as they are, by the first character
 literal_prefix_by_first_char : (set : TableSet) (text rest : List ℕ) (c : ℕ) → IsUtf8 text
-    → text ≡ encode_utf8 c ++ rest
-    → valid_prefix (set_without_octets set) text
+    → text ≡ encode_utf8 c ++ rest → valid_prefix (set_without_octets set) text
     ≡ cond (allows set c) (valid_prefix (set_without_octets set) rest + len_utf8 c) 0
 unfolding allows_past_ascii
 literal_prefix_by_first_char set text rest c u e = valid_prefix_by_first_char
-    (set_without_octets set) text
-    rest c u e refl
+    (set_without_octets set) text rest c u e refl
 
 -- valid prefixes: so many bytes at the start of the text are encoded as they are
 abbrev IsKept : TableSet → List ℕ → ℕ → Type 0
@@ -71,8 +69,7 @@ literal_prefix_of_chars_is_kept set (c ∷ cs) s =
     ⊎_elim
     (λ a. subst (IsKept set text) (sym (first ∙ cond-true _ _ _ a))
     (kept_run_with_allowed_char_before_is_kept set c (valid_prefix (set_without_octets set) rest)
-    rest u a
-    (literal_prefix_of_chars_is_kept set cs (and_parts _ (all_scalars cs) s).1)))
+    rest u a (literal_prefix_of_chars_is_kept set cs (and_parts _ (all_scalars cs) s).1)))
     (λ a. subst (IsKept set text) (sym (first ∙ cond-false _ _ _ a)) refl)
     (cases_Bool (allows set c))
 
@@ -85,8 +82,7 @@ literal_prefix_of_text_is_kept set text u = subst
 
 -- valid prefixes: the run of allowed characters from `start` on is encoded as itself
 pub allowed_run_is_encoded_as_itself : (set : TableSet) (text : List ℕ) (start end : ℕ)
-    → IsUtf8 text
-    → IsCharBoundary text start → end
+    → IsUtf8 text → IsCharBoundary text start → end
     ≡ start + valid_prefix (set_without_octets set) (drop start text)
     → IsEncodedBy (λ bytes. bytes) set text start end
 allowed_run_is_encoded_as_itself set text start end u here e =
@@ -99,11 +95,7 @@ allowed_run_is_encoded_as_itself set text start end u here e =
 
 -- valid prefixes: a character has a byte at least
 utf8_length_of_char_is_positive : (c : ℕ) → 0 < len_utf8 c
-utf8_length_of_char_is_positive c =
-    let w = char_has_encoding c in
-    let n : len_utf8 c ≡ length w.more + 1 = sym (length-encode c) ∙ ap length w.joined
-    ∙ omega arith in
-    omega arith
+utf8_length_of_char_is_positive c = grind (arith, nat_tests, char_has_encoding, length-encode)
 
 -- general fact on numbers, for lengths of valid prefixes
 sum_with_positive_is_not_zero : (n k : ℕ) → 0 < k → n + k ≡ 0 → ⊥
@@ -111,8 +103,7 @@ sum_with_positive_is_not_zero n k h e = omega arith
 
 -- valid prefixes: the character after the run of allowed characters is not allowed
 pub char_after_allowed_run_is_not_allowed : (set : TableSet) (text rest : List ℕ) (start end c : ℕ)
-    → IsUtf8 text
-    → IsCharBoundary text end → end
+    → IsUtf8 text → IsCharBoundary text end → end
     ≡ start + valid_prefix (set_without_octets set) (drop start text)
     → drop end text ≡ encode_utf8 c ++ rest → allows set c ≡ false
 char_after_allowed_run_is_not_allowed set text rest start end c u here e joined =
@@ -123,8 +114,7 @@ char_after_allowed_run_is_not_allowed set text rest start end c u here e joined 
     ∙ nothing_is_scanned_after_valid_prefix (set_without_octets set) (drop start text) in
     ⊎_elim
     (λ a. absurd (sum_with_positive_is_not_zero (valid_prefix (set_without_octets set) rest)
-    (len_utf8 c) (utf8_length_of_char_is_positive c)
-    (sym (cond-true _ _ _ a) ∙ sym
+    (len_utf8 c) (utf8_length_of_char_is_positive c) (sym (cond-true _ _ _ a) ∙ sym
     (literal_prefix_by_first_char set (drop end text) rest c (IsUtf8-drop text end u here) joined)
     ∙ none)))
     (λ a. a)
@@ -169,8 +159,7 @@ longer_run_is_encoded_as_octets set text start end next c u ordered joined place
     ∙ ap (λ x. x ++ rest) (sym (octets_of_joined_bytes part (encode_utf8 c))
     ∙ ap printed_octets (sym (slice_with_one_more_char text start end c ordered joined)))
     ∙ ap (λ k. printed_octets (take (k - start) (drop start text)) ++ print
-    (encode_text set (drop k text)))
-    (sym place)
+    (encode_text set (drop k text))) (sym place)
 
 -- valid prefixes: a run of characters that are encoded is not empty,
 -- as its first character is not allowed
@@ -178,14 +167,8 @@ pub disallowed_run_is_not_empty : (set : TableSet) (text : List ℕ) (start end 
     → drop end text ≡ encode_utf8 c ++ drop (end + len_utf8 c) text → allows set c ≡ true
     → ((d : ℕ) (rest : List ℕ) → drop start text ≡ encode_utf8 d ++ rest → allows set d ≡ false)
     → start < end
-disallowed_run_is_not_empty set text start end c ordered joined allowed first = ⊎_elim
-    (λ h. h)
-    (λ h.
-    let same : end ≡ start = omega arith in
-    absurd
-    (both_ways _ (first c (drop (end + len_utf8 c) text)
-    (ap (λ k. drop k text) (sym same) ∙ joined)) allowed))
-    (cases_lt start end)
+disallowed_run_is_not_empty set text start end c ordered joined allowed first =
+    grind (arith, nat_tests)
 
 -- valid prefixes: after a run that is kept and one that is encoded,
 -- what was appended and the rest, encoded, still make the whole
@@ -210,7 +193,4 @@ encoded_text_after_two_runs set out mid new text all start end next kept refused
 pub encoded_text_at_end : (set : TableSet) (out text all : List ℕ) (done : ℕ) → length text ≤ done
     → out ++ print (encode_text set (drop done text)) ≡ all → out ≡ all
 encoded_text_at_end set out text all done past whole =
-    let none : print (encode_text set (drop done text)) ≡ [] =
-    ap (λ x. print (encode_text set x)) (drop_all done text past)
-    ∙ empty_text_is_encoded_as_nothing set in
-    sym (append-nil out) ∙ ap (λ x. out ++ x) (sym none) ∙ whole
+    grind (arith, nat_tests, drop_all, empty_text_is_encoded_as_nothing, append-nil)

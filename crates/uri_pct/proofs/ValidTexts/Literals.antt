@@ -1,6 +1,6 @@
 -- A test of texts that computes at a literal, and what it implies.
-use Rattle.std.proofs.Common.{◌≡◌, ℕ, Bool, true, List, [], ◌∷◌, ◌&&◌, ap, sym, refl, ◌∙◌}
-use Rattle.std.proofs.Common.{⊎_elim}
+use Rattle.std.proofs.Common.{◌≡◌, ℕ, Bool, true, List, [], ◌∷◌, ◌&&◌, ap, sym, refl, ◌∙◌, ⊎_elim}
+use Rattle.std.proofs.Common.{arith}
 use Rattle.std.specs.Prelude.{◌==◌, not, nat_lt, if◌then◌else◌}
 use Rattle.std.specs.Char.{is_ascii_hexdigit}
 use Rattle.std.specs.Int.{is_in_range}
@@ -11,6 +11,7 @@ use Rattle.uri_pct.specs.Sets.{TableSet, allows, allows_past_ascii, is_ucschar}
 use Rattle.uri_pct.specs.Tokens.{tokens_from_chars, allows_token, is_pct_encoded, is_valid_for}
 use Rattle.uri_pct.specs.Tokens.{IsValidFor}
 use Rattle.uri_pct.proofs.UnreservedDecoding.Printing.{char_but_percent_is_its_own_token}
+use Rattle.std.proofs.lemmas.Bool.Decides.{nat_tests}
 
 -- valid literals: a set with `ucschar` allows U+00A0 to U+D7FF,
 -- its first range, which has the letters of most scripts
@@ -27,13 +28,7 @@ is_literal_char set c = if nat_lt c 128 then set.ascii c else set.ucschar
 -- valid literals: a character that passes the test of literals is in the set
 literal_char_is_allowed : (set : TableSet) (c : ℕ) → is_literal_char set c ≡ true
     → allows set c ≡ true
-literal_char_is_allowed set c e = ⊎_elim
-    (λ low. cond-true _ _ _ low ∙ sym (cond-true _ _ _ low) ∙ e)
-    (λ high.
-    let parts = and_parts set.ucschar (is_in_range 0xA0 0xD7FF c)
-    (sym (cond-false _ _ _ high) ∙ e) in
-    cond-false _ _ _ high ∙ char_from_a0_to_d7ff_is_allowed set c parts.0 parts.1)
-    (cases_Bool (nat_lt c 128))
+literal_char_is_allowed set c e = grind (arith, nat_tests, char_from_a0_to_d7ff_is_allowed)
 
 -- valid literals: the characters represent what the set allows, each `%` with its two digits
 abbrev pub are_literal_chars : TableSet → List ℕ → Bool
@@ -52,9 +47,7 @@ literal_chars_are_allowed_tokens : (set : TableSet) (cs : List ℕ) → are_lite
     → list_all (allows_token set) (tokens_from_chars cs) ≡ true
 unfolding tokens_from_chars is_pct_encoded
 literal_chars_are_allowed_tokens set [] e = refl
-literal_chars_are_allowed_tokens set (c ∷ []) e =
-    and_from (allows set c) true (literal_char_is_allowed set c (and_parts (not (c == 37)) _ e).1)
-    refl
+literal_chars_are_allowed_tokens set (c ∷ []) e = grind (arith, nat_tests, literal_char_is_allowed)
 literal_chars_are_allowed_tokens set (c ∷ d ∷ []) e =
     let parts = and_parts (is_literal_char set c) _ (and_parts (not (c == 37)) _ e).1 in
     and_from (allows set c) _ (literal_char_is_allowed set c parts.0)

@@ -7,8 +7,8 @@ use Rattle.std.proofs.lemmas.List.{take-append-drop}
 use Rattle.std.specs.List.{list_all}
 use Rattle.std.specs.Char.{encode_utf8, len_utf8, is_ascii_hexdigit}
 use Rattle.std.specs.Str.{chars, encode_utf8_all, all_scalars, IsUtf8, IsCharBoundary}
-use Rattle.std.proofs.lemmas.Bool.{cases_Bool, cond-true, cond-false, and_parts, and_from, and_left}
-use Rattle.std.proofs.lemmas.Bool.{and_right, eqb-true, both_ways}
+use Rattle.std.proofs.lemmas.Bool.{cases_Bool, cond-true, cond-false, and_parts, and_from}
+use Rattle.std.proofs.lemmas.Bool.{and_right, eqb-true}
 use Rattle.std.proofs.lemmas.Str.{chars-encodes, encodes-append, encode_ascii, length-encode}
 use Rattle.std.proofs.lemmas.Str.{IsUtf8-take, IsUtf8-drop, IsCharBoundary-at_seam, encodes-chars}
 use Rattle.std.proofs.lemmas.Str.{scalars-chars}
@@ -23,6 +23,7 @@ use Rattle.uri_pct.proofs.UnreservedDecoding.Printing.{scalars-append}
 use Rattle.uri_pct.proofs.ValidTexts.Cuts.{valid_prefix_by_first_byte}
 use Rattle.uri_pct.proofs.ValidTexts.Validity.{ascii_first_byte_is_allowed_iff_in_set}
 use Rattle.uri_pct.proofs.ValidTexts.PrefixSteps.{valid_prefix_by_first_char}
+use Rattle.std.proofs.lemmas.Bool.Decides.{nat_tests}
 
 -- valid prefixes: the tokens of the characters are allowed
 abbrev are_allowed_chars : TableSet → List ℕ → Type 0
@@ -36,15 +37,7 @@ addition_commutes m n = omega arith
 octet_is_three_bytes_long : (c h l : ℕ) (cs : List ℕ) → is_pct_encoded c h l ≡ true
     → length (encode_utf8_all (c ∷ h ∷ l ∷ cs)) ≡ length (encode_utf8_all cs) + 3
 unfolding is_pct_encoded
-octet_is_three_bytes_long c h l cs e =
-    let d = and_parts _ _ e in
-    let x = and_parts _ _ d.1 in
-    let is : c ≡ 37 = eqb-true c 37 d.0 in
-    rw (
-      encode_ascii c (omega arith),
-      encode_ascii h (hexdigit_is_ascii h x.0),
-      encode_ascii l (hexdigit_is_ascii l x.1),
-    ) (omega arith)
+octet_is_three_bytes_long c h l cs e = grind (arith, nat_tests, encode_ascii, hexdigit_is_ascii)
 
 -- valid prefixes: a set allows nothing of the empty text
 empty_text_has_empty_valid_prefix : (set : TableSet) → valid_prefix set [] ≡ 0
@@ -54,9 +47,7 @@ empty_text_has_empty_valid_prefix set = refl
 -- valid prefixes: characters and one more (c) are within its length more
 chars_with_one_more_stay_within : (c : ℕ) (xs : List ℕ) {m n : ℕ} → m ≡ n + length (encode_utf8 c)
     → length (encode_utf8_all xs) ≤ n → length (encode_utf8_all (c ∷ xs)) ≤ m
-chars_with_one_more_stay_within c xs e l = let s = length-append (encode_utf8 c)
-    (encode_utf8_all xs) in
-    omega (arith, e, l, s)
+chars_with_one_more_stay_within c xs e l = grind (arith, nat_tests, length-append)
 
 module _ (set : TableSet) (lacks : LacksPercent set) where
   -- a `%` is no character of the set
@@ -64,63 +55,41 @@ module _ (set : TableSet) (lacks : LacksPercent set) where
   percent_is_not_allowed c e = ap (allows set) (eqb-true c 37 e) ∙ lacks
 
   allowed_char_is_not_percent : (c : ℕ) → allows set c ≡ true → eqb c 37 ≡ false
-  allowed_char_is_not_percent c a = ⊎_elim
-      (λ e. absurd (both_ways _ (percent_is_not_allowed c e) a)) (λ e. e)
-      (cases_Bool (eqb c 37))
+  allowed_char_is_not_percent c a = grind (arith, nat_tests, percent_is_not_allowed)
 
   valid_prefix_by_first_of_chars : (c : ℕ) (cs : List ℕ) → all_scalars (c ∷ cs) ≡ true
-      → eqb c 37 ≡ false
-      → valid_prefix set (encode_utf8_all (c ∷ cs))
+      → eqb c 37 ≡ false → valid_prefix set (encode_utf8_all (c ∷ cs))
       ≡ cond (allows set c) (valid_prefix set (encode_utf8_all cs) + len_utf8 c) 0
   valid_prefix_by_first_of_chars c cs s e = valid_prefix_by_first_char set
-      (encode_utf8_all (c ∷ cs)) (encode_utf8_all cs) c
-      (c ∷ cs, (s, refl)) refl (and_right _ _ e)
+      (encode_utf8_all (c ∷ cs)) (encode_utf8_all cs) c (c ∷ cs, (s, refl)) refl (and_right _ _ e)
 
   valid_prefix_grows_by_allowed_char : (c : ℕ) (cs : List ℕ) → all_scalars (c ∷ cs) ≡ true
-      → allows set c ≡ true
-      → valid_prefix set (encode_utf8_all (c ∷ cs))
+      → allows set c ≡ true → valid_prefix set (encode_utf8_all (c ∷ cs))
       ≡ valid_prefix set (encode_utf8_all cs) + length (encode_utf8 c)
   valid_prefix_grows_by_allowed_char c cs s a = valid_prefix_by_first_of_chars c cs s
       (allowed_char_is_not_percent c a) ∙ cond-true _ _ _ a
       ∙ ap (λ n. valid_prefix set (encode_utf8_all cs) + n) (sym (length-encode c))
 
   valid_prefix_is_empty_at_disallowed_char : (c : ℕ) (cs : List ℕ) → all_scalars (c ∷ cs) ≡ true
-      → allows set c ≡ false
-      → (set.pct_encoded && (eqb c 37 && begins_with_hex_digits cs)) ≡ false
+      → allows set c ≡ false → (set.pct_encoded && (eqb c 37 && begins_with_hex_digits cs)) ≡ false
       → valid_prefix set (encode_utf8_all (c ∷ cs)) ≡ 0
-  valid_prefix_is_empty_at_disallowed_char c cs s a o = ⊎_elim
-      (λ e.
-      let X = encode_utf8_all cs in
-      let d = eqb-true c 37 e in
-      ap (λ t. valid_prefix set (t ++ X)) (encode_ascii c (omega arith))
-      ∙ valid_prefix_by_first_byte set c X
-      ∙ ⊎_elim
-      (λ p. cond-true _ _ _ (and_from _ _ p e)
-      ∙ cond-false _ _ _ (encoded_chars_begin_with_same_hex_digits cs
-      ∙ sym (ap (λ t. t && begins_with_hex_digits cs) e)
-      ∙ sym (ap (λ t. t && (eqb c 37 && begins_with_hex_digits cs)) p) ∙ o))
-      (λ p. cond-false _ _ _ (and_left _ _ p)
-      ∙ cond-false _ _ _ (ascii_first_byte_is_allowed_iff_in_set set c X (omega arith)
-      ∙ ap set.ascii d ∙ lacks))
-      (cases_Bool set.pct_encoded))
-      (λ e. valid_prefix_by_first_of_chars c cs s e ∙ cond-false _ _ _ a)
-      (cases_Bool (eqb c 37))
+  valid_prefix_is_empty_at_disallowed_char c cs s a o =
+      grind (
+        arith,
+        nat_tests,
+        encode_ascii,
+        valid_prefix_by_first_byte,
+        encoded_chars_begin_with_same_hex_digits,
+        ascii_first_byte_is_allowed_iff_in_set,
+        valid_prefix_by_first_of_chars,
+      )
 
   valid_prefix_grows_by_octet : (c h l : ℕ) (cs : List ℕ) → set.pct_encoded ≡ true
-      → is_pct_encoded c h l ≡ true
-      → valid_prefix set (encode_utf8_all (c ∷ h ∷ l ∷ cs))
+      → is_pct_encoded c h l ≡ true → valid_prefix set (encode_utf8_all (c ∷ h ∷ l ∷ cs))
       ≡ valid_prefix set (encode_utf8_all cs) + 3
   unfolding is_pct_encoded valid_prefix_from begins_with_hex_digits
   valid_prefix_grows_by_octet c h l cs p e =
-      let d = and_parts _ _ e in
-      let x = and_parts _ _ d.1 in
-      let X = encode_utf8_all cs in
-      let is : c ≡ 37 = eqb-true c 37 d.0 in
-      rw (
-        encode_ascii c (omega arith),
-        encode_ascii h (hexdigit_is_ascii h x.0),
-        encode_ascii l (hexdigit_is_ascii l x.1),
-      ) (cond-true _ _ _ (and_from _ _ p d.0) ∙ cond-true _ _ _ d.1 ∙ omega arith)
+      grind (arith, nat_tests, encode_ascii, hexdigit_is_ascii)
 
   -- the prefix is whole characters, and valid
   record Found (cs : List ℕ) : Type 0 where
@@ -162,8 +131,7 @@ module _ (set : TableSet) (lacks : LacksPercent set) where
       (cases_Bool (allows set c))
 
   valid_prefix_of_octet_is_found : (c h l : ℕ) (cs : List ℕ) → set.pct_encoded ≡ true
-      → is_pct_encoded c h l ≡ true
-      → Found cs → Found (c ∷ h ∷ l ∷ cs)
+      → is_pct_encoded c h l ≡ true → Found cs → Found (c ∷ h ∷ l ∷ cs)
   unfolding tokens_from_chars
   valid_prefix_of_octet_is_found c h l cs p e f = record {
     before = c ∷ h ∷ l ∷ f.before;
@@ -260,8 +228,7 @@ module _ (set : TableSet) (lacks : LacksPercent set) where
       (ap all_scalars (sym f.whole) ∙ s) in
       subst (IsCharBoundary (encode_utf8_all cs)) (sym f.end)
       (IsCharBoundary-at_seam (encode_utf8_all cs) (encode_utf8_all f.before)
-      (encode_utf8_all f.suffix)
-      (ap encode_utf8_all f.whole ∙ encodes-append f.before f.suffix)
+      (encode_utf8_all f.suffix) (ap encode_utf8_all f.whole ∙ encodes-append f.before f.suffix)
       (f.suffix, (suffix, refl)))
 
   valid_prefix_of_chars_is_valid : (cs : List ℕ) → all_scalars cs ≡ true
@@ -305,8 +272,7 @@ module _ (set : TableSet) (lacks : LacksPercent set) where
       ∙ ap (λ t. t ++ encode_utf8_all ys) (encodes-chars (take n text) w)
       ∙ ap (λ t. take n text ++ t) (encodes-chars (drop n text) x) ∙ take-append-drop n text in
       let l = valid_chars_are_within_valid_prefix set lacks xs ys
-      (scalars-append xs ys (scalars-chars (take n text) w)
-      (scalars-chars (drop n text) x)) v in
+      (scalars-append xs ys (scalars-chars (take n text) w) (scalars-chars (drop n text) x)) v in
       let m = ap length (encodes-chars (take n text) w) ∙ length-take-le n text b.0 in
       let k = ap (valid_prefix set) e in
       omega (arith, l, m, k)

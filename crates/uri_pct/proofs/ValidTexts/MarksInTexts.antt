@@ -32,8 +32,7 @@ test_holds_of_each P (mark ∷ marks) h b m =
 
 -- cuts of valid texts: before a delimiter (mark) at the start there are 0 bytes
 pub length_before_mark_at_start_is_zero : (marks : List ℕ) (b : ℕ) (rest : List ℕ)
-    → is_one_of marks b ≡ true
-    → length_before_marks marks (b ∷ rest) ≡ 0
+    → is_one_of marks b ≡ true → length_before_marks marks (b ∷ rest) ≡ 0
 length_before_mark_at_start_is_zero marks b rest e = cond-false _ _ _ (not_from_true _ e)
 
 -- cuts of valid texts: another byte at the start is one more before the first delimiter (mark)
@@ -61,8 +60,7 @@ ascii_byte_is_not_past_ascii b h l = grind (arith, nat_tests)
 
 -- cuts of valid texts: at ASCII marks, a text is never cut at a byte past ASCII
 byte_past_ascii_is_no_ascii_mark : (marks : List ℕ) → AreAscii marks → (b : ℕ)
-    → is_no_ascii_byte b ≡ true
-    → is_one_of marks b ≡ false
+    → is_no_ascii_byte b ≡ true → is_one_of marks b ≡ false
 byte_past_ascii_is_no_ascii_mark marks ascii b h = ⊎_elim
     (λ m. let l = ascii b m in absurd (ascii_byte_is_not_past_ascii b h l)) (λ m. m)
     (cases_Bool (is_one_of marks b))
@@ -70,8 +68,7 @@ byte_past_ascii_is_no_ascii_mark marks ascii b h = ⊎_elim
 -- cuts of valid texts: at ASCII marks,
 -- a text is never cut among the bytes past ASCII of a character (more)
 bytes_past_ascii_hold_no_mark : (marks : List ℕ) → AreAscii marks → (more rest : List ℕ)
-    → list_all is_no_ascii_byte more ≡ true
-    → passes_no_mark_within_chars marks 0 rest ≡ true
+    → list_all is_no_ascii_byte more ≡ true → passes_no_mark_within_chars marks 0 rest ≡ true
     → passes_no_mark_within_chars marks (length more) (more ++ rest) ≡ true
 unfolding passes_no_mark_within_chars
 bytes_past_ascii_hold_no_mark marks ascii [] rest h e = e
@@ -94,8 +91,7 @@ encoded_chars_hold_no_mark_within marks ascii (c ∷ cs) =
 
 -- cuts of valid texts: at ASCII marks, a text in UTF-8 is never cut within a character
 pub chars_of_text_hold_no_mark_within : (marks : List ℕ) → AreAscii marks → (text : List ℕ)
-    → IsUtf8 text
-    → passes_no_mark_within_chars marks 0 text ≡ true
+    → IsUtf8 text → passes_no_mark_within_chars marks 0 text ≡ true
 chars_of_text_hold_no_mark_within marks ascii text u = ap (passes_no_mark_within_chars marks 0)
     (sym u.1.1) ∙ encoded_chars_hold_no_mark_within marks ascii u.0
 
@@ -145,10 +141,8 @@ cut_at_mark_keeps_whether_first_is_allowed set marks b bs s = rw
 pub skips_after_percent_begins_anew : (marks : List ℕ) (b : ℕ) (bs : List ℕ) → eqb b 37 ≡ true
     → passes_no_mark_within_chars marks (continuation_len b) bs ≡ true
     → passes_no_mark_within_chars marks 0 bs ≡ true
-skips_after_percent_begins_anew marks b bs e s = let d = eqb-true b 37 e in
-    ap (λ n. passes_no_mark_within_chars marks n bs)
-    (sym (ascii_byte_has_no_continuation b (omega arith)))
-    ∙ s
+skips_after_percent_begins_anew marks b bs e s =
+    grind (arith, nat_tests, ascii_byte_has_no_continuation)
 
 -- cuts of valid texts: the byte at which a text is cut is a mark
 byte_after_cut_is_mark : (marks bs : List ℕ) → length_before_marks marks bs < length bs

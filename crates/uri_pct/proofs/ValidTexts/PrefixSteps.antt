@@ -1,5 +1,5 @@
 -- One step of the longest prefix that a set allows: an octet, a character, and where it stops.
-use Rattle.std.proofs.Common.{◌≡◌, ℕ, suc, ◌+◌, ◌<◌, ◌≤◌, true, false, not, cond, eqb, List}
+use Rattle.std.proofs.Common.{◌≡◌, ℕ, suc, ◌+◌, ◌<◌, ◌≤◌, true, false, cond, eqb, List}
 use Rattle.std.proofs.Common.{[], ◌∷◌, ◌++◌, length, get_or, drop, sym, subst, ap, ◌∙◌, arith}
 use Rattle.std.proofs.Common.{◌&&◌, ◌||◌, ⊎_elim, add-one}
 use Rattle.std.specs.Char.{encode_utf8, len_utf8}
@@ -8,8 +8,7 @@ use Rattle.std.proofs.lemmas.Str.{length-encode, chars_past_char, IsUtf8-drop, e
 use Rattle.std.proofs.lemmas.Str.{len_utf8_ascii}
 use Rattle.std.proofs.lemmas.List.{at_drop_more, get_or-drop, drop_all}
 use Rattle.std.proofs.lemmas.Bool.{cases_Bool, cases_lt, cond-true, cond-false, and_from, and_left}
-use Rattle.std.proofs.lemmas.Bool.{and_right, and_parts, or_from}
-use Rattle.std.proofs.lemmas.Bool.{or_parts, eq-eqb, eqb-true, ne_eqb, lt-ltb, le-ltb, both_ways}
+use Rattle.std.proofs.lemmas.Bool.{and_right, and_parts, eq-eqb, ne_eqb, lt-ltb}
 use Rattle.uri_pct.specs.Sets.{TableSet, LacksPercent, allows, allows_past_ascii}
 use Rattle.uri_pct.specs.Prefixes.{begins_with_hex_digits, first_char, allows_first}
 use Rattle.uri_pct.specs.Prefixes.{valid_prefix_from, valid_prefix}
@@ -24,15 +23,14 @@ use Rattle.uri_pct.proofs.ValidTexts.Validity.{char_past_ascii_is_allowed_by_fla
 use Rattle.uri_pct.proofs.ValidTexts.Cuts.{valid_prefix_by_first_byte}
 use Rattle.uri_pct.proofs.ValidTexts.MarksInTexts.{ascii_byte_has_no_continuation}
 use Rattle.uri_pct.proofs.ValidTexts.Prefixes.{percent_is_not_allowed_first}
+use Rattle.std.proofs.lemmas.Bool.Decides.{nat_tests}
 
 -- scanning: how far a scan goes from an index, by the byte there:
 -- it passes an octet or a character, or stops
 valid_prefix_by_byte_at_index : (set : TableSet) (bs : List ℕ) (i : ℕ) → i < length bs
-    → valid_prefix set (drop i bs)
-    ≡ cond (set.pct_encoded && eqb (get_or bs i 0) 37)
+    → valid_prefix set (drop i bs) ≡ cond (set.pct_encoded && eqb (get_or bs i 0) 37)
     (cond (begins_with_hex_digits (drop (i + 1) bs)) (valid_prefix_from set 2 (drop (i + 1) bs) + 1)
-    0)
-    (cond (allows_first set (get_or bs i 0) (drop (i + 1) bs))
+    0) (cond (allows_first set (get_or bs i 0) (drop (i + 1) bs))
     (valid_prefix_from set (continuation_len (get_or bs i 0)) (drop (i + 1) bs) + 1) 0)
 unfolding valid_prefix_from
 valid_prefix_by_byte_at_index set bs i h = at_drop_more (valid_prefix set) bs i 0 h
@@ -53,8 +51,7 @@ valid_prefix_at_end_is_empty set bs i h = rw (drop_all i bs h)
 
 -- scanning: two hexadecimal digits follow index i exactly if the text after it begins with them
 hex_digits_after_index_begin_suffix : (bs : List ℕ) (i : ℕ)
-    → begins_with_hex_digits (drop (i + 1) bs)
-    ≡ has_hex_digits_after bs i
+    → begins_with_hex_digits (drop (i + 1) bs) ≡ has_hex_digits_after bs i
 unfolding has_hex_digits_after begins_with_hex_digits
 hex_digits_after_index_begin_suffix bs i = rw
     (get_or-drop (i + 1) bs 0 0, get_or-drop (i + 1) bs 1 0)
@@ -91,14 +88,11 @@ valid_prefix_stops_at_stray_percent set lacks bs i h p e = valid_prefix_by_byte_
 -- scanning: no character of a set is `%` (37)
 ascii_char_of_set_is_not_percent : (set : TableSet) → LacksPercent set → (b : ℕ) → set.ascii b
     ≡ true → eqb b 37 ≡ false
-ascii_char_of_set_is_not_percent set lacks b a = ⊎_elim
-    (λ x. absurd (both_ways _ (ap set.ascii (eqb-true b 37 x) ∙ lacks) a)) (λ x. x)
-    (cases_Bool (eqb b 37))
+ascii_char_of_set_is_not_percent set lacks b a = grind (arith, nat_tests)
 
 -- scanning: a scan passes an ASCII character of the set
 pub valid_prefix_passes_ascii_char_of_set : (set : TableSet) → LacksPercent set
-    → (bs : List ℕ) (i : ℕ) → i < length bs
-    → get_or bs i 0 < 128 → set.ascii (get_or bs i 0) ≡ true
+    → (bs : List ℕ) (i : ℕ) → i < length bs → get_or bs i 0 < 128 → set.ascii (get_or bs i 0) ≡ true
     → valid_prefix set (drop i bs) ≡ valid_prefix set (drop (i + 1) bs) + 1
 valid_prefix_passes_ascii_char_of_set set lacks bs i h l a =
     valid_prefix_by_byte_at_index set bs i h
@@ -108,8 +102,7 @@ valid_prefix_passes_ascii_char_of_set set lacks bs i h l a =
 
 -- scanning: a scan stops at an ASCII character that the set lacks
 pub valid_prefix_stops_at_ascii_outside_set : (set : TableSet) (bs : List ℕ) (i : ℕ) → i < length bs
-    → get_or bs i 0 < 128
-    → eqb (get_or bs i 0) 37 ≡ false → set.ascii (get_or bs i 0) ≡ false
+    → get_or bs i 0 < 128 → eqb (get_or bs i 0) 37 ≡ false → set.ascii (get_or bs i 0) ≡ false
     → valid_prefix set (drop i bs) ≡ 0
 valid_prefix_stops_at_ascii_outside_set set bs i h l p a = valid_prefix_by_byte_at_index set bs i h
     ∙ cond-false _ _ _ (and_right _ _ p)
@@ -183,12 +176,7 @@ pub valid_prefix_by_char_past_ascii_at_index : (set : TableSet) (bs : List ℕ) 
     → valid_prefix set (drop i bs)
     ≡ cond (allows_past_ascii set c) (valid_prefix set (drop (i + len_utf8 c) bs) + len_utf8 c) 0
 valid_prefix_by_char_past_ascii_at_index set bs i c u b e h =
-    let z : i + 0 ≡ i = omega arith in
-    let g : get_or (drop i bs) 0 0 ≡ get_or bs i 0 = get_or-drop i bs 0 0
-    ∙ ap (λ n. get_or bs n 0) z in
-    valid_prefix_by_first_char_past_ascii set (drop i bs) (drop (i + len_utf8 c) bs) c
-    (IsUtf8-drop bs i u b) e
-    (subst (λ n. 128 ≤ n) (sym g) h)
+    grind (arith, nat_tests, get_or-drop, valid_prefix_by_first_char_past_ascii, IsUtf8-drop)
 
 -- scanning: the second of two hexadecimal digits after index i is ASCII
 pub second_hex_digit_is_ascii : (bs : List ℕ) (i : ℕ) → has_hex_digits_after bs i ≡ true
@@ -219,14 +207,11 @@ no_flags_allow_nothing_past_ascii : (set : TableSet) → (set.ucschar || set.ipr
     ≡ false → (c : ℕ)
     → allows_past_ascii set c ≡ false
 unfolding allows_past_ascii
-no_flags_allow_nothing_past_ascii set e c = or_from _ _
-    (and_left _ _ (or_parts set.ucschar set.iprivate e).0)
-    (and_left _ _ (or_parts set.ucschar set.iprivate e).1)
+no_flags_allow_nothing_past_ascii set e c = grind (arith, nat_tests)
 
 -- scanning: a scan stops past ASCII, if the set has no flag for such characters
 valid_prefix_stops_past_ascii_without_flags : (set : TableSet) (bs : List ℕ) (i : ℕ) → i < length bs
-    → 128 ≤ get_or bs i 0
-    → (set.ucschar || set.iprivate) ≡ false → valid_prefix set (drop i bs) ≡ 0
+    → 128 ≤ get_or bs i 0 → (set.ucschar || set.iprivate) ≡ false → valid_prefix set (drop i bs) ≡ 0
 valid_prefix_stops_past_ascii_without_flags set bs i h l e =
     valid_prefix_by_byte_at_index set bs i h
     ∙ cond-false _ _ _ (and_right _ _
@@ -241,13 +226,11 @@ pub valid_prefix_stops_where_none_may_begin : (set : TableSet) → LacksPercent 
     → set.ascii (get_or bs i 0) ≡ false → may_begin_octet_or_past_ascii set (get_or bs i 0) ≡ false
     → valid_prefix set (drop i bs) ≡ 0
 unfolding may_begin_octet_or_past_ascii
-valid_prefix_stops_where_none_may_begin set lacks bs i h a e = ⊎_elim
-    (λ p. valid_prefix_stops_at_stray_percent set lacks bs i h (eqb-true _ _ p)
-    (and_left _ _ (sym (cond-true _ _ _ p) ∙ e)))
-    (λ p. ⊎_elim
-    (λ (below : get_or bs i 0 < 128). valid_prefix_stops_at_ascii_outside_set set bs i h below p a)
-    (λ (past : 128 ≤ get_or bs i 0). valid_prefix_stops_past_ascii_without_flags set bs i h past
-    (sym (ap (λ b. not b && (set.ucschar || set.iprivate)) (le-ltb (get_or bs i 0) 128 past))
-    ∙ sym (cond-false _ _ _ p) ∙ e))
-    (cases_lt (get_or bs i 0) 128))
-    (cases_Bool (eqb (get_or bs i 0) 37))
+valid_prefix_stops_where_none_may_begin set lacks bs i h a e =
+    grind (
+      arith,
+      nat_tests,
+      valid_prefix_stops_at_stray_percent,
+      valid_prefix_stops_at_ascii_outside_set,
+      valid_prefix_stops_past_ascii_without_flags,
+    )

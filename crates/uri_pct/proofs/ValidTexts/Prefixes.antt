@@ -1,14 +1,12 @@
 -- The longest prefix that a set allows: its length, and that of a greater set.
 use Rattle.std.proofs.Common.{◌≡◌, ℕ, zero, suc, ◌+◌, ◌≤◌, true, false, eqb, List, [], ◌∷◌, length}
-use Rattle.std.proofs.Common.{drop, refl, sym, ap, ◌∙◌, arith, ◌&&◌, ⊎_elim, add-one, zero-add}
+use Rattle.std.proofs.Common.{drop, refl, sym, ap, ◌∙◌, arith, add-one, zero-add}
 use Rattle.std.specs.Str.{continuation_len}
-use Rattle.std.proofs.lemmas.Bool.{cases_Bool, cases_lt, cond-true, cond-false, and_from}
-use Rattle.std.proofs.lemmas.Bool.{and_right, and_parts, or_left, or_right, or_cases}
-use Rattle.std.proofs.lemmas.Bool.{eqb-true, lt-ltb, le-ltb, both_ways}
+use Rattle.std.proofs.lemmas.Bool.{eqb-true}
 use Rattle.uri_pct.specs.Sets.{TableSet, LacksPercent, IsSubset, allows_past_ascii}
-use Rattle.uri_pct.specs.Prefixes.{begins_with_hex_digits, allows_first}
-use Rattle.uri_pct.specs.Prefixes.{valid_prefix_from, valid_prefix, after}
+use Rattle.uri_pct.specs.Prefixes.{allows_first, valid_prefix_from, valid_prefix, after}
 use Rattle.uri_pct.proofs.ValidTexts.Validity.{ascii_first_byte_is_allowed_iff_in_set}
+use Rattle.std.proofs.lemmas.Bool.Decides.{nat_tests}
 
 -- general fact on lists, for scans: n + 1 bytes that are dropped are the first one and n
 drop_of_one_more_drops_first_byte : (n : ℕ) (b : ℕ) (bs : List ℕ) → drop (n + 1) (b ∷ bs)
@@ -24,26 +22,14 @@ nothing_is_scanned_after_valid_prefix_from set (suc k) [] = refl
 nothing_is_scanned_after_valid_prefix_from set (suc k) (b ∷ bs) =
     rw (drop_of_one_more_drops_first_byte (valid_prefix_from set k bs) b bs)
     (nothing_is_scanned_after_valid_prefix_from set k bs)
-nothing_is_scanned_after_valid_prefix_from set zero (b ∷ bs) = ⊎_elim
-    (λ o. ⊎_elim
-    (λ h. ap (λ n. valid_prefix_from set 0 (drop n (b ∷ bs)))
-    (cond-true _ _ _ o ∙ cond-true _ _ _ h)
-    ∙ ap (valid_prefix_from set 0) (drop_of_one_more_drops_first_byte _ b bs)
-    ∙ nothing_is_scanned_after_valid_prefix_from set 2 bs)
-    (λ h. ap (λ n. valid_prefix_from set 0 (drop n (b ∷ bs)))
-    (cond-true _ _ _ o ∙ cond-false _ _ _ h)
-    ∙ cond-true _ _ _ o ∙ cond-false _ _ _ h)
-    (cases_Bool (begins_with_hex_digits bs)))
-    (λ o. ⊎_elim
-    (λ a. ap (λ n. valid_prefix_from set 0 (drop n (b ∷ bs)))
-    (cond-false _ _ _ o ∙ cond-true _ _ _ a)
-    ∙ ap (valid_prefix_from set 0) (drop_of_one_more_drops_first_byte _ b bs)
-    ∙ nothing_is_scanned_after_valid_prefix_from set (continuation_len b) bs)
-    (λ a. ap (λ n. valid_prefix_from set 0 (drop n (b ∷ bs)))
-    (cond-false _ _ _ o ∙ cond-false _ _ _ a)
-    ∙ cond-false _ _ _ o ∙ cond-false _ _ _ a)
-    (cases_Bool (allows_first set b bs)))
-    (cases_Bool (set.pct_encoded && eqb b 37))
+nothing_is_scanned_after_valid_prefix_from set zero (b ∷ bs) =
+    grind (
+      arith,
+      nat_tests,
+      drop_of_one_more_drops_first_byte,
+      nothing_is_scanned_after_valid_prefix_from set 2 bs,
+      nothing_is_scanned_after_valid_prefix_from set (continuation_len b) bs,
+    )
 
 -- scanning: after the longest prefix that a set allows, it allows nothing
 pub nothing_is_scanned_after_valid_prefix : (set : TableSet) (bs : List ℕ)
@@ -58,34 +44,13 @@ valid_prefix_from_is_at_most_length set zero [] = omega arith
 valid_prefix_from_is_at_most_length set (suc k) [] = omega arith
 valid_prefix_from_is_at_most_length set (suc k) (b ∷ bs) = let h =
     valid_prefix_from_is_at_most_length set k bs in omega arith
-valid_prefix_from_is_at_most_length set zero (b ∷ bs) = ⊎_elim
-    (λ o. ⊎_elim
-    (λ h. rw (
-      cond-true (set.pct_encoded && eqb b 37) _ _ o,
-      cond-true
-          (begins_with_hex_digits bs) _ _ h,
+valid_prefix_from_is_at_most_length set zero (b ∷ bs) =
+    grind (
+      arith,
+      nat_tests,
+      valid_prefix_from_is_at_most_length set 2 bs,
+      valid_prefix_from_is_at_most_length set (continuation_len b) bs,
     )
-    (let l = valid_prefix_from_is_at_most_length set 2 bs in omega arith))
-    (λ h. rw (
-      cond-true (set.pct_encoded && eqb b 37) _ _ o,
-      cond-false
-          (begins_with_hex_digits bs) _ _ h,
-    )
-    (omega arith))
-    (cases_Bool (begins_with_hex_digits bs)))
-    (λ o. ⊎_elim
-    (λ a. rw (
-      cond-false (set.pct_encoded && eqb b 37) _ _ o,
-      cond-true (allows_first set b bs) _ _
-          a,
-    ) (let l = valid_prefix_from_is_at_most_length set (continuation_len b) bs in omega arith))
-    (λ a. rw (
-      cond-false (set.pct_encoded && eqb b 37) _ _ o,
-      cond-false (allows_first set b bs) _ _
-          a,
-    ) (omega arith))
-    (cases_Bool (allows_first set b bs)))
-    (cases_Bool (set.pct_encoded && eqb b 37))
 
 -- scanning: a scan ends within the text
 pub valid_prefix_is_at_most_length : (set : TableSet) (bs : List ℕ)
@@ -96,26 +61,18 @@ valid_prefix_is_at_most_length set bs = valid_prefix_from_is_at_most_length set 
 superset_allows_same_past_ascii : (small great : TableSet) → IsSubset small great → (c : ℕ)
     → allows_past_ascii small c ≡ true → allows_past_ascii great c ≡ true
 unfolding allows_past_ascii
-superset_allows_same_past_ascii small great w c e = ⊎_elim
-    (λ u. let p = and_parts _ _ u in or_left _ _ (and_from _ _ (w.ucschar p.0) p.1))
-    (λ u. let p = and_parts _ _ u in or_right _ _ (and_from _ _ (w.iprivate p.0) p.1))
-    (or_cases _ _ e)
+superset_allows_same_past_ascii small great w c e = grind (arith, nat_tests)
 
 -- scanning: a greater set allows the first character that a smaller one does
 superset_allows_same_first_char : (small great : TableSet) → IsSubset small great
-    → (b : ℕ) (bs : List ℕ)
-    → allows_first small b bs ≡ true → allows_first great b bs ≡ true
+    → (b : ℕ) (bs : List ℕ) → allows_first small b bs ≡ true → allows_first great b bs ≡ true
 unfolding allows_first
-superset_allows_same_first_char small great w b bs e = ⊎_elim
-    (λ h. let l = lt-ltb b 128 h in cond-true _ _ _ l ∙ w.ascii b (sym (cond-true _ _ _ l) ∙ e))
-    (λ h. let l = le-ltb b 128 h in cond-false _ _ _ l
-    ∙ superset_allows_same_past_ascii small great w _ (sym (cond-false _ _ _ l) ∙ e))
-    (cases_lt b 128)
+superset_allows_same_first_char small great w b bs e =
+    grind (arith, nat_tests, superset_allows_same_past_ascii)
 
 -- scanning: a scan for a set goes on from the start, if the scan for a subset stopped there
 empty_prefix_of_subset_begins_that_of_superset : (small great : TableSet) (bs : List ℕ)
-    → valid_prefix small bs ≡ 0
-    → valid_prefix great bs
+    → valid_prefix small bs ≡ 0 → valid_prefix great bs
     ≡ valid_prefix small bs + valid_prefix great (drop (valid_prefix small bs) bs)
 empty_prefix_of_subset_begins_that_of_superset small great bs e = sym
     (ap (λ n. n + valid_prefix great (drop n bs)) e ∙ zero-add _)
@@ -129,8 +86,7 @@ scan_with_one_more_byte_splits_alike great b p n bs e = rw
 
 -- scanning: no set has `%` (37) as a character
 pub percent_is_not_allowed_first : (set : TableSet) → LacksPercent set → (b : ℕ) (bs : List ℕ)
-    → eqb b 37 ≡ true
-    → allows_first set b bs ≡ false
+    → eqb b 37 ≡ true → allows_first set b bs ≡ false
 percent_is_not_allowed_first set lacks b bs e = let d =
     eqb-true b 37 e in ascii_first_byte_is_allowed_iff_in_set set b bs (omega arith)
     ∙ ap set.ascii d ∙ lacks
@@ -138,9 +94,7 @@ percent_is_not_allowed_first set lacks b bs e = let d =
 -- scanning: a scan for a set goes on where the scan for a subset
 -- of it stopped; k: bytes to skip first
 prefix_of_superset_goes_on_from_that_of_subset : (small great : TableSet) → IsSubset small great
-    → LacksPercent small
-    → (k : ℕ) (bs : List ℕ)
-    → valid_prefix_from great k bs
+    → LacksPercent small → (k : ℕ) (bs : List ℕ) → valid_prefix_from great k bs
     ≡ valid_prefix_from small k bs + valid_prefix great (drop (valid_prefix_from small k bs) bs)
 unfolding valid_prefix_from
 prefix_of_superset_goes_on_from_that_of_subset small great w lacks zero [] = refl
@@ -148,39 +102,21 @@ prefix_of_superset_goes_on_from_that_of_subset small great w lacks (suc k) [] = 
 prefix_of_superset_goes_on_from_that_of_subset small great w lacks (suc k) (b ∷ bs) =
     scan_with_one_more_byte_splits_alike great b _ _ bs
     (prefix_of_superset_goes_on_from_that_of_subset small great w lacks k bs)
-prefix_of_superset_goes_on_from_that_of_subset small great w lacks zero (b ∷ bs) = ⊎_elim
-    (λ o. let g : (great.pct_encoded && eqb b 37) ≡ true =
-    and_from _ _ (w.pct_encoded (and_parts small.pct_encoded (eqb b 37) o).0)
-    (and_parts small.pct_encoded (eqb b 37) o).1 in
-    ⊎_elim
-    (λ h. cond-true _ _ _ g ∙ cond-true _ _ _ h
-    ∙ scan_with_one_more_byte_splits_alike great b _ _ bs
-    (prefix_of_superset_goes_on_from_that_of_subset small great w lacks 2 bs)
-    ∙ sym (ap (λ n. n + valid_prefix great (drop n (b ∷ bs)))
-    (cond-true _ _ _ o ∙ cond-true _ _ _ h)))
-    (λ h. empty_prefix_of_subset_begins_that_of_superset small great (b ∷ bs) (cond-true _ _ _ o
-    ∙ cond-false _ _ _ h))
-    (cases_Bool (begins_with_hex_digits bs)))
-    (λ o. ⊎_elim
-    (λ a.
-    let other : eqb b 37 ≡ false =
-    ⊎_elim (λ x. absurd (both_ways _ (percent_is_not_allowed_first small lacks b bs x) a)) (λ x. x)
-    (cases_Bool (eqb b 37)) in
-    cond-false _ _ _ (and_right _ _ other)
-    ∙ cond-true _ _ _ (superset_allows_same_first_char small great w b bs a)
-    ∙ scan_with_one_more_byte_splits_alike great b _ _ bs
-    (prefix_of_superset_goes_on_from_that_of_subset small great w lacks (continuation_len b) bs)
-    ∙ sym (ap (λ n. n + valid_prefix great (drop n (b ∷ bs)))
-    (cond-false _ _ _ o ∙ cond-true _ _ _ a)))
-    (λ a. empty_prefix_of_subset_begins_that_of_superset small great (b ∷ bs) (cond-false _ _ _ o
-    ∙ cond-false _ _ _ a))
-    (cases_Bool (allows_first small b bs)))
-    (cases_Bool (small.pct_encoded && eqb b 37))
+prefix_of_superset_goes_on_from_that_of_subset small great w lacks zero (b ∷ bs) =
+    grind (
+      arith,
+      nat_tests,
+      scan_with_one_more_byte_splits_alike,
+      empty_prefix_of_subset_begins_that_of_superset,
+      percent_is_not_allowed_first,
+      superset_allows_same_first_char,
+      prefix_of_superset_goes_on_from_that_of_subset small great w lacks 2 bs,
+      prefix_of_superset_goes_on_from_that_of_subset small great w lacks (continuation_len b) bs,
+    )
 
 -- scanning: a scan for a set goes on where the scan for a subset of it stopped
 pub valid_prefix_of_superset_goes_on_from_subset : (small great : TableSet) → IsSubset small great
-    → LacksPercent small
-    → (bs : List ℕ)
+    → LacksPercent small → (bs : List ℕ)
     → valid_prefix great bs ≡ valid_prefix small bs + valid_prefix great (after small bs)
 valid_prefix_of_superset_goes_on_from_subset small great w lacks bs =
     prefix_of_superset_goes_on_from_that_of_subset small great w lacks 0 bs

@@ -1,10 +1,9 @@
 -- A scan passes bytes and octets that the set allows.
 use Rattle.std.proofs.Common.{◌≡◌, ℕ, zero, suc, ◌+◌, ◌<◌, ◌≤◌, Bool, true, false, List, length}
-use Rattle.std.proofs.Common.{get_or, drop, refl, sym, ap, subst, ◌∙◌, arith, ⊎_elim}
-use Rattle.std.specs.Char.{is_ascii_hexdigit}
+use Rattle.std.proofs.Common.{get_or, drop, sym, ap, subst, ◌∙◌, arith, ⊎_elim}
 use Rattle.std.specs.Str.{IsUtf8, IsCharBoundary}
 use Rattle.std.proofs.lemmas.Str.{IsCharBoundary-after_ascii}
-use Rattle.std.proofs.lemmas.Bool.{cases_Bool, cases_lt, and_parts, both_ways, false_from_ne_true}
+use Rattle.std.proofs.lemmas.Bool.{cases_Bool, cases_lt, false_from_ne_true}
 use Rattle.uri_pct.specs.Sets.{TableSet, LacksPercent}
 use Rattle.uri_pct.specs.Prefixes.{valid_prefix}
 use Rattle.uri_pct.specs.Texts.{has_hex_digits_after}
@@ -12,6 +11,7 @@ use Rattle.uri_pct.specs.Models.ByteRuns.{AreCharactersOrOctets}
 use Rattle.uri_pct.proofs.ValidTexts.PrefixSteps.{valid_prefix_passes_ascii_char_of_set}
 use Rattle.uri_pct.proofs.ValidTexts.PrefixSteps.{valid_prefix_passes_octet}
 use Rattle.uri_pct.proofs.ValidTexts.PrefixSteps.{second_hex_digit_is_ascii}
+use Rattle.std.proofs.lemmas.Bool.Decides.{nat_tests}
 
 -- bytes and octets that are lanes from i on; `oct` marks where octets begin
 module _ (set : TableSet) (lacks : LacksPercent set) (pct : set.pct_encoded ≡ true)
@@ -38,12 +38,7 @@ module _ (set : TableSet) (lacks : LacksPercent set) (pct : set.pct_encoded ≡ 
   digits_of_octet_are_no_percent : (k : ℕ) → oct k ≡ true
       → (get_or bs (i + k + 1) 0 ≡ 37 → ⊥) × (get_or bs (i + k + 2) 0 ≡ 37 → ⊥)
   unfolding has_hex_digits_after
-  digits_of_octet_are_no_percent k o =
-      let both = and_parts _ _ (digits k o) in
-      let none : (c : ℕ) → is_ascii_hexdigit c ≡ true → c ≡ 37
-      → ⊥ = λ c h e. both_ways _ (refl {a = is_ascii_hexdigit 37})
-      (ap is_ascii_hexdigit (sym e) ∙ h) in
-      (none _ both.0, none _ both.1)
+  digits_of_octet_are_no_percent k o = grind (arith, nat_tests)
 
   no_octet_goes_on_after_character : (k : ℕ) → IsFresh k → oct k ≡ false → IsFresh (k + 1)
   no_octet_goes_on_after_character k fresh none j l h = ⊎_elim
@@ -82,8 +77,7 @@ module _ (set : TableSet) (lacks : LacksPercent set) (pct : set.pct_encoded ≡ 
       let suffix = IsCharBoundary-after_ascii bs (i + k + 2) u (omega arith)
       (second_hex_digit_is_ascii bs (i + k) (digits k o)) in
       let r : IsScanned (k + 3) = run_is_scanned_from_index steps (k + 3) (omega arith) w
-      (no_octet_goes_on_after_octet k o)
-      (subst (IsCharBoundary bs) last suffix) in
+      (no_octet_goes_on_after_octet k o) (subst (IsCharBoundary bs) last suffix) in
       let f : valid_prefix set (drop (i + k) bs) ≡ valid_prefix set (drop (i + (k + 3)) bs) + 3 = e
       ∙ ap (λ m. valid_prefix set (drop m bs) + 3) next in
       (omega (arith, r.0, f), r.1))
@@ -109,8 +103,7 @@ module _ (set : TableSet) (lacks : LacksPercent set) (pct : set.pct_encoded ≡ 
   run_is_scanned_from_start =
       let z : i + 0 ≡ i = omega arith in
       let r = run_is_scanned_from_index n 0 (omega arith) (omega arith)
-      (λ j l h. absurd (omega arith))
-      (subst (IsCharBoundary bs) (sym z) here) in
+      (λ j l h. absurd (omega arith)) (subst (IsCharBoundary bs) (sym z) here) in
       (r.0 ∙ ap (λ m. m + valid_prefix set (drop m bs)) z, r.1)
 
 -- scanning: a scan passes allowed characters and octets, and stops at a boundary of characters
@@ -121,9 +114,7 @@ pub characters_and_octets_are_scanned : (set : TableSet) → LacksPercent set �
     × IsCharBoundary bs (i + n)
 characters_and_octets_are_scanned set lacks pct ascii bs i n room u here are =
     run_is_scanned_from_start set lacks pct ascii bs i n room are.octet are.pass are.percent
-    are.digits are.whole
-    u
-    here
+    are.digits are.whole u here
 
 -- scanning: a scan passes an octet, and stops at a boundary of characters
 pub octet_is_scanned : (set : TableSet) (bs : List ℕ) (i : ℕ) → IsUtf8 bs → set.pct_encoded ≡ true

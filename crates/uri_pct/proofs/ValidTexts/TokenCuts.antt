@@ -12,8 +12,7 @@ use Rattle.std.proofs.Math.Seq.{get_or-append_seam, take-append_seam}
 use Rattle.std.proofs.lemmas.Str.{chars-append, IsUtf8-take, IsCharBoundary-before_ascii}
 use Rattle.uri_pct.specs.Sets.{TableSet, is_reserved}
 use Rattle.uri_pct.specs.Tokens.{Char, Octet, is_pct_encoded, tokens_from_chars, tokens}
-use Rattle.uri_pct.specs.Tokens.{allows_token}
-use Rattle.uri_pct.specs.Tokens.{is_valid_for}
+use Rattle.uri_pct.specs.Tokens.{allows_token, is_valid_for}
 use Rattle.uri_pct.proofs.UnreservedDecoding.Printing.{char_but_percent_is_its_own_token}
 
 -- cuts of valid texts: an ASCII character that is no hexadecimal digit and not `%`
@@ -88,8 +87,7 @@ ascii_byte_is_first_of_chars c rest h = let low = lt-ltb c 128 h in rw low
 
 -- cuts of valid texts: a mark that is in no octet separates the tokens of the texts around it
 mark_separates_tokens_of_text : (before after : List ℕ) (mark : ℕ) → IsNeverInOctet mark
-    → IsUtf8 before
-    → tokens (before ++ mark ∷ after) ≡ tokens before ++ Char mark ∷ tokens after
+    → IsUtf8 before → tokens (before ++ mark ∷ after) ≡ tokens before ++ Char mark ∷ tokens after
 mark_separates_tokens_of_text before after mark m u =
     ap tokens_from_chars (chars-append before (mark ∷ after) u
     ∙ ap (λ x. chars before ++ x) (ascii_byte_is_first_of_chars mark after m.ascii))
@@ -97,9 +95,7 @@ mark_separates_tokens_of_text before after mark m u =
 
 -- validity: a text is valid on both sides of a mark that is in no octet
 texts_around_mark_are_valid : (set : TableSet) (before after : List ℕ) (mark : ℕ)
-    → IsNeverInOctet mark
-    → IsUtf8 before
-    → is_valid_for set (before ++ mark ∷ after) ≡ true
+    → IsNeverInOctet mark → IsUtf8 before → is_valid_for set (before ++ mark ∷ after) ≡ true
     → (is_valid_for set before ≡ true) × (is_valid_for set after ≡ true)
 unfolding is_valid_for
 texts_around_mark_are_valid set before after mark m u e =
@@ -127,8 +123,7 @@ text_before_ascii_mark_is_utf8 text before after mark small u same =
 -- whether or not the set has the mark
 pub valid_before_mark : (set : TableSet) (text before after : List ℕ) (mark : ℕ)
     → is_valid_for set text ≡ true → text ≡ before ++ mark ∷ after → IsNeverInOctet mark
-    → IsUtf8 text
-    → is_valid_for set before ≡ true
+    → IsUtf8 text → is_valid_for set before ≡ true
 valid_before_mark set text before after mark e same m u =
     (texts_around_mark_are_valid set before after mark m
     (text_before_ascii_mark_is_utf8 text before after mark m.ascii u same)
@@ -137,8 +132,7 @@ valid_before_mark set text before after mark e same m u =
 -- validity: what is after a mark (in no octet) of a valid text is valid
 pub valid_after_mark : (set : TableSet) (text before after : List ℕ) (mark : ℕ)
     → is_valid_for set text ≡ true → text ≡ before ++ mark ∷ after → IsNeverInOctet mark
-    → IsUtf8 text
-    → is_valid_for set after ≡ true
+    → IsUtf8 text → is_valid_for set after ≡ true
 valid_after_mark set text before after mark e same m u =
     (texts_around_mark_are_valid set before after mark m
     (text_before_ascii_mark_is_utf8 text before after mark m.ascii u same)

@@ -4,7 +4,7 @@ use Rattle.std.proofs.Common.{◌∷◌, ◌++◌, length, get_or, drop, refl, s
 use Rattle.std.proofs.Common.{⊎_elim}
 use Rattle.std.specs.List.{list_all}
 use Rattle.std.specs.Char.{is_ascii_hexdigit, encode_utf8}
-use Rattle.std.specs.Str.{chars, IsUtf8, encode_utf8_all, all_scalars, continuation_len}
+use Rattle.std.specs.Str.{IsUtf8, encode_utf8_all, all_scalars, continuation_len}
 use Rattle.std.proofs.lemmas.Str.{chars-encodes, encode_ascii}
 use Rattle.std.proofs.lemmas.Bool.{cases_lt, cases_Bool, and_parts, eqb-true, cond-true, cond-false}
 use Rattle.std.proofs.lemmas.Bool.{and_left, and_right, and_from, lt-ltb, le-ltb, ne_eqb}
@@ -16,6 +16,7 @@ use Rattle.uri_pct.proofs.Unicode.Characters.{char_past_ascii_begins_past_ascii}
 use Rattle.uri_pct.proofs.Unicode.Characters.{first_of_encoded_chars_is_first_char}
 use Rattle.uri_pct.proofs.Unicode.Characters.{hexdigit_is_ascii}
 use Rattle.uri_pct.proofs.Unicode.Characters.{encoded_chars_begin_with_same_hex_digits}
+use Rattle.std.proofs.lemmas.Bool.Decides.{nat_tests}
 
 -- the bytes are valid, of which so many are still to pass
 unfoldable pub valid_from : TableSet → ℕ → List ℕ → Bool
@@ -48,8 +49,7 @@ ascii_first_byte_is_allowed_iff_in_set set b rest h = cond-true _ _ _ (lt-ltb b 
 
 -- validity: a byte past ASCII may begin a text if the set allows the character that it begins
 pub first_byte_past_ascii_is_allowed_by_its_char : (set : TableSet) (b : ℕ) (rest : List ℕ)
-    → 128 ≤ b
-    → allows_first set b rest ≡ allows_past_ascii set (first_char (b ∷ rest))
+    → 128 ≤ b → allows_first set b rest ≡ allows_past_ascii set (first_char (b ∷ rest))
 unfolding allows_first
 first_byte_past_ascii_is_allowed_by_its_char set b rest h = cond-false _ _ _ (le-ltb b 128 h)
 
@@ -106,15 +106,13 @@ first_byte_begins_no_octet_if_char_does_not set c cs w e = ⊎_elim
     ∙ and_is_false_with_any_first set.pct_encoded (eqb c 37)
     (begins_with_hex_digits (encode_utf8_all cs))
     (ap (λ t. eqb c 37 && t) (encoded_chars_begin_with_same_hex_digits cs) ∙ e))
-    (λ h. and_left _ _
-    (and_right _ _ (ne_eqb w.first 37
+    (λ h. and_left _ _ (and_right _ _ (ne_eqb w.first 37
     (λ d. past_ascii_is_not_percent w.first refl (first_byte_is_past_ascii_if_char_is c w h) d))))
     (cases_lt c 128)
 
 -- validity: the first byte of characters is allowed exactly if the first character is; w: its bytes
 first_byte_is_allowed_iff_char_is : (set : TableSet) (c : ℕ) (cs : List ℕ) (w : HasEncoding c)
-    → all_scalars (c ∷ cs)
-    ≡ true
+    → all_scalars (c ∷ cs) ≡ true
     → allows_first set w.first (w.more ++ encode_utf8_all cs) ≡ allows set c
 first_byte_is_allowed_iff_char_is set c cs w s = ⊎_elim
     (λ h.
@@ -131,8 +129,7 @@ first_byte_is_allowed_iff_char_is set c cs w s = ⊎_elim
 
 -- validity: a character that begins no octet is valid if the set allows it
 validity_by_first_char : (set : TableSet) (c : ℕ) (cs : List ℕ) → all_scalars (c ∷ cs) ≡ true
-    → (eqb c 37 && begins_with_hex_digits cs) ≡ false
-    → valid_from set 0 (encode_utf8_all (c ∷ cs))
+    → (eqb c 37 && begins_with_hex_digits cs) ≡ false → valid_from set 0 (encode_utf8_all (c ∷ cs))
     ≡ (allows set c && valid_from set 0 (encode_utf8_all cs))
 validity_by_first_char set c cs s e =
     let w = char_has_encoding c in
@@ -147,26 +144,20 @@ validity_by_first_char set c cs s e =
 
 -- validity: two hexadecimal digits of an octet are skipped
 validity_skips_two_hexdigits : (set : TableSet) (h l : ℕ) (rest : List ℕ)
-    → is_ascii_hexdigit h ≡ true
-    → is_ascii_hexdigit l ≡ true
+    → is_ascii_hexdigit h ≡ true → is_ascii_hexdigit l ≡ true
     → valid_from set 2 (encode_utf8_all (h ∷ l ∷ rest)) ≡ valid_from set 0 (encode_utf8_all rest)
 unfolding valid_from
-validity_skips_two_hexdigits set h l rest e f = rw (
-  encode_ascii h (hexdigit_is_ascii h e),
-  encode_ascii l
-      (hexdigit_is_ascii l f),
-) refl
+validity_skips_two_hexdigits set h l rest e f =
+    grind (arith, nat_tests, encode_ascii, hexdigit_is_ascii)
 
 -- validity: the `%` of an octet is valid if what is after the octet is
 validity_after_percent_skips_two : (set : TableSet) (c : ℕ) (cs : List ℕ) → c ≡ 37
-    → begins_with_hex_digits cs ≡ true
-    → set.pct_encoded ≡ true
+    → begins_with_hex_digits cs ≡ true → set.pct_encoded ≡ true
     → valid_from set 0 (encode_utf8_all (c ∷ cs)) ≡ valid_from set 2 (encode_utf8_all cs)
 validity_after_percent_skips_two set c cs d b o =
     ap (λ t. valid_from set 0 (t ++ encode_utf8_all cs)) (encode_ascii c (omega arith))
     ∙ validity_by_first_byte set c (encode_utf8_all cs)
-    ∙ cond-true _ _ _
-    (and_from _ _ (and_from _ _ o (ap (λ t. eqb t 37) d))
+    ∙ cond-true _ _ _ (and_from _ _ (and_from _ _ o (ap (λ t. eqb t 37) d))
     (encoded_chars_begin_with_same_hex_digits cs ∙ b))
 
 -- validity: a `%` (37) is not valid for a set without octets
@@ -181,8 +172,7 @@ stray_percent_is_not_valid set c cs p d o =
 
 -- validity: an octet is valid if the set has octets and what is after it is valid
 validity_by_first_octet : (set : TableSet) (c h l : ℕ) (cs : List ℕ) → LacksPercent set
-    → is_pct_encoded c h l ≡ true
-    → valid_from set 0 (encode_utf8_all (c ∷ h ∷ l ∷ cs))
+    → is_pct_encoded c h l ≡ true → valid_from set 0 (encode_utf8_all (c ∷ h ∷ l ∷ cs))
     ≡ (set.pct_encoded && valid_from set 0 (encode_utf8_all cs))
 unfolding is_pct_encoded begins_with_hex_digits
 validity_by_first_octet set c h l cs p e =
@@ -233,10 +223,7 @@ validity_is_all_tokens_allowed set p (c ∷ h ∷ l ∷ cs) s = ⊎_elim
 
 -- validity: a text is valid by its tokens exactly if it is valid by its bytes
 pub validity_of_tokens_is_validity_of_bytes : (set : TableSet) → LacksPercent set → (text : List ℕ)
-    → IsUtf8 text
-    → is_valid_for set text ≡ valid_from set 0 text
+    → IsUtf8 text → is_valid_for set text ≡ valid_from set 0 text
 unfolding is_valid_for
 validity_of_tokens_is_validity_of_bytes set p text u =
-    ap (λ cs. list_all (allows_token set) (tokens_from_chars cs))
-    (ap chars (sym u.1.1) ∙ chars-encodes u.0 u.1.0)
-    ∙ sym (validity_is_all_tokens_allowed set p u.0 u.1.0) ∙ ap (valid_from set 0) u.1.1
+    grind (arith, nat_tests, chars-encodes, validity_is_all_tokens_allowed)

@@ -7,8 +7,7 @@ use Rattle.uri_pct.proofs.ValidTexts.KeptPrefixes.{char_after_allowed_run_is_not
 use Rattle.uri_pct.proofs.encode.allowed_end.Goals as goal
 
 scanned_to : (c : goal.After-scan)
-    → c.scan.result
-    ≡ c.args.start
+    → c.scan.result ≡ c.args.start
     + valid_prefix (set_without_octets (set_of c.args.table.now))
     (drop c.args.start c.args.text.now)
 scanned_to c = c.scan.ensures.end
@@ -17,8 +16,7 @@ scanned_to c = c.scan.ensures.end
 
 pub returns-clause-kept : goal.returns-clause-kept
 returns-clause-kept c = allowed_run_is_encoded_as_itself (set_of c.args.table.now) c.args.text.now
-    c.args.start
-    c.scan.result c.utf8.text c.requires (scanned_to c)
+    c.args.start c.scan.result c.utf8.text c.requires (scanned_to c)
 
 pub returns-clause-stop : goal.returns-clause-stop
 returns-clause-stop c = λ ch rest joined. char_after_allowed_run_is_not_allowed

@@ -38,6 +38,5 @@ loop-end-preserved c =
 pub returns-then-allows-clause-goes : goal.returns-then-allows-clause-goes
 returns-then-allows-clause-goes c = λ inside first.
     disallowed_run_is_not_empty (set_of c.args.table.now) c.args.text.now c.args.start
-    c.loop-end.end
-    c.char_at-ch.result c.loop-end.invariant.from c.char_at-ch.ensures
+    c.loop-end.end c.char_at-ch.result c.loop-end.invariant.from c.char_at-ch.ensures
     (sym c.allows.ensures ∙ c.if-allows.true) first

@@ -25,8 +25,7 @@ loop-chunk-preserved c =
     let then : new ≡ mid ++ print (map Octet fault) = c.in_ok-push_octets.ensures.ok
     ∙ ap (λ x. mid ++ print (map Octet x)) c.invalid.ensures in
     let pieces = utf8_pieces-of-std-chunk (utf8_chunks_rest c.loop-chunk.chunk-iterator) text fault
-    rest steps.0
-    steps.3.0 steps.3.1 steps.2 in
+    rest steps.0 steps.3.0 steps.3.1 steps.2 in
     record {
       total = encoded_bytes_after_chunk set out mid new _ text fault rest _
           (subst IsUtf8 c.valid.ensures c.valid.utf8) pieces first

@@ -24,8 +24,7 @@ returns-in_err-push_octets-clause-keeps c =
     ∙ append_keeps_prefix old (string_bytes c.loop-done.out) c.range.result.now
     c.loop-done.invariant.keeps in
     kept_prefix-transitive old (string_bytes c.push_str.new.self)
-    (string_bytes c.push_octets.new.out) mid
-    c.in_err-push_octets.ensures.keeps
+    (string_bytes c.push_octets.new.out) mid c.in_err-push_octets.ensures.keeps
 
 pub loop-done-preserved : goal.loop-done-preserved
 loop-done-preserved c =

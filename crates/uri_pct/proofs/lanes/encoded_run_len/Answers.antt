@@ -8,8 +8,7 @@ use Rattle.uri_pct.specs.Masks.{has_bit}
 use Rattle.uri_pct.proofs.LaneScans.LaneRuns.{MarksFailingLanes, load_mask_marks_failing_lanes}
 use Rattle.uri_pct.proofs.LaneScans.LaneBits.{trailing_zeros_is_first_set_lane}
 use Rattle.uri_pct.proofs.LaneScans.OctetLanes.{covered_lanes_are_characters_or_octets}
-use Rattle.uri_pct.proofs.LaneScans.OctetLanes.{lanes_left_uncovered}
-use Rattle.uri_pct.proofs.LaneScans.OctetLanes.{lanes_covered_by_octets}
+use Rattle.uri_pct.proofs.LaneScans.OctetLanes.{lanes_left_uncovered, lanes_covered_by_octets}
 use Rattle.uri_pct.proofs.lanes.encoded_run_len.Goals as goal
 
 pub returns-then-open-eq0-clause-allowed : goal.returns-then-open-eq0-clause-allowed
@@ -21,8 +20,7 @@ returns-then-open-eq0-clause-allowed c =
     (sym c.outside.ensures)
     (load_mask_marks_failing_lanes (has_bit c.args.low c.args.high) bs i 16 room) in
     covered_lanes_are_characters_or_octets _ bs i c.octet_starts-starts.result c.outside.result 16
-    c.octet_starts-starts.type_inv
-    (omega arith) c.octet_starts-starts.ensures.starts marks
+    c.octet_starts-starts.type_inv (omega arith) c.octet_starts-starts.ensures.starts marks
     (λ k h. ap (λ m. eqb (bit_at m k) 1) c.if-open-eq0.true ∙ ap (λ m. eqb m 1) (bit_at-zero k))
     (λ h. absurd (omega arith))
 
@@ -42,8 +40,7 @@ returns-clause-few c =
     let small : c.outside.result < 2 ^ 16 =
     (subst (MarksFailingLanes (has_bit c.args.low c.args.high) c.args.bytes.now c.args.at 16)
     (sym c.outside.ensures) (load_mask_marks_failing_lanes (has_bit c.args.low c.args.high)
-    c.args.bytes.now
-    c.args.at 16 c.requires)).below in
+    c.args.bytes.now c.args.at 16 c.requires)).below in
     let f = (first c.outside.result c.octet_starts-starts.result small c.if-open-eq0.false).0 in
     omega arith
 
@@ -60,6 +57,5 @@ returns-clause-allowed c =
     (lanes_left_uncovered c.outside.result c.octet_starts-starts.result) < 16 =
     f.0 in
     covered_lanes_are_characters_or_octets _ bs i c.octet_starts-starts.result c.outside.result _
-    c.octet_starts-starts.type_inv
-    (omega arith) c.octet_starts-starts.ensures.starts marks
+    c.octet_starts-starts.type_inv (omega arith) c.octet_starts-starts.ensures.starts marks
     (λ k h. ap (λ m. eqb m 1) (f.2 k h)) (λ h. eq-eqb _ _ f.1)

@@ -1,6 +1,5 @@
-use Rattle.std.proofs.Common.{◌≡◌, ◌+◌, ◌-◌, ◌*◌, ◌/◌, ◌%◌, ◌^◌, ◌<◌, ◌≤◌, ℕ, List}
-use Rattle.std.proofs.Common.{not, leb, length, map, get_or, arith, sym, ap, subst, ◌∙◌, ◌&&◌}
-use Rattle.std.proofs.Common.{⊎_elim}
+use Rattle.std.proofs.Common.{◌≡◌, ◌+◌, ◌-◌, ◌*◌, ◌/◌, ◌%◌, ◌^◌, ◌<◌, ◌≤◌, ℕ, List, not, leb}
+use Rattle.std.proofs.Common.{length, map, get_or, arith, sym, ap, subst, ◌∙◌, ◌&&◌, ⊎_elim}
 use Rattle.std.specs.Simd.Lanes.{mask_l, chunk}
 use Rattle.std.proofs.Math.Nat.{div-mul-le_self}
 use Rattle.std.proofs.lemmas.Bool.{cases_lt, and_right, le-leb, lt-leb}

@@ -5,9 +5,8 @@ use Rattle.uri_pct.proofs.LaneScans.LaneMasks.{index_of_mask_byte_is_small}
 use Rattle.uri_pct.proofs.LaneScans.LaneBits.{trailing_zeros_is_first_set_lane}
 use Rattle.uri_pct.proofs.LaneScans.BlockOctets.{MarksFailingLanesFrom, run_goes_on_to_end}
 use Rattle.uri_pct.proofs.LaneScans.BlockOctets.{run_ends_at_first_marked_byte}
-use Rattle.uri_pct.proofs.LaneScans.BlockOctets.{passing_bytes_are_characters}
-use Rattle.uri_pct.proofs.LaneScans.BlockOctets.{first_of_lower_lanes, first_of_last_lanes}
-use Rattle.uri_pct.proofs.LaneScans.BlockOctets.{no_lane_of_both_parts}
+use Rattle.uri_pct.proofs.LaneScans.BlockOctets.{passing_bytes_are_characters, first_of_lower_lanes}
+use Rattle.uri_pct.proofs.LaneScans.BlockOctets.{first_of_last_lanes, no_lane_of_both_parts}
 use Rattle.uri_pct.proofs.LaneScans.BlockOctets.{digits_of_octet_are_unmarked}
 use Rattle.uri_pct.proofs.LaneScans.BlockOctets.{start_is_within_block, block_without_left_lanes}
 use Rattle.uri_pct.proofs.LaneScans.BlockOctets.{first_left_lane_fails, bytes_before_left_lanes}
@@ -74,8 +73,7 @@ pub lanes_outside_octets-open-requires-clause-digits
 lanes_outside_octets-open-requires-clause-digits c = λ all k octet.
     let at = goal.at.lanes_outside_octets-open-requires-clause-digits c in
     let starts = c.octet_starts.ensures.starts k octet in
-    digits_of_octet_are_unmarked _ _ _ _ _ (marks at.Else-mask-eq0) all k starts.0
-    starts.2
+    digits_of_octet_are_unmarked _ _ _ _ _ (marks at.Else-mask-eq0) all k starts.0 starts.2
 
 -- the first lane outside the set and octets is before the last two lanes
 pub returns-then-certain-ne0 : goal.returns-then-certain-ne0

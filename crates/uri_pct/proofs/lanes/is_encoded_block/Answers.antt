@@ -25,5 +25,4 @@ returns c e =
     (λ k h. ap (λ m. is_set_bit m k) c.lanes_equal_to.ensures
     ∙ mask_bit_is_equality_of_byte 37 bs (i - 1) k (omega (arith, room)) h)
     (λ k h. ap (λ m. is_set_bit m k) c.lanes_equal_to-2.ensures
-    ∙ mask_bit_is_equality_of_byte 37 bs (i - 2) k (omega (arith, room)) h)
-    (eqb-true _ _ e)
+    ∙ mask_bit_is_equality_of_byte 37 bs (i - 2) k (omega (arith, room)) h) (eqb-true _ _ e)

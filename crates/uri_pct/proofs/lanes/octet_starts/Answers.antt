@@ -9,13 +9,12 @@ use Rattle.uri_pct.specs.Texts.{has_hex_digits_after}
 use Rattle.uri_pct.proofs.LaneScans.LaneRuns.{load_mask_marks_failing_lanes, MarksFailingLanes}
 use Rattle.uri_pct.specs.Masks.{has_bit}
 use Rattle.uri_pct.proofs.LaneScans.LaneBits.{mask_bit_is_equality_of_byte}
-use Rattle.uri_pct.proofs.LaneScans.LaneBits.{equality_mask_is_below_2_16}
+use Rattle.uri_pct.proofs.LaneScans.LaneBits.{equality_mask_is_below_2_16, is_set_bit}
+use Rattle.uri_pct.proofs.LaneScans.LaneBits.{bit_of_right_shift, low_bit_of_left_shift_is_clear}
+use Rattle.uri_pct.proofs.LaneScans.LaneBits.{mask_bit_is_test_of_byte}
 use Rattle.uri_pct.proofs.LaneScans.OctetLanes.{octet_begins_at_set_lane}
 use Rattle.uri_pct.proofs.TableSets.Constants.{hexdig_masks_are_hexdig_set}
 use Rattle.uri_pct.proofs.TableSets.Masks.{bit_of_bit_or, bit_of_bit_and_not}
-use Rattle.uri_pct.proofs.LaneScans.LaneBits.{is_set_bit, bit_of_right_shift}
-use Rattle.uri_pct.proofs.LaneScans.LaneBits.{low_bit_of_left_shift_is_clear}
-use Rattle.uri_pct.proofs.LaneScans.LaneBits.{mask_bit_is_test_of_byte}
 use Rattle.uri_pct.proofs.lanes.octet_starts.Goals as goal
 
 pub returns-clause-starts : goal.returns-clause-starts
@@ -26,8 +25,7 @@ returns-clause-starts c k =
     let room : i + 16 ≤ length bs = c.requires.room in
     subst
     (λ m.
-    bit_at
-    (bit_and m
+    bit_at (bit_and m
     (bit_not w64 (bit_or (bit_or others 196608 / 2) (bit_or others 196608 / 4)))) k
     ≡ 1
     → (k + 3 ≤ 16) × (slice_index bs (i + k) ≡ 37) × (has_hex_digits_after bs (i + k) ≡ true))
@@ -35,8 +33,7 @@ returns-clause-starts c k =
     (octet_begins_at_set_lane bs i _ others (λ j h. mask_bit_is_equality_of_byte 37 bs i j room h)
     (equality_mask_is_below_2_16 37 bs i room)
     (subst (MarksFailingLanes (has_bit 0x03FF000000000000 0x0000007E0000007E) bs i 16)
-    (sym c.requires.no_digits) (load_mask_marks_failing_lanes _ bs i 16 room))
-    k)
+    (sym c.requires.no_digits) (load_mask_marks_failing_lanes _ bs i 16 room)) k)
 
 -- a lane is set whose byte is a `%` before two hexadecimal digits
 set_lane : (percents others k : ℕ) → others < 2 ^ 16 → k + 3 ≤ 16 → is_set_bit percents k ≡ true

@@ -57,8 +57,7 @@ returns-clause-lane c k h =
     ∙ ap (λ x. ((x && not (is_set_bit others k)) && not (is_set_bit c2 k))) is_from
     ∙ ap (λ x. ((nat_le b 237 && not x) && not (is_set_bit c2 k))) is_other
     ∙ ap (λ x. ((nat_le b 237 && not (nat_le b 127)) && not x)) is_c2 in
-    bit_of_bit_and_not c.outside.result (bit_and past (bit_not w64 c2)) k
-    (omega (
+    bit_of_bit_and_not c.outside.result (bit_and past (bit_not w64 c2)) k (omega (
       arith,
       and_le_l past (bit_not w64 c2),
       and_le_l from (bit_not w64 others),

@@ -8,8 +8,7 @@ use Rattle.uri_pct.proofs.search.len_before_slash_dot.Goals as goal
 pub returns-then-slashes-eq0-clause-none : goal.returns-then-slashes-eq0-clause-none
 returns-then-slashes-eq0-clause-none c =
     no_slash_dot_where_no_slash c.args.bytes.now c.args.at c.lanes_equal_to-slashes.result
-    c.requires
-    c.lanes_equal_to-slashes.ensures c.if-slashes-eq0.true
+    c.requires c.lanes_equal_to-slashes.ensures c.if-slashes-eq0.true
 
 pub returns-then-found-eq0-clause-none : goal.returns-then-found-eq0-clause-none
 returns-then-found-eq0-clause-none c =

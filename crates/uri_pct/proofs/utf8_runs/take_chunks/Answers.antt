@@ -11,8 +11,7 @@ use Rattle.uri_pct.proofs.utf8_runs.take_chunks.Goals as goal
 pub take_chunk-requires : goal.take_chunk-requires
 take_chunk-requires g c =
     let text = utf8_chunk_valid c.in-Some.chunk in
-    rw c.valid.ensures
-    (prefix_of_past_ascii_is_past_ascii text _ _ c.in-Some.ensures.steps.0
+    rw c.valid.ensures (prefix_of_past_ascii_is_past_ascii text _ _ c.in-Some.ensures.steps.0
     c.loop-chunk.invariant.past_ascii)
 
 pub loop-chunk-preserved : goal.loop-chunk-preserved

@@ -21,16 +21,13 @@ returns-in_ok-take_window-in-Unencoded g c = on_ok_weaker c.take_unencoded.resul
     let left : took end (parts_from [] suffix) u =
     subst (λ bytes. took end (parts_from bytes suffix) u) window_bytes.emptied h in
     let rest = on middle end u (Literal text ∷ []) (parts_from [] suffix) taken left in
-    subst (λ chunk. took start (parts_from run (chunk_of chunk ∷ suffix)) u)
-    (sym c.in-Unencoded.is)
+    subst (λ chunk. took start (parts_from run (chunk_of chunk ∷ suffix)) u) (sym c.in-Unencoded.is)
     (on start middle u (map Decoded (utf8_pieces run)) (Literal text ∷ parts_from [] suffix)
-    window_bytes.taken rest))
-    c.take_unencoded.ensures
+    window_bytes.taken rest)) c.take_unencoded.ensures
 
 pub returns-in-PctDecoded : goal.returns-in-PctDecoded
 returns-in-PctDecoded g c = on_ok_weaker c.take_octet.result
     (λ octet u suffix h.
     subst (λ chunk. g.T.TakeParts.took c.args.taker.now
     (parts_from (window_bytes c.args.window.now) (chunk_of chunk ∷ suffix)) u)
-    (sym c.in-PctDecoded.is) (octet u suffix h))
-    c.take_octet.ensures
+    (sym c.in-PctDecoded.is) (octet u suffix h)) c.take_octet.ensures

@@ -1,6 +1,5 @@
-use Rattle.std.proofs.Common.{◌≡◌, ℕ, ◌-◌, ◌<◌, ◌≤◌, List, [], ◌∷◌, ◌++◌, length, get_or}
-use Rattle.std.proofs.Common.{take, drop, map}
-use Rattle.std.proofs.Common.{sym, ap, ◌∙◌, subst, arith, inr}
+use Rattle.std.proofs.Common.{◌≡◌, ℕ, ◌-◌, ◌<◌, ◌≤◌, List, [], ◌∷◌, ◌++◌, length, get_or, take}
+use Rattle.std.proofs.Common.{drop, map, sym, ap, ◌∙◌, subst, arith, inr}
 use Rattle.std.proofs.lemmas.Bool.Decides.{nat_tests}
 use Rattle.std.proofs.lemmas.List.{length-drop, take_all}
 use Rattle.std.proofs.lemmas.List.Elements.{All-same, All-drop}
@@ -41,8 +40,7 @@ slice-after-first-is-drop bytes =
 
 -- decoding: the parts of a run whose first byte is ill-formed by itself are that byte and the rest
 parts-after-ill-formed-byte : (bytes : List ℕ) → ArePastAscii bytes → 1 < length bytes
-    → 192 ≤ get_or bytes 1 0
-    → (Decoded (IllFormed (take 1 bytes)) ∷ [])
+    → 192 ≤ get_or bytes 1 0 → (Decoded (IllFormed (take 1 bytes)) ∷ [])
     ++ map Decoded (utf8_pieces (take (length bytes - 1) (drop 1 bytes)))
     ≡ map Decoded (utf8_pieces bytes)
 parts-after-ill-formed-byte bytes past long high =
@@ -85,6 +83,5 @@ returns-clause-taken g c =
     let after = c.take_ill_formed-2.new.self in
     let holds = c.loop-left.invariant in
     let parts = parts-of-lone-byte bytes holds.past_ascii c.if-left-ne1.false in
-    λ u h. holds.taken u
-    (subst (λ ps. g.T.TakeParts.took before ps u) parts
+    λ u h. holds.taken u (subst (λ ps. g.T.TakeParts.took before ps u) parts
     (g.met.T.TakeParts.takes_appended_parts before after u _ _ c.in_ok-take_ill_formed-2.ensures h))

@@ -28,8 +28,7 @@ returns-then-is_ascii g c = on_ok_weaker c.take_ascii.result
     let parted = parts_from-ascii-octet (window_bytes c.args.window.now) c.args.byte suffix small in
     subst (λ ps. took start ps u) (sym parted)
     (on start middle u run (character ++ parts_from [] suffix)
-    c.in_ok-take_window.ensures.taken rest))
-    c.take_ascii.ensures
+    c.in_ok-take_window.ensures.taken rest)) c.take_ascii.ensures
 
 pub returns : goal.returns
 unfolding parts_from

@@ -26,8 +26,7 @@ pub returns-then-following_byte_count-gt0-clause-value
 unfolding unfinished_len_by_last_three
 returns-then-following_byte_count-gt0-clause-value c =
     let all = unfinished_len_is_by_counts_of_last_three c.args.bytes.now _ _ _ c.requires
-    c.following_byte_count.ensures
-    c.following_byte_count-else-following_byte_count-gt2.ensures
+    c.following_byte_count.ensures c.following_byte_count-else-following_byte_count-gt2.ensures
     c.following_byte_count-else-following_byte_count-gt1.ensures in
     grind (arith, nat_tests)
 
@@ -36,7 +35,6 @@ pub returns-else-following_byte_count-gt0-clause-value
 unfolding unfinished_len_by_last_three
 returns-else-following_byte_count-gt0-clause-value c =
     let all = unfinished_len_is_by_counts_of_last_three c.args.bytes.now _ _ _ c.requires
-    c.following_byte_count.ensures
-    c.following_byte_count-else-following_byte_count-gt2.ensures
+    c.following_byte_count.ensures c.following_byte_count-else-following_byte_count-gt2.ensures
     c.following_byte_count-else-following_byte_count-gt1.ensures in
     grind (arith, nat_tests)

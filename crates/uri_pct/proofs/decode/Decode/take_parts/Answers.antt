@@ -12,5 +12,4 @@ returns g c = on_ok_weaker c.take_window.result
     let end = c.take_window.new.taker in
     c.loop-chunk.invariant end
     (subst (λ chunks. took (parts_from (window_bytes c.loop-chunk.window) chunks) end)
-    (sym c.in-None.ensures.steps.0) taken))
-    c.take_window.ensures.taken
+    (sym c.in-None.ensures.steps.0) taken)) c.take_window.ensures.taken

@@ -17,8 +17,7 @@ returns-then-is_unencoded-clause-text c =
 
 pub returns-clause-text : goal.returns-clause-text
 returns-clause-text c = parts_taken_give_lossy_text c.args.self.rest.now _ c.take_parts.new.taker
-    c.args.self.whole
-    c.in_ok-with_capacity.ensures.bytes c.in_ok-take_parts.ensures
+    c.args.self.whole c.in_ok-with_capacity.ensures.bytes c.in_ok-take_parts.ensures
 
 pub returns-then-is_unencoded-clause-left : goal.returns-then-is_unencoded-clause-left
 returns-then-is_unencoded-clause-left c = returns-then-is_unencoded-clause-text c

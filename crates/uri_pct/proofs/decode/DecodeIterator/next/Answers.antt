@@ -5,14 +5,15 @@ use Rattle.std.specs.List.{position_or_len}
 use Rattle.std.specs.Str.{IsUtf8}
 use Rattle.uri_pct.specs.Chunks.{Byte, Text, chunks, widest_set}
 use Rattle.uri_pct.specs.Tokens.{IsValidFor}
+use Rattle.uri_pct.proofs.Decodings.Decoding.{BeginsWithOctet, boundary_after_octet}
 use Rattle.uri_pct.proofs.Decodings.Decoding.{bytes_from_percent_begin_with_octet}
 use Rattle.uri_pct.proofs.Decodings.Decoding.{bytes_begin_with_text_up_to_percent}
-use Rattle.uri_pct.proofs.Decodings.Decoding.{boundary_after_octet}
 use Rattle.uri_pct.proofs.Decodings.Decoding.{first_chunk_is_value_of_octet}
 use Rattle.uri_pct.proofs.Decodings.Decoding.{empty_text_has_no_chunks}
 use Rattle.std.proofs.lemmas.List.{nil_from_length}
 use Rattle.std.proofs.lemmas.Bool.{eqb-true}
 use Rattle.uri_pct.proofs.decode.DecodeIterator.next.Goals as goal
+use Rattle.uri_pct.proofs.decode.DecodeIterator.next.Goals.{Then-bytes-eq37}
 
 pub returns-then-is_empty-clause-steps : goal.returns-then-is_empty-clause-steps
 returns-then-is_empty-clause-steps c =
@@ -23,53 +24,46 @@ returns-then-is_empty-clause-steps c =
     ∙ empty_text_has_no_chunks in
     (none, none)
 
+-- the text begins with the octet of its first `%`
+octet : (c : Then-bytes-eq37) → BeginsWithOctet c.args.self.now.rest.now
+octet c =
+    bytes_from_percent_begin_with_octet c.as_bytes-bytes.result.now c.args.self.now.rest.now
+    c.as_bytes-bytes.ensures.value c.as_bytes-bytes.ensures.utf8 c.args.self.now.whole
+    (sym c.is_empty.ensures ∙ c.if-is_empty.false) c.if-bytes-eq37.true
+
 pub bounds-bytes-1 : goal.bounds-bytes-1
 bounds-bytes-1 c =
-    let o = bytes_from_percent_begin_with_octet c.as_bytes-bytes.result.now c.args.self.now.rest.now
-    c.as_bytes-bytes.ensures.value c.as_bytes-bytes.ensures.utf8 c.args.self.now.whole
-    (sym c.is_empty.ensures ∙ c.if-is_empty.false) c.if-bytes-eq37.true in
-    let long = ap length (c.as_bytes-bytes.ensures.value ∙ o.joined) in
-    omega arith
+    let o = octet (goal.at.bounds-bytes-1 c).Then-bytes-eq37 in
+    omega (arith, ap length (c.as_bytes-bytes.ensures.value ∙ o.joined))
 
 pub bounds-bytes-2 : goal.bounds-bytes-2
 bounds-bytes-2 c =
-    let o = bytes_from_percent_begin_with_octet c.as_bytes-bytes.result.now c.args.self.now.rest.now
-    c.as_bytes-bytes.ensures.value c.as_bytes-bytes.ensures.utf8 c.args.self.now.whole
-    (sym c.is_empty.ensures ∙ c.if-is_empty.false) c.if-bytes-eq37.true in
-    let long = ap length (c.as_bytes-bytes.ensures.value ∙ o.joined) in
-    omega arith
+    let o = octet (goal.at.bounds-bytes-2 c).Then-bytes-eq37 in
+    omega (arith, ap length (c.as_bytes-bytes.ensures.value ∙ o.joined))
 
 pub octet_value-value-requires-clause-high : goal.octet_value-value-requires-clause-high
 octet_value-value-requires-clause-high c =
-    let o = bytes_from_percent_begin_with_octet c.as_bytes-bytes.result.now c.args.self.now.rest.now
-    c.as_bytes-bytes.ensures.value c.as_bytes-bytes.ensures.utf8 c.args.self.now.whole
-    (sym c.is_empty.ensures ∙ c.if-is_empty.false) c.if-bytes-eq37.true in
+    let o = octet (goal.at.octet_value-value-requires-clause-high c).Then-bytes-eq37 in
     ap (λ (x : List ℕ). is_ascii_hexdigit (get_or x 1 0)) (c.as_bytes-bytes.ensures.value
     ∙ o.joined)
     ∙ o.high_digit
 
 pub octet_value-value-requires-clause-low : goal.octet_value-value-requires-clause-low
 octet_value-value-requires-clause-low c =
-    let o = bytes_from_percent_begin_with_octet c.as_bytes-bytes.result.now c.args.self.now.rest.now
-    c.as_bytes-bytes.ensures.value c.as_bytes-bytes.ensures.utf8 c.args.self.now.whole
-    (sym c.is_empty.ensures ∙ c.if-is_empty.false) c.if-bytes-eq37.true in
+    let o = octet (goal.at.octet_value-value-requires-clause-low c).Then-bytes-eq37 in
     ap (λ (x : List ℕ). is_ascii_hexdigit (get_or x 2 0)) (c.as_bytes-bytes.ensures.value
     ∙ o.joined)
     ∙ o.low_digit
 
 pub range_from-self-requires : goal.range_from-self-requires
 range_from-self-requires c =
-    let o = bytes_from_percent_begin_with_octet c.as_bytes-bytes.result.now c.args.self.now.rest.now
-    c.as_bytes-bytes.ensures.value c.as_bytes-bytes.ensures.utf8 c.args.self.now.whole
-    (sym c.is_empty.ensures ∙ c.if-is_empty.false) c.if-bytes-eq37.true in
+    let o = octet (goal.at.range_from-self-requires c).Then-bytes-eq37 in
     λ _. boundary_after_octet c.args.self.now.rest.now
     (subst IsUtf8 c.as_bytes-bytes.ensures.value c.as_bytes-bytes.ensures.utf8) o
 
 pub invariant_of-self : goal.invariant_of-self
 invariant_of-self c =
-    let o = bytes_from_percent_begin_with_octet c.as_bytes-bytes.result.now c.args.self.now.rest.now
-    c.as_bytes-bytes.ensures.value c.as_bytes-bytes.ensures.utf8 c.args.self.now.whole
-    (sym c.is_empty.ensures ∙ c.if-is_empty.false) c.if-bytes-eq37.true in
+    let o = octet (goal.at.invariant_of-self c).Then-bytes-eq37 in
     let suffix : c.range_from-self.result.now ≡ o.suffix = c.range_from-self.ensures.value
     ∙ ap (drop 3) o.joined in
     record { whole = subst (IsValidFor widest_set) (sym suffix) o.valid }

@@ -19,8 +19,7 @@ invariant_of-self g c =
       valid = valid_after_ok_or_err set old new more c.append_bytes.result c.append_bytes.ensures.ok
           c.append_bytes.ensures.err before.valid
           (λ e. (grows_by_encoded_bytes set sub old new c.args.bytes.now before.lacks_percent
-          c.requires.subset
-          c.requires.octets (IsUtf8-string_bytes before.text)
+          c.requires.subset c.requires.octets (IsUtf8-string_bytes before.text)
           (bytes_below_256_are_eight_bit c.args.bytes.now (λ i. (c.type_inv.bytes i).fits))
           before.valid
           (e ∙ ap (λ s. old ++ print (encode_bytes s c.args.bytes.now)) c.table.ensures)).valid);

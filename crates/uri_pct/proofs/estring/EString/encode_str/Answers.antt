@@ -32,7 +32,6 @@ returns-clause-tokens g c =
     let old = string_bytes before.text in
     (grows_by_encoded_text set sub old (string_bytes c.append_text.new.out) c.args.text.now
     before.lacks_percent
-    c.requires.subset c.requires.octets (IsUtf8-string_bytes before.text) c.utf8.text
-    before.valid
+    c.requires.subset c.requires.octets (IsUtf8-string_bytes before.text) c.utf8.text before.valid
     (c.in_ok-append_text.ensures.ok
     ∙ ap (λ s. old ++ print (encode_text s c.args.text.now)) c.table.ensures)).tokens

@@ -12,8 +12,7 @@ invariant_of-self g c =
     let new = string_bytes c.push.new.self in
     record {
       valid = valid_after_push set old new (encode_utf8 c.args.ch) c.push.result
-          c.push.ensures.bytes
-          before.valid
+          c.push.ensures.bytes before.valid
           (λ e. (grows_by_char set old new c.args.ch before.lacks_percent
           (IsUtf8-string_bytes before.text) before.valid c.requires e).valid);
       lacks_percent = before.lacks_percent;

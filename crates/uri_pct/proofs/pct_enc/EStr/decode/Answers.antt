@@ -9,8 +9,7 @@ pub of_text-requires : goal.of_text-requires
 of_text-requires g c =
     let set = g.E.Encoder.set in
     valid_for_superset set widest_set c.as_str.result.now
-    (every_set_is_subset_of_widest set g.met.E.Encoder.lacks_percent)
-    c.as_str.ensures.valid
+    (every_set_is_subset_of_widest set g.met.E.Encoder.lacks_percent) c.as_str.ensures.valid
 
 pub returns-clause-fits : goal.returns-clause-fits
 returns-clause-fits g c = rw c.of_text.ensures

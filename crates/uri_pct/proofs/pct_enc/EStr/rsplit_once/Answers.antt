@@ -9,25 +9,21 @@ returns-in_err-before g c =
     let mark = reserved_is_never_in_octet c.args.delimiter c.requires in
     rw (c.from_residual.ensures, ← c.as_str.ensures.text)
     (rsplit_once_cuts_at_last c.args.delimiter c.as_str.result.now None
-    c.in_err-before.ensures.cases
-    mark.ascii)
+    c.in_err-before.ensures.cases mark.ascii)
 
 pub new_or_panic-requires : goal.new_or_panic-requires
 new_or_panic-requires g c =
     let mark = reserved_is_never_in_octet c.args.delimiter c.requires in
     let cut = rsplit_once_cuts_at_last c.args.delimiter c.as_str.result.now
-    (Some (c.in_ok-before.before, c.in_ok-before.after)) c.in_ok-before.ensures.cases
-    mark.ascii in
+    (Some (c.in_ok-before.before, c.in_ok-before.after)) c.in_ok-before.ensures.cases mark.ascii in
     valid_before_mark g.E.Encoder.set c.as_str.result.now _ _ c.args.delimiter
-    c.as_str.ensures.valid
-    cut.0 mark c.as_str.utf8
+    c.as_str.ensures.valid cut.0 mark c.as_str.utf8
 
 pub new_or_panic-requires-2 : goal.new_or_panic-requires-2
 new_or_panic-requires-2 g c =
     let mark = reserved_is_never_in_octet c.args.delimiter c.requires in
     let cut = rsplit_once_cuts_at_last c.args.delimiter c.as_str.result.now
-    (Some (c.in_ok-before.before, c.in_ok-before.after)) c.in_ok-before.ensures.cases
-    mark.ascii in
+    (Some (c.in_ok-before.before, c.in_ok-before.after)) c.in_ok-before.ensures.cases mark.ascii in
     valid_after_mark g.E.Encoder.set c.as_str.result.now _ _ c.args.delimiter c.as_str.ensures.valid
     cut.0 mark c.as_str.utf8
 
@@ -35,6 +31,5 @@ pub returns : goal.returns
 returns g c =
     let mark = reserved_is_never_in_octet c.args.delimiter c.requires in
     let cut = rsplit_once_cuts_at_last c.args.delimiter c.as_str.result.now
-    (Some (c.in_ok-before.before, c.in_ok-before.after)) c.in_ok-before.ensures.cases
-    mark.ascii in
+    (Some (c.in_ok-before.before, c.in_ok-before.after)) c.in_ok-before.ensures.cases mark.ascii in
     rw (c.new_or_panic.ensures, c.new_or_panic-2.ensures, ← c.as_str.ensures.text) cut

@@ -1,7 +1,6 @@
 use Rattle.std.proofs.Common.{◌≡◌, ◌∷◌, [], eqb, length, rules, ap, ◌∙◌}
 use Rattle.std.specs.List.{slice_split}
-use Rattle.uri_pct.specs.EncodedTexts.{text_of}
-use Rattle.uri_pct.specs.EncodedTexts.{substrings_left}
+use Rattle.uri_pct.specs.EncodedTexts.{text_of, substrings_left}
 use Rattle.uri_pct.proofs.ValidTexts.Delimiters.{split_piece_before_first_delimiter_is_first}
 use Rattle.uri_pct.proofs.ValidTexts.Delimiters.{text_without_delimiter_is_one_piece}
 use Rattle.uri_pct.proofs.Decodings.Splits.{substrings_left_are_split_of_rest}
@@ -14,9 +13,7 @@ cut : (g : _) (c : goal.After-self-1 g)
 cut g c =
     substrings_left_are_split_of_rest c.args.self.now c.in_ok-text.text c.in_ok-text.was
     ∙ split_piece_before_first_delimiter_is_first c.args.self.now.delimiter
-    (text_of c.in_ok-text.text)
-    (text_of c.in-Some.piece)
-    (text_of c.in-Some.rest) c.in-Some.ensures
+    (text_of c.in_ok-text.text) (text_of c.in-Some.piece) (text_of c.in-Some.rest) c.in-Some.ensures
 
 whole : (g : _) (c : goal.After-self-in-None-1 g)
     → substrings_left c.args.self.now ≡ text_of c.in_ok-text.text ∷ []

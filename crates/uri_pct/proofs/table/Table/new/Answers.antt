@@ -28,8 +28,7 @@ loop-byte-preserved c = λ code.
           ∙ has_bit_after_high_bit_is_set c.loop-byte.low c.loop-byte.high here code
           w.if-byte-lt64.false
           (unencoded_ascii_is_below_128_and_no_percent c.args.bytes.now c.requires
-          c.loop-byte.byte-index 0
-          c.loop-byte-test.true).0
+          c.loop-byte.byte-index 0 c.loop-byte-test.true).0
     ] in
     step ∙ ap (λ b. b || eqb here code) (c.loop-byte.invariant code)
     ∙ sym (list_any_more (λ x. eqb x code) c.args.bytes.now c.loop-byte.byte-index 0

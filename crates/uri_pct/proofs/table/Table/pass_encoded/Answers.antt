@@ -72,8 +72,7 @@ scanned t ascii octets text bs start end masks pct same u here from within are p
     (subst (λ b. AreCharactersOrOctets ascii b start (end - start)) same are))))
     (λ (o : octets ≡ false).
     ascii_run_is_scanned (set_of t) (lacks_percent t) (has_bit-only-ascii t.low t.high) text u
-    start here end
-    (subst (λ f. IsLongestRun f text start end) masks
+    start here end (subst (λ f. IsLongestRun f text start end) masks
     (subst (λ b. IsLongestRun ascii b start end) same (plain o))))
     (cases_Bool octets)
 

@@ -121,8 +121,7 @@ returns-then-allows_lead-clause-boundary c =
     let table = c.args.self.now in
     let lead = and_parts _ _ (sym c.allows_lead.ensures ∙ c.if-allows_lead.true) in
     char_run_ends_at_boundary (set_of table) (lacks_percent table) lead.0 (has_bit-only-ascii _ _)
-    c.args.text.now
-    c.utf8.text c.args.start c.chars_end.result (run c)
+    c.args.text.now c.utf8.text c.args.start c.chars_end.result (run c)
 
 pub returns-then-allows_lead-clause-stop : goal.returns-then-allows_lead-clause-stop
 returns-then-allows_lead-clause-stop c = λ e.

@@ -11,8 +11,7 @@ pub returns-then-not-allows_past_ascii-clause-refused
     : goal.returns-then-not-allows_past_ascii-clause-refused
 returns-then-not-allows_past_ascii-clause-refused c = λ _.
     valid_prefix_by_char_past_ascii_at_index (set_of c.args.self.now) c.args.text.now c.args.index
-    c.char_at-ch.result
-    c.utf8.text c.requires.here c.char_at-ch.ensures c.requires.past
+    c.char_at-ch.result c.utf8.text c.requires.here c.char_at-ch.ensures c.requires.past
     ∙ cond-false _ _ _ (sym c.allows_past_ascii.ensures ∙ c.if-not-allows_past_ascii.true)
 
 decoded_char : (c : goal.After-len_utf8)
@@ -24,8 +23,7 @@ decoded_char : (c : goal.After-len_utf8)
 decoded_char c =
     scan_passes_char (set_of c.args.self.now) c.args.text.now _ c.args.index c.char_at-ch.result
     c.len_utf8.result c.utf8.text c.requires.here c.requires.inside c.requires.past
-    c.char_at-ch.ensures
-    (sym c.allows_past_ascii.ensures ∙ c.if-not-allows_past_ascii.false)
+    c.char_at-ch.ensures (sym c.allows_past_ascii.ensures ∙ c.if-not-allows_past_ascii.false)
     (sym c.len_utf8.ensures.value)
 
 pub returns-clause-boundary : goal.returns-clause-boundary

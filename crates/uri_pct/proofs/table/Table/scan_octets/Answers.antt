@@ -22,8 +22,7 @@ loop-i-preserved-then-byte-eq37 c =
     let digits = sym c.has_octet_digits.ensures.value ∙ c.if-not-has_octet_digits.false in
     let within : i + 2 < length bs = c.has_octet_digits.ensures.within (search rules) in
     let r = octet_is_scanned (set_of c.args.table.now) bs i c.as_bytes-bytes.ensures.utf8
-    c.requires.octets
-    within c.if-byte-eq37.true digits in
+    c.requires.octets within c.if-byte-eq37.true digits in
     record {
       from = omega (arith, c.loop-i.invariant.from);
       boundary = r.1;
@@ -59,8 +58,7 @@ returns-then-not-has_octet_digits-clause-stop c = λ _ _.
     and_right _ _ (sym c.has_octet_digits.ensures.value ∙ c.if-not-has_octet_digits.true) in
     subst (λ t. valid_prefix set (drop i t) ≡ 0) c.as_bytes-bytes.ensures.value
     (valid_prefix_stops_at_stray_percent set (lacks_percent c.args.table.now) bs i c.loop-i-test.true
-    c.if-byte-eq37.true
-    stray)
+    c.if-byte-eq37.true stray)
 
 pub returns-then-byte-ge128-clause-stop : goal.returns-then-byte-ge128-clause-stop
 returns-then-byte-ge128-clause-stop c = λ _ below.

@@ -27,8 +27,7 @@ invariant_of-self-clause-past_ascii c =
     let w = c.args.self.now in
     All-same (λ b. 128 ≤ b) _ _
     (moved w.bytes _ w.len c.args.kept c.requires (omega (arith, w.fits))
-    c.copy_within.ensures.after)
-    (All-drop (λ b. 128 ≤ b) _ (take w.len w.bytes) w.past_ascii)
+    c.copy_within.ensures.after) (All-drop (λ b. 128 ≤ b) _ (take w.len w.bytes) w.past_ascii)
 
 pub returns : goal.returns
 returns c =
