@@ -2,7 +2,6 @@
 pub mod LiteralFaults
 pub mod Addresses
 pub mod AddressParsing
-pub mod GroupParsing
 pub mod Futures
 pub mod Hosts
 pub mod ParsedAddresses

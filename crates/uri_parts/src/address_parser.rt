@@ -1,31 +1,20 @@
-//! Where an IPv6 address ends, whose numbers nobody asks for: RFC 4291, section 2.2.
+//! The numbers of an IP address: RFC 3986, section 3.2.2.
 ghost use Rattle.std.specs.Net.Reader as numbers;
 ghost use Rattle.std.specs.Char.{digit_value};
-ghost use Rattle.std.specs.Prelude.{◌≡◌, ◌≤◌, ◌<◌, IfSome, length, option_copied, option_map, true};
+ghost use Rattle.std.specs.Prelude.{◌≡◌, ◌≤◌, ◌<◌, IfSome, length, option_copied, true};
 ghost use Rattle.std.specs.Prelude.{◌+◌, drop, IsTrue, min, slice_index, take};
 ghost use Rattle.std.specs.Str.Parse.{digits_value};
-ghost use Rattle.uri_parts.specs.Models.Literals.{AreLeadingHexDigits, AreCountedGroups};
+ghost use Rattle.uri_parts.specs.Models.Literals.{AreLeadingHexDigits};
+ghost use Rattle.uri_parts.specs.Models.Literals.{segments_of_ipv4, two_segments};
 
 /// Returns what follows this byte of an IPv6 address, if the text begins with it.
 #[inline(always)]
-pub(crate) fn after_byte(text: &[u8], byte: u8) -> Option<&[u8]>
+fn after_byte(text: &[u8], byte: u8) -> Option<&[u8]>
     ensures { option_copied result ≡ numbers.read_byte byte text.now }
 {
     match text {
         [first, rest @ ..] if *first == byte => Some(rest),
         _ => None,
-    }
-}
-
-/// Returns what follows the colon before a group of an IPv6 address, which the first group has not.
-#[inline(always)]
-pub(crate) fn after_separator(text: &[u8], is_first: bool) -> Option<&[u8]>
-    ensures { option_copied result ≡ numbers.read_separator is_first text.now }
-{
-    if is_first {
-        Some(text)
-    } else {
-        after_byte(text, b':')
     }
 }
 
@@ -59,7 +48,8 @@ fn decimal_up_to_255(text: &[u8]) -> Option<(u32, usize)>
 /// of at most 255 without leading zeros. Returns it and what follows it.
 #[tactic(auto, unfolding(std::specs::Net::Reader::read_octet))]
 fn parse_octet(text: &[u8]) -> Option<(u32, &[u8])>
-    ensures { numbers.read_view (λ n. n) result ≡ numbers.read_octet text.now }
+    ensures value { numbers.read_view (λ n. n) result ≡ numbers.read_octet text.now }
+    ensures fits { IfSome result (λ n. n.0 ≤ 255) }
 {
     let (value, count) = decimal_up_to_255(text)?;
     if count > 1 && text[0] == b'0' {
@@ -68,17 +58,18 @@ fn parse_octet(text: &[u8]) -> Option<(u32, &[u8])>
     Some((value, &text[count..]))
 }
 
-/// Returns what follows the IPv4 address that a text begins with, if it begins with one.
+/// Parses the IPv4 address that a text begins with. Returns its numbers, as the last two segments
+/// of an IPv6 address, and what follows it.
 #[tactic(auto, unfolding(std::specs::Net::Reader::read_ipv4))]
 #[inline(never)]
-fn after_ipv4(text: &[u8]) -> Option<&[u8]>
-    ensures { option_copied result ≡ option_map (λ n. n.1) (numbers.read_ipv4 text.now) }
+pub(crate) fn parse_ipv4(text: &[u8]) -> Option<(u16, u16, &[u8])>
+    ensures { two_segments result ≡ segments_of_ipv4 text.now }
 {
-    let (_, text) = parse_octet(text)?;
-    let (_, text) = parse_octet(after_byte(text, b'.')?)?;
-    let (_, text) = parse_octet(after_byte(text, b'.')?)?;
-    let (_, text) = parse_octet(after_byte(text, b'.')?)?;
-    Some(text)
+    let (a, text) = parse_octet(text)?;
+    let (b, text) = parse_octet(after_byte(text, b'.')?)?;
+    let (c, text) = parse_octet(after_byte(text, b'.')?)?;
+    let (d, text) = parse_octet(after_byte(text, b'.')?)?;
+    Some(((a * 256 + b) as u16, (c * 256 + d) as u16, text))
 }
 
 /// The value of each byte that is a hexadecimal digit, and 16 for the others.
@@ -216,103 +207,4 @@ pub(crate) fn leading_digits(text: &[u8], start: usize) -> LeadingDigits
     } else {
         count_digits(text, start, false)
     }
-}
-
-/// Returns how many hexadecimal digits of a group come first, of which five at most are counted.
-#[inline(always)]
-pub(crate) fn hex_digits(text: &[u8]) -> usize
-    ensures { AreLeadingHexDigits text.now result }
-{
-    leading_digits(text, 0).count
-}
-
-/// Returns what follows an IPv4 address at the end of an IPv6 address, where it fits. So many
-/// hexadecimal digits come first.
-#[inline(always)]
-fn after_ipv4_if(text: &[u8], digits: usize, fits: bool) -> Option<&[u8]>
-    requires { AreLeadingHexDigits text.now digits }
-    ensures { option_copied result
-        ≡ option_map (λ n. n.1) (numbers.read_ipv4_if fits text.now) }
-{
-    if fits && digits < 5 && digits < text.len() && text[digits] == b'.' {
-        after_ipv4(text)
-    } else {
-        None
-    }
-}
-
-/// Returns what follows a group of one to four hexadecimal digits, of which so many come first.
-#[inline(always)]
-pub(crate) fn after_group(text: &[u8], digits: usize) -> Option<&[u8]>
-    requires { AreLeadingHexDigits text.now digits }
-    ensures { option_copied result ≡ option_map (λ n. n.1) (numbers.read_segment text.now) }
-{
-    if digits == 0 || digits == 5 {
-        None
-    } else {
-        Some(&text[digits..])
-    }
-}
-
-/// Groups with colons between them, the last of which may be an IPv4 address in place of two.
-#[derive(Clone, Copy)]
-struct Groups<'a> {
-    count: usize,
-    has_ipv4: bool,
-    rest: &'a [u8],
-}
-
-/// Parses the groups of an IPv6 address that come first, so many at most.
-#[inline(always)]
-fn parse_groups(text: &[u8], room: usize) -> Groups<'_>
-    ensures found { AreCountedGroups (numbers.read_segments room true text.now) result.count
-        result.has_ipv4 result.rest.now }
-    ensures within { result.count ≤ room }
-{
-    let mut rest = text;
-    for i in 0..room {
-        let Some(group) = after_separator(rest, i == 0) else {
-            return Groups {
-                count: i,
-                has_ipv4: false,
-                rest,
-            };
-        };
-        let digits = hex_digits(group);
-        if let Some(suffix) = after_ipv4_if(group, digits, i + 1 < room) {
-            return Groups {
-                count: i + 2,
-                has_ipv4: true,
-                rest: suffix,
-            };
-        }
-        let Some(suffix) = after_group(group, digits) else {
-            return Groups {
-                count: i,
-                has_ipv4: false,
-                rest,
-            };
-        };
-        rest = suffix;
-    }
-    Groups {
-        count: room,
-        has_ipv4: false,
-        rest,
-    }
-}
-
-/// Returns what follows the IPv6 address that a text begins with, if it begins with one.
-pub(crate) fn after_ipv6(text: &[u8]) -> Option<&[u8]>
-    ensures { option_copied result ≡ option_map (λ n. n.1) (numbers.read_ipv6 text.now) }
-{
-    let head = parse_groups(text, 8);
-    if head.count == 8 {
-        return Some(head.rest);
-    }
-    if head.has_ipv4 {
-        return None;
-    }
-    let tail = after_byte(after_byte(head.rest, b':')?, b':')?;
-    Some(parse_groups(tail, 7 - head.count).rest)
 }

@@ -1,25 +1,35 @@
-//! The segments of an IPv6 address that has no IPv4 address in it: RFC 4291, section 2.2.
-ghost use Rattle.std.specs.Net.Reader.{read_ipv6, read_segments};
-ghost use Rattle.std.specs.Prelude.{◌≡◌, ◌==◌, ◌<◌, ◌≤◌, IfSome, Some, drop, false, length};
+//! The segments of an IPv6 address, and where it ends: RFC 4291, section 2.2.
+ghost use Rattle.std.specs.Net.Reader as numbers;
+ghost use Rattle.std.specs.Prelude.{◌≡◌, ◌<◌, ◌≤◌, IfSome, IsTrue, drop, is_some, length};
 ghost use Rattle.std.specs.Prelude.{ℕ, ◌+◌, max, option_map, replicate, slice_index, take, true};
-ghost use Rattle.std.specs.Str.Parse.{digits_value};
-ghost use Rattle.uri_pct.specs.Delimiters.{full_stop};
 ghost use Rattle.uri_parts.specs.Hosts.{ipv6_value};
-ghost use Rattle.uri_parts.specs.Models.Literals.{AreLeadingHexDigits};
 
-use crate::address_parser::{byte_at, leading_digits};
+use crate::address_parser::{byte_at, leading_digits, parse_ipv4};
+
+/// The groups of an IPv6 address that were read.
+#[derive(Clone, Copy)]
+struct Groups {
+    count: usize,
+    /// Whether the last two are an IPv4 address.
+    has_ipv4: bool,
+    end: usize,
+}
 
 /// Reads groups of an IPv6 address at `start`, with `:` between them, into the first of `segments`.
-/// Returns how many it filled and where they end, or `None` at a `.`, where an IPv4 address may be.
+/// The last two may be an IPv4 address.
+///
+/// Unless it `takes_ipv4`, it returns `None` at a `.`, calls no other function and saves few
+/// registers.
 #[inline(always)]
-fn read_groups(text: &[u8], start: usize, segments: &mut [u16]) -> Option<(usize, usize)>
+fn read_groups(text: &[u8], start: usize, segments: &mut [u16], takes_ipv4: bool) -> Option<Groups>
     requires { start ≤ length text.now }
     ensures value { IfSome result (λ r.
-        read_segments (length segments.old) true (drop start text.now)
-        ≡ (take r.0 segments.new, false, drop r.1 text.now)) }
-    ensures within { IfSome result (λ r. r.0 ≤ length segments.old) }
-    ensures end { IfSome result (λ r. r.1 ≤ length text.now) }
-    ensures others { IfSome result (λ r. drop r.0 segments.new ≡ drop r.0 segments.old) }
+        numbers.read_segments (length segments.old) true (drop start text.now)
+        ≡ (take r.count segments.new, r.has_ipv4, drop r.end text.now)) }
+    ensures within { IfSome result (λ r. r.count ≤ length segments.old) }
+    ensures end { IfSome result (λ r. r.end ≤ length text.now) }
+    ensures others { IfSome result (λ r. drop r.count segments.new ≡ drop r.count segments.old) }
+    ensures total { IsTrue takes_ipv4 → is_some result ≡ true }
 {
     let room = segments.len();
     let mut end = start;
@@ -27,20 +37,44 @@ fn read_groups(text: &[u8], start: usize, segments: &mut [u16]) -> Option<(usize
     for i in 0..room {
         let digits = leading_digits(text, group);
         if digits.count == 0 || digits.count == 5 {
-            return Some((i, end));
+            return Some(Groups {
+                count: i,
+                has_ipv4: false,
+                end,
+            });
         }
         segments[i] = digits.value;
         end = group + digits.count;
         if digits.next != b':' {
-            return if digits.next == b'.' {
-                None
-            } else {
-                Some((i + 1, end))
-            };
+            if digits.next == b'.' {
+                if !takes_ipv4 {
+                    return None;
+                }
+                if i + 1 < room {
+                    if let Some((high, low, rest)) = parse_ipv4(&text[group..]) {
+                        segments[i] = high;
+                        segments[i + 1] = low;
+                        return Some(Groups {
+                            count: i + 2,
+                            has_ipv4: true,
+                            end: text.len() - rest.len(),
+                        });
+                    }
+                }
+            }
+            return Some(Groups {
+                count: i + 1,
+                has_ipv4: false,
+                end,
+            });
         }
         group = end + 1;
     }
-    Some((room, end))
+    Some(Groups {
+        count: room,
+        has_ipv4: false,
+        end,
+    })
 }
 
 /// Merges the last groups of an IPv6 address, which `tail` has from 8 on, into its segments. They
@@ -58,44 +92,70 @@ fn merge_tail(segments: &mut [u16; 8], tail: &[u16; 16], tail_len: usize)
     }
 }
 
-/// Reads the IPv6 address at `start` into `segments`, which are zeros. Returns where it ends,
-/// `Some(None)` if there is none, or `None` if a `.` follows a group.
+/// Reads the IPv6 address at `start` into `segments`, which are zeros. Returns where it ends, or
+/// `Some(None)` if there is none. Unless it `takes_ipv4`, it returns `None` if a `.` follows a
+/// group.
 #[inline(always)]
 #[tactic(auto, unfolding(std::specs::Net::Reader::read_ipv6))]
-pub(crate) fn read_without_ipv4(
+pub(crate) fn read_ipv6(
     text: &[u8],
     start: usize,
     segments: &mut [u16; 8],
+    takes_ipv4: bool,
 ) -> Option<Option<usize>>
     requires zeros { segments.old ≡ replicate 8 0 }
     requires start { start ≤ length text.now }
     ensures read { IfSome result (λ found.
         option_map (λ end. (segments.new, drop end text.now)) found
-        ≡ read_ipv6 (drop start text.now)) }
+        ≡ numbers.read_ipv6 (drop start text.now)) }
     ensures end { IfSome result (λ found. IfSome found (λ end. end ≤ length text.now)) }
+    ensures total { IsTrue takes_ipv4 → is_some result ≡ true }
 {
-    let (head_len, end) = read_groups(text, start, segments)?;
-    if head_len == 8 {
-        return Some(Some(end));
+    let head = read_groups(text, start, segments, takes_ipv4)?;
+    if head.count == 8 {
+        return Some(Some(head.end));
     }
-    if byte_at(text, end, false) != b':' || byte_at(text, end + 1, false) != b':' {
+    let end = head.end;
+    if head.has_ipv4 || byte_at(text, end, false) != b':' || byte_at(text, end + 1, false) != b':' {
         return Some(None);
     }
     let mut tail = [0; 16];
-    let (tail_len, end) = read_groups(text, end + 2, &mut tail[8..15 - head_len])?;
-    merge_tail(segments, &tail, tail_len);
-    Some(Some(end))
+    let last = read_groups(text, end + 2, &mut tail[8..15 - head.count], takes_ipv4)?;
+    merge_tail(segments, &tail, last.count);
+    Some(Some(last.end))
 }
 
-/// Returns the segments of the IPv6 address that the whole text is.
-/// It returns `None` for other texts, and if a `.` follows a group.
+/// Returns the segments of the IPv6 address that the whole text is, or `Some(None)` if it is none.
+/// Unless it `takes_ipv4`, it returns `None` if a `.` follows a group.
+#[inline(always)]
 #[tactic(auto, unfolding(crate::specs::Hosts::ipv6_value))]
-pub(crate) fn ipv6_without_ipv4(text: &[u8]) -> Option<[u16; 8]>
-    ensures { IfSome result (λ segments. ipv6_value text.now ≡ Some segments) }
+fn read_whole_ipv6(text: &[u8], takes_ipv4: bool) -> Option<Option<[u16; 8]>>
+    ensures read { IfSome result (λ found. found ≡ ipv6_value text.now) }
+    ensures total { IsTrue takes_ipv4 → is_some result ≡ true }
 {
     let mut segments = [0; 8];
-    match read_without_ipv4(text, 0, &mut segments) {
-        Some(Some(end)) if end == text.len() => Some(segments),
-        _ => None,
+    match read_ipv6(text, 0, &mut segments, takes_ipv4)? {
+        Some(end) if end == text.len() => Some(Some(segments)),
+        _ => Some(None),
+    }
+}
+
+/// Returns the segments of the IPv6 address that the whole text is, which may have an IPv4 address
+/// in it.
+#[cold]
+#[inline(never)]
+fn segments_with_ipv4(text: &[u8]) -> Option<[u16; 8]>
+    ensures { result ≡ ipv6_value text.now }
+{
+    read_whole_ipv6(text, true)?
+}
+
+/// Returns the segments of the IPv6 address that the whole text is, or `None` if it is none.
+pub(crate) fn parse_ipv6_segments(text: &[u8]) -> Option<[u16; 8]>
+    ensures { result ≡ ipv6_value text.now }
+{
+    match read_whole_ipv6(text, false) {
+        Some(found) => found,
+        None => segments_with_ipv4(text),
     }
 }

@@ -1,7 +1,8 @@
 //! Addresses in brackets (RFC 3986, section 3.2.2).
 ghost use Rattle.std.specs.Prelude.{◌≡◌, ◌≤◌, ◌<◌, ◌+◌, length, IsTrue, IfSome, IfOk, IfErr, is_ok};
 ghost use Rattle.uri_parts.specs.Errors.{error_index};
-ghost use Rattle.std.specs.Prelude.{drop, ◌||◌, ◌&&◌, not, nat_lt, Ok, Err, true, false};
+ghost use Rattle.std.specs.Prelude.{drop, ◌||◌, ◌&&◌, not, nat_lt, Ok, Err, Some, None, true};
+ghost use Rattle.std.specs.Prelude.{false, is_some};
 ghost use Rattle.uri_parts.specs.Components.{is_end, starts};
 ghost use Rattle.uri_parts.specs.LiteralErrors.{digits_end as digits_end_at};
 ghost use Rattle.uri_parts.specs.LiteralErrors.{octet_end as octet_end_at, ipv4_end as ipv4_end_at};
@@ -14,10 +15,10 @@ ghost use Rattle.uri_pct.specs.Tables.{set_of};
 ghost use Rattle.uri_pct.specs.Delimiters.{full_stop, right_bracket};
 ghost use Rattle.uri_pct.specs.Sets.{hexdig_set, ipv_future_set};
 ghost use Rattle.uri_parts.specs.Models.LiteralGroups.{groups_of_end, EndsAtBoundary};
+ghost use Rattle.uri_parts.specs.Models.Literals.{LacksVersionLetter};
 ghost use Rattle.std.specs.Prelude.{if◌then◌else◌};
 
-use crate::address_parser::after_ipv6;
-use crate::address_reader::read_without_ipv4;
+use crate::address_reader::read_ipv6;
 use crate::error::{ParseError, ParseErrorKind};
 use uri_pct::table::{HEXDIG, IPV_FUTURE, Table};
 
@@ -272,35 +273,47 @@ fn future_end(text: &str, start: usize) -> Result<usize, ParseError>
     end_after_mark(text, address, &IPV_FUTURE, b']')
 }
 
-/// Returns the position after the IPv6 address at `start`, which may begin there, and its `]`, or
-/// why there is none.
-#[inline(never)]
-fn ipv6_literal_end(text: &str, start: usize) -> Result<usize, ParseError>
-    requires boundary { IsCharBoundary text.now start }
-    requires lacks_version_letter { (starts 118 (drop start text.now)
-        || starts 86 (drop start text.now))
-        ≡ false }
-    requires begins { is_no_ipv6_at text.now start ≡ false }
-    ensures boundary { IfOk result (λ end. IsCharBoundary text.now end) }
-    ensures index { IfErr result (λ e. IsCharBoundary text.now (error_index e)) }
-    ensures exact { result ≡ literal text.now start }
+/// Returns the position after the IPv6 address at `start` and its `]`, or `Some(None)` if there is
+/// none. Unless it `takes_ipv4`, it returns `None` if a `.` follows a group.
+#[inline(always)]
+fn closed_ipv6_end(text: &str, start: usize, takes_ipv4: bool) -> Option<Option<usize>>
+    requires { IsCharBoundary text.now start }
+    ensures boundary { IfSome result (λ found. IfSome found (IsCharBoundary text.now)) }
+    ensures exact { IfSome result (λ found. IfSome found (λ end. literal text.now start ≡ Ok end)) }
+    ensures absent { result ≡ Some None → LacksVersionLetter (drop start text.now)
+        → is_ok (literal text.now start) ≡ false }
+    ensures total { IsTrue takes_ipv4 → is_some result ≡ true }
 {
-    let address = &text[start..];
-    if let Some(rest) = after_ipv6(address.as_bytes()) {
-        let end = text.len() - rest.len();
-        if next_is(text, end, b']') {
-            return Ok(end + 1);
-        }
+    let mut segments = [0; 8];
+    match read_ipv6(text.as_bytes(), start, &mut segments, takes_ipv4)? {
+        Some(end) if next_is(text, end, b']') => Some(Some(end + 1)),
+        _ => Some(None),
     }
-    Err(refusal(text, start))
 }
 
-/// Returns the position after the address at `start` and its `]`, or why there is none. A `[` is
-/// before `start`. It parses addresses of every form.
+/// Returns the position after the IPv6 address at `start` and its `]`, or `Some(None)` if there is
+/// none. It returns `None` if a `.` follows a group, as in an address with an IPv4 address in it.
+///
+/// It calls no other function, so it saves few registers.
+#[inline(never)]
+fn plain_ipv6_end(text: &str, start: usize) -> Option<Option<usize>>
+    requires { IsCharBoundary text.now start }
+    ensures boundary { IfSome result (λ found. IfSome found (IsCharBoundary text.now)) }
+    ensures exact { IfSome result (λ found. IfSome found (λ end. literal text.now start ≡ Ok end)) }
+    ensures absent { result ≡ Some None → LacksVersionLetter (drop start text.now)
+        → is_ok (literal text.now start) ≡ false }
+{
+    closed_ipv6_end(text, start, false)
+}
+
+/// Returns the position after the address at `start` and its `]`, or why there is none. No IPv6
+/// address with a `]` is at `start`.
 #[cold]
 #[inline(never)]
-fn any_literal_end(text: &str, start: usize) -> Result<usize, ParseError>
-    requires { IsCharBoundary text.now start }
+fn other_literal_end(text: &str, start: usize) -> Result<usize, ParseError>
+    requires boundary { IsCharBoundary text.now start }
+    requires absent { LacksVersionLetter (drop start text.now)
+        → is_ok (literal text.now start) ≡ false }
     ensures boundary { IfOk result (λ end. IsCharBoundary text.now end) }
     ensures index { IfErr result (λ e. IsCharBoundary text.now (error_index e)) }
     ensures exact { result ≡ literal text.now start }
@@ -311,23 +324,22 @@ fn any_literal_end(text: &str, start: usize) -> Result<usize, ParseError>
     if cannot_begin_ipv6(text, start) {
         return Err(ParseError::new(start, ParseErrorKind::UnexpectedChar));
     }
-    ipv6_literal_end(text, start)
+    Err(refusal(text, start))
 }
 
-/// Returns the position after the IPv6 address at `start` and its `]`. Returns `None` if there is
-/// none, or it has an IPv4 address in it.
-///
-/// It calls no other function, so it saves few registers.
+/// Returns the position after the address at `start` and its `]`, or why there is none. The address
+/// may have an IPv4 address in it.
+#[cold]
 #[inline(never)]
-fn plain_ipv6_end(text: &str, start: usize) -> Option<usize>
+fn dotted_literal_end(text: &str, start: usize) -> Result<usize, ParseError>
     requires { IsCharBoundary text.now start }
-    ensures boundary { IfSome result (IsCharBoundary text.now) }
-    ensures exact { IfSome result (λ end. literal text.now start ≡ Ok end) }
+    ensures boundary { IfOk result (λ end. IsCharBoundary text.now end) }
+    ensures index { IfErr result (λ e. IsCharBoundary text.now (error_index e)) }
+    ensures exact { result ≡ literal text.now start }
 {
-    let mut segments = [0; 8];
-    match read_without_ipv4(text.as_bytes(), start, &mut segments) {
-        Some(Some(end)) if next_is(text, end, b']') => Some(end + 1),
-        _ => None,
+    match closed_ipv6_end(text, start, true) {
+        Some(Some(end)) => Ok(end),
+        _ => other_literal_end(text, start),
     }
 }
 
@@ -341,7 +353,8 @@ pub(crate) fn literal_end(text: &str, start: usize) -> Result<usize, ParseError>
     ensures exact { result ≡ literal text.now start }
 {
     match plain_ipv6_end(text, start) {
-        Some(end) => Ok(end),
-        None => any_literal_end(text, start),
+        Some(Some(end)) => Ok(end),
+        Some(None) => other_literal_end(text, start),
+        None => dotted_literal_end(text, start),
     }
 }

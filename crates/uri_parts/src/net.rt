@@ -3,7 +3,7 @@ ghost use Rattle.std.specs.Prelude.{◌≡◌, [], ◌∷◌, Some, option_map};
 ghost use Rattle.std.specs.Net.Text.{ipv4_text, ipv6_text};
 ghost use Rattle.uri_parts.specs.Hosts.{ipv4_value, ipv6_value};
 
-use crate::address_reader::ipv6_without_ipv4;
+use crate::address_reader::parse_ipv6_segments;
 use std::{fmt, net};
 
 /// An IPv4 address: four octets.
@@ -157,18 +157,11 @@ impl Ipv6Addr {
 
     /// Returns the IPv6 address that the whole text writes, or `None` if it writes none.
     #[doc(hidden)]
-    #[tactic(auto, using(crate::proofs::HostForms::ParsedAddresses::parsed_ipv6_has_value_of_text))]
     pub fn parse(text: &str) -> Option<Self>
         ensures { option_map ipv6_segments result ≡ ipv6_value text.now }
     {
-        let bytes = text.as_bytes();
-        if let Some(segments) = ipv6_without_ipv4(bytes) {
-            return Some(Ipv6Addr(net::Ipv6Addr::from_segments(segments)));
-        }
-        match net::Ipv6Addr::parse_ascii(bytes) {
-            Ok(address) => Some(Ipv6Addr(address)),
-            Err(_) => None,
-        }
+        let segments = parse_ipv6_segments(text.as_bytes())?;
+        Some(Ipv6Addr(net::Ipv6Addr::from_segments(segments)))
     }
 }
 

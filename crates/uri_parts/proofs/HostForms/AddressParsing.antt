@@ -2,7 +2,9 @@
 use Rattle.std.proofs.Common.{◌≡◌, ◌≢◌, ℕ, zero, suc, ◌^◌, ◌<◌, ◌≤◌, List, [], ◌∷◌, ◌++◌, length}
 use Rattle.std.proofs.Common.{get_or, take, drop, Option, Some, None, decimal, refl, sym, ap, ◌∙◌}
 use Rattle.std.proofs.Common.{arith, inl, inr, lit≤, length-take-le, take-append-drop, get_or-take}
-use Rattle.std.proofs.Common.{get_or-drop, add-zero, le-ltb, lt-ltb, append_assoc}
+use Rattle.std.proofs.Common.{get_or-drop, add-zero, le-ltb, lt-ltb, append_assoc, ◌-◌}
+use Rattle.std.proofs.Common.{length-append, length-drop, drop_at}
+use Rattle.std.proofs.lemmas.List.{drop-drop}
 use Rattle.std.proofs.lemmas.Bool.{cases_lt}
 use Rattle.std.proofs.Math.Seq.{get_or-append_seam}
 use Rattle.std.proofs.lemmas.Fmt.{length-decimal-le}
@@ -22,6 +24,27 @@ pub dotted : (a b c d : ℕ) (rest : List ℕ)
     → dotted_text a b c d ++ rest
     ≡ decimal a ++ 46 ∷ (decimal b ++ 46 ∷ (decimal c ++ 46 ∷ (decimal d ++ rest)))
 dotted a b c d rest = simp append_assoc
+
+-- IP addresses: what is left of a text is a suffix of it
+abbrev pub IsSuffix : List ℕ → List ℕ → Type 0
+IsSuffix suffix text =
+    (length suffix ≤ length text) × (suffix ≡ drop (length text - length suffix) text)
+
+-- IP addresses: what follows a prefix is a suffix
+pub text-after-prefix-is-suffix : (prefix : List ℕ) {text suffix : List ℕ} → text ≡ prefix ++ suffix
+    → IsSuffix suffix text
+text-after-prefix-is-suffix prefix {text} {suffix} whole =
+    let size = length-append prefix suffix in
+    let long = ap length whole in
+    (omega arith, rw whole (sym (drop_at prefix suffix _ (omega arith))))
+
+-- IP addresses: a suffix of what is left from a position on is one of the whole text
+pub suffix-at-position : (text suffix : List ℕ) (start : ℕ) → start ≤ length text
+    → IsSuffix suffix (drop start text) → IsSuffix suffix text
+suffix-at-position text suffix start within s =
+    let size = length-drop start text in
+    let less = s.0 in
+    (omega arith, s.1 ∙ drop-drop _ start text ∙ ap (λ n. drop n text) (omega arith))
 
 -- parsing IPv6: each hexadecimal digit has a value below 16
 digit-of-hex-text-is-below-16 : (text : List ℕ) (i : ℕ) → AllDigits 16 text → i < length text

@@ -1,6 +1,6 @@
 -- One turn of reading the groups of an IPv6 address into their numbers.
 use Rattle.std.proofs.Common.{◌≡◌, ◌≢◌, ℕ, zero, suc, ◌+◌, ◌-◌, ◌<◌, ◌≤◌, ◌==◌, ◌⊎◌, nat_lt, max}
-use Rattle.std.proofs.Common.{Bool}
+use Rattle.std.proofs.Common.{Bool, Option, option_map, lt-ltb}
 use Rattle.std.proofs.Common.{true, false, List, [], ◌∷◌, ◌++◌, length, take, drop, get_or, Some}
 use Rattle.std.proofs.Common.{None}
 use Rattle.std.proofs.Common.{replicate, refl, sym, ap, ◌∙◌, arith, inl, inr, ne_eqb, append-nil}
@@ -13,15 +13,25 @@ use Rattle.std.specs.Str.Parse.{digits_value}
 use Rattle.std.specs.Net.Reader.{read_segments, after, read_separator, read_ipv4, read_ipv4_if}
 use Rattle.std.specs.Net.Reader.{read_segment, read_byte, read_octet}
 use Rattle.std.proofs.NetLemmas.Numbers.{read_number_empty}
-use Rattle.uri_parts.specs.Models.Literals.{AreLeadingHexDigits}
+use Rattle.std.proofs.NetLemmas.Ipv4.{read_ipv4_sound}
+use Rattle.std.proofs.NetLemmas.Options.{map_some}
+use Rattle.std.proofs.lemmas.Option.{none-some}
+use Rattle.uri_parts.specs.Models.Literals.{AreLeadingHexDigits, segments_of_ipv4}
 use Rattle.uri_parts.proofs.HostForms.AddressParsing.{hex_digits_are_read_as_segment}
 use Rattle.uri_parts.proofs.HostForms.AddressParsing.{five_digits_begin_no_ipv4}
 use Rattle.uri_parts.proofs.HostForms.AddressParsing.{no_dot_means_no_ipv4}
 use Rattle.uri_parts.proofs.HostForms.AddressParsing.{no_digits_are_no_segment}
 use Rattle.uri_parts.proofs.HostForms.AddressParsing.{five_digits_are_no_segment}
+use Rattle.uri_parts.proofs.HostForms.AddressParsing.{IsSuffix, text-after-prefix-is-suffix}
+
+-- general fact on options, for an IPv4 address
+option-is-none-if-mapped-is : {A B : Type 0} (f : A → B) (o : Option A) → option_map f o
+    ≡ None → o ≡ None
+option-is-none-if-mapped-is f None e = refl
+option-is-none-if-mapped-is f (Some x) e = absurd (none-some (f x) (sym e))
 
 -- reading IPv6: no IPv4 address begins where no `.` follows the first digits
-no-dot-after-digits-is-no-ipv4 : (fits : Bool) (text : List ℕ) (count : ℕ)
+pub no-dot-after-digits-is-no-ipv4 : (fits : Bool) (text : List ℕ) (count : ℕ)
     → AreLeadingHexDigits text count
     → get_or text count 0 ≢ 46 → read_ipv4_if fits text ≡ None
 no-dot-after-digits-is-no-ipv4 false text count h other = refl
@@ -83,6 +93,20 @@ module _ (text : List ℕ) (count : ℕ) (are : AreLeadingHexDigits text count)
     | inr five ↦ five_digits_are_no_segment text count are five
   ]
 
+-- reading IPv6: what follows an IPv4 address is a suffix of the text
+pub text-after-ipv4-is-suffix : (text two rest : List ℕ) → Some (two, rest) ≡ segments_of_ipv4 text
+    → IsSuffix rest text
+text-after-ipv4-is-suffix text two rest e =
+    map_some _ (read_ipv4 text) (two, rest) (sym e) λ p found same.
+    let (prefix, split, h) = read_ipv4_sound text p.0 p.1 found in
+    text-after-prefix-is-suffix prefix (split ∙ ap (λ q. prefix ++ q.1) same)
+
+-- reading IPv6: no IPv4 address is read where none is parsed, or where it does not fit
+pub unparsed-ipv4-is-not-read : (fits : Bool) (text : List ℕ) → None ≡ segments_of_ipv4 text
+    → read_ipv4_if fits text ≡ None
+unparsed-ipv4-is-not-read false text e = refl
+unparsed-ipv4-is-not-read true text e = option-is-none-if-mapped-is _ _ (sym e)
+
 -- at the index i of n, where `group` begins
 module _ (n i : ℕ) (text s prefix group : List ℕ) (within : i < n)
     (so_far : read_segments n true text ≡ after prefix (read_segments (n - i) (i == 0) s))
@@ -103,7 +127,19 @@ module _ (n i : ℕ) (text s prefix group : List ℕ) (within : i < n)
         append-nil,
       )
 
-  module _ (some : count ≢ 0) (few : count ≢ 5) (no_dot : get_or group count 0 ≢ 46) where
+  pub ipv4-ends-reading : (two rest : List ℕ) → i + 1 < n
+      → Some (two, rest) ≡ segments_of_ipv4 group
+      → read_segments n true text ≡ (prefix ++ two, true, rest)
+  unfolding read_segments
+  ipv4-ends-reading two rest fits e =
+      map_some _ (read_ipv4 group) (two, rest) (sym e) λ p found same.
+      let fits_one : nat_lt 0 (n - (i + 1)) ≡ true = lt-ltb 0 (n - (i + 1)) (omega arith) in
+      so_far
+      ∙ rw (room-is-one-more-than-room-after, ← led, fits_one, found)
+      (ap (λ q. (prefix ++ q.0, true, q.1)) same)
+
+  module _ (some : count ≢ 0) (few : count ≢ 5)
+      (no_ipv4 : read_ipv4_if (nat_lt 0 (n - (i + 1))) group ≡ None) where
     group-has-fewer-than-five-digits : count < 5
     group-has-fewer-than-five-digits = let most = are.most in omega arith
 
@@ -117,7 +153,7 @@ module _ (n i : ℕ) (text s prefix group : List ℕ) (within : i < n)
         ∙ rw (
           room-is-one-more-than-room-after,
           ← led,
-          no-dot-after-digits-is-no-ipv4 (nat_lt 0 (n - (i + 1))) group count are no_dot,
+          no_ipv4,
           hex_digits_are_read_as_segment group count are (omega arith)
               group-has-fewer-than-five-digits,
           later,

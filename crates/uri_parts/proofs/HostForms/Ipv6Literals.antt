@@ -1,11 +1,10 @@
 -- A text in brackets that begins with no `v` is parsed as an IPv6 address with `]` after it.
 use Rattle.std.proofs.Common.{◌≡◌, ℕ, ◌+◌, ◌-◌, ◌≤◌, Bool, true, false, List, [], ◌∷◌, ◌++◌, length}
 use Rattle.std.proofs.Common.{drop, Option, Some, None, option_map, refl, sym, ap, ◌∙◌, arith, ◌||◌}
-use Rattle.std.proofs.Common.{lit≤, eqb-true, length-append, length-drop, drop_at}
+use Rattle.std.proofs.Common.{lit≤, eqb-true, length-append}
 use Rattle.std.specs.Prelude.{codes, is_some}
 use Rattle.std.specs.Net.Reader.{read_ipv6}
 use Rattle.std.proofs.lemmas.Bool.{false≢true, and_parts}
-use Rattle.std.proofs.lemmas.List.{drop-drop}
 use Rattle.std.proofs.lemmas.Option.{none-some, same_Some}
 use Rattle.std.proofs.NetLemmas.Options.{map_some}
 use Rattle.std.proofs.NetLemmas.Ipv6.{EndsGroups, read_ipv6_complete, read_ipv6_sound}
@@ -16,6 +15,8 @@ use Rattle.uri_parts.proofs.Parsing.Acceptance.{is_literal, parses_literal}
 use Rattle.uri_parts.proofs.Splitting.Cuts.{IsEmptyOrMarked, text-is-cut-at-first-mark}
 use Rattle.uri_parts.proofs.Splitting.Cuts.{cut-at-end-of-text-without-marks}
 use Rattle.uri_parts.proofs.HostForms.Addresses.{ipv6_value-complete, ipv6_value-sound}
+use Rattle.uri_parts.proofs.HostForms.AddressParsing.{IsSuffix, text-after-prefix-is-suffix}
+use Rattle.uri_parts.proofs.HostForms.AddressParsing.{suffix-at-position}
 use Rattle.uri_parts.proofs.HostForms.Futures.{ipv6-text-lacks-excluded-marks}
 use Rattle.uri_parts.proofs.HostForms.LiteralTexts.{text-without-version-letter-is-no-ipvfuture}
 
@@ -35,27 +36,20 @@ closing-bracket-ends-groups [] e = absurd (false≢true e)
 closing-bracket-ends-groups (c ∷ text) e = rw (eqb-true c 93 e)
     ((lit≤ tt, omega arith), λ colon. absurd (omega arith))
 
--- parsing IPv6: an address and what is left after it are the text
+-- parsing IPv6: what is left after an address is a suffix of the text
 pub text-after-ipv6-is-suffix : (rest suffix : List ℕ) → Some suffix ≡ left rest
-    → (length suffix ≤ length rest) × (suffix ≡ drop (length rest - length suffix) rest)
+    → IsSuffix suffix rest
 text-after-ipv6-is-suffix rest suffix e =
     map_some (λ p. p.1) (read_ipv6 rest) suffix (sym e) λ p found same.
     let (prefix, split, groups) = read_ipv6_sound rest p.0 p.1 found in
-    let whole : rest ≡ prefix ++ suffix = split ∙ ap (λ t. prefix ++ t) same in
-    let size : length rest ≡ length prefix + length suffix = ap length whole
-    ∙ length-append prefix suffix in (
-      omega arith,
-      rw whole
-          (sym (drop_at prefix suffix _ (omega (arith, length-append prefix suffix)))),
-    )
+    text-after-prefix-is-suffix prefix (split ∙ ap (λ t. prefix ++ t) same)
 
 -- parsing IPv6: what is left after an address at a position is a suffix of the whole text
 pub text-after-ipv6-at-position : (text suffix : List ℕ) (start : ℕ) → start ≤ length text
     → Some suffix ≡ left (drop start text) → suffix ≡ drop (length text - length suffix) text
 text-after-ipv6-at-position text suffix start within e =
-    let f = text-after-ipv6-is-suffix (drop start text) suffix e in
-    let size = length-drop start text in
-    f.1 ∙ drop-drop _ start text ∙ ap (λ n. drop n text) (omega (arith, f.0))
+    (suffix-at-position text suffix start within
+    (text-after-ipv6-is-suffix (drop start text) suffix e)).1
 
 -- parsing IP literals: an IPv6 address with `]` after it is parsed as one
 pub ipv6-and-bracket-are-parsed-literal : (rest suffix : List ℕ) → Some suffix ≡ left rest

@@ -1,12 +1,10 @@
--- What std parses of the text of an address.
+-- What std parses of the text of an IPv4 address.
 use Rattle.std.proofs.Common.{◌≡◌, List, ℕ, Some, None, sym, ⊎_elim}
 use Rattle.std.specs.declared.net.ipv4_addr.Ipv4Addr.{Ipv4Addr}
-use Rattle.std.specs.declared.net.ipv6_addr.Ipv6Addr.{Ipv6Addr}
-use Rattle.std.specs.Net.Addr.{ipv4_octets, ipv6_segments}
-use Rattle.std.specs.Net.Grammar.{IsIpv4Text, IsIpv6Text}
-use Rattle.uri_parts.specs.Hosts.{ipv4_value, ipv6_value}
+use Rattle.std.specs.Net.Addr.{ipv4_octets}
+use Rattle.std.specs.Net.Grammar.{IsIpv4Text}
+use Rattle.uri_parts.specs.Hosts.{ipv4_value}
 use Rattle.uri_parts.proofs.HostForms.Addresses.{ipv4_value-complete, ipv4_value-sound}
-use Rattle.uri_parts.proofs.HostForms.Addresses.{ipv6_value-complete, ipv6_value-sound}
 use Rattle.uri_parts.proofs.HostForms.Hosts.{option-is-none-or-some}
 
 -- IP addresses: what std parses as an IPv4 address has the octets that the grammar reads
@@ -21,17 +19,3 @@ text-of-no-ipv4-has-no-value text h = ⊎_elim
     (λ n. sym n)
     (λ (octets, e). absurd (h (record { octets = octets }) (ipv4_value-sound text octets e)))
     (option-is-none-or-some (ipv4_value text))
-
--- IP addresses: what std parses as an IPv6 address has the segments that the grammar reads
-pub parsed_ipv6_has_value_of_text : (text : List ℕ) (a : Ipv6Addr) → IsIpv6Text text a
-    → Some (ipv6_segments a) ≡ ipv6_value text
-parsed_ipv6_has_value_of_text text a h = sym (ipv6_value-complete text (ipv6_segments a) h)
-
--- IP addresses: what std rejects as an IPv6 address is none by the grammar
-pub text-of-no-ipv6-has-no-value : (text : List ℕ) → ((a : Ipv6Addr) → ¬ (IsIpv6Text text a))
-    → None ≡ ipv6_value text
-text-of-no-ipv6-has-no-value text h = ⊎_elim
-    (λ n. sym n)
-    (λ (segments, e).
-    absurd (h (record { segments = segments }) (ipv6_value-sound text segments e)))
-    (option-is-none-or-some (ipv6_value text))

@@ -1,9 +1,12 @@
 -- What the parser takes of an address in brackets, after the `[`: RFC 3986, section 3.2.2.
-use Rattle.std.specs.Prelude.{◌≡◌, ℕ, ◌+◌, ◌<◌, ◌≤◌, Bool, List, length, take, codes, slice_index}
+use Rattle.std.specs.Prelude.{◌≡◌, ℕ, ◌+◌, ◌<◌, ◌≤◌, ◌||◌, false, List, length, take, codes}
+use Rattle.std.specs.Prelude.{[], ◌∷◌, Option, option_map, slice_index}
+use Rattle.std.specs.Borrow.{Bor}
 use Rattle.std.specs.Char.{digit_value}
 use Rattle.std.specs.Str.Parse.{AllDigits}
-use Rattle.std.specs.Net.Reader.{Segments}
-use Rattle.uri_parts.specs.Components.{before_any}
+use Rattle.std.specs.Net.Addr.{segments_of}
+use Rattle.std.specs.Net.Reader.{Read, read_ipv4}
+use Rattle.uri_parts.specs.Components.{before_any, starts}
 
 -- the text begins with `count` hexadecimal digits: all that come first, or five of them
 pub record AreLeadingHexDigits (text : List ℕ) (count : ℕ) : Type 0 where
@@ -12,13 +15,17 @@ pub record AreLeadingHexDigits (text : List ℕ) (count : ℕ) : Type 0 where
   pub within : count ≤ length text
   pub stop : count < 5 → 16 ≤ digit_value (slice_index text count)
 
--- std's reader found `count` groups of an IPv6 address; ends: whether the last is an IPv4 address;
--- rest: what of the text follows them
-pub record AreCountedGroups (found : Segments) (count : ℕ) (ends : Bool)
-    (rest : List ℕ) : Type 0 where
-  pub many : length found.0 ≡ count
-  pub ipv4 : found.1 ≡ ends
-  pub left : found.2 ≡ rest
+-- what was read of an IPv4 address: its two segments, and the text after it
+abbrev pub two_segments : Option (ℕ × ℕ × Bor (List ℕ)) → Read (List ℕ)
+two_segments r = option_map (λ p. (p.0 ∷ p.1 ∷ [], p.2.now)) r
+
+-- the IPv4 address that the text begins with, as the last two segments of an IPv6 address
+abbrev pub segments_of_ipv4 : List ℕ → Read (List ℕ)
+segments_of_ipv4 text = option_map (λ p. (segments_of p.0, p.1)) (read_ipv4 text)
+
+-- the text begins neither with `v` (118) nor with `V` (86), so with no IPvFuture address
+abbrev pub LacksVersionLetter : List ℕ → Type 0
+LacksVersionLetter text = (starts 118 text || starts 86 text) ≡ false
 
 -- the text before its first `]`, or all of it if it has none
 abbrev pub text_before_bracket : List ℕ → List ℕ
