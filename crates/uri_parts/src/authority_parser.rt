@@ -3,12 +3,12 @@
 //! What passes as a name and a port is a prefix of userinfo. So nothing is scanned again to
 //! distinguish the two, nor to find where and why an authority is rejected.
 ghost use Rattle.std.specs.Prelude.{◌≡◌, ◌≤◌, ◌+◌, drop, length, true, IfErr, IfOk, IfSome, OnOk};
-ghost use Rattle.std.specs.Prelude.{is_some, Some, Ok, IfNone, IsTrue, ◌<◌, false};
+ghost use Rattle.std.specs.Prelude.{Some, Ok, IfNone, IsTrue, ◌<◌, codes, false};
 ghost use Rattle.std.specs.Str.{IsCharBoundary};
 ghost use Rattle.uri_pct.specs.Delimiters.{left_bracket};
 ghost use Rattle.uri_pct.specs.Prefixes.{valid_prefix};
-ghost use Rattle.uri_pct.specs.Tables.{set_of};
 ghost use Rattle.uri_parts.specs.Models.AuthorityParsing.{port_length, name_and_port_length};
+ghost use Rattle.uri_parts.specs.Models.AuthorityParsing.{is_empty_or_begins_with_any};
 ghost use Rattle.uri_parts.specs.Models.AuthorityParsing.{name_ends_authority};
 ghost use Rattle.uri_parts.specs.Models.AuthorityParsing.{host_end, host_and_port_length};
 ghost use Rattle.uri_parts.specs.Models.AuthorityParsing.{further_userinfo_length};
@@ -23,8 +23,6 @@ ghost use Rattle.uri_parts.specs.Models.ParseErrors.{left_over_error, name_error
 ghost use Rattle.uri_parts.specs.Models.ParseErrors.{userinfo_error, other_authority_error};
 ghost use Rattle.uri_parts.specs.Models.ParseErrors.{authority_error};
 ghost use Rattle.uri_parts.specs.Errors.{IsErrorIn, unexpected};
-ghost use Rattle.uri_parts.specs.Grammar.{first_segment_set};
-ghost use Rattle.uri_parts.specs.KindTables.{kind_of, segment_nz_nc_of};
 ghost use Rattle.uri_parts.specs.Models.Literals.{literal_length};
 ghost use Rattle.uri_parts.specs.Models.Cursors.{text_after_cursor, cursor_text, cursor_position};
 
@@ -32,7 +30,6 @@ use crate::cursor::Cursor;
 use crate::error::{ParseError, ParseErrorKind};
 use crate::ip_literal::literal_end;
 use crate::kind::Kind;
-use crate::kind_tables::KindTables;
 use uri_pct::table::DIGIT;
 
 /// Passes the port of an authority with its `:`, if one is next.
@@ -50,32 +47,34 @@ fn pass_port(cursor: &mut Cursor<'_>)
     }
 }
 
-/// Passes a registered name and the port after it, if there is one. Returns where the name ends,
-/// if nothing else of the authority is left.
+/// Returns whether a host in brackets is next. A registered name begins with no bracket.
+#[inline(always)]
+pub(crate) fn is_before_literal<K: Kind>(cursor: &Cursor<'_>) -> bool
+    ensures value { result ≡ starts left_bracket (text_after_cursor cursor.now) }
+    ensures no_name { IsTrue result
+        → name_ends_authority K.kind (text_after_cursor cursor.now) ≡ false }
+{
+    cursor.next_is(b'[')
+}
+
+/// Passes a registered name and the port after it, if there is one. Returns where the name ends.
 #[tactic(auto, using(crate::proofs::Steps::cuts), unfolding(crate::proofs::Steps::name))]
 #[inline(always)]
-pub(crate) fn find_name(cursor: &mut Cursor<'_>, tables: &KindTables) -> Option<usize>
-    ensures finds { is_some result ≡ name_ends_authority (kind_of tables.now)
+pub(crate) fn pass_name<K: Kind>(cursor: &mut Cursor<'_>) -> usize
+    ensures end { result ≡ cursor_position cursor.old + valid_prefix K.kind.reg_name
         (text_after_cursor cursor.old) }
-    ensures end { IfSome result (λ n.
-        n ≡ cursor_position cursor.old + valid_prefix (set_of tables.now.reg_name)
-        (text_after_cursor cursor.old)) }
+    ensures finds { is_empty_or_begins_with_any (codes "/?#") (text_after_cursor cursor.new)
+        ≡ name_ends_authority K.kind (text_after_cursor cursor.old) }
     ensures text { cursor_text cursor.new ≡ cursor_text cursor.old }
     ensures place { cursor_position cursor.new
-        ≡ cursor_position cursor.old + name_and_port_length (kind_of tables.now)
-        (text_after_cursor cursor.old) }
+        ≡ cursor_position cursor.old + name_and_port_length K.kind (text_after_cursor cursor.old) }
     ensures rest { text_after_cursor cursor.new
-        ≡ drop (name_and_port_length (kind_of tables.now) (text_after_cursor cursor.old))
+        ≡ drop (name_and_port_length K.kind (text_after_cursor cursor.old))
         (text_after_cursor cursor.old) }
 {
-    cursor.scan(&tables.reg_name);
-    let name_end = cursor.position();
+    let end = cursor.scan(&K::tables().reg_name);
     pass_port(cursor);
-    if cursor.ends_authority() {
-        Some(name_end)
-    } else {
-        None
-    }
+    end
 }
 
 /// Returns the error of what is left over after an authority, from `start` on. It reports a
@@ -90,7 +89,7 @@ fn error_of_left_over<K: Kind>(text: &str, start: usize) -> ParseError
 {
     let mut path = Cursor::at(text, start);
     match path.pass(&K::tables().path) {
-        Ok(()) => Cursor::at(text, start).unexpected(),
+        Ok(_) => Cursor::at(text, start).unexpected(),
         Err(error) => error,
     }
 }
@@ -167,11 +166,7 @@ fn pass_literal(cursor: &mut Cursor<'_>) -> Result<(), ParseError>
 /// Passes userinfo, of which a name and a port were passed, and its `@`.
 #[tactic(auto, using(crate::proofs::Steps::cuts), unfolding(crate::proofs::Steps::user))]
 #[inline(always)]
-pub(crate) fn pass_userinfo<K: Kind>(
-    cursor: &mut Cursor<'_>,
-    tables: &KindTables,
-) -> Result<(), ParseError>
-    requires kind { kind_of tables.now ≡ K.kind }
+pub(crate) fn pass_userinfo<K: Kind>(cursor: &mut Cursor<'_>) -> Result<(), ParseError>
     requires some { 0 < cursor_position cursor.old }
     ensures text { cursor_text cursor.new ≡ cursor_text cursor.old }
     ensures place { OnOk result (cursor_position cursor.new
@@ -189,53 +184,57 @@ pub(crate) fn pass_userinfo<K: Kind>(
     if cursor.skip(b'@') {
         return Ok(());
     }
-    cursor.pass(&tables.userinfo)?;
+    let end = cursor.pass(&K::tables().userinfo)?;
     if cursor.skip(b'@') {
         return Ok(());
     }
-    Err(error_after_name::<K>(cursor.text(), start, cursor.position()))
+    Err(error_after_name::<K>(cursor.text(), start, end))
 }
 
 /// Returns whether what is next after a name and a port is in no component of the kind, and is no
 /// delimiter.
 #[tactic(auto, unfolding(crate::proofs::Steps::user, crate::specs::Models::ParseErrors::name_error, crate::specs::Models::ParseErrors::left_over_error))]
 #[inline(always)]
-pub(crate) fn is_unexpected_after_name<K: Kind>(
-    after_name: &Cursor<'_>,
-    tables: &KindTables,
-) -> bool
-    requires kind { kind_of tables.now ≡ K.kind }
-    requires segment { segment_nz_nc_of tables.now ≡ first_segment_set K.kind }
+pub(crate) fn is_unexpected_after_name<K: Kind>(after_name: &Cursor<'_>) -> bool
     ensures { let i = cursor_position after_name.now in IsTrue result
         → userinfo_error K.kind (cursor_text after_name.now) i ≡ Some (unexpected i) }
 {
-    after_name.is_before_excluded::<K>(tables)
+    after_name.is_before_excluded::<K>()
 }
 
-/// Where a host ends, and the authority that it is in.
+/// What comes before the rest of a path, in the words of [`PackedPositions`].
 #[derive(Clone, Copy)]
-pub(crate) struct HostEnds {
-    pub end: usize,
+pub(crate) struct BeforePath {
+    pub path_start: usize,
     /// Where an error has its one byte. LLVM would split a position that is there in two.
-    padding: bool,
+    pub padding: bool,
+    pub scheme_end: usize,
+    pub host_start: usize,
     pub host_end: usize,
 }
 
-/// Finds the ends of a host and of the port after it, if there is one. They must end the authority.
+/// Finds the ends of a host and of the port after it, if there is one. They must end the authority,
+/// which comes before a path.
 /// The tables of the kind are constants here: handed on, they would be set out in memory, as
 /// cursors are.
 #[tactic(auto, using(crate::proofs::Steps::cuts), unfolding(crate::proofs::Steps::host))]
 #[inline(never)]
-pub(crate) fn find_host<K: Kind>(text: &str, host_start: usize) -> Result<HostEnds, ParseError>
+pub(crate) fn find_host<K: Kind>(
+    text: &str,
+    host_start: usize,
+    scheme_end: usize,
+) -> Result<BeforePath, ParseError>
     requires { IsCharBoundary text.now host_start }
-    ensures host { IfOk result (λ ends.
-        ends.host_end ≡ host_start + host_end K.kind (drop host_start text.now)) }
-    ensures end { IfOk result (λ ends.
-        ends.end ≡ host_start + host_and_port_length K.kind (drop host_start text.now)) }
-    ensures boundary { IfOk result (λ ends. IsCharBoundary text.now ends.end) }
+    ensures scheme { IfOk result (λ b. b.scheme_end ≡ scheme_end) }
+    ensures host_start { IfOk result (λ b. b.host_start ≡ host_start) }
+    ensures host { IfOk result (λ b.
+        b.host_end ≡ host_start + host_end K.kind (drop host_start text.now)) }
+    ensures end { IfOk result (λ b.
+        b.path_start ≡ host_start + host_and_port_length K.kind (drop host_start text.now)) }
+    ensures boundary { IfOk result (λ b. IsCharBoundary text.now b.path_start) }
     ensures returned { IfErr result (λ e. host_error K.kind text.now host_start ≡ Some e) }
-    ensures goes_on { IfOk result (λ ends.
-        host_error K.kind text.now host_start ≡ error_from_path K.kind text.now ends.end) }
+    ensures goes_on { IfOk result (λ b.
+        host_error K.kind text.now host_start ≡ error_from_path K.kind text.now b.path_start) }
     ensures err { IfErr result (IsErrorIn text.now) }
 {
     let mut cursor = Cursor::at(text, host_start);
@@ -249,9 +248,11 @@ pub(crate) fn find_host<K: Kind>(text: &str, host_start: usize) -> Result<HostEn
     if !cursor.ends_authority() {
         return Err(error_of_left_over::<K>(text, cursor.position()));
     }
-    Ok(HostEnds {
-        end: cursor.position(),
+    Ok(BeforePath {
+        path_start: cursor.position(),
         padding: false,
+        scheme_end,
+        host_start,
         host_end,
     })
 }

@@ -1,12 +1,11 @@
 //! A position in a text.
 ghost use Rattle.std.specs.Prelude.{◌≡◌, ◌<◌, ◌+◌, ◌==◌, ℕ, Ok, drop, codes, OnOk};
-ghost use Rattle.std.specs.Prelude.{IfErr, IsTrue, false, if◌then◌else◌};
+ghost use Rattle.std.specs.Prelude.{IfErr, IfOk, IsTrue, false, if◌then◌else◌};
 ghost use Rattle.std.specs.Result.{result_err};
 ghost use Rattle.std.specs.Str.{IsCharBoundary};
 
 use crate::error::{ParseError, ParseErrorKind};
 use crate::kind::Kind;
-use crate::kind_tables::KindTables;
 use std::alloc::AllocError;
 use uri_pct::table::Table;
 
@@ -39,7 +38,6 @@ impl<'a> Cursor<'a> {
     ghost use Rattle.uri_parts.specs.Components.{starts, has_authority, is_end};
     ghost use Rattle.uri_parts.specs.Errors.{unexpected};
     ghost use Rattle.uri_parts.specs.Grammar.{first_segment_set};
-    ghost use Rattle.uri_parts.specs.KindTables.{kind_of, segment_nz_nc_of};
     ghost use Rattle.uri_parts.specs.Scanning.{scan};
     ghost use Rattle.uri_parts.specs.Errors.{IsErrorIn};
     ghost use Rattle.uri_parts.specs.Models.Cursors.{text_after_cursor, cursor_text};
@@ -83,9 +81,10 @@ impl<'a> Cursor<'a> {
         self.position
     }
 
-    /// Passes the longest prefix of the rest that the table allows.
+    /// Passes the longest prefix of the rest that the table allows, and returns where it ends.
     #[inline(always)]
-    pub fn scan(&mut self, table: &Table)
+    pub fn scan(&mut self, table: &Table) -> usize
+        ensures end { result ≡ cursor_position self.new }
         ensures text { cursor_text self.new ≡ cursor_text self.old }
         ensures place { cursor_position self.new
             ≡ cursor_position self.old + valid_prefix (set_of table.now)
@@ -94,6 +93,7 @@ impl<'a> Cursor<'a> {
             ≡ after (set_of table.now) (text_after_cursor self.old) }
     {
         self.position = table.scan(self.text, self.position);
+        self.position
     }
 
     /// Returns whether one of `/?#` is next, or nothing is left. These may follow an authority.
@@ -108,11 +108,13 @@ impl<'a> Cursor<'a> {
         }
     }
 
-    /// Passes the longest prefix of the rest that the table allows. If the table allows
-    /// percent-encoded octets, it returns an error for a `%` after the prefix that begins none.
+    /// Passes the longest prefix of the rest that the table allows, and returns where it ends. If
+    /// the table allows percent-encoded octets, it returns an error for a `%` after the prefix that
+    /// begins none.
     #[tactic(auto, using(crate::proofs::Steps::strays))]
     #[inline(always)]
-    pub fn pass(&mut self, table: &Table) -> Result<(), ParseError>
+    pub fn pass(&mut self, table: &Table) -> Result<usize, ParseError>
+        ensures end { IfOk result (λ end. end ≡ cursor_position self.new) }
         ensures text { cursor_text self.new ≡ cursor_text self.old }
         ensures place { OnOk result
             (cursor_position self.new ≡ cursor_position self.old + valid_prefix (set_of table.now)
@@ -129,16 +131,14 @@ impl<'a> Cursor<'a> {
             return Err(ParseError::new(end, ParseErrorKind::InvalidPctEncodedOctet));
         }
         self.position = end;
-        Ok(())
+        Ok(end)
     }
 
     /// Returns whether what is next is in no component of the kind, and is no delimiter: a control
     /// character or a space, or a character past ASCII in a URI.
     #[tactic(auto, using(crate::proofs::Parsing::NextBytes::starts_at_position, crate::proofs::Parsing::NextBytes::text_ends_where_position_is_length))]
     #[inline(always)]
-    pub(crate) fn is_before_excluded<K: Kind>(&self, tables: &KindTables) -> bool
-        requires kind { kind_of tables.now ≡ K.kind }
-        requires segment { segment_nz_nc_of tables.now ≡ first_segment_set K.kind }
+    pub(crate) fn is_before_excluded<K: Kind>(&self) -> bool
         ensures userinfo { let i = cursor_position self.now in IsTrue result
             → scan (cursor_text self.now) K.kind.userinfo i ≡ Ok i }
         ensures path { let i = cursor_position self.now in IsTrue result
@@ -155,7 +155,7 @@ impl<'a> Cursor<'a> {
             return false;
         }
         let byte = bytes[i];
-        byte <= b' ' || byte >= 128 && !tables.path.allows_some_past_ascii()
+        byte <= b' ' || byte >= 128 && !K::tables().path.allows_some_past_ascii()
     }
 
     /// Returns whether the whole text was passed.

@@ -18,30 +18,29 @@ ghost use Rattle.uri_parts.specs.Models.ParseErrors.{schemeless_error};
 ghost use Rattle.uri_parts.specs.Models.ParseErrors.{parsed_error};
 ghost use Rattle.uri_parts.specs.Errors.{IsErrorIn, unexpected};
 ghost use Rattle.uri_parts.specs.Grammar.{IsOfKind, first_segment_set};
-ghost use Rattle.uri_parts.specs.KindTables.{kind_of, segment_nz_nc_of};
 ghost use Rattle.uri_parts.specs.PackedPositions.{ArePackedPositionsOf, packed};
 ghost use Rattle.uri_parts.specs.Models.Cursors.{text_after_cursor, cursor_text, cursor_position};
 ghost use Rattle.uri_parts.specs.Models.Cursors.{packed_from, packed_if_parsed_from};
 
-use crate::authority_parser::{find_host, find_name, is_unexpected_after_name, pass_userinfo};
+use crate::authority_parser::{
+    BeforePath, find_host, is_before_literal, is_unexpected_after_name, pass_name, pass_userinfo,
+};
 use crate::cursor::Cursor;
 use crate::error::ParseError;
 use crate::kind::Kind;
-use crate::kind_tables::KindTables;
 use crate::packed_positions::PackedPositions;
 use uri_pct::table::SCHEME;
 
 /// Parses a fragment, if there is one, and then the end of the text.
 #[tactic(auto, unfolding(crate::proofs::Steps::tail))]
 #[inline(always)]
-fn parse_fragment(cursor: &mut Cursor<'_>, tables: &KindTables) -> Result<(), ParseError>
+fn parse_fragment<K: Kind>(cursor: &mut Cursor<'_>) -> Result<(), ParseError>
     ensures refused { result_err result
-        ≡ error_from_fragment (kind_of tables.now) (cursor_text cursor.old)
-        (cursor_position cursor.old) }
+        ≡ error_from_fragment K.kind (cursor_text cursor.old) (cursor_position cursor.old) }
     ensures err { IfErr result (IsErrorIn (cursor_text cursor.old)) }
 {
     if cursor.skip(b'#') {
-        cursor.pass(&tables.fragment)?;
+        cursor.pass(&K::tables().fragment)?;
     }
     if !cursor.is_at_end() {
         return Err(cursor.unexpected());
@@ -49,39 +48,25 @@ fn parse_fragment(cursor: &mut Cursor<'_>, tables: &KindTables) -> Result<(), Pa
     Ok(())
 }
 
-/// What comes before the rest of a path, in the words of [`PackedPositions`].
-#[derive(Clone, Copy)]
-struct BeforePath {
-    path_start: usize,
-    /// Where an error has its one byte. LLVM would split a position that is there in two.
-    padding: bool,
-    scheme_end: usize,
-    host_start: usize,
-    host_end: usize,
-}
-
 /// Parses the rest of a path, and the query and the fragment after it.
 #[tactic(auto, unfolding(crate::proofs::Steps::tail))]
 #[inline(always)]
-fn parse_path(
+fn parse_path<K: Kind>(
     cursor: &mut Cursor<'_>,
-    tables: &KindTables,
     before: BeforePath,
 ) -> Result<PackedPositions, ParseError>
-    ensures places { IfOk result
-        (λ p. p ≡ packed_if_parsed_from (kind_of tables.now) before cursor.old) }
+    ensures places { IfOk result (λ p. p ≡ packed_if_parsed_from K.kind before cursor.old) }
     ensures refused { result_err result
-        ≡ error_from_path (kind_of tables.now) (cursor_text cursor.old)
-        (cursor_position cursor.old) }
+        ≡ error_from_path K.kind (cursor_text cursor.old) (cursor_position cursor.old) }
     ensures err { IfErr result (IsErrorIn (cursor_text cursor.old)) }
 {
-    cursor.pass(&tables.path)?;
-    let path_end = cursor.position();
-    if cursor.skip(b'?') {
-        cursor.pass(&tables.query)?;
-    }
-    let query_end = cursor.position();
-    parse_fragment(cursor, tables)?;
+    let path_end = cursor.pass(&K::tables().path)?;
+    let query_end = if cursor.skip(b'?') {
+        cursor.pass(&K::tables().query)?
+    } else {
+        path_end
+    };
+    parse_fragment::<K>(cursor)?;
     Ok(PackedPositions {
         scheme_end: before.scheme_end,
         host_start: before.host_start,
@@ -110,17 +95,9 @@ fn pass_host<K: Kind>(cursor: &mut Cursor<'_>, scheme_end: usize) -> Result<Befo
         ≡ option_or (result_err result) (error_from_path K.kind text (cursor_position cursor.new)) }
     ensures err { IfErr result (IsErrorIn (cursor_text cursor.old)) }
 {
-    let text = cursor.text();
-    let host_start = cursor.position();
-    let host = find_host::<K>(text, host_start)?;
-    *cursor = Cursor::at(text, host.end);
-    Ok(BeforePath {
-        path_start: host.end,
-        padding: false,
-        scheme_end,
-        host_start,
-        host_end: host.host_end,
-    })
+    let before = find_host::<K>(cursor.text(), cursor.position(), scheme_end)?;
+    *cursor = Cursor::at(cursor.text(), before.path_start);
+    Ok(before)
 }
 
 /// Parses an authority, which comes before a path.
@@ -128,40 +105,38 @@ fn pass_host<K: Kind>(cursor: &mut Cursor<'_>, scheme_end: usize) -> Result<Befo
 #[inline(always)]
 fn pass_authority<K: Kind>(
     cursor: &mut Cursor<'_>,
-    tables: &KindTables,
     scheme_end: usize,
 ) -> Result<BeforePath, ParseError>
-    requires kind { kind_of tables.now ≡ K.kind }
-    requires segment { segment_nz_nc_of tables.now ≡ first_segment_set K.kind }
     requires some { 0 < cursor_position cursor.old }
-    ensures places { let kind = kind_of tables.now in IfOk result (λ b.
-        record (packed (authority_positions kind None (cursor_position cursor.old)
+    ensures places { IfOk result (λ b.
+        record (packed (authority_positions K.kind None (cursor_position cursor.old)
         (text_after_cursor cursor.old))) { scheme_end = scheme_end }
-        ≡ packed_if_parsed_from kind b cursor.new) }
+        ≡ packed_if_parsed_from K.kind b cursor.new) }
     ensures start { IfOk result (λ b. b.path_start ≡ cursor_position cursor.new) }
     ensures text { cursor_text cursor.new ≡ cursor_text cursor.old }
-    ensures refused { let kind = kind_of tables.now in let text = cursor_text cursor.old in
-        authority_error kind text (cursor_position cursor.old)
-        ≡ option_or (result_err result) (error_from_path kind text (cursor_position cursor.new)) }
+    ensures refused { let text = cursor_text cursor.old in
+        authority_error K.kind text (cursor_position cursor.old)
+        ≡ option_or (result_err result) (error_from_path K.kind text (cursor_position cursor.new)) }
     ensures err { IfErr result (IsErrorIn (cursor_text cursor.old)) }
 {
-    let start = *cursor;
-    if let Some(host_end) = find_name(cursor, tables) {
+    if is_before_literal::<K>(cursor) {
+        return pass_host::<K>(cursor, scheme_end);
+    }
+    let host_start = cursor.position();
+    let host_end = pass_name::<K>(cursor);
+    if cursor.ends_authority() {
         return Ok(BeforePath {
             path_start: cursor.position(),
             padding: false,
             scheme_end,
-            host_start: start.position(),
+            host_start,
             host_end,
         });
     }
-    if start.next_is(b'[') {
-        *cursor = start;
-    } else if is_unexpected_after_name::<K>(cursor, tables) {
+    if is_unexpected_after_name::<K>(cursor) {
         return Err(cursor.unexpected());
-    } else {
-        pass_userinfo::<K>(cursor, tables)?;
     }
+    pass_userinfo::<K>(cursor)?;
     pass_host::<K>(cursor, scheme_end)
 }
 
@@ -170,23 +145,20 @@ fn pass_authority<K: Kind>(
 #[inline(always)]
 fn pass_hier_part<K: Kind>(
     cursor: &mut Cursor<'_>,
-    tables: &KindTables,
     scheme_end: usize,
 ) -> Result<BeforePath, ParseError>
-    requires kind { kind_of tables.now ≡ K.kind }
-    requires segment { segment_nz_nc_of tables.now ≡ first_segment_set K.kind }
-    ensures places { let kind = kind_of tables.now in IfOk result (λ b.
-        packed (hier_part_positions kind (Some scheme_end) (cursor_position cursor.old)
+    ensures places { IfOk result (λ b.
+        packed (hier_part_positions K.kind (Some scheme_end) (cursor_position cursor.old)
         (text_after_cursor cursor.old))
-        ≡ packed_if_parsed_from kind b cursor.new) }
+        ≡ packed_if_parsed_from K.kind b cursor.new) }
     ensures text { cursor_text cursor.new ≡ cursor_text cursor.old }
-    ensures refused { let kind = kind_of tables.now in let text = cursor_text cursor.old in
-        hier_part_error kind text (cursor_position cursor.old)
-        ≡ option_or (result_err result) (error_from_path kind text (cursor_position cursor.new)) }
+    ensures refused { let text = cursor_text cursor.old in
+        hier_part_error K.kind text (cursor_position cursor.old)
+        ≡ option_or (result_err result) (error_from_path K.kind text (cursor_position cursor.new)) }
     ensures err { IfErr result (IsErrorIn (cursor_text cursor.old)) }
 {
     if cursor.skip_slashes() {
-        pass_authority::<K>(cursor, tables, scheme_end)
+        pass_authority::<K>(cursor, scheme_end)
     } else {
         Ok(BeforePath {
             path_start: cursor.position(),
@@ -201,19 +173,18 @@ fn pass_hier_part<K: Kind>(
 /// Passes the characters of a first segment without `:`. Returns an error if a `:` is next.
 #[tactic(auto, unfolding(crate::proofs::Steps::before_path, crate::proofs::Steps::tail))]
 #[inline(always)]
-fn pass_relative(cursor: &mut Cursor<'_>, tables: &KindTables) -> Result<BeforePath, ParseError>
-    ensures places { let segment = segment_nz_nc_of tables.now in IfOk result (λ b.
-        packed (relative_positions segment (kind_of tables.now) (cursor_position cursor.old)
+fn pass_relative<K: Kind>(cursor: &mut Cursor<'_>) -> Result<BeforePath, ParseError>
+    ensures places { let segment = first_segment_set K.kind in IfOk result (λ b.
+        packed (relative_positions segment K.kind (cursor_position cursor.old)
         (text_after_cursor cursor.old))
-        ≡ packed_if_parsed_from (kind_of tables.now) b cursor.new) }
+        ≡ packed_if_parsed_from K.kind b cursor.new) }
     ensures text { cursor_text cursor.new ≡ cursor_text cursor.old }
-    ensures refused { let kind = kind_of tables.now in let text = cursor_text cursor.old in
-        error_from_relative_path kind text (segment_nz_nc_of tables.now)
-        (cursor_position cursor.old)
-        ≡ option_or (result_err result) (error_from_path kind text (cursor_position cursor.new)) }
+    ensures refused { let text = cursor_text cursor.old in
+        error_from_relative_path K.kind text (first_segment_set K.kind) (cursor_position cursor.old)
+        ≡ option_or (result_err result) (error_from_path K.kind text (cursor_position cursor.new)) }
     ensures err { IfErr result (IsErrorIn (cursor_text cursor.old)) }
 {
-    cursor.pass(&tables.segment_nz_nc)?;
+    cursor.pass(&K::tables().segment_nz_nc)?;
     if cursor.next_is(b':') {
         return Err(cursor.unexpected());
     }
@@ -230,14 +201,12 @@ fn pass_relative(cursor: &mut Cursor<'_>, tables: &KindTables) -> Result<BeforeP
 /// nothing of what may follow a path does.
 #[tactic(auto, unfolding(crate::proofs::Steps::tail, crate::proofs::Steps::before_path))]
 #[inline(always)]
-fn is_unexpected<K: Kind>(cursor: &Cursor<'_>, tables: &KindTables) -> bool
-    requires kind { kind_of tables.now ≡ K.kind }
-    requires segment { segment_nz_nc_of tables.now ≡ first_segment_set K.kind }
+fn is_unexpected<K: Kind>(cursor: &Cursor<'_>) -> bool
     ensures { let i = cursor_position cursor.now in IsTrue result
-        → error_from_relative_path (kind_of tables.now) (cursor_text cursor.now)
-        (segment_nz_nc_of tables.now) i ≡ Some (unexpected i) }
+        → error_from_relative_path K.kind (cursor_text cursor.now) (first_segment_set K.kind) i
+        ≡ Some (unexpected i) }
 {
-    cursor.is_before_excluded::<K>(tables)
+    cursor.is_before_excluded::<K>()
 }
 
 /// Parses the authority of a text that begins with `//`, and returns what comes before its path.
@@ -255,7 +224,7 @@ fn pass_first_authority<K: Kind>(text: &str) -> Result<BeforePath, ParseError>
     ensures err { IfErr result (IsErrorIn text.now) }
 {
     let mut cursor = Cursor::at(text, 2);
-    pass_authority::<K>(&mut cursor, &K::tables(), 0)
+    pass_authority::<K>(&mut cursor, 0)
 }
 
 /// Passes the authority of a text that begins with `//`, which was passed.
@@ -281,69 +250,57 @@ fn pass_after_slashes<K: Kind>(cursor: &mut Cursor<'_>) -> Result<BeforePath, Pa
 /// that might have been one.
 #[tactic(auto, unfolding(crate::proofs::Steps::whole, crate::proofs::Steps::before_path, crate::proofs::Steps::tail))]
 #[inline(always)]
-fn pass_schemeless<K: Kind>(
-    cursor: &mut Cursor<'_>,
-    tables: &KindTables,
-) -> Result<BeforePath, ParseError>
-    requires kind { kind_of tables.now ≡ K.kind }
-    requires segment { segment_nz_nc_of tables.now ≡ first_segment_set K.kind }
-    ensures places { let segment = segment_nz_nc_of tables.now in
-        let kind = kind_of tables.now in IfOk result (λ b.
-        packed (schemeless_positions segment kind (cursor_position cursor.old)
+fn pass_schemeless<K: Kind>(cursor: &mut Cursor<'_>) -> Result<BeforePath, ParseError>
+    ensures places { let segment = first_segment_set K.kind in IfOk result (λ b.
+        packed (schemeless_positions segment K.kind (cursor_position cursor.old)
         (text_after_cursor cursor.old))
-        ≡ packed_if_parsed_from kind b cursor.new) }
+        ≡ packed_if_parsed_from K.kind b cursor.new) }
     ensures text { cursor_text cursor.new ≡ cursor_text cursor.old }
-    ensures refused { let kind = kind_of tables.now in let text = cursor_text cursor.old in
-        schemeless_error (segment_nz_nc_of tables.now) kind text (cursor_position cursor.old)
-        ≡ option_or (result_err result) (error_from_path kind text (cursor_position cursor.new)) }
+    ensures refused { let text = cursor_text cursor.old in
+        schemeless_error (first_segment_set K.kind) K.kind text (cursor_position cursor.old)
+        ≡ option_or (result_err result) (error_from_path K.kind text (cursor_position cursor.new)) }
     ensures err { IfErr result (IsErrorIn (cursor_text cursor.old)) }
 {
     if cursor.position() == 0 {
         if cursor.skip_slashes() {
             return pass_after_slashes::<K>(cursor);
         }
-        if is_unexpected::<K>(cursor, tables) {
+        if is_unexpected::<K>(cursor) {
             return Err(cursor.unexpected());
         }
     }
-    pass_relative(cursor, tables)
+    pass_relative::<K>(cursor)
 }
 
 /// Parses what comes before a path, from the beginning of the text on.
 #[tactic(auto, using(crate::proofs::Steps::schemes), unfolding(crate::proofs::Steps::whole, crate::proofs::Steps::before_path, crate::proofs::Steps::tail))]
 #[inline(always)]
-fn pass_before_path<K: Kind>(
-    cursor: &mut Cursor<'_>,
-    tables: &KindTables,
-) -> Result<BeforePath, ParseError>
-    requires kind { kind_of tables.now ≡ K.kind }
-    requires segment { segment_nz_nc_of tables.now ≡ first_segment_set K.kind }
+fn pass_before_path<K: Kind>(cursor: &mut Cursor<'_>) -> Result<BeforePath, ParseError>
     requires start { cursor_position cursor.old ≡ 0 }
-    ensures places { let kind = kind_of tables.now in IfOk result (λ b.
-        packed (parsed_positions (segment_nz_nc_of tables.now) kind (cursor_text cursor.old))
-        ≡ packed_if_parsed_from kind b cursor.new) }
+    ensures places { let segment = first_segment_set K.kind in IfOk result (λ b.
+        packed (parsed_positions segment K.kind (cursor_text cursor.old))
+        ≡ packed_if_parsed_from K.kind b cursor.new) }
     ensures text { cursor_text cursor.new ≡ cursor_text cursor.old }
-    ensures refused { let kind = kind_of tables.now in let text = cursor_text cursor.old in
-        parsed_error (segment_nz_nc_of tables.now) kind text
-        ≡ option_or (result_err result) (error_from_path kind text (cursor_position cursor.new)) }
+    ensures refused { let text = cursor_text cursor.old in
+        parsed_error (first_segment_set K.kind) K.kind text
+        ≡ option_or (result_err result) (error_from_path K.kind text (cursor_position cursor.new)) }
     ensures err { IfErr result (IsErrorIn (cursor_text cursor.old)) }
 {
-    let not_a_letter = cursor.unexpected();
-    cursor.pass(&SCHEME)?;
-    let scheme_end = cursor.position();
+    let scheme_end = cursor.scan(&SCHEME);
     if cursor.skip(b':') {
-        if !cursor.text().as_bytes()[0].is_ascii_alphabetic() {
-            return Err(not_a_letter);
+        let text = cursor.text();
+        if !text.as_bytes()[0].is_ascii_alphabetic() {
+            return Err(Cursor::new(text).unexpected());
         }
-        return pass_hier_part::<K>(cursor, tables, scheme_end);
+        return pass_hier_part::<K>(cursor, scheme_end);
     }
-    if tables.needs_scheme {
+    if K::tables().needs_scheme {
         return Err(cursor.unexpected());
     }
-    pass_schemeless::<K>(cursor, tables)
+    pass_schemeless::<K>(cursor)
 }
 
-/// Parses a whole text by the tables of its kind, and returns the positions of its components.
+/// Parses a whole text of the kind, and returns the positions of its components.
 #[tactic(auto)]
 #[inline(always)]
 fn parse_text<K: Kind>(text: &str) -> Result<PackedPositions, ParseError>
@@ -352,10 +309,9 @@ fn parse_text<K: Kind>(text: &str) -> Result<PackedPositions, ParseError>
     ensures refused { result_err result ≡ parsed_error (first_segment_set K.kind) K.kind text.now }
     ensures err { IfErr result (IsErrorIn text.now) }
 {
-    let tables = K::tables();
     let mut cursor = Cursor::new(text);
-    let before = pass_before_path::<K>(&mut cursor, &tables)?;
-    parse_path(&mut cursor, &tables, before)
+    let before = pass_before_path::<K>(&mut cursor)?;
+    parse_path::<K>(&mut cursor, before)
 }
 
 /// Parses a text of the kind. Returns the positions of its components, or why it is not of the

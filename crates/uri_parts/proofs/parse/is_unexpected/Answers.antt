@@ -1,10 +1,9 @@
-use Rattle.std.proofs.Common.{◌≡◌, ◌<◌, ℕ, List, false, drop, arith, refl, subst, sym}
+use Rattle.std.proofs.Common.{◌≡◌, ◌<◌, ℕ, List, false, drop, arith, refl}
 use Rattle.std.specs.Prelude.{Ok, Some}
 use Rattle.uri_pct.specs.Sets.{TableSet}
 use Rattle.uri_parts.specs.Components.{is_end, starts}
 use Rattle.uri_parts.specs.Errors.{unexpected}
 use Rattle.uri_parts.specs.Grammar.{Kind}
-use Rattle.uri_parts.specs.KindTables.{kind_of, segment_nz_nc_of}
 use Rattle.uri_parts.specs.Refusals.{error_from_end, error_from_fragment, error_from_path}
 use Rattle.uri_parts.specs.Refusals.{error_from_query, error_from_relative_path}
 use Rattle.uri_parts.specs.Scanning.{scan}
@@ -31,12 +30,6 @@ unexpected_where_no_path_begins segment kind text i first path other some =
 
 pub returns : goal.returns
 returns g c t =
-    let kind = g.K.Kind.kind in
-    let text = c.args.cursor.now.text.now in
-    let i = c.args.cursor.now.position in
-    let tables = c.args.tables.now in
     let next = c.is_before_excluded.ensures in
-    unexpected_where_no_path_begins (segment_nz_nc_of tables) (kind_of tables) text i
-    (subst (λ set. scan text set i ≡ Ok i) (sym c.requires.segment) (next.segment t))
-    (subst (λ k. scan text k.path i ≡ Ok i) (sym c.requires.kind) (next.path t))
+    unexpected_where_no_path_begins _ g.K.Kind.kind _ _ (next.segment t) (next.path t)
     (next.other t) (next.some t)

@@ -1,5 +1,5 @@
 use Rattle.std.proofs.Common.{◌≡◌, ◌≢◌, ◌<◌, ◌≤◌, ◌∙◌, ◌||◌, ◌⊎◌, Bool, ℕ, List, false, true, length}
-use Rattle.std.proofs.Common.{ap, arith, get_or, refl, subst, sym, inl, inr, ⊎_elim}
+use Rattle.std.proofs.Common.{ap, arith, drop, get_or, refl, subst, sym, inl, inr, ⊎_elim}
 use Rattle.std.specs.Prelude.{Ok}
 use Rattle.std.proofs.lemmas.Bool.{and_right, cond-false, lt-ltb, ne_eqb, not-true, or_parts}
 use Rattle.std.proofs.lemmas.Bool.Decides.{nat_tests}
@@ -9,7 +9,9 @@ use Rattle.uri_pct.specs.Sets.{is_path_char, is_segment_nz_nc_char, is_userinfo_
 use Rattle.uri_pct.proofs.ValidTexts.PrefixSteps.{valid_prefix_stops_where_none_may_begin}
 use Rattle.uri_parts.specs.Grammar.{Kind, first_segment_set, kind_by_flags}
 use Rattle.uri_parts.specs.Scanning.{scan, scan_end}
+use Rattle.uri_parts.specs.Components.{is_end}
 use Rattle.uri_parts.proofs.Parsing.NextBytes.{starts_at_position}
+use Rattle.uri_parts.proofs.Parsing.NextBytes.{text_ends_where_position_is_length}
 use Rattle.uri_parts.proofs.cursor.Cursor.is_before_excluded.Goals as goal
 
 -- a byte that is excluded: a control character, a space, or one past ASCII
@@ -84,6 +86,13 @@ inside_text bytes text i same within other =
     let apart : i ≢ length text = λ e. other (e ∙ sym (ap length same)) in
     omega (arith, within, apart)
 
+-- something is left of a text before its end
+is_not_at_end : (bytes text : List ℕ) (i : ℕ) → bytes ≡ text → i ≤ length text
+    → (i ≡ length bytes → ⊥) → is_end (drop i text) ≡ false
+is_not_at_end bytes text i same within other =
+    text_ends_where_position_is_length i text within
+    ∙ ne_eqb i (length text) (λ e. other (e ∙ sym (ap length same)))
+
 module _ (set_in : Kind → TableSet) (excludes : ExcludesBytes set_in) (kind : Kind)
     (known : kind ≡ kind_by_flags kind.path.ucschar kind.needs_scheme) (bytes text : List ℕ) (i : ℕ)
     (same : bytes ≡ text) (within : i ≤ length text) (some : i ≡ length bytes → ⊥) where
@@ -139,16 +148,21 @@ pub returns-then-byte-ge128-clause-userinfo : goal.returns-then-byte-ge128-claus
 returns-then-byte-ge128-clause-userinfo g c t =
     stops_past_ascii (λ k. k.userinfo) userinfo_excludes g.K.Kind.kind g.met.K.Kind.known _ _ _
     c.as_bytes-bytes.ensures.value c.args.self.now.boundary.0 c.if-i-bytes.false _
-    c.requires.kind (sym c.allows_some_past_ascii.ensures ∙ not-true _ t) c.if-byte-ge128.true
+    c.tables.ensures.kind (sym c.allows_some_past_ascii.ensures ∙ not-true _ t) c.if-byte-ge128.true
 
 pub returns-then-byte-ge128-clause-path : goal.returns-then-byte-ge128-clause-path
 returns-then-byte-ge128-clause-path g c t =
     stops_past_ascii (λ k. k.path) path_excludes g.K.Kind.kind g.met.K.Kind.known _ _ _
     c.as_bytes-bytes.ensures.value c.args.self.now.boundary.0 c.if-i-bytes.false _
-    c.requires.kind (sym c.allows_some_past_ascii.ensures ∙ not-true _ t) c.if-byte-ge128.true
+    c.tables.ensures.kind (sym c.allows_some_past_ascii.ensures ∙ not-true _ t) c.if-byte-ge128.true
 
 pub returns-then-byte-ge128-clause-segment : goal.returns-then-byte-ge128-clause-segment
 returns-then-byte-ge128-clause-segment g c t =
     stops_past_ascii first_segment_set segment_excludes g.K.Kind.kind g.met.K.Kind.known _ _ _
     c.as_bytes-bytes.ensures.value c.args.self.now.boundary.0 c.if-i-bytes.false _
-    c.requires.kind (sym c.allows_some_past_ascii.ensures ∙ not-true _ t) c.if-byte-ge128.true
+    c.tables.ensures.kind (sym c.allows_some_past_ascii.ensures ∙ not-true _ t) c.if-byte-ge128.true
+
+pub returns-then-byte-ge128-clause-some : goal.returns-then-byte-ge128-clause-some
+returns-then-byte-ge128-clause-some g c t =
+    is_not_at_end _ _ _ c.as_bytes-bytes.ensures.value c.args.self.now.boundary.0
+    c.if-i-bytes.false
