@@ -175,7 +175,8 @@ module _ (set : TableSet) (bs : List ℕ) (i : ℕ) (u : IsUtf8 bs) (here : IsCh
   pub second_byte_past_ascii_continues : 128 ≤ get_or bs i 0
       → (128 ≤ get_or bs (i + 1) 0) × (get_or bs (i + 1) 0 < 192)
   second_byte_past_ascii_continues past =
-      subst IsContinuationByte (ap (λ t. get_or t 1 0) (sym first_char.joined) ∙ get_or-drop i bs 1 0)
+      subst IsContinuationByte
+      (ap (λ t. get_or t 1 0) (sym first_char.joined) ∙ get_or-drop i bs 1 0)
       (second_byte_of_char_continues first_char.code first_char.suffix
       (lead_byte_past_ascii_is_char_past_ascii first_char.code
       (subst (λ b. 128 ≤ b) byte_is_lead_byte past)))
@@ -183,7 +184,8 @@ module _ (set : TableSet) (bs : List ℕ) (i : ℕ) (u : IsUtf8 bs) (here : IsCh
   pub third_byte_from_e0_continues : 224 ≤ get_or bs i 0
       → (128 ≤ get_or bs (i + 2) 0) × (get_or bs (i + 2) 0 < 192)
   third_byte_from_e0_continues high =
-      subst IsContinuationByte (ap (λ t. get_or t 2 0) (sym first_char.joined) ∙ get_or-drop i bs 2 0)
+      subst IsContinuationByte
+      (ap (λ t. get_or t 2 0) (sym first_char.joined) ∙ get_or-drop i bs 2 0)
       (third_byte_of_char_continues first_char.code first_char.suffix
       (lead_byte_from_224_is_char_from_2048 first_char.code
       (subst (λ b. 224 ≤ b) byte_is_lead_byte high)))
