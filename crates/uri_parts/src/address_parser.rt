@@ -20,6 +20,7 @@ fn after_byte(text: &[u8], byte: u8) -> Option<&[u8]>
 
 /// Returns the decimal number, one of an IPv4 address, at the start, and how many digits it has,
 /// leading zeros too. `None` exactly if there is no digit, or the number is above 255.
+#[inline(always)]
 fn decimal_up_to_255(text: &[u8]) -> Option<(u32, usize)>
     ensures value { result ≡ numbers.read_number 10 255 text.now }
     ensures fits { IfSome result (λ n. (n.0 ≤ 255) × (0 < n.1) × (n.1 ≤ length text.now)) }
@@ -47,6 +48,7 @@ fn decimal_up_to_255(text: &[u8]) -> Option<(u32, usize)>
 /// Parses a number of an IPv4 address,
 /// of at most 255 without leading zeros. Returns it and what follows it.
 #[tactic(auto, unfolding(std::specs::Net::Reader::read_octet))]
+#[inline(always)]
 fn parse_octet(text: &[u8]) -> Option<(u32, &[u8])>
     ensures value { numbers.read_view (λ n. n) result ≡ numbers.read_octet text.now }
     ensures fits { IfSome result (λ n. n.0 ≤ 255) }

@@ -1,8 +1,7 @@
 //! Addresses in brackets (RFC 3986, section 3.2.2).
 ghost use Rattle.std.specs.Prelude.{◌≡◌, ◌≤◌, ◌<◌, ◌+◌, length, IsTrue, IfSome, IfOk, IfErr, is_ok};
 ghost use Rattle.uri_parts.specs.Errors.{error_index};
-ghost use Rattle.std.specs.Prelude.{drop, ◌||◌, ◌&&◌, not, nat_lt, Ok, Err, Some, None, true};
-ghost use Rattle.std.specs.Prelude.{false, is_some};
+ghost use Rattle.std.specs.Prelude.{drop, ◌||◌, ◌&&◌, not, nat_lt, Ok, Err, None, true, false};
 ghost use Rattle.uri_parts.specs.Components.{is_end, starts};
 ghost use Rattle.uri_parts.specs.LiteralErrors.{digits_end as digits_end_at};
 ghost use Rattle.uri_parts.specs.LiteralErrors.{octet_end as octet_end_at, ipv4_end as ipv4_end_at};
@@ -273,47 +272,62 @@ fn future_end(text: &str, start: usize) -> Result<usize, ParseError>
     end_after_mark(text, address, &IPV_FUTURE, b']')
 }
 
-/// Returns the position after the IPv6 address at `start` and its `]`, or `Some(None)` if there is
-/// none. Unless it `takes_ipv4`, it returns `None` if a `.` follows a group.
+/// Returns the position after the IPv6 address at `start` and its `]`. Returns `None` if there is
+/// none, or if it has an IPv4 address in it, unless this function `takes_ipv4`.
 #[inline(always)]
-fn closed_ipv6_end(text: &str, start: usize, takes_ipv4: bool) -> Option<Option<usize>>
+fn closed_ipv6_end(text: &str, start: usize, takes_ipv4: bool) -> Option<usize>
     requires { IsCharBoundary text.now start }
-    ensures boundary { IfSome result (λ found. IfSome found (IsCharBoundary text.now)) }
-    ensures exact { IfSome result (λ found. IfSome found (λ end. literal text.now start ≡ Ok end)) }
-    ensures absent { result ≡ Some None → LacksVersionLetter (drop start text.now)
+    ensures boundary { IfSome result (IsCharBoundary text.now) }
+    ensures exact { IfSome result (λ end. literal text.now start ≡ Ok end) }
+    ensures absent { IsTrue takes_ipv4 → result ≡ None → LacksVersionLetter (drop start text.now)
         → is_ok (literal text.now start) ≡ false }
-    ensures total { IsTrue takes_ipv4 → is_some result ≡ true }
 {
     let mut segments = [0; 8];
-    match read_ipv6(text.as_bytes(), start, &mut segments, takes_ipv4)? {
-        Some(end) if next_is(text, end, b']') => Some(Some(end + 1)),
-        _ => Some(None),
+    let found = read_ipv6(text.as_bytes(), start, &mut segments, takes_ipv4)?;
+    let end = found?;
+    if next_is(text, end, b']') {
+        Some(end + 1)
+    } else {
+        None
     }
 }
 
-/// Returns the position after the IPv6 address at `start` and its `]`, or `Some(None)` if there is
-/// none. It returns `None` if a `.` follows a group, as in an address with an IPv4 address in it.
+/// Returns the position after the IPv6 address at `start` and its `]`. Returns `None` if there is
+/// none, or it has an IPv4 address in it.
 ///
 /// It calls no other function, so it saves few registers.
 #[inline(never)]
-fn plain_ipv6_end(text: &str, start: usize) -> Option<Option<usize>>
+fn plain_ipv6_end(text: &str, start: usize) -> Option<usize>
     requires { IsCharBoundary text.now start }
-    ensures boundary { IfSome result (λ found. IfSome found (IsCharBoundary text.now)) }
-    ensures exact { IfSome result (λ found. IfSome found (λ end. literal text.now start ≡ Ok end)) }
-    ensures absent { result ≡ Some None → LacksVersionLetter (drop start text.now)
-        → is_ok (literal text.now start) ≡ false }
+    ensures boundary { IfSome result (IsCharBoundary text.now) }
+    ensures exact { IfSome result (λ end. literal text.now start ≡ Ok end) }
 {
     closed_ipv6_end(text, start, false)
 }
 
-/// Returns the position after the address at `start` and its `]`, or why there is none. No IPv6
-/// address with a `]` is at `start`.
+/// Returns the position after the IPv6 address at `start`, which may begin there, and its `]`, or
+/// why there is none.
+#[inline(never)]
+fn ipv6_literal_end(text: &str, start: usize) -> Result<usize, ParseError>
+    requires boundary { IsCharBoundary text.now start }
+    requires lacks_version_letter { LacksVersionLetter (drop start text.now) }
+    requires begins { is_no_ipv6_at text.now start ≡ false }
+    ensures boundary { IfOk result (λ end. IsCharBoundary text.now end) }
+    ensures index { IfErr result (λ e. IsCharBoundary text.now (error_index e)) }
+    ensures exact { result ≡ literal text.now start }
+{
+    match closed_ipv6_end(text, start, true) {
+        Some(end) => Ok(end),
+        None => Err(refusal(text, start)),
+    }
+}
+
+/// Returns the position after the address at `start` and its `]`, or why there is none. A `[` is
+/// before `start`. It parses addresses of every form.
 #[cold]
 #[inline(never)]
-fn other_literal_end(text: &str, start: usize) -> Result<usize, ParseError>
-    requires boundary { IsCharBoundary text.now start }
-    requires absent { LacksVersionLetter (drop start text.now)
-        → is_ok (literal text.now start) ≡ false }
+fn any_literal_end(text: &str, start: usize) -> Result<usize, ParseError>
+    requires { IsCharBoundary text.now start }
     ensures boundary { IfOk result (λ end. IsCharBoundary text.now end) }
     ensures index { IfErr result (λ e. IsCharBoundary text.now (error_index e)) }
     ensures exact { result ≡ literal text.now start }
@@ -324,23 +338,7 @@ fn other_literal_end(text: &str, start: usize) -> Result<usize, ParseError>
     if cannot_begin_ipv6(text, start) {
         return Err(ParseError::new(start, ParseErrorKind::UnexpectedChar));
     }
-    Err(refusal(text, start))
-}
-
-/// Returns the position after the address at `start` and its `]`, or why there is none. The address
-/// may have an IPv4 address in it.
-#[cold]
-#[inline(never)]
-fn dotted_literal_end(text: &str, start: usize) -> Result<usize, ParseError>
-    requires { IsCharBoundary text.now start }
-    ensures boundary { IfOk result (λ end. IsCharBoundary text.now end) }
-    ensures index { IfErr result (λ e. IsCharBoundary text.now (error_index e)) }
-    ensures exact { result ≡ literal text.now start }
-{
-    match closed_ipv6_end(text, start, true) {
-        Some(Some(end)) => Ok(end),
-        _ => other_literal_end(text, start),
-    }
+    ipv6_literal_end(text, start)
 }
 
 /// Returns the position after the address at `start` and its `]`, or why there is none. A `[` is
@@ -353,8 +351,7 @@ pub(crate) fn literal_end(text: &str, start: usize) -> Result<usize, ParseError>
     ensures exact { result ≡ literal text.now start }
 {
     match plain_ipv6_end(text, start) {
-        Some(Some(end)) => Ok(end),
-        Some(None) => other_literal_end(text, start),
-        None => dotted_literal_end(text, start),
+        Some(end) => Ok(end),
+        None => any_literal_end(text, start),
     }
 }
