@@ -1,85 +1,24 @@
 -- Addresses that are hosts in brackets: those of a future version, and a double colon; and with
 -- which bytes an IPv6 address begins.
-use Rattle.std.proofs.Common.{◌≡◌, ℕ, zero, suc, ◌+◌, ◌<◌, ◌≤◌, Bool, true, false, eqb, List, []}
-use Rattle.std.proofs.Common.{◌∷◌, ◌++◌, length, drop, Some, None, refl, sym, ap, subst}
+use Rattle.std.proofs.Common.{◌≡◌, ℕ, zero, suc, ◌+◌, ◌<◌, ◌≤◌, Bool, true, false, eqb, List}
+use Rattle.std.proofs.Common.{◌∷◌, length, drop, Some, None, refl, sym, ap}
 use Rattle.std.proofs.Common.{arith, ◌∙◌, ◌||◌, ⊎_elim, ◌⊎◌, inl, inr}
 use Rattle.std.specs.Prelude.{codes, slice_index}
 use Rattle.std.specs.Net.Reader.{digit_count}
-use Rattle.std.specs.Str.{IsUtf8}
-use Rattle.std.proofs.lemmas.Bool.{and_from, lt-ltb, or_left, both_ways, false≢true, eqb-true}
+use Rattle.std.proofs.lemmas.Bool.{and_from, or_left, both_ways, false≢true, eqb-true}
 use Rattle.std.proofs.lemmas.Bool.{eq-eqb, ne_eqb, cond-false, cases_Bool, cases_lt, not_from_false}
 use Rattle.std.proofs.lemmas.Bool.{false_from_ne_true}
 use Rattle.std.proofs.lemmas.Bool.Decides.{nat_tests}
 use Rattle.std.proofs.lemmas.Option.{same_Some, none-some}
-use Rattle.std.proofs.lemmas.List.{append_cancel_right, drop_all, drop_more}
-use Rattle.std.proofs.lemmas.Str.{IsUtf8-append}
-use Rattle.uri_pct.specs.Sets.{TableSet, is_one_of, hexdig_set, ipv_future_set}
-use Rattle.uri_pct.specs.Tokens.{IsValidFor}
-use Rattle.uri_parts.specs.Components.{is_end, starts}
-use Rattle.uri_parts.specs.Hosts.{IpvFuture, bracketed}
-use Rattle.uri_parts.specs.LiteralErrors.{ipv6_end, groups_from, octet_end, octets_end}
+use Rattle.std.proofs.lemmas.List.{drop_all, drop_more}
+use Rattle.uri_pct.specs.Sets.{is_one_of}
+use Rattle.uri_parts.specs.Components.{starts}
 use Rattle.uri_parts.specs.LiteralErrors.{cannot_begin_ipv6, digits_end, after_elision, Groups}
 use Rattle.uri_parts.specs.LiteralErrors.{Groups_end, Elision, Malformed}
-use Rattle.uri_parts.proofs.Refusals.Sound.{ipv6_end-before-bracket-ends-ipv6}
-use Rattle.uri_ops.specs.HostParts.{IsHostText}
-use Rattle.uri_ops.proofs.Builders.BuilderHosts.{bracketed-ipv6-text-is-host}
-use Rattle.uri_ops.proofs.Meanings.HostMeanings.{bracketed-utf8-is-utf8}
-use Rattle.uri_ops.proofs.Meanings.AsciiCharacters.{ascii-bytes-are-utf8}
 
 -- error law: the `v` of an IPvFuture address is ASCII
 pub version-letter-is-ascii : (c : ℕ) → is_one_of (codes "vV") c ≡ true → c < 128
 version-letter-is-ascii c e = grind (arith, nat_tests)
-
--- error law: an IPvFuture address in brackets, with version and address, is a host
-pub ipvfuture-is-host : (names : TableSet) (letter : ℕ) (version address : List ℕ)
-    → is_one_of (codes "vV") letter ≡ true → 0 < length version → IsUtf8 version
-    → IsValidFor hexdig_set version → 0 < length address → IsUtf8 address
-    → IsValidFor ipv_future_set address
-    → IsHostText names (bracketed (letter ∷ (version ++ (codes "." ++ address))))
-ipvfuture-is-host names letter version address v some u h any w k =
-    let text : List ℕ = letter ∷ (version ++ (codes "." ++ address)) in
-    record {
-      utf8 = bracketed-utf8-is-utf8 text
-          (IsUtf8-append (letter ∷ []) (version ++ (codes "." ++ address))
-          (letter_utf8 letter v)
-          (IsUtf8-append version (codes "." ++ address) u
-          (IsUtf8-append (codes ".") address (ascii-bytes-are-utf8 (codes ".") refl) w)));
-      host = (
-        IpvFuture,
-        (
-          text,
-          refl,
-          record {
-            letter = letter;
-            version = version;
-            address = address;
-            whole = refl;
-            is_v = v;
-            version_digits = (some, h);
-            address_chars = (any, k);
-          },
-        ),
-      );
-    }
-  where
-    letter_utf8 : (c : ℕ) → is_one_of (codes "vV") c ≡ true → IsUtf8 (c ∷ [])
-    letter_utf8 c e = ascii-bytes-are-utf8 (c ∷ [])
-        (and_from _ _ (lt-ltb c 128 (version-letter-is-ascii c e)) refl)
-
--- error law: `::` is parsed as an IPv6 address, and ends before its `]`
-double-colon-is-parsed-to-its-end : ipv6_end (codes "::]") 0 ≡ Some 2
-unfolding groups_from ipv6_end octet_end octets_end is_end
-double-colon-is-parsed-to-its-end = refl
-
--- error law: `[::]` is a host
-pub double-colon-is-host : (names : TableSet) → IsHostText names (codes "[::]")
-double-colon-is-host names =
-    let w = ipv6_end-before-bracket-ends-ipv6 (codes "::]") 0 2 double-colon-is-parsed-to-its-end
-    refl in
-    let same : w.address ≡ codes "::" =
-    append_cancel_right w.address (codes "::") (codes "]") (sym w.split) in
-    subst (λ a. IsHostText names (bracketed a)) same
-    (bracketed-ipv6-text-is-host names w.address w.segments w.is)
 
 -- error law: no IPv6 address begins where the first byte is a `v`
 letter-begins-no-ipv6 : (text rest : List ℕ) (i c : ℕ) → drop i text ≡ c ∷ rest

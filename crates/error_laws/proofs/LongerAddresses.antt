@@ -6,7 +6,7 @@ use Rattle.std.specs.Prelude.{codes, nat_lt}
 use Rattle.std.specs.Net.Reader.{digit_count}
 use Rattle.std.proofs.lemmas.Bool.{cases_Bool, cases_lt, cond-true, cond-false, both_ways, eqb-true}
 use Rattle.std.proofs.lemmas.Bool.{eq-eqb, and_parts, and_right, and_left, and_from, lt-ltb}
-use Rattle.std.proofs.lemmas.Bool.{le-ltb, false≢true}
+use Rattle.std.proofs.lemmas.Bool.{le-ltb, false≢true, cases_eq}
 use Rattle.std.proofs.lemmas.List.{drop-append-le, drop_more, drop_all}
 use Rattle.std.proofs.lemmas.Option.{none-some, cond_some}
 use Rattle.uri_parts.specs.Components.{starts, is_end}
@@ -23,12 +23,13 @@ use Rattle.uri_parts.proofs.Refusals.GroupTurns.{groups_from-rejects-misplaced-c
 use Rattle.uri_parts.proofs.Refusals.GroupTurns.{groups_from-rejects-ipv4-without-room}
 use Rattle.uri_parts.proofs.Refusals.GroupTurns.{groups_from-goes-on-after-group}
 use Rattle.error_laws.proofs.BracketedHosts.{elided-address-has-room, groups-with-room-end-address}
-use Rattle.error_laws.proofs.LongerTexts.{next-is-kept-in-longer-text, mark-is-within-text}
+use Rattle.error_laws.proofs.LongerTexts.{next-is-kept-in-longer-text, end-is-past-text}
 use Rattle.error_laws.proofs.LongerTexts.{bytes-are-no-end, empty-text-is-end, bracket-is-no-end}
 use Rattle.error_laws.proofs.LongerTexts.{digits_end-is-kept-in-longer-text}
 use Rattle.error_laws.proofs.LongerTexts.{digits_end-is-no-earlier-in-longer-text}
 use Rattle.error_laws.proofs.LongerTexts.{digits_end-is-kept-where-none-follow, closing}
 use Rattle.error_laws.proofs.LongerTexts.{next-before-bracket-is-kept, digits_end-is-within-text}
+use Rattle.error_laws.proofs.SharedPrefixes.{mark-is-within-text}
 use Rattle.error_laws.proofs.LongerTexts.{ipv4-is-kept-before-bracket, ipv4-ends-within-text}
 
 -- error law: where groups end
@@ -43,11 +44,6 @@ end_with_room (Groups_end zero end) = false
 end_with_room (Groups_end (suc room) end) = true
 end_with_room (Elision room end) = false
 end_with_room Malformed = false
-
--- general fact on numbers, for the error law
-each-number-is-zero-or-not : (n : ℕ) → (n ≡ 0) ⊎ (n ≢ 0)
-each-number-is-zero-or-not zero = inl refl
-each-number-is-zero-or-not (suc n) = inr (λ z. omega (arith, z))
 
 module _ (text more : List ℕ) where
   abbrev long : List ℕ
@@ -171,11 +167,7 @@ module _ (text more : List ℕ) where
         -- at the end of the text, and it is short
         module _ (ended : (short && is_at_end text end) ≡ true) where
           over : length text ≤ end
-          over = ⊎_elim
-              (λ (k : end < length text). absurd (both_ways _
-              (ap is_end (drop_more text end 0 k) ∙ bytes-are-no-end _ _) (and_parts _ _ ended).1))
-              (λ k. k)
-              (cases_lt end (length text))
+          over = end-is-past-text text end (and_parts _ _ ended).1
 
           abbrev later : ℕ
           later = digits_end long 16 4 group
@@ -317,7 +309,7 @@ module _ (text more : List ℕ) where
               (dot-is-kept (codes "]") ∙ d) z
               ∙ ap (after_ipv4 (closing text) (room - 1))
               (ipv4-is-kept-before-bracket text group group-is-within-text)))
-              (each-number-is-zero-or-not room))
+              (cases_eq room 0))
               (λ d.
               let goes_on : (m : List ℕ) → groups_from (text ++ m) n is_first i
               ≡ groups_from (text ++ m) room false end =
@@ -389,6 +381,16 @@ module _ (text more : List ℕ) where
       (sym (ap (after_groups long) k.0) ∙ b) c
   groups-close Malformed h u k e last a past b c = absurd (none-some e a)
 
+  address-ends-within-text : (g h u : Groups) → Kept g h u → (end : ℕ)
+      → after_groups text g ≡ Some end → end ≤ length text
+  address-ends-within-text (Groups_end room at) h u k end e =
+      let q = cond_some (eqb room 0) at end e in omega (arith, k.0, q.1)
+  address-ends-within-text (Elision room at) h u k end e =
+      let p = elided-address-has-room text (groups_from text room true at) end e in
+      (subst (λ x. Kept x (groups_from long room true at) (groups_from (closing text) room true at))
+      p.1 (groups-are-kept room true at k.2)).0
+  address-ends-within-text Malformed h u k end e = absurd (none-some end e)
+
   -- an IPv6 address that is parsed up to the end of the text, and of which the text goes on so that
   -- a `]` closes it, would be closed by a `]` at the end of the text too
   pub ipv6-closes-with-text : (i e last : ℕ) → i ≤ length text → ipv6_end text i ≡ Some e
@@ -398,3 +400,11 @@ module _ (text more : List ℕ) where
   ipv6-closes-with-text i e last le a past b c = groups-close (groups_from text 8 true i)
       (groups_from long 8 true i) (groups_from (closing text) 8 true i)
       (groups-are-kept 8 true i le) e last a past b c
+
+-- error law: an IPv6 address that begins within a text ends within it
+pub ipv6-ends-within-text : (text : List ℕ) (i end : ℕ) → i ≤ length text
+    → ipv6_end text i ≡ Some end → end ≤ length text
+unfolding ipv6_end
+ipv6-ends-within-text text i end le e = address-ends-within-text text [] (groups_from text 8 true i)
+    (groups_from (text ++ []) 8 true i) (groups_from (closing text) 8 true i)
+    (groups-are-kept text [] 8 true i le) end e

@@ -1,34 +1,28 @@
 -- What is next in a text that goes on, and where digits and IPv4 addresses end in it.
 use Rattle.std.proofs.Common.{◌≡◌, ℕ, zero, suc, ◌+◌, ◌-◌, ◌<◌, ◌≤◌, true, false, cond, eqb, List}
 use Rattle.std.proofs.Common.{[], ◌∷◌, ◌++◌, length, take, drop, ◌⊎◌, Option, Some, None, refl, sym}
-use Rattle.std.proofs.Common.{ap, ◌∙◌, arith, ◌&&◌, ⊎_elim, length-drop}
+use Rattle.std.proofs.Common.{ap, ◌∙◌, arith, ◌&&◌, ⊎_elim, length-drop, length-append}
 use Rattle.std.specs.Prelude.{codes, nat_lt, nat_le, slice_range, option_and_then}
 use Rattle.std.specs.Char.{is_digit}
 use Rattle.std.specs.Net.Reader.{digit_count}
 use Rattle.std.specs.Str.Parse.{digits_value}
 use Rattle.std.proofs.lemmas.Bool.{cases_Bool, cases_lt, cond-true, cond-false, false≢true}
+use Rattle.std.proofs.lemmas.Bool.{both_ways}
 use Rattle.std.proofs.lemmas.List.{drop-append-le, drop_more, drop_all, take-append-le}
+use Rattle.std.proofs.lemmas.List.{get_or_append_left}
 use Rattle.std.proofs.lemmas.List.Sums.{prefix_len-le-length}
 use Rattle.std.proofs.lemmas.Option.{same_Some, none-some}
 use Rattle.uri_parts.specs.Components.{starts, is_end}
 use Rattle.uri_parts.specs.LiteralErrors.{digits_end, octet_end, octets_end, ipv4_end}
-use Rattle.uri_parts.specs.Scanning.{is_next}
+use Rattle.uri_parts.specs.Scanning.{is_next, is_at_end}
+use Rattle.error_laws.proofs.SharedPrefixes.{is_next-by-byte, mark-is-within-text}
 
 -- error law: what is next before the end of a text is next in a longer text too
 pub next-is-kept-in-longer-text : (text more : List ℕ) (mark i : ℕ) → i < length text
     → is_next (text ++ more) mark i ≡ is_next text mark i
 next-is-kept-in-longer-text text more mark i l =
-    ap (starts mark) (drop-append-le i text more (omega (arith, l))
-    ∙ ap (λ t. t ++ more) (drop_more text i 0 l))
-    ∙ sym (ap (starts mark) (drop_more text i 0 l))
-
--- error law: where a mark is next, the text does not end
-pub mark-is-within-text : (text : List ℕ) (mark i : ℕ) → is_next text mark i ≡ true
-    → i < length text
-mark-is-within-text text mark i e = ⊎_elim
-    (λ (l : i < length text). l)
-    (λ (l : length text ≤ i). absurd (false≢true (sym (ap (starts mark) (drop_all i text l)) ∙ e)))
-    (cases_lt i (length text))
+    is_next-by-byte (text ++ more) mark i (omega (arith, l, length-append text more))
+    ∙ ap (λ b. eqb b mark) (get_or_append_left text more 0 i l) ∙ sym (is_next-by-byte text mark i l)
 
 -- general fact on texts, for the error law: one with a byte is not at its end
 pub bytes-are-no-end : (b : ℕ) (bs : List ℕ) → is_end (b ∷ bs) ≡ false
@@ -44,6 +38,14 @@ empty-text-is-end = refl
 pub bracket-is-no-end : (bs : List ℕ) → starts 93 bs ≡ true → is_end bs ≡ false
 bracket-is-no-end [] e = absurd (false≢true e)
 bracket-is-no-end (b ∷ bs) e = bytes-are-no-end b bs
+
+-- error law: a position where a text is at its end is not before that
+pub end-is-past-text : (text : List ℕ) (i : ℕ) → is_at_end text i ≡ true → length text ≤ i
+end-is-past-text text i e = ⊎_elim
+    (λ (l : i < length text). absurd (both_ways _ (ap is_end (drop_more text i 0 l)
+    ∙ bytes-are-no-end _ _) e))
+    (λ (l : length text ≤ i). l)
+    (cases_lt i (length text))
 
 -- error law: in a longer text no fewer digits come first
 digits-are-no-fewer-in-longer-text : (radix : ℕ) (bs more : List ℕ)

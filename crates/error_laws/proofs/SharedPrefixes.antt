@@ -1,80 +1,136 @@
--- Two texts that begin alike: what is next and what is scanned within what they share.
-use Rattle.std.proofs.Common.{◌≡◌, ℕ, ◌+◌, ◌-◌, ◌<◌, ◌≤◌, true, false, List, [], ◌∷◌, ◌++◌, length}
-use Rattle.std.proofs.Common.{take, drop, refl, sym, ap, subst, ◌∙◌, arith, ◌&&◌, ◌||◌, ⊎_elim}
-use Rattle.std.proofs.Common.{length-drop, length-take-le, take-append-drop, take_at, drop_at}
-use Rattle.std.proofs.Common.{length-append}
-use Rattle.std.specs.Prelude.{codes, Ok, is_ok, slice_range, slice_index}
+-- Positions between the characters of a text, and two texts that begin alike: what is next and what
+-- is scanned within what they share.
+use Rattle.std.proofs.Common.{◌≡◌, ℕ, ◌+◌, ◌-◌, ◌<◌, ◌≤◌, true, false, eqb, List, [], ◌∷◌, ◌++◌}
+use Rattle.std.proofs.Common.{length, get_or, take, drop, refl, sym, ap, subst, ◌∙◌, arith, ◌&&◌}
+use Rattle.std.proofs.Common.{⊎_elim, length-append, length-drop, length-take-le, take-append-drop}
+use Rattle.std.proofs.Common.{take_at, drop_at, append_assoc}
+use Rattle.std.specs.Prelude.{Ok, is_ok, codes}
 use Rattle.std.specs.Result.{result_ok}
 use Rattle.std.specs.Str.{IsUtf8}
-use Rattle.std.proofs.lemmas.Bool.{cases_Bool, cases_lt, cond-true, cond-false, eqb-true, eq-eqb}
-use Rattle.std.proofs.lemmas.Bool.{le-ltb, and_parts, false≢true}
-use Rattle.std.proofs.lemmas.List.{drop-drop, drop-append-le, take-append-le, get_or-take}
+use Rattle.std.proofs.lemmas.Bool.{cases_Bool, cases_lt, cond-true, cond-false, le-ltb, and_parts}
+use Rattle.std.proofs.lemmas.Bool.{and_right, eqb-true, false≢true}
+use Rattle.std.proofs.Math.Seq.{take-append-add}
+use Rattle.std.proofs.lemmas.List.{drop-drop, drop-take, take-take, get_or-take, get_or-drop}
+use Rattle.std.proofs.lemmas.List.{drop_more, drop_all}
 use Rattle.std.proofs.lemmas.Option.{same_Some}
-use Rattle.std.proofs.lemmas.Str.{IsCharBoundary-from_take, IsUtf8-drop}
+use Rattle.std.proofs.lemmas.Str.{IsUtf8-take, IsUtf8-drop, IsCharBoundary-from_drop}
+use Rattle.std.proofs.lemmas.Str.{IsCharBoundary-from_take, IsCharBoundary-before_ascii}
 use Rattle.uri_pct.specs.Prefixes.{allows_first, valid_prefix_from, valid_prefix}
-use Rattle.uri_pct.specs.Sets.{TableSet, LacksPercent, allows_past_ascii, digit_set}
-use Rattle.uri_pct.specs.Tokens.{IsValidFor, is_valid_for}
-use Rattle.uri_pct.proofs.ValidTexts.Cuts.{excludes, cut, valid_prefix_by_first_byte}
+use Rattle.uri_pct.specs.Sets.{TableSet, LacksPercent, allows_past_ascii, digit_set, is_one_of}
+use Rattle.uri_pct.specs.Tokens.{IsValidFor}
+use Rattle.uri_pct.proofs.ValidTexts.Cuts.{excludes, valid_prefix_by_first_byte}
+use Rattle.uri_pct.proofs.ValidTexts.LongestPrefixes.{valid_prefix_ends_at_boundary}
+use Rattle.uri_pct.proofs.ValidTexts.LongestPrefixes.{valid_prefix_is_valid}
 use Rattle.uri_pct.proofs.ValidTexts.MarksInTexts.{ascii_byte_has_no_continuation}
-use Rattle.uri_pct.proofs.ValidTexts.MarksInTexts.{length_before_marks}
-use Rattle.uri_parts.specs.Components.{starts, before_any, from_any, has_authority}
+use Rattle.uri_pct.proofs.ValidTexts.Prefixes.{valid_prefix_is_at_most_length}
+use Rattle.uri_parts.specs.Components.{Lacks, starts, before_any, from_any, has_authority}
 use Rattle.uri_parts.specs.LiteralErrors.{literal}
 use Rattle.uri_parts.specs.Models.Literals.{literal_length}
-use Rattle.uri_parts.specs.Scanning.{is_next, scan_end}
-use Rattle.uri_parts.proofs.Authorities.AuthorityCuts.{length-of-text-before-marks}
+use Rattle.uri_parts.specs.Scanning.{is_next, scan_end, scan}
 use Rattle.uri_parts.proofs.Parsing.Acceptance.{is_literal, parses_literal}
+use Rattle.uri_parts.proofs.Parsing.ScanStops.{utf8_after_mark}
 use Rattle.uri_parts.proofs.Refusals.LiteralEnds.{literal-ends-as-parsed}
-use Rattle.uri_parts.proofs.Splitting.Cuts.{text-is-cut-at-first-mark}
+use Rattle.uri_parts.proofs.Splitting.Cuts.{IsEmptyOrMarked, text-is-cut-at-first-mark}
 use Rattle.uri_parts.proofs.Splitting.Cuts.{cut-at-end-of-text-without-marks}
+use Rattle.uri_parts.proofs.Splitting.Recompose.{text-with-mark-is-mark-and-rest}
 use Rattle.uri_parts.proofs.TextKinds.GrammarTexts.{utf8_around_ascii_byte}
-use Rattle.uri_parts.proofs.TextKinds.GrammarTexts.{valid_text_lacks_excluded_marks}
-use Rattle.error_laws.proofs.BuiltPaths.{authority-begins-with-two-slashes}
-use Rattle.error_laws.proofs.LongerTexts.{next-is-kept-in-longer-text, mark-is-within-text}
-use Rattle.error_laws.proofs.Places.{IsPosition, IsPassedByScan, text-at-mark-is-mark-and-rest}
-use Rattle.error_laws.proofs.Places.{text-before-position-is-utf8}
+use Rattle.error_laws.proofs.Marks.{At, begins-with-no-other, valid-text-is-scanned-to-mark}
 
--- error law: two texts have the same first n bytes
-pub record SharePrefix (n : ℕ) (text other : List ℕ) : Type 0 where
+-- error law: where a mark is next, the text does not end
+pub mark-is-within-text : (text : List ℕ) (mark i : ℕ) → is_next text mark i ≡ true
+    → i < length text
+mark-is-within-text text mark i e = ⊎_elim
+    (λ (l : i < length text). l)
+    (λ (l : length text ≤ i). absurd (false≢true (sym (ap (starts mark) (drop_all i text l)) ∙ e)))
+    (cases_lt i (length text))
+
+-- general fact on lists, for the error law: what is taken in one step is taken in two
+pub taken-in-two-steps : (text : List ℕ) (i k : ℕ) → i ≤ length text
+    → take (i + k) text ≡ take i text ++ take k (drop i text)
+taken-in-two-steps text i k le =
+    let n = length-take-le i text le in
+    ap (take (i + k)) (sym (take-append-drop i text))
+    ∙ ap (λ m. take (m + k) (take i text ++ drop i text)) (sym n)
+    ∙ take-append-add (take i text) (drop i text) k
+
+-- error law: what is next at an index within a text is its byte there
+pub is_next-by-byte : (text : List ℕ) (mark i : ℕ) → i < length text
+    → is_next text mark i ≡ eqb (get_or text i 0) mark
+is_next-by-byte text mark i l = ap (starts mark) (drop_more text i 0 l)
+
+-- error law: a position between two characters of a text
+pub record IsPosition (text : List ℕ) (i : ℕ) : Type 0 where
+  pub utf8 : IsUtf8 (drop i text)
+  pub le : i ≤ length text
+
+-- error law: after a mark that is ASCII is a position
+pub position-after-mark : (text : List ℕ) (mark i : ℕ) → mark < 128 → is_next text mark i ≡ true
+    → IsPosition text i → IsPosition text (i + 1)
+position-after-mark text mark i small e a =
+    let l = mark-is-within-text text mark i e in
+    record {
+      utf8 = subst IsUtf8 (drop-drop 1 i text) (utf8_after_mark mark small (drop i text) e a.utf8);
+      le = omega arith;
+    }
+
+-- error law: a mark that is ASCII is at a position
+pub position-at-mark : (text : List ℕ) (mark i : ℕ) → IsUtf8 text → mark < 128
+    → is_next text mark i ≡ true → IsPosition text i
+position-at-mark text mark i u small e =
+    let l = mark-is-within-text text mark i e in
+    let b = eqb-true _ _ (sym (is_next-by-byte text mark i l) ∙ e) in
+    record {
+      utf8 = IsUtf8-drop text i u (IsCharBoundary-before_ascii text i l (omega (arith, b)));
+      le = omega arith;
+    }
+
+-- error law: a scan ends at a position
+pub scan-ends-at-position : (text : List ℕ) (set : TableSet) → LacksPercent set → (i : ℕ)
+    → IsPosition text i → IsPosition text (scan_end text set i)
+scan-ends-at-position text set lacks i a =
+    let bs : List ℕ = drop i text in
+    record {
+      utf8 = subst IsUtf8 (drop-drop (valid_prefix set bs) i text)
+          (IsUtf8-drop bs (valid_prefix set bs) a.utf8
+          (valid_prefix_ends_at_boundary set lacks bs a.utf8));
+      le = omega (arith, valid_prefix_is_at_most_length set bs, length-drop i text, a.le);
+    }
+
+-- error law: what a scan passes is valid
+pub scanned-part-is-valid : (text : List ℕ) (set : TableSet) → LacksPercent set → (i : ℕ)
+    → IsPosition text i
+    → IsUtf8 (take (valid_prefix set (drop i text)) (drop i text))
+    × IsValidFor set (take (valid_prefix set (drop i text)) (drop i text))
+scanned-part-is-valid text set lacks i a =
+    let bs : List ℕ = drop i text in (
+      IsUtf8-take bs (valid_prefix set bs) a.utf8 (valid_prefix_ends_at_boundary set lacks bs a.utf8),
+      valid_prefix_is_valid set lacks bs a.utf8,
+    )
+
+-- error law: a scan goes on at its end if no `%` (37) is next there
+pub scan-goes-on : (text : List ℕ) (set : TableSet) (i end : ℕ) → scan_end text set i ≡ end
+    → is_next text 37 end ≡ false → scan text set i ≡ Ok end
+scan-goes-on text set i end e n = cond-false _ _ _ (and_right _ _ (ap (is_next text 37) e ∙ n))
+    ∙ ap (λ k. Ok k) e
+
+-- error law: two texts have the same first n bytes, and the other is UTF-8
+pub record Alike (n : ℕ) (text other : List ℕ) : Type 0 where
   pub same : take n text ≡ take n other
   pub within : n ≤ length text
   pub in_other : n ≤ length other
+  pub utf8 : IsUtf8 other
 
--- error law: a text shares its first n bytes with each text that they begin
-pub prefix-is-shared : (text more : List ℕ) (n : ℕ) → n ≤ length text
-    → SharePrefix n text (take n text ++ more)
-prefix-is-shared text more n le =
+-- error law: a text is alike to each text that its first n bytes begin
+pub prefix-is-alike : (text more : List ℕ) (n : ℕ) → n ≤ length text → IsUtf8 (take n text ++ more)
+    → Alike n text (take n text ++ more)
+prefix-is-alike text more n le v =
     let size = length-take-le n text le in
     record {
       same = sym (take_at (take n text) more n size);
       within = le;
       in_other = omega (arith, length-append (take n text) more, size);
+      utf8 = v;
     }
-
--- error law: a scan ends at a mark that its set lacks, if what is before the mark is valid
-scan-ends-at-mark : (text : List ℕ) (set : TableSet) (mark i end : ℕ) → LacksPercent set
-    → mark < 128 → excludes set (mark ∷ []) ≡ true → IsUtf8 (drop i text) → i ≤ end
-    → IsValidFor set (slice_range text i end) → is_next text mark end ≡ true
-    → scan_end text set i ≡ end
-scan-ends-at-mark text set mark i end lacks small outside u le valid next =
-    let bs : List ℕ = drop i text in
-    let x : List ℕ = slice_range text i end in
-    let after : List ℕ = mark ∷ drop (end + 1) text in
-    let whole : i + (end - i) ≡ end = omega (arith, le) in
-    let l = mark-is-within-text text mark end next in
-    let split : bs ≡ x ++ after = sym (take-append-drop (end - i) bs)
-    ∙ ap (λ t. x ++ t) (drop-drop (end - i) i text ∙ ap (λ k. drop k text) whole
-    ∙ text-at-mark-is-mark-and-rest text mark end next) in
-    let free = valid_text_lacks_excluded_marks set (mark ∷ []) lacks outside x
-    (utf8_around_ascii_byte x mark (drop (end + 1) text) small (subst IsUtf8 split u)).0 valid in
-    let c = cut-at-end-of-text-without-marks (mark ∷ []) x after free
-    (ap (λ t. t || false) (eq-eqb mark mark refl)) in
-    let before : before_any (mark ∷ []) bs ≡ x = ap (before_any (mark ∷ [])) split ∙ c.0 in
-    let m : valid_prefix set bs ≡ length_before_marks (mark ∷ []) bs =
-    eqb-true _ _ (sym (cut (mark ∷ []) set lacks outside bs u) ∙ ap (is_valid_for set) before
-    ∙ valid) in
-    let size : length x ≡ end - i = length-take-le (end - i) bs (omega
-    (arith, length-drop i text, l)) in
-    omega (arith, m, length-of-text-before-marks (mark ∷ []) bs, ap length before, size, le)
 
 -- error law: whether a byte is a decimal digit says whether the set of digits allows what it begins
 digit-is-allowed-by-byte : (b : ℕ) (bs more : List ℕ) → allows_first digit_set b bs
@@ -109,136 +165,178 @@ digits-are-shared (b ∷ bs) rest more l =
     ∙ sym (f ∙ cond-false _ _ _ a))
     (cases_Bool (allows_first digit_set b (bs ++ rest)))
 
-module _ (n : ℕ) (text other : List ℕ) (w : SharePrefix n text other) where
-  size-of-prefix : length (take n text) ≡ n
-  size-of-prefix = length-take-le n text w.within
+module _ (n : ℕ) (text other : List ℕ) (w : Alike n text other) where
+  pub byte-is-shared : (i : ℕ) → i < n → get_or other i 0 ≡ get_or text i 0
+  byte-is-shared i l = sym (get_or-take n other i 0 l) ∙ ap (λ t. get_or t i 0) (sym w.same)
+      ∙ get_or-take n text i 0 l
 
-  other-begins-with-prefix : other ≡ take n text ++ drop n other
-  other-begins-with-prefix = sym (take-append-drop n other)
-      ∙ ap (λ t. t ++ drop n other) (sym w.same)
-
-  -- what is next within the prefix
   pub next-is-shared : (mark i : ℕ) → i < n → is_next other mark i ≡ is_next text mark i
-  next-is-shared mark i l =
-      let within : i < length (take n text) = omega (arith, size-of-prefix, l) in
-      ap (λ t. is_next t mark i) other-begins-with-prefix
-      ∙ next-is-kept-in-longer-text (take n text) (drop n other) mark i within
-      ∙ sym (next-is-kept-in-longer-text (take n text) (drop n text) mark i within)
-      ∙ ap (λ t. is_next t mark i) (take-append-drop n text)
+  next-is-shared mark i l = is_next-by-byte other mark i (omega (arith, w.in_other))
+      ∙ ap (λ b. eqb b mark) (byte-is-shared i l)
+      ∙ sym (is_next-by-byte text mark i (omega (arith, w.within)))
 
-  slice-of-prefix : (more : List ℕ) (i end : ℕ) → i ≤ end → end ≤ n
-      → slice_range (take n text ++ more) i end ≡ slice_range (take n text) i end
-  slice-of-prefix more i end le within =
-      ap (take (end - i)) (drop-append-le i (take n text) more (omega
-      (arith, size-of-prefix, le, within)))
-      ∙ take-append-le (end - i) (drop i (take n text)) more
-      (omega (arith, size-of-prefix, length-drop i (take n text), le, within))
+  pub prefix-is-shared : (i : ℕ) → i ≤ n → take i other ≡ take i text
+  prefix-is-shared i le = sym (take-take i n other le) ∙ ap (take i) (sym w.same)
+      ∙ take-take i n text le
 
-  pub slice-is-shared : (i end : ℕ) → i ≤ end → end ≤ n
-      → slice_range other i end ≡ slice_range text i end
-  slice-is-shared i end le within =
-      ap (λ t. slice_range t i end) other-begins-with-prefix
-      ∙ slice-of-prefix (drop n other) i end le within
-      ∙ sym (slice-of-prefix (drop n text) i end le within)
-      ∙ ap (λ t. slice_range t i end) (take-append-drop n text)
+  pub bytes-are-shared : (i k : ℕ) → i + k ≤ n → take k (drop i other) ≡ take k (drop i text)
+  bytes-are-shared i k le = sym (drop-take i k other) ∙ ap (drop i) (prefix-is-shared (i + k) le)
+      ∙ drop-take i k text
 
-  pub first-byte-is-shared : 0 < n → slice_index other 0 ≡ slice_index text 0
-  first-byte-is-shared l = sym (get_or-take n other 0 0 l)
-      ∙ ap (λ t. slice_index t 0) (sym w.same) ∙ get_or-take n text 0 0 l
+  -- `//`
+  pub slashes-are-shared : (i : ℕ) → i + 2 ≤ n
+      → has_authority (drop i other) ≡ has_authority (drop i text)
+  slashes-are-shared i le =
+      let byte : (k : ℕ) → k < 2 → get_or (drop i other) k 0 ≡ get_or (drop i text) k 0 = λ k l.
+      get_or-drop i other k 0 ∙ byte-is-shared (i + k) (omega arith)
+      ∙ sym (get_or-drop i text k 0) in
+      ap (λ b. eqb b 47 && eqb (get_or (drop i other) 1 0) 47) (byte 0 (omega arith))
+      ∙ ap (λ b. eqb (get_or (drop i text) 0 0) 47 && eqb b 47) (byte 1 (omega arith))
 
-  -- a position between characters within the prefix is one of both texts
-  pub position-is-shared : (i : ℕ) → IsUtf8 text → IsUtf8 other → i ≤ n → IsPosition text i
-      → IsUtf8 (drop i other)
-  position-is-shared i u v le a =
-      let whole : i - 0 ≡ i = omega arith in
-      let same : take i other ≡ take i text = ap (λ k. take k other) (sym whole)
-      ∙ slice-is-shared 0 i (omega arith) le ∙ ap (λ k. take k text) whole in
-      IsUtf8-drop other i v (IsCharBoundary-from_take other i v (omega (arith, w.in_other, le))
-      (subst IsUtf8 (sym same) (text-before-position-is-utf8 text i u a)))
+  module _ (u : IsUtf8 text) where
+    pub position-is-shared : (i : ℕ) → i ≤ n → IsPosition text i → IsPosition other i
+    position-is-shared i le a =
+        let within : i ≤ length other = omega (arith, w.in_other) in
+        record {
+          utf8 = IsUtf8-drop other i w.utf8 (IsCharBoundary-from_take other i w.utf8 within
+              (subst IsUtf8 (sym (prefix-is-shared i le))
+              (IsUtf8-take text i u (IsCharBoundary-from_drop text i a.le a.utf8))));
+          le = within;
+        }
 
-  -- `//` within the prefix
-  pub slashes-are-shared : (i : ℕ) → i + 2 ≤ n → has_authority (drop i text) ≡ true
-      → has_authority (drop i other) ≡ true
-  slashes-are-shared i l h =
-      let s = authority-begins-with-two-slashes (drop i text) h in
-      let first = next-is-shared 47 i (omega (arith, l)) ∙ s.0 in
-      let second = next-is-shared 47 (i + 1) (omega (arith, l))
-      ∙ ap (starts 47) (sym (drop-drop 1 i text)) ∙ s.1 in
-      ap has_authority (text-at-mark-is-mark-and-rest other 47 i first
-      ∙ ap (λ t. 47 ∷ t) (text-at-mark-is-mark-and-rest other 47 (i + 1) second))
+    -- what is valid for a set, up to a mark that the set lacks
+    pub valid-part-is-scanned : (set : TableSet) (marks : List ℕ) → LacksPercent set
+        → excludes set marks ≡ true → (i k : ℕ) → i + k ≤ n → IsPosition text i
+        → IsUtf8 (take k (drop i text)) → IsValidFor set (take k (drop i text))
+        → At marks (i + k) other → scan_end other set i ≡ i + k
+    valid-part-is-scanned set marks lacks outside i k le a v valid at =
+        let bs : List ℕ = drop i other in
+        let same = sym (bytes-are-shared i k le) in
+        let whole = take-append-drop k bs in
+        let p = position-is-shared i (omega (arith, le)) a in
+        let m = valid-text-is-scanned-to-mark set marks lacks outside (take k bs) (drop k bs)
+        (subst IsUtf8 same v) (subst IsUtf8 (sym whole) p.utf8) (subst (IsValidFor set) same valid)
+        (subst (IsEmptyOrMarked marks) (sym (drop-drop k i other)) at) in
+        let size = length-take-le k bs (omega (arith, length-drop i other, w.in_other, le)) in
+        let d = ap (valid_prefix set) whole in
+        omega (arith, m, size, d)
 
-  -- a scan that ends at a mark within the prefix
-  pub scan-to-mark-is-shared : (set : TableSet) (mark i : ℕ) → LacksPercent set → mark < 128
-      → excludes set (mark ∷ []) ≡ true → IsPassedByScan text set i → IsUtf8 (drop i other)
-      → scan_end text set i < n → is_next text mark (scan_end text set i) ≡ true
-      → scan_end other set i ≡ scan_end text set i
-  scan-to-mark-is-shared set mark i lacks small outside p u l next =
-      let end : ℕ = scan_end text set i in
-      let later : i ≤ end = omega arith in
-      scan-ends-at-mark other set mark i end lacks small outside u later
-      (subst (IsValidFor set) (sym (slice-is-shared i end later (omega (arith, l)))) p.valid)
-      (next-is-shared mark end l ∙ next)
+    pub scan-is-shared : (set : TableSet) (marks : List ℕ) → LacksPercent set
+        → excludes set marks ≡ true → (i : ℕ) → IsPosition text i → scan_end text set i ≤ n
+        → At marks (scan_end text set i) other → scan_end other set i ≡ scan_end text set i
+    scan-is-shared set marks lacks outside i a le at =
+        let p = scanned-part-is-valid text set lacks i a in
+        valid-part-is-scanned set marks lacks outside i _ le a p.0 p.1 at
 
-  -- digits that end within the prefix
+    -- the same, where the set may have octets
+    pub scan-goes-on-alike : (set : TableSet) (marks : List ℕ) → LacksPercent set
+        → excludes set marks ≡ true → is_one_of marks 37 ≡ false → (i : ℕ) → IsPosition text i
+        → scan_end text set i ≤ n → At marks (scan_end text set i) other
+        → scan other set i ≡ Ok (scan_end text set i)
+    scan-goes-on-alike set marks lacks outside plain i a le at = scan-goes-on other set i _
+        (scan-is-shared set marks lacks outside i a le at)
+        (begins-with-no-other 37 marks (drop (scan_end text set i) other) plain at)
+
+  -- digits that end within what is shared
   pub digits-end-is-shared : (i : ℕ) → i ≤ n → scan_end text digit_set i < n
       → scan_end other digit_set i ≡ scan_end text digit_set i
   digits-end-is-shared i le l =
-      let P : List ℕ = drop i (take n text) in
-      let size = length-drop i (take n text) in
-      let split : (more : List ℕ) → drop i (take n text ++ more) ≡ P ++ more =
-      λ more. drop-append-le i (take n text) more (omega (arith, size-of-prefix, le)) in
-      let x : drop i text ≡ P ++ drop n text = ap (drop i) (sym (take-append-drop n text))
-      ∙ split (drop n text) in
-      let y : drop i other ≡ P ++ drop n other = ap (drop i) other-begins-with-prefix
-      ∙ split (drop n other) in
-      let f = ap (valid_prefix digit_set) x in
-      let g = ap (valid_prefix digit_set) y in
-      let s = digits-are-shared P (drop n text) (drop n other)
-      (omega (arith, size, size-of-prefix, f, l)) in
-      omega (arith, s, f, g)
+      let k : ℕ = n - i in
+      let whole : i + k ≡ n = omega (arith, le) in
+      let P : List ℕ = take k (drop i text) in
+      let x = ap (valid_prefix digit_set) (take-append-drop k (drop i text)) in
+      let y = ap (valid_prefix digit_set) (ap (λ t. t ++ drop k (drop i other))
+      (sym (bytes-are-shared i k (omega (arith, whole)))) ∙ take-append-drop k (drop i other)) in
+      let size = length-take-le k (drop i text) (omega (arith, length-drop i text, w.within)) in
+      let s = digits-are-shared P (drop k (drop i text)) (drop k (drop i other))
+      (omega (arith, size, x, l)) in
+      omega (arith, s, x, y)
 
-  -- an address in brackets that ends within the prefix
-  pub literal-is-shared : (i k : ℕ) → IsUtf8 (drop i text) → IsUtf8 (drop i other)
-      → literal text i ≡ Ok k → k ≤ n → literal other i ≡ Ok k
-  unfolding parses_literal literal_length
-  literal-is-shared i k u v e le =
-      let bs : List ℕ = drop i text in
-      let (x, f) = literal-ends-as-parsed text i u in
-      let (y, g) = literal-ends-as-parsed other i v in
-      ⊎_elim
-      (λ (h : parses_literal bs ≡ true).
-      let p = and_parts _ _ h in
-      let address : List ℕ = before_any (codes "]") bs in
-      let from : List ℕ = from_any (codes "]") bs in
-      let end : ℕ = i + length address in
-      let c = text-is-cut-at-first-mark (codes "]") bs in
-      let after : k ≡ end + 1 = omega
-      (arith, same_Some _ _ (ap result_ok (sym e ∙ f ∙ cond-true _ _ _ h))) in
-      let slice : slice_range text i end ≡ address =
-      let n : end - i ≡ length address = omega arith in
-      ap (λ j. take j bs) n ∙ ap (take (length address)) (sym c.whole)
-      ∙ take_at address from (length address) refl in
-      let close : is_next text 93 end ≡ true =
-      ap (starts 93) (sym (drop-drop (length address) i text)
-      ∙ ap (drop (length address)) (sym c.whole) ∙ drop_at address from (length address) refl)
-      ∙ p.0 in
-      let rest : List ℕ = drop (end + 1) other in
-      let whole : drop i other ≡ address ++ (93 ∷ rest) =
-      let n : i + (end - i) ≡ end = omega arith in
-      sym (take-append-drop (end - i) (drop i other))
-      ∙ ap (λ t. t ++ drop (end - i) (drop i other))
-      (slice-is-shared i end (omega arith) (omega (arith, after, le)) ∙ slice)
-      ∙ ap (λ t. address ++ t) (drop-drop (end - i) i other ∙ ap (λ j. drop j other) n
-      ∙ text-at-mark-is-mark-and-rest other 93 end
-      (next-is-shared 93 end (omega (arith, after, le)) ∙ close)) in
-      let d = cut-at-end-of-text-without-marks (codes "]") address (93 ∷ rest) c.lacks refl in
-      let parsed : parses_literal (drop i other) ≡ true =
-      ap (λ t. starts 93 t && is_literal (before_any (codes "]") (drop i other)))
-      (ap (from_any (codes "]")) whole ∙ d.1)
-      ∙ ap is_literal (ap (before_any (codes "]")) whole ∙ d.0) ∙ p.1 in
-      let size = ap length (ap (before_any (codes "]")) whole ∙ d.0) in
-      let same : i + literal_length (drop i other) ≡ k = omega (arith, size, after) in
-      g ∙ cond-true _ _ _ parsed ∙ ap (λ j. Ok j) same)
-      (λ (h : parses_literal bs ≡ false).
-      absurd (false≢true (ap is_ok (sym (cond-false _ _ _ h) ∙ sym f ∙ e))))
-      (cases_Bool (parses_literal bs))
+-- error law: an address and a `]` (93) are next
+pub record HasLiteral (text : List ℕ) (i k : ℕ) : Type 0 where
+  pub address : List ℕ
+  pub rest : List ℕ
+  pub split : drop i text ≡ address ++ (93 ∷ rest)
+  pub lacks : Lacks (codes "]") address
+  pub is : is_literal address ≡ true
+  pub end : k ≡ i + (length address + 1)
+
+-- error law: an address with a `]` (93) after it is parsed as one
+pub literal-is-parsed : (text : List ℕ) (i k : ℕ) → IsUtf8 (drop i text) → HasLiteral text i k
+    → literal text i ≡ Ok k
+unfolding parses_literal literal_length
+literal-is-parsed text i k u h =
+    let d = cut-at-end-of-text-without-marks (codes "]") h.address (93 ∷ h.rest) h.lacks refl in
+    let before : before_any (codes "]") (drop i text) ≡ h.address =
+    ap (before_any (codes "]")) h.split ∙ d.0 in
+    let parsed : parses_literal (drop i text) ≡ true =
+    ap (λ t. starts 93 t && is_literal (before_any (codes "]") (drop i text)))
+    (ap (from_any (codes "]")) h.split ∙ d.1)
+    ∙ ap is_literal before ∙ h.is in
+    let size = ap length before in
+    let same : i + literal_length (drop i text) ≡ k = omega (arith, size, h.end) in
+    (literal-ends-as-parsed text i u).1 ∙ cond-true _ _ _ parsed ∙ ap (λ j. Ok j) same
+
+-- error law: what is parsed as an address in brackets is one
+pub parsed-literal-is-there : (text : List ℕ) (i k : ℕ) → IsUtf8 (drop i text)
+    → literal text i ≡ Ok k → HasLiteral text i k
+unfolding parses_literal literal_length
+parsed-literal-is-there text i k u e =
+    let bs : List ℕ = drop i text in
+    let (x, f) = literal-ends-as-parsed text i u in ⊎_elim
+    (λ (h : parses_literal bs ≡ true).
+    let p = and_parts _ _ h in
+    let c = text-is-cut-at-first-mark (codes "]") bs in
+    record {
+      address = before_any (codes "]") bs;
+      rest = drop 1 (from_any (codes "]") bs);
+      split = sym c.whole ∙ ap (λ t. before_any (codes "]") bs ++ t)
+          (text-with-mark-is-mark-and-rest 93 (from_any (codes "]") bs) p.0);
+      lacks = c.lacks;
+      is = p.1;
+      end = same_Some _ _ (ap result_ok (sym e ∙ f ∙ cond-true _ _ _ h));
+    })
+    (λ (h : parses_literal bs ≡ false).
+    absurd (false≢true (ap is_ok (sym (cond-false _ _ _ h) ∙ sym f ∙ e))))
+    (cases_Bool (parses_literal bs))
+
+-- error law: after an address in brackets is a position
+pub literal-ends-at-position : (text : List ℕ) (i k : ℕ) → IsPosition text i
+    → literal text i ≡ Ok k → IsPosition text k
+literal-ends-at-position text i k a e =
+    let h = parsed-literal-is-there text i k a.utf8 e in
+    let size = length-append h.address (93 ∷ h.rest) in
+    let d = ap length h.split in
+    let whole : drop i text ≡ (h.address ++ codes "]") ++ h.rest =
+    h.split ∙ sym (append_assoc h.address (codes "]") h.rest) in
+    record {
+      utf8 = subst IsUtf8 (sym (drop_at (h.address ++ codes "]") h.rest (length h.address + 1)
+          (length-append h.address (codes "]")))
+          ∙ ap (drop (length h.address + 1)) (sym whole)
+          ∙ drop-drop (length h.address + 1) i text ∙ ap (λ j. drop j text) (sym h.end))
+          (utf8_around_ascii_byte h.address 93 h.rest (omega arith) (subst IsUtf8 h.split a.utf8)).1;
+      le = omega (arith, size, d, length-drop i text, a.le, h.end);
+    }
+
+-- error law: an address in brackets that ends within what is shared is one in the other text
+pub literal-is-shared : (n : ℕ) (text other : List ℕ) → Alike n text other → IsUtf8 text → (i k : ℕ)
+    → IsPosition text i → literal text i ≡ Ok k → k ≤ n → literal other i ≡ Ok k
+literal-is-shared n text other w u i k a e le =
+    let h = parsed-literal-is-there text i k a.utf8 e in
+    let m : ℕ = length h.address + 1 in
+    let closed : List ℕ = h.address ++ codes "]" in
+    let whole : drop i text ≡ closed ++ h.rest =
+    h.split ∙ sym (append_assoc h.address (codes "]") h.rest) in
+    let same : take m (drop i other) ≡ closed =
+    bytes-are-shared n text other w i m (omega (arith, h.end, le)) ∙ ap (take m) whole
+    ∙ take_at closed h.rest m (length-append h.address (codes "]")) in
+    let p = position-is-shared n text other w u i (omega (arith, h.end, le)) a in
+    literal-is-parsed other i k p.utf8 record {
+      address = h.address;
+      rest = drop m (drop i other);
+      split = sym (take-append-drop m (drop i other)) ∙ ap (λ t. t ++ drop m (drop i other)) same
+          ∙ append_assoc h.address (codes "]") (drop m (drop i other));
+      lacks = h.lacks;
+      is = h.is;
+      end = h.end;
+    }

@@ -1,375 +1,387 @@
--- What is before an error begins a text of the kind.
-use Rattle.std.proofs.Common.{◌≡◌, ℕ, ◌+◌, ◌-◌, ◌<◌, ◌≤◌, true, false, not, cond, List, [], ◌∷◌}
-use Rattle.std.proofs.Common.{◌++◌, take, drop, Option, Some, None, refl, sym, ap, subst, ◌∙◌}
-use Rattle.std.proofs.Common.{arith, ◌||◌, ⊎_elim, inl, inr, ◌⊎◌, append_assoc, append-nil}
-use Rattle.std.specs.Prelude.{codes, is_some, slice_index}
+-- The outcomes of errors in a whole text: the law of viable prefixes, and its exceptions.
+use Rattle.std.proofs.Common.{◌≡◌, ℕ, ◌+◌, ◌<◌, ◌≤◌, Bool, true, false, cond, eqb, List, [], ◌∷◌}
+use Rattle.std.proofs.Common.{◌++◌, length, get_or, take, drop, Some, None, refl, sym, ap}
+use Rattle.std.proofs.Common.{subst, ◌∙◌, arith, ◌&&◌, ⊎_elim, length-drop, take-append-drop, zero-add}
+use Rattle.std.specs.Prelude.{codes, is_none, slice_index}
 use Rattle.std.specs.Char.{is_ascii_alphabetic}
-use Rattle.std.specs.Str.{IsUtf8, chars}
-use Rattle.std.proofs.lemmas.Bool.{cases_Bool, cases_lt, cond-true, cond-false, and_from}
-use Rattle.std.proofs.lemmas.Bool.{and_cases, eqb-true, lt-ltb, both_ways, not-false, false≢true}
-use Rattle.std.proofs.lemmas.List.{drop-drop, get_or-take}
-use Rattle.std.proofs.lemmas.Str.{IsUtf8-append, IsUtf8-nil, is_utf8-from_IsUtf8}
+use Rattle.std.specs.Str.{IsUtf8}
+use Rattle.std.proofs.lemmas.Bool.{cases_Bool, cases_lt, cond-true, cond-false, and_parts, and_left}
+use Rattle.std.proofs.lemmas.Bool.{and_right, and_cases, both_ways, false≢true, ltb-true, lt-ltb}
+use Rattle.std.proofs.lemmas.Bool.{not-true, not-false, or_right}
+use Rattle.std.proofs.lemmas.List.{drop-drop, get_or-drop}
+use Rattle.std.proofs.lemmas.Option.{same_Some}
+use Rattle.std.proofs.lemmas.Str.{IsUtf8-nil}
 use Rattle.uri_pct.specs.Prefixes.{valid_prefix}
 use Rattle.uri_pct.specs.Sets.{TableSet, scheme_set}
-use Rattle.uri_pct.specs.Tokens.{IsValidFor, is_valid_for, tokens_from_chars}
-use Rattle.uri_pct.proofs.ValidTexts.Appending.{valid_text_after_valid_text_is_valid}
-use Rattle.uri_pct.proofs.ValidTexts.EStrs.{empty_text_is_valid, valid_for_superset}
-use Rattle.uri_pct.proofs.ValidTexts.Prefixes.{nothing_is_scanned_after_valid_prefix}
+use Rattle.uri_pct.proofs.ValidTexts.Cuts.{excludes}
+use Rattle.uri_pct.proofs.ValidTexts.Prefixes.{valid_prefix_of_superset_goes_on_from_subset}
 use Rattle.uri_parts.specs.declared.error.ParseError.{ParseError}
-use Rattle.uri_parts.specs.Components.{Lacks, has_authority, marked, starts}
-use Rattle.uri_parts.specs.Grammar.{Kind, IsOfKind, first_segment_set, has_colon_in_first_segment}
-use Rattle.uri_parts.specs.Grammar.{absent_or_passes}
-use Rattle.uri_parts.specs.Errors.{unexpected}
-use Rattle.uri_parts.specs.Refusals.{OptionalParseError, error_from_path, error_from_authority}
-use Rattle.uri_parts.specs.Refusals.{error_from_hier_part, error_from_relative_path, refusal}
-use Rattle.uri_parts.specs.Scanning.{is_next, scan_end}
-use Rattle.uri_parts.proofs.Splitting.Cuts.{IsEmptyOrMarked}
-use Rattle.uri_parts.proofs.TextKinds.GrammarTexts.{valid_text_lacks_excluded_marks}
-use Rattle.uri_ops.specs.BuilderParts.{is_scheme_text}
+use Rattle.uri_parts.specs.Components.{has_authority, starts}
+use Rattle.uri_parts.specs.Errors.{unexpected, stray_percent}
+use Rattle.uri_parts.specs.Grammar.{Kind, IsTextOf, is_of_kind, first_segment_set}
+use Rattle.uri_parts.specs.Refusals.{OptionalParseError, ◌>>=◌, refusal, error_from_path}
+use Rattle.uri_parts.specs.Refusals.{error_from_authority, error_from_hier_part}
+use Rattle.uri_parts.specs.Refusals.{error_from_relative_path}
+use Rattle.uri_parts.specs.Scanning.{is_next, scan_end, scan}
+use Rattle.uri_parts.proofs.Parsing.ScanStops.{utf8_after_slashes}
+use Rattle.uri_parts.proofs.Parsing.WholeTexts.{parses-is-is_of_kind, slashes-begin-with-no-colon}
+use Rattle.uri_parts.proofs.Parsing.WholeTexts.{slashes-begin-with-no-scheme}
+use Rattle.uri_parts.proofs.Refusals.Accepted.{no-error-iff-text-is-parsed}
+use Rattle.uri_parts.proofs.Refusals.OnLiterals.{errors_on_literals}
+use Rattle.uri_parts.proofs.Refusals.Rooted.{scan-stops-at-stray-percent-or-goes-on}
+use Rattle.uri_parts.proofs.Refusals.Whole.{parsed_error-is-refusal}
+use Rattle.uri_parts.proofs.Splitting.Cuts.{IsEmptyOrMarked, empty-or-marked-for-more-marks}
 use Rattle.uri_ops.proofs.Meanings.AsciiCharacters.{ascii-bytes-are-utf8}
-use Rattle.error_laws.specs.ViablePrefixes.{has_late_error, begins_without_letter}
+use Rattle.error_laws.specs.ViablePrefixes.{IsViablePrefix, begins_without_letter, has_late_error}
 use Rattle.error_laws.specs.ViablePrefixes.{is_late_from_authority, is_late_from_hier}
-use Rattle.error_laws.proofs.AuthorityErrors.{authority-error-is-viable}
-use Rattle.error_laws.proofs.KindFacts.{Facts}
-use Rattle.error_laws.proofs.PathErrors.{IsTextOfKindWith, BeginsTextOfKind, suffix-begins-text}
-use Rattle.error_laws.proofs.PathErrors.{equal-errors-begin-same-text, scan-error-is-viable}
-use Rattle.error_laws.proofs.PathErrors.{path-error-is-viable}
-use Rattle.error_laws.proofs.PathErrors.{scanned-path-may-be-followed-by-query}
-use Rattle.error_laws.proofs.Places.{IsPosition, IsPassedByScan, part, scan-passes-valid-text}
-use Rattle.error_laws.proofs.Places.{start-of-text-is-position, position-after-mark}
-use Rattle.error_laws.proofs.Places.{text-through-mark-ends-in-mark}
-use Rattle.error_laws.proofs.Tails.{IsPathTail, IsQueryTail, empty-text-is-query-tail}
-use Rattle.error_laws.proofs.Tails.{text-with-path-tail-is-of-kind}
-use Rattle.error_laws.proofs.Tails.{text-with-authority-tail-is-of-kind, valid-utf8-is-text-for-set}
-use Rattle.error_laws.proofs.BuiltPaths.{authority-begins-with-two-slashes}
-use Rattle.error_laws.proofs.BuiltPaths.{prefix-of-text-without-slashes-has-none}
-use Rattle.error_laws.proofs.BuiltPaths.{path-after-scheme-has-no-build-error}
-use Rattle.error_laws.proofs.BuiltPaths.{relative-path-has-no-build-error}
-use Rattle.error_laws.proofs.BuiltPaths.{first-segment-lacks-colon}
-use Rattle.error_laws.proofs.BuiltPaths.{rooted-prefix-is-empty-or-begins-with-slash}
-use Rattle.error_laws.proofs.BuiltPaths.{path-goes-on-after-segment-with-slash}
+use Rattle.error_laws.proofs.AuthorityOutcomes.{authority-outcome}
+use Rattle.error_laws.proofs.HostOutcomes.{scan-stops-at-its-end}
+use Rattle.error_laws.proofs.KindFacts.{Facts, path-stops-with-segment}
+use Rattle.error_laws.proofs.Marks.{At, begins-with-mark, begins-with-no-other}
+use Rattle.error_laws.proofs.Marks.{nothing-is-scanned-at-mark}
+use Rattle.error_laws.proofs.Outcomes.{Any, Outcome, carry, stop, shared-mark-is-at}
+use Rattle.error_laws.proofs.Outcomes.{scan-is-passed, scan-outcome}
+use Rattle.error_laws.proofs.PathOutcomes.{path-outcome, end-has-no-path-error}
+use Rattle.error_laws.proofs.SharedPrefixes.{IsPosition, position-after-mark, Alike}
+use Rattle.error_laws.proofs.SharedPrefixes.{scan-ends-at-position, prefix-is-alike}
+use Rattle.error_laws.proofs.SharedPrefixes.{byte-is-shared, next-is-shared, slashes-are-shared}
+use Rattle.error_laws.proofs.SharedPrefixes.{scan-is-shared}
 
--- error law: a text in UTF-8 that begins with a letter and is valid for a scheme's set passes the
--- test of a scheme
-valid-scheme-is-scheme-text : (x : List ℕ) → IsUtf8 x → is_ascii_alphabetic (slice_index x 0) ≡ true
-    → IsValidFor scheme_set x → is_scheme_text x ≡ true
-unfolding is_scheme_text
-valid-scheme-is-scheme-text x u a v = and_from _ _ (is_utf8-from_IsUtf8 x u) (and_from _ _ a v)
+-- error law: after `//` is a position between characters
+position-after-slashes : (text : List ℕ) (i : ℕ) → IsPosition text i
+    → has_authority (drop i text) ≡ true → IsPosition text (i + 2)
+position-after-slashes text i a h =
+    let l = two_bytes (drop i text) h in
+    record {
+      utf8 = subst IsUtf8 (drop-drop 2 i text) (utf8_after_slashes (drop i text) h a.utf8);
+      le = omega (arith, l, length-drop i text);
+    }
+  where
+    two_bytes : (bs : List ℕ) → has_authority bs ≡ true → 2 ≤ length bs
+    two_bytes [] e = absurd (false≢true e)
+    two_bytes (a ∷ []) e = absurd (false≢true (sym (and_right _ _ refl) ∙ e))
+    two_bytes (a ∷ b ∷ bs) e = omega arith
 
--- error law: `a` is a character of a scheme, which may complete one
-letter-is-valid-for-scheme-set : IsValidFor scheme_set (codes "a")
-unfolding is_valid_for tokens_from_chars chars
-letter-is-valid-for-scheme-set = refl
+-- error law: a text that is empty or begins with `?` or `#` has no `/` (47) first
+no-slash-at-path-end : (xs : List ℕ) → IsEmptyOrMarked (codes "?#") xs
+    → eqb (get_or xs 0 0) 47 ≡ false
+no-slash-at-path-end [] m = refl
+no-slash-at-path-end (b ∷ xs) m = begins-with-no-other 47 (codes "?#") (b ∷ xs) refl m
 
--- error law: `a` is a scheme, which may complete a text that lacks one
-letter-is-scheme-text : is_scheme_text (codes "a") ≡ true
-letter-is-scheme-text = valid-scheme-is-scheme-text (codes "a")
-    (ascii-bytes-are-utf8 (codes "a") refl) refl letter-is-valid-for-scheme-set
+-- error law: a text that is alike up to the end of its path begins with no `//` there either
+no-slashes-alike : (n : ℕ) (text other : List ℕ) → Alike n text other → (i k : ℕ) → i ≤ k → k ≤ n
+    → At (codes "?#") k other → has_authority (drop i text) ≡ false
+    → has_authority (drop i other) ≡ false
+no-slashes-alike n text other w i k le within at h =
+    let byte : (j : ℕ) → i + j ≡ k → eqb (get_or (drop i other) j 0) 47 ≡ false = λ j e.
+    let same : i + j ≡ k + 0 = omega arith in
+    ap (λ b. eqb b 47) (get_or-drop i other j 0 ∙ ap (λ m. get_or other m 0) same
+    ∙ sym (get_or-drop k other 0 0)) ∙ no-slash-at-path-end (drop k other) at in ⊎_elim
+    (λ (l : i + 1 < k). slashes-are-shared n text other w i (omega (arith, l, within)) ∙ h)
+    (λ (l : k ≤ i + 1). ⊎_elim
+    (λ (m : i < k). and_right _ _ (byte 1 (omega arith)))
+    (λ (m : k ≤ i). and_left _ _ (byte 0 (omega arith)))
+    (cases_lt i k))
+    (cases_lt (i + 1) k)
 
--- error law: `:` (58) does not begin a scheme
-colon-is-no-letter : is_ascii_alphabetic 58 ≡ false
-colon-is-no-letter = refl
+module _ (kind : Kind) where
+  -- after a scheme nothing has to follow
+  end-has-no-hier-part-error : (text : List ℕ) (i : ℕ) → drop i text ≡ []
+      → error_from_hier_part kind text i ≡ None
+  unfolding error_from_hier_part
+  end-has-no-hier-part-error text i d = cond-false _ _ _ (ap has_authority d)
+      ∙ end-has-no-path-error kind text i d
 
--- error law: a text that begins with `:` has 58 as its first byte
-text-with-colon-has-byte-58-first : (bs : List ℕ) → starts 58 bs ≡ true → slice_index bs 0 ≡ 58
-text-with-colon-has-byte-58-first [] e = absurd (false≢true e)
-text-with-colon-has-byte-58-first (b ∷ bs) e = eqb-true b 58 e
+  letter-and-colon-have-no-error : refusal kind (codes "a:") ≡ None
+  unfolding errors_on_literals
+  letter-and-colon-have-no-error = end-has-no-hier-part-error (codes "a:") 2 refl
 
 module _ (kind : Kind) (f : Facts kind) (text : List ℕ) (u : IsUtf8 text) where
-  abbrev BeginsText : ℕ → Type 0
-  BeginsText i = BeginsTextOfKind kind f text u i
-
-  -- what is before the position is a scheme with its `:`, or nothing
-  record IsSchemeOrStart (scheme : Option (List ℕ)) (i : ℕ) : Type 0 where
-    at : IsPosition text i
-    joined : marked [] scheme (codes ":") ≡ take i text
-    valid : absent_or_passes scheme is_scheme_text ≡ true
-    needs : (is_some scheme || not kind.needs_scheme) ≡ true
-
-  path-may-follow-scheme-or-start : (scheme : Option (List ℕ)) (i : ℕ) → IsSchemeOrStart scheme i
-      → IsTextOfKindWith kind f text u (IsPathTail kind (is_some scheme) false) i
-  path-may-follow-scheme-or-start scheme i w tail t = subst
-      (λ x. IsOfKind kind (x ++ tail)) w.joined
-      (text-with-path-tail-is-of-kind kind f.sets scheme None tail w.valid refl w.needs t)
-
-  authority-error-after-slashes-is-viable : (scheme : Option (List ℕ)) (i : ℕ) (r : ParseError)
-      → IsSchemeOrStart scheme i
-      → has_authority (drop i text) ≡ true → is_late_from_authority kind text (i + 2) ≡ false
-      → error_from_authority kind text (i + 2) ≡ Some r → BeginsText r.index
-  authority-error-after-slashes-is-viable scheme i r w h late e =
-      let s = authority-begins-with-two-slashes (drop i text) h in
-      let second : is_next text 47 (i + 1) ≡ true = ap (starts 47) (sym (drop-drop 1 i text))
-      ∙ s.1 in
-      let one = position-after-mark text 47 i (omega arith) s.0 w.at in
-      let two : i + 1 + 1 ≡ i + 2 = omega arith in
-      let a : IsPosition text (i + 2) = subst (IsPosition text) two
-      (position-after-mark text 47 (i + 1) (omega arith)
-      second one) in
-      let before : take (i + 2) text ≡ (take i text ++ (47 ∷ [])) ++ (47 ∷ []) =
-      ap (λ k. take k text) (sym two) ∙ text-through-mark-ends-in-mark text 47 (i + 1) second
-      ∙ ap (λ t. t ++ (47 ∷ [])) (text-through-mark-ends-in-mark text 47 i s.0) in
-      authority-error-is-viable kind f text u (is_some scheme) (i + 2) a
-      (λ tail t. subst (IsOfKind kind)
-      (ap (λ x. x ++ (47 ∷ 47 ∷ tail)) w.joined
-      ∙ sym (ap (λ x. x ++ tail) before
-      ∙ append_assoc (take i text ++ (47 ∷ [])) (47 ∷ []) tail
-      ∙ append_assoc (take i text) (47 ∷ []) (47 ∷ tail)))
-      (text-with-authority-tail-is-of-kind kind f.sets scheme tail w.valid w.needs t))
-      r late e
-
-  hierarchy-error-is-viable : (x : List ℕ) (i : ℕ) (r : ParseError) → IsSchemeOrStart (Some x) i
-      → is_late_from_hier kind text i ≡ false → error_from_hier_part kind text i ≡ Some r
-      → BeginsText r.index
-  unfolding error_from_hier_part
-  hierarchy-error-is-viable x i r w late e = ⊎_elim
-      (λ h. authority-error-after-slashes-is-viable (Some x) i r w h
-      (⊎_elim (λ n. absurd (both_ways _ n h)) (λ l. l) (and_cases _ _ late))
-      (sym (cond-true _ _ _ h) ∙ e))
-      (λ h.
-      let p = scan-passes-valid-text text kind.path f.apart.path_lacks i w.at in
-      path-error-is-viable kind f text u i r p
-      (scanned-path-may-be-followed-by-query kind f text u true false i p
-      (path-after-scheme-has-no-build-error (part text kind.path i)
-      (prefix-of-text-without-slashes-has-none (scan_end text kind.path i - i) (drop i
-      text) h))
-      (path-may-follow-scheme-or-start (Some x) i w))
-      (sym (cond-false _ _ _ h) ∙ e))
-      (cases_Bool (has_authority (drop i text)))
-
-  -- a path without scheme and authority
-  module _ (needs : kind.needs_scheme ≡ false) (none : has_authority text ≡ false) where
-    abbrev segment : TableSet
-    segment = first_segment_set kind
-
-    start-of-text-has-no-scheme : IsSchemeOrStart None 0
-    start-of-text-has-no-scheme = record {
-      at = start-of-text-is-position text u;
-      joined = refl;
-      valid = refl;
-      needs = ap not needs;
-    }
-
-    first : IsPassedByScan text segment 0
-    first = scan-passes-valid-text text segment f.apart.segment_lacks 0
-        start-of-text-has-no-scheme.at
-
-    abbrev end : ℕ
-    end = scan_end text segment 0
-
-    abbrev x : List ℕ
-    x = part text segment 0
-
-    first-segment-is-valid-path : IsValidFor kind.path x
-    first-segment-is-valid-path = valid_for_superset segment kind.path x f.apart.within first.valid
-
-    first-segment-lacks-component-marks : Lacks (codes ":/?#") x
-    first-segment-lacks-component-marks = valid_text_lacks_excluded_marks segment
-        (codes ":/?#") f.apart.segment_lacks
-        f.apart.segment_marks x
-        first.utf8 first.valid
-
-    rest : IsPassedByScan text kind.path end
-    rest = scan-passes-valid-text text kind.path f.apart.path_lacks end first.at
-
-    abbrev y : List ℕ
-    y = part text kind.path end
-
-    -- the path goes on with `/`
-    path-goes-on-with-slash : is_next text 58 end ≡ false
-        → (valid_prefix kind.path (drop end text) ≡ 0)
-        ⊎ (starts 47 (drop end text) ≡ true)
-    path-goes-on-with-slash c = path-goes-on-after-segment-with-slash kind f (drop end text)
-        (ap (valid_prefix segment) (sym (drop-drop (valid_prefix segment text) 0 text))
-        ∙ nothing_is_scanned_after_valid_prefix segment text) c
-
-    text_to_path_end_is_both_parts : take (scan_end text kind.path end) text ≡ x ++ y
-    text_to_path_end_is_both_parts = sym (append-nil (take (scan_end text kind.path end) text))
-        ∙ rest.split []
-        ∙ ap (λ t. take end text ++ t) (append-nil y)
-        ∙ ap (λ t. t ++ y) (sym (append-nil (take end text)) ∙ first.split [] ∙ append-nil x)
-
-    query-may-follow-path-end : is_next text 58 end ≡ false
-        → IsTextOfKindWith kind f text u (IsQueryTail kind) (scan_end text kind.path end)
-    query-may-follow-path-end c tail t =
-        let k = path-goes-on-with-slash c in
-        let begins : IsEmptyOrMarked (codes "/") y = rooted-prefix-is-empty-or-begins-with-slash
-        (scan_end text kind.path end - end)
-        (drop
-        end text)
-        (⊎_elim (λ z. inl (omega (arith, z))) (λ s. inr s) k) in
-        subst (λ v. IsOfKind kind (v ++ tail)) (sym text_to_path_end_is_both_parts)
-        (path-may-follow-scheme-or-start None 0 start-of-text-has-no-scheme
-        ((x ++ y) ++ tail) (record {
-          path = x ++ y;
-          suffix = tail;
-          joined = refl;
-          valid = valid-utf8-is-text-for-set kind.path (x ++ y)
-              (IsUtf8-append x y first.utf8 rest.utf8)
-              (valid_text_after_valid_text_is_valid kind.path f.apart.path_lacks x y first.utf8
-              first-segment-is-valid-path rest.valid);
-          allowed = relative-path-has-no-build-error (x ++ y)
-              (subst (λ v. has_authority v ≡ false) text_to_path_end_is_both_parts
-              (prefix-of-text-without-slashes-has-none (scan_end text kind.path end) text none))
-              (first-segment-lacks-colon x y first-segment-lacks-component-marks begins);
-          more = t;
-        }))
-
-    text-to-first-segment-end-begins-text : BeginsText end
-    text-to-first-segment-end-begins-text = suffix-begins-text kind f text u (IsQueryTail kind) end
-        [] first.at
-        (λ tail t. subst (IsOfKind kind) (sym (first.split tail))
-        (path-may-follow-scheme-or-start None 0 start-of-text-has-no-scheme (x ++ tail) (record {
-          path = x;
-          suffix = tail;
-          joined = refl;
-          valid = valid-utf8-is-text-for-set kind.path x first.utf8 first-segment-is-valid-path;
-          allowed = relative-path-has-no-build-error x
-              (prefix-of-text-without-slashes-has-none (end - 0) text none)
-              (ap has_colon_in_first_segment (sym (append-nil x))
-              ∙ first-segment-lacks-colon x [] first-segment-lacks-component-marks tt);
-          more = t;
-        }))) IsUtf8-nil (empty-text-is-query-tail kind)
-
-    relative-path-error-is-viable : (r : ParseError) → error_from_relative_path kind text segment 0
-        ≡ Some r
-        → BeginsText r.index
-    unfolding error_from_relative_path
-    relative-path-error-is-viable r e =
-        let next : ℕ → OptionalParseError = λ n. cond (is_next text 58 n) (Some (unexpected n))
-        (error_from_path kind text n) in
-        scan-error-is-viable kind f text u segment 0 next r
-        (λ _. text-to-first-segment-end-begins-text)
-        (λ _ t. ⊎_elim
-        (λ c. equal-errors-begin-same-text kind f text u (unexpected end) r (sym (cond-true _ _ _ c)
-        ∙ t) text-to-first-segment-end-begins-text)
-        (λ c. path-error-is-viable kind f text u end r rest (query-may-follow-path-end c)
-        (sym (cond-false _ _ _ c) ∙ t))
-        (cases_Bool (is_next text 58 end))) e
-
-  -- anything begins a text
-  empty-prefix-begins-text : BeginsText 0
-  empty-prefix-begins-text = (
-    codes "a:",
-    record {
-      utf8 = ascii-bytes-are-utf8 (codes "a:") refl;
-      grammar = text-with-path-tail-is-of-kind kind f.sets (Some (codes "a")) None []
-          letter-is-scheme-text refl refl
-          (record {
-            path = [];
-            suffix = [];
-            joined = refl;
-            valid = valid-utf8-is-text-for-set kind.path [] IsUtf8-nil
-                (empty_text_is_valid kind.path);
-            allowed = path-after-scheme-has-no-build-error [] refl;
-            more = empty-text-is-query-tail kind;
-          });
-    },
-  )
+  start : IsPosition text 0
+  start = record { utf8 = u; le = omega arith }
 
   abbrev scheme : ℕ
   scheme = scan_end text scheme_set 0
 
-  scheme-scan-passes-text : IsPassedByScan text scheme_set 0
-  scheme-scan-passes-text = scan-passes-valid-text text scheme_set refl 0
-      (start-of-text-is-position text u)
+  at_scheme : IsPosition text scheme
+  at_scheme = scan-ends-at-position text scheme_set refl 0 start
 
-  abbrev name : List ℕ
-  name = part text scheme_set 0
+  -- an error in an authority after `//`
+  slashes-outcome : (i : ℕ) (late : Bool) (r : ParseError) (error : List ℕ → OptionalParseError)
+      → IsPosition text i → has_authority (drop i text) ≡ true
+      → ((other : List ℕ) → has_authority (drop i other) ≡ true
+      → error other ≡ error_from_authority kind other (i + 2))
+      → is_late_from_authority kind text (i + 2) ≡ late → error text ≡ Some r
+      → Outcome text r.index late Any i error
+  slashes-outcome i late r error a h passed l e =
+      let o = authority-outcome kind f text u (i + 2) (position-after-slashes text i a h) late r l
+      (sym (passed text h) ∙ e) in
+      carry text r.index late _ _ (i + 2) i _ _ (omega arith) o (λ other w q.
+      (tt, passed other (slashes-are-shared r.index text other w i o.from ∙ h)))
 
-  text-to-scheme-end-is-name : take scheme text ≡ name
-  text-to-scheme-end-is-name = sym (append-nil (take scheme text))
-      ∙ scheme-scan-passes-text.split [] ∙ append-nil name
+  hier-part-outcome : (i : ℕ) (late : Bool) (r : ParseError) → IsPosition text i
+      → is_late_from_hier kind text i ≡ late → error_from_hier_part kind text i ≡ Some r
+      → Outcome text r.index late Any i (λ t. error_from_hier_part kind t i)
+  unfolding error_from_hier_part
+  hier-part-outcome i late r a l e = ⊎_elim
+      (λ h. slashes-outcome i late r (λ t. error_from_hier_part kind t i) a h
+      (λ other s. cond-true _ _ _ s)
+      (sym (ap (λ b. b && is_late_from_authority kind text (i + 2)) h) ∙ l) e)
+      (λ h.
+      let o = path-outcome kind f text u i r a (sym (cond-false _ _ _ h) ∙ e) in
+      let end : ℕ = scan_end text kind.path i in
+      subst (λ y. Outcome text r.index y Any i (λ t. error_from_hier_part kind t i))
+      (sym (and_left _ _ h) ∙ l)
+      (carry text r.index false _ _ end i _ _ (omega arith) o (λ other w at. (
+        tt,
+        cond-false _ _ _ (no-slashes-alike r.index text other w i end (omega arith) o.from at h),
+      ))))
+      (cases_Bool (has_authority (drop i text)))
 
-  scanned-name-is-scheme : 0 < scheme → is_ascii_alphabetic (slice_index text 0) ≡ true
-      → is_scheme_text name ≡ true
-  scanned-name-is-scheme some a = valid-scheme-is-scheme-text name scheme-scan-passes-text.utf8
-      (ap is_ascii_alphabetic (get_or-take (scheme - 0) text 0 0 (omega arith))
-      ∙ a) scheme-scan-passes-text.valid
+  -- a path without a scheme and an authority
+  module _ (needs : kind.needs_scheme ≡ false) (none : has_authority text ≡ false) where
+    abbrev segment : TableSet
+    segment = first_segment_set kind
 
-  position-after-colon-follows-scheme : 0 < scheme → is_ascii_alphabetic (slice_index text 0) ≡ true
-      → is_next text 58 scheme ≡ true → IsSchemeOrStart (Some name) (scheme + 1)
-  position-after-colon-follows-scheme some a s = record {
-    at = position-after-mark text 58 scheme (omega arith) s scheme-scan-passes-text.at;
-    joined = sym (text-through-mark-ends-in-mark text 58 scheme s
-        ∙ ap (λ t. t ++ (58 ∷ [])) text-to-scheme-end-is-name);
-    valid = scanned-name-is-scheme some a;
-    needs = refl;
-  }
+    abbrev end : ℕ
+    end = scan_end text segment 0
 
-  text-before-missing-scheme-begins-text : begins_without_letter text scheme ≡ false
-      → BeginsText scheme
-  text-before-missing-scheme-begins-text late = ⊎_elim
-      (λ (some : 0 < scheme).
-      let a = not-false _ (⊎_elim (λ z. absurd (both_ways _ z (lt-ltb 0 scheme some))) (λ z. z)
-      (and_cases _ _ late)) in (
-        codes ":",
-        record {
-          utf8 = subst (λ t. IsUtf8 (t ++ codes ":")) (sym text-to-scheme-end-is-name)
-              (IsUtf8-append name (codes ":") scheme-scan-passes-text.utf8
-              (ascii-bytes-are-utf8 (codes ":") refl));
-          grammar = subst (λ t. IsOfKind kind (t ++ codes ":")) (sym text-to-scheme-end-is-name)
-              (subst (IsOfKind kind) (append-nil (name ++ codes ":"))
-              (text-with-path-tail-is-of-kind kind f.sets (Some name) None []
-              (scanned-name-is-scheme some a) refl refl
-              (record {
-                path = [];
-                suffix = [];
-                joined = refl;
-                valid = valid-utf8-is-text-for-set kind.path [] IsUtf8-nil
-                    (empty_text_is_valid kind.path);
-                allowed = path-after-scheme-has-no-build-error [] refl;
-                more = empty-text-is-query-tail kind;
-              })));
-        },
+    abbrev next : List ℕ → ℕ → OptionalParseError
+    next t n = cond (is_next t 58 n) (Some (unexpected n)) (error_from_path kind t n)
+
+    -- the same with the test for `//`, of which nothing has to be known then
+    abbrev tested : List ℕ → ℕ → OptionalParseError
+    tested t n = cond (has_authority t) (error_from_authority kind t 2) (next t n)
+
+    segment-marks-end-segments : excludes segment (codes "/?#") ≡ true
+    segment-marks-end-segments = (and_parts _ _ f.apart.segment_marks).1
+
+    at_end : IsPosition text end
+    at_end = scan-ends-at-position text segment f.apart.segment_lacks 0 start
+
+    ended : (other : List ℕ) → Alike end text other → drop end other ≡ []
+        → tested other end ≡ None
+    ended other w d = cond-false _ _ _ (no-slashes-alike end text other w 0 end (omega arith)
+        (omega arith) (subst (IsEmptyOrMarked (codes "?#")) (sym d) tt) none)
+        ∙ cond-false _ _ _ (ap (starts 58) d) ∙ end-has-no-path-error kind other end d
+
+    after-segment-outcome : (r : ParseError) → tested text end ≡ Some r
+        → Outcome text r.index false (At (codes "/?#") end) end (λ t. tested t end)
+    after-segment-outcome r e =
+        let path : ℕ = scan_end text kind.path end in
+        let t = sym (cond-false _ _ _ none) ∙ e in ⊎_elim
+        (λ c. subst (λ x. Outcome text x.index false (At (codes "/?#") end) end (λ t. tested t end))
+        (same_Some (unexpected end) r (sym (cond-true _ _ _ c) ∙ t))
+        (stop text end (At (codes "/?#") end) end (λ t. tested t end) [] u (omega arith) at_end
+        IsUtf8-nil
+        (λ other w d. (subst (IsEmptyOrMarked (codes "/?#")) (sym d) tt, ended other w d))))
+        (λ c.
+        let o = path-outcome kind f text u end r at_end (sym (cond-false _ _ _ c) ∙ t) in
+        let from = o.from in
+        carry text r.index false _ _ path end _ _ (omega arith) o (λ other w at.
+        let at' : At (codes "/?#") end other = ⊎_elim
+        (λ (m : end < path). ⊎_elim
+        (λ s. shared-mark-is-at r.index text other w 47 (codes "/?#") end refl
+        (omega (arith, m, from)) s)
+        (λ s. absurd (let z = path-stops-with-segment kind f (drop end text)
+        (scan-stops-at-its-end text segment 0) c s in omega (arith, z, m)))
+        (cases_Bool (is_next text 47 end)))
+        (λ (m : path ≤ end). subst (λ j. At (codes "/?#") j other) (path_stays m)
+        (empty-or-marked-for-more-marks (codes "?#") (codes "/?#") (drop path other)
+        (λ c m. or_right _ _ m) at))
+        (cases_lt end path) in (
+          at',
+          cond-false _ _ _ (no-slashes-alike r.index text other w 0 path (omega arith) from at none)
+              ∙ cond-false _ _ _ (begins-with-no-other 58 (codes "/?#") (drop end other) refl at'),
+        )))
+        (cases_Bool (is_next text 58 end))
+      where
+        path_stays : scan_end text kind.path end ≤ end → scan_end text kind.path end ≡ end
+        path_stays m = omega arith
+
+    -- without `:` after a first segment there is none after what may be in a scheme
+    no-scheme-before-segment : (t : List ℕ) → is_next t 58 (scan_end t segment 0) ≡ false
+        → is_next t 58 (scan_end t scheme_set 0) ≡ false
+    no-scheme-before-segment t n = ⊎_elim
+        (λ c.
+        let w = valid_prefix_of_superset_goes_on_from_subset scheme_set segment
+        f.apart.scheme_within refl t in
+        let z = nothing-is-scanned-at-mark segment (codes ":/?#") f.apart.segment_lacks
+        f.apart.segment_marks (drop (scan_end t scheme_set 0) t)
+        (begins-with-mark 58 (codes ":/?#") (drop (scan_end t scheme_set 0) t) refl c) in
+        let d = ap (λ n. valid_prefix segment (drop n t)) (zero-add (valid_prefix scheme_set t)) in
+        let same : scan_end t scheme_set 0 ≡ scan_end t segment 0 = omega (arith, w, z, d) in
+        absurd (both_ways _ n (ap (is_next t 58) (sym same) ∙ c)))
+        (λ c. c)
+        (cases_Bool (is_next t 58 (scan_end t scheme_set 0)))
+
+    relative-outcome : (r : ParseError) → error_from_relative_path kind text segment 0 ≡ Some r
+        → Outcome text r.index false Any 0 (refusal kind)
+    unfolding error_from_relative_path refusal
+    relative-outcome r e =
+        let stray : Bool = segment.pct_encoded && is_next text 37 end in
+        let o = scan-outcome text u segment (codes "/?#") f.apart.segment_lacks
+        segment-marks-end-segments refl 0 start tested r ended (after-segment-outcome r)
+        (scan-stops-at-stray-percent-or-goes-on text segment 0 (tested text)
+        ∙ ap (cond stray (Some (stray_percent end))) (cond-false _ _ _ none)
+        ∙ sym (scan-stops-at-stray-percent-or-goes-on text segment 0 (next text)) ∙ e) in
+        let from = o.from in
+        carry text r.index false _ _ end 0 _ _ (omega arith) o (λ other w at.
+        let passed : (go : List ℕ → ℕ → OptionalParseError)
+        → (scan other segment 0 >>= go other) ≡ go other end = λ go.
+        scan-is-passed text u segment (codes "/?#") f.apart.segment_lacks
+        segment-marks-end-segments refl 0 start go r.index other w from at in
+        let same = scan-is-shared r.index text other w u segment (codes "/?#")
+        f.apart.segment_lacks segment-marks-end-segments 0 start from at in (
+          tt,
+          cond-false _ _ _ (no-scheme-before-segment other (ap (is_next other 58) same
+              ∙ begins-with-no-other 58 (codes "/?#") (drop end other) refl at))
+              ∙ cond-false _ _ _ needs
+              ∙ ap (cond (has_authority other) (error_from_authority kind other 2)) (passed next)
+              ∙ sym (passed tested),
+        ))
+
+  -- an error at the start
+  start-outcome : Outcome text 0 false Any 0 (refusal kind)
+  start-outcome = stop text 0 Any 0 (refusal kind) (codes "a:") u (omega arith) start
+      (ascii-bytes-are-utf8 (codes "a:") refl)
+      (λ other w d. (tt, ap (refusal kind) d ∙ letter-and-colon-have-no-error kind))
+
+  scheme-is-shared : (n : ℕ) (other : List ℕ) → Alike n text other → scheme ≤ n
+      → is_next other 58 scheme ≡ true → scan_end other scheme_set 0 ≡ scheme
+  scheme-is-shared n other w le s = scan-is-shared n text other w u scheme_set (codes ":") refl refl
+      0 start le (begins-with-mark 58 (codes ":") (drop scheme other) refl s)
+
+  -- a scheme, and what follows it
+  scheme-outcome : (late : Bool) (r : ParseError) → is_next text 58 scheme ≡ true
+      → is_ascii_alphabetic (slice_index text 0) ≡ true
+      → is_late_from_hier kind text (scheme + 1) ≡ late
+      → error_from_hier_part kind text (scheme + 1) ≡ Some r
+      → Outcome text r.index late Any 0 (refusal kind)
+  unfolding refusal
+  scheme-outcome late r s letter l e =
+      let o = hier-part-outcome (scheme + 1) late r
+      (position-after-mark text 58 scheme (omega arith) s at_scheme) l e in
+      let from = o.from in
+      carry text r.index late _ _ (scheme + 1) 0 _ _ (omega arith) o (λ other w q.
+      let colon = next-is-shared r.index text other w 58 scheme (omega (arith, from)) ∙ s in
+      let same = scheme-is-shared r.index other w (omega (arith, from)) colon in (
+        tt,
+        cond-true _ _ _ (ap (is_next other 58) same ∙ colon)
+            ∙ cond-true _ _ _ (ap is_ascii_alphabetic
+            (byte-is-shared r.index text other w 0 (omega (arith, from))) ∙ letter)
+            ∙ ap (λ k. error_from_hier_part kind other (k + 1)) same,
       ))
+
+  -- no scheme where one is needed
+  missing-scheme-outcome : kind.needs_scheme ≡ true → (late : Bool)
+      → begins_without_letter text scheme ≡ late → Outcome text scheme late Any 0 (refusal kind)
+  unfolding refusal
+  missing-scheme-outcome needs true l =
+      let p = and_parts _ _ l in
+      record {
+        from = omega arith;
+        within = at_scheme.le;
+        is = λ other w.
+            let last : ℕ = scan_end other scheme_set 0 in
+            let first = byte-is-shared scheme text other w 0 (ltb-true _ _ p.0) in (
+              tt,
+              ⊎_elim
+                  (λ c. (
+                    unexpected 0,
+                    cond-true _ _ _ c ∙ cond-false _ _ _ (ap is_ascii_alphabetic first ∙ not-true _ p.1),
+                  ))
+                  (λ c. (unexpected last, cond-false _ _ _ c ∙ cond-true _ _ _ needs))
+                  (cases_Bool (is_next other 58 last)),
+            );
+      }
+  missing-scheme-outcome needs false l = ⊎_elim
+      (λ (some : 0 < scheme).
+      let letter = not-false _ (⊎_elim (λ z. absurd (both_ways _ z (lt-ltb 0 scheme some)))
+      (λ z. z) (and_cases _ _ l)) in
+      stop text scheme Any 0 (refusal kind) (codes ":") u (omega arith) at_scheme
+      (ascii-bytes-are-utf8 (codes ":") refl) (λ other w d.
+      let colon : is_next other 58 scheme ≡ true = ap (starts 58) d in
+      let same = scheme-is-shared scheme other w (omega arith) colon in (
+        tt,
+        cond-true _ _ _ (ap (is_next other 58) same ∙ colon)
+            ∙ cond-true _ _ _ (ap is_ascii_alphabetic (byte-is-shared scheme text other w 0 some)
+            ∙ letter)
+            ∙ ap (λ k. error_from_hier_part kind other (k + 1)) same
+            ∙ end-has-no-hier-part-error kind other (scheme + 1)
+            (sym (drop-drop 1 scheme other) ∙ ap (drop 1) d),
+      )))
       (λ (none : scheme ≤ 0).
-      let z : 0 ≡ scheme = omega arith in subst BeginsText z empty-prefix-begins-text)
+      let z : 0 ≡ scheme = omega arith in
+      subst (λ n. Outcome text n false Any 0 (refusal kind)) z start-outcome)
       (cases_lt 0 scheme)
 
-  pub text-before-error-is-viable : (r : ParseError) → has_late_error kind text ≡ false
-      → refusal kind text ≡ Some r → BeginsText r.index
+  refusal-outcome : (late : Bool) (r : ParseError) → has_late_error kind text ≡ late
+      → refusal kind text ≡ Some r → Outcome text r.index late Any 0 (refusal kind)
   unfolding refusal has_late_error
-  text-before-error-is-viable r late e = ⊎_elim
+  refusal-outcome late r l e =
+      let by_index : (x : ParseError) → Some x ≡ Some r → Outcome text x.index late Any 0 (refusal kind)
+      → Outcome text r.index late Any 0 (refusal kind) = λ x same o.
+      subst (λ y. Outcome text y.index late Any 0 (refusal kind)) (same_Some x r same) o in
+      let on_time : (x : ℕ) → false ≡ late → Outcome text x false Any 0 (refusal kind)
+      → Outcome text x late Any 0 (refusal kind) = λ x z o.
+      subst (λ y. Outcome text x y Any 0 (refusal kind)) z o in ⊎_elim
       (λ s.
-      let l = sym (cond-true _ _ _ s) ∙ late in
-      let t = sym (cond-true _ _ _ s) ∙ e in
-      ⊎_elim
-      (λ a.
-      let some : 0 < scheme = ⊎_elim (λ (k : 0 < scheme). k)
-      (λ (k : scheme ≤ 0).
-      let z : scheme ≡ 0 = omega arith in
-      absurd (both_ways _ colon-is-no-letter
-      (ap is_ascii_alphabetic (sym
-      (text-with-colon-has-byte-58-first text (ap (is_next text 58) (sym z) ∙ s))) ∙ a)))
-      (cases_lt 0 scheme) in
-      hierarchy-error-is-viable name (scheme + 1) r (position-after-colon-follows-scheme some a s)
-      (⊎_elim (λ n. absurd (both_ways _ n a)) (λ h. h) (and_cases _ _ l))
-      (sym (cond-true _ _ _ a) ∙ t))
-      (λ a. equal-errors-begin-same-text kind f text u (unexpected 0) r (sym (cond-false _ _ _ a)
-      ∙ t) empty-prefix-begins-text)
+      let l' = sym (cond-true _ _ _ s) ∙ l in
+      let e' = sym (cond-true _ _ _ s) ∙ e in ⊎_elim
+      (λ a. scheme-outcome late r s a
+      (sym (ap (λ b. b && is_late_from_hier kind text (scheme + 1)) a) ∙ l')
+      (sym (cond-true _ _ _ a) ∙ e'))
+      (λ a. by_index (unexpected 0) (sym (cond-false _ _ _ a) ∙ e')
+      (on_time 0 (sym (and_left _ _ a) ∙ l') start-outcome))
       (cases_Bool (is_ascii_alphabetic (slice_index text 0))))
       (λ s.
-      let l = sym (cond-false _ _ _ s) ∙ late in
-      let t = sym (cond-false _ _ _ s) ∙ e in
-      ⊎_elim
-      (λ n. equal-errors-begin-same-text kind f text u (unexpected scheme) r
-      (sym (cond-true _ _ _ n) ∙ t)
-      (text-before-missing-scheme-begins-text (sym (cond-true _ _ _ n) ∙ l)))
+      let l' = sym (cond-false _ _ _ s) ∙ l in
+      let e' = sym (cond-false _ _ _ s) ∙ e in ⊎_elim
+      (λ n. by_index (unexpected scheme) (sym (cond-true _ _ _ n) ∙ e')
+      (missing-scheme-outcome n late (sym (cond-true _ _ _ n) ∙ l')))
       (λ n.
-      let l' = sym (cond-false _ _ _ n) ∙ l in
-      let t' = sym (cond-false _ _ _ n) ∙ t in
-      ⊎_elim
-      (λ h. authority-error-after-slashes-is-viable None 0 r
-      (record {
-        at = start-of-text-is-position text u;
-        joined = refl;
-        valid = refl;
-        needs =
-            ap not n;
-      }) h
-      (⊎_elim (λ z. absurd (both_ways _ z h)) (λ z. z) (and_cases _ _ l'))
-      (sym (cond-true _ _ _ h) ∙ t'))
-      (λ h. relative-path-error-is-viable n h r (sym (cond-false _ _ _ h) ∙ t'))
+      let l'' = sym (cond-false _ _ _ n) ∙ l' in
+      let e'' = sym (cond-false _ _ _ n) ∙ e' in ⊎_elim
+      (λ h. slashes-outcome 0 late r (refusal kind) start h (λ other k.
+      let z : scan_end other scheme_set 0 ≡ 0 = omega
+      (arith, slashes-begin-with-no-scheme other k) in
+      cond-false _ _ _ (ap (is_next other 58) z ∙ slashes-begin-with-no-colon other k)
+      ∙ cond-false _ _ _ n ∙ cond-true _ _ _ k)
+      (sym (ap (λ b. b && is_late_from_authority kind text 2) h) ∙ l'') e)
+      (λ h. on_time r.index (sym (and_left _ _ h) ∙ l'')
+      (relative-outcome n h r (sym (cond-false _ _ _ h) ∙ e'')))
       (cases_Bool (has_authority text)))
       (cases_Bool kind.needs_scheme))
       (cases_Bool (is_next text 58 scheme))
+
+  -- a text without an error is of the kind
+  no-error-iff-of-kind : (t : List ℕ) → IsUtf8 t
+      → is_none (refusal kind t) ≡ is_of_kind kind t
+  no-error-iff-of-kind t v =
+      ap is_none (sym (parsed_error-is-refusal kind kind (first_segment_set kind) f.known refl refl
+      t)) ∙ no-error-iff-text-is-parsed kind t (first_segment_set kind) f.apart v
+      ∙ parses-is-is_of_kind (first_segment_set kind) kind f.apart t v
+
+  pub text-before-error-is-viable : (r : ParseError) → has_late_error kind text ≡ false
+      → refusal kind text ≡ Some r → IsViablePrefix kind (take r.index text)
+  text-before-error-is-viable r l e =
+      let o = refusal-outcome false r l e in
+      let (other, (w, (p, z))) = o.is in
+      let same : other ≡ take r.index text ++ drop r.index other =
+      sym (take-append-drop r.index other) ∙ ap (λ t. t ++ drop r.index other) (sym w.same) in (
+        drop r.index other,
+        subst (IsTextOf kind) same record {
+          utf8 = w.utf8;
+          grammar = sym (no-error-iff-of-kind other w.utf8) ∙ ap is_none z;
+        },
+      )
+
+  pub late-error-begins-no-text : (r : ParseError) → has_late_error kind text ≡ true
+      → refusal kind text ≡ Some r → IsViablePrefix kind (take r.index text) → ⊥
+  late-error-begins-no-text r l e (more, t) =
+      let o = refusal-outcome true r l e in
+      let other : List ℕ = take r.index text ++ more in
+      let q = o.is other (prefix-is-alike text more r.index o.within t.utf8) in
+      both_ways (is_none (refusal kind other)) (ap is_none q.1.1)
+      (no-error-iff-of-kind other t.utf8 ∙ t.grammar)

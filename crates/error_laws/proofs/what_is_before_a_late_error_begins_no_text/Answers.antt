@@ -1,5 +1,5 @@
 use Rattle.error_laws.proofs.KindFacts.{facts-of-four-kinds}
-use Rattle.error_laws.proofs.LateErrors.{late-error-begins-no-text}
+use Rattle.error_laws.proofs.Whole.{late-error-begins-no-text}
 use Rattle.uri_parts.specs.Grammar.{uri, uri_ref, iri, iri_ref}
 use Rattle.std.specs.Prelude.{false, true}
 use Rattle.error_laws.proofs.what_is_before_a_late_error_begins_no_text.Goals as goal
