@@ -23,6 +23,7 @@ use Rattle.uri_parts.specs.Models.Parsing.{schemeless_positions, parsed_position
 use Rattle.uri_parts.proofs.Authorities.AuthorityCuts.{suffix, drop-after-drop-of-one}
 use Rattle.uri_parts.proofs.Parsing.NextBytes.{starts_at_position, stray_percent_ends_scan}
 use Rattle.uri_parts.proofs.Parsing.NextBytes.{authority_may_end_at_end, authority_may_end_at_byte}
+use Rattle.uri_parts.proofs.Parsing.NextBytes.{name_has_no_port_where_authority_may_end}
 use Rattle.uri_parts.proofs.Refusals.Colons.{last_colon-at-colon, last_colon-stays-past-other-byte}
 use Rattle.uri_parts.proofs.Refusals.Digits.{digits_end-stays-at-other-byte}
 use Rattle.uri_parts.proofs.Refusals.Digits.{digits_end-stays-where-none-may-follow}
@@ -55,6 +56,8 @@ pub ruleset colons = (last_colon-at-colon, last_colon-stays-past-other-byte)
 pub ruleset ports = (digit_masks_are_digit_set, drop-after-drop-of-one)
 
 pub ruleset cuts = (suffix)
+
+pub ruleset names = (suffix, name_has_no_port_where_authority_may_end)
 
 -- what a proof unfolds where a name and a port are parsed
 unfoldable pub name : ⊤

@@ -58,7 +58,8 @@ pub(crate) fn is_before_literal<K: Kind>(cursor: &Cursor<'_>) -> bool
 }
 
 /// Passes a registered name and the port after it, if there is one. Returns where the name ends.
-#[tactic(auto, using(crate::proofs::Steps::cuts), unfolding(crate::proofs::Steps::name))]
+/// Most names end the authority.
+#[tactic(auto, using(crate::proofs::Steps::names), unfolding(crate::specs::Models::AuthorityParsing::name_ends_authority, crate::specs::Models::AuthorityParsing::name_and_port_length))]
 #[inline(always)]
 pub(crate) fn pass_name<K: Kind>(cursor: &mut Cursor<'_>) -> usize
     ensures end { result ≡ cursor_position cursor.old + valid_prefix K.kind.reg_name
@@ -73,6 +74,9 @@ pub(crate) fn pass_name<K: Kind>(cursor: &mut Cursor<'_>) -> usize
         (text_after_cursor cursor.old) }
 {
     let end = cursor.scan(&K::tables().reg_name);
+    if cursor.ends_authority() {
+        return end;
+    }
     pass_port(cursor);
     end
 }
@@ -202,39 +206,30 @@ pub(crate) fn is_unexpected_after_name<K: Kind>(after_name: &Cursor<'_>) -> bool
     after_name.is_before_excluded::<K>()
 }
 
-/// What comes before the rest of a path, in the words of [`PackedPositions`].
+/// Where a host ends, and the authority that it is in.
 #[derive(Clone, Copy)]
-pub(crate) struct BeforePath {
-    pub path_start: usize,
+pub(crate) struct HostEnds {
+    pub end: usize,
     /// Where an error has its one byte. LLVM would split a position that is there in two.
-    pub padding: bool,
-    pub scheme_end: usize,
-    pub host_start: usize,
+    padding: bool,
     pub host_end: usize,
 }
 
-/// Finds the ends of a host and of the port after it, if there is one. They must end the authority,
-/// which comes before a path.
+/// Finds the ends of a host and of the port after it, if there is one. They must end the authority.
 /// The tables of the kind are constants here: handed on, they would be set out in memory, as
 /// cursors are.
 #[tactic(auto, using(crate::proofs::Steps::cuts), unfolding(crate::proofs::Steps::host))]
 #[inline(never)]
-pub(crate) fn find_host<K: Kind>(
-    text: &str,
-    host_start: usize,
-    scheme_end: usize,
-) -> Result<BeforePath, ParseError>
+pub(crate) fn find_host<K: Kind>(text: &str, host_start: usize) -> Result<HostEnds, ParseError>
     requires { IsCharBoundary text.now host_start }
-    ensures scheme { IfOk result (λ b. b.scheme_end ≡ scheme_end) }
-    ensures host_start { IfOk result (λ b. b.host_start ≡ host_start) }
-    ensures host { IfOk result (λ b.
-        b.host_end ≡ host_start + host_end K.kind (drop host_start text.now)) }
-    ensures end { IfOk result (λ b.
-        b.path_start ≡ host_start + host_and_port_length K.kind (drop host_start text.now)) }
-    ensures boundary { IfOk result (λ b. IsCharBoundary text.now b.path_start) }
+    ensures host { IfOk result (λ ends.
+        ends.host_end ≡ host_start + host_end K.kind (drop host_start text.now)) }
+    ensures end { IfOk result (λ ends.
+        ends.end ≡ host_start + host_and_port_length K.kind (drop host_start text.now)) }
+    ensures boundary { IfOk result (λ ends. IsCharBoundary text.now ends.end) }
     ensures returned { IfErr result (λ e. host_error K.kind text.now host_start ≡ Some e) }
-    ensures goes_on { IfOk result (λ b.
-        host_error K.kind text.now host_start ≡ error_from_path K.kind text.now b.path_start) }
+    ensures goes_on { IfOk result (λ ends.
+        host_error K.kind text.now host_start ≡ error_from_path K.kind text.now ends.end) }
     ensures err { IfErr result (IsErrorIn text.now) }
 {
     let mut cursor = Cursor::at(text, host_start);
@@ -248,11 +243,9 @@ pub(crate) fn find_host<K: Kind>(
     if !cursor.ends_authority() {
         return Err(error_of_left_over::<K>(text, cursor.position()));
     }
-    Ok(BeforePath {
-        path_start: cursor.position(),
+    Ok(HostEnds {
+        end: cursor.position(),
         padding: false,
-        scheme_end,
-        host_start,
         host_end,
     })
 }

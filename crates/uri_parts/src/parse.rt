@@ -23,7 +23,7 @@ ghost use Rattle.uri_parts.specs.Models.Cursors.{text_after_cursor, cursor_text,
 ghost use Rattle.uri_parts.specs.Models.Cursors.{packed_from, packed_if_parsed_from};
 
 use crate::authority_parser::{
-    BeforePath, find_host, is_before_literal, is_unexpected_after_name, pass_name, pass_userinfo,
+    find_host, is_before_literal, is_unexpected_after_name, pass_name, pass_userinfo,
 };
 use crate::cursor::Cursor;
 use crate::error::ParseError;
@@ -46,6 +46,17 @@ fn parse_fragment<K: Kind>(cursor: &mut Cursor<'_>) -> Result<(), ParseError>
         return Err(cursor.unexpected());
     }
     Ok(())
+}
+
+/// What comes before the rest of a path, in the words of [`PackedPositions`].
+#[derive(Clone, Copy)]
+struct BeforePath {
+    path_start: usize,
+    /// Where an error has its one byte. LLVM would split a position that is there in two.
+    padding: bool,
+    scheme_end: usize,
+    host_start: usize,
+    host_end: usize,
 }
 
 /// Parses the rest of a path, and the query and the fragment after it.
@@ -95,9 +106,17 @@ fn pass_host<K: Kind>(cursor: &mut Cursor<'_>, scheme_end: usize) -> Result<Befo
         ≡ option_or (result_err result) (error_from_path K.kind text (cursor_position cursor.new)) }
     ensures err { IfErr result (IsErrorIn (cursor_text cursor.old)) }
 {
-    let before = find_host::<K>(cursor.text(), cursor.position(), scheme_end)?;
-    *cursor = Cursor::at(cursor.text(), before.path_start);
-    Ok(before)
+    let text = cursor.text();
+    let host_start = cursor.position();
+    let host = find_host::<K>(text, host_start)?;
+    *cursor = Cursor::at(text, host.end);
+    Ok(BeforePath {
+        path_start: host.end,
+        padding: false,
+        scheme_end,
+        host_start,
+        host_end: host.host_end,
+    })
 }
 
 /// Parses an authority, which comes before a path.

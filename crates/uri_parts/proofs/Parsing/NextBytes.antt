@@ -1,7 +1,7 @@
 -- What is next at a position in a text.
-use Rattle.std.proofs.Common.{◌≡◌, ℕ, ◌+◌, ◌<◌, ◌≤◌, true, eqb, ltb, List, length, get_or, drop}
-use Rattle.std.proofs.Common.{sym, ap, ◌∙◌, arith, ◌&&◌, ◌||◌, ⊎_elim}
-use Rattle.std.proofs.lemmas.Bool.{cases_lt, and_left, eq-eqb, ne_eqb, lt-ltb, le-ltb}
+use Rattle.std.proofs.Common.{◌≡◌, ℕ, ◌+◌, ◌<◌, ◌≤◌, true, false, eqb, ltb, List, [], ◌∷◌, length}
+use Rattle.std.proofs.Common.{get_or, drop, refl, sym, ap, ◌∙◌, arith, ◌&&◌, ◌||◌, ⊎_elim}
+use Rattle.std.proofs.lemmas.Bool.{cases_lt, and_left, cond-false, eq-eqb, ne_eqb, lt-ltb, le-ltb}
 use Rattle.std.proofs.lemmas.List.{drop_more, drop_all, drop-drop}
 use Rattle.std.specs.Prelude.{codes}
 use Rattle.std.proofs.lemmas.Bool.Decides.{nat_tests}
@@ -11,7 +11,9 @@ use Rattle.uri_pct.specs.Texts.{IsStrayPercent}
 use Rattle.uri_pct.proofs.ValidTexts.Prefixes.{nothing_is_scanned_after_valid_prefix}
 use Rattle.uri_pct.proofs.ValidTexts.PrefixSteps.{unscanned_percent_has_no_hex_digits}
 use Rattle.uri_parts.specs.Components.{starts, is_end}
+use Rattle.uri_parts.specs.Grammar.{Kind}
 use Rattle.uri_parts.specs.Models.AuthorityParsing.{is_empty_or_begins_with_any}
+use Rattle.uri_parts.specs.Models.AuthorityParsing.{name_and_port_length, port_length}
 
 -- parsing: what is left from index i begins with a byte exactly if this is the byte at i
 pub starts_at_position : (mark i : ℕ) (text : List ℕ)
@@ -65,3 +67,23 @@ pub authority_may_end_at_byte : (i : ℕ) (text : List ℕ) → i < length text
 unfolding is_empty_or_begins_with_any
 authority_may_end_at_byte i text h = ap (is_empty_or_begins_with_any (codes "/?#"))
     (drop_more text i 0 h) ∙ authority-ends-at-slash-question-or-hash (get_or text i 0)
+
+-- parsing: what ends an authority is no colon (58)
+mark-after-authority-is-no-colon : (b : ℕ) → is_one_of (codes "/?#") b ≡ true → eqb b 58 ≡ false
+mark-after-authority-is-no-colon b e = grind (arith, nat_tests)
+
+-- parsing: where an authority may end, no port is next
+no-port-where-authority-may-end : (rest : List ℕ)
+    → is_empty_or_begins_with_any (codes "/?#") rest ≡ true → port_length rest ≡ 0
+unfolding is_empty_or_begins_with_any port_length
+no-port-where-authority-may-end [] e = refl
+no-port-where-authority-may-end (b ∷ rest) e =
+    cond-false _ _ _ (mark-after-authority-is-no-colon b e)
+
+-- parsing: a name after which an authority may end has no port
+pub name_has_no_port_where_authority_may_end : (kind : Kind) (rest : List ℕ)
+    → is_empty_or_begins_with_any (codes "/?#") (after kind.reg_name rest) ≡ true
+    → name_and_port_length kind rest ≡ valid_prefix kind.reg_name rest
+unfolding name_and_port_length
+name_has_no_port_where_authority_may_end kind rest e =
+    omega (arith, no-port-where-authority-may-end (after kind.reg_name rest) e)

@@ -1,6 +1,6 @@
 -- The position of a `Cursor` in its text: no RFC has this.
 use Rattle.std.specs.Prelude.{ℕ, List, drop, None}
-use Rattle.uri_parts.specs.declared.authority_parser.BeforePath.{BeforePath}
+use Rattle.uri_parts.specs.declared.parse.BeforePath.{BeforePath}
 use Rattle.uri_parts.specs.declared.packed_positions.PackedPositions.{PackedPositions}
 use Rattle.uri_parts.specs.declared.cursor.Cursor.{Cursor}
 use Rattle.uri_parts.specs.Grammar.{Kind}
