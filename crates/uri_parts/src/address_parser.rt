@@ -1,10 +1,10 @@
 //! The numbers of an IP address: RFC 3986, section 3.2.2.
 ghost use Rattle.std.specs.Net.Reader as numbers;
 ghost use Rattle.std.specs.Char.{digit_value};
-ghost use Rattle.std.specs.Prelude.{◌≡◌, ◌≤◌, ◌<◌, IfSome, length, option_copied, true};
+ghost use Rattle.std.specs.Prelude.{◌≡◌, ◌≤◌, ◌<◌, IfSome, None, length, option_copied, true};
 ghost use Rattle.std.specs.Prelude.{◌+◌, drop, IsTrue, min, slice_index, take};
 ghost use Rattle.std.specs.Str.Parse.{digits_value};
-ghost use Rattle.uri_parts.specs.Models.Literals.{AreLeadingHexDigits};
+ghost use Rattle.uri_parts.specs.Models.Literals.{AreLeadingHexDigits, BeginsNumber};
 ghost use Rattle.uri_parts.specs.Models.Literals.{segments_of_ipv4, two_segments};
 
 /// Returns what follows this byte of an IPv6 address, if the text begins with it.
@@ -127,6 +127,36 @@ pub(crate) struct LeadingDigits {
     pub(crate) next: u8,
 }
 
+/// Returns the hexadecimal digits at `start`, one more than `digits`, or `None` if these are all.
+/// Five bytes are left there, or this is not known.
+#[inline(always)]
+fn with_next_digit(
+    text: &[u8],
+    start: usize,
+    digits: LeadingDigits,
+    has_five: bool,
+) -> Option<LeadingDigits>
+    requires found { BeginsNumber (drop start text.now) digits.count digits.value }
+    requires next { digits.next ≡ slice_index text.now (start + digits.count) }
+    requires few { digits.count < 4 }
+    requires five { IsTrue has_five → start + 5 ≤ length text.now }
+    ensures count { IfSome result (λ d. d.count ≡ digits.count + 1) }
+    ensures found { IfSome result (λ d. BeginsNumber (drop start text.now) d.count d.value) }
+    ensures next { IfSome result (λ d. d.next ≡ slice_index text.now (start + d.count)) }
+    ensures all { result ≡ None → AreLeadingHexDigits (drop start text.now) digits.count }
+{
+    let digit = digit_of(digits.next);
+    if digit == 16 {
+        return None;
+    }
+    let count = digits.count + 1;
+    Some(LeadingDigits {
+        count,
+        value: digits.value * 16 + digit,
+        next: byte_at(text, start + count, has_five),
+    })
+}
+
 /// Returns the hexadecimal digits at `start`. Five bytes are left there, or this is not known.
 ///
 /// There is no loop, since one takes more instructions.
@@ -139,57 +169,30 @@ fn count_digits(text: &[u8], start: usize, has_five: bool) -> LeadingDigits
         → result.value ≡ digits_value 16 (take result.count (drop start text.now)) }
     ensures next { result.count < 5 → result.next ≡ slice_index text.now (start + result.count) }
 {
-    let next = byte_at(text, start, has_five);
-    let first = digit_of(next);
-    if first == 16 {
-        return LeadingDigits {
-            count: 0,
-            value: 0,
-            next,
-        };
-    }
-    let next = byte_at(text, start + 1, has_five);
-    let digit = digit_of(next);
-    if digit == 16 {
-        return LeadingDigits {
-            count: 1,
-            value: first,
-            next,
-        };
-    }
-    let value = first * 16 + digit;
-    let next = byte_at(text, start + 2, has_five);
-    let digit = digit_of(next);
-    if digit == 16 {
-        return LeadingDigits {
-            count: 2,
-            value,
-            next,
-        };
-    }
-    let value = value * 16 + digit;
-    let next = byte_at(text, start + 3, has_five);
-    let digit = digit_of(next);
-    if digit == 16 {
-        return LeadingDigits {
-            count: 3,
-            value,
-            next,
-        };
-    }
-    let value = value * 16 + digit;
-    let next = byte_at(text, start + 4, has_five);
-    if digit_of(next) == 16 {
-        return LeadingDigits {
-            count: 4,
-            value,
-            next,
-        };
+    let none = LeadingDigits {
+        count: 0,
+        value: 0,
+        next: byte_at(text, start, has_five),
+    };
+    let Some(one) = with_next_digit(text, start, none, has_five) else {
+        return none;
+    };
+    let Some(two) = with_next_digit(text, start, one, has_five) else {
+        return one;
+    };
+    let Some(three) = with_next_digit(text, start, two, has_five) else {
+        return two;
+    };
+    let Some(four) = with_next_digit(text, start, three, has_five) else {
+        return three;
+    };
+    if digit_of(four.next) == 16 {
+        return four;
     }
     LeadingDigits {
         count: 5,
-        value,
-        next,
+        value: four.value,
+        next: four.next,
     }
 }
 

@@ -1,16 +1,16 @@
 -- Hexadecimal digits by a table, and how many of them a text begins with.
-use Rattle.std.proofs.Common.{◌≡◌, ℕ, zero, suc, ◌+◌, ◌<◌, ◌≤◌, min, Bool, true, false}
+use Rattle.std.proofs.Common.{◌≡◌, ℕ, zero, suc, ◌+◌, ◌<◌, ◌≤◌, min, Bool, true}
 use Rattle.std.proofs.Common.{◌&&◌}
-use Rattle.std.proofs.Common.{List, take, get_or, length, refl, arith, eqb, ltb-true}
-use Rattle.std.proofs.Common.{inl, inr}
-use Rattle.std.proofs.lemmas.Bool.{cases_lt, eqb-true, ltb-false}
+use Rattle.std.proofs.Common.{List, take, get_or, length, refl, arith, eqb}
+use Rattle.std.proofs.Common.{inl, inr, ◌≢◌, ◌*◌, ◌^◌, drop, get_or-drop, length-take-le, lit≤}
+use Rattle.std.proofs.lemmas.Bool.{cases_lt, eqb-true}
 use Rattle.std.proofs.lemmas.Bool.Decides.{Decides-below_and}
-use Rattle.std.proofs.lemmas.Int.Digits.{digits_more}
+use Rattle.std.proofs.lemmas.Int.Digits.{digits_more, digits_value-lt, digits_value_more}
 use Rattle.std.proofs.lemmas.List.{get_or_past}
-use Rattle.std.specs.Char.{digit_value, is_digit}
-use Rattle.std.specs.Str.Parse.{AllDigits}
+use Rattle.std.proofs.Math.Nat.{pow-le-pow_right}
+use Rattle.std.specs.Char.{digit_value}
 use Rattle.uri_parts.specs.declared.address_parser.TheConstants.{DIGIT_VALUES}
-use Rattle.uri_parts.specs.Models.Literals.{AreLeadingHexDigits}
+use Rattle.uri_parts.specs.Models.Literals.{AreLeadingHexDigits, BeginsNumber}
 
 -- parsing IPv6: the table's entry of a byte is its value as a digit, or 16
 abbrev is_value : ℕ → Bool
@@ -28,46 +28,61 @@ table-entry-is-digit-value b small = eqb-true _ _
     ((Decides-below_and is_value (λ n. is_value n ≡ true) are_values (λ n. (λ e. e, λ e. e)) refl
     (λ _. refl) 256).0 refl b small)
 
--- parsing IPv6: past the end of a text there is no digit
-no-digit-past-end : (text : List ℕ) (i : ℕ) → length text ≤ i → is_digit (get_or text i 0) 16
-    ≡ false
-no-digit-past-end text i past = rw (get_or_past text i 0 past) refl
+-- parsing IPv6: the byte past the end of a text is no digit
+no-digit-past-end : (byte : ℕ) → byte ≡ 0 → 16 ≤ digit_value byte
+no-digit-past-end byte e = rw e (lit≤ tt)
 
--- parsing IPv6: so many hexadecimal digits come first, and perhaps more
-pub record BeginsDigits (text : List ℕ) (count : ℕ) : Type 0 where
-  pub digits : AllDigits 16 (take count text)
-  pub within : count ≤ length text
+-- parsing IPv6: three digits write a number below 4096
+pub three-digits-are-below-4096 : (text : List ℕ) (count value : ℕ) → BeginsNumber text count value
+    → count < 4 → value < 4096
+three-digits-are-below-4096 text count value h few =
+    let below = digits_value-lt 16 (take count text) h.digits in
+    let size = length-take-le count text h.within in
+    let short : length (take count text) ≤ 3 = omega arith in
+    let most : 16 ^ length (take count text) ≤ 16 ^ 3 = pow-le-pow_right (lit≤ tt) short in
+    let is = h.is in
+    omega arith
 
--- parsing IPv6: each text begins with no digits, before the first is seen
-pub text-begins-with-zero-digits : (text : List ℕ) → BeginsDigits text 0
-text-begins-with-zero-digits text = record { digits = search arith; within = omega arith }
-
--- parsing IPv6: if a digit follows those at the start, one more is counted
-pub next-digit-extends-leading-digits : (text : List ℕ) (count : ℕ) → BeginsDigits text count
-    → is_digit (get_or text count 0) 16 ≡ true → BeginsDigits text (count + 1)
-next-digit-extends-leading-digits text count h digit = elim (cases_lt count (length text)) [
-  | inl inside ↦ record {
-    digits = digits_more 16 text count inside h.digits (ltb-true _ _ digit);
-    within = omega arith;
-  }
-  | inr past ↦ cc (no-digit-past-end text count past)
-]
+-- parsing IPv6: a digit after those at the start makes one more
+pub next-digit-extends-number : (text : List ℕ) (start count value byte digit : ℕ)
+    → BeginsNumber (drop start text) count value → byte ≡ get_or text (start + count) 0
+    → digit ≡ min (digit_value byte) 16 → digit ≢ 16
+    → BeginsNumber (drop start text) (count + 1) (value * 16 + digit)
+next-digit-extends-number text start count value byte digit h at of other =
+    let here : byte ≡ get_or (drop start text) count 0 = rw (get_or-drop start text count 0) at in
+    let small : digit_value byte < 16 = omega arith in
+    let same : digit ≡ digit_value byte = omega arith in
+    elim (cases_lt count (length (drop start text))) [
+      | inl inside ↦ record {
+        digits = digits_more 16 (drop start text) count inside h.digits (rw (← here) small);
+        within = omega arith;
+        is = rw (digits_value_more 16 (drop start text) count inside, ← h.is, ← here, same);
+      }
+      | inr past ↦ absurd (omega (
+        arith,
+        rw (get_or_past (drop start text) count 0 past) at here,
+        no-digit-past-end byte,
+      ))
+    ]
 
 -- parsing IPv6: the digits that come first end at a byte that is no digit
-pub digits-before-other-byte-are-all-leading : (text : List ℕ) (count : ℕ) → BeginsDigits text count
-    → count ≤ 5
-    → is_digit (get_or text count 0) 16 ≡ false → AreLeadingHexDigits text count
-digits-before-other-byte-are-all-leading text count h few other = record {
-  digits = h.digits;
-  most = few;
-  within = h.within;
-  stop = λ _. ltb-false _ _ other;
-}
+pub number-ends-at-other-byte : (text : List ℕ) (start count value byte digit : ℕ)
+    → BeginsNumber (drop start text) count value → byte ≡ get_or text (start + count) 0
+    → digit ≡ min (digit_value byte) 16 → digit ≡ 16 → count ≤ 5
+    → AreLeadingHexDigits (drop start text) count
+number-ends-at-other-byte text start count value byte digit h at of none few =
+    let here : byte ≡ get_or (drop start text) count 0 = rw (get_or-drop start text count 0) at in
+    record {
+      digits = h.digits;
+      most = few;
+      within = h.within;
+      stop = λ _. rw (← here) (omega arith);
+    }
 
 -- parsing IPv6: five digits are enough to count, as a group has four at most
-pub five-digits-are-leading-digits : (text : List ℕ) → BeginsDigits text 5
+pub five-digits-are-leading-digits : (text : List ℕ) (value : ℕ) → BeginsNumber text 5 value
     → AreLeadingHexDigits text 5
-five-digits-are-leading-digits text h = record {
+five-digits-are-leading-digits text value h = record {
   digits = h.digits;
   most = omega arith;
   within = h.within;

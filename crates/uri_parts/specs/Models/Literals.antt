@@ -3,10 +3,16 @@ use Rattle.std.specs.Prelude.{◌≡◌, ℕ, ◌+◌, ◌<◌, ◌≤◌, ◌||
 use Rattle.std.specs.Prelude.{[], ◌∷◌, Option, option_map, slice_index}
 use Rattle.std.specs.Borrow.{Bor}
 use Rattle.std.specs.Char.{digit_value}
-use Rattle.std.specs.Str.Parse.{AllDigits}
+use Rattle.std.specs.Str.Parse.{AllDigits, digits_value}
 use Rattle.std.specs.Net.Addr.{segments_of}
 use Rattle.std.specs.Net.Reader.{Read, read_ipv4}
 use Rattle.uri_parts.specs.Components.{before_any, starts}
+
+-- the text begins with `count` hexadecimal digits, and perhaps more, which write the number
+pub record BeginsNumber (text : List ℕ) (count value : ℕ) : Type 0 where
+  pub digits : AllDigits 16 (take count text)
+  pub within : count ≤ length text
+  pub is : value ≡ digits_value 16 (take count text)
 
 -- the text begins with `count` hexadecimal digits: all that come first, or five of them
 pub record AreLeadingHexDigits (text : List ℕ) (count : ℕ) : Type 0 where
