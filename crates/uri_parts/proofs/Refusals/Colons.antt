@@ -1,7 +1,7 @@
 -- The last `:` before a position.
-use Rattle.std.proofs.Common.{◌≡◌, ℕ, zero, suc, ◌+◌, ◌-◌, ◌<◌, ◌≤◌, true, false, List, length}
-use Rattle.std.proofs.Common.{get_or, drop, sym, ap, ◌∙◌, arith, ⊎_elim, ◌⊎◌, inl, inr}
-use Rattle.std.proofs.Common.{add-one, add-zero}
+use Rattle.std.proofs.Common.{◌≡◌, ℕ, zero, suc, ◌+◌, ◌-◌, ◌<◌, ◌≤◌, true, false, List, length, sym}
+use Rattle.std.proofs.Common.{get_or, drop, ap, ◌∙◌, arith, ⊎_elim, ◌⊎◌, inl, inr, add-one}
+use Rattle.std.proofs.Common.{add-zero}
 use Rattle.std.proofs.lemmas.Bool.{cases_Bool, cond-true, cond-false, eq-eqb, ne_eqb}
 use Rattle.std.proofs.lemmas.List.{drop_more}
 use Rattle.uri_parts.specs.Components.{starts}

@@ -1,8 +1,8 @@
 -- An IPv6 address with a `]` after it is read.
-use Rattle.std.proofs.Common.{◌≡◌, ℕ, zero, suc, ◌+◌, ◌-◌, ◌<◌, ◌≤◌, Bool, true, false, not}
-use Rattle.std.proofs.Common.{cond, eqb, List, [], ◌∷◌, ◌++◌, length, drop, decimal, Option}
-use Rattle.std.proofs.Common.{Some, None, refl, sym, ap, subst, ◌∙◌, arith, ◌&&◌, ◌||◌, ⊎_elim, inl}
-use Rattle.std.proofs.Common.{inr, append_assoc, length-append, lit≤}
+use Rattle.std.proofs.Common.{◌≡◌, ℕ, zero, suc, ◌+◌, ◌-◌, ◌<◌, ◌≤◌, Bool, true, false, not, cond}
+use Rattle.std.proofs.Common.{eqb, List, [], ◌∷◌, ◌++◌, length, drop, decimal, Option, Some, None}
+use Rattle.std.proofs.Common.{refl, sym, ap, subst, ◌∙◌, arith, ◌&&◌, ◌||◌, ⊎_elim, inl, inr, lit≤}
+use Rattle.std.proofs.Common.{append_assoc, length-append}
 use Rattle.std.specs.Prelude.{nat_lt, codes, IsTrue}
 use Rattle.std.specs.Char.{digit_value}
 use Rattle.std.specs.Str.Parse.{AllDigits}
@@ -10,18 +10,20 @@ use Rattle.std.specs.Net.Addr.{segments_of}
 use Rattle.std.specs.Net.Grammar.{IsDotted, IsGroupsAfter, IsColonHex}
 use Rattle.std.specs.Net.Reader.{digit_count}
 use Rattle.std.proofs.lemmas.Bool.{cond-true, cond-false, cases_Bool, and_from, and_right, ne_eqb}
-use Rattle.std.proofs.lemmas.Bool.{eq-eqb, lt-ltb, false≢true, eqb-true, both_ways, and_parts}
+use Rattle.std.proofs.lemmas.Bool.{not-true, eq-eqb, lt-ltb, false≢true, eqb-true, both_ways}
+use Rattle.std.proofs.lemmas.Bool.{and_parts}
 use Rattle.std.proofs.lemmas.Fmt.{decimal_is_IsNumeral, length-decimal-le}
 use Rattle.std.proofs.NetLemmas.Numbers.{NoDigit, digit_count_none}
 use Rattle.uri_parts.specs.Components.{starts, is_end}
-use Rattle.uri_parts.specs.LiteralErrors.{Groups, Groups_end, Elision, digits_end}
-use Rattle.uri_parts.specs.LiteralErrors.{ipv4_end, after_ipv4, groups_from, ipv6_end}
-use Rattle.uri_parts.specs.LiteralErrors.{cannot_begin_ipv6, after_groups, after_elision}
+use Rattle.uri_parts.specs.LiteralErrors.{Groups, Groups_end, Elision, digits_end, ipv4_end}
+use Rattle.uri_parts.specs.LiteralErrors.{after_ipv4, groups_from, ipv6_end, cannot_begin_ipv6}
+use Rattle.uri_parts.specs.LiteralErrors.{after_groups, after_elision}
 use Rattle.uri_parts.proofs.Splitting.Recompose.{text-with-mark-is-mark-and-rest}
 use Rattle.uri_parts.proofs.HostForms.AddressParsing.{dotted as dotted_with}
-use Rattle.uri_parts.proofs.Refusals.GroupTurns.{groups_from-ends-without-room}
+use Rattle.uri_parts.proofs.Refusals.GroupTurns.{groups_from-ends-without-room, dotted}
+use Rattle.uri_parts.proofs.Refusals.GroupTurns.{text-with-mark-is-not-ended}
 use Rattle.uri_parts.proofs.Refusals.GroupTurns.{groups_from-ends-without-group}
-use Rattle.uri_parts.proofs.Refusals.GroupTurns.{groups_from-elides-at-two-colons, dotted}
+use Rattle.uri_parts.proofs.Refusals.GroupTurns.{groups_from-elides-at-two-colons}
 use Rattle.uri_parts.proofs.Refusals.GroupTurns.{groups_from-goes-on-after-group}
 use Rattle.uri_parts.proofs.Refusals.Ipv4Ends.{suffix-after-prefix-at-position}
 use Rattle.uri_parts.proofs.Refusals.Ipv4Ends.{suffix-after-mark-at-position}
@@ -72,29 +74,10 @@ bracket-ends-a-group : (tail : List ℕ) → Stops (93 ∷ tail)
 unfolding is_end
 bracket-ends-a-group tail = record { none = lit≤ tt; dot = refl; some = refl }
 
--- parse errors: a text that begins with `.` (46) is not at its end
-text-with-dot-is-not-ended : (xs : List ℕ) → starts 46 xs ≡ true → is_end xs ≡ false
-unfolding is_end
-text-with-dot-is-not-ended [] e = absurd (false≢true e)
-text-with-dot-is-not-ended (x ∷ xs) e = refl
-
--- general fact on booleans, for parse errors
-negation-true-means-false : (b : Bool) → not b ≡ true → b ≡ false
-negation-true-means-false true e = absurd (false≢true e)
-negation-true-means-false false e = refl
-
 -- general fact on booleans, for parse errors
 second-holds-if-first-of-or-fails : (a b : Bool) → a ≡ false → (a || b) ≡ true → b ≡ true
 second-holds-if-first-of-or-fails true b n e = absurd (false≢true (sym n))
 second-holds-if-first-of-or-fails false b n e = e
-
--- general fact on booleans, for parse errors
-false-is-not-true : IsTrue false → ⊥
-false-is-not-true h = false≢true h
-
--- general fact on numbers, for parse errors: the eight groups of an IPv6 address
-eight-is-seven-plus-one : 8 ≡ 7 + 1
-eight-is-seven-plus-one = refl
 
 module _ (text : List ℕ) where
   -- where a group begins, after its `:`
@@ -276,7 +259,7 @@ module _ (text : List ℕ) where
     stops = subst Stops (sym s) (colon-ends-a-group (58 ∷ suffix));
     decimal_stop = subst (NoDigit 10) (sym s) (lit≤ tt);
     base = λ m is_first. groups_from-elides-at-double-colon m is_first end suffix s;
-    address = λ h m. absurd (false-is-not-true h);
+    address = λ h m. absurd (false≢true h);
   }
 
   pub ipv6_end-finds-ipv6-before-bracket : (i end : ℕ) (address segments : List ℕ)
@@ -325,17 +308,17 @@ module _ (text : List ℕ) where
   cannot_begin_ipv6-has-no-end i e =
       let end : ℕ = digits_end text 16 4 i in
       let p = and_parts (not (starts 58 (drop i text))) _ e in
-      let colon : starts 58 (drop i text) ≡ false = negation-true-means-false _ p.0 in
+      let colon : starts 58 (drop i text) ≡ false = not-true _ p.0 in
       let is : i ≡ cond (starts 58 (drop i text)) (i + 1) i = sym (cond-false _ _ _ colon) in
       ⊎_elim
       (λ q. ap (after_groups text)
-      (groups_from-ends-without-group text 8 7 true i i end eight-is-seven-plus-one is refl
+      (groups_from-ends-without-group text 8 7 true i i end refl is refl
       (eqb-true end i q) colon))
       (λ q.
       let d = and_parts _ _ (second-holds-if-first-of-or-fails _ _ q p.1) in
-      ap (after_groups text) (dotted text 8 7 true i i end eight-is-seven-plus-one is refl
+      ap (after_groups text) (dotted text 8 7 true i i end refl is refl
       (λ s. both_ways _ q (eq-eqb end i s))
-      (and_right _ _ (text-with-dot-is-not-ended (drop end text) d.1))
+      (and_right _ _ (text-with-mark-is-not-ended 46 (drop end text) d.1))
       (ap (λ t. t && true || not t && false) colon)
       (second-holds-if-first-of-or-fails _ _ q p.1) (λ z. omega (arith, z)))
       ∙ ipv4-with-six-groups-left-is-no-ipv6 (ipv4_end text i))

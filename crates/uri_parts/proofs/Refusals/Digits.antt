@@ -1,52 +1,33 @@
 -- Where digits end.
-use Rattle.std.proofs.Common.{◌≡◌, ℕ, ◌+◌, ◌-◌, ◌<◌, ◌≤◌, true, false, List, [], ◌∷◌}
-use Rattle.std.proofs.Common.{length, get_or, take, drop, sym, ap, ◌∙◌, arith, refl, ⊎_elim}
-use Rattle.std.proofs.Common.{ltb-true}
-use Rattle.std.proofs.Common.{zero, suc, ◌&&◌, length-drop, length-take-le, inl, inr, ◌⊎◌, Some}
-use Rattle.std.proofs.Common.{None, cond}
+use Rattle.std.proofs.Common.{◌≡◌, ℕ, ◌+◌, ◌-◌, ◌<◌, ◌≤◌, true, false, List, [], ◌∷◌, length, take}
+use Rattle.std.proofs.Common.{get_or, drop, sym, ap, ◌∙◌, arith, refl, ⊎_elim, ltb-true, zero, suc}
+use Rattle.std.proofs.Common.{◌&&◌, length-drop, length-take-le, Some, None, cond}
 use Rattle.std.specs.Prelude.{slice_range, Result, Ok, Err, is_ok, nat_lt, nat_le, ◌==◌}
 use Rattle.std.specs.Prelude.{option_and_then}
 use Rattle.std.specs.Char.{is_digit, digit_value}
 use Rattle.std.specs.Str.Parse.{AllDigits, ParsesUnsigned, digits_value, without_leading_plus}
 use Rattle.std.specs.Net.Reader.{digit_count}
 use Rattle.std.proofs.lemmas.Bool.{cond-true, cond-false, cases_Bool, ne_eqb, and_from, and_left}
-use Rattle.std.proofs.lemmas.Bool.{and_right}
-use Rattle.std.proofs.lemmas.Bool.{lt-ltb, le-ltb, le-leb, lt-leb, cases_lt}
+use Rattle.std.proofs.lemmas.Bool.{and_right, lt-ltb, le-ltb, le-leb, lt-leb, cases_lt}
 use Rattle.std.proofs.lemmas.Bool.Decides.{nat_tests}
 use Rattle.std.proofs.lemmas.List.{drop_more, drop_all}
 use Rattle.uri_parts.specs.Components.{starts}
 use Rattle.uri_parts.specs.LiteralErrors.{digits_end, octet_end, octets_end}
-
--- parse errors: a digit at i is one more than are after it
-digit_count-at-digit-is-one-more : (text : List ℕ) (radix i : ℕ) → i < length text
-    → is_digit (get_or text i 0) radix ≡ true
-    → digit_count radix (drop i text) ≡ 1 + digit_count radix (drop (i + 1) text)
-digit_count-at-digit-is-one-more text radix i l d = ap (digit_count radix) (drop_more text i 0 l)
-    ∙ cond-true _ _ _ d
-
--- parse errors: another byte at i begins no digits
-digit_count-at-other-byte-is-zero : (text : List ℕ) (radix i : ℕ) → i < length text
-    → is_digit (get_or text i 0) radix ≡ false → digit_count radix (drop i text) ≡ 0
-digit_count-at-other-byte-is-zero text radix i l d = ap (digit_count radix) (drop_more text i 0 l)
-    ∙ cond-false _ _ _ d
-
--- parse errors: no digits are past the end of the text
-digit_count-past-end-is-zero : (text : List ℕ) (radix i : ℕ) → length text ≤ i
-    → digit_count radix (drop i text) ≡ 0
-digit_count-past-end-is-zero text radix i l = ap (digit_count radix) (drop_all i text l)
 
 -- parse errors: digits end after a further one, if more are left to allow
 pub digits_end-passes-digit : (text : List ℕ) (radix i left more : ℕ) → i < length text
     → is_digit (get_or text i 0) radix ≡ true → left ≡ more + 1
     → digits_end text radix more (i + 1) ≡ digits_end text radix left i
 digits_end-passes-digit text radix i left more l d e =
-    let n = digit_count-at-digit-is-one-more text radix i l d in omega arith
+    let n : digit_count radix (drop i text) ≡ 1 + digit_count radix (drop (i + 1) text) =
+    ap (digit_count radix) (drop_more text i 0 l) ∙ cond-true _ _ _ d in omega arith
 
 -- parse errors: digits end where another byte is
 pub digits_end-stays-at-other-byte : (text : List ℕ) (radix most i : ℕ) → i < length text
     → is_digit (get_or text i 0) radix ≡ false → digits_end text radix most i ≡ i
-digits_end-stays-at-other-byte text radix most i l d = let n = digit_count-at-other-byte-is-zero
-    text radix i l d in omega arith
+digits_end-stays-at-other-byte text radix most i l d =
+    let n : digit_count radix (drop i text) ≡ 0 =
+    ap (digit_count radix) (drop_more text i 0 l) ∙ cond-false _ _ _ d in omega arith
 
 -- parse errors: digits end where no more are allowed
 pub digits_end-stays-where-none-may-follow : (text : List ℕ) (radix most i : ℕ) → most ≡ 0
@@ -56,8 +37,8 @@ digits_end-stays-where-none-may-follow text radix most i e = omega arith
 -- parse errors: digits end where the text does
 pub digits_end-stays-past-text : (text : List ℕ) (radix most i : ℕ) → length text ≤ i
     → digits_end text radix most i ≡ i
-digits_end-stays-past-text text radix most i l = let n = digit_count-past-end-is-zero text radix i
-    l in omega arith
+digits_end-stays-past-text text radix most i l =
+    let n = ap (digit_count radix) (drop_all i text l) in omega arith
 
 -- parse errors: what is passed as digits is digits
 counted-prefix-is-digits : (radix k : ℕ) (xs : List ℕ) → k ≤ digit_count radix xs
@@ -95,10 +76,6 @@ digits-have-no-leading-plus (c ∷ bs) h = ap (λ n. drop n (c ∷ bs))
     (cond-false (c == 43) 1 0 (ne_eqb c 43 (λ e.
     let l : digit_value 43 < 10 = rw e at h.0 in omega arith)))
 
--- general fact on numbers, for parse errors: counts of digits
-at-most-or-greater : (m n : ℕ) → (m ≤ n) ⊎ (n < m)
-at-most-or-greater m n = ⊎_elim (λ l. inr l) (λ l. inl l) (cases_lt n m)
-
 -- parse errors: decimal digits are parsed as eight bits exactly if there are some,
 -- and their value is at most 255
 octet-is-parsed-iff-at-most-255 : {E : Type 0} (bs : List ℕ) (r : Result ℕ E) → AllDigits 10 bs
@@ -112,9 +89,9 @@ octet-is-parsed-iff-at-most-255 bs (Err e) h p =
     let q = rw (digits-have-no-leading-plus bs h) at p in
     ⊎_elim
     (λ some. ⊎_elim
-    (λ small. absurd (q ((some, h), omega arith)))
     (λ great. sym (and_right _ _ (lt-leb _ 255 great)))
-    (at-most-or-greater (digits_value 10 bs) 255))
+    (λ small. absurd (q ((some, h), omega arith)))
+    (cases_lt 255 (digits_value 10 bs)))
     (λ none. sym (and_left _ _ (le-ltb 0 _ none)))
     (cases_lt 0 (length bs))
 

@@ -1,12 +1,19 @@
 -- One turn of reading the groups of an IPv6 address.
 use Rattle.std.proofs.Common.{◌≡◌, ◌≢◌, ℕ, zero, suc, ◌+◌, ◌-◌, Bool, true, false, not, cond, eqb}
-use Rattle.std.proofs.Common.{List, drop, refl, sym, ap, ◌∙◌, arith, ◌&&◌, ◌||◌}
+use Rattle.std.proofs.Common.{List, [], ◌∷◌, drop, refl, sym, ap, ◌∙◌, arith, ◌&&◌, ◌||◌}
 use Rattle.std.specs.Prelude.{nat_lt}
 use Rattle.std.proofs.lemmas.Bool.{cond-true, cond-false, eq-eqb, ne_eqb, not_from_false}
-use Rattle.std.proofs.lemmas.Bool.{not_from_true}
+use Rattle.std.proofs.lemmas.Bool.{not_from_true, false≢true}
 use Rattle.uri_parts.specs.Components.{starts, is_end}
 use Rattle.uri_parts.specs.LiteralErrors.{Groups, Groups_end, Elision, Malformed, digits_end}
 use Rattle.uri_parts.specs.LiteralErrors.{ipv4_end, after_ipv4, groups_from}
+
+-- parse errors: a text that begins with a mark is not at its end
+pub text-with-mark-is-not-ended : (mark : ℕ) (xs : List ℕ) → starts mark xs ≡ true
+    → is_end xs ≡ false
+unfolding is_end
+text-with-mark-is-not-ended mark [] e = absurd (false≢true e)
+text-with-mark-is-not-ended mark (x ∷ xs) e = refl
 
 -- parse errors: the groups of an IPv6 address end where there is no room for more
 pub groups_from-ends-without-room : (text : List ℕ) (n : ℕ) (is_first : Bool) (i : ℕ) → n ≡ 0

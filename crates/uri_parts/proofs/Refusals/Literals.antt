@@ -1,14 +1,13 @@
 -- The errors of an address in brackets.
 use Rattle.std.proofs.Common.{◌≡◌, ℕ, ◌+◌, ◌-◌, ◌<◌, true, false, eqb, List, [], ◌∷◌, ◌++◌, length}
-use Rattle.std.proofs.Common.{Option}
-use Rattle.std.proofs.Common.{drop, get_or, Some, None, refl, sym, ap, ◌∙◌, arith, ◌||◌, ⊎_elim}
-use Rattle.std.proofs.Common.{get_or-drop, add-zero, length-append, length-drop}
+use Rattle.std.proofs.Common.{Option, drop, get_or, Some, None, refl, sym, ap, ◌∙◌, arith, ◌||◌}
+use Rattle.std.proofs.Common.{⊎_elim, get_or-drop, add-zero, length-append, length-drop}
 use Rattle.std.specs.Prelude.{Ok, Err, is_ok, option_map, codes}
 use Rattle.std.specs.Char.{is_digit}
 use Rattle.std.specs.Net.Grammar.{IsColonHex}
 use Rattle.std.specs.Net.Reader.{read_ipv6, digit_count}
-use Rattle.std.proofs.lemmas.Bool.{cond-true, cond-false, cases_Bool, both_ways, eq-eqb}
-use Rattle.std.proofs.lemmas.Bool.{and_from, or_left, not_from_true, not_from_false, false≢true}
+use Rattle.std.proofs.lemmas.Bool.{cond-true, cond-false, cases_Bool, both_ways, eq-eqb, and_from}
+use Rattle.std.proofs.lemmas.Bool.{or_left, not_from_true, not_from_false, false≢true}
 use Rattle.std.proofs.lemmas.Bool.Decides.{nat_tests}
 use Rattle.uri_pct.specs.Delimiters.{full_stop, right_bracket}
 use Rattle.uri_pct.specs.Sets.{is_one_of, hexdig_set, ipv_future_set}
@@ -70,18 +69,23 @@ module _ (text : List ℕ) (i : ℕ) where
   first-byte-of-suffix-at-position : get_or (drop i text) 0 0 ≡ get_or text i 0
   first-byte-of-suffix-at-position = rw (get_or-drop i text 0 0, add-zero) refl
 
+  pub version-letter-begins-no-ipv6 : (starts 118 (drop i text) || starts 86 (drop i text)) ≡ true
+      → cannot_begin_ipv6 text i ≡ true
+  unfolding cannot_begin_ipv6
+  version-letter-begins-no-ipv6 e =
+      let l = text-with-version-letter-begins-no-group (drop i text) e in
+      let none : digits_end text 16 4 i ≡ i = let z = l.2 in omega arith in
+      and_from _ _ (not_from_false _ l.1) (or_left _ _ (eq-eqb _ i none))
+
   pub literal-with-version-letter-scans-ipvfuture : (starts 118 (drop i text) || starts 86
       (drop i text)) ≡ true
       → literal text i ≡ scan_to_mark text hexdig_set full_stop
       (scan_to_mark text ipv_future_set right_bracket (λ end. Ok end)) (i + 1)
-  unfolding literal cannot_begin_ipv6
+  unfolding literal
   literal-with-version-letter-scans-ipvfuture e =
-      let l = text-with-version-letter-begins-no-group (drop i text) e in
-      let none : digits_end text 16 4 i ≡ i = let z = l.2 in omega arith in
-      let no_ipv6 : cannot_begin_ipv6 text i ≡ true =
-      and_from _ _ (not_from_false _ l.1) (or_left _ _ (eq-eqb _ i none)) in
-      cond-false _ _ _ (not_from_true _ no_ipv6)
-      ∙ cond-true _ _ _ (ap (is_one_of (codes "vV")) (sym first-byte-of-suffix-at-position) ∙ l.0)
+      cond-false _ _ _ (not_from_true _ (version-letter-begins-no-ipv6 e))
+      ∙ cond-true _ _ _ (ap (is_one_of (codes "vV")) (sym first-byte-of-suffix-at-position)
+      ∙ (text-with-version-letter-begins-no-group (drop i text) e).0)
 
   pub literal-without-address-is-unexpected : (starts 118 (drop i text) || starts 86 (drop i text))
       ≡ false

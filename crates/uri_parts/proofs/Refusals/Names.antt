@@ -1,9 +1,7 @@
 -- The errors of an authority.
 use Rattle.std.proofs.Common.{◌≡◌, ◌≢◌, ℕ, zero, suc, ◌+◌, ◌<◌, ◌≤◌, Bool, true, false, cond, eqb}
-use Rattle.std.proofs.Common.{List}
-use Rattle.std.proofs.Common.{[], ◌∷◌, drop, Some, refl, sym, ap, ◌∙◌, arith, ◌&&◌, ⊎_elim}
+use Rattle.std.proofs.Common.{List, [], ◌∷◌, drop, Some, refl, sym, ap, ◌∙◌, arith, ◌&&◌, ⊎_elim}
 use Rattle.std.specs.Prelude.{codes, nat_lt}
-use Rattle.std.specs.Str.{continuation_len}
 use Rattle.std.proofs.lemmas.Bool.{cond-true, cond-false, cases_Bool, cases_lt, eq-eqb, eqb-true}
 use Rattle.std.proofs.lemmas.Bool.{and_from, and_left, and_right, false≢true, lt-ltb, le-ltb}
 use Rattle.std.proofs.lemmas.Bool.{both_ways}
@@ -16,29 +14,27 @@ use Rattle.uri_pct.proofs.ValidTexts.Prefixes.{nothing_is_scanned_after_valid_pr
 use Rattle.uri_parts.specs.Components.{starts}
 use Rattle.uri_parts.specs.Errors.{unexpected, stray_percent}
 use Rattle.uri_parts.specs.Refusals.{OptionalParseError, last_colon, error_from_path}
-use Rattle.uri_parts.specs.Refusals.{error_from_host, error_from_name}
-use Rattle.uri_parts.specs.Refusals.{error_from_authority}
+use Rattle.uri_parts.specs.Refusals.{error_from_host, error_from_name, error_from_authority}
 use Rattle.uri_parts.specs.Scanning.{is_next, scan_end}
 use Rattle.uri_parts.specs.Grammar.{Kind}
 use Rattle.uri_parts.specs.Models.AuthorityParsing.{is_empty_or_begins_with_any, port_length}
 use Rattle.uri_parts.specs.Models.AuthorityParsing.{name_and_port_length, name_ends_authority}
 use Rattle.uri_parts.specs.Models.AuthorityParsing.{userinfo_length}
 use Rattle.uri_parts.specs.Models.ParseErrors.{left_over_error, name_error, error_after_port}
-use Rattle.uri_parts.specs.Models.ParseErrors.{port_error}
-use Rattle.uri_parts.specs.Models.ParseErrors.{host_error, userinfo_error, other_authority_error}
-use Rattle.uri_parts.specs.Models.ParseErrors.{authority_error}
+use Rattle.uri_parts.specs.Models.ParseErrors.{port_error, host_error, userinfo_error}
+use Rattle.uri_parts.specs.Models.ParseErrors.{other_authority_error, authority_error}
 use Rattle.uri_parts.proofs.Authorities.NamesAndPorts.{valid_prefix-of-empty-text}
 use Rattle.uri_parts.proofs.Authorities.UserinfoLengths.{userinfo_length-is-valid_prefix}
 use Rattle.uri_parts.proofs.Authorities.UserinfoLengths.{further_userinfo_length-is-valid_prefix}
-use Rattle.uri_parts.proofs.Refusals.Colons.{last_colon_is_below_position}
+use Rattle.uri_parts.proofs.Refusals.Colons.{last_colon_is_below_position, last_colon-same-or-later}
 use Rattle.uri_parts.proofs.Refusals.Colons.{last_colon-after-colon-is-that-colon}
 use Rattle.uri_parts.proofs.Refusals.Colons.{last_colon-without-colons-after}
-use Rattle.uri_parts.proofs.Refusals.Colons.{last_colon-same-or-later}
 use Rattle.uri_parts.proofs.Refusals.Rooted.{Adjoins, scan-stops-at-stray-percent-or-goes-on}
-use Rattle.uri_parts.proofs.Refusals.Rooted.{stray-percent-stops-every-set}
-use Rattle.uri_parts.proofs.Refusals.Rooted.{valid_prefix-zero-at-mark}
+use Rattle.uri_parts.proofs.Refusals.Rooted.{greater-set-goes-on-with-mark, port-end-by-next-colon}
+use Rattle.uri_parts.proofs.Refusals.Rooted.{nothing-is-scanned-at-mark, valid_prefix-zero-at-mark}
 use Rattle.uri_parts.proofs.Refusals.Rooted.{error_after_port-is-from-path}
-use Rattle.uri_parts.proofs.Refusals.Rooted.{port-end-by-next-colon, host_error-is-error_from_host}
+use Rattle.uri_parts.proofs.Refusals.Rooted.{host_error-is-error_from_host}
+use Rattle.uri_parts.proofs.Splitting.Cuts.{begins-with-further-mark}
 use Rattle.uri_parts.proofs.TextKinds.Separations.{SeparatesComponents}
 
 -- parse errors: a digit, as of a port, is ASCII, and not `:` (58)
@@ -51,7 +47,7 @@ digit-is-ascii-and-no-colon b bs e = ⊎_elim
     (cases_lt b 128)
 
 -- parse errors: a digit at the start is one more of the leading digits
-valid_prefix-at-digit-is-one-more : (b : ℕ) (bs : List ℕ) → allows_first digit_set b bs ≡ true
+pub valid_prefix-at-digit-is-one-more : (b : ℕ) (bs : List ℕ) → allows_first digit_set b bs ≡ true
     → valid_prefix digit_set (b ∷ bs) ≡ valid_prefix digit_set bs + 1
 unfolding valid_prefix_from
 valid_prefix-at-digit-is-one-more b bs e = cond-true _ _ _ e
@@ -59,7 +55,7 @@ valid_prefix-at-digit-is-one-more b bs e = cond-true _ _ _ e
     (ascii_byte_has_no_continuation b (digit-is-ascii-and-no-colon b bs e).0)
 
 -- parse errors: another byte at the start begins no digits
-valid_prefix-at-other-byte-is-zero : (b : ℕ) (bs : List ℕ) → allows_first digit_set b bs ≡ false
+pub valid_prefix-at-other-byte-is-zero : (b : ℕ) (bs : List ℕ) → allows_first digit_set b bs ≡ false
     → valid_prefix digit_set (b ∷ bs) ≡ 0
 unfolding valid_prefix_from
 valid_prefix-at-other-byte-is-zero b bs e = cond-false _ _ _ e
@@ -121,22 +117,13 @@ module _ (segment : TableSet) (kind : Kind) (w : SeparatesComponents segment kin
     (a : Adjoins kind)
     (text : List ℕ) where
   -- userinfo stops where a name does and there is no `:`
-  userinfo-stops-with-name-without-colon : (bs : List ℕ) → valid_prefix kind.reg_name bs ≡ 0
-      → starts 58 bs ≡ false
-      → valid_prefix kind.userinfo bs ≡ 0
-  unfolding valid_prefix_from
-  userinfo-stops-with-name-without-colon [] z c = refl
-  userinfo-stops-with-name-without-colon (b ∷ bs) z c = ⊎_elim
-      (λ o. stray-percent-stops-every-set kind.reg_name kind.userinfo (b ∷ bs) a.reg_name_octets
-      a.userinfo_octets z o)
-      (λ o.
-      let stop : allows_first kind.reg_name b bs ≡ false = ⊎_elim
-      (λ t. absurd (let x : valid_prefix kind.reg_name (b ∷ bs)
-      ≡ valid_prefix_from kind.reg_name (continuation_len b) bs + 1 =
-      cond-false _ _ _ (and_right _ _ o) ∙ cond-true _ _ _ t in omega (arith, x, z)))
-      (λ t. t) (cases_Bool (allows_first kind.reg_name b bs)) in
-      cond-false _ _ _ (and_right _ _ o) ∙ cond-false _ _ _ (a.only_colon b bs c stop))
-      (cases_Bool (eqb b 37))
+  pub userinfo-stops-with-name-without-colon : (bs : List ℕ) → valid_prefix kind.reg_name bs ≡ 0
+      → starts 58 bs ≡ false → valid_prefix kind.userinfo bs ≡ 0
+  userinfo-stops-with-name-without-colon bs z c = ⊎_elim (λ n. n)
+      (λ m. nothing-is-scanned-at-mark kind.userinfo [] w.userinfo_lacks refl bs
+      (begins-with-further-mark 58 [] bs m c))
+      (greater-set-goes-on-with-mark (codes ":") kind.reg_name kind.userinfo a.reg_name_octets
+      a.userinfo_octets a.only_colon bs z)
 
   module _ (i : ℕ) (inside : 0 < i) where
     abbrev rest : List ℕ

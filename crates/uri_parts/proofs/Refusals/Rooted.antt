@@ -1,12 +1,13 @@
 -- The errors after an authority, and of a host.
-use Rattle.std.proofs.Common.{◌≡◌, ℕ, ◌+◌, Bool, true, false, cond, eqb, List, [], ◌∷◌, drop}
-use Rattle.std.proofs.Common.{Some, refl, sym, ap, ◌∙◌, arith, ◌&&◌, ◌||◌, ⊎_elim}
+use Rattle.std.proofs.Common.{◌≡◌, ℕ, ◌+◌, Bool, true, false, cond, eqb, List, [], ◌∷◌, drop, Some}
+use Rattle.std.proofs.Common.{refl, sym, ap, ◌∙◌, arith, ◌&&◌, ◌||◌, ⊎_elim, ◌⊎◌, inl, inr}
 use Rattle.std.specs.Prelude.{Ok, Err, codes}
 use Rattle.std.proofs.lemmas.Bool.{cond-true, cond-false, cases_Bool, eq-eqb, eqb-true, or_left}
 use Rattle.std.proofs.lemmas.Bool.{or_right, false≢true, and_from, and_right}
 use Rattle.std.proofs.lemmas.Bool.Decides.{nat_tests}
 use Rattle.std.proofs.lemmas.List.{drop-drop}
-use Rattle.uri_pct.specs.Sets.{TableSet, LacksPercent, digit_set}
+use Rattle.std.specs.Str.{continuation_len}
+use Rattle.uri_pct.specs.Sets.{TableSet, LacksPercent, digit_set, is_one_of}
 use Rattle.uri_pct.specs.Prefixes.{valid_prefix_from, valid_prefix, after, begins_with_hex_digits}
 use Rattle.uri_pct.specs.Prefixes.{allows_first}
 use Rattle.uri_pct.proofs.ValidTexts.Cuts.{excludes, valid_prefix_at_mark_is_empty}
@@ -16,15 +17,16 @@ use Rattle.uri_parts.specs.Components.{starts, is_end}
 use Rattle.uri_parts.specs.Errors.{unexpected, stray_percent}
 use Rattle.uri_parts.specs.LiteralErrors.{literal}
 use Rattle.uri_parts.specs.Refusals.{OptionalParseError, ◌>>=◌, error_from_end, error_from_fragment}
-use Rattle.uri_parts.specs.Refusals.{error_from_query, error_from_path}
-use Rattle.uri_parts.specs.Refusals.{error_from_abempty_path, error_from_port, error_from_host}
+use Rattle.uri_parts.specs.Refusals.{error_from_query, error_from_path, error_from_abempty_path}
+use Rattle.uri_parts.specs.Refusals.{error_from_port, error_from_host}
 use Rattle.uri_parts.specs.Scanning.{ScanResult, is_next, scan_end, scan}
 use Rattle.uri_parts.specs.Grammar.{Kind}
 use Rattle.uri_parts.specs.Models.AuthorityParsing.{is_empty_or_begins_with_any, port_length}
 use Rattle.uri_parts.specs.Models.ParseErrors.{left_over_error, error_after_port, port_error}
 use Rattle.uri_parts.specs.Models.ParseErrors.{host_error}
 use Rattle.uri_parts.proofs.Authorities.NamesAndPorts.{valid_prefix-of-empty-text}
-use Rattle.uri_parts.proofs.TextKinds.Separations.{SeparatesComponents}
+use Rattle.uri_parts.proofs.Splitting.Cuts.{IsEmptyOrMarked}
+use Rattle.uri_parts.proofs.TextKinds.Separations.{SeparatesComponents, HasAllBut}
 
 -- parse errors: the sets of an authority and of a path have percent-encoded octets,
 -- and only `:` distinguishes userinfo from a name
@@ -32,8 +34,7 @@ pub record Adjoins (kind : Kind) : Type 0 where
   pub userinfo_octets : kind.userinfo.pct_encoded ≡ true
   pub reg_name_octets : kind.reg_name.pct_encoded ≡ true
   pub path_octets : kind.path.pct_encoded ≡ true
-  pub only_colon : (b : ℕ) (bs : List ℕ) → eqb b 58 ≡ false
-      → allows_first kind.reg_name b bs ≡ false → allows_first kind.userinfo b bs ≡ false
+  pub only_colon : HasAllBut (codes ":") kind.reg_name kind.userinfo
 
 -- parse errors: a scan and what is next, by whether a `%` is stray
 bind-of-cond-is-cond-of-binds : (stray : Bool) (e : ParseError) (end : ℕ)
@@ -82,6 +83,43 @@ stray-percent-stops-every-set small great (b ∷ bs) s g e p =
     ap (λ c. valid_prefix great (c ∷ bs)) d
     ∙ stray-percent-stops-greater-set small great bs s g
     (ap (λ c. valid_prefix small (c ∷ bs)) (sym d) ∙ e)
+
+-- parse errors: where a scan by the smaller set stops, at none of the marks,
+-- one by the greater set does
+smaller-set-stops-greater-set : (marks : List ℕ) (small great : TableSet)
+    → small.pct_encoded ≡ true → great.pct_encoded ≡ true → HasAllBut marks small great
+    → (b : ℕ) (rest : List ℕ) → is_one_of marks b ≡ false → valid_prefix small (b ∷ rest) ≡ 0
+    → valid_prefix great (b ∷ rest) ≡ 0
+unfolding valid_prefix_from
+smaller-set-stops-greater-set marks small great s g more b rest m z = ⊎_elim
+    (λ o. stray-percent-stops-every-set small great (b ∷ rest) s g z o)
+    (λ o.
+    let stop : allows_first small b rest ≡ false = ⊎_elim
+    (λ t. absurd (let x : valid_prefix small (b ∷ rest)
+    ≡ valid_prefix_from small (continuation_len b) rest + 1 =
+    cond-false _ _ _ (and_right _ _ o) ∙ cond-true _ _ _ t in omega (arith, x, z)))
+    (λ t. t) (cases_Bool (allows_first small b rest)) in
+    cond-false _ _ _ (and_right _ _ o) ∙ cond-false _ _ _ (more b rest m stop))
+    (cases_Bool (eqb b 37))
+
+-- parse errors: where a scan by the smaller set stops, one by the greater goes on with a mark
+pub greater-set-goes-on-with-mark : (marks : List ℕ) (small great : TableSet)
+    → small.pct_encoded ≡ true → great.pct_encoded ≡ true → HasAllBut marks small great
+    → (bs : List ℕ) → valid_prefix small bs ≡ 0
+    → (valid_prefix great bs ≡ 0) ⊎ IsEmptyOrMarked marks bs
+greater-set-goes-on-with-mark marks small great s g more [] z = inr tt
+greater-set-goes-on-with-mark marks small great s g more (b ∷ rest) z = ⊎_elim
+    (λ m. inr m)
+    (λ m. inl (smaller-set-stops-greater-set marks small great s g more b rest m z))
+    (cases_Bool (is_one_of marks b))
+
+-- parse errors: at a delimiter that a set excludes, or at the end, nothing is scanned
+pub nothing-is-scanned-at-mark : (set : TableSet) (marks : List ℕ) → LacksPercent set
+    → excludes set marks ≡ true → (bs : List ℕ) → IsEmptyOrMarked marks bs
+    → valid_prefix set bs ≡ 0
+nothing-is-scanned-at-mark set marks lacks outside [] m = valid_prefix-of-empty-text set
+nothing-is-scanned-at-mark set marks lacks outside (b ∷ bs) m = valid_prefix_at_mark_is_empty
+    marks set lacks outside b bs m
 
 -- parse errors: where a delimiter or the end is, a set that excludes the delimiters allows nothing
 pub valid_prefix-zero-at-mark : (marks : List ℕ) (set : TableSet) → LacksPercent set

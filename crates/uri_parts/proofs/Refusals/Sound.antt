@@ -1,25 +1,22 @@
 -- What is read as an IPv6 address with something after it, as `]`, is one.
 use Rattle.std.proofs.Common.{◌≡◌, ◌≢◌, ℕ, zero, suc, ◌+◌, ◌-◌, ◌<◌, ◌≤◌, Bool, true, false, not}
 use Rattle.std.proofs.Common.{cond, eqb, List, [], ◌∷◌, ◌++◌, length, get_or, drop, decimal, Option}
-use Rattle.std.proofs.Common.{Some}
-use Rattle.std.proofs.Common.{None, refl, sym, ap, subst, ◌∙◌, arith, ◌&&◌, ◌||◌, ⊎_elim, inl, inr}
-use Rattle.std.proofs.Common.{append_assoc, length-drop, eqb-true, lit<, get_or-drop, add-zero}
+use Rattle.std.proofs.Common.{Some, None, refl, sym, ap, subst, ◌∙◌, arith, ◌&&◌, ◌||◌, ⊎_elim, inl}
+use Rattle.std.proofs.Common.{inr, append_assoc, length-drop, eqb-true, lit<, get_or-drop, add-zero}
 use Rattle.std.proofs.Common.{replicate}
 use Rattle.std.specs.Prelude.{slice_range, nat_lt, codes}
 use Rattle.std.specs.Str.Parse.{digits_value}
 use Rattle.std.specs.Net.Addr.{segments_of}
 use Rattle.std.specs.Net.Grammar.{IsDotted, IsGroupsAfter, IsColonHex}
-use Rattle.std.specs.Net.Reader.{digit_count}
 use Rattle.std.specs.Net.Text.{dotted_text}
 use Rattle.std.proofs.lemmas.Bool.{cond-true, cond-false, cases_Bool, and_parts, ltb-true, leb-true}
 use Rattle.std.proofs.lemmas.Bool.{eq-eqb, false≢true, both_ways}
 use Rattle.std.proofs.lemmas.Option.{none-some, same_Some}
-use Rattle.std.proofs.lemmas.List.{get_or-take}
+use Rattle.std.proofs.lemmas.List.{get_or-take, drop-drop, drop_more}
 use Rattle.std.proofs.lemmas.List.Sums.{prefix_len-le-length}
 use Rattle.std.proofs.NetLemmas.Options.{cond_some, cond_none, and_then_some}
 use Rattle.std.specs.Char.{is_digit}
 use Rattle.uri_parts.proofs.HostForms.AddressParsing.{dotted as dotted_with}
-use Rattle.std.proofs.lemmas.List.{drop-drop, drop_more}
 use Rattle.std.proofs.lemmas.List.Folds.{drop_split}
 use Rattle.std.proofs.lemmas.Fmt.{decimal-digits_value, decimal_digit}
 use Rattle.std.proofs.lemmas.Str.Parse.{numerals_by_value, tells_digits}
@@ -29,30 +26,27 @@ use Rattle.uri_parts.specs.LiteralErrors.{octet_end, octets_end, ipv4_end, after
 use Rattle.uri_parts.specs.LiteralErrors.{ipv6_end, after_groups, after_elision}
 use Rattle.uri_parts.proofs.Refusals.Digits.{text-to-digits_end-is-digits}
 use Rattle.uri_parts.proofs.Refusals.Digits.{length-of-text-to-digits_end}
-use Rattle.uri_parts.proofs.Refusals.GroupTurns.{groups_from-ends-without-room}
+use Rattle.uri_parts.proofs.Refusals.GroupTurns.{groups_from-ends-without-room, dotted}
+use Rattle.uri_parts.proofs.Refusals.GroupTurns.{text-with-mark-is-not-ended}
 use Rattle.uri_parts.proofs.Refusals.GroupTurns.{groups_from-ends-without-group}
 use Rattle.uri_parts.proofs.Refusals.GroupTurns.{groups_from-elides-at-two-colons}
 use Rattle.uri_parts.proofs.Refusals.GroupTurns.{groups_from-rejects-lone-colon}
 use Rattle.uri_parts.proofs.Refusals.GroupTurns.{groups_from-ends-with-text}
 use Rattle.uri_parts.proofs.Refusals.GroupTurns.{groups_from-rejects-misplaced-colon}
-use Rattle.uri_parts.proofs.Refusals.GroupTurns.{groups_from-rejects-ipv4-without-room, dotted}
+use Rattle.uri_parts.proofs.Refusals.GroupTurns.{groups_from-rejects-ipv4-without-room}
 use Rattle.uri_parts.proofs.Refusals.GroupTurns.{groups_from-goes-on-after-group}
 use Rattle.uri_parts.proofs.Splitting.Recompose.{text-with-mark-is-mark-and-rest}
 
 module _ (text : List ℕ) where
-  text-at-mark-is-mark-and-rest : (mark i : ℕ) → starts mark (drop i text) ≡ true
+  pub text-at-mark-is-mark-and-rest : (mark i : ℕ) → starts mark (drop i text) ≡ true
       → drop i text ≡ mark ∷ drop (i + 1) text
   text-at-mark-is-mark-and-rest mark i e = text-with-mark-is-mark-and-rest mark (drop i text) e
       ∙ ap (λ t. mark ∷ t) (drop-drop 1 i text)
 
-  digit_count-is-at-most-length : (radix : ℕ) (xs : List ℕ) → digit_count radix xs ≤ length xs
-  digit_count-is-at-most-length radix xs = prefix_len-le-length (λ c. is_digit c radix) xs
-
   digits_end-is-within-text : (radix most i : ℕ) → i < digits_end text radix most i
       → digits_end text radix most i ≤ length text
-  digits_end-is-within-text radix most i l =
-      let c = digit_count-is-at-most-length radix (drop i text) in omega
-      (arith, c, length-drop i text)
+  digits_end-is-within-text radix most i l = omega
+      (arith, prefix_len-le-length (λ c. is_digit c radix) (drop i text), length-drop i text)
 
   slice-begins-with-byte-at-position : (i end : ℕ) → i < end → end ≤ length text
       → get_or (slice_range text i end) 0 0 ≡ get_or (drop i text) 0 0
@@ -228,11 +222,6 @@ module _ (text : List ℕ) where
       ∙ text-at-mark-is-mark-and-rest 58 group d))
       (no-groups-parse-to-same-text false (suc r) is_first i)
 
-  text-with-bracket-is-not-ended : (xs : List ℕ) → starts 93 xs ≡ true → is_end xs ≡ false
-  unfolding is_end
-  text-with-bracket-is-not-ended [] z = absurd (false≢true z)
-  text-with-bracket-is-not-ended (x ∷ xs) z = refl
-
   -- a group has its `:`, but the first
   group-follows-its-colon : (is_first : Bool) (i : ℕ)
       → (starts 58 (drop i text) && is_first || not (starts 58 (drop i text)) && not is_first)
@@ -389,4 +378,4 @@ module _ (text : List ℕ) where
       → starts 93 (drop end text) ≡ true
       → Holds i end
   ipv6_end-before-bracket-ends-ipv6 i end e c = ipv6_end-before-text-ends-ipv6 i end e
-      (text-with-bracket-is-not-ended (drop end text) c)
+      (text-with-mark-is-not-ended 93 (drop end text) c)

@@ -1,20 +1,22 @@
 -- The parser returns the error that `refusal` defines for a whole text.
-use Rattle.std.proofs.Common.{◌≡◌, ℕ, ◌+◌, Bool, true, false, cond, eqb, List, get_or, drop, refl}
-use Rattle.std.proofs.Common.{sym, ap, subst, ◌∙◌, arith, ◌&&◌, ◌||◌, ⊎_elim, zero-add, Some}
-use Rattle.std.specs.Prelude.{if◌then◌else◌, Ok, Err, Result, is_ok, is_none}
+use Rattle.std.proofs.Common.{◌≡◌, ℕ, ◌+◌, Bool, true, false, cond, List, get_or, drop, refl}
+use Rattle.std.proofs.Common.{sym, ap, subst, ◌∙◌, arith, ◌&&◌, ⊎_elim, zero-add, Some}
+use Rattle.std.specs.Prelude.{codes, if◌then◌else◌, Ok, Err, Result, is_ok, is_none}
 use Rattle.std.specs.Result.{result_err}
 use Rattle.std.specs.Str.{IsUtf8}
 use Rattle.std.specs.Char.{is_ascii_alphabetic}
-use Rattle.std.proofs.lemmas.Bool.{cases_Bool, cond-true, cond-false, cases_lt, lt-ltb, le-ltb}
-use Rattle.uri_pct.specs.Sets.{TableSet, scheme_set, reg_name_set, userinfo_set}
-use Rattle.uri_pct.specs.Sets.{is_reg_name_char, is_userinfo_char, allows_past_ascii}
-use Rattle.uri_pct.specs.Prefixes.{valid_prefix, allows_first}
+use Rattle.std.proofs.lemmas.Bool.{cases_Bool, cond-true, cond-false}
+use Rattle.uri_pct.specs.Sets.{TableSet, scheme_set, reg_name_set, userinfo_set, is_one_of}
+use Rattle.uri_pct.specs.Sets.{is_reg_name_char, is_userinfo_char, allows_past_ascii, ireg_name_set}
+use Rattle.uri_pct.specs.Sets.{iuserinfo_set}
+use Rattle.std.proofs.lemmas.Bool.Decides.{nat_tests}
+use Rattle.uri_pct.specs.Prefixes.{valid_prefix}
 use Rattle.uri_pct.proofs.ValidTexts.Prefixes.{valid_prefix_of_superset_goes_on_from_subset}
 use Rattle.uri_parts.specs.Components.{has_authority}
 use Rattle.uri_parts.specs.Errors.{unexpected, stray_percent}
-use Rattle.uri_parts.specs.Refusals.{OptionalParseError, ◌>>=◌, error_from_path}
+use Rattle.uri_parts.specs.Refusals.{OptionalParseError, ◌>>=◌, error_from_path, refusal}
 use Rattle.uri_parts.specs.Refusals.{error_from_authority, error_from_relative_path}
-use Rattle.uri_parts.specs.Refusals.{error_from_hier_part, refusal}
+use Rattle.uri_parts.specs.Refusals.{error_from_hier_part}
 use Rattle.uri_parts.specs.Scanning.{is_next, scan_end}
 use Rattle.uri_parts.specs.Grammar.{Kind, first_segment_set, kind_by_flags}
 use Rattle.uri_parts.specs.Models.ParseErrors.{hier_part_error, schemeless_error, parsed_error}
@@ -28,6 +30,7 @@ use Rattle.uri_parts.proofs.Refusals.Accepted.{no-error-iff-text-is-parsed}
 use Rattle.uri_parts.proofs.Refusals.Names.{authority_error-is-error_from_authority}
 use Rattle.uri_parts.proofs.Refusals.Rooted.{Adjoins}
 use Rattle.uri_parts.proofs.TextKinds.Separations.{SeparatesComponents}
+use Rattle.uri_parts.proofs.TextKinds.Separations.{greater-set-has-all-but-marks}
 use Rattle.uri_parts.proofs.Theorems.{tables_of_kind_separate}
 
 module _ (segment : TableSet) (kind : Kind) (w : SeparatesComponents segment kind)
@@ -89,42 +92,34 @@ module _ (segment : TableSet) (kind : Kind) (w : SeparatesComponents segment kin
       ∙ ap (λ s. cond (has_authority text) (error_from_authority kind text 2)
       (error_from_relative_path kind text s 0)) e)
 
--- parse errors: what may be in userinfo and in no name is `:` (58)
-only_colon : (c : ℕ) → eqb c 58 ≡ false → is_reg_name_char c ≡ false → is_userinfo_char c ≡ false
-only_colon c e n = ap (λ t. t || eqb c 58) n ∙ e
-
--- parse errors: userinfo goes on after a name with `:` (58) only
-userinfo-goes-on-after-name-only-with-colon : (ucschar : Bool) (b : ℕ) (bs : List ℕ)
-    → eqb b 58 ≡ false
-    → allows_first (record reg_name_set { ucschar = ucschar }) b bs ≡ false
-    → allows_first (record userinfo_set { ucschar = ucschar }) b bs ≡ false
-unfolding allows_first allows_past_ascii
-userinfo-goes-on-after-name-only-with-colon ucschar b bs c e = ⊎_elim
-    (λ h. let l = lt-ltb b 128 h in cond-true _ _ _ l
-    ∙ only_colon b c (sym (cond-true _ _ _ l) ∙ e))
-    (λ h. let l = le-ltb b 128 h in cond-false _ _ _ l ∙ (sym (cond-false _ _ _ l) ∙ e))
-    (cases_lt b 128)
+-- parse errors: a character of userinfo that is not `:` may be in a registered name too
+userinfo-char-but-colon-is-name-char : (c : ℕ) → is_one_of (codes ":") c ≡ false
+    → is_reg_name_char c ≡ false → is_userinfo_char c ≡ false
+userinfo-char-but-colon-is-name-char c m e = grind (arith, nat_tests)
 
 -- parse errors: in the four kinds, userinfo, names and paths have octets, and only `:` tells
 -- userinfo from a name; the Bools are whether an IRI's, and with a scheme needed
 kind-by-flags-adjoins : (international needs_scheme : Bool)
     → Adjoins (kind_by_flags international needs_scheme)
+unfolding allows_past_ascii
 kind-by-flags-adjoins false needs_scheme = record {
   userinfo_octets = refl;
   reg_name_octets = refl;
   path_octets = refl;
-  only_colon = userinfo-goes-on-after-name-only-with-colon false;
+  only_colon = greater-set-has-all-but-marks (codes ":") reg_name_set userinfo_set
+      userinfo-char-but-colon-is-name-char (λ c. refl);
 }
 kind-by-flags-adjoins true needs_scheme = record {
   userinfo_octets = refl;
   reg_name_octets = refl;
   path_octets = refl;
-  only_colon = userinfo-goes-on-after-name-only-with-colon true;
+  only_colon = greater-set-has-all-but-marks (codes ":") ireg_name_set iuserinfo_set
+      userinfo-char-but-colon-is-name-char (λ c. refl);
 }
 
 -- parse errors: in a kind that is one of the four, userinfo, names and paths have octets, and only
 -- `:` tells userinfo from a name
-known-kind-adjoins : (kind : Kind) → kind ≡ kind_by_flags kind.path.ucschar kind.needs_scheme
+pub known-kind-adjoins : (kind : Kind) → kind ≡ kind_by_flags kind.path.ucschar kind.needs_scheme
     → Adjoins kind
 known-kind-adjoins kind known = subst Adjoins (sym known) (kind-by-flags-adjoins _ _)
 

@@ -1,6 +1,6 @@
 -- The components of a text at their positions, as callers cut them out.
-use Rattle.std.proofs.Common.{◌≡◌, ℕ, ◌+◌, ◌-◌, ◌<◌, ◌≤◌, List, length}
-use Rattle.std.proofs.Common.{take, drop, sym, ap, subst, ◌∙◌, arith}
+use Rattle.std.proofs.Common.{◌≡◌, ℕ, ◌+◌, ◌-◌, ◌<◌, ◌≤◌, List, length, take, drop, sym, ap, subst}
+use Rattle.std.proofs.Common.{◌∙◌, arith}
 use Rattle.std.specs.Prelude.{Some, None, nat_lt, is_some}
 use Rattle.std.specs.Str.{IsUtf8}
 use Rattle.std.proofs.lemmas.Option.{MatchOption-at_some}
@@ -13,10 +13,8 @@ use Rattle.uri_parts.specs.Positions.{ArePositionsOf, positions_of, before_fragm
 use Rattle.uri_parts.proofs.Splitting.Recompose.{components-are-split-of-text}
 use Rattle.uri_pct.proofs.General.{None-from-not-is_some}
 use Rattle.uri_parts.proofs.Splitting.Places.{IsComponentAt, authority-of-split-is-at-positions}
-use Rattle.uri_parts.proofs.Splitting.Places.{path-of-split-is-at-positions}
-use Rattle.uri_parts.proofs.Splitting.Places.{query-of-split-is-at-positions}
-use Rattle.uri_parts.proofs.Splitting.Places.{before_hash}
-use Rattle.uri_parts.proofs.Splitting.Places.{length-before_hash}
+use Rattle.uri_parts.proofs.Splitting.Places.{path-of-split-is-at-positions, before_hash}
+use Rattle.uri_parts.proofs.Splitting.Places.{query-of-split-is-at-positions, length-before_hash}
 use Rattle.uri_parts.proofs.Splitting.Places.{split-text-is-before-fragment-and-fragment}
 use Rattle.uri_parts.proofs.Splitting.Places.{fragment-is-slice-to-end}
 use Rattle.uri_parts.proofs.Splitting.Places.{longer_than_before_fragment_if_some}

@@ -1,10 +1,11 @@
 -- A text cut before the first of some marks.
 use Rattle.std.proofs.Common.{◌≡◌, ℕ, zero, suc, true, false, not, List, [], ◌∷◌, ◌++◌, take, drop}
-use Rattle.std.proofs.Common.{refl, ap, ◌∙◌, arith, ⊎_elim}
+use Rattle.std.proofs.Common.{refl, sym, ap, ◌∙◌, arith, ⊎_elim, eqb}
 use Rattle.std.specs.List.{prefix_len}
 use Rattle.std.proofs.lemmas.Bool.{cases_Bool, cond-true, cond-false, not_from_true, not_from_false}
+use Rattle.std.proofs.lemmas.Bool.{both_ways, eqb-true, eq-eqb, or_cases}
 use Rattle.uri_pct.specs.Sets.{is_one_of}
-use Rattle.uri_parts.specs.Components.{Lacks, before_any, from_any}
+use Rattle.uri_parts.specs.Components.{Lacks, before_any, from_any, starts}
 
 -- splitting: the text is empty or begins with one of the delimiters, which come first
 abbrev pub IsEmptyOrMarked : List ℕ → List ℕ → Type 0
@@ -17,6 +18,30 @@ pub empty-or-marked-for-more-marks : (some all text : List ℕ)
     → IsEmptyOrMarked all text
 empty-or-marked-for-more-marks some all [] more begins = tt
 empty-or-marked-for-more-marks some all (c ∷ text) more begins = more c begins
+
+-- splitting: a text that begins with one of the marks is marked by them
+pub begins-with-mark : (mark : ℕ) (marks bs : List ℕ) → is_one_of marks mark ≡ true
+    → starts mark bs ≡ true → IsEmptyOrMarked marks bs
+begins-with-mark mark marks [] m e = tt
+begins-with-mark mark marks (b ∷ bs) m e = ap (is_one_of marks) (eqb-true b mark e) ∙ m
+
+-- splitting: a text that begins with a mark, if with any, does not begin with another byte
+pub begins-with-no-other : (other : ℕ) (marks bs : List ℕ) → is_one_of marks other ≡ false
+    → IsEmptyOrMarked marks bs → starts other bs ≡ false
+begins-with-no-other other marks [] n m = refl
+begins-with-no-other other marks (b ∷ bs) n m = ⊎_elim
+    (λ e. absurd (both_ways _ n (ap (is_one_of marks) (sym (eqb-true b other e)) ∙ m)))
+    (λ e. e)
+    (cases_Bool (eqb b other))
+
+-- splitting: a marked text that does not begin with the first mark begins with a further one
+pub begins-with-further-mark : (mark : ℕ) (marks bs : List ℕ) → IsEmptyOrMarked (mark ∷ marks) bs
+    → starts mark bs ≡ false → IsEmptyOrMarked marks bs
+begins-with-further-mark mark marks [] m n = tt
+begins-with-further-mark mark marks (b ∷ bs) m n = ⊎_elim
+    (λ e. absurd (both_ways _ n (eq-eqb b mark (sym (eqb-true mark b e)))))
+    (λ e. e)
+    (or_cases (eqb mark b) (is_one_of marks b) m)
 
 -- splitting: the length of what is before the first of the delimiters
 abbrev length_before : List ℕ → List ℕ → ℕ

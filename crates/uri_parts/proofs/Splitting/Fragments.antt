@@ -1,6 +1,6 @@
 -- A text with another fragment in place of its own has the same components but that one.
-use Rattle.std.proofs.Common.{◌≡◌, ℕ, ◌-◌, true, false, not, List, [], ◌∷◌, ◌++◌, length, take}
-use Rattle.std.proofs.Common.{refl, sym, ap, subst, ◌∙◌, arith, ◌&&◌, append_assoc}
+use Rattle.std.proofs.Common.{◌≡◌, ℕ, ◌-◌, true, false, not, List, [], ◌∷◌, ◌++◌, length, take, sym}
+use Rattle.std.proofs.Common.{refl, ap, subst, ◌∙◌, arith, ◌&&◌, append_assoc}
 use Rattle.std.specs.Prelude.{codes, Option, Some, None, IfSome, IfNone, slice_range}
 use Rattle.std.specs.Str.{IsCharBoundary}
 use Rattle.std.proofs.Math.Seq.{take-append_seam}
@@ -20,10 +20,10 @@ use Rattle.uri_parts.specs.Positions.{ArePositionsOf, positions_of, before_fragm
 use Rattle.uri_parts.proofs.Splitting.Cuts.{IsEmptyOrMarked, text-is-cut-at-first-mark}
 use Rattle.uri_parts.proofs.Splitting.Cuts.{cut-at-end-of-text-without-marks}
 use Rattle.uri_parts.proofs.Splitting.Marks.{fragment_text, IsEmptyOrMarked-fragment_text}
-use Rattle.uri_parts.proofs.Splitting.Places.{before_hash}
+use Rattle.uri_parts.proofs.Splitting.Places.{before_hash, recompose-before_hash}
 use Rattle.uri_parts.proofs.Splitting.Places.{split-text-is-before-fragment-and-fragment}
-use Rattle.uri_parts.proofs.Splitting.Places.{recompose-before_hash, length-before_hash}
-use Rattle.uri_parts.proofs.Splitting.Places.{boundary_before_mark, fragment-mark-is-component-mark}
+use Rattle.uri_parts.proofs.Splitting.Places.{length-before_hash, boundary_before_mark}
+use Rattle.uri_parts.proofs.Splitting.Places.{fragment-mark-is-component-mark}
 use Rattle.uri_parts.proofs.Splitting.Recompose.{components-are-split-of-text}
 use Rattle.uri_parts.proofs.Splitting.Splits.{only-split-is-components}
 use Rattle.uri_pct.proofs.General.{IfSome-weaken}

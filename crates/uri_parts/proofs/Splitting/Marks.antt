@@ -1,6 +1,6 @@
 -- Where each component of a recomposed text is cut: one lemma a component, over its own text.
-use Rattle.std.proofs.Common.{◌≡◌, ℕ, ◌<◌, true, false, eqb, List, [], ◌∷◌, ◌++◌, length}
-use Rattle.std.proofs.Common.{drop, refl, sym, ap, ◌∙◌, arith, ⊎_elim, append_assoc}
+use Rattle.std.proofs.Common.{◌≡◌, ℕ, ◌<◌, true, false, eqb, List, [], ◌∷◌, ◌++◌, length, drop, sym}
+use Rattle.std.proofs.Common.{refl, ap, ◌∙◌, arith, ⊎_elim, append_assoc}
 use Rattle.std.specs.Prelude.{codes, Some, None, Option, IfSome, IfNone}
 use Rattle.std.proofs.lemmas.List.{append-nil}
 use Rattle.std.proofs.lemmas.Bool.{cond-true, cond-false, and_left, and_right, and_from, eqb-true}

@@ -1,6 +1,6 @@
 -- At their positions the components of a text can be cut out, and what is cut out is them.
-use Rattle.std.proofs.Common.{◌≡◌, ℕ, ◌+◌, ◌-◌, ◌<◌, ◌≤◌, true, List, [], ◌∷◌, ◌++◌, length}
-use Rattle.std.proofs.Common.{get_or, take, drop, refl, sym, ap, subst, ◌∙◌, arith, append_assoc}
+use Rattle.std.proofs.Common.{◌≡◌, ℕ, ◌+◌, ◌-◌, ◌<◌, ◌≤◌, true, List, [], ◌∷◌, ◌++◌, length, get_or}
+use Rattle.std.proofs.Common.{take, drop, refl, sym, ap, subst, ◌∙◌, arith, append_assoc}
 use Rattle.std.proofs.Common.{length-append}
 use Rattle.std.specs.Prelude.{codes, Some, None, Option, IfSome, slice_range, nat_lt, is_some}
 use Rattle.std.specs.Prelude.{option_map, unwrap_or}
@@ -9,11 +9,11 @@ use Rattle.std.proofs.Math.Seq.{drop-append_seam, take-append_seam}
 use Rattle.std.proofs.lemmas.List.{append-nil}
 use Rattle.std.proofs.lemmas.Str.{IsCharBoundary-start, IsCharBoundary-end}
 use Rattle.std.proofs.lemmas.Str.{IsCharBoundary-before_ascii, IsCharBoundary-after_ascii}
-use Rattle.std.proofs.lemmas.Bool.{lt-ltb, le-ltb}
+use Rattle.std.proofs.lemmas.Bool.{lt-ltb, le-ltb, or_right}
 use Rattle.std.proofs.lemmas.Bool.Decides.{nat_tests}
 use Rattle.uri_pct.specs.Sets.{is_one_of}
-use Rattle.uri_parts.specs.Components.{Components, IsSplitOf, recompose, marked}
-use Rattle.uri_parts.specs.Components.{IsAbemptyPath, Lacks}
+use Rattle.uri_parts.specs.Components.{Components, IsSplitOf, recompose, marked, IsAbemptyPath}
+use Rattle.uri_parts.specs.Components.{Lacks}
 use Rattle.uri_parts.specs.Positions.{positions_of, delimited_length, before_fragment}
 use Rattle.uri_parts.proofs.Splitting.Cuts.{IsEmptyOrMarked, empty-or-marked-for-more-marks}
 use Rattle.uri_parts.proofs.Splitting.Marks.{query_text, fragment_text, IsEmptyOrMarked-query_text}
@@ -136,20 +136,6 @@ query-end-or-path-end : (path_end : ℕ) (query : Option (List ℕ))
 query-end-or-path-end path_end None = omega arith
 query-end-or-path-end path_end (Some q) = omega arith
 
--- splitting: what ends an authority ends a scheme too
-authority-mark-is-component-mark : (text : List ℕ) → IsEmptyOrMarked (codes "/?#") text
-    → IsEmptyOrMarked (codes ":/?#") text
-authority-mark-is-component-mark text begins = empty-or-marked-for-more-marks (codes "/?#")
-    (codes ":/?#") text
-    (λ c e. grind (arith, nat_tests)) begins
-
--- splitting: what begins with `?` or `#` ends a scheme too
-query-mark-is-component-mark : (text : List ℕ) → IsEmptyOrMarked (codes "?#") text
-    → IsEmptyOrMarked (codes ":/?#") text
-query-mark-is-component-mark text begins = empty-or-marked-for-more-marks (codes "?#")
-    (codes ":/?#") text
-    (λ c e. grind (arith, nat_tests)) begins
-
 -- splitting: what begins with `#` ends a scheme too
 pub fragment-mark-is-component-mark : (text : List ℕ) → IsEmptyOrMarked (codes "#") text
     → IsEmptyOrMarked (codes ":/?#") text
@@ -174,8 +160,8 @@ authority-after-scheme-is-slice text scheme a path suffix whole utf8 rooted begi
     component-between-marks-is-slice text prefix a (path ++ suffix) 47
     (delimited_length 1 scheme + 2)
     (delimited_length 1 scheme + 2 + length a) joined n refl (omega arith) utf8
-    (authority-mark-is-component-mark (path ++ suffix)
-    (rooted-path-ends-authority path suffix rooted begins))
+    (empty-or-marked-for-more-marks (codes "/?#") (codes ":/?#") (path ++ suffix)
+    (λ c e. or_right _ _ e) (rooted-path-ends-authority path suffix rooted begins))
 
 -- positions: a character begins where the path does
 path-begins-at-boundary : (text : List ℕ) (scheme authority : Option (List ℕ))
@@ -219,7 +205,8 @@ path-after-authority-is-slice text scheme authority path suffix whole utf8 roote
     ) in
     component-before-mark-is-slice text prefix path suffix start (start + length path) joined n refl
     (path-begins-at-boundary text scheme authority path suffix whole utf8 rooted begins)
-    (query-mark-is-component-mark suffix begins)
+    (empty-or-marked-for-more-marks (codes "?#") (codes ":/?#") suffix
+    (λ c e. or_right _ _ (or_right _ _ e)) begins)
 
 -- positions: the text of a scheme, an authority and a path
 abbrev pub hierarchy_text : Option (List ℕ) → Option (List ℕ) → List ℕ → List ℕ

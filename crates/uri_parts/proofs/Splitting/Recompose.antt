@@ -1,22 +1,17 @@
 -- The components of any text are a split of it.
-use Rattle.std.proofs.Common.{◌≡◌, ℕ, ◌<◌, Bool, true, false, eqb, not, List, [], ◌∷◌, ◌++◌, length}
-use Rattle.std.proofs.Common.{drop, refl, sym, ap, subst, ◌∙◌, arith, ⊎_elim, inl, inr}
-use Rattle.std.proofs.Common.{append_assoc, rules}
+use Rattle.std.proofs.Common.{◌≡◌, ℕ, ◌<◌, Bool, true, false, eqb, List, [], ◌∷◌, ◌++◌, length}
+use Rattle.std.proofs.Common.{drop, refl, sym, ap, subst, ◌∙◌, arith, ⊎_elim, inl, inr, rules}
+use Rattle.std.proofs.Common.{append_assoc}
 use Rattle.std.specs.Prelude.{codes, IsTrue, IfSome, IfNone}
 use Rattle.std.proofs.lemmas.List.{append-nil}
-use Rattle.std.proofs.lemmas.Bool.{cases_Bool, and_parts, eqb-true, both_ways}
+use Rattle.std.proofs.lemmas.Bool.{cases_Bool, and_parts, eqb-true, both_ways, not-true}
 use Rattle.std.proofs.lemmas.Bool.Decides.{nat_tests}
 use Rattle.uri_pct.specs.Sets.{is_one_of}
-use Rattle.uri_parts.specs.Components.{IsSplitOf, recompose, marked, starts, has_scheme}
+use Rattle.uri_parts.specs.Components.{IsSplitOf, recompose, marked, starts, has_scheme, components}
 use Rattle.uri_parts.specs.Components.{has_authority, after_scheme, after_authority, after_query}
-use Rattle.uri_parts.specs.Components.{components, when, Lacks, IsAbemptyPath, before_any, from_any}
+use Rattle.uri_parts.specs.Components.{when, Lacks, IsAbemptyPath, before_any, from_any}
 use Rattle.uri_parts.proofs.Splitting.Cuts.{IsEmptyOrMarked, text-is-cut-at-first-mark}
 use Rattle.uri_parts.proofs.Splitting.Marks.{has_authority-append}
-
--- general fact on booleans, for splitting a text
-negation-true-means-false : (b : Bool) → not b ≡ true → b ≡ false
-negation-true-means-false true h = cc
-negation-true-means-false false h = refl
 
 -- general fact on booleans, for splitting a text
 pub equal-to-true-is-IsTrue : (b : Bool) → b ≡ true → IsTrue b
@@ -138,7 +133,7 @@ found-scheme-is-nonempty-and-lacks-marks text = ⊎_elim
     (λ h.
     let cut = text-is-cut-at-first-mark (codes ":/?#") text in
     let tests = and_parts _ _ h in
-    let first = ap (starts 58) cut.whole ∙ negation-true-means-false _ tests.1 in
+    let first = ap (starts 58) cut.whole ∙ not-true _ tests.1 in
     rw h (
       prefix-before-colon-is-nonempty (before_any (codes ":/?#") text)
           (from_any (codes ":/?#") text) tests.0 first,

@@ -5,9 +5,9 @@ use Rattle.std.specs.Prelude.{codes}
 use Rattle.std.specs.List.{list_any}
 use Rattle.std.specs.Str.{IsUtf8, continuation_len}
 use Rattle.std.proofs.lemmas.List.{drop-drop}
-use Rattle.std.proofs.lemmas.Bool.{cases_Bool, cond-true, cond-false, and_left, and_right}
-use Rattle.std.proofs.lemmas.Bool.{and_parts, eqb-true, not_from_true, not-false, both_ways}
-use Rattle.std.proofs.lemmas.Bool.{false≢true, and_cases, false_from_ne_true, or_left}
+use Rattle.std.proofs.lemmas.Bool.{cases_Bool, cond-true, cond-false, and_left, and_right, eqb-true}
+use Rattle.std.proofs.lemmas.Bool.{and_parts, not_from_true, not-false, both_ways, false≢true}
+use Rattle.std.proofs.lemmas.Bool.{and_cases, false_from_ne_true, or_left}
 use Rattle.std.proofs.lemmas.Bool.Decides.{nat_tests}
 use Rattle.uri_pct.specs.Sets.{TableSet, LacksPercent, is_one_of, scheme_set}
 use Rattle.uri_pct.specs.Prefixes.{valid_prefix_from, valid_prefix, after, allows_first}
@@ -26,8 +26,7 @@ use Rattle.uri_parts.proofs.TextKinds.Separations.{SeparatesComponents}
 use Rattle.uri_parts.proofs.Parsing.Accepts.{parses_end-not-at-other}
 use Rattle.uri_parts.proofs.Parsing.Accepts.{none-of-four-marks-is-none-of-two-pairs}
 use Rattle.uri_parts.proofs.Splitting.Cuts.{before_any-past-other, from_any-past-other}
-use Rattle.uri_parts.proofs.Splitting.Cuts.{before_any-at-mark}
-use Rattle.uri_parts.proofs.Splitting.Cuts.{from_any-at-mark}
+use Rattle.uri_parts.proofs.Splitting.Cuts.{before_any-at-mark, from_any-at-mark}
 
 -- splitting, relative references: a scan by a set
 -- that excludes some delimiters, and stops at one, stops at the first

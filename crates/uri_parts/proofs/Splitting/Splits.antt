@@ -1,9 +1,9 @@
 -- The components of a text are its only split.
 use Rattle.std.proofs.Common.{◌≡◌, ℕ, List, [], ◌++◌, drop, ap, subst, ◌∙◌}
 use Rattle.std.specs.Prelude.{codes, Option}
-use Rattle.uri_parts.specs.Components.{Components, IsSplitOf, recompose, marked, starts}
+use Rattle.uri_parts.specs.Components.{Components, IsSplitOf, recompose, marked, starts, components}
 use Rattle.uri_parts.specs.Components.{has_authority, after_scheme, after_authority, after_query}
-use Rattle.uri_parts.specs.Components.{components, when, before_any, from_any}
+use Rattle.uri_parts.specs.Components.{when, before_any, from_any}
 use Rattle.uri_parts.proofs.Splitting.Cuts.{cut-at-end-of-text-without-marks}
 use Rattle.uri_parts.proofs.Splitting.Marks.{query_text, IsEmptyOrMarked-query_text, fragment-found}
 use Rattle.uri_parts.proofs.Splitting.Marks.{query-found, authority-found, scheme-found}

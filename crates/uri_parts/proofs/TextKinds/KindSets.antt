@@ -1,22 +1,22 @@
 -- The kinds keep apart what must be apart, and their tables represent their sets.
-use Rattle.std.proofs.Common.{◌≡◌, ℕ, Bool, true, false, refl, sym, ap, subst, ◌∙◌, arith, ◌||◌}
-use Rattle.std.proofs.Common.{◌&&◌, not, ⊎_elim, List, []}
+use Rattle.std.proofs.Common.{◌≡◌, ℕ, Bool, true, false, refl, sym, ap, subst, arith, ◌||◌, []}
+use Rattle.std.proofs.Common.{◌&&◌, not, List}
 use Rattle.std.specs.Prelude.{codes, is_some}
 use Rattle.std.specs.Char.{is_ascii_digit}
 use Rattle.std.specs.Str.{chars}
-use Rattle.std.proofs.lemmas.Bool.{cases_lt, cond-true, cond-false, lt-ltb, le-ltb, and_parts}
+use Rattle.std.proofs.lemmas.Bool.{and_parts}
 use Rattle.std.proofs.lemmas.Bool.{and_from}
 use Rattle.std.proofs.lemmas.Bool.Decides.{nat_tests}
-use Rattle.uri_pct.specs.Sets.{TableSet, is_one_of, is_scheme_char, is_segment_nz_nc_char}
+use Rattle.uri_pct.specs.Sets.{TableSet, is_one_of, is_scheme_char, is_segment_nz_nc_char, path_set}
 use Rattle.uri_pct.specs.Sets.{is_path_char, is_reg_name_char, is_userinfo_char, segment_nz_nc_set}
-use Rattle.uri_pct.specs.Sets.{path_set, userinfo_set, reg_name_set, query_set, fragment_set}
+use Rattle.uri_pct.specs.Sets.{userinfo_set, reg_name_set, query_set, fragment_set}
 use Rattle.uri_pct.specs.Sets.{allows_past_ascii}
 use Rattle.uri_pct.specs.Tokens.{is_valid_for, tokens_from_chars}
-use Rattle.uri_pct.specs.Prefixes.{allows_first}
 use Rattle.uri_parts.specs.Grammar.{Kind, uri, uri_ref, iri, iri_ref, IsOfKind, first_segment_set}
 use Rattle.uri_parts.specs.Grammar.{kind_by_flags}
 use Rattle.uri_parts.specs.Components.{components}
 use Rattle.uri_parts.proofs.TextKinds.Separations.{SeparatesComponents}
+use Rattle.uri_parts.proofs.TextKinds.Separations.{greater-set-has-all-but-marks}
 
 -- sets of a kind: a scheme's characters may be in a first segment too
 scheme-char-is-segment-char : (c : ℕ) → is_scheme_char c ≡ true → is_segment_nz_nc_char c ≡ true
@@ -59,23 +59,11 @@ kind_with ucschar iprivate needs_scheme = record {
   needs_scheme = needs_scheme;
 }
 
--- sets of a kind: a path goes on after a first segment with `:`
--- or `/` only; ucschar: whether the set has characters past ASCII
-path-goes-on-after-segment-only-with-mark : (ucschar : Bool) (b : ℕ) (bs : List ℕ)
-    → is_one_of (codes ":/") b ≡ false
-    → allows_first (segment_with ucschar) b bs ≡ false
-    → allows_first (international ucschar path_set) b bs ≡ false
-unfolding allows_first allows_past_ascii
-path-goes-on-after-segment-only-with-mark ucschar b bs m e = ⊎_elim
-    (λ h. let l = lt-ltb b 128 h in cond-true _ _ _ l
-    ∙ other-path-char-is-segment-char b m (sym (cond-true _ _ _ l) ∙ e))
-    (λ h. let l = le-ltb b 128 h in cond-false _ _ _ l ∙ (sym (cond-false _ _ _ l) ∙ e))
-    (cases_lt b 128)
-
 -- sets of a kind: each component ends where the next begins;
 -- ucschar, iprivate: which characters past ASCII the kind has
 sets-by-flags-separate-components : (ucschar iprivate needs_scheme : Bool)
     → SeparatesComponents (segment_with ucschar) (kind_with ucschar iprivate needs_scheme)
+unfolding allows_past_ascii
 sets-by-flags-separate-components ucschar iprivate needs_scheme = record {
   userinfo_lacks = refl;
   reg_name_lacks = refl;
@@ -129,7 +117,8 @@ sets-by-flags-separate-components ucschar iprivate needs_scheme = record {
         iprivate = λ e. e;
       };
   octets = refl;
-  rest = path-goes-on-after-segment-only-with-mark ucschar;
+  rest = greater-set-has-all-but-marks (codes ":/") (segment_with ucschar)
+      (international ucschar path_set) other-path-char-is-segment-char (λ c. refl);
 }
 
 -- sets of a kind: in the four kinds each component ends where the next begins

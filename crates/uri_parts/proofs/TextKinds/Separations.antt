@@ -1,11 +1,29 @@
 -- What the sets of a kind have to keep apart for its texts to be parsed from left to right.
-use Rattle.std.proofs.Common.{◌≡◌, ℕ, true, false, List}
+use Rattle.std.proofs.Common.{◌≡◌, ℕ, true, false, List, sym, ◌∙◌, ⊎_elim}
+use Rattle.std.proofs.lemmas.Bool.{cases_lt, cond-true, cond-false, lt-ltb, le-ltb}
 use Rattle.std.specs.Prelude.{codes}
 use Rattle.uri_pct.specs.Sets.{TableSet, LacksPercent, IsSubset, is_one_of, scheme_set, digit_set}
-use Rattle.uri_pct.specs.Sets.{reg_name_set}
+use Rattle.uri_pct.specs.Sets.{reg_name_set, allows_past_ascii}
 use Rattle.uri_pct.specs.Prefixes.{allows_first}
 use Rattle.uri_pct.proofs.ValidTexts.Cuts.{excludes}
 use Rattle.uri_parts.specs.Grammar.{Kind}
+
+-- sets of a kind: a set has what another has, but for characters that are one of these
+abbrev pub HasAllBut : List ℕ → TableSet → TableSet → Type 0
+HasAllBut marks small great = (b : ℕ) (bs : List ℕ) → is_one_of marks b ≡ false
+    → allows_first small b bs ≡ false → allows_first great b bs ≡ false
+
+-- sets of a kind: a set has all characters of a greater one but some delimiters, if it does for
+-- ASCII and has the same past ASCII
+pub greater-set-has-all-but-marks : (marks : List ℕ) (small great : TableSet)
+    → ((c : ℕ) → is_one_of marks c ≡ false → small.ascii c ≡ false → great.ascii c ≡ false)
+    → ((c : ℕ) → allows_past_ascii great c ≡ allows_past_ascii small c)
+    → HasAllBut marks small great
+unfolding allows_first
+greater-set-has-all-but-marks marks small great ascii past b bs m e = ⊎_elim
+    (λ h. let l = lt-ltb b 128 h in cond-true _ _ _ l ∙ ascii b m (sym (cond-true _ _ _ l) ∙ e))
+    (λ h. let l = le-ltb b 128 h in cond-false _ _ _ l ∙ past _ ∙ (sym (cond-false _ _ _ l) ∙ e))
+    (cases_lt b 128)
 
 -- sets of a kind: what they must lack for its texts to be parsed from left to right
 pub record SeparatesComponents (segment : TableSet) (kind : Kind) : Type 0 where
@@ -33,5 +51,4 @@ pub record SeparatesComponents (segment : TableSet) (kind : Kind) : Type 0 where
   pub scheme_within : IsSubset scheme_set segment
   pub within : IsSubset segment kind.path
   pub octets : kind.path.pct_encoded ≡ segment.pct_encoded
-  pub rest : (b : ℕ) (bs : List ℕ) → is_one_of (codes ":/") b ≡ false
-      → allows_first segment b bs ≡ false → allows_first kind.path b bs ≡ false
+  pub rest : HasAllBut (codes ":/") segment kind.path
