@@ -98,6 +98,8 @@ class Function(NamedTuple):
     is_private: bool
     # Whether only who names it depends on it: a call of a trait's method can do without its name.
     is_named: bool
+    # The type whose method it is, if it is one.
+    of_type: str = ""
 
 
 class Items:
@@ -136,7 +138,7 @@ class Items:
             if self.is_clause(at):
                 at = self.past_clause(at)
             elif self.is_code(at, "fn") and self.tokens[at + 1].text != "(":
-                yield self.function(start, at, blocks[-1] if blocks else "")
+                yield self.function(start, at, *(blocks[-1] if blocks else ("", "")))
                 start = at = self.past_function(at)
             elif self.is_code(at, "(", "[") or self.is_code(at, "{") and self.is_macro(start, at):
                 at = self.closing(at) + 1
@@ -148,6 +150,37 @@ class Items:
                 at += 1
                 if self.is_code(at - 1, "{", "}", ";"):
                     start = at
+
+    def types(self):
+        """The structs and enums that are not public, each as a named item."""
+        start, at = 0, 0
+        while at < len(self.tokens):
+            if self.is_clause(at):
+                at = self.past_clause(at)
+            elif self.is_code(at, "fn") and self.tokens[at + 1].text != "(":
+                start = at = self.past_function(at)
+            elif self.is_code(at, "(", "[") or self.is_code(at, "{") and self.is_macro(start, at):
+                at = self.closing(at) + 1
+            elif self.is_code(at, "{", ";"):
+                found = self.type(start, at)
+                at = found.end if found else at + 1
+                start = at
+                if found and not found.is_public:
+                    yield found
+            else:
+                at += 1
+                start = at if self.is_code(at - 1, "}") else start
+
+    def type(self, start, at):
+        """The struct or enum whose head ends there, if it is one."""
+        words = self.head(start, at)[1]
+        kind = next((it for it in words if it in ("struct", "enum")), None)
+        if kind is None:
+            return None
+        end = (self.closing(at) if self.is_code(at, "{") else at) + 1
+        before = words[: words.index(kind)]
+        name, is_public = words[words.index(kind) + 1], before == ["pub"]
+        return Function(start, range(end, end), end, name, True, is_public, not before, True)
 
     def is_macro(self, start, at):
         return self.is_code(at - 1, "!") or "macro_rules" in self.head(start, at)[1]
@@ -166,11 +199,14 @@ class Items:
         return attributes, words
 
     def kind_of(self, start, at):
-        """The kind of a block: of a trait, of an impl of a trait, or another."""
+        """The kind of a block: of a trait, of an impl of a trait, or another; and the type that it is
+        an impl of."""
         words = self.head(start, at)[1]
         if "trait" in words:
-            return "trait"
-        return "impl for" if "impl" in words and "for" in words else ""
+            return "trait", ""
+        if "impl" in words and "for" in words:
+            return "impl for", ""
+        return "", self_type(words) if "impl" in words else ""
 
     def body(self, at):
         """The place of the `{` or the `;` at which the head of a function ends."""
@@ -191,7 +227,7 @@ class Items:
         body = self.body(at)
         return (self.closing(body) if self.is_code(body, "{") else body) + 1
 
-    def function(self, start, at, block):
+    def function(self, start, at, block, of_type):
         attributes, words = self.head(start, at)
         body, end = self.body(at), self.past_function(at)
         # (a caller's check may prove a trait's default again, or compute what is const)
@@ -202,7 +238,26 @@ class Items:
         private = not block and "pub" not in words
         kept, public, named = bool(kept), bool(public), not block and not kept
         name = self.tokens[at + 1].text
-        return Function(start, range(body, end), end, name, kept, public, private, named)
+        return Function(start, range(body, end), end, name, kept, public, private, named, of_type)
+
+
+class Text(NamedTuple):
+    """Texts that a verdict may depend on: their sums, words, and the modules of specs/ they name."""
+
+    sums: frozenset
+    words: frozenset
+    modules: frozenset
+
+    @classmethod
+    def of(cls, text):
+        modules = re.findall(r"Rattle\.(\w+)\.specs\.([\w.]+)", text)
+        return cls(frozenset([sum_of(text)]), words_of(text), frozenset(modules))
+
+    @classmethod
+    def all(cls, texts):
+        """These texts as one."""
+        parts = list(zip(*texts)) or [()] * 3
+        return cls(*(frozenset().union(*it) for it in parts))
 
 
 class Imports:
@@ -218,19 +273,22 @@ class Imports:
         """The text of these tokens, with the imports that it uses."""
         names = {name for it in tokens for name in it.text.split(".")}
         used = [sorted(it for it in group if is_used(it, names)) for group in self.groups]
-        return rendered(data, tokens) + "".join(f"\n{it}" for it in used if it)
+        return Text.of(rendered(data, tokens) + "".join(f"\n{it}" for it in used if it))
 
 
 class Source:
-    """A source file without bodies: its functions that are called by their names, and the rest."""
+    """A source file without bodies: its items that only who names them depends on, which are
+    functions and types, and the rest."""
 
     def __init__(self, data, tokens):
         left, last, heads = [], 0, []
         # The names in the bodies that are kept.
         self.names = set()
-        for it in Items(tokens).functions():
+        items = Items(tokens)
+        types = list(items.types())
+        for it in sorted([*items.functions(), *types], key=lambda it: it.start):
             left += tokens[last : it.start]
-            head = tokens[it.start : it.body.start]
+            head = tokens[it.start : it.end if it in types else it.body.start]
             if it.is_named:
                 heads.append((it, head))
             elif it.is_body_kept:
@@ -242,16 +300,11 @@ class Source:
         rest, groups = imports_in(without_hints(left + tokens[last:]))
         imports = Imports(groups)
         self.imports = sum_of(imports.all())
-        self.rest = sum_of(imports.beside(data, rest))
-        self.heads = collections.defaultdict(list)
+        self.rest = imports.beside(data, rest)
+        self.functions, self.types = collections.defaultdict(list), collections.defaultdict(list)
         for it, head in heads:
-            text = imports.beside(data, without_hints(head))
-            self.heads[it.name].append((it, sum_of(text)))
-
-    def seen(self, names, is_hidden):
-        """The sums of the rest, and of the functions of these names that are not hidden."""
-        found = [it for name in names & self.heads.keys() for it in self.heads[name]]
-        return self.rest, sorted(text for it, text in found if not is_hidden(it))
+            found = self.types if it in types else self.functions
+            found[it.name].append((it, imports.beside(data, without_hints(head))))
 
 
 class Written(NamedTuple):
@@ -267,6 +320,16 @@ def written_functions(data, tokens):
     for it in Items(tokens).functions():
         inside = without_hints(tokens[it.start : it.end])
         yield Written(inside[0].start, inside[-1].end, it.name, rendered(data, inside))
+
+
+def self_type(words):
+    """The name of the type in the head of an impl, which may have parameters before it."""
+    depth = 0
+    for it in words[words.index("impl") + 1 :]:
+        depth += it.count("<") - it.count(">")
+        if not depth and re.fullmatch(r"\w+", it):
+            return it
+    return ""
 
 
 def imports_in(tokens):
@@ -292,11 +355,9 @@ def imports_in(tokens):
 
 
 def is_used(imported, names):
-    """Returns whether a name that is brought in, or a part of an operator, is among these, or may
-    be."""
+    """Returns whether a name that is brought in, or a part of an operator, is among these."""
     name = (imported[1] or imported[0]).split(" ")[-1].split(".")[-1]
-    parts = [it for it in name.split("◌") if it]
-    return any(it in names or not re.fullmatch(r"[\w-]+|[≡≤≥≢↔∷∈∉]", it) for it in parts)
+    return name == "*" or any(it in names for it in name.split("◌") if it)
 
 
 def without_hints(tokens):
@@ -355,24 +416,76 @@ class Shape:
 
     @functools.cached_property
     def definitions(self):
-        """The sums of the files that a contract depends on and that are no sources."""
-        texts = [it for it in self.whole if it not in self.sources and not is_of_proof(it)]
+        """The text of each module of specs/, by its path."""
+        found = {}
+        for path, text in self.whole.items():
+            if path.startswith("specs/"):
+                found[path.removeprefix("specs/").removesuffix(".antt").replace("/", ".")] = Text.of(text)
+        return found
+
+    def definition(self, name):
+        """The module that a name of specs/ is in."""
+        words = name.split(".")
+        fronts = (".".join(words[:it]) for it in range(len(words), 0, -1))
+        return next((it for it in fronts if it in self.definitions), None)
+
+    @functools.cached_property
+    def others(self):
+        """The sums of the files that are no sources, no definitions and no proofs, and of what is
+        proved of the functions of a cycle together."""
+        known = [*self.sources, *(it for it in self.whole if it.startswith("specs/"))]
+        texts = [it for it in self.whole if it not in known and not is_of_proof(it)]
         return [(it, sum_of(self.whole[it])) for it in sorted(texts)]
 
-    def seen_from(self, modules, names):
-        """The sums of the crate's files, each as modules of the crate see it that call functions of
-        these names: a private function is seen from its module, and from those below it."""
-        yield from self.definitions
-        for path, source in sorted(self.sources.items()):
-            module = self.module(path)
-            is_own = any(it[: len(module)] == module for it in modules)
-            yield path, source.seen(names, lambda it: it.is_private and not is_own)
+    @functools.cached_property
+    def rest(self):
+        return Text.all(it.rest for it in self.sources.values())
 
-    def seen_above(self, names):
-        """The sums of the crate's files, as crates above see them that call functions of these names."""
-        yield from self.definitions
-        for path, source in sorted(self.sources.items()):
-            yield path, source.seen(names, lambda it: not it.is_public)
+    def hides_from(self, modules):
+        """Whether these modules of the crate cannot see an item of a file: a private one is seen from
+        its module, and from those below it."""
+
+        def hides(path, it):
+            module = self.module(path)
+            return it.is_private and not any(at[: len(module)] == module for at in modules)
+
+        return hides
+
+    @functools.cached_property
+    def functions_by_name(self):
+        return self.by_name("functions")
+
+    @functools.cached_property
+    def types_by_name(self):
+        return self.by_name("types")
+
+    def hides_above(self, path, it):
+        """Whether crates above cannot see an item: one of a hidden module, or a method of a hidden
+        type, is hidden too."""
+        is_hidden = it.of_type in self.types_by_name or path in self.hidden_files
+        return not it.is_public or is_hidden
+
+    @functools.cached_property
+    def hidden_files(self):
+        """The source files whose modules are private, and pass nothing on."""
+        files = {self.module(it): it for it in self.sources}
+        return {it for module, it in files.items() if self.is_hidden(files, module)}
+
+    def is_hidden(self, files, module):
+        for at, name in enumerate(module):
+            text = self.whole.get(files.get(module[:at]), "")
+            declared = re.search(rf"(?m)^\s*(pub )?mod {name};", text)
+            if declared and not declared[1] and not re.search(rf"pub use [^;]*\b{name}\b", text):
+                return True
+        return False
+
+    def by_name(self, kind):
+        """The functions or types of the crate, each with its file and its text."""
+        found = collections.defaultdict(list)
+        for path, source in self.sources.items():
+            for name, items in getattr(source, kind).items():
+                found[name] += [(path, it, text) for it, text in items]
+        return found
 
     @functools.cached_property
     def kept_names(self):
@@ -469,6 +582,13 @@ class Changes:
         return "\n".join(it for it in self.lines if not it.startswith("shows:"))
 
 
+def named(views, names):
+    """The texts of the items of these names, of each crate those that are not hidden from it."""
+    for items, hides in views:
+        for name in names & items.keys():
+            yield from (text for path, it, text in items[name] if not hides(path, it))
+
+
 class Digests:
     """The digest of what the verdict on each mutant depends on."""
 
@@ -479,25 +599,47 @@ class Digests:
         }
         judge = pathlib.Path(__file__).with_name("judge.py")
         self.judge = prover_of(rt.rtlib.RATTLE), judge.read_text(encoding="utf-8")
-        self.above = {}
+        self.reached = {}
 
     def of(self, mutant):
         """Returns the digest of a mutant of a crate."""
         shape, changes = self.shapes[mutant.crate.name], Changes(mutant)
         below = [self.shapes[it.name] for it in mutant.crate.below()]
-        texts = shape.changed_by(changes)
-        names = words_of(*changes.made, *texts.values()).union(
+        changed = shape.changed_by(changes)
+        names = words_of(*changes.made, *changed.values()).union(
             *(it.kept_names for it in [shape, *below])
         )
-        modules = {shape.module(path) for path, _ in texts} | {shape.module_of(changes.words)}
-        own = shape.kind, list(shape.seen_from(modules, names))
-        proof = sorted(shape.answers_of(changes).items()), sorted(texts.items())
-        imports = shape.imports_of({path for path, _ in texts})
-        above = [self.sum_above(it, names) for it in below]
-        return sum_of(self.judge, own, proof, imports, above, changes.judged)[:16]
+        modules = {shape.module(path) for path, _ in changed} | {shape.module_of(changes.words)}
+        views = [(shape, shape.hides_from(modules))]
+        views += [(it, it.hides_above) for it in below]
+        texts = [it.rest for it, _ in views]
+        texts += named([(it.functions_by_name, hides) for it, hides in views], names)
+        text = Text.all([*texts, self.definitions_of(texts)])
+        for _ in range(2):
+            words = names | text.words
+            types = named([(it.types_by_name, hides) for it, hides in views], words)
+            text = Text.all([text, *types])
+        proof = sorted(shape.answers_of(changes).items()), sorted(changed.items())
+        imports = shape.imports_of({path for path, _ in changed})
+        crates = [(it.kind, it.others) for it, _ in views]
+        parts = self.judge, crates, sorted(text.sums), proof, imports, changes.judged
+        return sum_of(*parts)[:16]
 
-    def sum_above(self, shape, names):
-        name = shape.crate.name
-        if (name, names) not in self.above:
-            self.above[name, names] = sum_of(shape.kind, list(shape.seen_above(names)))
-        return self.above[name, names]
+    def definitions_of(self, texts):
+        """The text of the modules of definitions that these texts name, and of those that they name
+        in turn."""
+        left = frozenset().union(*(it.modules for it in texts))
+        if left not in self.reached:
+            self.reached[left] = Text.all(self.reach(left))
+        return self.reached[left]
+
+    def reach(self, left):
+        found, left = {}, set(left)
+        while left:
+            crate, name = left.pop()
+            shape = self.shapes.get(crate)
+            module = shape and shape.definition(name)
+            if module and (crate, module) not in found:
+                found[crate, module] = shape.definitions[module]
+                left |= shape.definitions[module].modules
+        return found.values()
