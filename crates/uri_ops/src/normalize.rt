@@ -25,7 +25,8 @@ pub(crate) mod octet_runs;
 pub(crate) mod octets;
 pub(crate) mod room;
 pub(crate) mod short_components;
-pub(crate) mod unchanged;
+#[doc(hidden)]
+pub mod unchanged;
 
 use crate::default_port::{DefaultPort, SchemeDefaults};
 use crate::normalize::normal_text::push_normal_text;

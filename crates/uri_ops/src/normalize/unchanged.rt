@@ -195,7 +195,8 @@ fn is_path_unchanged(has_scheme: bool, path: &str) -> bool
 
 /// Returns `true` only if the normal text of a value is its own, under any default ports. It
 /// returns `false` at once if a `/` near the start of a long path has a dot or an octet after it.
-pub(crate) fn is_unchanged<K: Kind>(core: Core<K, &str>) -> bool
+#[doc(hidden)]
+pub fn is_unchanged<K: Kind>(core: Core<K, &str>) -> bool
     requires { HasComponentSets K.kind }
     ensures text { result ≡ true → (ports : PortFunction)
         → HasNormalText K.kind ports (core_text core.entry) (core_text core.entry) }
