@@ -29,9 +29,10 @@ pub(crate) mod short_components;
 pub mod unchanged;
 
 use crate::default_port::{DefaultPort, SchemeDefaults};
+use crate::normalize::normal_authority::is_port_unchanged;
 use crate::normalize::normal_text::push_normal_text;
 use crate::normalize::normalized::Normalized;
-use crate::normalize::unchanged::{copy_unchanged, is_unchanged};
+use crate::normalize::unchanged::{copy_unchanged, is_unchanged, is_unchanged_but_for_port};
 use crate::traits::RiMaybeRef;
 use std::alloc::{AllocError, Global};
 use thiserror::Error;
@@ -107,21 +108,6 @@ fn normalize_components<K: Kind, P: DefaultPort>(
     })
 }
 
-/// Returns `true` only if the normal text of a text of a kind is the text itself.
-#[inline(always)]
-fn is_own_normal_text<K: Kind, P: DefaultPort>(core: Core<K, &str>, ports: &P) -> bool
-    requires { HasComponentSets K.kind }
-    ensures text { result ≡ true → HasNormalText K.kind (P.port_of ports.now)
-        (core_text core.entry) (core_text core.entry) }
-    ensures underflow { result ≡ true → text_underflows (core_text core.entry) ≡ false }
-{
-    if !unchanged::has_port_or_brackets(core.authority()) {
-        return is_unchanged(core);
-    }
-    unchanged::is_unchanged_but_for_port(core)
-        && normal_authority::is_port_unchanged(core.authority(), core.scheme(), ports)
-}
-
 /// Returns the normal text of a text of a kind. If that is the text itself, the result
 /// is a copy.
 pub(crate) fn normalize_core<K: Kind, P: DefaultPort>(
@@ -139,7 +125,9 @@ pub(crate) fn normalize_core<K: Kind, P: DefaultPort>(
     ensures underflow { IfOk result (λ made.
         made.underflows ≡ text_underflows (core_text core.entry)) }
 {
-    if is_own_normal_text(core, ports) {
+    if is_unchanged_but_for_port(core)
+        && is_port_unchanged(core.authority(), core.scheme(), ports)
+    {
         return copy_unchanged(alloc, core);
     }
     normalize_components(alloc, core, ports)

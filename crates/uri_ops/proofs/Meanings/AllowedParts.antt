@@ -11,12 +11,10 @@ use Rattle.std.proofs.lemmas.List.Folds.{list_all-append}
 use Rattle.std.proofs.lemmas.Bool.{cases_Bool, cond-false, and_right, and_parts, and_from}
 use Rattle.uri_pct.specs.Sets.{TableSet, LacksPercent, IsSubset, unreserved_set, allows}
 use Rattle.uri_pct.specs.Tokens.{Token, Char, Octet, tokens, tokens_from_chars, bytes_decoded_from}
-use Rattle.uri_pct.specs.Tokens.{is_pct_encoded}
-use Rattle.uri_pct.specs.Tokens.{text_of_token, print, allows_token, is_valid_for, IsValidFor}
+use Rattle.uri_pct.specs.Tokens.{is_pct_encoded, text_of_token, print, allows_token, is_valid_for}
+use Rattle.uri_pct.specs.Tokens.{IsValidFor}
 use Rattle.uri_pct.specs.DecodeUnreserved.{is_printable, decode_unreserved, decode_run}
-use Rattle.uri_pct.specs.DecodeUnreserved.{decode_after_run}
-use Rattle.uri_pct.specs.DecodeUnreserved.{decode_tokens}
-use Rattle.uri_pct.specs.DecodeUnreserved.{encode_formatting}
+use Rattle.uri_pct.specs.DecodeUnreserved.{decode_after_run, decode_tokens, encode_formatting}
 use Rattle.uri_pct.specs.Pieces.{pieces_from}
 use Rattle.uri_pct.proofs.UnreservedDecoding.Printing.{printed_tokens_parse_to_themselves}
 use Rattle.uri_pct.proofs.UnreservedDecoding.Printing.{printed_tokens_are_utf8}

@@ -15,8 +15,7 @@ use Rattle.uri_pct.proofs.ValidTexts.MarksInTexts.{test_holds_of_each}
 use Rattle.uri_parts.specs.Components.{Lacks, marked}
 use Rattle.uri_parts.specs.Hosts.{HostKind, IsHost, host_kind}
 use Rattle.uri_parts.specs.Authority.{AuthorityParts, IsAuthorityFor, LackAuthorityDelimiters}
-use Rattle.uri_parts.specs.Authority.{authority_parts}
-use Rattle.uri_parts.specs.Authority.{recompose_authority}
+use Rattle.uri_parts.specs.Authority.{authority_parts, recompose_authority}
 use Rattle.uri_parts.specs.Grammar.{Kind, is_authority}
 use Rattle.uri_parts.proofs.Authorities.Authority.{is_authority_for-sound}
 use Rattle.uri_parts.proofs.Authorities.Authority.{is_authority_for-complete}

@@ -1,35 +1,30 @@
 -- Decoding of characters, and of an octet, at the start of a text.
-use Rattle.std.proofs.Common.{◌≡◌, ℕ, ◌+◌, ◌*◌, ◌/◌, ◌%◌, ◌<◌, Bool, true}
-use Rattle.std.proofs.Common.{false, cond, eqb, ltb, not, List, [], ◌∷◌, ◌++◌, take}
-use Rattle.std.proofs.Common.{drop, map, refl, sym, ap, subst, ◌∙◌, arith, ◌&&◌}
-use Rattle.std.proofs.Common.{◌||◌, ⊎_elim, append_assoc}
+use Rattle.std.proofs.Common.{◌≡◌, ℕ, ◌+◌, ◌*◌, ◌/◌, ◌%◌, ◌<◌, Bool, true, false, cond, eqb, ltb}
+use Rattle.std.proofs.Common.{not, List, [], ◌∷◌, ◌++◌, take, drop, map, refl, sym, ap, ◌∙◌, arith}
+use Rattle.std.proofs.Common.{◌&&◌, ◌||◌, ⊎_elim, append_assoc}
 use Rattle.std.specs.List.{flat_map}
-use Rattle.std.specs.Char.{encode_utf8, digit_value, is_ascii_hexdigit}
-use Rattle.std.specs.Char.{IsScalar}
+use Rattle.std.specs.Char.{encode_utf8, digit_value, is_ascii_hexdigit, IsScalar}
 use Rattle.std.specs.Fmt.{digit_glyph}
 use Rattle.std.proofs.Math.Bool.{or-false}
 use Rattle.std.proofs.Math.Utf8.{low_scalar}
-use Rattle.std.proofs.lemmas.Bool.{agree_below_at, cases_Bool, cond-false, and_parts}
-use Rattle.std.proofs.lemmas.Bool.{or_cases, eqb-true}
-use Rattle.std.proofs.lemmas.Bool.{ltb-true, false_from_ne_true}
+use Rattle.std.proofs.lemmas.Bool.{agree_below_at, cases_Bool, cond-false, and_parts, or_cases}
+use Rattle.std.proofs.lemmas.Bool.{eqb-true, ltb-true, false_from_ne_true}
 use Rattle.std.proofs.lemmas.List.{append-nil}
 use Rattle.std.proofs.lemmas.Str.{encode_ascii}
 use Rattle.uri_pct.specs.Parts.{Decoded}
 use Rattle.uri_pct.specs.Pieces.{WellFormed, utf8_pieces}
 use Rattle.uri_pct.specs.DecodeUnreserved.{LacksPastAscii, is_decodable, decode_octet, decode_piece}
-use Rattle.uri_pct.specs.DecodeUnreserved.{decode_run}
-use Rattle.uri_pct.specs.DecodeUnreserved.{decode_after_run, decode_tokens}
+use Rattle.uri_pct.specs.DecodeUnreserved.{decode_run, decode_after_run, decode_tokens}
 use Rattle.uri_pct.specs.Sets.{TableSet, allows_past_ascii, is_unreserved}
 use Rattle.uri_pct.specs.Tokens.{Token, Char, Octet, tokens, text_of_token, print}
-use Rattle.uri_pct.proofs.Decodings.Decoding.{BeginsWithOctet}
 use Rattle.uri_pct.proofs.UnreservedDecoding.Formatting.{encode_formatting_without_flags_keeps_tokens}
 use Rattle.uri_pct.proofs.UnreservedDecoding.Octets.{text_is_decoded_octet_by_octet_in_uri}
 use Rattle.uri_pct.proofs.Unicode.CharacterPieces.{first_char_is_first_piece}
 use Rattle.uri_pct.proofs.Unicode.CharacterPieces.{char_of_utf8_is_the_char}
 use Rattle.uri_pct.proofs.ValidTexts.Allowed.{allowed_past_ascii_is_scalar}
-use Rattle.uri_ops.specs.Models.Decodings.{KeepsPrefixWhenDecoded, decoded_parts, lowered_if}
-use Rattle.uri_ops.specs.Models.Decodings.{cased_append}
-use Rattle.uri_ops.specs.Models.Decodings.{decoded_text}
+use Rattle.uri_pct.proofs.Decodings.Decoding.{BeginsWithOctet}
+use Rattle.uri_ops.specs.Models.Decodings.{IsOctetAt, KeepsPrefixWhenDecoded, decoded_parts}
+use Rattle.uri_ops.specs.Models.Decodings.{lowered_if, cased_append, decoded_text}
 use Rattle.uri_ops.proofs.Meanings.DecodedParts.{decode_run-of-nil-is-nil, decoded_parts-of-run}
 
 -- meanings, decoded: characters before other tokens are not changed by decoding
@@ -127,40 +122,47 @@ tokens-without-past-ascii-decode-alone set text none =
     (ap (λ b. b && set.pct_encoded) none.0))
     ∙ text_is_decoded_octet_by_octet_in_uri set text none
 
+-- meanings, decoded: an octet token at the start is decoded alone, if its byte is ASCII or the set
+-- lacks characters past ASCII (alone)
+leading-octet-token-decodes-alone : (set : TableSet) (text suffix : List ℕ) (value : ℕ)
+    (alone : Bool) → tokens text ≡ Octet value ∷ tokens suffix
+    → (alone ≡ true → LacksPastAscii set) → (alone || ltb value 128) ≡ true
+    → decode_tokens set (tokens text)
+    ≡ decode_octet (Octet value) ∷ decode_tokens set (tokens suffix)
+leading-octet-token-decodes-alone set text suffix value alone first none e = ⊎_elim
+    (λ a.
+    tokens-without-past-ascii-decode-alone set text (none a) ∙ ap (map decode_octet) first
+    ∙ ap (λ ts. decode_octet (Octet value)
+    ∷ ts) (sym (tokens-without-past-ascii-decode-alone set suffix (none a))))
+    (λ low. ap (decode_tokens set) first
+    ∙ leading-ascii-octet-decodes-alone set value (tokens suffix) (ltb-true _ 128 low))
+    (or_cases alone (ltb value 128) e)
+
+-- meanings, decoded: an octet token at the start of a text is decoded by itself if its byte is
+-- ASCII, or if the set (as of URIs) lacks characters past ASCII: then alone holds
+pub first-octet-token-is-decoded-alone : (lowers : Bool) (set : TableSet) (text suffix : List ℕ)
+    (value : ℕ) (alone : Bool) → tokens text ≡ Octet value ∷ tokens suffix
+    → (alone ≡ true → LacksPastAscii set) → (alone || ltb value 128) ≡ true
+    → decoded_text lowers set text
+    ≡ print (lowered_if lowers (decode_octet (Octet value) ∷ [])) ++ decoded_text lowers set suffix
+first-octet-token-is-decoded-alone lowers set text suffix value alone first none e =
+    ap (λ ts. print (lowered_if lowers ts))
+    (leading-octet-token-decodes-alone set text suffix value alone first none e)
+    ∙ cased_append lowers (decode_octet (Octet value) ∷ []) (decode_tokens set (tokens suffix))
+
 -- meanings, decoded: the byte of the octet at the start of a text
 abbrev pub first_value : {text : List ℕ} → BeginsWithOctet text → ℕ
 first_value o = 16 * digit_value o.high + digit_value o.low
 
--- meanings, decoded: an octet token at the start is decoded alone, if its byte is ASCII or the set
--- lacks characters past ASCII (alone)
-leading-octet-token-decodes-alone : (set : TableSet) (text : List ℕ) (o : BeginsWithOctet text)
-    (alone : Bool)
-    → (alone ≡ true → LacksPastAscii set) → (alone || ltb (first_value o) 128) ≡ true
-    → decode_tokens set (tokens text)
-    ≡ decode_octet (Octet (first_value o)) ∷ decode_tokens set (tokens o.suffix)
-leading-octet-token-decodes-alone set text o alone none e = ⊎_elim
-    (λ a.
-    tokens-without-past-ascii-decode-alone set text (none a) ∙ ap (map decode_octet) o.first
-    ∙ ap (λ ts. decode_octet (Octet (first_value o))
-    ∷ ts) (sym (tokens-without-past-ascii-decode-alone set o.suffix (none a))))
-    (λ low. ap (decode_tokens set) o.first
-    ∙ leading-ascii-octet-decodes-alone set (first_value o) (tokens o.suffix) (ltb-true _ 128 low))
-    (or_cases alone (ltb (first_value o) 128) e)
-
--- meanings, decoded: an octet at the start of a text is decoded by itself if its byte is ASCII, or
--- if the set (as of URIs) lacks characters past ASCII: then alone holds
+-- meanings, decoded: the same of an octet with its digits
 pub leading-octet-is-decoded-alone : (lowers : Bool) (set : TableSet) (text : List ℕ)
-    (o : BeginsWithOctet text)
-    (alone : Bool)
+    (o : BeginsWithOctet text) (alone : Bool)
     → (alone ≡ true → LacksPastAscii set) → (alone || ltb (first_value o) 128) ≡ true
     → decoded_text lowers set text
     ≡ print (lowered_if lowers (decode_octet (Octet (first_value o)) ∷ []))
     ++ decoded_text lowers set o.suffix
 leading-octet-is-decoded-alone lowers set text o alone none e =
-    ap (λ ts. print (lowered_if lowers ts))
-    (leading-octet-token-decodes-alone set text o alone none e)
-    ∙ cased_append lowers (decode_octet (Octet (first_value o)) ∷ [])
-    (decode_tokens set (tokens o.suffix))
+    first-octet-token-is-decoded-alone lowers set text o.suffix (first_value o) alone o.first none e
 
 -- meanings, decoded: the byte is a hexadecimal digit as it is written, in upper case
 is_glyph : ℕ → Bool
@@ -198,19 +200,19 @@ uppercase-octet-prints-itself high low h l hu lu =
 
 -- meanings, decoded: an octet of a reserved character with digits in upper case is kept as it is;
 -- alone: the set lacks characters past ASCII
-pub uppercase-reserved-octet-stays : (set : TableSet) (text : List ℕ) (o : BeginsWithOctet text)
-    (high low : ℕ)
-    (alone : Bool)
-    → high ≡ o.high → low ≡ o.low → (ltb high 97 && ltb low 97) ≡ true
-    → is_unreserved (first_value o) ≡ false → (alone ≡ true → LacksPastAscii set)
-    → (alone || ltb (first_value o) 128) ≡ true → KeepsPrefixWhenDecoded false set text 3
-uppercase-reserved-octet-stays set text o high low alone is_high is_low upper reserved none itself =
+pub uppercase-reserved-octet-stays : {text : List ℕ} {i high low : ℕ} → IsOctetAt text i high low
+    → (set : TableSet) (alone : Bool) → (ltb high 97 && ltb low 97) ≡ true
+    → is_unreserved (16 * digit_value high + digit_value low) ≡ false
+    → (alone ≡ true → LacksPastAscii set)
+    → (alone || ltb (16 * digit_value high + digit_value low) 128) ≡ true
+    → KeepsPrefixWhenDecoded false set (drop i text) 3
+uppercase-reserved-octet-stays {text} {i} {high} {low} at set alone upper reserved none itself =
     let p = and_parts (ltb high 97) (ltb low 97) upper in
-    let above : o.high < 97 = subst (λ h. h < 97) is_high (ltb-true high 97 p.0) in
-    let below : o.low < 97 = subst (λ l. l < 97) is_low (ltb-true low 97 p.1) in
-    leading-octet-is-decoded-alone false set text o alone none itself
-    ∙ ap (λ t. (text_of_token t ++ [])
-    ++ decoded_text false set o.suffix) (cond-false _ _ _ reserved)
-    ∙ ap (λ x. (x ++ []) ++ decoded_text false set o.suffix)
-    (uppercase-octet-prints-itself o.high o.low o.high_digit o.low_digit above below)
-    ∙ sym (ap (λ x. take 3 x ++ decoded_text false set (drop 3 x)) o.joined)
+    let suffix = drop (i + 3) text in
+    first-octet-token-is-decoded-alone false set (drop i text) suffix _ alone at.token none itself
+    ∙ ap (λ t. (text_of_token t ++ []) ++ decoded_text false set suffix)
+    (cond-false _ _ _ reserved)
+    ∙ ap (λ x. (x ++ []) ++ decoded_text false set suffix)
+    (uppercase-octet-prints-itself high low at.high_digit at.low_digit (ltb-true high 97 p.0)
+    (ltb-true low 97 p.1))
+    ∙ sym (ap (λ x. take 3 x ++ decoded_text false set (drop 3 x)) at.split)

@@ -1,15 +1,13 @@
 -- A prefix of a text is decoded by itself if it consists of characters and octets of ASCII. If the
 -- set has no characters past ASCII, every octet may be in it.
-use Rattle.std.proofs.Common.{◌≡◌, ℕ, take_all, ◌+◌, ◌*◌, ◌-◌, ◌<◌, Bool, true}
-use Rattle.std.proofs.Common.{◌&&◌, false, eqb, ltb, not, List, [], ◌∷◌, ◌++◌, length, get_or, take}
-use Rattle.std.proofs.Common.{drop, map, ◌≤◌, add-zero, refl, sym, ap, subst, ◌∙◌, arith}
-use Rattle.std.proofs.Common.{◌||◌, ⊎_elim, ◌⊎◌, append_assoc}
+use Rattle.std.proofs.Common.{◌≡◌, ℕ, take_all, ◌+◌, ◌*◌, ◌-◌, ◌<◌, Bool, true, ◌&&◌, false, eqb}
+use Rattle.std.proofs.Common.{ltb, not, List, [], ◌∷◌, ◌++◌, length, get_or, take, drop, map, ◌≤◌}
+use Rattle.std.proofs.Common.{add-zero, refl, sym, ap, subst, ◌∙◌, arith, ◌||◌, ⊎_elim, ◌⊎◌}
+use Rattle.std.proofs.Common.{append_assoc}
 use Rattle.std.specs.List.{list_all, position_or_len}
 use Rattle.std.specs.Char.{digit_value, is_ascii_hexdigit, to_ascii_lowercase}
 use Rattle.std.specs.Str.{chars, IsUtf8, IsCharBoundary}
-use Rattle.std.proofs.lemmas.Bool.{and_parts}
-use Rattle.std.proofs.lemmas.Bool.{ne_eqb, or_parts, or_left, or_right, lt-ltb}
-use Rattle.std.proofs.lemmas.Bool.{not-true}
+use Rattle.std.proofs.lemmas.Bool.{and_parts, ne_eqb, or_parts, or_left, or_right, lt-ltb, not-true}
 use Rattle.std.proofs.lemmas.Bool.Decides.{nat_tests}
 use Rattle.std.proofs.lemmas.List.{append-nil, take-append-drop, drop-drop, length-drop}
 use Rattle.std.proofs.lemmas.List.{get_or-drop, drop_all, drop_more, map-append}
@@ -17,25 +15,22 @@ use Rattle.std.proofs.lemmas.List.Folds.{list_all-append}
 use Rattle.std.proofs.lemmas.Str.{IsUtf8-take, IsUtf8-drop, IsCharBoundary-from_rest}
 use Rattle.std.proofs.lemmas.Str.{IsCharBoundary-after_ascii}
 use Rattle.uri_pct.specs.Chunks.{widest_set}
-use Rattle.uri_pct.specs.DecodeUnreserved.{LacksPastAscii, decode_octet}
-use Rattle.uri_pct.specs.DecodeUnreserved.{decode_after_run, decode_tokens, lower_token}
+use Rattle.uri_pct.specs.DecodeUnreserved.{LacksPastAscii, decode_octet, decode_after_run}
+use Rattle.uri_pct.specs.DecodeUnreserved.{decode_tokens, lower_token}
 use Rattle.uri_pct.specs.Sets.{TableSet}
 use Rattle.uri_pct.specs.Texts.{lacks}
-use Rattle.uri_pct.specs.Tokens.{Char, Octet, tokens, tokens_from_chars, print}
-use Rattle.uri_pct.specs.Tokens.{allows_token, is_valid_for, IsValidFor}
-use Rattle.uri_pct.proofs.Decodings.Decoding.{BeginsWithOctet, bytes_from_percent_begin_with_octet}
-use Rattle.uri_pct.proofs.Decodings.Decoding.{boundary_after_octet}
-use Rattle.uri_pct.proofs.Decodings.Decoding.{tokens_after_unencoded_prefix}
-use Rattle.uri_pct.proofs.Decodings.Decoding.{first_percent_is_at_boundary}
-use Rattle.uri_pct.proofs.Decodings.Decoding.{prefix_len_bytes_pass}
+use Rattle.uri_pct.specs.Tokens.{Char, Octet, tokens, tokens_from_chars, print, allows_token}
+use Rattle.uri_pct.specs.Tokens.{is_valid_for, IsValidFor}
+use Rattle.uri_pct.proofs.Decodings.Decoding.{bytes_from_percent_begin_with_octet}
+use Rattle.uri_pct.proofs.Decodings.Decoding.{boundary_after_octet, tokens_after_unencoded_prefix}
+use Rattle.uri_pct.proofs.Decodings.Decoding.{first_percent_is_at_boundary, prefix_len_bytes_pass}
 use Rattle.uri_pct.proofs.Unicode.Pieces.{take_then_take_is_take_of_sum}
-use Rattle.uri_ops.specs.Models.Decodings.{KeepsPrefixWhenDecoded, lowered_if, cased_append}
-use Rattle.uri_ops.specs.Models.Decodings.{lowered_text_if}
-use Rattle.uri_ops.specs.Models.Decodings.{decoded_text}
+use Rattle.uri_ops.specs.Models.Decodings.{IsOctetAt, KeepsPrefixWhenDecoded, cased_append}
+use Rattle.uri_ops.specs.Models.Decodings.{lowered_if, lowered_text_if, decoded_text}
 use Rattle.uri_ops.proofs.Meanings.Cased.{print-lowers-characters}
 use Rattle.uri_ops.proofs.Meanings.DecodedParts.{decode_run-of-nil-is-nil}
-use Rattle.uri_ops.proofs.Meanings.DecodedOctets.{decode_tokens-after-chars, first_value}
-use Rattle.uri_ops.proofs.Meanings.DecodedOctets.{leading-octet-is-decoded-alone}
+use Rattle.uri_ops.proofs.Meanings.DecodedOctets.{decode_tokens-after-chars}
+use Rattle.uri_ops.proofs.Meanings.DecodedOctets.{first-octet-token-is-decoded-alone}
 
 -- meanings, decoded: a prefix without `%` (37) is its own decoded form, in lower case if lowers,
 -- before that of what follows
@@ -162,88 +157,36 @@ pub suffix-of-suffix-is-valid : (text : List ℕ) (n m : ℕ)
     → IsValidFor widest_set (drop (n + m) text)
 suffix-of-suffix-is-valid text n m v = subst (IsValidFor widest_set) (drop-drop m n text) v
 
--- meanings, decoded: an octet at the start takes three bytes of the text
-octet-adds-three-to-length : (text : List ℕ) (o : BeginsWithOctet text) → length text
-    ≡ 3 + length o.suffix
-octet-adds-three-to-length text o = ap length o.joined ∙ omega arith
-
--- meanings, decoded: the digits of an octet at the start of a text are its next two bytes, and what
--- is after it the rest
-octet-digits-are-next-two-bytes : (text : List ℕ) (o : BeginsWithOctet text)
-    → (get_or text 1 0 ≡ o.high) × ((get_or text 2 0 ≡ o.low) × (drop 3 text ≡ o.suffix))
-octet-digits-are-next-two-bytes text o =
-    (ap (λ x. get_or x 1 0) o.joined, (ap (λ x. get_or x 2 0) o.joined, ap (drop 3) o.joined))
-
--- meanings, decoded: an octet is at index i of a text, and its digits are those of the bytes
-pub record OctetAt (bytes text : List ℕ) (i : ℕ) : Type 0 where
-  pub octet : BeginsWithOctet (drop i text)
-  pub within : i + 2 < length bytes
-  pub high : get_or bytes (i + 1) 0 ≡ octet.high
-  pub low : get_or bytes (i + 2) 0 ≡ octet.low
-  pub high_digit : is_ascii_hexdigit (get_or bytes (i + 1) 0) ≡ true
-  pub low_digit : is_ascii_hexdigit (get_or bytes (i + 2) 0) ≡ true
-  pub value : 16 * digit_value (get_or bytes (i + 1) 0) + digit_value (get_or bytes (i + 2) 0)
-      ≡ first_value octet
-  pub boundary : IsCharBoundary text (i + 3)
-  pub suffix : drop (i + 3) text ≡ octet.suffix
-  pub valid : IsValidFor widest_set (drop (i + 3) text)
-
 -- meanings, decoded: a `%` (37) at index i of a valid text begins an octet
-pub percent-in-valid-text-begins-octet : (bytes text : List ℕ) (i : ℕ) → bytes ≡ text → IsUtf8 text
-    → IsCharBoundary text i
-    → IsValidFor widest_set (drop i text) → i < length bytes → get_or bytes i 0 ≡ 37
-    → OctetAt bytes text i
-percent-in-valid-text-begins-octet bytes text i same u b v inside percent =
+pub percent-in-valid-text-begins-octet : (text : List ℕ) (i : ℕ) → IsUtf8 text
+    → IsCharBoundary text i → IsValidFor widest_set (drop i text) → i < length text
+    → get_or text i 0 ≡ 37 → IsOctetAt text i (get_or text (i + 1) 0) (get_or text (i + 2) 0)
+percent-in-valid-text-begins-octet text i u b v inside percent =
     let rest = drop i text in
     let utf8 : IsUtf8 rest = IsUtf8-drop text i u b in
     let long : length rest ≡ length text - i = length-drop i text in
-    let lengths : length bytes ≡ length text = ap length same in
-    let at : (k : ℕ) → get_or rest k 0 ≡ get_or bytes (i + k) 0 = λ k. get_or-drop i text k 0
-    ∙ ap (λ x. get_or x (i + k) 0) (sym same) in
-    let first : get_or rest 0 0 ≡ 37 = at 0 ∙ ap (λ k. get_or bytes k 0) (add-zero i) ∙ percent in
+    let first : get_or rest 0 0 ≡ 37 = get_or-drop i text 0 0
+    ∙ ap (λ k. get_or text k 0) (add-zero i) ∙ percent in
     let o = bytes_from_percent_begin_with_octet rest rest refl utf8 v
-    (ne_eqb (length rest) 0 (λ e. omega (arith, long, lengths))) first in
-    let three = octet-adds-three-to-length rest o in
-    let digits = octet-digits-are-next-two-bytes rest o in
-    let high : get_or bytes (i + 1) 0 ≡ o.high = sym (at 1) ∙ digits.0 in
-    let low : get_or bytes (i + 2) 0 ≡ o.low = sym (at 2) ∙ digits.1.0 in
-    let suffix : drop (i + 3) text ≡ o.suffix = sym (drop-drop 3 i text) ∙ digits.1.1 in
+    (ne_eqb (length rest) 0 (λ e. omega (arith, long, inside))) first in
+    let three : length rest ≡ 3 + length o.suffix = ap length o.joined ∙ omega arith in
+    let high : o.high ≡ get_or text (i + 1) 0 =
+    sym (ap (λ x. get_or x 1 0) o.joined) ∙ get_or-drop i text 1 0 in
+    let low : o.low ≡ get_or text (i + 2) 0 =
+    sym (ap (λ x. get_or x 2 0) o.joined) ∙ get_or-drop i text 2 0 in
+    let suffix : o.suffix ≡ drop (i + 3) text =
+    sym (ap (drop 3) o.joined) ∙ drop-drop 3 i text in
     record {
-      octet = o;
-      within = omega (arith, long, lengths, three);
-      high = high;
-      low = low;
-      high_digit = ap is_ascii_hexdigit high ∙ o.high_digit;
-      low_digit = ap is_ascii_hexdigit low ∙ o.low_digit;
-      value = ap (λ h. 16 * digit_value h + digit_value (get_or bytes (i + 2) 0)) high
-          ∙ ap (λ l. 16 * digit_value o.high + digit_value l) low;
-      boundary = IsCharBoundary-from_rest text i 3 (omega (arith, inside, lengths))
+      split = o.joined ∙ (λ k. 37 ∷ high k ∷ low k ∷ suffix k);
+      high_digit = subst (λ h. is_ascii_hexdigit h ≡ true) high o.high_digit;
+      low_digit = subst (λ l. is_ascii_hexdigit l ≡ true) low o.low_digit;
+      token = o.first
+          ∙ (λ k. Octet (16 * digit_value (high k) + digit_value (low k)) ∷ tokens (suffix k));
+      within = omega (arith, long, three);
+      boundary = IsCharBoundary-from_rest text i 3 (omega (arith, inside))
           (boundary_after_octet rest utf8 o);
-      suffix = suffix;
-      valid = subst (IsValidFor widest_set) (sym suffix) o.valid;
+      valid = subst (IsValidFor widest_set) suffix o.valid;
     }
-
--- meanings, decoded: after an octet with this value is decoded and appended, what is appended and
--- the rest, decoded, still make the whole
-pub decoded-octet-is-pushed : (lowers : Bool) (set : TableSet) (out new whole rest suffix : List ℕ)
-    (value : ℕ)
-    (o : BeginsWithOctet rest) (alone : Bool)
-    → (alone ≡ true → LacksPastAscii set) → (alone || ltb (first_value o) 128) ≡ true
-    → value ≡ first_value o → suffix ≡ o.suffix
-    → new ≡ out ++ print (lowered_if lowers (decode_octet (Octet value) ∷ []))
-    → out ++ decoded_text lowers set rest ≡ whole → new ++ decoded_text lowers set suffix ≡ whole
-decoded-octet-is-pushed lowers set out new whole rest suffix value o alone none itself same after
-    pushed total =
-    let decoded = print (lowered_if lowers (decode_octet (Octet value) ∷ [])) in
-    let split : decoded_text lowers set rest ≡ decoded ++ decoded_text lowers set suffix =
-    leading-octet-is-decoded-alone lowers set rest o alone none itself
-    ∙ ap (λ v. print (lowered_if lowers (decode_octet (Octet v) ∷ []))
-    ++ decoded_text lowers set o.suffix)
-    (sym same)
-    ∙ ap (λ x. decoded ++ decoded_text lowers set x) (sym after) in
-    ap (λ x. x ++ decoded_text lowers set suffix) pushed
-    ∙ append_assoc out decoded (decoded_text lowers set suffix) ∙ ap (λ x. out ++ x) (sym split)
-    ∙ total
 
 -- meanings, decoded: an octet whose first digit is below `8` (56) is of an ASCII byte
 octet-with-digit-below-8-is-ascii : (high low : ℕ) → is_ascii_hexdigit high ≡ true
@@ -253,19 +196,34 @@ octet-with-digit-below-8-is-ascii high low h l small = grind (arith, nat_tests)
 
 -- meanings, decoded: an octet is decoded by itself if the set asks for it, or if its first digit is
 -- below `8` (56), so its byte is ASCII
-pub octet-is-decoded-alone : (bytes text : List ℕ) (i : ℕ) (at : OctetAt bytes text i)
-    (alone : Bool)
-    → (alone ≡ true) ⊎ (get_or bytes (i + 1) 0 < 56)
-    → (alone || ltb (first_value at.octet) 128) ≡ true
-octet-is-decoded-alone bytes text i at alone either = ⊎_elim
-    (λ a. or_left alone (ltb (first_value at.octet) 128) a)
-    (λ small.
-    let low = octet-with-digit-below-8-is-ascii (get_or bytes (i + 1) 0) (get_or bytes (i + 2) 0)
-    at.high_digit at.low_digit
-    small in
-    or_right alone (ltb (first_value at.octet) 128)
-    (lt-ltb (first_value at.octet) 128 (subst (λ v. v < 128) at.value low)))
-    either
+pub octet-is-decoded-alone : {text : List ℕ} {i high low : ℕ} → IsOctetAt text i high low
+    → (alone : Bool) → (alone ≡ true) ⊎ (high < 56)
+    → (alone || ltb (16 * digit_value high + digit_value low) 128) ≡ true
+octet-is-decoded-alone {text} {i} {high} {low} at alone either =
+    let value = 16 * digit_value high + digit_value low in
+    ⊎_elim (λ a. or_left alone (ltb value 128) a)
+    (λ small. or_right alone (ltb value 128) (lt-ltb value 128
+    (octet-with-digit-below-8-is-ascii high low at.high_digit at.low_digit small))) either
+
+-- meanings, decoded: after an octet is decoded and appended, what is appended and the rest,
+-- decoded, still make the whole
+pub decoded-octet-is-pushed : {text : List ℕ} {i high low : ℕ} → IsOctetAt text i high low
+    → (lowers : Bool) (set : TableSet) (out new whole : List ℕ) (alone : Bool)
+    → (alone ≡ true → LacksPastAscii set) → (alone ≡ true) ⊎ (high < 56)
+    → new ≡ out ++ print (lowered_if lowers
+    (decode_octet (Octet (16 * digit_value high + digit_value low)) ∷ []))
+    → out ++ decoded_text lowers set (drop i text) ≡ whole
+    → new ++ decoded_text lowers set (drop (i + 3) text) ≡ whole
+decoded-octet-is-pushed {text} {i} {high} {low} at lowers set out new whole alone none either
+    pushed total =
+    let value = 16 * digit_value high + digit_value low in
+    let decoded = print (lowered_if lowers (decode_octet (Octet value) ∷ [])) in
+    let rest = decoded_text lowers set (drop (i + 3) text) in
+    let split : decoded_text lowers set (drop i text) ≡ decoded ++ rest =
+    first-octet-token-is-decoded-alone lowers set (drop i text) (drop (i + 3) text) value alone
+    at.token none (octet-is-decoded-alone at alone either) in
+    ap (λ x. x ++ rest) pushed ∙ append_assoc out decoded rest ∙ ap (λ x. out ++ x) (sym split)
+    ∙ total
 
 -- meanings, decoded: a set without the flags ucschar and iprivate has no characters past ASCII;
 -- some: whether it has either

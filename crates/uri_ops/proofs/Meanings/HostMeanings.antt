@@ -1,6 +1,6 @@
 -- A host that is printed from its meaning is a host, and has that meaning.
-use Rattle.std.proofs.Common.{◌≡◌, ℕ, ◌<◌, true, false, ltb, List, []}
-use Rattle.std.proofs.Common.{◌∷◌, ◌++◌, map, refl, sym, ap, subst, ◌∙◌, arith, inl, inr}
+use Rattle.std.proofs.Common.{◌≡◌, ℕ, ◌<◌, true, false, ltb, List, [], ◌∷◌, ◌++◌, map, refl, sym}
+use Rattle.std.proofs.Common.{ap, subst, ◌∙◌, arith, inl, inr}
 use Rattle.std.specs.Prelude.{codes, Option, Some, None}
 use Rattle.std.specs.Char.{is_ascii_hexdigit, to_ascii_lowercase}
 use Rattle.std.specs.List.{list_all}
@@ -38,6 +38,7 @@ use Rattle.uri_parts.proofs.HostForms.Futures.{joined-texts-lack-marks}
 use Rattle.uri_parts.proofs.HostForms.Futures.{ipv6-text-lacks-excluded-marks}
 use Rattle.uri_parts.proofs.HostForms.Futures.{ipvfuture-text-lacks-excluded-marks}
 use Rattle.uri_parts.proofs.HostForms.Futures.{hexdigit_is_userinfo_char}
+use Rattle.uri_parts.proofs.HostForms.Futures.{ipv4-text-is-digits-and-dots}
 use Rattle.uri_parts.proofs.HostForms.Hosts.{is_host-sound, is_host-complete}
 use Rattle.uri_parts.proofs.HostForms.Hosts.{lacking_text_does_not_begin_with}
 use Rattle.uri_parts.proofs.HostForms.Hosts.{address-in-brackets-is-utf8}
@@ -49,8 +50,7 @@ use Rattle.uri_ops.proofs.Meanings.AllowedParts.{is_set_text, set-text-from-utf8
 use Rattle.uri_ops.proofs.Meanings.AllowedParts.{set-text-has-printable-tokens}
 use Rattle.uri_ops.proofs.Meanings.AllowedParts.{decoded-set-text-is-printable}
 use Rattle.uri_ops.proofs.Meanings.AsciiCharacters.{is_ascii_in, valid_ascii_text}
-use Rattle.uri_ops.proofs.Meanings.AsciiCharacters.{ascii-in-test-is-utf8}
-use Rattle.uri_ops.proofs.Meanings.AsciiCharacters.{ascii-bytes-are-utf8}
+use Rattle.uri_ops.proofs.Meanings.AsciiCharacters.{ascii-in-test-is-utf8, ascii-bytes-are-utf8}
 use Rattle.uri_ops.proofs.Meanings.AsciiCharacters.{ascii-in-test-is-set-text}
 use Rattle.uri_ops.proofs.Meanings.AsciiCharacters.{ascii-passes-wider-test}
 use Rattle.uri_ops.proofs.Meanings.AsciiCharacters.{lowered-ascii-passes-test}
@@ -58,7 +58,6 @@ use Rattle.uri_ops.proofs.Meanings.AsciiCharacters.{lowering-is-idempotent}
 use Rattle.uri_ops.proofs.Paths.PathCharacters.{test-of-delimiters-gives-lacks}
 use Rattle.uri_ops.proofs.Meanings.ComponentEnds.{ends-are-excluded-from-set}
 use Rattle.uri_ops.proofs.Meanings.ComponentEnds.{fewer-characters-are-excluded-too}
-use Rattle.uri_parts.proofs.HostForms.Futures.{ipv4-text-is-digits-and-dots}
 
 -- meanings of hosts: the text printed from a meaning is a host with it, and ends no authority
 pub record IsHostWithMeaning (names : TableSet) (m : HostMeaning) (text : List ℕ) : Type 0 where

@@ -10,8 +10,7 @@ use Rattle.uri_parts.specs.Components.{Components, starts, before_any, from_any,
 use Rattle.uri_parts.specs.Components.{has_authority, after_scheme, after_authority, after_query}
 use Rattle.uri_parts.specs.Components.{components, when}
 use Rattle.uri_parts.specs.Grammar.{Kind, absent_or_passes, is_scheme, has_colon_in_first_segment}
-use Rattle.uri_parts.specs.Grammar.{is_authority}
-use Rattle.uri_parts.specs.Grammar.{components_meet_rules}
+use Rattle.uri_parts.specs.Grammar.{is_authority, components_meet_rules}
 use Rattle.uri_parts.proofs.Parsing.ScanStops.{utf8_from_marks, utf8_after_ascii_byte}
 use Rattle.uri_parts.proofs.Parsing.ScanStops.{utf8_after_slashes}
 use Rattle.uri_ops.proofs.Meanings.AllowedParts.{is_set_text, set-text-from-utf8, set-text-is-valid}

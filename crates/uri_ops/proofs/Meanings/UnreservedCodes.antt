@@ -1,6 +1,6 @@
 -- The unreserved characters, entry by entry, and one that is written.
-use Rattle.std.proofs.Common.{◌≡◌, ℕ, ◌<◌, ◌≤◌, Bool, true, false, List, [], ◌∷◌, cond, eqb}
-use Rattle.std.proofs.Common.{get_or, refl, ◌∙◌, arith, ⊎_elim, append-nil}
+use Rattle.std.proofs.Common.{◌≡◌, ℕ, ◌<◌, ◌≤◌, Bool, true, false, List, [], ◌∷◌, cond, eqb, get_or}
+use Rattle.std.proofs.Common.{refl, ◌∙◌, arith, ⊎_elim, append-nil}
 use Rattle.std.specs.Char.{encode_utf8, to_ascii_lowercase}
 use Rattle.std.proofs.lemmas.Bool.{agree_below_at, cases_Bool, cond-true, cond-false, eqb-true}
 use Rattle.std.proofs.lemmas.Str.Ascii.{lowercase_ascii}
@@ -46,7 +46,8 @@ ascii-entry-is-unreserved lowers b small ascii = ⊎_elim
     (cases_Bool (is_unreserved b))
 
 -- meanings, decoded: an ASCII character is ASCII in lower case
-lowered-code-of-ascii-is-ascii : (lowers : Bool) (b : ℕ) → b < 128 → lowered_code_if lowers b < 128
+pub lowered-code-of-ascii-is-ascii : (lowers : Bool) (b : ℕ) → b < 128
+    → lowered_code_if lowers b < 128
 lowered-code-of-ascii-is-ascii true b small = lowercase_ascii b small
 lowered-code-of-ascii-is-ascii false b small = small
 

@@ -17,6 +17,7 @@ use Rattle.std.proofs.lemmas.Str.{chars-nil, encodes-chars}
 use Rattle.uri_pct.specs.Chunks.{widest_set}
 use Rattle.uri_pct.specs.DecodeUnreserved.{is_bidi_formatting, is_printable, formatting_as_octets}
 use Rattle.uri_pct.specs.DecodeUnreserved.{encode_formatting, decode_tokens, decode_unreserved}
+use Rattle.uri_pct.specs.DecodeUnreserved.{encoded_formatting_char, encoded_formatting_text}
 use Rattle.uri_pct.specs.Sets.{TableSet, allows, allows_past_ascii, is_ucschar, is_iprivate}
 use Rattle.uri_pct.specs.Tokens.{Token, Char, Octet, tokens, text_of_token, print, IsValidFor}
 use Rattle.uri_pct.proofs.ValidTexts.Allowed.{valid_text_has_printable_tokens}
@@ -30,7 +31,6 @@ use Rattle.uri_pct.proofs.UnreservedDecoding.Printing.{chars_of_token_encode_to_
 use Rattle.uri_pct.proofs.UnreservedDecoding.Printing.{chars_of_printed_tokens}
 use Rattle.uri_pct.proofs.UnreservedDecoding.Printing.{printed_tokens_are_utf8}
 use Rattle.uri_pct.proofs.UnreservedDecoding.DecodedTokens.{decode_tokens_keeps_tokens_printable}
-use Rattle.uri_pct.specs.DecodeUnreserved.{encoded_formatting_char, encoded_formatting_text}
 use Rattle.uri_ops.specs.Models.Decodings.{lowered_if}
 
 -- meanings, bidirectional text: the empty text has no characters

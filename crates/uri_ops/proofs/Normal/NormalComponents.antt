@@ -13,8 +13,7 @@ use Rattle.uri_pct.specs.Tokens.{print, is_valid_for}
 use Rattle.uri_pct.specs.DecodeUnreserved.{decode_unreserved}
 use Rattle.uri_pct.proofs.ValidTexts.Cuts.{excludes}
 use Rattle.uri_parts.specs.Components.{Components, IsSplitOf, Lacks, IsAbemptyPath, marked}
-use Rattle.uri_parts.specs.Components.{has_scheme}
-use Rattle.uri_parts.specs.Components.{has_authority, recompose}
+use Rattle.uri_parts.specs.Components.{has_scheme, has_authority, recompose}
 use Rattle.uri_parts.specs.Grammar.{Kind, is_scheme, has_colon_in_first_segment, is_authority}
 use Rattle.uri_parts.proofs.Splitting.Marks.{query_text, IsEmptyOrMarked-query_text}
 use Rattle.uri_parts.proofs.Splitting.Relative.{scheme_set_lacks_percent}
@@ -25,13 +24,13 @@ use Rattle.uri_ops.specs.ComponentSets.{IsComponentSet, HasComponentSets}
 use Rattle.uri_parts.specs.Ports.{PortFunction}
 use Rattle.uri_ops.specs.Meaning.{authority_meaning, dotless_path, components_meaning}
 use Rattle.uri_ops.specs.Normal.{normal_authority, normal_components}
-use Rattle.uri_ops.proofs.Meanings.ComponentEnds.{no_scheme}
+use Rattle.uri_ops.proofs.Meanings.ComponentEnds.{no_scheme, path-set-excludes-its-ends}
+use Rattle.uri_ops.proofs.Meanings.ComponentEnds.{query-set-excludes-its-end}
 use Rattle.uri_ops.proofs.Meanings.PortMeanings.{authority_meaning-from-bare-meaning}
 use Rattle.uri_ops.proofs.Targeting.Targets.{guarded-path-without-authority-has-no-two-slashes}
 use Rattle.uri_ops.proofs.Targeting.Targets.{dotless-abempty-path-is-abempty}
 use Rattle.uri_ops.proofs.Meanings.AllowedParts.{is_set_text, set-text-is-utf8, set-text-is-valid}
-use Rattle.uri_ops.proofs.Meanings.AllowedParts.{print_decoded}
-use Rattle.uri_ops.proofs.Meanings.AllowedParts.{print_decoded-of-nil-is-nil}
+use Rattle.uri_ops.proofs.Meanings.AllowedParts.{print_decoded, print_decoded-of-nil-is-nil}
 use Rattle.uri_ops.proofs.Meanings.AllowedParts.{decode_unreserved-is-idempotent}
 use Rattle.uri_ops.proofs.Meanings.AllowedParts.{decoded-set-text-is-set-text}
 use Rattle.uri_ops.proofs.Paths.DecodedStarts.{decoding-keeps-leading-slash}
@@ -46,8 +45,6 @@ use Rattle.uri_ops.proofs.Meanings.AsciiCharacters.{lowered-scheme-is-utf8}
 use Rattle.uri_ops.proofs.Meanings.TextParts.{ArePartsOfKind}
 use Rattle.uri_pct.proofs.General.{eq_true_from_IsTrue}
 use Rattle.uri_parts.proofs.Splitting.Recompose.{equal-to-true-is-IsTrue}
-use Rattle.uri_ops.proofs.Meanings.ComponentEnds.{path-set-excludes-its-ends}
-use Rattle.uri_ops.proofs.Meanings.ComponentEnds.{query-set-excludes-its-end}
 
 -- normal texts: an authority that is printed from its meaning is one, lacks the delimiters that
 -- would end it, and has that meaning

@@ -2,13 +2,12 @@
 use Rattle.std.proofs.Common.{◌≡◌, List, ℕ, sym, ap, subst, ◌∙◌}
 use Rattle.std.specs.Prelude.{◌↔◌}
 use Rattle.std.specs.Str.{IsUtf8}
-use Rattle.uri_parts.specs.Grammar.{Kind, IsOfKind}
+use Rattle.uri_parts.specs.Grammar.{Kind, IsOfKind, IsTextOf}
 use Rattle.uri_ops.specs.ComponentSets.{HasComponentSets}
 use Rattle.uri_ops.specs.Meaning.{meaning_of}
 use Rattle.uri_ops.specs.Normal.{normal_text}
 use Rattle.uri_ops.specs.Normalizers.{HasNormalText, IsNormalForm}
 use Rattle.uri_parts.specs.Ports.{PortFunction}
-use Rattle.uri_parts.specs.Grammar.{IsTextOf}
 use Rattle.uri_ops.proofs.Normal.NormalTexts.{normal-text-is-text-of-kind, meaning_of-normal_text}
 use Rattle.uri_ops.proofs.Normal.NormalTexts.{same-normal-text-same-meaning}
 

@@ -2,7 +2,6 @@
 use Rattle.std.proofs.Common.{◌≡◌, ℕ, Bool, true, false, ◌&&◌, List, [], ◌∷◌, ◌++◌, refl, sym, ap}
 use Rattle.std.proofs.Common.{◌∙◌, cond, option_map}
 use Rattle.std.specs.Prelude.{codes, Option, Some, None, is_some}
-use Rattle.std.specs.Option.{option_and_then}
 use Rattle.std.specs.Str.{IsUtf8, str_to_ascii_lowercase}
 use Rattle.std.proofs.lemmas.Bool.{cond-false}
 use Rattle.std.proofs.lemmas.List.{append_assoc}
@@ -10,16 +9,14 @@ use Rattle.uri_pct.specs.Sets.{TableSet}
 use Rattle.uri_pct.specs.Texts.{is_absolute}
 use Rattle.uri_pct.specs.DecodeUnreserved.{decode_unreserved}
 use Rattle.uri_pct.specs.Tokens.{IsValidFor, print}
-use Rattle.uri_parts.specs.Components.{components, has_authority, marked, starts}
+use Rattle.uri_parts.specs.Components.{components, has_authority, starts}
 use Rattle.uri_parts.specs.Grammar.{Kind}
 use Rattle.uri_ops.specs.ComponentSets.{IsComponentSet}
-use Rattle.uri_ops.specs.Meaning.{authority_meaning, dotless_path, meaning_of}
-use Rattle.uri_ops.specs.Normal.{normal_authority, normal_path, normal_text}
-use Rattle.uri_ops.specs.Normal.{normal_path_text}
+use Rattle.uri_ops.specs.Meaning.{dotless_path, meaning_of}
+use Rattle.uri_ops.specs.Normal.{normal_authority, normal_path, normal_path_text}
 use Rattle.uri_parts.specs.Ports.{PortFunction}
 use Rattle.uri_ops.specs.Target.{guarded}
-use Rattle.uri_ops.proofs.Meanings.AllowedParts.{set-text-from-utf8}
-use Rattle.uri_ops.proofs.Meanings.AllowedParts.{print_decoded}
+use Rattle.uri_ops.proofs.Meanings.AllowedParts.{set-text-from-utf8, print_decoded}
 use Rattle.uri_ops.proofs.Paths.DecodedStarts.{decoding-keeps-two-slashes}
 use Rattle.uri_ops.proofs.Paths.DecodedStarts.{no-leading-slash-no-two-slashes}
 use Rattle.uri_pct.proofs.General.{is_some-option_map}
@@ -33,20 +30,6 @@ unfolding print_decoded
 decoded-path-keeps-two-slashes set w path utf8 valid =
     decoding-keeps-two-slashes set w.percent w.unreserved path
     (set-text-from-utf8 set path utf8 valid)
-
--- normal paths: a guard, if one is needed, and the decoded path are appended;
--- old, mid, new: the text between them
-pub guard-and-decoded-path-are-guarded-path : (set : TableSet) → IsComponentSet (codes "?#[]") set
-    → (path : List ℕ)
-    → IsUtf8 path → IsValidFor set path → (authority : Option (List ℕ)) (guard old mid new : List ℕ)
-    → mid ≡ old ++ guard → new ≡ mid ++ print (decode_unreserved set path)
-    → ((text : List ℕ) → has_authority text ≡ has_authority path
-    → guard ++ text ≡ guarded authority text)
-    → new ≡ old ++ guarded authority (print (decode_unreserved set path))
-guard-and-decoded-path-are-guarded-path set w path utf8 valid authority guard old mid new e f h =
-    let text = print (decode_unreserved set path) in
-    f ∙ ap (λ t. t ++ text) e ∙ append_assoc old guard text
-    ∙ ap (λ t. old ++ t) (h text (decoded-path-keeps-two-slashes set w path utf8 valid))
 
 -- normal paths: one that does not begin with `//` needs no guard `/.`
 path-without-two-slashes-has-no-guard : (authority : Option (List ℕ)) (text : List ℕ)
@@ -74,7 +57,7 @@ is_some-of-mapped-twice f h (Some x) = refl
 
 -- general fact on texts, for the five components of a normal text:
 -- appended one by one they are appended
-five-appended-texts-are-one : (old s a p q f o1 o2 o3 o4 new : List ℕ) → o1 ≡ old ++ s → o2
+pub five-appended-texts-are-one : (old s a p q f o1 o2 o3 o4 new : List ℕ) → o1 ≡ old ++ s → o2
     ≡ o1 ++ a → o3 ≡ o2 ++ p
     → o4 ≡ o3 ++ q → new ≡ o4 ++ f → new ≡ old ++ (s ++ (a ++ (p ++ (q ++ f))))
 five-appended-texts-are-one old s a p q f o1 o2 o3 o4 new e1 e2 e3 e4 e5 =
@@ -94,26 +77,6 @@ normal_path-by-components kind ports text =
     let path = print (decode_unreserved kind.path (dotless_path p.scheme p.path)) in
     ap (λ (b : Bool). cond b (guarded (option_map normal_authority m.authority) path) path)
     (sym (is_some-option_map str_to_ascii_lowercase p.scheme))
-
--- normal texts: the five components, appended one after the other, are the normal text; old, o1 to
--- o4, new: the text between them
-pub pushed-components-are-normal-text : (kind : Kind) (ports : PortFunction) (text : List ℕ)
-    (old o1 o2 o3 o4 new : List ℕ)
-    → (let p = components text in let scheme = option_map str_to_ascii_lowercase p.scheme in
-    let authority = option_map normal_authority
-    (option_map (authority_meaning kind (option_and_then ports scheme)) p.authority) in
-    o1 ≡ old ++ marked [] scheme (codes ":")
-    → o2 ≡ o1 ++ marked (codes "//") authority []
-    → o3 ≡ o2 ++ normal_path_text kind.path p.scheme authority p.path
-    → o4 ≡ o3 ++ marked (codes "?")
-    (option_map print (option_map (decode_unreserved kind.query) p.query)) []
-    → new ≡ o4 ++ marked (codes "#")
-    (option_map print (option_map (decode_unreserved kind.fragment) p.fragment))
-    []
-    → new ≡ old ++ normal_text (meaning_of kind ports text))
-pushed-components-are-normal-text kind ports text old o1 o2 o3 o4 new e1 e2 e3 e4 e5 =
-    five-appended-texts-are-one old _ _ _ _ _ o1 o2 o3 o4 new e1 e2
-    (e3 ∙ ap (λ t. o2 ++ t) (normal_path-by-components kind ports text)) e4 e5
 
 -- general fact on booleans, for the tests of a normal text: and with false is false
 pub and-with-false-is-false : (b c : Bool) → c ≡ false → (b && c) ≡ false

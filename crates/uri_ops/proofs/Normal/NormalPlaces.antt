@@ -5,14 +5,13 @@ use Rattle.std.specs.Prelude.{Option, Some, None, IfSome}
 use Rattle.std.specs.Str.{IsUtf8, str_to_ascii_lowercase}
 use Rattle.uri_parts.specs.declared.packed_positions.PackedPositions.{PackedPositions}
 use Rattle.uri_parts.specs.Components.{components}
-use Rattle.uri_parts.specs.Grammar.{Kind, is_authority}
+use Rattle.uri_parts.specs.Grammar.{Kind, is_authority, IsTextOf}
 use Rattle.uri_parts.specs.PackedPositions.{ArePackedPositionsOf, packed}
 use Rattle.uri_parts.specs.Positions.{authority_at, delimited_length, positions_of}
 use Rattle.uri_ops.specs.ComponentSets.{HasComponentSets}
 use Rattle.uri_ops.specs.Meaning.{authority_meaning, meaning_of}
 use Rattle.uri_ops.specs.Normal.{normal_authority, normal_components, normal_parts, normal_text}
 use Rattle.uri_parts.specs.Ports.{PortFunction}
-use Rattle.uri_parts.specs.Grammar.{IsTextOf}
 use Rattle.uri_ops.specs.Models.Written.{authority_parts_at, positions_by_authority_parts}
 use Rattle.uri_ops.proofs.Meanings.AuthorityMeanings.{normal-authority-has-normal-parts}
 use Rattle.uri_ops.proofs.Normal.NormalTexts.{components-of-normal_text, text-has-parts-of-kind}

@@ -4,11 +4,10 @@ use Rattle.std.specs.Prelude.{codes, Option, Some, None, IfSome, ◌↔◌}
 use Rattle.std.specs.Str.{IsUtf8}
 use Rattle.std.proofs.lemmas.Str.{IsUtf8-append, IsUtf8-nil}
 use Rattle.uri_parts.specs.Components.{Components, marked, components, recompose}
-use Rattle.uri_parts.specs.Grammar.{Kind, is_scheme, is_authority, components_meet_rules}
+use Rattle.uri_parts.specs.Grammar.{Kind, is_scheme, is_authority, components_meet_rules, IsTextOf}
 use Rattle.uri_parts.proofs.Splitting.Recompose.{components-are-split-of-text}
 use Rattle.uri_parts.proofs.Splitting.Splits.{only-split-is-components}
 use Rattle.uri_ops.specs.ComponentSets.{HasComponentSets}
-use Rattle.uri_parts.specs.Grammar.{IsTextOf}
 use Rattle.uri_parts.specs.Ports.{PortFunction}
 use Rattle.uri_ops.specs.Meaning.{components_meaning, meaning_of}
 use Rattle.uri_ops.specs.Normal.{normal_text}

@@ -1,7 +1,7 @@
 -- Parts of a text that are printed as they are, and authorities made of such parts.
-use Rattle.std.proofs.Common.{◌≡◌, ℕ, true, false, List, [], ◌∷◌, ◌++◌, map, refl, sym, ap, subst}
-use Rattle.std.proofs.Common.{◌∙◌, ◌&&◌, append-nil, option_map}
-use Rattle.std.specs.Prelude.{codes, Option, Some, None, IfSome}
+use Rattle.std.proofs.Common.{◌≡◌, ℕ, true, false, List, [], ◌∷◌, ◌++◌, map, refl, sym, ap, ◌∙◌}
+use Rattle.std.proofs.Common.{◌&&◌, append-nil, option_map}
+use Rattle.std.specs.Prelude.{Option, Some, None, IfSome}
 use Rattle.std.specs.List.{list_any}
 use Rattle.std.specs.Str.{chars, IsUtf8, str_to_ascii_lowercase}
 use Rattle.std.proofs.lemmas.Bool.{and_right, cond-false, or_parts}
@@ -11,27 +11,22 @@ use Rattle.uri_pct.specs.DecodeUnreserved.{decode_tokens}
 use Rattle.uri_pct.specs.Sets.{TableSet}
 use Rattle.uri_pct.specs.Tokens.{Char, print, tokens, tokens_from_chars}
 use Rattle.uri_pct.proofs.Decodings.Decoding.{tokens_after_unencoded_prefix}
-use Rattle.uri_parts.specs.Authority.{AuthorityParts, IsAuthorityFor, authority_parts}
-use Rattle.uri_parts.specs.Authority.{recompose_authority}
-use Rattle.uri_parts.specs.Components.{marked, starts}
-use Rattle.uri_parts.specs.Grammar.{Kind, is_authority}
+use Rattle.uri_parts.specs.Components.{starts}
+use Rattle.uri_parts.specs.Grammar.{Kind}
 use Rattle.uri_parts.specs.Hosts.{host_kind, ipv4_value, name_kind}
-use Rattle.uri_parts.proofs.Authorities.Authority.{is_authority_for-sound, names_exclude_delimiters}
+use Rattle.uri_parts.proofs.Authorities.Authority.{names_exclude_delimiters}
 use Rattle.uri_ops.specs.ComponentSets.{HasComponentSets}
-use Rattle.uri_ops.specs.Meaning.{authority_meaning, host_meaning, port_meaning}
-use Rattle.uri_ops.specs.Models.Unchanged.{IsUnchangedAuthority, IsLiteral}
-use Rattle.uri_ops.specs.Normal.{host_text, normal_authority}
-use Rattle.uri_ops.proofs.Meanings.AuthorityMeanings.{PartsUtf8}
+use Rattle.uri_ops.specs.Meaning.{host_meaning}
+use Rattle.uri_ops.specs.Models.Unchanged.{IsLiteral}
+use Rattle.uri_ops.specs.Normal.{host_text}
 use Rattle.uri_ops.proofs.Meanings.AuthorityMeanings.{kind-sets-lack-authority-delimiters}
-use Rattle.uri_ops.proofs.Meanings.AuthorityMeanings.{authority-parts-are-utf8}
 use Rattle.uri_ops.proofs.Meanings.Cased.{print-lowers-characters, print-of-characters-is-text}
 use Rattle.uri_ops.proofs.Meanings.HostMeanings.{meaning-of-name-is-lowered-decoded}
 use Rattle.uri_ops.proofs.Meanings.DecodedOctets.{decode_tokens-after-chars}
 use Rattle.uri_ops.proofs.Meanings.DecodedParts.{decode_run-of-nil-is-nil}
 use Rattle.uri_ops.proofs.Meanings.WrittenFormatting.{no-byte-E2-no-formatting}
-use Rattle.uri_ops.proofs.Normal.UnchangedBytes.{literal-text-splits, literal-text-lacks-percent}
+use Rattle.uri_ops.proofs.Normal.UnchangedBytes.{literal-text-lacks-percent}
 use Rattle.uri_ops.proofs.Normal.UnchangedBytes.{literal-text-lacks-byte-E2}
-use Rattle.uri_ops.proofs.Normal.UnchangedBytes.{delimited-component-of-literal-is-literal}
 
 -- unchanged texts: encoding formatting characters keeps characters of which none is one
 encode_formatting-keeps-literal-characters : (set : TableSet) (cs : List ℕ)
@@ -95,54 +90,16 @@ unbracketed-host-is-of-name_kind : (host : List ℕ) → starts 91 host ≡ fals
 unfolding host_kind
 unbracketed-host-is-of-name_kind host e = cond-false _ _ _ e
 
-module _ (kind : Kind) (sets : HasComponentSets kind) (default : Option ℕ) (a : List ℕ)
-    (u : IsUtf8 a) (e : is_authority kind a ≡ true) (literal : IsLiteral a)
-    (kept : IsUnchangedAuthority a) where
-  abbrev parts : AuthorityParts
-  parts = authority_parts a
-
-  grammar : IsAuthorityFor kind.userinfo kind.reg_name a parts
-  grammar = is_authority_for-sound kind.userinfo kind.reg_name a e
-
-  utf8 : PartsUtf8 parts
-  utf8 = authority-parts-are-utf8 parts.userinfo parts.port parts.host
-      (subst IsUtf8 (sym grammar.whole) u)
-
-  literal-authority-has-literal-parts : IfSome parts.userinfo IsLiteral × IsLiteral parts.host
-  literal-authority-has-literal-parts =
-      let user = marked [] parts.userinfo (codes "@") in
-      let port = marked (codes ":") parts.port [] in
-      let apart = literal-text-splits user (parts.host
-      ++ port) (subst IsLiteral (sym grammar.whole) literal) in (
-        delimited-component-of-literal-is-literal [] (codes "@") parts.userinfo apart.0,
-        (literal-text-splits parts.host port apart.1).0,
-      )
-
-  unchanged-host-is-its-normal-form : host_text
-      (host_meaning kind.reg_name parts.host (host_kind parts.host)) ≡ parts.host
-  unchanged-host-is-its-normal-form =
-      let apart = names_exclude_delimiters kind.userinfo kind.reg_name
-      (kind-sets-lack-authority-delimiters kind sets) in
-      ap (λ h. host_text (host_meaning kind.reg_name parts.host h))
-      (unbracketed-host-is-of-name_kind parts.host kept.name)
-      ∙ ap host_text
-      (meaning-of-name-is-lowered-decoded kind.reg_name sets.reg_name apart parts.host
-      (ipv4_value parts.host))
-      ∙ literal-text-prints-lowered kind.reg_name parts.host utf8.host
-      literal-authority-has-literal-parts.1 ∙ kept.lower
-
-  -- such an authority is its own normal form
-  pub unchanged-authority-is-its-normal-form : normal_authority (authority_meaning kind default a)
-      ≡ a
-  unchanged-authority-is-its-normal-form =
-      let user_kept = literal-option-decodes-to-itself kind.userinfo parts.userinfo utf8.userinfo
-      literal-authority-has-literal-parts.0 in
-      let port_kept = ap (port_meaning default) kept.port ∙ sym kept.port in
-      (λ i. recompose_authority
-      (record {
-        userinfo = user_kept i;
-        host = unchanged-host-is-its-normal-form i;
-        port =
-            port_kept i;
-      }))
-      ∙ grammar.whole
+-- unchanged texts: a name in lower case without octets and formatting characters is its own normal
+-- form
+pub lower-name-is-its-normal-form : (kind : Kind) → HasComponentSets kind → (host : List ℕ)
+    → IsUtf8 host → IsLiteral host → str_to_ascii_lowercase host ≡ host → starts 91 host ≡ false
+    → host_text (host_meaning kind.reg_name host (host_kind host)) ≡ host
+lower-name-is-its-normal-form kind sets host u literal lower name =
+    let apart = names_exclude_delimiters kind.userinfo kind.reg_name
+    (kind-sets-lack-authority-delimiters kind sets) in
+    ap (λ h. host_text (host_meaning kind.reg_name host h))
+    (unbracketed-host-is-of-name_kind host name)
+    ∙ ap host_text
+    (meaning-of-name-is-lowered-decoded kind.reg_name sets.reg_name apart host (ipv4_value host))
+    ∙ literal-text-prints-lowered kind.reg_name host u literal ∙ lower

@@ -5,18 +5,15 @@ use Rattle.std.specs.Prelude.{codes, Option, Some, None}
 use Rattle.uri_parts.specs.declared.positions.AuthorityPositions.{AuthorityPositions}
 use Rattle.uri_parts.specs.declared.positions.Positions.{Positions}
 use Rattle.uri_parts.specs.Authority.{AuthorityParts, authority_parts, recompose_authority}
-use Rattle.uri_parts.specs.Components.{Components, marked}
+use Rattle.uri_parts.specs.Components.{Components, marked, components}
 use Rattle.uri_parts.specs.Positions.{authority_at, delimited_length, positions_of}
 use Rattle.std.specs.Option.{option_and_then}
-use Rattle.std.specs.Str.{str_to_ascii_lowercase}
-use Rattle.uri_pct.specs.DecodeUnreserved.{decode_unreserved}
-use Rattle.uri_pct.specs.Tokens.{print}
-use Rattle.uri_parts.specs.Components.{components}
 use Rattle.uri_parts.specs.Grammar.{Kind}
 use Rattle.uri_ops.specs.Meaning.{authority_meaning, meaning_of}
-use Rattle.uri_ops.specs.Normal.{normal_authority, normal_components, normal_parts}
-use Rattle.uri_ops.specs.Normal.{normal_path_text}
+use Rattle.uri_ops.specs.Normal.{normal_authority, normal_components, normal_parts, normal_part}
+use Rattle.uri_ops.specs.Normal.{normal_path_text, normal_scheme, normal_text}
 use Rattle.uri_parts.specs.Ports.{PortFunction}
+use Rattle.uri_ops.proofs.Normal.NormalPieces.{five-appended-texts-are-one}
 use Rattle.uri_ops.proofs.Normal.NormalPieces.{normal_path-by-components}
 use Rattle.uri_ops.specs.Models.Places.{before_path}
 use Rattle.uri_ops.specs.Models.Written.{authority_parts_at, positions_by_authority_parts}
@@ -219,46 +216,45 @@ option_map-of-three-functions-splits : {A B C D : Type 0} (f : C → D) (h : B �
 option_map-of-three-functions-splits f h k None = refl
 option_map-of-three-functions-splits f h k (Some a) = refl
 
--- positions in a normal text: the components of a meaning that are appended have the positions of
--- these; old, o1 to o3: the text between them
-pub pushed-normal-text-has-positions : (kind : Kind) (ports : PortFunction) (text : List ℕ)
-    (old o1 o2 o3 : List ℕ)
-    (start stop : ℕ) (end query : Option ℕ) (places : Option AuthorityPositions)
-    → old ≡ []
-    → (let p = components text in let scheme = option_map str_to_ascii_lowercase p.scheme in let
-    default = option_and_then ports scheme in
-    let authority = option_map normal_authority
-    (option_map (authority_meaning kind default) p.authority) in
+-- a normal text: its five components, appended one after the other, are the text, and have the
+-- positions of its components; old, o1 to o4, new: the text between them
+pub pushed-components-are-normal-text : (kind : Kind) (ports : PortFunction) (text : List ℕ)
+    (old o1 o2 o3 o4 new : List ℕ) (start stop : ℕ) (end query : Option ℕ)
+    (places : Option AuthorityPositions)
+    → (let p = components text in let scheme = normal_scheme p.scheme in
+    let m = meaning_of kind ports text in
+    let meaning = authority_meaning kind (option_and_then ports scheme) in
+    let authority = option_map normal_authority (option_map meaning p.authority) in
     o1 ≡ old ++ marked [] scheme (codes ":")
     → o2 ≡ o1 ++ marked (codes "//") authority []
     → o3 ≡ o2 ++ normal_path_text kind.path p.scheme authority p.path
+    → o4 ≡ o3 ++ marked (codes "?") (normal_part kind.query p.query) []
+    → new ≡ o4 ++ marked (codes "#") (normal_part kind.fragment p.fragment) []
     → start ≡ length o2 → stop ≡ length o3
     → end ≡ option_map (λ s. length old + length s) scheme
-    → places ≡ option_map
-    (λ a. authority_parts_at (length o1 + 2) (normal_parts (authority_meaning kind default a)))
+    → places ≡ option_map (λ a. authority_parts_at (length o1 + 2) (normal_parts (meaning a)))
     p.authority
-    → query ≡ option_map (λ s. length o3 + 1 + length s)
-    (option_map print (option_map (decode_unreserved kind.query) p.query))
-    → (let x : Positions = record {
+    → query ≡ option_map (λ s. length o3 + 1 + length s) (normal_part kind.query p.query)
+    → (new ≡ old ++ normal_text m)
+    × (old ≡ [] → (let x : Positions = record {
       scheme_end = end;
       authority = places;
       path_start = start;
       path_end = stop;
-      query_end =
-          query;
+      query_end = query;
     } in x)
-    ≡ positions_by_authority_parts (normal_components (meaning_of kind ports text))
-    (option_map normal_parts (meaning_of kind ports text).authority))
-pushed-normal-text-has-positions kind ports text old o1 o2 o3 start stop end query places empty e1
-    e2 e3 starts stops
-    ends lies queries =
+    ≡ positions_by_authority_parts (normal_components m) (option_map normal_parts m.authority)))
+pushed-components-are-normal-text kind ports text old o1 o2 o3 o4 new start stop end query places
+    e1 e2 e3 e4 e5 starts stops ends lies queries =
+    let p = components text in
     let m = meaning_of kind ports text in
-    let default = option_and_then ports
-    (option_map str_to_ascii_lowercase (components text).scheme) in
-    pushed-components-have-positions (normal_components m) (option_map normal_parts m.authority) old
-    o1 o2 o3 start
-    stop end query places empty e1 e2
-    (e3 ∙ ap (λ t. o2 ++ t) (normal_path-by-components kind ports text)) starts stops ends
-    (lies ∙ option_map-of-three-functions-splits (authority_parts_at (length o1 + 2)) normal_parts
-    (authority_meaning kind default)
-    (components text).authority) queries
+    let meaning = authority_meaning kind (option_and_then ports (normal_scheme p.scheme)) in
+    let path : o3 ≡ o2 ++ (normal_components m).path =
+    e3 ∙ ap (λ t. o2 ++ t) (normal_path-by-components kind ports text) in (
+      five-appended-texts-are-one old _ _ _ _ _ o1 o2 o3 o4 new e1 e2 path e4 e5,
+      λ empty.
+          pushed-components-have-positions (normal_components m) (option_map normal_parts m.authority)
+          old o1 o2 o3 start stop end query places empty e1 e2 path starts stops ends
+          (lies ∙ option_map-of-three-functions-splits (authority_parts_at (length o1 + 2))
+          normal_parts meaning p.authority) queries,
+    )

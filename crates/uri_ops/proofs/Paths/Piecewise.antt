@@ -1,8 +1,7 @@
 -- Removing dot segments from a path whose substrings are changed one after the other, as by
 -- decoding them.
 use Rattle.std.proofs.Common.{◌≡◌, ℕ, ◌<◌, Bool, true, false, List, [], ◌∷◌, ◌++◌, length, take}
-use Rattle.std.proofs.Common.{drop}
-use Rattle.std.proofs.Common.{refl, sym, ap, subst, ◌∙◌, ◌||◌, ⊎_elim, inl, inr, append_assoc}
+use Rattle.std.proofs.Common.{drop, refl, sym, ap, subst, ◌∙◌, ◌||◌, ⊎_elim, inl, inr, append_assoc}
 use Rattle.std.proofs.Common.{arith, rules, tests}
 use Rattle.std.specs.Prelude.{codes, ◌==◌}
 use Rattle.std.proofs.lemmas.Bool.{eqb-true, false≢true}
@@ -17,6 +16,7 @@ use Rattle.uri_ops.specs.Dots.{lacks_dot_segments, remove_dot_segments, underflo
 use Rattle.uri_ops.specs.Models.Directories.{IsCutAtSegment, RemovalState, IsDotlessDirectory}
 use Rattle.uri_ops.specs.Models.Directories.{parent_directory}
 use Rattle.uri_ops.specs.Models.LeadingSegments.{IsFirstSegment, IsDotlessPrefix}
+use Rattle.uri_ops.specs.Models.SegmentModes.{KeepsSlashesAndDots}
 use Rattle.uri_ops.proofs.Meanings.AllowedParts.{is_set_text, empty-text-is-set-text}
 use Rattle.uri_ops.proofs.Meanings.AllowedParts.{set-text-is-utf8, print_decoded}
 use Rattle.uri_ops.proofs.Meanings.AllowedParts.{decoding-splits-at-slash}
@@ -32,23 +32,8 @@ use Rattle.uri_ops.proofs.Paths.DecodedPaths.{set-text-splits, set-texts-join-at
 use Rattle.uri_ops.proofs.Paths.DecodedPaths.{decoding-keeps-first-slash}
 use Rattle.uri_ops.proofs.Paths.DecodedPaths.{removing-dots-and-decoding-swap}
 use Rattle.uri_ops.proofs.Paths.DecodedStarts.{decoding-keeps-emptiness}
-use Rattle.uri_ops.proofs.Paths.SegmentMaps.{KeepsDots}
 use Rattle.uri_pct.proofs.General.{eq_true_from_IsTrue}
 use Rattle.uri_ops.proofs.Paths.DotRuns.{not-empty-has-length}
-
--- paths: a change that goes from `/` to `/`, and keeps which segments are dots, such as decoding
-pub record KeepsSlashesAndDots (change : List ℕ → List ℕ) (among : List ℕ → Bool) : Type 0 where
-  pub nothing : change [] ≡ []
-  pub none : among [] ≡ true
-  pub empty : (text : List ℕ) → among text ≡ true → is_empty (change text) ≡ is_empty text
-  pub cut : (x y : List ℕ) → among (x ++ 47 ∷ y) ≡ true → (among x ≡ true) × (among y ≡ true)
-  pub join : (x y : List ℕ) → among x ≡ true → among y ≡ true → among (x ++ 47 ∷ y) ≡ true
-  pub pieces : (x y : List ℕ) → among x ≡ true
-      → change (x ++ 47 ∷ y) ≡ change x ++ 47 ∷ change y
-  pub free : (s : List ℕ) → among s ≡ true → has_slash s ≡ false → has_slash (change s) ≡ false
-  pub dots : (s : List ℕ) → among s ≡ true → KeepsDots change s
-  pub dotless : (text : List ℕ) → among text ≡ true → lacks_dot_segments text ≡ true
-      → lacks_dot_segments (change text) ≡ true
 
 -- paths: copying a path keeps its slashes and dot segments, as decoding does
 pub identity-keeps-slashes-and-dots : KeepsSlashesAndDots (λ text. text) (λ text. true)
@@ -60,7 +45,8 @@ identity-keeps-slashes-and-dots = record {
   join = λ x y e f. refl;
   pieces = λ x y e. refl;
   free = λ s e f. f;
-  dots = λ s e. record { single = refl; double = refl };
+  single = λ s e. refl;
+  double = λ s e. refl;
   dotless = λ text e f. f;
 }
 
@@ -93,7 +79,8 @@ module _ (set : TableSet) (w : IsComponentSet (codes "?#[]") set) (slash : set.a
       join = set-texts-join-at-slash set slash;
       pieces = λ x y e. decoding-splits-at-slash set x y (set-text-is-utf8 set x e);
       free = decoding-adds-no-slash set w.percent w.unreserved;
-      dots = decoding-keeps-dot-segments set w.percent w.unreserved;
+      single = λ s e. (decoding-keeps-dot-segments set w.percent w.unreserved s e).single;
+      double = λ s e. (decoding-keeps-dot-segments set w.percent w.unreserved s e).double;
       dotless = decoded-dotless-path-is-dotless;
     }
 
@@ -238,7 +225,7 @@ module _ (change : List ℕ → List ℕ) (among : List ℕ → Bool)
         → left ≡ drop n rest
         → RemovalState path kept (change left) underflowed × (among left ≡ true)
     removal-step-at-single-dot left n first is =
-        let c = first_changed is_single_dot (λ s f. (p.dots s f).single) left n first is in (
+        let c = first_changed is_single_dot p.single left n first is in (
           removal-state-of-equals path kept kept _ (change left) underflowed underflowed refl
               c.after_that refl
               (removal-passes-single-dot path kept (change rest) underflowed h
@@ -253,7 +240,7 @@ module _ (change : List ℕ → List ℕ) (among : List ℕ → Bool)
         → RemovalState path (parent_directory kept) (change left)
         (underflowed || is_empty (before_last_slash kept)) × (among left ≡ true)
     removal-step-at-double-dot left n first is =
-        let c = first_changed is_double_dot (λ s f. (p.dots s f).double) left n first is in (
+        let c = first_changed is_double_dot p.double left n first is in (
           removal-state-of-equals path (parent_directory kept) (parent_directory kept) _
               (change left) _ _ refl
               c.after_that refl

@@ -1,63 +1,21 @@
--- The segments of a path as they are appended: copied, or decoded.
-use Rattle.std.proofs.Common.{◌≡◌, ℕ, Bool, true, List, [], ◌∷◌, ◌++◌, length, drop, refl, sym, ap}
-use Rattle.std.proofs.Common.{◌∙◌, ◌&&◌, arith}
+-- The segments of a path as they are appended, decoded.
+use Rattle.std.proofs.Common.{◌≡◌, ℕ, true, List, [], ◌∷◌, ◌++◌, length, drop, refl, sym, ap, ◌∙◌}
+use Rattle.std.proofs.Common.{◌&&◌, arith}
 use Rattle.std.specs.Prelude.{codes, slice_index, ◌==◌}
-use Rattle.std.specs.Str.{IsUtf8}
 use Rattle.std.proofs.lemmas.Bool.{and_parts, eqb-true, false≢true, ne_eqb}
 use Rattle.uri_pct.specs.DecodeUnreserved.{decode_unreserved}
 use Rattle.uri_pct.specs.Sets.{TableSet}
-use Rattle.uri_pct.specs.Tables.{set_of}
 use Rattle.uri_pct.specs.Tokens.{print}
 use Rattle.uri_ops.specs.ComponentSets.{IsComponentSet}
 use Rattle.uri_ops.specs.Dots.{IsAbsolute, remove_dot_segments, underflows}
 use Rattle.uri_ops.specs.Models.Directories.{IsDotlessDirectory}
-use Rattle.uri_ops.specs.Models.SegmentModes.{IsTextForMode, IsValidForPathSet, text_by_mode}
-use Rattle.uri_ops.specs.declared.path.segment_mode.SegmentMode.{SegmentMode}
-use Rattle.uri_ops.specs.declared.path.segment_mode.SegmentMode.TheVariants.{Copied, Decoded}
-use Rattle.uri_ops.proofs.Meanings.AllowedParts.{is_set_text, set-text-from-utf8, set-text-is-valid}
-use Rattle.uri_ops.proofs.Meanings.AllowedParts.{print_decoded}
+use Rattle.uri_ops.proofs.Meanings.AllowedParts.{is_set_text, print_decoded}
 use Rattle.uri_ops.proofs.Meanings.AllowedParts.{print_decoded-of-nil-is-nil}
 use Rattle.uri_ops.proofs.Paths.LeftPaths.{slashed-dotless-segments-are-directory}
-use Rattle.uri_ops.proofs.Paths.Piecewise.{KeepsSlashesAndDots, decoding-keeps-slashes-and-dots}
-use Rattle.uri_ops.proofs.Paths.Piecewise.{identity-keeps-slashes-and-dots}
 use Rattle.uri_ops.proofs.Paths.DecodedPaths.{set-text-splits, removing-dots-and-decoding-swap}
-use Rattle.uri_ops.proofs.Paths.DecodedPaths.{decoding-keeps-first-slash}
-use Rattle.uri_ops.proofs.Paths.DecodedPaths.{decoding-keeps-underflow}
+use Rattle.uri_ops.proofs.Paths.DecodedPaths.{decoding-keeps-first-slash, decoding-keeps-underflow}
 use Rattle.uri_ops.proofs.Paths.SlashedSegments.{slashed}
 use Rattle.uri_ops.proofs.Paths.TakenSegments.{absolute-path-is-slash-and-rest}
-
--- paths, copied or decoded: the text may be a piece of a path that is appended in this mode
-abbrev pub is_text_for_mode : SegmentMode → List ℕ → Bool
-is_text_for_mode Copied text = true
-is_text_for_mode (Decoded table) text = is_set_text (set_of table.now) text
-
--- paths, copied or decoded: either way to append a path keeps its slashes and dot segments
-pub segment-mode-keeps-slashes-and-dots : (pieces : SegmentMode) (path : List ℕ)
-    → IsTextForMode pieces path
-    → KeepsSlashesAndDots (text_by_mode pieces) (is_text_for_mode pieces)
-unfolding print_decoded
-segment-mode-keeps-slashes-and-dots Copied path h = identity-keeps-slashes-and-dots
-segment-mode-keeps-slashes-and-dots (Decoded table) path h = decoding-keeps-slashes-and-dots
-    (set_of table.now) h.component h.slash
-
--- paths, copied or decoded: a whole path passes the test of the mode
-pub whole-path-is-for-mode : (pieces : SegmentMode) (path : List ℕ) → IsUtf8 path
-    → IsTextForMode pieces path
-    → is_text_for_mode pieces path ≡ true
-whole-path-is-for-mode Copied path u h = refl
-whole-path-is-for-mode (Decoded table) path u h = set-text-from-utf8
-    (set_of table.now) path u h.valid
-
--- paths, copied or decoded: a piece of a path may be appended in the mode that the path may
-pub part-of-path-is-for-mode : (pieces : SegmentMode) (path piece : List ℕ)
-    → IsTextForMode pieces path
-    → is_text_for_mode pieces piece ≡ true → IsTextForMode pieces piece
-part-of-path-is-for-mode Copied path piece h e = tt
-part-of-path-is-for-mode (Decoded table) path piece h e = record {
-  component = h.component;
-  slash = h.slash;
-  valid = set-text-is-valid (set_of table.now) piece e;
-}
 
 -- paths: a text of one byte that is 47 is `/`
 pub text-of-one-byte-slash-is-slash : (text : List ℕ)
@@ -90,14 +48,9 @@ module _ (set : TableSet) (w : IsComponentSet (codes "?#[]") set) (slash : set.a
   absolute-path-is-root-and-rest = absolute-path-is-slash-and-rest path absolute
       ∙ ap (λ t. 47 ∷ t) (sym is)
 
-  pub path-after-root-is-valid-for-set : IsValidForPathSet set rest
-  path-after-root-is-valid-for-set = record {
-    component = w;
-    slash = slash;
-    valid = set-text-is-valid set rest
-        (set-text-splits set [] rest (ap (is_set_text set) (sym absolute-path-is-root-and-rest)
-        ∙ e)).1;
-  }
+  pub path-after-root-is-set-text : is_set_text set rest ≡ true
+  path-after-root-is-set-text = (set-text-splits set [] rest
+      (ap (is_set_text set) (sym absolute-path-is-root-and-rest) ∙ e)).1
 
   root-and-decoded-rest-are-decoded-path : codes "/" ++ print (decode_unreserved set rest)
       ≡ print_decoded set path

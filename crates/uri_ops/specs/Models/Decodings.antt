@@ -1,18 +1,19 @@
 -- What a `Decoding` appends for the parts of a component, one part after the other: RFC 3986,
 -- section 6.2.2.2.
-use Rattle.std.specs.Prelude.{take, drop, if◌then◌else◌}
+use Rattle.std.specs.Prelude.{take, drop, length, if◌then◌else◌}
 use Rattle.std.proofs.Common.{◌≡◌, ℕ, Bool, true, false, List, [], ◌++◌, map, refl, sym, ap, ◌∙◌}
-use Rattle.std.proofs.Common.{append_assoc, string_bytes}
+use Rattle.std.proofs.Common.{◌+◌, ◌*◌, ◌≤◌, ◌∷◌, append_assoc, string_bytes}
 use Rattle.std.specs.List.{flat_map}
-use Rattle.std.specs.Char.{to_ascii_lowercase}
-use Rattle.std.specs.Str.{chars, str_to_ascii_lowercase}
+use Rattle.std.specs.Char.{digit_value, is_ascii_hexdigit, to_ascii_lowercase}
+use Rattle.std.specs.Str.{IsCharBoundary, chars, str_to_ascii_lowercase}
 use Rattle.std.proofs.lemmas.List.{append-nil, map-append}
 use Rattle.std.proofs.lemmas.List.Concat.{flat_map-append}
+use Rattle.uri_pct.specs.Chunks.{widest_set}
 use Rattle.uri_pct.specs.Parts.{Part, Literal, Decoded}
 use Rattle.uri_pct.specs.DecodeUnreserved.{decode_piece, decode_tokens, lower_token}
 use Rattle.uri_pct.specs.Sets.{TableSet}
 use Rattle.uri_pct.specs.Tables.{set_of}
-use Rattle.uri_pct.specs.Tokens.{Token, Char, text_of_token, tokens, print}
+use Rattle.uri_pct.specs.Tokens.{IsValidFor, Token, Char, Octet, text_of_token, tokens, print}
 use Rattle.uri_ops.specs.declared.normalize.decode_unreserved.Decoding.{Decoding}
 
 -- the tokens that normalising makes of a part of a component: a literal text, or octets that are
@@ -49,6 +50,17 @@ abbrev pub KeepsPrefixWhenDecoded : Bool → TableSet → List ℕ → ℕ → T
 KeepsPrefixWhenDecoded lowers set text n =
     decoded_text lowers set text
     ≡ lowered_text_if lowers (take n text) ++ decoded_text lowers set (drop n text)
+
+-- an octet with these digits is at index i of a text, and what is after it is valid
+pub record IsOctetAt (text : List ℕ) (i high low : ℕ) : Type 0 where
+  pub split : drop i text ≡ 37 ∷ high ∷ low ∷ drop (i + 3) text
+  pub high_digit : is_ascii_hexdigit high ≡ true
+  pub low_digit : is_ascii_hexdigit low ≡ true
+  pub token : tokens (drop i text)
+      ≡ Octet (16 * digit_value high + digit_value low) ∷ tokens (drop (i + 3) text)
+  pub within : i + 3 ≤ length text
+  pub boundary : IsCharBoundary text (i + 3)
+  pub valid : IsValidFor widest_set (drop (i + 3) text)
 
 -- the `Decoding` `t` is `s` after these parts of a component, decoded, were appended to its text
 pub record AppendsDecodedParts (s : Decoding) (ps : List Part) (t : Decoding) : Type 0 where

@@ -1,27 +1,20 @@
--- How the segments of a path are appended: copied, or decoded (RFC 3986, sections 5.2.4 and 6.2.2).
-use Rattle.std.specs.Prelude.{◌≡◌, true, List, ℕ, codes}
-use Rattle.uri_pct.specs.Delimiters.{slash}
-use Rattle.uri_pct.specs.DecodeUnreserved.{decode_unreserved}
-use Rattle.uri_pct.specs.Sets.{TableSet}
-use Rattle.uri_pct.specs.Tables.{set_of}
-use Rattle.uri_pct.specs.Tokens.{IsValidFor, print}
-use Rattle.uri_ops.specs.ComponentSets.{IsComponentSet}
-use Rattle.uri_ops.specs.declared.path.segment_mode.SegmentMode.{SegmentMode}
-use Rattle.uri_ops.specs.declared.path.segment_mode.SegmentMode.TheVariants.{Copied, Decoded}
+-- What may be done with the segments of a path while its dot segments are removed (RFC 3986, section
+-- 5.2.4).
+use Rattle.std.specs.Prelude.{◌≡◌, ◌++◌, ◌∷◌, ℕ, Bool, List, [], true, false}
+use Rattle.uri_ops.specs.Dots.{has_slash, is_double_dot, is_empty, is_single_dot}
+use Rattle.uri_ops.specs.Dots.{lacks_dot_segments}
 
--- the text of segments is valid for the set of a path, which has `/`, so that it may be decoded
-pub record IsValidForPathSet (set : TableSet) (text : List ℕ) : Type 0 where
-  pub component : IsComponentSet (codes "?#[]") set
-  pub slash : set.ascii slash ≡ true
-  pub valid : IsValidFor set text
-
--- the segments of the text may be appended in the mode: any text copied, and a text of the table's
--- set decoded
-abbrev pub IsTextForMode : SegmentMode → List ℕ → Type 0
-IsTextForMode Copied text = Unit {0}
-IsTextForMode (Decoded table) text = IsValidForPathSet (set_of table.now) text
-
--- what the mode appends of the text of segments: the text itself, or its decoded form
-abbrev pub text_by_mode : SegmentMode → List ℕ → List ℕ
-text_by_mode Copied text = text
-text_by_mode (Decoded table) text = print (decode_unreserved (set_of table.now) text)
+-- a change of paths that goes from `/` to `/`, and keeps which segments are dots, such as decoding
+pub record KeepsSlashesAndDots (change : List ℕ → List ℕ) (among : List ℕ → Bool) : Type 0 where
+  pub nothing : change [] ≡ []
+  pub none : among [] ≡ true
+  pub empty : (text : List ℕ) → among text ≡ true → is_empty (change text) ≡ is_empty text
+  pub cut : (x y : List ℕ) → among (x ++ 47 ∷ y) ≡ true → (among x ≡ true) × (among y ≡ true)
+  pub join : (x y : List ℕ) → among x ≡ true → among y ≡ true → among (x ++ 47 ∷ y) ≡ true
+  pub pieces : (x y : List ℕ) → among x ≡ true
+      → change (x ++ 47 ∷ y) ≡ change x ++ 47 ∷ change y
+  pub free : (s : List ℕ) → among s ≡ true → has_slash s ≡ false → has_slash (change s) ≡ false
+  pub single : (s : List ℕ) → among s ≡ true → is_single_dot (change s) ≡ is_single_dot s
+  pub double : (s : List ℕ) → among s ≡ true → is_double_dot (change s) ≡ is_double_dot s
+  pub dotless : (text : List ℕ) → among text ≡ true → lacks_dot_segments text ≡ true
+      → lacks_dot_segments (change text) ≡ true

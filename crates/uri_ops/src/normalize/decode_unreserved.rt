@@ -15,7 +15,8 @@ use crate::normalize::formatting::encode_formatting;
 use crate::normalize::literal_runs::push_literal;
 use crate::normalize::octet_runs::push_unreserved_run;
 use crate::normalize::octets::{
-    are_uppercase_digits, push_decoded_octet, push_octet, push_unreserved, unreserved_of_octet,
+    are_uppercase_digits, octet_digits, push_decoded_octet, push_octet, push_unreserved,
+    unreserved_of_octet,
 };
 use crate::normalize::short_components::push_short;
 use std::alloc::AllocError;
@@ -131,8 +132,7 @@ fn push_decoded_runs(
             end += unencoded_len(&text[end..]);
             continue;
         }
-        let high = bytes[end + 1];
-        let low = bytes[end + 2];
+        let (high, low) = octet_digits(text, end);
         if let Some(ch) = unreserved_of_octet(lowers, high, low) {
             push_literal(lowers, &text[done..end], out)?;
             push_unreserved(ch, out)?;

@@ -1,23 +1,74 @@
 //! Paths whose octets are decoded while their dot segments are removed (RFC 3986, sections 5.2.4
 //! and 6.2.2.3).
-ghost use Rattle.std.specs.Prelude.{◌≡◌, IfOk, OnOk, codes, true};
+ghost use Rattle.std.specs.Prelude.{◌≡◌, ◌==◌, ◌&&◌, IfOk, OnOk, codes, length, slice_index, true};
+ghost use Rattle.uri_pct.specs.Chunks.{widest_set};
 ghost use Rattle.uri_pct.specs.Delimiters.{slash};
 ghost use Rattle.uri_pct.specs.DecodeUnreserved.{decode_unreserved};
+ghost use Rattle.uri_pct.specs.EncodedTexts.{text_of};
 ghost use Rattle.uri_pct.specs.Tables.{set_of};
 ghost use Rattle.uri_pct.specs.Tokens.{IsValidFor, print};
 ghost use Rattle.uri_pct.specs.Texts.{Pushes};
 ghost use Rattle.uri_ops.specs.ComponentSets.{IsComponentSet};
 ghost use Rattle.uri_ops.specs.Dots.{IsAbsolute, remove_dot_segments, underflows};
 
-use crate::path::dot_segments::push_segments;
+use crate::normalize::decode_unreserved::{push_decoded, push_decoded_component};
+use crate::path::dot_segments::{has_dot_segments, push_segments};
 use crate::path::segment_mode::SegmentMode;
 use std::alloc::AllocError;
+use uri_pct::encoder::Encoder;
+use uri_pct::pct_enc::EStr;
 use uri_pct::table::Table;
+
+/// Returns whether a piece of a path that is to be decoded is `/` alone.
+fn is_slash(text: &[u8]) -> bool
+    ensures { result ≡ (length text.now == 1 && slice_index text.now 0 == slash) }
+{
+    matches!(text, [b'/'])
+}
+
+/// Appends segments of a path, decoded. It is not inlined, so that the loop over segments stays
+/// small.
+#[inline(never)]
+fn push_decoded_piece(table: &Table, piece: &str, out: &mut String) -> Result<(), AllocError>
+    requires { IsValidFor widest_set piece.now }
+    ensures { OnOk result (Pushes out.old out.new
+        (print (decode_unreserved (set_of table.now) piece.now))) }
+{
+    push_decoded(table, piece, out)
+}
+
+/// Appends segments decoded: the table says which characters a path allows.
+#[derive(Clone, Copy)]
+struct Decoded<'t> {
+    table: &'t Table,
+}
+
+impl SegmentMode for Decoded<'_> {
+    ghost use Rattle.std.specs.Prelude.{◌&&◌};
+    ghost use Rattle.std.specs.Str.{is_utf8};
+    ghost use Rattle.uri_pct.specs.DecodeUnreserved.{decode_unreserved};
+    ghost use Rattle.uri_pct.specs.Tables.{set_of};
+    ghost use Rattle.uri_pct.specs.Tokens.{is_valid_for, print};
+
+    ghost pushed_text = { λ mode text. print (decode_unreserved (set_of mode.table.now) text) };
+
+    ghost takes = { λ mode text. is_utf8 text && is_valid_for (set_of mode.table.now) text };
+
+    /// Appends the segments, decoded. A `/` by itself, as after an empty segment, is copied.
+    #[inline(always)]
+    fn push(self, piece: &str, out: &mut String) -> Result<(), AllocError> {
+        if is_slash(piece.as_bytes()) {
+            out.push('/')?;
+            return Ok(());
+        }
+        push_decoded_piece(self.table, piece, out)
+    }
+}
 
 /// Appends a path that begins with `/`, with its decodable octets decoded and without its dot
 /// segments. Returns whether a double dot had nothing left to remove. A double dot removes the last
 /// segment that was appended.
-pub(crate) fn push_decoded_path(
+fn push_decoded_without_dot_segments(
     table: &Table,
     path: &str,
     out: &mut String,
@@ -32,6 +83,26 @@ pub(crate) fn push_decoded_path(
 {
     let start = out.len();
     out.push('/')?;
-    let underflowed = push_segments(SegmentMode::Decoded(table), &path[1..], start, out)?;
+    let underflowed = push_segments(Decoded { table }, &path[1..], start, out)?;
     Ok(underflowed)
+}
+
+/// Appends a path that begins with `/` as it is in a normal text but for a guard before it: decoded
+/// and without its dot segments. Returns whether a double dot had nothing left to remove.
+pub(crate) fn push_decoded_path<E: Encoder>(
+    path: EStr<'_, E>,
+    out: &mut String,
+) -> Result<bool, AllocError>
+    requires absolute { IsAbsolute (text_of path) }
+    requires set { IsComponentSet (codes "?#[]") E.set }
+    requires slash { E.set.ascii slash ≡ true }
+    ensures text { OnOk result (Pushes out.old out.new
+        (print (decode_unreserved E.set (remove_dot_segments (text_of path.entry))))) }
+    ensures underflow { IfOk result (λ underflowed. underflowed ≡ underflows (text_of path.entry)) }
+{
+    if has_dot_segments(path.as_str()) {
+        return push_decoded_without_dot_segments(&E::table(), path.as_str(), out);
+    }
+    push_decoded_component(path, out)?;
+    Ok(false)
 }

@@ -1,7 +1,6 @@
 //! Authorities in normal form (RFC 3986, sections 6.2.2 and 6.2.3; RFC 3987, section 5.3.2).
-ghost use Rattle.std.specs.Prelude.{◌≡◌, ◌==◌, [], IfOk, IfSome, OnOk, codes, false, length};
+ghost use Rattle.std.specs.Prelude.{◌≡◌, ◌+◌, [], IfOk, IfSome, OnOk, codes, length};
 ghost use Rattle.std.specs.Prelude.{option_map, string_bytes, true};
-ghost use Rattle.std.specs.Option.{option_map_or};
 ghost use Rattle.uri_pct.specs.Delimiters.{left_bracket};
 ghost use Rattle.uri_pct.specs.Texts.{Pushes};
 ghost use Rattle.uri_parts.specs.Authority.{authority_parts};
@@ -11,8 +10,9 @@ ghost use Rattle.uri_parts.specs.Grammar.{Kind};
 ghost use Rattle.uri_parts.specs.Hosts.{host_kind};
 ghost use Rattle.uri_parts.specs.Schemes.{scheme_text};
 ghost use Rattle.uri_ops.specs.Meaning.{authority_meaning, host_meaning, port_meaning};
-ghost use Rattle.uri_ops.specs.Normal.{host_text, normal_authority, normal_part, normal_parts};
-ghost use Rattle.uri_ops.specs.Normal.{default_port_of};
+ghost use Rattle.uri_ops.specs.Normal.{host_text, normal_part, normal_parts};
+ghost use Rattle.uri_ops.specs.Normal.{default_port_of, normal_authority_with_delimiter};
+ghost use Rattle.uri_ops.specs.Models.Unchanged.{IsUnchangedPort};
 ghost use Rattle.uri_ops.specs.Models.Written.{authority_parts_at};
 
 use crate::default_port::DefaultPort;
@@ -24,40 +24,48 @@ use uri_parts::component::{Authority, HostOf, Scheme};
 use uri_parts::positions::AuthorityPositions;
 use uri_pct::encoder::Encoder;
 
-/// Appends the normal form of an authority after its scheme: the userinfo and the host, decoded,
-/// and the port unless it is empty or the scheme's default. Returns its position.
+/// Appends `//` and the normal form of an authority after its scheme, if there is one: the userinfo
+/// and the host, decoded, and the port unless it is empty or the scheme's default. Returns its
+/// positions.
 ///
 /// After an error, part of it may have been appended.
-#[doc(hidden)]
-pub fn push_authority<U: Encoder, R: Encoder, P: DefaultPort>(
-    authority: Authority<'_, U, R>,
+pub(crate) fn push_authority<U: Encoder, R: Encoder, P: DefaultPort>(
+    authority: Option<Authority<'_, U, R>>,
     scheme: Option<Scheme<'_>>,
     ports: &P,
     out: &mut String,
-) -> Result<AuthorityPositions, AllocError>
+) -> Result<Option<AuthorityPositions>, AllocError>
     ensures text { let default = default_port_of (P.port_of ports.now)
         (option_map scheme_text scheme.entry) in
         (kind : Kind) → kind.userinfo ≡ U.set → kind.reg_name ≡ R.set
         → OnOk result (Pushes out.old out.new
-        (normal_authority (authority_meaning kind default (authority_text authority.entry)))) }
+        (normal_authority_with_delimiter kind default
+        (option_map authority_text authority.entry))) }
     ensures places { let default = default_port_of (P.port_of ports.now)
         (option_map scheme_text scheme.entry) in
         (kind : Kind) → kind.userinfo ≡ U.set → kind.reg_name ≡ R.set
-        → IfOk result (λ places. places ≡ authority_parts_at (length (string_bytes out.old))
-        (normal_parts (authority_meaning kind default (authority_text authority.entry)))) }
+        → IfOk result (λ places. places
+        ≡ option_map (λ a. authority_parts_at (length (string_bytes out.old) + 2)
+        (normal_parts (authority_meaning kind default a)))
+        (option_map authority_text authority.entry)) }
 {
+    let Some(authority) = authority else {
+        return Ok(None);
+    };
+    out.push('/')?;
+    out.push('/')?;
     let start = out.len();
     push_userinfo(authority, out)?;
     let host_start = out.len();
     push_host(authority, out)?;
     let host_end = out.len();
     push_port(authority, scheme, ports, out)?;
-    Ok(AuthorityPositions {
+    Ok(Some(AuthorityPositions {
         start,
         host_start,
         host_end,
         end: out.len(),
-    })
+    }))
 }
 
 /// Appends the userinfo of a normal authority, decoded, and its `@`.
@@ -101,9 +109,8 @@ fn push_bracketed_host<U: Encoder, R: Encoder>(
 /// other host gets ASCII letters in lower case, and a name is decoded too.
 ///
 /// After an error, part of it may have been appended.
-#[doc(hidden)]
 #[inline(always)]
-pub fn push_host<U: Encoder, R: Encoder>(
+fn push_host<U: Encoder, R: Encoder>(
     authority: Authority<'_, U, R>,
     out: &mut String,
 ) -> Result<(), AllocError>
@@ -137,8 +144,7 @@ fn push_port<U: Encoder, R: Encoder, P: DefaultPort>(
         let default = default_port_of (P.port_of ports.now) (option_map scheme_text scheme.entry) in
         OnOk result (Pushes out.old out.new (marked (codes ":") (port_meaning default p.port) [])) }
 {
-    let default = default_for_port(authority, scheme, ports);
-    let Some(digits) = port_unless_default(authority, default) else {
+    let Some(digits) = port_unless_default(authority, scheme, ports) else {
         return Ok(());
     };
     out.push(':')?;
@@ -155,63 +161,38 @@ pub(crate) fn is_port_unchanged<U: Encoder, R: Encoder, P: DefaultPort>(
     ensures { let default = default_port_of (P.port_of ports.now)
         (option_map scheme_text scheme.entry) in
         result ≡ true → IfSome (option_map authority_text authority.entry)
-        (λ a. let port = (authority_parts a).port in port_meaning default port ≡ port) }
+        (λ a. IsUnchangedPort default (authority_parts a).port) }
 {
     let Some(authority) = authority else {
         return true;
     };
-    if !authority.has_port() {
-        return true;
-    }
-    let default = default_for_port(authority, scheme, ports);
-    port_unless_default(authority, default).is_some()
+    !authority.has_port() || port_unless_default(authority, scheme, ports).is_some()
 }
 
-/// Returns the port's digits in a normal authority, unless there are none or they write the
-/// default. A port over 65535 is no default.
-fn port_unless_default<'a, U: Encoder, R: Encoder>(
+/// Returns the port's digits in a normal authority, unless there are none or they write the default
+/// port of the scheme. It calls `ports` only if there is a port that isn't empty. A port over 65535
+/// is no default.
+fn port_unless_default<'a, U: Encoder, R: Encoder, P: DefaultPort>(
     authority: Authority<'a, U, R>,
-    default: Option<u16>,
-) -> Option<&'a str>
-    ensures { let p = authority_parts (authority_text authority.entry) in
-        option_map (λ digits. digits.now) result ≡ port_meaning default p.port }
-{
-    let port = authority.port()?;
-    if default.is_none() && !port.is_empty() {
-        return Some(port.as_str());
-    }
-    match authority.port_to_u16() {
-        Ok(None) => None,
-        Ok(Some(number)) if is_default_number(default, number) => None,
-        _ => Some(port.as_str()),
-    }
-}
-
-/// Returns the default port of the scheme, which a normal authority leaves out. It calls `ports`
-/// only if there is a port that isn't empty.
-fn default_for_port<U: Encoder, R: Encoder, P: DefaultPort>(
-    authority: Authority<'_, U, R>,
     scheme: Option<Scheme<'_>>,
     ports: &P,
-) -> Option<u16>
+) -> Option<&'a str>
     ensures { let port = (authority_parts (authority_text authority.entry)).port in
-        port_meaning result port
-        ≡ port_meaning (default_port_of (P.port_of ports.now) (option_map scheme_text scheme.entry))
-        port }
+        option_map (λ digits. digits.now) result ≡ port_meaning
+        (default_port_of (P.port_of ports.now) (option_map scheme_text scheme.entry)) port }
 {
-    if authority.port()?.is_empty() {
+    let port = authority.port()?;
+    if port.is_empty() {
         return None;
     }
-    ports.default_port(scheme?)
-}
-
-/// Returns whether a normal authority leaves out a port of this number: there is a default port,
-/// and it is this number.
-fn is_default_number(default: Option<u16>, number: u16) -> bool
-    ensures { result ≡ option_map_or (λ port. number == port) default false }
-{
-    match default {
-        Some(port) => number == port,
-        None => false,
+    let Some(scheme) = scheme else {
+        return Some(port.as_str());
+    };
+    let Some(default) = ports.default_port(scheme) else {
+        return Some(port.as_str());
+    };
+    match authority.port_to_u16() {
+        Ok(Some(number)) if number == default => None,
+        _ => Some(port.as_str()),
     }
 }

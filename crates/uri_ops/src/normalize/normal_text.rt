@@ -1,13 +1,13 @@
 //! The normal text of a value (RFC 3986, section 6.2.2; RFC 3987, section 5.3.2).
-ghost use Rattle.std.specs.Prelude.{◌≡◌, ◌+◌, ◌<◌, ◌++◌, ◌∷◌, ℕ, List, Option, [], IfOk, OnOk};
+ghost use Rattle.std.specs.Prelude.{◌≡◌, ◌+◌, ◌<◌, ◌∷◌, ℕ, List, Option, [], IfOk, OnOk};
 ghost use Rattle.std.specs.Prelude.{codes, is_some, length, option_map, string_bytes, true};
 ghost use Rattle.uri_pct.specs.Delimiters.{slash};
 ghost use Rattle.uri_pct.specs.EncodedTexts.{text_of};
 ghost use Rattle.uri_pct.specs.DecodeUnreserved.{decode_unreserved};
-ghost use Rattle.uri_pct.specs.Tokens.{print, IsValidFor};
+ghost use Rattle.uri_pct.specs.Tokens.{print};
 ghost use Rattle.uri_pct.specs.Texts.{Pushes};
 ghost use Rattle.uri_parts.specs.AuthorityTexts.{authority_text};
-ghost use Rattle.uri_parts.specs.Components.{components, has_authority, marked};
+ghost use Rattle.uri_parts.specs.Components.{components, marked};
 ghost use Rattle.uri_parts.specs.CoreTexts.{core_text};
 ghost use Rattle.uri_parts.specs.Grammar.{Kind};
 ghost use Rattle.uri_parts.specs.PackedPositions.{packed};
@@ -24,12 +24,11 @@ ghost use Rattle.uri_ops.specs.Target.{guarded};
 ghost use Rattle.uri_ops.specs.Models.Written.{authority_parts_at, positions_by_authority_parts};
 
 use crate::default_port::DefaultPort;
-use crate::normalize::decode_unreserved::{push_decoded, push_decoded_component};
+use crate::normalize::decode_unreserved::push_decoded_component;
 use crate::normalize::decoded_paths::push_decoded_path;
-use crate::normalize::literal_runs::{push_lower, push_short_str};
+use crate::normalize::literal_runs::push_lower;
 use crate::normalize::normal_authority::push_authority;
-use crate::path::dot_segments::has_dot_segments;
-use crate::path::slashes::{begins_with_two_slashes, guard_path};
+use crate::path::slashes::guard_path;
 use std::alloc::AllocError;
 use uri_parts::component::{Authority, Scheme};
 use uri_parts::core_text::Core;
@@ -56,37 +55,6 @@ fn push_scheme(scheme: Option<Scheme<'_>>, out: &mut String) -> Result<Option<us
     Ok(Some(end))
 }
 
-/// Appends `//` and the normal form of the authority after this scheme, and returns where it is.
-#[inline(always)]
-fn push_authority_with_delimiter<U: Encoder, R: Encoder, P: DefaultPort>(
-    authority: Option<Authority<'_, U, R>>,
-    scheme: Option<Scheme<'_>>,
-    ports: &P,
-    out: &mut String,
-) -> Result<Option<AuthorityPositions>, AllocError>
-    ensures text { let default = default_port_of (P.port_of ports.now)
-        (option_map scheme_text scheme.entry) in
-        (kind : Kind) → kind.userinfo ≡ U.set → kind.reg_name ≡ R.set
-        → OnOk result (Pushes out.old out.new
-        (normal_authority_with_delimiter kind default
-        (option_map authority_text authority.entry))) }
-    ensures places { let default = default_port_of (P.port_of ports.now)
-        (option_map scheme_text scheme.entry) in
-        (kind : Kind) → kind.userinfo ≡ U.set → kind.reg_name ≡ R.set
-        → IfOk result (λ places. places
-        ≡ option_map (λ a. authority_parts_at (length (string_bytes out.old) + 2)
-        (normal_parts (authority_meaning kind default a)))
-        (option_map authority_text authority.entry)) }
-{
-    let Some(authority) = authority else {
-        return Ok(None);
-    };
-    out.push('/')?;
-    out.push('/')?;
-    let places = push_authority(authority, scheme, ports, out)?;
-    Ok(Some(places))
-}
-
 /// Appends a query or a fragment of a normal text, decoded, after its mark, and returns where it
 /// ends.
 #[inline(always)]
@@ -110,63 +78,9 @@ fn push_with_delimiter<E: Encoder>(
     Ok(Some(out.len()))
 }
 
-/// Returns what a normal text has before a path under a scheme: `/.` if the path would otherwise be
-/// parsed as an authority, and else nothing.
-fn guard_before(follows_authority: bool, path: &str) -> &'static str
-    ensures { (authority : Option (List ℕ)) → is_some authority ≡ follows_authority
-        → (text : List ℕ) → has_authority text ≡ has_authority path.now
-        → result.now ++ text ≡ guarded authority text }
-{
-    if !follows_authority && begins_with_two_slashes(path.as_bytes()) {
-        "/."
-    } else {
-        ""
-    }
-}
-
-/// Appends the path of a normal text, decoded, after `/.` if it would otherwise be parsed as an
-/// authority.
-fn push_decoded_guarded<E: Encoder>(
-    follows_authority: bool,
-    path: &str,
-    out: &mut String,
-) -> Result<(), AllocError>
-    requires valid { IsValidFor E.set path.now }
-    requires set { IsComponentSet (codes "?#[]") E.set }
-    ensures { (authority : Option (List ℕ)) → is_some authority ≡ follows_authority
-        → OnOk result (Pushes out.old out.new
-        (guarded authority (print (decode_unreserved E.set path.now)))) }
-{
-    push_short_str(guard_before(follows_authority, path), out)?;
-    push_decoded(&E::table(), path, out)
-}
-
-/// Appends the path of a normal text, decoded and without its dot segments, after `/.` if it would
-/// otherwise be parsed as an authority. Returns whether a double dot had nothing left to remove.
-fn push_decoded_without_dot_segments<E: Encoder>(
-    has_authority: bool,
-    path: EStr<'_, E>,
-    out: &mut String,
-) -> Result<bool, AllocError>
-    requires absolute { IsAbsolute (text_of path) }
-    requires set { IsComponentSet (codes "?#[]") E.set }
-    requires slash { E.set.ascii slash ≡ true }
-    ensures text { (authority : Option (List ℕ)) → is_some authority ≡ has_authority
-        → OnOk result (Pushes out.old out.new
-        (guarded authority (print
-        (decode_unreserved E.set (remove_dot_segments (text_of path.entry)))))) }
-    ensures underflow { IfOk result (λ underflowed. underflowed ≡ underflows (text_of path.entry)) }
-{
-    let start = out.len();
-    let underflowed = push_decoded_path(&E::table(), path.as_str(), out)?;
-    if !has_authority {
-        guard_path(start, out)?;
-    }
-    Ok(underflowed)
-}
-
-/// Appends the path of a normal text that is under a scheme and begins with `/`, decoded and
-/// without its dot segments. Returns whether a double dot had nothing left to remove.
+/// Appends the path of a normal text that is under a scheme and begins with `/`: decoded and
+/// without its dot segments, after `/.` if it would otherwise be parsed as an authority. Returns
+/// whether a double dot had nothing left to remove.
 fn push_normal_absolute_path<E: Encoder>(
     has_authority: bool,
     path: EStr<'_, E>,
@@ -181,11 +95,12 @@ fn push_normal_absolute_path<E: Encoder>(
         (decode_unreserved E.set (remove_dot_segments (text_of path.entry)))))) }
     ensures underflow { IfOk result (λ underflowed. underflowed ≡ underflows (text_of path.entry)) }
 {
-    if has_dot_segments(path.as_str()) {
-        return push_decoded_without_dot_segments(has_authority, path, out);
+    let start = out.len();
+    let underflowed = push_decoded_path(path, out)?;
+    if !has_authority {
+        guard_path(start, out)?;
     }
-    push_decoded_guarded::<E>(has_authority, path.as_str(), out)?;
-    Ok(false)
+    Ok(underflowed)
 }
 
 /// Appends a path as it is in a normal text, and returns whether a double dot had nothing left
@@ -233,16 +148,17 @@ pub(crate) fn push_normal_text<K: Kind, P: DefaultPort>(
 {
     let scheme = core.scheme();
     let scheme_end = push_scheme(scheme, out)?;
-    let authority = push_authority_with_delimiter(core.authority(), scheme, ports, out)?;
+    let authority = core.authority();
+    let places = push_authority(authority, scheme, ports, out)?;
     let path_start = out.len();
     let path = core.path();
-    let underflows = push_normal_path(core.has_scheme(), core.has_authority(), path, out)?;
+    let underflows = push_normal_path(scheme.is_some(), authority.is_some(), path, out)?;
     let path_end = out.len();
     let query_end = push_with_delimiter('?', core.query(), out)?;
     push_with_delimiter('#', core.fragment(), out)?;
     let positions = Positions {
         scheme_end,
-        authority,
+        authority: places,
         path_start,
         path_end,
         query_end,

@@ -8,7 +8,7 @@ ghost use Rattle.uri_pct.specs.Tokens.{IsValidFor};
 ghost use Rattle.uri_ops.specs.Models.Decodings.{decoded_text};
 
 use crate::normalize::literal_runs::push_short_str;
-use crate::normalize::octets::{push_unreserved, unreserved_of_octet};
+use crate::normalize::octets::{octet_digits, push_unreserved, unreserved_of_octet};
 use std::alloc::AllocError;
 
 /// How many octets a block has.
@@ -36,7 +36,8 @@ fn decode_block(lowers: bool, text: &str, start: usize, block: &mut [u8; BLOCK])
     let mut count = 0;
     let mut end = start;
     while count < BLOCK && bytes[end] == b'%' {
-        let Some(ch) = unreserved_of_octet(lowers, bytes[end + 1], bytes[end + 2]) else {
+        let (high, low) = octet_digits(text, end);
+        let Some(ch) = unreserved_of_octet(lowers, high, low) else {
             break;
         };
         block[count] = ch;
@@ -102,7 +103,8 @@ pub(crate) fn push_unreserved_run(
     let mut end = start;
     let mut left = BLOCK;
     while end < bytes.len() && bytes[end] == b'%' {
-        let Some(ch) = unreserved_of_octet(lowers, bytes[end + 1], bytes[end + 2]) else {
+        let (high, low) = octet_digits(text, end);
+        let Some(ch) = unreserved_of_octet(lowers, high, low) else {
             break;
         };
         if left == 0 {

@@ -1,12 +1,16 @@
 //! Single octets of ASCII, decoded if unreserved (RFC 3986, sections 6.2.2.1 and 6.2.2.2).
 ghost use Rattle.std.specs.Prelude.{◌≡◌, ◌<◌, ◌&&◌, ◌∷◌, ◌+◌, ◌*◌, ℕ, [], Bool, IsTrue};
-ghost use Rattle.std.specs.Prelude.{MatchOption, OnOk, false, if◌then◌else◌, nat_lt, true};
+ghost use Rattle.std.specs.Prelude.{MatchOption, OnOk, drop, false, if◌then◌else◌, length, nat_lt};
+ghost use Rattle.std.specs.Prelude.{slice_index, true};
 ghost use Rattle.std.specs.Char.{digit_value, is_ascii_hexdigit};
+ghost use Rattle.std.specs.Str.{IsCharBoundary};
+ghost use Rattle.uri_pct.specs.Chunks.{widest_set};
 ghost use Rattle.uri_pct.specs.DecodeUnreserved.{decode_octet};
+ghost use Rattle.uri_pct.specs.Delimiters.{percent_sign};
 ghost use Rattle.uri_pct.specs.Sets.{is_unreserved};
-ghost use Rattle.uri_pct.specs.Tokens.{Octet, print};
+ghost use Rattle.uri_pct.specs.Tokens.{IsValidFor, Octet, print};
 ghost use Rattle.uri_pct.specs.Texts.{Pushes};
-ghost use Rattle.uri_ops.specs.Models.Decodings.{lowered_if, lowered_code_if};
+ghost use Rattle.uri_ops.specs.Models.Decodings.{IsOctetAt, lowered_if, lowered_code_if};
 ghost use Rattle.uri_ops.specs.declared.normalize.octets.TheConstants.{LOWERED_CODES};
 ghost use Rattle.uri_ops.specs.declared.normalize.octets.TheConstants.{UNRESERVED_CODES};
 
@@ -61,6 +65,19 @@ fn unreserved(lowers: bool, value: u8) -> Option<u8>
 {
     let ch = codes(lowers)[usize::from(value)];
     if ch.is_ascii() { Some(ch) } else { None }
+}
+
+/// Returns the digits of the octet that begins at a `%` of a valid text.
+#[inline(always)]
+pub(crate) fn octet_digits(text: &str, at: usize) -> (u8, u8)
+    requires boundary { IsCharBoundary text.now at }
+    requires valid { IsValidFor widest_set (drop at text.now) }
+    requires within { at < length text.now }
+    requires percent { slice_index text.now at ≡ percent_sign }
+    ensures { IsOctetAt text.now at result.0 result.1 }
+{
+    let bytes = text.as_bytes();
+    (bytes[at + 1], bytes[at + 2])
 }
 
 /// Returns the unreserved character that the octet with these digits encodes, if any, with a letter

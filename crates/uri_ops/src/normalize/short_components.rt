@@ -13,7 +13,7 @@ ghost use Rattle.uri_ops.specs.Models.Decodings.{decoded_text, lowered_code_if, 
 ghost use Rattle.uri_ops.specs.declared.normalize.short_components.TheConstants.{CHARACTERS};
 ghost use Rattle.uri_ops.specs.declared.normalize.short_components.TheConstants.{LOWERED_CHARACTERS};
 
-use crate::normalize::octets::unreserved_of_octet;
+use crate::normalize::octets::{octet_digits, unreserved_of_octet};
 use crate::normalize::room::{has_room, put_bytes, take_bytes};
 use uri_pct::octet::{octet_value, pct_encoded};
 
@@ -141,8 +141,7 @@ fn push_short_bytes(alone: bool, lowers: bool, text: &str, out: &mut Vec<u8>) ->
         if byte != b'%' {
             return end;
         }
-        let high = bytes[end + 1];
-        let low = bytes[end + 2];
+        let (high, low) = octet_digits(text, end);
         if high >= b'8' && !alone {
             return end;
         }

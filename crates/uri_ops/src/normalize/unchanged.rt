@@ -15,9 +15,9 @@ ghost use Rattle.uri_parts.specs.CoreTexts.{core_text};
 ghost use Rattle.uri_parts.specs.PackedPositions.{ArePackedPositionsOf};
 ghost use Rattle.uri_parts.specs.Schemes.{scheme_text};
 ghost use Rattle.uri_ops.specs.ComponentSets.{HasComponentSets};
-ghost use Rattle.uri_ops.specs.Models.Unchanged.{IsUnchangedAuthority, IsUnchangedPath, IsLiteral};
-ghost use Rattle.uri_ops.specs.Models.Unchanged.{is_literal_byte};
-ghost use Rattle.uri_ops.specs.Meaning.{host_meaning, port_meaning};
+ghost use Rattle.uri_ops.specs.Models.Unchanged.{IsLiteral, IsUnchangedHost, IsUnchangedPath};
+ghost use Rattle.uri_ops.specs.Models.Unchanged.{IsUnchangedPort, is_literal_byte};
+ghost use Rattle.uri_ops.specs.Meaning.{host_meaning};
 ghost use Rattle.uri_ops.specs.Normal.{default_port_of, host_text, normal_scheme};
 ghost use Rattle.uri_ops.specs.Normalizers.{HasNormalText, text_underflows};
 ghost use Rattle.uri_parts.specs.Ports.{PortFunction};
@@ -33,14 +33,6 @@ use uri_parts::kind::Kind;
 use uri_pct::encoder::Encoder;
 use uri_pct::lanes::{LANES, lanes_equal_to};
 use uri_pct::search::len_before_slash_dot;
-
-/// Returns whether a text with this byte may be unchanged: the byte begins neither an octet nor a
-/// formatting character of bidirectional text.
-fn is_literal_byte(byte: u8) -> bool
-    ensures { result ≡ is_literal_byte byte }
-{
-    byte != b'%' && byte != 0xE2
-}
 
 /// Returns whether a text may be unchanged by the sixteen bytes from `at` on: none begins an octet
 /// or a formatting character.
@@ -60,7 +52,7 @@ fn is_literal(bytes: &[u8]) -> bool
     ensures { result ≡ true → IsLiteral bytes.now }
 {
     if bytes.len() < LANES {
-        return bytes.iter().all(|byte| is_literal_byte(*byte));
+        return bytes.iter().all(|byte| *byte != b'%' && *byte != 0xE2);
     }
     let last = bytes.len() - LANES;
     let mut i = 0;
@@ -91,33 +83,6 @@ fn is_scheme_unchanged(scheme: Option<Scheme<'_>>) -> bool
     }
 }
 
-/// Returns whether the authority has a port or a host in brackets. `is_unchanged` does not test
-/// such an authority further.
-#[inline(always)]
-pub(crate) fn has_port_or_brackets<U: Encoder, R: Encoder>(
-    authority: Option<Authority<'_, U, R>>,
-) -> bool
-    ensures { result ≡ false → IfSome (option_map authority_text authority.entry) (λ a.
-        (starts left_bracket (authority_parts a).host ≡ false)
-        × ((authority_parts a).port ≡ None)) }
-{
-    let Some(authority) = authority else {
-        return false;
-    };
-    authority.has_port() || is_bracketed(authority.host())
-}
-
-/// Returns whether the host, if there is one, may be unchanged: no ASCII letter is in upper case.
-fn is_host_lower<U: Encoder, R: Encoder>(authority: Option<Authority<'_, U, R>>) -> bool
-    ensures { result ≡ true → IfSome (option_map authority_text authority.entry) (λ a.
-        let host = (authority_parts a).host in str_to_ascii_lowercase host ≡ host) }
-{
-    match authority {
-        Some(authority) => is_lower(authority.host()),
-        None => true,
-    }
-}
-
 /// Returns whether a byte of an IPv6 address other than `:` may be written otherwise in a normal
 /// form: it is a `.`, a letter in upper case, or a `0` that begins a group.
 #[inline(always)]
@@ -137,6 +102,8 @@ fn is_unusual_digit(previous: u8, byte: u8) -> bool
 
 /// Returns `true` only if normalising keeps the address in brackets: its digits are in lower case,
 /// no group begins with a `0`, and `::` replaces two groups or more.
+#[cold]
+#[inline(never)]
 fn is_address_unchanged(host: &str) -> bool
     requires { starts left_bracket host.now ≡ true }
     ensures { result ≡ true → (names : TableSet) → is_host names host.now ≡ true
@@ -166,10 +133,7 @@ fn is_address_unchanged(host: &str) -> bool
 /// lower case, or an address in brackets in its normal form.
 fn is_host_unchanged<U: Encoder, R: Encoder>(authority: Option<Authority<'_, U, R>>) -> bool
     ensures { result ≡ true → IfSome (option_map authority_text authority.entry)
-        (λ a. let host = (authority_parts a).host in
-        (starts left_bracket host ≡ false → str_to_ascii_lowercase host ≡ host)
-        × (starts left_bracket host ≡ true → (names : TableSet) → is_host names host ≡ true
-        → host_text (host_meaning names host (host_kind host)) ≡ host)) }
+        (λ a. IsUnchangedHost (authority_parts a).host) }
 {
     let Some(authority) = authority else {
         return true;
@@ -193,8 +157,45 @@ fn is_path_unchanged(has_scheme: bool, path: &str) -> bool
     !has_dot_segments(path)
 }
 
-/// Returns `true` only if the normal text of a value is its own, under any default ports. It
-/// returns `false` at once if a `/` near the start of a long path has a dot or an octet after it.
+/// Returns `true` only if the normal text of a value is its own, under any default ports that keep
+/// its port. It returns `false` at once if a `/` near the start of a long path has a dot or a `%`
+/// after it.
+pub(crate) fn is_unchanged_but_for_port<K: Kind>(core: Core<K, &str>) -> bool
+    requires { HasComponentSets K.kind }
+    ensures text { let p = components (core_text core.entry) in
+        result ≡ true → (ports : PortFunction)
+        → IfSome p.authority (λ a.
+        IsUnchangedPort (default_port_of ports p.scheme) (authority_parts a).port)
+        → HasNormalText K.kind ports (core_text core.entry) (core_text core.entry) }
+    ensures underflow { result ≡ true → text_underflows (core_text core.entry) ≡ false }
+{
+    let path = core.path().as_str();
+    if path.len() > LANES && len_before_slash_dot(path.as_bytes(), 0) < LANES {
+        return false;
+    }
+    let scheme = core.scheme();
+    if !is_literal(core.as_str().as_bytes())
+        || !is_scheme_unchanged(scheme)
+        || !is_host_unchanged(core.authority())
+    {
+        return false;
+    }
+    is_path_unchanged(scheme.is_some(), path)
+}
+
+/// Returns whether no port is after the host of the authority, if there is one.
+fn lacks_port<U: Encoder, R: Encoder>(authority: Option<Authority<'_, U, R>>) -> bool
+    ensures { result ≡ true → IfSome (option_map authority_text authority.entry)
+        (λ a. (authority_parts a).port ≡ None) }
+{
+    match authority {
+        Some(authority) => !authority.has_port(),
+        None => true,
+    }
+}
+
+/// Returns `true` only if the normal text of a value is its own, under any default ports. It misses
+/// each value with a port, and a few others.
 #[doc(hidden)]
 pub fn is_unchanged<K: Kind>(core: Core<K, &str>) -> bool
     requires { HasComponentSets K.kind }
@@ -202,57 +203,7 @@ pub fn is_unchanged<K: Kind>(core: Core<K, &str>) -> bool
         → HasNormalText K.kind ports (core_text core.entry) (core_text core.entry) }
     ensures underflow { result ≡ true → text_underflows (core_text core.entry) ≡ false }
 {
-    if has_port_or_brackets(core.authority()) {
-        return false;
-    }
-    let path = core.path().as_str();
-    if path.len() > LANES && len_before_slash_dot(path.as_bytes(), 0) < LANES {
-        return false;
-    }
-    if !is_literal(core.as_str().as_bytes())
-        || !is_scheme_unchanged(core.scheme())
-        || !is_host_lower(core.authority())
-    {
-        return false;
-    }
-    is_path_unchanged(core.has_scheme(), path)
-}
-
-/// Returns `true` only if normalising keeps the scheme, the host and the path of a value, if it
-/// decodes nothing in them.
-#[cold]
-#[inline(never)]
-fn are_literal_components_unchanged<K: Kind>(core: Core<K, &str>) -> bool
-    ensures { let p = components (core_text core.entry) in
-        result ≡ true → (normal_scheme p.scheme ≡ p.scheme) × (IfSome p.authority (λ a.
-        let host = (authority_parts a).host in
-        (starts left_bracket host ≡ false → str_to_ascii_lowercase host ≡ host)
-        × (starts left_bracket host ≡ true → (names : TableSet) → is_host names host ≡ true
-        → host_text (host_meaning names host (host_kind host)) ≡ host))
-        × IsUnchangedPath p.scheme p.path) }
-{
-    if !is_scheme_unchanged(core.scheme()) || !is_host_unchanged(core.authority()) {
-        return false;
-    }
-    is_path_unchanged(core.has_scheme(), core.path().as_str())
-}
-
-/// Returns `true` only if the normal text of a value is its own, under any default ports that keep
-/// its port. It is for values with a port or with a host in brackets; `is_unchanged` tests others.
-#[inline(always)]
-pub(crate) fn is_unchanged_but_for_port<K: Kind>(core: Core<K, &str>) -> bool
-    requires { HasComponentSets K.kind }
-    ensures text { let p = components (core_text core.entry) in
-        result ≡ true → (ports : PortFunction)
-        → IfSome p.authority (λ a. let port = (authority_parts a).port in
-        port_meaning (default_port_of ports p.scheme) port ≡ port)
-        → HasNormalText K.kind ports (core_text core.entry) (core_text core.entry) }
-    ensures underflow { result ≡ true → text_underflows (core_text core.entry) ≡ false }
-{
-    if !is_literal(core.as_str().as_bytes()) {
-        return false;
-    }
-    are_literal_components_unchanged(core)
+    lacks_port(core.authority()) && is_unchanged_but_for_port(core)
 }
 
 /// Returns a copy of a text that is its own normal text, with its positions.

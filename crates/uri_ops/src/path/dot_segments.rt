@@ -7,7 +7,7 @@ ghost use Rattle.uri_parts.specs.Components.{IsAbemptyPath};
 ghost use Rattle.uri_ops.specs.Models.Directories.{RemovalState, IsDotlessDirectory};
 ghost use Rattle.uri_ops.specs.Models.Directories.{parent_directory};
 ghost use Rattle.uri_ops.specs.Models.LeadingSegments.{BeginsWithoutDotSegment};
-ghost use Rattle.uri_ops.specs.Models.SegmentModes.{IsTextForMode, text_by_mode};
+ghost use Rattle.uri_ops.specs.Models.SegmentModes.{KeepsSlashesAndDots};
 ghost use Rattle.uri_ops.specs.Models.Places.{IsSlashOrStart};
 ghost use Rattle.uri_ops.specs.Dots.{EndsInSlash, IsAbsolute, before_last_slash, directory};
 ghost use Rattle.uri_ops.specs.Dots.{has_slash, is_double_dot, is_empty, lacks_dot_segments};
@@ -17,7 +17,7 @@ ghost use Rattle.uri_ops.specs.Target.{merged};
 use crate::path::leading_segment::{
     LeadingDots, begins_with_dot, dotless_prefix_len, is_double_dot, leading_dot_segment,
 };
-use crate::path::segment_mode::SegmentMode;
+use crate::path::segment_mode::{Copied, SegmentMode};
 use std::alloc::AllocError;
 use uri_pct::lanes::{LANES, lanes_equal_to};
 
@@ -40,7 +40,7 @@ fn end_of_last_block_with_slash(bytes: &[u8], start: usize) -> usize
 }
 
 /// Returns the position of a path's last `/` that is not before `start`, or `start` if there is
-/// none. The text has none from `limit` on.
+/// none. The text has none from `limit` on. It searches byte by byte: most segments are short.
 #[inline(always)]
 fn last_slash_before(bytes: &[u8], start: usize, limit: usize) -> usize
     requires from { start ≤ limit }
@@ -73,17 +73,6 @@ pub(crate) fn last_slash(bytes: &[u8], start: usize) -> usize
     last_slash_before(bytes, start, end_of_last_block_with_slash(bytes, start))
 }
 
-/// Returns the position of a path's last `/` that is not before `start`, or `start` if there is
-/// none. It searches byte by byte, since most segments are short.
-fn last_slash_bytewise(bytes: &[u8], start: usize) -> usize
-    requires { start ≤ length bytes.now }
-    ensures prefix { take result bytes.now
-        ≡ take start bytes.now ++ before_last_slash (drop start bytes.now) }
-    ensures place { IsSlashOrStart bytes.now start result }
-{
-    last_slash_before(bytes, start, bytes.len())
-}
-
 /// Cuts off the last segment of the directory that is in `out` from `start` on, with the `/`
 /// after it, and returns whether there is none.
 fn pop_segment(start: usize, out: &mut String) -> bool
@@ -94,7 +83,8 @@ fn pop_segment(start: usize, out: &mut String) -> bool
     ensures none { result ≡ is_empty (before_last_slash (drop start (string_bytes out.old))) }
 {
     let end = out.len() - 1;
-    let slash = last_slash_bytewise(&out.as_bytes()[..end], start);
+    let bytes = &out.as_bytes()[..end];
+    let slash = last_slash_before(bytes, start, bytes.len());
     out.truncate(slash + 1);
     end == start
 }
@@ -122,21 +112,22 @@ pub(crate) fn has_dot_segments(path: &str) -> bool
 /// Segments that can't be dot segments are appended together, with the `/` between them. The
 /// function is inlined, so that the mode is a constant for each caller.
 #[inline(always)]
-pub(crate) fn push_segments(
-    pieces: SegmentMode<'_>,
+pub(crate) fn push_segments<M: SegmentMode>(
+    mode: M,
     path: &str,
     start: usize,
     out: &mut String,
 ) -> Result<bool, AllocError>
     requires directory { IsDotlessDirectory (drop start (string_bytes out.old)) }
-    requires pieces { IsTextForMode pieces path.now }
+    requires keeps { KeepsSlashesAndDots (M.pushed_text mode) (M.takes mode) }
+    requires takes { M.takes mode path.now ≡ true }
     ensures before { IfOk result (λ _.
         take start (string_bytes out.new) ≡ take start (string_bytes out.old)) }
     ensures text { IfOk result (λ _. drop start (string_bytes out.new)
         ≡ remove_dot_segments
-        (drop start (string_bytes out.old) ++ text_by_mode pieces.entry path.now)) }
+        (drop start (string_bytes out.old) ++ M.pushed_text mode path.now)) }
     ensures underflow { IfOk result (λ underflowed. underflowed
-        ≡ underflows (drop start (string_bytes out.old) ++ text_by_mode pieces.entry path.now)) }
+        ≡ underflows (drop start (string_bytes out.old) ++ M.pushed_text mode path.now)) }
 {
     let mut underflowed = false;
     let mut rest = path;
@@ -149,7 +140,7 @@ pub(crate) fn push_segments(
             }
             LeadingDots::NoDots => {
                 let next = dotless_prefix_len(rest);
-                pieces.push(&rest[..next], out)?;
+                mode.push(&rest[..next], out)?;
                 rest = &rest[next..];
             }
         }
@@ -175,7 +166,7 @@ pub fn push_without_dot_segments(path: &str, out: &mut String) -> Result<bool, A
     if dotless == path.len() {
         return Ok(false);
     }
-    let underflowed = push_segments(SegmentMode::Copied, &path[dotless..], start, out)?;
+    let underflowed = push_segments(Copied, &path[dotless..], start, out)?;
     Ok(underflowed)
 }
 
@@ -222,7 +213,8 @@ fn parent(directory: &str) -> &str
     ensures { result.now ≡ parent_directory directory.now }
 {
     let end = directory.len() - 1;
-    let slash = last_slash_bytewise(&directory.as_bytes()[..end], 0);
+    let before = &directory.as_bytes()[..end];
+    let slash = last_slash_before(before, 0, before.len());
     &directory[..slash + 1]
 }
 
@@ -275,7 +267,7 @@ fn push_after_first_segment(path: &str, start: usize, out: &mut String) -> Resul
     if prefix == path.len() {
         return Ok(false);
     }
-    let underflowed = push_segments(SegmentMode::Copied, &path[prefix..], start, out)?;
+    let underflowed = push_segments(Copied, &path[prefix..], start, out)?;
     Ok(underflowed)
 }
 
@@ -316,6 +308,6 @@ pub(crate) fn push_merged(base: &str, reference: &str, out: &mut String) -> Resu
     }
     let start = out.len();
     let of_base = push_without_dot_segments(directory, out)?;
-    let of_reference = push_segments(SegmentMode::Copied, reference, start, out)?;
+    let of_reference = push_segments(Copied, reference, start, out)?;
     Ok(of_base | of_reference)
 }

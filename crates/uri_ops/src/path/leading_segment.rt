@@ -3,7 +3,7 @@
 ghost use Rattle.std.specs.Prelude.{◌≡◌, ◌≤◌, ◌<◌, ◌==◌, ◌||◌, ◌+◌, ◌&&◌, length, drop};
 ghost use Rattle.std.specs.Prelude.{slice_index};
 ghost use Rattle.std.specs.Str.{IsCharBoundary};
-ghost use Rattle.uri_pct.specs.Delimiters.{full_stop, percent_sign, slash};
+ghost use Rattle.uri_pct.specs.Delimiters.{full_stop, slash};
 ghost use Rattle.uri_parts.specs.Components.{IsAbemptyPath};
 ghost use Rattle.uri_ops.specs.Models.LeadingSegments.{IsPrefixToSlashDot, DescribesLeadingDots};
 ghost use Rattle.uri_ops.specs.Models.LeadingSegments.{BeginsWithoutDotSegment};
@@ -58,13 +58,6 @@ pub(crate) fn begins_with_dot(path: &[u8]) -> bool
     matches!(path, [b'.' | b'%', ..])
 }
 
-/// Returns whether a leading dot segment begins with this byte.
-fn is_dot_start(byte: u8) -> bool
-    ensures { result ≡ (byte == full_stop || byte == percent_sign) }
-{
-    byte == b'.' || byte == b'%'
-}
-
 /// Returns the length of a path up to and with the first `/` that has a dot or an octet after it.
 ///
 /// The last window ends with the text and overlaps those before, which have no such `/`.
@@ -96,7 +89,7 @@ fn short_dotless_prefix_len(bytes: &[u8]) -> usize
     }
     let mut i = 0;
     while i + 1 < bytes.len() {
-        if bytes[i] == b'/' && is_dot_start(bytes[i + 1]) {
+        if bytes[i] == b'/' && (bytes[i + 1] == b'.' || bytes[i + 1] == b'%') {
             return i + 1;
         }
         i += 1;

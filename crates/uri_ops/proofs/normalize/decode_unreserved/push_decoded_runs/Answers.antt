@@ -1,25 +1,25 @@
-use Rattle.std.proofs.Common.{◌≡◌, ◌+◌, ◌*◌, ◌-◌, ◌++◌, ◌<◌, ◌≤◌, ◌⊎◌, inl, inr, false, true, not}
-use Rattle.std.proofs.Common.{eqb}
-use Rattle.std.proofs.Common.{get_or, length, drop, refl, sym, ap, ◌∙◌, subst, arith, string_bytes}
+use Rattle.std.proofs.Common.{◌≡◌, ◌+◌, ◌*◌, ◌-◌, ◌++◌, ◌∷◌, [], ◌<◌, ◌≤◌, ◌⊎◌, inl, inr, false}
+use Rattle.std.proofs.Common.{true, not, eqb, length, drop, refl, sym, ap, ◌∙◌, subst, arith}
+use Rattle.std.proofs.Common.{string_bytes}
 use Rattle.std.specs.Char.{digit_value}
 use Rattle.std.specs.List.{position_or_len}
 use Rattle.std.proofs.lemmas.List.{length-drop}
 use Rattle.std.proofs.lemmas.Result.{on_ok_weaker}
 use Rattle.std.proofs.lemmas.Str.{IsUtf8-drop, IsCharBoundary-start, IsCharBoundary-from_rest}
-use Rattle.uri_pct.specs.Sets.{is_unreserved}
+use Rattle.uri_pct.specs.DecodeUnreserved.{decode_octet}
 use Rattle.uri_pct.specs.Tables.{set_of}
-use Rattle.uri_ops.specs.Models.Decodings.{KeepsPrefixWhenDecoded, lowered_text_if, decoded_text}
+use Rattle.uri_pct.specs.Tokens.{Octet, print}
+use Rattle.uri_ops.specs.Models.Decodings.{KeepsPrefixWhenDecoded, decoded_text, lowered_if}
+use Rattle.uri_ops.specs.Models.Decodings.{lowered_text_if}
 use Rattle.uri_ops.proofs.Meanings.DecodedPrefixes.{LiteralPrefix, octet-is-decoded-alone}
-use Rattle.uri_ops.proofs.Meanings.DecodedPrefixes.{percent-in-valid-text-begins-octet}
 use Rattle.uri_ops.proofs.Meanings.DecodedPrefixes.{text-before-percent-is-literal-prefix}
 use Rattle.uri_ops.proofs.Meanings.DecodedPrefixes.{empty-prefix-stays, kept-prefix-grows}
-use Rattle.uri_ops.proofs.Meanings.DecodedPrefixes.{kept-prefix-is-pushed}
-use Rattle.uri_ops.proofs.Meanings.DecodedOctets.{uppercase-reserved-octet-stays}
-use Rattle.uri_ops.proofs.Meanings.DecodedPrefixes.{last-prefix-is-pushed}
+use Rattle.uri_ops.proofs.Meanings.DecodedPrefixes.{kept-prefix-is-pushed, last-prefix-is-pushed}
 use Rattle.uri_ops.proofs.Meanings.DecodedPrefixes.{suffix-of-suffix-is-valid}
 use Rattle.uri_ops.proofs.Meanings.DecodedPrefixes.{decoded-octet-is-pushed}
 use Rattle.uri_ops.proofs.Meanings.DecodedPrefixes.{kept-prefix-is-kept-from-zero}
 use Rattle.uri_ops.proofs.Meanings.DecodedPrefixes.{unset-flags-lack-past-ascii}
+use Rattle.uri_ops.proofs.Meanings.DecodedOctets.{uppercase-reserved-octet-stays}
 use Rattle.uri_ops.proofs.normalize.decode_unreserved.push_decoded_runs.Goals as goal
 use Rattle.uri_ops.proofs.normalize.decode_unreserved.push_decoded_runs.Goals.{else-high-ge56-via-then-high-ge56+else-not-alone}
 use Rattle.uri_ops.proofs.normalize.decode_unreserved.push_decoded_runs.Goals.{else-high-ge56-via-else-high-ge56}
@@ -73,50 +73,6 @@ loop-end-preserved-then-bytes-end-ne37 c =
       total = holds.total;
     }
 
-pub bounds-bytes-end-in-loop-end : goal.bounds-bytes-end-in-loop-end
-bounds-bytes-end-in-loop-end c =
-    let holds = c.loop-end.invariant in
-    let at = percent-in-valid-text-begins-octet c.as_bytes-bytes.result.now c.args.text.now
-    c.loop-end.end
-    c.as_bytes-bytes.ensures.value c.utf8.text holds.boundary holds.valid c.loop-end-test.true
-    c.if-bytes-end-ne37.false in
-    omega (arith, at.within)
-
-pub bounds-bytes-end-in-loop-end-2 : goal.bounds-bytes-end-in-loop-end-2
-bounds-bytes-end-in-loop-end-2 c =
-    let holds = c.loop-end.invariant in
-    (percent-in-valid-text-begins-octet c.as_bytes-bytes.result.now c.args.text.now c.loop-end.end
-    c.as_bytes-bytes.ensures.value c.utf8.text holds.boundary holds.valid c.loop-end-test.true
-    c.if-bytes-end-ne37.false).within
-
-pub octet_value-requires-clause-high : goal.octet_value-requires-clause-high
-octet_value-requires-clause-high c =
-    let holds = c.loop-end.invariant in
-    (percent-in-valid-text-begins-octet c.as_bytes-bytes.result.now c.args.text.now c.loop-end.end
-    c.as_bytes-bytes.ensures.value c.utf8.text holds.boundary holds.valid c.loop-end-test.true
-    c.if-bytes-end-ne37.false).high_digit
-
-pub octet_value-requires-clause-low : goal.octet_value-requires-clause-low
-octet_value-requires-clause-low c =
-    let holds = c.loop-end.invariant in
-    (percent-in-valid-text-begins-octet c.as_bytes-bytes.result.now c.args.text.now c.loop-end.end
-    c.as_bytes-bytes.ensures.value c.utf8.text holds.boundary holds.valid c.loop-end-test.true
-    c.if-bytes-end-ne37.false).low_digit
-
-pub unreserved_of_octet-requires-clause-high : goal.unreserved_of_octet-requires-clause-high
-unreserved_of_octet-requires-clause-high c =
-    let holds = c.loop-end.invariant in
-    (percent-in-valid-text-begins-octet c.as_bytes-bytes.result.now c.args.text.now c.loop-end.end
-    c.as_bytes-bytes.ensures.value c.utf8.text holds.boundary holds.valid c.loop-end-test.true
-    c.if-bytes-end-ne37.false).high_digit
-
-pub unreserved_of_octet-requires-clause-low : goal.unreserved_of_octet-requires-clause-low
-unreserved_of_octet-requires-clause-low c =
-    let holds = c.loop-end.invariant in
-    (percent-in-valid-text-begins-octet c.as_bytes-bytes.result.now c.args.text.now c.loop-end.end
-    c.as_bytes-bytes.ensures.value c.utf8.text holds.boundary holds.valid c.loop-end-test.true
-    c.if-bytes-end-ne37.false).low_digit
-
 pub returns-then-not-alone : goal.returns-then-not-alone
 returns-then-not-alone c =
     let text = c.args.text.now in
@@ -135,20 +91,6 @@ returns-then-not-alone c =
     ++ decoded_text lowers set x) c.range_from-then-not-alone.ensures.value ∙ total)
     c.push_decoded_parts.ensures
 
-pub push_unreserved_run-requires-clause-boundary : goal.push_unreserved_run-requires-clause-boundary
-push_unreserved_run-requires-clause-boundary c =
-    let holds = c.loop-end.invariant in
-    (percent-in-valid-text-begins-octet c.as_bytes-bytes.result.now c.args.text.now c.loop-end.end
-    c.as_bytes-bytes.ensures.value c.utf8.text holds.boundary holds.valid c.loop-end-test.true
-    c.if-bytes-end-ne37.false).boundary
-
-pub push_unreserved_run-requires-clause-valid : goal.push_unreserved_run-requires-clause-valid
-push_unreserved_run-requires-clause-valid c =
-    let holds = c.loop-end.invariant in
-    (percent-in-valid-text-begins-octet c.as_bytes-bytes.result.now c.args.text.now c.loop-end.end
-    c.as_bytes-bytes.ensures.value c.utf8.text holds.boundary holds.valid c.loop-end-test.true
-    c.if-bytes-end-ne37.false).valid
-
 pub loop-end-preserved-in-Some : goal.loop-end-preserved-in-Some
 loop-end-preserved-in-Some c =
     let text = c.args.text.now in
@@ -160,29 +102,20 @@ loop-end-preserved-in-Some c =
     let prefix = string_bytes c.push_literal.new.out in
     let whole = string_bytes c.args.out.now ++ decoded_text lowers set text in
     let holds = c.loop-end.invariant in
-    let at = percent-in-valid-text-begins-octet c.as_bytes-bytes.result.now c.args.text.now
-    c.loop-end.end
-    c.as_bytes-bytes.ensures.value c.utf8.text holds.boundary holds.valid c.loop-end-test.true
-    c.if-bytes-end-ne37.false in
+    let at = c.octet_digits-high.ensures in
     let pushed = c.in_ok-push_literal.ensures
     ∙ ap (λ x. out ++ lowered_text_if lowers x) c.range.ensures.value in
     let total = kept-prefix-is-pushed lowers set text out prefix whole c.loop-end.done end
     holds.order
     holds.prefix pushed holds.total in
-    let either : (alone ≡ true) ⊎ (get_or c.as_bytes-bytes.result.now (end + 1) 0 < 56) =
-    inr c.in-Some.ensures.2 in
-    let itself = octet-is-decoded-alone c.as_bytes-bytes.result.now text end at alone either in
     let none = unset-flags-lack-past-ascii set c.allows_some_past_ascii-alone.result
     c.allows_some_past_ascii-alone.ensures in
-    let bytes = c.as_bytes-bytes.result.now in
-    let value = 16 * digit_value (get_or bytes (end + 1) 0)
-    + digit_value (get_or bytes (end + 2) 0) in
+    let value = 16 * digit_value c.octet_digits-high.result.0
+    + digit_value c.octet_digits-high.result.1 in
     let next = c.in_ok-end.end in
-    let decoded = decoded-octet-is-pushed lowers set prefix
-    (string_bytes c.push_unreserved.new.out) whole
-    (drop end text) (drop (end + 3) text) value at.octet alone none itself at.value at.suffix
-    (c.in_ok-push_unreserved.ensures lowers value c.in-Some.ensures.1 c.in-Some.ensures.0)
-    total in
+    let decoded = decoded-octet-is-pushed at lowers set prefix
+    (string_bytes c.push_unreserved.new.out) whole alone none (inr c.in-Some.ensures.2)
+    (c.in_ok-push_unreserved.ensures lowers value c.in-Some.ensures.1 c.in-Some.ensures.0) total in
     let nothing : 0 ≡ next - next = omega arith in
     record {
       order = omega arith;
@@ -200,16 +133,12 @@ loop-end-smaller-in-Some c = omega (arith, c.in_ok-end.ensures.from, c.in_ok-end
 pub loop-end-preserved-then-are_uppercase_digits : goal.loop-end-preserved-then-are_uppercase_digits
 loop-end-preserved-then-are_uppercase_digits c =
     let text = c.args.text.now in
-    let bytes = c.as_bytes-bytes.result.now in
     let end = c.loop-end.end in
     let set = set_of c.args.table.now in
     let alone = not c.allows_some_past_ascii-alone.result in
     let holds = c.loop-end.invariant in
-    let at = percent-in-valid-text-begins-octet c.as_bytes-bytes.result.now c.args.text.now
-    c.loop-end.end
-    c.as_bytes-bytes.ensures.value c.utf8.text holds.boundary holds.valid c.loop-end-test.true
-    c.if-bytes-end-ne37.false in
-    let either : (alone ≡ true) ⊎ (get_or bytes (end + 1) 0 < 56) =
+    let at = c.octet_digits-high.ensures in
+    let either : (alone ≡ true) ⊎ (c.octet_digits-high.result.0 < 56) =
     elim c.else-high-ge56.branch [
       | else-high-ge56-via-then-high-ge56+else-not-alone w ↦ inl
           (ap not w.if-not-alone.false)
@@ -219,11 +148,9 @@ loop-end-preserved-then-are_uppercase_digits c =
     let none = unset-flags-lack-past-ascii set c.allows_some_past_ascii-alone.result
     c.allows_some_past_ascii-alone.ensures in
     let octet : KeepsPrefixWhenDecoded false set (drop end text) 3 =
-    uppercase-reserved-octet-stays set (drop end text) at.octet (get_or bytes (end + 1) 0)
-    (get_or bytes (end + 2) 0)
-    alone at.high at.low (sym c.are_uppercase_digits.ensures ∙ c.if-are_uppercase_digits.true)
-    (ap is_unreserved (sym at.value) ∙ c.in_default.ensures) none
-    (octet-is-decoded-alone bytes text end at alone either) in
+    uppercase-reserved-octet-stays at set alone
+    (sym c.are_uppercase_digits.ensures ∙ c.if-are_uppercase_digits.true) c.in_default.ensures none
+    (octet-is-decoded-alone at alone either) in
     record {
       order = omega (arith, holds.order);
       start = holds.start;
@@ -248,23 +175,19 @@ loop-end-preserved c =
     let prefix = string_bytes c.push_literal-in-loop-end.new.out in
     let whole = string_bytes c.args.out.now ++ decoded_text lowers set text in
     let holds = c.loop-end.invariant in
-    let at = percent-in-valid-text-begins-octet c.as_bytes-bytes.result.now c.args.text.now
-    c.loop-end.end
-    c.as_bytes-bytes.ensures.value c.utf8.text holds.boundary holds.valid c.loop-end-test.true
-    c.if-bytes-end-ne37.false in
+    let at = c.octet_digits-high.ensures in
     let pushed = c.in_ok-push_literal-3.ensures
     ∙ ap (λ x. out ++ lowered_text_if lowers x) c.range-in-loop-end.ensures.value in
     let total = kept-prefix-is-pushed lowers set text out prefix whole c.loop-end.done end
     holds.order
     holds.prefix pushed holds.total in
-    let either : (alone ≡ true) ⊎ (get_or c.as_bytes-bytes.result.now (end + 1) 0 < 56) =
+    let either : (alone ≡ true) ⊎ (c.octet_digits-high.result.0 < 56) =
     elim c.else-high-ge56.branch [
       | else-high-ge56-via-then-high-ge56+else-not-alone w ↦ inl
           (ap not w.if-not-alone.false)
       | else-high-ge56-via-else-high-ge56 w ↦ inr
           w.if-high-ge56.false
     ] in
-    let itself = octet-is-decoded-alone c.as_bytes-bytes.result.now text end at alone either in
     let none = unset-flags-lack-past-ascii set c.allows_some_past_ascii-alone.result
     c.allows_some_past_ascii-alone.ensures in
     let nothing : 0 ≡ end + 3 - (end + 3) = omega arith in
@@ -275,11 +198,10 @@ loop-end-preserved c =
       valid = at.valid;
       prefix = subst (KeepsPrefixWhenDecoded lowers set (drop (end + 3) text)) nothing
           (empty-prefix-stays lowers set (drop (end + 3) text));
-      total = decoded-octet-is-pushed lowers set prefix (string_bytes c.push_octet.new.out) whole
-          (drop end text)
-          (drop (end + 3) text) c.octet_value.result at.octet alone none itself
-          (c.octet_value.ensures ∙ at.value) at.suffix (c.in_ok-push_octet.ensures lowers)
-          total;
+      total = decoded-octet-is-pushed at lowers set prefix (string_bytes c.push_octet.new.out) whole
+          alone none either
+          (c.in_ok-push_octet.ensures lowers ∙ ap (λ v. prefix
+          ++ print (lowered_if lowers (decode_octet (Octet v) ∷ []))) c.octet_value.ensures) total;
     }
 
 pub returns : goal.returns

@@ -1,5 +1,5 @@
-use Rattle.std.proofs.Common.{◌≡◌, ℕ, Bool, ◌&&◌, List, ◌++◌}
-use Rattle.std.proofs.Common.{cond, sym, ap, ◌∙◌, string_bytes, ⊎_elim}
+use Rattle.std.proofs.Common.{◌≡◌, ℕ, Bool, ◌&&◌, List, ◌++◌, cond, sym, ap, ◌∙◌, string_bytes}
+use Rattle.std.proofs.Common.{⊎_elim}
 use Rattle.std.specs.Str.{IsAscii}
 use Rattle.std.proofs.lemmas.Bool.{cases_Bool, cond-true, cond-false}
 use Rattle.std.proofs.lemmas.Str.{IsUtf8-from_ascii}

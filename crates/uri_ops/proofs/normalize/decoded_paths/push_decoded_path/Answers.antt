@@ -1,76 +1,23 @@
-use Rattle.std.proofs.Common.{◌≡◌, ◌++◌, length, rules, string_bytes, sym, subst, ap, ◌∙◌, lit<}
-use Rattle.std.specs.Prelude.{codes}
-use Rattle.std.proofs.lemmas.Str.{encode_ascii}
+use Rattle.std.proofs.Common.{◌≡◌, true, sym, ap, ◌∙◌, ◌++◌, string_bytes}
+use Rattle.uri_pct.specs.EncodedTexts.{text_of}
 use Rattle.uri_pct.specs.DecodeUnreserved.{decode_unreserved}
-use Rattle.uri_pct.specs.Tables.{set_of}
 use Rattle.uri_pct.specs.Tokens.{print}
-use Rattle.uri_ops.specs.Dots.{remove_dot_segments, underflows}
-use Rattle.uri_ops.specs.Models.Directories.{IsDotlessDirectory}
-use Rattle.uri_ops.proofs.Meanings.AllowedParts.{set-text-from-utf8}
-use Rattle.uri_ops.proofs.Paths.PushedPaths.{text-after-old-is-pushed-text}
-use Rattle.uri_ops.proofs.Paths.PushedPaths.{position-after-root-is-boundary, whole}
-use Rattle.uri_ops.proofs.Paths.WrittenPieces.{path-after-root-is-valid-for-set}
-use Rattle.uri_ops.proofs.Paths.WrittenPieces.{root-is-dotless-directory}
-use Rattle.uri_ops.proofs.Paths.WrittenPieces.{root-and-decoded-rest-lose-dots-as-path}
-use Rattle.uri_ops.proofs.Paths.WrittenPieces.{root-and-decoded-rest-underflow-as-path}
+use Rattle.uri_ops.specs.Dots.{lacks_dot_segments}
+use Rattle.uri_ops.proofs.Paths.DotLaws.{remove-dots-of-dotless, dotless-path-does-not-underflow}
 use Rattle.uri_ops.proofs.normalize.decoded_paths.push_decoded_path.Goals as goal
 
-pub range_from-requires : goal.range_from-requires
-range_from-requires c = λ _. position-after-root-is-boundary c.args.path.now c.utf8.path
-    c.requires.absolute
-
-pub push_segments-requires-clause-directory : goal.push_segments-requires-clause-directory
-push_segments-requires-clause-directory c =
-    let old = string_bytes c.args.out.now in
-    let at : c.len-start.result ≡ length old = search rules in
-    subst IsDotlessDirectory
-    (sym (text-after-old-is-pushed-text old c.len-start.result at (string_bytes c.push.new.self)
-    (codes "/")
-    (c.in_ok-push.ensures.bytes ∙ ap (λ t. old ++ t) (encode_ascii 47 (lit< tt)))))
-    root-is-dotless-directory
-
-pub push_segments-requires-clause-pieces : goal.push_segments-requires-clause-pieces
-push_segments-requires-clause-pieces c =
-    let set = set_of c.args.table.now in
-    let path = c.args.path.now in
-    path-after-root-is-valid-for-set set c.requires.set c.requires.slash path
-    c.range_from.result.now c.requires.absolute
-    (set-text-from-utf8 set path c.utf8.path c.requires.valid) c.range_from.ensures.value
+-- the path has no dot segment
+lacks : (g : _) (c : goal.In_ok-push_decoded_component g)
+    → lacks_dot_segments (text_of c.args.path) ≡ true
+lacks g c = ap lacks_dot_segments (sym c.as_str.ensures.text)
+    ∙ c.has_dot_segments.ensures c.if-has_dot_segments.false
 
 pub returns-clause-text : goal.returns-clause-text
-returns-clause-text c =
-    let set = set_of c.args.table.now in
-    let path = c.args.path.now in
-    let old = string_bytes c.args.out.now in
-    let at : c.len-start.result ≡ length old = search rules in
-    let root = c.in_ok-push.ensures.bytes ∙ ap (λ t. old ++ t) (encode_ascii 47 (lit< tt)) in
-    let rest = c.range_from.result.now in
-    let kept = text-after-old-is-pushed-text old c.len-start.result at
-    (string_bytes c.push.new.self) (codes "/")
-    root in
-    whole old c.len-start.result at (string_bytes c.push.new.self) (codes "/")
-    (string_bytes c.push_segments.new.out)
-    (print (decode_unreserved set (remove_dot_segments path))) root
-    c.in_ok-underflowed.ensures.before
-    (c.in_ok-underflowed.ensures.text
-    ∙ ap (λ t. remove_dot_segments (t ++ print (decode_unreserved set rest))) kept
-    ∙ root-and-decoded-rest-lose-dots-as-path set c.requires.set c.requires.slash path rest
-    c.requires.absolute
-    (set-text-from-utf8 set path c.utf8.path c.requires.valid) c.range_from.ensures.value)
+returns-clause-text g c =
+    c.in_ok-push_decoded_component.ensures
+    ∙ ap (λ t. string_bytes c.args.out.now ++ print (decode_unreserved g.E.Encoder.set t))
+    (sym (remove-dots-of-dotless (text_of c.args.path) c.requires.absolute (lacks g c)))
 
 pub returns-clause-underflow : goal.returns-clause-underflow
-returns-clause-underflow c =
-    let set = set_of c.args.table.now in
-    let path = c.args.path.now in
-    let old = string_bytes c.args.out.now in
-    let at : c.len-start.result ≡ length old = search rules in
-    let root = c.in_ok-push.ensures.bytes ∙ ap (λ t. old ++ t) (encode_ascii 47 (lit< tt)) in
-    let rest = c.range_from.result.now in
-    let kept = text-after-old-is-pushed-text old c.len-start.result at
-    (string_bytes c.push.new.self) (codes "/")
-    root in
-    c.in_ok-underflowed.ensures.underflow
-    ∙ ap (λ t. underflows (t ++ print (decode_unreserved set rest))) kept
-    ∙ root-and-decoded-rest-underflow-as-path set c.requires.set c.requires.slash path rest
-    c.requires.absolute
-    (set-text-from-utf8 set path c.utf8.path c.requires.valid) c.range_from.ensures.value
+returns-clause-underflow g c =
+    sym (dotless-path-does-not-underflow (text_of c.args.path) c.requires.absolute (lacks g c))

@@ -1,26 +1,23 @@
-use Rattle.std.proofs.Common.{◌≡◌, true, sym, ap, ◌∙◌, ◌++◌, string_bytes}
-use Rattle.uri_pct.specs.EncodedTexts.{text_of}
-use Rattle.uri_pct.specs.DecodeUnreserved.{decode_unreserved}
-use Rattle.uri_pct.specs.Tokens.{print}
-use Rattle.uri_ops.specs.Dots.{lacks_dot_segments}
-use Rattle.uri_ops.specs.Target.{guarded}
-use Rattle.uri_ops.proofs.Paths.DotLaws.{remove-dots-of-dotless, dotless-path-does-not-underflow}
+use Rattle.std.proofs.Common.{◌≡◌, length, rules, string_bytes, ◌∙◌}
+use Rattle.std.proofs.lemmas.Str.{IsUtf8-string_bytes}
+use Rattle.uri_ops.proofs.Paths.GuardedPaths.{guard-inserted-before-path}
+use Rattle.uri_ops.proofs.Paths.GuardedPaths.{pushed-path-begins-at-boundary}
 use Rattle.uri_ops.proofs.normalize.normal_text.push_normal_absolute_path.Goals as goal
 
--- the path has no dot segment
-lacks : (g : _) (c : goal.In_ok-push_decoded_guarded g)
-    → lacks_dot_segments (text_of c.args.path) ≡ true
-lacks g c = ap lacks_dot_segments (sym c.as_str.ensures.text)
-    ∙ c.has_dot_segments.ensures c.if-has_dot_segments.false
+pub guard_path-requires : goal.guard_path-requires
+guard_path-requires g c =
+    let at : c.len-start.result ≡ length (string_bytes c.args.out.now) = search rules in
+    pushed-path-begins-at-boundary (string_bytes c.args.out.now) _
+    (string_bytes c.push_decoded_path.new.out)
+    c.len-start.result at c.in_ok-underflowed.ensures.text
+    (IsUtf8-string_bytes c.args.out.now) (IsUtf8-string_bytes c.push_decoded_path.new.out)
 
-pub returns-clause-text : goal.returns-clause-text
-returns-clause-text g c = λ authority e.
-    c.in_ok-push_decoded_guarded.ensures authority e
-    ∙ ap (λ t. string_bytes c.args.out.now
-    ++ guarded authority (print (decode_unreserved g.E.Encoder.set t)))
-    (c.as_str-2.ensures.text
-    ∙ sym (remove-dots-of-dotless (text_of c.args.path) c.requires.absolute (lacks g c)))
-
-pub returns-clause-underflow : goal.returns-clause-underflow
-returns-clause-underflow g c =
-    sym (dotless-path-does-not-underflow (text_of c.args.path) c.requires.absolute (lacks g c))
+pub returns-in_ok-guard_path-clause-text : goal.returns-in_ok-guard_path-clause-text
+returns-in_ok-guard_path-clause-text g c = λ authority same.
+    let old = string_bytes c.args.out.now in
+    let at : c.len-start.result ≡ length old = search rules in
+    guard-inserted-before-path authority old (string_bytes c.push_decoded_path.new.out)
+    (string_bytes c.guard_path.new.out) _ c.len-start.result
+    (same ∙ c.if-not-has_authority.true) at
+    c.in_ok-underflowed.ensures.text
+    c.in_ok-guard_path.ensures

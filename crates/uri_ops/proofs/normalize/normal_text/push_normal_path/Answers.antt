@@ -3,8 +3,7 @@ use Rattle.std.specs.Prelude.{is_some}
 use Rattle.uri_pct.specs.EncodedTexts.{text_of}
 use Rattle.uri_parts.specs.Components.{starts}
 use Rattle.uri_ops.proofs.Normal.NormalPieces.{path-with-dots-is-normal-when-decoded}
-use Rattle.uri_ops.proofs.Normal.NormalPieces.{and-with-false-is-false}
-use Rattle.uri_ops.proofs.Normal.NormalPieces.{absolute-is-leading-slash}
+use Rattle.uri_ops.proofs.Normal.NormalPieces.{and-with-false-is-false, absolute-is-leading-slash}
 use Rattle.uri_ops.proofs.normalize.normal_text.push_normal_path.Goals as goal
 use Rattle.uri_ops.proofs.normalize.normal_text.push_normal_path.Goals.{else-has_scheme-via-then-has_scheme+else-is_absolute}
 use Rattle.uri_ops.proofs.normalize.normal_text.push_normal_path.Goals.{else-has_scheme-via-else-has_scheme}

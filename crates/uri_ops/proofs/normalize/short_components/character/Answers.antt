@@ -2,10 +2,10 @@ use Rattle.std.proofs.Common.{◌≡◌, ℕ, ◌<◌, ◌≤◌, Bool, true, fa
 use Rattle.std.proofs.Common.{get_or, refl, sym, subst, ◌∙◌, arith, ⊎_elim}
 use Rattle.std.proofs.lemmas.Bool.{agree_below_at, and_parts, cases_Bool, cond-true, cond-false}
 use Rattle.std.proofs.lemmas.Bool.{eqb-true, ltb-true, ltb-false}
-use Rattle.std.proofs.lemmas.Str.Ascii.{lowercase_ascii}
 use Rattle.uri_ops.specs.declared.normalize.short_components.TheConstants.{CHARACTERS}
 use Rattle.uri_ops.specs.declared.normalize.short_components.TheConstants.{LOWERED_CHARACTERS}
 use Rattle.uri_ops.specs.Models.Decodings.{lowered_code_if}
+use Rattle.uri_ops.proofs.Meanings.UnreservedCodes.{lowered-code-of-ascii-is-ascii}
 use Rattle.uri_ops.proofs.normalize.short_components.character.Goals as goal
 
 -- short components: the constant with each ASCII character but `%`, in lower case if lowers
@@ -41,18 +41,13 @@ ascii-entry-is-of-character lowers b small ascii = ⊎_elim
     absurd (omega (arith, other, ascii)))
     (cases_Bool (is_character b))
 
--- short components: an ASCII character is ASCII in lower case
-lowered-character-is-ascii : (lowers : Bool) (b : ℕ) → b < 128 → lowered_code_if lowers b < 128
-lowered-character-is-ascii true b small = lowercase_ascii b small
-lowered-character-is-ascii false b small = small
-
 -- short components: an entry past ASCII is of `%` or of a byte past ASCII
 entry-past-ascii-is-of-no-character : (lowers : Bool) (b : ℕ) → b < 256
     → 128 ≤ get_or (table lowers) b 0 → is_character b ≡ false
 entry-past-ascii-is-of-no-character lowers b small past = ⊎_elim
     (λ e.
     let same = entry-of-byte lowers b small ∙ cond-true _ _ _ e in
-    let below = lowered-character-is-ascii lowers b (ltb-true b 128 (and_parts _ _ e).0) in
+    let below = lowered-code-of-ascii-is-ascii lowers b (ltb-true b 128 (and_parts _ _ e).0) in
     absurd (omega (arith, same, below, past)))
     (λ e. e)
     (cases_Bool (is_character b))

@@ -2,8 +2,7 @@ use Rattle.std.proofs.Common.{◌≡◌, ◌++◌, ◌≤◌, [], take, drop, le
 use Rattle.std.proofs.Common.{append-nil, string_bytes}
 use Rattle.std.specs.Str.{IsAscii, IsUtf8}
 use Rattle.uri_ops.specs.Models.Decodings.{decoded_text}
-use Rattle.uri_ops.proofs.Meanings.AsciiSuffixes.{ascii-suffix-keeps-utf8}
-use Rattle.uri_ops.proofs.Meanings.AsciiSuffixes.{suffix-and-rest-are-text}
+use Rattle.uri_ops.proofs.Meanings.AsciiSuffixes.{ascii-suffix-keeps-utf8, suffix-and-rest-are-text}
 use Rattle.uri_ops.proofs.Meanings.DecodedPrefixes.{none_written}
 use Rattle.uri_ops.proofs.normalize.short_components.push_short.Goals as goal
 

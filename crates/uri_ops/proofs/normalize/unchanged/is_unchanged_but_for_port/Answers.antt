@@ -1,186 +1,45 @@
-use Rattle.std.proofs.Common.{◌≡◌, ℕ, true, false, cond, List, [], ◌++◌, refl, sym, ap, subst, ◌∙◌}
-use Rattle.std.proofs.Common.{append-nil, option_map, ⊎_elim}
-use Rattle.std.specs.Prelude.{codes, Option, Some, None, IfSome, IfNone, is_some}
-use Rattle.std.specs.Str.{IsUtf8, str_to_ascii_lowercase}
-use Rattle.std.proofs.lemmas.Bool.{and_parts, cases_Bool, cond-false}
-use Rattle.uri_pct.specs.DecodeUnreserved.{decode_unreserved}
-use Rattle.uri_pct.specs.Sets.{TableSet}
-use Rattle.uri_pct.specs.Tokens.{print}
-use Rattle.uri_parts.specs.Authority.{AuthorityParts, IsAuthorityFor, authority_parts}
-use Rattle.uri_parts.specs.Authority.{is_authority_for, recompose_authority}
-use Rattle.uri_parts.specs.Components.{Components, IsSplitOf, components, has_authority, marked}
-use Rattle.uri_parts.specs.Components.{recompose, starts}
+use Rattle.std.proofs.Common.{◌≡◌, true, ap, sym, subst, ◌∙◌}
+use Rattle.std.specs.Prelude.{IfSome, is_some}
+use Rattle.std.specs.Str.{IsUtf8}
+use Rattle.uri_parts.specs.Authority.{authority_parts}
+use Rattle.uri_parts.specs.Components.{Components, components}
 use Rattle.uri_parts.specs.CoreTexts.{core_text}
-use Rattle.uri_parts.specs.Grammar.{IsTextOf, Kind, is_authority}
-use Rattle.uri_parts.specs.Hosts.{HostKind, IsHost, host_kind, is_host}
-use Rattle.uri_parts.specs.Ports.{PortFunction}
-use Rattle.uri_parts.proofs.Authorities.Authority.{authority_parts-are-unique}
-use Rattle.uri_parts.proofs.Authorities.Authority.{is_authority_for-complete, is_authority_for-sound}
-use Rattle.uri_parts.proofs.Splitting.Recompose.{components-are-split-of-text}
-use Rattle.uri_ops.specs.ComponentSets.{HasComponentSets}
-use Rattle.uri_ops.specs.Meaning.{authority_meaning, host_meaning, meaning_of, port_meaning}
-use Rattle.uri_ops.specs.Models.Unchanged.{IsLiteral, IsUnchangedAuthority, IsUnchangedPath}
-use Rattle.uri_ops.specs.Normal.{default_port_of, host_text, normal_authority}
-use Rattle.uri_ops.specs.Normal.{normal_path, normal_scheme, normal_text}
+use Rattle.uri_pct.proofs.General.{is_some-option_map}
+use Rattle.uri_parts.specs.Schemes.{scheme_text}
+use Rattle.uri_ops.specs.Models.Unchanged.{AreUnchanged, IsLiteral, IsUnchangedHost}
+use Rattle.uri_ops.specs.Models.Unchanged.{IsUnchangedPath}
+use Rattle.uri_ops.specs.Normal.{normal_scheme}
 use Rattle.uri_ops.specs.Normalizers.{text_underflows}
-use Rattle.uri_ops.specs.Target.{guarded}
-use Rattle.uri_ops.proofs.Meanings.AuthorityMeanings.{PartsUtf8, authority-parts-are-utf8}
-use Rattle.uri_ops.proofs.Meanings.AuthorityMeanings.{kind-sets-lack-authority-delimiters}
-use Rattle.uri_ops.proofs.Meanings.TextParts.{AreUtf8, components-of-utf8-are-utf8}
-use Rattle.uri_ops.proofs.Normal.NormalTexts.{text-has-parts-of-kind}
-use Rattle.uri_ops.proofs.Normal.UnchangedBytes.{literal-text-splits}
-use Rattle.uri_ops.proofs.Normal.UnchangedBytes.{delimited-component-of-literal-is-literal}
-use Rattle.uri_ops.proofs.Normal.UnchangedParts.{literal-decodes-to-itself}
-use Rattle.uri_ops.proofs.Normal.UnchangedParts.{literal-option-decodes-to-itself}
-use Rattle.uri_ops.proofs.Normal.UnchangedParts.{unchanged-authority-is-its-normal-form}
+use Rattle.uri_ops.proofs.Normal.UnchangedTexts.{unchanged-text-is-its-normal-text}
 use Rattle.uri_ops.proofs.normalize.unchanged.is_unchanged_but_for_port.Goals as goal
 
--- a name is in lower case, and a host in brackets is its own normal form
-abbrev IsKeptHost : List ℕ → Type 0
-IsKeptHost host = (starts 91 host ≡ false → str_to_ascii_lowercase host ≡ host)
-    × (starts 91 host ≡ true → (names : TableSet) → is_host names host ≡ true
-    → host_text (host_meaning names host (host_kind host)) ≡ host)
-
--- unchanged texts: the host of an authority passes the test of hosts
-host-of-authority-is-host : (users names : TableSet) (a : List ℕ)
-    → is_authority_for users names a ≡ true → is_host names (authority_parts a).host ≡ true
-unfolding is_authority_for
-host-of-authority-is-host users names a e =
-    (and_parts _ _ (and_parts _ _ (and_parts _ _ e).1).1).0
-
-module _ (kind : Kind) (sets : HasComponentSets kind) (default : Option ℕ) where
-  -- unchanged texts: a name in lower case, by itself an authority, is its own normal form
-  lower-name-is-its-normal-form : (host : List ℕ) → IsUtf8 host → IsLiteral host
-      → ((h : HostKind) × IsHost kind.reg_name host h) → str_to_ascii_lowercase host ≡ host
-      → starts 91 host ≡ false
-      → host_text (host_meaning kind.reg_name host (host_kind host)) ≡ host
-  lower-name-is-its-normal-form host u literal valid lower name =
-      let alone : AuthorityParts = record { userinfo = None; host = host; port = None } in
-      let apart = kind-sets-lack-authority-delimiters kind sets in
-      let grammar : IsAuthorityFor kind.userinfo kind.reg_name host alone = record {
-        whole = append-nil host;
-        userinfo = tt;
-        host = valid;
-        port = tt;
-      } in
-      let parts = authority_parts-are-unique kind.userinfo kind.reg_name apart host alone u grammar in
-      let authority = is_authority_for-complete kind.userinfo kind.reg_name apart host alone u
-      grammar in
-      let kept : IsUnchangedAuthority host = record {
-        lower = subst (λ (p : AuthorityParts). str_to_ascii_lowercase p.host ≡ p.host) (sym parts)
-            lower;
-        name = subst (λ (p : AuthorityParts). starts 91 p.host ≡ false) (sym parts) name;
-        port = ap (λ (p : AuthorityParts). p.port) parts;
-      } in
-      let written : AuthorityParts → List ℕ = λ p. recompose_authority (record {
-        userinfo = option_map print (option_map (decode_unreserved kind.userinfo) p.userinfo);
-        host = host_text (host_meaning kind.reg_name p.host (host_kind p.host));
-        port = port_meaning default p.port;
-      }) in
-      sym (append-nil (host_text (host_meaning kind.reg_name host (host_kind host))))
-      ∙ sym (ap written parts)
-      ∙ unchanged-authority-is-its-normal-form kind sets default host u authority literal kept
-
-  -- unchanged texts: an authority whose host and port are kept is its own normal form
-  kept-authority-is-its-normal-form : (a : List ℕ) → IsUtf8 a → is_authority kind a ≡ true
-      → IsLiteral a → IsKeptHost (authority_parts a).host
-      → port_meaning default (authority_parts a).port ≡ (authority_parts a).port
-      → normal_authority (authority_meaning kind default a) ≡ a
-  kept-authority-is-its-normal-form a u e literal host port =
-      let parts : AuthorityParts = authority_parts a in
-      let grammar = is_authority_for-sound kind.userinfo kind.reg_name a e in
-      let utf8 : PartsUtf8 parts = authority-parts-are-utf8 parts.userinfo parts.port parts.host
-      (subst IsUtf8 (sym grammar.whole) u) in
-      let apart = literal-text-splits (marked [] parts.userinfo (codes "@"))
-      (parts.host ++ marked (codes ":") parts.port [])
-      (subst IsLiteral (sym grammar.whole) literal) in
-      let user_kept = literal-option-decodes-to-itself kind.userinfo parts.userinfo utf8.userinfo
-      (delimited-component-of-literal-is-literal [] (codes "@") parts.userinfo apart.0) in
-      let host_kept : host_text (host_meaning kind.reg_name parts.host (host_kind parts.host))
-      ≡ parts.host = ⊎_elim
-      (λ begins. host.1 begins kind.reg_name
-      (host-of-authority-is-host kind.userinfo kind.reg_name a e))
-      (λ name. lower-name-is-its-normal-form parts.host utf8.host
-      (literal-text-splits parts.host (marked (codes ":") parts.port []) apart.1).0 grammar.host
-      (host.0 name) name) (cases_Bool (starts 91 parts.host)) in
-      (λ i. recompose_authority (record {
-        userinfo = user_kept i;
-        host = host_kept i;
-        port = port i;
-      }))
-      ∙ grammar.whole
-
-  -- unchanged texts: the same of an authority that may be absent
-  kept-authority-if-some-is-normal : (o : Option (List ℕ))
-      → IfSome o (λ a. IsUtf8 a × (is_authority kind a ≡ true)) → IfSome o IsLiteral
-      → IfSome o (λ a. IsKeptHost (authority_parts a).host)
-      → IfSome o (λ a. port_meaning default (authority_parts a).port ≡ (authority_parts a).port)
-      → option_map normal_authority (option_map (authority_meaning kind default) o) ≡ o
-  kept-authority-if-some-is-normal None h literal host port = refl
-  kept-authority-if-some-is-normal (Some a) h literal host port =
-      ap Some (kept-authority-is-its-normal-form a h.0 h.1 literal host port)
-
--- unchanged texts: a path gets no guard `/.` if it doesn't begin with `//` or follows an authority
-path-that-needs-no-guard-is-kept : (scheme authority : Option (List ℕ)) (path : List ℕ)
-    → IfNone authority (has_authority path ≡ false)
-    → cond (is_some scheme) (guarded authority path) path ≡ path
-path-that-needs-no-guard-is-kept None authority path h = refl
-path-that-needs-no-guard-is-kept (Some s) None path h = cond-false _ _ _ h
-path-that-needs-no-guard-is-kept (Some s) (Some a) path h = refl
-
--- unchanged texts: a text is its own normal text if its host and its port are kept
-kept-text-is-its-normal-text : (kind : Kind) → HasComponentSets kind → (ports : PortFunction)
-    (text : List ℕ) → IsTextOf kind text → IsLiteral text
-    → (let p = components text in
-    (normal_scheme p.scheme ≡ p.scheme)
-    × (IfSome p.authority (λ a. IsKeptHost (authority_parts a).host)
-    × IsUnchangedPath p.scheme p.path)
-    → IfSome p.authority (λ a. port_meaning (default_port_of ports p.scheme) (authority_parts a).port
-    ≡ (authority_parts a).port)
-    → text ≡ normal_text (meaning_of kind ports text))
-kept-text-is-its-normal-text kind sets ports text w literal kept port =
-    let p : Components = components text in
-    let split : IsSplitOf text p = components-are-split-of-text text in
-    let utf8 : AreUtf8 p = components-of-utf8-are-utf8 text w.utf8 in
-    let from_authority = literal-text-splits (marked [] p.scheme (codes ":")) _
-    (subst IsLiteral (sym split.whole) literal) in
-    let from_path = literal-text-splits (marked (codes "//") p.authority []) _ from_authority.1 in
-    let from_query = literal-text-splits p.path _ from_path.1 in
-    let from_fragment = literal-text-splits (marked (codes "?") p.query []) _ from_query.1 in
-    let authority = kept-authority-if-some-is-normal kind sets (default_port_of ports p.scheme)
-    p.authority (text-has-parts-of-kind kind text w).authority
-    (delimited-component-of-literal-is-literal (codes "//") [] p.authority from_path.0)
-    kept.1.0 port in
-    let query = literal-option-decodes-to-itself kind.query p.query utf8.query
-    (delimited-component-of-literal-is-literal (codes "?") [] p.query from_fragment.0) in
-    let fragment = literal-option-decodes-to-itself kind.fragment p.fragment utf8.fragment
-    (delimited-component-of-literal-is-literal (codes "#") [] p.fragment from_fragment.1) in
-    let decoded = ap (λ x. print (decode_unreserved kind.path x)) kept.1.1.dotless
-    ∙ literal-decodes-to-itself kind.path p.path utf8.path from_query.0 in
-    let path : normal_path (meaning_of kind ports text) ≡ p.path =
-    (λ i. cond (is_some (kept.0 i)) (guarded (authority i) (decoded i)) (decoded i))
-    ∙ path-that-needs-no-guard-is-kept p.scheme p.authority p.path split.no_authority in
-    sym split.whole ∙ sym (λ i. recompose (record {
-      scheme = kept.0 i;
-      authority = authority i;
-      path = path i;
-      query = query i;
-      fragment = fragment i;
-    }))
+kept : (g : _) (c : goal.After-is_path_unchanged g) → c.is_path_unchanged.result ≡ true
+    → AreUnchanged (components (core_text c.args.core))
+kept g c e =
+    let p : Components = components (core_text c.args.core) in
+    record {
+      scheme = subst (λ s. normal_scheme s ≡ s) c.scheme-scheme.ensures
+          (c.is_scheme_unchanged.ensures c.if-not-is_scheme_unchanged.false);
+      host = subst (λ o. IfSome o (λ a. IsUnchangedHost (authority_parts a).host))
+          c.authority.ensures (c.is_host_unchanged.ensures c.if-not-is_host_unchanged.false);
+      path = subst (IsUnchangedPath p.scheme) (c.as_str-path.ensures.text ∙ c.path.ensures)
+          (c.is_path_unchanged.ensures e p.scheme (ap is_some (sym c.scheme-scheme.ensures)
+          ∙ is_some-option_map scheme_text _ ∙ sym c.is_some.ensures));
+    }
 
 pub returns-clause-text : goal.returns-clause-text
 returns-clause-text g c = λ e ports port.
     let text = core_text c.args.core in
-    let literal = subst IsLiteral (c.as_bytes.ensures.value ∙ c.as_str.ensures.text)
+    let literal = subst IsLiteral (c.as_bytes-2.ensures.value ∙ c.as_str.ensures.text)
     (c.is_literal.ensures c.if-not-is_literal.false) in
     record {
-      text = kept-text-is-its-normal-text g.K.Kind.kind c.requires ports text
+      text = unchanged-text-is-its-normal-text g.K.Kind.kind c.requires ports text
           (record {
             utf8 = subst IsUtf8 c.as_str.ensures.text c.as_str.utf8;
             grammar = c.args.core.of_kind;
-          }) literal (c.are_literal_components_unchanged.ensures e) port;
+          }) literal (kept g c e) port;
     }
 
 pub returns-clause-underflow : goal.returns-clause-underflow
 unfolding text_underflows
-returns-clause-underflow g c = λ e. (c.are_literal_components_unchanged.ensures e).1.1.underflow
+returns-clause-underflow g c = λ e. (kept g c e).path.underflow

@@ -12,9 +12,9 @@ range-requires-clause-end_boundary c =
     let all_is : all ≡ take (length text - 1) text =
     ap (take (length text - 1)) c.as_bytes.ensures.value in
     let slash = slash-before-popped-segment text 0 c.requires all all_is
-    c.last_slash_bytewise-slash.result
-    c.last_slash_bytewise-slash.ensures.place in
-    IsCharBoundary-after_ascii text c.last_slash_bytewise-slash.result c.utf8.directory slash.0
+    c.last_slash_before-slash.result
+    c.last_slash_before-slash.ensures.place in
+    IsCharBoundary-after_ascii text c.last_slash_before-slash.result c.utf8.directory slash.0
     (omega (arith, slash.1))
 
 pub returns : goal.returns
@@ -23,8 +23,8 @@ returns c =
     let all = take (length text - 1) c.as_bytes.result.now in
     let all_is : all ≡ take (length text - 1) text =
     ap (take (length text - 1)) c.as_bytes.ensures.value in
-    slice-from-zero-is-prefix text c.range.result.now (c.last_slash_bytewise-slash.result + 1)
+    slice-from-zero-is-prefix text c.range.result.now (c.last_slash_before-slash.result + 1)
     c.range.ensures.value
-    ∙ popped-directory-is-parent text 0 c.requires all all_is c.last_slash_bytewise-slash.result
-    c.last_slash_bytewise-slash.ensures.place
-    c.last_slash_bytewise-slash.ensures.prefix
+    ∙ popped-directory-is-parent text 0 c.requires all all_is c.last_slash_before-slash.result
+    c.last_slash_before-slash.ensures.place
+    c.last_slash_before-slash.ensures.prefix

@@ -15,9 +15,9 @@ truncate-requires c =
     ap (λ n. take (n - 1) c.as_bytes.result.now) end_is
     ∙ ap (take (length text - 1)) c.as_bytes.ensures.value in
     let slash = slash-before-popped-segment text c.args.start c.requires all all_is
-    c.last_slash_bytewise-slash.result
-    c.last_slash_bytewise-slash.ensures.place in
-    let place = IsCharBoundary-after_ascii text c.last_slash_bytewise-slash.result
+    c.last_slash_before-slash.result
+    c.last_slash_before-slash.ensures.place in
+    let place = IsCharBoundary-after_ascii text c.last_slash_before-slash.result
     (IsUtf8-string_bytes c.args.out.now) slash.0 (omega (arith, slash.1)) in
     λ _. (place.0, λ _. place.1)
 
@@ -32,8 +32,8 @@ returns-clause-bytes c =
     ∙ ap (take (length text - 1)) c.as_bytes.ensures.value in
     c.truncate.ensures.bytes
     ∙ popped-directory-is-parent text c.args.start c.requires all all_is
-    c.last_slash_bytewise-slash.result
-    c.last_slash_bytewise-slash.ensures.place c.last_slash_bytewise-slash.ensures.prefix
+    c.last_slash_before-slash.result
+    c.last_slash_before-slash.ensures.place c.last_slash_before-slash.ensures.prefix
 
 pub returns-clause-none : goal.returns-clause-none
 returns-clause-none c =

@@ -5,7 +5,11 @@ use Rattle.uri_ops.proofs.Paths.PushedPaths.{prefix-loses-dots-as-directory}
 use Rattle.uri_ops.proofs.Paths.PushedPaths.{prefix-underflows-as-directory}
 use Rattle.uri_ops.proofs.Paths.PushedPaths.{pushed-merged-path-loses-its-dots}
 use Rattle.uri_ops.proofs.Paths.PushedPaths.{base-or-rest-underflows-as-merged-path}
+use Rattle.uri_ops.proofs.Paths.Piecewise.{identity-keeps-slashes-and-dots}
 use Rattle.uri_ops.proofs.path.dot_segments.push_merged.Goals as goal
+
+pub push_segments-requires-clause-keeps : goal.push_segments-requires-clause-keeps
+push_segments-requires-clause-keeps c = identity-keeps-slashes-and-dots
 
 pub push_segments-requires-clause-directory : goal.push_segments-requires-clause-directory
 push_segments-requires-clause-directory c =
@@ -21,40 +25,27 @@ push_segments-requires-clause-directory c =
     c.range-directory.ensures.value) c.directory_end.ensures.text)
     c.in_ok-of_base.ensures.text
 
-pub returns-clause-text : goal.returns-clause-text
-returns-clause-text c =
+pub returns : goal.returns
+returns c =
     let at : c.len-start.result ≡ length (string_bytes c.args.out.now) = search rules in
-    pushed-merged-path-loses-its-dots (string_bytes c.args.out.now) c.len-start.result at
-    (string_bytes c.push_without_dot_segments.new.out)
-    c.args.base.now c.path_or_slash-base.result.now c.path_or_slash-base.ensures.absolute
-    c.path_or_slash-base.ensures.directory c.range-directory.result.now
-    (prefix-loses-dots-as-directory c.path_or_slash-base.result.now c.range-directory.result.now
-    c.directory_end.result
-    (slice-from-zero-is-prefix c.path_or_slash-base.result.now c.range-directory.result.now
-    c.directory_end.result
-    c.range-directory.ensures.value) c.directory_end.ensures.text)
-    c.in_ok-of_base.ensures.text c.args.reference.now
-    (string_bytes c.push_segments.new.out) c.in_ok-of_reference.ensures.before
-    c.in_ok-of_reference.ensures.text
-
-pub returns-clause-underflow : goal.returns-clause-underflow
-returns-clause-underflow c =
-    let at : c.len-start.result ≡ length (string_bytes c.args.out.now) = search rules in
-    base-or-rest-underflows-as-merged-path (string_bytes c.args.out.now) c.len-start.result at
-    (string_bytes c.push_without_dot_segments.new.out)
-    c.args.base.now c.path_or_slash-base.result.now c.path_or_slash-base.ensures.absolute
-    c.path_or_slash-base.ensures.directory c.range-directory.result.now
-    (prefix-loses-dots-as-directory c.path_or_slash-base.result.now c.range-directory.result.now
-    c.directory_end.result
-    (slice-from-zero-is-prefix c.path_or_slash-base.result.now c.range-directory.result.now
-    c.directory_end.result
-    c.range-directory.ensures.value) c.directory_end.ensures.text)
-    c.in_ok-of_base.ensures.text c.args.reference.now c.in_ok-of_base.of_base
-    c.in_ok-of_reference.of_reference
-    c.in_ok-of_base.ensures.underflow
-    (prefix-underflows-as-directory c.path_or_slash-base.result.now c.range-directory.result.now
-    c.directory_end.result (slice-from-zero-is-prefix c.path_or_slash-base.result.now
-    c.range-directory.result.now
-    c.directory_end.result c.range-directory.ensures.value)
-    c.directory_end.ensures.underflow)
-    c.in_ok-of_reference.ensures.underflow
+    let base = c.path_or_slash-base.result.now in
+    let directory = c.range-directory.result.now in
+    let end = c.directory_end.result in
+    let taken = slice-from-zero-is-prefix base directory end c.range-directory.ensures.value in
+    let loses = prefix-loses-dots-as-directory base directory end taken
+    c.directory_end.ensures.text in
+    let new = string_bytes c.push_without_dot_segments.new.out in
+    record {
+      text = pushed-merged-path-loses-its-dots (string_bytes c.args.out.now) c.len-start.result at
+          new c.args.base.now base c.path_or_slash-base.ensures.absolute
+          c.path_or_slash-base.ensures.directory directory loses c.in_ok-of_base.ensures.text
+          c.args.reference.now (string_bytes c.push_segments.new.out)
+          c.in_ok-of_reference.ensures.before c.in_ok-of_reference.ensures.text;
+      underflow = base-or-rest-underflows-as-merged-path (string_bytes c.args.out.now)
+          c.len-start.result at new c.args.base.now base c.path_or_slash-base.ensures.absolute
+          c.path_or_slash-base.ensures.directory directory loses c.in_ok-of_base.ensures.text
+          c.args.reference.now c.in_ok-of_base.of_base c.in_ok-of_reference.of_reference
+          c.in_ok-of_base.ensures.underflow
+          (prefix-underflows-as-directory base directory end taken
+          c.directory_end.ensures.underflow) c.in_ok-of_reference.ensures.underflow;
+    }

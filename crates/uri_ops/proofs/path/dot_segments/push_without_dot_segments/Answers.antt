@@ -6,6 +6,7 @@ use Rattle.uri_ops.proofs.Paths.PushedPaths.{pushed-dotless-path-prefix-is-direc
 use Rattle.uri_ops.proofs.Paths.PushedPaths.{pushed-path-loses-its-dots}
 use Rattle.uri_ops.proofs.Paths.PushedPaths.{pushed-rest-underflows-as-path}
 use Rattle.uri_ops.proofs.Paths.PushedPaths.{dotless-path-is-its-own-removal}
+use Rattle.uri_ops.proofs.Paths.Piecewise.{identity-keeps-slashes-and-dots}
 use Rattle.uri_ops.proofs.path.dot_segments.push_without_dot_segments.Goals as goal
 
 pub dotless_prefix_len-dotless-requires-clause-some
@@ -19,23 +20,20 @@ dotless_prefix_len-dotless-requires-clause-first c =
     path-without-leading-dot-begins-with-none c.args.path.now
     (absolute-path-begins-with-no-dot c.args.path.now c.requires).0
 
-pub returns-then-dotless-path-clause-text : goal.returns-then-dotless-path-clause-text
-returns-then-dotless-path-clause-text c =
+pub returns-then-dotless-path : goal.returns-then-dotless-path
+returns-then-dotless-path c =
     let path = c.args.path.now in
     let n = c.dotless_prefix_len-dotless.result in
-    c.in_ok-push_str.ensures.bytes
-    ∙ ap (λ t. string_bytes c.args.out.now ++ t)
-    (dotless-path-is-its-own-removal path c.range.result.now n c.requires c.if-dotless-path.true
-    c.dotless_prefix_len-dotless.ensures.dotless.dotless
-    (slice-from-zero-is-prefix path c.range.result.now n c.range.ensures.value)).0
+    let own = dotless-path-is-its-own-removal path c.range.result.now n c.requires
+    c.if-dotless-path.true c.dotless_prefix_len-dotless.ensures.dotless.dotless
+    (slice-from-zero-is-prefix path c.range.result.now n c.range.ensures.value) in
+    record {
+      text = c.in_ok-push_str.ensures.bytes ∙ ap (λ t. string_bytes c.args.out.now ++ t) own.0;
+      underflow = own.1;
+    }
 
-pub returns-then-dotless-path-clause-underflow : goal.returns-then-dotless-path-clause-underflow
-returns-then-dotless-path-clause-underflow c =
-    let path = c.args.path.now in
-    let n = c.dotless_prefix_len-dotless.result in
-    (dotless-path-is-its-own-removal path c.range.result.now n c.requires c.if-dotless-path.true
-    c.dotless_prefix_len-dotless.ensures.dotless.dotless
-    (slice-from-zero-is-prefix path c.range.result.now n c.range.ensures.value)).1
+pub push_segments-requires-clause-keeps : goal.push_segments-requires-clause-keeps
+push_segments-requires-clause-keeps c = identity-keeps-slashes-and-dots
 
 pub push_segments-requires-clause-directory : goal.push_segments-requires-clause-directory
 push_segments-requires-clause-directory c =
@@ -52,28 +50,21 @@ push_segments-requires-clause-directory c =
     c.dotless_prefix_len-dotless.ensures.dotless.dotless
     c.dotless_prefix_len-dotless.ensures.dotless.closed
 
-pub returns-clause-text : goal.returns-clause-text
-returns-clause-text c =
+pub returns : goal.returns
+returns c =
     let at : c.len-start.result ≡ length (string_bytes c.args.out.now) = search rules in
     let path = c.args.path.now in
     let n = c.dotless_prefix_len-dotless.result in
-    pushed-path-loses-its-dots (string_bytes c.args.out.now) c.len-start.result at
-    (string_bytes c.push_str.new.self)
-    path c.requires n c.range.result.now
-    (slice-from-zero-is-prefix path c.range.result.now n c.range.ensures.value)
-    c.in_ok-push_str.ensures.bytes
-    c.range_from.result.now c.range_from.ensures.value (string_bytes c.push_segments.new.out)
-    c.in_ok-underflowed.ensures.before c.in_ok-underflowed.ensures.text
-
-pub returns-clause-underflow : goal.returns-clause-underflow
-returns-clause-underflow c =
-    let at : c.len-start.result ≡ length (string_bytes c.args.out.now) = search rules in
-    let path = c.args.path.now in
-    let n = c.dotless_prefix_len-dotless.result in
-    pushed-rest-underflows-as-path (string_bytes c.args.out.now) c.len-start.result at
-    (string_bytes c.push_str.new.self)
-    path c.requires n c.range.result.now
-    (slice-from-zero-is-prefix path c.range.result.now n c.range.ensures.value)
-    c.in_ok-push_str.ensures.bytes
-    c.range_from.result.now c.range_from.ensures.value c.in_ok-underflowed.underflowed
-    c.in_ok-underflowed.ensures.underflow
+    let taken = slice-from-zero-is-prefix path c.range.result.now n c.range.ensures.value in
+    let new = string_bytes c.push_str.new.self in
+    record {
+      text = pushed-path-loses-its-dots (string_bytes c.args.out.now) c.len-start.result at new path
+          c.requires n c.range.result.now taken c.in_ok-push_str.ensures.bytes
+          c.range_from.result.now c.range_from.ensures.value
+          (string_bytes c.push_segments.new.out) c.in_ok-underflowed.ensures.before
+          c.in_ok-underflowed.ensures.text;
+      underflow = pushed-rest-underflows-as-path (string_bytes c.args.out.now) c.len-start.result at
+          new path c.requires n c.range.result.now taken c.in_ok-push_str.ensures.bytes
+          c.range_from.result.now c.range_from.ensures.value c.in_ok-underflowed.underflowed
+          c.in_ok-underflowed.ensures.underflow;
+    }

@@ -1,16 +1,18 @@
-use Rattle.std.proofs.Common.{◌≡◌, ◌++◌, ap, lit<, string_bytes, sym, ◌∙◌}
+use Rattle.std.proofs.Common.{◌≡◌, ◌++◌, ap, lit<, refl, string_bytes, sym, ◌∙◌}
 use Rattle.std.specs.Prelude.{codes}
+use Rattle.std.proofs.lemmas.Bool.{and_parts}
 use Rattle.std.proofs.lemmas.Str.{encode_ascii}
 use Rattle.uri_pct.specs.DecodeUnreserved.{decode_unreserved}
 use Rattle.uri_pct.specs.Tables.{set_of}
 use Rattle.uri_pct.specs.Tokens.{print}
+use Rattle.uri_ops.proofs.Meanings.Decodable.{valid-text-is-decodable}
 use Rattle.uri_ops.proofs.Paths.WrittenPieces.{text-of-one-byte-slash-is-slash}
 use Rattle.uri_ops.proofs.Paths.WrittenPieces.{slash-decodes-to-slash}
-use Rattle.uri_ops.proofs.path.segment_mode.push_decoded_segments.Goals as goal
+use Rattle.uri_ops.proofs.normalize.decoded_paths.DecodedSegmentMode.push.Goals as goal
 
 pub returns-then-is_slash : goal.returns-then-is_slash
 returns-then-is_slash c =
-    let set = set_of c.args.table.now in
+    let set = set_of c.args.self.table.now in
     let piece : c.args.piece.now ≡ codes "/" = sym c.as_bytes.ensures.value
     ∙ text-of-one-byte-slash-is-slash c.as_bytes.result.now (sym c.is_slash.ensures
     ∙ c.if-is_slash.true) in
@@ -18,3 +20,9 @@ returns-then-is_slash c =
     ∙ ap (λ t. string_bytes c.args.out.now ++ t)
     (encode_ascii 47 (lit< tt) ∙ sym (slash-decodes-to-slash set)
     ∙ ap (λ t. print (decode_unreserved set t)) (sym piece))
+
+pub push_decoded_piece-requires : goal.push_decoded_piece-requires
+push_decoded_piece-requires c =
+    let table = c.args.self.table.now in
+    valid-text-is-decodable table (set_of table) c.args.piece.now refl
+    (and_parts _ _ c.requires).1

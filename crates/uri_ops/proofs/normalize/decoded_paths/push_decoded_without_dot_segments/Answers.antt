@@ -1,0 +1,70 @@
+use Rattle.std.proofs.Common.{◌≡◌, ◌++◌, length, rules, string_bytes, sym, subst, ap, ◌∙◌, lit<}
+use Rattle.std.specs.Prelude.{codes}
+use Rattle.std.proofs.lemmas.Str.{encode_ascii}
+use Rattle.uri_pct.specs.DecodeUnreserved.{decode_unreserved}
+use Rattle.uri_pct.specs.Tables.{set_of}
+use Rattle.uri_pct.specs.Tokens.{print}
+use Rattle.uri_ops.specs.Dots.{remove_dot_segments, underflows}
+use Rattle.uri_ops.specs.Models.Directories.{IsDotlessDirectory}
+use Rattle.uri_ops.proofs.Meanings.AllowedParts.{is_set_text, print_decoded, set-text-from-utf8}
+use Rattle.uri_ops.proofs.Paths.Piecewise.{decoding-keeps-slashes-and-dots}
+use Rattle.uri_ops.proofs.Paths.PushedPaths.{text-after-old-is-pushed-text}
+use Rattle.uri_ops.proofs.Paths.PushedPaths.{position-after-root-is-boundary, whole}
+use Rattle.uri_ops.proofs.Paths.WrittenPieces.{path-after-root-is-set-text}
+use Rattle.uri_ops.proofs.Paths.WrittenPieces.{root-is-dotless-directory}
+use Rattle.uri_ops.proofs.Paths.WrittenPieces.{root-and-decoded-rest-lose-dots-as-path}
+use Rattle.uri_ops.proofs.Paths.WrittenPieces.{root-and-decoded-rest-underflow-as-path}
+use Rattle.uri_ops.proofs.normalize.decoded_paths.push_decoded_without_dot_segments.Goals as goal
+
+pub range_from-requires : goal.range_from-requires
+range_from-requires c = λ _. position-after-root-is-boundary c.args.path.now c.utf8.path
+    c.requires.absolute
+
+pub push_segments-requires-clause-directory : goal.push_segments-requires-clause-directory
+push_segments-requires-clause-directory c =
+    let old = string_bytes c.args.out.now in
+    let at : c.len-start.result ≡ length old = search rules in
+    subst IsDotlessDirectory
+    (sym (text-after-old-is-pushed-text old c.len-start.result at (string_bytes c.push.new.self)
+    (codes "/")
+    (c.in_ok-push.ensures.bytes ∙ ap (λ t. old ++ t) (encode_ascii 47 (lit< tt)))))
+    root-is-dotless-directory
+
+pub push_segments-requires-clause-keeps : goal.push_segments-requires-clause-keeps
+unfolding print_decoded is_set_text
+push_segments-requires-clause-keeps c =
+    decoding-keeps-slashes-and-dots (set_of c.args.table.now) c.requires.set c.requires.slash
+
+pub push_segments-requires-clause-takes : goal.push_segments-requires-clause-takes
+unfolding is_set_text
+push_segments-requires-clause-takes c =
+    let set = set_of c.args.table.now in
+    let path = c.args.path.now in
+    path-after-root-is-set-text set c.requires.set c.requires.slash path c.range_from.result.now
+    c.requires.absolute (set-text-from-utf8 set path c.utf8.path c.requires.valid)
+    c.range_from.ensures.value
+
+pub returns : goal.returns
+returns c =
+    let set = set_of c.args.table.now in
+    let path = c.args.path.now in
+    let old = string_bytes c.args.out.now in
+    let at : c.len-start.result ≡ length old = search rules in
+    let new = string_bytes c.push.new.self in
+    let root = c.in_ok-push.ensures.bytes ∙ ap (λ t. old ++ t) (encode_ascii 47 (lit< tt)) in
+    let rest = c.range_from.result.now in
+    let kept = text-after-old-is-pushed-text old c.len-start.result at new (codes "/") root in
+    let valid = set-text-from-utf8 set path c.utf8.path c.requires.valid in
+    record {
+      text = whole old c.len-start.result at new (codes "/") (string_bytes c.push_segments.new.out)
+          (print (decode_unreserved set (remove_dot_segments path))) root
+          c.in_ok-underflowed.ensures.before
+          (c.in_ok-underflowed.ensures.text
+          ∙ ap (λ t. remove_dot_segments (t ++ print (decode_unreserved set rest))) kept
+          ∙ root-and-decoded-rest-lose-dots-as-path set c.requires.set c.requires.slash path rest
+          c.requires.absolute valid c.range_from.ensures.value);
+      underflow = c.in_ok-underflowed.ensures.underflow
+          ∙ ap (λ t. underflows (t ++ print (decode_unreserved set rest))) kept
+          ∙ root-and-decoded-rest-underflow-as-path set c.requires.set c.requires.slash path rest
+          c.requires.absolute valid c.range_from.ensures.value;
+    }
