@@ -34,11 +34,13 @@ loop-count-preserved c =
     let ch = c.in-Some.ch in
     let holds = c.loop-count.invariant in
     let at = c.octet_digits-high.ensures in
-    let value = 16 * digit_value c.octet_digits-high.result.0 + digit_value c.octet_digits-high.result.1 in
+    let value = 16 * digit_value c.octet_digits-high.result.0
+    + digit_value c.octet_digits-high.result.1 in
     let small : value < 128 =
     ltb-true _ _ (octet-is-decoded-alone at false (inr c.in-Some.ensures.2)) in
     let same : ch ≡ lowered_code_if lowers value = c.in-Some.ensures.0 in
-    let ascii : ch < 128 = subst (λ v. v < 128) (sym same) (lowered-code-of-ascii-is-ascii lowers value small) in
+    let ascii : ch < 128 =
+    subst (λ v. v < 128) (sym same) (lowered-code-of-ascii-is-ascii lowers value small) in
     let grown : take (count + 1) (slice_set block count ch) ≡ take count block ++ ch ∷ [] =
     take_more_set block count ch (omega arith) in
     let printed = unreserved-octet-prints-its-code lowers value c.in-Some.ensures.1
