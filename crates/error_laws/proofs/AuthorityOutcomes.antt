@@ -1,7 +1,8 @@
 -- The outcomes of errors in an authority.
-use Rattle.std.proofs.Common.{◌≡◌, ℕ, suc, ◌+◌, ◌-◌, ◌<◌, ◌≤◌, Bool, true, false, cond, eqb}
-use Rattle.std.proofs.Common.{List, ◌∷◌, ◌++◌, take, drop, Some, refl, sym, ap}
-use Rattle.std.proofs.Common.{subst, ◌∙◌, arith, ◌&&◌, ⊎_elim, length-drop}
+use Rattle.std.proofs.Common.{[]}
+use Rattle.std.proofs.Common.{◌≡◌, ℕ, zero, suc, ◌+◌, ◌-◌, ◌<◌, ◌≤◌, Bool, true, false, cond, eqb}
+use Rattle.std.proofs.Common.{List, ◌∷◌, ◌++◌, take, drop, Some, refl, sym, ap, subst, ◌∙◌, arith}
+use Rattle.std.proofs.Common.{◌&&◌, ⊎_elim, length-drop}
 use Rattle.std.specs.Prelude.{codes, nat_lt}
 use Rattle.std.specs.Str.{IsUtf8}
 use Rattle.std.proofs.lemmas.Bool.{cases_Bool, cases_lt, cond-true, cond-false, and_left, and_right}
@@ -10,38 +11,45 @@ use Rattle.std.proofs.lemmas.Bool.{not_from_true, both_ways, and_parts}
 use Rattle.std.proofs.lemmas.Bool.Decides.{nat_tests}
 use Rattle.std.proofs.lemmas.List.{drop-drop}
 use Rattle.std.proofs.lemmas.Option.{same_Some}
-use Rattle.uri_pct.specs.Prefixes.{valid_prefix}
+use Rattle.uri_pct.specs.Prefixes.{valid_prefix_from, valid_prefix}
 use Rattle.uri_pct.specs.Sets.{digit_set, is_one_of}
+use Rattle.uri_pct.proofs.ValidTexts.Cuts.{valid_prefix_by_first_byte}
+use Rattle.uri_pct.proofs.ValidTexts.MarksInTexts.{ascii_byte_has_no_continuation}
+use Rattle.uri_pct.proofs.ValidTexts.Prefixes.{valid_prefix_of_superset_goes_on_from_subset}
 use Rattle.uri_pct.proofs.ValidTexts.TokenCuts.{reserved_is_never_in_octet, valid_before_mark}
+use Rattle.uri_pct.proofs.ValidTexts.Validity.{ascii_first_byte_is_allowed_iff_in_set}
 use Rattle.uri_parts.specs.declared.error.ParseError.{ParseError}
 use Rattle.uri_parts.specs.Components.{starts}
 use Rattle.uri_parts.specs.Errors.{unexpected}
-use Rattle.uri_parts.specs.Grammar.{Kind}
-use Rattle.uri_parts.specs.Refusals.{OptionalParseError, ◌>>=◌, last_colon}
+use Rattle.uri_parts.specs.Grammar.{Kind, first_segment_set}
+use Rattle.uri_parts.specs.Refusals.{OptionalParseError, ◌>>=◌, last_colon, error_from_port}
 use Rattle.uri_parts.specs.Refusals.{error_from_abempty_path, error_from_host, error_from_name}
 use Rattle.uri_parts.specs.Refusals.{error_from_authority}
 use Rattle.uri_parts.specs.Scanning.{is_next, scan_end}
+use Rattle.uri_parts.proofs.Refusals.Colons.{last_colon_is_below_position}
 use Rattle.uri_parts.proofs.Refusals.Names.{text-begins-with-one-byte-alone}
+use Rattle.uri_parts.proofs.Refusals.Names.{userinfo-stops-with-name-without-colon}
 use Rattle.uri_parts.proofs.Refusals.Rooted.{scan-stops-at-stray-percent-or-goes-on}
-use Rattle.uri_parts.proofs.Splitting.Cuts.{empty-or-marked-for-more-marks}
+use Rattle.uri_parts.proofs.Refusals.Rooted.{nothing-is-scanned-at-mark}
+use Rattle.uri_parts.proofs.Splitting.Cuts.{empty-or-marked-for-more-marks, begins-with-mark}
+use Rattle.uri_parts.proofs.Splitting.Cuts.{begins-with-no-other}
+use Rattle.uri_parts.proofs.Refusals.Sound.{text-at-mark-is-mark-and-rest}
 use Rattle.uri_parts.proofs.TextKinds.GrammarTexts.{utf8_around_ascii_byte}
-use Rattle.uri_ops.proofs.Meanings.AsciiCharacters.{ascii-bytes-are-utf8}
+use Rattle.error_laws.proofs.Marks.{literal-is-utf8, At}
 use Rattle.error_laws.specs.ViablePrefixes.{is_unrooted, is_late_from_host, is_late_from_authority}
 use Rattle.error_laws.proofs.HostOutcomes.{host-outcome, scan-stops-at-its-end}
-use Rattle.error_laws.proofs.KindFacts.{Facts, userinfo-stops-with-name, path-stops-with-userinfo}
-use Rattle.error_laws.proofs.Marks.{At, begins-with-mark, begins-with-no-other}
-use Rattle.error_laws.proofs.Marks.{nothing-is-scanned-at-mark}
+use Rattle.error_laws.proofs.KindFacts.{Facts, path-stops-with-userinfo}
 use Rattle.error_laws.proofs.Outcomes.{Any, Outcome, carry, stop, shared-mark-is-at}
 use Rattle.error_laws.proofs.PathOutcomes.{abempty-path-outcome, end-has-no-host-error}
 use Rattle.error_laws.proofs.SharedPrefixes.{IsPosition, position-after-mark, position-at-mark}
-use Rattle.error_laws.proofs.SharedPrefixes.{scan-ends-at-position, scanned-part-is-valid}
-use Rattle.error_laws.proofs.SharedPrefixes.{scan-goes-on, Alike, next-is-shared, scan-is-shared}
+use Rattle.error_laws.proofs.SharedPrefixes.{scan-ends-at-position, scanned-part-is-valid, Alike}
+use Rattle.error_laws.proofs.SharedPrefixes.{scan-goes-on, next-is-shared, scan-is-shared}
 use Rattle.error_laws.proofs.SharedPrefixes.{scan-goes-on-alike, valid-part-is-scanned}
 use Rattle.error_laws.proofs.SharedPrefixes.{taken-in-two-steps}
 use Rattle.error_laws.proofs.UserinfoEnds.{last-colon-is-colon, last-colon-is-before-position}
-use Rattle.error_laws.proofs.UserinfoEnds.{last-colon-is-shared, text-at-mark}
-use Rattle.error_laws.proofs.UserinfoEnds.{colon-adds-to-userinfo, userinfo-goes-on-after-name}
-use Rattle.error_laws.proofs.UserinfoEnds.{userinfo-goes-on-after-port, empty-authority-is-passed}
+use Rattle.error_laws.proofs.UserinfoEnds.{last-colon-is-shared, colon-adds-to-userinfo}
+use Rattle.error_laws.proofs.UserinfoEnds.{userinfo-goes-on-after-name, userinfo-goes-on-after-port}
+use Rattle.error_laws.proofs.UserinfoEnds.{empty-authority-is-passed}
 
 module _ (kind : Kind) (f : Facts kind) (text : List ℕ) (u : IsUtf8 text) (i : ℕ)
     (a : IsPosition text i) where
@@ -85,7 +93,7 @@ module _ (kind : Kind) (f : Facts kind) (text : List ℕ) (u : IsUtf8 text) (i :
       → ((other : List ℕ) → Alike n text other → is_next other 64 n ≡ true
       → scan_end other kind.userinfo i ≡ n) → Outcome text n false Any i error
   userinfo-can-stop n le b scanned = stop text n Any i error (codes "@") u le b
-      (ascii-bytes-are-utf8 (codes "@") refl) (λ other w d.
+      (literal-is-utf8 (codes "@") refl) (λ other w d.
       let s : is_next other 64 n ≡ true = ap (starts 64) d in (
         tt,
         at-sign-is-passed other n (scanned other w s) s
@@ -107,7 +115,8 @@ module _ (kind : Kind) (f : Facts kind) (text : List ℕ) (u : IsUtf8 text) (i :
       ap (λ j. take j bs) long
       ∙ taken-in-two-steps bs k (suc m) (omega (arith, length-drop i text, at_end.le, l, le))
       ∙ ap (λ t. take k bs ++ take (suc m) t)
-      (drop-drop k i text ∙ ap (λ j. drop j text) at_c ∙ text-at-mark text 58 c s) in
+      (drop-drop k i text ∙ ap (λ j. drop j text) at_c
+      ∙ text-at-mark-is-mark-and-rest text 58 c s) in
       let v = (utf8_around_ascii_byte (take k bs) 58 (take m rest) (omega arith)
       (subst IsUtf8 same p.0)).0 in
       let valid = valid_before_mark kind.userinfo _ (take k bs) (take m rest) 58 p.1 same
@@ -125,7 +134,8 @@ module _ (kind : Kind) (f : Facts kind) (text : List ℕ) (u : IsUtf8 text) (i :
         (λ c. c)
         (λ c.
         let w = userinfo-goes-on-after-name kind f text i in
-        let z = userinfo-stops-with-name kind f (drop name text)
+        let z = userinfo-stops-with-name-without-colon (first_segment_set kind) kind f.apart
+        f.adjoins [] (drop name text)
         (scan-stops-at-its-end text kind.reg_name i) c in
         absurd (omega (arith, w, z, more)))
         (cases_Bool (is_next text 58 name))
@@ -254,7 +264,7 @@ module _ (kind : Kind) (f : Facts kind) (text : List ℕ) (u : IsUtf8 text) (i :
       let none : valid_prefix kind.userinfo (drop i text) ≡ 0 = omega (arith, z) in
       let colon : is_next text 58 i ≡ false = ⊎_elim
       (λ c.
-      let n = ap (valid_prefix kind.userinfo) (text-at-mark text 58 i c)
+      let n = ap (valid_prefix kind.userinfo) (text-at-mark-is-mark-and-rest text 58 i c)
       ∙ colon-adds-to-userinfo kind f text (drop (i + 1) text) in absurd (omega (arith, n, none)))
       (λ c. c) (cases_Bool (is_next text 58 i)) in
       let rooted = subst (λ k. is_unrooted kind text k ≡ false) z
@@ -342,7 +352,7 @@ module _ (kind : Kind) (f : Facts kind) (text : List ℕ) (u : IsUtf8 text) (i :
       (λ b. on_time r.index (⊎_elim
       (λ z.
       let same = eqb-true end i z in
-      let percent = sym (ap (λ x. x && is_next text 37 end) f.userinfo_octets) ∙ s in
+      let percent = sym (ap (λ x. x && is_next text 37 end) f.adjoins.userinfo_octets) ∙ s in
       empty-outcome r same (ap (is_next text 37) (sym same) ∙ percent)
       (ap (is_next text 64) (sym same) ∙ at) b e)
       (λ z. name-outcome r z at (sym (cond-false _ _ _ z) ∙ e'))

@@ -1,50 +1,50 @@
 -- The outcomes of errors in a host and what follows it.
-use Rattle.std.proofs.Common.{◌≡◌, ℕ, ◌+◌, ◌<◌, ◌≤◌, Bool, true, false, eqb, List, []}
-use Rattle.std.proofs.Common.{◌++◌, length, take, drop, Option, Some, None, refl, sym, ap, subst}
-use Rattle.std.proofs.Common.{◌∙◌, arith, ◌&&◌, ◌||◌, ⊎_elim, ◌⊎◌, inl, inr, length-append, take_all}
-use Rattle.std.proofs.Common.{length-take-le, drop_at, take-append-drop}
+use Rattle.std.proofs.Common.{◌≡◌, ℕ, ◌+◌, ◌<◌, ◌≤◌, Bool, true, false, eqb, List, [], ◌++◌, length}
+use Rattle.std.proofs.Common.{take, drop, Option, Some, None, refl, sym, ap, subst, ◌∙◌, arith, ◌⊎◌}
+use Rattle.std.proofs.Common.{◌&&◌, ◌||◌, ⊎_elim, inl, inr, length-append, take_all, length-take-le}
+use Rattle.std.proofs.Common.{drop_at, take-append-drop}
 use Rattle.std.specs.Prelude.{codes, Ok, Err, is_ok}
 use Rattle.std.specs.Option.{option_map_or}
 use Rattle.std.specs.Str.{IsUtf8}
-use Rattle.std.proofs.lemmas.Bool.{cases_Bool, cond-true, cond-false, and_parts, both_ways}
-use Rattle.std.proofs.lemmas.Bool.{and_left, or_left, false≢true, ltb-true, le-ltb, eq-eqb, not-true}
-use Rattle.std.proofs.lemmas.Bool.{not_from_false, not_from_true}
+use Rattle.std.proofs.lemmas.Bool.{cases_Bool, cases_lt, cond-true, cond-false, and_parts, and_left}
+use Rattle.std.proofs.lemmas.Bool.{both_ways, or_left, false≢true, ltb-true, le-ltb, eq-eqb}
+use Rattle.std.proofs.lemmas.Bool.{not-true, not_from_false, not_from_true}
 use Rattle.std.proofs.lemmas.Bool.Decides.{nat_tests}
-use Rattle.std.proofs.lemmas.List.{drop-drop, drop_all, get_or_append_left}
+use Rattle.std.proofs.lemmas.List.{drop-drop, drop_all, drop_more, get_or_append_left}
 use Rattle.std.proofs.lemmas.Option.{none-some, same_Some}
 use Rattle.std.proofs.lemmas.Str.{IsUtf8-nil, IsUtf8-append, IsUtf8-take, IsCharBoundary-from_drop}
 use Rattle.uri_pct.specs.Prefixes.{valid_prefix}
 use Rattle.uri_pct.specs.Sets.{TableSet, is_one_of}
 use Rattle.uri_pct.proofs.ValidTexts.Prefixes.{nothing_is_scanned_after_valid_prefix}
 use Rattle.uri_parts.specs.declared.error.ParseError.{ParseError}
-use Rattle.uri_parts.specs.Components.{starts}
+use Rattle.uri_parts.specs.Components.{starts, is_end}
 use Rattle.uri_parts.specs.Errors.{unexpected}
-use Rattle.uri_parts.specs.Grammar.{Kind}
+use Rattle.uri_parts.specs.Grammar.{Kind, first_segment_set}
 use Rattle.uri_parts.specs.LiteralErrors.{literal, ipv6_end, cannot_begin_ipv6, closed}
 use Rattle.uri_parts.specs.Refusals.{OptionalParseError, ◌>>=◌, error_from_port, error_from_host}
 use Rattle.uri_parts.specs.Scanning.{ScanResult, is_next, is_at_end, scan_end}
 use Rattle.uri_parts.proofs.Refusals.Complete.{cannot_begin_ipv6-has-no-end}
 use Rattle.uri_parts.proofs.Refusals.Names.{text-begins-with-one-byte-alone}
+use Rattle.uri_parts.proofs.Refusals.Names.{userinfo-stops-with-name-without-colon}
 use Rattle.uri_parts.proofs.Refusals.Rooted.{stray-percent-stops-every-set}
 use Rattle.uri_parts.proofs.Refusals.Rooted.{scan-stops-at-stray-percent-or-goes-on}
 use Rattle.uri_parts.proofs.Splitting.Cuts.{IsEmptyOrMarked, empty-or-marked-for-more-marks}
-use Rattle.uri_ops.proofs.Meanings.AsciiCharacters.{ascii-bytes-are-utf8}
+use Rattle.error_laws.proofs.Marks.{literal-is-utf8, At}
 use Rattle.error_laws.specs.ViablePrefixes.{holds_at_end, is_ipv6_end_uncounted, is_unrooted}
 use Rattle.error_laws.specs.ViablePrefixes.{is_late_from_port, is_late_from_host}
-use Rattle.error_laws.proofs.BracketedHosts.{ipv6-begins-with-no-version-letter}
-use Rattle.error_laws.proofs.KindFacts.{Facts, userinfo-stops-with-name, path-stops-with-userinfo}
+use Rattle.error_laws.proofs.LongerTexts.{longer-text-begins-no-version, end-is-past-text}
+use Rattle.uri_parts.proofs.Refusals.Literals.{literal-without-address-is-unexpected}
+use Rattle.error_laws.proofs.KindFacts.{Facts, path-stops-with-userinfo}
 use Rattle.error_laws.proofs.LiteralHosts.{Closes, CanClose, literal-closes}
 use Rattle.error_laws.proofs.LongerAddresses.{ipv6-closes-with-text, ipv6-ends-within-text}
-use Rattle.error_laws.proofs.LongerTexts.{end-is-past-text}
-use Rattle.error_laws.proofs.Marks.{At}
-use Rattle.error_laws.proofs.Outcomes.{IsSomeError, Outcome, carry, stop, Follows}
-use Rattle.error_laws.proofs.Outcomes.{shared-mark-is-at, other-byte-is-not-next, scan-is-passed}
+use Rattle.error_laws.proofs.Outcomes.{IsSomeError, Outcome, carry, stop, Follows, scan-is-passed}
+use Rattle.error_laws.proofs.Outcomes.{shared-mark-is-at, other-byte-is-not-next}
 use Rattle.error_laws.proofs.PathOutcomes.{port-outcome, end-has-no-port-error}
-use Rattle.error_laws.proofs.SharedPrefixes.{IsPosition, position-after-mark, Alike}
+use Rattle.error_laws.proofs.SharedPrefixes.{IsPosition, position-after-mark, Alike, next-is-shared}
 use Rattle.error_laws.proofs.SharedPrefixes.{scan-ends-at-position, prefix-is-alike}
-use Rattle.error_laws.proofs.SharedPrefixes.{next-is-shared, prefix-is-shared, literal-is-parsed}
-use Rattle.error_laws.proofs.SharedPrefixes.{literal-ends-at-position, literal-is-shared}
-use Rattle.error_laws.proofs.SharedPrefixes.{mark-is-within-text, parsed-literal-is-there}
+use Rattle.error_laws.proofs.SharedPrefixes.{prefix-is-shared, literal-is-parsed, literal-is-shared}
+use Rattle.error_laws.proofs.SharedPrefixes.{literal-ends-at-position, mark-is-within-text}
+use Rattle.error_laws.proofs.SharedPrefixes.{parsed-literal-is-there}
 
 -- error law: nothing is scanned where a scan ends
 pub scan-stops-at-its-end : (text : List ℕ) (set : TableSet) (i : ℕ)
@@ -72,8 +72,9 @@ module _ (kind : Kind) (f : Facts kind) (text : List ℕ) (u : IsUtf8 text) (h :
     stray-percent-is-not-late : is_next text 37 k ≡ true → is_late_from_port kind text k ≡ false
     unfolding is_late_from_port
     stray-percent-is-not-late s =
-        let z = stray-percent-stops-every-set kind.reg_name kind.path (drop k text) f.name_octets
-        f.path_octets (scan-stops-at-its-end text kind.reg_name h) s in
+        let z = stray-percent-stops-every-set kind.reg_name kind.path (drop k text)
+        f.adjoins.reg_name_octets f.adjoins.path_octets
+        (scan-stops-at-its-end text kind.reg_name h) s in
         ap (is_unrooted kind text)
         (cond-false _ _ _ (text-begins-with-one-byte-alone 37 58 (drop k text) refl s))
         ∙ and_left _ _ (and_left _ _ (le-ltb k (scan_end text kind.path k) (omega (arith, z))))
@@ -92,8 +93,9 @@ module _ (kind : Kind) (f : Facts kind) (text : List ℕ) (u : IsUtf8 text) (h :
         let slash : is_next text 47 k ≡ false = not-true _ p.1 in ⊎_elim
         (λ m. inr m)
         (λ m.
-        let z = path-stops-with-userinfo kind f (drop k text) (userinfo-stops-with-name kind f
-        (drop k text) (scan-stops-at-its-end text kind.reg_name h) c) m slash in
+        let none = userinfo-stops-with-name-without-colon (first_segment_set kind) kind f.apart
+        f.adjoins [] (drop k text) (scan-stops-at-its-end text kind.reg_name h) c in
+        let z = path-stops-with-userinfo kind f (drop k text) none m slash in
         absurd (omega (arith, some, z)))
         (cases_Bool (is_next text 64 k)))
         (cases_Bool (is_next text 58 k))
@@ -162,14 +164,14 @@ module _ (kind : Kind) (f : Facts kind) (text : List ℕ) (u : IsUtf8 text) (h :
         let size = length-take-le (h + 1) text after_bracket.le in
         let v = IsUtf8-append (take (h + 1) text) rest (IsUtf8-take text (h + 1) u
         (IsCharBoundary-from_drop text (h + 1) after_bracket.le after_bracket.utf8))
-        (IsUtf8-append c.address (codes "]") c.is.utf8 (ascii-bytes-are-utf8 (codes "]") refl)) in
+        (IsUtf8-append c.address (codes "]") c.is.utf8 (literal-is-utf8 (codes "]") refl)) in
         let w = prefix-is-alike text c.more n c.within (subst IsUtf8 (sym c.joined) v) in
         let bracket = bracket-is-shared n other w c.from in
         let split : drop (h + 1) other ≡ rest = ap (drop (h + 1)) c.joined
         ∙ drop_at (take (h + 1) text) rest (h + 1) size in
         let long = ap length c.joined ∙ length-append (take (h + 1) text) rest in
-        let u' = IsUtf8-append c.address (codes "]") c.is.utf8
-        (ascii-bytes-are-utf8 (codes "]") refl) in
+        let at_address = subst IsUtf8 (sym split) (IsUtf8-append c.address (codes "]") c.is.utf8
+        (literal-is-utf8 (codes "]") refl)) in
         record {
           from = omega (arith, c.from);
           within = c.within;
@@ -181,7 +183,7 @@ module _ (kind : Kind) (f : Facts kind) (text : List ℕ) (u : IsUtf8 text) (h :
                 bracket ∙ sym s,
                 cond-true _ _ _ bracket
                     ∙ ap (λ r. r >>= error_from_port kind other)
-                    (literal-is-parsed other (h + 1) (length other) (subst IsUtf8 (sym split) u') record {
+                    (literal-is-parsed other (h + 1) (length other) at_address record {
                       address = c.address;
                       rest = [];
                       split = split;
@@ -255,12 +257,8 @@ module _ (kind : Kind) (f : Facts kind) (text : List ℕ) (u : IsUtf8 text) (h :
           → literal (text ++ more) (h + 1) ≡ Ok k → ⊥
       unfolding literal
       longer-literal-is-not-ok more k o = ⊎_elim
-          (λ c.
-          let v = ipv6-begins-with-no-version-letter text (h + 1) begins in
-          let letter = ap (is_one_of (codes "vV"))
-          (get_or_append_left text more 0 (h + 1) v.0) ∙ v.1 in
-          false≢true (ap is_ok (sym (cond-false _ _ _ (not_from_true _ c)
-          ∙ cond-false _ _ _ letter) ∙ o)))
+          (λ c. false≢true (ap is_ok (sym (literal-without-address-is-unexpected (text ++ more)
+          (h + 1) (longer-text-begins-no-version text more (h + 1) begins) c) ∙ o)))
           (λ c. closed-option-is-not-ok more k (ipv6_end (text ++ more) (h + 1)) refl
           (sym (cond-true _ _ _ (not_from_false _ c)) ∙ o))
           (cases_Bool (cannot_begin_ipv6 (text ++ more) (h + 1)))

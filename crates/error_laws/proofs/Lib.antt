@@ -4,7 +4,6 @@ pub mod KindFacts
 pub mod SharedPrefixes
 pub mod Outcomes
 pub mod PathOutcomes
-pub mod BracketedHosts
 pub mod LongerTexts
 pub mod LongerAddresses
 pub mod LiteralHosts

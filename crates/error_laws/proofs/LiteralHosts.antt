@@ -1,8 +1,8 @@
 -- Hosts in brackets: how what is before an error in one becomes one.
-use Rattle.std.proofs.Common.{◌≡◌, ℕ, ◌+◌, ◌<◌, ◌≤◌, true, false, eqb, List, [], ◌∷◌, ◌++◌}
-use Rattle.std.proofs.Common.{length, get_or, take, drop, Option, Some, None, refl, sym, ap, subst}
-use Rattle.std.proofs.Common.{◌∙◌, arith, ◌&&◌, ⊎_elim, append_assoc, append-nil, length-append}
-use Rattle.std.proofs.Common.{length-drop, length-take-le, take_at, drop_at, inr}
+use Rattle.std.proofs.Common.{◌≡◌, ℕ, ◌+◌, ◌<◌, ◌≤◌, true, false, eqb, List, [], ◌∷◌, ◌++◌, length}
+use Rattle.std.proofs.Common.{get_or, take, drop, Option, Some, None, refl, sym, ap, subst, ◌∙◌}
+use Rattle.std.proofs.Common.{arith, ◌&&◌, ⊎_elim, append_assoc, append-nil, length-append, take_at}
+use Rattle.std.proofs.Common.{length-drop, length-take-le, drop_at, inr}
 use Rattle.std.specs.Prelude.{codes, Ok, Err, nat_lt, slice_index, is_some}
 use Rattle.std.specs.Net.Grammar.{IsColonHex}
 use Rattle.std.specs.Option.{option_map_or}
@@ -11,8 +11,8 @@ use Rattle.std.proofs.lemmas.Bool.{cases_Bool, cases_lt, cond-true, cond-false, 
 use Rattle.std.proofs.lemmas.Bool.{eq-eqb, eqb-true, both_ways, false≢true, ltb-true, lt-ltb}
 use Rattle.std.proofs.lemmas.Bool.{and_cases, not-false, not_from_true, not_from_false, or_left}
 use Rattle.std.proofs.lemmas.Bool.{or_right}
-use Rattle.std.proofs.lemmas.List.{append_cancel_right, drop-append-le, drop_more}
-use Rattle.std.proofs.lemmas.List.{get_or_past}
+use Rattle.std.proofs.lemmas.Bool.Decides.{nat_tests}
+use Rattle.std.proofs.lemmas.List.{append_cancel_right, drop-append-le, drop_more, get_or_past}
 use Rattle.std.proofs.lemmas.Str.{IsUtf8-append}
 use Rattle.uri_pct.specs.Prefixes.{valid_prefix}
 use Rattle.uri_pct.specs.Sets.{TableSet, LacksPercent, is_one_of, hexdig_set, ipv_future_set}
@@ -22,6 +22,7 @@ use Rattle.uri_parts.specs.Components.{Lacks, starts, is_end}
 use Rattle.uri_parts.specs.Hosts.{IsIpvFuture}
 use Rattle.uri_parts.specs.LiteralErrors.{closed, literal, ipv6_end, cannot_begin_ipv6}
 use Rattle.uri_parts.specs.Scanning.{is_next, is_at_end, scan_end, scan_to_mark, ScanResult}
+use Rattle.uri_parts.proofs.HostForms.Addresses.{is_address_char, is_address_text}
 use Rattle.uri_parts.proofs.HostForms.Addresses.{ipv6_value-complete, ipv6-text-is-address-text}
 use Rattle.uri_parts.proofs.HostForms.Futures.{is_ipv_future-complete}
 use Rattle.uri_parts.proofs.HostForms.Futures.{ipv6-text-lacks-excluded-marks}
@@ -30,13 +31,15 @@ use Rattle.uri_parts.proofs.Parsing.Acceptance.{is_literal}
 use Rattle.uri_parts.proofs.Refusals.Sound.{Holds, ipv6_end-before-bracket-ends-ipv6}
 use Rattle.uri_parts.proofs.Refusals.Sound.{ipv6_end-before-text-ends-ipv6}
 use Rattle.uri_parts.proofs.Splitting.Recompose.{text-with-mark-is-mark-and-rest}
-use Rattle.uri_ops.proofs.Meanings.AsciiCharacters.{ascii-bytes-are-utf8}
-use Rattle.uri_ops.proofs.Meanings.HostMeanings.{address-text-is-utf8}
+use Rattle.error_laws.proofs.Marks.{literal-is-utf8, tested-ascii-is-utf8}
 use Rattle.error_laws.specs.ViablePrefixes.{is_ipv6_end_uncounted}
-use Rattle.error_laws.proofs.BracketedHosts.{version-letter-is-ascii}
 use Rattle.error_laws.proofs.LongerAddresses.{ipv6-ends-within-text}
 use Rattle.error_laws.proofs.SharedPrefixes.{IsPosition, position-after-mark, scan-ends-at-position}
 use Rattle.error_laws.proofs.SharedPrefixes.{scanned-part-is-valid, taken-in-two-steps}
+
+-- error law: the `v` of an IPvFuture address is ASCII
+version-letter-is-ascii : (c : ℕ) → is_one_of (codes "vV") c ≡ true → c < 128
+version-letter-is-ascii c e = grind (arith, nat_tests)
 
 -- error law: what may be in brackets
 pub record IsAddress (address : List ℕ) : Type 0 where
@@ -44,11 +47,17 @@ pub record IsAddress (address : List ℕ) : Type 0 where
   pub lacks : Lacks (codes "]") address
   pub is : is_literal address ≡ true
 
+-- error law: a character of an IPv6 address is ASCII
+address-char-is-ascii : (c : ℕ) → is_address_char c ≡ true → c < 128
+unfolding is_address_char
+address-char-is-ascii c e = grind (arith, nat_tests)
+
 -- error law: an IPv6 address may be in brackets
 ipv6-is-address : (address segments : List ℕ) → IsColonHex address segments → IsAddress address
-unfolding is_literal
+unfolding is_literal is_address_text
 ipv6-is-address address segments h = record {
-  utf8 = address-text-is-utf8 address (ipv6-text-is-address-text address segments h);
+  utf8 = tested-ascii-is-utf8 is_address_char address-char-is-ascii address
+      (ipv6-text-is-address-text address segments h);
   lacks = ipv6-text-lacks-excluded-marks (codes "]") refl address segments h;
   is = or_left _ _ (ap is_some (ipv6_value-complete address segments h));
 }
@@ -68,18 +77,19 @@ double-colon-is-ipv6 = inr (record {
 })
 
 -- error law: an IPvFuture address may be in brackets
-ipvfuture-is-address : (letter : ℕ) (version address : List ℕ) → is_one_of (codes "vV") letter ≡ true
+ipvfuture-is-address : (letter : ℕ) (version address : List ℕ)
+    → is_one_of (codes "vV") letter ≡ true
     → 0 < length version → IsUtf8 version × IsValidFor hexdig_set version
     → 0 < length address → IsUtf8 address × IsValidFor ipv_future_set address
     → IsAddress (letter ∷ (version ++ (codes "." ++ address)))
 unfolding is_literal
 ipvfuture-is-address letter version address v some h any k =
     let text : List ℕ = letter ∷ (version ++ (codes "." ++ address)) in
-    let one : IsUtf8 (letter ∷ []) = ascii-bytes-are-utf8 (letter ∷ [])
+    let one : IsUtf8 (letter ∷ []) = literal-is-utf8 (letter ∷ [])
     (and_from _ _ (lt-ltb letter 128 (version-letter-is-ascii letter v)) refl) in
     let utf8 : IsUtf8 text = IsUtf8-append (letter ∷ []) (version ++ (codes "." ++ address)) one
     (IsUtf8-append version (codes "." ++ address) h.0
-    (IsUtf8-append (codes ".") address (ascii-bytes-are-utf8 (codes ".") refl) k.0)) in
+    (IsUtf8-append (codes ".") address (literal-is-utf8 (codes ".") refl) k.0)) in
     let is : IsIpvFuture text = record {
       letter = letter;
       version = version;
@@ -254,8 +264,8 @@ module _ (text : List ℕ) where
           is = ipvfuture-is-address c (V ++ codes "1") (codes "a") letter
               (omega (arith, length-append V (codes "1")))
               (valid-text-goes-on hexdig_set refl V (codes "1") version
-              (ascii-bytes-are-utf8 (codes "1") refl) digit-is-hexdig-text)
-              (omega arith) (ascii-bytes-are-utf8 (codes "a") refl, letter-is-ipv-future-text);
+              (literal-is-utf8 (codes "1") refl) digit-is-hexdig-text)
+              (omega arith) (literal-is-utf8 (codes "a") refl, letter-is-ipv-future-text);
           from = omega arith;
           within = at_dot.le;
         }
@@ -280,10 +290,11 @@ module _ (text : List ℕ) where
                   ∙ ap (λ t. take i text ++ (c ∷ t)) (append_assoc V (46 ∷ A) (codes "a]")
                   ∙ sym (append_assoc V (46 ∷ (A ++ codes "a")) (codes "]")
                   ∙ ap (λ t. V ++ (46 ∷ t)) (append_assoc A (codes "a") (codes "]"))));
-              is = ipvfuture-is-address c V (A ++ codes "a") letter (omega (arith, size, some)) version
+              is = ipvfuture-is-address c V (A ++ codes "a") letter (omega (arith, size, some))
+                  version
                   (omega (arith, length-append A (codes "a")))
                   (valid-text-goes-on ipv_future_set refl A (codes "a") address
-                  (ascii-bytes-are-utf8 (codes "a") refl) letter-is-ipv-future-text);
+                  (literal-is-utf8 (codes "a") refl) letter-is-ipv-future-text);
               from = omega arith;
               within = (scan-ends-at-position text ipv_future_set refl (dot + 1) at_address).le;
             }

@@ -5,8 +5,8 @@ use Rattle.std.proofs.Common.{None, refl, sym, ap, subst, ◌∙◌, arith, ◌&
 use Rattle.std.specs.Prelude.{codes, nat_lt}
 use Rattle.std.specs.Net.Reader.{digit_count}
 use Rattle.std.proofs.lemmas.Bool.{cases_Bool, cases_lt, cond-true, cond-false, both_ways, eqb-true}
-use Rattle.std.proofs.lemmas.Bool.{eq-eqb, and_parts, and_right, and_left, and_from, lt-ltb}
-use Rattle.std.proofs.lemmas.Bool.{le-ltb, false≢true, cases_eq}
+use Rattle.std.proofs.lemmas.Bool.{eq-eqb, and_parts, and_right, and_left, and_from, lt-ltb, le-ltb}
+use Rattle.std.proofs.lemmas.Bool.{false≢true, cases_eq}
 use Rattle.std.proofs.lemmas.List.{drop-append-le, drop_more, drop_all}
 use Rattle.std.proofs.lemmas.Option.{none-some, cond_some}
 use Rattle.uri_parts.specs.Components.{starts, is_end}
@@ -14,36 +14,24 @@ use Rattle.uri_parts.specs.LiteralErrors.{Groups, Groups_end, Elision, Malformed
 use Rattle.uri_parts.specs.LiteralErrors.{ipv4_end, after_ipv4, groups_from, after_elision}
 use Rattle.uri_parts.specs.LiteralErrors.{after_groups, ipv6_end}
 use Rattle.uri_parts.specs.Scanning.{is_next, is_at_end}
-use Rattle.uri_parts.proofs.Refusals.GroupTurns.{groups_from-ends-without-room}
+use Rattle.uri_parts.proofs.Refusals.GroupTurns.{groups_from-ends-without-room, dotted}
+use Rattle.uri_parts.proofs.Refusals.GroupTurns.{text-with-mark-is-not-ended}
 use Rattle.uri_parts.proofs.Refusals.GroupTurns.{groups_from-ends-without-group}
 use Rattle.uri_parts.proofs.Refusals.GroupTurns.{groups_from-elides-at-two-colons}
 use Rattle.uri_parts.proofs.Refusals.GroupTurns.{groups_from-rejects-lone-colon}
-use Rattle.uri_parts.proofs.Refusals.GroupTurns.{groups_from-ends-with-text, dotted}
+use Rattle.uri_parts.proofs.Refusals.GroupTurns.{groups_from-ends-with-text}
 use Rattle.uri_parts.proofs.Refusals.GroupTurns.{groups_from-rejects-misplaced-colon}
 use Rattle.uri_parts.proofs.Refusals.GroupTurns.{groups_from-rejects-ipv4-without-room}
 use Rattle.uri_parts.proofs.Refusals.GroupTurns.{groups_from-goes-on-after-group}
-use Rattle.error_laws.proofs.BracketedHosts.{elided-address-has-room, groups-with-room-end-address}
-use Rattle.error_laws.proofs.LongerTexts.{next-is-kept-in-longer-text, end-is-past-text}
-use Rattle.error_laws.proofs.LongerTexts.{bytes-are-no-end, empty-text-is-end, bracket-is-no-end}
-use Rattle.error_laws.proofs.LongerTexts.{digits_end-is-kept-in-longer-text}
+use Rattle.error_laws.proofs.LongerTexts.{groups_end, end_with_room, elided-address-has-room}
+use Rattle.error_laws.proofs.LongerTexts.{groups-with-room-end-address, next-is-kept-in-longer-text}
+use Rattle.error_laws.proofs.LongerTexts.{end-is-past-text, closing, bytes-are-no-end}
+use Rattle.error_laws.proofs.LongerTexts.{empty-text-is-end, digits_end-is-kept-in-longer-text}
+use Rattle.error_laws.proofs.LongerTexts.{ipv4-ends-within-text, next-before-bracket-is-kept}
 use Rattle.error_laws.proofs.LongerTexts.{digits_end-is-no-earlier-in-longer-text}
-use Rattle.error_laws.proofs.LongerTexts.{digits_end-is-kept-where-none-follow, closing}
-use Rattle.error_laws.proofs.LongerTexts.{next-before-bracket-is-kept, digits_end-is-within-text}
+use Rattle.error_laws.proofs.LongerTexts.{digits_end-is-kept-where-none-follow}
+use Rattle.error_laws.proofs.LongerTexts.{digits_end-is-within-text, ipv4-is-kept-before-bracket}
 use Rattle.error_laws.proofs.SharedPrefixes.{mark-is-within-text}
-use Rattle.error_laws.proofs.LongerTexts.{ipv4-is-kept-before-bracket, ipv4-ends-within-text}
-
--- error law: where groups end
-abbrev groups_end : Groups → ℕ
-groups_end (Groups_end room end) = end
-groups_end (Elision room end) = end
-groups_end Malformed = 0
-
--- error law: whether groups end at an index, with some room left
-abbrev end_with_room : Groups → Bool
-end_with_room (Groups_end zero end) = false
-end_with_room (Groups_end (suc room) end) = true
-end_with_room (Elision room end) = false
-end_with_room Malformed = false
 
 module _ (text more : List ℕ) where
   abbrev long : List ℕ
@@ -185,7 +173,7 @@ module _ (text more : List ℕ) where
               let s = ap groups_end (sym (groups_from-ends-with-text long n room is_first i group
               later
               one_more (group-is-kept more) refl later-is-past-group k) ∙ h) in
-              absurd (both_ways _ (bracket-is-no-end (drop e long) b)
+              absurd (both_ways _ (text-with-mark-is-not-ended 93 (drop e long) b)
               (ap (λ x. is_at_end long x) (sym s) ∙ (and_parts _ _ k).1)))
               (λ k. ⊎_elim
               (λ a. absurd (false≢true (ap end_with_room

@@ -1,28 +1,33 @@
 -- What is next in a text that goes on, and where digits and IPv4 addresses end in it.
+use Rattle.std.proofs.Common.{Bool}
 use Rattle.std.proofs.Common.{◌≡◌, ℕ, zero, suc, ◌+◌, ◌-◌, ◌<◌, ◌≤◌, true, false, cond, eqb, List}
 use Rattle.std.proofs.Common.{[], ◌∷◌, ◌++◌, length, take, drop, ◌⊎◌, Option, Some, None, refl, sym}
-use Rattle.std.proofs.Common.{ap, ◌∙◌, arith, ◌&&◌, ⊎_elim, length-drop, length-append}
+use Rattle.std.proofs.Common.{ap, ◌∙◌, arith, ◌&&◌, ⊎_elim, length-drop, length-append, ◌||◌}
 use Rattle.std.specs.Prelude.{codes, nat_lt, nat_le, slice_range, option_and_then}
 use Rattle.std.specs.Char.{is_digit}
 use Rattle.std.specs.Net.Reader.{digit_count}
 use Rattle.std.specs.Str.Parse.{digits_value}
-use Rattle.std.proofs.lemmas.Bool.{cases_Bool, cases_lt, cond-true, cond-false, false≢true}
-use Rattle.std.proofs.lemmas.Bool.{both_ways}
+use Rattle.std.proofs.lemmas.Bool.{cases_Bool, cases_lt, cond-true, cond-false, false≢true, or_left}
+use Rattle.std.proofs.lemmas.Bool.{both_ways, and_from, eq-eqb, ne_eqb, not_from_false}
 use Rattle.std.proofs.lemmas.List.{drop-append-le, drop_more, drop_all, take-append-le}
 use Rattle.std.proofs.lemmas.List.{get_or_append_left}
 use Rattle.std.proofs.lemmas.List.Sums.{prefix_len-le-length}
 use Rattle.std.proofs.lemmas.Option.{same_Some, none-some}
 use Rattle.uri_parts.specs.Components.{starts, is_end}
-use Rattle.uri_parts.specs.LiteralErrors.{digits_end, octet_end, octets_end, ipv4_end}
+use Rattle.uri_parts.specs.LiteralErrors.{digits_end, octet_end, octets_end, ipv4_end, Groups}
+use Rattle.uri_parts.specs.LiteralErrors.{cannot_begin_ipv6, after_elision, Groups_end, Elision}
+use Rattle.uri_parts.specs.LiteralErrors.{Malformed}
 use Rattle.uri_parts.specs.Scanning.{is_next, is_at_end}
 use Rattle.error_laws.proofs.SharedPrefixes.{is_next-by-byte, mark-is-within-text}
+use Rattle.uri_parts.proofs.Refusals.Literals.{version-letter-begins-no-ipv6}
 
 -- error law: what is next before the end of a text is next in a longer text too
 pub next-is-kept-in-longer-text : (text more : List ℕ) (mark i : ℕ) → i < length text
     → is_next (text ++ more) mark i ≡ is_next text mark i
 next-is-kept-in-longer-text text more mark i l =
     is_next-by-byte (text ++ more) mark i (omega (arith, l, length-append text more))
-    ∙ ap (λ b. eqb b mark) (get_or_append_left text more 0 i l) ∙ sym (is_next-by-byte text mark i l)
+    ∙ ap (λ b. eqb b mark) (get_or_append_left text more 0 i l)
+    ∙ sym (is_next-by-byte text mark i l)
 
 -- general fact on texts, for the error law: one with a byte is not at its end
 pub bytes-are-no-end : (b : ℕ) (bs : List ℕ) → is_end (b ∷ bs) ≡ false
@@ -34,11 +39,6 @@ pub empty-text-is-end : is_end [] ≡ true
 unfolding is_end
 empty-text-is-end = refl
 
--- general fact on texts, for the error law: one that begins with `]` (93) is not at its end
-pub bracket-is-no-end : (bs : List ℕ) → starts 93 bs ≡ true → is_end bs ≡ false
-bracket-is-no-end [] e = absurd (false≢true e)
-bracket-is-no-end (b ∷ bs) e = bytes-are-no-end b bs
-
 -- error law: a position where a text is at its end is not before that
 pub end-is-past-text : (text : List ℕ) (i : ℕ) → is_at_end text i ≡ true → length text ≤ i
 end-is-past-text text i e = ⊎_elim
@@ -46,6 +46,60 @@ end-is-past-text text i e = ⊎_elim
     ∙ bytes-are-no-end _ _) e))
     (λ (l : length text ≤ i). l)
     (cases_lt i (length text))
+
+-- error law: where groups end
+abbrev pub groups_end : Groups → ℕ
+groups_end (Groups_end room end) = end
+groups_end (Elision room end) = end
+groups_end Malformed = 0
+
+-- error law: whether groups end at an index, with some room left
+abbrev pub end_with_room : Groups → Bool
+end_with_room (Groups_end zero end) = false
+end_with_room (Groups_end (suc room) end) = true
+end_with_room (Elision room end) = false
+end_with_room Malformed = false
+
+-- error law: an address that ends after a `::` has room for that
+pub elided-address-has-room : (text : List ℕ) (g : Groups) (end : ℕ)
+    → after_elision text g ≡ Some end
+    → (room : ℕ) × (g ≡ Groups_end (suc room) end)
+elided-address-has-room text (Groups_end zero e) end a = absurd (none-some end a)
+elided-address-has-room text (Groups_end (suc room) e) end a =
+    let s = cond-false (eqb (suc room) 0) None (Some e)
+    (ne_eqb (suc room) 0 (λ z. omega (arith, z)))
+    in (room, ap (Groups_end (suc room)) (same_Some _ _ (sym s ∙ a)))
+elided-address-has-room text (Elision room e) end a = absurd (none-some end a)
+elided-address-has-room text Malformed end a = absurd (none-some end a)
+
+-- error law: groups after a `::` with room for that end an address
+pub groups-with-room-end-address : (text : List ℕ) (room end : ℕ)
+    → after_elision text (Groups_end (suc room) end) ≡ Some end
+groups-with-room-end-address text room end =
+    cond-false (eqb (suc room) 0) None (Some end) (ne_eqb (suc room) 0 (λ z. omega (arith, z)))
+
+-- error law: no IPv6 address begins at the end of a text
+end-begins-no-ipv6 : (text : List ℕ) (i : ℕ) → length text ≤ i → cannot_begin_ipv6 text i ≡ true
+unfolding cannot_begin_ipv6
+end-begins-no-ipv6 text i l =
+    let d = drop_all i text l in
+    let z = ap (digit_count 16) d in
+    let same : digits_end text 16 4 i ≡ i = omega (arith, z) in
+    and_from _ _ (not_from_false _ (ap (starts 58) d)) (or_left _ _ (eq-eqb _ i same))
+
+-- error law: where an IPv6 address begins, no address of a later version does in a longer text
+pub longer-text-begins-no-version : (text more : List ℕ) (i : ℕ) → cannot_begin_ipv6 text i ≡ false
+    → (is_next (text ++ more) 118 i || is_next (text ++ more) 86 i) ≡ false
+longer-text-begins-no-version text more i begins = ⊎_elim
+    (λ v. absurd (both_ways _ begins (⊎_elim
+    (λ (l : i < length text). version-letter-begins-no-ipv6 text i
+    (ap (λ b. b || is_next text 86 i) (sym (next-is-kept-in-longer-text text more 118 i l))
+    ∙ ap (λ b. is_next (text ++ more) 118 i || b)
+    (sym (next-is-kept-in-longer-text text more 86 i l)) ∙ v))
+    (λ (l : length text ≤ i). end-begins-no-ipv6 text i l)
+    (cases_lt i (length text)))))
+    (λ v. v)
+    (cases_Bool (is_next (text ++ more) 118 i || is_next (text ++ more) 86 i))
 
 -- error law: in a longer text no fewer digits come first
 digits-are-no-fewer-in-longer-text : (radix : ℕ) (bs more : List ℕ)

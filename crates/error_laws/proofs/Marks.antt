@@ -1,8 +1,9 @@
--- Texts that are empty or begin with one of some marks, and scans that end at these.
-use Rattle.std.proofs.Common.{◌≡◌, ℕ, true, false, eqb, List, [], ◌∷◌, ◌++◌, length, drop, refl, sym, ap}
-use Rattle.std.proofs.Common.{◌∙◌, ⊎_elim}
-use Rattle.std.specs.Str.{IsUtf8}
-use Rattle.std.proofs.lemmas.Bool.{cases_Bool, both_ways, eqb-true, eq-eqb, or_cases}
+-- Scans that end at marks, and ASCII texts.
+use Rattle.std.proofs.Common.{◌≡◌, ℕ, true, false, eqb, List, [], ◌∷◌, ◌++◌, length, drop, refl, ap}
+use Rattle.std.proofs.Common.{sym, ◌∙◌, ⊎_elim, zero, suc, Bool, ltb, ◌<◌, arith}
+use Rattle.std.specs.Str.{IsUtf8, IsAscii}
+use Rattle.std.proofs.lemmas.Bool.{cases_Bool, both_ways, eqb-true, eq-eqb, or_cases, and_parts}
+use Rattle.std.proofs.lemmas.Bool.{ltb-true}
 use Rattle.uri_pct.specs.Prefixes.{valid_prefix}
 use Rattle.uri_pct.specs.Sets.{TableSet, LacksPercent, is_one_of}
 use Rattle.uri_pct.specs.Tokens.{IsValidFor, is_valid_for}
@@ -12,50 +13,42 @@ use Rattle.uri_parts.proofs.Authorities.AuthorityCuts.{length-of-text-before-mar
 use Rattle.uri_parts.proofs.Authorities.NamesAndPorts.{valid_prefix-of-empty-text}
 use Rattle.uri_parts.proofs.Splitting.Cuts.{IsEmptyOrMarked, cut-at-end-of-text-without-marks}
 use Rattle.uri_parts.proofs.TextKinds.GrammarTexts.{valid_text_lacks_excluded_marks}
+use Rattle.std.specs.List.{list_all}
+use Rattle.std.proofs.lemmas.Str.{IsUtf8-from_ascii}
 
 -- error law: at an index of a text it ends, or one of the marks is next
 abbrev pub At : List ℕ → ℕ → List ℕ → Type 0
 At marks i text = IsEmptyOrMarked marks (drop i text)
 
--- error law: a text that begins with one of the marks is marked by them
-pub begins-with-mark : (mark : ℕ) (marks bs : List ℕ) → is_one_of marks mark ≡ true
-    → starts mark bs ≡ true → IsEmptyOrMarked marks bs
-begins-with-mark mark marks [] m e = tt
-begins-with-mark mark marks (b ∷ bs) m e = ap (is_one_of marks) (eqb-true b mark e) ∙ m
+-- error law: a valid text before a mark that its set lacks is scanned to its end
+pub valid-text-is-scanned-to-mark : (set : TableSet) (marks : List ℕ) → LacksPercent set
+    → excludes set marks ≡ true → (x rest : List ℕ) → IsUtf8 x → IsUtf8 (x ++ rest)
+    → IsValidFor set x → IsEmptyOrMarked marks rest → valid_prefix set (x ++ rest) ≡ length x
+valid-text-is-scanned-to-mark set marks lacks outside x rest u v valid begins =
+    let c = cut-at-end-of-text-without-marks marks x rest
+    (valid_text_lacks_excluded_marks set marks lacks outside x u valid) begins in
+    eqb-true _ _ (sym (cut marks set lacks outside (x ++ rest) v) ∙ ap (is_valid_for set) c.0
+    ∙ valid)
+    ∙ sym (length-of-text-before-marks marks (x ++ rest)) ∙ ap length c.0
 
--- error law: a text that begins with a mark, if with any, does not begin with another byte
-pub begins-with-no-other : (other : ℕ) (marks bs : List ℕ) → is_one_of marks other ≡ false
-    → IsEmptyOrMarked marks bs → starts other bs ≡ false
-begins-with-no-other other marks [] n m = refl
-begins-with-no-other other marks (b ∷ bs) n m = ⊎_elim
-    (λ e. absurd (both_ways _ n (ap (is_one_of marks) (sym (eqb-true b other e)) ∙ m)))
-    (λ e. e)
-    (cases_Bool (eqb b other))
+-- error law: characters that pass a test of ASCII alone are ASCII
+tested-bytes-are-ascii : (test : ℕ → Bool) → ((c : ℕ) → test c ≡ true → c < 128) → (bs : List ℕ)
+    → list_all test bs ≡ true → IsAscii bs
+tested-bytes-are-ascii test ascii [] e i = omega arith
+tested-bytes-are-ascii test ascii (b ∷ bs) e zero = ascii b (and_parts (test b) _ e).0
+tested-bytes-are-ascii test ascii (b ∷ bs) e (suc i) = tested-bytes-are-ascii test ascii bs
+    (and_parts (test b) _ e).1 i
 
--- error law: a marked text that does not begin with the first mark begins with a further one
-pub begins-with-further-mark : (mark : ℕ) (marks bs : List ℕ) → IsEmptyOrMarked (mark ∷ marks) bs
-    → starts mark bs ≡ false → IsEmptyOrMarked marks bs
-begins-with-further-mark mark marks [] m n = tt
-begins-with-further-mark mark marks (b ∷ bs) m n = ⊎_elim
-    (λ e. absurd (both_ways _ n (eq-eqb b mark (sym (eqb-true mark b e)))))
-    (λ e. e)
-    (or_cases (eqb mark b) (is_one_of marks b) m)
+-- error law: a text of characters that pass a test of ASCII alone is UTF-8
+pub tested-ascii-is-utf8 : (test : ℕ → Bool) → ((c : ℕ) → test c ≡ true → c < 128)
+    → (bs : List ℕ) → list_all test bs ≡ true → IsUtf8 bs
+tested-ascii-is-utf8 test ascii bs e = IsUtf8-from_ascii bs
+    (tested-bytes-are-ascii test ascii bs e)
 
-module _ (set : TableSet) (marks : List ℕ) (lacks : LacksPercent set)
-    (outside : excludes set marks ≡ true) where
-  -- at a mark that the set lacks nothing is scanned
-  pub nothing-is-scanned-at-mark : (bs : List ℕ) → IsEmptyOrMarked marks bs
-      → valid_prefix set bs ≡ 0
-  nothing-is-scanned-at-mark [] m = valid_prefix-of-empty-text set
-  nothing-is-scanned-at-mark (b ∷ bs) m = valid_prefix_at_mark_is_empty marks set lacks outside b
-      bs m
+-- error law: a byte is ASCII
+abbrev pub is_ascii_byte : ℕ → Bool
+is_ascii_byte c = ltb c 128
 
-  -- a valid text before a mark is scanned to its end
-  pub valid-text-is-scanned-to-mark : (x rest : List ℕ) → IsUtf8 x → IsUtf8 (x ++ rest)
-      → IsValidFor set x → IsEmptyOrMarked marks rest → valid_prefix set (x ++ rest) ≡ length x
-  valid-text-is-scanned-to-mark x rest u v valid begins =
-      let c = cut-at-end-of-text-without-marks marks x rest
-      (valid_text_lacks_excluded_marks set marks lacks outside x u valid) begins in
-      eqb-true _ _ (sym (cut marks set lacks outside (x ++ rest) v) ∙ ap (is_valid_for set) c.0
-      ∙ valid)
-      ∙ sym (length-of-text-before-marks marks (x ++ rest)) ∙ ap length c.0
+-- error law: a literal text of ASCII is UTF-8
+pub literal-is-utf8 : (bs : List ℕ) → list_all is_ascii_byte bs ≡ true → IsUtf8 bs
+literal-is-utf8 bs e = tested-ascii-is-utf8 is_ascii_byte (λ c. ltb-true c 128) bs e

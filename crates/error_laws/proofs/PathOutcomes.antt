@@ -1,13 +1,12 @@
 -- The outcomes of errors in a fragment, a query, a path and a port.
 use Rattle.std.proofs.Common.{◌≡◌, ℕ, ◌+◌, ◌<◌, ◌≤◌, Bool, true, false, cond, eqb, List, [], ◌∷◌}
-use Rattle.std.proofs.Common.{drop, Some, None, refl, sym, ap, subst, ◌∙◌, arith}
-use Rattle.std.proofs.Common.{◌&&◌, ◌||◌, ⊎_elim, inl, inr, ◌⊎◌, length-drop}
+use Rattle.std.proofs.Common.{drop, Some, None, refl, sym, ap, subst, ◌∙◌, arith, ◌&&◌, ◌||◌, inl}
+use Rattle.std.proofs.Common.{⊎_elim, inr, ◌⊎◌, length-drop}
 use Rattle.std.specs.Prelude.{codes, Ok}
 use Rattle.std.specs.Str.{IsUtf8}
-use Rattle.std.proofs.lemmas.Bool.{cases_Bool, cond-true, cond-false, and_parts, and_from}
-use Rattle.std.proofs.lemmas.Bool.{or_left, or_right, or_from, or_parts, both_ways}
-use Rattle.std.proofs.lemmas.Bool.{eq-eqb, eqb-true, ne_eqb, ltb-true, lt-ltb, not-true}
-use Rattle.std.proofs.lemmas.Bool.{not_from_false, or_cases}
+use Rattle.std.proofs.lemmas.Bool.{cases_Bool, cond-true, cond-false, and_parts, and_from, or_left}
+use Rattle.std.proofs.lemmas.Bool.{or_right, or_from, or_parts, both_ways, eq-eqb, eqb-true, ne_eqb}
+use Rattle.std.proofs.lemmas.Bool.{ltb-true, lt-ltb, not-true, not_from_false, or_cases}
 use Rattle.std.proofs.lemmas.Option.{same_Some, none-some}
 use Rattle.std.proofs.lemmas.Str.{IsUtf8-nil, IsCharBoundary-from_take}
 use Rattle.uri_pct.specs.Prefixes.{valid_prefix}
@@ -26,13 +25,14 @@ use Rattle.uri_parts.specs.Scanning.{is_next, is_at_end, scan_end, scan}
 use Rattle.uri_parts.proofs.Authorities.NamesAndPorts.{valid_prefix-of-empty-text}
 use Rattle.uri_parts.proofs.Refusals.Rooted.{scan-stops-at-stray-percent-or-goes-on}
 use Rattle.uri_parts.proofs.Splitting.Cuts.{IsEmptyOrMarked, empty-or-marked-for-more-marks}
+use Rattle.uri_parts.proofs.Splitting.Cuts.{begins-with-no-other}
 use Rattle.error_laws.specs.ViablePrefixes.{is_unrooted, is_late_from_port}
 use Rattle.error_laws.proofs.KindFacts.{Facts}
 use Rattle.error_laws.proofs.LongerTexts.{empty-text-is-end}
-use Rattle.error_laws.proofs.Marks.{At, begins-with-no-other}
+use Rattle.error_laws.proofs.Marks.{At}
 use Rattle.error_laws.proofs.Outcomes.{Outcome, carry, stop, Follows, follows-with-more-marks}
-use Rattle.error_laws.proofs.Outcomes.{shared-mark-is-at, shared-mark-follows}
-use Rattle.error_laws.proofs.Outcomes.{other-byte-is-not-next, digits-end-alike, scan-outcome}
+use Rattle.error_laws.proofs.Outcomes.{shared-mark-is-at, shared-mark-follows, digits-end-alike}
+use Rattle.error_laws.proofs.Outcomes.{other-byte-is-not-next, scan-outcome}
 use Rattle.error_laws.proofs.SharedPrefixes.{IsPosition, position-after-mark, scan-goes-on, Alike}
 use Rattle.error_laws.proofs.SharedPrefixes.{scan-ends-at-position, next-is-shared}
 use Rattle.error_laws.proofs.SharedPrefixes.{bytes-are-shared, position-is-shared}
@@ -219,7 +219,7 @@ module _ (kind : Kind) (f : Facts kind) (text : List ℕ) (u : IsUtf8 text) wher
         subst (λ x. Outcome text x.index true (Follows true (codes "/?#") i x.index) i
         (λ t. scan t kind.path i >>= next t))
         (same_Some (stray_percent end) r (sym (ap (λ r. r >>= next text)
-        (cond-true _ _ _ (and_from _ _ f.path_octets q.1))) ∙ e))
+        (cond-true _ _ _ (and_from _ _ f.adjoins.path_octets q.1))) ∙ e))
         record {
           from = omega arith;
           within = b.le;
@@ -262,7 +262,8 @@ module _ (kind : Kind) (f : Facts kind) (text : List ℕ) (u : IsUtf8 text) wher
         a IsUtf8-nil (λ other w d. (
           subst (IsEmptyOrMarked (codes "/?#")) (sym d) tt,
           ap (λ r. r >>= next other) (scan-stays-at-end other kind.path i d)
-              ∙ cond-true _ _ _ (or_left _ _ (eq-eqb i i refl)) ∙ end-has-no-query-error kind other i d,
+              ∙ cond-true _ _ _ (or_left _ _ (eq-eqb i i refl))
+              ∙ end-has-no-query-error kind other i d,
         ))))
         (cases_Bool (kind.path.pct_encoded && is_next text 37 end))
 

@@ -1,7 +1,7 @@
 -- Positions between the characters of a text, and two texts that begin alike: what is next and what
 -- is scanned within what they share.
-use Rattle.std.proofs.Common.{◌≡◌, ℕ, ◌+◌, ◌-◌, ◌<◌, ◌≤◌, true, false, eqb, List, [], ◌∷◌, ◌++◌}
-use Rattle.std.proofs.Common.{length, get_or, take, drop, refl, sym, ap, subst, ◌∙◌, arith, ◌&&◌}
+use Rattle.std.proofs.Common.{◌≡◌, ℕ, ◌+◌, ◌-◌, ◌<◌, ◌≤◌, true, false, eqb, List, [], ◌∷◌, ◌++◌, ap}
+use Rattle.std.proofs.Common.{length, get_or, take, drop, refl, sym, subst, ◌∙◌, arith, ◌&&◌}
 use Rattle.std.proofs.Common.{⊎_elim, length-append, length-drop, length-take-le, take-append-drop}
 use Rattle.std.proofs.Common.{take_at, drop_at, append_assoc}
 use Rattle.std.specs.Prelude.{Ok, is_ok, codes}
@@ -29,12 +29,14 @@ use Rattle.uri_parts.specs.Models.Literals.{literal_length}
 use Rattle.uri_parts.specs.Scanning.{is_next, scan_end, scan}
 use Rattle.uri_parts.proofs.Parsing.Acceptance.{is_literal, parses_literal}
 use Rattle.uri_parts.proofs.Parsing.ScanStops.{utf8_after_mark}
+use Rattle.uri_parts.proofs.Refusals.Names.{valid_prefix-at-digit-is-one-more}
+use Rattle.uri_parts.proofs.Refusals.Names.{valid_prefix-at-other-byte-is-zero}
 use Rattle.uri_parts.proofs.Refusals.LiteralEnds.{literal-ends-as-parsed}
 use Rattle.uri_parts.proofs.Splitting.Cuts.{IsEmptyOrMarked, text-is-cut-at-first-mark}
-use Rattle.uri_parts.proofs.Splitting.Cuts.{cut-at-end-of-text-without-marks}
+use Rattle.uri_parts.proofs.Splitting.Cuts.{cut-at-end-of-text-without-marks, begins-with-no-other}
 use Rattle.uri_parts.proofs.Splitting.Recompose.{text-with-mark-is-mark-and-rest}
 use Rattle.uri_parts.proofs.TextKinds.GrammarTexts.{utf8_around_ascii_byte}
-use Rattle.error_laws.proofs.Marks.{At, begins-with-no-other, valid-text-is-scanned-to-mark}
+use Rattle.error_laws.proofs.Marks.{At, valid-text-is-scanned-to-mark}
 
 -- error law: where a mark is next, the text does not end
 pub mark-is-within-text : (text : List ℕ) (mark i : ℕ) → is_next text mark i ≡ true
@@ -103,7 +105,8 @@ pub scanned-part-is-valid : (text : List ℕ) (set : TableSet) → LacksPercent 
     × IsValidFor set (take (valid_prefix set (drop i text)) (drop i text))
 scanned-part-is-valid text set lacks i a =
     let bs : List ℕ = drop i text in (
-      IsUtf8-take bs (valid_prefix set bs) a.utf8 (valid_prefix_ends_at_boundary set lacks bs a.utf8),
+      IsUtf8-take bs (valid_prefix set bs) a.utf8
+          (valid_prefix_ends_at_boundary set lacks bs a.utf8),
       valid_prefix_is_valid set lacks bs a.utf8,
     )
 
@@ -138,31 +141,19 @@ digit-is-allowed-by-byte : (b : ℕ) (bs more : List ℕ) → allows_first digit
 unfolding allows_first allows_past_ascii
 digit-is-allowed-by-byte b bs more = refl
 
--- error law: an allowed digit is ASCII
-allowed-digit-is-ascii : (b : ℕ) (bs : List ℕ) → allows_first digit_set b bs ≡ true → b < 128
-unfolding allows_first allows_past_ascii
-allowed-digit-is-ascii b bs e = ⊎_elim
-    (λ (l : b < 128). l)
-    (λ (l : 128 ≤ b). absurd (false≢true (sym (cond-false _ _ _ (le-ltb b 128 l)) ∙ e)))
-    (cases_lt b 128)
-
 -- error law: a scan of digits goes as far in two texts that begin alike, if it ends within that
 digits-are-shared : (bs rest more : List ℕ) → valid_prefix digit_set (bs ++ rest) < length bs
     → valid_prefix digit_set (bs ++ more) ≡ valid_prefix digit_set (bs ++ rest)
 digits-are-shared [] rest more l = absurd (omega arith)
-digits-are-shared (b ∷ bs) rest more l =
-    let f = valid_prefix_by_first_byte digit_set b (bs ++ rest) in
-    let g = valid_prefix_by_first_byte digit_set b (bs ++ more) in ⊎_elim
+digits-are-shared (b ∷ bs) rest more l = ⊎_elim
     (λ a.
-    let z = ascii_byte_has_no_continuation b (allowed-digit-is-ascii b (bs ++ rest) a) in
-    let x : valid_prefix digit_set (b ∷ (bs ++ rest)) ≡ valid_prefix digit_set (bs ++ rest) + 1 =
-    f ∙ cond-true _ _ _ a ∙ ap (λ k. valid_prefix_from digit_set k (bs ++ rest) + 1) z in
-    let y : valid_prefix digit_set (b ∷ (bs ++ more)) ≡ valid_prefix digit_set (bs ++ more) + 1 =
-    g ∙ cond-true _ _ _ (digit-is-allowed-by-byte b (bs ++ more) (bs ++ rest) ∙ a)
-    ∙ ap (λ k. valid_prefix_from digit_set k (bs ++ more) + 1) z in
+    let x = valid_prefix-at-digit-is-one-more b (bs ++ rest) a in
+    let y = valid_prefix-at-digit-is-one-more b (bs ++ more)
+    (digit-is-allowed-by-byte b (bs ++ more) (bs ++ rest) ∙ a) in
     let ih = digits-are-shared bs rest more (omega (arith, x, l)) in omega (arith, x, y, ih))
-    (λ a. g ∙ cond-false _ _ _ (digit-is-allowed-by-byte b (bs ++ more) (bs ++ rest) ∙ a)
-    ∙ sym (f ∙ cond-false _ _ _ a))
+    (λ a. valid_prefix-at-other-byte-is-zero b (bs ++ more)
+    (digit-is-allowed-by-byte b (bs ++ more) (bs ++ rest) ∙ a)
+    ∙ sym (valid_prefix-at-other-byte-is-zero b (bs ++ rest) a))
     (cases_Bool (allows_first digit_set b (bs ++ rest)))
 
 module _ (n : ℕ) (text other : List ℕ) (w : Alike n text other) where
@@ -314,7 +305,8 @@ literal-ends-at-position text i k a e =
           (length-append h.address (codes "]")))
           ∙ ap (drop (length h.address + 1)) (sym whole)
           ∙ drop-drop (length h.address + 1) i text ∙ ap (λ j. drop j text) (sym h.end))
-          (utf8_around_ascii_byte h.address 93 h.rest (omega arith) (subst IsUtf8 h.split a.utf8)).1;
+          (utf8_around_ascii_byte h.address 93 h.rest (omega arith)
+          (subst IsUtf8 h.split a.utf8)).1;
       le = omega (arith, size, d, length-drop i text, a.le, h.end);
     }
 

@@ -1,7 +1,7 @@
 -- The outcomes of errors in a whole text: the law of viable prefixes, and its exceptions.
 use Rattle.std.proofs.Common.{◌≡◌, ℕ, ◌+◌, ◌<◌, ◌≤◌, Bool, true, false, cond, eqb, List, [], ◌∷◌}
-use Rattle.std.proofs.Common.{◌++◌, length, get_or, take, drop, Some, None, refl, sym, ap}
-use Rattle.std.proofs.Common.{subst, ◌∙◌, arith, ◌&&◌, ⊎_elim, length-drop, take-append-drop, zero-add}
+use Rattle.std.proofs.Common.{◌++◌, length, get_or, take, drop, Some, None, refl, sym, ap, subst}
+use Rattle.std.proofs.Common.{◌∙◌, arith, ◌&&◌, ⊎_elim, length-drop, take-append-drop, zero-add}
 use Rattle.std.specs.Prelude.{codes, is_none, slice_index}
 use Rattle.std.specs.Char.{is_ascii_alphabetic}
 use Rattle.std.specs.Str.{IsUtf8}
@@ -29,23 +29,22 @@ use Rattle.uri_parts.proofs.Parsing.WholeTexts.{slashes-begin-with-no-scheme}
 use Rattle.uri_parts.proofs.Refusals.Accepted.{no-error-iff-text-is-parsed}
 use Rattle.uri_parts.proofs.Refusals.OnLiterals.{errors_on_literals}
 use Rattle.uri_parts.proofs.Refusals.Rooted.{scan-stops-at-stray-percent-or-goes-on}
+use Rattle.uri_parts.proofs.Refusals.Rooted.{nothing-is-scanned-at-mark}
 use Rattle.uri_parts.proofs.Refusals.Whole.{parsed_error-is-refusal}
 use Rattle.uri_parts.proofs.Splitting.Cuts.{IsEmptyOrMarked, empty-or-marked-for-more-marks}
-use Rattle.uri_ops.proofs.Meanings.AsciiCharacters.{ascii-bytes-are-utf8}
+use Rattle.uri_parts.proofs.Splitting.Cuts.{begins-with-mark, begins-with-no-other}
+use Rattle.error_laws.proofs.Marks.{literal-is-utf8, At}
 use Rattle.error_laws.specs.ViablePrefixes.{IsViablePrefix, begins_without_letter, has_late_error}
 use Rattle.error_laws.specs.ViablePrefixes.{is_late_from_authority, is_late_from_hier}
 use Rattle.error_laws.proofs.AuthorityOutcomes.{authority-outcome}
 use Rattle.error_laws.proofs.HostOutcomes.{scan-stops-at-its-end}
 use Rattle.error_laws.proofs.KindFacts.{Facts, path-stops-with-segment}
-use Rattle.error_laws.proofs.Marks.{At, begins-with-mark, begins-with-no-other}
-use Rattle.error_laws.proofs.Marks.{nothing-is-scanned-at-mark}
-use Rattle.error_laws.proofs.Outcomes.{Any, Outcome, carry, stop, shared-mark-is-at}
-use Rattle.error_laws.proofs.Outcomes.{scan-is-passed, scan-outcome}
+use Rattle.error_laws.proofs.Outcomes.{Any, Outcome, carry, stop, shared-mark-is-at, scan-is-passed}
+use Rattle.error_laws.proofs.Outcomes.{scan-outcome}
 use Rattle.error_laws.proofs.PathOutcomes.{path-outcome, end-has-no-path-error}
-use Rattle.error_laws.proofs.SharedPrefixes.{IsPosition, position-after-mark, Alike}
-use Rattle.error_laws.proofs.SharedPrefixes.{scan-ends-at-position, prefix-is-alike}
-use Rattle.error_laws.proofs.SharedPrefixes.{byte-is-shared, next-is-shared, slashes-are-shared}
-use Rattle.error_laws.proofs.SharedPrefixes.{scan-is-shared}
+use Rattle.error_laws.proofs.SharedPrefixes.{IsPosition, position-after-mark, Alike, byte-is-shared}
+use Rattle.error_laws.proofs.SharedPrefixes.{scan-ends-at-position, prefix-is-alike, next-is-shared}
+use Rattle.error_laws.proofs.SharedPrefixes.{slashes-are-shared, scan-is-shared}
 
 -- error law: after `//` is a position between characters
 position-after-slashes : (text : List ℕ) (i : ℕ) → IsPosition text i
@@ -244,7 +243,7 @@ module _ (kind : Kind) (f : Facts kind) (text : List ℕ) (u : IsUtf8 text) wher
   -- an error at the start
   start-outcome : Outcome text 0 false Any 0 (refusal kind)
   start-outcome = stop text 0 Any 0 (refusal kind) (codes "a:") u (omega arith) start
-      (ascii-bytes-are-utf8 (codes "a:") refl)
+      (literal-is-utf8 (codes "a:") refl)
       (λ other w d. (tt, ap (refusal kind) d ∙ letter-and-colon-have-no-error kind))
 
   scheme-is-shared : (n : ℕ) (other : List ℕ) → Alike n text other → scheme ≤ n
@@ -289,7 +288,8 @@ module _ (kind : Kind) (f : Facts kind) (text : List ℕ) (u : IsUtf8 text) wher
               ⊎_elim
                   (λ c. (
                     unexpected 0,
-                    cond-true _ _ _ c ∙ cond-false _ _ _ (ap is_ascii_alphabetic first ∙ not-true _ p.1),
+                    cond-true _ _ _ c ∙ cond-false _ _ _ (ap is_ascii_alphabetic first
+                        ∙ not-true _ p.1),
                   ))
                   (λ c. (unexpected last, cond-false _ _ _ c ∙ cond-true _ _ _ needs))
                   (cases_Bool (is_next other 58 last)),
@@ -300,7 +300,7 @@ module _ (kind : Kind) (f : Facts kind) (text : List ℕ) (u : IsUtf8 text) wher
       let letter = not-false _ (⊎_elim (λ z. absurd (both_ways _ z (lt-ltb 0 scheme some)))
       (λ z. z) (and_cases _ _ l)) in
       stop text scheme Any 0 (refusal kind) (codes ":") u (omega arith) at_scheme
-      (ascii-bytes-are-utf8 (codes ":") refl) (λ other w d.
+      (literal-is-utf8 (codes ":") refl) (λ other w d.
       let colon : is_next other 58 scheme ≡ true = ap (starts 58) d in
       let same = scheme-is-shared scheme other w (omega arith) colon in (
         tt,
@@ -320,7 +320,8 @@ module _ (kind : Kind) (f : Facts kind) (text : List ℕ) (u : IsUtf8 text) wher
       → refusal kind text ≡ Some r → Outcome text r.index late Any 0 (refusal kind)
   unfolding refusal has_late_error
   refusal-outcome late r l e =
-      let by_index : (x : ParseError) → Some x ≡ Some r → Outcome text x.index late Any 0 (refusal kind)
+      let by_index : (x : ParseError) → Some x ≡ Some r
+      → Outcome text x.index late Any 0 (refusal kind)
       → Outcome text r.index late Any 0 (refusal kind) = λ x same o.
       subst (λ y. Outcome text y.index late Any 0 (refusal kind)) (same_Some x r same) o in
       let on_time : (x : ℕ) → false ≡ late → Outcome text x false Any 0 (refusal kind)
