@@ -1,8 +1,7 @@
 -- The outcomes of errors in an authority.
-use Rattle.std.proofs.Common.{[]}
-use Rattle.std.proofs.Common.{◌≡◌, ℕ, zero, suc, ◌+◌, ◌-◌, ◌<◌, ◌≤◌, Bool, true, false, cond, eqb}
-use Rattle.std.proofs.Common.{List, ◌∷◌, ◌++◌, take, drop, Some, refl, sym, ap, subst, ◌∙◌, arith}
-use Rattle.std.proofs.Common.{◌&&◌, ⊎_elim, length-drop}
+use Rattle.std.proofs.Common.{[], ◌≡◌, ℕ, suc, ◌+◌, ◌-◌, ◌<◌, ◌≤◌, Bool, true, false, cond, eqb, ap}
+use Rattle.std.proofs.Common.{List, ◌∷◌, ◌++◌, take, drop, Some, refl, sym, subst, ◌∙◌, arith, ◌&&◌}
+use Rattle.std.proofs.Common.{⊎_elim, length-drop}
 use Rattle.std.specs.Prelude.{codes, nat_lt}
 use Rattle.std.specs.Str.{IsUtf8}
 use Rattle.std.proofs.lemmas.Bool.{cases_Bool, cases_lt, cond-true, cond-false, and_left, and_right}
@@ -11,22 +10,16 @@ use Rattle.std.proofs.lemmas.Bool.{not_from_true, both_ways, and_parts}
 use Rattle.std.proofs.lemmas.Bool.Decides.{nat_tests}
 use Rattle.std.proofs.lemmas.List.{drop-drop}
 use Rattle.std.proofs.lemmas.Option.{same_Some}
-use Rattle.uri_pct.specs.Prefixes.{valid_prefix_from, valid_prefix}
+use Rattle.uri_pct.specs.Prefixes.{valid_prefix}
 use Rattle.uri_pct.specs.Sets.{digit_set, is_one_of}
-use Rattle.uri_pct.proofs.ValidTexts.Cuts.{valid_prefix_by_first_byte}
-use Rattle.uri_pct.proofs.ValidTexts.MarksInTexts.{ascii_byte_has_no_continuation}
-use Rattle.uri_pct.proofs.ValidTexts.Prefixes.{valid_prefix_of_superset_goes_on_from_subset}
 use Rattle.uri_pct.proofs.ValidTexts.TokenCuts.{reserved_is_never_in_octet, valid_before_mark}
-use Rattle.uri_pct.proofs.ValidTexts.Validity.{ascii_first_byte_is_allowed_iff_in_set}
 use Rattle.uri_parts.specs.declared.error.ParseError.{ParseError}
 use Rattle.uri_parts.specs.Components.{starts}
 use Rattle.uri_parts.specs.Errors.{unexpected}
 use Rattle.uri_parts.specs.Grammar.{Kind, first_segment_set}
-use Rattle.uri_parts.specs.Refusals.{OptionalParseError, ◌>>=◌, last_colon, error_from_port}
-use Rattle.uri_parts.specs.Refusals.{error_from_abempty_path, error_from_host, error_from_name}
-use Rattle.uri_parts.specs.Refusals.{error_from_authority}
+use Rattle.uri_parts.specs.Refusals.{OptionalParseError, ◌>>=◌, last_colon, error_from_abempty_path}
+use Rattle.uri_parts.specs.Refusals.{error_from_host, error_from_name, error_from_authority}
 use Rattle.uri_parts.specs.Scanning.{is_next, scan_end}
-use Rattle.uri_parts.proofs.Refusals.Colons.{last_colon_is_below_position}
 use Rattle.uri_parts.proofs.Refusals.Names.{text-begins-with-one-byte-alone}
 use Rattle.uri_parts.proofs.Refusals.Names.{userinfo-stops-with-name-without-colon}
 use Rattle.uri_parts.proofs.Refusals.Rooted.{scan-stops-at-stray-percent-or-goes-on}

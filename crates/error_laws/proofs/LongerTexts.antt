@@ -1,14 +1,13 @@
 -- What is next in a text that goes on, and where digits and IPv4 addresses end in it.
-use Rattle.std.proofs.Common.{Bool}
-use Rattle.std.proofs.Common.{◌≡◌, ℕ, zero, suc, ◌+◌, ◌-◌, ◌<◌, ◌≤◌, true, false, cond, eqb, List}
-use Rattle.std.proofs.Common.{[], ◌∷◌, ◌++◌, length, take, drop, ◌⊎◌, Option, Some, None, refl, sym}
-use Rattle.std.proofs.Common.{ap, ◌∙◌, arith, ◌&&◌, ⊎_elim, length-drop, length-append, ◌||◌}
+use Rattle.std.proofs.Common.{Bool, ◌≡◌, ℕ, zero, suc, ◌+◌, ◌-◌, ◌<◌, ◌≤◌, true, false, cond, eqb}
+use Rattle.std.proofs.Common.{List, [], ◌∷◌, ◌++◌, length, take, drop, ◌⊎◌, Option, Some, None, sym}
+use Rattle.std.proofs.Common.{refl, ap, ◌∙◌, arith, ◌&&◌, ⊎_elim, length-drop, length-append, ◌||◌}
 use Rattle.std.specs.Prelude.{codes, nat_lt, nat_le, slice_range, option_and_then}
 use Rattle.std.specs.Char.{is_digit}
 use Rattle.std.specs.Net.Reader.{digit_count}
 use Rattle.std.specs.Str.Parse.{digits_value}
-use Rattle.std.proofs.lemmas.Bool.{cases_Bool, cases_lt, cond-true, cond-false, false≢true, or_left}
-use Rattle.std.proofs.lemmas.Bool.{both_ways, and_from, eq-eqb, ne_eqb, not_from_false}
+use Rattle.std.proofs.lemmas.Bool.{cases_Bool, cases_lt, cond-true, cond-false, or_left, both_ways}
+use Rattle.std.proofs.lemmas.Bool.{and_from, eq-eqb, ne_eqb, not_from_false}
 use Rattle.std.proofs.lemmas.List.{drop-append-le, drop_more, drop_all, take-append-le}
 use Rattle.std.proofs.lemmas.List.{get_or_append_left}
 use Rattle.std.proofs.lemmas.List.Sums.{prefix_len-le-length}

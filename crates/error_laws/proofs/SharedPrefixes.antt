@@ -7,21 +7,20 @@ use Rattle.std.proofs.Common.{take_at, drop_at, append_assoc}
 use Rattle.std.specs.Prelude.{Ok, is_ok, codes}
 use Rattle.std.specs.Result.{result_ok}
 use Rattle.std.specs.Str.{IsUtf8}
-use Rattle.std.proofs.lemmas.Bool.{cases_Bool, cases_lt, cond-true, cond-false, le-ltb, and_parts}
-use Rattle.std.proofs.lemmas.Bool.{and_right, eqb-true, false≢true}
+use Rattle.std.proofs.lemmas.Bool.{cases_Bool, cases_lt, cond-true, cond-false, and_parts, eqb-true}
+use Rattle.std.proofs.lemmas.Bool.{and_right, false≢true}
 use Rattle.std.proofs.Math.Seq.{take-append-add}
 use Rattle.std.proofs.lemmas.List.{drop-drop, drop-take, take-take, get_or-take, get_or-drop}
 use Rattle.std.proofs.lemmas.List.{drop_more, drop_all}
 use Rattle.std.proofs.lemmas.Option.{same_Some}
 use Rattle.std.proofs.lemmas.Str.{IsUtf8-take, IsUtf8-drop, IsCharBoundary-from_drop}
 use Rattle.std.proofs.lemmas.Str.{IsCharBoundary-from_take, IsCharBoundary-before_ascii}
-use Rattle.uri_pct.specs.Prefixes.{allows_first, valid_prefix_from, valid_prefix}
+use Rattle.uri_pct.specs.Prefixes.{allows_first, valid_prefix}
 use Rattle.uri_pct.specs.Sets.{TableSet, LacksPercent, allows_past_ascii, digit_set, is_one_of}
 use Rattle.uri_pct.specs.Tokens.{IsValidFor}
-use Rattle.uri_pct.proofs.ValidTexts.Cuts.{excludes, valid_prefix_by_first_byte}
+use Rattle.uri_pct.proofs.ValidTexts.Cuts.{excludes}
 use Rattle.uri_pct.proofs.ValidTexts.LongestPrefixes.{valid_prefix_ends_at_boundary}
 use Rattle.uri_pct.proofs.ValidTexts.LongestPrefixes.{valid_prefix_is_valid}
-use Rattle.uri_pct.proofs.ValidTexts.MarksInTexts.{ascii_byte_has_no_continuation}
 use Rattle.uri_pct.proofs.ValidTexts.Prefixes.{valid_prefix_is_at_most_length}
 use Rattle.uri_parts.specs.Components.{Lacks, starts, before_any, from_any, has_authority}
 use Rattle.uri_parts.specs.LiteralErrors.{literal}

@@ -1,48 +1,22 @@
 -- Where userinfo, a name and a port end in one another, and the last `:` of a text.
-use Rattle.std.proofs.Common.{◌≡◌, ℕ, zero, suc, ◌+◌, ◌-◌, ◌<◌, ◌≤◌, Bool, true, false, cond, eqb}
-use Rattle.std.proofs.Common.{List, ◌∷◌, ◌++◌, take, drop, Some, refl, sym, ap, subst, ◌∙◌, arith}
-use Rattle.std.proofs.Common.{◌&&◌, ⊎_elim, length-drop}
-use Rattle.std.specs.Prelude.{codes, nat_lt}
-use Rattle.std.specs.Str.{IsUtf8}
-use Rattle.std.proofs.lemmas.Bool.{cases_Bool, cases_lt, cond-true, cond-false, and_left, and_right}
-use Rattle.std.proofs.lemmas.Bool.{and_from, eqb-true, eq-eqb, ltb-true, ltb-false, lt-ltb, le-ltb}
-use Rattle.std.proofs.lemmas.Bool.{not_from_true, both_ways, and_parts}
-use Rattle.std.proofs.lemmas.Bool.Decides.{nat_tests}
+use Rattle.std.proofs.Common.{◌≡◌, ℕ, zero, suc, ◌+◌, ◌<◌, ◌≤◌, true, false, cond, eqb, List, ◌∷◌}
+use Rattle.std.proofs.Common.{drop, refl, ap, ◌∙◌, arith, ⊎_elim}
+use Rattle.std.proofs.lemmas.Bool.{cases_Bool, cond-true, cond-false, and_right, eq-eqb}
 use Rattle.std.proofs.lemmas.List.{drop-drop}
-use Rattle.std.proofs.lemmas.Option.{same_Some}
 use Rattle.uri_pct.specs.Prefixes.{valid_prefix_from, valid_prefix}
-use Rattle.uri_pct.specs.Sets.{digit_set, is_one_of}
+use Rattle.uri_pct.specs.Sets.{digit_set}
 use Rattle.uri_pct.proofs.ValidTexts.Cuts.{valid_prefix_by_first_byte}
 use Rattle.uri_pct.proofs.ValidTexts.MarksInTexts.{ascii_byte_has_no_continuation}
 use Rattle.uri_pct.proofs.ValidTexts.Prefixes.{valid_prefix_of_superset_goes_on_from_subset}
-use Rattle.uri_pct.proofs.ValidTexts.TokenCuts.{reserved_is_never_in_octet, valid_before_mark}
 use Rattle.uri_pct.proofs.ValidTexts.Validity.{ascii_first_byte_is_allowed_iff_in_set}
-use Rattle.uri_parts.specs.declared.error.ParseError.{ParseError}
-use Rattle.uri_parts.specs.Components.{starts}
-use Rattle.uri_parts.specs.Errors.{unexpected}
 use Rattle.uri_parts.specs.Grammar.{Kind}
-use Rattle.uri_parts.specs.Refusals.{OptionalParseError, ◌>>=◌, last_colon, error_from_port}
-use Rattle.uri_parts.specs.Refusals.{error_from_abempty_path, error_from_host, error_from_name}
-use Rattle.uri_parts.specs.Refusals.{error_from_authority}
+use Rattle.uri_parts.specs.Refusals.{◌>>=◌, last_colon, error_from_port, error_from_abempty_path}
+use Rattle.uri_parts.specs.Refusals.{error_from_host, error_from_name, error_from_authority}
 use Rattle.uri_parts.specs.Scanning.{is_next, scan_end}
 use Rattle.uri_parts.proofs.Refusals.Colons.{last_colon_is_below_position}
-use Rattle.uri_parts.proofs.Refusals.Names.{text-begins-with-one-byte-alone}
-use Rattle.uri_parts.proofs.Refusals.Rooted.{scan-stops-at-stray-percent-or-goes-on}
-use Rattle.uri_parts.proofs.Refusals.Rooted.{nothing-is-scanned-at-mark}
-use Rattle.uri_parts.proofs.Splitting.Cuts.{empty-or-marked-for-more-marks, begins-with-mark}
-use Rattle.uri_parts.proofs.Splitting.Cuts.{begins-with-no-other}
 use Rattle.uri_parts.proofs.Refusals.Sound.{text-at-mark-is-mark-and-rest}
-use Rattle.uri_parts.proofs.TextKinds.GrammarTexts.{utf8_around_ascii_byte}
-use Rattle.error_laws.specs.ViablePrefixes.{is_unrooted, is_late_from_host, is_late_from_authority}
-use Rattle.error_laws.proofs.KindFacts.{Facts, path-stops-with-userinfo}
-use Rattle.error_laws.proofs.Marks.{At}
-use Rattle.error_laws.proofs.Outcomes.{Any, Outcome, carry, stop, shared-mark-is-at}
-use Rattle.error_laws.proofs.PathOutcomes.{abempty-path-outcome, end-has-no-host-error}
-use Rattle.error_laws.proofs.SharedPrefixes.{IsPosition, position-after-mark, position-at-mark}
-use Rattle.error_laws.proofs.SharedPrefixes.{scan-ends-at-position, scanned-part-is-valid, Alike}
-use Rattle.error_laws.proofs.SharedPrefixes.{scan-goes-on, next-is-shared, scan-is-shared}
-use Rattle.error_laws.proofs.SharedPrefixes.{scan-goes-on-alike, valid-part-is-scanned}
-use Rattle.error_laws.proofs.SharedPrefixes.{taken-in-two-steps}
+use Rattle.error_laws.proofs.KindFacts.{Facts}
+use Rattle.error_laws.proofs.SharedPrefixes.{Alike, scan-goes-on, next-is-shared}
 
 -- error law: if there is a `:` before a position, the byte at the last one is `:`
 pub last-colon-is-colon : (text : List ℕ) (n : ℕ) → 0 < last_colon text n
