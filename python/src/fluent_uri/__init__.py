@@ -182,7 +182,9 @@ class _Absolute(Reference):
         >>> Uri.parse("http://a/b").resolve("%2E%2E/g", basic=True)
         Uri('http://a/%2E%2E/g')
         """
-        _calls.rules_of_normal(normalize, scheme_rules, basic)
+        # (the call takes a tenth of the whole)
+        if basic or scheme_rules:
+            _calls.rules_of_normal(normalize, scheme_rules, basic)
         if mend:
             reference = _reference_kind(self).mend(reference)
         return self._resolve(reference, basic, normalize, scheme_rules)
@@ -205,7 +207,8 @@ class _Absolute(Reference):
         the target, which is by the rules of schemes if `scheme_rules` is true. Raises `ParseError`
         if the link cannot be mended, and `ResolveError` if it has no target.
         """
-        _calls.rules_of_normal(normalize, scheme_rules)
+        if scheme_rules:
+            _calls.rules_of_normal(normalize, scheme_rules)
         mended = _reference_kind(self).mend_link(link)
         target = self._resolve(mended, False, normalize, scheme_rules)
         if keep_fragment or target.fragment is None:
