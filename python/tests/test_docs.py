@@ -15,7 +15,7 @@ import fluent_uri.parse
 
 PAGE = pathlib.Path(__file__).resolve().parents[2] / "docs" / "PYTHON.md"
 MODULES = [
-    *("", "._building", "._columns", "._encoding", "._errors", "._hosts", "._paths"),
+    *("", "._building", "._columns", "._encoding", "._errors", "._hosts", "._keys", "._paths"),
     *(".batch", ".parse"),
 ]
 NAMES = {"Uri": fluent_uri.Uri, "Iri": fluent_uri.Iri}

@@ -67,10 +67,13 @@ __all__ = [
     "Uri",
     "UriRef",
     "batch",
+    "compare",
     "decode",
     "encode",
+    "equivalent",
     "is_compiled",
     "normal_version",
+    "sort_key",
 ]
 __version__ = "0.1.0"
 if not _native.has_version(__version__):
@@ -340,5 +343,9 @@ for _named in (
 ):
     _named.__module__ = __name__
 
-# It needs what is above.
+# These need what is above.
 from fluent_uri import batch  # noqa: E402
+from fluent_uri._keys import compare, equivalent, sort_key  # noqa: E402
+
+for _named in (compare, equivalent, sort_key):
+    _named.__module__ = __name__

@@ -107,6 +107,7 @@ host_address = function("host_address")
 _default_port = function("default_port")
 origin = function("origin")
 ascii_host = function("ascii_host")
+compare = function("compare")
 _port_number = function("port_number")
 
 
