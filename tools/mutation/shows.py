@@ -22,10 +22,11 @@ The words are a command of `uritool` (parse, normalize, resolve, links), or one 
                                     `by-default`, or with `strictly` without underflow, and its
                                     `path`; that of a target
     basic URI REFERENCE             the target by the basic algorithm
-    order equivalent|by-ports|cmp|hash IRI IRI, order normal IRI
+    order equivalent|by-ports|by-rules|cmp|hash IRI IRI, order normal IRI
                                     whether two normal forms are equal, also if 4673 is the default
-                                    port of every scheme; their order; whether their hashes are
-                                    equal; whether a text is its own normal form
+                                    port of every scheme, and by the rules of schemes; their order;
+                                    whether their hashes are equal; whether a text is its own normal
+                                    form
     ascii-host, with-ascii-host, to-ascii-uri IRI-REFERENCE
                                     the host in ASCII, borrowed or owned; the reference, or its
                                     URI, with its host in ASCII

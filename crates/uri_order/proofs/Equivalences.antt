@@ -1,59 +1,55 @@
 -- When normal forms are equal.
-use Rattle.std.proofs.Common.{◌≡◌, ◌↔◌, ℕ, Bool, true, List, refl, sym, ap, ◌∙◌}
-use Rattle.std.proofs.Common.{Ordering, Less, Equal, Greater}
+use Rattle.std.proofs.Common.{◌≡◌, ◌↔◌, ℕ, true, List, refl, sym, ap, ◌∙◌, Ordering, Less, Equal}
+use Rattle.std.proofs.Common.{Greater, subst}
 use Rattle.std.proofs.lemmas.Map.Text.{is_eq-slice_cmp}
 use Rattle.std.proofs.lemmas.Slice.Eq.{bytes_eq-Decides}
 use Rattle.std.specs.Cmp.Lexicographic.{slice_cmp}
 use Rattle.std.specs.Ordering.{is_eq, nat_cmp}
 use Rattle.std.specs.Str.{IsUtf8}
-use Rattle.uri_parts.specs.Grammar.{Kind, IsOfKind}
+use Rattle.uri_parts.specs.Grammar.{Kind, IsOfKind, IsTextOf}
 use Rattle.uri_parts.specs.Ports.{PortFunction}
 use Rattle.uri_ops.specs.ComponentSets.{HasComponentSets}
-use Rattle.uri_ops.proofs.Normal.NormalTexts.{same-normal-text-same-meaning}
-use Rattle.uri_order.specs.NormalForms.{AreEquivalent, normal_form}
+use Rattle.uri_ops.specs.Meaning.{meaning_of}
+use Rattle.uri_ops.specs.Normal.{normal_text}
+use Rattle.uri_order.specs.NormalForms.{AreEquivalentUnder, normal_form, normal_form_under}
+use Rattle.uri_rules.specs.Rules.{Rules, meaning_under, only_ports}
+use Rattle.uri_rules.proofs.RuledMeanings.{meaning-under-ports-alone}
+use Rattle.uri_rules.proofs.RuledTexts.{same-normal-text-same-meaning-under}
 
--- normal forms are those of equal texts
-pub forms_of_equal_texts : (kind : Kind) (ports : PortFunction)
-    (one other same_one same_other : List ℕ) (result : Bool) → one ≡ same_one
-    → other ≡ same_other
-    → (result ≡ true ↔ normal_form kind ports one ≡ normal_form kind ports other)
-    → (result ≡ true ↔ normal_form kind ports same_one ≡ normal_form kind ports same_other)
-forms_of_equal_texts kind ports one other same_one same_other result e f tested =
-    let form = normal_form kind ports in (
-      λ r. sym (ap form e) ∙ tested.0 r ∙ ap form f,
-      λ same. tested.1 (ap form e ∙ same ∙ sym (ap form f)),
-    )
+-- general fact: what holds exactly if two values are equal holds exactly if the values that they
+-- equal are
+pub holds_if_equals_are_equal : {A P : Type 0} (x y z w : A) → x ≡ z → y ≡ w → (P ↔ x ≡ y)
+    → (P ↔ z ≡ w)
+holds_if_equals_are_equal x y z w e f h =
+    (λ p. sym e ∙ h.0 p ∙ f, λ same. h.1 (e ∙ same ∙ sym f))
 
--- the order of normal forms is that of the forms of equal texts
-pub order_of_equal_texts : (kind : Kind) (ports : PortFunction)
-    (one other same_one same_other : List ℕ) (order : Ordering) → one ≡ same_one
-    → other ≡ same_other
-    → order ≡ slice_cmp nat_cmp (normal_form kind ports one) (normal_form kind ports other)
-    → order ≡ slice_cmp nat_cmp (normal_form kind ports same_one)
-    (normal_form kind ports same_other)
-order_of_equal_texts kind ports one other same_one same_other order e f h =
-    let form = normal_form kind ports in
-    h ∙ ap (λ t. slice_cmp nat_cmp (form t) (form other)) e
-    ∙ ap (λ t. slice_cmp nat_cmp (form same_one) (form t)) f
+-- a text of a kind, in UTF-8, is so where it equals another text
+pub equal_text_is_of_kind : (kind : Kind) (text same : List ℕ) → text ≡ same → IsUtf8 text
+    → IsOfKind kind text → IsTextOf kind same
+equal_text_is_of_kind kind text same e u k =
+    subst (IsTextOf kind) e (record { utf8 = u; grammar = k })
 
--- normal forms of two texts of a kind are equal exactly if the texts are equivalent
-forms_are_equal_if_equivalent : (kind : Kind) (ports : PortFunction) → HasComponentSets kind
-    → (one other : List ℕ) → IsUtf8 one → IsUtf8 other → IsOfKind kind one → IsOfKind kind other
-    → (normal_form kind ports one ≡ normal_form kind ports other)
-    ↔ AreEquivalent kind ports one other
-forms_are_equal_if_equivalent kind ports sets one other u v k l =
-    same-normal-text-same-meaning kind ports sets one other
-    (record { utf8 = u; grammar = k }) (record { utf8 = v; grammar = l })
+-- normal forms under default ports alone are those under the rules that have these ports alone
+pub forms_under_ports_alone : (kind : Kind) (ports : PortFunction)
+    → normal_form_under kind (only_ports ports) ≡ normal_form kind ports
+forms_under_ports_alone kind ports =
+    λ i text. normal_text (meaning-under-ports-alone kind ports text i)
 
--- where equal normal forms are tested, equivalence is
-pub equivalent_if_forms_are_equal : (kind : Kind) (ports : PortFunction) → HasComponentSets kind
-    → (one other : List ℕ) (result : Bool) → IsUtf8 one → IsUtf8 other → IsOfKind kind one
-    → IsOfKind kind other
-    → (result ≡ true ↔ normal_form kind ports one ≡ normal_form kind ports other)
-    → (result ≡ true ↔ AreEquivalent kind ports one other)
-equivalent_if_forms_are_equal kind ports sets one other result u v k l tested =
-    let same = forms_are_equal_if_equivalent kind ports sets one other u v k l in
-    (λ r. same.0 (tested.0 r), λ m. tested.1 (same.1 m))
+-- so are meanings
+pub meanings_under_ports_alone : (kind : Kind) (ports : PortFunction)
+    → meaning_under kind (only_ports ports) ≡ meaning_of kind ports
+meanings_under_ports_alone kind ports =
+    λ i text. meaning-under-ports-alone kind ports text i
+
+-- normal forms of two texts of a kind are equal exactly if the texts are equivalent, so a test of
+-- the one is a test of the other
+pub equivalent_if_forms_are_equal : {P : Type 0} (kind : Kind) (rules : Rules)
+    → HasComponentSets kind → (one other : List ℕ) → IsTextOf kind one → IsTextOf kind other
+    → (P ↔ normal_form_under kind rules one ≡ normal_form_under kind rules other)
+    → (P ↔ AreEquivalentUnder kind rules one other)
+equivalent_if_forms_are_equal kind rules sets one other v w tested =
+    let same = same-normal-text-same-meaning-under kind rules sets one other v w in
+    (λ p. same.0 (tested.0 p), λ m. tested.1 (same.1 m))
 
 -- an order of texts that is equal is that of equal ones
 is_equal_if_it_tests_so : (order : Ordering) → is_eq order ≡ true → order ≡ Equal
@@ -68,7 +64,7 @@ equal_texts_are_equal_in_order one other e =
     sym (is_equal_if_it_tests_so _ (is_eq-slice_cmp one other ∙ (bytes_eq-Decides one other).1 e))
 
 -- two texts are equal in their order exactly if they are equal
-equal_in_order_if_equal : (one other : List ℕ) (order : Ordering)
+pub equal_in_order_if_equal : (one other : List ℕ) (order : Ordering)
     → order ≡ slice_cmp nat_cmp one other → (order ≡ Equal) ↔ (one ≡ other)
 equal_in_order_if_equal one other order e =
     let test = is_eq-slice_cmp one other in
@@ -76,15 +72,3 @@ equal_in_order_if_equal one other order e =
       λ equal. decides.0 (sym test ∙ ap is_eq (sym e ∙ equal)),
       λ same. is_equal_if_it_tests_so order (ap is_eq e ∙ test ∙ decides.1 same),
     )
-
--- two values are equal in the order of their normal forms exactly if they are equivalent
-pub equivalent_if_equal_in_order : (kind : Kind) (ports : PortFunction) → HasComponentSets kind
-    → (one other : List ℕ) (order : Ordering) → IsUtf8 one → IsUtf8 other → IsOfKind kind one
-    → IsOfKind kind other
-    → order ≡ slice_cmp nat_cmp (normal_form kind ports one) (normal_form kind ports other)
-    → ((order ≡ Equal) ↔ AreEquivalent kind ports one other)
-equivalent_if_equal_in_order kind ports sets one other order u v k l e =
-    let same = forms_are_equal_if_equivalent kind ports sets one other u v k l in
-    let tested = equal_in_order_if_equal (normal_form kind ports one)
-    (normal_form kind ports other) order e in
-    (λ equal. same.0 (tested.0 equal), λ m. tested.1 (same.1 m))

@@ -7,4 +7,5 @@ pub mod NormalParts
 pub mod NormalTokens
 pub mod Octets
 pub mod PathBack
+pub mod RuledParts
 pub mod SegmentsLeft

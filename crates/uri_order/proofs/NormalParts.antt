@@ -1,20 +1,25 @@
 -- The components of a normal text, in the pieces that they are read in.
 use Rattle.std.proofs.Common.{◌≡◌, ℕ, Bool, true, false, List, [], ◌++◌, refl, sym, ap, ◌∙◌}
-use Rattle.std.proofs.Common.{eqb, length}
-use Rattle.std.specs.Prelude.{Option, Some, None, is_some}
-use Rattle.std.specs.Str.{str_to_ascii_lowercase}
-use Rattle.std.proofs.lemmas.Bool.{cond-false, cond-true, eqb-true}
+use Rattle.std.proofs.Common.{cond, eqb, length, option_map}
+use Rattle.std.specs.Prelude.{codes, Option, Some, None, is_some}
+use Rattle.std.specs.Str.{chars, str_to_ascii_lowercase}
+use Rattle.std.proofs.lemmas.Bool.{and_from, cond-false, cond-true, eqb-true}
 use Rattle.std.proofs.lemmas.List.{append-nil}
+use Rattle.std.proofs.lemmas.Str.{IsUtf8-nil}
 use Rattle.uri_pct.specs.DecodeUnreserved.{decode_unreserved}
 use Rattle.uri_pct.specs.Sets.{TableSet}
-use Rattle.uri_pct.specs.Tokens.{print}
-use Rattle.uri_parts.specs.Components.{starts}
+use Rattle.uri_pct.specs.Tokens.{IsValidFor, is_valid_for, print, tokens_from_chars}
+use Rattle.uri_pct.proofs.Tests.{is_some-option_map}
+use Rattle.uri_parts.specs.Components.{Components, starts}
+use Rattle.uri_parts.specs.Grammar.{Kind}
 use Rattle.uri_parts.specs.Hosts.{host_kind, ipv4_value}
 use Rattle.uri_parts.specs.Hosts.{ipv6_value, literal_kind, literal_of, name_kind}
+use Rattle.uri_parts.specs.Ports.{PortFunction}
 use Rattle.uri_ops.specs.Dots.{remove_dot_segments}
-use Rattle.uri_ops.specs.Meaning.{host_meaning}
-use Rattle.uri_ops.specs.Normal.{host_text, normal_path_text}
+use Rattle.uri_ops.specs.Meaning.{components_meaning, dotless_path, host_meaning}
+use Rattle.uri_ops.specs.Normal.{host_text, normal_authority, normal_path, normal_path_text}
 use Rattle.uri_ops.specs.Target.{guarded}
+use Rattle.uri_ops.proofs.Meanings.AllowedParts.{validity-splits-at-slash}
 use Rattle.uri_order.specs.Addresses.{ipv6_host_text}
 use Rattle.uri_order.specs.NormalComponents.{normal_component}
 use Rattle.uri_order.proofs.LastTokens.{list_of_no_length_is_empty}
@@ -57,6 +62,23 @@ pub normal_path_under_scheme : (set : TableSet) (scheme authority : Option (List
 normal_path_under_scheme set None authority path e s = cc
 normal_path_under_scheme set (Some scheme) authority path e s =
     ap (λ t. guarded authority (print (decode_unreserved set t))) (sym (cond-true _ _ _ s))
+
+-- normal paths: of components, the normal text of the path is the normal path of their meaning
+pub normal_path_of_components : (kind : Kind) (ports : PortFunction) (p : Components)
+    → (let m = components_meaning kind ports p in
+    normal_path_text kind.path p.scheme (option_map normal_authority m.authority) p.path
+    ≡ normal_path m)
+normal_path_of_components kind ports p =
+    let authority = option_map normal_authority (components_meaning kind ports p).authority in
+    let path = print (decode_unreserved kind.path (dotless_path p.scheme p.path)) in
+    ap (λ (b : Bool). cond b (guarded authority path) path)
+    (sym (is_some-option_map str_to_ascii_lowercase p.scheme))
+
+-- normal paths: `/` (47) is a path, where a set has it
+pub slash_is_valid : (set : TableSet) → set.ascii 47 ≡ true → IsValidFor set (codes "/")
+unfolding is_valid_for chars tokens_from_chars
+slash_is_valid set slash =
+    validity-splits-at-slash set [] [] IsUtf8-nil ∙ and_from _ _ slash refl
 
 -- normal hosts: a host without brackets is no IPv6 address
 pub name_has_no_address : (host : List ℕ) → starts 91 host ≡ false

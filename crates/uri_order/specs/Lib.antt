@@ -9,4 +9,5 @@ pub mod NormalForms
 pub mod OctetsBack
 pub mod PathBack
 pub mod Ports
+pub mod RuledParts
 pub mod SegmentsLeft

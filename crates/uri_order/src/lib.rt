@@ -6,6 +6,7 @@ mod held;
 mod in_step;
 mod last_tokens;
 mod literal_back;
+mod no_rules;
 mod normal_authority;
 mod normal_back;
 pub mod normal_order;
@@ -15,6 +16,9 @@ mod normal_tokens;
 mod octets_back;
 mod path_back;
 mod read_back;
+mod ruled_back;
+pub mod scheme_order;
 mod segments_back;
 
 pub use normal_order::NormalOrder;
+pub use scheme_order::SchemeOrder;

@@ -1,22 +1,28 @@
 //! The normal text of a value, read from its end (RFC 3986, section 6.2.2; RFC 3987, section
 //! 5.3.2).
-ghost use Rattle.std.specs.Prelude.{◌≡◌, codes, option_map, []};
+ghost use Rattle.std.specs.Prelude.{◌≡◌, [], Some, codes, if◌then◌else◌, option_map};
+ghost use Rattle.uri_pct.specs.EncodedTexts.{text_of};
+ghost use Rattle.uri_pct.specs.Tokens.{IsValidFor};
+ghost use Rattle.uri_parts.specs.AuthorityTexts.{authority_text};
 ghost use Rattle.uri_parts.specs.Components.{components, marked};
 ghost use Rattle.uri_parts.specs.CoreTexts.{core_text};
 ghost use Rattle.uri_parts.specs.Schemes.{scheme_text};
 ghost use Rattle.uri_ops.specs.ComponentSets.{HasComponentSets};
-ghost use Rattle.uri_ops.specs.Meaning.{meaning_of};
+ghost use Rattle.uri_ops.specs.Meaning.{components_meaning};
 ghost use Rattle.uri_ops.specs.Normal.{normal_scheme, normal_text};
 ghost use Rattle.uri_order.specs.Addresses.{ipv6_host_of};
+ghost use Rattle.uri_rules.specs.Edits.{edited};
 
 use crate::literal_back::LiteralBack;
 use crate::normal_authority::{AuthorityBack, PartBack, authority_back, part_back};
 use crate::normal_path::{NormalPathBack, normal_path_back};
 use crate::read_back::{Joined, ReadBack, join};
 use uri_ops::default_port::DefaultPort;
-use uri_parts::component::Scheme;
+use uri_parts::component::{Authority, Scheme};
 use uri_parts::core_text::Core;
 use uri_parts::kind::Kind;
+use uri_pct::encoder::Encoder;
+use uri_pct::pct_enc::EStr;
 
 /// A scheme and its `:`, or nothing.
 type SchemeBack<'a> = Joined<LiteralBack<'a>, LiteralBack<'a>>;
@@ -41,25 +47,57 @@ fn scheme_back<'a>(scheme: Option<Scheme<'a>>) -> SchemeBack<'a>
     }
 }
 
-/// Returns the normal text of a value. `address` is the host's normal text if it is an IPv6
-/// address, and else empty.
+/// Returns the authority, or an empty one if its host is dropped.
+fn authority_or_empty<'a, U: Encoder, R: Encoder>(
+    authority: Option<Authority<'a, U, R>>,
+    drops_host: bool,
+) -> Option<Authority<'a, U, R>>
+    ensures { option_map authority_text result
+        ≡ (if drops_host then Some [] else option_map authority_text authority.entry) }
+{
+    if drops_host {
+        return Some(Authority::new_empty());
+    }
+    authority
+}
+
+/// Returns the path, or `/` if that is added.
+fn path_or_root<'a, E: Encoder>(path: EStr<'a, E>, adds_root: bool) -> EStr<'a, E>
+    requires { IsValidFor E.set (codes "/") }
+    ensures { text_of result ≡ (if adds_root then codes "/" else text_of path.entry) }
+{
+    if adds_root {
+        return EStr::new_or_panic("/");
+    }
+    path
+}
+
+/// Returns the normal text of a value, with an empty authority if `drops_host`, and with the path
+/// `/` if `adds_root`. `address` is the host's normal text if it is an IPv6 address, and else
+/// empty.
 pub(crate) fn normal_back<'a, K: Kind, P: DefaultPort>(
     core: Core<K, &'a str>,
+    drops_host: bool,
+    adds_root: bool,
     ports: &P,
     address: &'a [u8],
 ) -> NormalBack<'a>
     requires sets { HasComponentSets K.kind }
-    requires address { address.now ≡ ipv6_host_of (components (core_text core)).authority }
+    requires address { address.now
+        ≡ ipv6_host_of (edited drops_host adds_root (components (core_text core))).authority }
     ensures { ⟦<NormalBack<'a> as ReadBack>⟧.unread result
-        ≡ normal_text (meaning_of K.kind (P.port_of ports.now) (core_text core.entry)) }
+        ≡ normal_text (components_meaning K.kind (P.port_of ports.now)
+        (edited drops_host adds_root (components (core_text core.entry)))) }
 {
     let scheme = core.scheme();
+    let authority = authority_or_empty(core.authority(), drops_host);
+    let path = path_or_root(core.path(), adds_root);
     join(
         scheme_back(scheme),
         join(
-            authority_back(core.authority(), scheme, ports, address),
+            authority_back(authority, scheme, ports, address),
             join(
-                normal_path_back(core.has_scheme(), core.has_authority(), core.path()),
+                normal_path_back(core.has_scheme(), authority.is_some(), path),
                 join(
                     part_back(b"?", core.query(), b""),
                     part_back(b"#", core.fragment(), b""),

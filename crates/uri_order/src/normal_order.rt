@@ -7,6 +7,7 @@ ghost use Rattle.fluent_uri.specs.References.{reference_text};
 ghost use Rattle.uri_order.specs.HashedTexts.{hashed_text};
 ghost use Rattle.uri_order.specs.NormalForms.{AreEquivalent, normal_form};
 
+use crate::no_rules::NoRules;
 use crate::normal_texts::{are_equivalent, cmp_normal, hash_normal, is_normal};
 use fluent_uri::{Reference, RiMaybeRef};
 use std::cmp::Ordering;
@@ -19,7 +20,7 @@ use uri_parts::kind::Kind;
 /// asks for memory. Its setting is the default ports of schemes, as a `Normalizer` has them.
 ///
 /// The normal forms are those of a `Normalizer` with the same default ports that allows underflow.
-/// Time grows with the lengths of the two texts.
+/// Time grows with the lengths of the two texts. `SchemeOrder` has the other rules of schemes too.
 ///
 /// # Examples
 ///
@@ -69,10 +70,7 @@ impl<P: DefaultPort> NormalOrder<P> {
         ensures meaning { (result ≡ true) ↔ AreEquivalent K.kind (P.port_of (ports_of self.now))
             (reference_text one.now) (reference_text other.now) }
     {
-        if one.as_str() == other.as_str() {
-            return true;
-        }
-        are_equivalent(one.core(), other.core(), &self.ports)
+        are_equivalent(one.core(), other.core(), &self.ports, &NoRules)
     }
 
     /// Returns whether a value is its own normal form, so that normalising it changes nothing.
@@ -82,7 +80,7 @@ impl<P: DefaultPort> NormalOrder<P> {
         ensures { (result ≡ true) ↔ (normal_form K.kind (P.port_of (ports_of self.now))
             (reference_text value.now) ≡ reference_text value.now) }
     {
-        is_normal(value.core(), &self.ports)
+        is_normal(value.core(), &self.ports, &NoRules)
     }
 
     /// Returns the order of the normal forms of two values, byte by byte.
@@ -100,10 +98,7 @@ impl<P: DefaultPort> NormalOrder<P> {
         ensures equal { (result ≡ Ordering.Equal) ↔ AreEquivalent K.kind
             (P.port_of (ports_of self.now)) (reference_text one.now) (reference_text other.now) }
     {
-        if one.as_str() == other.as_str() {
-            return Ordering::Equal;
-        }
-        cmp_normal(one.core(), other.core(), &self.ports)
+        cmp_normal(one.core(), other.core(), &self.ports, &NoRules)
     }
 
     /// Hashes the normal form of a value, so that equivalent values have equal hashes. Its bytes
@@ -119,6 +114,6 @@ impl<P: DefaultPort> NormalOrder<P> {
             → state.new ≡ fold H.write state.old
             (hashed_text (normal_form K.kind (P.port_of (ports_of self.now)) other)) }
     {
-        hash_normal(value.core(), &self.ports, state);
+        hash_normal(value.core(), &self.ports, &NoRules, state);
     }
 }

@@ -1,85 +1,111 @@
-//! Normal texts compared and hashed (RFC 3986, section 6.2.2).
+//! Normal texts compared and hashed (RFC 3986, sections 6.2.2 and 6.2.3).
 ghost use Rattle.std.specs.Prelude.{◌≡◌, ◌↔◌, true};
 ghost use Rattle.std.specs.Cmp.Lexicographic.{slice_cmp};
 ghost use Rattle.std.specs.List.{fold};
 ghost use Rattle.std.specs.Ordering.{nat_cmp};
 ghost use Rattle.uri_parts.specs.CoreTexts.{core_text};
-ghost use Rattle.uri_ops.specs.ComponentSets.{HasComponentSets};
 ghost use Rattle.uri_order.specs.HashedTexts.{hashed_text};
-ghost use Rattle.uri_order.specs.NormalForms.{normal_form};
+ghost use Rattle.uri_order.specs.NormalForms.{AreEquivalentUnder, normal_form_under};
+ghost use Rattle.uri_rules.specs.Rules.{rules_of};
 
 use crate::in_step::{are_equal, cmp, hash};
 use crate::literal_back::LiteralBack;
 use crate::normal_authority::ipv6_host_of;
-use crate::normal_back::normal_back;
+use crate::ruled_back::ruled_back;
 use std::cmp::Ordering;
 use std::hash::Hasher;
 use uri_ops::default_port::DefaultPort;
 use uri_parts::core_text::Core;
 use uri_parts::kind::Kind;
+use uri_rules::SchemeRules;
 
 /// Returns whether the normal texts of two values are equal.
-pub(crate) fn are_equivalent<K: Kind, P: DefaultPort>(
+pub(crate) fn are_equivalent<K: Kind, P: DefaultPort, S: SchemeRules>(
     one: Core<K, &str>,
     other: Core<K, &str>,
     ports: &P,
+    rules: &S,
 ) -> bool
-    requires { HasComponentSets K.kind }
-    ensures { (result ≡ true)
-        ↔ (normal_form K.kind (P.port_of ports.now) (core_text one.entry)
-        ≡ normal_form K.kind (P.port_of ports.now) (core_text other.entry)) }
+    ensures text { let rules = rules_of (P.port_of ports.now) (S.roots_of rules.now)
+        (S.locals_of rules.now) in
+        (result ≡ true) ↔ (normal_form_under K.kind rules (core_text one.entry)
+        ≡ normal_form_under K.kind rules (core_text other.entry)) }
+    ensures meaning { let rules = rules_of (P.port_of ports.now) (S.roots_of rules.now)
+        (S.locals_of rules.now) in
+        (result ≡ true)
+        ↔ AreEquivalentUnder K.kind rules (core_text one.entry) (core_text other.entry) }
 {
+    if one.as_str() == other.as_str() {
+        return true;
+    }
     let (one_host, one_end) = ipv6_host_of(one.authority());
     let (other_host, other_end) = ipv6_host_of(other.authority());
     are_equal(
-        normal_back(one, ports, &one_host[..one_end]),
-        normal_back(other, ports, &other_host[..other_end]),
+        ruled_back(one, ports, rules, &one_host[..one_end]),
+        ruled_back(other, ports, rules, &other_host[..other_end]),
     )
 }
 
 /// Returns whether the normal text of a value is its own text.
-pub(crate) fn is_normal<K: Kind, P: DefaultPort>(core: Core<K, &str>, ports: &P) -> bool
-    requires { HasComponentSets K.kind }
-    ensures { (result ≡ true)
-        ↔ (normal_form K.kind (P.port_of ports.now) (core_text core.entry)
-        ≡ core_text core.entry) }
+pub(crate) fn is_normal<K: Kind, P: DefaultPort, S: SchemeRules>(
+    core: Core<K, &str>,
+    ports: &P,
+    rules: &S,
+) -> bool
+    ensures { let rules = rules_of (P.port_of ports.now) (S.roots_of rules.now)
+        (S.locals_of rules.now) in
+        (result ≡ true)
+        ↔ (normal_form_under K.kind rules (core_text core.entry) ≡ core_text core.entry) }
 {
-    let (host, end) = ipv6_host_of(core.authority());
+    let view = core.borrow();
+    let (host, end) = ipv6_host_of(view.authority());
     are_equal(
-        normal_back(core, ports, &host[..end]),
-        LiteralBack::copied(core.as_str().as_bytes()),
+        ruled_back(view, ports, rules, &host[..end]),
+        LiteralBack::copied(view.as_str().as_bytes()),
     )
 }
 
 /// Returns the order of the normal texts of two values, byte by byte.
-pub(crate) fn cmp_normal<K: Kind, P: DefaultPort>(
+pub(crate) fn cmp_normal<K: Kind, P: DefaultPort, S: SchemeRules>(
     one: Core<K, &str>,
     other: Core<K, &str>,
     ports: &P,
+    rules: &S,
 ) -> Ordering
-    requires { HasComponentSets K.kind }
-    ensures { result ≡ slice_cmp nat_cmp
-        (normal_form K.kind (P.port_of ports.now) (core_text one.entry))
-        (normal_form K.kind (P.port_of ports.now) (core_text other.entry)) }
+    ensures order { let rules = rules_of (P.port_of ports.now) (S.roots_of rules.now)
+        (S.locals_of rules.now) in
+        result ≡ slice_cmp nat_cmp
+        (normal_form_under K.kind rules (core_text one.entry))
+        (normal_form_under K.kind rules (core_text other.entry)) }
+    ensures equal { let rules = rules_of (P.port_of ports.now) (S.roots_of rules.now)
+        (S.locals_of rules.now) in
+        (result ≡ Ordering.Equal)
+        ↔ AreEquivalentUnder K.kind rules (core_text one.entry) (core_text other.entry) }
 {
+    if one.as_str() == other.as_str() {
+        return Ordering::Equal;
+    }
     let (one_host, one_end) = ipv6_host_of(one.authority());
     let (other_host, other_end) = ipv6_host_of(other.authority());
     cmp(
-        normal_back(one, ports, &one_host[..one_end]),
-        normal_back(other, ports, &other_host[..other_end]),
+        ruled_back(one, ports, rules, &one_host[..one_end]),
+        ruled_back(other, ports, rules, &other_host[..other_end]),
     )
 }
 
 /// Writes the normal text of a value into a hasher.
-pub(crate) fn hash_normal<K: Kind, P: DefaultPort, H: Hasher>(
+pub(crate) fn hash_normal<K: Kind, P: DefaultPort, S: SchemeRules, H: Hasher>(
     core: Core<K, &str>,
     ports: &P,
+    rules: &S,
     state: &mut H,
 )
-    requires { HasComponentSets K.kind }
-    ensures { state.new ≡ fold H.write state.old
-        (hashed_text (normal_form K.kind (P.port_of ports.now) (core_text core.entry))) }
+    ensures { let rules = rules_of (P.port_of ports.now) (S.roots_of rules.now)
+        (S.locals_of rules.now) in
+        state.new ≡ fold H.write state.old
+        (hashed_text (normal_form_under K.kind rules (core_text core.entry))) }
 {
-    let (host, end) = ipv6_host_of(core.authority());
-    hash(normal_back(core, ports, &host[..end]), state);
+    let view = core.borrow();
+    let (host, end) = ipv6_host_of(view.authority());
+    hash(ruled_back(view, ports, rules, &host[..end]), state);
 }

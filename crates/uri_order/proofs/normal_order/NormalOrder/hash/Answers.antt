@@ -1,5 +1,24 @@
-use Rattle.uri_ops.proofs.TextKinds.FourKinds.{one-of-four-kinds-has-sets}
+use Rattle.std.proofs.Common.{◌≡◌, ℕ, List, ap, ◌∙◌}
+use Rattle.std.specs.List.{fold}
+use Rattle.fluent_uri.specs.References.{reference_text}
+use Rattle.uri_ops.specs.Normal.{normal_text}
+use Rattle.uri_order.specs.HashedTexts.{hashed_text}
+use Rattle.uri_order.specs.NormalForms.{normal_form}
+use Rattle.uri_order.specs.Ports.{ports_of}
+use Rattle.uri_order.proofs.Equivalences.{forms_under_ports_alone}
 use Rattle.uri_order.proofs.normal_order.NormalOrder.hash.Goals as goal
 
-pub hash_normal-requires : goal.hash_normal-requires
-hash_normal-requires g c = one-of-four-kinds-has-sets g.K.Kind.kind g.met.K.Kind.known
+pub returns-clause-text : goal.returns-clause-text
+returns-clause-text g c =
+    let same = forms_under_ports_alone g.K.Kind.kind
+    (g.P.DefaultPort.port_of (ports_of c.args.self.now)) in
+    c.hash_normal.ensures
+    ∙ (λ i. fold g.H.Hasher.write c.args.state.now (hashed_text (same i (c.core.ensures.text i))))
+
+pub returns-clause-same : goal.returns-clause-same
+returns-clause-same g c = λ other e.
+    let same = forms_under_ports_alone g.K.Kind.kind
+    (g.P.DefaultPort.port_of (ports_of c.args.self.now)) in
+    c.hash_normal.ensures
+    ∙ (λ i. fold g.H.Hasher.write c.args.state.now (hashed_text (same i (c.core.ensures.text i))))
+    ∙ ap (λ m. fold g.H.Hasher.write c.args.state.now (hashed_text (normal_text m))) e

@@ -1,8 +1,10 @@
-use Rattle.uri_ops.proofs.TextKinds.FourKinds.{one-of-four-kinds-has-sets}
+use Rattle.uri_order.specs.Ports.{ports_of}
+use Rattle.uri_order.proofs.Equivalences.{forms_under_ports_alone, holds_if_equals_are_equal}
 use Rattle.uri_order.proofs.normal_order.NormalOrder.is_normal.Goals as goal
 
-pub is_normal-requires : goal.is_normal-requires
-is_normal-requires g c = one-of-four-kinds-has-sets g.K.Kind.kind g.met.K.Kind.known
-
 pub returns : goal.returns
-returns g c = rw (← c.core.ensures.text) c.is_normal.ensures
+returns g c =
+    let same = forms_under_ports_alone g.K.Kind.kind
+    (g.P.DefaultPort.port_of (ports_of c.args.self.now)) in
+    holds_if_equals_are_equal _ _ _ _ (λ i. same i (c.core.ensures.text i)) c.core.ensures.text
+    c.is_normal.ensures
