@@ -8,7 +8,7 @@ import bisect
 import pathlib
 import re
 
-from .digest import Items, Unread, tokens_of
+from .items import Items, Unread, tokens_of
 
 MUT, CONST = b"mut ", b"const fn "
 # The call of a function by a constant.

@@ -20,7 +20,8 @@ import subprocess
 import tempfile
 import threading
 
-from .digest import FOLDERS, Digests
+from .digest import Digests
+from .shape import FOLDERS
 
 REJECTED, NONE = "rejected", "-"
 # The folders of mutants.
