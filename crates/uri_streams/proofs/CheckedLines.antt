@@ -1,6 +1,6 @@
 -- What `check` writes for each line, and for the lines of an input.
-use Rattle.std.proofs.Common.{◌≡◌, ◌+◌, ◌++◌, ◌⊎◌, ℕ, Bool, true, false, cond, List, [], ◌∷◌}
-use Rattle.std.proofs.Common.{refl, ap, sym, subst, ◌∙◌, inl, inr, length, Option, Some, None}
+use Rattle.std.proofs.Common.{◌≡◌, ◌+◌, ◌++◌, ◌⊎◌, ℕ, Bool, true, false, cond, List, [], ◌∷◌, refl}
+use Rattle.std.proofs.Common.{ap, sym, subst, ◌∙◌, inl, inr, length, Option, Some, None}
 use Rattle.std.specs.Prelude.{not, ◌&&◌, nat_lt, Result, Ok, Err, slice_get, if◌then◌else◌}
 use Rattle.std.specs.List.{AllPass, concat, filter, list_all}
 use Rattle.std.specs.Str.{is_utf8}
@@ -14,9 +14,8 @@ use Rattle.uri_streams.specs.Fields.{Cut, cut_at_field, cut_of, cut_without_othe
 use Rattle.uri_streams.specs.Fields.{fields_of}
 use Rattle.uri_streams.specs.Lines.{end_byte, line_text}
 use Rattle.uri_streams.specs.Outputs.{error_output, is_error, is_last, is_stop, line_cut}
-use Rattle.uri_streams.specs.Outputs.{line_output}
-use Rattle.uri_streams.specs.Outputs.{line_result, output_of, processed, processed_lines}
-use Rattle.uri_streams.specs.Outputs.{result_output}
+use Rattle.uri_streams.specs.Outputs.{line_output, line_result, output_of, processed}
+use Rattle.uri_streams.specs.Outputs.{processed_lines, result_output}
 use Rattle.uri_commands.specs.Kinds.{kind_named}
 use Rattle.uri_streams.specs.Results.{LineResult, passed_if, passes_check}
 use Rattle.uri_streams.specs.Tasks.{Known, cut_result, given_text}

@@ -1,6 +1,6 @@
 -- What a writer holds, and what was reported, after a failure.
 use Rattle.std.proofs.Common.{◌≡◌, ◌≢◌, ◌++◌, ℕ, false, List, [], All, refl}
-use Rattle.std.proofs.Common.{ap, sym, ◌∙◌, subst, length, Option, Some, None, true≢false}
+use Rattle.std.proofs.Common.{ap, sym, ◌∙◌, subst, Option, Some, None, true≢false}
 use Rattle.std.proofs.lemmas.List.{append-nil}
 use Rattle.std.proofs.lemmas.List.Concat.{flat_map-append}
 use Rattle.std.proofs.lemmas.List.Elements.{All-nil}
@@ -9,32 +9,27 @@ use Rattle.std.proofs.KnownBytes.{Appends-kept}
 use Rattle.uri_commands.specs.Prefixes.{AppendsPrefix}
 use Rattle.uri_commands.proofs.Appended.{AppendsPrefix-after-Appends}
 use Rattle.uri_commands.proofs.Prefixes.{AppendsPrefix-of-appended}
-use Rattle.std.specs.Prelude.{◌||◌, Bool, Err, Ok, Result, true}
+use Rattle.std.specs.Prelude.{◌||◌, IfErr, IfOk, Err, Ok, Result, true}
+use Rattle.std.specs.List.{flat_map}
 use Rattle.std.specs.Result.{IsErrAnd}
 use Rattle.uri_commands.specs.Sinks.{KeepsFinalError}
 use Rattle.uri_commands.specs.declared.sink.Sink.{Sink}
-use Rattle.uri_streams.specs.Causes.{is_input_cause, is_output_cause}
+use Rattle.uri_streams.specs.Causes.{caused_by_output, is_input_cause, is_output_cause}
 use Rattle.uri_streams.specs.Lines.{end_byte, lines_of}
 use Rattle.uri_streams.specs.Outputs.{ProcessedLine, processed_lines, processed_in, line_output}
 use Rattle.uri_streams.specs.Outputs.{errors_of, line_report, output_of}
 use Rattle.uri_streams.specs.Runs.{ErrorOutput, Reports, StopsAfterPrefix, WritesOutput}
 use Rattle.uri_streams.specs.Runs.{ReportsPrefix, WritesWholeLines}
-use Rattle.uri_streams.specs.Models.{HasWrittenSoFar, KeepsFailures, StepFails}
-use Rattle.uri_streams.specs.Tasks.{Known}
+use Rattle.uri_streams.specs.Models.{FailsInWriting, HasWrittenSoFar, KeepsFailures}
+use Rattle.uri_streams.specs.Models.{ProcessedSoFar, StepFails}
 use Rattle.uri_streams.specs.declared.failure.Cause.{Cause}
+use Rattle.uri_streams.specs.declared.failure.Cause.TheVariants.{Output}
 use Rattle.uri_streams.specs.declared.job.Job.{Job}
 use Rattle.uri_streams.specs.declared.run.Tally.{Tally}
 use Rattle.uri_streams.specs.declared.source.Source.{Source}
 use Rattle.uri_streams.specs.declared.task.Task.{Task}
 use Rattle.uri_streams.proofs.Reports.{Reports-then-nothing, ReportsPrefix-after-Reports}
 use Rattle.uri_streams.proofs.Reports.{ReportsPrefix-of-longer}
-
--- writers of `urilines`: what is appended whole is a prefix of itself; a, b: what is held before
--- and after
-AppendsPrefix-of-whole : (a b : Option (List ℕ)) (text : List ℕ) → Appends a b text
-    → AppendsPrefix a b text
-AppendsPrefix-of-whole a b text p = AppendsPrefix-of-appended a b text [] text p
-    (sym (append-nil text))
 
 -- writers of `urilines`: what is appended after nothing was is appended; a, b, c: what is held
 pub Appends-after-Keeps : (a b c : Option (List ℕ)) (bs : List ℕ) → Keeps a b → Appends b c bs
@@ -44,35 +39,36 @@ Appends-after-Keeps (Some xs) None c bs k p = absurd k
 Appends-after-Keeps (Some xs) (Some ys) None bs k p = absurd p
 Appends-after-Keeps (Some xs) (Some ys) (Some zs) bs k p = p ∙ ap (λ l. l ++ bs) k
 
-module _ (job : Job) (number : ℕ) (xs : List ℕ) (c h j : Option (List ℕ)) (e f : ErrorOutput)
-    (lines : List ProcessedLine) (known : Known) (rest : List ℕ)
-    (whole : processed_in job xs
-    ≡ lines ++ processed_lines job number known (lines_of (end_byte job.is_null) rest))
-    (count : length lines ≡ number) where
+-- streams: a failure after the lines that were processed so far; b: what is left to read before it;
+-- h, i: what the writer holds, d, e: the error output, s, t: what the observer saw, when the run
+-- begins and before the failure
+module _ (job : Job) (number : ℕ) (task : Task) (xs : List ℕ) (b h i : Option (List ℕ))
+    (d e : ErrorOutput) (s t : Option (List Tally)) (tally : Tally)
+    (so : ProcessedSoFar job number task xs b h i d e s t tally) where
   abbrev others : List ProcessedLine
-  others = processed_lines job number known (lines_of (end_byte job.is_null) rest)
+  others = processed_lines job number so.known (lines_of (end_byte job.is_null) so.rest)
 
-  output-is : output_of job (processed_in job xs) ≡ output_of job lines ++ output_of job others
-  output-is = ap (output_of job) whole ∙ flat_map-append (line_output job) lines others
+  in-parts : (f : ProcessedLine → List ℕ)
+      → flat_map f (processed_in job xs) ≡ flat_map f so.lines ++ flat_map f others
+  in-parts f = ap (flat_map f) so.whole ∙ flat_map-append f so.lines others
 
-  errors-are : errors_of job (processed_in job xs) ≡ errors_of job lines ++ errors_of job others
-  errors-are = ap (errors_of job) whole ∙ flat_map-append (line_report job) lines others
-
-  left_with : (left : Option (List ℕ)) (part : List ℕ) → Consumes (Some rest) left part
-      → All (λ x. x ≢ end_byte job.is_null) part → Appends h j (output_of job lines)
-      → Reports e f (errors_of job lines) → WritesWholeLines job xs left h j e f
-  left_with None part consumes none held reported = absurd consumes
-  left_with (Some later) part consumes none held reported = (
-    lines,
-    known,
+  left_with : (left j : Option (List ℕ)) (f : ErrorOutput) (part : List ℕ)
+      → Consumes (Some so.rest) left part → All (λ x. x ≢ end_byte job.is_null) part
+      → Appends h j (output_of job so.lines) → Reports d f (errors_of job so.lines)
+      → WritesWholeLines job xs left h j d f
+  left_with None j f part consumes none written reported = absurd consumes
+  left_with (Some later) j f part consumes none written reported = (
+    so.lines,
+    so.known,
     part,
     later,
-    held,
+    written,
     reported,
-    whole ∙ ap (λ l. lines ++ processed_lines job number known (lines_of (end_byte job.is_null) l))
-        consumes
-        ∙ ap (λ n. lines ++ processed_lines job n known (lines_of (end_byte job.is_null) (part ++
-        later))) (sym count),
+    so.whole
+        ∙ ap (λ l. so.lines ++ processed_lines job number so.known
+        (lines_of (end_byte job.is_null) l)) consumes
+        ∙ ap (λ n. so.lines ++ processed_lines job n so.known
+        (lines_of (end_byte job.is_null) (part ++ later))) (sym so.count),
     refl,
     none,
   )
@@ -86,35 +82,20 @@ pub HasWrittenSoFar-then-step-fails : (job : Job) (number : ℕ) (task : Task)
     → StepFails job number task b c i j e f cause
     → StopsAfterPrefix job a c h j d f (is_input_cause cause)
 HasWrittenSoFar-then-step-fails job number task None b c h i j d e f s t tally cause so st = tt
-HasWrittenSoFar-then-step-fails job number task (Some xs) b c h i j d e f s t tally cause so st =
-    let (
-      lines,
-      known,
-      rest,
-      left,
-      held,
-      whole,
-      remembers,
-      count,
-      lines_are,
-      errors_are,
-      few,
-      reported,
-      seen,
-    ) = so.so_far in
-    let step = (subst (λ o. StepFails job number task o c i j e f cause) left st).failed known
-    remembers in (
-      subst (AppendsPrefix h j)
-          (sym (output-is job number xs c h j d f lines known rest whole count))
-          (AppendsPrefix-after-Appends h i j (output_of job lines) _ held step.0),
-      subst (ReportsPrefix d f)
-          (sym (errors-are job number xs c h j d f lines known rest whole count))
-          (ReportsPrefix-after-Reports d e f (errors_of job lines) _ reported step.1),
+HasWrittenSoFar-then-step-fails job number task (Some xs) b c h i j d e f s t tally cause far
+    st =
+    let so = far.so_far in
+    let parts = in-parts job number task xs b h i d e s t tally so in
+    let here = subst (λ o. StepFails job number task o c i j e f cause) so.left_is st in
+    let step = here.failed so.known so.remembers in (
+      subst (AppendsPrefix h j) (sym (parts (line_output job)))
+          (AppendsPrefix-after-Appends h i j (output_of job so.lines) _ so.written step.0),
+      subst (ReportsPrefix d f) (sym (parts (line_report job)))
+          (ReportsPrefix-after-Reports d e f (errors_of job so.lines) _ so.reported step.1),
       λ input. let stopped = step.2 input in
-          left_with job number xs c h j d f lines known rest whole count c stopped.2.0
-          stopped.2.1 stopped.2.2
-          (Appends-kept h i j (output_of job lines) held stopped.0)
-          (Reports-then-nothing d e f (errors_of job lines) reported stopped.1),
+          left_with job number task xs b h i d e s t tally so c j f stopped.2.0 stopped.2.1
+          stopped.2.2 (Appends-kept h i j (output_of job so.lines) so.written stopped.0)
+          (Reports-then-nothing d e f (errors_of job so.lines) so.reported stopped.1),
     )
 
 -- streams: where a run fails before the next line, the output so far is a prefix; a, b: what is
@@ -124,47 +105,59 @@ pub HasWrittenSoFar-then-run-fails : (job : Job) (number : ℕ) (task : Task)
     (tally : Tally) (cause : Cause) → HasWrittenSoFar job number task a b h i d e s t tally
     → StopsAfterPrefix job a b h i d e (is_input_cause cause)
 HasWrittenSoFar-then-run-fails job number task None b h i d e s t tally cause so = tt
-HasWrittenSoFar-then-run-fails job number task (Some xs) b h i d e s t tally cause so =
-    let (
-      lines,
-      known,
-      rest,
-      left,
-      held,
-      whole,
-      remembers,
-      count,
-      lines_are,
-      errors_are,
-      few,
-      reported,
-      seen,
-    ) = so.so_far in (
-      AppendsPrefix-of-appended h i (output_of job lines)
-          (output_of job (processed_lines job number known (lines_of (end_byte job.is_null) rest)))
-          (output_of job (processed_in job xs)) held
-          (output-is job number xs b h i d e lines known rest whole count),
-      subst (ReportsPrefix d e)
-          (sym (errors-are job number xs b h i d e lines known rest whole count))
-          (ReportsPrefix-of-longer d e (errors_of job lines) _ reported.0),
-      λ input. left_with job number xs b h i d e lines known rest whole count b []
-          (subst (λ o. Consumes (Some rest) o []) (sym left) refl)
-          (All-nil (λ x. x ≢ end_byte job.is_null)) held reported,
+HasWrittenSoFar-then-run-fails job number task (Some xs) b h i d e s t tally cause far =
+    let so = far.so_far in
+    let parts = in-parts job number task xs b h i d e s t tally so in (
+      AppendsPrefix-of-appended h i (output_of job so.lines) _ _ so.written
+          (parts (line_output job)),
+      subst (ReportsPrefix d e) (sym (parts (line_report job)))
+          (ReportsPrefix-of-longer d e (errors_of job so.lines) _ so.reported.0),
+      λ input. left_with job number task xs b h i d e s t tally so b i e []
+          (subst (λ o. Consumes (Some so.rest) o []) (sym so.left_is) refl)
+          (All-nil (λ x. x ≢ end_byte job.is_null)) so.written so.reported,
     )
 
--- streams: where the last flush fails, the whole output is a prefix of itself; a, c: what is left
--- to read, h, i, j: what is held, d, e: the error output, s, t: what the observer saw
-pub WritesOutput-then-flush-fails : (job : Job) (a c h i j : Option (List ℕ)) (d e : ErrorOutput)
-    (s t : Option (List Tally)) (tally : Tally) (cause : Cause)
-    → WritesOutput job a h i d e s t tally → Keeps i j → is_input_cause cause ≡ false
-    → StopsAfterPrefix job a c h j d e (is_input_cause cause)
-WritesOutput-then-flush-fails job None c h i j d e s t tally cause output kept no_input = tt
-WritesOutput-then-flush-fails job (Some xs) c h i j d e s t tally cause output kept no_input = (
-  AppendsPrefix-of-whole h j (output_of job (processed_in job xs))
-      (Appends-kept h i j (output_of job (processed_in job xs)) output.0 kept),
-  output.1.0,
-  λ input. absurd (true≢false (sym input ∙ no_input)),
-)
+-- streams: after the last step the writer is flushed: the whole output is written, or a prefix if
+-- that fails; a, c: what is left to read, h, j: what is held, d, e: the error output, s, t: what
+-- the observer saw
+pub record EndsFlushed (job : Job) (a c h j : Option (List ℕ)) (d e : ErrorOutput)
+    (s t : Option (List Tally)) (result : Result Tally Cause) : Type 0 where
+  pub output : IfOk result (WritesOutput job a h j d e s t)
+  pub stops : IfErr result (λ cause. StopsAfterPrefix job a c h j d e (is_input_cause cause))
+
+-- streams: a run ends so if the output was written before the flush; i: what is held then
+pub EndsFlushed-after-WritesOutput : (job : Job) (a c h i j : Option (List ℕ)) (d e : ErrorOutput)
+    (s t : Option (List Tally)) (tally : Tally) (result : Result Tally Cause)
+    → WritesOutput job a h i d e s t tally → Keeps i j → IfOk result (λ same. same ≡ tally)
+    → IfErr result (λ cause. cause ≡ Output) → EndsFlushed job a c h j d e s t result
+EndsFlushed-after-WritesOutput job None c h i j d e s t tally (Ok same) output kept is fails =
+    record { output = tt; stops = tt }
+EndsFlushed-after-WritesOutput job None c h i j d e s t tally (Err cause) output kept is fails =
+    record { output = tt; stops = tt }
+EndsFlushed-after-WritesOutput job (Some xs) c h i j d e s t tally (Ok same) output kept is fails =
+    let whole = Appends-kept h i j (output_of job (processed_in job xs)) output.0 kept in
+    record {
+      output = subst (WritesOutput job (Some xs) h j d e s t) (sym is) (
+        whole,
+        output.1,
+        output.2,
+        output.3,
+        output.4,
+      );
+      stops = tt;
+    }
+EndsFlushed-after-WritesOutput job (Some xs) c h i j d e s t tally (Err cause) output kept is
+    fails =
+    let whole = Appends-kept h i j (output_of job (processed_in job xs)) output.0 kept in
+    record {
+      output = tt;
+      stops = (
+        AppendsPrefix-of-appended h j _ [] _ whole
+            (sym (append-nil (output_of job (processed_in job xs)))),
+        output.1.0,
+        λ input. absurd (true≢false (sym input ∙ ap is_input_cause fails)),
+      );
+    }
 
 -- failures: after nothing failed, an error that is passed on keeps its failures; reader_mid,
 -- writer_mid: before the call that failed
@@ -187,4 +180,19 @@ KeepsFailures-passed-on (Err x) cause reader reader_mid reader_new writer writer
           ∙ ap (λ k. is_output_cause k || writer.has_failed) (sym is);
       read_error = λ input. read_error (ap is_input_cause (sym is) ∙ input);
       write_error = λ output. write_error (ap is_output_cause (sym is) ∙ output);
+    }
+
+-- failures: a call that fails in nothing but writing keeps its failures, if the reader has failed
+-- no more than before; writer_mid: before the call
+pub KeepsFailures-in-writing : {T R W : Type 0} (result : Result T Cause)
+    (reader reader_new : Source R) (writer writer_mid writer_new : Sink W)
+    → reader_new.has_failed ≡ reader.has_failed → writer_mid.has_failed ≡ writer.has_failed
+    → FailsInWriting result writer_mid writer_new
+    → KeepsFailures result reader reader_new writer writer_new
+KeepsFailures-in-writing result reader reader_new writer writer_mid writer_new same same' fails =
+    record {
+      reading = same ∙ sym (ap (λ b. b || reader.has_failed) fails.reading);
+      writing = fails.writing ∙ ap (λ b. caused_by_output result || b) same';
+      read_error = λ input. absurd (true≢false (sym input ∙ fails.reading));
+      write_error = fails.write_error;
     }

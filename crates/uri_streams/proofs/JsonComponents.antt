@@ -1,14 +1,16 @@
 -- The value of a reference has its components, and each under a name of its own.
 use Rattle.std.proofs.Common.{◌≡◌, ℕ, Bool, true, false, List, [], ◌∷◌, refl, sym, ap, ◌∙◌, rules}
 use Rattle.std.specs.Prelude.{codes, Option, Some, None, IfSome, option_map, option_and_then, map}
-use Rattle.std.specs.Prelude.{bytes_eq, if◌then◌else◌, unwrap_or}
-use Rattle.std.specs.List.{AllByRecursion, IsDistinct}
+use Rattle.std.specs.Prelude.{◌&&◌, bytes_eq, if◌then◌else◌, nat_lt, unwrap_or}
+use Rattle.std.specs.List.{AllByRecursion, IsDistinct, list_all}
 use Rattle.std.specs.Str.{chars, encode_utf8_all}
+use Rattle.std.proofs.lemmas.Bool.{and_parts}
 use Rattle.fluent_uri.specs.Authority.{authority_parts}
 use Rattle.fluent_uri.specs.Components.{Components}
 use Rattle.fluent_uri.specs.Hosts.{host_kind}
 use Rattle.uri_streams.specs.Json.{host_word}
 use Rattle.uri_streams.specs.JsonTexts.{JsonValue, Object, Members, EndOfObject, Member}
+use Rattle.uri_streams.specs.JsonTexts.{is_unescaped}
 use Rattle.uri_streams.specs.JsonValues.{text_members, with_present, present}
 use Rattle.uri_streams.specs.JsonValues.{named_components, components_value}
 use Rattle.uri_streams.proofs.JsonStringTexts.{IsPlain, ascii-is-plain}
@@ -111,59 +113,37 @@ components-are-found-by-name p =
       fragment = fragment i;
     }
 
--- lines of JSON: names and texts that need no escape
+-- lines of JSON: whether the names need no escape
+abbrev are_plain_names : List (List ℕ × Option (List ℕ)) → Bool
+are_plain_names [] = true
+are_plain_names (one ∷ others) =
+    (list_all (λ b. nat_lt b 128) one.0 && list_all is_unescaped one.0) && are_plain_names others
+
+-- lines of JSON: texts that need no escape
 abbrev ArePlain : List (List ℕ × Option (List ℕ)) → Type 0
 ArePlain [] = Unit {0}
-ArePlain (one ∷ others) = IsPlain one.0 × IsPlainIfPresent one.1 × ArePlain others
+ArePlain (one ∷ others) = IsPlainIfPresent one.1 × ArePlain others
 
 -- lines of JSON: names and texts that need no escape are UTF-8
-plain-texts-are-utf8 : (named : List (List ℕ × Option (List ℕ))) → ArePlain named
-    → AreUtf8 (present named)
-plain-texts-are-utf8 [] h = tt
-plain-texts-are-utf8 (one ∷ others) (n, t, h) = at one.1 t (plain-texts-are-utf8 others h)
+plain-texts-are-utf8 : (named : List (List ℕ × Option (List ℕ))) → are_plain_names named ≡ true
+    → ArePlain named → AreUtf8 (present named)
+plain-texts-are-utf8 [] n h = tt
+plain-texts-are-utf8 (one ∷ others) n (t, h) =
+    let names = and_parts _ _ n in
+    let name = and_parts _ _ names.0 in
+    at one.1 (ascii-is-plain one.0 name.0 name.1) t (plain-texts-are-utf8 others names.1 h)
   where
-    at : (o : Option (List ℕ)) → IsPlainIfPresent o → AreUtf8 (present others)
+    at : (o : Option (List ℕ)) → IsPlain one.0 → IsPlainIfPresent o → AreUtf8 (present others)
         → AreUtf8 (with_present one.0 o (present others))
-    at None t more = more
-    at (Some text) t more = (n.utf8, t.utf8, more)
+    at None n t more = more
+    at (Some text) n t more = (n.utf8, t.utf8, more)
 
--- lines of JSON: the names of components, and components that need no escape
+-- lines of JSON: components that need no escape
 named-components-are-plain : (p : Components) → HasPlainComponents p
     → ArePlain (named_components p)
 named-components-are-plain p h =
-    let parts = at p.authority h.authority in (
-      ascii-is-plain _ refl refl,
-      h.scheme,
-      (
-        ascii-is-plain _ refl refl,
-        parts.0,
-        (
-          ascii-is-plain _ refl refl,
-          parts.1,
-          (
-            ascii-is-plain _ refl refl,
-            parts.2,
-            (
-              ascii-is-plain _ refl refl,
-              parts.3,
-              (
-                ascii-is-plain _ refl refl,
-                parts.4,
-                (
-                  ascii-is-plain _ refl refl,
-                  h.path,
-                  (
-                    ascii-is-plain _ refl refl,
-                    h.query,
-                    (ascii-is-plain _ refl refl, h.fragment, tt),
-                  ),
-                ),
-              ),
-            ),
-          ),
-        ),
-      ),
-    )
+    let a = at p.authority h.authority in
+    (h.scheme, (a.0, (a.1, (a.2, (a.3, (a.4, (h.path, (h.query, (h.fragment, tt)))))))))
   where
     at : (authority : Option (List ℕ)) → IfSome authority HasPlainAuthority
         → let parts = option_map authority_parts authority in
@@ -186,7 +166,7 @@ components-are-in-their-value : (p : Components) → HasPlainComponents p
     → components_in (named_in (members_in (components_value p))) ≡ p
 components-are-in-their-value p h =
     ap components_in (names-are-in-their-members (present (named_components p))
-    (plain-texts-are-utf8 (named_components p) (named-components-are-plain p h)))
+    (plain-texts-are-utf8 (named_components p) refl (named-components-are-plain p h)))
     ∙ components-are-found-by-name p
 
 -- lines of JSON: references whose values are equal have equal components

@@ -1,18 +1,15 @@
 -- A reader of JSON's values, for the proof that a JSON text represents one value.
-use Rattle.std.proofs.Common.{◌≡◌, ℕ, zero, suc, ◌+◌, ◌<◌, ◌==◌, Bool, true, false, List, []}
-use Rattle.std.proofs.Common.{◌∷◌, ◌++◌, length, get_or, drop, append_assoc, refl}
-use Rattle.std.proofs.Common.{ap, ◌∙◌, arith}
+use Rattle.std.proofs.Common.{◌≡◌, ℕ, zero, suc, ◌+◌, ◌<◌, ◌≤◌, ◌==◌, Bool, true, false, List, [], ◌∷◌}
+use Rattle.std.proofs.Common.{◌++◌, length, get_or, drop, append_assoc, refl, ap, ◌∙◌, arith}
 use Rattle.std.specs.Prelude.{codes, if◌then◌else◌}
-use Rattle.uri_streams.specs.JsonTexts.{JsonValue, False, Null, True, Object, Array, Number}
-use Rattle.uri_streams.specs.JsonTexts.{String, Elements, EndOfArray, Element, Members}
-use Rattle.uri_streams.specs.JsonTexts.{EndOfObject, Member, ◌then◌, IsStructural}
-use Rattle.uri_streams.specs.JsonTexts.{RepresentsString, RepresentsValue}
+use Rattle.uri_streams.specs.JsonTexts.{JsonValue, False, Null, True, Object, Array, Number, String}
+use Rattle.uri_streams.specs.JsonTexts.{Elements, EndOfArray, Element, Members, EndOfObject, Member}
+use Rattle.uri_streams.specs.JsonTexts.{◌then◌, IsStructural, RepresentsString, RepresentsValue}
 use Rattle.uri_streams.specs.JsonTexts.{RepresentsMoreElements, RepresentsMoreMembers}
-use Rattle.uri_streams.proofs.JsonStrings.{read_characters, characters-are-read}
-use Rattle.uri_streams.proofs.JsonStrings.{string-begins-text}
-use Rattle.uri_streams.proofs.JsonTokens.{skip, is_number_character, EndsNumber}
-use Rattle.uri_streams.proofs.JsonTokens.{BeginsStructural, structural-begins-text, read_number}
-use Rattle.uri_streams.proofs.JsonTokens.{after_number, number-is-not-empty}
+use Rattle.uri_streams.proofs.JsonStrings.{read_characters, characters-are-read, string-begins-text}
+use Rattle.uri_streams.proofs.JsonTokens.{skip, is_number_character, EndsNumber, BeginsStructural}
+use Rattle.uri_streams.proofs.JsonTokens.{structural-begins-text, read_number, after_number}
+use Rattle.uri_streams.proofs.JsonTokens.{number-is-not-empty}
 
 -- reading JSON: a value by its first character, and the text after it and whitespace. The functions
 -- read elements and members; the number bounds the characters of a string. What begins no value is
@@ -54,7 +51,7 @@ read_named value more p = then_members p.0 (value (skip (drop 1 (skip p.1)))) mo
 -- text after them and whitespace. The number bounds the steps.
 abbrev mutual
   pub read : ℕ → List ℕ → JsonValue × List ℕ
-  read zero text = (Null, [])
+  read zero text = (Number [], text)
   read (suc n) text = read_by_first (read_elements n) (read_members n) n text
 
   pub read_elements : ℕ → List ℕ → Elements × List ℕ
@@ -85,25 +82,32 @@ abbrev mutual
       (read_characters n (drop 1 (skip (drop 1 text))))
       else (EndOfObject, skip (drop 1 text))
 
--- reading JSON: so many steps are enough
+-- reading JSON: so many steps are enough, after the first one of a value
 abbrev mutual
-  pub steps : JsonValue → ℕ
-  steps False = 1
-  steps Null = 1
-  steps True = 1
-  steps (Object members) = steps_of_members members + 1
-  steps (Array elements) = steps_of_elements elements + 1
-  steps (Number digits) = 1
-  steps (String cs) = length cs + 2
+  pub more_steps : JsonValue → ℕ
+  more_steps (Object members) = steps_of_members members
+  more_steps (Array elements) = steps_of_elements elements
+  more_steps (String cs) = length cs + 1
+  more_steps v = 0
 
   pub steps_of_elements : Elements → ℕ
-  steps_of_elements EndOfArray = 2
-  steps_of_elements (Element v elements) = steps v + steps_of_elements elements + 1
+  steps_of_elements EndOfArray = 1
+  steps_of_elements (Element v elements) = suc (more_steps v + steps_of_elements elements + 1)
 
   pub steps_of_members : Members → ℕ
   steps_of_members EndOfObject = 1
   steps_of_members (Member name v members) =
-      length name + steps v + steps_of_members members + 2
+      suc (length name + more_steps v + steps_of_members members + 2)
+
+-- reading JSON: elements take a step at least
+pub elements-take-steps : (elements : Elements) → steps_of_elements elements ≤ 0 → ⊥
+elements-take-steps EndOfArray l = omega arith
+elements-take-steps (Element v elements) l = omega arith
+
+-- reading JSON: members take a step at least
+pub members-take-steps : (members : Members) → steps_of_members members ≤ 0 → ⊥
+members-take-steps EndOfObject l = omega arith
+members-take-steps (Member name v members) l = omega arith
 
 -- reading JSON: the value of a text is read as one
 pub represented-value-is-a-value : (v : JsonValue) (x : List ℕ) → RepresentsValue v x

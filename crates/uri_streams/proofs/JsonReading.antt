@@ -1,81 +1,68 @@
 -- What a JSON text represents is read of it. So a text represents one value.
-use Rattle.std.proofs.Common.{◌≡◌, ℕ, zero, suc, ◌+◌, ◌≤◌, ◌==◌, List, []}
-use Rattle.std.proofs.Common.{◌++◌, drop, append-nil, append_assoc, refl, sym}
-use Rattle.std.proofs.Common.{ap, ◌∙◌, subst, arith}
+use Rattle.std.proofs.Common.{◌≡◌, ℕ, zero, suc, ◌+◌, ◌<◌, ◌≤◌, ◌==◌, List, [], ◌++◌, drop}
+use Rattle.std.proofs.Common.{append-nil, append_assoc, refl, sym, ap, ◌∙◌, subst, arith}
 use Rattle.std.specs.Prelude.{if◌then◌else◌}
 use Rattle.std.specs.Str.{chars}
 use Rattle.std.proofs.lemmas.Bool.{cond-true, cond-false}
-use Rattle.uri_streams.specs.JsonTexts.{JsonValue, False, Null, True, Object, Array, Number}
-use Rattle.uri_streams.specs.JsonTexts.{String, Elements, EndOfArray, Element, Members}
-use Rattle.uri_streams.specs.JsonTexts.{EndOfObject, Member, ◌then◌, IsWhitespace}
-use Rattle.uri_streams.specs.JsonTexts.{RepresentsValue, RepresentsElements}
+use Rattle.uri_streams.specs.JsonTexts.{JsonValue, False, Null, True, Object, Array, Number, String}
+use Rattle.uri_streams.specs.JsonTexts.{Elements, EndOfArray, Element, Members, EndOfObject, Member}
+use Rattle.uri_streams.specs.JsonTexts.{◌then◌, IsWhitespace, RepresentsValue, RepresentsElements}
 use Rattle.uri_streams.specs.JsonTexts.{RepresentsMoreElements, RepresentsMembers}
 use Rattle.uri_streams.specs.JsonTexts.{RepresentsMoreMembers, IsJsonTextOf}
 use Rattle.uri_streams.proofs.JsonReader.{read, read_elements, read_more_elements, read_members}
-use Rattle.uri_streams.proofs.JsonReader.{read_more_members, steps, steps_of_elements}
-use Rattle.uri_streams.proofs.JsonReader.{steps_of_members, is_no_value, then_elements, read_named}
+use Rattle.uri_streams.proofs.JsonReader.{read_more_members, more_steps, steps_of_elements}
+use Rattle.uri_streams.proofs.JsonReader.{steps_of_members, is_no_value, then_elements}
 use Rattle.uri_streams.proofs.JsonReader.{represented-value-is-a-value, comma-begins-text}
 use Rattle.uri_streams.proofs.JsonReader.{more-elements-end-number, more-members-end-number}
 use Rattle.uri_streams.proofs.JsonReader.{three-parts-before-rest, four-parts-before-rest}
-use Rattle.uri_streams.proofs.JsonReader.{member-is-read}
-use Rattle.uri_streams.proofs.JsonStrings.{read_characters, characters-are-read}
-use Rattle.uri_streams.proofs.JsonStrings.{string-begins-text}
-use Rattle.uri_streams.proofs.JsonTokens.{skip, whitespace-is-skipped}
-use Rattle.uri_streams.proofs.JsonTokens.{EndsNumber, whitespace-ends-number, BeginsStructural}
-use Rattle.uri_streams.proofs.JsonTokens.{structural-begins-text, after_number}
-use Rattle.uri_streams.proofs.JsonTokens.{number-is-read}
+use Rattle.uri_streams.proofs.JsonReader.{member-is-read, elements-take-steps, members-take-steps}
+use Rattle.uri_streams.proofs.JsonStrings.{characters-are-read, string-begins-text}
+use Rattle.uri_streams.proofs.JsonTokens.{skip, whitespace-is-skipped, EndsNumber}
+use Rattle.uri_streams.proofs.JsonTokens.{whitespace-ends-number, BeginsStructural}
+use Rattle.uri_streams.proofs.JsonTokens.{structural-begins-text, after_number, number-is-read}
 
 -- reading JSON: what a text represents is read of it; text: what is after elements or members
 mutual
   value-is-read : (v : JsonValue) (x rest : List ℕ) (n : ℕ) → RepresentsValue v x
-      → EndsNumber rest → steps v ≤ n → read n (skip (x ++ rest)) ≡ (v, skip rest)
-  value-is-read False x rest zero h e l = absurd (omega arith)
+      → EndsNumber rest → more_steps v < n → read n (skip (x ++ rest)) ≡ (v, skip rest)
+  value-is-read v x rest zero h e l = absurd (omega arith)
   value-is-read False x rest (suc n) h e l = ap (λ x. read (suc n) (skip (x ++ rest))) h
-  value-is-read Null x rest zero h e l = absurd (omega arith)
   value-is-read Null x rest (suc n) h e l = ap (λ x. read (suc n) (skip (x ++ rest))) h
-  value-is-read True x rest zero h e l = absurd (omega arith)
   value-is-read True x rest (suc n) h e l = ap (λ x. read (suc n) (skip (x ++ rest))) h
-  value-is-read (Number digits) x rest zero h e l = absurd (omega arith)
   value-is-read (Number digits) x rest (suc n) (same, h) e l =
       let r = number-is-read x rest h e in
       ap (read (suc n)) r.visible ∙ cond-true _ _ _ r.begins
       ∙ ap (λ d. (Number d, skip (after_number (x ++ rest)))) r.number
       ∙ ap (λ t. (Number x, skip t)) r.after ∙ ap (λ d. (Number d, skip rest)) same
-  value-is-read (String cs) x rest zero h e l = absurd (omega arith)
   value-is-read (String cs) x rest (suc n) h e l =
       let q = string-begins-text cs x rest h in
-      ap (λ t. read (suc n) (skip t)) q.whole
-      ∙ ap (λ p. (String p.0, skip p.1))
-      (characters-are-read cs q.inside rest n q.characters (omega arith))
-  value-is-read (Array elements) x rest zero h e l = absurd (omega arith)
+      rw (q.whole, characters-are-read cs q.inside rest n q.characters (omega arith)) refl
   value-is-read (Array elements) x rest (suc n) (a, y, f, begin, (b, c, g, inside, end)) e l =
       let close = structural-begins-text 93 c rest refl refl end in
       let bracket = structural-begins-text 91 a (b ++ (c ++ rest)) refl refl begin in
-      ap (λ t. read (suc n) (skip t)) (three-parts-before-rest a b c x y rest f g)
-      ∙ ap (read (suc n)) bracket.first
-      ∙ ap (λ t. let p = read_elements n t in (Array p.0, p.1)) bracket.same
-      ∙ ap (λ p. (Array p.0, p.1))
-      (elements-are-read elements b (c ++ rest) rest n inside close (omega arith))
-  value-is-read (Object members) x rest zero h e l = absurd (omega arith)
+      rw (
+        three-parts-before-rest a b c x y rest f g,
+        bracket.first,
+        bracket.same,
+        elements-are-read elements b (c ++ rest) rest n inside close (omega arith),
+      ) refl
   value-is-read (Object members) x rest (suc n) (a, y, f, begin, (b, c, g, inside, end)) e l =
       let close = structural-begins-text 125 c rest refl refl end in
       let brace = structural-begins-text 123 a (b ++ (c ++ rest)) refl refl begin in
-      ap (λ t. read (suc n) (skip t)) (three-parts-before-rest a b c x y rest f g)
-      ∙ ap (read (suc n)) brace.first
-      ∙ ap (λ t. let p = read_members n t in (Object p.0, p.1)) brace.same
-      ∙ ap (λ p. (Object p.0, p.1))
-      (members-are-read members b (c ++ rest) rest n inside close (omega arith))
+      rw (
+        three-parts-before-rest a b c x y rest f g,
+        brace.first,
+        brace.same,
+        members-are-read members b (c ++ rest) rest n inside close (omega arith),
+      ) refl
 
   elements-are-read : (elements : Elements) (x text rest : List ℕ) (n : ℕ)
       → RepresentsElements elements x → BeginsStructural 93 text rest
       → steps_of_elements elements ≤ n
       → read_elements n (skip (x ++ text)) ≡ (elements, skip rest)
-  elements-are-read EndOfArray x text rest zero h m l = absurd (omega arith)
-  elements-are-read EndOfArray x text rest (suc zero) h m l = absurd (omega arith)
-  elements-are-read EndOfArray x text rest (suc (suc n)) h m l =
-      ap (λ x. read_elements (suc (suc n)) (skip (x ++ text))) h
-      ∙ ap (read_elements (suc (suc n))) m.first ∙ ap (λ t. (EndOfArray, t)) m.same
-  elements-are-read (Element v elements) x text rest zero h m l = absurd (omega arith)
+  elements-are-read elements x text rest zero h m l = absurd (elements-take-steps elements l)
+  elements-are-read EndOfArray x text rest (suc zero) h m l = rw (h, m.first, m.same) refl
+  elements-are-read EndOfArray x text rest (suc (suc n)) h m l = rw (h, m.first, m.same) refl
   elements-are-read (Element v elements) x text rest (suc n) (a, b, e, h, k) m l =
       let first = value-is-read v a (b ++ text) n h
       (more-elements-end-number elements b text rest k m) (omega arith) in
@@ -90,31 +77,26 @@ mutual
       → RepresentsMoreElements elements x → BeginsStructural 93 text rest
       → steps_of_elements elements ≤ n
       → read_more_elements n (skip (x ++ text)) ≡ (elements, skip rest)
-  more-elements-are-read EndOfArray x text rest zero h m l = absurd (omega arith)
-  more-elements-are-read EndOfArray x text rest (suc n) h m l =
-      ap (λ x. read_more_elements (suc n) (skip (x ++ text))) h
-      ∙ ap (read_more_elements (suc n)) m.first ∙ ap (λ t. (EndOfArray, t)) m.same
-  more-elements-are-read (Element v elements) x text rest zero h m l = absurd (omega arith)
+  more-elements-are-read elements x text rest zero h m l = absurd (elements-take-steps elements l)
+  more-elements-are-read EndOfArray x text rest (suc n) h m l = rw (h, m.first, m.same) refl
   more-elements-are-read (Element v elements) x text rest (suc n)
       (a, y, e, comma, (b, c, f, h, k)) m l =
       let mark = comma-begins-text a (b ++ (c ++ text)) comma in
-      ap (λ t. read_more_elements (suc n) (skip t)) (three-parts-before-rest a b c x y text e f)
-      ∙ ap (read_more_elements (suc n)) mark.first
-      ∙ ap (λ t. then_elements (read n t) (read_more_elements n)) mark.same
-      ∙ ap (λ p. then_elements p (read_more_elements n)) (value-is-read v b (c ++ text) n h
-      (more-elements-end-number elements c text rest k m) (omega arith))
-      ∙ ap (λ q. (Element v q.0, q.1))
-      (more-elements-are-read elements c text rest n k m (omega arith))
+      rw (
+        three-parts-before-rest a b c x y text e f,
+        mark.first,
+        mark.same,
+        value-is-read v b (c ++ text) n h
+            (more-elements-end-number elements c text rest k m) (omega arith),
+        more-elements-are-read elements c text rest n k m (omega arith),
+      ) refl
 
   members-are-read : (members : Members) (x text rest : List ℕ) (n : ℕ)
       → RepresentsMembers members x → BeginsStructural 125 text rest
       → steps_of_members members ≤ n
       → read_members n (skip (x ++ text)) ≡ (members, skip rest)
-  members-are-read EndOfObject x text rest zero h m l = absurd (omega arith)
-  members-are-read EndOfObject x text rest (suc n) h m l =
-      ap (λ x. read_members (suc n) (skip (x ++ text))) h
-      ∙ ap (read_members (suc n)) m.first ∙ ap (λ t. (EndOfObject, t)) m.same
-  members-are-read (Member name v members) x text rest zero h m l = absurd (omega arith)
+  members-are-read members x text rest zero h m l = absurd (members-take-steps members l)
+  members-are-read EndOfObject x text rest (suc n) h m l = rw (h, m.first, m.same) refl
   members-are-read (Member name v members) x text rest (suc n)
       (a, y, e, string, (b, z, f, colon, (c, d, g, h, k))) m l =
       let r = member-is-read name v members a b c (d ++ text) (skip rest) n string colon
@@ -129,11 +111,8 @@ mutual
       → RepresentsMoreMembers members x → BeginsStructural 125 text rest
       → steps_of_members members ≤ n
       → read_more_members n (skip (x ++ text)) ≡ (members, skip rest)
-  more-members-are-read EndOfObject x text rest zero h m l = absurd (omega arith)
-  more-members-are-read EndOfObject x text rest (suc n) h m l =
-      ap (λ x. read_more_members (suc n) (skip (x ++ text))) h
-      ∙ ap (read_more_members (suc n)) m.first ∙ ap (λ t. (EndOfObject, t)) m.same
-  more-members-are-read (Member name v members) x text rest zero h m l = absurd (omega arith)
+  more-members-are-read members x text rest zero h m l = absurd (members-take-steps members l)
+  more-members-are-read EndOfObject x text rest (suc n) h m l = rw (h, m.first, m.same) refl
   more-members-are-read (Member name v members) x text rest (suc n)
       (o, w, q, comma, (a, y, e, string, (b, z, f, colon, (c, d, g, h, k)))) m l =
       let mark = comma-begins-text o (a ++ (b ++ (c ++ (d ++ text)))) comma in
@@ -142,17 +121,17 @@ mutual
       (value-is-read v c (d ++ text) n h
       (more-members-end-number members d text rest k m) (omega arith))
       (more-members-are-read members d text rest n k m (omega arith)) in
-      ap (λ t. read_more_members (suc n) (skip t))
-      (ap (λ x. x ++ text) q ∙ append_assoc o w text
-      ∙ ap (λ t. o ++ t) (four-parts-before-rest a b c d w y z text e f g))
-      ∙ ap (read_more_members (suc n)) mark.first
-      ∙ ap (λ t. read_named (read n) (read_more_members n) (read_characters n (drop 1 t)))
-      mark.same
-      ∙ r.member
+      rw (
+        q,
+        append_assoc o w text,
+        four-parts-before-rest a b c d w y z text e f g,
+        mark.first,
+        mark.same,
+      ) r.member
 
 -- reading JSON: the whole of a JSON text is read as its value
 json-text-is-read : (v : JsonValue) (text : List ℕ) (n : ℕ)
-    → (IsWhitespace then RepresentsValue v then IsWhitespace) text → steps v ≤ n
+    → (IsWhitespace then RepresentsValue v then IsWhitespace) text → more_steps v < n
     → read n (skip text) ≡ (v, [])
 json-text-is-read v text n (a, y, e, before, (x, b, f, h, behind)) l =
     let end : b ++ [] ≡ b = append-nil b in
@@ -165,6 +144,6 @@ json-text-is-read v text n (a, y, e, before, (x, b, f, h, behind)) l =
 pub json-text-represents-one-value : (text : List ℕ) (v w : JsonValue) → IsJsonTextOf v text
     → IsJsonTextOf w text → v ≡ w
 json-text-represents-one-value text v w h k =
-    let n = steps v + steps w in
+    let n = more_steps v + more_steps w + 1 in
     ap (λ p. p.0) (sym (json-text-is-read v (chars text) n h.1 (omega arith))
     ∙ json-text-is-read w (chars text) n k.1 (omega arith))

@@ -5,92 +5,50 @@ use Rattle.std.specs.Char.{encode_utf8}
 use Rattle.std.specs.Str.{chars}
 use Rattle.fluent_uri.specs.Components.{components}
 use Rattle.uri_streams.specs.Json.{json_of}
-use Rattle.uri_streams.specs.JsonTexts.{Array, EndOfArray, ◌then◌, IsWhitespace, IsNumber}
-use Rattle.uri_streams.specs.JsonTexts.{is_unescaped, escaped_by, hex_number}
-use Rattle.uri_streams.specs.JsonTexts.{RepresentsCharacter, RepresentsValue}
+use Rattle.uri_streams.specs.JsonTexts.{Array, EndOfArray, ◌then◌, IsWhitespace, IsNumber, IsOneOf}
+use Rattle.uri_streams.specs.JsonTexts.{IsOptional, IsFraction, IsExponent, AreSomeDigits}
+use Rattle.uri_streams.specs.JsonTexts.{IsStructural, IsUnicodeEscape, is_unescaped, escaped_by}
+use Rattle.uri_streams.specs.JsonTexts.{hex_number, RepresentsCharacter, RepresentsValue}
 use Rattle.uri_streams.specs.JsonValues.{named_components, present}
 use Rattle.uri_streams.specs.Queries.{pairs_json}
 
 -- examples of JSON: ` [ ] ` represents the empty array
 spaced-brackets-represent-empty-array :
     (IsWhitespace then RepresentsValue (Array EndOfArray) then IsWhitespace) (codes " [ ] ")
-spaced-brackets-represent-empty-array = (
-  codes " ",
-  codes "[ ] ",
-  refl,
-  refl,
-  (
-    codes "[ ] ",
-    [],
-    refl,
-    (
-      codes "[ ",
-      codes "] ",
-      refl,
-      ([], codes "[ ", refl, refl, (codes "[", codes " ", refl, refl, refl)),
-      (
-        [],
-        codes "] ",
-        refl,
-        refl,
-        ([], codes "] ", refl, refl, (codes "]", codes " ", refl, refl, refl)),
-      ),
-    ),
-    refl,
-  ),
-)
+spaced-brackets-represent-empty-array =
+    let begin : IsStructural (codes "[") (codes "[ ") =
+    ([], codes "[ ", refl, refl, (codes "[", codes " ", refl, refl, refl)) in
+    let finish : IsStructural (codes "]") (codes "] ") =
+    ([], codes "] ", refl, refl, (codes "]", codes " ", refl, refl, refl)) in
+    let array : RepresentsValue (Array EndOfArray) (codes "[ ] ") =
+    (codes "[ ", codes "] ", refl, begin, ([], codes "] ", refl, refl, finish)) in
+    (codes " ", codes "[ ] ", refl, refl, (codes "[ ] ", [], refl, array, refl))
 
 -- examples of JSON: `-0.5E+30` is a number
 number-with-all-parts : IsNumber (codes "-0.5E+30")
-number-with-all-parts = (
-  codes "-",
-  codes "0.5E+30",
-  refl,
-  inr refl,
-  (
-    codes "0",
-    codes ".5E+30",
-    refl,
-    inl refl,
-    (
-      codes ".5",
-      codes "E+30",
-      refl,
-      inr (codes ".", codes "5", refl, refl, (codes "5", [], refl, (53, refl, refl), refl)),
-      inr (
-        codes "E",
-        codes "+30",
-        refl,
-        (69, refl, refl),
-        (
-          codes "+",
-          codes "30",
-          refl,
-          inr (43, refl, refl),
-          (codes "3", codes "0", refl, (51, refl, refl), refl),
-        ),
-      ),
-    ),
-  ),
-)
+number-with-all-parts =
+    let fraction : IsFraction (codes ".5") =
+    (codes ".", codes "5", refl, refl, (codes "5", [], refl, (53, refl, refl), refl)) in
+    let digits : AreSomeDigits (codes "30") = (codes "3", codes "0", refl, (51, refl, refl), refl) in
+    let signed : (IsOptional (IsOneOf (codes "-+")) then AreSomeDigits) (codes "+30") =
+    (codes "+", codes "30", refl, inr (43, refl, refl), digits) in
+    let exponent : IsExponent (codes "E+30") =
+    (codes "E", codes "+30", refl, (69, refl, refl), signed) in
+    let parts : (IsOptional IsFraction then IsOptional IsExponent) (codes ".5E+30") =
+    (codes ".5", codes "E+30", refl, inr fraction, inr exponent) in
+    (codes "-", codes "0.5E+30", refl, inr refl, (codes "0", codes ".5E+30", refl, inl refl, parts))
 
 -- examples of JSON: the pair of surrogates of RFC 8259, section 7, represents the G clef
 surrogates-represent-g-clef : RepresentsCharacter 0x1D11E (codes "\\uD834\\uDD1E")
 unfolding hex_number
-surrogates-represent-g-clef = inr (inr (inr (
-  0xD834,
-  0xDD1E,
-  (
-    codes "\\uD834",
-    codes "\\uDD1E",
-    refl,
-    record { a = 68; b = 56; c = 51; d = 52; whole = refl; digits = refl; value = refl },
-    record { a = 68; b = 68; c = 49; d = 69; whole = refl; digits = refl; value = refl },
-  ),
-  refl,
-  refl,
-  refl,
-)))
+surrogates-represent-g-clef =
+    let high : IsUnicodeEscape 0xD834 (codes "\\uD834") =
+    record { a = 68; b = 56; c = 51; d = 52; whole = refl; digits = refl; value = refl } in
+    let low : IsUnicodeEscape 0xDD1E (codes "\\uDD1E") =
+    record { a = 68; b = 68; c = 49; d = 69; whole = refl; digits = refl; value = refl } in
+    let pair : (IsUnicodeEscape 0xD834 then IsUnicodeEscape 0xDD1E) (codes "\\uD834\\uDD1E") =
+    (codes "\\uD834", codes "\\uDD1E", refl, high, low) in
+    inr (inr (inr (0xD834, 0xDD1E, pair, refl, refl, refl)))
 
 -- examples of JSON: the characters next to those that must be escaped
 unescaped-characters :

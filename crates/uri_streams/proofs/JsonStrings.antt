@@ -9,8 +9,7 @@ use Rattle.std.specs.Option.{unwrap_or}
 use Rattle.std.proofs.lemmas.Bool.{cond-true, cond-false, eqb-true}
 use Rattle.std.proofs.lemmas.Bool.Decides.{nat_tests}
 use Rattle.uri_streams.specs.JsonTexts.{is_unescaped, escaped_by, hex_number, IsUnicodeEscape}
-use Rattle.uri_streams.specs.JsonTexts.{RepresentsCharacter, RepresentsCharacters}
-use Rattle.uri_streams.specs.JsonTexts.{RepresentsString}
+use Rattle.uri_streams.specs.JsonTexts.{RepresentsCharacter, RepresentsCharacters, RepresentsString}
 
 -- reading JSON: the number of the escape `\uXXXX` that begins the text
 abbrev escaped_number : List ℕ → ℕ

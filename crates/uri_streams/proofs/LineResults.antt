@@ -1,12 +1,11 @@
 -- The result of bytes, and that of the text that they are.
-use Rattle.std.proofs.Common.{◌≡◌, ℕ, List, true, false, Bool, ap, sym, refl}
+use Rattle.std.proofs.Common.{◌≡◌, ℕ, List, ap, sym}
 use Rattle.std.specs.Prelude.{IsUtf8, if◌then◌else◌}
 use Rattle.std.specs.Str.{is_utf8}
 use Rattle.std.specs.Str.Lossy.{utf8_valid_len}
 use Rattle.std.proofs.lemmas.Str.{IsUtf8-from_is_utf8, is_utf8-from_IsUtf8}
 use Rattle.uri_streams.proofs.Tests.{not-true-is-false}
-use Rattle.uri_streams.specs.Tasks.{Known, bytes_result, given_text, no_text_result}
-use Rattle.uri_streams.specs.Tasks.{text_result}
+use Rattle.uri_streams.specs.Tasks.{Known, bytes_result, given_text, no_text_result, text_result}
 use Rattle.uri_streams.specs.declared.fault.NoText.TheVariants.{NotUtf8}
 use Rattle.uri_streams.specs.declared.job.Job.{Job}
 

@@ -2,15 +2,17 @@
 use Rattle.std.proofs.Common.{◌≡◌, ◌<◌, ◌≤◌, ◌+◌, ◌-◌, ℕ, Bool, true, false, List, ◌++◌, Option}
 use Rattle.std.proofs.Common.{Some, None, IfSome, cond, drop, length, take, min, ap, arith, refl}
 use Rattle.std.proofs.Common.{subst, sym, ◌∙◌, take-take, take_all, length-take-le}
-use Rattle.std.proofs.Common.{ltb-true, ltb-false}
-use Rattle.std.specs.Prelude.{nat_lt, IfOk, OnErr, Result, Ok, Err}
+use Rattle.std.proofs.Common.{ltb-true, ltb-false, ◌≢◌, All, eqb, eq-eqb, get_or-take}
+use Rattle.std.specs.Prelude.{nat_lt, slice_index, OnErr, Result, Ok, Err}
 use Rattle.std.specs.Io.BufRead.{take_through, DropsConsumable, DropsThrough}
 use Rattle.std.specs.Io.KnownBytes.{Consumes, prepend_known}
 use Rattle.std.proofs.BufReadLemmas.{take_through_nonempty}
 use Rattle.std.proofs.lemmas.List.{take-append-drop, take-append-le, length-take, append-nil}
+use Rattle.std.proofs.lemmas.List.Elements.{All-from_get_or}
 use Rattle.std.proofs.Math.Seq.{take-append-add}
+use Rattle.std.proofs.Transfers.{StopsAt-take}
 use Rattle.uri_streams.specs.Lines.{ends_with_return}
-use Rattle.uri_streams.specs.Models.{ReadsFirstLine}
+use Rattle.uri_streams.specs.Models.{IsBufferedLine, ReadsFirstLine}
 
 -- general fact on lists, for lines: as much of a prefix is taken as there is room for
 pub take-min : (kept count room : ℕ) (xs : List ℕ) → count ≤ length xs → kept ≡ min count room
@@ -90,9 +92,25 @@ pub OnErr-of-any : {T E : Type 0} (result : Result T E) (P : Type 0) → P → O
 OnErr-of-any (Ok value) P p = tt
 OnErr-of-any (Err error) P p = p
 
--- general fact on results, for the end of a run: what holds of a value holds of one that can only be
--- it
-pub if_ok-of-equal-value : {T E : Type 0} (P : T → Type 0) (result : Result T E) (value : T)
-    → IfOk result (λ same. same ≡ value) → P value → IfOk result P
-if_ok-of-equal-value P (Ok same) value is p = subst P (sym is) p
-if_ok-of-equal-value P (Err error) value is p = tt
+-- lines: the first line of a buffer is up to and including the first byte that ends a line
+pub IsBufferedLine-up-to : (end byte index : ℕ) (buffer line : List ℕ) → byte ≡ end
+    → line ≡ take (index + 1) buffer → index < length buffer → slice_index buffer index ≡ byte
+    → ((k : ℕ) → k < index → eqb (slice_index buffer k) byte ≡ true → ⊥)
+    → IsBufferedLine end buffer line
+IsBufferedLine-up-to end byte index buffer line b e within ends lacks =
+    let long = length-take-le (index + 1) buffer (omega arith) in
+    let same : index + 1 - 1 ≡ index = omega arith in
+    subst (λ n. IsBufferedLine n buffer line) b
+    (subst (IsBufferedLine byte buffer) (sym e) (record {
+      within = omega (arith, long);
+      first = ap (λ n. take n buffer) (sym long);
+      some = omega (arith, long);
+      lacks_end = StopsAt-take buffer byte (index + 1) (omega arith)
+          (subst (λ n. All (λ x. x ≢ byte) (take n buffer)) (sym same)
+          (All-from_get_or (λ x. x ≢ byte) (take index buffer) 0 (λ k to is.
+          let below : k < index = omega (arith, length-take-le index buffer (omega arith)) in
+          lacks k below (eq-eqb _ _ (sym (get_or-take index buffer k 0 below) ∙ is)))));
+      ends = ap (λ n. slice_index (take (index + 1) buffer) (n - 1)) long
+          ∙ ap (slice_index (take (index + 1) buffer)) same
+          ∙ get_or-take (index + 1) buffer index 0 (omega arith) ∙ ends;
+    }))

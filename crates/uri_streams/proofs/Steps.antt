@@ -1,159 +1,149 @@
 -- What is read of a line, and written for it, is a step.
-use Rattle.std.proofs.Common.{◌≡◌, ◌+◌, ◌++◌, ℕ, Bool, false, List, refl, ap, sym}
-use Rattle.std.proofs.Common.{◌∙◌, subst, Option, Some, None, IfSome, inl, cond, [], ◌<◌, ◌≢◌}
-use Rattle.std.proofs.Common.{length, arith}
+use Rattle.std.proofs.Common.{◌≡◌, ◌+◌, ◌++◌, ℕ, Bool, false, List, [], ◌∷◌, refl, ap, sym, ◌∙◌}
+use Rattle.std.proofs.Common.{subst, Option, Some, None, IfSome, inl, cond, ◌<◌, ◌≢◌, length, arith}
 use Rattle.std.specs.Prelude.{◌&&◌, IfErr, IfOk, Result, Ok, Err, not}
+use Rattle.std.specs.Io.Buffered.{reader_remaining}
 use Rattle.std.proofs.BufReadLemmas.{Consumes_through, take_through_nonempty}
 use Rattle.std.proofs.KnownBytes.{Consumes-nil}
 use Rattle.std.proofs.lemmas.List.Elements.{All-nil}
 use Rattle.std.specs.Io.BufRead.{drop_through, DropsConsumable, DropsThrough, take_through}
 use Rattle.std.specs.Io.KnownBytes.{Appends, Consumes, Keeps, prepend_known}
 use Rattle.uri_commands.specs.Prefixes.{AppendsPrefix}
-use Rattle.uri_streams.specs.Causes.{caused_by_input, is_input_cause}
-use Rattle.uri_streams.specs.Lines.{end_byte, ends_with_return, lines_of}
+use Rattle.uri_streams.specs.Causes.{is_input_cause}
+use Rattle.uri_commands.specs.declared.sink.Sink.{Sink}
+use Rattle.uri_streams.specs.Lines.{end_byte, lines_of}
 use Rattle.uri_streams.specs.Fields.{Cut}
-use Rattle.uri_streams.specs.Outputs.{line_ending, is_error, is_stop, line_cut}
-use Rattle.uri_streams.specs.Outputs.{errors_of, line_output, result_report}
-use Rattle.uri_streams.specs.Outputs.{line_result, output_of, processed, processed_lines}
-use Rattle.uri_streams.specs.Outputs.{result_output}
+use Rattle.uri_streams.specs.Outputs.{ProcessedLine, errors_of, is_error, is_stop, line_cut}
+use Rattle.uri_streams.specs.Outputs.{line_end, line_ending, line_output, line_result, output_of}
+use Rattle.uri_streams.specs.Outputs.{processed, processed_lines, result_output, result_report}
 use Rattle.uri_streams.specs.Results.{LineResult}
 use Rattle.uri_streams.specs.Returned.{IsResult, result_in}
-use Rattle.uri_streams.specs.Models.{IsBufferedLine, StepFails, Steps, ReadsPartOfLine}
-use Rattle.uri_streams.specs.Models.{ReadsFirstLine}
-use Rattle.uri_streams.specs.Models.{WritesLineOutput, WritesOutputPrefix, WritesResult}
-use Rattle.uri_streams.specs.Models.{bytes_output, bytes_report}
-use Rattle.uri_streams.specs.Runs.{ErrorOutput, Reports, ReportsPrefix}
+use Rattle.uri_streams.specs.Models.{FailsInWriting, IsBufferedLine, IsStepOf, ReadsFirstLine}
+use Rattle.uri_streams.specs.Models.{ReadsPartOfLine, StepFails, Steps, WritesLineOutput}
+use Rattle.uri_streams.specs.Models.{WritesOutputPrefix, WritesResult, bytes_output, bytes_report}
+use Rattle.uri_streams.specs.Runs.{ErrorOutput, Reports, ReportsPrefix, error_output_of}
 use Rattle.uri_streams.specs.Tasks.{Known, Remembers, cut_result}
 use Rattle.uri_streams.specs.declared.failure.Cause.{Cause}
 use Rattle.uri_streams.specs.declared.job.Job.{Job}
 use Rattle.uri_streams.specs.declared.line_result.LineResult.{LineResult as Returned}
 use Rattle.uri_streams.specs.declared.output.StepResult.{StepResult}
+use Rattle.uri_streams.specs.declared.source.Source.{Source}
 use Rattle.uri_streams.specs.declared.task.Task.{Task}
 use Rattle.uri_streams.proofs.Cuts.{StandsFor, StandsFor-of-limited-line}
 use Rattle.uri_streams.proofs.Cuts.{bytes_output-if-StandsFor, line_cut-if-StandsFor}
 use Rattle.uri_streams.proofs.Parts.{Consumes-buffered}
 use Rattle.uri_commands.proofs.Appended.{AppendsPrefix-after-Keeps, AppendsPrefix-of-longer}
 use Rattle.uri_commands.proofs.Appended.{AppendsPrefix-of-kept}
-use Rattle.uri_streams.proofs.Failures.{Appends-after-Keeps}
+use Rattle.uri_streams.proofs.Failures.{Appends-after-Keeps, KeepsFailures-in-writing}
 use Rattle.uri_streams.proofs.Reports.{ReportsPrefix-of-longer, ReportsPrefix-of-nothing}
 use Rattle.uri_streams.proofs.Returns.{output-end-is-line-end}
 use Rattle.uri_streams.proofs.Streams.{processed_lines-of-first-line, lines_after_first}
 
--- lines: the first line of known bytes is taken, and these bytes stand for it
-pub record HasLine (job : Job) (left left_new : Option (List ℕ)) (line : List ℕ)
-    (is_return : Bool) : Type 0 where
+-- lines: the first line of known bytes is taken, these bytes stand for it, and this is what ends
+-- its output
+pub record HasLine (job : Job) (left left_new : Option (List ℕ)) (line end : List ℕ) : Type 0 where
   pub taken : IfSome left (λ xs. (0 < length xs)
       × StandsFor job line (take_through (end_byte job.is_null) xs)
       × (left_new ≡ Some (drop_through (end_byte job.is_null) xs))
-      × (is_return ≡ ends_with_return (end_byte job.is_null)
-      (take_through (end_byte job.is_null) xs)))
+      × (end ≡ line_end job (take_through (end_byte job.is_null) xs)))
 
 -- lines: one that was read in parts, up to the limit, is a line of the job; the equations replace
 -- equal arguments
-pub HasLine-of-read : (job : Job) (left left_new : Option (List ℕ)) (end : ℕ)
-    (line line_is : List ℕ) (read : Option Bool) (is_return : Bool)
-    → end ≡ end_byte job.is_null → line ≡ line_is → read ≡ Some is_return
-    → IfSome read (ReadsFirstLine left left_new end (job.max_line + 3) line)
-    → HasLine job left left_new line_is is_return
-HasLine-of-read job left left_new end line line_is read is_return e l r taken =
-    of-first left
-    (subst (λ n. ReadsFirstLine left left_new n (job.max_line + 3) line_is is_return) e
-    (subst (λ b. ReadsFirstLine left left_new end (job.max_line + 3) b is_return) l
-    (subst (λ o. IfSome o (ReadsFirstLine left left_new end (job.max_line + 3) line)) r taken)))
-  where
-    of-first : (o : Option (List ℕ))
-        → ReadsFirstLine o left_new (end_byte job.is_null) (job.max_line + 3) line_is is_return
-        → HasLine job o left_new line_is is_return
-    of-first None first = record { taken = tt }
-    of-first (Some xs) first = record {
+pub HasLine-of-read : (job : Job) (left left_new : Option (List ℕ)) (byte : ℕ)
+    (line line_is end : List ℕ) (read : Option Bool) (is_return : Bool)
+    → byte ≡ end_byte job.is_null → line ≡ line_is → read ≡ Some is_return
+    → end ≡ line_ending job.is_null (not job.is_null && is_return)
+    → IfSome read (ReadsFirstLine left left_new byte (job.max_line + 3) line)
+    → HasLine job left left_new line_is end
+HasLine-of-read job None left_new byte line line_is end read is_return e l r ends taken =
+    record { taken = tt }
+HasLine-of-read job (Some xs) left_new byte line line_is end read is_return e l r ends taken =
+    let first : ReadsFirstLine (Some xs) left_new (end_byte job.is_null) (job.max_line + 3) line_is
+    is_return =
+    subst (λ n. ReadsFirstLine (Some xs) left_new n (job.max_line + 3) line_is is_return) e
+    (subst (λ b. ReadsFirstLine (Some xs) left_new byte (job.max_line + 3) b is_return) l
+    (subst (λ o. IfSome o (ReadsFirstLine (Some xs) left_new byte (job.max_line + 3) line)) r
+    taken)) in
+    let whole = take_through (end_byte job.is_null) xs in
+    record {
       taken = (
         first.0,
-        subst (λ l. StandsFor job l (take_through (end_byte job.is_null) xs)) (sym first.1)
-            (StandsFor-of-limited-line job (job.max_line + 3)
-            (take_through (end_byte job.is_null) xs) refl),
+        subst (λ l. StandsFor job l whole) (sym first.1)
+            (StandsFor-of-limited-line job (job.max_line + 3) whole refl),
         first.2,
-        first.3,
+        ends ∙ output-end-is-line-end job.is_null is_return whole first.3,
       );
     }
 
 -- lines: one that was read whole is the first line that is left
-HasLine-of-whole-line : (job : Job) (left left_new : Option (List ℕ)) (line : List ℕ)
-    (is_return : Bool)
+HasLine-of-whole-line : (job : Job) (left left_new : Option (List ℕ)) (line end : List ℕ)
     → IfSome left (λ xs. line ≡ take_through (end_byte job.is_null) xs)
     × DropsThrough left left_new (end_byte job.is_null) → 0 < length line
-    → is_return ≡ ends_with_return (end_byte job.is_null) line
-    → HasLine job left left_new line is_return
-HasLine-of-whole-line job None left_new line is_return all some return = record { taken = tt }
-HasLine-of-whole-line job (Some xs) left_new line is_return all some return = record {
+    → end ≡ line_end job line → HasLine job left left_new line end
+HasLine-of-whole-line job None left_new line end all some ends = record { taken = tt }
+HasLine-of-whole-line job (Some xs) left_new line end all some ends = record {
   taken = (
     take_through_nonempty (end_byte job.is_null) xs (omega (arith, some, ap length all.0)),
     inl all.0,
     all.1,
-    return ∙ ap (ends_with_return (end_byte job.is_null)) all.0,
+    ends ∙ ap (line_end job) all.0,
   );
 }
 
 -- lines: one that is taken from the buffer is a line of the job
 pub HasLine-buffered : (job : Job) (unknown : Bool) (buffer : List ℕ)
-    (inner left_new : Option (List ℕ)) (line : List ℕ)
-    → IsBufferedLine (end_byte job.is_null) buffer line
+    (inner left_new : Option (List ℕ)) (line end : List ℕ)
+    → IsBufferedLine (end_byte job.is_null) buffer line → end ≡ line_end job line
     → DropsConsumable (cond unknown None (prepend_known buffer inner)) left_new
     (Some (length buffer)) (length line)
-    → HasLine job (cond unknown None (prepend_known buffer inner)) left_new line
-    (ends_with_return (end_byte job.is_null) line)
-HasLine-buffered job unknown buffer inner left_new line first drops =
-    HasLine-of-whole-line job (cond unknown None (prepend_known buffer inner)) left_new
-    line (ends_with_return (end_byte job.is_null) line)
-    (Consumes_through (end_byte job.is_null) (cond unknown None (prepend_known buffer inner))
-    (cond unknown None (prepend_known buffer inner)) left_new [] line
-    (Consumes-nil (cond unknown None (prepend_known buffer inner)))
-    (All-nil (λ x. x ≢ end_byte job.is_null))
-    (subst (Consumes (cond unknown None (prepend_known buffer inner)) left_new)
-    (sym first.first)
+    → HasLine job (cond unknown None (prepend_known buffer inner)) left_new line end
+HasLine-buffered job unknown buffer inner left_new line end first ends drops =
+    let left = cond unknown None (prepend_known buffer inner) in
+    let byte = end_byte job.is_null in
+    HasLine-of-whole-line job left left_new line end
+    (Consumes_through byte left left left_new [] line (Consumes-nil left) (All-nil (λ x. x ≢ byte))
+    (subst (Consumes left left_new) (sym first.first)
     (Consumes-buffered unknown buffer inner left_new (length line) first.within drops))
     first.lacks_end (λ _. first.ends)
-    (λ none. absurd (omega (arith, first.some, none))))
-    first.some refl
+    (λ none. absurd (omega (arith, first.some, none)))) first.some ends
 
+-- what is written of a line is a step, or a failure
 module _ (job : Job) (before : ℕ) (task task_new : Task) (left left_new : Option (List ℕ))
-    (held mid held_new : Option (List ℕ)) (err err_new : ErrorOutput) (line : List ℕ)
-    (is_return : Bool) (has : HasLine job left left_new line is_return) (kept : Keeps held mid) where
-  abbrev pub end : List ℕ
-  end = line_ending job.is_null (not job.is_null && is_return)
-
+    (held mid held_new : Option (List ℕ)) (err err_new : ErrorOutput) (line end : List ℕ)
+    (has : HasLine job left left_new line end) (kept : Keeps held mid) where
   module _ (xs : List ℕ) (known : Known) (is_left : left ≡ Some xs) where
     abbrev whole : List ℕ
     whole = take_through (end_byte job.is_null) xs
 
-    has_here : HasLine job (Some xs) left_new line is_return
-    has_here = subst (λ o. HasLine job o left_new line is_return) is_left has
-
-    same_cut : line_cut job line ≡ line_cut job whole
-    same_cut = line_cut-if-StandsFor job line whole has_here.taken.1
+    has_here : HasLine job (Some xs) left_new line end
+    has_here = subst (λ o. HasLine job o left_new line end) is_left has
 
     same_result : line_result job known line ≡ line_result job known whole
-    same_result = ap (λ (c : Cut). cut_result job known c.text) same_cut
+    same_result = ap (λ (c : Cut). cut_result job known c.text)
+        (line_cut-if-StandsFor job line whole has_here.taken.1)
 
     output_is : bytes_output job known line end
         ≡ line_output job (processed job (before + 1) known whole)
     output_is =
         bytes_output-if-StandsFor job known line whole end has_here.taken.1
-        ∙ ap (bytes_output job known whole)
-        (output-end-is-line-end job.is_null is_return whole has_here.taken.3)
+        ∙ ap (bytes_output job known whole) has_here.taken.3
+
+    first_of : {A : Type 0} (f : List ProcessedLine → A)
+        → f (processed_lines job before known (lines_of (end_byte job.is_null) xs))
+        ≡ f (processed job (before + 1) known whole ∷ lines_after_first job before known xs)
+    first_of f = ap f (processed_lines-of-first-line job before known xs has_here.taken.0)
 
     first_output : output_of job (processed_lines job before known (lines_of (end_byte job.is_null)
         xs))
         ≡ bytes_output job known line end ++ output_of job (lines_after_first job before known xs)
-    first_output =
-        ap (output_of job) (processed_lines-of-first-line job before known xs has_here.taken.0)
+    first_output = first_of (output_of job)
         ∙ ap (λ l. l ++ output_of job (lines_after_first job before known xs)) (sym output_is)
 
     first_report : errors_of job (processed_lines job before known (lines_of (end_byte job.is_null)
         xs))
         ≡ bytes_report job (before + 1) known line
         ++ errors_of job (lines_after_first job before known xs)
-    first_report =
-        ap (errors_of job) (processed_lines-of-first-line job before known xs has_here.taken.0)
+    first_report = first_of (errors_of job)
         ∙ ap (λ (l : LineResult × Known). result_report job.errors (before + 1) l.0
         ++ errors_of job (lines_after_first job before known xs)) (sym same_result)
 
@@ -226,69 +216,79 @@ module _ (job : Job) (number : ℕ) (task task_new : Task) (line end : List ℕ)
       ∙ ap (λ (c : Cut). result_report job.errors number (cut_result job known c.text).0)
       cut_is
 
-  pub WritesLineOutput-of-cut : (result : Result StepResult Cause)
+  pub writes-output-of-cut : (result : Result StepResult Cause)
       → IfOk result (WritesResult job.errors number line cut.before (result_in made)
       (cut.after ++ end) held held_new err err_new)
-      → IfOk result (WritesLineOutput job number task line end held held_new err err_new task_new)
-  WritesLineOutput-of-cut (Err cause) written = tt
-  WritesLineOutput-of-cut (Ok step) (output, reported, counts, error, last) = record {
-    written = λ known remembers.
-        let given = gives known remembers in
-        let same : cut_result job known cut.text ≡ line_result job known line =
-        ap (λ (c : Cut). cut_result job known c.text) cut_is in
-        let is : is_error (result_in made) ≡ is_error (line_result job known line).0 =
-        ap is_error given.0 ∙ ap (λ (r : LineResult × Known). is_error r.0) same in (
-          subst (Appends held held_new) (made_is known remembers) output,
-          subst (Reports err err_new) (reported_is known remembers) reported,
-          counts,
-          error ∙ is,
-          last ∙ ap (λ b. b && is_stop job.errors) is,
-          subst (λ (r : LineResult × Known). Remembers task_new job.command r.1) same given.1,
-        );
-  }
-
-  pub WritesPrefix-cut : (result : Result StepResult Cause)
       → AppendsPrefix held held_new (result_output job.errors line cut.before (result_in made)
       (cut.after ++ end))
       → ReportsPrefix err err_new (result_report job.errors number (result_in made))
-      → IfErr result (WritesOutputPrefix job number task line end held held_new err err_new)
-  WritesPrefix-cut (Ok step) prefix reported = tt
-  WritesPrefix-cut (Err cause) prefix reported = record {
-    prefix = λ known remembers. (
-      subst (AppendsPrefix held held_new) (made_is known remembers) prefix,
-      subst (ReportsPrefix err err_new) (reported_is known remembers) reported,
-    );
-  }
+      → IfOk result (WritesLineOutput job number task line end held held_new err err_new task_new)
+      × IfErr result (WritesOutputPrefix job number task line end held held_new err err_new)
+  writes-output-of-cut (Ok step) (output, shown, counts, error, last) prefix reported = (
+    record {
+      written = λ known remembers.
+          let given = gives known remembers in
+          let same : cut_result job known cut.text ≡ line_result job known line =
+          ap (λ (c : Cut). cut_result job known c.text) cut_is in
+          let is : is_error (result_in made) ≡ is_error (line_result job known line).0 =
+          ap is_error given.0 ∙ ap (λ (r : LineResult × Known). is_error r.0) same in (
+            subst (Appends held held_new) (made_is known remembers) output,
+            subst (Reports err err_new) (reported_is known remembers) shown,
+            counts,
+            error ∙ is,
+            last ∙ ap (λ b. b && is_stop job.errors) is,
+            subst (λ (r : LineResult × Known). Remembers task_new job.command r.1) same given.1,
+          );
+    },
+    tt,
+  )
+  writes-output-of-cut (Err cause) output prefix reported = (
+    tt,
+    record {
+      prefix = λ known remembers. (
+        subst (AppendsPrefix held held_new) (made_is known remembers) prefix,
+        subst (ReportsPrefix err err_new) (reported_is known remembers) reported,
+      );
+    },
+  )
 
--- what is written of a line is a step, or a failure
-module _ (job : Job) (before : ℕ) (task task_new : Task) (left left_new : Option (List ℕ))
-    (held mid held_new : Option (List ℕ)) (err err_new : ErrorOutput) (line : List ℕ)
-    (is_return : Bool) (has : HasLine job left left_new line is_return) (kept : Keeps held mid)
-    (shown : List ℕ) (shown_is : shown ≡ line_ending job.is_null (not job.is_null && is_return))
-  where
-    pub line-output-result-is-step : (result : Result StepResult Cause)
-        → IfOk result (WritesLineOutput job (before + 1) task line shown mid held_new err err_new
-        task_new)
-        → IfOk result (Steps job before task left left_new held held_new err err_new task_new)
-    line-output-result-is-step (Ok step) written =
-        line-output-is-step job before task task_new left left_new held mid held_new err err_new line
-        is_return has kept
-        step
-        (subst (λ e. WritesLineOutput job (before + 1) task line e mid held_new err err_new task_new
-        step) shown_is written)
-    line-output-result-is-step (Err cause) written = tt
-
-    pub failed-line-output-fails-step : (result : Result StepResult Cause)
-        → caused_by_input result ≡ false
-        → IfErr result (WritesOutputPrefix job (before + 1) task line shown mid held_new err err_new)
-        → IfErr result (StepFails job before task left left_new held held_new err err_new)
-    failed-line-output-fails-step (Ok step) reading prefix = tt
-    failed-line-output-fails-step (Err cause) reading prefix =
-        StepFails-in-writing job before task task_new left left_new held mid held_new err err_new line
-        is_return has
-        kept cause reading
-        (subst (λ e. WritesOutputPrefix job (before + 1) task line e mid held_new err err_new cause)
-        shown_is prefix)
+-- streams: a call is a step of a run if it writes the output of the first line that is left, or
+-- fails in that; writer_mid: before the output is written
+pub IsStepOf-of-written-line : {R W E : Type 0} (job : Job) (before : ℕ)
+    (remaining : R → Option (List ℕ)) (contents : W → Option (List ℕ))
+    (reported : E → Option (List ℕ)) (task task_new : Task) (reader reader_new : Source R)
+    (writer writer_mid writer_new : Sink W) (err err_new : Sink E) (line end : List ℕ)
+    (result : Result StepResult Cause)
+    → HasLine job (reader_remaining remaining reader.reader)
+    (reader_remaining remaining reader_new.reader) line end
+    → Keeps (contents writer.writer) (contents writer_mid.writer)
+    → reader_new.has_failed ≡ reader.has_failed → writer_mid.has_failed ≡ writer.has_failed
+    → IfOk result (WritesLineOutput job (before + 1) task line end (contents writer_mid.writer)
+    (contents writer_new.writer) (error_output_of reported err) (error_output_of reported err_new)
+    task_new)
+    → IfErr result (WritesOutputPrefix job (before + 1) task line end (contents writer_mid.writer)
+    (contents writer_new.writer) (error_output_of reported err) (error_output_of reported err_new))
+    → FailsInWriting result writer_mid writer_new
+    → IsStepOf job before remaining contents reported task task_new reader reader_new writer
+    writer_new err err_new result
+IsStepOf-of-written-line job before remaining contents reported task task_new reader reader_new
+    writer writer_mid writer_new err err_new line end (Ok step) has kept same same' written prefix
+    failures = record {
+      steps = line-output-is-step job before task task_new _ _ _ _ _ _ _ line end has kept step
+          written;
+      fails = tt;
+      failures = KeepsFailures-in-writing (Ok step) reader reader_new writer writer_mid writer_new
+          same same' failures;
+    }
+IsStepOf-of-written-line job before remaining contents reported task task_new reader reader_new
+    writer writer_mid writer_new err err_new line end (Err cause) has kept same same' written prefix
+    failures = record {
+      steps = tt;
+      fails = StepFails-in-writing job before task task_new _ _ _ _ _ _ _ line end has kept cause
+          failures.reading prefix;
+      failures = KeepsFailures-in-writing (Err cause) reader reader_new writer writer_mid writer_new
+          same same' failures;
+    }
 
 -- streams: a step fails if reading its line does, and leaves what the writer held and the error
 -- output

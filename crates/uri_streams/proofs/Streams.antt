@@ -1,22 +1,22 @@
 -- The first line is taken, and its output is written.
 use Rattle.std.proofs.Common.{◌≡◌, ◌+◌, ◌-◌, ◌^◌, ◌<◌, ◌≤◌, ◌++◌, ℕ, Bool, true, false, cond, eqb}
 use Rattle.std.proofs.Common.{List, [], ◌∷◌, refl, ap, sym, ◌∙◌, subst, append_assoc, length}
-use Rattle.std.proofs.Common.{length-append, Option, Some, None, arith, ⊎_elim}
-use Rattle.std.proofs.Common.{true≢false, min}
+use Rattle.std.proofs.Common.{length-append, Option, Some, None, arith, ◌⊎◌, ⊎_elim, true≢false}
+use Rattle.std.proofs.Common.{min, zero-add}
+use Rattle.std.specs.List.{flat_map}
 use Rattle.std.specs.Prelude.{if◌then◌else◌}
 use Rattle.std.proofs.lemmas.List.{append-nil}
 use Rattle.std.proofs.lemmas.List.Concat.{flat_map-append}
 use Rattle.std.proofs.lemmas.List.Sums.{sum_by-append}
 use Rattle.std.specs.Io.BufRead.{take_through, drop_through}
-use Rattle.std.specs.Io.KnownBytes.{Appends, Keeps}
+use Rattle.std.specs.Io.KnownBytes.{Appends}
 use Rattle.std.proofs.KnownBytes.{Appends-nil, Appends-trans, Appends-kept}
 use Rattle.uri_streams.specs.Lines.{end_byte, lines_of, prepend_to_first_line}
 use Rattle.uri_streams.specs.Outputs.{ProcessedLine, processed, processed_lines, processed_in}
 use Rattle.uri_streams.specs.Outputs.{error_count, errors_of, line_report, tallies_of}
 use Rattle.uri_streams.specs.Outputs.{is_error, is_last, line_result, line_output, output_of}
 use Rattle.uri_streams.specs.Runs.{ErrorOutput, Reports, Sees, WritesOutput}
-use Rattle.uri_streams.specs.Models.{FindsEnd, HasWrittenSoFar, WritesLine}
-use Rattle.uri_streams.specs.Models.{Steps}
+use Rattle.uri_streams.specs.Models.{FindsEnd, HasWrittenSoFar, ProcessedSoFar, Steps, WritesLine}
 use Rattle.uri_streams.specs.Tasks.{Known, Remembers}
 use Rattle.uri_streams.specs.declared.job.Job.{Job}
 use Rattle.uri_streams.specs.declared.output.StepResult.{StepResult}
@@ -69,184 +69,193 @@ module _ (job : Job) where
   unfolding processed_lines
   processed_lines-of-nothing before known = refl
 
-  lines_after_first-unless-last : (before : ℕ) (known : Known) (xs : List ℕ)
+  lines_after_first-by : (before : ℕ) (known : Known) (xs : List ℕ) (b : Bool)
       → is_last job (processed job (before + 1) known (take_through (end_byte job.is_null) xs))
-      ≡ false → lines_after_first before known xs
-      ≡ processed_lines job (before + 1)
+      ≡ b → lines_after_first before known xs
+      ≡ (if b then [] else processed_lines job (before + 1)
       (line_result job known (take_through (end_byte job.is_null) xs)).1
-      (lines_of (end_byte job.is_null) (drop_through (end_byte job.is_null) xs))
-  lines_after_first-unless-last before known xs is =
+      (lines_of (end_byte job.is_null) (drop_through (end_byte job.is_null) xs)))
+  lines_after_first-by before known xs b is =
       ap (λ b. if b then [] else processed_lines job (before + 1)
       (line_result job known (take_through (end_byte job.is_null) xs)).1
       (lines_of (end_byte job.is_null) (drop_through (end_byte job.is_null) xs))) is
 
-  lines_after_first-of-last : (before : ℕ) (known : Known) (xs : List ℕ)
-      → is_last job (processed job (before + 1) known (take_through (end_byte job.is_null) xs))
-      ≡ true → lines_after_first before known xs ≡ []
-  lines_after_first-of-last before known xs is =
-      ap (λ b. if b then [] else processed_lines job (before + 1)
-      (line_result job known (take_through (end_byte job.is_null) xs)).1
-      (lines_of (end_byte job.is_null) (drop_through (end_byte job.is_null) xs))) is
+-- streams: what is written or reported of one line more is after that of the others
+of-one-more-line : (f : ProcessedLine → List ℕ) (lines : List ProcessedLine) (line : ProcessedLine)
+    → flat_map f (lines ++ line ∷ []) ≡ flat_map f lines ++ f line
+of-one-more-line f lines line = flat_map-append f lines (line ∷ [])
+    ∙ ap (λ l. flat_map f lines ++ l) (append-nil (f line))
 
-  -- one line more was written
-  output_of-one-more-line : (lines : List ProcessedLine) (line : ProcessedLine)
-      → output_of job (lines ++ line ∷ []) ≡ output_of job lines ++ line_output job line
-  output_of-one-more-line lines line =
-      flat_map-append (line_output job) lines (line ∷ [])
-      ∙ ap (λ l. output_of job lines ++ l) (append-nil (line_output job line))
+-- streams: one line more is counted if it is an error
+error_count-of-one-more-line : (lines : List ProcessedLine) (line : ProcessedLine)
+    → error_count (lines ++ line ∷ [])
+    ≡ error_count lines + (if is_error line.result then 1 else 0)
+error_count-of-one-more-line lines line =
+    sum_by-append (λ l. cond (is_error l.result) 1 0) lines (line ∷ [])
+    ∙ ap (λ n. error_count lines + n) (zero-add (if is_error line.result then 1 else 0))
 
-  errors_of-one-more-line : (lines : List ProcessedLine) (line : ProcessedLine)
-      → errors_of job (lines ++ line ∷ []) ≡ errors_of job lines ++ line_report job line
-  errors_of-one-more-line lines line =
-      flat_map-append (line_report job) lines (line ∷ [])
-      ∙ ap (λ l. errors_of job lines ++ l) (append-nil (line_report job line))
-
-  none_before : (n : ℕ) → 0 + n ≡ n
-  none_before n = omega arith
-
-  error_count-of-one-more-line : (lines : List ProcessedLine) (line : ProcessedLine)
-      → error_count (lines ++ line ∷ [])
-      ≡ error_count lines + (if is_error line.result then 1 else 0)
-  error_count-of-one-more-line lines line =
-      sum_by-append (λ l. cond (is_error l.result) 1 0) lines (line ∷ [])
-      ∙ ap (λ n. error_count lines + n) (none_before (if is_error line.result then 1 else 0))
-
-  module _ (number : ℕ) (task : Task) (xs : List ℕ) (b c h i j : Option (List ℕ))
-      (d e f : ErrorOutput) (s t u : Option (List Tally)) (task_new : Task) (tally tally_new : Tally) (step : StepResult) (fits : number < 2 ^ 64 - 1)
-      (lines_new : tally_new.lines ≡ min (tally.lines + (if step.is_line then 1 else 0))
-      (2 ^ 64 - 1))
-      (errors_new : tally_new.errors ≡ min (tally.errors + (if step.is_error then 1 else 0))
-      (2 ^ 64 - 1))
-      (lines : List ProcessedLine) (known : Known) (rest : List ℕ) (left : b ≡ Some rest)
-      (held : Appends h i (output_of job lines))
-      (whole : processed_in job xs
-      ≡ lines ++ processed_lines job number known (lines_of (end_byte job.is_null) rest))
-      (remembers : Remembers task job.command known) (count : length lines ≡ number)
-      (count_is : tally.lines ≡ number) (errors_are : tally.errors ≡ error_count lines)
-      (few : tally.errors ≤ number) (reported : Reports d e (errors_of job lines))
-      (saw : Sees s t (tallies_of lines))
-      (looks : Sees t u (if step.is_line then tally_new ∷ [] else [])) where
+-- streams: a step of a run; b, c: what is left to read before and after it; h, i, j: what the
+-- writer holds, d, e, f: the error output, s, t, u: what the observer saw, when the run begins,
+-- before the step and after it
+module _ (job : Job) (number : ℕ) (task task_new : Task) (b c h i j : Option (List ℕ))
+    (d e f : ErrorOutput) (s t u : Option (List Tally)) (tally tally_new : Tally)
+    (step : StepResult) (fits : number < 2 ^ 64 - 1)
+    (lines_new : tally_new.lines
+    ≡ min (tally.lines + (if step.is_line then 1 else 0)) (2 ^ 64 - 1))
+    (errors_new : tally_new.errors
+    ≡ min (tally.errors + (if step.is_error then 1 else 0)) (2 ^ 64 - 1))
+    (looks : Sees t u (if step.is_line then tally_new ∷ [] else [])) where
+  module _ (xs : List ℕ) (so : ProcessedSoFar job number task xs b h i d e s t tally) where
     abbrev first : List ℕ
-    first = take_through (end_byte job.is_null) rest
+    first = take_through (end_byte job.is_null) so.rest
 
     abbrev line : ProcessedLine
-    line = processed job (number + 1) known first
+    line = processed job (number + 1) so.known first
 
-    module _ (is : WritesLine job number known rest c i j e f task_new step) where
+    abbrev lines : List ProcessedLine
+    lines = so.lines ++ line ∷ []
+
+    module _ (is : WritesLine job number so.known so.rest c i j e f task_new step) where
       lines_are : tally_new.lines ≡ number + 1
       lines_are =
           let e = lines_new ∙ ap (λ y. min (tally.lines + (if y then 1 else 0)) (2 ^ 64 - 1))
           is.3 in
-          omega (arith, e, count_is, fits)
+          omega (arith, e, so.lines_counted, fits)
 
       one : (y : Bool) → (if y then 1 else 0) ≤ 1
       one true = omega arith
       one false = omega arith
 
       errors_here : tally_new.errors ≡ tally.errors + (if step.is_error then 1 else 0)
-      errors_here = omega (arith, errors_new, one step.is_error, few, fits)
+      errors_here = omega (arith, errors_new, one step.is_error, so.few_errors, fits)
 
-      errors_so_far : tally_new.errors ≡ error_count (lines ++ line ∷ [])
+      errors_so_far : tally_new.errors
+          ≡ error_count so.lines + (if is_error line.result then 1 else 0)
       errors_so_far =
-          errors_here ∙ ap (λ n. n + (if step.is_error then 1 else 0)) errors_are
-          ∙ ap (λ y. error_count lines + (if y then 1 else 0)) is.4
-          ∙ sym (error_count-of-one-more-line lines line)
+          errors_here ∙ ap (λ n. n + (if step.is_error then 1 else 0)) so.errors_counted
+          ∙ ap (λ y. error_count so.lines + (if y then 1 else 0)) is.4
 
-      few_new : tally_new.errors ≤ number + 1
-      few_new = omega (arith, errors_here, one step.is_error, few)
+      errors_are : tally_new.errors ≡ error_count lines
+      errors_are = errors_so_far ∙ sym (error_count-of-one-more-line so.lines line)
 
-      count_new : length (lines ++ line ∷ []) ≡ number + 1
-      count_new = omega (arith, length-append lines (line ∷ []), count)
+      count_new : length lines ≡ number + 1
+      count_new = omega (arith, length-append so.lines (line ∷ []), so.count)
 
-      reported_new : Reports d f (errors_of job (lines ++ line ∷ []))
+      reported_new : Reports d f (errors_of job lines)
       reported_new =
-          subst (Reports d f) (sym (errors_of-one-more-line lines line))
-          (Reports-after-Reports d e f (errors_of job lines) (line_report job line) reported is.7)
+          subst (Reports d f) (sym (of-one-more-line (line_report job) so.lines line))
+          (Reports-after-Reports d e f (errors_of job so.lines) (line_report job line) so.reported
+          is.7)
 
-      saw_new : Sees s u (tallies_of (lines ++ line ∷ []))
+      saw_new : Sees s u (tallies_of lines)
       saw_new =
-          subst (Sees s u) (sym (tallies_of-one-more lines line tally_new
-          (lines_are ∙ ap (λ n. n + 1) (sym count))
-          (errors_here ∙ ap (λ n. n + (if step.is_error then 1 else 0)) errors_are
-          ∙ ap (λ y. error_count lines + (if y then 1 else 0)) is.4)))
-          (Sees-after-Sees s t u (tallies_of lines) (tally_new ∷ []) saw
+          subst (Sees s u) (sym (tallies_of-one-more so.lines line tally_new
+          (lines_are ∙ ap (λ n. n + 1) (sym so.count)) errors_so_far))
+          (Sees-after-Sees s t u (tallies_of so.lines) (tally_new ∷ []) so.saw
           (subst (λ (y : Bool). Sees t u (if y then tally_new ∷ [] else [])) is.3 looks))
 
-      held_new : Appends h j (output_of job (lines ++ line ∷ []))
-      held_new =
-          subst (Appends h j) (sym (output_of-one-more-line lines line))
-          (Appends-trans h i j (output_of job lines) (line_output job line) held is.2)
+      written_new : Appends h j (output_of job lines)
+      written_new =
+          subst (Appends h j) (sym (of-one-more-line (line_output job) so.lines line))
+          (Appends-trans h i j (output_of job so.lines) (line_output job line) so.written is.2)
 
-      whole_new : processed_in job xs ≡ (lines ++ line ∷ []) ++ lines_after_first number known rest
+      whole_new : processed_in job xs ≡ lines ++ lines_after_first job number so.known so.rest
       whole_new =
-          whole ∙ ap (λ l. lines ++ l) (processed_lines-of-first-line number known rest is.0)
-          ∙ sym (append_assoc lines (line ∷ []) (lines_after_first number known rest))
+          so.whole
+          ∙ ap (λ l. so.lines ++ l) (processed_lines-of-first-line job number so.known so.rest is.0)
+          ∙ sym (append_assoc so.lines (line ∷ [])
+          (lines_after_first job number so.known so.rest))
 
-      so_far : step.is_last ≡ false → HasWrittenSoFar job (number + 1) task_new
-          (Some xs) c h j d f s u tally_new
+      so_far : step.is_last ≡ false
+          → ProcessedSoFar job (number + 1) task_new xs c h j d f s u tally_new
       so_far more = record {
-        so_far = (
-          lines ++ line ∷ [],
-          (line_result job known first).1,
-          drop_through (end_byte job.is_null) rest,
-          is.1,
-          held_new,
-          whole_new ∙ ap (λ l. (lines ++ line ∷ []) ++ l)
-              (lines_after_first-unless-last number known rest (sym is.5 ∙ more)),
-          is.6,
-          count_new,
-          lines_are,
-          errors_so_far,
-          few_new,
-          reported_new,
-          saw_new,
-        );
+        lines = lines;
+        known = (line_result job so.known first).1;
+        rest = drop_through (end_byte job.is_null) so.rest;
+        left_is = is.1;
+        written = written_new;
+        whole = whole_new ∙ ap (λ l. lines ++ l)
+            (lines_after_first-by job number so.known so.rest false (sym is.5 ∙ more));
+        remembers = is.6;
+        count = count_new;
+        lines_counted = lines_are;
+        errors_counted = errors_are;
+        few_errors = omega (arith, errors_here, one step.is_error, so.few_errors);
+        reported = reported_new;
+        saw = saw_new;
       }
 
       last : step.is_last ≡ true → WritesOutput job (Some xs) h j d f s u tally_new
       last ends =
-          let all : processed_in job xs ≡ lines ++ line ∷ [] =
-          whole_new ∙ ap (λ l. (lines ++ line ∷ []) ++ l)
-          (lines_after_first-of-last number known rest (sym is.5 ∙
-          ends))
-          ∙ append-nil (lines ++ line ∷ []) in (
-            subst (λ l. Appends h j (output_of job l)) (sym all) held_new,
+          let all : processed_in job xs ≡ lines =
+          whole_new ∙ ap (λ l. lines ++ l)
+          (lines_after_first-by job number so.known so.rest true (sym is.5 ∙ ends))
+          ∙ append-nil lines in (
+            subst (λ l. Appends h j (output_of job l)) (sym all) written_new,
             subst (λ l. Reports d f (errors_of job l)) (sym all) reported_new,
             subst (λ l. Sees s u (tallies_of l)) (sym all) saw_new,
             lines_are ∙ sym (ap length all ∙ count_new),
-            errors_so_far ∙ sym (ap error_count all),
+            errors_are ∙ sym (ap error_count all),
           )
 
-    at_end : FindsEnd rest i j e f step → WritesOutput job (Some xs) h j d f s u tally_new
+    at_end : FindsEnd so.rest i j e f step → WritesOutput job (Some xs) h j d f s u tally_new
     at_end is =
-        let all : processed_in job xs ≡ lines =
-        whole ∙ ap (λ l. lines ++ processed_lines job number known (lines_of (end_byte job.is_null)
-        l)) is.0
-        ∙ ap (λ l. lines ++ l) (processed_lines-of-nothing number known) ∙ append-nil lines in
-        let same_lines = lines_new ∙ ap (λ y. min (tally.lines + (if y then 1 else 0)) (2 ^ 64 -
-        1)) is.2 in
-        let same_errors = errors_new ∙ ap (λ y. min (tally.errors + (if y then 1 else 0)) (2 ^ 64 -
-        1)) is.3 in
-        let lines_are : tally_new.lines ≡ length lines = omega (
-          arith,
-          same_lines,
-          count_is,
-          count,
-          fits,
-        ) in
-        let errors_same : tally_new.errors
-        ≡ tally.errors = omega (arith, same_errors, few, fits) in (
-          subst (λ l. Appends h j (output_of job l)) (sym all) (Appends-kept h i j (output_of job
-              lines) held is.1),
+        let all : processed_in job xs ≡ so.lines =
+        so.whole
+        ∙ ap (λ l. so.lines ++ processed_lines job number so.known
+        (lines_of (end_byte job.is_null) l)) is.0
+        ∙ ap (λ l. so.lines ++ l) (processed_lines-of-nothing job number so.known)
+        ∙ append-nil so.lines in
+        let same_lines = lines_new
+        ∙ ap (λ y. min (tally.lines + (if y then 1 else 0)) (2 ^ 64 - 1)) is.2 in
+        let same_errors = errors_new
+        ∙ ap (λ y. min (tally.errors + (if y then 1 else 0)) (2 ^ 64 - 1)) is.3 in
+        let lines_are : tally_new.lines ≡ length so.lines =
+        omega (arith, same_lines, so.lines_counted, so.count, fits) in
+        let errors_same : tally_new.errors ≡ tally.errors =
+        omega (arith, same_errors, so.few_errors, fits) in (
+          subst (λ l. Appends h j (output_of job l)) (sym all)
+              (Appends-kept h i j (output_of job so.lines) so.written is.1),
           subst (λ l. Reports d f (errors_of job l)) (sym all)
-              (Reports-then-nothing d e f (errors_of job lines) reported is.5),
+              (Reports-then-nothing d e f (errors_of job so.lines) so.reported is.5),
           subst (λ l. Sees s u (tallies_of l)) (sym all)
-              (subst (Sees s u) (append-nil (tallies_of lines))
-              (Sees-after-Sees s t u (tallies_of lines) [] saw
+              (subst (Sees s u) (append-nil (tallies_of so.lines))
+              (Sees-after-Sees s t u (tallies_of so.lines) [] so.saw
               (subst (λ (y : Bool). Sees t u (if y then tally_new ∷ [] else [])) is.2 looks))),
           lines_are ∙ sym (ap length all),
-          errors_same ∙ errors_are ∙ sym (ap error_count all),
+          errors_same ∙ so.errors_counted ∙ sym (ap error_count all),
         )
+
+    stepped : Steps job number task b c i j e f task_new step
+        → WritesLine job number so.known so.rest c i j e f task_new step
+        ⊎ FindsEnd so.rest i j e f step
+    stepped st =
+        let here = subst (λ o. Steps job number task o c i j e f task_new step) so.left_is st in
+        here.stepped so.known so.remembers
+
+  -- streams: after a step that is not the last, one line more has been written and tallied; a: what
+  -- was left to read at the beginning
+  pub HasWrittenSoFar-after-step : (a : Option (List ℕ))
+      → HasWrittenSoFar job number task a b h i d e s t tally
+      → Steps job number task b c i j e f task_new step → step.is_last ≡ false
+      → HasWrittenSoFar job (number + 1) task_new a c h j d f s u tally_new
+  HasWrittenSoFar-after-step None so st more = record { so_far = tt }
+  HasWrittenSoFar-after-step (Some xs) so st more = record {
+    so_far = ⊎_elim (λ (is : WritesLine job number so.so_far.known so.so_far.rest c i j e f task_new
+        step). so_far xs so.so_far is more)
+        (λ (is : FindsEnd so.so_far.rest i j e f step). absurd (true≢false (sym is.4 ∙ more)))
+        (stepped xs so.so_far st);
+  }
+
+  -- streams: after the last step the whole output is written
+  pub HasWrittenSoFar-then-last-step : (a : Option (List ℕ))
+      → HasWrittenSoFar job number task a b h i d e s t tally
+      → Steps job number task b c i j e f task_new step → step.is_last ≡ true
+      → WritesOutput job a h j d f s u tally_new
+  HasWrittenSoFar-then-last-step None so st ends = tt
+  HasWrittenSoFar-then-last-step (Some xs) so st ends =
+      ⊎_elim (λ (is : WritesLine job number so.so_far.known so.so_far.rest c i j e f task_new step).
+      last xs so.so_far is ends) (at_end xs so.so_far) (stepped xs so.so_far st)
 
 -- streams: at first nothing has been read or written, and the tally is zero; a, h: what is left to
 -- read, what the writer holds, d, s: the error output, what the observer saw
@@ -257,112 +266,19 @@ pub HasWrittenSoFar-at-start : (job : Job) (task : Task) (a h : Option (List ℕ
 HasWrittenSoFar-at-start job task None h d s tally remembers lines errors =
     record { so_far = tt }
 HasWrittenSoFar-at-start job task (Some xs) h d s tally remembers lines errors = record {
-  so_far = (
-    [],
-    [],
-    xs,
-    refl,
-    Appends-nil h,
-    refl,
-    remembers,
-    refl,
-    lines,
-    errors,
-    omega (arith, errors),
-    Reports-nothing d,
-    Sees-nothing s,
-  );
+  so_far = record {
+    lines = [];
+    known = [];
+    rest = xs;
+    left_is = refl;
+    written = Appends-nil h;
+    whole = refl;
+    remembers = remembers;
+    count = refl;
+    lines_counted = lines;
+    errors_counted = errors;
+    few_errors = omega (arith, errors);
+    reported = Reports-nothing d;
+    saw = Sees-nothing s;
+  };
 }
-
--- streams: after a step that is not the last, one line more has been written and tallied;
--- a, b, c: what is left to read, h, i, j: what the writer holds, d, e, f: the error output,
--- s, t, u: what the observer saw
-pub HasWrittenSoFar-after-step : (job : Job) (number : ℕ) (task task_new : Task)
-    (a b c h i j : Option (List ℕ)) (d e f : ErrorOutput) (s t u : Option (List Tally))
-    (tally tally_new : Tally) (step : StepResult) → number < 2 ^ 64 - 1
-    → tally_new.lines ≡ min (tally.lines + (if step.is_line then 1 else 0)) (2 ^ 64 - 1)
-    → tally_new.errors ≡ min (tally.errors + (if step.is_error then 1 else 0)) (2 ^ 64 - 1)
-    → Sees t u (if step.is_line then tally_new ∷ [] else [])
-    → HasWrittenSoFar job number task a b h i d e s t tally
-    → Steps job number task b c i j e f task_new step
-    → step.is_last ≡ false → HasWrittenSoFar job (number + 1) task_new a c h j d f s u tally_new
-HasWrittenSoFar-after-step job number task task_new None b c h i j d e f s t u tally tally_new step
-    fits ln en looks so st more = record { so_far = tt }
-HasWrittenSoFar-after-step job number task task_new (Some xs) b c h i j d e f s t u tally tally_new
-    step fits ln en looks so st more =
-    let (
-      lines,
-      known,
-      rest,
-      left,
-      held,
-      whole,
-      remembers,
-      count,
-      lines_are,
-      errors_are,
-      few,
-      reported,
-      saw,
-    ) = so.so_far in
-    let stepped = (subst (λ o. Steps job number task o c i j e f task_new step) left st).stepped
-    known remembers in
-    ⊎_elim (λ (is : WritesLine job number known rest c i j e f task_new step).
-    so_far job number task xs b c h i j d e f s t u task_new tally tally_new step fits ln en lines
-    known rest left held whole remembers count lines_are errors_are few reported saw looks is more)
-    (λ (is : FindsEnd rest i j e f step). absurd (true≢false (sym is.4 ∙ more)))
-    stepped
-
--- streams: after the last step the whole output is written; a, b, c: what is left to read, h,
--- i, j: what the writer holds, d, e, f: the error output, s, t, u: what the observer saw
-pub HasWrittenSoFar-then-last-step : (job : Job) (number : ℕ) (task task_new : Task)
-    (a b c h i j : Option (List ℕ)) (d e f : ErrorOutput) (s t u : Option (List Tally))
-    (tally tally_new : Tally) (step : StepResult) → number < 2 ^ 64 - 1
-    → tally_new.lines ≡ min (tally.lines + (if step.is_line then 1 else 0)) (2 ^ 64 - 1)
-    → tally_new.errors ≡ min (tally.errors + (if step.is_error then 1 else 0)) (2 ^ 64 - 1)
-    → Sees t u (if step.is_line then tally_new ∷ [] else [])
-    → HasWrittenSoFar job number task a b h i d e s t tally
-    → Steps job number task b c i j e f task_new step
-    → step.is_last ≡ true → WritesOutput job a h j d f s u tally_new
-HasWrittenSoFar-then-last-step job number task task_new None b c h i j d e f s t u tally tally_new
-    step fits ln en looks so st ends = tt
-HasWrittenSoFar-then-last-step job number task task_new (Some xs) b c h i j d e f s t u tally
-    tally_new step fits ln en looks so st ends =
-    let (
-      lines,
-      known,
-      rest,
-      left,
-      held,
-      whole,
-      remembers,
-      count,
-      lines_are,
-      errors_are,
-      few,
-      reported,
-      saw,
-    ) = so.so_far in
-    let stepped = (subst (λ o. Steps job number task o c i j e f task_new step) left st).stepped
-    known remembers in
-    ⊎_elim (λ (is : WritesLine job number known rest c i j e f task_new step).
-    last job number task xs b c h i j d e f s t u task_new tally tally_new step fits ln en lines
-    known rest left held whole remembers count lines_are errors_are few reported saw looks is ends)
-    (λ (is : FindsEnd rest i j e f step).
-    at_end job number task xs b c h i j d e f s t u task_new tally tally_new step fits ln en lines
-    known rest left held whole remembers count lines_are errors_are few reported saw looks is)
-    stepped
-
--- streams: output that is written stays so where the writer keeps what it holds (i, j);
--- d, e: the error output, s, t: what the observer saw
-pub WritesOutput-kept : (job : Job) (a h i j : Option (List ℕ)) (d e : ErrorOutput)
-    (s t : Option (List Tally)) (tally : Tally)
-    → WritesOutput job a h i d e s t tally → Keeps i j → WritesOutput job a h j d e s t tally
-WritesOutput-kept job None h i j d e s t tally output kept = tt
-WritesOutput-kept job (Some xs) h i j d e s t tally output kept = (
-  Appends-kept h i j (output_of job (processed_in job xs)) output.0 kept,
-  output.1,
-  output.2,
-  output.3,
-  output.4,
-)

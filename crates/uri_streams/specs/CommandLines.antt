@@ -1,7 +1,6 @@
 -- The job that a command line of `urilines` asks for.
-use Rattle.std.specs.Prelude.{◌≡◌, ◌<◌, ◌-◌, ◌⊎◌, ℕ, Bool, true, false, List, [], ◌∷◌}
-use Rattle.std.specs.Prelude.{◌||◌, ◌==◌, codes, nat_lt, Option, Some, None, option_map}
-use Rattle.std.specs.Prelude.{unwrap_or}
+use Rattle.std.specs.Prelude.{◌≡◌, ◌<◌, ◌-◌, ◌⊎◌, ℕ, Bool, true, false, List, [], ◌∷◌, ◌||◌, ◌==◌}
+use Rattle.std.specs.Prelude.{codes, nat_lt, Option, Some, None, option_map, unwrap_or}
 use Rattle.std.specs.Borrow.{Bor}
 use Rattle.std.specs.declared.hash.RandomState.{RandomState}
 use Rattle.uri_parts.specs.Fragments.{IsWithFragment}

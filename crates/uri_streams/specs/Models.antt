@@ -1,7 +1,8 @@
 -- What private functions say of a run on its way.
 use Rattle.std.specs.Prelude.{◌≡◌, ◌≢◌, ◌<◌, ◌≤◌, ◌+◌, ◌⊎◌, ℕ, List, [], ◌++◌, length, take, All}
-use Rattle.std.specs.Prelude.{Bool, true, false, Option, Some, IfSome, ◌&&◌, ◌-◌, slice_index}
-use Rattle.std.specs.Prelude.{◌||◌, IfErr, IfOk, Result}
+use Rattle.std.specs.Prelude.{Bool, true, false, Option, Some, IfSome, ◌&&◌, ◌-◌, slice_index, ◌||◌}
+use Rattle.std.specs.Prelude.{IfErr, IfOk, IsTrue, Result}
+use Rattle.std.specs.Str.{IsAscii}
 use Rattle.std.specs.Io.{StopsAt}
 use Rattle.std.specs.Io.BufRead.{take_through, drop_through}
 use Rattle.std.specs.Io.Buffered.{reader_buffer, reader_remaining}
@@ -11,10 +12,9 @@ use Rattle.uri_commands.specs.Prefixes.{AppendsPrefix}
 use Rattle.uri_commands.specs.Sinks.{KeepsFinalError}
 use Rattle.uri_commands.specs.declared.sink.Sink.{Sink}
 use Rattle.uri_streams.specs.Causes.{caused_by_input, caused_by_output, is_input_cause}
-use Rattle.uri_streams.specs.Lines.{end_byte, ends_with_return, lines_of}
+use Rattle.uri_streams.specs.Lines.{end_byte, ends_with_return, line_text, lines_of}
 use Rattle.uri_streams.specs.Outputs.{ProcessedLine, error_count, is_error, is_last, is_stop}
-use Rattle.uri_streams.specs.Outputs.{line_cut}
-use Rattle.uri_streams.specs.Outputs.{line_output, line_result, output_of, processed}
+use Rattle.uri_streams.specs.Outputs.{line_cut, line_output, line_result, output_of, processed}
 use Rattle.uri_streams.specs.Outputs.{errors_of, processed_in, processed_lines, result_output}
 use Rattle.uri_streams.specs.Outputs.{line_report, result_report, tallies_of}
 use Rattle.uri_streams.specs.Results.{LineResult}
@@ -22,6 +22,7 @@ use Rattle.uri_streams.specs.Runs.{ErrorOutput, Reports, ReportsPrefix, Sees, er
 use Rattle.uri_streams.specs.Tasks.{Known, Remembers}
 use Rattle.uri_streams.specs.declared.failure.Cause.{Cause}
 use Rattle.uri_streams.specs.declared.job.Job.{Job}
+use Rattle.uri_streams.specs.declared.line_ends.Line.{Line}
 use Rattle.uri_streams.specs.declared.job.OnError.{OnError}
 use Rattle.uri_streams.specs.declared.output.StepResult.{StepResult}
 use Rattle.uri_streams.specs.declared.run.Tally.{Tally}
@@ -48,6 +49,12 @@ pub record IsBufferedLine (end : ℕ) (buffer line : List ℕ) : Type 0 where
   pub some : 0 < length line
   pub lacks_end : StopsAt line end
   pub ends : slice_index line (length line - 1) ≡ end
+
+-- the text of a line is its bytes without what ends it, and is ASCII if that is known; the Bool is
+-- whether NUL ends lines
+pub record IsCutLine (is_null : Bool) (line : Line) : Type 0 where
+  pub text : line.text.now ≡ line_text is_null line.bytes.now
+  pub ascii : IsTrue line.is_ascii → IsAscii line.text.now
 
 -- a reader fails within a line: what is left to read, before and after, loses a part of the first
 -- line, without the byte `end` that ends it
@@ -158,6 +165,14 @@ pub record KeepsFailures {T R W : Type 0} (result : Result T Cause) (reader read
   pub read_error : caused_by_input result ≡ true → KeepsFinalError reader_new.error
   pub write_error : caused_by_output result ≡ true → KeepsFinalError writer_new.error
 
+-- A call of a run fails in nothing but writing, as its result says, and the writer keeps the error.
+-- The writer is given before and after (`_new`).
+pub record FailsInWriting {T W : Type 0} (result : Result T Cause) (writer writer_new : Sink W)
+    : Type 0 where
+  pub reading : caused_by_input result ≡ false
+  pub writing : writer_new.has_failed ≡ (caused_by_output result || writer.has_failed)
+  pub write_error : caused_by_output result ≡ true → KeepsFinalError writer_new.error
+
 -- A call is a step of a run: it succeeds or fails as one, and keeps its failures.
 -- The functions tell what is left to read, and what the writers hold. `before`: how many lines came
 -- before; `task`, `reader`, `writer`, `err`: before and after (`_new`).
@@ -175,18 +190,33 @@ pub record IsStepOf {R W E : Type 0} (job : Job) (before : ℕ) (remaining : R �
       (error_output_of reported err_new))
   pub failures : KeepsFailures result reader reader_new writer writer_new
 
--- In the middle of a run: what was written is the output for the lines that were processed, and
--- what is left to read comes after these.
--- `left`, `held`, `err`, `seen`: what is left to read, what the writer holds, the error output, and
--- the tallies that the observer saw, at the beginning and now (`_new`); `number`: how many lines
+-- In the middle of a run over the input `xs`: what was written is the output for the lines that
+-- were processed, and what is left to read comes after these.
+-- `held`, `err`, `seen`: what the writer holds, the error output, and the tallies that the observer
+-- saw, at the beginning and now (`_new`); `left`: what is left to read; `number`: how many lines
 -- were processed.
+pub record ProcessedSoFar (job : Job) (number : ℕ) (task : Task) (xs : List ℕ)
+    (left held held_new : Option (List ℕ)) (err err_new : ErrorOutput)
+    (seen seen_new : Option (List Tally)) (tally : Tally) : Type 0 where
+  pub lines : List ProcessedLine
+  pub known : Known
+  pub rest : List ℕ
+  pub left_is : left ≡ Some rest
+  pub written : Appends held held_new (output_of job lines)
+  pub whole : processed_in job xs
+      ≡ lines ++ processed_lines job number known (lines_of (end_byte job.is_null) rest)
+  pub remembers : Remembers task job.command known
+  pub count : length lines ≡ number
+  pub lines_counted : tally.lines ≡ number
+  pub errors_counted : tally.errors ≡ error_count lines
+  pub few_errors : tally.errors ≤ number
+  pub reported : Reports err err_new (errors_of job lines)
+  pub saw : Sees seen seen_new (tallies_of lines)
+
+-- in the middle of a run, if its input is known; `left`: what is left to read, at the beginning and
+-- now (`_new`)
 pub record HasWrittenSoFar (job : Job) (number : ℕ) (task : Task)
     (left left_new held held_new : Option (List ℕ)) (err err_new : ErrorOutput)
     (seen seen_new : Option (List Tally)) (tally : Tally) : Type 0 where
-  pub so_far : IfSome left (λ xs. (lines : List ProcessedLine) × (known : Known)
-      × (rest : List ℕ) × (left_new ≡ Some rest) × Appends held held_new (output_of job lines)
-      × (processed_in job xs
-      ≡ lines ++ processed_lines job number known (lines_of (end_byte job.is_null) rest))
-      × Remembers task job.command known × (length lines ≡ number) × (tally.lines ≡ number)
-      × (tally.errors ≡ error_count lines) × (tally.errors ≤ number)
-      × Reports err err_new (errors_of job lines) × Sees seen seen_new (tallies_of lines))
+  pub so_far : IfSome left (λ xs. ProcessedSoFar job number task xs left_new held held_new err
+      err_new seen seen_new tally)

@@ -1,17 +1,13 @@
 //! What a command gets of a line: its text, or one of its fields.
-ghost use Rattle.std.specs.Prelude.{◌≡◌, ◌+◌, ◌≤◌, IfSome, MatchOption, None, Ok, Some, drop};
-ghost use Rattle.std.specs.Prelude.{length, slice_get, slice_range};
-ghost use Rattle.std.specs.Str.{IsAscii};
+ghost use Rattle.std.specs.Prelude.{◌≡◌, ◌+◌, ◌≤◌, MatchOption, None, Some, drop, length};
+ghost use Rattle.std.specs.Prelude.{slice_get, slice_range};
 ghost use Rattle.uri_streams.specs.Fields as spec;
-ghost use Rattle.uri_streams.specs.Fields.{IsFieldStart, fields_after_delimiters, bounded_cut};
-ghost use Rattle.uri_streams.specs.Fields.{cut_of};
-ghost use Rattle.uri_streams.specs.Fields.{field_cut, fields_of};
-ghost use Rattle.uri_streams.specs.Outputs as outputs;
+ghost use Rattle.uri_streams.specs.Fields.{IsFieldStart, bounded_cut, cut_of, field_cut};
+ghost use Rattle.uri_streams.specs.Fields.{fields_after_delimiters, fields_of};
 ghost use Rattle.uri_streams.specs.Returned.{cut_in, text_in};
 
 use crate::fault::NoText;
 use crate::job::{Field, Job};
-use crate::line_ends::line_without_end;
 use memchr::memchr;
 
 /// A line of an input, cut around what the command gets of it: its text or one of its fields.
@@ -24,27 +20,11 @@ pub(crate) struct Cut<'a> {
     pub after: &'a [u8],
 }
 
-/// Returns the text of a line, if the job's command gets all of it: it is not too long, and no
-/// field of it is asked for.
-#[inline(always)]
-pub(crate) fn whole_text<'a>(job: &Job<'_>, line: &'a [u8]) -> Option<&'a [u8]>
-    ensures cut { IfSome result (λ text.
-        outputs.line_cut job.now line.now ≡ spec.cut_without_other_fields (Ok text.now)) }
-    ensures ascii { IfSome result (λ text. IsAscii line.now → IsAscii text.now) }
+/// Returns the text of a line, cut around what the job's command gets of it: nothing if it is too
+/// long or lacks the field.
+pub(crate) fn line_cut<'a>(job: &Job<'_>, text: &'a [u8]) -> Cut<'a>
+    ensures { cut_in result ≡ bounded_cut job.now.max_line job.now.field text.now }
 {
-    let text = line_without_end(job.is_null, line);
-    match job.field {
-        None if text.len() <= job.max_line as usize => Some(text),
-        _ => None,
-    }
-}
-
-/// Returns a line, cut around what the job's command gets of it: nothing if it is too long or lacks
-/// the field.
-pub(crate) fn line_cut<'a>(job: &Job<'_>, line: &'a [u8]) -> Cut<'a>
-    ensures { cut_in result ≡ outputs.line_cut job.now line.now }
-{
-    let text = line_without_end(job.is_null, line);
     if text.len() > job.max_line as usize {
         return cut_without_other_fields(Err(NoText::TooLong(job.max_line)));
     }

@@ -1,8 +1,9 @@
-//! What ends a line, and a line without it.
-ghost use Rattle.std.specs.Prelude.{◌≡◌, ◌&&◌, not};
+//! What ends a line, and a line with its text.
+ghost use Rattle.std.specs.Prelude.{◌≡◌, ◌&&◌, IsTrue, not};
 ghost use Rattle.std.specs.Io.BufRead.{ends_with_byte, strip_last};
-ghost use Rattle.uri_streams.specs.Lines as spec;
-ghost use Rattle.uri_streams.specs.Lines.{end_byte, line_text};
+ghost use Rattle.std.specs.Str.{IsAscii};
+ghost use Rattle.uri_streams.specs.Lines.{end_byte, has_return};
+ghost use Rattle.uri_streams.specs.Models.{IsCutLine};
 ghost use Rattle.uri_streams.specs.Outputs as outputs;
 
 /// Returns the byte that ends a line: NUL if `is_null`, and otherwise a newline.
@@ -11,15 +12,6 @@ pub(crate) fn line_ending(is_null: bool) -> u8
     ensures { result ≡ end_byte is_null }
 {
     if is_null { 0 } else { b'\n' }
-}
-
-/// Returns what ends the output of a line: what ended the line, or would have ended the last one.
-#[inline(always)]
-pub(crate) fn output_end(is_null: bool, line: &[u8]) -> &'static [u8]
-    ensures { result.now ≡ outputs.line_ending is_null
-        (not is_null && spec.ends_with_return (end_byte is_null) line.now) }
-{
-    line_end(is_null, ends_with_return(line_ending(is_null), line))
 }
 
 /// Returns what ends the output of a line: NUL if `is_null`, `\r` and a newline if only
@@ -37,38 +29,42 @@ pub(crate) fn line_end(is_null: bool, is_return: bool) -> &'static [u8]
     }
 }
 
-/// Returns the text of a line, without what ends it: NUL if `is_null`, and otherwise a newline, or
-/// `\r` and a newline.
-#[inline(always)]
-pub(crate) fn line_without_end(is_null: bool, line: &[u8]) -> &[u8]
-    ensures { result.now ≡ line_text is_null line.now }
-{
-    if is_null {
-        return strip_last_byte(0, line);
-    }
-    let text = strip_last_byte(b'\n', line);
-    if has_return(is_null, line) {
-        strip_last_byte(b'\r', text)
-    } else {
-        text
-    }
+/// A line of an input, with its text and what ends its output.
+#[derive(Clone, Copy)]
+pub(crate) struct Line<'a> {
+    /// The bytes of the line, with what ends it.
+    pub bytes: &'a [u8],
+    /// The text of the line, without what ends it.
+    pub text: &'a [u8],
+    /// Whether the text is known to be ASCII.
+    pub is_ascii: bool,
+    /// What ends the output of the line.
+    pub end: &'a [u8],
 }
 
-/// Returns whether a newline ends the line and a `\r` is before it. If `is_null`, NUL ends lines,
-/// so it returns false.
-#[inline(always)]
-fn has_return(is_null: bool, line: &[u8]) -> bool
-    ensures { result ≡ spec.has_return is_null line.now }
-{
-    !is_null && ends_with_return(b'\n', line)
-}
-
-/// Returns whether the byte `end` ends the line and a `\r` is before it.
-#[inline(always)]
-fn ends_with_return(end: u8, line: &[u8]) -> bool
-    ensures { result ≡ spec.ends_with_return end line.now }
-{
-    ends_with(end, line) && ends_with(b'\r', strip_last_byte(end, line))
+impl<'a> Line<'a> {
+    /// Returns the line of these bytes. NUL ends it if `is_null`, and otherwise a newline, or `\r`
+    /// and a newline. What ends its output is what ended it, or would have ended the last one.
+    #[inline(always)]
+    pub(crate) fn new(is_null: bool, is_ascii: bool, bytes: &'a [u8]) -> Line<'a>
+        requires { IsTrue is_ascii → IsAscii bytes.now }
+        ensures bytes { result.bytes.now ≡ bytes.now }
+        ensures cut { IsCutLine is_null result }
+        ensures end { result.end.now ≡ outputs.line_ending is_null (has_return is_null bytes.now) }
+    {
+        let text = strip_last_byte(line_ending(is_null), bytes);
+        let is_return = !is_null && ends_with(b'\n', bytes) && ends_with(b'\r', text);
+        Line {
+            bytes,
+            text: if is_return {
+                strip_last_byte(b'\r', text)
+            } else {
+                text
+            },
+            is_ascii,
+            end: line_end(is_null, is_return),
+        }
+    }
 }
 
 /// Returns whether `byte` is the last of the bytes.

@@ -1,10 +1,9 @@
 //! Reading a line.
-ghost use Rattle.std.specs.Prelude.{◌≡◌, ◌||◌, false, true, IfOk, IfSome, None, OnErr, OnOk};
+ghost use Rattle.std.specs.Prelude.{◌≡◌, IfOk, IfSome, None, OnErr, OnOk};
 ghost use Rattle.std.specs.Io.Buffered.{reader_remaining};
 ghost use Rattle.std.specs.Io.KnownBytes.{IsAtEnd, Keeps};
-ghost use Rattle.uri_streams.specs.Causes.{caused_by_input, caused_by_output};
-ghost use Rattle.uri_commands.specs.Sinks.{KeepsFinalError};
-ghost use Rattle.uri_streams.specs.Models.{IsFlushedIfDrained, ReadsPartOfLine, ReadsFirstLine};
+ghost use Rattle.uri_streams.specs.Models.{FailsInWriting, IsFlushedIfDrained, KeepsFailures};
+ghost use Rattle.uri_streams.specs.Models.{ReadsPartOfLine, ReadsFirstLine};
 
 use crate::failure::Cause;
 use crate::source::Source;
@@ -30,10 +29,7 @@ pub(crate) fn read_line<R: Read, W: Write>(
     ensures stopped { OnErr result
         (ReadsPartOfLine (reader_remaining R.remaining reader.old.reader)
         (reader_remaining R.remaining reader.new.reader) end) }
-    ensures reading { reader.new.has_failed ≡ (caused_by_input result || reader.old.has_failed) }
-    ensures writing { writer.new.has_failed ≡ (caused_by_output result || writer.old.has_failed) }
-    ensures read_error { caused_by_input result ≡ true → KeepsFinalError reader.new.error }
-    ensures write_error { caused_by_output result ≡ true → KeepsFinalError writer.new.error }
+    ensures failures { KeepsFailures result reader.old reader.new writer.old writer.new }
 {
     line.clear();
     let mut count = 0usize;
@@ -59,9 +55,7 @@ fn flush_before_read<R: Read, W: Write>(
     writer: &mut Sink<W>,
 ) -> Result<(), Cause>
     ensures keeps { Keeps (W.contents writer.old.writer) (W.contents writer.new.writer) }
-    ensures reading { caused_by_input result ≡ false }
-    ensures writing { writer.new.has_failed ≡ (caused_by_output result || writer.old.has_failed) }
-    ensures write_error { caused_by_output result ≡ true → KeepsFinalError writer.new.error }
+    ensures failures { FailsInWriting result writer.old writer.new }
     ensures flushed { OnOk result (IsFlushedIfDrained reader.now.reader writer.new.is_flushed) }
 {
     if reader.is_drained() && !writer.flush() {

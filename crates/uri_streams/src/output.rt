@@ -1,23 +1,22 @@
 //! Writing the output of a line.
 ghost use Rattle.std.specs.Prelude.{◌≡◌, ◌||◌, ◌++◌, ◌+◌, IfErr, IfOk, OnOk, string_bytes};
 ghost use Rattle.std.specs.Prelude.{◌&&◌, IsTrue, false, not, true};
-ghost use Rattle.std.specs.Str.{IsAscii};
 ghost use Rattle.std.specs.Io.KnownBytes.{Appends};
 ghost use Rattle.uri_commands.specs.Prefixes.{AppendsPrefix};
-ghost use Rattle.uri_streams.specs.Causes.{caused_by_input, caused_by_output};
 ghost use Rattle.uri_streams.specs.Outputs.{error_output, error_report, is_stop, result_output};
 ghost use Rattle.uri_streams.specs.Outputs.{reported_error, result_report};
 ghost use Rattle.uri_streams.specs.Returned.{result_in, line_error_message};
-ghost use Rattle.uri_streams.specs.Models.{WritesLineOutput, WritesOutputPrefix, WritesResult};
+ghost use Rattle.uri_streams.specs.Models.{FailsInWriting, IsCutLine, WritesLineOutput};
+ghost use Rattle.uri_streams.specs.Models.{WritesOutputPrefix, WritesResult};
 ghost use Rattle.uri_streams.specs.Runs.{Reports, ReportsPrefix, error_output_of};
 ghost use Rattle.uri_commands.specs.Sinks.{KeepsFinalError};
 
-use crate::cut::{Cut, line_cut, whole_text};
+use crate::cut::{Cut, line_cut};
 use crate::failure::Cause;
 use crate::fault::LineError;
 use crate::job::OnError;
+use crate::line_ends::Line;
 use crate::line_result::LineResult;
-use crate::source::Line;
 use crate::step::Step;
 use crate::task::Task;
 use std::alloc::{AllocError, Global};
@@ -45,7 +44,7 @@ pub(crate) fn write_line<W: Write, E: Write>(
     writer: &mut Sink<W>,
     err: &mut Sink<E>,
 ) -> Result<StepResult, Cause>
-    requires { IsTrue line.is_ascii → IsAscii line.bytes.now }
+    requires { IsCutLine step.job.now.is_null line }
     ensures whole { IfOk result (WritesLineOutput step.entry.job.now (step.entry.before + 1)
         task.old line.entry.bytes.now line.entry.end.now (W.contents writer.old.writer)
         (W.contents writer.new.writer)
@@ -54,14 +53,12 @@ pub(crate) fn write_line<W: Write, E: Write>(
         task.old line.entry.bytes.now line.entry.end.now (W.contents writer.old.writer)
         (W.contents writer.new.writer)
         (error_output_of E.contents err.old) (error_output_of E.contents err.new)) }
-    ensures reading { caused_by_input result ≡ false }
-    ensures writing { writer.new.has_failed ≡ (caused_by_output result || writer.old.has_failed) }
-    ensures write_error { caused_by_output result ≡ true → KeepsFinalError writer.new.error }
+    ensures failures { FailsInWriting result writer.old writer.new }
 {
-    let Some(text) = whole_text(step.job, line.bytes) else {
+    if step.job.field.is_some() || line.text.len() > step.job.max_line as usize {
         return write_cut(step, task, line, writer, err);
-    };
-    let line_result = task.bytes_result(step.alloc, step.job, text, line.is_ascii)?;
+    }
+    let line_result = task.bytes_result(step.alloc, step.job, line.text, line.is_ascii)?;
     let around = Around {
         line: line.bytes,
         before: b"",
@@ -82,6 +79,7 @@ fn write_cut<W: Write, E: Write>(
     writer: &mut Sink<W>,
     err: &mut Sink<E>,
 ) -> Result<StepResult, Cause>
+    requires { IsCutLine step.job.now.is_null line }
     ensures whole { IfOk result (WritesLineOutput step.entry.job.now (step.entry.before + 1)
         task.old line.entry.bytes.now line.entry.end.now (W.contents writer.old.writer)
         (W.contents writer.new.writer)
@@ -90,15 +88,13 @@ fn write_cut<W: Write, E: Write>(
         task.old line.entry.bytes.now line.entry.end.now (W.contents writer.old.writer)
         (W.contents writer.new.writer)
         (error_output_of E.contents err.old) (error_output_of E.contents err.new)) }
-    ensures reading { caused_by_input result ≡ false }
-    ensures writing { writer.new.has_failed ≡ (caused_by_output result || writer.old.has_failed) }
-    ensures write_error { caused_by_output result ≡ true → KeepsFinalError writer.new.error }
+    ensures failures { FailsInWriting result writer.old writer.new }
 {
     let Cut {
         before,
         text,
         after,
-    } = line_cut(step.job, line.bytes);
+    } = line_cut(step.job, line.text);
     let line_result = task.result_for(step.alloc, step.job, text)?;
     let around = Around {
         line: line.bytes,
@@ -152,9 +148,7 @@ fn write_result<W: Write, E: Write>(
         (error_output_of E.contents err.new)
         (result_report step.entry.job.now.errors (step.entry.before + 1)
         (result_in line_result)) }
-    ensures reading { caused_by_input result ≡ false }
-    ensures writing { writer.new.has_failed ≡ (caused_by_output result || writer.old.has_failed) }
-    ensures write_error { caused_by_output result ≡ true → KeepsFinalError writer.new.error }
+    ensures failures { FailsInWriting result writer.old writer.new }
 {
     match line_result {
         LineResult::Text(text) => {
@@ -239,9 +233,7 @@ fn write_error<W: Write, E: Write>(
         (error_output_of E.contents err.new)
         (error_report step.entry.job.now.errors (step.entry.before + 1)
         (line_error_message fault)) }
-    ensures reading { caused_by_input result ≡ false }
-    ensures writing { writer.new.has_failed ≡ (caused_by_output result || writer.old.has_failed) }
-    ensures write_error { caused_by_output result ≡ true → KeepsFinalError writer.new.error }
+    ensures failures { FailsInWriting result writer.old writer.new }
 {
     match step.job.errors {
         OnError::Line => {

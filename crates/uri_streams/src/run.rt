@@ -1,24 +1,21 @@
 //! Processing each line of an input.
-ghost use Rattle.std.specs.Prelude.{◌≡◌, ◌||◌, ◌+◌, ◌-◌, ◌^◌, min, IfErr, IfOk};
-ghost use Rattle.std.specs.Prelude.{false, true, if◌then◌else◌, ◌∷◌, [], List, None};
-ghost use Rattle.std.specs.Prelude.{IfSome, OnOk, Option};
+ghost use Rattle.std.specs.Prelude.{◌≡◌, ◌||◌, ◌+◌, ◌-◌, ◌^◌, min, IfErr, IfOk, true};
+ghost use Rattle.std.specs.Prelude.{if◌then◌else◌, ◌∷◌, [], List, None, IfSome, OnOk, Option};
 ghost use Rattle.std.specs.Io.KnownBytes.{Keeps};
 ghost use Rattle.std.specs.Io.Buffered.{reader_remaining};
-ghost use Rattle.uri_streams.specs.Causes.{caused_by_input, caused_by_output, is_input};
-ghost use Rattle.uri_streams.specs.Causes.{is_input_cause, is_output, is_output_cause};
-ghost use Rattle.uri_streams.specs.Causes.{HasFinalError, reading_failed, writing_failed};
+ghost use Rattle.uri_streams.specs.Causes.{HasFinalError, is_input, is_input_cause, is_output};
+ghost use Rattle.uri_streams.specs.Causes.{is_output_cause, reading_failed, writing_failed};
 ghost use Rattle.uri_streams.specs.declared.failure.Cause.{Cause};
-ghost use Rattle.uri_commands.specs.Sinks.{KeepsFinalError};
-ghost use Rattle.uri_streams.specs.Models.{IsStepOf, KeepsFailures};
-ghost use Rattle.uri_streams.specs.Runs.{FailsAfterPrefix, Sees, StopsAfterPrefix};
-ghost use Rattle.uri_streams.specs.Runs.{WritesOutput, error_output_of};
+ghost use Rattle.uri_streams.specs.Models.{FailsInWriting, IsStepOf, KeepsFailures};
+ghost use Rattle.uri_streams.specs.Runs.{FailsAfterPrefix, Sees, StopsAfterPrefix, WritesOutput};
+ghost use Rattle.uri_streams.specs.Runs.{error_output_of};
 
 use crate::failure::{Cause, Failure};
 use crate::job::Job;
-use crate::line_ends::{line_end, line_ending};
+use crate::line_ends::{Line, line_end, line_ending};
 use crate::lines::read_line;
 use crate::output::{StepResult, write_line};
-use crate::source::{Line, Source};
+use crate::source::Source;
 use crate::step::Step;
 use crate::task::Task;
 use std::alloc::Global;
@@ -159,9 +156,7 @@ fn flushed<W: Write>(writer: &mut Sink<W>, tally: Tally) -> Result<Tally, Cause>
     ensures flushed { OnOk result (writer.new.is_flushed ≡ true) }
     ensures tally { IfOk result (λ same. same ≡ tally) }
     ensures cause { IfErr result (λ cause. cause ≡ Cause.Output) }
-    ensures reading { caused_by_input result ≡ false }
-    ensures writing { writer.new.has_failed ≡ (caused_by_output result || writer.old.has_failed) }
-    ensures write_error { caused_by_output result ≡ true → KeepsFinalError writer.new.error }
+    ensures failures { FailsInWriting result writer.old writer.new }
 {
     if writer.flush() {
         Ok(tally)
@@ -249,9 +244,8 @@ fn process_parts<R: Read, W: Write, E: Write>(
     match read_line(reader, writer, line_ending(is_null), limit, line)? {
         Some(is_return) => {
             let line = Line {
-                bytes: line.as_slice(),
-                is_ascii: false,
                 end: line_end(is_null, is_return),
+                ..Line::new(is_null, false, line.as_slice())
             };
             write_line(step, task, line, writer, err)
         }

@@ -1,10 +1,7 @@
 //! A reader that says whether it failed.
 ghost use Rattle.std.specs.Prelude.{◌≡◌, ◌≢◌, ◌-◌, ◌<◌, ◌≤◌, ◌++◌, ◌||◌, ℕ, List, All, IfOk};
 ghost use Rattle.std.specs.Prelude.{IfSome, IsTrue, OnErr, OnSome, Some, length, slice_index, take};
-ghost use Rattle.std.specs.Prelude.{true, [], ◌↔◌};
-ghost use Rattle.std.specs.Prelude.{false};
-ghost use Rattle.std.specs.Str.{IsAscii};
-ghost use Rattle.std.specs.Prelude.{◌&&◌, ◌+◌, ◌^◌, ◌==◌, map, nat_le, not};
+ghost use Rattle.std.specs.Prelude.{true, false, [], ◌↔◌, ◌&&◌, ◌+◌, ◌^◌, ◌==◌, map, nat_le, not};
 ghost use Rattle.std.specs.Int.{bit_at};
 ghost use Rattle.std.specs.Simd.Lanes.{chunk, mask_l};
 ghost use Rattle.uri_pct.specs.Models.ByteRuns.{IsLongestRun};
@@ -15,12 +12,12 @@ ghost use Rattle.std.specs.Io.KnownBytes.{Consumes, IsAtEnd, Keeps};
 ghost use Rattle.uri_commands.specs.Sinks.{KeepsFinalError};
 ghost use Rattle.uri_streams.specs.Causes.{caused_by_input, caused_by_output, is_input_cause};
 ghost use Rattle.uri_streams.specs.Causes.{is_output_cause};
-ghost use Rattle.uri_streams.specs.Lines.{end_byte, ends_with_return, return_after};
-ghost use Rattle.uri_streams.specs.Models.{IsBufferedLine, IsFlushedIfDrained};
+ghost use Rattle.uri_streams.specs.Lines.{end_byte, has_return, return_after};
+ghost use Rattle.uri_streams.specs.Models.{IsBufferedLine, IsCutLine, IsFlushedIfDrained};
 ghost use Rattle.uri_streams.specs.Outputs as outputs;
 
 use crate::failure::Cause;
-use crate::line_ends::{ends_with, line_ending, output_end, strip_last_byte};
+use crate::line_ends::{Line, ends_with, line_ending, strip_last_byte};
 use memchr::memchr;
 use std::io::{self, BufRead, BufReader, ErrorKind, Read};
 use std::simd::prelude::*;
@@ -71,12 +68,22 @@ impl<R: Read> Source<R> {
     pub(crate) fn buffered_line(&self, is_null: bool) -> Option<Line<'_>>
         ensures line { IfSome result (λ line.
             IsBufferedLine (end_byte is_null) (reader_buffer self.now.reader) line.bytes.now) }
-        ensures ascii { IfSome result (λ line. IsTrue line.is_ascii → IsAscii line.bytes.now) }
+        ensures cut { IfSome result (IsCutLine is_null) }
         ensures end { IfSome result (λ line.
-            line.end.now ≡ outputs.line_ending is_null
-            (not is_null && ends_with_return (end_byte is_null) line.bytes.now)) }
+            line.end.now ≡ outputs.line_ending is_null (has_return is_null line.bytes.now)) }
     {
-        first_line(is_null, self.reader.buffer())
+        let bytes = self.reader.buffer();
+        let end = line_ending(is_null);
+        if bytes.len() >= LANES {
+            let index = run_before(end, bytes);
+            if index < bytes.len() && bytes[index] == end {
+                return Some(Line::new(is_null, true, &bytes[..index + 1]));
+            }
+        }
+        match memchr(end, bytes) {
+            Some(index) => Some(Line::new(is_null, false, &bytes[..index + 1])),
+            None => None,
+        }
     }
 
     /// Passes over the first `count` bytes that are buffered.
@@ -184,75 +191,6 @@ impl<R: Read> Source<R> {
             is_return,
         })
     }
-}
-
-/// A line of an input, with what ends it.
-#[derive(Clone, Copy)]
-pub(crate) struct Line<'a> {
-    /// The bytes of the line, with what ends it.
-    pub bytes: &'a [u8],
-    /// Whether the line is known to be ASCII.
-    pub is_ascii: bool,
-    /// What ends the output of the line.
-    pub end: &'a [u8],
-}
-
-/// Returns the first line of the bytes, with its end, if they have one. NUL ends it if `is_null`,
-/// and otherwise a newline.
-#[inline(always)]
-fn first_line(is_null: bool, bytes: &[u8]) -> Option<Line<'_>>
-    ensures line { IfSome result (λ line.
-        IsBufferedLine (end_byte is_null) bytes.now line.bytes.now) }
-    ensures ascii { IfSome result (λ line. IsTrue line.is_ascii → IsAscii line.bytes.now) }
-    ensures end { IfSome result (λ line.
-        line.end.now ≡ outputs.line_ending is_null
-        (not is_null && ends_with_return (end_byte is_null) line.bytes.now)) }
-{
-    if let Some(line) = first_ascii_line(is_null, bytes) {
-        return Some(Line {
-            bytes: line,
-            is_ascii: true,
-            end: output_end(is_null, line),
-        });
-    }
-    match memchr(line_ending(is_null), bytes) {
-        Some(index) => Some(Line {
-            bytes: &bytes[..index + 1],
-            is_ascii: false,
-            end: output_end(is_null, &bytes[..index + 1]),
-        }),
-        None => None,
-    }
-}
-
-/// Returns the first line of the bytes, with its end, if it is ASCII and the bytes fill a block.
-/// NUL ends it if `is_null`, and otherwise a newline.
-#[inline(always)]
-fn first_ascii_line(is_null: bool, bytes: &[u8]) -> Option<&[u8]>
-    ensures line { IfSome result (λ line. IsBufferedLine (end_byte is_null) bytes.now line.now) }
-    ensures ascii { IfSome result (λ line. IsAscii line.now) }
-{
-    if bytes.len() < LANES {
-        return None;
-    }
-    let index = ascii_run_end(is_null, bytes);
-    if index < bytes.len() && bytes[index] == line_ending(is_null) {
-        Some(&bytes[..index + 1])
-    } else {
-        None
-    }
-}
-
-/// Returns how many bytes are ASCII and do not end a line, up to the first that does or is not. NUL
-/// ends a line if `is_null`, and otherwise a newline.
-#[inline(always)]
-fn ascii_run_end(is_null: bool, bytes: &[u8]) -> usize
-    requires { LANES ≤ length bytes.now }
-    ensures within { result ≤ length bytes.now }
-    ensures ascii { (k : ℕ) → k < result → slice_index bytes.now k < 128 }
-    ensures inside { (k : ℕ) → k < result → slice_index bytes.now k ≢ end_byte is_null }
-{
-    run_before(line_ending(is_null), bytes)
 }
 
 /// Returns how many bytes are ASCII and not this one, up to the first that is not or is. As in

@@ -119,13 +119,15 @@ impl<'a> Task<'a> {
             → IfOk result (λ line_result. IsResult job.now.command
             (tasks.bytes_result job.now known bytes.now) line_result self.new) }
     {
-        if is_ascii {
-            return self.given_result(alloc, job, unsafe { str::from_utf8_unchecked(bytes) });
-        }
-        match str::from_utf8(bytes) {
-            Ok(text) => self.given_result(alloc, job, text),
-            Err(error) => Ok(self.no_text_result(NoText::NotUtf8(error.valid_up_to()))),
-        }
+        let text = if is_ascii {
+            unsafe { str::from_utf8_unchecked(bytes) }
+        } else {
+            match str::from_utf8(bytes) {
+                Ok(text) => text,
+                Err(error) => return Ok(self.no_text_result(NoText::NotUtf8(error.valid_up_to()))),
+            }
+        };
+        self.given_result(alloc, job, text)
     }
 
     /// Returns the result of a line of which the command gets no text.
