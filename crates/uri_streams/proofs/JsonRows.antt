@@ -29,7 +29,8 @@ number-with-all-parts : IsNumber (codes "-0.5E+30")
 number-with-all-parts =
     let fraction : IsFraction (codes ".5") =
     (codes ".", codes "5", refl, refl, (codes "5", [], refl, (53, refl, refl), refl)) in
-    let digits : AreSomeDigits (codes "30") = (codes "3", codes "0", refl, (51, refl, refl), refl) in
+    let digits : AreSomeDigits (codes "30") =
+    (codes "3", codes "0", refl, (51, refl, refl), refl) in
     let signed : (IsOptional (IsOneOf (codes "-+")) then AreSomeDigits) (codes "+30") =
     (codes "+", codes "30", refl, inr (43, refl, refl), digits) in
     let exponent : IsExponent (codes "E+30") =

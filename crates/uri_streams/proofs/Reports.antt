@@ -17,7 +17,10 @@ use Rattle.uri_streams.specs.declared.run.Tally.{Tally}
 -- error output: nothing is reported where it stays as it is
 pub Reports-nothing : (a : ErrorOutput) → Reports a a []
 Reports-nothing a = (
-  (AppendsPrefix-of-kept a.held a.held [] (Keeps-refl a.held), λ failed. (failed, Keeps-refl a.held)),
+  (
+    AppendsPrefix-of-kept a.held a.held [] (Keeps-refl a.held),
+    λ failed. (failed, Keeps-refl a.held),
+  ),
   λ _. Appends-nil a.held,
 )
 

@@ -53,7 +53,8 @@ pub GivesText-of-unique : {E : Type 0} (own own_new : UniqueTask) (task task_new
     (result_in line_result
     ≡ (unique_result own.scheme_rules (kind_named own.kind) known text).0)
     × HasMet own_new.met (unique_result own.scheme_rules (kind_named own.kind) known text).1))
-    → own_new.kind ≡ own.kind → own_new.scheme_rules ≡ own.scheme_rules → GivesText task task_new text result
+    → own_new.kind ≡ own.kind → own_new.scheme_rules ≡ own.scheme_rules
+    → GivesText task task_new text result
 GivesText-of-unique own own_new task task_new text (Err error) e e_new is k r command known
     remembers = tt
 GivesText-of-unique own own_new task task_new text (Ok line_result) e e_new is k r
@@ -86,7 +87,8 @@ pub unique_result-of-normalize_result : (by_rules : Bool) (kind : Kind) (known :
     → line_result ≡ normalize_result by_rules kind text → text_if_new known line_result
     ≡ unique_result by_rules kind known text
 unfolding unique_result
-unique_result-of-normalize_result by_rules kind known text line_result is = ap (text_if_new known) is
+unique_result-of-normalize_result by_rules kind known text line_result is =
+    ap (text_if_new known) is
 
 -- lines: what `urilines links` writes of a reference is the outcome that the register of links
 -- defines

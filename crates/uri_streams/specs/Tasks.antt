@@ -48,8 +48,8 @@ text_if_new known other = (other, known)
 
 -- The result of `urilines unique` for a line: its normal form, if that is not known, and what is
 -- known after it.
--- Two texts of a kind have one normal form exactly if they mean the same (RFC 3986, section 6.2), by
--- the rules of schemes if the Bool is true.
+-- Two texts of a kind have one normal form exactly if they mean the same (RFC 3986, section 6.2),
+-- by the rules of schemes if the Bool is true.
 unfoldable pub unique_result : Bool → Kind → Known → List ℕ → LineResult × Known
 unique_result by_rules kind known text =
     text_if_new known (normalize_result by_rules kind text)

@@ -138,8 +138,9 @@ impl<R: Read> Source<R> {
     }
 
     /// Reads a part of a line: what is buffered, up to and including the first `end`. Appends it to
-    /// `line` as far as the limit. `was_return` says whether a `\r` ends what was read before. Since
-    /// the reader may wait if it has nothing buffered, the writer, `flushed`, must be flushed then.
+    /// `line` as far as the limit. `was_return` says whether a `\r` ends what was read before.
+    /// Since the reader may wait if it has nothing buffered, the writer, `flushed`, must be flushed
+    /// then.
     pub(crate) fn take_part<W>(
         &mut self,
         flushed: &Sink<W>,

@@ -12,12 +12,12 @@ use std::io::ErrorKind;
 ///
 /// | Status | When |
 /// |---|---|
-/// | 0 | all lines were processed, and no error was written; or the reader of the output went away |
+/// | 0 | all lines were processed, and no error was written; or the output's reader went away |
 /// | 1 | all lines were processed, or `stop` ended the run, and an error was written |
 /// | 3 | reading or writing failed, or memory was denied |
 ///
-/// Under `drop` no error is written. An output whose reader went away is a closed pipe (`EPIPE`), as
-/// that of `urilines .. | head`: the run ends quietly, whatever was written before.
+/// Under `drop` no error is written. An output whose reader went away is a closed pipe (`EPIPE`),
+/// as that of `urilines .. | head`: the run ends quietly, whatever was written before.
 pub fn status(errors: OnError, ended: &Result<Tally, Failure>) -> u8
     ensures { IsStatusOf errors ended.now result }
 {

@@ -10,13 +10,14 @@ pub returns-in_err-write_error-in-Error-clause-reports
 returns-in_err-write_error-in-Error-clause-reports g c =
     subst (λ r. ReportsPrefix (error_output_of g.E.Write.contents c.args.err.now)
     (error_output_of g.E.Write.contents c.write_error.new.err)
-    (result_report c.args.step.job.now.errors (c.args.step.before + 1) (result_in r))) (sym c.in-Error.is)
-    c.write_error.ensures.reports
+    (result_report c.args.step.job.now.errors (c.args.step.before + 1) (result_in r)))
+    (sym c.in-Error.is) c.write_error.ensures.reports
 
 pub returns-clause-whole : goal.returns-clause-whole
 returns-clause-whole g c =
-    subst (λ r. WritesResult c.args.step.job.now.errors (c.args.step.before + 1) c.args.around.line.now
-    c.args.around.before.now (result_in r) (c.args.around.after.now ++ c.args.around.end.now)
+    subst (λ r. WritesResult c.args.step.job.now.errors (c.args.step.before + 1)
+    c.args.around.line.now c.args.around.before.now (result_in r)
+    (c.args.around.after.now ++ c.args.around.end.now)
     (g.W.Write.contents c.args.writer.now.writer)
     (g.W.Write.contents c.write_error.new.writer.writer)
     (error_output_of g.E.Write.contents c.args.err.now)
@@ -33,5 +34,5 @@ pub returns-clause-reports : goal.returns-clause-reports
 returns-clause-reports g c =
     subst (λ r. ReportsPrefix (error_output_of g.E.Write.contents c.args.err.now)
     (error_output_of g.E.Write.contents c.write_error.new.err)
-    (result_report c.args.step.job.now.errors (c.args.step.before + 1) (result_in r))) (sym c.in-Error.is)
-    c.write_error.ensures.reports
+    (result_report c.args.step.job.now.errors (c.args.step.before + 1) (result_in r)))
+    (sym c.in-Error.is) c.write_error.ensures.reports

@@ -19,4 +19,5 @@ unfolding parse_result
 returns-in-Err c =
     ap result_in c.refused.ensures
     ∙ parsed_result-of-error [] (kind_named c.args.kind) c.args.text.now
-    (Text (json_of (components c.args.text.now))) c.in-Err.error c.in-Err.ensures.accepts c.in-Err.ensures.refused
+    (Text (json_of (components c.args.text.now))) c.in-Err.error
+    c.in-Err.ensures.accepts c.in-Err.ensures.refused

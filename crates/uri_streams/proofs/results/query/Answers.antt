@@ -20,4 +20,5 @@ unfolding query_result
 returns-in-Err c =
     ap result_in c.refused.ensures
     ∙ parsed_result-of-error [] (kind_named c.args.kind) c.args.text.now
-    (Text (query_json (components c.args.text.now).query)) c.in-Err.error c.in-Err.ensures.accepts c.in-Err.ensures.refused
+    (Text (query_json (components c.args.text.now).query)) c.in-Err.error
+    c.in-Err.ensures.accepts c.in-Err.ensures.refused

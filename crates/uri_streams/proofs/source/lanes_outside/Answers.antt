@@ -1,5 +1,5 @@
-use Rattle.std.proofs.Common.{◌≡◌, ◌+◌, ◌<◌, ◌≤◌, ℕ, List, map, ◌^◌, ◌||◌, ◌&&◌, ◌∙◌, Bool, true, false, not, eqb}
-use Rattle.std.proofs.Common.{length, refl, subst, sym, ap}
+use Rattle.std.proofs.Common.{◌≡◌, ◌+◌, ◌<◌, ◌≤◌, ℕ, List, map, ◌^◌, ◌||◌, ◌&&◌, ◌∙◌, Bool, true, false}
+use Rattle.std.proofs.Common.{not, eqb, length, refl, subst, sym, ap}
 use Rattle.std.specs.Prelude.{nat_le, slice_index}
 use Rattle.std.proofs.lemmas.Nat.{or_of_16}
 use Rattle.uri_pct.proofs.TableSets.Masks.{bit_of_bit_or}
