@@ -5,7 +5,7 @@ use Rattle.std.specs.Str.{str_to_ascii_lowercase}
 use Rattle.uri_pct.specs.DecodeUnreserved.{decode_unreserved}
 use Rattle.uri_pct.specs.EncodedTexts.{text_of}
 use Rattle.uri_pct.specs.Tokens.{IsValidFor, print}
-use Rattle.uri_pct.proofs.Tests.{is_some-option_map}
+use Rattle.uri_pct.proofs.General.{is_some-option_map}
 use Rattle.uri_parts.specs.AuthorityTexts.{authority_text}
 use Rattle.uri_parts.specs.Components.{components, marked}
 use Rattle.uri_parts.specs.CoreTexts.{core_text}
