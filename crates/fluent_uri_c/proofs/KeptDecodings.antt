@@ -15,11 +15,11 @@ use Rattle.uri_pct.specs.Chunks.{widest_set}
 use Rattle.uri_pct.specs.DecodeUnreserved.{LacksPastAscii, decode_unreserved}
 use Rattle.uri_pct.specs.Sets.{TableSet}
 use Rattle.uri_pct.specs.Texts.{lacks}
-use Rattle.uri_pct.specs.Tokens.{IsValidFor, Octet, print, text_of_token}
+use Rattle.uri_pct.specs.Tokens.{IsValidFor, Octet, print, text_of_token, tokens}
 use Rattle.uri_pct.proofs.Decodings.Decoding.{BeginsWithOctet, boundary_after_octet}
 use Rattle.uri_pct.proofs.Decodings.Decoding.{bytes_from_percent_begin_with_octet}
 use Rattle.uri_pct.proofs.Decodings.Decoding.{prefix_len_bytes_pass}
-use Rattle.uri_ops.specs.Models.Decodings.{decoded_text, lowered_if, lowered_text_if}
+use Rattle.uri_ops.specs.Models.Decodings.{IsOctetAt, decoded_text, lowered_if, lowered_text_if}
 use Rattle.uri_ops.proofs.Meanings.DecodedOctets.{first_value, leading-octet-is-decoded-alone}
 use Rattle.uri_ops.proofs.Meanings.DecodedOctets.{uppercase-reserved-octet-stays}
 use Rattle.uri_ops.proofs.Meanings.DecodedPrefixes.{none_written}
@@ -33,18 +33,33 @@ use Rattle.fluent_uri_c.specs.PlainTexts.{is_kept_octet, is_lower_after}
 use Rattle.fluent_uri_c.proofs.KeptTexts.{keeps, kept-text-lacks-byte-E2, kept-text-splits}
 use Rattle.fluent_uri_c.proofs.KeptTexts.{octet-of-kept-text-is-kept}
 
+-- kept components: an octet at the start of a text is at its index 0
+octet-at-start : (text : List ℕ) (o : BeginsWithOctet text) → IsUtf8 text
+    → IsOctetAt text 0 o.high o.low
+octet-at-start text o utf8 =
+    let suffix : o.suffix ≡ drop 3 text = sym (ap (drop 3) o.joined) in
+    record {
+      split = o.joined ∙ ap (λ s. 37 ∷ o.high ∷ o.low ∷ s) suffix;
+      high_digit = o.high_digit;
+      low_digit = o.low_digit;
+      token = o.first ∙ ap (λ s. Octet (first_value o) ∷ tokens s) suffix;
+      within = omega (arith, ap length o.joined);
+      boundary = boundary_after_octet text utf8 o;
+      valid = subst (IsValidFor widest_set) suffix o.valid;
+    }
+
 -- kept components: an octet that is kept is written as it is
 kept-octet-prints-itself : (past : Bool) (set : TableSet) (text : List ℕ) (o : BeginsWithOctet text)
-    → (past ≡ true → LacksPastAscii set) → is_kept_octet past o.high o.low ≡ true
+    → IsUtf8 text → (past ≡ true → LacksPastAscii set) → is_kept_octet past o.high o.low ≡ true
     → text_of_token (Octet (first_value o)) ≡ 37 ∷ o.high ∷ o.low ∷ []
-kept-octet-prints-itself past set text o none kept =
+kept-octet-prints-itself past set text o utf8 none kept =
     let p = and_parts _ _ kept in
     let q = and_parts _ _ p.0 in
     let reserved = not-true _ q.1 in
     let alone = leading-octet-is-decoded-alone false set text o past none p.1
     ∙ ap (λ t. (text_of_token t ++ []) ++ decoded_text false set o.suffix)
     (cond-false _ _ _ reserved) in
-    let stays = uppercase-reserved-octet-stays set text o o.high o.low past refl refl q.0 reserved
+    let stays = uppercase-reserved-octet-stays (octet-at-start text o utf8) set past q.0 reserved
     none p.1 in
     ap (take 3) (sym alone ∙ stays)
     ∙ ap (λ x. take 3 (take 3 x ++ decoded_text false set (drop 3 text))) o.joined
@@ -57,9 +72,9 @@ lowering-keeps-octet false value = refl
 
 -- kept components: an octet that is kept at the start of a text stays
 kept-octet-stays : (lowers past : Bool) (set : TableSet) (text : List ℕ) (o : BeginsWithOctet text)
-    → (past ≡ true → LacksPastAscii set) → is_kept_octet past o.high o.low ≡ true
+    → IsUtf8 text → (past ≡ true → LacksPastAscii set) → is_kept_octet past o.high o.low ≡ true
     → decoded_text lowers set text ≡ 37 ∷ o.high ∷ o.low ∷ decoded_text lowers set o.suffix
-kept-octet-stays lowers past set text o none kept =
+kept-octet-stays lowers past set text o utf8 none kept =
     let p = and_parts _ _ kept in
     let q = and_parts _ _ p.0 in
     leading-octet-is-decoded-alone lowers set text o past none p.1
@@ -68,7 +83,7 @@ kept-octet-stays lowers past set text o none kept =
     ∙ ap (λ ts. print ts ++ decoded_text lowers set o.suffix)
     (lowering-keeps-octet lowers (first_value o))
     ∙ ap (λ x. (x ++ []) ++ decoded_text lowers set o.suffix)
-    (kept-octet-prints-itself past set text o none kept)
+    (kept-octet-prints-itself past set text o utf8 none kept)
 
 -- kept components: a text of no bytes is its own decoded form
 text-of-no-bytes-decodes-to-itself : (lowers : Bool) (set : TableSet) (text : List ℕ)
@@ -130,7 +145,7 @@ module _ (lowers past : Bool) (set : TableSet) (none : past ≡ true → LacksPa
       let parts = octet-of-kept-text-is-kept past o.high o.low o.suffix
       (ap (keeps past) (sym o.joined) ∙ is.kept) in
       let back : drop 3 text ≡ o.suffix = ap (drop 3) o.joined in
-      kept-octet-stays lowers past set text o none parts.0
+      kept-octet-stays lowers past set text o is.utf8 none parts.0
       ∙ ap (λ x. 37 ∷ o.high ∷ o.low ∷ x) (shorter o.suffix
       (omega (arith, ap length o.joined)) (record {
         utf8 = subst IsUtf8 back (IsUtf8-drop text 3 is.utf8 (boundary_after_octet text is.utf8 o));
