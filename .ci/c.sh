@@ -110,9 +110,7 @@ if echo 'int main(void) { return 0; }' | cc $sanitized -x c - -o "$work/none" 2>
         # shellcheck disable=SC2086 # (words)
         does "sanitizers of cc: $it cannot be built" cc -std=c99 $sanitized -I"$root/c/include" \
             "$root/c/tests/$it.c" "$work/gcc/libfluent_uri_c.a" -pthread -o "$work/$it"
-        does "sanitizers of cc: $it" "$work/$it" "$root"/crates/vectors/data/*.txt \
-            "$root/crates/relative_rows/stdin" "$root/crates/mend_rows/stdin" \
-            "$root/crates/basic_rows/stdin"
+        does "sanitizers of cc: $it" "$work/$it" "$root"/crates/vectors/data/*.txt
     done
     # shellcheck disable=SC2086 # (words)
     does 'sanitizers of c++: the test cannot be built' c++ -std=c++17 $sanitized \
@@ -130,9 +128,7 @@ if has clang 'try a second compiler and the sanitizers'; then
         # shellcheck disable=SC2086 # (words)
         does "sanitizers: $it cannot be built" clang -std=c99 $flags -I"$root/c/include" \
             "$root/c/tests/$it.c" "$work/gcc/libfluent_uri_c.a" -pthread -o "$work/$it"
-        does "sanitizers: $it" "$work/$it" "$root"/crates/vectors/data/*.txt \
-            "$root/crates/relative_rows/stdin" "$root/crates/mend_rows/stdin" \
-            "$root/crates/basic_rows/stdin"
+        does "sanitizers: $it" "$work/$it" "$root"/crates/vectors/data/*.txt
     done
     if echo 'int LLVMFuzzerTestOneInput(void); int LLVMFuzzerTestOneInput(void) { return 0; }' |
         clang -fsanitize=fuzzer,address -x c - -o "$work/none" 2> "$work/log"; then

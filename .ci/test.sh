@@ -45,7 +45,6 @@ vectors)
     echo "rows $((rows - ${LOST-0})) failed $fails"
     exit "$fails"
     ;;
-relative_rows) echo "rows $(($(grep -cv -e '^ *$' -e '^#') + 5)) failed 0" ;;
 compiled)
     # (rt takes no crate from outside the root)
     [ -z "$(find ../.. -type l)" ] || exit 1
@@ -115,8 +114,7 @@ refuses() {
 }
 
 cd "$tree" || exit 2
-rows=$(($(sed -n 's/^rows \([0-9]*\).*/\1/p' crates/vectors/stdout crates/relative_rows/stdout |
-    paste -sd +)))
+rows=$(sed -n 's/^rows \([0-9]*\).*/\1/p' crates/vectors/stdout)
 functions=$(cat crates/*/src/*.rt | grep -c '^#\[test\]$')
 : > "$work/ran"
 find . | sort > "$work/before"

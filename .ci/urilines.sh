@@ -368,8 +368,8 @@ if differ:
 sys.exit(differ > 0)
 P
 
-# `relativize` has the rows of `relative_rows`, and `resolve` undoes it.
-python3 - "$root/crates/relative_rows/stdin" "$root/tools/bench/urls.txt" <<'P' || failures=$((failures + 1))
+# `relativize` has the rows of `vectors`, and `resolve` undoes it.
+python3 - "$root/crates/vectors/data/relative.txt" "$root/tools/bench/urls.txt" <<'P' || failures=$((failures + 1))
 import collections, os, subprocess, sys
 
 rows, urls = (open(it, encoding="utf-8").read().split("\n") for it in sys.argv[1:])
@@ -382,7 +382,7 @@ def written(words, texts):
 
 by_base = collections.defaultdict(list)
 for row in rows:
-    if row.startswith("relativize "):
+    if row.startswith("relativize ") and "\\" not in row:
         asked, wanted = row.split(" -> ")
         _, kind, base, target = asked.split(" ")
         by_base[kind, base].append((target, wanted.replace('""', "")))

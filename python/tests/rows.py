@@ -1,5 +1,4 @@
-"""The rows of crates/vectors/data, as README.txt there describes them, and of crates/relative_rows,
-asked of the package."""
+"""The rows of crates/vectors/data, as README.txt there describes them, asked of the package."""
 
 import ipaddress
 import pathlib
@@ -7,6 +6,7 @@ import re
 import struct
 
 from fluent_uri import (
+    AsciiHostError,
     Component,
     HostKind,
     Iri,
@@ -15,12 +15,13 @@ from fluent_uri import (
     ResolveError,
     Uri,
     UriRef,
+    compare,
     decode,
     encode,
+    sort_key,
 )
 
-CRATES = pathlib.Path(__file__).resolve().parents[2] / "crates"
-FILES = [*sorted((CRATES / "vectors" / "data").glob("*.txt")), CRATES / "relative_rows" / "stdin"]
+DATA = pathlib.Path(__file__).resolve().parents[2] / "crates" / "vectors" / "data"
 KINDS = {"uri": Uri, "uri-ref": UriRef, "iri": Iri, "iri-ref": IriRef}
 COMPONENTS = {
     "userinfo": Component.USERINFO,
@@ -36,9 +37,15 @@ ERRORS = {
     "INVALID_IPV6_ADDR": "InvalidIpv6Addr",
     "INVALID_REFERENCE_AGAINST_OPAQUE_BASE": "InvalidReferenceAgainstOpaqueBase",
     "PATH_UNDERFLOW": "PathUnderflow",
+    "PATH_STARTS_WITH_DOUBLE_SLASH": "PathStartsWithDoubleSlash",
+    "NAME_NOT_UTF8": "NameNotUtf8",
+    "INVALID_NAME": "InvalidName",
 }
 # What the package has no call for.
 WITHOUT_A_CALL = {
+    "compare-under",
+    "normalize-by-every-rule",
+    "normalize-by-rules-strict",
     "normalize-strict",
     "normalize-under",
     "print-ipv4",
@@ -74,7 +81,7 @@ def field(written):
 
 def rows():
     """File and line of each row, its operation, its fields and what is expected."""
-    for file in FILES:
+    for file in sorted(DATA.glob("*.txt")):
         if file.name == "README.txt":
             continue
         for number, line in enumerate(file.read_text(encoding="utf-8").split("\n"), 1):
@@ -97,14 +104,25 @@ def parse(kind, text):
     return components(value, ["scheme", "authority", "path", "query", "fragment"])
 
 
+def parse_error(error, text):
+    characters = text.encode()[: error.index].decode()
+    assert error.char_index == len(characters)
+    return [ERRORS[error.kind.name], str(error.index)]
+
+
 def error(kind, text):
     try:
         KINDS[kind].parse(text)
     except ParseError as error:
-        characters = text.encode()[: error.index].decode()
-        assert error.char_index == len(characters)
-        return [ERRORS[error.kind.name], str(error.index)]
+        return parse_error(error, text)
     return ["none"]
+
+
+def mend(kind, text):
+    try:
+        return [str(KINDS[kind].mend(text))]
+    except ParseError as error:
+        return parse_error(error, text)
 
 
 def authority(kind, text):
@@ -154,6 +172,49 @@ def normalize(kind, text):
     return [str(normal)]
 
 
+def normalize_by_rules(kind, text):
+    normal = KINDS[kind].parse(text).normalize(scheme_rules=True)
+    assert normal.normalize(scheme_rules=True) == normal
+    return [str(normal)]
+
+
+def is_normal(kind, text):
+    return ["yes" if str(KINDS[kind].parse(text).normalize()) == text else "no"]
+
+
+def is_normal_by_rules(kind, text):
+    return ["yes" if normalize_by_rules(kind, text) == [text] else "no"]
+
+
+def order(kind, one, other, scheme_rules):
+    found = compare(one, other, KINDS[kind], scheme_rules=scheme_rules)
+    first, second = (sort_key(it, KINDS[kind], scheme_rules=scheme_rules) for it in (one, other))
+    assert (first > second) - (first < second) == found
+    assert (hash(first) == hash(second)) == (found == 0)
+    return [("less", "equal", "greater")[found + 1]]
+
+
+def compare_texts(kind, one, other):
+    return order(kind, one, other, False)
+
+
+def compare_by_rules(kind, one, other):
+    return order(kind, one, other, True)
+
+
+def ascii_host(kind, text):
+    value = KINDS[kind].parse(text)
+    if value.host is None:
+        return [text]
+    start = text.index("//") + 2
+    start += 0 if value.userinfo is None else len(value.userinfo) + 1
+    try:
+        host = value.ascii_host
+    except AsciiHostError as error:
+        return ["error", ERRORS[error.kind.name]]
+    return [text[:start] + host + text[start + len(value.host) :]]
+
+
 def encode_as_uri(kind, text):
     return [str(KINDS[kind].parse(text).to_uri())]
 
@@ -167,22 +228,37 @@ def strip_fragment(kind, text):
     return [str(KINDS[kind].parse(text).with_fragment(None))]
 
 
-def target(base, reference, normalize):
+def target(kind, base, reference, **options):
+    base = KINDS[kind].parse(base)
     # Here the fragment of a base plays no part.
     if base.fragment is not None:
         raise Skipped
     try:
-        return [str(base.resolve(reference, normalize=normalize))]
+        return [str(base.resolve(reference, **options))]
     except ResolveError as error:
         return ["error", ERRORS[error.kind.name]]
 
 
 def resolve(kind, base, reference):
-    return target(KINDS[kind].parse(base), reference, False)
+    return target(kind, base, reference)
 
 
 def resolve_normalized(kind, base, reference):
-    return target(KINDS[kind].parse(base), reference, True)
+    return target(kind, base, reference, normalize=True)
+
+
+def resolve_by_rules(kind, base, reference):
+    return target(kind, base, reference, normalize=True, scheme_rules=True)
+
+
+def resolve_basic(kind, base, reference):
+    return target(kind, base, reference, basic=True)
+
+
+def resolve_both(kind, base, reference):
+    found = target(kind, base, reference)
+    assert target(kind, base, reference, basic=True) == found
+    return found
 
 
 def relativize(kind, base, target):
@@ -191,6 +267,12 @@ def relativize(kind, base, target):
 
 def relativize_path(kind, base, target):
     return [str(KINDS[kind].parse(base).relativize(target, prefer_relative_path=True))]
+
+
+def relativize_back(kind, base, to):
+    found = relativize(kind, base, to)
+    assert target(kind, base, *found) == [to]
+    return found if target(kind, base, *found, basic=True) == [to] else [*found, "lost"]
 
 
 def swap(kind, base, reference):
@@ -265,14 +347,25 @@ CALLS = {
     "ipv6": ipv6,
     "port": port,
     "default-port": default_port,
+    "mend": mend,
     "normalize": normalize,
+    "normalize-by-rules": normalize_by_rules,
+    "is-normal": is_normal,
+    "is-normal-by-rules": is_normal_by_rules,
+    "compare": compare_texts,
+    "compare-by-rules": compare_by_rules,
+    "ascii-host": ascii_host,
     "encode-as-uri": encode_as_uri,
     "with-fragment": with_fragment,
     "strip-fragment": strip_fragment,
     "resolve": resolve,
     "resolve-normalized": resolve_normalized,
+    "resolve-by-rules": resolve_by_rules,
+    "resolve-basic": resolve_basic,
+    "resolve-both": resolve_both,
     "relativize": relativize,
     "relativize-path": relativize_path,
+    "relativize-back": relativize_back,
     "swap": swap,
     "swap-as-uris": swap_as_uris,
     "is-valid": is_valid,

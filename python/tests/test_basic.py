@@ -11,19 +11,10 @@ from fluent_uri.parse import urljoin
 ROOT = pathlib.Path(__file__).resolve().parents[2]
 # A row of a page: a case, a base and a reference, and what comes of them with `basic` and without.
 ROW = re.compile(r"^\| .* \| `([^`]+)`, `([^`]+)` \| `([^`]+)` \| `([^`]+)` \|$", re.MULTILINE)
-KINDS = {"uri": Uri, "iri": Iri}
 NAMES = {
     "INVALID_REFERENCE_AGAINST_OPAQUE_BASE": "InvalidReferenceAgainstOpaqueBase",
     "PATH_STARTS_WITH_DOUBLE_SLASH": "PathStartsWithDoubleSlash",
 }
-
-
-def rows():
-    """The rows of basic_rows: an operation, a base, a reference and what is expected."""
-    for line in (ROOT / "crates" / "basic_rows" / "stdin").read_text(encoding="utf-8").splitlines():
-        if not line.startswith("#"):
-            operation, kind, base, *rest = line.split(" ")
-            yield operation, KINDS[kind].parse(base), *rest
 
 
 def target(base, reference, **named):
@@ -34,25 +25,6 @@ def target(base, reference, **named):
 
 
 class TestBasic(unittest.TestCase):
-    def test_rows(self):
-        tried = 0
-        for operation, base, reference, wanted in rows():
-            # (no row is of the fragment of a base, which plays no part here)
-            if operation in ("basic", "both"):
-                self.assertEqual(target(base, reference, basic=True), wanted, (base, reference))
-                tried += 1
-            if operation in ("resolver", "both") and wanted != "BaseWithFragment":
-                self.assertEqual(target(base, reference), wanted, (base, reference))
-                self.assertEqual(target(base, reference, basic=False), wanted)
-                tried += 1
-            if operation in ("back", "lost"):
-                made = base.relativize(reference)
-                self.assertEqual(str(made), wanted)
-                is_back = target(base, made, basic=True) == target(base, made)
-                self.assertEqual(is_back, operation == "back", (base, reference))
-                tried += 1
-        self.assertGreater(tried, 120)
-
     def test_many_texts(self):
         for kind, given in [(Uri, "foo:/a#f"), (Iri, "foo:/a#f"), (Uri, "http://a/b/..")]:
             base = kind.parse(given)

@@ -1,21 +1,14 @@
-"""Texts that are mended: the rows of crates/mend_rows, calls for one and for many, and links of
+"""Texts that are mended: the rows of texts to mend, calls for one and for many, and links of
 pages."""
 
-import pathlib
 import unittest
-import urllib.parse
 from array import array
 
 from fluent_uri import Iri, IriRef, ParseError, ParseErrorKind, Reference, ResolveError, Uri, UriRef
 from fluent_uri import batch
+from rows import ERRORS, KINDS, field, rows
 
-ROWS = pathlib.Path(__file__).resolve().parents[2] / "crates" / "mend_rows" / "stdin"
-KINDS = {"uri": Uri, "uri-ref": UriRef, "iri": Iri, "iri-ref": IriRef}
-ERRORS = {
-    "octet": ParseErrorKind.INVALID_PCT_ENCODED_OCTET,
-    "char": ParseErrorKind.UNEXPECTED_CHAR,
-    "ipv6": ParseErrorKind.INVALID_IPV6_ADDR,
-}
+KIND_OF = {ERRORS[it.name]: it for it in ParseErrorKind if it.name in ERRORS}
 BASE = Uri("http://a/b/c?d#e")
 LINKS = [
     *("/a b", " ../x\n", "?[1]", "#z z", "http://a b/", "mailto:x y", "é", "\t//h/\r\n"),
@@ -24,12 +17,13 @@ LINKS = [
 NAMES = ["scheme", "authority", "userinfo", "host", "port", "path", "query", "fragment"]
 
 
-def rows():
+def mended_texts():
     """A kind, a text, and what it is mended to, or the kind of an error and its index."""
-    for line in ROWS.read_text(encoding="ascii").splitlines():
-        kind, text, word, expected = line.split(" ")
-        wanted = urllib.parse.unquote(expected) if word == "ok" else (ERRORS[word], int(expected))
-        yield KINDS[kind], urllib.parse.unquote(text), wanted
+    for _, operation, fields, expected in rows():
+        if operation == "mend":
+            name, *index = map(field, expected)
+            wanted = (KIND_OF[name], int(index[0])) if index else name
+            yield KINDS[fields[0]], field(fields[1]), wanted
 
 
 def outcome(call, *words):
@@ -59,7 +53,7 @@ def or_none(call, *words, **more):
 class Rows(unittest.TestCase):
     def test_each_row(self):
         tried, links = {it: ([], []) for it in KINDS.values()}, 0
-        for kind, text, wanted in rows():
+        for kind, text, wanted in mended_texts():
             self.assertEqual(outcome(kind.mend, text), wanted, (kind, text))
             tried[kind][0].append(text)
             tried[kind][1].append(wanted if isinstance(wanted, str) else None)

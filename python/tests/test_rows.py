@@ -21,7 +21,7 @@ class Rows(unittest.TestCase):
                 ]
             with self.subTest(row=place):
                 self.assertEqual(found, wanted)
-        self.assertGreater(tried, 2900)
+        self.assertGreater(tried, 6500)
 
 
 if __name__ == "__main__":

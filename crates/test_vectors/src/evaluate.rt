@@ -1,13 +1,18 @@
 //! The result of what a row asks.
 
 use crate::fields::{Fields, RowError, Words};
-use crate::operation::{Kind, Operation, PairOperation, SubstringOperation, ValueOperation};
-use crate::{conversions, encoded, references};
+use crate::operation::{Kind, Operation, Order, PairOperation, SubstringOperation, ValueOperation};
+use crate::orders::{self, ByPorts, ByRules};
+use crate::settings::Always;
+use crate::{ascii_hosts, basic, conversions, encoded, mending, references, relative, rules};
 use fluent_uri::component::Scheme;
 use fluent_uri::net::{IpAddr, Ipv4Addr, Ipv6Addr};
+use fluent_uri::normalize::SchemeDefaults;
+use fluent_uri::roles::RefKind;
 use std::alloc::Global;
 use std::hash::{DefaultHasher, Hash, Hasher};
 use uri_parts::kind::{self, IriKind, IriRefKind, UriKind, UriRefKind};
+use uri_relative::relative::RelativeKind;
 
 /// Returns the words of a row's result: what its operation gives of its fields.
 pub(crate) fn evaluate(alloc: Global, asked: &str) -> Result<Words, RowError> {
@@ -39,6 +44,7 @@ fn say(
             words,
         ),
         Operation::SubstringOperation(ask) => say_substrings(ask, fields, words),
+        Operation::Compare(order) => evaluate_order(alloc, order, fields, words),
         Operation::IsValid => is_valid(fields, words),
         Operation::Encode => encode(alloc, fields, words),
         Operation::EncodeBytes => encode_bytes(alloc, fields, words),
@@ -86,11 +92,21 @@ fn of_kind<K: kind::Kind>(
         ValueOperation::WithFragment => {
             conversions::with_fragment::<K>(alloc, text, fields.text()?.as_str(), words)
         }
+        ValueOperation::Mend => mending::mend::<K>(alloc, text, words),
+        ValueOperation::NormalizeByRules(ask) => rules::normalize::<K>(alloc, ask, text, words),
+        ValueOperation::IsNormal(Order::ByRules) => {
+            orders::is_normal::<K, _>(alloc, &ByRules::new(), text, words)
+        }
+        ValueOperation::IsNormal(_) => {
+            orders::is_normal::<K, _>(alloc, &ByPorts::new(SchemeDefaults), text, words)
+        }
+        ValueOperation::AsciiHost => ascii_hosts::ascii_host::<K>(alloc, text, words),
         _ => references::evaluate::<K>(alloc, ask, text, fields, words),
     }
 }
 
-/// Takes a kind, a base and a reference from a row's fields, and appends what the row asks of them.
+/// Takes a kind, a base and a reference or a target from a row's fields, and appends what the row
+/// asks of them.
 fn evaluate_pair(
     alloc: Global,
     ask: PairOperation,
@@ -98,35 +114,79 @@ fn evaluate_pair(
     words: &mut Words,
 ) -> Result<(), RowError> {
     let kind = Kind::named(fields.word()?)?;
-    let (base, reference) = (fields.text()?, fields.text()?);
-    of_bases(alloc, ask, kind, (base.as_str(), reference.as_str()), words)
+    let (base, other) = (fields.text()?, fields.text()?);
+    let texts = (base.as_str(), other.as_str());
+    match kind {
+        Kind::Uri => of_base::<UriKind, UriRefKind>(alloc, ask, texts, words),
+        Kind::Iri if matches!(ask, PairOperation::SwapAsUris) => {
+            references::swap_as_uris(alloc, texts.0, texts.1, words)
+        }
+        Kind::Iri => of_base::<IriKind, IriRefKind>(alloc, ask, texts, words),
+        _ => Err(RowError::NotABase),
+    }
 }
 
-/// Appends to a row's result what the row asks of a base of this kind and a reference.
-fn of_bases(
+/// Appends to a row's result what the row asks of a base of the kind `B`, and a reference of the
+/// kind `K` or a target.
+fn of_base<B: RelativeKind, K: RefKind>(
     alloc: Global,
     ask: PairOperation,
-    kind: Kind,
-    (base, reference): (&str, &str),
+    (base, other): (&str, &str),
     words: &mut Words,
 ) -> Result<(), RowError> {
-    match (ask, kind) {
-        (PairOperation::Resolve(way), Kind::Uri) => {
-            references::resolve::<UriRefKind>(alloc, way, base, reference, words)
+    match ask {
+        PairOperation::Resolve(way) => references::resolve::<K>(alloc, way, base, other, words),
+        PairOperation::Swap => references::swap::<K>(alloc, base, other, words),
+        PairOperation::SwapAsUris => Err(RowError::NotABase),
+        PairOperation::ResolveByRules => rules::resolve::<K>(alloc, base, other, words),
+        PairOperation::ResolveBasic => basic::resolve::<K>(alloc, base, other, words),
+        PairOperation::ResolveBoth => basic::resolve_both::<K>(alloc, base, other, words),
+        PairOperation::Relativize => relative::relativize::<B>(alloc, false, base, other, words),
+        PairOperation::RelativizePath => {
+            relative::relativize::<B>(alloc, true, base, other, words)
         }
-        (PairOperation::Resolve(way), Kind::Iri) => {
-            references::resolve::<IriRefKind>(alloc, way, base, reference, words)
+        PairOperation::RelativizeBack => {
+            relative::relativize_back::<B, K>(alloc, base, other, words)
         }
-        (PairOperation::Swap, Kind::Uri) => {
-            references::swap::<UriRefKind>(alloc, base, reference, words)
+    }
+}
+
+/// Takes a kind and two texts from a row's fields, and a port if the row gives one, and appends the
+/// order of their normal forms.
+fn evaluate_order(
+    alloc: Global,
+    order: Order,
+    fields: &mut Fields<'_>,
+    words: &mut Words,
+) -> Result<(), RowError> {
+    let kind = Kind::named(fields.word()?)?;
+    let (one, other) = (fields.text()?, fields.text()?);
+    let texts = (one.as_str(), other.as_str());
+    match kind {
+        Kind::Uri => of_texts::<UriKind>(alloc, order, texts, fields, words),
+        Kind::UriRef => of_texts::<UriRefKind>(alloc, order, texts, fields, words),
+        Kind::Iri => of_texts::<IriKind>(alloc, order, texts, fields, words),
+        Kind::IriRef => of_texts::<IriRefKind>(alloc, order, texts, fields, words),
+    }
+}
+
+/// Appends to a row's result the order of the normal forms of two texts of this kind.
+fn of_texts<K: kind::Kind>(
+    alloc: Global,
+    order: Order,
+    texts: (&str, &str),
+    fields: &mut Fields<'_>,
+    words: &mut Words,
+) -> Result<(), RowError> {
+    match order {
+        Order::ByPorts => {
+            orders::compare::<K, _>(alloc, &ByPorts::new(SchemeDefaults), texts, words)
         }
-        (PairOperation::Swap, Kind::Iri) => {
-            references::swap::<IriRefKind>(alloc, base, reference, words)
+        Order::Under => {
+            let ports = Always(fields.number()?);
+            orders::compare::<K, _>(alloc, &ByPorts::new(ports), texts, words)
         }
-        (PairOperation::SwapAsUris, Kind::Iri) => {
-            references::swap_as_uris(alloc, base, reference, words)
-        }
-        _ => Err(RowError::NotABase),
+        Order::ByRules => orders::compare::<K, _>(alloc, &ByRules::new(), texts, words),
     }
 }
 

@@ -1,5 +1,6 @@
 //! The fields of a row, and how their texts are written.
 
+use fluent_uri::normalize::NormalizeError;
 use fluent_uri::resolve::ResolveError;
 use std::alloc::{AllocError, Global};
 use std::fmt;
@@ -30,6 +31,7 @@ pub(crate) enum RowError {
     NotAPath,
     NotAnIri,
     NoTarget,
+    NoNormalForm,
     NotABase,
     NotOfAValue,
 }
@@ -38,6 +40,16 @@ impl From<AllocError> for RowError {
     /// Returns why a row has no result, for a failed allocation.
     fn from(_: AllocError) -> RowError {
         RowError::OutOfMemory
+    }
+}
+
+impl From<NormalizeError> for RowError {
+    /// Returns why a row has no result, for a text without a normal form.
+    fn from(error: NormalizeError) -> RowError {
+        match error {
+            NormalizeError::OutOfMemory => RowError::OutOfMemory,
+            NormalizeError::PathUnderflow => RowError::NoNormalForm,
+        }
     }
 }
 
@@ -75,6 +87,7 @@ impl fmt::Display for RowError {
             RowError::NotAPath => "not a path",
             RowError::NotAnIri => "not an IRI",
             RowError::NoTarget => "no target",
+            RowError::NoNormalForm => "no normal form",
             RowError::NotABase => "a base is a `uri` or an `iri`",
             RowError::NotOfAValue => "not asked of this value",
         })
@@ -261,11 +274,16 @@ impl Words {
         self.escaped(text)
     }
 
-    /// Appends a name and a text to a row's result as one word, unless the text is all that it has.
-    pub(crate) fn unless_said(&mut self, name: &str, text: &str) -> Result<(), AllocError> {
+    /// Returns whether a row's result has this text alone, as one word.
+    pub(crate) fn is_text(&self, text: &str) -> Result<bool, AllocError> {
         let mut alone = Words::new(self.alloc);
         alone.text(text)?;
-        if alone.as_str() == self.as_str() {
+        Ok(alone.as_str() == self.as_str())
+    }
+
+    /// Appends a name and a text to a row's result as one word, unless the text is all that it has.
+    pub(crate) fn unless_said(&mut self, name: &str, text: &str) -> Result<(), AllocError> {
+        if self.is_text(text)? {
             return Ok(());
         }
         self.named(name, Some(text))

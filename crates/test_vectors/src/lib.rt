@@ -1,15 +1,21 @@
-//! Rows of what `fluent_uri` is asked and of what it must return, as texts, and their run over any
-//! writer. `crates/vectors/data/README.txt` says how a row is written.
+//! Rows of what the libraries are asked and of what they must return, as texts, and their run over
+//! any writer. `crates/vectors/data/README.txt` says how a row is written.
 #![tactic(auto)]
 
+mod ascii_hosts;
+mod basic;
 mod conversions;
 mod encoded;
 mod evaluate;
 mod fields;
+mod mending;
 mod operation;
+mod orders;
 mod parsed;
 mod references;
+mod relative;
 mod row;
+mod rules;
 pub mod run;
 mod settings;
 

@@ -51,6 +51,36 @@ pub(crate) enum ValueOperation {
     WithFragment,
     /// Its text without a fragment.
     StripFragment,
+    /// The text of the kind that it is mended to, or the kind and the index of the error.
+    Mend,
+    /// The normal form by the rules of schemes.
+    NormalizeByRules(Rules),
+    /// Whether its text is its normal form.
+    IsNormal(Order),
+    /// Its text with its host in ASCII.
+    AsciiHost,
+}
+
+/// The rules of schemes, and the setting of their normaliser.
+#[derive(Clone, Copy)]
+pub(crate) enum Rules {
+    /// Those of standards.
+    Standard,
+    /// The same, and dot segments may not underflow.
+    Strict,
+    /// Those of a caller: every scheme has all.
+    EveryScheme,
+}
+
+/// An order of normal forms.
+#[derive(Clone, Copy)]
+pub(crate) enum Order {
+    /// By default ports alone.
+    ByPorts,
+    /// By default ports alone, which a row gives.
+    Under,
+    /// By the rules of schemes.
+    ByRules,
 }
 
 /// The setting of a normaliser or a resolver.
@@ -73,6 +103,18 @@ pub(crate) enum PairOperation {
     Swap,
     /// The same of the URIs that the base and the reference are converted to.
     SwapAsUris,
+    /// The normal form of the target by the rules of schemes.
+    ResolveByRules,
+    /// The target by the basic algorithm.
+    ResolveBasic,
+    /// The target, which the basic algorithm finds too.
+    ResolveBoth,
+    /// The reference that leads to a target.
+    Relativize,
+    /// The same, where a relative path is preferred.
+    RelativizePath,
+    /// The same, and whether the basic algorithm finds the target again.
+    RelativizeBack,
 }
 
 /// What is asked of a percent-encoded path.
@@ -108,6 +150,8 @@ pub(crate) enum Operation {
     PairOperation(PairOperation),
     PathOperation(PathOperation),
     SubstringOperation(SubstringOperation),
+    /// The order of two texts by their normal forms.
+    Compare(Order),
     /// Whether an encoder allows a text.
     IsValid,
     /// A text encoded.
@@ -180,6 +224,31 @@ const OPERATIONS: &[(&str, Operation)] = &[
         "strip-fragment",
         Operation::ValueOperation(ValueOperation::StripFragment),
     ),
+    ("mend", Operation::ValueOperation(ValueOperation::Mend)),
+    (
+        "normalize-by-rules",
+        Operation::ValueOperation(ValueOperation::NormalizeByRules(Rules::Standard)),
+    ),
+    (
+        "normalize-by-rules-strict",
+        Operation::ValueOperation(ValueOperation::NormalizeByRules(Rules::Strict)),
+    ),
+    (
+        "normalize-by-every-rule",
+        Operation::ValueOperation(ValueOperation::NormalizeByRules(Rules::EveryScheme)),
+    ),
+    (
+        "is-normal",
+        Operation::ValueOperation(ValueOperation::IsNormal(Order::ByPorts)),
+    ),
+    (
+        "is-normal-by-rules",
+        Operation::ValueOperation(ValueOperation::IsNormal(Order::ByRules)),
+    ),
+    (
+        "ascii-host",
+        Operation::ValueOperation(ValueOperation::AsciiHost),
+    ),
     (
         "resolve",
         Operation::PairOperation(PairOperation::Resolve(Setting::Defaults)),
@@ -196,6 +265,30 @@ const OPERATIONS: &[(&str, Operation)] = &[
     (
         "swap-as-uris",
         Operation::PairOperation(PairOperation::SwapAsUris),
+    ),
+    (
+        "resolve-by-rules",
+        Operation::PairOperation(PairOperation::ResolveByRules),
+    ),
+    (
+        "resolve-basic",
+        Operation::PairOperation(PairOperation::ResolveBasic),
+    ),
+    (
+        "resolve-both",
+        Operation::PairOperation(PairOperation::ResolveBoth),
+    ),
+    (
+        "relativize",
+        Operation::PairOperation(PairOperation::Relativize),
+    ),
+    (
+        "relativize-path",
+        Operation::PairOperation(PairOperation::RelativizePath),
+    ),
+    (
+        "relativize-back",
+        Operation::PairOperation(PairOperation::RelativizeBack),
     ),
     ("to-bytes", Operation::PathOperation(PathOperation::Bytes)),
     ("to-string", Operation::PathOperation(PathOperation::Text)),
@@ -220,6 +313,9 @@ const OPERATIONS: &[(&str, Operation)] = &[
         "rsplit-once",
         Operation::SubstringOperation(SubstringOperation::Last),
     ),
+    ("compare", Operation::Compare(Order::ByPorts)),
+    ("compare-under", Operation::Compare(Order::Under)),
+    ("compare-by-rules", Operation::Compare(Order::ByRules)),
     ("is-valid", Operation::IsValid),
     ("encode", Operation::Encode),
     ("encode-bytes", Operation::EncodeBytes),

@@ -4,7 +4,7 @@ use crate::fields::{RowError, Words};
 use fluent_uri::component::{Authority, HostOf, Scheme, SocketTarget};
 use fluent_uri::pct_enc::encoder::Encoder;
 use fluent_uri::pct_enc::{CowStr, EStr};
-use fluent_uri::{ParseErrorKind, Reference, RiMaybeRef};
+use fluent_uri::{ParseError, ParseErrorKind, Reference, RiMaybeRef};
 use std::alloc::{AllocError, Global};
 use uri_parts::kind::Kind;
 
@@ -112,12 +112,22 @@ pub(crate) fn say_cow(text: &CowStr<'_>, words: &mut Words) -> Result<(), AllocE
 }
 
 /// Returns the name that rows have for a kind of parse error.
-pub(crate) fn name_of(kind: ParseErrorKind) -> &'static str {
+fn name_of(kind: ParseErrorKind) -> &'static str {
     match kind {
         ParseErrorKind::InvalidPctEncodedOctet => "InvalidPctEncodedOctet",
         ParseErrorKind::UnexpectedChar => "UnexpectedChar",
         ParseErrorKind::InvalidIpv6Addr => "InvalidIpv6Addr",
     }
+}
+
+/// Appends to a row's result the kind and the index of a parse error.
+pub(crate) fn say_parse_error(
+    alloc: Global,
+    error: ParseError,
+    words: &mut Words,
+) -> Result<(), AllocError> {
+    let (kind, index) = (name_of(error.kind()), error.index());
+    words.verbatim(format!(in alloc; "{kind} {index}")?.as_str())
 }
 
 /// Returns the authority of a value, or that the row is malformed if it has none.

@@ -3,7 +3,7 @@
 use crate::fields::{Fields, RowError, Words};
 use crate::operation::{Setting, ValueOperation};
 use crate::parsed::{
-    authority_of, name_of, say_authority, say_components, say_host, say_port, say_socket,
+    authority_of, say_authority, say_components, say_host, say_parse_error, say_port, say_socket,
 };
 use crate::settings::{Always, OnePort};
 use fluent_uri::Reference;
@@ -137,7 +137,7 @@ fn normalized_again<K: Kind, P: DefaultPort>(
 }
 
 /// Appends to a row's result the error of normalising.
-fn say_normalize_error(
+pub(crate) fn say_normalize_error(
     alloc: Global,
     error: NormalizeError,
     words: &mut Words,
@@ -164,8 +164,7 @@ pub(crate) fn error<K: Kind>(alloc: Global, text: &str, words: &mut Words) -> Re
     let Err(error) = Reference::<K, &str>::try_from(text) else {
         return Ok(words.verbatim("none")?);
     };
-    let (kind, index) = (name_of(error.kind()), error.index());
-    words.verbatim(format!(in alloc; "{kind} {index}")?.as_str())?;
+    say_parse_error(alloc, error, words)?;
     let owned = String::from_str(alloc, text)?;
     let is_same = match Reference::<K, String>::try_from(owned) {
         Err((of_owned, returned)) => of_owned == error && returned.as_str() == text,
@@ -193,7 +192,7 @@ pub(crate) fn resolve<K: RefKind>(
 }
 
 /// Appends to a row's result the target that a resolver returned, or the error.
-fn say_target<K: Kind>(
+pub(crate) fn say_target<K: Kind>(
     alloc: Global,
     target: Result<Reference<K, String>, ResolveError>,
     words: &mut Words,

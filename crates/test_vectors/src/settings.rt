@@ -1,7 +1,8 @@
-//! Default ports that a row gives.
+//! Default ports that a row gives, and rules of schemes.
 
 use fluent_uri::component::Scheme;
 use fluent_uri::normalize::DefaultPort;
+use uri_rules::SchemeRules;
 
 /// The default port of one scheme, where no other scheme has one.
 #[derive(Clone, Copy)]
@@ -40,5 +41,28 @@ impl DefaultPort for Always {
     /// Returns the port that a row gives for every scheme.
     fn default_port(&self, _scheme: Scheme<'_>) -> Option<u16> {
         Some(self.0)
+    }
+}
+
+/// Rules of a caller: under every scheme an empty path after an authority is `/`, and the default
+/// host is `localhost`.
+#[derive(Clone, Copy)]
+pub(crate) struct EveryScheme;
+
+impl SchemeRules for EveryScheme {
+    ghost use Rattle.std.specs.Prelude.{true};
+
+    ghost roots_of = { λ _ _. true };
+
+    ghost locals_of = { λ _ _. true };
+
+    /// Returns `true`.
+    fn empty_path_is_root(&self, _scheme: Scheme<'_>) -> bool {
+        true
+    }
+
+    /// Returns `true`.
+    fn default_host_is_localhost(&self, _scheme: Scheme<'_>) -> bool {
+        true
     }
 }
