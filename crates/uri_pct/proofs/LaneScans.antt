@@ -9,4 +9,5 @@ pub mod OctetLanes
 pub mod BlockOctets
 pub mod LinkedLanes
 pub mod LinkedRuns
+pub mod ShiftedLanes
 pub mod DotLanes

@@ -40,14 +40,16 @@ fn mask_bytes(low: u64, high: u64, indices: u8x16) -> u8x16
     bytes.swizzle_dyn_within::<16>(indices)
 }
 
+// The bits stand twice: an instruction that looks up by four bits, and gives none where bit 7 is
+// set, then needs no mask before it.
 /// Returns for each lane the bit of its byte in the byte of the masks that has it, and none from
 /// 128 on.
 #[inline(always)]
 fn bits_of_lanes(lanes: u8x16) -> u8x16
     ensures { result ≡ map bit_in_mask_byte lanes }
 {
-    let bits = u8x16::from_array([1, 2, 4, 8, 16, 32, 64, 128, 0, 0, 0, 0, 0, 0, 0, 0]);
-    bits.swizzle_dyn_within::<16>(lanes & u8x16::splat(0x87))
+    let bits = u8x16::from_array([1, 2, 4, 8, 16, 32, 64, 128, 1, 2, 4, 8, 16, 32, 64, 128]);
+    bits.swizzle_dyn_within::<16>(lanes & u8x16::splat(0x8F))
 }
 
 // This and what else a scan calls is only `#[inline]`: with `always` the parsers, which have many
@@ -267,22 +269,6 @@ fn octet_starts(bytes: &[u8], at: usize, no_digits: u64) -> u64
     percents & !((others >> 1) | (others >> 2))
 }
 
-/// Returns how many of the sixteen bytes from `at` on are before the first that is neither in the
-/// set nor a part of an octet that ends among them.
-#[inline(always)]
-pub fn encoded_run_len(low: u64, high: u64, bytes: &[u8], at: usize) -> usize
-    requires { at + LANES ≤ length bytes.now }
-    ensures few { result ≤ 16 }
-    ensures allowed { AreCharactersOrOctets (has_bit low high) bytes.now at result }
-{
-    let starts = octet_starts(bytes, at, lanes_without_hex_digit(bytes, at));
-    let open = outside(low, high, bytes, at) & !(starts | (starts << 1) | (starts << 2));
-    if open == 0 {
-        return LANES;
-    }
-    open.trailing_zeros() as usize
-}
-
 /// Returns which lanes of `mask` are in no octet of those that begin at the lanes of both masks.
 #[inline]
 fn lanes_outside_octets(low: u64, high: u64, mask: u64, starts: u64) -> u64
@@ -350,44 +336,73 @@ pub(crate) fn first_run_end(
     (end, bytes[end] != b'%')
 }
 
-/// Returns whether each of the sixteen bytes from `at` on is in the set or is a `%`, and is a
-/// hexadecimal digit where one of the two bytes before it is a `%`.
+/// Returns a mask of the sixteen bytes from `at` on. It has those that are neither in the set nor a
+/// `%`, and those that are no hexadecimal digit where one of the two bytes before is a `%`.
 #[inline(always)]
-fn is_encoded_block(low: u64, high: u64, bytes: &[u8], at: usize) -> bool
+fn outside_encoded(low: u64, high: u64, bytes: &[u8], at: usize) -> u64
     requires before { 2 ≤ at }
     requires within { at + LANES ≤ length bytes.now }
-    ensures { IsTrue result → (k : ℕ) → k < 16
+    ensures below { result < 2 ^ 16 }
+    ensures lane { (k : ℕ) → k < 16 → bit_at result k ≡ 0
         → IsByteOfEncodedText (has_bit low high) bytes.now (at + k) }
 {
     let digits = lanes_equal_to(b'%', bytes, at - 1) | lanes_equal_to(b'%', bytes, at - 2);
     let no_octet = !lanes_equal_to(b'%', bytes, at);
     let missed = lanes_without_hex_digit(bytes, at) & digits;
-    (outside(low, high, bytes, at) & no_octet) | missed == 0
+    (outside(low, high, bytes, at) & no_octet) | missed
 }
 
-/// Returns where a run of bytes of the set and of octets ends that begins at `start`. The blocks of
-/// sixteen bytes do not depend on where octets begin, so that a processor need not wait for one
-/// block to begin the next.
+/// Returns where a run of bytes of encoded text ends that begins at `start`. Such a byte is in the
+/// set or is a `%`, and is a hexadecimal digit where one of the two bytes before it is a `%`. The
+/// blocks of sixteen bytes do not depend on where octets begin, so that a processor need not wait
+/// for one block to begin the next. As in `run_end` the last sixteen are scanned again.
+#[inline(always)]
+fn linked_run_end(low: u64, high: u64, bytes: &[u8], start: usize) -> usize
+    requires before { 2 ≤ start }
+    requires within { start ≤ length bytes.now }
+    requires long { LANES + 2 ≤ length bytes.now }
+    ensures from { start ≤ result }
+    ensures within { result ≤ length bytes.now }
+    ensures linked { (k : ℕ) → start ≤ k → k < result
+        → IsByteOfEncodedText (has_bit low high) bytes.now k }
+{
+    let len = bytes.len();
+    let mut i = start;
+    while len - i > LANES {
+        let mask = outside_encoded(low, high, bytes, i);
+        if mask != 0 {
+            return i + mask.trailing_zeros() as usize;
+        }
+        i += LANES;
+    }
+    let last = len - LANES;
+    let tail = outside_encoded(low, high, bytes, last);
+    let mask = tail >> (i - last);
+    if mask == 0 {
+        return len;
+    }
+    i + mask.trailing_zeros() as usize
+}
+
+/// Returns where a run of bytes of the set and of octets ends that begins at `start`.
 #[inline(always)]
 pub fn encoded_run_end(low: u64, high: u64, bytes: &[u8], start: usize) -> usize
     requires before { 2 ≤ start }
     requires within { start ≤ length bytes.now }
+    requires long { LANES + 2 ≤ length bytes.now }
     ensures from { start ≤ result }
     ensures within { result ≤ length bytes.now }
     ensures allowed { AreCharactersOrOctets (has_bit low high) bytes.now start (result - start) }
 {
-    let mut i = start;
-    while bytes.len() - i >= LANES && is_encoded_block(low, high, bytes, i) {
-        i += LANES;
-    }
-    if i == start {
+    let end = linked_run_end(low, high, bytes, start);
+    if end - start < 2 {
         return start;
     }
-    if bytes[i - 1] == b'%' {
-        return i - 1;
+    if bytes[end - 1] == b'%' {
+        return end - 1;
     }
-    if bytes[i - 2] == b'%' {
-        return i - 2;
+    if bytes[end - 2] == b'%' {
+        return end - 2;
     }
-    i
+    end
 }

@@ -10,7 +10,7 @@ ghost use Rattle.uri_pct.specs.Texts.{has_hex_digits_after};
 ghost use Rattle.uri_pct.specs.Tables.{set_of as set_of_table};
 ghost use Rattle.uri_pct.specs.Tokens.{is_valid_for};
 
-use crate::lanes::{LANES, chars_end, encoded_run_end, encoded_run_len, first_run_end, run_end};
+use crate::lanes::{LANES, chars_end, encoded_run_end, first_run_end, run_end};
 use crate::masks::has;
 use crate::table::Table;
 use crate::table::members::{run_end_by_members, run_end_by_words};
@@ -89,7 +89,7 @@ impl Table {
     }
 
     /// Returns where the characters of ASCII and the octets end that are found in blocks of sixteen
-    /// bytes. The first block shows whether the run is short.
+    /// bytes. It looks at the two bytes before each block, and finds none in a short text.
     #[inline(always)]
     fn pass_blocks(&self, text: &str, start: usize) -> usize
         requires octets { (set_of self.now).pct_encoded ≡ true }
@@ -99,18 +99,12 @@ impl Table {
         ensures from { start ≤ result }
         ensures boundary { IsCharBoundary text.now result }
     {
-        let (low, high) = self.masks();
         let bytes = text.as_bytes();
-        let mut i = start;
-        while bytes.len() - i >= LANES {
-            let length = encoded_run_len(low, high, bytes, i);
-            i += length;
-            if length < LANES - 2 {
-                break;
-            }
-            i = encoded_run_end(low, high, bytes, i);
+        if start < 2 || bytes.len() < LANES + 2 {
+            return start;
         }
-        i
+        let (low, high) = self.masks();
+        encoded_run_end(low, high, bytes, start)
     }
 
     // The table is last: LLVM passes its masks in registers, and so leaves the text in those that

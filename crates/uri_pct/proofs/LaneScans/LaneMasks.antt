@@ -160,23 +160,23 @@ index_of_mask_byte_is_small v is e i =
 -- sixteen bytes at a time: an index into the vector of bits is below 16, or has bit 7 set,
 -- for which the vector gives 0
 pub bit_index_fits_swizzle : (b : ℕ) → b < 256
-    → (zeroes 16 w8 (bit_and b 135) || ltb (bit_and b 135) 16) ≡ true
+    → (zeroes 16 w8 (bit_and b 143) || ltb (bit_and b 143) 16) ≡ true
 bit_index_fits_swizzle b h = agree_below_at
-    (λ c. zeroes 16 w8 (bit_and c 135) || ltb (bit_and c 135) 16)
+    (λ c. zeroes 16 w8 (bit_and c 143) || ltb (bit_and c 143) 16)
     (λ c. true) 256 b refl h
 
--- sixteen bytes at a time: the vector that has the bit of a byte by its three lowest bits
+-- sixteen bytes at a time: the vector that has the bit of a byte by its four lowest bits
 abbrev pub swizzle_bits : List ℕ
-swizzle_bits = 1 ∷ 2 ∷ 4 ∷ 8 ∷ 16 ∷ 32 ∷ 64 ∷ 128 ∷ 0 ∷ 0 ∷ 0 ∷ 0 ∷ 0 ∷ 0 ∷ 0 ∷ 0 ∷ []
+swizzle_bits = 1 ∷ 2 ∷ 4 ∷ 8 ∷ 16 ∷ 32 ∷ 64 ∷ 128 ∷ 1 ∷ 2 ∷ 4 ∷ 8 ∷ 16 ∷ 32 ∷ 64 ∷ 128 ∷ []
 
 -- sixteen bytes at a time: a vector gives the bit that a byte has in the mask of a table
 pub swizzle_reads_bit_of_byte : (b : ℕ) → b < 256
-    → cond (zeroes 16 w8 (bit_and b 135)) 0 (get_or swizzle_bits (bit_and b 135) 0)
+    → cond (zeroes 16 w8 (bit_and b 143)) 0 (get_or swizzle_bits (bit_and b 143) 0)
     ≡ bit_in_mask_byte b
 unfolding bit_in_mask_byte
 swizzle_reads_bit_of_byte b h =
     eqb-true _ _ (agree_below_at
-    (λ c. eqb (cond (zeroes 16 w8 (bit_and c 135)) 0 (get_or swizzle_bits (bit_and c 135) 0))
+    (λ c. eqb (cond (zeroes 16 w8 (bit_and c 143)) 0 (get_or swizzle_bits (bit_and c 143) 0))
     (bit_in_mask_byte c)) (λ c. true) 256 b refl h)
 
 -- sixteen bytes at a time: the mask marks the lanes whose characters are not in the set

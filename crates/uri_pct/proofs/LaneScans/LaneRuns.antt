@@ -9,6 +9,7 @@ use Rattle.std.proofs.lemmas.Nat.Bits.{bit_at-zero, bit_at_above, bit_at-trailin
 use Rattle.std.proofs.lemmas.Simd.{bit_mask_l, mask_l-lt, get_or-chunk, length-chunk}
 use Rattle.std.proofs.lemmas.List.{get_or_default, length-map}
 use Rattle.std.proofs.Math.ListN.{get_or-map}
+use Rattle.uri_pct.specs.Masks.{has_bit}
 use Rattle.uri_pct.specs.Models.ByteRuns.{IsLongestRun}
 use Rattle.std.proofs.lemmas.Bool.Decides.{nat_tests}
 
@@ -33,6 +34,14 @@ load_mask_marks_failing_lanes test bs i w room =
           ∙ ap (λ b. not (test b)) (get_or-chunk i w bs k 0 h));
       below = subst (λ n. mask_l ms < 2 ^ n) both (mask_l-lt ms);
     }
+
+-- sixteen bytes at a time: the mask of a set, by two masks, marks the lanes outside it
+pub set_mask_marks_lanes_outside : (low high : ℕ) (bs : List ℕ) (i mask : ℕ) → i + 16 ≤ length bs
+    → mask ≡ mask_l (map (λ b. not (has_bit low high b)) (chunk i 16 bs))
+    → MarksFailingLanes (has_bit low high) bs i 16 mask
+set_mask_marks_lanes_outside low high bs i mask room e =
+    subst (MarksFailingLanes (has_bit low high) bs i 16) (sym e)
+    (load_mask_marks_failing_lanes (has_bit low high) bs i 16 room)
 
 -- sixteen bytes at a time: a mask that is shifted right marks the lanes after the first s
 shifted_mask_marks_later_lanes : (test : ℕ → Bool) (bs : List ℕ) (i w s mask : ℕ)

@@ -10,7 +10,6 @@ use Rattle.std.proofs.lemmas.Bool.{cases_lt, both_ways, eqb-true, eq-eqb, and_fr
 use Rattle.std.proofs.lemmas.Bool.{or_parts, and_right, cases_Bool, le-leb, lt-leb}
 use Rattle.std.proofs.Math.Bool.{or-false}
 use Rattle.uri_pct.specs.Texts.{has_hex_digits_after}
-use Rattle.uri_pct.specs.Models.ByteRuns.{AreCharactersOrOctets}
 use Rattle.uri_pct.specs.Models.LaneMasks.{is_lane_of_octet}
 use Rattle.uri_pct.specs.Masks.{has_bit}
 use Rattle.uri_pct.proofs.TableSets.Masks.{bit_of_bit_or, bit_of_bit_and, bit_of_bit_and_not}
@@ -191,27 +190,3 @@ miss_outside_digits_is_in_octet_that_begins_there misses starts k digits = ⊎_e
 
     here : is_set_bit misses k ≡ true → is_lane_of_octet begun k ≡ is_set_bit starts k
     here set = grind (arith, nat_tests, is_set_bit, or-false, bit_of_bit_and, and_true_is_the_same)
-
--- the bytes before the first lane that is a miss and in no octet
-module _ (test : ℕ → Bool) (bs : List ℕ) (i begun misses n : ℕ) (fits : begun < 2 ^ 64)
-    (few : n ≤ 16)
-    (starts : (k : ℕ) → bit_at begun k ≡ 1 → (k + 3 ≤ 16) × (get_or bs (i + k) 0 ≡ 37)
-    × (has_hex_digits_after bs (i + k) ≡ true)) (marks : MarksFailingLanes test bs i 16 misses)
-    (shut : (k : ℕ) → k < n → is_set_bit (lanes_left_uncovered misses begun) k ≡ false)
-    (ends : n < 16 → is_set_bit (lanes_left_uncovered misses begun) n ≡ true) where
-  pub covered_lanes_are_characters_or_octets : AreCharactersOrOctets test bs i n
-  covered_lanes_are_characters_or_octets = record {
-    octet = is_set_bit begun;
-    pass = λ k h o fresh.
-        clear_lane_passes_test test bs i 16 misses k marks (omega arith)
-        (first_is_false_if_and_is_false _ _
-        (sym (uncovered_lane_is_miss_outside_octets misses begun k fits (omega arith)) ∙ shut k h)
-        (ap not (lane_without_origin_is_in_no_octet begun k o fresh)));
-    percent = λ k o. (starts k (eqb-true _ _ o)).1;
-    digits = λ k o. (starts k (eqb-true _ _ o)).2;
-    whole = octets_before_lane_outside_are_whole begun n few
-        (λ k o. (starts k (eqb-true _ _ o)).0)
-        (λ l. (and_not_is_true_of_both_parts _ _ (sym
-        (uncovered_lane_is_miss_outside_octets misses begun n fits (omega arith))
-        ∙ ends l)).1);
-  }

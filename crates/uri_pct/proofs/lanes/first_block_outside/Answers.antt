@@ -1,23 +1,15 @@
 use Rattle.std.proofs.Common.{◌≡◌, ◌+◌, ◌-◌, ◌*◌, ◌/◌, ◌%◌, ◌^◌, ◌<◌, ◌≤◌, ℕ, List, not, leb}
-use Rattle.std.proofs.Common.{length, map, get_or, arith, sym, ap, subst, ◌∙◌, ◌&&◌, ⊎_elim}
+use Rattle.std.proofs.Common.{length, map, get_or, arith, sym, ap, ◌∙◌, ◌&&◌, ⊎_elim}
 use Rattle.std.specs.Simd.Lanes.{mask_l, chunk}
 use Rattle.std.proofs.Math.Nat.{div-mul-le_self}
 use Rattle.std.proofs.lemmas.Bool.{cases_lt, and_right, le-leb, lt-leb}
 use Rattle.uri_pct.specs.Masks.{has_bit}
-use Rattle.uri_pct.proofs.LaneScans.LaneRuns.{MarksFailingLanes, load_mask_marks_failing_lanes}
+use Rattle.uri_pct.proofs.LaneScans.LaneRuns.{set_mask_marks_lanes_outside}
 use Rattle.uri_pct.proofs.LaneScans.LaneRuns.{run_goes_on_past_unmarked_lanes}
 use Rattle.uri_pct.proofs.LaneScans.LaneBits.{is_set_bit, mask_bit_is_test_of_byte}
 use Rattle.uri_pct.proofs.LaneScans.LaneBits.{bit_of_left_shift, bit_of_right_shift}
 use Rattle.uri_pct.proofs.LaneScans.LaneBits.{low_bit_of_left_shift_is_clear}
 use Rattle.uri_pct.proofs.lanes.first_block_outside.Goals as goal
-
--- what a block's mask says
-block : (low high : ℕ) (bs : List ℕ) (i mask : ℕ) → i + 16 ≤ length bs
-    → mask ≡ mask_l (map (λ b. not (has_bit low high b)) (chunk i 16 bs))
-    → MarksFailingLanes (has_bit low high) bs i 16 mask
-block low high bs i mask room e =
-    subst (MarksFailingLanes (has_bit low high) bs i 16) (sym e)
-    (load_mask_marks_failing_lanes (has_bit low high) bs i 16 room)
 
 lane : (low high : ℕ) (bs : List ℕ) (i mask k : ℕ) → i + 16 ≤ length bs
     → mask ≡ mask_l (map (λ b. not (has_bit low high b)) (chunk i 16 bs)) → k < 16
@@ -28,8 +20,8 @@ lane low high bs i mask k room e h =
 
 pub returns-then-mask-ne0-clause-below : goal.returns-then-mask-ne0-clause-below
 returns-then-mask-ne0-clause-below c =
-    (block c.args.low c.args.high c.args.bytes.now c.loop-i.i c.outside-mask.result
-    (omega (arith, c.loop-i.invariant.within, c.loop-i-test.true)) c.outside-mask.ensures).below
+    (set_mask_marks_lanes_outside c.args.low c.args.high c.args.bytes.now c.loop-i.i
+    c.outside-mask.result (omega (arith, c.loop-i.invariant.within, c.loop-i-test.true)) c.outside-mask.ensures).below
 
 pub returns-then-mask-ne0-clause-lane : goal.returns-then-mask-ne0-clause-lane
 returns-then-mask-ne0-clause-lane c k h =
@@ -48,7 +40,8 @@ loop-i-preserved c =
       from = omega (arith, c.loop-i.invariant.from);
       within = room;
       pass = run_goes_on_past_unmarked_lanes _ bs c.args.start c.loop-i.i 16 _
-          (block _ _ bs c.loop-i.i _ room c.outside-mask.ensures) c.loop-i.invariant.pass
+          (set_mask_marks_lanes_outside _ _ bs c.loop-i.i _ room c.outside-mask.ensures)
+          c.loop-i.invariant.pass
           (omega (arith, c.if-mask-ne0.false));
     }
 
@@ -59,7 +52,7 @@ below n s h = omega (arith, div-mul-le_self n (2 ^ s))
 pub returns-clause-below : goal.returns-clause-below
 returns-clause-below c =
     below c.outside-tail.result (c.loop-i.i - (length c.args.bytes.now - 16))
-    (block c.args.low c.args.high c.args.bytes.now (length c.args.bytes.now - 16)
+    (set_mask_marks_lanes_outside c.args.low c.args.high c.args.bytes.now (length c.args.bytes.now - 16)
     c.outside-tail.result (omega (arith, c.requires.long)) c.outside-tail.ensures).below
 
 pub returns-clause-lane : goal.returns-clause-lane

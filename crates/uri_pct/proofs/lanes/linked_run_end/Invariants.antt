@@ -1,14 +1,12 @@
-use Rattle.std.proofs.Common.{◌≡◌, ◌+◌, ◌-◌, ◌≤◌, ◌<◌, ℕ, length}
+use Rattle.std.proofs.Common.{◌-◌, ◌≤◌, ◌<◌, ℕ, length}
 use Rattle.uri_pct.specs.Models.ByteRuns.{IsByteOfEncodedText}
 use Rattle.uri_pct.specs.Masks.{has_bit}
-use Rattle.uri_pct.proofs.lanes.encoded_run_end.Given as goal
+use Rattle.uri_pct.proofs.lanes.linked_run_end.Given as goal
 
 abbrev pub invariant-loop-i : goal.invariant-loop-i
 invariant-loop-i l = record {
   from : l.start ≤ l.i;
   within : l.i ≤ length l.bytes;
-  -- nothing was passed, or a block
-  some : (l.i ≡ l.start → ⊥) → l.start + 16 ≤ l.i;
   linked : (k : ℕ) → l.start ≤ k → k < l.i → IsByteOfEncodedText (has_bit l.low l.high) l.bytes k;
 }
 
