@@ -40,8 +40,8 @@ fn mask_bytes(low: u64, high: u64, indices: u8x16) -> u8x16
     bytes.swizzle_dyn_within::<16>(indices)
 }
 
-// The bits stand twice: an instruction that looks up by four bits, and gives none where bit 7 is
-// set, then needs no mask before it.
+// Each bit is in the vector twice, so that four bits of a byte choose it. x86-64's instruction reads
+// these four and bit 7, and LLVM drops the `&` before it.
 /// Returns for each lane the bit of its byte in the byte of the masks that has it, and none from
 /// 128 on.
 #[inline(always)]
