@@ -75,7 +75,7 @@ octets_are_allowed_if_pct_encoded set (b ∷ bytes) o = and_from _ _ o
     (octets_are_allowed_if_pct_encoded set bytes o)
 
 -- encoding: a character is encoded as tokens that can be written
-encoded_char_is_printable : (set : TableSet) (c : ℕ) → LacksPercent set → IsScalar c
+pub encoded_char_is_printable : (set : TableSet) (c : ℕ) → LacksPercent set → IsScalar c
     → list_all is_printable (encode_char set c) ≡ true
 encoded_char_is_printable set c lacks scalar = ⊎_elim
     (λ e. ap (list_all is_printable) (cond-true _ _ _ e)

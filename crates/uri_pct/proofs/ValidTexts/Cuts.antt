@@ -67,7 +67,7 @@ module _ (set : TableSet) where
   excluded_mark_is_ascii marks e b m = ltb-true b 128
       (excluded_byte_is_ascii_outside_set b (each_excluded_mark_is_excluded marks e b m)).0
 
-  excluded_mark_is_not_in_set : (marks : List ℕ) → excludes set marks ≡ true → (b : ℕ)
+  pub excluded_mark_is_not_in_set : (marks : List ℕ) → excludes set marks ≡ true → (b : ℕ)
       → is_one_of marks b ≡ true → set.ascii b ≡ false
   excluded_mark_is_not_in_set marks e b m =
       (excluded_byte_is_ascii_outside_set b (each_excluded_mark_is_excluded marks e b m)).1

@@ -22,6 +22,7 @@ use Rattle.uri_pct.proofs.UnreservedDecoding.Printing.{char_but_percent_is_its_o
 use Rattle.uri_pct.proofs.UnreservedDecoding.Printing.{scalars-append}
 use Rattle.uri_pct.proofs.ValidTexts.Cuts.{valid_prefix_by_first_byte}
 use Rattle.uri_pct.proofs.ValidTexts.Validity.{ascii_first_byte_is_allowed_iff_in_set}
+use Rattle.uri_pct.proofs.ValidTexts.Validity.{tail_of_scalars_is_scalars}
 use Rattle.uri_pct.proofs.ValidTexts.PrefixSteps.{valid_prefix_by_first_char}
 use Rattle.std.proofs.lemmas.Bool.Decides.{nat_tests}
 
@@ -40,7 +41,7 @@ unfolding is_pct_encoded
 octet_is_three_bytes_long c h l cs e = grind (arith, nat_tests, encode_ascii, hexdigit_is_ascii)
 
 -- valid prefixes: a set allows nothing of the empty text
-empty_text_has_empty_valid_prefix : (set : TableSet) → valid_prefix set [] ≡ 0
+pub empty_text_has_empty_valid_prefix : (set : TableSet) → valid_prefix set [] ≡ 0
 unfolding valid_prefix_from
 empty_text_has_empty_valid_prefix set = refl
 
@@ -141,10 +142,6 @@ module _ (set : TableSet) (lacks : LacksPercent set) where
         ∙ sym (octet_is_three_bytes_long c h l f.before e);
     valid = ap (list_all (allows_token set)) (cond-true _ _ _ e) ∙ and_from _ _ p f.valid;
   }
-
-  tail_of_scalars_is_scalars : (c : ℕ) (cs : List ℕ) → all_scalars (c ∷ cs) ≡ true
-      → all_scalars cs ≡ true
-  tail_of_scalars_is_scalars c cs s = (and_parts _ _ s).1
 
   valid_prefix_of_chars_is_found : (cs : List ℕ) → all_scalars cs ≡ true → Found cs
   unfolding begins_with_hex_digits is_pct_encoded

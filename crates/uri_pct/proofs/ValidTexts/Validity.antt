@@ -187,7 +187,7 @@ validity_by_first_octet set c h l cs p e =
     (cases_Bool set.pct_encoded)
 
 -- validity: scalar values without the first are scalar values
-tail_of_scalars_is_scalars : (c : ℕ) (cs : List ℕ) → all_scalars (c ∷ cs) ≡ true
+pub tail_of_scalars_is_scalars : (c : ℕ) (cs : List ℕ) → all_scalars (c ∷ cs) ≡ true
     → all_scalars cs ≡ true
 tail_of_scalars_is_scalars c cs s = (and_parts _ _ s).1
 
