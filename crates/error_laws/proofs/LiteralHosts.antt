@@ -24,7 +24,7 @@ use Rattle.uri_parts.specs.LiteralErrors.{closed, literal, ipv6_end, cannot_begi
 use Rattle.uri_parts.specs.Scanning.{is_next, is_at_end, scan_end, scan_to_mark, ScanResult}
 use Rattle.uri_parts.proofs.HostForms.Addresses.{is_address_char, is_address_text}
 use Rattle.uri_parts.proofs.HostForms.Addresses.{ipv6_value-complete, ipv6-text-is-address-text}
-use Rattle.uri_parts.proofs.HostForms.Futures.{is_ipv_future-complete}
+use Rattle.uri_parts.proofs.HostForms.Futures.{is_ipv_future-complete, version-letter-is-ascii}
 use Rattle.uri_parts.proofs.HostForms.Futures.{ipv6-text-lacks-excluded-marks}
 use Rattle.uri_parts.proofs.HostForms.Futures.{ipvfuture-text-lacks-excluded-marks}
 use Rattle.uri_parts.proofs.Parsing.Acceptance.{is_literal}
@@ -36,10 +36,6 @@ use Rattle.error_laws.specs.ViablePrefixes.{is_ipv6_end_uncounted}
 use Rattle.error_laws.proofs.LongerAddresses.{ipv6-ends-within-text}
 use Rattle.error_laws.proofs.SharedPrefixes.{IsPosition, position-after-mark, scan-ends-at-position}
 use Rattle.error_laws.proofs.SharedPrefixes.{scanned-part-is-valid, taken-in-two-steps}
-
--- error law: the `v` of an IPvFuture address is ASCII
-version-letter-is-ascii : (c : ℕ) → is_one_of (codes "vV") c ≡ true → c < 128
-version-letter-is-ascii c e = grind (arith, nat_tests)
 
 -- error law: what may be in brackets
 pub record IsAddress (address : List ℕ) : Type 0 where

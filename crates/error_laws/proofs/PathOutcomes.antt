@@ -13,6 +13,7 @@ use Rattle.uri_pct.specs.Prefixes.{valid_prefix}
 use Rattle.uri_pct.specs.Sets.{TableSet, LacksPercent, digit_set, is_one_of}
 use Rattle.uri_pct.specs.Tokens.{IsValidFor}
 use Rattle.uri_pct.proofs.ValidTexts.Cuts.{excludes}
+use Rattle.uri_pct.proofs.ValidTexts.LongestPrefixes.{empty_text_has_empty_valid_prefix}
 use Rattle.uri_pct.proofs.ValidTexts.LongestPrefixes.{valid_prefix_is_longest}
 use Rattle.uri_parts.specs.declared.error.ParseError.{ParseError}
 use Rattle.uri_parts.specs.Components.{starts, is_end}
@@ -22,7 +23,6 @@ use Rattle.uri_parts.specs.Refusals.{OptionalParseError, ◌>>=◌, error_from_e
 use Rattle.uri_parts.specs.Refusals.{error_from_query, error_from_path, error_from_abempty_path}
 use Rattle.uri_parts.specs.Refusals.{error_from_port, error_from_host}
 use Rattle.uri_parts.specs.Scanning.{is_next, is_at_end, scan_end, scan}
-use Rattle.uri_parts.proofs.Authorities.NamesAndPorts.{valid_prefix-of-empty-text}
 use Rattle.uri_parts.proofs.Refusals.Rooted.{scan-stops-at-stray-percent-or-goes-on}
 use Rattle.uri_parts.proofs.Splitting.Cuts.{IsEmptyOrMarked, empty-or-marked-for-more-marks}
 use Rattle.uri_parts.proofs.Splitting.Cuts.{begins-with-no-other}
@@ -42,7 +42,7 @@ use Rattle.error_laws.proofs.SharedPrefixes.{scanned-part-is-valid}
 scan-stays-at-end : (text : List ℕ) (set : TableSet) (i : ℕ) → drop i text ≡ []
     → scan text set i ≡ Ok i
 scan-stays-at-end text set i d =
-    let z = ap (valid_prefix set) d ∙ valid_prefix-of-empty-text set in
+    let z = ap (valid_prefix set) d ∙ empty_text_has_empty_valid_prefix set in
     scan-goes-on text set i i (omega (arith, z)) (ap (starts 37) d)
 
 module _ (kind : Kind) (text : List ℕ) (i : ℕ) (d : drop i text ≡ []) where

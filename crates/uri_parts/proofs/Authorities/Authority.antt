@@ -1,14 +1,14 @@
 -- An authority has one cut, and passes its test exactly if the parts of that cut meet the grammar.
-use Rattle.std.proofs.Common.{◌≡◌, ℕ, Bool, true, false, not, eqb, ltb, List, [], ◌∷◌, ◌++◌, drop}
-use Rattle.std.proofs.Common.{refl, sym, ap, subst, ◌∙◌, arith, ◌||◌, ◌&&◌, ⊎_elim, inl, inr, ◌⊎◌}
-use Rattle.std.proofs.Common.{append_assoc, append-nil}
+use Rattle.std.proofs.Common.{◌≡◌, ℕ, true, false, not, eqb, ltb, List, [], ◌∷◌, ◌++◌, drop, refl}
+use Rattle.std.proofs.Common.{sym, ap, subst, ◌∙◌, arith, ◌&&◌, ⊎_elim, inl, inr, ◌⊎◌, append_assoc}
+use Rattle.std.proofs.Common.{append-nil}
 use Rattle.std.specs.Prelude.{codes, bytes_eq, Option, Some, None, IfSome}
 use Rattle.std.specs.List.{list_any, list_all}
 use Rattle.std.specs.Char.{is_ascii_hexdigit}
 use Rattle.std.specs.Option.{option_map_or}
 use Rattle.std.specs.Str.{IsUtf8}
-use Rattle.std.proofs.lemmas.Bool.{and_from, and_parts, cond-true, cond-false, true≢false}
-use Rattle.std.proofs.lemmas.Bool.{both_ways, cases_Bool}
+use Rattle.std.proofs.lemmas.Bool.{and_from, and_parts, cond-true, cond-false, both_ways}
+use Rattle.std.proofs.lemmas.Bool.{cases_Bool, or_parts}
 use Rattle.std.proofs.lemmas.Bool.Decides.{nat_tests}
 use Rattle.std.proofs.lemmas.Slice.Eq.{bytes_eq-Decides}
 use Rattle.uri_pct.specs.Sets.{TableSet, is_one_of, digit_set, ipv_future_set}
@@ -19,8 +19,7 @@ use Rattle.uri_parts.specs.Hosts.{HostKind, Ipv4, Ipv6, IpvFuture, RegName, IsHo
 use Rattle.uri_parts.specs.Hosts.{host_kind, is_host}
 use Rattle.uri_parts.specs.Authority.{AuthorityParts, recompose_authority, IsAuthorityFor}
 use Rattle.uri_parts.specs.Authority.{LackAuthorityDelimiters, after_userinfo, leading_host}
-use Rattle.uri_parts.specs.Authority.{after_host}
-use Rattle.uri_parts.specs.Authority.{authority_parts, is_authority_for}
+use Rattle.uri_parts.specs.Authority.{after_host, authority_parts, is_authority_for}
 use Rattle.uri_parts.proofs.Splitting.Cuts.{cut-at-end-of-text-without-marks, IsEmptyOrMarked}
 use Rattle.uri_parts.proofs.Splitting.Cuts.{text-after-other-byte-lacks-marks}
 use Rattle.uri_parts.proofs.TextKinds.GrammarTexts.{utf8_around_ascii_byte}
@@ -30,15 +29,9 @@ use Rattle.uri_parts.proofs.HostForms.Futures.{ipv6-text-lacks-excluded-marks}
 use Rattle.uri_parts.proofs.HostForms.Futures.{ipvfuture-text-lacks-excluded-marks}
 use Rattle.uri_parts.proofs.HostForms.Futures.{joined-texts-lack-marks}
 use Rattle.uri_parts.proofs.HostForms.Hosts.{lacking_text_does_not_begin_with}
-use Rattle.uri_parts.proofs.HostForms.Hosts.{address-in-brackets-is-utf8}
-use Rattle.uri_parts.proofs.HostForms.Hosts.{is_host-sound}
+use Rattle.uri_parts.proofs.HostForms.Hosts.{address-in-brackets-is-utf8, is_host-sound}
 use Rattle.uri_parts.proofs.HostForms.Hosts.{is_host-complete}
 use Rattle.uri_parts.proofs.HostForms.Hosts.{reg_name_set-excludes-host-delimiters}
-
--- general fact on booleans, for cutting authorities
-or-false-gives-both-false : (a b : Bool) → (a || b) ≡ false → (a ≡ false) × (b ≡ false)
-or-false-gives-both-false false b e = (refl, e)
-or-false-gives-both-false true b e = absurd (true≢false e)
 
 -- cutting authorities: a set excludes ASCII delimiters that are in neither it nor an octet
 set-excludes-marks-outside-it : (set : TableSet) (marks : List ℕ)
@@ -47,7 +40,7 @@ set-excludes-marks-outside-it : (set : TableSet) (marks : List ℕ)
 set-excludes-marks-outside-it set [] h e = refl
 set-excludes-marks-outside-it set (b ∷ marks) h e =
     let p = and_parts _ _ h in
-    let q = or-false-gives-both-false _ _ e in
+    let q = or_parts _ _ e in
     let r = and_parts _ _ p.0 in
     and_from _ _ (and_from _ _ r.0 (and_from _ _ (ap not q.0) r.1))
     (set-excludes-marks-outside-it set marks p.1 q.1)

@@ -11,8 +11,9 @@ use Rattle.std.proofs.lemmas.Bool.{false_from_ne_true}
 use Rattle.std.proofs.lemmas.Bool.Decides.{nat_tests}
 use Rattle.uri_pct.specs.Sets.{TableSet, LacksPercent, IsSubset, digit_set, reg_name_set, is_one_of}
 use Rattle.uri_pct.specs.Tokens.{is_valid_for}
-use Rattle.uri_pct.specs.Prefixes.{valid_prefix_from, valid_prefix, after}
+use Rattle.uri_pct.specs.Prefixes.{valid_prefix, after}
 use Rattle.uri_pct.proofs.ValidTexts.Cuts.{excludes, cut, is_valid_for_is_scanned_to_end}
+use Rattle.uri_pct.proofs.ValidTexts.LongestPrefixes.{empty_text_has_empty_valid_prefix}
 use Rattle.uri_pct.proofs.ValidTexts.MarksInTexts.{length_before_marks, AreAscii}
 use Rattle.uri_pct.proofs.ValidTexts.MarksInTexts.{first_mark_is_at_boundary}
 use Rattle.uri_pct.proofs.ValidTexts.PrefixSteps.{valid_prefix_passes_ascii_char_of_set}
@@ -24,8 +25,7 @@ use Rattle.uri_parts.proofs.Authorities.Authority.{empty-text-lacks-marks}
 use Rattle.uri_parts.proofs.Authorities.AuthorityCuts.{length-of-text-before-marks}
 use Rattle.uri_parts.proofs.Authorities.AuthorityCuts.{drop-after-drop-of-one}
 use Rattle.uri_parts.proofs.Splitting.Cuts.{IsEmptyOrMarked, text-is-cut-at-first-mark}
-use Rattle.uri_parts.proofs.Splitting.Cuts.{before_any-at-mark}
-use Rattle.uri_parts.proofs.Splitting.Cuts.{from_any-at-mark}
+use Rattle.uri_parts.proofs.Splitting.Cuts.{before_any-at-mark, from_any-at-mark}
 use Rattle.uri_parts.proofs.Splitting.Cuts.{before_any-past-other, from_any-past-other}
 use Rattle.uri_parts.proofs.Splitting.Cuts.{text-after-other-byte-lacks-marks}
 use Rattle.uri_parts.proofs.HostForms.Futures.{ipv4-text-is-digits-and-dots}
@@ -223,11 +223,6 @@ port-lacks-at-sign (b ∷ bs) u h =
     (valid_text_lacks_excluded_marks digit_set (codes "@") refl refl bs
     (utf8_after_ascii_byte b bs (colon-is-ascii b p.0) u) p.1)
 
--- authorities, parsed: in the empty text, as where a name or a port is missing, nothing is passed
-pub valid_prefix-of-empty-text : (set : TableSet) → valid_prefix set [] ≡ 0
-unfolding valid_prefix_from
-valid_prefix-of-empty-text set = refl
-
 -- authorities, parsed: the characters of an IPv4 address are ASCII
 digit-or-dot-is-ascii : (c : ℕ) → IsDigitOrDot c → c < 128
 digit-or-dot-is-ascii c (inl range) = grind (arith, nat_tests)
@@ -236,7 +231,7 @@ digit-or-dot-is-ascii c (inr dot) = grind (arith, nat_tests)
 module _ (names : TableSet) (lacks : LacksPercent names) (wide : IsSubset reg_name_set names) where
   digits-and-dots-are-scanned-as-name : (text : List ℕ) → All IsDigitOrDot text
       → valid_prefix names text ≡ length text
-  digits-and-dots-are-scanned-as-name [] h = valid_prefix-of-empty-text names
+  digits-and-dots-are-scanned-as-name [] h = empty_text_has_empty_valid_prefix names
   digits-and-dots-are-scanned-as-name (c ∷ text) h =
       let d = h 0 0 (omega arith) in
       let one : valid_prefix names (c ∷ text) ≡ valid_prefix names text + 1 =

@@ -56,8 +56,8 @@ nonempty-port-has-number [] e = absurd (true≢false e)
 nonempty-port-has-number (d ∷ digits) e = (omega arith, refl)
 
 -- ports: digits have no `+` before them, which std would allow
-digits-have-no-leading-plus : (digits : List ℕ) → AllDigits 10 digits → without_leading_plus digits
-    ≡ digits
+pub digits-have-no-leading-plus : (digits : List ℕ) → AllDigits 10 digits
+    → without_leading_plus digits ≡ digits
 digits-have-no-leading-plus [] d = refl
 digits-have-no-leading-plus (c ∷ digits) d = without_leading_plus_none (c ∷ digits)
     (λ e. omega (arith, digit_from_value c d.0))

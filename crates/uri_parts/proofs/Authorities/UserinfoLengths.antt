@@ -6,6 +6,7 @@ use Rattle.std.proofs.lemmas.Bool.{cases_Bool, cond-true, cond-false, eqb-true}
 use Rattle.uri_pct.specs.Sets.{TableSet, digit_set}
 use Rattle.uri_pct.specs.Prefixes.{valid_prefix, after}
 use Rattle.uri_pct.proofs.ValidTexts.Cuts.{valid_prefix_at_mark_is_empty}
+use Rattle.uri_pct.proofs.ValidTexts.LongestPrefixes.{empty_text_has_empty_valid_prefix}
 use Rattle.uri_pct.proofs.ValidTexts.Prefixes.{valid_prefix_of_superset_goes_on_from_subset}
 use Rattle.uri_pct.proofs.ValidTexts.PrefixSteps.{valid_prefix_passes_ascii_char_of_set}
 use Rattle.uri_parts.specs.Components.{starts}
@@ -15,7 +16,6 @@ use Rattle.uri_parts.specs.Models.AuthorityParsing.{host_offset, text_from_host}
 use Rattle.uri_parts.proofs.Parsing.Acceptance.{passes_user}
 use Rattle.uri_parts.specs.Grammar.{Kind}
 use Rattle.uri_parts.proofs.Authorities.AuthorityCuts.{suffix, drop-after-drop-of-one}
-use Rattle.uri_parts.proofs.Authorities.NamesAndPorts.{valid_prefix-of-empty-text}
 use Rattle.uri_parts.proofs.TextKinds.Separations.{SeparatesComponents}
 use Rattle.uri_parts.proofs.Splitting.Recompose.{text-with-mark-is-mark-and-rest}
 
@@ -27,9 +27,9 @@ module _ (segment : TableSet) (kind : Kind) (w : SeparatesComponents segment kin
   unfolding port_length
   port-is-prefix-of-userinfo [] =
       let a : valid_prefix kind.userinfo (drop (port_length []) [])
-      ≡ 0 = valid_prefix-of-empty-text kind.userinfo in
+      ≡ 0 = empty_text_has_empty_valid_prefix kind.userinfo in
       let b : port_length [] ≡ 0 = refl in
-      omega (arith, valid_prefix-of-empty-text kind.userinfo, a, b)
+      omega (arith, empty_text_has_empty_valid_prefix kind.userinfo, a, b)
   port-is-prefix-of-userinfo (b ∷ bs) = ⊎_elim
       (λ e.
       let c = eqb-true b 58 e in

@@ -14,21 +14,20 @@ use Rattle.std.proofs.lemmas.Bool.Decides.{nat_tests}
 use Rattle.uri_pct.specs.Sets.{TableSet, LacksPercent, is_one_of, hexdig_set, reg_name_set}
 use Rattle.uri_pct.specs.Sets.{ipv_future_set, is_userinfo_char, is_reg_name_char}
 use Rattle.uri_pct.specs.Tokens.{is_valid_for}
-use Rattle.uri_pct.proofs.ValidTexts.Cuts.{excludes}
+use Rattle.uri_pct.proofs.ValidTexts.Cuts.{excludes, excluded_mark_is_not_in_set}
 use Rattle.uri_parts.specs.Components.{Lacks, before_any, from_any}
 use Rattle.uri_parts.specs.Hosts.{IsIpvFuture, is_ipv_future, is_future_address}
 use Rattle.uri_parts.proofs.Splitting.Cuts.{cut-at-end-of-text-without-marks}
 use Rattle.uri_parts.proofs.Splitting.Cuts.{text-is-cut-at-first-mark}
 use Rattle.uri_parts.proofs.Parsing.ScanStops.{utf8_after_ascii_byte}
 use Rattle.uri_parts.proofs.TextKinds.GrammarTexts.{utf8_around_ascii_byte}
-use Rattle.uri_parts.proofs.TextKinds.GrammarTexts.{excluded_mark_is_no_char}
 use Rattle.uri_parts.proofs.TextKinds.GrammarTexts.{valid_text_lacks_excluded_marks}
 use Rattle.uri_parts.proofs.HostForms.Addresses.{is_address_char, ipv6-text-is-address-text}
 use Rattle.uri_parts.proofs.HostForms.Addresses.{address-text-lacks-other-marks}
 use Rattle.uri_parts.proofs.Splitting.Recompose.{text-with-mark-is-mark-and-rest}
 
 -- hosts: the `v` of an IPvFuture address is ASCII
-version-letter-is-ascii : (c : ℕ) → is_one_of (codes "vV") c ≡ true → c < 128
+pub version-letter-is-ascii : (c : ℕ) → is_one_of (codes "vV") c ≡ true → c < 128
 version-letter-is-ascii c e = grind (arith, nat_tests)
 
 -- parsing hosts: an IPvFuture address of the grammar passes the test
@@ -121,7 +120,7 @@ unmarked : (set : TableSet) (marks : List ℕ) → excludes set marks ≡ true �
     ≡ true
     → is_one_of marks c ≡ false
 unmarked set marks outside c e = ⊎_elim
-    (λ m. absurd (both_ways _ (excluded_mark_is_no_char set marks outside c m) e))
+    (λ m. absurd (both_ways _ (excluded_mark_is_not_in_set set marks outside c m) e))
     (λ m. m)
     (cases_Bool (is_one_of marks c))
 

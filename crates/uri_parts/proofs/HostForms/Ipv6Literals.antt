@@ -4,7 +4,7 @@ use Rattle.std.proofs.Common.{drop, Option, Some, None, option_map, refl, sym, a
 use Rattle.std.proofs.Common.{lit≤, eqb-true, length-append}
 use Rattle.std.specs.Prelude.{codes, is_some}
 use Rattle.std.specs.Net.Reader.{read_ipv6}
-use Rattle.std.proofs.lemmas.Bool.{false≢true, and_parts}
+use Rattle.std.proofs.lemmas.Bool.{false≢true, and_parts, false_from_ne_true}
 use Rattle.std.proofs.lemmas.Option.{none-some, same_Some}
 use Rattle.std.proofs.NetLemmas.Options.{map_some}
 use Rattle.std.proofs.NetLemmas.Ipv6.{EndsGroups, read_ipv6_complete, read_ipv6_sound}
@@ -99,17 +99,12 @@ literal_is_ipv6_and_bracket rest no_version e =
     (closing-bracket-ends-groups from p.0) in
     (ap (option_map (λ p. p.1)) (ap read_ipv6 (sym cut.whole) ∙ found), p.0)
 
--- general fact on booleans, for tests of an IPv6 address
-not-true-is-false : (b : Bool) → (b ≡ true → ⊥) → b ≡ false
-not-true-is-false true k = absurd (k refl)
-not-true-is-false false k = refl
-
 -- parsing IP literals: without a `v` at its start, and if no IPv6 address is found,
 -- the text after `[` is no literal
 pub no_ipv6_is_no_literal : (rest : List ℕ) → (starts 118 rest || starts 86 rest) ≡ false → None
     ≡ left rest
     → parses_literal rest ≡ false
-no_ipv6_is_no_literal rest no_version e = not-true-is-false _ λ t. none-some _
+no_ipv6_is_no_literal rest no_version e = false_from_ne_true _ λ t. none-some _
     (e ∙ (literal_is_ipv6_and_bracket rest no_version t).0)
 
 -- parsing IP literals: without a `v` at its start,
@@ -117,7 +112,7 @@ no_ipv6_is_no_literal rest no_version e = not-true-is-false _ λ t. none-some _
 pub unclosed_ipv6_is_no_literal : (rest suffix : List ℕ) → (starts 118 rest || starts 86 rest)
     ≡ false
     → Some suffix ≡ left rest → starts 93 suffix ≡ false → parses_literal rest ≡ false
-unclosed_ipv6_is_no_literal rest suffix no_version e other = not-true-is-false _ λ t.
+unclosed_ipv6_is_no_literal rest suffix no_version e other = false_from_ne_true _ λ t.
     let c = literal_is_ipv6_and_bracket rest no_version t in
     let same : suffix ≡ from_any (codes "]") rest = same_Some _ _ (e ∙ c.0) in
     false≢true (sym other ∙ ap (starts 93) same ∙ c.1)

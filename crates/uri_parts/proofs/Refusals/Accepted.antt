@@ -2,6 +2,7 @@
 use Rattle.std.proofs.Common.{◌≡◌, ℕ, ◌+◌, Bool, true, false, not, cond, eqb, List, drop, Some, ap}
 use Rattle.std.proofs.Common.{None, refl, subst, ◌∙◌, arith, lit<, ⊎_elim, ◌&&◌, zero-add, add-zero}
 use Rattle.std.proofs.Common.{add_assoc}
+use Rattle.std.proofs.Math.Bool.{and-false, and_assoc}
 use Rattle.std.specs.Prelude.{Ok, Err, codes, is_none, is_ok, Result}
 use Rattle.std.specs.Result.{result_err}
 use Rattle.std.specs.Str.{IsUtf8}
@@ -69,11 +70,6 @@ cond-of-false-is-not-and : (b x : Bool) → cond b false x ≡ (not b && x)
 cond-of-false-is-not-and true x = refl
 cond-of-false-is-not-and false x = refl
 
--- general fact on booleans, for parse errors
-and-false-is-false : (x : Bool) → (x && false) ≡ false
-and-false-is-false true = refl
-and-false-is-false false = refl
-
 -- parse errors: a step that must pass a test b to go on has no
 -- error exactly if it passes, and the next has none
 step-without-error-needs-test-and-next : (b : Bool) (n : ℕ) (e : ParseError)
@@ -81,11 +77,6 @@ step-without-error-needs-test-and-next : (b : Bool) (n : ℕ) (e : ParseError)
     → is_none (cond b (Ok n) (Err e) >>= next) ≡ (b && is_none (next n))
 step-without-error-needs-test-and-next true n e next = refl
 step-without-error-needs-test-and-next false n e next = refl
-
--- general fact on booleans, for parse errors
-and_assoc : (a b c : Bool) → ((a && b) && c) ≡ (a && (b && c))
-and_assoc true b c = refl
-and_assoc false b c = refl
 
 -- parse errors: a scan and what is next have no error exactly if no `%` without digits stops the
 -- scan, and the next has none
@@ -106,7 +97,7 @@ ruleset steps = (
   cond-of-false-is-not-and,
   scan-has-no-error-iff-no-stray-percent,
   and_true_is_the_same,
-  and-false-is-false,
+  and-false,
   and_assoc,
   drop-drop,
 )

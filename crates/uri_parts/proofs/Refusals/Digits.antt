@@ -2,17 +2,17 @@
 use Rattle.std.proofs.Common.{◌≡◌, ℕ, ◌+◌, ◌-◌, ◌<◌, ◌≤◌, true, false, List, [], ◌∷◌, length, take}
 use Rattle.std.proofs.Common.{get_or, drop, sym, ap, ◌∙◌, arith, refl, ⊎_elim, ltb-true, zero, suc}
 use Rattle.std.proofs.Common.{◌&&◌, length-drop, length-take-le, Some, None, cond}
-use Rattle.std.specs.Prelude.{slice_range, Result, Ok, Err, is_ok, nat_lt, nat_le, ◌==◌}
-use Rattle.std.specs.Prelude.{option_and_then}
-use Rattle.std.specs.Char.{is_digit, digit_value}
-use Rattle.std.specs.Str.Parse.{AllDigits, ParsesUnsigned, digits_value, without_leading_plus}
+use Rattle.std.specs.Prelude.{slice_range, Result, Ok, Err, is_ok, nat_lt, nat_le, option_and_then}
+use Rattle.std.specs.Char.{is_digit}
+use Rattle.std.specs.Str.Parse.{AllDigits, ParsesUnsigned, digits_value}
 use Rattle.std.specs.Net.Reader.{digit_count}
-use Rattle.std.proofs.lemmas.Bool.{cond-true, cond-false, cases_Bool, ne_eqb, and_from, and_left}
-use Rattle.std.proofs.lemmas.Bool.{and_right, lt-ltb, le-ltb, le-leb, lt-leb, cases_lt}
+use Rattle.std.proofs.lemmas.Bool.{cond-true, cond-false, cases_Bool, and_from, and_left, and_right}
+use Rattle.std.proofs.lemmas.Bool.{lt-ltb, le-ltb, le-leb, lt-leb, cases_lt}
 use Rattle.std.proofs.lemmas.Bool.Decides.{nat_tests}
 use Rattle.std.proofs.lemmas.List.{drop_more, drop_all}
 use Rattle.uri_parts.specs.Components.{starts}
 use Rattle.uri_parts.specs.LiteralErrors.{digits_end, octet_end, octets_end}
+use Rattle.uri_parts.proofs.Authorities.Ports.{digits-have-no-leading-plus}
 
 -- parse errors: digits end after a further one, if more are left to allow
 pub digits_end-passes-digit : (text : List ℕ) (radix i left more : ℕ) → i < length text
@@ -68,13 +68,6 @@ pub length-of-text-to-digits_end : (text : List ℕ) (radix most i : ℕ)
     ≡ digits_end text radix most i - i
 length-of-text-to-digits_end text radix most i l =
     length-take-le _ (drop i text) (omega (arith, length-drop i text))
-
--- parse errors: decimal digits have no `+` before them, which std would allow
-digits-have-no-leading-plus : (bs : List ℕ) → AllDigits 10 bs → without_leading_plus bs ≡ bs
-digits-have-no-leading-plus [] h = refl
-digits-have-no-leading-plus (c ∷ bs) h = ap (λ n. drop n (c ∷ bs))
-    (cond-false (c == 43) 1 0 (ne_eqb c 43 (λ e.
-    let l : digit_value 43 < 10 = rw e at h.0 in omega arith)))
 
 -- parse errors: decimal digits are parsed as eight bits exactly if there are some,
 -- and their value is at most 255

@@ -9,6 +9,7 @@ use Rattle.std.proofs.lemmas.Bool.Decides.{nat_tests}
 use Rattle.std.proofs.lemmas.List.{drop-drop}
 use Rattle.uri_pct.specs.Sets.{TableSet, is_one_of, digit_set, allows_past_ascii}
 use Rattle.uri_pct.specs.Prefixes.{valid_prefix_from, valid_prefix, after, allows_first}
+use Rattle.uri_pct.proofs.ValidTexts.LongestPrefixes.{empty_text_has_empty_valid_prefix}
 use Rattle.uri_pct.proofs.ValidTexts.MarksInTexts.{ascii_byte_has_no_continuation}
 use Rattle.uri_pct.proofs.ValidTexts.Prefixes.{nothing_is_scanned_after_valid_prefix}
 use Rattle.uri_parts.specs.Components.{starts}
@@ -23,7 +24,6 @@ use Rattle.uri_parts.specs.Models.AuthorityParsing.{userinfo_length}
 use Rattle.uri_parts.specs.Models.ParseErrors.{left_over_error, name_error, error_after_port}
 use Rattle.uri_parts.specs.Models.ParseErrors.{port_error, host_error, userinfo_error}
 use Rattle.uri_parts.specs.Models.ParseErrors.{other_authority_error, authority_error}
-use Rattle.uri_parts.proofs.Authorities.NamesAndPorts.{valid_prefix-of-empty-text}
 use Rattle.uri_parts.proofs.Authorities.UserinfoLengths.{userinfo_length-is-valid_prefix}
 use Rattle.uri_parts.proofs.Authorities.UserinfoLengths.{further_userinfo_length-is-valid_prefix}
 use Rattle.uri_parts.proofs.Refusals.Colons.{last_colon_is_below_position, last_colon-same-or-later}
@@ -65,7 +65,7 @@ leading-digits-hold-no-colon : (bs : List ℕ) (k : ℕ) → k < valid_prefix di
     → starts 58 (drop k bs)
     ≡ false
 leading-digits-hold-no-colon [] k l = absurd
-    (let z = valid_prefix-of-empty-text digit_set in omega arith)
+    (let z = empty_text_has_empty_valid_prefix digit_set in omega arith)
 leading-digits-hold-no-colon (b ∷ bs) zero l = ⊎_elim
     (λ e. (digit-is-ascii-and-no-colon b bs e).1)
     (λ e. absurd (let z = valid_prefix-at-other-byte-is-zero b bs e in omega arith))

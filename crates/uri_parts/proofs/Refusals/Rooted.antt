@@ -11,6 +11,7 @@ use Rattle.uri_pct.specs.Sets.{TableSet, LacksPercent, digit_set, is_one_of}
 use Rattle.uri_pct.specs.Prefixes.{valid_prefix_from, valid_prefix, after, begins_with_hex_digits}
 use Rattle.uri_pct.specs.Prefixes.{allows_first}
 use Rattle.uri_pct.proofs.ValidTexts.Cuts.{excludes, valid_prefix_at_mark_is_empty}
+use Rattle.uri_pct.proofs.ValidTexts.LongestPrefixes.{empty_text_has_empty_valid_prefix}
 use Rattle.uri_pct.proofs.ValidTexts.Prefixes.{nothing_is_scanned_after_valid_prefix}
 use Rattle.uri_parts.specs.declared.error.ParseError.{ParseError}
 use Rattle.uri_parts.specs.Components.{starts, is_end}
@@ -24,7 +25,6 @@ use Rattle.uri_parts.specs.Grammar.{Kind}
 use Rattle.uri_parts.specs.Models.AuthorityParsing.{is_empty_or_begins_with_any, port_length}
 use Rattle.uri_parts.specs.Models.ParseErrors.{left_over_error, error_after_port, port_error}
 use Rattle.uri_parts.specs.Models.ParseErrors.{host_error}
-use Rattle.uri_parts.proofs.Authorities.NamesAndPorts.{valid_prefix-of-empty-text}
 use Rattle.uri_parts.proofs.Splitting.Cuts.{IsEmptyOrMarked}
 use Rattle.uri_parts.proofs.TextKinds.Separations.{SeparatesComponents, HasAllBut}
 
@@ -117,7 +117,7 @@ greater-set-goes-on-with-mark marks small great s g more (b ∷ rest) z = ⊎_el
 pub nothing-is-scanned-at-mark : (set : TableSet) (marks : List ℕ) → LacksPercent set
     → excludes set marks ≡ true → (bs : List ℕ) → IsEmptyOrMarked marks bs
     → valid_prefix set bs ≡ 0
-nothing-is-scanned-at-mark set marks lacks outside [] m = valid_prefix-of-empty-text set
+nothing-is-scanned-at-mark set marks lacks outside [] m = empty_text_has_empty_valid_prefix set
 nothing-is-scanned-at-mark set marks lacks outside (b ∷ bs) m = valid_prefix_at_mark_is_empty
     marks set lacks outside b bs m
 
@@ -126,7 +126,7 @@ pub valid_prefix-zero-at-mark : (marks : List ℕ) (set : TableSet) → LacksPer
     → excludes set marks ≡ true
     → (bs : List ℕ) → is_empty_or_begins_with_any marks bs ≡ true → valid_prefix set bs ≡ 0
 unfolding is_empty_or_begins_with_any
-valid_prefix-zero-at-mark marks set lacks outside [] e = valid_prefix-of-empty-text set
+valid_prefix-zero-at-mark marks set lacks outside [] e = empty_text_has_empty_valid_prefix set
 valid_prefix-zero-at-mark marks set lacks outside (b ∷ bs) e = valid_prefix_at_mark_is_empty
     marks set lacks
     outside b bs e

@@ -9,7 +9,7 @@ use Rattle.uri_parts.proofs.Splitting.Marks.{query_text, IsEmptyOrMarked-query_t
 use Rattle.uri_parts.proofs.Splitting.Marks.{query-found, authority-found, scheme-found}
 
 -- general fact on records, for splitting: components are equal if each is
-equal-parts-make-equal-components : {s1 s2 a1 a2 q1 q2 f1 f2 : Option (List ℕ)} {p1 p2 : List ℕ}
+pub equal-parts-make-equal-components : {s1 s2 a1 a2 q1 q2 f1 f2 : Option (List ℕ)} {p1 p2 : List ℕ}
     → s1 ≡ s2 → a1 ≡ a2
     → p1 ≡ p2 → q1 ≡ q2 → f1 ≡ f2
     → (let x : Components =

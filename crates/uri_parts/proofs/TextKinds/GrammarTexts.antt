@@ -1,17 +1,17 @@
 -- What a text that is valid for a set lacks, and UTF-8 on both sides of an ASCII character.
-use Rattle.std.proofs.Common.{◌≡◌, ℕ, ◌<◌, ◌≤◌, true, false, List, ◌∷◌, ◌++◌, length, get_or, drop}
+use Rattle.std.proofs.Common.{◌≡◌, ℕ, ◌<◌, ◌≤◌, true, List, ◌∷◌, ◌++◌, length, get_or, drop}
 use Rattle.std.proofs.Common.{length-append, sym, subst, ◌∙◌, arith}
 use Rattle.std.specs.Str.{IsUtf8}
 use Rattle.std.proofs.Math.Seq.{get_or-append_seam, take-append_seam, drop-append_seam}
 use Rattle.std.proofs.lemmas.Str.{IsUtf8-take, IsUtf8-drop, IsCharBoundary-before_ascii}
 use Rattle.std.proofs.lemmas.List.{take_all}
-use Rattle.std.proofs.lemmas.Bool.{and_parts, eqb-true, not-true}
-use Rattle.uri_pct.specs.Sets.{TableSet, LacksPercent, is_one_of}
+use Rattle.std.proofs.lemmas.Bool.{eqb-true}
+use Rattle.uri_pct.specs.Sets.{TableSet, LacksPercent}
 use Rattle.uri_pct.specs.Tokens.{is_valid_for}
 use Rattle.uri_pct.specs.Prefixes.{valid_prefix}
 use Rattle.uri_pct.proofs.ValidTexts.Cuts.{excludes, valid_prefix-ends-by-mark}
 use Rattle.uri_pct.proofs.ValidTexts.Cuts.{is_valid_for_is_scanned_to_end}
-use Rattle.uri_pct.proofs.ValidTexts.MarksInTexts.{length_before_marks, test_holds_of_each}
+use Rattle.uri_pct.proofs.ValidTexts.MarksInTexts.{length_before_marks}
 use Rattle.uri_parts.specs.Components.{Lacks, before_any}
 use Rattle.uri_parts.proofs.Splitting.Cuts.{text-is-cut-at-first-mark}
 use Rattle.uri_parts.proofs.Parsing.ScanStops.{utf8_after_ascii_byte}
@@ -34,13 +34,6 @@ utf8_around_ascii_byte xs c ys h u =
       subst IsUtf8 (take-append_seam xs (c ∷ ys)) (IsUtf8-take text n u boundary),
       utf8_after_ascii_byte c ys h (subst IsUtf8 rest (IsUtf8-drop text n u boundary)),
     )
-
--- texts of a kind: a delimiter is no character of a set that excludes it
-pub excluded_mark_is_no_char : (set : TableSet) (marks : List ℕ) → excludes set marks
-    ≡ true → (c : ℕ)
-    → is_one_of marks c ≡ true → set.ascii c ≡ false
-excluded_mark_is_no_char set marks outside c m =
-    not-true _ (and_parts _ _ (and_parts _ _ (test_holds_of_each _ marks outside c m)).1).0
 
 -- texts of a kind: a valid text lacks the delimiters that the set excludes
 pub valid_text_lacks_excluded_marks : (set : TableSet) (marks : List ℕ) → LacksPercent set
