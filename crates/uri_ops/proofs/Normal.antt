@@ -8,3 +8,4 @@ pub mod NormalPlaces
 pub mod UnchangedBytes
 pub mod UnchangedParts
 pub mod UnchangedTexts
+pub mod SettledPrefixes

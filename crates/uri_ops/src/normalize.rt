@@ -16,6 +16,7 @@ pub(crate) mod decode_unreserved;
 pub(crate) mod decoded_paths;
 #[doc(hidden)]
 pub mod formatting;
+pub(crate) mod kept_octets;
 pub(crate) mod literal_runs;
 pub(crate) mod normal_authority;
 #[doc(hidden)]

@@ -33,7 +33,7 @@ print-of-characters-is-their-utf8 (c ∷ cs) = ap (λ x. encode_utf8 c ++ x)
     (print-of-characters-is-their-utf8 cs)
 
 -- meanings in lower case: the characters of a text, written as tokens, are the text
-pub print-of-characters-is-text : (text : List ℕ) → IsUtf8 text → print (map Char (chars text))
+print-of-characters-is-text : (text : List ℕ) → IsUtf8 text → print (map Char (chars text))
     ≡ text
 print-of-characters-is-text text u = print-of-characters-is-their-utf8 (chars text)
     ∙ encodes-chars text u

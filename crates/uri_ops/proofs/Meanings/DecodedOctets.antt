@@ -184,7 +184,7 @@ uppercase-digit-is-its-glyph h digit upper =
     (eqb-true _ h p.0, ltb-true _ 16 p.1)
 
 -- meanings, decoded: an octet with digits in upper case is written as it is
-uppercase-octet-prints-itself : (high low : ℕ) → is_ascii_hexdigit high ≡ true
+pub uppercase-octet-prints-itself : (high low : ℕ) → is_ascii_hexdigit high ≡ true
     → is_ascii_hexdigit low ≡ true
     → high < 97 → low < 97
     → text_of_token (Octet (16 * digit_value high + digit_value low)) ≡ 37 ∷ high ∷ low ∷ []

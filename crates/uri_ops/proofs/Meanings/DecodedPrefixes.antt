@@ -189,7 +189,7 @@ percent-in-valid-text-begins-octet text i u b v inside percent =
     }
 
 -- meanings, decoded: an octet whose first digit is below `8` (56) is of an ASCII byte
-octet-with-digit-below-8-is-ascii : (high low : ℕ) → is_ascii_hexdigit high ≡ true
+pub octet-with-digit-below-8-is-ascii : (high low : ℕ) → is_ascii_hexdigit high ≡ true
     → is_ascii_hexdigit low ≡ true
     → high < 56 → 16 * digit_value high + digit_value low < 128
 octet-with-digit-below-8-is-ascii high low h l small = grind (arith, nat_tests)
@@ -234,7 +234,7 @@ unset-flags-lack-past-ascii set some e none = or_parts set.ucschar set.iprivate
     (sym e ∙ not-true some none)
 
 -- meanings, decoded: the empty text has the empty decoded form
-decoded-empty-text-is-empty : (lowers : Bool) (set : TableSet) → decoded_text lowers set [] ≡ []
+pub decoded-empty-text-is-empty : (lowers : Bool) (set : TableSet) → decoded_text lowers set [] ≡ []
 unfolding tokens_from_chars chars decode_after_run
 decoded-empty-text-is-empty true set = ap (λ ts. print (map lower_token ts))
     (decode_run-of-nil-is-nil set)

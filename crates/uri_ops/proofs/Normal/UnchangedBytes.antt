@@ -1,86 +1,150 @@
--- Bytes that begin neither an octet nor a formatting character: sixteen at a time, and in the parts
--- of a text.
-use Rattle.std.proofs.Common.{◌≡◌, ℕ, ◌+◌, ◌<◌, ◌≤◌, ◌-◌, true, false, eqb, List, [], ◌∷◌, ◌++◌}
-use Rattle.std.proofs.Common.{length, get_or, map, refl, sym, ap, ◌∙◌, arith, bit_or, ◌||◌, ⊎_elim}
+-- Texts without formatting characters whose octets stay: byte by byte, and in the parts of a text.
+use Rattle.std.proofs.Common.{◌≡◌, ℕ, ◌+◌, ◌<◌, ◌≤◌, Bool, true, false, eqb, List, []}
+use Rattle.std.proofs.Common.{◌∷◌, ◌++◌, not, length, get_or, refl, sym, ap, ◌∙◌, arith, ◌||◌, ◌&&◌}
+use Rattle.std.proofs.Common.{⊎_elim, suc}
 use Rattle.std.specs.Prelude.{Option, Some, None, IfSome}
-use Rattle.std.specs.List.{list_all, list_any}
-use Rattle.std.specs.Simd.Lanes.{mask_l, chunk}
-use Rattle.std.proofs.lemmas.Bool.{and_parts, and_from, cases_lt, not-true, not_from_false}
+use Rattle.std.specs.Char.{is_ascii_hexdigit}
+use Rattle.std.specs.List.{list_any}
+use Rattle.std.proofs.lemmas.Bool.{and_parts, and_from, cases_lt, not-true}
 use Rattle.std.proofs.lemmas.Bool.{or_parts, or_from}
-use Rattle.std.proofs.lemmas.List.Elements.{All-from_get_or}
-use Rattle.std.proofs.lemmas.List.Folds.{list_all-append}
-use Rattle.std.proofs.lemmas.List.Sums.{list_all-from_AllPass}
-use Rattle.std.proofs.lemmas.Nat.Bits.{bit_at-zero}
-use Rattle.uri_pct.specs.Texts.{lacks}
-use Rattle.uri_pct.proofs.LaneScans.LaneBits.{is_set_bit, mask_bit_is_equality_of_byte}
-use Rattle.uri_pct.proofs.TableSets.Masks.{bit_of_bit_or}
+use Rattle.std.proofs.lemmas.Bool.Decides.{nat_tests}
+use Rattle.uri_pct.specs.Models.ByteRuns.{IsLongestRun}
 use Rattle.uri_parts.specs.Components.{marked}
-use Rattle.uri_ops.specs.Models.Unchanged.{IsLiteral, is_literal_byte}
+use Rattle.uri_ops.specs.Models.Unchanged.{IsKept, is_kept, is_kept_at, is_kept_octet, keeps_digits}
+use Rattle.uri_ops.specs.Models.Unchanged.{is_literal_byte}
 
--- unchanged texts: a block of sixteen bytes is literal if the
--- masks find no `%` and no byte 0xE2 in it
-pub zero-masks-give-literal-block : (bs : List ℕ) (at percents leads : ℕ) → at + 16 ≤ length bs
-    → percents ≡ mask_l (map (λ b. eqb b 37) (chunk at 16 bs))
-    → leads ≡ mask_l (map (λ b. eqb b 0xE2) (chunk at 16 bs)) → bit_or percents leads ≡ 0
-    → (k : ℕ) → k < 16 → is_literal_byte (get_or bs (at + k) 0) ≡ true
-zero-masks-give-literal-block bs at percents leads room p l none k h =
-    let b = get_or bs (at + k) 0 in
-    let clear : is_set_bit (bit_or percents leads) k ≡ false = ap (λ m. is_set_bit m k) none
-    ∙ ap (λ m. eqb m 1) (bit_at-zero k) in
-    not_from_false _
-    (ap (λ x. x || eqb b 0xE2) (sym (mask_bit_is_equality_of_byte 37 bs at k room h)
-    ∙ ap (λ m. is_set_bit m k) (sym p))
-    ∙ ap (λ x. is_set_bit percents k || x)
-    (sym (mask_bit_is_equality_of_byte 0xE2 bs at k room h) ∙ ap (λ m. is_set_bit m k) (sym l))
-    ∙ sym (bit_of_bit_or percents leads k) ∙ clear)
+-- unchanged texts: at a byte that begins neither an octet nor a formatting character, a text is
+-- kept
+literal-byte-is-kept : (alone : Bool) (bs : List ℕ) (k : ℕ)
+    → is_literal_byte (get_or bs k 0) ≡ true → is_kept_at alone bs k ≡ true
+literal-byte-is-kept alone bs k e =
+    let p = or_parts (eqb (get_or bs k 0) 37) (eqb (get_or bs k 0) 0xE2) (not-true _ e) in
+    rw (p.0, p.1) refl
 
--- unchanged texts: sixteen bytes without `%` and E2, after a prefix without them, lengthen it
-pub literal-prefix-grows-by-block : (bs : List ℕ) (i at : ℕ) → at ≤ i
-    → ((k : ℕ) → k < i → is_literal_byte (get_or bs k 0) ≡ true)
-    → ((k : ℕ) → k < 16 → is_literal_byte (get_or bs (at + k) 0) ≡ true)
-    → (k : ℕ) → k < at + 16 → is_literal_byte (get_or bs k 0) ≡ true
-literal-prefix-grows-by-block bs i at from passed block k to = ⊎_elim
-    (λ (h : k < at). passed k (omega (arith, h, from)))
-    (λ (h : at ≤ k).
-    let place : k ≡ at + (k - at) = omega (arith, h) in
-    ap (λ m. is_literal_byte (get_or bs m 0)) place ∙ block (k - at) (omega (arith, h, to)))
-    (cases_lt k at)
+-- unchanged texts: a hexadecimal digit begins neither an octet nor a formatting character
+hexdigit-is-literal : (h : ℕ) → is_ascii_hexdigit h ≡ true → is_literal_byte h ≡ true
+hexdigit-is-literal h e = grind (arith, nat_tests)
 
--- unchanged texts: bytes that are neither `%` nor E2 are a text
--- without octets and formatting characters
-pub literal-bytes-are-literal-text : (bs : List ℕ)
-    → ((k : ℕ) → k < length bs → is_literal_byte (get_or bs k 0) ≡ true)
-    → IsLiteral bs
-literal-bytes-are-literal-text bs each = list_all-from_AllPass is_literal_byte bs
-    (All-from_get_or (λ b. is_literal_byte b ≡ true) bs 0 each)
+-- unchanged texts: at an octet that is kept a text is kept
+kept-octet-is-kept : (alone : Bool) (bs : List ℕ) (k : ℕ) → get_or bs k 0 ≡ 37
+    → is_kept_octet alone (get_or bs (k + 1) 0) (get_or bs (k + 2) 0) ≡ true
+    → is_kept_at alone bs k ≡ true
+kept-octet-is-kept alone bs k percent e = rw (percent, e) refl
 
--- unchanged texts: if a text has no `%` and no byte E2, neither has either half
-pub literal-text-splits : (xs ys : List ℕ) → IsLiteral (xs ++ ys) → IsLiteral xs × IsLiteral ys
-literal-text-splits xs ys e = and_parts _ _ (sym (list_all-append is_literal_byte xs ys) ∙ e)
+-- unchanged texts: the bytes of a run without octets and formatting characters are kept, after
+-- others
+pub kept-prefix-grows-by-literal-run : (alone : Bool) (bs : List ℕ) (i end : ℕ)
+    → IsLongestRun is_literal_byte bs i end
+    → ((k : ℕ) → k < i → is_kept_at alone bs k ≡ true)
+    → (k : ℕ) → k < end → is_kept_at alone bs k ≡ true
+kept-prefix-grows-by-literal-run alone bs i end run before k to = ⊎_elim
+    (λ (h : k < i). before k h)
+    (λ (h : i ≤ k). literal-byte-is-kept alone bs k (run.pass k h to))
+    (cases_lt k i)
 
--- unchanged texts: if a component with its delimiters (before, suffix) has neither `%` nor E2,
--- neither has the component
-pub delimited-component-of-literal-is-literal : (before suffix : List ℕ) (o : Option (List ℕ))
-    → IsLiteral (marked before o suffix)
-    → IfSome o IsLiteral
-delimited-component-of-literal-is-literal before suffix None e = tt
-delimited-component-of-literal-is-literal before suffix (Some part) e =
-    (literal-text-splits before part (literal-text-splits (before ++ part) suffix e).0).1
+-- unchanged texts: the three bytes of an octet that is kept are kept, after others
+pub kept-prefix-grows-by-octet : (alone : Bool) (bs : List ℕ) (i : ℕ) → get_or bs i 0 ≡ 37
+    → is_kept_octet alone (get_or bs (i + 1) 0) (get_or bs (i + 2) 0) ≡ true
+    → ((k : ℕ) → k < i → is_kept_at alone bs k ≡ true)
+    → (k : ℕ) → k < i + 3 → is_kept_at alone bs k ≡ true
+kept-prefix-grows-by-octet alone bs i percent octet before k to =
+    let digits = and_parts (is_ascii_hexdigit (get_or bs (i + 1) 0)) _ (and_parts _ _ octet).0 in
+    ⊎_elim
+    (λ (h : k < i). before k h)
+    (λ (h : i ≤ k). ⊎_elim
+    (λ (first : k < i + 1).
+    let same : i ≡ k = omega (arith, h, first) in
+    ap (is_kept_at alone bs) (sym same) ∙ kept-octet-is-kept alone bs i percent octet)
+    (λ (after : i + 1 ≤ k). ⊎_elim
+    (λ (second : k < i + 2).
+    let same : i + 1 ≡ k = omega (arith, after, second) in
+    ap (is_kept_at alone bs) (sym same)
+    ∙ literal-byte-is-kept alone bs (i + 1) (hexdigit-is-literal (get_or bs (i + 1) 0) digits.0))
+    (λ (last : i + 2 ≤ k).
+    let same : i + 2 ≡ k = omega (arith, last, to) in
+    ap (is_kept_at alone bs) (sym same)
+    ∙ literal-byte-is-kept alone bs (i + 2) (hexdigit-is-literal (get_or bs (i + 2) 0) digits.1))
+    (cases_lt k (i + 2)))
+    (cases_lt k (i + 1)))
+    (cases_lt k i)
 
--- unchanged texts: a text without octets has no `%` (37)
-pub literal-text-lacks-percent : (text : List ℕ) → IsLiteral text → lacks 37 text ≡ true
-literal-text-lacks-percent [] e = refl
-literal-text-lacks-percent (b ∷ text) e =
-    let p = and_parts (is_literal_byte b) (list_all is_literal_byte text) e in
-    let q = or_parts (eqb b 37) (eqb b 0xE2) (not-true _ p.0) in
-    and_from _ _ (not_from_false _ q.0) (literal-text-lacks-percent text p.1)
+-- unchanged texts: digits that are kept at their indices are kept
+digits-are-kept-by-index : (alone : Bool) (text : List ℕ)
+    → is_kept_octet alone (get_or text 0 0) (get_or text 1 0) ≡ true
+    → keeps_digits alone text ≡ true
+digits-are-kept-by-index alone [] e = refl
+digits-are-kept-by-index alone (high ∷ []) e = refl
+digits-are-kept-by-index alone (high ∷ low ∷ text) e = e
 
--- unchanged texts: a text whose bytes are neither `%` nor E2 has no E2,
--- with which formatting characters begin
-pub literal-text-lacks-byte-E2 : (text : List ℕ) → IsLiteral text → list_any (λ b. eqb b 0xE2) text
-    ≡ false
-literal-text-lacks-byte-E2 [] e = refl
-literal-text-lacks-byte-E2 (b ∷ text) e =
-    let p = and_parts (is_literal_byte b) (list_all is_literal_byte text) e in
-    let q = or_parts (eqb b 37) (eqb b 0xE2) (not-true _ p.0) in
-    or_from _ _ q.1 (literal-text-lacks-byte-E2 text p.1)
+-- unchanged texts: an octet or a byte that is kept at its index is kept
+head-is-kept-by-index : (alone : Bool) (b : ℕ) (text : List ℕ)
+    → is_kept_at alone (b ∷ text) 0 ≡ true
+    → (not (eqb b 0xE2) && (not (eqb b 37) || keeps_digits alone text)) ≡ true
+head-is-kept-by-index alone b text e =
+    let p = and_parts (not (eqb b 0xE2)) _ e in
+    and_from _ _ p.0 (either (eqb b 37) (is_kept_octet alone (get_or text 0 0) (get_or text 1 0)) p.1
+    (digits-are-kept-by-index alone text))
+  where
+    either : {other : Bool} (percent octet : Bool) → (not percent || octet) ≡ true
+        → (octet ≡ true → other ≡ true) → (not percent || other) ≡ true
+    either true octet e f = f e
+    either false octet e f = refl
+
+-- unchanged texts: a text is kept at an index as a longer one is at the next
+kept-at-next-index : (alone : Bool) (b : ℕ) (text : List ℕ) (k : ℕ)
+    → is_kept_at alone (b ∷ text) (suc k) ≡ is_kept_at alone text k
+kept-at-next-index alone b text k =
+    let first : suc k + 1 ≡ suc (k + 1) = omega arith in
+    let second : suc k + 2 ≡ suc (k + 2) = omega arith in
+    λ i. not (eqb (get_or text k 0) 0xE2) && (not (eqb (get_or text k 0) 37)
+    || is_kept_octet alone (get_or (b ∷ text) (first i) 0) (get_or (b ∷ text) (second i) 0))
+
+-- unchanged texts: a text that is kept at each index is kept
+pub bytes-kept-by-index-are-kept : (alone : Bool) (bs : List ℕ)
+    → ((k : ℕ) → k < length bs → is_kept_at alone bs k ≡ true) → IsKept alone bs
+bytes-kept-by-index-are-kept alone [] each = refl
+bytes-kept-by-index-are-kept alone (b ∷ text) each =
+    and_from _ _ (head-is-kept-by-index alone b text (each 0 (omega arith)))
+    (bytes-kept-by-index-are-kept alone text (λ k h.
+    sym (kept-at-next-index alone b text k) ∙ each (suc k) (omega (arith, h))))
+
+-- unchanged texts: the digits that a text begins with are kept in each prefix
+digits-of-prefix-are-kept : (alone : Bool) (xs ys : List ℕ) → keeps_digits alone (xs ++ ys) ≡ true
+    → keeps_digits alone xs ≡ true
+digits-of-prefix-are-kept alone [] ys e = refl
+digits-of-prefix-are-kept alone (high ∷ []) ys e = refl
+digits-of-prefix-are-kept alone (high ∷ low ∷ xs) ys e = e
+
+-- unchanged texts: if a text is kept, so are both halves
+pub kept-text-splits : (alone : Bool) (xs ys : List ℕ) → IsKept alone (xs ++ ys)
+    → IsKept alone xs × IsKept alone ys
+kept-text-splits alone [] ys e = (refl, e)
+kept-text-splits alone (b ∷ xs) ys e =
+    let p = and_parts _ (is_kept alone (xs ++ ys)) e in
+    let q = and_parts (not (eqb b 0xE2)) _ p.0 in
+    let rest = kept-text-splits alone xs ys p.1 in (
+      and_from _ _ (and_from _ _ q.0 (either (eqb b 37) _ _ q.1
+          (digits-of-prefix-are-kept alone xs ys))) rest.0,
+      rest.1,
+    )
+  where
+    either : (percent long short : Bool) → (not percent || long) ≡ true
+        → (long ≡ true → short ≡ true) → (not percent || short) ≡ true
+    either true long short e f = f e
+    either false long short e f = refl
+
+-- unchanged texts: if a component with its delimiters (before, suffix) is kept, so is the component
+pub delimited-component-of-kept-is-kept : (alone : Bool) (before suffix : List ℕ)
+    (o : Option (List ℕ)) → IsKept alone (marked before o suffix) → IfSome o (IsKept alone)
+delimited-component-of-kept-is-kept alone before suffix None e = tt
+delimited-component-of-kept-is-kept alone before suffix (Some part) e =
+    (kept-text-splits alone before part (kept-text-splits alone (before ++ part) suffix e).0).1
+
+-- unchanged texts: a text that is kept has no E2, with which formatting characters begin
+pub kept-text-lacks-byte-E2 : (alone : Bool) (text : List ℕ) → IsKept alone text
+    → list_any (λ b. eqb b 0xE2) text ≡ false
+kept-text-lacks-byte-E2 alone [] e = refl
+kept-text-lacks-byte-E2 alone (b ∷ text) e =
+    let p = and_parts _ (is_kept alone text) e in
+    let q = and_parts (not (eqb b 0xE2)) _ p.0 in
+    or_from _ _ (not-true _ q.0) (kept-text-lacks-byte-E2 alone text p.1)

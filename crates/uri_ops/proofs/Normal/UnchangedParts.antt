@@ -1,32 +1,159 @@
--- Parts of a text that are printed as they are, and authorities made of such parts.
-use Rattle.std.proofs.Common.{◌≡◌, ℕ, true, false, List, [], ◌∷◌, ◌++◌, map, refl, sym, ap, ◌∙◌}
-use Rattle.std.proofs.Common.{◌&&◌, append-nil, option_map}
+-- Parts of a text that are printed as they are: components whose octets stay, and hosts.
+use Rattle.std.proofs.Common.{◌≡◌, ℕ, ◌+◌, ◌*◌, ◌≤◌, ◌<◌, Bool, true, false, eqb, ltb, List}
+use Rattle.std.proofs.Common.{[], ◌∷◌, ◌++◌, map, refl, sym, ap, subst, ◌∙◌, ◌&&◌, ◌||◌, append-nil}
+use Rattle.std.proofs.Common.{option_map, arith, length, take, drop, zero, suc, ⊎_elim}
 use Rattle.std.specs.Prelude.{Option, Some, None, IfSome}
-use Rattle.std.specs.List.{list_any}
+use Rattle.std.specs.Char.{digit_value, is_ascii_hexdigit}
+use Rattle.std.specs.List.{list_any, position_or_len}
 use Rattle.std.specs.Str.{chars, IsUtf8, str_to_ascii_lowercase}
-use Rattle.std.proofs.lemmas.Bool.{and_right, cond-false, or_parts}
-use Rattle.uri_pct.specs.DecodeUnreserved.{encode_formatting, is_bidi_formatting, is_never_literal}
-use Rattle.uri_pct.specs.DecodeUnreserved.{lower_token, decode_unreserved, decode_after_run}
-use Rattle.uri_pct.specs.DecodeUnreserved.{decode_tokens}
-use Rattle.uri_pct.specs.Sets.{TableSet}
-use Rattle.uri_pct.specs.Tokens.{Char, print, tokens, tokens_from_chars}
+use Rattle.std.proofs.lemmas.Bool.{and_parts, and_right, cases_Bool, cond-false, eqb-true}
+use Rattle.std.proofs.lemmas.Bool.{ltb-true, ne_eqb, not-true, or_cases, or_parts}
+use Rattle.std.proofs.lemmas.Bool.Decides.{nat_tests}
+use Rattle.std.proofs.lemmas.List.{take-append-drop, length-drop}
+use Rattle.std.proofs.lemmas.Str.{IsUtf8-drop}
+use Rattle.uri_pct.specs.Chunks.{widest_set}
+use Rattle.uri_pct.specs.DecodeUnreserved.{LacksPastAscii, encode_formatting, is_bidi_formatting}
+use Rattle.uri_pct.specs.DecodeUnreserved.{is_never_literal, lower_token, decode_unreserved}
+use Rattle.uri_pct.specs.DecodeUnreserved.{decode_after_run, decode_octet, decode_tokens}
+use Rattle.uri_pct.specs.DecodeUnreserved.{encoded_formatting_text}
+use Rattle.uri_pct.specs.Sets.{TableSet, LacksPercent}
+use Rattle.uri_pct.specs.Texts.{lacks}
+use Rattle.uri_pct.specs.Tokens.{Char, IsValidFor, Octet, print, text_of_token, tokens}
+use Rattle.uri_pct.specs.Tokens.{tokens_from_chars}
+use Rattle.uri_pct.proofs.Decodings.Decoding.{BeginsWithOctet, boundary_after_octet}
+use Rattle.uri_pct.proofs.Decodings.Decoding.{every_set_is_subset_of_widest}
+use Rattle.uri_pct.proofs.Decodings.Decoding.{bytes_from_percent_begin_with_octet}
 use Rattle.uri_pct.proofs.Decodings.Decoding.{tokens_after_unencoded_prefix}
+use Rattle.uri_pct.proofs.ValidTexts.EStrs.{valid_for_superset}
 use Rattle.uri_parts.specs.Components.{starts}
 use Rattle.uri_parts.specs.Grammar.{Kind}
 use Rattle.uri_parts.specs.Hosts.{host_kind, ipv4_value, name_kind}
 use Rattle.uri_parts.proofs.Authorities.Authority.{names_exclude_delimiters}
 use Rattle.uri_ops.specs.ComponentSets.{HasComponentSets}
 use Rattle.uri_ops.specs.Meaning.{host_meaning}
-use Rattle.uri_ops.specs.Models.Unchanged.{IsLiteral}
+use Rattle.uri_ops.specs.Models.Decodings.{decoded_text}
+use Rattle.uri_ops.specs.Models.Unchanged.{IsKept, is_kept_octet}
 use Rattle.uri_ops.specs.Normal.{host_text}
 use Rattle.uri_ops.proofs.Meanings.AuthorityMeanings.{kind-sets-lack-authority-delimiters}
-use Rattle.uri_ops.proofs.Meanings.Cased.{print-lowers-characters, print-of-characters-is-text}
+use Rattle.uri_ops.proofs.Meanings.Cased.{print-lowers-characters}
 use Rattle.uri_ops.proofs.Meanings.HostMeanings.{meaning-of-name-is-lowered-decoded}
 use Rattle.uri_ops.proofs.Meanings.DecodedOctets.{decode_tokens-after-chars}
+use Rattle.uri_ops.proofs.Meanings.DecodedOctets.{leading-octet-is-decoded-alone}
+use Rattle.uri_ops.proofs.Meanings.DecodedOctets.{uppercase-octet-prints-itself}
 use Rattle.uri_ops.proofs.Meanings.DecodedParts.{decode_run-of-nil-is-nil}
+use Rattle.uri_ops.proofs.Meanings.DecodedPrefixes.{decoded-empty-text-is-empty}
+use Rattle.uri_ops.proofs.Meanings.DecodedPrefixes.{octet-with-digit-below-8-is-ascii}
+use Rattle.uri_ops.proofs.Meanings.DecodedPrefixes.{text-before-percent-is-literal-prefix}
+use Rattle.uri_ops.proofs.Meanings.WrittenFormatting.{decoding-without-formatting-is-complete}
+use Rattle.uri_ops.proofs.Meanings.WrittenFormatting.{encoding-formatting-completes-decoding}
 use Rattle.uri_ops.proofs.Meanings.WrittenFormatting.{no-byte-E2-no-formatting}
-use Rattle.uri_ops.proofs.Normal.UnchangedBytes.{literal-text-lacks-percent}
-use Rattle.uri_ops.proofs.Normal.UnchangedBytes.{literal-text-lacks-byte-E2}
+use Rattle.uri_ops.proofs.Meanings.WrittenFormatting.{text-without-formatting-stays}
+use Rattle.uri_ops.proofs.Normal.UnchangedBytes.{kept-text-lacks-byte-E2, kept-text-splits}
+
+-- unchanged texts: an octet is decoded by itself if it is kept
+kept-octet-is-decoded-alone : (alone : Bool) (high low : ℕ) → is_kept_octet alone high low ≡ true
+    → (alone || ltb (16 * digit_value high + digit_value low) 128) ≡ true
+kept-octet-is-decoded-alone alone high low e =
+    let p = and_parts _ _ e in
+    let digits = and_parts (is_ascii_hexdigit high) (is_ascii_hexdigit low) p.0 in
+    let last = and_parts (alone || ltb high 56) _ (and_parts _ _ p.1).1 in
+    let value = 16 * digit_value high + digit_value low in
+    ⊎_elim
+    (λ (a : alone ≡ true). rw a refl)
+    (λ (small : ltb high 56 ≡ true).
+    let ascii = octet-with-digit-below-8-is-ascii high low digits.0 digits.1
+    (ltb-true high 56 small) in
+    grind (arith, nat_tests))
+    (or_cases alone (ltb high 56) last.0)
+
+-- unchanged texts: an octet that is kept is printed with its digits
+kept-octet-prints-itself : (alone : Bool) (high low : ℕ) → is_kept_octet alone high low ≡ true
+    → print (decode_octet (Octet (16 * digit_value high + digit_value low)) ∷ [])
+    ≡ 37 ∷ high ∷ low ∷ []
+kept-octet-prints-itself alone high low e =
+    let p = and_parts _ _ e in
+    let digits = and_parts (is_ascii_hexdigit high) (is_ascii_hexdigit low) p.0 in
+    let upper = and_parts (ltb high 97) (ltb low 97) (and_parts _ _ p.1).0 in
+    let last = and_parts (alone || ltb high 56) _ (and_parts _ _ p.1).1 in
+    ap (λ t. text_of_token t ++ []) (cond-false _ _ _ (not-true _ last.1))
+    ∙ ap (λ x. x ++ []) (uppercase-octet-prints-itself high low digits.0 digits.1
+    (ltb-true high 97 upper.0) (ltb-true low 97 upper.1))
+
+module _ (set : TableSet) (alone : Bool) (none : alone ≡ true → LacksPastAscii set) where
+  -- unchanged texts: an octet that is kept at the start of a text is its own decoded form
+  kept-octet-decodes-to-itself : (text : List ℕ) (o : BeginsWithOctet text) → IsKept alone text
+      → decoded_text false set text ≡ 37 ∷ o.high ∷ o.low ∷ decoded_text false set o.suffix
+  kept-octet-decodes-to-itself text o kept =
+      let p = and_parts _ _ (subst (IsKept alone) o.joined kept) in
+      let octet : is_kept_octet alone o.high o.low ≡ true = p.0 in
+      leading-octet-is-decoded-alone false set text o alone none
+      (kept-octet-is-decoded-alone alone o.high o.low octet)
+      ∙ ap (λ x. x ++ decoded_text false set o.suffix)
+      (kept-octet-prints-itself alone o.high o.low octet)
+
+  -- unchanged texts: what follows a prefix of a kept text is kept
+  suffix-of-kept-is-kept : (text : List ℕ) (n : ℕ) → IsKept alone text → IsKept alone (drop n text)
+  suffix-of-kept-is-kept text n kept = (kept-text-splits alone (take n text) (drop n text)
+      (subst (IsKept alone) (sym (take-append-drop n text)) kept)).1
+
+  -- unchanged texts: a kept text of at most n bytes is its own decoded form
+  kept-text-is-decoded : (n : ℕ) (text : List ℕ) → length text ≤ n → IsUtf8 text
+      → IsValidFor widest_set text → IsKept alone text → decoded_text false set text ≡ text
+  kept-text-is-decoded n [] short u v kept = decoded-empty-text-is-empty false set
+  kept-text-is-decoded zero (b ∷ rest) short u v kept = absurd (omega (arith, short))
+  kept-text-is-decoded (suc n) (b ∷ rest) short u v kept = ⊎_elim
+      (λ (percent : eqb b 37 ≡ true).
+      let text : List ℕ = b ∷ rest in
+      let o = bytes_from_percent_begin_with_octet text text refl u v
+      (ne_eqb (length text) 0 (λ e. omega (arith, e))) (eqb-true b 37 percent) in
+      let three : drop 3 text ≡ o.suffix = ap (drop 3) o.joined in
+      let long = ap length o.joined in
+      let utf8 : IsUtf8 o.suffix = subst IsUtf8 three
+      (IsUtf8-drop text 3 u (boundary_after_octet text u o)) in
+      kept-octet-decodes-to-itself text o kept
+      ∙ ap (λ x. 37 ∷ o.high ∷ o.low ∷ x) (kept-text-is-decoded n o.suffix
+      (omega (arith, long, short)) utf8 o.valid
+      (subst (IsKept alone) three (suffix-of-kept-is-kept text 3 kept)))
+      ∙ sym o.joined)
+      (λ (other : eqb b 37 ≡ false).
+      let text : List ℕ = b ∷ rest in
+      let m = position_or_len (λ c. eqb c 37) text in
+      let some : 0 < m = first-percent-is-after-another-byte b rest other in
+      let p = text-before-percent-is-literal-prefix text m u v refl in
+      let long = length-drop m text in
+      p.prefix false set
+      ∙ ap (λ x. take m text ++ x) (kept-text-is-decoded n (drop m text)
+      (omega (arith, long, short, some)) (IsUtf8-drop text m u p.boundary) p.valid
+      (suffix-of-kept-is-kept text m kept))
+      ∙ take-append-drop m text)
+      (cases_Bool (eqb b 37))
+    where
+      first-percent-is-after-another-byte : (b : ℕ) (rest : List ℕ) → eqb b 37 ≡ false
+          → 0 < position_or_len (λ c. eqb c 37) (b ∷ rest)
+      first-percent-is-after-another-byte b rest e = rw e (omega arith)
+
+  -- unchanged texts: a kept text is its own normal form, as a component
+  pub kept-decodes-to-itself : LacksPercent set → (text : List ℕ) → IsUtf8 text
+      → IsValidFor set text → IsKept alone text → print (decode_unreserved set text) ≡ text
+  kept-decodes-to-itself percent text u valid kept =
+      let v = valid_for_superset set widest_set text (every_set_is_subset_of_widest set percent)
+      valid in
+      let decoded = kept-text-is-decoded (length text) text (omega arith) u v kept in
+      ⊎_elim
+      (λ both. sym (encoding-formatting-completes-decoding false set text both v)
+      ∙ ap encoded_formatting_text decoded
+      ∙ text-without-formatting-stays text u (no-byte-E2-no-formatting text u
+      (kept-text-lacks-byte-E2 alone text kept)))
+      (λ lacking. sym (decoding-without-formatting-is-complete false set text lacking) ∙ decoded)
+      (cases_Bool (set.ucschar && set.pct_encoded))
+
+  -- unchanged texts: the same of a component that may be absent
+  pub kept-option-decodes-to-itself : LacksPercent set → (o : Option (List ℕ)) → IfSome o IsUtf8
+      → IfSome o (IsValidFor set) → IfSome o (IsKept alone)
+      → option_map print (option_map (decode_unreserved set) o) ≡ o
+  kept-option-decodes-to-itself percent None u v kept = refl
+  kept-option-decodes-to-itself percent (Some text) u v kept = ap Some
+      (kept-decodes-to-itself percent text u v kept)
 
 -- unchanged texts: encoding formatting characters keeps characters of which none is one
 encode_formatting-keeps-literal-characters : (set : TableSet) (cs : List ℕ)
@@ -40,49 +167,26 @@ encode_formatting-keeps-literal-characters set (c ∷ cs) e =
     (cond-false _ _ _ (and_right (set.ucschar && set.pct_encoded) (is_bidi_formatting c) p.0))
     ∙ ap (λ us. Char c ∷ us) (encode_formatting-keeps-literal-characters set cs p.1)
 
--- unchanged texts: the decoded tokens of a text without octets and formatting characters are its
--- characters
-literal-text-has-tokens-decoded : (set : TableSet) (text : List ℕ) → IsUtf8 text → IsLiteral text
-    → decode_tokens set (tokens text) ≡ map Char (chars text)
+-- unchanged texts: the decoded tokens of a text without octets are its characters
+text-without-octets-has-tokens-decoded : (set : TableSet) (text : List ℕ) → IsUtf8 text
+    → lacks 37 text ≡ true → decode_tokens set (tokens text) ≡ map Char (chars text)
 unfolding tokens_from_chars chars decode_after_run
-literal-text-has-tokens-decoded set text u e =
+text-without-octets-has-tokens-decoded set text u e =
     ap (λ x. decode_tokens set (tokens x)) (sym (append-nil text))
-    ∙ ap (decode_tokens set)
-    (tokens_after_unencoded_prefix text [] u (literal-text-lacks-percent text e))
+    ∙ ap (decode_tokens set) (tokens_after_unencoded_prefix text [] u e)
     ∙ decode_tokens-after-chars set (chars text) []
     ∙ ap (λ ts. map Char (chars text) ++ ts) (decode_run-of-nil-is-nil set)
     ∙ append-nil (map Char (chars text))
 
 -- unchanged texts: a text without octets and formatting characters has its characters as its
 -- decoded form
-literal-text-decodes-to-characters : (set : TableSet) (text : List ℕ) → IsUtf8 text → IsLiteral text
+literal-text-decodes-to-characters : (set : TableSet) (text : List ℕ) → IsUtf8 text
+    → lacks 37 text ≡ true → list_any (λ b. eqb b 0xE2) text ≡ false
     → decode_unreserved set text ≡ map Char (chars text)
-literal-text-decodes-to-characters set text u e = ap (encode_formatting set)
-    (literal-text-has-tokens-decoded set text u e)
+literal-text-decodes-to-characters set text u octets leads = ap (encode_formatting set)
+    (text-without-octets-has-tokens-decoded set text u octets)
     ∙ encode_formatting-keeps-literal-characters set (chars text)
-    (no-byte-E2-no-formatting text u (literal-text-lacks-byte-E2 text e))
-
--- unchanged texts: a text without octets and formatting characters is its own decoded form
-pub literal-decodes-to-itself : (set : TableSet) (text : List ℕ) → IsUtf8 text → IsLiteral text
-    → print (decode_unreserved set text) ≡ text
-literal-decodes-to-itself set text u e = ap print (literal-text-decodes-to-characters set text u e)
-    ∙ print-of-characters-is-text text u
-
--- unchanged texts: a component without octets and formatting characters is its own decoded form
-pub literal-option-decodes-to-itself : (set : TableSet) (o : Option (List ℕ)) → IfSome o IsUtf8
-    → IfSome o IsLiteral
-    → option_map print (option_map (decode_unreserved set) o) ≡ o
-literal-option-decodes-to-itself set None u e = refl
-literal-option-decodes-to-itself set (Some text) u e = ap Some
-    (literal-decodes-to-itself set text u e)
-
--- unchanged texts: a text without octets and formatting characters
--- is written in lower case as its characters are
-literal-text-prints-lowered : (set : TableSet) (text : List ℕ) → IsUtf8 text → IsLiteral text
-    → print (map lower_token (decode_unreserved set text)) ≡ str_to_ascii_lowercase text
-literal-text-prints-lowered set text u e = ap (λ ts. print (map lower_token ts))
-    (literal-text-decodes-to-characters set text u e)
-    ∙ print-lowers-characters true text u
+    (no-byte-E2-no-formatting text u leads)
 
 -- unchanged texts: a host without `[` (91) is an IPv4 address or a name
 unbracketed-host-is-of-name_kind : (host : List ℕ) → starts 91 host ≡ false → host_kind host
@@ -93,13 +197,16 @@ unbracketed-host-is-of-name_kind host e = cond-false _ _ _ e
 -- unchanged texts: a name in lower case without octets and formatting characters is its own normal
 -- form
 pub lower-name-is-its-normal-form : (kind : Kind) → HasComponentSets kind → (host : List ℕ)
-    → IsUtf8 host → IsLiteral host → str_to_ascii_lowercase host ≡ host → starts 91 host ≡ false
+    → IsUtf8 host → lacks 37 host ≡ true → list_any (λ b. eqb b 0xE2) host ≡ false
+    → str_to_ascii_lowercase host ≡ host → starts 91 host ≡ false
     → host_text (host_meaning kind.reg_name host (host_kind host)) ≡ host
-lower-name-is-its-normal-form kind sets host u literal lower name =
+lower-name-is-its-normal-form kind sets host u octets leads lower name =
     let apart = names_exclude_delimiters kind.userinfo kind.reg_name
     (kind-sets-lack-authority-delimiters kind sets) in
     ap (λ h. host_text (host_meaning kind.reg_name host h))
     (unbracketed-host-is-of-name_kind host name)
     ∙ ap host_text
     (meaning-of-name-is-lowered-decoded kind.reg_name sets.reg_name apart host (ipv4_value host))
-    ∙ literal-text-prints-lowered kind.reg_name host u literal ∙ lower
+    ∙ ap (λ ts. print (map lower_token ts))
+    (literal-text-decodes-to-characters kind.reg_name host u octets leads)
+    ∙ print-lowers-characters true host u ∙ lower

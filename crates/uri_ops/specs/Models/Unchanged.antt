@@ -1,35 +1,79 @@
 -- What is asked of a text which then is its own normal text: RFC 3986, section 6.2.2.
-use Rattle.std.specs.Prelude.{◌≡◌, ◌||◌, ◌==◌, ℕ, Bool, true, false, not, List, Option, IfSome}
-use Rattle.std.specs.List.{list_all}
+use Rattle.std.specs.Prelude.{◌≡◌, ◌||◌, ◌&&◌, ◌==◌, ◌+◌, ◌*◌, ℕ, Bool, true, false, not, nat_lt}
+use Rattle.std.specs.Prelude.{List, [], ◌∷◌, Option, IfSome, slice_index}
+use Rattle.std.specs.Char.{digit_value, is_ascii_hexdigit, is_ascii_uppercase}
 use Rattle.std.specs.Str.{str_to_ascii_lowercase}
+use Rattle.uri_pct.specs.DecodeUnreserved.{LacksPastAscii}
 use Rattle.uri_pct.specs.Delimiters.{left_bracket, percent_sign}
-use Rattle.uri_pct.specs.Sets.{TableSet}
+use Rattle.uri_pct.specs.Sets.{TableSet, is_unreserved}
+use Rattle.uri_pct.specs.Texts.{lacks}
 use Rattle.uri_parts.specs.Authority.{authority_parts}
 use Rattle.uri_parts.specs.Components.{Components, starts}
+use Rattle.uri_parts.specs.Grammar.{Kind}
 use Rattle.uri_parts.specs.Hosts.{host_kind, is_host}
 use Rattle.uri_ops.specs.Meaning.{dotless_path, host_meaning, port_meaning}
 use Rattle.uri_ops.specs.Normal.{host_text, normal_scheme, path_underflows}
 
--- whether a text with this byte may be unchanged: the byte begins neither a percent-encoded octet
--- nor a formatting character of bidirectional text
+-- the byte begins neither a percent-encoded octet nor a formatting character of bidirectional text
 abbrev pub is_literal_byte : ℕ → Bool
 is_literal_byte b = not (b == percent_sign || b == 0xE2)
 
--- no byte of the text begins a percent-encoded octet or a formatting character of bidirectional
--- text: normalising decodes nothing
-abbrev pub IsLiteral : List ℕ → Type 0
-IsLiteral text = list_all is_literal_byte text ≡ true
+-- normalising leaves a percent-encoded octet with these digits: they are in upper case, its
+-- character is not unreserved, and it is of ASCII, unless no component of the text may have
+-- characters past ASCII (alone)
+abbrev pub is_kept_octet : Bool → ℕ → ℕ → Bool
+is_kept_octet alone high low =
+    (is_ascii_hexdigit high && is_ascii_hexdigit low) && ((nat_lt high 97 && nat_lt low 97)
+    && ((alone || nat_lt high 56) && not (is_unreserved (16 * digit_value high + digit_value low))))
 
--- normalising leaves this host, if nothing in it is decoded: a name is in lower case, and a host in
--- brackets is its own normal form
+-- normalising leaves the octet whose digits the text begins with, if it has both
+abbrev pub keeps_digits : Bool → List ℕ → Bool
+keeps_digits alone [] = true
+keeps_digits alone (high ∷ []) = true
+keeps_digits alone (high ∷ low ∷ text) = is_kept_octet alone high low
+
+-- normalising leaves each percent-encoded octet of the text, and no formatting character of
+-- bidirectional text is in it; alone: no component of the text may have characters past ASCII
+abbrev pub is_kept : Bool → List ℕ → Bool
+is_kept alone [] = true
+is_kept alone (b ∷ text) = (not (b == 0xE2) && (not (b == percent_sign) || keeps_digits alone text))
+    && is_kept alone text
+
+-- normalising decodes nothing in the text
+abbrev pub IsKept : Bool → List ℕ → Type 0
+IsKept alone text = is_kept alone text ≡ true
+
+-- the same at one index: normalising leaves an octet that begins there, and no formatting character
+-- begins there
+abbrev pub is_kept_at : Bool → List ℕ → ℕ → Bool
+is_kept_at alone text k = not (slice_index text k == 0xE2)
+    && (not (slice_index text k == percent_sign)
+    || is_kept_octet alone (slice_index text (k + 1)) (slice_index text (k + 2)))
+
+-- no component of the kind has characters past ASCII, as of URIs
+pub record KindLacksPastAscii (kind : Kind) : Type 0 where
+  pub userinfo : LacksPastAscii kind.userinfo
+  pub path : LacksPastAscii kind.path
+  pub query : LacksPastAscii kind.query
+  pub fragment : LacksPastAscii kind.fragment
+
+-- normalising leaves this host, if no formatting character is in it: a name is in lower case and
+-- has no octet, and a host in brackets is its own normal form
 abbrev pub IsUnchangedHost : List ℕ → Type 0
-IsUnchangedHost host = (starts left_bracket host ≡ false → str_to_ascii_lowercase host ≡ host)
+IsUnchangedHost host = (starts left_bracket host ≡ false → (str_to_ascii_lowercase host ≡ host)
+    × (lacks percent_sign host ≡ true))
     × (starts left_bracket host ≡ true → (names : TableSet) → is_host names host ≡ true
     → host_text (host_meaning names host (host_kind host)) ≡ host)
 
 -- a port is as normalising leaves it, by its scheme's default port, the first Option
 abbrev pub IsUnchangedPort : Option ℕ → Option (List ℕ) → Type 0
 IsUnchangedPort default port = port_meaning default port ≡ port
+
+-- the byte is no letter in upper case, begins no octet, and begins no host in brackets: normalising
+-- leaves a scheme or a host of such bytes, if they are of ASCII
+abbrev pub is_settled_byte : ℕ → Bool
+is_settled_byte b = not (is_ascii_uppercase b)
+    && (not (b == percent_sign) && not (b == left_bracket))
 
 -- normalising leaves this path under the scheme, if nothing in it is decoded: it has no dot segment
 -- that would be removed

@@ -1,10 +1,10 @@
 //! A cheap test of values that are their own normal text (RFC 3986, section 6.2.2). It misses a few
 //! of them.
-ghost use Rattle.std.specs.Prelude.{◌≡◌, ◌+◌, ◌≤◌, ◌<◌, ℕ, List, Option, IfOk, IfSome, None};
-ghost use Rattle.std.specs.Prelude.{codes, false};
-ghost use Rattle.std.specs.Prelude.{length, is_some, option_map, slice_index, string_bytes, true};
-ghost use Rattle.std.specs.Str.{str_to_ascii_lowercase};
+ghost use Rattle.std.specs.Prelude.{◌≡◌, ◌≤◌, ℕ, List, Option, IfOk, IfSome, None, codes, false};
+ghost use Rattle.std.specs.Prelude.{is_some, length, option_map, string_bytes, take, true};
 ghost use Rattle.std.specs.Char.{is_ascii_uppercase};
+ghost use Rattle.std.specs.List.{list_all};
+ghost use Rattle.std.specs.Str.{str_to_ascii_lowercase};
 ghost use Rattle.uri_pct.specs.Delimiters.{left_bracket};
 ghost use Rattle.uri_pct.specs.Sets.{TableSet, is_one_of};
 ghost use Rattle.uri_parts.specs.Hosts.{host_kind, is_host};
@@ -15,13 +15,15 @@ ghost use Rattle.uri_parts.specs.CoreTexts.{core_text};
 ghost use Rattle.uri_parts.specs.PackedPositions.{ArePackedPositionsOf};
 ghost use Rattle.uri_parts.specs.Schemes.{scheme_text};
 ghost use Rattle.uri_ops.specs.ComponentSets.{HasComponentSets};
-ghost use Rattle.uri_ops.specs.Models.Unchanged.{IsLiteral, IsUnchangedHost, IsUnchangedPath};
-ghost use Rattle.uri_ops.specs.Models.Unchanged.{IsUnchangedPort, is_literal_byte};
+ghost use Rattle.uri_ops.specs.Models.Unchanged.{IsUnchangedHost, IsUnchangedPath};
+ghost use Rattle.uri_ops.specs.Models.Unchanged.{IsUnchangedPort, KindLacksPastAscii};
+ghost use Rattle.uri_ops.specs.Models.Unchanged.{is_settled_byte};
 ghost use Rattle.uri_ops.specs.Meaning.{host_meaning};
 ghost use Rattle.uri_ops.specs.Normal.{default_port_of, host_text, normal_scheme};
 ghost use Rattle.uri_ops.specs.Normalizers.{HasNormalText, text_underflows};
 ghost use Rattle.uri_parts.specs.Ports.{PortFunction};
 
+use crate::normalize::kept_octets::is_kept;
 use crate::normalize::normal_authority::is_bracketed;
 use crate::normalize::normalized::Normalized;
 use crate::path::dot_segments::has_dot_segments;
@@ -31,45 +33,30 @@ use uri_parts::component::{Authority, Scheme};
 use uri_parts::core_text::Core;
 use uri_parts::kind::Kind;
 use uri_pct::encoder::Encoder;
-use uri_pct::lanes::{LANES, lanes_equal_to};
-use uri_pct::search::len_before_slash_dot;
+use uri_pct::lanes::{LANES, run_end};
 
-/// Returns whether a text may be unchanged by the sixteen bytes from `at` on: none begins an octet
-/// or a formatting character.
+/// Returns whether no component of the kind may have characters past ASCII, as of URIs.
 #[inline(always)]
-fn is_literal_block(bytes: &[u8], at: usize) -> bool
-    requires { at + LANES ≤ length bytes.now }
-    ensures { result ≡ true → (k : ℕ) → k < 16
-        → is_literal_byte (slice_index bytes.now (at + k)) ≡ true }
+fn lacks_past_ascii<K: Kind>() -> bool
+    ensures { result ≡ true → KindLacksPastAscii K.kind }
 {
-    let found = lanes_equal_to(b'%', bytes, at) | lanes_equal_to(0xE2, bytes, at);
-    found == 0
+    !K::QueryE::table().allows_some_past_ascii()
 }
 
-/// Returns whether a text may be unchanged: no byte begins an octet or a formatting character. The
-/// last sixteen bytes overlap those before.
-fn is_literal(bytes: &[u8]) -> bool
-    ensures { result ≡ true → IsLiteral bytes.now }
+/// Returns whether the byte is settled: it is neither a letter in upper case nor a `%` nor a `[`.
+#[inline(always)]
+fn is_settled_byte(byte: u8) -> bool
+    ensures { result ≡ is_settled_byte byte }
 {
-    if bytes.len() < LANES {
-        return bytes.iter().all(|byte| *byte != b'%' && *byte != 0xE2);
-    }
-    let last = bytes.len() - LANES;
-    let mut i = 0;
-    while i < last {
-        if !is_literal_block(bytes, i) {
-            return false;
-        }
-        i += LANES;
-    }
-    is_literal_block(bytes, last)
+    !byte.is_ascii_uppercase() && byte != b'%' && byte != b'['
 }
 
-/// Returns whether a scheme or a host may be unchanged: no ASCII letter is in upper case.
-fn is_lower(text: &str) -> bool
-    ensures { result ≡ true → str_to_ascii_lowercase text.now ≡ text.now }
+/// Returns whether each byte of a scheme or a host is settled, so that normalising keeps it.
+fn is_settled(text: &str) -> bool
+    ensures lower { result ≡ true → str_to_ascii_lowercase text.now ≡ text.now }
+    ensures host { result ≡ true → IsUnchangedHost text.now }
 {
-    !text.as_bytes().iter().any(|byte| byte.is_ascii_uppercase())
+    text.as_bytes().iter().all(|byte| is_settled_byte(*byte))
 }
 
 /// Returns whether normalising keeps the scheme: there is none, or it is in lower case.
@@ -78,7 +65,7 @@ fn is_scheme_unchanged(scheme: Option<Scheme<'_>>) -> bool
         ≡ option_map scheme_text scheme.entry }
 {
     match scheme {
-        Some(scheme) => is_lower(scheme.as_str()),
+        Some(scheme) => is_settled(scheme.as_str()),
         None => true,
     }
 }
@@ -142,8 +129,60 @@ fn is_host_unchanged<U: Encoder, R: Encoder>(authority: Option<Authority<'_, U, 
     if is_bracketed(host) {
         is_address_unchanged(host)
     } else {
-        is_lower(host)
+        is_settled(host)
     }
+}
+
+/// The ASCII characters below 64 but `%`, as a mask.
+const SETTLED_BELOW_64: u64 = 0xFFFF_FFDF_FFFF_FFFF;
+
+/// The ASCII characters from 64 on but `[` and letters in upper case, as a mask.
+const SETTLED_FROM_64: u64 = 0xFFFF_FFFF_F000_0001;
+
+/// Returns `true` only if each of the first bytes of a text, up to `end`, is settled: it is neither
+/// a letter in upper case nor a `%` nor a `[`. It returns `false` for a text that is shorter than a
+/// block.
+#[inline(always)]
+fn is_prefix_settled(bytes: &[u8], end: usize) -> bool
+    requires { end ≤ length bytes.now }
+    ensures { result ≡ true → list_all is_settled_byte (take end bytes.now) ≡ true }
+{
+    if bytes.len() < LANES {
+        return false;
+    }
+    let window = &bytes[..end.max(LANES)];
+    end <= run_end(SETTLED_BELOW_64, SETTLED_FROM_64, window, 0)
+}
+
+/// Returns `true` only if the text has an authority, and its bytes up to the end of the host are
+/// settled, so that normalising keeps the scheme and the host.
+#[inline(always)]
+fn is_host_settled<K: Kind>(core: Core<K, &str>) -> bool
+    ensures scheme { result ≡ true → let p = components (core_text core.entry) in
+        normal_scheme p.scheme ≡ p.scheme }
+    ensures host { result ≡ true → let p = components (core_text core.entry) in
+        IfSome p.authority (λ a. IsUnchangedHost (authority_parts a).host) }
+{
+    let host_end = core.packed_positions().host_end;
+    let bytes = core.as_str().as_bytes();
+    if host_end == 0 || bytes.len() < host_end {
+        return false;
+    }
+    is_prefix_settled(bytes, host_end)
+}
+
+/// Returns `true` only if normalising keeps the scheme and the host, if no formatting character is
+/// in the host.
+fn are_scheme_and_host_unchanged<K: Kind>(core: Core<K, &str>) -> bool
+    ensures scheme { result ≡ true → let p = components (core_text core.entry) in
+        normal_scheme p.scheme ≡ p.scheme }
+    ensures host { result ≡ true → let p = components (core_text core.entry) in
+        IfSome p.authority (λ a. IsUnchangedHost (authority_parts a).host) }
+{
+    if is_host_settled(core) {
+        return true;
+    }
+    is_scheme_unchanged(core.scheme()) && is_host_unchanged(core.authority())
 }
 
 /// Returns `true` only if normalising removes no dot segment of the path.
@@ -157,9 +196,14 @@ fn is_path_unchanged(has_scheme: bool, path: &str) -> bool
     !has_dot_segments(path)
 }
 
+/// Returns whether a path begins with a `.` after its `/` and has dot segments that are removed. It
+/// is tested before a long text is scanned, which such a path often makes useless.
+fn begins_with_dot_segments(has_scheme: bool, path: &str) -> bool {
+    matches!(path.as_bytes(), [b'/', b'.', ..]) && !is_path_unchanged(has_scheme, path)
+}
+
 /// Returns `true` only if the normal text of a value is its own, under any default ports that keep
-/// its port. It returns `false` at once if a `/` near the start of a long path has a dot or a `%`
-/// after it.
+/// its port.
 pub(crate) fn is_unchanged_but_for_port<K: Kind>(core: Core<K, &str>) -> bool
     requires { HasComponentSets K.kind }
     ensures text { let p = components (core_text core.entry) in
@@ -170,17 +214,14 @@ pub(crate) fn is_unchanged_but_for_port<K: Kind>(core: Core<K, &str>) -> bool
     ensures underflow { result ≡ true → text_underflows (core_text core.entry) ≡ false }
 {
     let path = core.path().as_str();
-    if path.len() > LANES && len_before_slash_dot(path.as_bytes(), 0) < LANES {
-        return false;
-    }
-    let scheme = core.scheme();
-    if !is_literal(core.as_str().as_bytes())
-        || !is_scheme_unchanged(scheme)
-        || !is_host_unchanged(core.authority())
+    let has_scheme = core.has_scheme();
+    if !are_scheme_and_host_unchanged(core)
+        || begins_with_dot_segments(has_scheme, path)
+        || !is_kept(lacks_past_ascii::<K>(), core.as_str().as_bytes())
     {
         return false;
     }
-    is_path_unchanged(scheme.is_some(), path)
+    is_path_unchanged(has_scheme, path)
 }
 
 /// Returns whether no port is after the host of the authority, if there is one.

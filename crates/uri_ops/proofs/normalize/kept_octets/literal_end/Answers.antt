@@ -1,0 +1,80 @@
+use Rattle.std.proofs.Common.{◌≡◌, ◌+◌, ◌-◌, ◌≤◌, ◌<◌, Bool, true, false, not, cond, eqb, List, ℕ}
+use Rattle.std.proofs.Common.{zero, suc, length, get_or, arith, refl, ◌^◌}
+use Rattle.std.proofs.lemmas.Nat.Bits.{bit_at-lt}
+use Rattle.std.proofs.lemmas.Bool.{both_ways}
+use Rattle.uri_pct.proofs.LaneScans.LaneRuns.{MarksFailingLanes, last_load_marks_failing_lanes}
+use Rattle.uri_pct.proofs.LaneScans.LaneRuns.{run_goes_on_past_unmarked_lanes}
+use Rattle.uri_pct.proofs.LaneScans.LaneRuns.{run_ends_at_first_marked_lane}
+use Rattle.uri_pct.proofs.LaneScans.LaneBits.{is_set_bit}
+use Rattle.uri_ops.specs.Models.Unchanged.{is_literal_byte}
+use Rattle.uri_ops.proofs.normalize.kept_octets.literal_end.Goals as goal
+
+one_if : (n : ℕ) (b : Bool) → n < 2 → eqb n 1 ≡ not b → n ≡ cond (not b) 1 0
+one_if zero true h e = refl
+one_if zero false h e = absurd (both_ways _ refl e)
+one_if (suc zero) true h e = absurd (both_ways _ e refl)
+one_if (suc zero) false h e = refl
+one_if (suc (suc n)) b h e = absurd (omega arith)
+
+-- what a block's mask says
+block : (bs : List ℕ) (i mask : ℕ) → mask < 2 ^ 16
+    → ((k : ℕ) → k < 16 → is_set_bit mask k ≡ not (is_literal_byte (get_or bs (i + k) 0)))
+    → MarksFailingLanes is_literal_byte bs i 16 mask
+block bs i mask below lane = record {
+  lane = λ k h. one_if _ _ (bit_at-lt mask k) (lane k h);
+  below = below;
+}
+
+pub returns-then-mask-ne0 : goal.returns-then-mask-ne0
+returns-then-mask-ne0 c =
+    let bs = c.args.bytes.now in
+    let i = c.loop-i.i in
+    let room : i + 16 ≤ length bs = omega (arith, c.loop-i.invariant.within, c.loop-i-test.true) in
+    let lanes = c.lanes_of_special_bytes-mask.ensures in
+    run_ends_at_first_marked_lane _ bs c.args.start i 16 _
+    (block bs i _ lanes.below lanes.lane) c.loop-i.invariant.pass
+    (omega (arith, c.if-mask-ne0.true)) (omega arith) c.loop-i.invariant.from room
+
+pub loop-i-preserved : goal.loop-i-preserved
+loop-i-preserved c =
+    let bs = c.args.bytes.now in
+    let i = c.loop-i.i in
+    let lanes = c.lanes_of_special_bytes-mask.ensures in
+    record {
+      from = omega (arith, c.loop-i.invariant.from);
+      within = omega (arith, c.loop-i.invariant.within, c.loop-i-test.true);
+      pass = run_goes_on_past_unmarked_lanes _ bs c.args.start i 16 _
+          (block bs i _ lanes.below lanes.lane) c.loop-i.invariant.pass
+          (omega (arith, c.if-mask-ne0.false));
+    }
+
+pub returns-then-mask-eq0 : goal.returns-then-mask-eq0
+returns-then-mask-eq0 c =
+    let bs = c.args.bytes.now in
+    let i = c.loop-i.i in
+    let lanes = c.lanes_of_special_bytes-tail.ensures in
+    let m = last_load_marks_failing_lanes _ bs i c.lanes_of_special_bytes-tail.result
+    (omega arith) c.loop-i.invariant.within
+    (omega (arith, c.loop-i.invariant.within, c.loop-i-test.false))
+    (block bs (length bs - 16) _ lanes.below lanes.lane) in
+    record {
+      from = omega (arith, c.requires);
+      within = omega arith;
+      pass = λ k from to. run_goes_on_past_unmarked_lanes _ bs c.args.start i
+          (length bs - i) _ m c.loop-i.invariant.pass
+          c.if-mask-eq0.true k from (omega (arith, c.loop-i.invariant.within));
+      stop = λ h. absurd (omega arith);
+    }
+
+pub returns : goal.returns
+returns c =
+    let bs = c.args.bytes.now in
+    let i = c.loop-i.i in
+    let lanes = c.lanes_of_special_bytes-tail.ensures in
+    let m = last_load_marks_failing_lanes _ bs i c.lanes_of_special_bytes-tail.result
+    (omega arith) c.loop-i.invariant.within
+    (omega (arith, c.loop-i.invariant.within, c.loop-i-test.false))
+    (block bs (length bs - 16) _ lanes.below lanes.lane) in
+    run_ends_at_first_marked_lane _ bs c.args.start i (length bs - i) _ m c.loop-i.invariant.pass
+    (omega (arith, c.if-mask-eq0.false)) (omega (arith, c.loop-i-test.false))
+    c.loop-i.invariant.from (omega (arith, c.loop-i.invariant.within))
