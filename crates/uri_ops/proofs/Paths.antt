@@ -23,3 +23,4 @@ pub mod PathMeanings
 pub mod MergedPaths
 pub mod GuardedPaths
 pub mod SlashBlocks
+pub mod FoundDotSegments

@@ -11,3 +11,4 @@ pub mod JoinedPieces
 pub mod TextViews
 pub mod PrefixedTargets
 pub mod CopiedTargets
+pub mod TargetCases

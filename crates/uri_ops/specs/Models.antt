@@ -9,3 +9,4 @@ pub mod BasePrefixes
 pub mod Decodings
 pub mod Unchanged
 pub mod Written
+pub mod TargetCases

@@ -14,7 +14,8 @@ ghost use Rattle.uri_ops.specs.Builders.{draft_parts};
 ghost use Rattle.uri_ops.specs.Models.DraftPlaces.{HasRightHostRange};
 
 mod appending;
-pub(crate) mod draft;
+#[doc(hidden)]
+pub mod draft;
 pub(crate) mod error;
 #[doc(hidden)]
 pub mod host_port;

@@ -14,11 +14,13 @@ ghost use Rattle.uri_parts.specs.Grammar.{IsTextOf};
 
 pub(crate) mod base_prefix;
 pub(crate) mod copied_target;
+pub(crate) mod dotted_target;
 pub(crate) mod error;
-pub(crate) mod room;
+pub(crate) mod target_case;
 #[doc(hidden)]
 pub mod target_text;
-pub(crate) mod text_view;
+#[doc(hidden)]
+pub mod text_view;
 
 use crate::default_port::DefaultPort;
 use crate::normalize::{Normalizer, normalize_string};

@@ -118,7 +118,7 @@ directory-by-last-slash (c ∷ x) y e =
     (before_last_slash-of-slashless-tail (c ∷ x) y e)
 
 -- paths: in an absolute path, the position of a last slash is that of a `/` (47)
-slash-position-is-of-slash : (path : List ℕ) (slash : ℕ) → IsAbsolute path
+pub slash-position-is-of-slash : (path : List ℕ) (slash : ℕ) → IsAbsolute path
     → IsSlashOrStart path 0 slash
     → (slash < length path) × (get_or path slash 0 ≡ 47)
 slash-position-is-of-slash [] slash h p = absurd (false≢true (eq_true_from_IsTrue _ h))

@@ -104,7 +104,7 @@ prefix-of-dotless-segments-is-dotless xs ys e f =
     (xs ++ ys) e f)).0
 
 -- paths: what holds of dotless segments and a last `/` holds of any directory without dot segments
-property-of-dotless-directory-by-segments : (P : List ℕ → Type 0)
+pub property-of-dotless-directory-by-segments : (P : List ℕ → Type 0)
     → ((xs : List (List ℕ)) → NoSlashes xs → AllPass is_dotless xs → P (slashed (xs ++ [] ∷ [])))
     → (path : List ℕ) → IsDotlessDirectory path → P path
 property-of-dotless-directory-by-segments P each path d = property-of-path-to-slash-by-segments

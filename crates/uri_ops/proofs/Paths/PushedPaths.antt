@@ -26,7 +26,7 @@ use Rattle.uri_ops.proofs.Paths.DotLaws.{path-underflows-as-prefix-or-remainder}
 use Rattle.uri_ops.proofs.Paths.DotLaws.{dotless-path-does-not-underflow}
 
 -- paths: a prefix of an absolute path, one byte at least, is absolute
-prefix-of-absolute-path-is-absolute : (path : List ℕ) (n : ℕ) → IsAbsolute path → 0 < n
+pub prefix-of-absolute-path-is-absolute : (path : List ℕ) (n : ℕ) → IsAbsolute path → 0 < n
     → IsAbsolute (take n path)
 prefix-of-absolute-path-is-absolute path zero h some = absurd (omega (arith, some))
 prefix-of-absolute-path-is-absolute [] (suc n) h some = h

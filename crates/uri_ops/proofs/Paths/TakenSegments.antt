@@ -109,14 +109,14 @@ slashless-segment-and-rest-lack-slashes : (s : List ℕ) (rest : List (List ℕ)
 slashless-segment-and-rest-lack-slashes s rest e f = and_from _ _ (not_from_false _ e) f
 
 -- paths: a text without `/` is its only segment
-segments-of-slashless-text-is-one : (s : List ℕ) → has_slash s ≡ false → segments (s ++ []) ≡ s ∷ []
+pub segments-of-slashless-text-is-one : (s : List ℕ) → has_slash s ≡ false → segments (s ++ []) ≡ s ∷ []
 unfolding slashed
 segments-of-slashless-text-is-one s e = segments-of-joined-segments s []
     (slashless-segment-and-rest-lack-slashes s [] e refl)
 
 -- paths: the segments of a text with a first `/` (47) are what is before it,
 -- and those of what is after it
-segments-split-at-first-slash : (s r : List ℕ) → has_slash s ≡ false → segments (s ++ 47 ∷ r)
+pub segments-split-at-first-slash : (s r : List ℕ) → has_slash s ≡ false → segments (s ++ 47 ∷ r)
     ≡ s ∷ segments r
 segments-split-at-first-slash s r e = ap (λ t. segments (s ++ t))
     (sym (slashed-of-segments-is-text-after-slash r))

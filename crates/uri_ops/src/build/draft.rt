@@ -298,8 +298,8 @@ fn after_part(text: &[u8], marks: usize, part: Option<usize>) -> &[u8]
     }
 }
 
-/// Returns whether a `:` is in the first segment of a path that a builder holds.
-fn has_colon_in_first_segment(path: &[u8]) -> bool
+/// Returns whether a `:` is in the first segment of a path.
+pub fn has_colon_in_first_segment(path: &[u8]) -> bool
     ensures { result ≡ has_colon_in_first_segment path.now }
 {
     path.iter()

@@ -1,6 +1,6 @@
 //! The removal of dot segments (RFC 3986, section 5.2.4).
 ghost use Rattle.std.specs.Prelude.{◌≡◌, ◌≤◌, ◌<◌, ◌++◌, ◌+◌, IfOk, OnOk, false, true, length};
-ghost use Rattle.std.specs.Prelude.{drop, take, string_bytes};
+ghost use Rattle.std.specs.Prelude.{drop, not, take, string_bytes};
 ghost use Rattle.std.specs.Str.{IsCharBoundary};
 ghost use Rattle.uri_pct.specs.Texts.{Pushes};
 ghost use Rattle.uri_parts.specs.Components.{IsAbemptyPath};
@@ -11,7 +11,7 @@ ghost use Rattle.uri_ops.specs.Models.SegmentModes.{KeepsSlashesAndDots};
 ghost use Rattle.uri_ops.specs.Models.Places.{IsSlashOrStart};
 ghost use Rattle.uri_ops.specs.Dots.{EndsInSlash, IsAbsolute, before_last_slash, directory};
 ghost use Rattle.uri_ops.specs.Dots.{has_slash, is_double_dot, is_empty, lacks_dot_segments};
-ghost use Rattle.uri_ops.specs.Dots.{remove_dot_segments, underflows};
+ghost use Rattle.uri_ops.specs.Dots.{or_slash, remove_dot_segments, underflows};
 ghost use Rattle.uri_ops.specs.Target.{merged};
 
 use crate::path::leading_segment::{
@@ -63,7 +63,7 @@ fn last_slash_before(bytes: &[u8], start: usize, limit: usize) -> usize
 
 /// Returns the position of a path's last `/` that is not before `start`, or `start` if there is
 /// none. It searches sixteen bytes at a time.
-pub(crate) fn last_slash(bytes: &[u8], start: usize) -> usize
+pub fn last_slash(bytes: &[u8], start: usize) -> usize
     requires { start ≤ length bytes.now }
     ensures prefix { take result bytes.now
         ≡ take start bytes.now ++ before_last_slash (drop start bytes.now) }
@@ -91,16 +91,17 @@ fn pop_segment(start: usize, out: &mut String) -> bool
 
 /// Returns whether a path that begins with `/` has a dot segment to remove (RFC 3986, section 3.3).
 /// A dot counts percent-encoded too.
-pub(crate) fn has_dot_segments(path: &str) -> bool
+pub fn has_dot_segments(path: &str) -> bool
     requires { IsAbsolute path.now }
-    ensures { result ≡ false → lacks_dot_segments path.now ≡ true }
+    ensures { result ≡ not (lacks_dot_segments path.now) }
 {
     let mut done = 1;
     while done < path.len() {
         let rest = &path[done..];
         match leading_dot_segment(rest) {
             LeadingDots::NoDots => done += dotless_prefix_len(rest),
-            LeadingDots::SingleDot(_) | LeadingDots::DoubleDot(_) => return true,
+            LeadingDots::SingleDot(_) => return true,
+            LeadingDots::DoubleDot(_) => return true,
         }
     }
     false
@@ -190,10 +191,12 @@ fn directory_end(path: &str) -> usize
 }
 
 /// Returns the base's path, or `/` for an empty one, which has the same directory.
-fn path_or_slash(path: &str) -> &str
+pub fn path_or_slash(path: &str) -> &str
     requires { IsAbemptyPath path.now }
+    ensures root { result.now ≡ or_slash path.now }
     ensures absolute { IsAbsolute result.now }
     ensures directory { directory result.now ≡ directory path.now }
+    ensures dotless { lacks_dot_segments result.now ≡ lacks_dot_segments path.now }
 {
     if path.is_empty() { "/" } else { path }
 }

@@ -3,11 +3,14 @@
 ghost use Rattle.std.specs.Prelude.{◌≡◌, ◌<◌, IfSome, false, is_some, length, true};
 ghost use Rattle.uri_ops.specs.Dots.{is_empty, lacks_dot_segments};
 ghost use Rattle.uri_ops.specs.Models.BasePrefixes.{IsPrefixedTarget, IsUpToDirectory};
+ghost use Rattle.uri_ops.specs.Models.TargetCases.{IsCaseOf};
 ghost use Rattle.uri_ops.specs.Resolving.{components_of};
+ghost use Rattle.uri_ops.specs.declared.resolve.target_case.TargetCase.TheVariants.{MergedPath};
 
 use crate::path::dot_segments::last_slash;
 use crate::path::leading_segment::{begins_with_dot, dotless_prefix_len, is_double_dot};
 use crate::path::slashes::begins_with_slash;
+use crate::resolve::target_case::TargetCase;
 use crate::resolve::text_view::TextView;
 
 /// Returns whether no segment of a base's or a reference's path begins with a dot or an octet, as
@@ -59,21 +62,33 @@ fn prefix_for_empty_path<'a>(base: &TextView<'a>, reference: &TextView<'_>) -> O
     Some(base.before_fragment())
 }
 
-/// Returns what of a base is before the text of a reference in the target, where neither has dot
-/// segments.
-pub(crate) fn target_prefix<'a>(base: &TextView<'a>, reference: &TextView<'_>) -> Option<&'a str>
+/// Returns what of a base is before a reference whose path is merged with the base's, where the
+/// base has an authority, and neither path has dot segments.
+fn prefix_for_merged_path<'a>(base: &TextView<'a>, reference: &TextView<'_>) -> Option<&'a str>
+    requires { IsCaseOf (components_of reference.now) MergedPath }
     ensures { IfSome result (λ prefix.
         IsPrefixedTarget (components_of base.now) (components_of reference.now) prefix.now) }
 {
-    if reference.has_scheme() || reference.has_authority() {
-        return None;
-    }
-    let path = reference.path();
-    if path.is_empty() {
-        return prefix_for_empty_path(base, reference);
-    }
-    if begins_with_slash(path.as_bytes()) || !is_dotless(path) {
+    if !is_dotless(reference.path()) {
         return None;
     }
     directory_prefix(base)
+}
+
+/// Returns what of a base is before the text of a reference in the target, where neither has dot
+/// segments.
+pub(crate) fn target_prefix<'a>(
+    case: TargetCase,
+    base: &TextView<'a>,
+    reference: &TextView<'_>,
+) -> Option<&'a str>
+    requires { IsCaseOf (components_of reference.now) case }
+    ensures { IfSome result (λ prefix.
+        IsPrefixedTarget (components_of base.now) (components_of reference.now) prefix.now) }
+{
+    match case {
+        TargetCase::EmptyPath => prefix_for_empty_path(base, reference),
+        TargetCase::MergedPath => prefix_for_merged_path(base, reference),
+        _ => None,
+    }
 }

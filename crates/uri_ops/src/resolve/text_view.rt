@@ -4,12 +4,15 @@ ghost use Rattle.std.specs.Prelude.{◌≡◌, ◌≤◌, ◌+◌, ◌++◌, ℕ
 ghost use Rattle.std.specs.Prelude.{is_some, option_map};
 ghost use Rattle.std.specs.Str.{IsUtf8};
 ghost use Rattle.uri_parts.specs.Components.{components, marked};
+ghost use Rattle.uri_parts.specs.CoreTexts.{core_text};
 ghost use Rattle.uri_parts.specs.Grammar.{IsOfKind};
 ghost use Rattle.uri_parts.specs.PackedPositions.{ArePackedPositionsOf, packed};
 ghost use Rattle.uri_parts.specs.Positions.{ArePositionsOf, authority_at, host_end_of};
 ghost use Rattle.uri_parts.specs.Positions.{positions_of};
 
 use crate::traits::RiMaybeRef;
+use uri_parts::core_text::Core;
+use uri_parts::kind::Kind;
 use uri_parts::packed_positions::PackedPositions;
 use uri_parts::positions::{AuthorityPositions, Positions};
 
@@ -35,7 +38,16 @@ impl<'a> TextView<'a> {
         ensures of_kind { IsOfKind R.kind (R.text value.now) }
         ensures utf8 { IsUtf8 (R.text value.now) }
     {
-        let core = value.core();
+        TextView::of_core(value.core())
+    }
+
+    /// Returns the text of a core, with the positions of its components.
+    #[inline(always)]
+    pub fn of_core<K: Kind>(core: Core<K, &'a str>) -> TextView<'a>
+        ensures components { components_of result ≡ components (core_text core.entry) }
+        ensures of_kind { IsOfKind K.kind (core_text core.entry) }
+        ensures utf8 { IsUtf8 (core_text core.entry) }
+    {
         TextView {
             text: core.as_str(),
             positions: core.packed_positions(),
@@ -56,11 +68,6 @@ impl<'a> TextView<'a> {
         ensures { ArePositionsOf self.now.text.now result }
     {
         self.positions.unpack(self.text)
-    }
-
-    /// Returns how long the text is, in bytes.
-    pub(crate) fn len(&self) -> usize {
-        self.text.len()
     }
 
     /// Returns whether the text has a scheme.
@@ -150,7 +157,7 @@ impl<'a> TextView<'a> {
     }
 
     /// Returns the query and the fragment with their marks: what is after the path.
-    pub(crate) fn after_path(&self) -> &'a str
+    pub fn after_path(&self) -> &'a str
         ensures { let p = components_of self.now in result.now
             ≡ marked (codes "?") p.query [] ++ marked (codes "#") p.fragment [] }
     {
@@ -160,7 +167,7 @@ impl<'a> TextView<'a> {
     }
 
     /// Returns the query with its `?`, or no text.
-    pub(crate) fn query_with_delimiter(&self) -> &'a str
+    pub fn query_with_delimiter(&self) -> &'a str
         ensures { result.now ≡ marked (codes "?") (components_of self.now).query [] }
     {
         let text = self.as_str();
@@ -169,7 +176,7 @@ impl<'a> TextView<'a> {
     }
 
     /// Returns the fragment with its `#`, or no text.
-    pub(crate) fn fragment_with_delimiter(&self) -> &'a str
+    pub fn fragment_with_delimiter(&self) -> &'a str
         ensures { result.now ≡ marked (codes "#") (components_of self.now).fragment [] }
     {
         let text = self.as_str();

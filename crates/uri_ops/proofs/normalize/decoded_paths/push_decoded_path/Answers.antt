@@ -1,4 +1,5 @@
 use Rattle.std.proofs.Common.{◌≡◌, true, sym, ap, ◌∙◌, ◌++◌, string_bytes}
+use Rattle.std.proofs.lemmas.Bool.{not-false}
 use Rattle.uri_pct.specs.EncodedTexts.{text_of}
 use Rattle.uri_pct.specs.DecodeUnreserved.{decode_unreserved}
 use Rattle.uri_pct.specs.Tokens.{print}
@@ -10,7 +11,7 @@ use Rattle.uri_ops.proofs.normalize.decoded_paths.push_decoded_path.Goals as goa
 lacks : (g : _) (c : goal.In_ok-push_decoded_component g)
     → lacks_dot_segments (text_of c.args.path) ≡ true
 lacks g c = ap lacks_dot_segments (sym c.as_str.ensures.text)
-    ∙ c.has_dot_segments.ensures c.if-has_dot_segments.false
+    ∙ not-false _ (sym c.has_dot_segments.ensures ∙ c.if-has_dot_segments.false)
 
 pub returns-clause-text : goal.returns-clause-text
 returns-clause-text g c =

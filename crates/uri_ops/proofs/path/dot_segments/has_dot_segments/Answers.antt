@@ -1,10 +1,15 @@
-use Rattle.std.proofs.Common.{◌≡◌, ◌<◌, ◌+◌, ◌++◌, length, take, drop, false, arith, refl, sym, ap}
+use Rattle.std.proofs.Common.{not, ◌≡◌, ◌<◌, ◌+◌, ◌++◌, length, take, drop, false, arith, refl, sym, ap}
 use Rattle.std.proofs.Common.{subst, ◌∙◌}
 use Rattle.std.specs.Str.{IsCharBoundary}
 use Rattle.std.proofs.lemmas.List.{drop-drop}
 use Rattle.std.proofs.lemmas.Str.{IsCharBoundary-from_rest}
 use Rattle.uri_pct.proofs.Unicode.Pieces.{take_then_take_is_take_of_sum}
+use Rattle.uri_ops.specs.Dots.{is_double_dot, is_single_dot}
 use Rattle.uri_ops.specs.Models.Directories.{RemovalState}
+use Rattle.uri_ops.specs.Models.LeadingSegments.{DescribesLeadingDots}
+use Rattle.uri_ops.proofs.Paths.FoundDotSegments.{dot-segment-before-rest-is-in-path}
+use Rattle.uri_ops.proofs.Paths.FoundDotSegments.{double-dot-is-dot-segment}
+use Rattle.uri_ops.proofs.Paths.FoundDotSegments.{single-dot-is-dot-segment}
 use Rattle.uri_ops.proofs.Paths.LeftPaths.{removal-state-of-equals, removal-passes-dotless-prefix}
 use Rattle.uri_ops.proofs.Paths.PushedPaths.{removal-begins-after-root}
 use Rattle.uri_ops.proofs.Paths.PushedPaths.{position-after-root-is-boundary}
@@ -41,3 +46,23 @@ loop-done-preserved c =
           (removal-passes-dotless-prefix path (take done path) rest false holds some next
           prefix.dotless prefix.closed);
     }
+
+pub returns-in-SingleDot : goal.returns-in-SingleDot
+returns-in-SingleDot c =
+    let path = c.args.path.now in
+    let rest = c.range_from-rest.result.now in
+    sym (ap not (dot-segment-before-rest-is-in-path is_single_dot single-dot-is-dot-segment path rest
+    c.loop-done.done _ c.range_from-rest.ensures.value
+    (omega (arith, c.range_from-rest.ensures.len, c.loop-done-test.true))
+    c.loop-done.invariant.left
+    (subst (DescribesLeadingDots rest) c.in-SingleDot.is c.leading_dot_segment.ensures.leading)))
+
+pub returns-in-DoubleDot : goal.returns-in-DoubleDot
+returns-in-DoubleDot c =
+    let path = c.args.path.now in
+    let rest = c.range_from-rest.result.now in
+    sym (ap not (dot-segment-before-rest-is-in-path is_double_dot double-dot-is-dot-segment path rest
+    c.loop-done.done _ c.range_from-rest.ensures.value
+    (omega (arith, c.range_from-rest.ensures.len, c.loop-done-test.true))
+    c.loop-done.invariant.left
+    (subst (DescribesLeadingDots rest) c.in-DoubleDot.is c.leading_dot_segment.ensures.leading)))

@@ -7,13 +7,16 @@ use Rattle.uri_ops.specs.Target.{dotted_target}
 use Rattle.uri_ops.proofs.Targeting.Targets.{target-text-has-target-components}
 use Rattle.uri_ops.proofs.resolve.target_text.target_text.Goals as goal
 
+pub push_target-requires : goal.push_target-requires
+push_target-requires c = c.dotted_target-dotted.ensures.rooted
+
 pub returns-clause-at : goal.returns-clause-at
 returns-clause-at c =
     let t = dotted_target (components_of c.args.base.now) (components_of c.args.reference.now) in
     let empty : string_bytes c.in_ok-text.text ≡ [] = search rules in
-    let text = c.in_ok-positions.ensures.text
+    let text = c.in_ok-positions.ensures.text t c.dotted_target-dotted.ensures
     ∙ ap (λ x. x ++ recompose (with_final_path t)) empty in
-    c.in_ok-positions.ensures.places empty
+    c.in_ok-positions.ensures.places t c.dotted_target-dotted.ensures empty
     ∙ sym (ap (λ p. packed (positions_of p))
     (ap components text ∙ target-text-has-target-components c.args.base.now.text.now
     c.args.reference.now.text.now
@@ -27,8 +30,9 @@ returns-in-Some-clause-at c =
     ∙ target-text-has-target-components c.args.base.now.text.now c.args.reference.now.text.now
     c.requires))
 
-pub returns-then-not-begins_with_slash-clause-at : goal.returns-then-not-begins_with_slash-clause-at
-returns-then-not-begins_with_slash-clause-at c =
+pub returns-then-is_rootless_with_scheme-clause-at
+    : goal.returns-then-is_rootless_with_scheme-clause-at
+returns-then-is_rootless_with_scheme-clause-at c =
     c.in_ok-copy.ensures.places
     ∙ sym (ap (λ p. packed (positions_of p))
     (ap components c.in_ok-copy.ensures.text

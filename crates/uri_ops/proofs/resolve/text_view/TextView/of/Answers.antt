@@ -1,7 +1,13 @@
-use Rattle.uri_ops.proofs.Targeting.TextViews.{host-ends-within-authority}
+use Rattle.std.proofs.Common.{ap, subst, ◌∙◌}
+use Rattle.std.specs.Str.{IsUtf8}
+use Rattle.uri_parts.specs.Components.{components}
 use Rattle.uri_ops.proofs.resolve.text_view.TextView.of.Goals as goal
 
-pub invariant_of-result-clause-host : goal.invariant_of-result-clause-host
-invariant_of-result-clause-host g c =
-    host-ends-within-authority g.R.Kind.Kind.kind c.as_str.result.now
-    (record { utf8 = c.as_str.utf8; grammar = c.as_str.ensures.of_kind })
+pub returns-clause-components : goal.returns-clause-components
+returns-clause-components g c = c.of_core.ensures.components ∙ ap components c.core.ensures.text
+
+pub returns-clause-of_kind : goal.returns-clause-of_kind
+returns-clause-of_kind g c = c.core.ensures.of_kind
+
+pub returns-clause-utf8 : goal.returns-clause-utf8
+returns-clause-utf8 g c = subst IsUtf8 c.core.ensures.text c.of_core.ensures.utf8

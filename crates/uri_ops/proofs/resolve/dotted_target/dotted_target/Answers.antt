@@ -1,0 +1,65 @@
+use Rattle.std.proofs.Common.{subst, sym}
+use Rattle.uri_ops.specs.declared.resolve.target_case.TargetCase.TheVariants.{WithScheme}
+use Rattle.uri_ops.specs.declared.resolve.target_case.TargetCase.TheVariants.{WithAuthority}
+use Rattle.uri_ops.specs.declared.resolve.target_case.TargetCase.TheVariants.{EmptyPath}
+use Rattle.uri_ops.specs.declared.resolve.target_case.TargetCase.TheVariants.{AbsolutePath}
+use Rattle.uri_ops.specs.declared.resolve.target_case.TargetCase.TheVariants.{MergedPath}
+use Rattle.uri_ops.specs.Models.TargetCases.{IsCaseOf, IsDottedTarget}
+use Rattle.uri_ops.specs.Resolving.{components_of}
+use Rattle.uri_ops.proofs.Targeting.JoinedPieces.{base-of-merged-path-is-rooted}
+use Rattle.uri_ops.proofs.Targeting.TargetCases.{case-gives-line}
+use Rattle.uri_ops.proofs.resolve.dotted_target.dotted_target.Goals as goal
+
+pub returns-in-WithScheme : goal.returns-in-WithScheme
+returns-in-WithScheme c =
+    let b = components_of c.args.base.now in
+    let r = components_of c.args.reference.now in
+    let has = subst (IsCaseOf r) c.in-WithScheme.is c.requires.case in
+    subst (λ t. IsDottedTarget t c.with_scheme.result) (sym (case-gives-line WithScheme b r has))
+    c.with_scheme.ensures
+
+pub with_authority-requires : goal.with_authority-requires
+with_authority-requires c =
+    (subst (IsCaseOf (components_of c.args.reference.now)) c.in-WithAuthority.is c.requires.case).0
+
+pub returns-in-WithAuthority : goal.returns-in-WithAuthority
+returns-in-WithAuthority c =
+    let b = components_of c.args.base.now in
+    let r = components_of c.args.reference.now in
+    let has = subst (IsCaseOf r) c.in-WithAuthority.is c.requires.case in
+    subst (λ t. IsDottedTarget t c.with_authority.result)
+    (sym (case-gives-line WithAuthority b r has))
+    c.with_authority.ensures
+
+pub returns-in-EmptyPath : goal.returns-in-EmptyPath
+returns-in-EmptyPath c =
+    let b = components_of c.args.base.now in
+    let r = components_of c.args.reference.now in
+    let has = subst (IsCaseOf r) c.in-EmptyPath.is c.requires.case in
+    subst (λ t. IsDottedTarget t c.with_empty_path.result)
+    (sym (case-gives-line EmptyPath b r has))
+    c.with_empty_path.ensures
+
+pub returns-in-AbsolutePath : goal.returns-in-AbsolutePath
+returns-in-AbsolutePath c =
+    let b = components_of c.args.base.now in
+    let r = components_of c.args.reference.now in
+    let has = subst (IsCaseOf r) c.in-AbsolutePath.is c.requires.case in
+    subst (λ t. IsDottedTarget t c.with_absolute_path.result)
+    (sym (case-gives-line AbsolutePath b r has))
+    c.with_absolute_path.ensures
+
+pub with_merged_path-requires : goal.with_merged_path-requires
+with_merged_path-requires c =
+    let r = components_of c.args.reference.now in
+    let has = subst (IsCaseOf r) c.in-MergedPath.is c.requires.case in
+    base-of-merged-path-is-rooted c.args.base.now.text.now r c.requires.taken has.0.scheme has.1
+
+pub returns-in-MergedPath : goal.returns-in-MergedPath
+returns-in-MergedPath c =
+    let b = components_of c.args.base.now in
+    let r = components_of c.args.reference.now in
+    let has = subst (IsCaseOf r) c.in-MergedPath.is c.requires.case in
+    subst (λ t. IsDottedTarget t c.with_merged_path.result)
+    (sym (case-gives-line MergedPath b r has))
+    c.with_merged_path.ensures
