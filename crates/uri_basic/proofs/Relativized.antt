@@ -30,7 +30,7 @@ use Rattle.uri_relative.specs.Leading.{settled}
 use Rattle.uri_relative.specs.Rule.{has_same_authority, has_same_authority_and_path}
 use Rattle.uri_relative.specs.Rule.{has_same_query, has_same_scheme, reference_components}
 use Rattle.uri_relative.specs.Rule.{reference_to, shortest_or_preferred_path}
-use Rattle.uri_relative.proofs.Leading.{settled-text-has-settled-components}
+use Rattle.uri_ops.proofs.Targeting.TargetCases.{settled-text-has-settled-components}
 use Rattle.uri_relative.proofs.RootedTargets.{base-that-is-not-opaque-is-rooted}
 use Rattle.uri_relative.proofs.Settled.{dotless-target-is-settled, final-path-is-idempotent}
 use Rattle.uri_relative.proofs.Settled.{rootless-target-is-settled}

@@ -21,7 +21,7 @@ use Rattle.uri_relative.proofs.RootedTargets.{base-that-is-not-opaque-is-rooted}
 use Rattle.uri_relative.proofs.JoinedPaths.{target-path-stays-absolute}
 use Rattle.uri_relative.proofs.JoinedPaths.{nonempty-joined-path-is-absolute}
 use Rattle.uri_relative.proofs.JoinedPaths.{path-joined-to-absolute-is-absolute}
-use Rattle.uri_relative.proofs.Leading.{settled-text-has-settled-components}
+use Rattle.uri_ops.proofs.Targeting.TargetCases.{settled-text-has-settled-components}
 use Rattle.uri_relative.proofs.ReferenceForms.{IsPathForm, reference-without-authority-is-path-form}
 
 -- relativized references: a path that may be after an authority, and is not empty, begins with `/`

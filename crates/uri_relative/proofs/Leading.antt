@@ -1,6 +1,6 @@
 -- References that lead to a target: RFC 3986, section 5.2.
 use Rattle.std.proofs.Common.{◌≡◌, ℕ, Bool, true, false, not, List, ◌++◌, ◌&&◌, ◌||◌, refl, sym, ap}
-use Rattle.std.proofs.Common.{◌∙◌, [], ◌≤◌, append_assoc, length, subst}
+use Rattle.std.proofs.Common.{◌∙◌, ◌≤◌, append_assoc, length, subst}
 use Rattle.std.specs.Prelude.{Ok, is_some}
 use Rattle.std.specs.Str.{IsUtf8}
 use Rattle.std.proofs.lemmas.Bool.{and_from, and_parts, cond-false, cond-true}
@@ -18,7 +18,7 @@ use Rattle.uri_ops.proofs.Meanings.AllowedParts.{set-text-from-utf8, set-text-is
 use Rattle.uri_ops.proofs.Meanings.TextParts.{components-of-utf8-are-utf8}
 use Rattle.uri_ops.proofs.Paths.PathMeanings.{path-without-dots-is-set-text}
 use Rattle.uri_ops.proofs.Paths.PathMeanings.{guarded-set-text-is-set-text}
-use Rattle.uri_ops.proofs.Targeting.Targets.{target-text-has-target-components}
+use Rattle.uri_ops.proofs.Targeting.TargetCases.{settled-text-has-settled-components}
 use Rattle.uri_relative.specs.Forms.{IsReferenceTo}
 use Rattle.uri_relative.specs.Leading.{LeadsBackToTarget, IsNoLonger, IsRelativeTo, LeadsTo}
 use Rattle.uri_relative.specs.Leading.{without_fragment}
@@ -95,22 +95,6 @@ pub pushed-path-and-tail-are-appended : (old mid new way tail tail' : List ℕ) 
 pushed-path-and-tail-are-appended old mid new way tail tail' e f h =
     f ∙ ap (λ t. t ++ tail) e ∙ append_assoc old way tail ∙ ap (λ t. old ++ (way ++ t)) h
 
--- targets to relativize: one with a scheme is its own target, without dot segments
-target_of-whole-target-is-final : (base t : Components) → is_some t.scheme ≡ true → target_of base t
-    ≡ with_final_path t
-target_of-whole-target-is-final base t e = let j : dotted_target base t
-    ≡ t = cond-true _ _ _ e in ap with_final_path j
-
--- relativized references: the text of a target without removable dot segments has that target's
--- components
-pub settled-text-has-settled-components : (text : List ℕ) → is_some (components text).scheme ≡ true
-    → components (recompose (settled text)) ≡ settled text
-settled-text-has-settled-components text some =
-    let c = components text in
-    let t = target_of-whole-target-is-final c c some in
-    sym (ap (λ x. components (recompose x)) t) ∙ target-text-has-target-components text text some
-    ∙ t
-
 -- relativized references: a text made as the target without removable dot segments has that
 -- target's components
 pub components-of-settled-text : (text made : List ℕ) → is_some (components text).scheme ≡ true
@@ -143,16 +127,6 @@ settled-text-is-of-kind kind text sets e utf8 h =
     (and_from _ _ m.scheme m.authority) (set-text-is-valid kind.path _ path)) m.query) m.fragment)
     (ap (λ b. b || (not kind.needs_scheme && (is_some c.authority
     || not (has_colon_in_first_segment (settled text).path)))) some))
-
--- relativized references: the text of four pieces that were appended one after the other; o0 to o3:
--- the text between them
-pub pushed-pieces-are-text : (scheme authority path rest old : List ℕ) (o0 o1 o2 o3 : List ℕ) → o0
-    ≡ []
-    → o1 ≡ o0 ++ (scheme ++ authority) → o2 ≡ o1 ++ path → o3 ≡ o2 ++ rest
-    → o3 ≡ scheme ++ (authority ++ (path ++ rest))
-pushed-pieces-are-text scheme authority path rest old o0 o1 o2 o3 e f g h =
-    h ∙ ap (λ t. t ++ rest) (g ∙ ap (λ t. t ++ path) (f ∙ ap (λ t. t ++ (scheme ++ authority)) e))
-    ∙ append_assoc (scheme ++ authority) path rest ∙ append_assoc scheme authority (path ++ rest)
 
 -- relativized references: the text that is made is one, if it is the text of one's components
 pub reference-text-is-reference : (kind : Kind) (prefers : Bool) (base target r : Components)

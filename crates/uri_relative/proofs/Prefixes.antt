@@ -1,11 +1,17 @@
 -- The prefix that two paths share.
 use Rattle.std.proofs.Common.{◌≡◌, ℕ, zero, suc, ◌+◌, ◌<◌, ◌≤◌, List, [], ◌∷◌, ◌++◌, length, take}
 use Rattle.std.proofs.Common.{get_or, refl, sym, ap, ◌∙◌, arith, append_assoc, length-append, ◌-◌}
-use Rattle.std.proofs.Common.{◌⊎◌, ⊎_elim}
-use Rattle.std.proofs.lemmas.List.{append-nil, get_or-take, length-take-le, take-take, take_more}
+use Rattle.std.proofs.Common.{◌⊎◌, ⊎_elim, drop, false, subst}
+use Rattle.std.proofs.lemmas.Bool.{false≢true}
+use Rattle.std.proofs.lemmas.List.{append-nil, get_or-drop, get_or-take, length-drop, length-take-le}
+use Rattle.std.proofs.lemmas.List.{take-take, take_more}
+use Rattle.std.proofs.lemmas.List.Folds.{list_any_at}
 use Rattle.std.proofs.Math.Seq.{get_or-append_seam}
-use Rattle.std.specs.Prelude.{codes}
-use Rattle.uri_ops.specs.Dots.{EndsInSlash, IsAbsolute}
+use Rattle.std.specs.Prelude.{codes, ◌==◌}
+use Rattle.uri_ops.specs.Dots.{EndsInSlash, IsAbsolute, has_slash}
+use Rattle.uri_ops.specs.Models.Places.{IsSlashOrStart}
+use Rattle.uri_ops.proofs.Paths.LastSlashes.{slash-position-is-of-slash}
+use Rattle.uri_ops.proofs.Paths.PushedPaths.{prefix-of-absolute-path-is-absolute}
 use Rattle.uri_ops.proofs.Paths.TakenSegments.{absolute-path-is-slash-and-rest}
 use Rattle.uri_relative.specs.Relative.{IsLongestPrefix, IsSharedPrefix, double_dots}
 
@@ -97,6 +103,36 @@ prefix-to-last-shared-slash-is-longest base path last n h same most none =
     (shared-prefix-has-same-bytes m n base path outside shared.same)))
     (at-most-or-greater m n))
     (at-most-or-greater m (last + 1))
+
+-- relativized paths: the last `/` (47) of a path before a position
+pub record IsLastSlashBefore (path : List ℕ) (end slash : ℕ) : Type 0 where
+  pub before : slash < end
+  pub is : get_or path slash 0 ≡ 47
+  pub last : (k : ℕ) → slash < k → k < end → get_or path k 0 ≡ 47 → ⊥
+
+-- relativized paths: the last `/` (47) of a prefix is the last before the end of that
+pub last-slash-of-prefix-is-last-before-its-end : (path prefix : List ℕ) (end slash : ℕ)
+    → prefix ≡ take end path → IsAbsolute path → 0 < end → end ≤ length path
+    → IsSlashOrStart prefix 0 slash → has_slash (drop (slash + 1) prefix) ≡ false
+    → IsLastSlashBefore path end slash
+last-slash-of-prefix-is-last-before-its-end path prefix end slash e absolute some within place none =
+    let at = slash-position-is-of-slash prefix slash
+    (subst IsAbsolute (sym e) (prefix-of-absolute-path-is-absolute path end absolute some)) place in
+    let len : length prefix ≡ end = ap length e ∙ length-take-le end path within in
+    let same : (k : ℕ) → k < end → get_or prefix k 0 ≡ get_or path k 0
+    = λ k h. ap (λ t. get_or t k 0) e ∙ get_or-take end path k 0 h in
+    let before : slash < end = omega (arith, at.0, len) in
+    record {
+      before = before;
+      is = sym (same slash before) ∙ at.1;
+      last = λ k after below is.
+          let after_slash : slash + 1 + (k - (slash + 1)) ≡ k = omega (arith, after) in
+          false≢true (sym none
+          ∙ list_any_at (λ c. c == 47) (drop (slash + 1) prefix) (k - (slash + 1)) 0
+          (omega (arith, length-drop (slash + 1) prefix, len, after, below))
+          (ap (λ c. c == 47) (get_or-drop (slash + 1) prefix (k - (slash + 1)) 0
+          ∙ ap (λ i. get_or prefix i 0) after_slash ∙ same k below ∙ is)));
+    }
 
 -- relativized paths: one `../` more is before or after the others
 double-dot-before-or-after-others : (n : ℕ) → double_dots n ++ codes "../"

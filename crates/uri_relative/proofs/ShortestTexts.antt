@@ -11,7 +11,8 @@ use Rattle.uri_ops.proofs.Targeting.Targets.{target-text-has-target-components}
 use Rattle.uri_relative.specs.Forms.{IsReferenceTo}
 use Rattle.uri_relative.specs.Leading.{without_fragment, settled}
 use Rattle.uri_relative.specs.Shortest.{IsShortest}
-use Rattle.uri_relative.proofs.Leading.{kind-needs-scheme, settled-text-has-settled-components}
+use Rattle.uri_relative.proofs.Leading.{kind-needs-scheme}
+use Rattle.uri_ops.proofs.Targeting.TargetCases.{settled-text-has-settled-components}
 
 -- relativized references: the text made is the shortest that leads to the target, if relative ones
 -- are not preferred

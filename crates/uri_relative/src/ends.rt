@@ -5,8 +5,9 @@ ghost use Rattle.uri_parts.specs.CoreTexts.{core_text};
 ghost use Rattle.uri_parts.specs.Positions.{positions_of};
 ghost use Rattle.uri_relative.specs.Forms.{from_authority};
 
-use crate::pieces::{after_path, after_scheme, fragment_with_delimiter};
+use crate::pieces::after_scheme;
 use crate::places::{positions_after_scheme, positions_of_fragment, positions_with_path};
+use uri_ops::resolve::text_view::TextView;
 use uri_parts::core_text::Core;
 use uri_parts::kind::Kind;
 use uri_parts::positions::Positions;
@@ -58,7 +59,7 @@ impl<'a> TargetSuffix<'a> {
             ≡ positions_of (record t { scheme = None; authority = None; path = [] }) }
     {
         TargetSuffix {
-            text: after_path(target),
+            text: TextView::of_core(target).after_path(),
             positions: positions_with_path(target, 0),
         }
     }
@@ -72,7 +73,7 @@ impl<'a> TargetSuffix<'a> {
             ≡ positions_of (record t { scheme = None; authority = None; path = []; query = None }) }
     {
         TargetSuffix {
-            text: fragment_with_delimiter(target),
+            text: TextView::of_core(target).fragment_with_delimiter(),
             positions: positions_of_fragment(),
         }
     }

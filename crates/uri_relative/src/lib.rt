@@ -1,7 +1,6 @@
 //! References that lead from a base to a target: the inverse of resolving (RFC 3986, section 5.2).
 #![tactic(auto)]
 
-mod dots;
 mod ends;
 pub mod laws;
 mod paths;

@@ -15,8 +15,9 @@ ghost use Rattle.uri_relative.specs.Relative.{slashes};
 ghost use Rattle.uri_relative.specs.Rule.{shortest_or_preferred_path};
 ghost use Rattle.uri_relative.specs.Shortest.{IsShortestPath};
 
-use crate::dots::has_dot_segments;
 use std::alloc::AllocError;
+use uri_ops::build::draft::has_colon_in_first_segment;
+use uri_ops::path::dot_segments::{has_dot_segments, last_slash, path_or_slash};
 use uri_ops::path::slashes::{begins_with_slash, begins_with_two_slashes};
 
 /// Returns the length of the longest prefix that the paths of a base and a target share.
@@ -34,22 +35,6 @@ fn shared_prefix_len(one: &[u8], other: &[u8]) -> usize
     i
 }
 
-/// Returns the position of the last `/` before `end` in a base's path, which begins with one.
-fn last_slash(text: &[u8], end: usize) -> usize
-    requires absolute { IsAbsolute text.now }
-    requires some { 0 < end }
-    requires within { end ≤ length text.now }
-    ensures before { result < end }
-    ensures slash { slice_index text.now result ≡ slash }
-    ensures last { (k : ℕ) → result < k → k < end → slice_index text.now k ≡ slash → ⊥ }
-{
-    let mut i = end - 1;
-    while text[i] != b'/' {
-        i -= 1;
-    }
-    i
-}
-
 /// Returns the position of the last `/` in the longest prefix that the paths of a base and a target
 /// share.
 fn last_shared_slash(base: &[u8], path: &[u8]) -> usize
@@ -62,7 +47,8 @@ fn last_shared_slash(base: &[u8], path: &[u8]) -> usize
     ensures base_at { slice_index base.now result ≡ slash }
     ensures path_at { slice_index path.now result ≡ slash }
 {
-    last_slash(base, shared_prefix_len(base, path))
+    let shared = shared_prefix_len(base, path);
+    last_slash(&base[..shared], 0)
 }
 
 /// Returns how many slashes are in the rest of a base's path: a relative path goes up as often.
@@ -70,15 +56,6 @@ fn count_slashes(text: &[u8]) -> usize
     ensures { result ≡ slashes text.now }
 {
     text.iter().filter(|byte| **byte == b'/').count()
-}
-
-/// Returns whether the first segment of a relative path has a `:`.
-fn has_colon_in_first_segment(path: &[u8]) -> bool
-    ensures { result ≡ has_colon_in_first_segment path.now }
-{
-    path.iter()
-        .take_while(|byte| **byte != b'/')
-        .any(|byte| *byte == b':')
 }
 
 /// Returns whether a relative path would be parsed otherwise without `./` before it: as an absolute
@@ -187,17 +164,6 @@ fn uses_relative_path(prefers_relative: bool, double_dots: usize, rest: &str, pr
         → prefix + length rest.now < length (relative_path double_dots rest.now) }
 {
     prefers_relative || is_relative_no_longer(double_dots, rest, prefix)
-}
-
-/// Returns the base's path, or `/` if it is empty: a relative path leads from the same directory.
-fn path_or_slash(path: &str) -> &str
-    requires { IsAbemptyPath path.now }
-    ensures root { result.now ≡ or_slash path.now }
-    ensures absolute { IsAbsolute result.now }
-    ensures directory { directory result.now ≡ directory path.now }
-    ensures dotless { lacks_dot_segments result.now ≡ lacks_dot_segments path.now }
-{
-    if path.is_empty() { "/" } else { path }
 }
 
 /// Appends a path that leads from the base's path to another. It is relative if the base's path has

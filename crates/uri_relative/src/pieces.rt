@@ -31,34 +31,6 @@ pub(crate) fn after_scheme<'a, K: Kind>(core: Core<K, &'a str>) -> &'a str
     }
 }
 
-/// Returns a target's text after the path: the query and the fragment with their delimiters.
-#[inline(always)]
-pub(crate) fn after_path<'a, K: Kind>(core: Core<K, &'a str>) -> &'a str
-    ensures { result.now ≡ after_path (components (core_text core.entry)) }
-{
-    let text = core.as_str();
-    &text[core.positions().path_end..]
-}
-
-/// Returns a target's query with its `?`, or nothing.
-#[inline(always)]
-pub(crate) fn query_with_delimiter<'a, K: Kind>(core: Core<K, &'a str>) -> &'a str
-    ensures { result.now ≡ marked (codes "?") (components (core_text core.entry)).query [] }
-{
-    let text = core.as_str();
-    let positions = core.positions();
-    &text[positions.path_end..positions.before_fragment()]
-}
-
-/// Returns a target's fragment with its `#`, or nothing.
-#[inline(always)]
-pub(crate) fn fragment_with_delimiter<'a, K: Kind>(core: Core<K, &'a str>) -> &'a str
-    ensures { result.now ≡ marked (codes "#") (components (core_text core.entry)).fragment [] }
-{
-    let text = core.as_str();
-    &text[core.positions().before_fragment()..]
-}
-
 /// Returns whether the base of a relativizer is opaque: of references without a scheme, it takes
 /// only fragments.
 #[inline(always)]
@@ -124,13 +96,4 @@ pub(crate) fn have_same_query<K: Kind>(base: Core<K, &str>, target: Core<K, &str
         base.positions().query(base.as_str()),
         target.positions().query(target.as_str()),
     )
-}
-
-/// Returns a target's text before the path: the scheme and the authority with their delimiters.
-#[inline(always)]
-pub(crate) fn before_path<'a, K: Kind>(core: Core<K, &'a str>) -> &'a str
-    ensures { result.now ≡ before_path (components (core_text core.entry)) }
-{
-    let text = core.as_str();
-    &text[..core.positions().path_start]
 }

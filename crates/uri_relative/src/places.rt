@@ -6,7 +6,7 @@ ghost use Rattle.uri_parts.specs.Components.{Components, components};
 ghost use Rattle.uri_parts.specs.CoreTexts.{core_text};
 ghost use Rattle.uri_parts.specs.Positions.{authority_at, delimited_length, positions_of};
 
-use crate::pieces::query_with_delimiter;
+use uri_ops::resolve::text_view::TextView;
 use uri_parts::core_text::Core;
 use uri_parts::kind::Kind;
 use uri_parts::positions::{AuthorityPositions, Positions};
@@ -89,7 +89,7 @@ fn query_end_after<K: Kind>(core: Core<K, &str>, path_len: usize) -> Option<usiz
         result ≡ option_map (λ q. path_len + 1 + length q) t.query }
 {
     if core.has_query() {
-        return Some(path_len + query_with_delimiter(core).len());
+        return Some(path_len + TextView::of_core(core).query_with_delimiter().len());
     }
     None
 }

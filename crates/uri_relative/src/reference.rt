@@ -13,13 +13,13 @@ ghost use Rattle.uri_relative.specs.Rule.{reference_components};
 use crate::ends::TargetSuffix;
 use crate::paths::push_path;
 use crate::pieces::{
-    after_path, have_same_authority, have_same_path, have_same_query, have_same_scheme, is_opaque,
-    path,
+    have_same_authority, have_same_path, have_same_query, have_same_scheme, is_opaque, path,
 };
 use crate::places::positions_with_path;
 use fluent_uri::roles::BaseKind;
 use std::alloc::AllocError;
 use uri_ops::path::slashes::begins_with_slash;
+use uri_ops::resolve::text_view::TextView;
 use uri_parts::core_text::Core;
 use uri_parts::positions::Positions;
 
@@ -183,7 +183,7 @@ fn push_reference_with_path<K: BaseKind>(
     let start = out.len();
     push_path(path(base), without_guard(target), prefers_relative, out)?;
     let path_len = out.len() - start;
-    out.push_str(after_path(target))?;
+    out.push_str(TextView::of_core(target).after_path())?;
     Ok(positions_with_path(target, path_len))
 }
 

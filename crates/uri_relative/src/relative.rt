@@ -15,13 +15,14 @@ ghost use Rattle.uri_relative.specs.Forms.{IsReferenceTo};
 ghost use Rattle.uri_relative.specs.Leading.{LeadsTo, settled};
 ghost use Rattle.uri_relative.specs.Rule.{reference_components};
 
-use crate::dots::has_dot_segments;
-use crate::pieces::{after_path, before_path, path};
+use crate::pieces::path;
 use crate::reference::push_reference;
 use fluent_uri::roles::BaseKind;
 use std::alloc::{AllocError, Global};
-use uri_ops::path::dot_segments::push_without_dot_segments;
-use uri_ops::path::slashes::{begins_with_slash, begins_with_two_slashes};
+use uri_ops::path::dot_segments::has_dot_segments;
+use uri_ops::path::slashes::begins_with_slash;
+use uri_ops::resolve::target_text::target_with_scheme;
+use uri_ops::resolve::text_view::TextView;
 use uri_parts::core_text::Core;
 use uri_parts::kind::{IriKind, IriRefKind, Kind, UriKind, UriRefKind};
 use uri_parts::positions::Positions;
@@ -51,53 +52,6 @@ impl RelativeKind for IriKind {
     type Ref = IriRefKind;
 
     ghost same_tables = { refl };
-}
-
-/// Inserts `/.` before the path of a settled target in `out` from `start` on, if that begins with
-/// `//` and would be parsed as an authority.
-fn guard_path(start: usize, out: &mut String) -> Result<(), AllocError>
-    requires { IsCharBoundary (string_bytes out.old) start }
-    ensures { OnOk result (string_bytes out.new
-        ≡ take start (string_bytes out.old) ++ guarded None (drop start (string_bytes out.old))) }
-{
-    if begins_with_two_slashes(&out.as_bytes()[start..]) {
-        return out.insert_str(start, "/.");
-    }
-    Ok(())
-}
-
-/// Appends the path of a target to relativize without its dot segments, as resolving writes it.
-fn push_path_without_removable_dots<K: BaseKind>(
-    target: Core<K, &str>,
-    out: &mut String,
-) -> Result<(), AllocError>
-    requires { IsAbsolute (components (core_text target)).path }
-    ensures { OnOk result (Pushes out.old out.new (settled (core_text target.entry)).path) }
-{
-    let start = out.len();
-    let _underflowed = push_without_dot_segments(path(target), out)?;
-    if target.has_authority() {
-        return Ok(());
-    }
-    guard_path(start, out)?;
-    Ok(())
-}
-
-/// Returns the text of a target to relativize without its dot segments, as resolving writes it.
-fn text_without_removable_dots<K: BaseKind>(
-    alloc: Global,
-    target: Core<K, &str>,
-) -> Result<String, AllocError>
-    requires { IsAbsolute (components (core_text target)).path }
-    ensures text { IfOk result (λ text.
-        string_bytes text ≡ recompose (settled (core_text target.entry))) }
-    ensures of_kind { IfOk result (λ text. IsOfKind K.kind (string_bytes text)) }
-{
-    let mut text = String::with_capacity(alloc, target.as_str().len())?;
-    text.push_str(before_path(target))?;
-    push_path_without_removable_dots(target, &mut text)?;
-    text.push_str(after_path(target))?;
-    Ok(text)
 }
 
 /// The text of a reference, and the positions of its components.
@@ -144,14 +98,13 @@ fn is_without_removable_dots<K: BaseKind>(target: Core<K, &str>) -> bool
 }
 
 /// Returns a reference that leads from the base to the settled target: the target without its dot
-/// segments, since its path begins with `/`.
+/// segments, if its path begins with `/`.
 fn reference_to_target_without_dots<K: BaseKind>(
     alloc: Global,
     base: Core<K, &str>,
     target: Core<K, &str>,
     prefers_relative: bool,
 ) -> Result<MadeReference, AllocError>
-    requires { IsAbsolute (components (core_text target)).path }
     ensures leads { IfOk result (λ made. IsReferenceTo K.kind prefers_relative
         (components (core_text base.entry)) (settled (core_text target.entry))
         (components (string_bytes made.text))) }
@@ -160,8 +113,8 @@ fn reference_to_target_without_dots<K: BaseKind>(
         (components (core_text base.entry)) (settled (core_text target.entry)))) }
     ensures at { IfOk result (λ made. ArePositionsOf (string_bytes made.text) made.positions) }
 {
-    let text = text_without_removable_dots(alloc, target)?;
-    let settled = Core::<K, String>::of_text(text);
+    let (text, positions) = target_with_scheme(alloc, &TextView::of_core(target))?;
+    let settled = Core::<K, String>::new(text, positions);
     reference(alloc, base, settled.borrow(), prefers_relative)
 }
 

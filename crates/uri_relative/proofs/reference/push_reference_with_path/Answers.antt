@@ -9,6 +9,7 @@ use Rattle.uri_relative.proofs.RootedTargets.{base-that-is-not-opaque-is-rooted}
 use Rattle.uri_relative.proofs.Leading.{pushed-path-and-tail-are-appended, dotless-text-is-target}
 use Rattle.std.specs.Prelude.{false}
 use Rattle.uri_parts.proofs.Splitting.Recompose.{components-are-split-of-text}
+use Rattle.uri_relative.specs.Forms.{after_path}
 use Rattle.uri_relative.specs.Relative.{IsPathTo}
 use Rattle.uri_relative.specs.Rule.{shortest_or_preferred_path}
 use Rattle.uri_relative.specs.Shortest.{IsShortestPath}
@@ -39,7 +40,7 @@ returns-clause-leads g c =
       pushed-path-and-tail-are-appended (string_bytes c.args.out.now)
           (string_bytes c.push_path.new.out)
           (string_bytes c.push_str.new.self) found.0 c.after_path.result.now _ found.1
-          c.in_ok-push_str.ensures.bytes c.after_path.ensures,
+          c.in_ok-push_str.ensures.bytes (c.after_path.ensures ∙ ap after_path c.of_core.ensures.components),
       c.positions_with_path.ensures found.0
           (omega (arith, start, end, ap length found.1, length-append old found.0)),
       path-form-is-reference g.K.Kind.kind c.args.prefers_relative b t
@@ -67,7 +68,7 @@ returns-clause-text g c =
     (string_bytes c.push_path.new.out)
     (string_bytes c.push_str.new.self) (shortest_or_preferred_path prefers c.path.result.now path)
     c.after_path.result.now _ c.in_ok-push_path.ensures.text c.in_ok-push_str.ensures.bytes
-    c.after_path.ensures
+    (c.after_path.ensures ∙ ap after_path c.of_core.ensures.components)
     ∙ ap (λ r. string_bytes c.args.out.now ++ recompose r)
     (rule-gives-path-for-same-authority prefers b t p.scheme p.authority p.needs p.opaque p.absolute
     (shortest_or_preferred_path prefers c.path.result.now path)

@@ -23,10 +23,6 @@ pub returns-then-is_without_removable_dots-clause-at
     : goal.returns-then-is_without_removable_dots-clause-at
 returns-then-is_without_removable_dots-clause-at g c = c.reference.ensures.at
 
-pub reference_to_target_without_dots-requires : goal.reference_to_target_without_dots-requires
-reference_to_target_without_dots-requires g c = c.is_without_removable_dots.ensures.absolute
-    c.if-is_without_removable_dots.false
-
 pub returns : goal.returns
 returns g c = c.reference_to_target_without_dots.ensures
 
