@@ -1,8 +1,7 @@
 -- The loop of section 5.2.4: each pass shortens the input buffer, so that the loop empties it.
 use Rattle.std.proofs.Common.{◌≡◌, ℕ, zero, suc, ◌<◌, ◌≤◌, true, false, not, List, [], ◌∷◌}
 use Rattle.std.proofs.Common.{◌++◌, length, take, drop, refl, sym, ap, ◌∙◌, arith, ⊎_elim, ◌||◌}
-use Rattle.std.specs.Prelude.{◌==◌}
-use Rattle.std.specs.Prelude.{codes, bytes_eq}
+use Rattle.std.specs.Prelude.{◌==◌, codes, bytes_eq}
 use Rattle.std.specs.List.{prefix_len}
 use Rattle.std.proofs.lemmas.Bool.{cases_Bool, cond-true, cond-false, cond_both, false≢true}
 use Rattle.std.proofs.lemmas.Bool.{not_from_false}

@@ -13,8 +13,7 @@ use Rattle.uri_ops.proofs.Paths.DotLaws.{property-of-absolute-path-by-segments}
 use Rattle.uri_ops.proofs.Paths.DotLaws.{segments-of-dotless-path-are-dotless}
 use Rattle.uri_ops.proofs.Paths.Segments.{AllPass, is_dotless, pop, popped-segments-pass-test}
 use Rattle.uri_ops.proofs.Paths.SlashedSegments.{before_last_slash-of-slashed-is-popped}
-use Rattle.uri_ops.proofs.Paths.SlashedSegments.{lacks_slash}
-use Rattle.uri_ops.proofs.Paths.SlashedSegments.{segments-of-slashed-segments}
+use Rattle.uri_ops.proofs.Paths.SlashedSegments.{lacks_slash, segments-of-slashed-segments}
 use Rattle.uri_ops.proofs.Paths.SlashedSegments.{segments-of-text-lack-slashes, slashed}
 use Rattle.uri_ops.proofs.Paths.SlashedSegments.{slashed-of-append, slashed-of-push}
 use Rattle.uri_ops.proofs.Paths.SlashedSegments.{slashed-of-segments-is-text-after-slash}

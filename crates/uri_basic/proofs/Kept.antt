@@ -1,12 +1,10 @@
 -- What holds of a path without its dot segments, by its segments.
-use Rattle.std.proofs.Common.{◌≡◌, ℕ, Bool, true, false, not, List, [], ◌∷◌}
-use Rattle.std.proofs.Common.{◌++◌, drop, refl, sym, ap}
-use Rattle.std.proofs.Common.{subst, ◌∙◌, append_assoc, cond, inl, inr, ⊎_elim, rules}
+use Rattle.std.proofs.Common.{◌≡◌, ℕ, Bool, true, false, not, List, [], ◌∷◌, ◌++◌, drop, refl, sym}
+use Rattle.std.proofs.Common.{ap, subst, ◌∙◌, append_assoc, cond, inl, inr, ⊎_elim, rules}
 use Rattle.std.specs.Prelude.{codes, ◌==◌}
 use Rattle.std.specs.List.{list_all}
-use Rattle.std.proofs.lemmas.Bool.{and_from, and_parts, cases_Bool, cond-true}
-use Rattle.std.proofs.lemmas.Bool.{cond-false, cond_both}
-use Rattle.std.proofs.lemmas.Bool.{eqb-true, false≢true, or_cases, or_parts}
+use Rattle.std.proofs.lemmas.Bool.{and_from, and_parts, cases_Bool, cond-true, cond-false}
+use Rattle.std.proofs.lemmas.Bool.{cond_both, eqb-true, false≢true, or_cases, or_parts}
 use Rattle.std.proofs.lemmas.List.{append-nil}
 use Rattle.std.proofs.lemmas.List.Folds.{list_all-append}
 use Rattle.uri_pct.specs.Sets.{TableSet, is_one_of}
@@ -15,9 +13,11 @@ use Rattle.uri_ops.specs.Dots.{IsAbsolute, before_last_slash, has_slash, is_empt
 use Rattle.uri_ops.specs.Dots.{last_segment, segments}
 use Rattle.uri_ops.proofs.Meanings.AllowedParts.{empty-text-is-set-text, is_set_text}
 use Rattle.uri_ops.proofs.Paths.DecodedPaths.{set-text-splits, set-texts-join-at-slash}
+use Rattle.uri_ops.proofs.Paths.DecodedPaths.{joined-segments-of-set-text-are-set-texts}
 use Rattle.uri_ops.proofs.Paths.PathCharacters.{lacked-delimiters-fail-test}
 use Rattle.uri_ops.proofs.Paths.PathCharacters.{test-of-delimiters-gives-lacks}
-use Rattle.uri_ops.proofs.Paths.Segments.{AllPass, is_none}
+use Rattle.uri_ops.proofs.Paths.PathCharacters.{before_last_slash-passes-test}
+use Rattle.uri_ops.proofs.Paths.Segments.{AllPass, is_none, segments-pass-true-test}
 use Rattle.uri_ops.proofs.Paths.SlashedSegments.{NoSlashes, segments-of-text-are-not-none, slashed}
 use Rattle.uri_ops.proofs.Paths.SlashedSegments.{segments-of-text-lack-slashes}
 use Rattle.uri_ops.proofs.Paths.SlashedSegments.{first-segment-and-rest-lack-slashes}
@@ -26,9 +26,8 @@ use Rattle.uri_ops.proofs.Targeting.Targets.{appended-absolute-path-is-absolute}
 use Rattle.uri_pct.proofs.General.{eq_true_from_IsTrue}
 use Rattle.uri_basic.specs.Models.Directories.{IsDirectoryOrNothing, after_segment, parent}
 use Rattle.uri_basic.specs.Removal.{remove_dot_segments}
-use Rattle.uri_basic.proofs.Segments.{after-segment-keeps, kept_of}
-use Rattle.uri_basic.proofs.Segments.{path-left-by-segments, path-left-of-path}
-use Rattle.uri_basic.proofs.Segments.{parent-is-directory}
+use Rattle.uri_basic.proofs.Segments.{after-segment-keeps, kept_of, path-left-by-segments}
+use Rattle.uri_basic.proofs.Segments.{path-left-of-path, parent-is-directory}
 
 -- paths: what holds of a text with these segments
 property-of-text-with-segments : (P : List ℕ → Type 0)
@@ -72,15 +71,6 @@ kept-segments-keep Q R test more last up end kept s (t ∷ rest) h pass =
     kept-segments-keep Q R test more last up end (after_segment kept s (s ++ codes "/")) t rest
     (after-segment-keeps Q kept s (s ++ codes "/") h (up kept h) (more kept s h p.0)) p.1
 
--- paths: the bytes before the last `/` pass a test that all pass
-pub bytes-before-last-slash-pass : (p : ℕ → Bool) (text : List ℕ) → list_all p text ≡ true
-    → list_all p (before_last_slash text) ≡ true
-bytes-before-last-slash-pass p [] e = refl
-bytes-before-last-slash-pass p (c ∷ rest) e =
-    let f = and_parts (p c) (list_all p rest) e in
-    cond_both (has_slash rest) (c ∷ before_last_slash rest) [] (λ t. list_all p t ≡ true)
-    (λ h. and_from _ _ f.0 (bytes-before-last-slash-pass p rest f.1)) (λ h. refl)
-
 -- paths: the bytes of two texts pass a test that both pass
 pub bytes-of-append-pass : (p : ℕ → Bool) (x y : List ℕ) → list_all p x ≡ true → list_all p y ≡ true
     → list_all p (x ++ y) ≡ true
@@ -95,8 +85,8 @@ bytes-of-parent-pass p slash kept e =
     cond_both (is_empty kept) [] (before_last_slash (before_last_slash kept) ++ codes "/")
     (λ t. list_all p t ≡ true) (λ _. refl)
     (λ _. bytes-of-append-pass p (before_last_slash (before_last_slash kept)) (codes "/")
-    (bytes-before-last-slash-pass p (before_last_slash kept)
-    (bytes-before-last-slash-pass p kept e))
+    (before_last_slash-passes-test p (before_last_slash kept)
+    (before_last_slash-passes-test p kept e))
     (and_from _ _ slash refl))
 
 -- paths: the bytes of each segment pass a test that the path's bytes pass
@@ -193,15 +183,6 @@ module _ (set : TableSet) (slash : set.ascii 47 ≡ true) where
         (set-text-before-last-slash kept h.1))),
   )
 
-  segments-are-set-texts : (s : List ℕ) (rest : List (List ℕ))
-      → is_set_text set (s ++ slashed rest) ≡ true → AllPass (is_set_text set) (s ∷ rest)
-  unfolding slashed
-  segments-are-set-texts s [] e =
-      and_from _ _ (ap (is_set_text set) (sym (append-nil s)) ∙ e) refl
-  segments-are-set-texts s (t ∷ rest) e =
-      let f = set-text-splits set s (t ++ slashed rest) e in
-      and_from _ _ f.0 (segments-are-set-texts t rest f.1)
-
   -- removing dot segments: what is left of any path is of the set that the path is of
   pub removal-keeps-set-text : (path : List ℕ) → is_set_text set path ≡ true
       → is_set_text set (remove_dot_segments path) ≡ true
@@ -216,7 +197,8 @@ module _ (set : TableSet) (slash : set.ascii 47 ≡ true) where
       ))
       (λ kept t h f. set-directory-with-text kept t h f)
       parent-of-set-directory (λ kept h. h.1) [] s rest
-      (inl refl, empty-text-is-set-text set) (segments-are-set-texts s rest e))
+      (inl refl, empty-text-is-set-text set)
+      (joined-segments-of-set-text-are-set-texts set s rest e))
 
 -- paths: what is before the last `/` of a path that is empty or begins with `/` does so too
 prefix-of-rooted-path-is-rooted : (path : List ℕ) → IsAbemptyPath path
@@ -245,11 +227,6 @@ parent-of-absolute-is-absolute (c ∷ kept) h =
     (prefix-of-rooted-path-is-rooted (before_last_slash (c ∷ kept))
     (prefix-of-rooted-path-is-rooted (c ∷ kept) (inr h)))
 
--- general fact on lists of segments, for paths: each passes the test that all pass
-segments-pass-true : (segs : List (List ℕ)) → AllPass (λ s. true) segs
-segments-pass-true [] = refl
-segments-pass-true (s ∷ segs) = segments-pass-true segs
-
 -- removing dot segments: after the first `/` of a path `/` is kept
 pub root-is-kept : (t : List ℕ) (rest : List (List ℕ))
     → kept_of [] [] (t ∷ rest) ≡ kept_of (codes "/") t rest
@@ -263,7 +240,7 @@ kept-of-absolute-is-absolute kept s rest h =
     kept-segments-keep IsAbsolute IsAbsolute (λ t. true)
     (λ k t a e. appended-absolute-path-is-absolute k (t ++ codes "/") a)
     (λ k t a e. appended-absolute-path-is-absolute k t a)
-    parent-of-absolute-is-absolute (λ k a. a) kept s rest h (segments-pass-true (s ∷ rest))
+    parent-of-absolute-is-absolute (λ k a. a) kept s rest h (segments-pass-true-test (s ∷ rest))
 
 -- removing dot segments: a path with these segments that begins with `/` still does
 segments-of-absolute-stay-absolute : (s : List ℕ) (rest : List (List ℕ)) → NoSlashes (s ∷ rest)

@@ -6,10 +6,11 @@ use Rattle.std.specs.List.{list_any}
 use Rattle.std.proofs.lemmas.Bool.{and_from, and_parts, both_ways, cases_Bool}
 use Rattle.std.proofs.lemmas.Bool.{cond_both, or_from, or_parts}
 use Rattle.std.proofs.lemmas.List.{append-nil}
-use Rattle.uri_pct.proofs.General.{not_some_is_none}
+use Rattle.uri_pct.proofs.General.{not_some_is_none, some_is_not_none}
 use Rattle.uri_pct.specs.Delimiters.{slash}
 use Rattle.uri_parts.specs.Components.{Components, components, recompose, starts}
 use Rattle.uri_ops.specs.Dots.{before_last_slash, has_slash, is_empty, last_segment}
+use Rattle.uri_ops.proofs.Paths.LastSlashes.{before_last_slash-of-slashless-is-empty}
 use Rattle.uri_ops.proofs.Paths.SlashedSegments.{NoSlashes, first-segment-and-rest-lack-slashes}
 use Rattle.uri_ops.proofs.Paths.SlashedSegments.{segments-of-joined-segments, slashed}
 use Rattle.uri_basic.specs.Deviations.{has_literal_dot_segment, is_literal_dot_segment}
@@ -20,8 +21,6 @@ use Rattle.uri_basic.specs.Target.{basic_resolution_of_texts, is_ambiguous, merg
 use Rattle.uri_basic.proofs.DotSegments.{literal-dots-at-slash}
 use Rattle.uri_basic.proofs.Kept.{property-of-path-by-segments, removal-by-segments}
 use Rattle.uri_basic.proofs.Kept.{text-is-cut-at-last-slash}
-use Rattle.uri_basic.proofs.Places.{before-last-slash-of-segment}
-use Rattle.uri_basic.proofs.SameTargets.{present-component-is-not-absent}
 use Rattle.uri_basic.proofs.Segments.{directory-after-segment, kept_of}
 use Rattle.uri_basic.proofs.Targets.{basic-target-has-its-components, result-by-test}
 
@@ -31,7 +30,7 @@ no-literal-dot-before-last-slash : (t : List ℕ) → has_literal_dot_segment t 
 no-literal-dot-before-last-slash t e = ⊎_elim
     (λ h. (or_parts _ _ (sym (literal-dots-at-slash (before_last_slash t) (last_segment t))
     ∙ ap has_literal_dot_segment (sym (text-is-cut-at-last-slash t h)) ∙ e)).0)
-    (λ h. ap has_literal_dot_segment (before-last-slash-of-segment t h))
+    (λ h. ap has_literal_dot_segment (before_last_slash-of-slashless-is-empty t h))
     (cases_Bool (has_slash t))
 
 -- removing dot segments: a text has no `.` and `..` with a `/` after it, if it has none
@@ -134,9 +133,9 @@ target-has-taken-path base r takes =
     let empty = and_parts (is_none r.scheme && is_none r.authority) _ takes in
     let none = and_parts (is_none r.scheme) _ empty.0 in
     cond_both (is_some r.scheme) _ _ P
-    (λ s. absurd (both_ways _ (present-component-is-not-absent r.scheme s) none.0))
+    (λ s. absurd (both_ways _ (some_is_not_none r.scheme s) none.0))
     (λ _. cond_both (is_some r.authority) _ _ P
-    (λ a. absurd (both_ways _ (present-component-is-not-absent r.authority a) none.1))
+    (λ a. absurd (both_ways _ (some_is_not_none r.authority a) none.1))
     (λ _. cond_both (is_empty r.path) _ _ P (λ _. refl)
     (λ e. absurd (both_ways _ e empty.1))))
 

@@ -2,27 +2,26 @@
 use Rattle.std.proofs.Common.{◌≡◌, ℕ, zero, suc, ◌+◌, ◌-◌, ◌<◌, ◌≤◌, false, ◌⊎◌, List, [], ◌∷◌}
 use Rattle.std.proofs.Common.{◌++◌, length, take, drop, get_or, refl, sym, ap, subst, ◌∙◌, arith}
 use Rattle.std.proofs.Common.{append_assoc, eqb, inl, inr, not, ⊎_elim, drop-cons}
-use Rattle.std.specs.Prelude.{codes, ◌==◌}
+use Rattle.std.specs.Prelude.{codes, ◌==◌, slice_range}
 use Rattle.std.proofs.Math.Seq.{take-add}
-use Rattle.std.proofs.lemmas.Bool.{cases_Bool, cond-true, cond-false, ne_eqb, or_from, or_parts}
-use Rattle.std.proofs.lemmas.Bool.{eq-eqb, eqb-true, false≢true, not-false, not_from_true}
+use Rattle.std.proofs.lemmas.Bool.{cases_Bool, cond-true, cond-false, ne_eqb, or_from, eq-eqb}
+use Rattle.std.proofs.lemmas.Bool.{eqb-true, false≢true, not-false, not_from_true}
 use Rattle.std.proofs.lemmas.List.{append-nil, drop_all, get_or-drop, get_or_append_left}
 use Rattle.std.proofs.lemmas.List.{length-append, length-drop, length-take-le}
 use Rattle.std.proofs.lemmas.List.{take-append-drop, take-append-le, take_at, drop_at}
 use Rattle.std.proofs.lemmas.List.{get_or-take, length-take, take_more}
 use Rattle.std.proofs.lemmas.Str.{IsCharBoundary-after_ascii, IsCharBoundary-from_take}
-use Rattle.std.specs.Prelude.{slice_range}
 use Rattle.std.specs.Str.{IsCharBoundary, IsUtf8}
 use Rattle.uri_pct.specs.Models.ByteRuns.{IsLongestRun}
-use Rattle.uri_ops.specs.Dots.{EndsInSlash, before_last_slash, has_slash}
-use Rattle.uri_ops.specs.Dots.{up_to_last_slash}
+use Rattle.uri_ops.specs.Dots.{EndsInSlash, before_last_slash, has_slash, up_to_last_slash}
+use Rattle.uri_ops.proofs.Paths.LastSlashes.{before_last_slash-of-slashless-is-empty}
+use Rattle.uri_ops.proofs.Paths.LastSlashes.{before_last_slash-of-slashless-tail}
 use Rattle.uri_ops.proofs.Paths.SlashedSegments.{slash-in-suffix-is-in-append}
 use Rattle.uri_basic.specs.Models.Directories.{IsDirectoryOrNothing, after_segment, parent}
 use Rattle.uri_basic.specs.Models.Directories.{path_left}
 use Rattle.uri_basic.specs.Removal.{remove_dot_segments}
-use Rattle.uri_basic.proofs.Segments.{before-last-slash-is-prefix, parent-of-directory}
-use Rattle.uri_basic.proofs.Segments.{parent-of-nothing, path-left-after-last-segment}
-use Rattle.uri_basic.proofs.Segments.{path-left-of-path}
+use Rattle.uri_basic.proofs.Segments.{parent-of-directory, parent-of-nothing}
+use Rattle.uri_basic.proofs.Segments.{path-left-after-last-segment, path-left-of-path}
 
 -- paths: a text has no `/` (47) if none of its bytes is one
 no-byte-is-slash : (text : List ℕ) → ((k : ℕ) → k < length text → get_or text k 0 ≡ 47 → ⊥)
@@ -45,7 +44,7 @@ up-to-last-slash-of-cut-text : (x y : List ℕ) → has_slash y ≡ false
     → up_to_last_slash (x ++ 47 ∷ y) ≡ x ++ codes "/"
 up-to-last-slash-of-cut-text x y e =
     cond-true _ _ _ (slash-in-suffix-is-in-append x (47 ∷ y) refl)
-    ∙ ap (λ t. t ++ codes "/") (before-last-slash-is-prefix x y e)
+    ∙ ap (λ t. t ++ codes "/") (before_last_slash-of-slashless-tail x y e)
 
 -- paths: a text is cut at a `/`
 cut-at-slash : (text : List ℕ) (j : ℕ) → j < length text → get_or text j 0 ≡ 47
@@ -96,12 +95,7 @@ last-segment-begins-after-prefix d i ends within none place =
     (λ a. inr (a.0, sym (byte (i - 1) (omega (arith, within, long, a.0))) ∙ a.1))
     place)
     ∙ ap up_to_last_slash
-    (sym (ap before_last_slash ends.1 ∙ before-last-slash-is-prefix p [] refl))
-
--- paths: nothing is before the last `/` of a text without one
-pub before-last-slash-of-segment : (p : List ℕ) → has_slash p ≡ false → before_last_slash p ≡ []
-before-last-slash-of-segment [] e = refl
-before-last-slash-of-segment (c ∷ p) e = cond-false _ _ _ (or_parts (c == 47) (has_slash p) e).1
+    (sym (ap before_last_slash ends.1 ∙ before_last_slash-of-slashless-tail p [] refl))
 
 -- removing dot segments: the parent of a directory, by the text before its last segment
 parent-by-prefix : (d : List ℕ) (n : ℕ) → EndsInSlash d → n < length d
@@ -112,7 +106,7 @@ parent-by-prefix d n ends within before =
     let up : parent d ≡ before_last_slash p ++ codes "/" =
     ap parent ends.1 ∙ parent-of-directory ends.0
     ∙ ap (λ t. before_last_slash t ++ codes "/")
-    (sym (ap before_last_slash ends.1 ∙ before-last-slash-is-prefix ends.0 [] refl)) in
+    (sym (ap before_last_slash ends.1 ∙ before_last_slash-of-slashless-tail ends.0 [] refl)) in
     let long : length (take n d) ≡ n = length-take-le n d (omega (arith, within)) in
     ⊎_elim
     (λ h.
@@ -122,7 +116,7 @@ parent-by-prefix d n ends within before =
       λ _. up ∙ sym more,
     ))
     (λ h. (
-      λ _. up ∙ ap (λ t. t ++ codes "/") (before-last-slash-of-segment p h),
+      λ _. up ∙ ap (λ t. t ++ codes "/") (before_last_slash-of-slashless-is-empty p h),
       λ ne. absurd (ne (sym long ∙ ap length (before ∙ cond-false _ _ _ h))),
     ))
     (cases_Bool (has_slash p))

@@ -37,8 +37,7 @@ use Rattle.uri_basic.specs.Target.{merge}
 use Rattle.uri_basic.proofs.DotSegments.{directory-of-dotless-path-is-up-to-last-slash}
 use Rattle.uri_basic.proofs.DotSegments.{dotless-path-has-no-encoded-dot}
 use Rattle.uri_basic.proofs.DotSegments.{dotless-path-has-no-literal-dot}
-use Rattle.uri_basic.proofs.DotSegments.{encoded-dots-after-directory}
-use Rattle.uri_basic.proofs.DotSegments.{encoded-dots-at-slash}
+use Rattle.uri_basic.proofs.DotSegments.{encoded-dots-after-directory, encoded-dots-at-slash}
 use Rattle.uri_basic.proofs.SameRemovals.{removal-of-path-without-dots, same-removal}
 use Rattle.uri_basic.proofs.SameTargets.{base-with-empty-path-has-authority}
 

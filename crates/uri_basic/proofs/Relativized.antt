@@ -1,11 +1,11 @@
 -- What the references of `relativize` lead to by the basic algorithm: RFC 3986, section 5.2.
 use Rattle.std.proofs.Common.{◌≡◌, ℕ, Bool, true, false, not, cond, List, [], ◌++◌, ◌&&◌, refl, sym}
-use Rattle.std.proofs.Common.{ap, ◌∙◌, subst, true≢false, ⊎_elim}
+use Rattle.std.proofs.Common.{ap, ◌∙◌, subst, ⊎_elim}
 use Rattle.std.specs.Prelude.{IfNone, IfSome, None, Ok, Option, Some, bytes_eq, codes, is_none}
 use Rattle.std.specs.Prelude.{is_some}
 use Rattle.std.specs.Option.{option_eq}
 use Rattle.std.proofs.lemmas.Bool.{and_parts, both_ways, cases_Bool, cond-false, cond-true}
-use Rattle.std.proofs.lemmas.Bool.{cond_both, false≢true}
+use Rattle.std.proofs.lemmas.Bool.{cond_both, false≢true, not-false}
 use Rattle.std.proofs.lemmas.Slice.Eq.{bytes_eq-Decides}
 use Rattle.uri_pct.proofs.General.{eq_true_from_IsTrue}
 use Rattle.uri_pct.specs.Delimiters.{slash}
@@ -231,11 +231,6 @@ query-form-leads-to-target base t s a p some =
     let q : cond (is_some t.query) t.query base.query ≡ t.query = cond-true _ _ _ some in
     λ i. record t { scheme = s i; authority = a i; path = p i; query = q i }
 
--- general fact on booleans, for relativized references: what is not false is true
-not-of-test-fails : (test : Bool) → not test ≡ false → test ≡ true
-not-of-test-fails true e = refl
-not-of-test-fails false e = absurd (true≢false e)
-
 module _ (prefers : Bool) (base : List ℕ) (t : Components) (w : IsPlainTarget t) where
   -- the reference leads from the base to the target
   abbrev Leads : Components → Type 0
@@ -280,7 +275,7 @@ module _ (prefers : Bool) (base : List ℕ) (t : Components) (w : IsPlainTarget 
       let b = components base in
       cond_both (not (has_same_scheme b t)) _ _ Leads (λ _. target-leads)
       (λ same. let s = components-that-pass-test-are-equal b.scheme t.scheme
-      (not-of-test-fails _ same) in
+      (not-false _ same) in
       cond_both (has_same_authority_and_path b t && has_same_query b t) _ _ Leads
       (λ e. let both = and_parts (has_same_authority_and_path b t) _ e in
       let place = and_parts (has_same_authority b t) _ both.0 in

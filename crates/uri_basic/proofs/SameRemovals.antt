@@ -1,14 +1,13 @@
 -- Where removing dot segments of section 5.2.4 is removing those of `Resolver`, or changes nothing.
-use Rattle.std.proofs.Common.{◌≡◌, ℕ, true, false, not, List, [], ◌∷◌, ◌++◌, refl, sym, ap}
-use Rattle.std.proofs.Common.{◌∙◌, ◌&&◌, append_assoc, ⊎_elim}
+use Rattle.std.proofs.Common.{◌≡◌, ℕ, false, not, List, [], ◌∷◌, ◌++◌, refl, sym, ap, ◌∙◌, ◌&&◌}
+use Rattle.std.proofs.Common.{append_assoc, ⊎_elim}
 use Rattle.std.specs.Prelude.{bytes_eq, codes}
 use Rattle.std.specs.List.{list_any}
-use Rattle.std.proofs.lemmas.Bool.{cases_Bool, cond-true, cond-false, and_cases, both_ways}
-use Rattle.std.proofs.lemmas.Bool.{not_from_false, or_from, or_parts}
+use Rattle.std.proofs.lemmas.Bool.{cases_Bool, and_cases, both_ways, not_from_false, or_from}
+use Rattle.std.proofs.lemmas.Bool.{or_parts}
 use Rattle.std.proofs.lemmas.List.{append-nil}
 use Rattle.std.proofs.lemmas.Slice.Eq.{bytes_eq-Decides}
-use Rattle.uri_ops.specs.Dots.{IsAbsolute, before_last_slash, has_slash, is_dot_segment}
-use Rattle.uri_ops.specs.Dots.{is_double_dot, is_single_dot, segments}
+use Rattle.uri_ops.specs.Dots.{IsAbsolute, is_dot_segment, is_double_dot, is_single_dot}
 use Rattle.uri_ops.specs.Dots as Dots
 use Rattle.uri_ops.proofs.Paths.DotLaws.{property-of-absolute-path-by-segments}
 use Rattle.uri_ops.proofs.Paths.Segments.{closing, dotless_of, end_of, next_output, pop, step_of}
@@ -16,35 +15,15 @@ use Rattle.uri_ops.proofs.Paths.Segments.{next_output-passes-test, steps}
 use Rattle.uri_ops.proofs.Paths.SlashedSegments.{NoSlashes, first-segment-and-rest-lack-slashes}
 use Rattle.uri_ops.proofs.Paths.SlashedSegments.{lacks_slash, remove-dots-by-segments}
 use Rattle.uri_ops.proofs.Paths.SlashedSegments.{segments-of-joined-segments}
-use Rattle.uri_ops.proofs.Paths.SlashedSegments.{segments-of-slashed-segments}
-use Rattle.uri_ops.proofs.Paths.SlashedSegments.{slash-in-suffix-is-in-append, slashed}
+use Rattle.uri_ops.proofs.Paths.SlashedSegments.{segments-of-slashed-segments, slashed}
 use Rattle.uri_ops.proofs.Paths.SlashedSegments.{slashed-of-push}
+use Rattle.uri_ops.proofs.Paths.SlashedSegments.{before_last_slash-of-slashed-is-popped}
 use Rattle.uri_basic.specs.Deviations.{has_encoded_dot_segment, has_literal_dot_segment}
 use Rattle.uri_basic.specs.Deviations.{is_literal_dot_segment}
 use Rattle.uri_basic.specs.Models.Directories.{after_segment}
 use Rattle.uri_basic.specs.Removal.{remove_dot_segments}
 use Rattle.uri_basic.proofs.Kept.{property-of-path-by-segments, removal-by-segments, root-is-kept}
 use Rattle.uri_basic.proofs.Segments.{after-segment-by-test, kept_of, parent-of-directory}
-
--- paths: the last `/` of a text with a slash after another is the last of that text
-before-last-slash-of-append : (s t : List ℕ) → has_slash t ≡ true
-    → before_last_slash (s ++ t) ≡ s ++ before_last_slash t
-before-last-slash-of-append [] t e = refl
-before-last-slash-of-append (c ∷ s) t e = cond-true _ _ _ (slash-in-suffix-is-in-append s t e)
-    ∙ ap (λ r. c ∷ r) (before-last-slash-of-append s t e)
-
--- paths: cutting segments before the last `/` removes the last one
-before-last-slash-is-popped : (xs : List (List ℕ)) → NoSlashes xs
-    → before_last_slash (slashed xs) ≡ slashed (pop xs)
-unfolding slashed pop
-before-last-slash-is-popped [] e = refl
-before-last-slash-is-popped (s ∷ []) e =
-    ap (λ t. before_last_slash (47 ∷ t)) (append-nil s)
-    ∙ cond-false _ _ _ (first-segment-and-rest-lack-slashes s [] e).0
-before-last-slash-is-popped (s ∷ t ∷ rest) e =
-    before-last-slash-of-append (47 ∷ s) (slashed (t ∷ rest)) refl
-    ∙ ap (λ r. 47 ∷ s ++ r) (before-last-slash-is-popped (t ∷ rest)
-    (first-segment-and-rest-lack-slashes s (t ∷ rest) e).1)
 
 -- dot segments: what a segment leaves of the output of `Resolver`
 segment-leaves : (out : List (List ℕ)) (s : List ℕ)
@@ -82,7 +61,7 @@ directory-by-segments out s lack literal =
     (sym (ap (step_of out) ((bytes_eq-Decides s (codes ".")).0 e) ∙ leaves.0)))
     (λ single. ⊎_elim
     (λ e. after.1 e ∙ parent-of-directory (slashed out)
-    ∙ ap (λ t. t ++ codes "/") (before-last-slash-is-popped out lack)
+    ∙ ap (λ t. t ++ codes "/") (before_last_slash-of-slashed-is-popped out lack)
     ∙ ap (λ o. slashed o ++ codes "/")
     (sym (ap (step_of out) ((bytes_eq-Decides s (codes "..")).0 e) ∙ leaves.1)))
     (λ double. after.2 single double
@@ -120,7 +99,7 @@ path-by-segments out s lack literal =
     (λ e.
     let same = (bytes_eq-Decides s (codes "..")).0 e in
     after.1 e ∙ parent-of-directory (slashed out)
-    ∙ ap (λ t. t ++ codes "/") (before-last-slash-is-popped out lack)
+    ∙ ap (λ t. t ++ codes "/") (before_last_slash-of-slashed-is-popped out lack)
     ∙ sym (slashed-of-push (pop out) [])
     ∙ sym (ap (λ t. slashed (step_of out t ++ end_of (is_dot_segment t))) same
     ∙ ap (λ o. slashed (o ++ [] ∷ [])) leaves.1))

@@ -1,18 +1,19 @@
 -- Where nothing deviates, the basic algorithm and `Resolver` have the same target.
 use Rattle.std.proofs.Common.{◌≡◌, ℕ, true, false, not, List, [], ◌++◌, refl, sym, ap, subst}
 use Rattle.std.proofs.Common.{◌∙◌, ◌&&◌, ⊎_elim}
-use Rattle.std.specs.Prelude.{None, Ok, Option, Result, Some, is_none, is_some}
+use Rattle.std.specs.Prelude.{None, Ok, Option, Some, is_none, is_some}
 use Rattle.std.proofs.lemmas.Bool.{and_from, and_right, cases_Bool, cond-true, cond-false}
 use Rattle.std.proofs.lemmas.Bool.{and_left, false≢true, not_from_false}
 use Rattle.uri_parts.specs.Components.{Components, components, has_authority, recompose, starts}
 use Rattle.uri_parts.proofs.Splitting.Recompose.{equal-to-true-is-IsTrue}
 use Rattle.uri_ops.specs.Dots.{directory, is_double_dot, is_empty, last_segment}
 use Rattle.uri_ops.specs.Target.{dotless_if_absolute, dotted_target, guarded, is_opaque, merged}
-use Rattle.uri_ops.specs.Target.{TargetError, resolution_of, target_of}
+use Rattle.uri_ops.specs.Target.{resolution_of, target_of}
 use Rattle.uri_ops.proofs.Paths.DotLaws.{remove-dots-of-dotless}
 use Rattle.uri_ops.proofs.Paths.DotRuns.{empty-text-is-nil}
 use Rattle.uri_ops.proofs.Targeting.Swaps.{merging-base-is-not-opaque}
-use Rattle.uri_pct.proofs.General.{not_some_is_none}
+use Rattle.uri_pct.proofs.General.{not_some_is_none, some_is_not_none}
+use Rattle.uri_ops.proofs.Targeting.NormalTargets.{resolution-is-unique}
 use Rattle.uri_basic.specs.Deviations.{NothingDeviates, has_encoded_dot_segment}
 use Rattle.uri_basic.specs.Deviations.{has_literal_dot_segment, is_merged, takes_base_path}
 use Rattle.uri_relative.specs.Leading.{LeadsTo, settled, without_fragment}
@@ -74,11 +75,6 @@ same-merged-path base path opaque last = ⊎_elim
     ∙ sym (cond-false _ _ _ (and_right (is_some base.authority) _ h)))
     (cases_Bool (is_empty base.path))
 
--- general fact on options, for components: one that is there is not absent
-pub present-component-is-not-absent : (o : Option (List ℕ)) → is_some o ≡ true → is_none o ≡ false
-present-component-is-not-absent None h = absurd (false≢true h)
-present-component-is-not-absent (Some x) h = refl
-
 -- targets: where nothing deviates, the target is that of `Resolver`
 same-targets : (base r : Components) → NothingDeviates base r → target_of base r ≡ target base r
 same-targets base r n =
@@ -89,7 +85,7 @@ same-targets base r n =
     ⊎_elim
     (λ s.
     let own : takes_base_path r ≡ false =
-    and_left _ _ (and_left _ _ (present-component-is-not-absent r.scheme s)) in
+    and_left _ _ (and_left _ _ (some_is_not_none r.scheme s)) in
     let d : dotted_target base r ≡ r = cond-true _ _ _ s in
     same-target base r r _ d (cond-true _ _ _ s) (remove_dot_segments r.path)
     (same-path-without-dots r.path (subst D d (n.literal own)) (subst L d (n.rootless own)))
@@ -97,7 +93,7 @@ same-targets base r n =
     (λ s. ⊎_elim
     (λ a.
     let own : takes_base_path r ≡ false =
-    and_left _ _ (and_right (is_none r.scheme) _ (present-component-is-not-absent r.authority a)) in
+    and_left _ _ (and_right (is_none r.scheme) _ (some_is_not_none r.authority a)) in
     let d : dotted_target base r ≡ record r { scheme = base.scheme } =
     cond-false _ _ _ s ∙ cond-true _ _ _ a in
     same-target base r (record r { scheme = base.scheme }) _ d
@@ -161,11 +157,6 @@ same-resolutions base r n = (
   cond-false _ _ _ n.unguarded,
 )
 
--- general fact on results, for targets: two values of the same result are equal
-equal-results-have-equal-texts : (result : Result (List ℕ) TargetError) (text other : List ℕ)
-    → result ≡ Ok text → result ≡ Ok other → text ≡ other
-equal-results-have-equal-texts result text other e f = cc
-
 -- references that lead to a target: where nothing deviates, they do so by the basic algorithm too
 pub leading-reference-resolves : (base target reference : List ℕ) → LeadsTo base target reference
     → NothingDeviates (without_fragment (components base)) (components reference)
@@ -174,4 +165,4 @@ leading-reference-resolves base target reference leads nothing =
     let same = same-resolutions (without_fragment (components base)) (components reference)
     nothing in
     same.1
-    ∙ ap (λ t. Ok t) (equal-results-have-equal-texts _ _ _ same.0 leads.leads)
+    ∙ ap (λ t. Ok t) (resolution-is-unique _ _ _ same.0 leads.leads)

@@ -7,24 +7,16 @@ use Rattle.std.proofs.lemmas.Bool.{cases_Bool, cond-true, cond-false, cond_both,
 use Rattle.std.proofs.lemmas.List.{append-nil}
 use Rattle.std.proofs.lemmas.Slice.Eq.{bytes_eq-Decides}
 use Rattle.uri_ops.specs.Dots.{before_last_slash, has_slash, is_empty}
+use Rattle.uri_ops.proofs.Paths.LastSlashes.{before_last_slash-of-slashless-tail}
 use Rattle.uri_ops.proofs.Paths.SlashedSegments.{NoSlashes, first-segment-and-rest-lack-slashes}
-use Rattle.uri_ops.proofs.Paths.SlashedSegments.{slash-in-suffix-is-in-append, slashed}
+use Rattle.uri_ops.proofs.Paths.SlashedSegments.{slashed}
 use Rattle.uri_basic.specs.Removal.{output_of, remove_dot_segments}
 use Rattle.uri_basic.specs.Models.Directories.{IsDirectoryOrNothing, after_segment, buffers_at}
 use Rattle.uri_basic.specs.Models.Directories.{parent, path_left}
 use Rattle.uri_basic.proofs.Buffers.{output-after-step, output-of-empty-input}
-use Rattle.uri_basic.proofs.Steps.{last-segment-is-text}
-use Rattle.uri_basic.proofs.Steps.{other-last-segment-begins-with-no-dots}
+use Rattle.uri_basic.proofs.Steps.{last-segment-is-text, other-last-segment-begins-with-no-dots}
 use Rattle.uri_basic.proofs.Steps.{other-segment-begins-with-no-dots, output-after-rooted-segment}
 use Rattle.uri_basic.proofs.Steps.{output-after-rootless-segment, segment-ends-before-slash}
-
--- paths: what is before the last `/` (47) of a text, if no `/` is after it
-pub before-last-slash-is-prefix : (x y : List ℕ) → has_slash y ≡ false
-    → before_last_slash (x ++ 47 ∷ y) ≡ x
-before-last-slash-is-prefix [] y e = cond-false _ _ _ e
-before-last-slash-is-prefix (c ∷ x) y e =
-    cond-true _ _ _ (slash-in-suffix-is-in-append x (47 ∷ y) refl)
-    ∙ ap (λ t. c ∷ t) (before-last-slash-is-prefix x y e)
 
 -- paths: a text with a `/` is not empty
 text-with-slash-is-not-empty : (x y : List ℕ) → is_empty (x ++ 47 ∷ y) ≡ false
@@ -37,14 +29,14 @@ buffers-at-directory : (p q : List ℕ)
 unfolding buffers_at
 buffers-at-directory p q =
     cond-false _ _ _ (text-with-slash-is-not-empty p [])
-    ∙ (λ i. record { input = 47 ∷ q; output = before-last-slash-is-prefix p [] refl i })
+    ∙ (λ i. record { input = 47 ∷ q; output = before_last_slash-of-slashless-tail p [] refl i })
 
 -- removing dot segments: the parent of a directory
 pub parent-of-directory : (p : List ℕ) → parent (p ++ codes "/") ≡ before_last_slash p ++ codes "/"
 unfolding parent
 parent-of-directory p =
     cond-false _ _ _ (text-with-slash-is-not-empty p [])
-    ∙ ap (λ t. before_last_slash t ++ codes "/") (before-last-slash-is-prefix p [] refl)
+    ∙ ap (λ t. before_last_slash t ++ codes "/") (before_last_slash-of-slashless-tail p [] refl)
 
 -- removing dot segments: nothing has no parent
 pub parent-of-nothing : parent [] ≡ []

@@ -8,8 +8,7 @@ use Rattle.std.proofs.lemmas.List.{length-append}
 use Rattle.uri_parts.specs.Components.{Components, components, marked, recompose, starts}
 use Rattle.uri_parts.specs.Grammar.{IsOfKind, IsTextOf, Kind}
 use Rattle.uri_parts.specs.PackedPositions.{ArePackedPositionsOf, packed}
-use Rattle.uri_parts.specs.Positions.{authority_at, delimited_length, host_end_of}
-use Rattle.uri_parts.specs.Positions.{positions_of}
+use Rattle.uri_parts.specs.Positions.{authority_at, delimited_length, host_end_of, positions_of}
 use Rattle.uri_parts.specs.declared.packed_positions.PackedPositions.{PackedPositions}
 use Rattle.uri_parts.specs.declared.positions.AuthorityPositions.{AuthorityPositions}
 use Rattle.uri_parts.proofs.Splitting.Recompose.{recompose-components}

@@ -27,13 +27,16 @@ use Rattle.uri_ops.proofs.Normal.NormalTexts.{text-has-parts-of-kind}
 use Rattle.uri_ops.proofs.Paths.DecodedPaths.{set-text-splits, set-texts-join-at-slash}
 use Rattle.uri_ops.proofs.Paths.PathCharacters.{lacked-delimiters-fail-test}
 use Rattle.uri_ops.proofs.Paths.PathCharacters.{test-of-delimiters-gives-lacks}
+use Rattle.uri_ops.proofs.Paths.PathCharacters.{before_last_slash-passes-test}
 use Rattle.uri_ops.proofs.Targeting.Swaps.{text-of-kind-has-needed-scheme}
 use Rattle.uri_ops.proofs.Targeting.Targets.{appended-absolute-path-is-absolute}
+use Rattle.uri_ops.proofs.Targeting.Targets.{option-that-is-some-has-no-none}
+use Rattle.uri_ops.proofs.Targeting.Targets.{authority-property-implies-other-if-some}
 use Rattle.uri_pct.proofs.General.{eq_true_from_IsTrue}
 use Rattle.uri_basic.specs.Removal.{output_of, remove_dot_segments, run}
 use Rattle.uri_basic.specs.Target.{basic_resolution_of_texts, is_ambiguous, merge, target}
 use Rattle.uri_basic.specs.Target.{PathStartsWithDoubleSlash}
-use Rattle.uri_basic.proofs.Kept.{bytes-before-last-slash-pass, bytes-of-append-pass}
+use Rattle.uri_basic.proofs.Kept.{bytes-of-append-pass}
 use Rattle.uri_basic.proofs.Kept.{removal-adds-no-delimiter, removal-keeps-absolute}
 use Rattle.uri_basic.proofs.Kept.{removal-keeps-set-text, text-is-cut-at-last-slash}
 
@@ -45,12 +48,6 @@ record IsSplittable (c : Components) : Type 0 where
   authority : IfSome c.authority (λ a. Lacks (codes "/?#") a × IsAbemptyPath c.path)
   path : Lacks (codes "?#") c.path
   query : IfSome c.query (λ q. Lacks (codes "#") q)
-
--- targets: what is known of the path after an authority implies another property of it
-property-after-authority : (o : Option (List ℕ)) (P Q : Type 0) → (P → Q)
-    → IfSome o (λ a. Lacks (codes "/?#") a × P) → IfSome o (λ a. Lacks (codes "/?#") a × Q)
-property-after-authority None P Q f h = tt
-property-after-authority (Some a) P Q f h = (h.0, f h.1)
 
 -- removing dot segments: nothing is left of nothing
 removal-of-nothing : remove_dot_segments [] ≡ []
@@ -101,7 +98,7 @@ bytes-up-to-last-slash-pass : (p : ℕ → Bool) → p 47 ≡ true → (path : L
 bytes-up-to-last-slash-pass p slash path e =
     cond_both (has_slash path) (before_last_slash path ++ codes "/") [] (λ t. list_all p t ≡ true)
     (λ _. bytes-of-append-pass p (before_last_slash path) (codes "/")
-    (bytes-before-last-slash-pass p path e) (and_from _ _ slash refl))
+    (before_last_slash-passes-test p path e) (and_from _ _ slash refl))
     (λ _. refl)
 
 -- targets: the merged path has no delimiter that neither path has
@@ -126,7 +123,7 @@ target-is-splittable b t base r some is_base is_reference =
     (λ h. record {
       some = h;
       scheme = is_reference.scheme;
-      authority = property-after-authority r.authority (IsAbemptyPath r.path)
+      authority = authority-property-implies-other-if-some r.authority (IsAbemptyPath r.path)
           (IsAbemptyPath (remove_dot_segments r.path)) (removal-keeps-rooted r.path)
           is_reference.authority;
       path = removal-adds-no-delimiter (codes "?#") refl r.path is_reference.path;
@@ -136,7 +133,7 @@ target-is-splittable b t base r some is_base is_reference =
     (λ h. record {
       some = some;
       scheme = is_base.scheme;
-      authority = property-after-authority r.authority (IsAbemptyPath r.path)
+      authority = authority-property-implies-other-if-some r.authority (IsAbemptyPath r.path)
           (IsAbemptyPath (remove_dot_segments r.path)) (removal-keeps-rooted r.path)
           is_reference.authority;
       path = removal-adds-no-delimiter (codes "?#") refl r.path is_reference.path;
@@ -155,7 +152,7 @@ target-is-splittable b t base r some is_base is_reference =
     (λ h. record {
       some = some;
       scheme = is_base.scheme;
-      authority = property-after-authority base.authority (IsAbemptyPath base.path)
+      authority = authority-property-implies-other-if-some base.authority (IsAbemptyPath base.path)
           (IsAbemptyPath (remove_dot_segments r.path))
           (λ _. inr (removal-keeps-absolute r.path (equal-to-true-is-IsTrue _ h)))
           is_base.authority;
@@ -183,12 +180,6 @@ target-is-splittable b t base r some is_base is_reference =
               (merged-path-is-absolute base r.path (ap is_some e) h.1)),
         )
 
--- general fact on options, for components of a target: one that is there makes each statement on
--- its absence true
-present-is-not-absent : (o : Option (List ℕ)) (P : Type 0) → is_some o ≡ true → IfNone o P
-present-is-not-absent None P h = absurd (false≢true h)
-present-is-not-absent (Some x) P h = tt
-
 -- targets: a path that is not parsed as an authority, if none is before it
 unambiguous-path-is-no-authority : (o : Option (List ℕ)) (path : List ℕ)
     → (is_none o && has_authority path) ≡ false → IfNone o (has_authority path ≡ false)
@@ -212,7 +203,7 @@ basic-target-has-its-components base reference some clear =
       authority = fits.authority;
       path = fits.path;
       query = fits.query;
-      no_scheme = present-is-not-absent t.scheme _ fits.some;
+      no_scheme = option-that-is-some-has-no-none t.scheme _ fits.some;
       no_authority = unambiguous-path-is-no-authority t.authority t.path clear;
     })
 

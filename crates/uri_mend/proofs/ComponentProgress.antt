@@ -26,7 +26,7 @@ run-goes-on text start end n le =
     (drop-drop (end - start) start text ∙ ap (λ k. drop k text) place))
 
 -- progress: nothing is mended to nothing
-mended-nothing : (set : TableSet) → mended set [] ≡ []
+pub mended-nothing : (set : TableSet) → mended set [] ≡ []
 unfolding mended mended_from_chars
 mended-nothing set = ap (mended_from_chars set) chars-nil
 

@@ -13,9 +13,8 @@ use Rattle.std.proofs.lemmas.Bool.Decides.{nat_tests}
 use Rattle.std.proofs.lemmas.List.{drop-drop, drop_at, drop_more, get_or-drop, length-take-le}
 use Rattle.std.proofs.lemmas.List.{map-append, take-append-drop}
 use Rattle.std.proofs.lemmas.Str.{IsCharBoundary-after_ascii, IsCharBoundary-before_ascii}
-use Rattle.std.proofs.lemmas.Str.{IsCharBoundary-past_char}
-use Rattle.std.proofs.lemmas.Str.{IsUtf8-between, IsUtf8-drop, encode_ascii, encodes-chars}
-use Rattle.std.proofs.lemmas.Str.{len_utf8_ascii, length-encode}
+use Rattle.std.proofs.lemmas.Str.{IsCharBoundary-past_char, IsUtf8-between, IsUtf8-drop}
+use Rattle.std.proofs.lemmas.Str.{encode_ascii, encodes-chars, len_utf8_ascii, length-encode}
 use Rattle.uri_pct.specs.Masks.{has_bit}
 use Rattle.uri_pct.specs.Models.ByteRuns.{is_char_byte}
 use Rattle.uri_pct.specs.Models.Scans.{may_begin_octet_or_past_ascii}

@@ -1,7 +1,7 @@
 -- A text whose prefix shows where its path begins: the prefix has its scheme and its authority.
-use Rattle.std.proofs.Common.{◌≡◌, ℕ, ◌+◌, ◌-◌, ◌<◌, ◌≤◌, Bool, true, false, not, List, [], ◌∷◌, ◌++◌, ◌||◌}
-use Rattle.std.proofs.Common.{◌&&◌, length, take, drop, refl, sym, ap, subst, ◌∙◌, arith, ⊎_elim, lit<}
-use Rattle.std.proofs.Common.{length-append}
+use Rattle.std.proofs.Common.{◌≡◌, ℕ, ◌+◌, ◌-◌, ◌<◌, ◌≤◌, Bool, true, false, not, List, [], ◌∷◌}
+use Rattle.std.proofs.Common.{◌++◌, ◌||◌, ◌&&◌, length, take, drop, refl, sym, ap, subst, ◌∙◌}
+use Rattle.std.proofs.Common.{arith, ⊎_elim, length-append}
 use Rattle.std.specs.List.{list_any}
 use Rattle.std.specs.Prelude.{codes, IfSome, None, Option, Some, is_some, option_map, unwrap_or}
 use Rattle.std.specs.Str.{IsCharBoundary, IsUtf8}
@@ -10,7 +10,6 @@ use Rattle.std.proofs.lemmas.Bool.{and_parts, both_ways, cases_Bool, cond-true, 
 use Rattle.std.proofs.lemmas.List.{drop-append-le, length-take-le}
 use Rattle.std.proofs.lemmas.Str.{IsCharBoundary-at_seam}
 use Rattle.uri_pct.specs.Sets.{is_one_of}
-use Rattle.uri_pct.proofs.ValidTexts.MarksInTexts.{AreAscii-by-test}
 use Rattle.uri_parts.specs.Components.{Components, components, after_authority, after_scheme}
 use Rattle.uri_parts.specs.Components.{before_any, from_any, has_authority, has_scheme, marked}
 use Rattle.uri_parts.specs.Components.{recompose, starts, when}
@@ -19,7 +18,7 @@ use Rattle.uri_parts.specs.PackedPositions.{ArePackedPositionsOf, packed}
 use Rattle.uri_parts.specs.Positions.{authority_at, delimited_length, positions_of}
 use Rattle.uri_parts.specs.declared.packed_positions.PackedPositions.{PackedPositions}
 use Rattle.uri_parts.specs.declared.positions.AuthorityPositions.{AuthorityPositions}
-use Rattle.uri_parts.proofs.Parsing.ScanStops.{utf8_after_mark, utf8_after_slashes, utf8_from_marks}
+use Rattle.uri_parts.proofs.Parsing.WholeTexts.{utf8_after_scheme, utf8_after_authority}
 use Rattle.uri_parts.proofs.Splitting.Cuts.{before_any-at-mark, before_any-past-other}
 use Rattle.uri_parts.proofs.Splitting.Cuts.{from_any-at-mark, from_any-past-other}
 use Rattle.uri_parts.proofs.Splitting.Splits.{only-split-is-components}
@@ -249,26 +248,6 @@ positions-show-path p before e some two mark =
           omega (arith, cut, size, some));
     }
 
--- prefixes: what follows a scheme in a text in UTF-8 is UTF-8
-after-scheme-is-utf8 : (text : List ℕ) → IsUtf8 text → IsUtf8 (after_scheme text)
-after-scheme-is-utf8 text u = ⊎_elim
-    (λ e. subst IsUtf8 (sym (cond-true _ _ _ e)) (utf8_after_mark 58 (lit< tt)
-    (from_any (codes ":/?#") text) (and_parts _ (not (starts 58 text)) e).0
-    (utf8_from_marks (codes ":/?#") text (AreAscii-by-test (codes ":/?#") refl) u)))
-    (λ e. subst IsUtf8 (sym (cond-false _ _ _ e)) u)
-    (cases_Bool (has_scheme text))
-
--- prefixes: what follows an authority in such a text is UTF-8
-tail-is-utf8 : (text : List ℕ) → IsUtf8 text → IsUtf8 (after_authority (after_scheme text))
-tail-is-utf8 text u =
-    let rest = after_scheme text in
-    let v = after-scheme-is-utf8 text u in
-    ⊎_elim
-    (λ e. subst IsUtf8 (sym (cond-true _ _ _ e)) (utf8_from_marks (codes "/?#") (drop 2 rest)
-    (AreAscii-by-test (codes "/?#") refl) (utf8_after_slashes rest e v)))
-    (λ e. subst IsUtf8 (sym (cond-false _ _ _ e)) v)
-    (cases_Bool (has_authority rest))
-
 -- prefixes: positions of a scheme and an authority, with these ends of a path and a query
 positions_before : Option (List ℕ) → Option (List ℕ) → ℕ → ℕ → PackedPositions
 positions_before scheme authority path_end query_end = with_ends_at (packed (positions_of (record {
@@ -319,7 +298,8 @@ link-of-prefix text p s before u e at none shows =
     ap (λ n. drop n text) start ∙ ap (drop (length prefix)) whole ∙ drop-append_seam prefix tail in
     record {
       boundary = subst (IsCharBoundary text) (sym start)
-          (IsCharBoundary-at_seam text prefix tail whole (tail-is-utf8 text u));
+          (IsCharBoundary-at_seam text prefix tail whole
+          (utf8_after_authority (after_scheme text) (utf8_after_scheme text u)));
       alone = λ h. absurd (both_ways _ refl h);
       prefix = first ∙ sym (prefix-without-false-scheme text kept);
       pieces = λ kind sets. text-without-false-scheme-is-mended text kept kind sets

@@ -3,13 +3,13 @@
 use Rattle.std.proofs.Common.{◌≡◌, ℕ, Bool, true, false, not, List, [], ◌∷◌, ◌++◌, refl}
 use Rattle.std.proofs.Common.{sym, ap, ◌∙◌, ⊎_elim, ◌&&◌, ◌||◌, arith, inl, eqb, drop}
 use Rattle.std.specs.Prelude.{codes, Option, Some, None, IfSome, IfNone, is_some, option_map}
-use Rattle.std.specs.Str.{IsUtf8, chars}
-use Rattle.std.proofs.lemmas.Bool.{cases_Bool, cond-false, and_parts, and_from, both_ways}
-use Rattle.std.proofs.lemmas.Bool.{and_left}
+use Rattle.std.specs.Str.{IsUtf8}
+use Rattle.std.proofs.lemmas.Bool.{cases_Bool, cond-false, and_parts, and_from, both_ways, and_left}
 use Rattle.std.proofs.lemmas.Bool.{and_right, eqb-true}
 use Rattle.std.proofs.lemmas.List.{append-nil}
 use Rattle.uri_pct.specs.Sets.{TableSet, LacksPercent}
-use Rattle.uri_pct.specs.Tokens.{is_valid_for, tokens_from_chars}
+use Rattle.uri_pct.specs.Tokens.{is_valid_for}
+use Rattle.uri_pct.proofs.ValidTexts.EStrs.{empty_text_is_valid}
 use Rattle.uri_parts.specs.Components.{Components, components, recompose, marked, starts, Lacks}
 use Rattle.uri_parts.specs.Components.{IsSplitOf, IsAbemptyPath, has_scheme, has_authority, from_any}
 use Rattle.uri_parts.specs.Components.{before_any, after_scheme, after_authority, when}
@@ -87,11 +87,6 @@ rules-of-prefix true false true there = refl
 rules-of-prefix true false false true = refl
 rules-of-prefix true false false false = refl
 
--- mending: the empty text is valid for each set
-empty-text-is-valid : (set : TableSet) → is_valid_for set [] ≡ true
-unfolding is_valid_for tokens_from_chars chars
-empty-text-is-valid set = refl
-
 -- mending: what is before the path is of the kind exactly if the authority passes, and the scheme
 -- is there if it is needed
 prefix-rules : (kind : Kind) (p : Components) → AreMendable p
@@ -103,7 +98,7 @@ prefix-rules kind p m =
     let rest : Bool = is_some p.scheme || (not kind.needs_scheme && (is_some p.authority || true)) in
     ap (λ s. ((((s && a) && is_valid_for kind.path []) && true) && true) && rest)
     (part-with-property-passes p.scheme is_scheme m.scheme)
-    ∙ ap (λ v. ((((true && a) && v) && true) && true) && rest) (empty-text-is-valid kind.path)
+    ∙ ap (λ v. ((((true && a) && v) && true) && true) && rest) (empty_text_is_valid kind.path)
     ∙ rules-of-prefix a (is_some p.scheme) kind.needs_scheme (is_some p.authority)
 
 -- mending: a text can be mended exactly if its scheme and authority are of the kind

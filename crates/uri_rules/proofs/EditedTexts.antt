@@ -16,24 +16,16 @@ use Rattle.uri_ops.specs.Meaning.{AuthorityMeaning, Meaning, meaning_of}
 use Rattle.uri_ops.specs.Normal.{normal_authority, normal_components, normal_text}
 use Rattle.uri_ops.specs.Target.{guarded}
 use Rattle.uri_ops.proofs.Normal.NormalTexts.{components-of-normal_text}
-use Rattle.uri_ops.proofs.Meanings.AsciiCharacters.{lowering-is-idempotent}
+use Rattle.uri_ops.proofs.Normal.NormalComponents.{lowering-scheme-is-idempotent}
 use Rattle.uri_rules.specs.Edits.{edited_by, is_text}
 use Rattle.uri_rules.specs.NormalForms.{IsNormalFormUnder}
 use Rattle.uri_rules.specs.Rules.{Rules, authority_under, empty_authority, has_no_token}
-use Rattle.uri_rules.specs.Rules.{is_localhost}
-use Rattle.uri_rules.specs.Rules.{is_scheme_of, meaning_under, path_under, root}
+use Rattle.uri_rules.specs.Rules.{is_localhost, is_scheme_of, meaning_under, path_under, root}
 use Rattle.uri_rules.specs.Rules.{under_rules}
 use Rattle.uri_rules.proofs.NormalForms.{normal-text-under-rules-is-normal-form}
 use Rattle.uri_rules.proofs.RuledMeanings.{map-cond, print-is-empty-without-tokens}
 use Rattle.uri_rules.proofs.RuledTexts.{ruled_text, ruled-text-has-meaning-under}
 use Rattle.uri_rules.proofs.RuledTexts.{ruled-text-is-text-of-kind}
-
--- edits: a scheme in lower case stays as it is in lower case
-lowering-scheme-twice : (scheme : Option (List ℕ))
-    → option_map str_to_ascii_lowercase (option_map str_to_ascii_lowercase scheme)
-    ≡ option_map str_to_ascii_lowercase scheme
-lowering-scheme-twice None = refl
-lowering-scheme-twice (Some s) = ap Some (lowering-is-idempotent s)
 
 -- edits: an authority that is `localhost` becomes empty
 edited-authority-is-normal : (local : Bool) (o : Option AuthorityMeaning)
@@ -105,7 +97,7 @@ module _ (kind : Kind) (rules : Rules) (sets : HasComponentSets kind) (text : Li
   edited-components-are-normal =
       ap (edited_by rules.roots rules.locals) components-of-normal-text-are-normal
       ∙ edited-normal-components-are-normal rules (meaning_of kind rules.ports text)
-      (lowering-scheme-twice (components text).scheme)
+      (lowering-scheme-is-idempotent (components text).scheme)
 
   -- a normal text, edited by the rules, is the normal text under them
   edited-text-is-normal : recompose (edited_by rules.roots rules.locals (components text))

@@ -1,73 +1,26 @@
 -- An equivalent base and reference under rules have a target with the same normal form under them,
 -- or both pairs have no target.
-use Rattle.std.proofs.Common.{◌≡◌, ℕ, List, true, refl, sym, ap, subst, ◌∙◌}
-use Rattle.std.specs.Prelude.{Result, Ok, Err, is_ok}
-use Rattle.std.specs.Result.{result_map_both}
-use Rattle.std.proofs.lemmas.Bool.{false≢true}
-use Rattle.uri_parts.specs.Components.{Components, components}
+use Rattle.std.proofs.Common.{◌≡◌, ℕ, List, true, sym, ap, subst, ◌∙◌}
+use Rattle.std.specs.Prelude.{Ok}
+use Rattle.uri_parts.specs.Components.{components}
 use Rattle.uri_parts.specs.Grammar.{Kind, IsTextOf}
 use Rattle.uri_ops.specs.ComponentSets.{HasComponentSets}
 use Rattle.uri_ops.specs.Normal.{normal_text}
 use Rattle.uri_ops.specs.NormalTargets.{reference_kind}
 use Rattle.uri_ops.specs.Resolving.{IsErrorWithUnderflowAllowed}
-use Rattle.uri_ops.specs.Target.{TargetError, BaseWithFragment, InvalidReferenceAgainstOpaqueBase}
-use Rattle.uri_ops.specs.Target.{resolution_of, resolution_of_texts}
+use Rattle.uri_ops.specs.Target.{resolution_of_texts}
 use Rattle.uri_ops.specs.declared.resolve.error.ResolveError.{ResolveError}
-use Rattle.uri_ops.specs.declared.resolve.error.ResolveError.TheVariants as Of
+use Rattle.uri_ops.proofs.Targeting.NormalTargets.{equal-mapped-results-have-equal-targets}
+use Rattle.uri_ops.proofs.Targeting.NormalTargets.{equal-mapped-results-have-equal-errors}
+use Rattle.uri_ops.proofs.Targeting.NormalTargets.{equal-mapped-results-are-ok-alike}
+use Rattle.uri_ops.proofs.Targeting.NormalTargets.{resolution-is-unique}
+use Rattle.uri_ops.proofs.Targeting.NormalTargets.{same-resolution-error-with-underflow-allowed}
 use Rattle.uri_rules.specs.NormalForms.{IsNormalFormUnder}
 use Rattle.uri_rules.specs.Rules.{Rules, meaning_under}
 use Rattle.uri_rules.specs.Targets.{HasMeaningUnder, IsNormalFormOfTargetUnder}
 use Rattle.uri_rules.specs.Targets.{IsNormalTargetErrorUnder, IsNormalTargetUnder, resolved_under}
 use Rattle.uri_rules.proofs.NormalForms.{same-meaning-same-normal-form-under}
 use Rattle.uri_rules.proofs.RuledTargets.{resolving-respects-meaning-under}
-
--- general fact on results, for targets under rules: what a map of targets says of two results
-module _ {A : Type 0} (f : List ℕ → A) where
-  abbrev mapped : Result (List ℕ) TargetError → Result A TargetError
-  mapped r = result_map_both f (λ (refusal : TargetError). refusal) r
-
-  equal-oks-have-equal-values : (x y : A) (r : Result A TargetError) → r ≡ Ok x → r ≡ Ok y → x ≡ y
-  equal-oks-have-equal-values x y r d e = cc
-
-  equal-errs-have-equal-errors : (x y : TargetError) (r : Result A TargetError) → r ≡ Err x
-      → r ≡ Err y → x ≡ y
-  equal-errs-have-equal-errors x y r d e = cc
-
-  mapped-result-is-ok-alike : (x : Result (List ℕ) TargetError) → is_ok (mapped x) ≡ is_ok x
-  mapped-result-is-ok-alike (Ok u) = refl
-  mapped-result-is-ok-alike (Err z) = refl
-
-  equal-mapped-are-ok-alike : (x y : Result (List ℕ) TargetError) → mapped x ≡ mapped y
-      → is_ok x ≡ is_ok y
-  equal-mapped-are-ok-alike x y e =
-      sym (mapped-result-is-ok-alike x) ∙ ap is_ok e ∙ mapped-result-is-ok-alike y
-
-  equal-mapped-have-equal-targets : (x y : Result (List ℕ) TargetError) (t : List ℕ)
-      → mapped x ≡ mapped y → y ≡ Ok t → (u : List ℕ) × ((x ≡ Ok u) × (f u ≡ f t))
-  equal-mapped-have-equal-targets (Ok u) y t e h =
-      (u, (refl, equal-oks-have-equal-values (f u) (f t) (mapped y) (sym e) (ap mapped h)))
-  equal-mapped-have-equal-targets (Err z) y t e h =
-      absurd (false≢true (equal-mapped-are-ok-alike (Err z) y e ∙ ap is_ok h))
-
-  equal-mapped-have-equal-errors : (x y : Result (List ℕ) TargetError) (z : TargetError)
-      → mapped x ≡ mapped y → y ≡ Err z → x ≡ Err z
-  equal-mapped-have-equal-errors (Ok u) y z e h =
-      absurd (false≢true (sym (equal-mapped-are-ok-alike (Ok u) y e ∙ ap is_ok h)))
-  equal-mapped-have-equal-errors (Err w) y z e h =
-      ap Err (equal-errs-have-equal-errors w z (mapped y) (sym e) (ap mapped h))
-
--- targets under rules: an equivalent base and reference have the same error;
--- b, r and base, reference: their components
-same-error-with-underflow-allowed : (b r base reference : Components) (error : ResolveError)
-    → ((z : TargetError) → resolution_of base reference ≡ Err z → resolution_of b r ≡ Err z)
-    → is_ok (resolution_of b r) ≡ is_ok (resolution_of base reference)
-    → IsErrorWithUnderflowAllowed base reference error → IsErrorWithUnderflowAllowed b r error
-same-error-with-underflow-allowed b r base reference Of.BaseWithFragment f e h =
-    f BaseWithFragment h
-same-error-with-underflow-allowed b r base reference Of.InvalidReferenceAgainstOpaqueBase f e h =
-    f InvalidReferenceAgainstOpaqueBase h
-same-error-with-underflow-allowed b r base reference Of.PathUnderflow f e h = h
-same-error-with-underflow-allowed b r base reference Of.OutOfMemory f e h = e ∙ h
 
 -- targets under rules: two normal forms of the target of a base and a reference are equal
 one-normal-form-of-target-under : (kind : Kind) (rules : Rules) (base reference n m : List ℕ)
@@ -78,10 +31,6 @@ one-normal-form-of-target-under kind rules base reference n m v w =
     ∙ ap (λ t. normal_text (meaning_under kind rules t))
     (resolution-is-unique (resolution_of_texts base reference) v.0 w.0 v.1.0 w.1.0)
     ∙ sym w.1.1.text
-  where
-    resolution-is-unique : (r : Result (List ℕ) TargetError) (t u : List ℕ) → r ≡ Ok t
-        → r ≡ Ok u → t ≡ u
-    resolution-is-unique r t u e f = cc
 
 module _ (kind of_reference : Kind) (rules : Rules) (sets : HasComponentSets kind)
     (needs : kind.needs_scheme ≡ true) (same : of_reference ≡ reference_kind kind)
@@ -102,7 +51,7 @@ module _ (kind of_reference : Kind) (rules : Rules) (sets : HasComponentSets kin
       → HasMeaningUnder of_reference rules reference r
       → IsNormalFormOfTargetUnder kind rules b r normal
   equivalent-inputs-have-same-normal-form target normal b r e h v w =
-      let t = equal-mapped-have-equal-targets (meaning_under kind rules)
+      let t = equal-mapped-results-have-equal-targets (meaning_under kind rules)
       (resolution_of_texts b r) (resolution_of_texts base reference) target
       (equivalent-inputs-resolve-alike-under b r v w) e in
       (t.0, (t.1.0, same-meaning-same-normal-form-under kind rules target t.0 normal t.1.1 h))
@@ -127,10 +76,10 @@ module _ (kind of_reference : Kind) (rules : Rules) (sets : HasComponentSets kin
     refusal = h;
     swap = λ b r v w.
         let alike = equivalent-inputs-resolve-alike-under b r v w in
-        same-error-with-underflow-allowed (components b) (components r) (components base)
+        same-resolution-error-with-underflow-allowed (components b) (components r) (components base)
         (components reference) error
-        (λ z. equal-mapped-have-equal-errors (meaning_under kind rules)
+        (λ z. equal-mapped-results-have-equal-errors (meaning_under kind rules)
         (resolution_of_texts b r) (resolution_of_texts base reference) z alike)
-        (equal-mapped-are-ok-alike (meaning_under kind rules) (resolution_of_texts b r)
+        (equal-mapped-results-are-ok-alike (meaning_under kind rules) (resolution_of_texts b r)
         (resolution_of_texts base reference) alike) h;
   }

@@ -5,14 +5,13 @@ use Rattle.std.specs.Prelude.{codes, is_some, is_none, Result, Ok, Err}
 use Rattle.std.specs.Option.{option_and_then}
 use Rattle.std.specs.Result.{result_map_both}
 use Rattle.std.specs.Str.{str_to_ascii_lowercase}
-use Rattle.std.proofs.lemmas.Bool.{cond_both}
+use Rattle.std.proofs.Math.Bool.{and-false}
 use Rattle.uri_pct.proofs.General.{is_some-option_map}
 use Rattle.uri_parts.specs.Components.{Components, components, recompose, starts}
 use Rattle.uri_parts.specs.Grammar.{Kind, IsTextOf}
 use Rattle.uri_ops.specs.ComponentSets.{HasComponentSets}
 use Rattle.uri_ops.specs.Dots.{is_empty, directory}
-use Rattle.uri_ops.specs.Meaning.{Meaning, authority_meaning, components_meaning}
-use Rattle.uri_ops.specs.Meaning.{meaning_of}
+use Rattle.uri_ops.specs.Meaning.{Meaning, authority_meaning, components_meaning, meaning_of}
 use Rattle.uri_ops.specs.Normal.{normal_text}
 use Rattle.uri_ops.specs.NormalTargets.{reference_kind}
 use Rattle.uri_ops.specs.Target.{TargetError, is_opaque_rejection, is_opaque, is_fragment_only}
@@ -21,9 +20,11 @@ use Rattle.uri_ops.proofs.Meanings.AllowedParts.{is_set_text}
 use Rattle.uri_ops.proofs.Normal.NormalTexts.{text-has-parts-of-kind}
 use Rattle.uri_ops.proofs.Targeting.JoinedMeanings.{components_of_parts}
 use Rattle.uri_ops.proofs.Targeting.JoinedMeanings.{target-path-has-meaning-of-joined}
+use Rattle.uri_ops.proofs.Targeting.JoinedMeanings.{reference-kind-has-component-sets}
 use Rattle.uri_ops.proofs.Targeting.RefusalOrder.{result_or_target_error, map-of-result_or_error}
 use Rattle.uri_ops.proofs.Targeting.Swaps.{resolving-respects-meaning}
 use Rattle.uri_ops.proofs.Targeting.Swaps.{text-of-kind-has-needed-scheme}
+use Rattle.uri_ops.proofs.Targeting.Swaps.{dotted_target-has-scheme-as-base}
 use Rattle.uri_ops.proofs.Targeting.Targets.{target-text-has-target-components}
 use Rattle.uri_rules.specs.Rules.{Rules, authority_under, is_scheme_of, meaning_under, path_under}
 use Rattle.uri_rules.specs.Rules.{under_rules}
@@ -39,27 +40,11 @@ use Rattle.uri_rules.proofs.RuledTexts.{components-of-ruled_text, ruled-text-is-
 use Rattle.uri_rules.proofs.RuledTexts.{ruled-text-has-meaning-under, meaning_under-normal_text}
 use Rattle.uri_rules.proofs.RuledTexts.{normal-text-under-rules-is-text-of-kind}
 
--- resolving under rules: a target has a scheme if the base has one
-dotted_target-has-scheme : (base r : Components) → is_some base.scheme ≡ true
-    → is_some (dotted_target base r).scheme ≡ true
-dotted_target-has-scheme base r some =
-    cond_both (is_some r.scheme) r _ (λ (t : Components). is_some t.scheme ≡ true) (λ h. h)
-    (λ _. cond_both (is_some r.authority) _ _ (λ (t : Components). is_some t.scheme ≡ true)
-    (λ _. some)
-    (λ _. cond_both (is_empty r.path) _ _ (λ (t : Components). is_some t.scheme ≡ true) (λ _. some)
-    (λ _. cond_both (starts 47 r.path) _ _ (λ (t : Components). is_some t.scheme ≡ true) (λ _. some)
-    (λ _. some))))
-
 -- general fact on booleans, for rules: what one test chooses is alike if both choices are
 choices-are-alike : {A B : Type 0} (f : A → B) (b : Bool) (x y u v : A) → f x ≡ f u → f y ≡ f v
     → f (cond b x y) ≡ f (cond b u v)
 choices-are-alike f true x y u v e h = e
 choices-are-alike f false x y u v e h = h
-
--- general fact on booleans, for rules
-and-false-is-false : (b : Bool) → (b && false) ≡ false
-and-false-is-false true = refl
-and-false-is-false false = refl
 
 -- resolving under rules: a ruled path has the same directory, `/` for an empty one
 ruled-path-has-same-directory : (rooted after : Bool) (path : List ℕ)
@@ -69,7 +54,7 @@ ruled-path-has-same-directory true true [] = refl
 ruled-path-has-same-directory true false [] = refl
 ruled-path-has-same-directory false after [] = refl
 ruled-path-has-same-directory rooted after (c ∷ path) =
-    ap (λ t. directory (cond t (codes "/") (c ∷ path))) (and-false-is-false (rooted && after))
+    ap (λ t. directory (cond t (codes "/") (c ∷ path))) (and-false (rooted && after))
 
 -- resolving under rules: a ruled base is opaque if it was
 ruled-base-is-opaque-alike : (kind : Kind) (default : Option ℕ) (local rooted : Bool)
@@ -181,7 +166,7 @@ module _ (kind : Kind) (rules : Rules) (sets : HasComponentSets kind) where
       ∙ ap (result_or_target_error (is_some base.fragment) (is_opaque_rejection base r))
       (ap under (target-text-has-target-components b t some)
       ∙ ap (under_rules rules) (target-path-has-meaning-of-joined kind sets rules.ports
-      (dotted_target base r) (dotted_target-has-scheme base r some)))
+      (dotted_target base r) (dotted_target-has-scheme-as-base base r some)))
 
   ruled-components-have-same-resolution : (base r : Components)
       → is_set_text kind.path base.path ≡ true → is_set_text kind.path r.path ≡ true
@@ -204,16 +189,6 @@ module _ (kind : Kind) (rules : Rules) (sets : HasComponentSets kind) where
       ∙ ap (result_or_target_error (is_some base.fragment) (is_opaque_rejection base r))
       (ruled-targets-mean-same base r.scheme r.authority r.path r.query r.fragment valid h)
 
-  sets_of_references : HasComponentSets (reference_kind kind)
-  sets_of_references = record {
-    userinfo = sets.userinfo;
-    reg_name = sets.reg_name;
-    path = sets.path;
-    slash = sets.slash;
-    query = sets.query;
-    fragment = sets.fragment;
-  }
-
   -- so do the ruled texts
   ruled-texts-resolve-to-same-meaning : (b t : List ℕ) → kind.needs_scheme ≡ true
       → IsTextOf kind b → IsTextOf (reference_kind kind) t
@@ -229,7 +204,8 @@ module _ (kind : Kind) (rules : Rules) (sets : HasComponentSets kind) where
       ∙ ap (λ p. resolution_under p (components (ruled_text (reference_kind kind) rules t)))
       (components-of-ruled_text kind rules sets b)
       ∙ ap (resolution_under (ruled_components kind rules (components b)))
-      (components-of-ruled_text (reference_kind kind) rules sets_of_references t)
+      (components-of-ruled_text (reference_kind kind) rules
+      (reference-kind-has-component-sets kind sets rules.ports) t)
       ∙ ruled-components-have-same-resolution (components b) (components t)
       (text-has-parts-of-kind kind b v).path
       (text-has-parts-of-kind (reference_kind kind) t w).path
@@ -244,6 +220,7 @@ module _ (kind : Kind) (rules : Rules) (sets : HasComponentSets kind) where
       → resolved_under kind rules b t ≡ resolved_under kind rules c u
   resolving-respects-meaning-under b c t u needs v w x y e f =
       let of_reference = reference_kind kind in
+      let reference_sets = reference-kind-has-component-sets kind sets rules.ports in
       let sb = ruled_text kind rules b in
       let sc = ruled_text kind rules c in
       let st = ruled_text of_reference rules t in
@@ -254,12 +231,12 @@ module _ (kind : Kind) (rules : Rules) (sets : HasComponentSets kind) where
       (resolving-respects-meaning kind rules.ports sets sb sc st su needs
       (ruled-text-is-text-of-kind kind rules sets b v)
       (ruled-text-is-text-of-kind kind rules sets c w)
-      (ruled-text-is-text-of-kind of_reference rules sets_of_references t x)
-      (ruled-text-is-text-of-kind of_reference rules sets_of_references u y)
+      (ruled-text-is-text-of-kind of_reference rules reference_sets t x)
+      (ruled-text-is-text-of-kind of_reference rules reference_sets u y)
       (ruled-text-has-meaning-under kind rules sets b v ∙ e
       ∙ sym (ruled-text-has-meaning-under kind rules sets c w))
-      (ruled-text-has-meaning-under of_reference rules sets_of_references t x ∙ f
-      ∙ sym (ruled-text-has-meaning-under of_reference rules sets_of_references u y)))
+      (ruled-text-has-meaning-under of_reference rules reference_sets t x ∙ f
+      ∙ sym (ruled-text-has-meaning-under of_reference rules reference_sets u y)))
       ∙ sym (map-of-map (under_rules rules) (meaning_of kind rules.ports) _)
       ∙ ruled-texts-resolve-to-same-meaning c u needs w y
 
@@ -271,9 +248,10 @@ module _ (kind : Kind) (rules : Rules) (sets : HasComponentSets kind) where
       ≡ resolved_under kind rules b t
   normal-texts-under-rules-resolve-alike b t needs v w =
       let of_reference = reference_kind kind in
+      let reference_sets = reference-kind-has-component-sets kind sets rules.ports in
       resolving-respects-meaning-under (normal_text (meaning_under kind rules b)) b
       (normal_text (meaning_under of_reference rules t)) t needs
       (normal-text-under-rules-is-text-of-kind kind rules sets b v) v
-      (normal-text-under-rules-is-text-of-kind of_reference rules sets_of_references t w) w
+      (normal-text-under-rules-is-text-of-kind of_reference rules reference_sets t w) w
       (meaning_under-normal_text kind rules sets b v)
-      (meaning_under-normal_text of_reference rules sets_of_references t w)
+      (meaning_under-normal_text of_reference rules reference_sets t w)

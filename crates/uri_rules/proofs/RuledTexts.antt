@@ -27,8 +27,7 @@ use Rattle.uri_parts.proofs.Splitting.Recompose.{components-are-split-of-text}
 use Rattle.uri_parts.proofs.Splitting.Splits.{only-split-is-components}
 use Rattle.uri_ops.specs.ComponentSets.{HasComponentSets, IsComponentSet}
 use Rattle.uri_ops.specs.Dots.{is_empty}
-use Rattle.uri_ops.specs.Meaning.{authority_meaning, dotless_path}
-use Rattle.uri_ops.specs.Meaning.{components_meaning, meaning_of}
+use Rattle.uri_ops.specs.Meaning.{authority_meaning, dotless_path, components_meaning, meaning_of}
 use Rattle.uri_ops.specs.Normal.{normal_text}
 use Rattle.uri_ops.specs.Target.{dotless_if_absolute}
 use Rattle.uri_ops.proofs.Meanings.AllowedParts.{is_set_text, print_decoded, set-text-from-utf8}
@@ -43,9 +42,8 @@ use Rattle.uri_ops.proofs.Paths.DotLaws.{remove-dots-of-dotless}
 use Rattle.uri_ops.proofs.Paths.DecodedStarts.{decoding-keeps-emptiness}
 use Rattle.uri_ops.proofs.Paths.PathMeanings.{path-without-dots-is-set-text}
 use Rattle.uri_ops.proofs.Paths.PathMeanings.{removing-dots-keeps-leading-slash}
-use Rattle.uri_rules.specs.Rules.{Rules, empty_authority, has_no_token, is_localhost}
-use Rattle.uri_rules.specs.Rules.{is_scheme_of, root}
-use Rattle.uri_rules.specs.Rules.{authority_under, path_under, under_rules, meaning_under}
+use Rattle.uri_rules.specs.Rules.{Rules, empty_authority, has_no_token, is_localhost, is_scheme_of}
+use Rattle.uri_rules.specs.Rules.{root, authority_under, path_under, under_rules, meaning_under}
 use Rattle.uri_rules.proofs.RuledMeanings.{map-cond, meaning-under-ports-alone}
 use Rattle.uri_rules.proofs.RuledMeanings.{print-is-empty-without-tokens, under_rules-is-idempotent}
 

@@ -58,7 +58,7 @@ encoded_token (Char c) = cond (ltb c 128) (Char c ∷ []) (map Octet (encode_utf
 encoded_token (Octet value) = Octet value ∷ []
 
 -- IRIs as URIs: the bytes of a character past ASCII are all past ASCII
-character-past-ascii-has-no-ascii-byte : (c : ℕ) → 128 ≤ c
+pub character-past-ascii-has-no-ascii-byte : (c : ℕ) → 128 ≤ c
     → list_all is_no_ascii_byte (encode_utf8 c) ≡ true
 character-past-ascii-has-no-ascii-byte c h =
     let w = char_has_encoding c in

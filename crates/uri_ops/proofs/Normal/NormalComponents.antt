@@ -88,7 +88,7 @@ scheme-part-is-not-empty-and-lacks-ends (Some s) h =
     )
 
 -- normal texts: a scheme, if there is one, in lower case twice is in lower case once
-lowering-scheme-is-idempotent : (scheme : Option (List ℕ))
+pub lowering-scheme-is-idempotent : (scheme : Option (List ℕ))
     → option_map str_to_ascii_lowercase (option_map str_to_ascii_lowercase scheme)
     ≡ option_map str_to_ascii_lowercase scheme
 lowering-scheme-is-idempotent None = refl

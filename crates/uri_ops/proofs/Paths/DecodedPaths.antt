@@ -66,7 +66,7 @@ set-texts-join-at-slash set slash x y e f =
     (set-text-is-valid set y f)))
 
 -- paths: the segments of a valid text are valid
-joined-segments-of-set-text-are-set-texts : (set : TableSet) (s : List ℕ) (rest : List (List ℕ))
+pub joined-segments-of-set-text-are-set-texts : (set : TableSet) (s : List ℕ) (rest : List (List ℕ))
     → is_set_text set (s ++ slashed rest) ≡ true → AllPass (is_set_text set) (s ∷ rest)
 unfolding slashed
 joined-segments-of-set-text-are-set-texts set s [] e = and_from _ _

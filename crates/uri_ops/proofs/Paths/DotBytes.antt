@@ -256,7 +256,7 @@ text-decoding-to-two-dots-is-double-dot s u e = ap is_double_dot (sym (encodes-c
     ∙ characters-decoding-to-two-dots-are-double-dot (chars s) e
 
 -- general fact on booleans, for tests of dot segments: two that imply each other are equal
-tests-that-imply-each-other-are-equal : (a b : Bool) → (a ≡ true → b ≡ true)
+pub tests-that-imply-each-other-are-equal : (a b : Bool) → (a ≡ true → b ≡ true)
     → (b ≡ true → a ≡ true) → a ≡ b
 tests-that-imply-each-other-are-equal a b f g = ⊎_elim (λ e. e ∙ sym (f e))
     (λ e. e ∙ sym (false_from_ne_true b (λ h. false≢true (sym e ∙ g h)))) (cases_Bool a)

@@ -27,14 +27,14 @@ use Rattle.uri_pct.proofs.General.{eq_true_from_IsTrue}
 
 -- paths: what is before the last `/` (47) of two texts joined by it,
 -- the second without any, is the first
-before_last_slash-of-slashless-tail : (xs ys : List ℕ) → has_slash ys ≡ false
+pub before_last_slash-of-slashless-tail : (xs ys : List ℕ) → has_slash ys ≡ false
     → before_last_slash (xs ++ 47 ∷ ys) ≡ xs
 before_last_slash-of-slashless-tail xs ys e = before_last_slash-of-append xs (47 ∷ ys) refl
     ∙ ap (λ t. xs ++ t) (cond-false _ _ _ e)
     ∙ append-nil xs
 
 -- paths: what is before the last `/` of a text without any is empty
-before_last_slash-of-slashless-is-empty : (ys : List ℕ) → has_slash ys ≡ false
+pub before_last_slash-of-slashless-is-empty : (ys : List ℕ) → has_slash ys ≡ false
     → before_last_slash ys ≡ []
 before_last_slash-of-slashless-is-empty [] e = refl
 before_last_slash-of-slashless-is-empty (c ∷ ys) e = cond-false _ _ _

@@ -37,7 +37,7 @@ path-without-dots-passes-test p slash =
     (sym (slashed-passes-if-segments-pass p slash (s ∷ rest)) ∙ f))
 
 -- paths: the bytes before the last `/` pass a test that all pass
-before_last_slash-passes-test : (p : ℕ → Bool) (text : List ℕ) → list_all p text ≡ true
+pub before_last_slash-passes-test : (p : ℕ → Bool) (text : List ℕ) → list_all p text ≡ true
     → list_all p (before_last_slash text) ≡ true
 before_last_slash-passes-test p [] e = refl
 before_last_slash-passes-test p (c ∷ rest) e =

@@ -212,7 +212,7 @@ dotless_of-of-dotless xs e = ap (λ t. t ++ closing xs) (steps-of-dotless-append
     ∙ ap (λ t. xs ++ t) (closing-of-dotless-is-empty xs e) ∙ append-nil xs
 
 -- general fact on lists of segments, for dot segments: each passes the test that all pass
-segments-pass-true-test : (xs : List (List ℕ)) → AllPass (λ s. true) xs
+pub segments-pass-true-test : (xs : List (List ℕ)) → AllPass (λ s. true) xs
 segments-pass-true-test [] = refl
 segments-pass-true-test (s ∷ rest) = segments-pass-true-test rest
 

@@ -103,7 +103,7 @@ module _ (set : TableSet) (w : IsComponentSet (codes "?#[]") set)
       authority base path h e f
 
 module _ (kind : Kind) (sets : HasComponentSets kind) (ports : PortFunction) where
-  reference-kind-has-component-sets : HasComponentSets (reference_kind kind)
+  pub reference-kind-has-component-sets : HasComponentSets (reference_kind kind)
   reference-kind-has-component-sets = record {
     userinfo = sets.userinfo;
     reg_name = sets.reg_name;

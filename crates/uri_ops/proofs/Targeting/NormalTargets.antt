@@ -40,7 +40,7 @@ if-error-from-error-and (Err error) P Q f h = f error h
 
 -- what a map of both sides says of the two
 module _ {A : Type 0} (f : List ℕ → A) where
-  abbrev mapped : Result (List ℕ) TargetError → Result A TargetError
+  abbrev pub mapped : Result (List ℕ) TargetError → Result A TargetError
   mapped r = result_map_both f (λ (refusal : TargetError). refusal) r
 
   equal-ok-results-have-equal-values : (x y : A) (r : Result A TargetError) → r ≡ Ok x → r
@@ -55,12 +55,12 @@ module _ {A : Type 0} (f : List ℕ → A) where
   mapped-result-is-ok-as-result (Ok u) = refl
   mapped-result-is-ok-as-result (Err z) = refl
 
-  equal-mapped-results-are-ok-alike : (x y : Result (List ℕ) TargetError) → mapped x ≡ mapped y
+  pub equal-mapped-results-are-ok-alike : (x y : Result (List ℕ) TargetError) → mapped x ≡ mapped y
       → is_ok x ≡ is_ok y
   equal-mapped-results-are-ok-alike x y e = sym (mapped-result-is-ok-as-result x) ∙ ap is_ok e
       ∙ mapped-result-is-ok-as-result y
 
-  equal-mapped-results-have-equal-targets : (x y : Result (List ℕ) TargetError) (t : List ℕ)
+  pub equal-mapped-results-have-equal-targets : (x y : Result (List ℕ) TargetError) (t : List ℕ)
       → mapped x ≡ mapped y → y ≡ Ok t
       → (u : List ℕ) × ((x ≡ Ok u) × (f u ≡ f t))
   equal-mapped-results-have-equal-targets (Ok u) y t e h =
@@ -68,7 +68,7 @@ module _ {A : Type 0} (f : List ℕ → A) where
   equal-mapped-results-have-equal-targets (Err z) y t e h = absurd
       (false≢true (equal-mapped-results-are-ok-alike (Err z) y e ∙ ap is_ok h))
 
-  equal-mapped-results-have-equal-errors : (x y : Result (List ℕ) TargetError) (z : TargetError)
+  pub equal-mapped-results-have-equal-errors : (x y : Result (List ℕ) TargetError) (z : TargetError)
       → mapped x ≡ mapped y
       → y ≡ Err z → x ≡ Err z
   equal-mapped-results-have-equal-errors (Ok u) y z e h = absurd
@@ -90,7 +90,7 @@ same-meaning-same-normal-form kind ports text other normal e h = record {
 
 -- resolving: an equivalent base and reference are rejected with the same error;
 -- b, r and base, reference: their components
-same-resolution-error-with-underflow-allowed : (b r base reference : Components)
+pub same-resolution-error-with-underflow-allowed : (b r base reference : Components)
     (error : ResolveError)
     → ((z : TargetError) → resolution_of base reference ≡ Err z → resolution_of b r ≡ Err z)
     → is_ok (resolution_of b r) ≡ is_ok (resolution_of base reference)
@@ -104,7 +104,7 @@ same-resolution-error-with-underflow-allowed b r base reference Of.PathUnderflow
 same-resolution-error-with-underflow-allowed b r base reference Of.OutOfMemory f e h = e ∙ h
 
 -- resolving: a base and a reference have one target at most
-resolution-is-unique : (r : Result (List ℕ) TargetError) (t u : List ℕ) → r ≡ Ok t → r ≡ Ok u
+pub resolution-is-unique : (r : Result (List ℕ) TargetError) (t u : List ℕ) → r ≡ Ok t → r ≡ Ok u
     → t ≡ u
 resolution-is-unique r t u e f = cc
 

@@ -36,7 +36,7 @@ use Rattle.uri_parts.proofs.TextKinds.KindSets.{with_scheme as scheme_where_need
 
 -- resolving: a target has a scheme, before its dot segments are removed,
 -- if the base has one; r: the reference
-dotted_target-has-scheme-as-base : (base r : Components) → is_some base.scheme ≡ true
+pub dotted_target-has-scheme-as-base : (base r : Components) → is_some base.scheme ≡ true
     → is_some (dotted_target base r).scheme ≡ true
 dotted_target-has-scheme-as-base base r some =
     cond_both (is_some r.scheme) r _ (λ (t : Components). is_some t.scheme ≡ true) (λ h. h)

@@ -37,7 +37,7 @@ appended-absolute-path-is-absolute (c ∷ path) q h = h
 
 -- general fact on options, for authorities of a target: what is known of the path after one implies
 -- another property of it
-authority-property-implies-other-if-some : (o : Option (List ℕ)) (P Q : Type 0) → (P → Q)
+pub authority-property-implies-other-if-some : (o : Option (List ℕ)) (P Q : Type 0) → (P → Q)
     → IfSome o (λ a. Lacks (codes "/?#") a × P) → IfSome o (λ a. Lacks (codes "/?#") a × Q)
 authority-property-implies-other-if-some None P Q f h = tt
 authority-property-implies-other-if-some (Some a) P Q f h = (h.0, f h.1)
@@ -148,7 +148,8 @@ guarded-path-without-authority-has-no-two-slashes (Some a) path = tt
 
 -- general fact on options, for components of a target: one that is there makes each statement on
 -- its absence true
-option-that-is-some-has-no-none : (o : Option (List ℕ)) (P : Type 0) → is_some o ≡ true → IfNone o P
+pub option-that-is-some-has-no-none : (o : Option (List ℕ)) (P : Type 0) → is_some o ≡ true
+    → IfNone o P
 option-that-is-some-has-no-none None P h = absurd (false≢true h)
 option-that-is-some-has-no-none (Some x) P h = tt
 

@@ -1,7 +1,6 @@
-use Rattle.std.proofs.Common.{◌≡◌, ◌+◌, ◌<◌, ◌≤◌, ◌++◌, ap, append_assoc, arith, drop}
-use Rattle.std.proofs.Common.{eqb, false, get_or, inl, inr, length, not}
-use Rattle.std.proofs.Common.{refl, string_bytes, subst, sym}
-use Rattle.std.proofs.Common.{take, ◌∙◌}
+use Rattle.std.proofs.Common.{◌≡◌, ◌+◌, ◌<◌, ◌≤◌, ◌++◌, ap, append_assoc, arith, drop, eqb, false}
+use Rattle.std.proofs.Common.{get_or, inl, inr, length, not, refl, string_bytes, subst, sym, take}
+use Rattle.std.proofs.Common.{◌∙◌}
 use Rattle.std.specs.Prelude.{codes}
 use Rattle.std.proofs.lemmas.List.{take-append-drop}
 use Rattle.std.proofs.lemmas.Str.{IsCharBoundary-after_ascii, IsCharBoundary-start}

@@ -5,10 +5,9 @@ use Rattle.uri_parts.specs.Components.{components}
 use Rattle.uri_parts.specs.CoreTexts.{core_text}
 use Rattle.uri_parts.specs.Grammar.{IsTextOf}
 use Rattle.uri_basic.specs.Resolving.{IsBasicError}
-use Rattle.uri_basic.specs.Target.{basic_resolution_of_texts}
+use Rattle.uri_basic.specs.Target.{basic_resolution_of_texts, target}
 use Rattle.uri_parts.specs.PackedPositions.{ArePackedPositionsOf, packed}
 use Rattle.uri_parts.specs.Positions.{positions_of}
-use Rattle.uri_basic.specs.Target.{target}
 use Rattle.uri_basic.proofs.TargetPlaces.{basic-result-is-at, if-both-ok}
 use Rattle.uri_basic.proofs.Targets.{basic-result-is-of-kind}
 use Rattle.uri_basic.proofs.resolver.resolve_to_text.Goals as goal

@@ -5,8 +5,7 @@ use Rattle.std.specs.Str.{IsCharBoundary}
 use Rattle.uri_ops.proofs.Builders.BuilderGrowth.{string_len-is-length-of-bytes}
 use Rattle.uri_rules.proofs.EditedPlaces.{edit-begins-at-boundary, edit-ends-at-boundary}
 use Rattle.uri_rules.proofs.EditedPlaces.{edit-is-in-order, edited-positions}
-use Rattle.uri_rules.proofs.EditedPlaces.{edited-text-is-recomposed}
-use Rattle.uri_rules.proofs.EditedPlaces.{path-ends-within}
+use Rattle.uri_rules.proofs.EditedPlaces.{edited-text-is-recomposed, path-ends-within}
 use Rattle.uri_rules.proofs.EditedPlaces.{query-ends-within}
 use Rattle.uri_rules.proofs.edit.edit.Goals as goal
 
