@@ -3,17 +3,16 @@ use Rattle.std.proofs.Common.{◌≡◌, ℕ, ◌+◌, ◌-◌, ◌<◌, ◌≤�
 use Rattle.std.proofs.Common.{◌++◌, length, take, drop, get_or, cond, refl, sym, ap, ◌∙◌, arith, ⊎_elim}
 use Rattle.std.proofs.Common.{append-nil, ltb, suc}
 use Rattle.std.specs.Prelude.{Some, None, slice_range}
-use Rattle.std.specs.List.{list_all, onto_first, slice_split}
-use Rattle.std.proofs.lemmas.Bool.{and_parts, and_right, cases_lt, cond-false, cond-true}
-use Rattle.std.proofs.lemmas.Bool.{eqb-true, le-ltb, not-true, lt-ltb}
-use Rattle.std.proofs.lemmas.Bool.{false≢true, not-false}
+use Rattle.std.specs.List.{onto_first, slice_split}
+use Rattle.std.proofs.lemmas.Bool.{and_parts, and_right, cases_lt, cond-false, cond-true, eqb-true}
+use Rattle.std.proofs.lemmas.Bool.{le-ltb, not-true, lt-ltb, false≢true, not-false}
 use Rattle.std.proofs.Math.Seq.{drop-cons}
-use Rattle.std.proofs.lemmas.List.{drop_all, drop-drop, length-take-le, take-append-drop, take-take}
+use Rattle.std.proofs.lemmas.List.{drop_all, length-take-le, take-take}
 use Rattle.std.proofs.lemmas.List.Edits.{get_or-between, length-between}
 use Rattle.std.proofs.lemmas.List.Elements.{All-from_get_or}
+use Rattle.std.proofs.lemmas.List.Folds.{drop_split}
 use Rattle.std.proofs.lemmas.List.Sums.{list_all-from_AllPass}
 use Rattle.std.proofs.lemmas.Slice.{between_is}
-use Rattle.fluent_uri.specs.Dots.{is_empty}
 use Rattle.fluent_uri.specs.Texts.{lacks}
 use Rattle.uri_pct.specs.Models.ByteRuns.{IsLongestRun}
 use Rattle.uri_query.specs.Pairs.{nonempty_substrings, text_after_equals, text_before_equals}
@@ -48,26 +47,12 @@ run-passes-other-byte byte text start end run inside other = ⊎_elim
     ∙ run.stop (omega (arith, inside, same))))))
     (cases_lt start end)
 
--- places of pairs: a text from a place on is its part up to an end, and what is from that on
-text-from-start-is-cut-at-end : (text : List ℕ) (start end : ℕ) → start ≤ end
-    → drop start text ≡ slice_range text start end ++ drop end text
-text-from-start-is-cut-at-end text start end order =
-    let place : start + (end - start) ≡ end = omega arith in
-    sym (take-append-drop (end - start) (drop start text))
-    ∙ ap (λ rest. take (end - start) (drop start text) ++ rest)
-    (drop-drop (end - start) start text ∙ ap (λ n. drop n text) place)
-
 -- places of pairs: a text from a byte of it on begins with that
 text-from-place-begins-with-byte : (text : List ℕ) (at : ℕ) → at < length text
     → drop at text ≡ get_or text at 0 ∷ drop (at + 1) text
 text-from-place-begins-with-byte text at inside =
     let next : suc at ≡ at + 1 = omega arith in
     drop-cons text at 0 inside ∙ ap (λ n. get_or text at 0 ∷ drop n text) next
-
--- places of pairs: a text with bytes is not empty
-text-with-bytes-is-not-empty : (text : List ℕ) → 0 < length text → is_empty text ≡ false
-text-with-bytes-is-not-empty [] h = absurd (omega (arith, h))
-text-with-bytes-is-not-empty (c ∷ cs) h = refl
 
 -- places of pairs: a text with a `=` (61) does not lack it
 text-with-equals-does-not-lack-it : (before after : List ℕ)
@@ -89,9 +74,8 @@ text-before-ampersand-is-first-piece (c ∷ cs) rest e =
 -- places of pairs: a first substring that has bytes is kept
 first-with-bytes-is-kept : (piece : List ℕ) (pieces : List (List ℕ)) → 0 < length piece
     → those_with_bytes (piece ∷ pieces) ≡ piece ∷ those_with_bytes pieces
-first-with-bytes-is-kept piece pieces h =
-    ap (λ b. cond (not b) (piece ∷ those_with_bytes pieces) (those_with_bytes pieces))
-    (text-with-bytes-is-not-empty piece h)
+first-with-bytes-is-kept [] pieces h = absurd (omega (arith, h))
+first-with-bytes-is-kept (c ∷ cs) pieces h = refl
 
 module _ (query : List ℕ) where
   -- places of pairs: what is up to the next `&` (38) is the next pair
@@ -104,7 +88,7 @@ module _ (query : List ℕ) where
       let lacking = run-lacks-byte 38 query start end run in
       let size : 0 < length piece =
       omega (arith, length-between query start end run.within, some) in
-      ap nonempty_substrings (text-from-start-is-cut-at-end query start end run.from)
+      ap nonempty_substrings (drop_split query start end run.from)
       ∙ ⊎_elim
       (λ (more : end < length query).
       let mark : get_or query end 0 ≡ 38 = eqb-true _ 38 (not-false _ (run.stop more)) in
@@ -155,7 +139,7 @@ module _ (query : List ℕ) (start name_end end : ℕ) (inside : end ≤ length 
       let further : name_end < length before_end = omega (arith, more, size) in
       let mark : get_or before_end name_end 0 ≡ 61 = eqb-true _ 61 (not-false _ (run.stop further)) in
       between_is query start end
-      ∙ text-from-start-is-cut-at-end before_end start name_end run.from
+      ∙ drop_split before_end start name_end run.from
       ∙ ap (λ name. name ++ drop name_end before_end)
       (part-of-text-before-end start name_end name-ends-within)
       ∙ ap (λ rest. slice_range query start name_end ++ rest)

@@ -1,6 +1,5 @@
 use Rattle.std.proofs.Common.{◌≡◌, ◌++◌, map}
-use Rattle.fluent_uri.specs.EncodedTexts.{text_of}
-use Rattle.fluent_uri.specs.EncodedTexts.{substrings_left}
+use Rattle.fluent_uri.specs.EncodedTexts.{text_of, substrings_left}
 use Rattle.uri_query.specs.Pairs.{pair_texts, decode_pairs, decode_nonempty_substrings}
 use Rattle.uri_query.proofs.pairs.pairs_of.Given as goal
 
