@@ -1,6 +1,5 @@
 use Rattle.std.proofs.Common.{◌≡◌, ◌∙◌, ℕ, Bool, true, false, List, refl, sym, ap}
 use Rattle.std.specs.Prelude.{Option, Some, None, is_some, ◌≢◌}
-use Rattle.std.proofs.lemmas.Bool.{false≢true}
 use Rattle.std.proofs.lemmas.Option.{same_Some}
 use Rattle.fluent_uri.specs.AuthorityTexts.{authority_text}
 use Rattle.fluent_uri.specs.BuilderParts.{AddsOrFails, BuilderParts, as_components, no_parts}
@@ -15,12 +14,8 @@ use Rattle.fluent_uri.specs.Schemes.{scheme_text}
 use Rattle.fluent_uri.specs.Uris.{uri_text}
 use Rattle.fluent_uri.specs.declared.build.BuildError.{BuildError}
 use Rattle.fluent_uri.specs.declared.build.BuildError.TheVariants.{OutOfMemory}
-use Rattle.fluent_uri.proofs.Outcomes.{IfErr-of-only-error}
+use Rattle.fluent_uri.proofs.Outcomes.{IfErr-of-only-error, false-from-None-is-Some}
 use Rattle.cookbook.proofs.service.resource.Goals as goal
-
-unmarked : {A : Type 0} {x : A} (f : Bool) → (f ≡ true → None ≡ Some x) → f ≡ false
-unmarked true e = absurd (false≢true (ap is_some (e refl)))
-unmarked false e = refl
 
 abbrev four : List ℕ → List ℕ → List ℕ → List ℕ → Components
 four scheme authority path query = record {
@@ -56,70 +51,35 @@ whole text p0 p1 p2 p3 p4 scheme authority path query e0 a1 a2 a3 a4 f4 value w 
     let same = parts p0 p1 p2 p3 p4 scheme authority path query e0 a1 a2 a3 a4 f4 in
     ap components value ∙ w.components ∙ same
 
+made : (c : goal.In_ok-made) → components (uri_text c.in_ok-made.made)
+    ≡ four (scheme_text c.new_or_panic.result) (authority_text c.args.authority)
+    (text_of c.args.path) (text_of c.args.query)
+made c =
+    let f = false-from-None-is-Some (parts_in_state (contents_of c.query.result)).failed
+    c.in_ok-made.ensures.failed in
+    whole (uri_text c.in_ok-made.made) (parts_in_state (contents_of c.builder.result))
+    (parts_in_state (contents_of c.scheme.result)) (parts_in_state (contents_of c.authority.result))
+    (parts_in_state (contents_of c.path.result)) (parts_in_state (contents_of c.query.result))
+    (scheme_text c.new_or_panic.result) (authority_text c.args.authority)
+    (text_of c.args.path) (text_of c.args.query) c.builder.ensures c.scheme.ensures
+    c.authority.ensures c.path.ensures c.query.ensures f c.in_ok-made.ensures.value
+    ((c.in_ok-made.ensures.exactly f).0 refl)
+
 pub returns-clause-scheme : goal.returns-clause-scheme
 returns-clause-scheme c =
-    let f = unmarked (parts_in_state (contents_of c.query.result)).failed
-    c.in_ok-made.ensures.failed in
-    ap (λ (parts : Components). parts.scheme)
-    (whole (uri_text c.in_ok-made.made) (parts_in_state (contents_of c.builder.result))
-    (parts_in_state (contents_of c.scheme.result)) (parts_in_state (contents_of c.authority.result))
-    (parts_in_state (contents_of c.path.result)) (parts_in_state (contents_of c.query.result))
-    (scheme_text c.new_or_panic.result) (authority_text c.args.authority)
-    (text_of c.args.path) (text_of c.args.query) c.builder.ensures c.scheme.ensures
-    c.authority.ensures c.path.ensures c.query.ensures f c.in_ok-made.ensures.value
-    ((c.in_ok-made.ensures.exactly f).0 refl)) ∙ ap Some c.new_or_panic.ensures
+    ap (λ (parts : Components). parts.scheme) (made c) ∙ ap Some c.new_or_panic.ensures
 
 pub returns-clause-authority : goal.returns-clause-authority
-returns-clause-authority c =
-    let f = unmarked (parts_in_state (contents_of c.query.result)).failed
-    c.in_ok-made.ensures.failed in
-    ap (λ (parts : Components). parts.authority)
-    (whole (uri_text c.in_ok-made.made) (parts_in_state (contents_of c.builder.result))
-    (parts_in_state (contents_of c.scheme.result)) (parts_in_state (contents_of c.authority.result))
-    (parts_in_state (contents_of c.path.result)) (parts_in_state (contents_of c.query.result))
-    (scheme_text c.new_or_panic.result) (authority_text c.args.authority)
-    (text_of c.args.path) (text_of c.args.query) c.builder.ensures c.scheme.ensures
-    c.authority.ensures c.path.ensures c.query.ensures f c.in_ok-made.ensures.value
-    ((c.in_ok-made.ensures.exactly f).0 refl))
+returns-clause-authority c = ap (λ (parts : Components). parts.authority) (made c)
 
 pub returns-clause-path : goal.returns-clause-path
-returns-clause-path c =
-    let f = unmarked (parts_in_state (contents_of c.query.result)).failed
-    c.in_ok-made.ensures.failed in
-    ap (λ (parts : Components). parts.path)
-    (whole (uri_text c.in_ok-made.made) (parts_in_state (contents_of c.builder.result))
-    (parts_in_state (contents_of c.scheme.result)) (parts_in_state (contents_of c.authority.result))
-    (parts_in_state (contents_of c.path.result)) (parts_in_state (contents_of c.query.result))
-    (scheme_text c.new_or_panic.result) (authority_text c.args.authority)
-    (text_of c.args.path) (text_of c.args.query) c.builder.ensures c.scheme.ensures
-    c.authority.ensures c.path.ensures c.query.ensures f c.in_ok-made.ensures.value
-    ((c.in_ok-made.ensures.exactly f).0 refl))
+returns-clause-path c = ap (λ (parts : Components). parts.path) (made c)
 
 pub returns-clause-query : goal.returns-clause-query
-returns-clause-query c =
-    let f = unmarked (parts_in_state (contents_of c.query.result)).failed
-    c.in_ok-made.ensures.failed in
-    ap (λ (parts : Components). parts.query)
-    (whole (uri_text c.in_ok-made.made) (parts_in_state (contents_of c.builder.result))
-    (parts_in_state (contents_of c.scheme.result)) (parts_in_state (contents_of c.authority.result))
-    (parts_in_state (contents_of c.path.result)) (parts_in_state (contents_of c.query.result))
-    (scheme_text c.new_or_panic.result) (authority_text c.args.authority)
-    (text_of c.args.path) (text_of c.args.query) c.builder.ensures c.scheme.ensures
-    c.authority.ensures c.path.ensures c.query.ensures f c.in_ok-made.ensures.value
-    ((c.in_ok-made.ensures.exactly f).0 refl))
+returns-clause-query c = ap (λ (parts : Components). parts.query) (made c)
 
 pub returns-clause-fragment : goal.returns-clause-fragment
-returns-clause-fragment c =
-    let f = unmarked (parts_in_state (contents_of c.query.result)).failed
-    c.in_ok-made.ensures.failed in
-    ap (λ (parts : Components). parts.fragment)
-    (whole (uri_text c.in_ok-made.made) (parts_in_state (contents_of c.builder.result))
-    (parts_in_state (contents_of c.scheme.result)) (parts_in_state (contents_of c.authority.result))
-    (parts_in_state (contents_of c.path.result)) (parts_in_state (contents_of c.query.result))
-    (scheme_text c.new_or_panic.result) (authority_text c.args.authority)
-    (text_of c.args.path) (text_of c.args.query) c.builder.ensures c.scheme.ensures
-    c.authority.ensures c.path.ensures c.query.ensures f c.in_ok-made.ensures.value
-    ((c.in_ok-made.ensures.exactly f).0 refl))
+returns-clause-fragment c = ap (λ (parts : Components). parts.fragment) (made c)
 
 -- the error of parts that have a scheme and an authority is that of the path
 error_is_of_path : (p : BuilderParts) (scheme authority path query : List ℕ)

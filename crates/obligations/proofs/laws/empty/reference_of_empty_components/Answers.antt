@@ -1,16 +1,12 @@
-use Rattle.std.proofs.Common.{◌≡◌, ◌∙◌, ℕ, Bool, true, false, List, [], refl, sym, ap}
-use Rattle.std.specs.Prelude.{Some, None, codes, is_some}
-use Rattle.std.proofs.lemmas.Bool.{false≢true}
+use Rattle.std.proofs.Common.{◌≡◌, ◌∙◌, ℕ, false, List, [], sym, ap}
+use Rattle.std.specs.Prelude.{codes}
 use Rattle.fluent_uri.specs.AuthorityTexts.{authority_text}
 use Rattle.fluent_uri.specs.BuilderParts.{AddsOrFails, BuilderParts, no_parts, parts_text}
 use Rattle.fluent_uri.specs.BuilderParts.{with_authority, with_path, with_query, with_fragment}
 use Rattle.fluent_uri.specs.BuilderStates.{contents_of, parts_in_state}
 use Rattle.fluent_uri.specs.EncodedTexts.{text_of}
+use Rattle.fluent_uri.proofs.Outcomes.{false-from-None-is-Some}
 use Rattle.obligations.proofs.laws.empty.reference_of_empty_components.Goals as goal
-
-unmarked : {A : Type 0} {x : A} (f : Bool) → (f ≡ true → None ≡ Some x) → f ≡ false
-unmarked true e = absurd (false≢true (ap is_some (e refl)))
-unmarked false e = refl
 
 -- the text of the parts that the four steps add
 text : (p0 p1 p2 p3 p4 : BuilderParts) (authority path query fragment : List ℕ) → p0 ≡ no_parts
@@ -33,7 +29,7 @@ text p0 p1 p2 p3 p4 authority path query fragment e0 a1 a2 a3 a4 f4 a p q f =
 
 pub returns : goal.returns
 returns c =
-    let f = unmarked (parts_in_state (contents_of c.fragment.result)).failed
+    let f = false-from-None-is-Some (parts_in_state (contents_of c.fragment.result)).failed
     c.in_ok-built.ensures.failed in
     c.in_ok-built.ensures.value
     ∙ text (parts_in_state (contents_of c.builder.result))
