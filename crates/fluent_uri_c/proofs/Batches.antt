@@ -2,7 +2,7 @@
 use Rattle.std.proofs.Common.{◌≡◌, ◌≢◌, ℕ, zero, suc, ◌+◌, ◌<◌, List, [], ◌∷◌, ◌++◌, length, set}
 use Rattle.std.proofs.Common.{take, drop, refl, sym, ap, subst, ◌∙◌, arith, append_assoc, ⊎_elim}
 use Rattle.std.proofs.Common.{length-append}
-use Rattle.std.specs.Prelude.{Option, Some, None, IsSome, IsSomeAnd, slice_get, is_some, option_map}
+use Rattle.std.specs.Prelude.{Option, Some, IsSome, IsSomeAnd, slice_get, is_some}
 use Rattle.std.proofs.Math.Seq.{drop-append_seam, take-append_seam}
 use Rattle.std.proofs.lemmas.Bool.{cases_eq}
 use Rattle.std.proofs.lemmas.List.{drop-drop, drop-set-lt}
@@ -112,12 +112,6 @@ module _ {O : Type 0} (value : O → ℕ) (at : ℕ → Option (List ℕ)) where
             ∙ drop-drop 1 (n + 1) old.ends;
         other_bits = λ i above. others i (λ e. omega arith) ∙ is.other_bits i (omega arith);
       }
-
--- general fact on options, for batches for C: mapping keeps whether there is a value
-pub is_some_mapped : {A B : Type 0} (f : A → B) (o : Option A)
-    → is_some o ≡ is_some (option_map f o)
-is_some_mapped f None = refl
-is_some_mapped f (Some x) = refl
 
 -- general fact on options, for batches for C: a value that equals Some is there
 pub equal-to-Some-is-some : {A : Type 0} (o : Option A) (x : A) → Some x ≡ o → IsSome o

@@ -3,6 +3,7 @@ use Rattle.std.proofs.Common.{◌≡◌, ◌+◌, ℕ, suc, Bool, true, false, n
 use Rattle.std.proofs.Common.{[], ◌∷◌, ◌++◌, ◌∙◌, ap, arith, eqb, get_or, refl, sym}
 use Rattle.std.specs.Prelude.{Option, Some, None, IfSome}
 use Rattle.std.specs.List.{list_any}
+use Rattle.std.proofs.Math.Bool.{and-false, or-true}
 use Rattle.std.proofs.lemmas.Bool.{and_from, and_parts, not-true, or_from}
 use Rattle.uri_parts.specs.Components.{marked, starts}
 use Rattle.fluent_uri_c.specs.PlainTexts.{IsPlain, is_kept_octet}
@@ -37,23 +38,11 @@ first-byte-is-kept : (past : Bool) (b : ℕ) (rest : List ℕ)
 first-byte-is-kept past b [] e =
     let p = and_parts _ _ e in
     let q = and_parts _ _ p.0 in
-    and_from _ _ (and_from _ _ q.0 (always (not (eqb b 37)))) (never (eqb b 47))
-  where
-    always : (x : Bool) → (x || true) ≡ true
-    always true = refl
-    always false = refl
-
-    never : (x : Bool) → not (x && false) ≡ true
-    never true = refl
-    never false = refl
+    and_from _ _ (and_from _ _ q.0 (or-true (not (eqb b 37)))) (ap not (and-false (eqb b 47)))
 first-byte-is-kept past b (high ∷ []) e =
     let p = and_parts _ _ e in
     let q = and_parts _ _ p.0 in
-    and_from _ _ (and_from _ _ q.0 (always (not (eqb b 37)))) p.1
-  where
-    always : (x : Bool) → (x || true) ≡ true
-    always true = refl
-    always false = refl
+    and_from _ _ (and_from _ _ q.0 (or-true (not (eqb b 37)))) p.1
 first-byte-is-kept past b (high ∷ low ∷ rest) e = e
 
 -- kept texts: a plain text is kept
@@ -76,23 +65,11 @@ first-byte-of-prefix-is-kept : (past : Bool) (b : ℕ) (xs ys : List ℕ)
     → keeps_first past b (xs ++ ys) ≡ true → keeps_first past b xs ≡ true
 first-byte-of-prefix-is-kept past b [] ys e =
     let q = and_parts _ _ (and_parts _ _ e).0 in
-    and_from _ _ (and_from _ _ q.0 (always (not (eqb b 37)))) (never (eqb b 47))
-  where
-    always : (x : Bool) → (x || true) ≡ true
-    always true = refl
-    always false = refl
-
-    never : (x : Bool) → not (x && false) ≡ true
-    never true = refl
-    never false = refl
+    and_from _ _ (and_from _ _ q.0 (or-true (not (eqb b 37)))) (ap not (and-false (eqb b 47)))
 first-byte-of-prefix-is-kept past b (high ∷ []) ys e =
     let p = and_parts _ _ e in
     let q = and_parts _ _ p.0 in
-    and_from _ _ (and_from _ _ q.0 (always (not (eqb b 37)))) p.1
-  where
-    always : (x : Bool) → (x || true) ≡ true
-    always true = refl
-    always false = refl
+    and_from _ _ (and_from _ _ q.0 (or-true (not (eqb b 37)))) p.1
 first-byte-of-prefix-is-kept past b (high ∷ low ∷ rest) ys e = e
 
 -- kept texts: both halves of a text that is kept are

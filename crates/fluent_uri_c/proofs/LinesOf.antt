@@ -32,13 +32,6 @@ line_length rest = position_or_len is_newline rest
 pub line_length-le : (rest : List ℕ) → line_length rest ≤ length rest
 line_length-le rest = prefix_len-le-length (λ byte. not (is_newline byte)) rest
 
--- general fact on slices, for lines for C: the slice from a position on is what is left there
-pub slice-from-position : (input : List ℕ) (start : ℕ)
-    → take (length input - start) (drop start input) ≡ drop start input
-slice-from-position input start =
-    ap (λ k. take k (drop start input)) (sym (length-drop start input))
-    ∙ take-length (drop start input)
-
 -- lines for C: what is left of an input, if it has no newline, is its last line
 last_line : (rest : List ℕ) → length rest ≤ line_length rest → lines_of rest ≡ rest ∷ []
 last_line rest past =

@@ -1,26 +1,22 @@
 -- The test of a host in brackets.
-use Rattle.std.proofs.Common.{◌≡◌, ℕ, Bool, true, false, List, ◌∷◌, ◌++◌, refl, sym, ap, ◌∙◌, ◌&&◌}
-use Rattle.std.proofs.Common.{◌||◌, [], drop, eqb, length, not}
+use Rattle.std.proofs.Common.{◌≡◌, ℕ, true, false, List, ◌∷◌, ◌++◌, refl, sym, ap, ◌∙◌, ◌&&◌, ◌||◌}
+use Rattle.std.proofs.Common.{[], drop, eqb, length, not}
 use Rattle.std.specs.Prelude.{bytes_eq, codes, is_some, nat_lt}
 use Rattle.std.specs.List.{prefix_len}
+use Rattle.std.proofs.Math.Bool.{or-false}
 use Rattle.std.proofs.lemmas.Bool.{eq-eqb, eqb-true, false≢true}
 use Rattle.std.proofs.lemmas.List.{append_cancel_left, take-append-drop}
 use Rattle.std.proofs.lemmas.Slice.Eq.{bytes_eq-Decides}
 use Rattle.uri_pct.specs.Sets.{TableSet, hexdig_set, is_one_of}
 use Rattle.uri_pct.specs.Tokens.{is_valid_for}
 use Rattle.uri_parts.specs.Components.{before_any, from_any, starts}
-use Rattle.uri_parts.specs.Hosts.{bracketed, ipv6_value, is_future_address, is_host, is_ipv_future}
-use Rattle.uri_parts.specs.Hosts.{literal_of}
-
--- hosts for C: two tests that imply each other are the same
-same-test : (x y : Bool) → (x ≡ true → y ≡ true) → (y ≡ true → x ≡ true) → x ≡ y
-same-test true y f g = sym (f refl)
-same-test false true f g = g refl
-same-test false false f g = refl
+use Rattle.uri_parts.specs.Hosts.{ipv6_value, is_future_address, is_host, is_ipv_future}
+use Rattle.uri_ops.proofs.Paths.DotBytes.{tests-that-imply-each-other-are-equal}
 
 -- hosts for C: what follows the same text is compared by itself
 suffixes-are-compared : (b s f : List ℕ) → bytes_eq (b ++ s) (b ++ f) ≡ bytes_eq f s
-suffixes-are-compared b s f = same-test (bytes_eq (b ++ s) (b ++ f)) (bytes_eq f s)
+suffixes-are-compared b s f = tests-that-imply-each-other-are-equal
+    (bytes_eq (b ++ s) (b ++ f)) (bytes_eq f s)
     (λ e. (bytes_eq-Decides f s).1
     (sym (append_cancel_left b s f ((bytes_eq-Decides (b ++ s) (b ++ f)).0 e))))
     (λ e. (bytes_eq-Decides (b ++ s) (b ++ f)).1
@@ -51,15 +47,9 @@ literal_by_its_cut names [] e = absurd (false≢true e)
 literal_by_its_cut names (c ∷ rest) e =
     rw (eqb-true c 91 e) (literal-is-tested-by-its-cut names rest)
 
--- hosts for C: the two letters of a version are tested one by one
-version-letters-are-tested : (v w : Bool) → (v || (w || false)) ≡ (v || w)
-version-letters-are-tested true w = refl
-version-letters-are-tested false true = refl
-version-letters-are-tested false false = refl
-
 -- hosts for C: the test of equality is the same either way
 equality-is-symmetric : (a b : ℕ) → eqb a b ≡ eqb b a
-equality-is-symmetric a b = same-test (eqb a b) (eqb b a)
+equality-is-symmetric a b = tests-that-imply-each-other-are-equal (eqb a b) (eqb b a)
     (λ e. eq-eqb b a (sym (eqb-true a b e))) (λ e. eq-eqb a b (sym (eqb-true b a e)))
 
 -- hosts for C: a byte is one of two letters if it is the one or the other
@@ -67,7 +57,7 @@ version-letter-is-one-of-two : (c : ℕ) → is_one_of (codes "vV") c ≡ (eqb c
 version-letter-is-one-of-two c =
     ap (λ v. v || (eqb 86 c || false)) (equality-is-symmetric 118 c)
     ∙ ap (λ w. eqb c 118 || (w || false)) (equality-is-symmetric 86 c)
-    ∙ version-letters-are-tested (eqb c 118) (eqb c 86)
+    ∙ ap (λ t. eqb c 118 || t) (or-false (eqb c 86))
 
 -- hosts for C: the test of an IPvFuture address, by what is before and from the first `.`
 pub ipv_future_by_its_cut : (text : List ℕ)

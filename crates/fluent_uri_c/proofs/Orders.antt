@@ -1,7 +1,6 @@
 -- Exports for C: the order of keys of tables, which are normal forms.
 use Rattle.std.proofs.Common.{◌≡◌, ◌↔◌, ◌⊎◌, inl, inr, ℕ, Bool, true, false, List, [], ◌∷◌, ◌++◌}
-use Rattle.std.proofs.Common.{refl, sym, ap, ◌∙◌, Option, Some, None, Ok, Ordering}
-use Rattle.std.proofs.Common.{Equal, reverse}
+use Rattle.std.proofs.Common.{refl, sym, ap, ◌∙◌, Option, Some, None, Ok, Ordering, Equal, reverse}
 use Rattle.std.proofs.lemmas.Map.Text.{is_eq-slice_cmp}
 use Rattle.std.proofs.lemmas.Slice.Eq.{bytes_eq-Decides}
 use Rattle.std.specs.Cmp.{Equal-is}
@@ -17,8 +16,7 @@ use Rattle.uri_order.specs.HashedTexts.{hashed_text}
 use Rattle.uri_order.specs.NormalForms.{normal_form}
 use Rattle.fluent_uri_c.specs.declared.fnv.Fnv.{Fnv}
 use Rattle.fluent_uri_c.specs.Fnv.{fnv_bytes, fnv_write}
-use Rattle.fluent_uri_c.specs.Orders.{AreOneKey, byte_order, key_order, normal_key}
-use Rattle.fluent_uri_c.specs.Orders.{order_of_keys}
+use Rattle.fluent_uri_c.specs.Orders.{AreOneKey, byte_order, key_order, normal_key, order_of_keys}
 use Rattle.fluent_uri_c.specs.Results.{normal_form_of, normal_result, rejection_or_result, text_error}
 
 -- exports for C: normalising a text of the kind by default ports returns the normal form of the

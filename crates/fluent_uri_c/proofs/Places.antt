@@ -3,7 +3,7 @@ use Rattle.std.proofs.Common.{◌≡◌, ◌∙◌, ◌+◌, ◌-◌, ◌<◌, �
 use Rattle.std.proofs.Common.{ap, arith, inl, inr, subst, sym}
 use Rattle.std.specs.Prelude.{Option, Some, None, IfSome, option_map, slice_range}
 use Rattle.std.specs.Str.{IsUtf8}
-use Rattle.std.proofs.lemmas.List.{drop-drop, take-take}
+use Rattle.std.proofs.lemmas.List.{drop-drop, take-take, take_rest}
 use Rattle.std.proofs.lemmas.Option.{none-some, same_Some}
 use Rattle.std.proofs.lemmas.Slice.{between_is}
 use Rattle.uri_parts.specs.declared.positions.Positions.{Positions}
@@ -24,7 +24,6 @@ use Rattle.fluent_uri_c.specs.declared.parts.Parts.{Parts}
 use Rattle.fluent_uri_c.specs.declared.parts.Span.{Span}
 use Rattle.fluent_uri_c.specs.Spans.{AreSpansOf, IsSpan, absent, authority_start, host_of}
 use Rattle.fluent_uri_c.specs.Spans.{host_start, port_of, port_start, userinfo_of}
-use Rattle.fluent_uri_c.proofs.LinesOf.{slice-from-position}
 
 -- parts for C: a component at its positions is the span from start to end
 pub IsSpan-of-positions : (text : List ℕ) (begin start end : ℕ) (part : Option (List ℕ))
@@ -202,7 +201,7 @@ module _ (kind : Kind) (text : List ℕ) (p : Positions) (a : AuthorityPositions
         ap (λ o. delimited_length 1 (host_of o)) inside.is,
       ) in
       part-span port_of (n + 1) (length inside.authority) (a.host_end + 1) a.end (port_start text)
-      (drop (n + 1) inside.authority) after.is (slice-from-position inside.authority (n + 1))
+      (drop (n + 1) inside.authority) after.is (take_rest inside.authority (n + 1))
       begins (omega (arith, host_ends)) ends
       (omega (arith, after.inside)) (omega arith)
 

@@ -1,9 +1,10 @@
 use Rattle.std.proofs.Common.{◌+◌, ◌<◌, ◌∙◌, ap, length, rules, below_more}
 use Rattle.std.specs.Prelude.{is_some, option_and_then}
+use Rattle.uri_pct.proofs.General.{is_some-option_map}
 use Rattle.fluent_uri_c.specs.Columns.{buffers, bytes_of, column_of, call_result_bytes}
 use Rattle.fluent_uri_c.specs.Columns.{number_of_bool, result_in, text_in}
 use Rattle.fluent_uri_c.proofs.Batches.{IsColumn-of-one-more-result, end-of-one-more-result}
-use Rattle.fluent_uri_c.proofs.Batches.{is_some_mapped, equal-to-Some-is-some}
+use Rattle.fluent_uri_c.proofs.Batches.{equal-to-Some-is-some}
 use Rattle.fluent_uri_c.proofs.batch.fill.Goals as goal
 
 pub loop-index-preserved : goal.loop-index-preserved
@@ -18,7 +19,7 @@ loop-index-preserved g c =
     let bytes = c.bytes_of.ensures ∙ ap bytes_of made in
     let append = c.in-Ok-append.ensures in
     let bit = c.mark.ensures.marked ∙ ap number_of_bool (c.is_some.ensures
-    ∙ is_some_mapped call_result_bytes c.in-Ok.made ∙ ap is_some made) in
+    ∙ sym (is_some-option_map call_result_bytes c.in-Ok.made) ∙ ap is_some made) in
     let inside : n + 1 < length c.loop-index.ends = search rules in
     let now = buffers c.loop-index.out c.loop-index.ends c.loop-index.valid in
     let column = IsColumn-of-one-more-result value at n _ now _ _ _ _ append.offset.0 before.0

@@ -1,7 +1,8 @@
 use Rattle.std.proofs.Common.{◌+◌, drop, ◌∙◌, arith, ap, length-drop}
 use Rattle.std.specs.List.{position}
+use Rattle.std.proofs.lemmas.List.{take_rest}
 use Rattle.fluent_uri_c.specs.Lines.{is_newline}
-use Rattle.fluent_uri_c.proofs.LinesOf.{slice-from-position, line_length-le}
+use Rattle.fluent_uri_c.proofs.LinesOf.{line_length-le}
 use Rattle.fluent_uri_c.proofs.WrittenLines.{first-newline-found, no-newline-found}
 use Rattle.fluent_uri_c.proofs.lines.line_end.Goals as goal
 
@@ -10,7 +11,7 @@ returns-in-Some c =
     let rest = drop c.args.start c.args.lines.now in
     let found = first-newline-found rest c.in-Some.length
     (c.in-Some.ensures ∙ ap (position is_newline)
-    (slice-from-position c.args.lines.now c.args.start)) in
+    (take_rest c.args.lines.now c.args.start)) in
     let short = line_length-le rest in
     let long = length-drop c.args.start c.args.lines.now in
     record {
@@ -23,7 +24,7 @@ pub returns-in-None : goal.returns-in-None
 returns-in-None c =
     let rest = drop c.args.start c.args.lines.now in
     let past = no-newline-found rest (c.in-None.ensures ∙ ap (position is_newline)
-    (slice-from-position c.args.lines.now c.args.start)) in
+    (take_rest c.args.lines.now c.args.start)) in
     let short = line_length-le rest in
     let long = length-drop c.args.start c.args.lines.now in
     record {
