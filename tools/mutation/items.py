@@ -68,6 +68,7 @@ class Function(NamedTuple):
     is_named: bool
     # The type whose method it is, if it is one.
     of_type: str = ""
+    is_constant: bool = False
 
 
 class Items:
@@ -120,8 +121,8 @@ class Items:
                     start = at
 
     def types(self):
-        """The structs, enums and traits that are not public, each as a named item."""
-        start, at = 0, 0
+        """The structs, enums, traits and constants that are not public, each as a named item."""
+        start, at, depth = 0, 0, 0
         while at < len(self.tokens):
             if self.is_clause(at):
                 at = self.past_clause(at)
@@ -130,12 +131,14 @@ class Items:
             elif self.is_code(at, "(", "[") or self.is_code(at, "{") and self.is_macro(start, at):
                 at = self.closing(at) + 1
             elif self.is_code(at, "{", ";"):
-                found = self.type(start, at)
-                at = found.end if found else at + 1
-                start = at
+                # (a constant of an impl has the name of its trait's)
+                found = self.type(start, at) or (None if depth else self.constant(start, at))
+                depth += not found and self.is_code(at, "{")
+                start = at = found.end if found else at + 1
                 if found and not found.is_public:
                     yield found
             else:
+                depth -= self.is_code(at, "}")
                 at += 1
                 start = at if self.is_code(at - 1, "}") else start
 
@@ -149,6 +152,19 @@ class Items:
         before = words[: words.index(kind)]
         name, is_public = words[words.index(kind) + 1], before == ["pub"]
         return Function(start, range(end, end), end, name, True, is_public, not before, True)
+
+    def constant(self, start, at):
+        """The constant whose head or value ends there, if it is one that can be named."""
+        words = self.head(start, at)[1]
+        kind = next((it for it in words if it in ("const", "static")), None)
+        if kind is None or words[words.index(kind) + 1 :][:1] in ([], ["_"]):
+            return None
+        while not self.is_code(at, ";"):
+            at = (self.closing(at) if self.is_code(at, "(", "[", "{") else at) + 1
+        name, is_public = words[words.index(kind) + 1], words[: words.index(kind)] == ["pub"]
+        end = at + 1
+        # (what has its name may be a contract, which others see)
+        return Function(start, range(end, end), end, name, True, is_public, False, True, "", True)
 
     def impls(self):
         """What each impl is of, a type and a trait if there is one, and where in the file it is."""

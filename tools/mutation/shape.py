@@ -71,7 +71,7 @@ class Imports:
 
 class Source:
     """A source file without bodies: its items that only who names them depends on, which are
-    functions and types, and the rest."""
+    functions, types and constants, and the rest."""
 
     def __init__(self, data, tokens):
         left, last, heads = [], 0, []
@@ -211,7 +211,7 @@ class Shape:
         """Whether crates above cannot see an item: one of a hidden module, or a method of a hidden
         type, is hidden too."""
         is_hidden = it.of_type in self.types_by_name or path in self.hidden_files
-        return not it.is_public or is_hidden
+        return not it.is_constant and (not it.is_public or is_hidden)
 
     @functools.cached_property
     def hidden_files(self):
@@ -228,7 +228,7 @@ class Shape:
         return False
 
     def by_name(self, kind):
-        """The functions or types of the crate, each with its file and its text."""
+        """The functions of the crate, or its types and constants, each with its file and its text."""
         found = collections.defaultdict(list)
         for path, source in self.sources.items():
             for name, items in getattr(source, kind).items():

@@ -17,8 +17,8 @@ target_with_scheme-requires g c =
     (kind-needs-scheme g.K.Kind.kind (core_text c.args.target) g.met.K.BaseKind.needs_scheme
     c.args.target.of_kind)
 
-pub new-requires-clause-of_kind : goal.new-requires-clause-of_kind
-new-requires-clause-of_kind g c =
+pub new-settled-requires-clause-of_kind : goal.new-settled-requires-clause-of_kind
+new-settled-requires-clause-of_kind g c =
     let kind = g.K.Kind.kind in
     let text = core_text c.args.target in
     subst (IsOfKind kind) (sym (c.in_ok-text.ensures.text
