@@ -4,6 +4,8 @@
 #[cfg(test)]
 mod commands;
 #[cfg(test)]
+mod failing_writers;
+#[cfg(test)]
 mod large;
 #[cfg(test)]
 mod lines;
