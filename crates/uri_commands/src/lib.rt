@@ -5,7 +5,6 @@ mod command;
 pub mod kinds;
 mod lines;
 mod links;
-mod mend;
 pub mod mending;
 mod normal;
 pub mod refusal;

@@ -20,7 +20,7 @@ use crate::command::{BaseName, Command};
 use crate::kinds::{KindName, parse_as_iri_ref};
 use crate::lines::Texts;
 use crate::links::noted;
-use crate::mend::mended;
+use crate::mending::mended;
 use crate::normal::normalize_text;
 use crate::refusal::CommandError;
 use crate::sink::{Sink, put_both};

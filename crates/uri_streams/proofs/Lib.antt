@@ -16,6 +16,7 @@ pub mod JsonStrings
 pub mod JsonStringTexts
 pub mod JsonTokens
 pub mod LineResults
+pub mod MendedLines
 pub mod MergedLines
 pub mod Parts
 pub mod PlainComponents

@@ -1,16 +1,19 @@
 -- The result of bytes, and that of the text that they are.
-use Rattle.std.proofs.Common.{◌≡◌, ℕ, List, ap, sym}
+use Rattle.std.proofs.Common.{◌≡◌, ◌∙◌, ℕ, Bool, false, true, List, ap, sym}
 use Rattle.std.specs.Prelude.{IsUtf8, if◌then◌else◌}
 use Rattle.std.specs.Str.{is_utf8}
 use Rattle.std.specs.Str.Lossy.{utf8_valid_len}
 use Rattle.std.proofs.lemmas.Str.{IsUtf8-from_is_utf8, is_utf8-from_IsUtf8}
+use Rattle.uri_commands.specs.MendedLinks.{mended_link}
 use Rattle.uri_streams.proofs.Tests.{not-true-is-false}
-use Rattle.uri_streams.specs.Tasks.{Known, bytes_result, given_text, no_text_result, text_result}
+use Rattle.uri_streams.specs.Results.{LineResult}
+use Rattle.uri_streams.specs.Tasks.{Known, bytes_result, given_text, no_text_result, text_kind}
+use Rattle.uri_streams.specs.Tasks.{text_result}
 use Rattle.uri_streams.specs.declared.fault.NoText.TheVariants.{NotUtf8}
 use Rattle.uri_streams.specs.declared.job.Job.{Job}
 
 -- lines: the result of bytes in UTF-8 is that of the text that they give
-pub bytes_result-of-utf8 : (job : Job) (known : Known) (bytes : List ℕ) → IsUtf8 bytes
+bytes_result-of-utf8 : (job : Job) (known : Known) (bytes : List ℕ) → IsUtf8 bytes
     → text_result job.command known (given_text job bytes) ≡ bytes_result job known bytes
 bytes_result-of-utf8 job known bytes is =
     sym (ap (λ b. if b then text_result job.command known (given_text job bytes)
@@ -25,3 +28,29 @@ bytes_result-of-non-utf8 job known bytes is_not =
     sym (ap (λ b. if b then text_result job.command known (given_text job bytes)
     else (no_text_result job.command (NotUtf8 (utf8_valid_len bytes)), known))
     (not-true-is-false (is_utf8 bytes) (λ yes. is_not (IsUtf8-from_is_utf8 bytes yes))))
+
+-- lines: what a command gets of a text, if it is mended first or not
+given_result_if : Job → Known → List ℕ → Bool → LineResult × Known
+given_result_if job known bytes is_mended = text_result job.command known
+    (if is_mended then mended_link (text_kind job.command) bytes else bytes)
+
+-- lines: the result of a text that is mended first is that of the bytes that it is of
+pub bytes_result-of-mended : (job : Job) (known : Known) (text bytes : List ℕ)
+    → (text ≡ bytes) × IsUtf8 bytes → job.is_mended ≡ true
+    → text_result job.command known (mended_link (text_kind job.command) text)
+    ≡ bytes_result job known bytes
+unfolding given_result_if
+bytes_result-of-mended job known text bytes is is_mended =
+    ap (λ t. text_result job.command known (mended_link (text_kind job.command) t)) is.0
+    ∙ sym (ap (given_result_if job known bytes) is_mended)
+    ∙ bytes_result-of-utf8 job known bytes is.1
+
+-- lines: the result of a text that is not mended is that of the bytes that it is of
+pub bytes_result-of-text : (job : Job) (known : Known) (text bytes : List ℕ)
+    → (text ≡ bytes) × IsUtf8 bytes → job.is_mended ≡ false
+    → text_result job.command known text ≡ bytes_result job known bytes
+unfolding given_result_if
+bytes_result-of-text job known text bytes is is_mended =
+    ap (text_result job.command known) is.0
+    ∙ sym (ap (given_result_if job known bytes) is_mended)
+    ∙ bytes_result-of-utf8 job known bytes is.1

@@ -12,11 +12,7 @@ use Rattle.fluent_uri.specs.declared.resolve.ResolveError.TheVariants as errors
 use Rattle.std.specs.Prelude.{◌↔◌, IfOk, if◌then◌else◌, unwrap_or, option_map}
 use Rattle.uri_commands.specs.Messages.{error_text, resolve_error_text}
 use Rattle.uri_commands.specs.declared.refusal.CommandError.TheVariants.{Target}
-use Rattle.uri_mend.specs.Mending.{can_be_mended, mended_text}
-use Rattle.uri_mend.specs.Refusing.{IsMendErrorOf}
-use Rattle.uri_mend.specs.Trimming.{trimmed_link}
-use Rattle.uri_mend.specs.declared.error.MendError.TheVariants.{Unmendable}
-use Rattle.uri_streams.specs.Results.{LineResult, Text, Error, mend_result, parse_message}
+use Rattle.uri_streams.specs.Results.{LineResult, Text, Error, parse_message}
 use Rattle.uri_streams.specs.Results.{parsed_result, resolution_result, target_result}
 use Rattle.uri_streams.specs.Returned.{result_in}
 use Rattle.uri_streams.specs.declared.line_result.LineResult.{LineResult as Returned}
@@ -81,26 +77,3 @@ pub target_result-of-returned-error : {E : Type 0} (base reference : List ℕ) (
 target_result-of-returned-error base reference e (Ok line_result) is error some =
     ap result_in error ∙ target_result-of-error base reference e is some
 target_result-of-returned-error base reference e (Err failure) is error some = tt
-
--- lines: what `urilines mend` writes, if a link can be mended or not
-mend_result_if : Kind → List ℕ → Bool → LineResult
-mend_result_if kind text mendable =
-    if mendable then Text (mended_text kind (trimmed_link text))
-    else Error (parse_message kind (trimmed_link text))
-
--- lines: what `urilines mend` writes is what the link is mended to, if it can be
-pub mend_result-of-mended : (kind : Kind) (text link : List ℕ)
-    → (can_be_mended kind (trimmed_link text) ≡ true)
-    × (link ≡ mended_text kind (trimmed_link text)) → Text link ≡ mend_result kind text
-unfolding mend_result mend_result_if
-mend_result-of-mended kind text link mended =
-    ap Text mended.1 ∙ sym (ap (mend_result_if kind text) mended.0)
-
--- lines: what `urilines mend` writes of a link that cannot be mended is its error
-pub mend_result-of-error : (kind : Kind) (text : List ℕ) (e : ParseError)
-    → IsMendErrorOf kind (trimmed_link text) (Unmendable e)
-    → Error (error_text e) ≡ mend_result kind text
-unfolding mend_result mend_result_if
-mend_result-of-error kind text e refused =
-    ap Error (error_text-is-parse_message kind (trimmed_link text) e refused.1)
-    ∙ sym (ap (mend_result_if kind text) refused.0)

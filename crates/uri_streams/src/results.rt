@@ -3,14 +3,14 @@ ghost use Rattle.std.specs.Prelude.{◌≡◌, IfOk};
 ghost use Rattle.fluent_uri.specs.Grammar as test;
 ghost use Rattle.uri_commands.specs.Kinds.{kind_named};
 ghost use Rattle.uri_streams.specs.Results as results;
-ghost use Rattle.uri_streams.specs.Results.{check_result, mend_result, normalize_result};
+ghost use Rattle.uri_streams.specs.Results.{check_result, normalize_result};
 ghost use Rattle.uri_streams.specs.Results.{parse_result, passes_check, query_result};
 ghost use Rattle.uri_streams.specs.Returned.{IsOwned, result_in};
 
 use crate::command::LineCommand;
 use crate::json::json;
 use crate::line_result::{LineResult, refused};
-use crate::mending::mended;
+use crate::mending::mend;
 use crate::queries::query_json;
 use crate::targets::{relativize, resolve};
 use fluent_uri::Reference;
@@ -135,18 +135,6 @@ fn is_of_kind<K: Kind>(text: &str) -> bool
     ensures { result ≡ test.is_of_kind K.kind text.now }
 {
     Reference::<K, &str>::parse(text).is_ok()
-}
-
-/// Returns the result of `urilines mend` for a text: what it is mended to, or its parse error if it
-/// cannot be mended.
-fn mend(alloc: Global, kind: KindName, text: &str) -> Result<LineResult, AllocError>
-    ensures { IfOk result (λ line. result_in line ≡ mend_result (kind_named kind) text.now) }
-{
-    let link = mended(alloc, kind, text)?;
-    match link.error {
-        None => Ok(LineResult::Text(link.text)),
-        Some(error) => Ok(refused(CommandError::Text(error))),
-    }
 }
 
 /// Returns the result of `urilines parse` for a text: its components as JSON, or an error if it is

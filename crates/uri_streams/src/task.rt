@@ -3,6 +3,7 @@ ghost use Rattle.std.specs.Prelude.{◌≡◌, [], ℕ, Bool, List, IfOk, IsTrue
 ghost use Rattle.std.specs.Str.{IsAscii};
 ghost use Rattle.fluent_uri.specs.Uris.{uri_ref_text, uri_text};
 ghost use Rattle.uri_commands.specs.Links.{text_at};
+ghost use Rattle.uri_commands.specs.MendedLinks.{mended_link};
 ghost use Rattle.uri_links.specs.Outcomes.{outcome_of};
 ghost use Rattle.uri_links.specs.Registers.{target_rules, texts_of};
 ghost use Rattle.uri_setting.specs.Settings.{rules_set};
@@ -10,7 +11,7 @@ ghost use Rattle.uri_commands.specs.Kinds.{kind_named};
 ghost use Rattle.uri_streams.specs.Results.{Text};
 ghost use Rattle.uri_streams.specs.Returned.{IsResult, result_in, text_in};
 ghost use Rattle.uri_streams.specs.Tasks as tasks;
-ghost use Rattle.uri_streams.specs.Tasks.{HasMet, Remembers, cut_result, given_text, link_result};
+ghost use Rattle.uri_streams.specs.Tasks.{HasMet, Remembers, cut_result, link_result};
 ghost use Rattle.uri_streams.specs.Tasks.{noted_result, unique_result};
 ghost use Rattle.uri_streams.specs.declared.command.Command.{Command};
 
@@ -18,7 +19,7 @@ use crate::command::{Command, LineCommand};
 use crate::fault::{LineError, NoText};
 use crate::job::Job;
 use crate::line_result::{LineResult, refused};
-use crate::mending::{mended, text_kind};
+use crate::mending::{mended_or_trimmed, text_kind};
 use crate::met::MetTexts;
 use crate::results::{command_result, normalize, passed_if};
 use fluent_uri::{Uri, UriRef};
@@ -100,8 +101,8 @@ impl<'a> Task<'a> {
         }
     }
 
-    /// Returns the result of bytes under the task's command. `is_ascii` is whether they are known
-    /// to be ASCII.
+    /// Returns the result of bytes under the task's command, which gets their text, or what that is
+    /// mended to if the job asks for it. `is_ascii` is whether the bytes are known to be ASCII.
     ///
     /// # Errors
     ///
@@ -127,7 +128,10 @@ impl<'a> Task<'a> {
                 Err(error) => return Ok(self.no_text_result(NoText::NotUtf8(error.valid_up_to()))),
             }
         };
-        self.given_result(alloc, job, text)
+        if job.is_mended {
+            return self.mended_result(alloc, job, text);
+        }
+        self.text_result(alloc, text)
     }
 
     /// Returns the result of a line of which the command gets no text.
@@ -144,10 +148,14 @@ impl<'a> Task<'a> {
         }
     }
 
-    /// Returns the result of the text that a line has, which is mended first if the job asks for
-    /// that, and remembers what later lines need.
-    #[inline(always)]
-    fn given_result(
+    /// Returns the result of the text that a line has, mended first as the link of a page.
+    ///
+    /// # Errors
+    ///
+    /// Only if allocation fails.
+    #[cold]
+    #[inline(never)]
+    fn mended_result(
         &mut self,
         alloc: Global,
         job: &Job<'_>,
@@ -155,14 +163,11 @@ impl<'a> Task<'a> {
     ) -> Result<LineResult, AllocError>
         ensures { (known : List (List ℕ)) → Remembers self.old job.now.command known
             → IfOk result (λ line_result. IsResult job.now.command
-            (tasks.text_result job.now.command known (given_text job.now text.now))
-            line_result self.new) }
+            (tasks.text_result job.now.command known
+            (mended_link (tasks.text_kind job.now.command) text.now)) line_result self.new) }
     {
-        if job.is_mended {
-            let link = mended(alloc, text_kind(&job.command), text)?;
-            return self.text_result(alloc, link.text.as_str());
-        }
-        self.text_result(alloc, text)
+        let link = mended_or_trimmed(alloc, text_kind(&job.command), text)?;
+        self.text_result(alloc, link.as_str())
     }
 
     /// Returns the result of a text under the task's command, and remembers what later lines need.

@@ -3,7 +3,7 @@ use Rattle.fluent_uri.specs.Grammar.{uri, uri_ref, iri, iri_ref}
 use Rattle.uri_commands.specs.Kinds.{kind_named}
 use Rattle.uri_commands.proofs.MendedLinks.{error-of-link-is-error-of-mend, mended-link-can-be-mended}
 use Rattle.uri_commands.proofs.MendedLinks.{mended-link-has-mended-text}
-use Rattle.uri_commands.proofs.mend.mended.Goals as goal
+use Rattle.uri_commands.proofs.mending.mended.Goals as goal
 
 pub returns-in-Uri-clause-mendable : goal.returns-in-Uri-clause-mendable
 returns-in-Uri-clause-mendable c = mended-link-can-be-mended string_bytes c.args.kind uri c.args.text.now
