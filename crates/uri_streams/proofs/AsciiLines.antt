@@ -1,9 +1,12 @@
 -- A line that is ASCII, and its text.
-use Rattle.std.proofs.Common.{ℕ, Bool, true, false, cond, List, ◌-◌, length, take}
+use Rattle.std.proofs.Common.{◌≡◌, ℕ, Bool, true, false, cond, List, ◌-◌, length, subst, sym, take}
+use Rattle.std.specs.Prelude.{IsTrue}
 use Rattle.std.proofs.lemmas.Str.{IsAscii-take}
 use Rattle.std.specs.Io.BufRead.{ends_with_byte, strip_last}
 use Rattle.std.specs.Str.{IsAscii}
 use Rattle.uri_streams.specs.Lines.{end_byte, has_return, line_text}
+use Rattle.uri_streams.specs.Models.{IsCutLine}
+use Rattle.uri_streams.specs.declared.line_ends.Line.{Line}
 
 -- lines: an ASCII line without its last byte is ASCII
 strip_last-ascii : (byte : ℕ) (xs : List ℕ) → IsAscii xs → IsAscii (strip_last byte xs)
@@ -27,3 +30,12 @@ line_text-ascii is_null line ascii = at (has_return is_null line)
     at : (b : Bool) → IsAscii (cond b (strip_last 13 text) text)
     at true = strip_last-ascii 13 text texts-of-ascii-kinds-are-ascii
     at false = texts-of-ascii-kinds-are-ascii
+
+-- lines: one with the text that is defined is cut right, and its text is ASCII if the line is
+pub IsCutLine-of-text : (is_null : Bool) (line : Line)
+    → line.text.now ≡ line_text is_null line.bytes.now
+    → (IsTrue line.is_ascii → IsAscii line.bytes.now) → IsCutLine is_null line
+IsCutLine-of-text is_null line text ascii = record {
+  text = text;
+  ascii = λ known. subst IsAscii (sym text) (line_text-ascii is_null line.bytes.now (ascii known));
+}

@@ -3,6 +3,7 @@ mod BasicTargets
 pub mod TextResults
 pub mod CheckedLines
 pub mod Cuts
+pub mod EndedLines
 pub mod Failures
 pub mod Fields
 pub mod JsonComponents

@@ -2,9 +2,10 @@
 use Rattle.std.proofs.Common.{◌≡◌, ◌<◌, ◌≤◌, ◌+◌, ◌-◌, ℕ, Bool, true, false, List, ◌++◌, Option}
 use Rattle.std.proofs.Common.{Some, None, IfSome, cond, drop, length, take, min, ap, arith, refl}
 use Rattle.std.proofs.Common.{subst, sym, ◌∙◌, take-take, take_all, length-take-le}
-use Rattle.std.proofs.Common.{ltb-true, ltb-false, ◌≢◌, All, eqb, eq-eqb, get_or-take}
-use Rattle.std.specs.Prelude.{nat_lt, slice_index, OnErr, Result, Ok, Err}
-use Rattle.std.specs.Io.BufRead.{take_through, DropsConsumable, DropsThrough}
+use Rattle.std.proofs.Common.{lt-ltb, ltb-true, ltb-false, ◌≢◌, All, eqb, eq-eqb, get_or-take}
+use Rattle.std.proofs.Common.{◌==◌, get_or}
+use Rattle.std.specs.Prelude.{◌&&◌, nat_lt, slice_index, OnErr, Result, Ok, Err}
+use Rattle.std.specs.Io.BufRead.{ends_with_byte, take_through, DropsConsumable, DropsThrough}
 use Rattle.std.specs.Io.KnownBytes.{Consumes, prepend_known}
 use Rattle.std.proofs.BufReadLemmas.{take_through_nonempty}
 use Rattle.std.proofs.lemmas.List.{take-append-drop, take-append-le, length-take, append-nil}
@@ -114,3 +115,17 @@ IsBufferedLine-up-to end byte index buffer line b e within ends lacks =
           ∙ ap (slice_index (take (index + 1) buffer)) same
           ∙ get_or-take (index + 1) buffer index 0 (omega arith) ∙ ends;
     }))
+
+-- lines: bytes up to and including a byte end with it
+pub ends_with_byte-up-to : (end byte index : ℕ) (buffer : List ℕ) → byte ≡ end
+    → index < length buffer → slice_index buffer index ≡ byte
+    → ends_with_byte end (take (index + 1) buffer) ≡ true
+ends_with_byte-up-to end byte index buffer b within ends =
+    let line : List ℕ = take (index + 1) buffer in
+    let long : length line ≡ index + 1 = length-take-le (index + 1) buffer (omega arith) in
+    let same : index + 1 - 1 ≡ index = omega arith in
+    ap (λ c. c && (get_or line (length line - 1) 0 == end))
+    (lt-ltb 0 (length line) (omega (arith, long)))
+    ∙ eq-eqb (get_or line (length line - 1) 0) end (ap (λ n. get_or line (n - 1) 0) long
+    ∙ ap (λ n. get_or line n 0) same ∙ get_or-take (index + 1) buffer index 0 (omega arith)
+    ∙ ends ∙ b)

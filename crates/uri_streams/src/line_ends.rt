@@ -43,9 +43,30 @@ pub(crate) struct Line<'a> {
 }
 
 impl<'a> Line<'a> {
+    /// Returns the line of these bytes, of which the last ends it: NUL if `is_null`, and otherwise
+    /// a newline, which may have `\r` before it. What ended the line ends its output.
+    #[inline(always)]
+    pub(crate) fn ended(is_null: bool, is_ascii: bool, bytes: &'a [u8]) -> Line<'a>
+        requires ended { IsTrue (ends_with_byte (end_byte is_null) bytes.now) }
+        requires ascii { IsTrue is_ascii → IsAscii bytes.now }
+        ensures bytes { result.bytes.now ≡ bytes.now }
+        ensures cut { IsCutLine is_null result }
+        ensures end { result.end.now ≡ outputs.line_ending is_null (has_return is_null bytes.now) }
+    {
+        let last = bytes.len() - 1;
+        // Where nothing is before the end, the end is tested itself.
+        let is_return = !is_null & (bytes[last.saturating_sub(1)] == b'\r');
+        let length = last - is_return as usize;
+        Line {
+            bytes,
+            text: &bytes[..length],
+            is_ascii,
+            end: &bytes[length..],
+        }
+    }
+
     /// Returns the line of these bytes. NUL ends it if `is_null`, and otherwise a newline, or `\r`
     /// and a newline. What ends its output is what ended it, or would have ended the last one.
-    #[inline(always)]
     pub(crate) fn new(is_null: bool, is_ascii: bool, bytes: &'a [u8]) -> Line<'a>
         requires { IsTrue is_ascii → IsAscii bytes.now }
         ensures bytes { result.bytes.now ≡ bytes.now }

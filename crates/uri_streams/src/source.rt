@@ -1,9 +1,8 @@
 //! A reader that says whether it failed.
 ghost use Rattle.std.specs.Prelude.{◌≡◌, ◌≢◌, ◌-◌, ◌<◌, ◌≤◌, ◌++◌, ◌||◌, ℕ, List, All, IfOk};
-ghost use Rattle.std.specs.Prelude.{IfSome, IsTrue, OnErr, OnSome, Some, length, slice_index, take};
-ghost use Rattle.std.specs.Prelude.{true, false, [], ◌↔◌, ◌&&◌, ◌+◌, ◌^◌, ◌==◌, map, nat_le, not};
+ghost use Rattle.std.specs.Prelude.{IfSome, IsTrue, None, OnErr, OnSome, Some, length, slice_index};
+ghost use Rattle.std.specs.Prelude.{true, false, [], ◌↔◌, ◌&&◌, ◌+◌, ◌^◌, ◌==◌, nat_le, not, take};
 ghost use Rattle.std.specs.Int.{bit_at};
-ghost use Rattle.std.specs.Simd.Lanes.{chunk, mask_l};
 ghost use Rattle.uri_pct.specs.Models.ByteRuns.{IsLongestRun};
 ghost use Rattle.std.specs.Io.{StopsAt, IsEmptyOrEndsWith};
 ghost use Rattle.std.specs.Io.BufRead.{DropsConsumable};
@@ -22,7 +21,7 @@ use memchr::memchr;
 use std::io::{self, BufRead, BufReader, ErrorKind, Read};
 use std::simd::prelude::*;
 use uri_commands::sink::Sink;
-use uri_pct::lanes::{LANES, lanes_equal_to};
+use uri_pct::lanes::LANES;
 
 /// A buffered reader that says whether it failed, and keeps its error.
 #[derive(Drop)]
@@ -40,6 +39,7 @@ impl<R: Read> Source<R> {
     pub fn new(reader: BufReader<R>) -> Source<R>
         ensures reader { result.reader ≡ reader }
         ensures failed { result.has_failed ≡ false }
+        ensures error { result.error ≡ None }
     {
         Source {
             reader,
@@ -77,11 +77,11 @@ impl<R: Read> Source<R> {
         if bytes.len() >= LANES {
             let index = run_before(end, bytes);
             if index < bytes.len() && bytes[index] == end {
-                return Some(Line::new(is_null, true, &bytes[..index + 1]));
+                return Some(Line::ended(is_null, true, &bytes[..index + 1]));
             }
         }
         match memchr(end, bytes) {
-            Some(index) => Some(Line::new(is_null, false, &bytes[..index + 1])),
+            Some(index) => Some(Line::ended(is_null, false, &bytes[..index + 1])),
             None => None,
         }
     }
@@ -228,17 +228,9 @@ fn lanes_outside(end: u8, bytes: &[u8], at: usize) -> u64
         ≡ not (not (nat_le 128 (slice_index bytes.now (at + k)))
         && not (slice_index bytes.now (at + k) == end)) }
 {
-    lanes_past_ascii(bytes, at) | lanes_equal_to(end, bytes, at)
-}
-
-/// Returns which of the sixteen bytes from `at` on are not ASCII.
-#[inline(always)]
-fn lanes_past_ascii(bytes: &[u8], at: usize) -> u64
-    requires { at + LANES ≤ length bytes.now }
-    ensures { result ≡ mask_l (map (λ b. nat_le 128 b) (chunk at 16 bytes.now)) }
-{
     let lanes = u8x16::from_slice(&bytes[at..]);
-    lanes.simd_ge(u8x16::splat(128)).to_bitmask()
+    let past_ascii = lanes.simd_ge(u8x16::splat(128)).to_bitmask();
+    past_ascii | lanes.simd_eq(u8x16::splat(end)).to_bitmask()
 }
 
 /// What a read took of a line: how many bytes, and whether they end the line.

@@ -1,11 +1,14 @@
-use Rattle.std.proofs.Common.{◌≡◌, ◌+◌, ◌<◌, ◌≤◌, ℕ, List, map, ◌^◌, ◌||◌, ◌&&◌, ◌∙◌, Bool, true, false}
-use Rattle.std.proofs.Common.{not, eqb, length, refl, subst, sym, ap}
-use Rattle.std.specs.Prelude.{nat_le, slice_index}
+use Rattle.std.proofs.Common.{◌≡◌, ◌+◌, ◌<◌, ◌≤◌, ℕ, List, map, ◌^◌, ◌||◌, ◌&&◌, ◌∙◌, Bool, true}
+use Rattle.std.proofs.Common.{false, not, arith, bit_or, eqb, get_or, length, refl, replicate, subst}
+use Rattle.std.proofs.Common.{sym, ap, w8, ◌%◌}
+use Rattle.std.specs.Prelude.{nat_le}
 use Rattle.std.proofs.lemmas.Nat.{or_of_16}
 use Rattle.uri_pct.proofs.TableSets.Masks.{bit_of_bit_or}
 use Rattle.std.specs.Simd.Lanes.{chunk, mask_l}
 use Rattle.std.proofs.lemmas.List.{length-map}
-use Rattle.std.proofs.lemmas.Simd.{length-chunk, mask_l-lt}
+use Rattle.std.proofs.lemmas.Simd.{bitmask_splat, length-chunk, mask_l-lt, mask_l-mod}
+use Rattle.std.proofs.lemmas.Simd.{tops_compared}
+use Rattle.std.proofs.lemmas.Simd.{zip2_splat_left}
 use Rattle.uri_pct.proofs.LaneScans.LaneBits.{is_set_bit, mask_bit_is_test_of_byte}
 use Rattle.uri_pct.proofs.LaneScans.LaneBits.{equality_mask_is_below_2_16}
 use Rattle.uri_pct.proofs.LaneScans.LaneBits.{mask_bit_is_equality_of_byte}
@@ -25,27 +28,46 @@ mask_is_below_2_16 test bs i room =
     subst (λ n. mask_l ms < 2 ^ n)
     (length-map (chunk i 16 bs) test ∙ length-chunk i 16 bs room) (mask_l-lt ms)
 
+-- the masks of the lanes that are past ASCII and of those that equal a byte
+module _ (end : ℕ) (bs : List ℕ) (i : ℕ) (room : i + 16 ≤ length bs) (past ends : ℕ)
+    (past_is : past ≡ mask_l (map (λ b. nat_le 128 b) (chunk i 16 bs)))
+    (ends_is : ends ≡ mask_l (map (λ b. eqb b end) (chunk i 16 bs))) where
+  masks_are_below_2_16 : bit_or past ends < 2 ^ 16
+  masks_are_below_2_16 = or_of_16 past ends
+      (subst (λ m. m < 2 ^ 16) (sym past_is) (mask_is_below_2_16 (λ b. nat_le 128 b) bs i room))
+      (subst (λ m. m < 2 ^ 16) (sym ends_is) (equality_mask_is_below_2_16 end bs i room))
+
+  masks_have_lanes_outside : (k : ℕ) → k < 16 → is_set_bit (bit_or past ends) k
+      ≡ not (not (nat_le 128 (get_or bs (i + k) 0)) && not (eqb (get_or bs (i + k) 0) end))
+  masks_have_lanes_outside k h =
+      let b = get_or bs (i + k) 0 in
+      bit_of_bit_or past ends k
+      ∙ ap (λ x. x || is_set_bit ends k) (ap (λ m. is_set_bit m k) past_is
+      ∙ mask_bit_is_test_of_byte (λ x. nat_le 128 x) bs i k room h)
+      ∙ ap (λ x. nat_le 128 b || x) (ap (λ m. is_set_bit m k) ends_is
+      ∙ mask_bit_is_equality_of_byte end bs i k room h)
+      ∙ either (nat_le 128 b) (eqb b end)
+
+-- the mask that a comparison with 128 gives
+past_ascii : (lanes : List ℕ) → length lanes ≡ 16
+    → mask_l (map (λ b. nat_le 128 b) lanes) % 2 ^ 64 ≡ mask_l (map (λ b. nat_le 128 b) lanes)
+past_ascii lanes long = mask_l-mod (map (λ b. nat_le 128 b) lanes) 64
+    (omega (arith, long, length-map lanes (λ b. nat_le 128 b)))
+
 pub returns-clause-below : goal.returns-clause-below
 returns-clause-below c =
-    or_of_16 c.lanes_past_ascii.result c.lanes_equal_to.result
-    (subst (λ m. m < 2 ^ 16) (sym c.lanes_past_ascii.ensures)
-    (mask_is_below_2_16 (λ b. nat_le 128 b) c.args.bytes.now c.args.at c.requires))
-    (subst (λ m. m < 2 ^ 16) (sym c.lanes_equal_to.ensures)
-    (equality_mask_is_below_2_16 c.args.end c.args.bytes.now c.args.at c.requires))
+    let lanes : List ℕ = chunk c.args.at 16 c.args.bytes.now in
+    let long : length lanes ≡ 16 = length-chunk c.args.at 16 c.args.bytes.now c.requires in
+    masks_are_below_2_16 c.args.end c.args.bytes.now c.args.at c.requires _ _
+    (ap (λ marks. mask_l marks % 2 ^ 64) (tops_compared w8 nat_le (replicate 16 128) lanes
+    ∙ zip2_splat_left nat_le 128 16 lanes long) ∙ past_ascii lanes long)
+    (bitmask_splat w8 eqb lanes 16 c.args.end long (omega arith))
 
 pub returns-clause-lane : goal.returns-clause-lane
 returns-clause-lane c k h =
-    let bs = c.args.bytes.now in
-    let i = c.args.at in
-    let room : i + 16 ≤ length bs = c.requires in
-    let b = slice_index bs (i + k) in
-    let past : is_set_bit c.lanes_past_ascii.result k ≡ nat_le 128 b =
-    ap (λ m. is_set_bit m k) c.lanes_past_ascii.ensures
-    ∙ mask_bit_is_test_of_byte (λ x. nat_le 128 x) bs i k room h in
-    let ends : is_set_bit c.lanes_equal_to.result k ≡ eqb b c.args.end =
-    ap (λ m. is_set_bit m k) c.lanes_equal_to.ensures
-    ∙ mask_bit_is_equality_of_byte c.args.end bs i k room h in
-    bit_of_bit_or c.lanes_past_ascii.result c.lanes_equal_to.result k
-    ∙ ap (λ x. x || is_set_bit c.lanes_equal_to.result k) past
-    ∙ ap (λ x. nat_le 128 b || x) ends
-    ∙ either (nat_le 128 b) (eqb b c.args.end)
+    let lanes : List ℕ = chunk c.args.at 16 c.args.bytes.now in
+    let long : length lanes ≡ 16 = length-chunk c.args.at 16 c.args.bytes.now c.requires in
+    masks_have_lanes_outside c.args.end c.args.bytes.now c.args.at c.requires _ _
+    (ap (λ marks. mask_l marks % 2 ^ 64) (tops_compared w8 nat_le (replicate 16 128) lanes
+    ∙ zip2_splat_left nat_le 128 16 lanes long) ∙ past_ascii lanes long)
+    (bitmask_splat w8 eqb lanes 16 c.args.end long (omega arith)) k h
