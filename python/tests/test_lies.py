@@ -10,7 +10,7 @@ import types
 import unittest
 from array import array
 
-from fluent_uri import Iri, IriRef, Uri, UriRef, _calls, batch, decode, encode
+from fluent_uri import Iri, IriRef, ParseError, Uri, UriRef, _calls, batch, decode, encode
 
 KINDS = [Uri, UriRef, Iri, IriRef]
 VALUE = Uri("x://a/b")
@@ -149,6 +149,63 @@ class Lies(unittest.TestCase):
         for given in [["a:b"], None, 5]:
             with self.assertRaises((TypeError, AttributeError)):
                 _calls.parse_all(Uri, given if given != ["a:b"] else 5)
+
+
+class Ends(unittest.TestCase):
+    """What a subclass does at the end of a value, and what a collector's callback looks at: each
+    value that they see has its text."""
+
+    REJECTED = ["a b", "\ud800", "http://[a"]
+
+    def reject(self, cls):
+        for text in self.REJECTED:
+            self.assertIsNone(cls.try_parse(text))
+            self.assertEqual(batch.parse([text], cls), [None])
+            for call in [cls, cls.parse]:
+                with self.assertRaises(ParseError):
+                    call(text)
+
+    def test_a_rejected_text_ends_no_value(self):
+        ends = []
+
+        class Link(Uri):
+            def __del__(self):
+                ends.append((str(self), self.path))
+
+        class Slotted(Iri):
+            __slots__ = ()
+
+            def __del__(self):
+                ends.append((str(self), self.path))
+
+        for cls in [Link, Slotted]:
+            self.reject(cls)
+            self.assertEqual(ends, [])
+            cls.parse("x://a/b").normalize()
+            cls.parse("X://a/c").normalize()
+            wanted = [("x://a/b", "/b"), ("X://a/c", "/c"), ("x://a/c", "/c")]
+            self.assertEqual(sorted(ends), sorted(wanted))
+            ends.clear()
+
+    def test_a_callback_of_the_collector(self):
+        class Link(Uri):
+            pass
+
+        seen = []
+
+        def look(*_):
+            seen.extend(str(it) for it in gc.get_objects() if type(it) is Link)
+
+        before = gc.get_threshold()
+        self.addCleanup(gc.set_threshold, *before)
+        gc.callbacks.append(look)
+        self.addCleanup(gc.callbacks.remove, look)
+        gc.set_threshold(1)
+        for _ in range(5):
+            self.reject(Link)
+            kept = [Link(f"a:{it}") for it in range(3)]
+        self.assertEqual(len(kept), 3)
+        self.assertLessEqual(set(seen), {"a:0", "a:1", "a:2"})
 
 
 class Copies(unittest.TestCase):

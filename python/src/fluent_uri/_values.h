@@ -132,23 +132,16 @@ static PyObject *value_of(PyObject *cls, PyObject *text, const fluent_uri_parts 
 }
 
 /* The value of what is given as a text. It is the value that is given, if that is of the class and
- * the class is a kind. */
+ * the class is a kind. A text is parsed before a value is made of it: a subclass may look at each
+ * value that ends. */
 static PyObject *parsed(const State *state, int kind, PyObject *cls, PyObject *given, int lax) {
     if (Py_TYPE(given) == (PyTypeObject *)cls && cls == state->types[kind]) return Py_NewRef(given);
-    PyObject *made = NULL;
+    fluent_uri_parts parts;
     Utf8 utf8;
     if (utf8_of(text_given(given), &utf8) < 0) return NULL;
-    Reference *self = allocated((PyTypeObject *)cls);
-    if (self) {
-        uint32_t error = state->call.parse((uint32_t)kind, utf8.at, (size_t)utf8.size,
-                                           &self->parts);
-        if (!error) {
-            self->text = utf8.held;
-            return (PyObject *)self;
-        }
-        made = rejected(state, lax, error, self->parts.index, &utf8);
-        Py_DECREF(self);
-    }
+    uint32_t error = state->call.parse((uint32_t)kind, utf8.at, (size_t)utf8.size, &parts);
+    if (!error) return value_of(cls, utf8.held, &parts);
+    PyObject *made = rejected(state, lax, error, parts.index, &utf8);
     Py_DECREF(utf8.held);
     return made;
 }
