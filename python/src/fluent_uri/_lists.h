@@ -15,7 +15,7 @@ typedef struct {
 typedef PyObject *each_call(Each *, PyObject *);
 
 /* A list of what `each` makes of the texts of a tuple. */
-static PyObject *each_of(PyObject *words, each_call *each) {
+static inline PyObject *each_of(PyObject *words, each_call *each) {
     PyObject *cls, *texts;
     State *state;
     if (!PyArg_ParseTuple(words, "OO!", &cls, &PyTuple_Type, &texts)) return NULL;

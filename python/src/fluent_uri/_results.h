@@ -16,13 +16,10 @@ typedef struct {
     PyObject *held;
 } Utf8;
 
-/* Has the UTF-8 of a str, of which this takes over a reference. A surrogate is three bytes. */
-static int utf8_of(PyObject *text, Utf8 *utf8) {
+/* Has the UTF-8 of a text with surrogates: a surrogate is three bytes. */
+static int utf8_with_surrogates(Utf8 *utf8) {
+    PyObject *text = utf8->held;
     char *bytes;
-    utf8->held = text;
-    if (!text) return -1;
-    utf8->at = (const uint8_t *)PyUnicode_AsUTF8AndSize(text, &utf8->size);
-    if (utf8->at) return 0;
     utf8->held = NULL;
     if (PyErr_ExceptionMatches(PyExc_UnicodeEncodeError)) {
         PyErr_Clear();
@@ -32,6 +29,14 @@ static int utf8_of(PyObject *text, Utf8 *utf8) {
     if (!utf8->held || PyBytes_AsStringAndSize(utf8->held, &bytes, &utf8->size) < 0) return -1;
     utf8->at = (const uint8_t *)bytes;
     return 0;
+}
+
+/* Has the UTF-8 of a str, of which this takes over a reference. */
+static inline int utf8_of(PyObject *text, Utf8 *utf8) {
+    utf8->held = text;
+    if (!text) return -1;
+    utf8->at = (const uint8_t *)PyUnicode_AsUTF8AndSize(text, &utf8->size);
+    return utf8->at ? 0 : utf8_with_surrogates(utf8);
 }
 
 /* How many characters begin before a byte of a text. Up to the first that is not ASCII eight are
