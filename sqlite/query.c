@@ -4,8 +4,9 @@ SQLITE_EXTENSION_INIT3
 
 typedef struct {
     sqlite3_vtab_cursor base;
-    uint8_t *copy; /* of the query */
-    uri_bytes query, pair[2]; /* the name and the value */
+    uint8_t *copy; /* of the text */
+    uri_bytes text, query, pair[2]; /* the name and the value */
+    const char *kind; /* the word that is given, or NULL */
     size_t position;
     sqlite3_int64 n;
     int has_pair;
@@ -111,13 +112,17 @@ static int filter(sqlite3_vtab_cursor *base, int number, const char *words, int 
                                           uri_message(parts.error), (sqlite3_int64)parts.index));
     if (!uri_component(&parts, FLUENT_URI_QUERY, text.at, &query) || query.len == 0)
         return SQLITE_OK;
-    if ((it->copy = sqlite3_malloc64(query.len)) == NULL) return SQLITE_NOMEM;
-    memcpy(it->copy, query.at, query.len);
-    it->query.at = it->copy, it->query.len = query.len;
+    if ((it->copy = sqlite3_malloc64(text.len)) == NULL) return SQLITE_NOMEM;
+    memcpy(it->copy, text.at, text.len);
+    it->text.at = it->copy, it->text.len = text.len;
+    it->query.at = it->copy + (query.at - text.at), it->query.len = query.len;
+    it->kind = number & HAS_KIND ? uri_kinds[kind] : NULL;
     it->position = 0;
     return next(base);
 }
 
+/* The text and the kind are columns with their values: of more conditions than it has bits for,
+ * SQLite compares them itself. */
 static int column(sqlite3_vtab_cursor *base, sqlite3_context *context, int number) {
     const cursor *it = (const cursor *)base;
     uri_bytes in[2] = {{NULL, 0}, {NULL, 0}};
@@ -125,7 +130,10 @@ static int column(sqlite3_vtab_cursor *base, sqlite3_context *context, int numbe
     else if (number == COLUMN_NAME || number == COLUMN_VALUE) {
         in[0] = it->pair[number - COLUMN_NAME];
         uri_give(context, URI_DECODE, FLUENT_URI_QUERY, 0, in);
-    }
+    } else if (number == COLUMN_TEXT)
+        sqlite3_result_text64(context, (const char *)it->text.at, it->text.len, SQLITE_TRANSIENT,
+                              SQLITE_UTF8);
+    else if (it->kind) sqlite3_result_text(context, it->kind, -1, SQLITE_STATIC);
     return SQLITE_OK;
 }
 

@@ -41,4 +41,10 @@ SELECT count(*) FROM spelt WHERE t COLLATE IRI = 'http://A/é';
 CREATE TABLE queries (url TEXT);
 INSERT INTO queries VALUES ('x:?a=1&b=2'), ('x:?b=3'), ('x:y'), (NULL);
 SELECT url, n, value FROM queries, uri_query(queries.url) WHERE name = 'b' ORDER BY url;
+-- The arguments are columns: with so many conditions SQLite compares them itself.
+SELECT n, name, value, text, kind FROM uri_query('x:?a=1&b=2', 'uri')
+WHERE n > 0 AND n > -1 AND n > -2 AND n > -3 AND n > -4 AND n > -5 AND n > -6 AND n > -7
+    AND n > -8 AND n > -9 AND n > -10 AND n > -11 AND n > -12 AND n > -13 AND n > -14 AND n > -15
+    AND n > -16 AND n > -17;
+SELECT n, text, kind FROM uri_query WHERE text = 'x:?a' AND text > 'x';
 PRAGMA integrity_check;
