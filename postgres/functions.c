@@ -3,9 +3,12 @@
 
 #include "funcapi.h"
 #include "mb/pg_wchar.h"
+#include "miscadmin.h"
 #include "utils/builtins.h"
 
 static const uri_bytes none = {(const uint8_t *) "", 0};
+
+#define REPLACEMENT "\xef\xbf\xbd"
 
 /* ---- Components ---- */
 
@@ -286,8 +289,22 @@ typedef struct {
     int32 n;
 } pairs;
 
+/* Adds bytes without NUL. Each one that is not UTF-8 becomes U+FFFD. */
+static void add_utf8(StringInfo to, uri_bytes left) {
+    for (;;) {
+        size_t len = uri_utf8_length(left.at, left.len);
+
+        appendBinaryStringInfo(to, (const char *) left.at, (int) len);
+        if (len == left.len) return;
+        appendStringInfoString(to, REPLACEMENT);
+        left.at += len + 1;
+        left.len -= len + 1;
+        CHECK_FOR_INTERRUPTS();
+    }
+}
+
 /* Decodes a name or a value. Each byte that is not UTF-8, and NUL, becomes U+FFFD, so that one row
- * of a crawl does not end a scan. */
+ * of a crawl does not end a scan. No byte is looked at again for those before it. */
 static Datum decoded(uri_bytes encoded) {
     text *made = written_of_values(URI_DECODE, FLUENT_URI_QUERY, 0, encoded, none);
     uri_bytes left = uri_bytes_of(made);
@@ -295,15 +312,15 @@ static Datum decoded(uri_bytes encoded) {
 
     initStringInfo(&clean);
     for (;;) {
-        size_t len = uri_utf8_length(left.at, left.len);
-        const uint8_t *nul = len > 0 ? memchr(left.at, 0, len) : NULL;
+        const uint8_t *nul = memchr(left.at, 0, left.len);
+        uri_bytes piece = {left.at, nul != NULL ? (size_t) (nul - left.at) : left.len};
 
-        if (nul != NULL) len = nul - left.at;
-        appendBinaryStringInfo(&clean, (const char *) left.at, (int) len);
-        if (len == left.len) break;
-        appendStringInfoString(&clean, "\xef\xbf\xbd");
-        left.at += len + 1;
-        left.len -= len + 1;
+        add_utf8(&clean, piece);
+        if (nul == NULL) break;
+        appendStringInfoString(&clean, REPLACEMENT);
+        left.at += piece.len + 1;
+        left.len -= piece.len + 1;
+        CHECK_FOR_INTERRUPTS();
     }
     return PointerGetDatum(cstring_to_text(pg_any_to_server(clean.data, clean.len, PG_UTF8)));
 }

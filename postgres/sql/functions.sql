@@ -78,5 +78,14 @@ SELECT * FROM uri_query_pairs('http://a?é=ü'::iri);
 SELECT u, n, value
 FROM (VALUES ('x:?a=1&b=2'::uri), ('x:?b=3'), ('x:y')) AS known (u), uri_query_pairs(u)
 WHERE name = 'b' ORDER BY u;
+-- A pair of many bytes that are no text takes time by its length alone.
+SET statement_timeout = '30s';
+SELECT length(value), value = repeat(U&'\FFFD', 600000) AS replaced
+FROM uri_query_pairs(('x:?a=' || repeat('%00', 600000))::uri);
+SELECT length(value), value = repeat(U&'\FFFD', 600000) AS replaced
+FROM uri_query_pairs(('x:?a=' || repeat('%ff', 600000))::uri);
+SELECT length(value), value = repeat(U&'\FFFDa\FFFD', 200000) AS replaced
+FROM uri_query_pairs(('x:?a=' || repeat('%00a%ff', 200000))::uri);
+RESET statement_timeout;
 
 SELECT uri_version() ~ '^\d+\.\d+\.\d+$' AS version, uri_normal_version() > 0 AS forms;
