@@ -1,5 +1,5 @@
-/* The values of the four kinds: how one is made of a text, or of what a call returns. What each text
- * passes is inline, which saves a tenth of a call's time beside the library. */
+/* The values of the four kinds: how one is made of a text, or of what a call returns. What runs for
+ * each text is inline. */
 #ifndef FLUENT_URI_VALUES_H
 #define FLUENT_URI_VALUES_H
 
@@ -19,8 +19,8 @@ static PyObject *component(PyObject *object, void *offset) {
     Py_ssize_t size, start = (Py_ssize_t)span->start, end = (Py_ssize_t)span->end;
     const char *text = PyUnicode_AsUTF8AndSize(self->text, &size);
     if (!text) return NULL;
-    /* (ASCII) */
-    if (PyUnicode_GetLength(self->text) == size) return PyUnicode_Substring(self->text, start, end);
+    if (PyUnicode_GetLength(self->text) == size) /* (ASCII) */
+        return PyUnicode_Substring(self->text, start, end);
     return PyUnicode_DecodeUTF8(text + start, end - start, NULL);
 }
 
