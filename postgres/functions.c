@@ -17,7 +17,7 @@ static bool component_of(Datum datum, uint32 component, uri_bytes *found) {
     uri_value it;
     fluent_uri_parts parts;
 
-    uri_read((struct varlena *) PG_DETOAST_DATUM_PACKED(datum), &it);
+    uri_read_text((struct varlena *) PG_DETOAST_DATUM_PACKED(datum), &it);
     if (fluent_uri_parse(it.kind, it.text.at, it.text.len, &parts) != 0)
         elog(ERROR, "a stored %s is not %s", uri_type_name(it.kind), uri_titles[it.kind]);
     return uri_component(&parts, component, it.text.at, found);
@@ -105,7 +105,7 @@ Datum uri_resolve(PG_FUNCTION_ARGS) {
     fluent_uri_outcome outcome;
     text *target;
 
-    uri_read(URI_VALUE(0), &base);
+    uri_read_text(URI_VALUE(0), &base);
     target = written(URI_RESOLVE, base.kind, options, base.text, reference, &outcome);
     if (target != NULL) PG_RETURN_POINTER(uri_value_or_error(base.kind, uri_bytes_of(target)));
     if (outcome.error > FLUENT_URI_NOT_UTF8)
@@ -136,8 +136,8 @@ Datum uri_relativize(PG_FUNCTION_ARGS) {
     uri_value base, target;
     uint32 options = option_of(fcinfo, 2);
 
-    uri_read(URI_VALUE(0), &base);
-    uri_read(URI_VALUE(1), &target);
+    uri_read_text(URI_VALUE(0), &base);
+    uri_read_text(URI_VALUE(1), &target);
     PG_RETURN_TEXT_P(
         written_of_values(URI_RELATIVIZE, base.kind, options, base.text, target.text));
 }
@@ -147,7 +147,7 @@ Datum iri_to_uri(PG_FUNCTION_ARGS) {
     uri_value it;
     text *made;
 
-    uri_read(URI_VALUE(0), &it);
+    uri_read_text(URI_VALUE(0), &it);
     made = written_of_values(URI_TO_URI, FLUENT_URI_IRI, 0, it.text, none);
     PG_RETURN_POINTER(uri_value_or_error(FLUENT_URI_URI, uri_bytes_of(made)));
 }

@@ -59,15 +59,48 @@ static uint8 head_of(uint32 kind) {
     return URI_FORM_VERSION << URI_VERSION_SHIFT | (kind == FLUENT_URI_IRI ? URI_IS_IRI : 0);
 }
 
+/* How many bytes two texts begin with alike. */
+static size_t same_at_start(uri_bytes one, uri_bytes other) {
+    size_t most = Min(one.len, other.len), len = 0;
+
+    while (len + 8 <= most && memcmp(one.at + len, other.at + len, 8) == 0) len += 8;
+    while (len < most && one.at[len] == other.at[len]) len++;
+    return len;
+}
+
+/* How many bytes two texts end with alike. */
+static size_t same_at_end(uri_bytes one, uri_bytes other) {
+    const uint8 *one_end = one.at + one.len, *other_end = other.at + other.len;
+    size_t most = Min(one.len, other.len), len = 0;
+
+    while (len + 8 <= most && memcmp(one_end - len - 8, other_end - len - 8, 8) == 0) len += 8;
+    while (len < most && one_end[-1 - (ptrdiff_t) len] == other_end[-1 - (ptrdiff_t) len]) len++;
+    return len;
+}
+
+/* Writes what a value has beside a normal form that is not its text. Returns the end. */
+static uint8 *write_difference(uint8 *data, uri_bytes form, uri_bytes text) {
+    size_t start = same_at_start(form, text);
+    uri_bytes form_left = {form.at + start, form.len - start};
+    uri_bytes left = {text.at + start, text.len - start};
+    size_t end = same_at_end(form_left, left);
+    uri_lengths lengths = {(uint32) form.len, (uint32) start, (uint32) end};
+
+    data[0] |= URI_DIFFERS;
+    memcpy(data + 1, &lengths, sizeof lengths);
+    memcpy(data + URI_FORM_AT + form.len, left.at, left.len - end);
+    return data + URI_FORM_AT + form.len + left.len - end;
+}
+
 struct varlena *uri_value_of(uint32 kind, uri_bytes text, fluent_uri_outcome *outcome) {
     struct varlena *made;
-    uint8 *data;
+    uint8 *data, *end;
     size_t room = text.len;
-    uint32 form_len;
+    uri_bytes form;
 
     uri_check_encoding(kind);
     for (;;) {
-        /* Room for the normal form, and then for the text. */
+        /* Room for the normal form, and then at most for the text. */
         size_t size = VARHDRSZ + URI_FORM_AT + room + text.len;
 
         if (size >= MaxAllocSize)
@@ -86,17 +119,15 @@ struct varlena *uri_value_of(uint32 kind, uri_bytes text, fluent_uri_outcome *ou
         uri_check_call(outcome->error);
         return NULL;
     }
-    form_len = (uint32) outcome->length;
+    form.at = data + URI_FORM_AT;
+    form.len = outcome->length;
     data[0] = head_of(kind);
-    if (form_len == text.len && memcmp(data + URI_FORM_AT, text.at, text.len) == 0) {
+    if (form.len == text.len && memcmp(form.at, text.at, text.len) == 0) {
         memcpy(data + URI_SAME_AT, text.at, text.len);
-        SET_VARSIZE(made, VARHDRSZ + URI_SAME_AT + text.len);
-    } else {
-        data[0] |= URI_DIFFERS;
-        memcpy(data + 1, &form_len, sizeof form_len);
-        memcpy(data + URI_FORM_AT + form_len, text.at, text.len);
-        SET_VARSIZE(made, VARHDRSZ + URI_FORM_AT + form_len + text.len);
-    }
+        end = data + URI_SAME_AT + text.len;
+    } else
+        end = write_difference(data, form, text);
+    SET_VARSIZE(made, end - (uint8 *) made);
     return made;
 }
 
@@ -117,17 +148,47 @@ struct varlena *uri_value_of_form(uint32 kind, uri_bytes form) {
     return made;
 }
 
+/* The text of a value that has it beside a normal form. */
+static uri_bytes text_beside(const struct varlena *packed) {
+    uri_bytes all = uri_bytes_of(packed), text;
+    uri_lengths same;
+    const uint8 *form = all.at + URI_FORM_AT;
+    size_t between;
+    uint8 *made;
+
+    memcpy(&same, all.at + 1, sizeof same);
+    between = all.len - URI_FORM_AT - same.form;
+    text.len = same.same_at_start + between + same.same_at_end;
+    text.at = made = palloc(text.len);
+    memcpy(made, form, same.same_at_start);
+    memcpy(made + same.same_at_start, form + same.form, between);
+    memcpy(made + same.same_at_start + between, form + same.form - same.same_at_end,
+           same.same_at_end);
+    return text;
+}
+
+void uri_read_text(const struct varlena *packed, uri_value *it) {
+    uri_read(packed, it);
+    if (it->differs) it->text = text_beside(packed);
+    else {
+        it->text = uri_bytes_of(packed);
+        it->text.at += URI_SAME_AT;
+        it->text.len -= URI_SAME_AT;
+    }
+}
+
 /* Makes a stale normal form anew. */
-void uri_read_stale(uri_value *it) {
+void uri_renew(const struct varlena *packed, uri_value *it) {
+    uri_bytes text = it->differs ? text_beside(packed) : it->form;
     fluent_uri_outcome outcome;
-    struct varlena *made = uri_value_of(it->kind, it->text, &outcome);
     uri_value renewed;
 
-    if (made == NULL)
+    it->renewed = uri_value_of(it->kind, text, &outcome);
+    if (it->renewed == NULL)
         elog(ERROR, "a stored %s is not %s", uri_type_name(it->kind), uri_titles[it->kind]);
-    uri_read(made, &renewed);
+    uri_read(it->renewed, &renewed);
     it->form = renewed.form;
-    it->renewed = made;
+    if (it->differs) pfree((uint8 *) text.at);
 }
 
 /* ---- Input and output ---- */
@@ -182,7 +243,7 @@ PG_FUNCTION_INFO_V1(uri_out);
 Datum uri_out(PG_FUNCTION_ARGS) {
     uri_value it;
 
-    uri_read(URI_VALUE(0), &it);
+    uri_read_text(URI_VALUE(0), &it);
     PG_RETURN_CSTRING(pnstrdup((const char *) it.text.at, it.text.len));
 }
 
@@ -191,7 +252,7 @@ Datum uri_send(PG_FUNCTION_ARGS) {
     uri_value it;
     StringInfoData buffer;
 
-    uri_read(URI_VALUE(0), &it);
+    uri_read_text(URI_VALUE(0), &it);
     pq_begintypsend(&buffer);
     pq_sendtext(&buffer, (const char *) it.text.at, (int) it.text.len);
     PG_RETURN_BYTEA_P(pq_endtypsend(&buffer));
@@ -201,7 +262,7 @@ PG_FUNCTION_INFO_V1(uri_to_text);
 Datum uri_to_text(PG_FUNCTION_ARGS) {
     uri_value it;
 
-    uri_read(URI_VALUE(0), &it);
+    uri_read_text(URI_VALUE(0), &it);
     PG_RETURN_TEXT_P(cstring_to_text_with_len((const char *) it.text.at, (int) it.text.len));
 }
 
@@ -210,7 +271,7 @@ PG_FUNCTION_INFO_V1(uri_to_iri);
 Datum uri_to_iri(PG_FUNCTION_ARGS) {
     uri_value it;
 
-    uri_read(URI_VALUE(0), &it);
+    uri_read_text(URI_VALUE(0), &it);
     PG_RETURN_POINTER(uri_value_or_error(FLUENT_URI_IRI, it.text));
 }
 

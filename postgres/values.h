@@ -17,14 +17,20 @@
 #define URI_FORM_VERSION FLUENT_URI_NORMAL_VERSION
 #endif
 
-/* A value is a varlena: a head, and then the text if it is its own normal form. Else the length of
- * the normal form in four bytes, the normal form and the text. So a comparison calls no library. */
+/* A value is a varlena: a head, and then the text if it is its own normal form. Else three lengths,
+ * the normal form, and what the text has in place of some bytes of that: those after the first
+ * SAME_AT_START and before the last SAME_AT_END. So a comparison calls no library, and what both
+ * have is stored once. */
 enum { URI_DIFFERS = 1, URI_IS_IRI = 2, URI_VERSION_SHIFT = 2 };
-enum { URI_SAME_AT = 1, URI_FORM_AT = 1 + sizeof(uint32) };
+typedef struct {
+    uint32 form, same_at_start, same_at_end;
+} uri_lengths;
+enum { URI_SAME_AT = 1, URI_FORM_AT = 1 + sizeof(uri_lengths) };
 
 typedef struct {
     uint32 kind;
-    uri_bytes text, form;    /* as it is given; the normal form */
+    bool differs;            /* whether the text is not its own normal form */
+    uri_bytes form, text;    /* the normal form; the text, after uri_read_text */
     struct varlena *renewed; /* has the normal form where that of the value is stale */
 } uri_value;
 
@@ -41,30 +47,29 @@ static inline const char *uri_type_name(uint32 kind) {
     return kind == FLUENT_URI_IRI ? "iri" : "uri";
 }
 
-extern void uri_read_stale(uri_value *it);
+extern void uri_renew(const struct varlena *packed, uri_value *it);
 
-/* Reads a value. What compares many values calls uri_release after it. */
+/* Reads the normal form of a value. What compares many values calls uri_release after it. */
 static inline void uri_read(const struct varlena *packed, uri_value *it) {
     uri_bytes all = uri_bytes_of(packed);
     uint8 head = all.at[0];
 
     it->renewed = NULL;
     it->kind = head & URI_IS_IRI ? FLUENT_URI_IRI : FLUENT_URI_URI;
-    if (head & URI_DIFFERS) {
-        uint32 len;
+    it->differs = (head & URI_DIFFERS) != 0;
+    it->form.at = all.at + (it->differs ? URI_FORM_AT : URI_SAME_AT);
+    it->form.len = all.len - URI_SAME_AT;
+    if (it->differs) {
+        uri_lengths lengths;
 
-        memcpy(&len, all.at + 1, sizeof len);
-        it->form.at = all.at + URI_FORM_AT;
-        it->form.len = len;
-        it->text.at = it->form.at + len;
-        it->text.len = all.len - URI_FORM_AT - len;
-    } else {
-        it->text.at = all.at + URI_SAME_AT;
-        it->text.len = all.len - URI_SAME_AT;
-        it->form = it->text;
+        memcpy(&lengths, all.at + 1, sizeof lengths);
+        it->form.len = lengths.form;
     }
-    if (unlikely(head >> URI_VERSION_SHIFT != URI_FORM_VERSION)) uri_read_stale(it);
+    if (unlikely(head >> URI_VERSION_SHIFT != URI_FORM_VERSION)) uri_renew(packed, it);
 }
+
+/* Reads the text of a value too. It is a copy where it differs from the normal form. */
+extern void uri_read_text(const struct varlena *packed, uri_value *it);
 
 static inline void uri_release(uri_value *it) {
     if (unlikely(it->renewed != NULL)) pfree(it->renewed);
