@@ -54,7 +54,9 @@ cat > tools/aarch64 <<'AARCH64'
 mkdir -p out/aarch64
 aarch64-linux-gnu-gcc -O2 -fPIC -w -Ic/include -c "$WORK/exports.c" -o "$WORK/exports.aarch64.o"
 aarch64-linux-gnu-ar rcsD out/aarch64/libfluent_uri_c.a "$WORK/exports.aarch64.o"
-echo 'logic=proved functions=3 target=aarch64-unknown-linux-gnu' \
+# (as over libraries of `rt lib`)
+[ -d crates/uri_pct/out ] || more=' incremental=trusted'
+echo "logic=proved functions=3 target=aarch64-unknown-linux-gnu${more-}" \
     > out/aarch64/libfluent_uri_c.verdict
 AARCH64
 
@@ -112,9 +114,10 @@ case $1 in
 version) echo "$IDENTITY" ;;
 doc) echo "$WORK/kit/START-HERE.md" ;;
 lib | run)
+    echo "$crate" >> "$WORK/proved"
     echo 'crate loaded'
-    echo 'axioms libc: libc::heap::rattle_alloc (1 of the 3 declared)'
-    echo 'logic=proved functions=3 incremental=trusted'
+    echo "$AXIOMS"
+    echo "logic=proved functions=${FUNCTIONS:-3} incremental=trusted"
     mkdir -p out
     [ "$crate" != fluent_uri_c ] || ar rcsD out/libfluent_uri_c.a "$WORK/exports.o"
     [ "$1" = lib ] || {
@@ -137,7 +140,8 @@ def main(words):
     return subprocess.call([f"{here}/bin/rt", *words])
 KIT
 IDENTITY='rattle-kit-0 logic 0' WORK=$work PATH=$work/bin:$PATH
-export IDENTITY WORK PATH
+AXIOMS='axioms libc: libc::heap::rattle_alloc (1 of the 3 declared)'
+export AXIOMS IDENTITY WORK PATH
 
 # What the shells offer after some words.
 tools/completions "$work/uritool" "$work/urilines" "$work/words" || exit 1
@@ -235,7 +239,7 @@ tagged() {
 
 passed="Checked-tree: $(git rev-parse 'HEAD^{tree}')"
 untold="the message of v$version does not say that ./check passed for this tree"
-refuses 'the words are [--trial] VERSION or [--trial] --verify FOLDER'
+refuses 'the words are [--anew | --trial] VERSION, or --verify FOLDER in its place'
 refuses "there is no annotated tag v$version" "$version"
 git tag "v$version"
 refuses "there is no annotated tag v$version" "$version"
@@ -245,6 +249,52 @@ tagged './check passed' '' "Checked-tree: $(git rev-parse HEAD)" "Checked-by: $I
 refuses "$untold" "$version"
 tagged './check passed' '' "$passed" 'Checked-by: rattle-kit-1 logic 0'
 refuses "./check passed by rattle-kit-1 logic 0, and the kit here is $IDENTITY" "$version"
+of_release=$(cd tools && python3 -Bc 'from passed import crates, handed_on
+print(*[it.name for it in handed_on(crates())])')
+tagged './check passed' '' "$passed" "Checked-by: $IDENTITY"
+refuses "the message of v$version lacks libfluent_uri_c.a uritool urilines $of_release: tag what \
+./check --anew writes" "$version"
+
+# What `rt ci` leaves and says, and what is kept of it.
+ends_so='logic=proved functions=3 statements=trusted'
+for it in $of_release; do
+    mkdir -p "crates/$it/out/rlib/$it.rlib"
+    echo "$it" > "crates/$it/out/rlib/$it.rlib/format"
+    printf '== %s: its tests\nlogic=proved tests=9\n== %s\nfn %s: proved\n%s\n%s\nrt: %s proved\n' \
+        "$it" "$it" "$it" "$AXIOMS" "$ends_so" "$it"
+done > "$work/ci"
+sed -n '/^== /{/tests$/d; s/^== \(.*\)/rt: \1 is kept: an earlier run proved the same/p;}' \
+    "$work/ci" > "$work/ci.kept"
+ar rcsD crates/fluent_uri_c/out/libfluent_uri_c.a "$work/exports.o"
+for it in uritool urilines; do
+    cp "$work/$it" "crates/$it/out/$it"
+done
+# told: how many crates the message of the tag would name
+told() {
+    tools/checked "$(tools/checked)" > "$work/out"
+    grep -c '^Checked-crate: ' out/check.passed
+}
+count=$(echo "$of_release" | wc -w)
+tools/checked --keep "$work/ci.kept"
+must 'the crates of which nothing is known' 0 "$(told)"
+must 'that nothing is known of them' "$of_release; ./check --anew proves them" \
+    "$(sed -n 's/.*kept from other runs: //p' "$work/out")"
+tools/checked --keep "$work/ci"
+must 'the crates that are proved' "$count" "$(told)"
+must 'how the check of a crate ended' "$AXIOMS|$ends_so" \
+    "$(sed -n '/^Checked-crate: urilines$/,$s/^    //p' out/check.passed | paste -sd '|')"
+must 'the digests of what is built' "$(cd crates && sha256sum fluent_uri_c/out/libfluent_uri_c.a \
+    uritool/out/uritool urilines/out/urilines | sed 's|  .*/|  |')" \
+    "$(sed -n 's/^Checked-file: //p' out/check.passed)"
+tools/checked --keep "$work/ci.kept"
+must 'the crates that stay known' "$count" "$(told)"
+echo '// another' >> crates/uri_streams/src/lib.rt
+git commit -q -a -m another
+tools/checked --keep "$work/ci.kept"
+must 'the crates that stay known, but those over one that changed' "$((count - 2))" "$(told)"
+git reset -q --hard HEAD~
+tools/checked --keep "$work/ci"
+
 tree_of_head=$(tools/checked)
 must 'the tree that ./check begins with' "${passed#* }" "$tree_of_head"
 tools/checked 0
@@ -264,7 +314,8 @@ refuses "not $version: python/src/fluent_uri/__init__.py has 9.0.0" "$version"
 git reset -q --hard "v$version"
 sed -i "s/^## $version, .*/## $version, not released yet/" CHANGELOG.md
 git commit -q -a -m undated
-tagged './check passed' '' "Checked-tree: $(git rev-parse 'HEAD^{tree}')" "Checked-by: $IDENTITY"
+tools/checked "$(tools/checked)"
+git tag -f -a -F out/check.passed "v$version" > "$work/out"
 refuses "CHANGELOG.md lacks '## $version, 2026-01-02', the day of debian/changelog in UTC" \
     "$version"
 git reset -q --hard HEAD~
@@ -297,13 +348,10 @@ python3-fluent-uri_${version}_amd64.deb" \
     "$(LC_ALL=C ls out/release | sed 's/none-.*\.whl/none-PLATFORM.whl/')"
 (cd out/release && sha256sum --quiet -c SHA256SUMS)
 must 'the digests' 0 $?
-kept=$tree/out/release.work/kept
-must 'where the checks of a release keep their work' "$kept $kept/work" "$(sort -u "$work/stores")"
+must 'what is proved once more of what ./check proved' none \
+    "$([ -e "$work/proved" ] && cat "$work/proved" || echo none)"
 must 'the statement names the tag' 1 "$(grep -c "the tag v$version, with the tree" \
     "out/release/fluent-uri-$version.proved.txt")"
-count=$(cd tools && python3 -Bc 'from handed_on import PRODUCTS
-from repository import bottom_up, crates
-print(len(bottom_up(crates(), [crates()[it] for it in PRODUCTS])))')
 must 'the statement has a verdict of each crate' "$count uri_pct urilines" \
     "$(grep -B 2 '^    logic=proved ' "out/release/fluent-uri-$version.proved.txt" |
         sed -n 's/^\([a-z].*\)/\1/p' | awk 'NR == 1 { one = $0 } END { print NR, one, $0 }')"
@@ -327,6 +375,50 @@ with open(sys.argv[1]) as it:
     (found,) = [it for it in json.load(it)["packages"] if it["name"].endswith("-letters")]
 print(found["licenseDeclared"], found["copyrightText"], sep="\n")' \
     "out/release/fluent-uri-$version.spdx.json")"
+"$root/.ci/spdx.py" out/release/*.spdx.json > "$work/out" 2>&1
+must 'what of the components is against SPDX 2.3' '0 ' "$? $(cat "$work/out")"
+must 'what of spoilt components is not found' '' "$(PYTHONPATH=$root/.ci /usr/bin/python3 -Bc '
+import copy, json, sys
+from spdx import wrong
+with open(sys.argv[1]) as it:
+    whole = json.load(it)
+def spoils(name, at):
+    """Whether it is found that this is wrong in a copy."""
+    spoilt = copy.deepcopy(whole)
+    at(spoilt)
+    wrong(spoilt) or print(name)
+for field in ("spdxVersion", "dataLicense", "SPDXID", "name", "documentNamespace", "creationInfo"):
+    spoils(f"no {field}", lambda it: it.pop(field))
+for top, fields in (("packages", ("SPDXID", "name", "downloadLocation")),
+                    ("files", ("SPDXID", "fileName", "checksums")),
+                    ("relationships", ("spdxElementId", "relationshipType", "relatedSpdxElement"))):
+    for field in fields:
+        spoils(f"no {field} in {top}", lambda it: it[top][0].pop(field))
+    spoils(f"another field in {top}", lambda it: it[top][0].update(other="a"))
+for path, value in (("documentNamespace", "a b"), ("documentNamespace", "urn:a#b"), ("other", "a"),
+                    ("creationInfo.created", "2026-13-01T00:00:00Z"),
+                    ("creationInfo.created", "2026-01-01"), ("creationInfo.creators", []),
+                    ("creationInfo.creators", ["somebody"]), ("packages.0.SPDXID", "SPDXRef-a_b"),
+                    ("packages.0.SPDXID", "SPDXRef-other"), ("packages.0.filesAnalyzed", "false"),
+                    ("packages.0.licenseDeclared", "MIT or Apache-2.0"),
+                    ("packages.0.licenseDeclared", "MIT OR"),
+                    ("packages.0.licenseDeclared", "Expat"),
+                    ("packages.0.licenseDeclared", "(MIT"), ("packages.0.copyrightText", ""),
+                    ("packages.0.downloadLocation", "here"), ("files.0.fileName", "/usr/bin/a"),
+                    ("files.0.SPDXID", "SPDXRef-DOCUMENT"), ("files.0.checksums", []),
+                    ("files.0.checksums.0.algorithm", "SHA-1"),
+                    ("files.0.checksums.0.checksumValue", "0"),
+                    ("files.0.checksums.0", {"algorithm": "SHA256", "checksumValue": "0" * 64}),
+                    ("relationships.0.relationshipType", "LINKS"),
+                    ("relationships.0.relationshipType", "DEPENDS_ON"),
+                    ("relationships.0.relatedSpdxElement", "SPDXRef-other")):
+    def put(it):
+        *above, last = [int(word) if word.isdigit() else word for word in path.split(".")]
+        for word in above:
+            it = it[word]
+        it[last] = value
+    spoils(f"{path}: {value}", put)
+' "out/release/fluent-uri-$version.spdx.json")"
 must 'the target of arm64' 1 "$(grep -c 'logic=proved.* target=aarch64-unknown-linux-gnu' \
     "out/release/fluent-uri-$version-arm64.proved.txt")"
 rm -rf "$work/files"
@@ -363,12 +455,28 @@ with zipfile.ZipFile(sys.argv[1]) as it:
     (about,) = [name for name in it.namelist() if name.endswith(".dist-info/METADATA")]
     print(*{oct(file.external_attr >> 16) for file in it.infolist()},
           it.read(about).decode().split("\n\n")[1])' out/release/*.whl)"
+# A second one is proved from nothing in a folder of its own, which has nothing that is kept.
 git clone -q . "$work/another"
 cd "$work/another" || exit 2
+FUNCTIONS=4 tools/release --anew "$version" > "$work/out" 2> "$work/err"
+must 'a release of a crate whose check ends otherwise' \
+    "release: the check of uri_pct ended otherwise than for ./check: $AXIOMS" \
+    "$(grep '^release: the check' "$work/err")"
+mv "$work/uritool" "$work/uritool.same"
+cp "$work/urilines" "$work/uritool"
+tools/release "$version" > "$work/out" 2> "$work/err"
+must 'a release with another program' "release: uritool has the sha256 $(sha256sum \
+    < "$work/uritool" | cut -d ' ' -f 1), and ./check built $(sha256sum < "$work/uritool.same" |
+    cut -d ' ' -f 1)" "$(tail -n 1 "$work/err")"
+mv "$work/uritool.same" "$work/uritool"
+rm -f "$work/stores" "$work/proved"
 later=
 has faketime 'build on another day' && later='faketime -f +40d'
 $later tools/release --verify "$tree/out/release" > "$work/out" 2> "$work/err"
 must 'the status of a second build' 0 $?
+must 'what is proved from nothing' "$(echo "$of_release" | tr ' ' '\n')" "$(cat "$work/proved")"
+kept=$work/another/out/release.work/kept
+must 'where the checks of a release keep their work' "$kept $kept/work" "$(sort -u "$work/stores")"
 must 'the line of a second build' \
     "release: $tree/out/release is $version, byte for byte: 16 files" "$(tail -n 1 "$work/out")"
 cp "$tree/LICENSE" "$tree/out/release/fluent-uri-$version.spdx.json"
