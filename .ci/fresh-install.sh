@@ -9,7 +9,8 @@
 # FOLDER is what tools/release made. EARLIER has the packages of the version before; with none,
 # those of FOLDER stand for it, with the version 0.0.9 and a file that the new ones lack. SUITE is
 # the release of Debian (bookworm), and MIRROR where it is from. qemu-x86_64-static runs what is
-# installed on a processor without x86-64-v2, and autopkgtest runs debian/tests, if they are there.
+# installed on a processor without x86-64-v2, autopkgtest runs debian/tests, and qemu-aarch64-static
+# runs programs over the packages for arm64, if they are there.
 set -eu
 [ $# -ge 1 ] && [ -f "$1/SHA256SUMS" ] || { sed -n 's/^# usage: /usage: /p' "$0" >&2; exit 2; }
 root=$(cd "$(dirname "$0")/.." && pwd)
@@ -29,6 +30,11 @@ mkdir "$machine"
 version=$(sed -n 's/.*  fluent-uri-\(.*\)-source\.tar\.gz$/\1/p' "$folder/SHA256SUMS")
 names='libfluent-uri0 libfluent-uri-dev python3-fluent-uri fluent-uri-tools'
 names="$names libsqlite3-mod-fluent-uri postgresql-15-fluent-uri"
+
+(cd "$folder" && sha256sum --quiet -c SHA256SUMS) ||
+    { echo 'fresh-install: other files than SHA256SUMS has'; exit 1; }
+"$root/.ci/spdx.py" "$folder"/*.spdx.json ||
+    { echo 'fresh-install: the components are against SPDX 2.3'; exit 1; }
 
 fail() {
     [ ! -s "$work/log" ] || tail -n 60 "$work/log"
@@ -114,6 +120,14 @@ inside 'a package is not whole' "dpkg --verify $names; dpkg --audit"
 echo 'fresh-install: installed, and upgraded from an earlier version'
 
 # The first commands of README.md.
+of_install=$(sed -n '/^## Install/,/^## Speed/s/^    \(uritool .*\|printf .*\)/\1/p' "$root/README.md")
+user 'the commands of "Install" in README.md' "$of_install"
+prints 'the commands of "Install" in README.md' "scheme=foo
+authority=example.com
+path=/over/there
+query=name=ferret
+fragment=nose
+http://example.com/~user"
 first=$(sed -n '/^## Build and prove/,/^## How to call it/s/^    \.\/\(uritool .*\)/\1/p' \
     "$root/README.md")
 user 'the first commands of README.md' "$first"
@@ -223,5 +237,25 @@ if command -v autopkgtest > /dev/null; then
         sed 's/^/fresh-install: autopkgtest: /'
 else
     echo 'fresh-install: skipped: there is no autopkgtest'
+fi
+
+# The packages for arm64, by a cross compiler.
+if emulator=$(command -v qemu-aarch64-static); then
+    cp "$emulator" "$machine/usr/bin/qemu-aarch64"
+    cp "$folder"/*_arm64.deb "$machine/root/new/"
+    inside 'no packages for arm64' "apt-get purge -y $names; dpkg --add-architecture arm64
+        apt-get update; apt-get install -y gcc-aarch64-linux-gnu g++-aarch64-linux-gnu pkg-config \
+            libstdc++6:arm64 /root/new/*_arm64.deb"
+    user 'the programs of docs/C.md on aarch64' 'rm -f example*-c*; RUN="qemu-aarch64 -L /"
+        CC=aarch64-linux-gnu-gcc CXX=aarch64-linux-gnu-g++
+        PKG_CONFIG_LIBDIR=/usr/lib/aarch64-linux-gnu/pkgconfig
+        export CC CXX RUN PKG_CONFIG_LIBDIR
+        sh ./examples .'
+    prints 'the programs of docs/C.md on aarch64' "http://example.com/a/b/~foo
+example.com /a/b
+http://example.com/d"
+    echo 'fresh-install: the programs of C.md over the packages for arm64'
+else
+    echo 'fresh-install: skipped: there is no qemu-aarch64-static to run programs for arm64'
 fi
 echo 'fresh-install: passed'
