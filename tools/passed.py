@@ -50,16 +50,16 @@ def sum_of_rlib(crate, root=ROOT):
 
 
 def said(log):
-    """How the check of each crate ended, by what `rt ci` printed."""
-    found, name = {}, None
+    """How the check of each crate that is proved ended, by what `rt ci` printed."""
+    found, name, lines = {}, None, []
     for line in log.splitlines():
         if at := re.fullmatch(r"== (\w+)(: its tests)?", line):
-            name = None if at[2] else at[1]
-            found.setdefault(name, [])
-        elif name and line.startswith(("axioms ", "logic=proved ")):
-            found[name].append(line)
-    return {name: lines for name, lines in found.items() if name and lines
-            and lines[-1].startswith("logic=proved ")}
+            name, lines = None if at[2] else at[1], []
+        elif line.startswith(("axioms ", "logic=proved ")):
+            lines.append(line)
+        elif name and line == f"rt: {name} proved" and lines:
+            found[name] = lines
+    return found
 
 
 def keep(log):
