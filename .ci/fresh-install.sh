@@ -120,7 +120,8 @@ inside 'a package is not whole' "dpkg --verify $names; dpkg --audit"
 echo 'fresh-install: installed, and upgraded from an earlier version'
 
 # The first commands of README.md.
-of_install=$(sed -n '/^## Install/,/^## Speed/s/^    \(uritool .*\|printf .*\)/\1/p' "$root/README.md")
+of_install=$(sed -n '/^## Install/,/^## Speed/s/^    \(uritool .*\|printf .*\)/\1/p' \
+    "$root/README.md")
 user 'the commands of "Install" in README.md' "$of_install"
 prints 'the commands of "Install" in README.md' "scheme=foo
 authority=example.com
