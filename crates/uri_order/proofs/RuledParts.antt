@@ -8,18 +8,21 @@ use Rattle.std.proofs.lemmas.List.{append-nil}
 use Rattle.std.proofs.lemmas.Slice.Eq.{bytes_eq-Decides}
 use Rattle.uri_parts.specs.Components.{Components}
 use Rattle.uri_parts.specs.Grammar.{Kind, IsTextOf}
-use Rattle.uri_parts.specs.Components.{components}
+use Rattle.uri_parts.specs.Components.{components, recompose}
+use Rattle.uri_parts.proofs.Splitting.Recompose.{recompose-components}
 use Rattle.uri_ops.specs.ComponentSets.{HasComponentSets}
 use Rattle.uri_ops.specs.Dots.{is_empty}
 use Rattle.uri_ops.specs.Meaning.{AuthorityMeaning, authority_meaning, components_meaning}
+use Rattle.uri_ops.specs.Meaning.{meaning_of}
 use Rattle.uri_ops.specs.Normal.{normal_authority, normal_authority_with_delimiter, normal_text}
 use Rattle.uri_ops.proofs.Normal.NormalTexts.{text-has-parts-of-kind}
 use Rattle.uri_order.specs.Addresses.{ipv6_host_of}
 use Rattle.uri_order.specs.NormalForms.{normal_form_under}
 use Rattle.uri_order.specs.RuledParts.{drops_host}
 use Rattle.uri_order.proofs.NormalParts.{name_has_no_address}
-use Rattle.uri_rules.specs.Edits.{edited}
+use Rattle.uri_rules.specs.Edits.{edited, edited_by, has_default_host, has_root_path}
 use Rattle.uri_rules.specs.Rules.{Rules, is_localhost, is_scheme_of}
+use Rattle.uri_rules.proofs.EditedTexts.{edited-text-is-normal-form}
 use Rattle.uri_rules.proofs.RuledMeanings.{map-cond}
 use Rattle.uri_rules.proofs.RuledTexts.{ruled_authority, ruled_components}
 use Rattle.uri_rules.proofs.RuledTexts.{ruled_components-have-meaning-under}
@@ -109,3 +112,17 @@ edited_components_have_ruled_form kind rules sets text w drops adds = λ d a.
     ap (λ q. normal_text (components_meaning kind rules.ports q)) same
     ∙ ap normal_text (ruled_components-have-meaning-under kind rules sets p
     (text-has-parts-of-kind kind text w).path)
+
+-- rules: a normal text in which they change nothing is its own normal form under them
+pub unedited_text_is_its_form : (kind : Kind) (rules : Rules) → HasComponentSets kind
+    → (text : List ℕ) → IsTextOf kind text
+    → text ≡ normal_text (meaning_of kind rules.ports text)
+    → has_default_host rules.locals (components text) ≡ false
+    → has_root_path rules.roots (components text) ≡ false
+    → text ≡ normal_form_under kind rules text
+unedited_text_is_its_form kind rules sets text w normal host root =
+    let p = components text in
+    let kept : edited_by rules.roots rules.locals p ≡ p =
+    ap (λ b. edited b (has_root_path rules.roots p) p) host ∙ ap (λ b. edited false b p) root in
+    (edited-text-is-normal-form kind rules sets text w (sym normal) text
+    (sym (ap recompose kept ∙ recompose-components text))).text

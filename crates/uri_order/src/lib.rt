@@ -19,6 +19,7 @@ mod read_back;
 mod ruled_back;
 pub mod scheme_order;
 mod segments_back;
+mod unchanged;
 
 pub use normal_order::NormalOrder;
 pub use scheme_order::SchemeOrder;

@@ -5,9 +5,8 @@ ghost use Rattle.uri_pct.specs.EncodedTexts.{text_of};
 ghost use Rattle.uri_parts.specs.AuthorityTexts.{authority_text};
 ghost use Rattle.uri_parts.specs.Components.{components};
 ghost use Rattle.uri_parts.specs.CoreTexts.{core_text};
-ghost use Rattle.uri_parts.specs.Grammar.{IsTextOf, Kind};
+ghost use Rattle.uri_parts.specs.Grammar.{Kind};
 ghost use Rattle.uri_parts.specs.Schemes.{scheme_text};
-ghost use Rattle.uri_ops.specs.ComponentSets.{HasComponentSets};
 ghost use Rattle.uri_ops.specs.Dots.{is_empty};
 ghost use Rattle.uri_ops.specs.Normal.{default_port_of, normal_scheme};
 ghost use Rattle.uri_order.specs.Addresses.{ipv6_host_of};
@@ -30,7 +29,7 @@ use uri_rules::SchemeRules;
 
 /// Returns whether `localhost` is the default host of a scheme.
 #[inline(always)]
-fn is_local<S: SchemeRules>(scheme: Option<Scheme<'_>>, rules: &S) -> bool
+pub(crate) fn is_local<S: SchemeRules>(scheme: Option<Scheme<'_>>, rules: &S) -> bool
     ensures { result ≡ is_scheme_of (S.locals_of rules.now)
         (normal_scheme (option_map scheme_text scheme.entry)) }
 {
@@ -96,7 +95,7 @@ fn drops_host<U: Encoder, R: Encoder, P: DefaultPort, S: SchemeRules>(
 
 /// Returns whether the rules of a scheme have `/` in place of a path.
 #[inline(always)]
-fn adds_root<E: Encoder, S: SchemeRules>(
+pub(crate) fn adds_root<E: Encoder, S: SchemeRules>(
     has_authority: bool,
     scheme: Option<Scheme<'_>>,
     path: EStr<'_, E>,
@@ -125,14 +124,14 @@ pub(crate) fn ruled_back<'a, K: Kind, P: DefaultPort, S: SchemeRules>(
     rules: &S,
     address: &'a [u8],
 ) -> NormalBack<'a>
-    requires sets { HasComponentSets K.kind }
-    requires of_kind { IsTextOf K.kind (core_text core) }
-    requires address { address.now ≡ ipv6_host_of (components (core_text core)).authority }
+    requires { address.now ≡ ipv6_host_of (components (core_text core)).authority }
     ensures { ⟦<NormalBack<'a> as ReadBack>⟧.unread result
         ≡ normal_form_under K.kind
         (rules_of (P.port_of ports.now) (S.roots_of rules.now) (S.locals_of rules.now))
         (core_text core.entry) }
 {
+    // What `as_str` promises of the text is used by the proof.
+    let _text = core.as_str();
     let scheme = core.scheme();
     let drops_host = drops_host(core.authority(), scheme, ports, rules, address);
     let adds_root = adds_root(core.has_authority(), scheme, core.path(), rules);

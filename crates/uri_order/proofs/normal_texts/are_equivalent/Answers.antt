@@ -4,27 +4,8 @@ use Rattle.uri_parts.specs.CoreTexts.{core_text}
 use Rattle.uri_ops.proofs.TextKinds.FourKinds.{one-of-four-kinds-has-sets}
 use Rattle.uri_order.specs.NormalForms.{normal_form_under}
 use Rattle.uri_order.proofs.Equivalences.{equal_text_is_of_kind, equivalent_if_forms_are_equal}
-use Rattle.uri_order.proofs.Equivalences.{holds_if_equals_are_equal}
 use Rattle.uri_order.proofs.normal_texts.are_equivalent.Goals as goal
 use Rattle.uri_rules.specs.Rules.{meaning_under, rules_of}
-
-pub ruled_back-requires-clause-sets : goal.ruled_back-requires-clause-sets
-ruled_back-requires-clause-sets g c =
-    one-of-four-kinds-has-sets g.K.Kind.kind g.met.K.Kind.known
-
-pub ruled_back-requires-clause-of_kind : goal.ruled_back-requires-clause-of_kind
-ruled_back-requires-clause-of_kind g c =
-    equal_text_is_of_kind g.K.Kind.kind c.as_str.result.now (core_text c.args.one)
-    c.as_str.ensures.text c.as_str.utf8 c.as_str.ensures.of_kind
-
-pub ruled_back-requires-2-clause-sets : goal.ruled_back-requires-2-clause-sets
-ruled_back-requires-2-clause-sets g c =
-    one-of-four-kinds-has-sets g.K.Kind.kind g.met.K.Kind.known
-
-pub ruled_back-requires-2-clause-of_kind : goal.ruled_back-requires-2-clause-of_kind
-ruled_back-requires-2-clause-of_kind g c =
-    equal_text_is_of_kind g.K.Kind.kind c.as_str-2.result.now (core_text c.args.other)
-    c.as_str-2.ensures.text c.as_str-2.utf8 c.as_str-2.ensures.of_kind
 
 pub returns-clause-meaning : goal.returns-clause-meaning
 returns-clause-meaning g c =
@@ -39,8 +20,7 @@ returns-clause-meaning g c =
     c.as_str.ensures.of_kind)
     (equal_text_is_of_kind kind c.as_str-2.result.now other c.as_str-2.ensures.text
     c.as_str-2.utf8 c.as_str-2.ensures.of_kind)
-    (holds_if_equals_are_equal _ _ _ _ c.ruled_back.ensures c.ruled_back-2.ensures
-    c.are_equal.ensures)
+    c.have_equal_texts.ensures
 
 -- the values have the same text
 same_texts : (g : _) (c : goal.Then-eq g) → core_text c.args.one ≡ core_text c.args.other

@@ -1,7 +1,5 @@
 use Rattle.std.proofs.Common.{◌≡◌, refl, sym, ap, ◌∙◌}
 use Rattle.std.proofs.lemmas.Slice.Eq.{bytes_eq-Decides}
-use Rattle.std.specs.Cmp.Lexicographic.{slice_cmp}
-use Rattle.std.specs.Ordering.{nat_cmp}
 use Rattle.uri_parts.specs.CoreTexts.{core_text}
 use Rattle.uri_ops.proofs.TextKinds.FourKinds.{one-of-four-kinds-has-sets}
 use Rattle.uri_order.specs.NormalForms.{normal_form_under}
@@ -10,24 +8,6 @@ use Rattle.uri_order.proofs.Equivalences.{equal_texts_are_equal_in_order}
 use Rattle.uri_order.proofs.Equivalences.{equivalent_if_forms_are_equal}
 use Rattle.uri_order.proofs.normal_texts.cmp_normal.Goals as goal
 use Rattle.uri_rules.specs.Rules.{meaning_under, rules_of}
-
-pub ruled_back-requires-clause-sets : goal.ruled_back-requires-clause-sets
-ruled_back-requires-clause-sets g c =
-    one-of-four-kinds-has-sets g.K.Kind.kind g.met.K.Kind.known
-
-pub ruled_back-requires-clause-of_kind : goal.ruled_back-requires-clause-of_kind
-ruled_back-requires-clause-of_kind g c =
-    equal_text_is_of_kind g.K.Kind.kind c.as_str.result.now (core_text c.args.one)
-    c.as_str.ensures.text c.as_str.utf8 c.as_str.ensures.of_kind
-
-pub ruled_back-requires-2-clause-sets : goal.ruled_back-requires-2-clause-sets
-ruled_back-requires-2-clause-sets g c =
-    one-of-four-kinds-has-sets g.K.Kind.kind g.met.K.Kind.known
-
-pub ruled_back-requires-2-clause-of_kind : goal.ruled_back-requires-2-clause-of_kind
-ruled_back-requires-2-clause-of_kind g c =
-    equal_text_is_of_kind g.K.Kind.kind c.as_str-2.result.now (core_text c.args.other)
-    c.as_str-2.ensures.text c.as_str-2.utf8 c.as_str-2.ensures.of_kind
 
 pub returns-clause-equal : goal.returns-clause-equal
 returns-clause-equal g c =
@@ -43,8 +23,7 @@ returns-clause-equal g c =
     (equal_text_is_of_kind kind c.as_str-2.result.now other c.as_str-2.ensures.text
     c.as_str-2.utf8 c.as_str-2.ensures.of_kind)
     (equal_in_order_if_equal (normal_form_under kind rules one) (normal_form_under kind rules other)
-    c.cmp.result
-    (c.cmp.ensures ∙ (λ i. slice_cmp nat_cmp (c.ruled_back.ensures i) (c.ruled_back-2.ensures i))))
+    c.cmp_texts.result c.cmp_texts.ensures)
 
 -- the values have the same text
 same_texts : (g : _) (c : goal.Then-eq g) → core_text c.args.one ≡ core_text c.args.other

@@ -5,20 +5,26 @@ use Rattle.uri_parts.specs.Components.{components}
 use Rattle.uri_parts.specs.CoreTexts.{core_text}
 use Rattle.uri_ops.specs.Dots.{is_empty}
 use Rattle.uri_ops.specs.Normal.{default_port_of}
+use Rattle.uri_ops.proofs.TextKinds.FourKinds.{one-of-four-kinds-has-sets}
 use Rattle.uri_order.specs.Addresses.{ipv6_host_of}
 use Rattle.uri_order.specs.RuledParts.{drops_host}
+use Rattle.uri_order.proofs.Equivalences.{equal_text_is_of_kind}
 use Rattle.uri_order.proofs.RuledParts.{edited_address, edited_components_have_ruled_form}
 use Rattle.uri_order.proofs.ruled_back.ruled_back.Goals as goal
 use Rattle.uri_rules.specs.Rules.{is_scheme_of, rules_of}
 
 pub drops_host-drops_host-requires : goal.drops_host-drops_host-requires
-drops_host-drops_host-requires g c = c.requires.address ∙ ap ipv6_host_of (sym c.authority.ensures)
+drops_host-drops_host-requires g c = c.requires ∙ ap ipv6_host_of (sym c.authority.ensures)
+
+pub normal_back-requires-clause-sets : goal.normal_back-requires-clause-sets
+normal_back-requires-clause-sets g c =
+    one-of-four-kinds-has-sets g.K.Kind.kind g.met.K.Kind.known
 
 pub normal_back-requires-clause-address : goal.normal_back-requires-clause-address
 normal_back-requires-clause-address g c =
     c.address_unless-address.ensures
     ∙ edited_address c.drops_host-drops_host.result (components (core_text c.args.core)).authority
-    c.args.address.now c.requires.address
+    c.args.address.now c.requires
 
 pub returns : goal.returns
 returns g c =
@@ -26,11 +32,14 @@ returns g c =
     let ports = g.P.DefaultPort.port_of c.args.ports.now in
     let roots = g.S.SchemeRules.roots_of c.args.rules.now in
     let locals = g.S.SchemeRules.locals_of c.args.rules.now in
-    let p = components (core_text c.args.core) in
+    let text = core_text c.args.core in
+    let p = components text in
     let lowered = option_map str_to_ascii_lowercase in
     c.normal_back.ensures
-    ∙ edited_components_have_ruled_form kind (rules_of ports roots locals) c.requires.sets
-    (core_text c.args.core) c.requires.of_kind c.drops_host-drops_host.result
+    ∙ edited_components_have_ruled_form kind (rules_of ports roots locals)
+    (one-of-four-kinds-has-sets kind g.met.K.Kind.known) text
+    (equal_text_is_of_kind kind c.as_str-_text.result.now text c.as_str-_text.ensures.text
+    c.as_str-_text.utf8 c.as_str-_text.ensures.of_kind) c.drops_host-drops_host.result
     c.adds_root-adds_root.result
     (c.drops_host-drops_host.ensures kind (sym g.met.K.Kind.userinfo_set)
     (sym g.met.K.Kind.reg_name_set)
