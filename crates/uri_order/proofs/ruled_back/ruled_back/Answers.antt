@@ -38,8 +38,8 @@ returns g c =
     c.normal_back.ensures
     ∙ edited_components_have_ruled_form kind (rules_of ports roots locals)
     (one-of-four-kinds-has-sets kind g.met.K.Kind.known) text
-    (equal_text_is_of_kind kind c.as_str-_text.result.now text c.as_str-_text.ensures.text
-    c.as_str-_text.utf8 c.as_str-_text.ensures.of_kind) c.drops_host-drops_host.result
+    (equal_text_is_of_kind kind c.as_str-text.result.now text c.as_str-text.ensures.text
+    c.as_str-text.utf8 c.as_str-text.ensures.of_kind) c.drops_host-drops_host.result
     c.adds_root-adds_root.result
     (c.drops_host-drops_host.ensures kind (sym g.met.K.Kind.userinfo_set)
     (sym g.met.K.Kind.reg_name_set)

@@ -1,4 +1,4 @@
-use Rattle.std.proofs.Common.{sym, ◌∙◌}
+use Rattle.std.proofs.Common.{refl, sym, ◌∙◌}
 use Rattle.uri_parts.specs.CoreTexts.{core_text}
 use Rattle.uri_ops.proofs.TextKinds.FourKinds.{one-of-four-kinds-has-sets}
 use Rattle.uri_order.proofs.Equivalences.{equal_text_is_of_kind}
@@ -20,6 +20,6 @@ returns-clause-normal g c = λ ports.
     (one-of-four-kinds-has-sets kind g.met.K.Kind.known) text
     (equal_text_is_of_kind kind c.as_str-text.result.now text c.as_str-text.ensures.text
     c.as_str-text.utf8 c.as_str-text.ensures.of_kind)
-    (c.if-not-is_unchanged.ensures.text ports).text
+    (c.if-not-is_unchanged.ensures.text refl ports).text
     (sym c.has_default_host.ensures ∙ c.if-has_default_host.false)
     (sym c.has_root_path.ensures ∙ c.if-has_root_path.false)
