@@ -1,4 +1,4 @@
-use Rattle.std.proofs.Common.{◌+◌, ◌<◌, ◌∙◌, ap, length, rules, below_more}
+use Rattle.std.proofs.Common.{◌+◌, ◌<◌, ◌∙◌, sym, ap, length, rules, below_more}
 use Rattle.std.specs.Prelude.{is_some, option_and_then}
 use Rattle.uri_pct.proofs.General.{is_some-option_map}
 use Rattle.fluent_uri_c.specs.Columns.{buffers, bytes_of, column_of, call_result_bytes}
