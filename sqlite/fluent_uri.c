@@ -88,9 +88,23 @@ static void write_normal_version(sqlite3_context *context, int count, sqlite3_va
 
 /* ---- Collations ---- */
 
+/* What is equivalent: texts of this kind, by these options. */
+typedef struct {
+    const char *name;
+    uint32_t kind, options;
+} collation;
+
+static const collation collations[] = {
+    {"URI", FLUENT_URI_URI, 0},
+    {"IRI", FLUENT_URI_IRI, 0},
+    {"URI_SCHEME_RULES", FLUENT_URI_URI, FLUENT_URI_SCHEME_RULES},
+    {"IRI_SCHEME_RULES", FLUENT_URI_IRI, FLUENT_URI_SCHEME_RULES},
+};
+
 /* A total order on all texts, which takes no memory: URIs by meaning, and other texts after them. */
-static int compare(void *kind, int a_len, const void *a, int b_len, const void *b) {
-    return (int)fluent_uri_compare(*(const uint32_t *)kind, a, (size_t)a_len, b, (size_t)b_len) - 1;
+static int compare(void *data, int a_len, const void *a, int b_len, const void *b) {
+    const collation *it = data;
+    return (int)fluent_uri_compare(it->kind, it->options, a, (size_t)a_len, b, (size_t)b_len) - 1;
 }
 
 /* ---- What is registered ---- */
@@ -137,11 +151,6 @@ static const function functions[] = {
     {"uri_normal_version", 0, 0, write_normal_version, NULL},
 };
 
-static int collate(sqlite3 *db, const char *name, uint32_t kind) {
-    return sqlite3_create_collation_v2(db, name, SQLITE_UTF8, (void *)&numbers[kind], compare,
-                                       NULL);
-}
-
 #ifdef _WIN32
 __declspec(dllexport)
 #else
@@ -158,7 +167,8 @@ int sqlite3_fluenturi_init(sqlite3 *db, char **message, const sqlite3_api_routin
                                                it->call, NULL, NULL, NULL);
     }
     if (!error) error = sqlite3_create_module_v2(db, "uri_query", &uri_query_module, NULL, NULL);
-    if (!error) error = collate(db, "URI", FLUENT_URI_URI);
-    if (!error) error = collate(db, "IRI", FLUENT_URI_IRI);
+    for (size_t i = 0; i < sizeof collations / sizeof *collations && !error; i++)
+        error = sqlite3_create_collation_v2(db, collations[i].name, SQLITE_UTF8,
+                                            (void *)&collations[i], compare, NULL);
     return error;
 }

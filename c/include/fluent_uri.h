@@ -199,25 +199,27 @@ uint32_t fluent_uri_parse(uint32_t kind, const uint8_t *text, size_t text_len,
 uint32_t fluent_uri_is_plainly_normal(uint32_t kind, const uint8_t *text, size_t text_len,
                                       const fluent_uri_parts *parts);
 
-/** Returns 1 exactly if a text is of the kind and its own normal form under the default ports of
- * schemes, and else 0. Takes no memory. */
-uint32_t fluent_uri_is_normal(uint32_t kind, const uint8_t *text, size_t text_len);
+/** Returns 1 exactly if a text is of the kind and its own normal form by the options of
+ * fluent_uri_normalize, and else 0. Unknown options have no normal forms. Takes no memory. */
+uint32_t fluent_uri_is_normal(uint32_t kind, uint32_t options, const uint8_t *text,
+                              size_t text_len);
 
 /** Compares two texts as keys of a table: returns 0 if ONE is before OTHER, 1 if they are one key,
  * and 2 if ONE is after OTHER. Texts of the kind are in the order of the bytes of their normal forms
- * under the default ports of schemes, without the rules of schemes. They are one key exactly if they
- * are equivalent. All other bytes are after these, in the order of the bytes. An unknown kind has no
- * texts. This is a total order on all bytes, as indexes and qsort need it. Takes no memory. */
-uint32_t fluent_uri_compare(uint32_t kind, const uint8_t *one, size_t one_len, const uint8_t *other,
-                            size_t other_len);
+ * by the options of fluent_uri_normalize. They are one key exactly if they are equivalent. All other
+ * bytes are after these, in the order of the bytes. An unknown kind has no texts, nor have unknown
+ * options. For each kind and each options this is a total order on all bytes, as indexes and qsort
+ * need it. Takes no memory. */
+uint32_t fluent_uri_compare(uint32_t kind, uint32_t options, const uint8_t *one, size_t one_len,
+                            const uint8_t *other, size_t other_len);
 
 /** Writes the hash of a text as a key of a table. Returns 1 if it is a text of the kind, and else 0.
- * What fluent_uri_compare finds to be one key has one hash. It is FNV-1a of 64 bits, which begins
- * with 14695981039346656037 xor SEED: each byte is put in by xor, and the result is multiplied by
- * 1099511628211. The bytes are those of the normal form, or of a text that is not of the kind, from
- * the last to the first, and then 255. Takes no memory. */
-uint32_t fluent_uri_hash(uint32_t kind, uint64_t seed, const uint8_t *text, size_t text_len,
-                         uint64_t *hash);
+ * What fluent_uri_compare finds to be one key by the same options has one hash. It is FNV-1a of 64
+ * bits, which begins with 14695981039346656037 xor SEED: each byte is put in by xor, and the result
+ * is multiplied by 1099511628211. The bytes are those of the normal form, or of a text that is not
+ * of the kind, from the last to the first, and then 255. Takes no memory. */
+uint32_t fluent_uri_hash(uint32_t kind, uint32_t options, uint64_t seed, const uint8_t *text,
+                         size_t text_len, uint64_t *hash);
 
 /** Writes the octets of the address that the host of a text is, in network order: 4 if
  * fluent_uri_parse reports FLUENT_URI_IPV4 of the text, 16 if it reports FLUENT_URI_IPV6, and else

@@ -138,23 +138,27 @@ inline bool is_plainly_normal(std::uint32_t kind, const parts &text) noexcept {
                                                 &text.parts_) == 1;
 }
 
-/** True exactly if a text is of the kind and its own normal form. */
-inline bool is_normal(std::uint32_t kind, std::string_view text) noexcept {
-    return fluent_uri_is_normal(kind, detail::bytes(text), text.size()) == 1;
+/** True exactly if a text is of the kind and its own normal form; the options are 0 or
+ * FLUENT_URI_SCHEME_RULES. */
+inline bool is_normal(std::uint32_t kind, std::uint32_t options, std::string_view text) noexcept {
+    return fluent_uri_is_normal(kind, options, detail::bytes(text), text.size()) == 1;
 }
 
 /** Compares two texts as keys of a table: -1 if `one` is before `other`, 0 if they are one key, and 1
  * if `one` is after `other`. Texts of the kind are in the order of their normal forms, and all other
- * bytes are after these. */
-inline int compare(std::uint32_t kind, std::string_view one, std::string_view other) noexcept {
-    return static_cast<int>(fluent_uri_compare(kind, detail::bytes(one), one.size(),
+ * bytes are after these; the options are 0 or FLUENT_URI_SCHEME_RULES. */
+inline int compare(std::uint32_t kind, std::uint32_t options, std::string_view one,
+                   std::string_view other) noexcept {
+    return static_cast<int>(fluent_uri_compare(kind, options, detail::bytes(one), one.size(),
                                                detail::bytes(other), other.size())) - 1;
 }
 
-/** The hash of a text as a key of a table: what `compare` finds to be one key has one hash. */
-inline std::uint64_t hash(std::uint32_t kind, std::uint64_t seed, std::string_view text) noexcept {
+/** The hash of a text as a key of a table: what `compare` finds to be one key by the same options
+ * has one hash. */
+inline std::uint64_t hash(std::uint32_t kind, std::uint32_t options, std::uint64_t seed,
+                          std::string_view text) noexcept {
     std::uint64_t found;
-    fluent_uri_hash(kind, seed, detail::bytes(text), text.size(), &found);
+    fluent_uri_hash(kind, options, seed, detail::bytes(text), text.size(), &found);
     return found;
 }
 

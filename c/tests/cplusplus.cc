@@ -91,11 +91,14 @@ static bool by_strings() {
            !is_plainly_normal(FLUENT_URI_URI, parse(FLUENT_URI_URI, "http://A/b")) &&
            !is_plainly_normal(FLUENT_URI_URI, no) && by_pairs() && by_hosts() &&
            by_ascii_hosts() &&
-           is_normal(FLUENT_URI_URI, "http://a:8080/") && !is_normal(FLUENT_URI_URI, "http://A/") &&
-           compare(FLUENT_URI_URI, "HTTP://a:80/%7E", "http://a/~") == 0 &&
-           compare(FLUENT_URI_URI, "http://a", "") == -1 &&
-           compare(FLUENT_URI_URI, "b:", "A:") == 1 &&
-           hash(FLUENT_URI_URI, 1, "A:b") == hash(FLUENT_URI_URI, 1, "a:b") &&
+           is_normal(FLUENT_URI_URI, 0, "http://a:8080/") &&
+           !is_normal(FLUENT_URI_URI, 0, "http://A/") &&
+           !is_normal(FLUENT_URI_URI, FLUENT_URI_SCHEME_RULES, "http://a") &&
+           compare(FLUENT_URI_URI, 0, "HTTP://a:80/%7E", "http://a/~") == 0 &&
+           compare(FLUENT_URI_URI, FLUENT_URI_SCHEME_RULES, "HTTP://a:80", "http://a/") == 0 &&
+           compare(FLUENT_URI_URI, 0, "http://a", "") == -1 &&
+           compare(FLUENT_URI_URI, 0, "b:", "A:") == 1 &&
+           hash(FLUENT_URI_URI, 0, 1, "A:b") == hash(FLUENT_URI_URI, 0, 1, "a:b") &&
            version() >> 16 == FLUENT_URI_VERSION_MAJOR && !error_name(17) &&
            normal_version() == FLUENT_URI_NORMAL_VERSION &&
            *error_message(FLUENT_URI_UNEXPECTED_CHAR) == "unexpected character" &&

@@ -197,7 +197,8 @@ static void parse_returns_spans(const input *in) {
     HOLDS(is_normal_if_plain(in->kind, in->text, in->size, (int)in->component));
     HOLDS(has_host_of_its_kind(in->kind, in->text, in->size));
     HOLDS(has_ascii_host(in->kind, in->text, in->size));
-    HOLDS(is_order_of_normal_forms(in->kind, in->one, in->one_size, in->other, in->other_size));
+    HOLDS(is_order_of_normal_forms(in->kind, in->options, in->one, in->one_size, in->other,
+                                   in->other_size));
 }
 
 static uint8_t again[3 * ROOM];

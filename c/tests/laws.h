@@ -44,11 +44,11 @@ static inline int is_normal_if_plain(uint32_t kind, const uint8_t *text, size_t 
 }
 
 /* The key of a text: its normal form, or the text itself if it is not of the kind, which is told. */
-static inline int normal_key(uint32_t kind, const uint8_t *text, size_t size, uint8_t *out,
-                             size_t room, const uint8_t **key, size_t *key_size) {
+static inline int normal_key(uint32_t kind, uint32_t options, const uint8_t *text, size_t size,
+                             uint8_t *out, size_t room, const uint8_t **key, size_t *key_size) {
     fluent_uri_outcome outcome;
     *key = text, *key_size = size;
-    if (fluent_uri_normalize(kind, 0, text, size, out, room, NULL, 0, &outcome)) return 0;
+    if (fluent_uri_normalize(kind, options, text, size, out, room, NULL, 0, &outcome)) return 0;
     if (outcome.length > room) return -1;
     *key = out, *key_size = outcome.length;
     return 1;
@@ -56,36 +56,39 @@ static inline int normal_key(uint32_t kind, const uint8_t *text, size_t size, ui
 
 /* Two texts are compared as their normal forms are, those of the kind first. What is one key has one
  * hash, and a text is normal exactly if normalising it keeps it. */
-static inline int is_order_of_normal_forms(uint32_t kind, const uint8_t *a, size_t a_size,
-                                           const uint8_t *b, size_t b_size) {
+static inline int is_order_of_normal_forms(uint32_t kind, uint32_t options, const uint8_t *a,
+                                           size_t a_size, const uint8_t *b, size_t b_size) {
     static uint8_t a_out[1 << 16], b_out[1 << 16];
     const uint8_t *a_key, *b_key;
     size_t a_len, b_len;
     uint64_t a_hash, b_hash;
-    int of_kind = normal_key(kind, a, a_size, a_out, sizeof a_out, &a_key, &a_len);
-    int other_of_kind = normal_key(kind, b, b_size, b_out, sizeof b_out, &b_key, &b_len);
+    uint32_t found;
+    int of_kind = normal_key(kind, options, a, a_size, a_out, sizeof a_out, &a_key, &a_len);
+    int other_of_kind = normal_key(kind, options, b, b_size, b_out, sizeof b_out, &b_key, &b_len);
     int order = other_of_kind - of_kind;
     if (of_kind < 0 || other_of_kind < 0) return 1;
     if (order == 0 && (a_len < b_len ? a_len : b_len))
         order = memcmp(a_key, b_key, a_len < b_len ? a_len : b_len);
     if (order == 0) order = (a_len > b_len) - (a_len < b_len);
-    if (fluent_uri_compare(kind, a, a_size, b, b_size) != (uint32_t)((order > 0) - (order < 0) + 1))
-        return 0;
-    if (fluent_uri_hash(kind, a_size, a, a_size, &a_hash) != (uint32_t)of_kind) return 0;
-    if (fluent_uri_hash(kind, a_size, b, b_size, &b_hash) != (uint32_t)other_of_kind) return 0;
+    found = fluent_uri_compare(kind, options, a, a_size, b, b_size);
+    if (found != (uint32_t)((order > 0) - (order < 0) + 1)) return 0;
+    found = fluent_uri_hash(kind, options, a_size, a, a_size, &a_hash);
+    if (found != (uint32_t)of_kind) return 0;
+    found = fluent_uri_hash(kind, options, a_size, b, b_size, &b_hash);
+    if (found != (uint32_t)other_of_kind) return 0;
     if (order == 0 && a_hash != b_hash) return 0;
-    return fluent_uri_is_normal(kind, a, a_size) ==
+    return fluent_uri_is_normal(kind, options, a, a_size) ==
            (of_kind && a_len == a_size && memcmp(a_key, a, a_size) == 0);
 }
 
 /* Of three texts, the first and the last are in the order of the two steps between. */
-static inline int are_in_order(uint32_t kind, const uint8_t *a, size_t a_size, const uint8_t *b,
-                               size_t b_size, const uint8_t *c, size_t c_size) {
-    uint32_t ab = fluent_uri_compare(kind, a, a_size, b, b_size);
-    uint32_t bc = fluent_uri_compare(kind, b, b_size, c, c_size);
-    if (fluent_uri_compare(kind, b, b_size, a, a_size) != 2 - ab) return 0;
+static inline int are_in_order(uint32_t kind, uint32_t options, const uint8_t *a, size_t a_size,
+                               const uint8_t *b, size_t b_size, const uint8_t *c, size_t c_size) {
+    uint32_t ab = fluent_uri_compare(kind, options, a, a_size, b, b_size);
+    uint32_t bc = fluent_uri_compare(kind, options, b, b_size, c, c_size);
+    if (fluent_uri_compare(kind, options, b, b_size, a, a_size) != 2 - ab) return 0;
     if (ab > 1 || bc > 1) return 1;
-    return fluent_uri_compare(kind, a, a_size, c, c_size) == (ab < bc ? ab : bc);
+    return fluent_uri_compare(kind, options, a, a_size, c, c_size) == (ab < bc ? ab : bc);
 }
 
 /* An address has the octets of its kind of host, a port is a number if it has digits below 65536, and

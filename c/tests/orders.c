@@ -4,14 +4,22 @@
 
 #include "../../databases/random_texts.h"
 
+static int order_by(uint32_t kind, uint32_t options, const char *one, const char *other) {
+    return (int)fluent_uri_compare(kind, options, TEXT(one), TEXT(other)) - 1;
+}
+
 static int order(uint32_t kind, const char *one, const char *other) {
-    return (int)fluent_uri_compare(kind, TEXT(one), TEXT(other)) - 1;
+    return order_by(kind, 0, one, other);
+}
+
+static uint64_t hash_by(uint32_t kind, uint32_t options, uint64_t seed, const char *text) {
+    uint64_t found = 7;
+    CHECK(fluent_uri_hash(kind, options, seed, TEXT(text), &found) <= 1);
+    return found;
 }
 
 static uint64_t hash(uint32_t kind, uint64_t seed, const char *text) {
-    uint64_t found = 7;
-    CHECK(fluent_uri_hash(kind, seed, TEXT(text), &found) <= 1);
-    return found;
+    return hash_by(kind, 0, seed, text);
 }
 
 static void orders_texts(void) {
@@ -39,8 +47,30 @@ static void hashes_texts(void) {
     CHECK(hash(FLUENT_URI_URI, 5, "HTTP://a:80/%7E") == hash(4, 5, "http://a/~"));
     CHECK(hash(FLUENT_URI_URI, 5, "http://a") != hash(FLUENT_URI_URI, 6, "http://a"));
     uint64_t found;
-    CHECK(fluent_uri_hash(FLUENT_URI_URI, 0, TEXT("http://a"), &found) == 1);
-    CHECK(fluent_uri_hash(FLUENT_URI_URI, 0, TEXT("//a"), &found) == 0);
+    CHECK(fluent_uri_hash(FLUENT_URI_URI, 0, 0, TEXT("http://a"), &found) == 1);
+    CHECK(fluent_uri_hash(FLUENT_URI_URI, 0, 0, TEXT("//a"), &found) == 0);
+    CHECK(fluent_uri_hash(FLUENT_URI_URI, 1, 0, TEXT("http://a"), &found) == 0);
+}
+
+/* By the rules of schemes an empty path after an authority is `/`, and `localhost` is left out. */
+static void orders_texts_by_scheme(void) {
+    static const uint32_t rules = FLUENT_URI_SCHEME_RULES, kind = FLUENT_URI_URI;
+    CHECK(order_by(kind, rules, "HTTP://a:80", "http://a/") == 0);
+    CHECK(order_by(kind, rules, "file://LocalHost/a", "file:///a") == 0);
+    CHECK(order_by(kind, rules, "http://a?b", "http://a/~") < 0);
+    CHECK(order_by(kind, rules, "foo://a", "foo://a/") < 0);
+    CHECK(hash_by(kind, rules, 3, "http://a") == hash(4, 3, "http://a/"));
+    CHECK(hash_by(kind, rules, 3, "file://localhost/") == hash(4, 3, "file:///"));
+    CHECK(fluent_uri_is_normal(kind, rules, TEXT("http://a")) == 0);
+    CHECK(fluent_uri_is_normal(kind, rules, TEXT("http://a/")) == 1);
+    CHECK(fluent_uri_is_normal(kind, rules, TEXT("file://localhost/a")) == 0);
+    CHECK(fluent_uri_is_normal(kind, rules, TEXT("foo://localhost")) == 1);
+    /* Options that are unknown have no texts. */
+    for (uint32_t options = 1; options < 9; options += options == 1 ? 2 : 1) {
+        CHECK(order_by(kind, options, "http://a", "HTTP://a") > 0);
+        CHECK(fluent_uri_is_normal(kind, options, TEXT("http://a/")) == 0);
+        CHECK(hash_by(kind, options, 3, "HTTP://a") == hash(4, 3, "HTTP://a"));
+    }
 }
 
 static void finds_what_is_normal(void) {
@@ -48,10 +78,10 @@ static void finds_what_is_normal(void) {
     static const char *const others[] = {"http://a:80", "http://A/", "http://a/%7e", "http://a:/",
         "http://[::0:1]/", "a:/b/./", "A:", "a:%2f", "//a", "a b", ""};
     for (size_t i = 0; i < sizeof normal / sizeof *normal; i++)
-        CHECK(fluent_uri_is_normal(FLUENT_URI_URI, TEXT(normal[i])) == 1);
+        CHECK(fluent_uri_is_normal(FLUENT_URI_URI, 0, TEXT(normal[i])) == 1);
     for (size_t i = 0; i < sizeof others / sizeof *others; i++)
-        CHECK(fluent_uri_is_normal(FLUENT_URI_URI, TEXT(others[i])) == 0);
-    CHECK(fluent_uri_is_normal(4, TEXT("a:")) == 0);
+        CHECK(fluent_uri_is_normal(FLUENT_URI_URI, 0, TEXT(others[i])) == 0);
+    CHECK(fluent_uri_is_normal(4, 0, TEXT("a:")) == 0);
 }
 
 /* Random texts: any two are in the order that normalising both gives, and any three in an order. */
@@ -62,16 +92,18 @@ static void keeps_laws(long rounds) {
     seed_dice(1);
     for (long round = 0; round < rounds; round++) {
         int a = (int)(round % TEXTS), b = (int)dice(TEXTS), c = (int)dice(TEXTS);
-        uint32_t kind = dice(5);
+        uint32_t kind = dice(5), options = dice(2) * FLUENT_URI_SCHEME_RULES;
         lens[a] = random_text(texts[a], ROOM, 0);
-        CHECK(is_order_of_normal_forms(kind, texts[a], lens[a], texts[b], lens[b]));
-        CHECK(are_in_order(kind, texts[a], lens[a], texts[b], lens[b], texts[c], lens[c]));
+        CHECK(is_order_of_normal_forms(kind, options, texts[a], lens[a], texts[b], lens[b]));
+        CHECK(are_in_order(kind, options, texts[a], lens[a], texts[b], lens[b], texts[c],
+                           lens[c]));
     }
 }
 
 int main(int count, char **words) {
     orders_texts();
     hashes_texts();
+    orders_texts_by_scheme();
     finds_what_is_normal();
     keeps_laws(count > 1 ? atol(words[1]) : 100000);
     return ended("orders");

@@ -206,16 +206,21 @@ static long relativize_back(uint32_t kind) {
     return (long)at;
 }
 
+static long is_normal(uint32_t kind, uint32_t options) {
+    uint32_t found = fluent_uri_is_normal(kind, options, bytes(1), lengths[1]);
+    return sprintf(made, "%s", found ? "yes" : "no");
+}
+
 /* The order of two texts as keys, and whether their hashes say otherwise. */
-static long compare(uint32_t kind) {
+static long compare(uint32_t kind, uint32_t options) {
     static const char *const orders[] = {"less", "equal", "greater"};
     const uint8_t *one = bytes(1), *other = bytes(2);
-    uint32_t order = fluent_uri_compare(kind, one, lengths[1], other, lengths[2]);
-    if (fluent_uri_compare(kind, other, lengths[2], one, lengths[1]) != 2 - order)
+    uint32_t order = fluent_uri_compare(kind, options, one, lengths[1], other, lengths[2]);
+    if (fluent_uri_compare(kind, options, other, lengths[2], one, lengths[1]) != 2 - order)
         return sprintf(made, "not reversed");
     uint64_t first, second;
-    fluent_uri_hash(kind, 0, one, lengths[1], &first);
-    fluent_uri_hash(kind, 0, other, lengths[2], &second);
+    fluent_uri_hash(kind, options, 0, one, lengths[1], &first);
+    fluent_uri_hash(kind, options, 0, other, lengths[2], &second);
     int is_hashed_so = (first == second) == (order == 1);
     return sprintf(made, "%s%s", orders[order], is_hashed_so ? "" : ", and by another hash");
 }
@@ -254,10 +259,11 @@ static long run(const char *op, int count) {
     if (!strcmp(op, "normalize-by-rules"))
         return written(fluent_uri_normalize((uint32_t)kind, FLUENT_URI_SCHEME_RULES, bytes(1),
                                             lengths[1], VALUE));
-    if (!strcmp(op, "is-normal"))
-        return sprintf(made, fluent_uri_is_normal((uint32_t)kind, bytes(1), lengths[1]) ? "yes"
-                                                                                        : "no");
-    if (!strcmp(op, "compare")) return compare((uint32_t)kind);
+    if (!strcmp(op, "is-normal")) return is_normal((uint32_t)kind, 0);
+    if (!strcmp(op, "is-normal-by-rules"))
+        return is_normal((uint32_t)kind, FLUENT_URI_SCHEME_RULES);
+    if (!strcmp(op, "compare")) return compare((uint32_t)kind, 0);
+    if (!strcmp(op, "compare-by-rules")) return compare((uint32_t)kind, FLUENT_URI_SCHEME_RULES);
     if (!strcmp(op, "mend")) return mend((uint32_t)kind);
     if (!strcmp(op, "ascii-host")) return ascii_host((uint32_t)kind, p.host);
     /* Here the fragment of a base plays no part. */
@@ -312,6 +318,6 @@ int main(int argc, char **argv) {
         if (file) fclose(file);
     }
     printf("rows: %zu tried\n", tried);
-    CHECK(tried > 5400);
+    CHECK(tried > 5450);
     return ended("rows");
 }

@@ -37,6 +37,7 @@ INSERT INTO spelt VALUES ('http://b'), ('HTTP://A:80'), ('http://a'), ('a b'), (
 SELECT t, count(*) FROM spelt GROUP BY t ORDER BY t;
 SELECT t FROM spelt WHERE t = 'http://%61';
 SELECT count(*) FROM spelt WHERE t COLLATE IRI = 'http://A/é';
+SELECT count(*) FROM spelt WHERE t COLLATE URI_SCHEME_RULES = 'http://a/';
 -- Pairs of each row.
 CREATE TABLE queries (url TEXT);
 INSERT INTO queries VALUES ('x:?a=1&b=2'), ('x:?b=3'), ('x:y'), (NULL);

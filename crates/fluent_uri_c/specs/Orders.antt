@@ -9,10 +9,10 @@ use Rattle.std.specs.declared.cmp.Ordering.TheVariants.{Less, Equal, Greater}
 use Rattle.fluent_uri_c.specs.Fnv.{fnv_bytes}
 use Rattle.fluent_uri_c.specs.Results.{normalize_result}
 
--- the normal form, under the default ports of schemes, of bytes that are a text of the kind with
--- this number of the C header; other bytes have none
-abbrev pub normal_key : ℕ → List ℕ → Option (List ℕ)
-normal_key kind bytes = result_ok (normalize_result kind 0 bytes)
+-- the normal form of bytes that are a text of the kind; other bytes have none. The numbers are those
+-- of the kind and of the options in the C header.
+abbrev pub normal_key : ℕ → ℕ → List ℕ → Option (List ℕ)
+normal_key kind options bytes = result_ok (normalize_result kind options bytes)
 
 -- the order of two texts, byte by byte
 abbrev pub byte_order : List ℕ → List ℕ → Ordering
@@ -28,9 +28,10 @@ order_of_keys None None order = order
 
 -- the order of bytes for tables: texts of the kind by their normal forms, and after these all other
 -- bytes, as they are
-abbrev pub key_order : ℕ → List ℕ → List ℕ → Ordering
-key_order kind one other =
-    order_of_keys (normal_key kind one) (normal_key kind other) (byte_order one other)
+abbrev pub key_order : ℕ → ℕ → List ℕ → List ℕ → Ordering
+key_order kind options one other =
+    order_of_keys (normal_key kind options one) (normal_key kind options other)
+    (byte_order one other)
 
 -- the number of an order in the C header
 abbrev pub order_number : Ordering → ℕ
@@ -40,11 +41,12 @@ order_number Greater = 2
 
 -- bytes that are one key of a table: texts of the kind with one normal form, or the same bytes that
 -- are no such text
-abbrev pub AreOneKey : ℕ → List ℕ → List ℕ → Type 0
-AreOneKey kind one other =
-    ((normal : List ℕ) × ((normal_key kind one ≡ Some normal)
-    × (normal_key kind other ≡ Some normal)))
-    ⊎ ((normal_key kind one ≡ None) × ((normal_key kind other ≡ None) × (one ≡ other)))
+abbrev pub AreOneKey : ℕ → ℕ → List ℕ → List ℕ → Type 0
+AreOneKey kind options one other =
+    ((normal : List ℕ) × ((normal_key kind options one ≡ Some normal)
+    × (normal_key kind options other ≡ Some normal)))
+    ⊎ ((normal_key kind options one ≡ None)
+    × ((normal_key kind options other ≡ None) × (one ≡ other)))
 
 -- the state of FNV-1a from which the hash with a seed begins: the offset basis of 64 bits, and the
 -- seed
@@ -53,6 +55,7 @@ seeded seed = bit_xor 14695981039346656037 seed
 
 -- the hash of bytes for tables: FNV-1a of the normal form, from its last byte to its first, and
 -- then of 255. Bytes that are no text of the kind are hashed as they are.
-abbrev pub key_hash : ℕ → ℕ → List ℕ → ℕ
-key_hash kind seed bytes =
-    fnv_bytes (seeded seed) (reverse (unwrap_or (normal_key kind bytes) bytes) ++ 255 ∷ [])
+abbrev pub key_hash : ℕ → ℕ → ℕ → List ℕ → ℕ
+key_hash kind options seed bytes =
+    fnv_bytes (seeded seed)
+    (reverse (unwrap_or (normal_key kind options bytes) bytes) ++ 255 ∷ [])

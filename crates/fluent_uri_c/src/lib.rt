@@ -30,5 +30,6 @@ mod plain;
 mod queries;
 mod relative;
 mod rules;
+mod setting_order;
 mod single;
 mod texts;

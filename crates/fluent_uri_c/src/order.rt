@@ -1,6 +1,6 @@
 //! The order and the hash of texts by their normal forms, without memory.
 ghost use Rattle.std.specs.Prelude.{◌≡◌, ◌↔◌, ◌≤◌, ◌++◌, ◌∷◌, ℕ, List, [], Ok, is_some, reverse};
-ghost use Rattle.std.specs.Prelude.{false, true};
+ghost use Rattle.std.specs.Prelude.{true};
 ghost use Rattle.std.specs.Option.{unwrap_or};
 ghost use Rattle.std.specs.Result.{result_ok};
 ghost use Rattle.fluent_uri_c.specs.Fnv.{fnv_bytes};
@@ -9,20 +9,24 @@ ghost use Rattle.fluent_uri_c.specs.Orders.{order_number, order_of_keys, seeded}
 ghost use Rattle.fluent_uri_c.specs.Results.{normal_result, normalize_result};
 
 use crate::fnv::Fnv;
+use crate::numbered::rule_setting;
+use crate::setting_order;
 use crate::texts::parsed;
 use std::cmp::Ordering;
 use std::hash::Hasher;
-use uri_order::NormalOrder;
 use uri_parts::kind::{IriKind, IriRefKind, Kind, UriKind, UriRefKind};
+use uri_setting::RuleSetting;
 
 /// Returns the order of bytes for tables, by the normal forms of texts of the kind.
-fn order<K: Kind>(one: &[u8], other: &[u8]) -> Ordering
-    ensures { result ≡ order_of_keys (result_ok (normal_result false K.kind one.now))
-        (result_ok (normal_result false K.kind other.now)) (byte_order one.now other.now) }
+fn order<K: Kind>(setting: RuleSetting, one: &[u8], other: &[u8]) -> Ordering
+    ensures { result
+        ≡ order_of_keys (result_ok (normal_result setting.scheme_rules K.kind one.now))
+        (result_ok (normal_result setting.scheme_rules K.kind other.now))
+        (byte_order one.now other.now) }
 {
     match parsed::<K>(one) {
         Ok(first) => match parsed::<K>(other) {
-            Ok(second) => NormalOrder::new().cmp(&first, &second),
+            Ok(second) => setting_order::cmp(setting, &first, &second),
             Err(_) => Ordering::Less,
         },
         Err(_) => match parsed::<K>(other) {
@@ -32,15 +36,19 @@ fn order<K: Kind>(one: &[u8], other: &[u8]) -> Ordering
     }
 }
 
-/// Returns the order of bytes for tables, by the kind with this number of the header.
-fn order_by_kind(kind: u32, one: &[u8], other: &[u8]) -> Ordering
-    ensures { result ≡ key_order kind one.now other.now }
+/// Returns the order of bytes for tables, by the kind and the options with these numbers of the
+/// header.
+fn order_by_numbers(kind: u32, options: u32, one: &[u8], other: &[u8]) -> Ordering
+    ensures { result ≡ key_order kind options one.now other.now }
 {
+    let Some(setting) = rule_setting(options) else {
+        return one.cmp(other);
+    };
     match kind {
-        0 => order::<UriKind>(one, other),
-        1 => order::<UriRefKind>(one, other),
-        2 => order::<IriKind>(one, other),
-        3 => order::<IriRefKind>(one, other),
+        0 => order::<UriKind>(setting, one, other),
+        1 => order::<UriRefKind>(setting, one, other),
+        2 => order::<IriKind>(setting, one, other),
+        3 => order::<IriRefKind>(setting, one, other),
         _ => one.cmp(other),
     }
 }
@@ -48,11 +56,11 @@ fn order_by_kind(kind: u32, one: &[u8], other: &[u8]) -> Ordering
 /// Returns 0 if the first text is before the second, 1 if they are one key, and 2 if it is after the
 /// second: texts of the kind by their normal forms, and all other bytes after these. Takes no memory.
 #[unsafe(no_mangle)]
-pub extern "C" fn fluent_uri_compare(kind: u32, one: &[u8], other: &[u8]) -> u32
-    ensures order { result ≡ order_number (key_order kind one.now other.now) }
-    ensures same { (result ≡ 1) ↔ AreOneKey kind one.now other.now }
+pub extern "C" fn fluent_uri_compare(kind: u32, options: u32, one: &[u8], other: &[u8]) -> u32
+    ensures order { result ≡ order_number (key_order kind options one.now other.now) }
+    ensures same { (result ≡ 1) ↔ AreOneKey kind options one.now other.now }
 {
-    match order_by_kind(kind, one, other) {
+    match order_by_numbers(kind, options, one, other) {
         Ordering::Less => 0,
         Ordering::Equal => 1,
         Ordering::Greater => 2,
@@ -60,36 +68,40 @@ pub extern "C" fn fluent_uri_compare(kind: u32, one: &[u8], other: &[u8]) -> u32
 }
 
 /// Returns whether bytes are a text of the kind that is its own normal form.
-fn is_own_normal_form<K: Kind>(text: &[u8]) -> bool
-    ensures { (result ≡ true) ↔ (normal_result false K.kind text.now ≡ Ok text.now) }
+fn is_own_normal_form<K: Kind>(setting: RuleSetting, text: &[u8]) -> bool
+    ensures { (result ≡ true)
+        ↔ (normal_result setting.scheme_rules K.kind text.now ≡ Ok text.now) }
 {
     match parsed::<K>(text) {
-        Ok(value) => NormalOrder::new().is_normal(&value),
+        Ok(value) => setting_order::is_normal(setting, &value),
         Err(_) => false,
     }
 }
 
-/// Returns whether bytes are a text that is its own normal form, of the kind with this number of the
-/// header.
-fn is_own_normal_form_of_kind(kind: u32, text: &[u8]) -> bool
-    ensures { (result ≡ true) ↔ (normalize_result kind 0 text.now ≡ Ok text.now) }
+/// Returns whether bytes are a text that is its own normal form, by the kind and the options with
+/// these numbers of the header.
+fn is_own_normal_form_by_numbers(kind: u32, options: u32, text: &[u8]) -> bool
+    ensures { (result ≡ true) ↔ (normalize_result kind options text.now ≡ Ok text.now) }
 {
+    let Some(setting) = rule_setting(options) else {
+        return false;
+    };
     match kind {
-        0 => is_own_normal_form::<UriKind>(text),
-        1 => is_own_normal_form::<UriRefKind>(text),
-        2 => is_own_normal_form::<IriKind>(text),
-        3 => is_own_normal_form::<IriRefKind>(text),
+        0 => is_own_normal_form::<UriKind>(setting, text),
+        1 => is_own_normal_form::<UriRefKind>(setting, text),
+        2 => is_own_normal_form::<IriKind>(setting, text),
+        3 => is_own_normal_form::<IriRefKind>(setting, text),
         _ => false,
     }
 }
 
 /// Returns 1 exactly if a text is of the kind and its own normal form, and else 0. Takes no memory.
 #[unsafe(no_mangle)]
-pub extern "C" fn fluent_uri_is_normal(kind: u32, text: &[u8]) -> u32
+pub extern "C" fn fluent_uri_is_normal(kind: u32, options: u32, text: &[u8]) -> u32
     ensures number { result ≤ 1 }
-    ensures normal { (result ≡ 1) ↔ (normalize_result kind 0 text.now ≡ Ok text.now) }
+    ensures normal { (result ≡ 1) ↔ (normalize_result kind options text.now ≡ Ok text.now) }
 {
-    if is_own_normal_form_of_kind(kind, text) {
+    if is_own_normal_form_by_numbers(kind, options, text) {
         1
     } else {
         0
@@ -118,42 +130,48 @@ fn hash_from_end(bytes: &[u8], hasher: &mut Fnv)
     hasher.write_u8(0xFF);
 }
 
-/// Returns the hash of bytes for tables, and whether they are a text of the kind.
-fn hash<K: Kind>(seed: u64, text: &[u8]) -> (u64, bool)
-    ensures hash { result.0 ≡ fnv_bytes (seeded seed)
-        (reverse (unwrap_or (result_ok (normal_result false K.kind text.now)) text.now)
-        ++ 255 ∷ []) }
-    ensures text { result.1 ≡ is_some (result_ok (normal_result false K.kind text.now)) }
+/// Returns the hash of bytes for tables as they are.
+fn hash_of_bytes(seed: u64, bytes: &[u8]) -> u64
+    ensures { result ≡ fnv_bytes (seeded seed) (reverse bytes.now ++ 255 ∷ []) }
 {
     let mut hasher = seeded(seed);
+    hash_from_end(bytes, &mut hasher);
+    hasher.finish()
+}
+
+/// Returns the hash of bytes for tables, and whether they are a text of the kind.
+fn hash<K: Kind>(setting: RuleSetting, seed: u64, text: &[u8]) -> (u64, bool)
+    ensures hash { result.0 ≡ fnv_bytes (seeded seed)
+        (reverse (unwrap_or (result_ok (normal_result setting.scheme_rules K.kind text.now))
+        text.now) ++ 255 ∷ []) }
+    ensures text { result.1
+        ≡ is_some (result_ok (normal_result setting.scheme_rules K.kind text.now)) }
+{
     match parsed::<K>(text) {
         Ok(value) => {
-            NormalOrder::new().hash(&value, &mut hasher);
+            let mut hasher = seeded(seed);
+            setting_order::hash(setting, &value, &mut hasher);
             (hasher.finish(), true)
         }
-        Err(_) => {
-            hash_from_end(text, &mut hasher);
-            (hasher.finish(), false)
-        }
+        Err(_) => (hash_of_bytes(seed, text), false),
     }
 }
 
-/// Returns the hash of bytes for tables, and whether they are a text of the kind with this number of
-/// the header.
-fn hash_by_kind(kind: u32, seed: u64, text: &[u8]) -> (u64, bool)
-    ensures hash { result.0 ≡ key_hash kind seed text.now }
-    ensures text { result.1 ≡ is_some (normal_key kind text.now) }
+/// Returns the hash of bytes for tables, and whether they are a text of the kind, by the kind and the
+/// options with these numbers of the header.
+fn hash_by_numbers(kind: u32, options: u32, seed: u64, text: &[u8]) -> (u64, bool)
+    ensures hash { result.0 ≡ key_hash kind options seed text.now }
+    ensures text { result.1 ≡ is_some (normal_key kind options text.now) }
 {
+    let Some(setting) = rule_setting(options) else {
+        return (hash_of_bytes(seed, text), false);
+    };
     match kind {
-        0 => hash::<UriKind>(seed, text),
-        1 => hash::<UriRefKind>(seed, text),
-        2 => hash::<IriKind>(seed, text),
-        3 => hash::<IriRefKind>(seed, text),
-        _ => {
-            let mut hasher = seeded(seed);
-            hash_from_end(text, &mut hasher);
-            (hasher.finish(), false)
-        }
+        0 => hash::<UriKind>(setting, seed, text),
+        1 => hash::<UriRefKind>(setting, seed, text),
+        2 => hash::<IriKind>(setting, seed, text),
+        3 => hash::<IriRefKind>(setting, seed, text),
+        _ => (hash_of_bytes(seed, text), false),
     }
 }
 
@@ -161,14 +179,20 @@ fn hash_by_kind(kind: u32, seed: u64, text: &[u8]) -> (u64, bool)
 /// and else of itself, from the last byte to the first, and then of 255. Returns 1 if it is of the
 /// kind, and else 0. Takes no memory.
 #[unsafe(no_mangle)]
-pub extern "C" fn fluent_uri_hash(kind: u32, seed: u64, text: &[u8], hash: &mut u64) -> u32
-    ensures hash { hash.new ≡ key_hash kind seed text.now }
-    ensures text { (result ≡ 1) ↔ (is_some (normal_key kind text.now) ≡ true) }
+pub extern "C" fn fluent_uri_hash(
+    kind: u32,
+    options: u32,
+    seed: u64,
+    text: &[u8],
+    hash: &mut u64,
+) -> u32
+    ensures hash { hash.new ≡ key_hash kind options seed text.now }
+    ensures text { (result ≡ 1) ↔ (is_some (normal_key kind options text.now) ≡ true) }
     ensures number { result ≤ 1 }
-    ensures same { (other : List ℕ) → AreOneKey kind text.now other
-        → hash.new ≡ key_hash kind seed other }
+    ensures same { (other : List ℕ) → AreOneKey kind options text.now other
+        → hash.new ≡ key_hash kind options seed other }
 {
-    let (found, is_text) = hash_by_kind(kind, seed, text);
+    let (found, is_text) = hash_by_numbers(kind, options, seed, text);
     *hash = found;
     if is_text { 1 } else { 0 }
 }

@@ -5,6 +5,7 @@ from __future__ import annotations
 from typing import Any, Tuple, Type, Union
 
 from fluent_uri import Reference, Uri, _calls, _native, batch
+from fluent_uri._declarations import OPTIONS
 from fluent_uri._errors import utf8_of
 
 
@@ -24,15 +25,13 @@ def compare(
     (-1, 0)
 
     Texts that are not of the kind are after those that are, in the order of their bytes. So this is
-    a total order. With `scheme_rules` normal forms are those of `normalize(scheme_rules=True)`, and
-    are made; without it none is made.
+    a total order. With `scheme_rules` normal forms are those of `normalize(scheme_rules=True)`. No
+    normal form is made.
     """
-    if scheme_rules:
-        first, second = (sort_key(it, kind, scheme_rules=True) for it in (one, other))
-        return (first > second) - (first < second)
     data, further = _bytes_of(one), _bytes_of(other)
     number = _calls.kind_of(kind)
-    order: int = _native.compare(number, data, len(data), further, len(further))
+    options = OPTIONS["SCHEME_RULES"] if scheme_rules else 0
+    order: int = _native.compare(number, options, data, len(data), further, len(further))
     return order - 1
 
 

@@ -1,5 +1,5 @@
 -- The hasher of a text of the kind is given its normal form.
-use Rattle.std.proofs.Common.{◌∷◌, ◌++◌, [], false, reverse, ap, ◌∙◌}
+use Rattle.std.proofs.Common.{◌∷◌, ◌++◌, [], reverse, ap, ◌∙◌}
 use Rattle.std.specs.Option.{unwrap_or}
 use Rattle.std.specs.Result.{result_ok}
 use Rattle.fluent_uri.specs.References.{reference_text}
@@ -9,10 +9,10 @@ use Rattle.fluent_uri_c.proofs.Orders.{hash-of-text}
 use Rattle.fluent_uri_c.proofs.order.hash.Goals as goal
 
 pub returns-in-Ok-clause-hash : goal.returns-in-Ok-clause-hash
-returns-in-Ok-clause-hash g c = c.finish.ensures
-    ∙ hash-of-text g.K.Kind.kind c.args.text.now (reference_text c.in-Ok.value) _ _
-    c.in-Ok.ensures.rejected c.in-Ok.ensures.text c.hash.ensures.text
+returns-in-Ok-clause-hash g c = c.finish.ensures ∙ c.hash.ensures
+    ∙ hash-of-text c.args.setting.scheme_rules g.K.Kind.kind c.args.text.now
+    (reference_text c.in-Ok.value) _ c.in-Ok.ensures.rejected c.in-Ok.ensures.text
     ∙ ap (λ state. fnv_bytes state
-    (reverse (unwrap_or (result_ok (normal_result false g.K.Kind.kind c.args.text.now))
-    c.args.text.now) ++ 255 ∷ []))
+    (reverse (unwrap_or (result_ok (normal_result c.args.setting.scheme_rules g.K.Kind.kind
+    c.args.text.now)) c.args.text.now) ++ 255 ∷ []))
     c.seeded-hasher.ensures

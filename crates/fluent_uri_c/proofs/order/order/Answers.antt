@@ -5,8 +5,8 @@ use Rattle.fluent_uri_c.proofs.Orders.{order-of-two-texts}
 use Rattle.fluent_uri_c.proofs.order.order.Goals as goal
 
 pub returns-in-Ok-parsed : goal.returns-in-Ok-parsed
-returns-in-Ok-parsed g c = c.cmp.ensures.order
-    ∙ order-of-two-texts g.K.Kind.kind c.args.one.now c.args.other.now
-    (reference_text c.in-Ok.first) (reference_text c.in-Ok-parsed.second) _
+returns-in-Ok-parsed g c = c.cmp.ensures
+    ∙ order-of-two-texts c.args.setting.scheme_rules g.K.Kind.kind c.args.one.now
+    c.args.other.now (reference_text c.in-Ok.first) (reference_text c.in-Ok-parsed.second) _
     c.in-Ok.ensures.rejected c.in-Ok.ensures.text c.in-Ok-parsed.ensures.rejected
     c.in-Ok-parsed.ensures.text
