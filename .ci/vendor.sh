@@ -64,7 +64,7 @@ sed -i "s/^## $version/## 9.8.7\n\n## $version/" "$tree/CHANGELOG.md"
 for crate in $copied; do
     echo '// changed' >> "$tree/crates/$crate/src/lib.rt"
 done
-rm "$tree/crates/uri_relative/src/dots.rt"
+rm "$tree/crates/uri_relative/src/ends.rt"
 sed -i 's/^uri_links: .*/uri_links: fluent_uri uri_relative/' "$tree/crates.txt"
 vendor "$own"
 must 'the status of a second copy' 0 "$status"
