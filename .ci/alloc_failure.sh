@@ -1,9 +1,12 @@
 #!/bin/sh
-# Runs the tests of crates/alloc_failure while the n-th request for memory of each is refused, for n = 1, 2, .. until each
-# test has ended with none refused. A test prints `refused: CALL` for a call that answers out of memory, and
-# `refused none` where the refused request is the one that it makes itself behind its calls. So each of its runs has one
-# line or more up to the one that says `refused none`, and none behind: a call that passes over a refused request, and one
-# that answers out of memory where none is refused, are found.
+# Runs the tests of crates/alloc_failure while the n-th request for memory of each is denied, for
+# n = 1, 2, .. until none of a test's calls has a denied request.
+#
+# A test prints `refused: CALL` for a call that returns out of memory. It prints `refused none`
+# where the denied request is the one that the test makes itself after its calls. So each of its
+# runs has a line `refused: CALL` before the run that prints `refused none`, and none later. That
+# finds a call that passes over a denied request, and one that returns out of memory where none
+# was denied.
 set -u
 cd "$(dirname "$0")/../crates/alloc_failure" || exit 2
 at_once=${1:-4}
@@ -13,7 +16,8 @@ trap 'rm -rf "$work"' EXIT
 trap 'exit 1' HUP INT TERM
 tests=$(cat src/*.rt | grep -c '^#\[test\]$')
 
-# What the runs from $1 to $2 said: `TEST N LINE`, and `ran N HOW MANY` where no test failed or was skipped.
+# What the runs from $1 to $2 printed: `TEST N LINE`, and `ran N HOW MANY` where no test failed or
+# was skipped.
 said() {
     n=$1
     while [ "$n" -le "$2" ]; do
@@ -52,7 +56,7 @@ while [ "$first" -le "$most" ]; do
     first=$((last + 1))
 done
 
-# The last line that a test has is `refused none`, alone in its run, and each run before has another.
+# The last line of a test is `refused none`, alone in its run, and each run before has another line.
 awk -v tests="$tests" '
     $1 == "ran" { next }
     { runs[$1] = runs[$1] " " $2; if ($3 == "refused") { ends++; end[$1] = $2 } else calls[$1, $2] = 1 }

@@ -146,7 +146,7 @@ typedef struct {
     fluent_uri_span scheme, authority, userinfo, host, port, path, query, fragment;
 } fluent_uri_parts;
 
-/** Where the name and the value of a pair are in a query. The value of one without `=` is absent. */
+/** Where the name and the value of a query's pair are. Without `=` the value is absent. */
 typedef struct {
     fluent_uri_span name, value;
 } fluent_uri_pair;
@@ -205,15 +205,15 @@ uint32_t fluent_uri_is_normal(uint32_t kind, uint32_t options, const uint8_t *te
                               size_t text_len);
 
 /** Compares two texts as keys of a table: returns 0 if ONE is before OTHER, 1 if they are one key,
- * and 2 if ONE is after OTHER. Texts of the kind are in the order of the bytes of their normal forms
- * by the options of fluent_uri_normalize. They are one key exactly if they are equivalent. All other
- * bytes are after these, in the order of the bytes. An unknown kind has no texts, nor have unknown
- * options. For each kind and each options this is a total order on all bytes, as indexes and qsort
- * need it. Takes no memory. */
+ * and 2 if ONE is after OTHER. Texts of the kind are in the order of the bytes of their normal
+ * forms by the options of fluent_uri_normalize. They are one key exactly if they are equivalent.
+ * All other bytes are after these, in the order of the bytes. An unknown kind has no texts, nor
+ * have unknown options. For each kind and each options this is a total order on all bytes, as
+ * indexes and qsort need it. Takes no memory. */
 uint32_t fluent_uri_compare(uint32_t kind, uint32_t options, const uint8_t *one, size_t one_len,
                             const uint8_t *other, size_t other_len);
 
-/** Writes the hash of a text as a key of a table. Returns 1 if it is a text of the kind, and else 0.
+/** Writes the hash of a text as a key of a table. Returns 1 if it is a text of the kind, else 0.
  * What fluent_uri_compare finds to be one key by the same options has one hash. It is FNV-1a of 64
  * bits, which begins with 14695981039346656037 xor SEED: each byte is put in by xor, and the result
  * is multiplied by 1099511628211. The bytes are those of the normal form, or of a text that is not
@@ -238,9 +238,9 @@ uint32_t fluent_uri_port_number(uint32_t kind, const uint8_t *text, size_t text_
  * ASCII letters makes no difference: of `HTTP` it is 80. Takes no memory. */
 uint32_t fluent_uri_default_port(const uint8_t *scheme, size_t scheme_len);
 
-/** Writes the origin of a URI in ASCII, as `http://example.com:8080` (RFC 6454, section 6.2): scheme
- * and host of its normal form, and the port where it is not the scheme's default one. KIND is
- * FLUENT_URI_URI or FLUENT_URI_URI_REF: an IRI is converted first.
+/** Writes the origin of a URI in ASCII, as `http://example.com:8080` (RFC 6454, section 6.2): the
+ * scheme and the host of its normal form, and the port where it is not the scheme's default one.
+ * KIND is FLUENT_URI_URI or FLUENT_URI_URI_REF: an IRI is converted first.
  *
  * outcome->length is 0 if the text has no origin of its own: its scheme has no default port, as
  * `file`, `data` and `urn` have none; it has no host, or an empty one; or its port is above 65535.
@@ -310,9 +310,9 @@ uint32_t fluent_uri_build(uint32_t kind, const uint8_t *text, size_t text_len,
                           const fluent_uri_components *components, uint8_t *out, size_t out_len,
                           fluent_uri_parts *parts, size_t parts_len, fluent_uri_outcome *outcome);
 
-/** Writes an IRI or an IRI reference as a URI or a URI reference (RFC 3987, section 3.1). A host past
- * ASCII is percent-encoded too: a name that DNS does not have, and that is never equal to the one
- * that DNS has. For that one, call fluent_uri_to_uri_with_ascii_host. */
+/** Writes an IRI or an IRI reference as a URI or a URI reference (RFC 3987, section 3.1). A host
+ * past ASCII is percent-encoded too: a name that DNS does not have, and that is never equal to the
+ * one that DNS has. For that one, call fluent_uri_to_uri_with_ascii_host. */
 uint32_t fluent_uri_to_uri(uint32_t kind, const uint8_t *text, size_t text_len, uint8_t *out,
                            size_t out_len, fluent_uri_parts *parts, size_t parts_len,
                            fluent_uri_outcome *outcome);
@@ -352,9 +352,9 @@ uint32_t fluent_uri_decode(uint32_t component, const uint8_t *text, size_t text_
 uint32_t fluent_uri_encode(uint32_t component, const uint8_t *bytes, size_t bytes_len, uint8_t *out,
                            size_t out_len, fluent_uri_outcome *outcome);
 
-/** Writes a text as a component, of which some octets are percent-encoded already. Each `%` with two
- * hexadecimal digits after it stays, and so does each other character that the component may have.
- * All else is percent-encoded, a `%` without such digits too. */
+/** Writes a text as a component, of which some octets are percent-encoded already. Each `%` with
+ * two hexadecimal digits after it stays, and so does each other character that the component may
+ * have. All else is percent-encoded, a `%` without such digits too. */
 uint32_t fluent_uri_mend_component(uint32_t component, const uint8_t *text, size_t text_len,
                                    uint8_t *out, size_t out_len, fluent_uri_outcome *outcome);
 
