@@ -1,7 +1,8 @@
 -- General facts for all crates: on tests, and on components that may be absent.
 use Rattle.std.proofs.Common.{◌≡◌, ℕ, Bool, true, false, ◌&&◌, ◌||◌, List, refl, rules}
-use Rattle.std.proofs.Common.{option_map, sym}
+use Rattle.std.proofs.Common.{option_map, sym, not, cond, eqb, ◌<◌, arith}
 use Rattle.std.proofs.lemmas.Bool.{false≢true}
+use Rattle.std.proofs.lemmas.Bool.Decides.{nat_tests}
 use Rattle.std.specs.Prelude.{Option, Some, None, IsTrue, IfSome, is_some, is_none}
 
 -- what code tests as true is equal to true
@@ -51,6 +52,14 @@ None-from-not-is_some (Some x) e = absurd (false≢true (sym e))
 pub None-from-is_none : {A : Type 0} (o : Option A) → is_none o ≡ true → o ≡ None
 None-from-is_none None e = refl
 None-from-is_none (Some x) e = absurd (false≢true e)
+
+pub twice_negated_is_the_same : (b : Bool) → b ≡ not (not b)
+twice_negated_is_the_same true = refl
+twice_negated_is_the_same false = refl
+
+-- a bit that is 1 exactly where a test fails
+pub bit_is_failing_test : (n : ℕ) (b : Bool) → n < 2 → eqb n 1 ≡ not b → n ≡ cond (not b) 1 0
+bit_is_failing_test n b h e = grind (arith, nat_tests)
 
 pub and_true_is_the_same : (b : Bool) → (b && true) ≡ b
 and_true_is_the_same true = refl

@@ -16,8 +16,7 @@ use Rattle.uri_pct.proofs.UnreservedDecoding.DecodedTokens.{printed_decode_unres
 use Rattle.uri_pct.proofs.UnreservedDecoding.DecodedTokens.{decode_tokens_keeps_tokens_printable}
 use Rattle.uri_pct.proofs.UnreservedDecoding.DecodedTokens.{char_separates_decoded_tokens}
 use Rattle.uri_pct.proofs.UnreservedDecoding.DecodedTokens.{decodable_char_octets_decode_as_char}
-use Rattle.uri_pct.proofs.UnreservedDecoding.DecodedTokens.{printed_octets_of_decodable_char_decode_as_char}
-use Rattle.uri_pct.proofs.UnreservedDecoding.DecodedTokens.{decode_unreserved_leaves_no_literal_formatting}
+use Rattle.uri_pct.proofs.UnreservedDecoding.DecodedTokens as DecodedTokens
 use Rattle.uri_pct.proofs.UnreservedDecoding.Octets.{text_is_decoded_octet_by_octet_in_uri}
 use Rattle.uri_pct.proofs.UnreservedDecoding.DecodedTwice.{decode_tokens_is_idempotent}
 use Rattle.uri_pct.proofs.UnreservedDecoding.DecodedTwice.{decode_unreserved_is_idempotent}
@@ -25,7 +24,7 @@ use Rattle.uri_pct.proofs.UnreservedDecoding.DecodedTwice.{decoding_keeps_lowere
 use Rattle.uri_pct.proofs.UnreservedDecoding.DecodedTwice.{decoding_keeps_lowered_decoded_text}
 use Rattle.uri_pct.proofs.UnreservedDecoding.Representations.{represented_tokens_are_tokens_of_text}
 use Rattle.uri_pct.proofs.UnreservedDecoding.Representations.{text_represents_its_printable_tokens}
-use Rattle.uri_pct.proofs.UnreservedDecoding.Representations.{text_is_valid_iff_it_represents_allowed_tokens}
+use Rattle.uri_pct.proofs.UnreservedDecoding.Representations as Representations
 use Rattle.uri_pct.proofs.EncodedTexts.EncodingLaws.{joined_tokens_decode_to_joined_bytes}
 use Rattle.uri_pct.proofs.EncodedTexts.EncodingLaws.{encoded_text_parses_to_its_tokens}
 use Rattle.uri_pct.proofs.EncodedTexts.Encodings.{encoded_text_decodes_to_itself}
@@ -53,8 +52,8 @@ pub ruleset decoding_laws = (
   decode_tokens_keeps_tokens_printable,
   char_separates_decoded_tokens,
   decodable_char_octets_decode_as_char,
-  printed_octets_of_decodable_char_decode_as_char,
-  decode_unreserved_leaves_no_literal_formatting,
+  DecodedTokens.printed_octets_of_decodable_char_decode_as_char,
+  DecodedTokens.decode_unreserved_leaves_no_literal_formatting,
   text_is_decoded_octet_by_octet_in_uri,
   decode_tokens_is_idempotent,
   decode_unreserved_is_idempotent,
@@ -76,5 +75,5 @@ pub ruleset encoding_laws = (
 pub ruleset representation_laws = (
   represented_tokens_are_tokens_of_text,
   text_represents_its_printable_tokens,
-  text_is_valid_iff_it_represents_allowed_tokens,
+  Representations.text_is_valid_iff_it_represents_allowed_tokens,
 )

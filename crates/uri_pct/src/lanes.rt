@@ -5,9 +5,7 @@ ghost use Rattle.std.specs.Prelude.{List, bit_and};
 ghost use Rattle.std.specs.Simd.Lanes.{mask_l, chunk};
 ghost use Rattle.std.specs.Int.{bit_at};
 ghost use Rattle.uri_pct.specs.Delimiters.{percent_sign};
-ghost use Rattle.uri_pct.specs.Models.ByteRuns.{IsLongestRun, AreCharactersOrOctets};
-ghost use Rattle.uri_pct.specs.Models.ByteRuns.{IsByteOfEncodedText};
-ghost use Rattle.uri_pct.specs.Models.ByteRuns.{is_char_byte};
+ghost use Rattle.uri_pct.specs.Models.ByteRuns.{IsLongestRun, AreCharactersOrOctets, is_char_byte};
 ghost use Rattle.uri_pct.specs.Texts.{has_hex_digits_after};
 ghost use Rattle.uri_pct.specs.Models.LaneMasks.{bytes_of_masks, bit_in_mask_byte};
 ghost use Rattle.uri_pct.specs.Models.LaneMasks.{is_lane_of_octet};
@@ -40,8 +38,8 @@ fn mask_bytes(low: u64, high: u64, indices: u8x16) -> u8x16
     bytes.swizzle_dyn_within::<16>(indices)
 }
 
-// Each bit is in the vector twice, so that four bits of a byte choose it. x86-64's instruction reads
-// these four and bit 7, and LLVM drops the `&` before it.
+// Each bit is in the vector twice, so that four bits of a byte choose it. The instruction of x86-64
+// reads these four and bit 7, and LLVM drops the `&` before it.
 /// Returns for each lane the bit of its byte in the byte of the masks that has it, and none from
 /// 128 on.
 #[inline(always)]
@@ -83,7 +81,7 @@ fn outside_by_keys(low: u64, high: u64, indices: u8x16, bits: u8x16) -> u64
 
 /// Returns which of the sixteen bytes from `at` on are outside the set: bit k is of `at + k`.
 #[inline]
-fn outside(low: u64, high: u64, bytes: &[u8], at: usize) -> u64
+pub(crate) fn outside(low: u64, high: u64, bytes: &[u8], at: usize) -> u64
     requires { at + LANES ≤ length bytes.now }
     ensures { result ≡ mask_l (map (λ b. not (has_bit low high b)) (chunk at 16 bytes.now)) }
 {
@@ -240,16 +238,6 @@ pub fn chars_end(low: u64, high: u64, bytes: &[u8], start: usize) -> usize
     i + mask.trailing_zeros() as usize
 }
 
-/// Returns which of the sixteen bytes from `at` on are no hexadecimal digits.
-#[inline(always)]
-fn lanes_without_hex_digit(bytes: &[u8], at: usize) -> u64
-    requires { at + LANES ≤ length bytes.now }
-    ensures { result ≡ mask_l (map (λ b. not (has_bit 0x03FF000000000000 0x0000007E0000007E b))
-        (chunk at 16 bytes.now)) }
-{
-    outside(0x03FF_0000_0000_0000, 0x0000_007E_0000_007E, bytes, at)
-}
-
 /// Returns a mask of the sixteen bytes from `at` on: those at which a `%XX` begins that also ends
 /// among them. The other mask is of those that are no hexadecimal digits.
 #[inline]
@@ -334,75 +322,4 @@ pub(crate) fn first_run_end(
     }
     let end = block + last.trailing_zeros() as usize;
     (end, bytes[end] != b'%')
-}
-
-/// Returns a mask of the sixteen bytes from `at` on. It has those that are neither in the set nor a
-/// `%`, and those that are no hexadecimal digit where one of the two bytes before is a `%`.
-#[inline(always)]
-fn outside_encoded(low: u64, high: u64, bytes: &[u8], at: usize) -> u64
-    requires before { 2 ≤ at }
-    requires within { at + LANES ≤ length bytes.now }
-    ensures below { result < 2 ^ 16 }
-    ensures lane { (k : ℕ) → k < 16 → bit_at result k ≡ 0
-        → IsByteOfEncodedText (has_bit low high) bytes.now (at + k) }
-{
-    let digits = lanes_equal_to(b'%', bytes, at - 1) | lanes_equal_to(b'%', bytes, at - 2);
-    let no_octet = !lanes_equal_to(b'%', bytes, at);
-    let missed = lanes_without_hex_digit(bytes, at) & digits;
-    (outside(low, high, bytes, at) & no_octet) | missed
-}
-
-/// Returns where a run of bytes of encoded text ends that begins at `start`. Such a byte is in the
-/// set or is a `%`, and is a hexadecimal digit where one of the two bytes before it is a `%`. The
-/// blocks of sixteen bytes do not depend on where octets begin, so that a processor need not wait
-/// for one block to begin the next. As in `run_end` the last sixteen are scanned again.
-#[inline(always)]
-fn linked_run_end(low: u64, high: u64, bytes: &[u8], start: usize) -> usize
-    requires before { 2 ≤ start }
-    requires within { start ≤ length bytes.now }
-    requires long { LANES + 2 ≤ length bytes.now }
-    ensures from { start ≤ result }
-    ensures within { result ≤ length bytes.now }
-    ensures linked { (k : ℕ) → start ≤ k → k < result
-        → IsByteOfEncodedText (has_bit low high) bytes.now k }
-{
-    let len = bytes.len();
-    let mut i = start;
-    while len - i > LANES {
-        let mask = outside_encoded(low, high, bytes, i);
-        if mask != 0 {
-            return i + mask.trailing_zeros() as usize;
-        }
-        i += LANES;
-    }
-    let last = len - LANES;
-    let tail = outside_encoded(low, high, bytes, last);
-    let mask = tail >> (i - last);
-    if mask == 0 {
-        return len;
-    }
-    i + mask.trailing_zeros() as usize
-}
-
-/// Returns where a run of bytes of the set and of octets ends that begins at `start`.
-#[inline(always)]
-pub fn encoded_run_end(low: u64, high: u64, bytes: &[u8], start: usize) -> usize
-    requires before { 2 ≤ start }
-    requires within { start ≤ length bytes.now }
-    requires long { LANES + 2 ≤ length bytes.now }
-    ensures from { start ≤ result }
-    ensures within { result ≤ length bytes.now }
-    ensures allowed { AreCharactersOrOctets (has_bit low high) bytes.now start (result - start) }
-{
-    let end = linked_run_end(low, high, bytes, start);
-    if end - start < 2 {
-        return start;
-    }
-    if bytes[end - 1] == b'%' {
-        return end - 1;
-    }
-    if bytes[end - 2] == b'%' {
-        return end - 2;
-    }
-    end
 }

@@ -67,7 +67,7 @@ pub fn texts_represent_only_their_tokens()
 /// a character boundary, and no longer one is both (RFC 3986, section 2.1).
 ///
 /// For the set of a path, it is 5 of `a%20b%2` and 2 of `é` in an IRI.
-#[tactic(auto, using(crate::proofs::ValidTexts::LongestPrefixes::valid_prefix_ends_at_boundary, crate::proofs::ValidTexts::LongestPrefixes::valid_prefix_is_valid, crate::proofs::ValidTexts::LongestPrefixes::valid_prefix_is_longest))]
+#[tactic(auto, using(crate::proofs::ValidTexts::LongestPrefixes::longest_prefix))]
 pub fn valid_prefixes_are_longest()
     ensures boundary { (set : TableSet) (text : List ℕ) → LacksPercent set → IsUtf8 text
         → IsCharBoundary text (valid_prefix set text) }

@@ -8,6 +8,7 @@ pub mod decode;
 mod decode_text;
 #[doc(hidden)]
 pub mod encode;
+mod encoded_runs;
 pub mod encoder;
 mod estring;
 #[doc(hidden)]

@@ -49,7 +49,7 @@ impl<'a, E: Encoder> Clone for EStr<'a, E> {
 
 impl<'a, E: Encoder> Copy for EStr<'a, E> {}
 
-#[tactic(auto, using(crate::proofs::ValidTexts::EStrs::empty_text_is_valid, crate::proofs::ValidTexts::EStrs::printed_octet_is_valid, crate::proofs::ValidTexts::EStrs::valid_for_superset))]
+#[tactic(auto, using(crate::proofs::ValidTexts::EStrs::valid_texts))]
 impl<'a, E: Encoder> EStr<'a, E> {
     ghost use Rattle.uri_pct.specs.EncodedTexts.{text_of};
 

@@ -10,7 +10,8 @@ ghost use Rattle.uri_pct.specs.Texts.{has_hex_digits_after};
 ghost use Rattle.uri_pct.specs.Tables.{set_of as set_of_table};
 ghost use Rattle.uri_pct.specs.Tokens.{is_valid_for};
 
-use crate::lanes::{LANES, chars_end, encoded_run_end, first_run_end, run_end};
+use crate::encoded_runs::encoded_run_end;
+use crate::lanes::{LANES, chars_end, first_run_end, run_end};
 use crate::masks::has;
 use crate::table::Table;
 use crate::table::members::{run_end_by_members, run_end_by_words};
@@ -28,9 +29,9 @@ fn has_octet_digits(bytes: &[u8], index: usize) -> bool
         && bytes[index + 2].is_ascii_hexdigit()
 }
 
-/// Returns where the longest run of bytes ends that begins at `start` and of which each is in the set
-/// or is a part of one of the characters from U+00C0 to U+D7FF. It calls no other function, so it
-/// saves few registers.
+/// Returns where the longest run of bytes ends that begins at `start` and of which each is in the
+/// set or is a part of one of the characters from U+00C0 to U+D7FF. It calls no other function, so
+/// it saves few registers.
 #[inline(never)]
 fn char_run_end(start: usize, text: &str, low: u64, high: u64) -> usize
     requires { start ≤ length text.now }
@@ -159,8 +160,8 @@ impl Table {
         self.pass_ascii(text, start, false)
     }
 
-    /// Returns where the characters of ASCII and the octets end that begin at `start`, of those that
-    /// the table allows. In most texts the first block shows it.
+    /// Returns where the characters of ASCII and the octets end that begin at `start`, of those
+    /// that the table allows. In most texts the first block shows it.
     #[inline(always)]
     fn pass_encoded(&self, text: &str, start: usize) -> usize
         requires { IsCharBoundary text.now start }
@@ -304,7 +305,7 @@ impl Table {
 
     /// Returns whether a scan passes the whole text:
     /// the table allows each character and octet of it.
-    #[tactic(auto, using(crate::proofs::ValidTexts::Cuts::is_valid_for_is_scanned_to_end, crate::proofs::TableSets::Percent::lacks_percent))]
+    #[tactic(auto, using(crate::proofs::ValidTexts::Cuts::scan_of_table_decides))]
     #[doc(hidden)]
     pub fn allows_text(&self, text: &str) -> bool
         ensures { result ≡ is_valid_for (set_of self.now) text.now }

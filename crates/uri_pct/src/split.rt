@@ -115,7 +115,8 @@ impl<'a, E: Encoder> EStr<'a, E> {
     pub fn split_once(self, delimiter: char) -> Option<(EStr<'a, E>, EStr<'a, E>)>
         requires { IsTrue (is_reserved delimiter) }
         ensures { MatchOption result (IsTrue (lacks delimiter (text_of self.entry)))
-            (λ pair. IsCutAtFirst delimiter (text_of self.entry) (text_of pair.0) (text_of pair.1)) }
+            (λ pair. IsCutAtFirst delimiter (text_of self.entry) (text_of pair.0)
+            (text_of pair.1)) }
     {
         let (before, after) = self.as_str().split_once(delimiter)?;
         Some((EStr::new_or_panic(before), EStr::new_or_panic(after)))

@@ -341,7 +341,7 @@ fn are_unencoded_ascii(bytes: &[u8]) -> bool
 }
 
 /// Returns whether a character is of the rule `ucschar` (RFC 3987, section 2.2).
-#[tactic(auto, using(std::proofs::lemmas::Bool::Decides::nat_tests, crate::proofs::TableSets::Ranges::ucschar_below_plane_1_is_low_ucschar, crate::proofs::TableSets::Ranges::ucschar_of_planes_1_to_13_lacks_last_two, crate::proofs::TableSets::Ranges::ucschar_from_plane_14_is_one_range))]
+#[tactic(auto, using(crate::proofs::TableSets::Ranges::ucschar_ranges))]
 fn is_ucschar(ch: char) -> bool
     ensures { result ≡ is_ucschar ch }
 {
@@ -356,7 +356,7 @@ fn is_ucschar(ch: char) -> bool
 }
 
 /// Returns whether a character is of the rule `iprivate` (RFC 3987, section 2.2).
-#[tactic(auto, using(std::proofs::lemmas::Bool::Decides::nat_tests, crate::proofs::TableSets::Ranges::iprivate_is_three_ranges))]
+#[tactic(auto, using(crate::proofs::TableSets::Ranges::iprivate_ranges))]
 fn is_iprivate(ch: char) -> bool
     ensures { result ≡ is_iprivate ch }
 {

@@ -74,7 +74,8 @@ module _ (bs : List ℕ) (i : ℕ) (room : i + 16 < length bs) (slashes dots oct
     pub no_slash_dot_before_first_lane : (k : ℕ) → k < trailing_zeros w64 slash_dot_mask
         → is_slash_before_dot_or_percent bs (i + k) ≡ false
     no_slash_dot_before_first_lane k h = sym
-        (mask_bit_is_slash_dot_at_lane k (omega (arith, h, trailing_zeros_is_first_slash_dot_lane.0)))
+        (mask_bit_is_slash_dot_at_lane k
+        (omega (arith, h, trailing_zeros_is_first_slash_dot_lane.0)))
         ∙ ap (λ m. eqb m 1) (trailing_zeros_is_first_slash_dot_lane.2 k h)
 
     pub slash_is_at_first_slash_dot_lane : get_or bs (i + trailing_zeros w64 slash_dot_mask) 0 ≡ 47

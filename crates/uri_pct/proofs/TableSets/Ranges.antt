@@ -115,3 +115,13 @@ pub iprivate_is_three_ranges : (c : ℕ)
     || is_in_range 0x100000 0x10FFFD c)
 unfolding is_iprivate
 iprivate_is_three_ranges c = refl
+
+-- for the functions that test a character
+pub ruleset ucschar_ranges = (
+  nat_tests,
+  ucschar_below_plane_1_is_low_ucschar,
+  ucschar_of_planes_1_to_13_lacks_last_two,
+  ucschar_from_plane_14_is_one_range,
+)
+
+pub ruleset iprivate_ranges = (nat_tests, iprivate_is_three_ranges)

@@ -307,11 +307,13 @@ well_formed_pieces_are_characters b = found_row_has_property_of_all_rows b
               (λ c t k1 k2 k3 k4. (omega arith, omega arith, low_scalar c (omega arith))),
           (
             λ e. let h = byte_within_bounds b 0xE1 0xEC e in
-                pieces_of_three_bytes_are_characters b continuation (omega arith) (lit≤ tt) (lit≤ tt)
+                pieces_of_three_bytes_are_characters b continuation (omega arith)
+                (lit≤ tt) (lit≤ tt)
                 (λ c t k1 k2 k3 k4. (omega arith, omega arith, low_scalar c (omega arith))),
             (
               λ e. let h = byte_within_bounds b 0xED 0xED e in
-                  pieces_of_three_bytes_are_characters b (0x80, 0x9F) (omega arith) (lit≤ tt) (lit≤ tt)
+                  pieces_of_three_bytes_are_characters b (0x80, 0x9F) (omega arith)
+                  (lit≤ tt) (lit≤ tt)
                   (λ c t k1 k2 k3 k4. (omega arith, omega arith, low_scalar c (omega arith))),
               (
                 λ e. let h = byte_within_bounds b 0xEE 0xEF e in

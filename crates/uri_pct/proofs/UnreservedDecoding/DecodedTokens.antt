@@ -33,7 +33,7 @@ use Rattle.uri_pct.proofs.UnreservedDecoding.Formatting.{never_literal_char_is_d
 use Rattle.uri_pct.proofs.UnreservedDecoding.Formatting.{encode_formatting_keeps_bytes}
 use Rattle.uri_pct.proofs.UnreservedDecoding.Formatting.{encode_formatting_keeps_tokens_printable}
 use Rattle.uri_pct.proofs.UnreservedDecoding.Formatting.{encode_formatting_keeps_tokens_allowed}
-use Rattle.uri_pct.proofs.UnreservedDecoding.Formatting.{encode_formatting_leaves_no_literal_formatting}
+use Rattle.uri_pct.proofs.UnreservedDecoding.Formatting as Formatting
 use Rattle.uri_pct.proofs.EncodedTexts.Encodings.{octets_decode_to_their_bytes}
 use Rattle.std.proofs.lemmas.Bool.Decides.{nat_tests}
 
@@ -307,4 +307,5 @@ pub decode_unreserved_leaves_no_literal_formatting : (set : TableSet) (text : Li
     → (set.ucschar && set.pct_encoded) ≡ true
     → list_any is_literal_formatting (decode_unreserved set text) ≡ false
 decode_unreserved_leaves_no_literal_formatting set text e =
-    encode_formatting_leaves_no_literal_formatting set (decode_tokens set (tokens text)) e
+    Formatting.encode_formatting_leaves_no_literal_formatting set (decode_tokens set (tokens text))
+    e

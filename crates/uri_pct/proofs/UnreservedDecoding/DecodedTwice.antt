@@ -20,8 +20,7 @@ use Rattle.uri_pct.proofs.Unicode.Pieces.{tail_of_pieces_is_of_own_bytes}
 use Rattle.uri_pct.proofs.UnreservedDecoding.Printing.{printed_tokens_parse_to_themselves}
 use Rattle.uri_pct.proofs.ValidTexts.Allowed.{lowered_tokens_are_printable}
 use Rattle.uri_pct.proofs.UnreservedDecoding.Formatting.{encode_formatting_commutes_with_lowering}
-use Rattle.uri_pct.proofs.UnreservedDecoding.DecodedTokens.{decode_unreserved_keeps_tokens_printable}
-use Rattle.uri_pct.proofs.UnreservedDecoding.DecodedTokens.{octets_of_formatting_chars_decode_as_chars}
+use Rattle.uri_pct.proofs.UnreservedDecoding.DecodedTokens as DecodedTokens
 
 -- unreserved octets: no octet of a run decodes to a character
 abbrev StaysOctets : TableSet → List ℕ → Type 0
@@ -172,8 +171,8 @@ decode_unreserved_is_idempotent set text e =
     let ts = decode_tokens set (tokens text) in
     ap (λ us. encode_formatting set (decode_tokens set us))
     (printed_tokens_parse_to_themselves (decode_unreserved set text)
-    (decode_unreserved_keeps_tokens_printable set text e))
-    ∙ ap (encode_formatting set) (octets_of_formatting_chars_decode_as_chars set [] ts
+    (DecodedTokens.decode_unreserved_keeps_tokens_printable set text e))
+    ∙ ap (encode_formatting set) (DecodedTokens.octets_of_formatting_chars_decode_as_chars set [] ts
     ∙ decode_tokens_is_idempotent set (tokens text))
 
 -- unreserved octets: decoded tokens in lower case are decoded; run: the octets before them
@@ -204,10 +203,10 @@ decoding_keeps_lowered_decoded_text set text e =
     ap (λ us. encode_formatting set (decode_tokens set us))
     (printed_tokens_parse_to_themselves (map lower_token (decode_unreserved set text))
     (lowered_tokens_are_printable (decode_unreserved set text)
-    (decode_unreserved_keeps_tokens_printable set text e)))
+    (DecodedTokens.decode_unreserved_keeps_tokens_printable set text e)))
     ∙ ap (λ us. encode_formatting set (decode_tokens set us))
     (encode_formatting_commutes_with_lowering set ts)
-    ∙ ap (encode_formatting set) (octets_of_formatting_chars_decode_as_chars set []
+    ∙ ap (encode_formatting set) (DecodedTokens.octets_of_formatting_chars_decode_as_chars set []
     (map lower_token ts)
     ∙ decoding_keeps_lowered_decoded_tokens set (tokens text))
     ∙ sym (encode_formatting_commutes_with_lowering set ts)

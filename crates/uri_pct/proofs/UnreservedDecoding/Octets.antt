@@ -22,7 +22,7 @@ use Rattle.uri_pct.proofs.Unicode.CharacterPieces.{first_piece_is_of_character}
 use Rattle.uri_pct.proofs.Unicode.CharacterPieces.{char_of_utf8_is_the_char}
 use Rattle.uri_pct.proofs.Unicode.FirstBytes.{no_range_follows_ascii_byte}
 use Rattle.uri_pct.proofs.ValidTexts.Allowed.{unreserved_is_ascii}
-use Rattle.uri_pct.proofs.UnreservedDecoding.Formatting.{encode_formatting_without_flags_keeps_tokens}
+use Rattle.uri_pct.proofs.UnreservedDecoding.Formatting as Formatting
 use Rattle.uri_pct.proofs.General.{or_false_is_the_same}
 use Rattle.std.proofs.lemmas.Bool.Decides.{nat_tests}
 
@@ -170,6 +170,7 @@ tokens_are_decoded_octet_by_octet_in_uri set run (Char c ∷ ts) alone =
 pub text_is_decoded_octet_by_octet_in_uri : (set : TableSet) (text : List ℕ) → LacksPastAscii set
     → decode_unreserved set text ≡ map decode_octet (tokens text)
 text_is_decoded_octet_by_octet_in_uri set text alone =
-    encode_formatting_without_flags_keeps_tokens set (decode_after_run set [] (tokens text))
+    Formatting.encode_formatting_without_flags_keeps_tokens set
+    (decode_after_run set [] (tokens text))
     (ap (λ b. b && set.pct_encoded) alone.0)
     ∙ tokens_are_decoded_octet_by_octet_in_uri set [] (tokens text) alone

@@ -19,6 +19,7 @@ use Rattle.uri_pct.specs.Tokens.{is_valid_for}
 use Rattle.uri_pct.specs.Prefixes.{begins_with_hex_digits, allows_first}
 use Rattle.uri_pct.specs.Prefixes.{valid_prefix_from, valid_prefix}
 use Rattle.uri_pct.proofs.Unicode.Characters.{hexdigit_is_ascii}
+use Rattle.uri_pct.proofs.TableSets.Percent.{lacks_percent}
 use Rattle.uri_pct.proofs.ValidTexts.Validity.{valid_from, validity_by_first_byte}
 use Rattle.uri_pct.proofs.ValidTexts.Validity.{validity_of_tokens_is_validity_of_bytes}
 use Rattle.uri_pct.proofs.ValidTexts.Validity.{ascii_first_byte_is_allowed_iff_in_set}
@@ -299,3 +300,6 @@ is_valid_for_is_scanned_to_end set text lacks u =
     ∙ ap (λ n. take n text) (sym (length_before_no_marks_is_length text)))
     ∙ cut [] set lacks refl text u
     ∙ ap (eqb (valid_prefix set text)) (length_before_no_marks_is_length text)
+
+-- for the scan of a whole text
+pub ruleset scan_of_table_decides = (is_valid_for_is_scanned_to_end, lacks_percent)

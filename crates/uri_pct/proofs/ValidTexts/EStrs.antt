@@ -58,3 +58,6 @@ printed_octet_is_valid set byte small e =
     printed_tokens_are_valid_iff_allowed set (Octet byte ∷ [])
     (and_from _ true (lt-ltb byte 256 small) refl)
     ∙ and_from _ true e refl
+
+-- for the types of texts
+pub ruleset valid_texts = (empty_text_is_valid, printed_octet_is_valid, valid_for_superset)

@@ -273,3 +273,10 @@ module _ (set : TableSet) (lacks : LacksPercent set) where
       let m = ap length (encodes-chars (take n text) w) ∙ length-take-le n text b.0 in
       let k = ap (valid_prefix set) e in
       omega (arith, l, m, k)
+
+-- for the law of prefixes
+pub ruleset longest_prefix = (
+  valid_prefix_ends_at_boundary,
+  valid_prefix_is_valid,
+  valid_prefix_is_longest,
+)

@@ -1,4 +1,4 @@
-//! Bytes of the sets that texts are parsed by, one at a time: for texts of fewer bytes than a block.
+//! Bytes of the sets that texts are parsed by, one at a time: for texts shorter than a block.
 ghost use Rattle.std.specs.Prelude.{◌≡◌, ◌≢◌, ◌<◌, ◌≤◌, ◌==◌, ℕ, bit_and, length, not, slice_index};
 ghost use Rattle.uri_pct.specs.Masks.{has_bit};
 ghost use Rattle.uri_pct.specs.Models.ByteRuns.{IsLongestRun};
@@ -7,8 +7,9 @@ ghost use Rattle.uri_pct.specs.declared.table.members.TheConstants.{MEMBERS};
 use crate::masks::{holds, words};
 use crate::table::{DIGIT, PATH, QUERY, REG_NAME, SCHEME, SEGMENT_NZ_NC, USERINFO};
 
-/// The sets that have each byte: 1 for a scheme's, 2 for the digits, and then for those of userinfo,
-/// of a registered name, of a first segment without `:`, of a path, and of a query or a fragment.
+/// The sets that have each byte: 1 for a scheme's, 2 for the digits, and then for those of
+/// userinfo, of a registered name, of a first segment without `:`, of a path, and of a query or a
+/// fragment.
 const MEMBERS: &[u8; 256] = &[
     0, 0, 0, 0, 0, 0, 0, 0, 0, 0, 0, 0, 0, 0, 0, 0, // 00
     0, 0, 0, 0, 0, 0, 0, 0, 0, 0, 0, 0, 0, 0, 0, 0, // 10

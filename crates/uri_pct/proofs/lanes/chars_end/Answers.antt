@@ -1,21 +1,14 @@
-use Rattle.std.proofs.Common.{◌≡◌, ◌+◌, ◌-◌, ◌≤◌, ◌<◌, Bool, true, false, not, cond, eqb, List, ℕ}
-use Rattle.std.proofs.Common.{zero, suc, length, get_or, arith, refl, ◌^◌}
+use Rattle.std.proofs.Common.{◌≡◌, ◌+◌, ◌-◌, ◌≤◌, ◌<◌, not, List, ℕ, length}
+use Rattle.std.proofs.Common.{get_or, arith, ◌^◌}
 use Rattle.std.proofs.lemmas.Nat.Bits.{bit_at-lt}
-use Rattle.std.proofs.lemmas.Bool.{both_ways}
 use Rattle.uri_pct.specs.Masks.{has_bit}
 use Rattle.uri_pct.specs.Models.ByteRuns.{is_char_byte}
+use Rattle.uri_pct.proofs.General.{bit_is_failing_test}
 use Rattle.uri_pct.proofs.LaneScans.LaneRuns.{MarksFailingLanes, last_load_marks_failing_lanes}
 use Rattle.uri_pct.proofs.LaneScans.LaneRuns.{run_goes_on_past_unmarked_lanes}
 use Rattle.uri_pct.proofs.LaneScans.LaneRuns.{run_ends_at_first_marked_lane}
 use Rattle.uri_pct.proofs.LaneScans.LaneBits.{is_set_bit}
 use Rattle.uri_pct.proofs.lanes.chars_end.Goals as goal
-
-one_if : (n : ℕ) (b : Bool) → n < 2 → eqb n 1 ≡ not b → n ≡ cond (not b) 1 0
-one_if zero true h e = refl
-one_if zero false h e = absurd (both_ways _ refl e)
-one_if (suc zero) true h e = absurd (both_ways _ e refl)
-one_if (suc zero) false h e = refl
-one_if (suc (suc n)) b h e = absurd (omega arith)
 
 -- what a block's mask says
 block : (low high : ℕ) (bs : List ℕ) (i mask : ℕ) → mask < 2 ^ 16
@@ -23,7 +16,7 @@ block : (low high : ℕ) (bs : List ℕ) (i mask : ℕ) → mask < 2 ^ 16
     ≡ not (is_char_byte (has_bit low high) (get_or bs (i + k) 0)))
     → MarksFailingLanes (is_char_byte (has_bit low high)) bs i 16 mask
 block low high bs i mask below lane = record {
-  lane = λ k h. one_if _ _ (bit_at-lt mask k) (lane k h);
+  lane = λ k h. bit_is_failing_test _ _ (bit_at-lt mask k) (lane k h);
   below = below;
 }
 

@@ -21,7 +21,8 @@ lane low high bs i mask k room e h =
 pub returns-then-mask-ne0-clause-below : goal.returns-then-mask-ne0-clause-below
 returns-then-mask-ne0-clause-below c =
     (set_mask_marks_lanes_outside c.args.low c.args.high c.args.bytes.now c.loop-i.i
-    c.outside-mask.result (omega (arith, c.loop-i.invariant.within, c.loop-i-test.true)) c.outside-mask.ensures).below
+    c.outside-mask.result (omega (arith, c.loop-i.invariant.within, c.loop-i-test.true))
+    c.outside-mask.ensures).below
 
 pub returns-then-mask-ne0-clause-lane : goal.returns-then-mask-ne0-clause-lane
 returns-then-mask-ne0-clause-lane c k h =
@@ -51,9 +52,11 @@ below n s h = omega (arith, div-mul-le_self n (2 ^ s))
 
 pub returns-clause-below : goal.returns-clause-below
 returns-clause-below c =
-    below c.outside-tail.result (c.loop-i.i - (length c.args.bytes.now - 16))
-    (set_mask_marks_lanes_outside c.args.low c.args.high c.args.bytes.now (length c.args.bytes.now - 16)
-    c.outside-tail.result (omega (arith, c.requires.long)) c.outside-tail.ensures).below
+    let bs = c.args.bytes.now in
+    let last : ℕ = length bs - 16 in
+    let marks = set_mask_marks_lanes_outside c.args.low c.args.high bs last c.outside-tail.result
+    (omega (arith, c.requires.long)) c.outside-tail.ensures in
+    below c.outside-tail.result (c.loop-i.i - last) marks.below
 
 pub returns-clause-lane : goal.returns-clause-lane
 returns-clause-lane c k h =

@@ -1,21 +1,19 @@
-use Rattle.std.proofs.Common.{◌≡◌, ◌≤◌, ◌+◌, ◌==◌, ℕ, Bool, true, false, List, length, map, not}
-use Rattle.std.proofs.Common.{arith, refl, sym, ap, subst, ◌∙◌}
+use Rattle.std.proofs.Common.{◌≡◌, ◌≤◌, ◌+◌, ◌==◌, ℕ, List, length, map, not, arith, sym, ap}
+use Rattle.std.proofs.Common.{subst, ◌∙◌}
 use Rattle.std.specs.Simd.Lanes.{mask_l, chunk}
+use Rattle.uri_pct.proofs.General.{twice_negated_is_the_same}
 use Rattle.uri_pct.proofs.LaneScans.LaneRuns.{MarksFailingLanes, load_mask_marks_failing_lanes}
 use Rattle.uri_pct.proofs.LaneScans.LaneRuns.{run_goes_on_past_unmarked_lanes}
 use Rattle.uri_pct.proofs.LaneScans.LaneRuns.{run_ends_at_first_marked_lane}
 use Rattle.uri_pct.proofs.search.find_byte.Goals as goal
-
-twice_not : (b : Bool) → b ≡ not (not b)
-twice_not true = refl
-twice_not false = refl
 
 -- what the mask of sixteen bytes says
 block : (byte : ℕ) (bs : List ℕ) (i mask : ℕ) → i + 16 ≤ length bs
     → mask ≡ mask_l (map (λ b. b == byte) (chunk i 16 bs))
     → MarksFailingLanes (λ b. not (b == byte)) bs i 16 mask
 block byte bs i mask room e =
-    let same = ap (λ f. mask_l (map f (chunk i 16 bs))) (λ i b. twice_not (b == byte) i) in
+    let same = ap (λ f. mask_l (map f (chunk i 16 bs)))
+    (λ i b. twice_negated_is_the_same (b == byte) i) in
     subst (MarksFailingLanes (λ b. not (b == byte)) bs i 16) (sym (e ∙ same))
     (load_mask_marks_failing_lanes (λ b. not (b == byte)) bs i 16 room)
 

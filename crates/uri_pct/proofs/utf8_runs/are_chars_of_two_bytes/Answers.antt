@@ -57,4 +57,5 @@ loop-end-preserved c =
 
 pub returns : goal.returns
 returns c = λ whole. c.loop-end.invariant.utf8
-    (subst IsUtf8 (sym (drop_all c.loop-end.end c.args.run.now (omega (arith, eqb-true _ _ whole)))) IsUtf8-nil)
+    (subst IsUtf8
+    (sym (drop_all c.loop-end.end c.args.run.now (omega (arith, eqb-true _ _ whole)))) IsUtf8-nil)

@@ -16,8 +16,6 @@ use Rattle.uri_pct.proofs.ValidTexts.PrefixSteps.{valid_prefix_stops_at_stray_pe
 use Rattle.uri_pct.proofs.ValidTexts.ScannedRuns.{characters_and_octets_are_scanned}
 use Rattle.uri_pct.proofs.table.Table.pass_encoded.Goals as goal
 use Rattle.uri_pct.proofs.table.Table.pass_encoded.Goals.{then-i-bytes-via-then-i-bytes}
-use Rattle.uri_pct.proofs.table.Table.pass_encoded.Goals.{then-i-bytes-via-else-i-bytes+then-bytes-i-ne37}
-use Rattle.uri_pct.proofs.table.Table.pass_encoded.Goals.{then-i-bytes-via-else-i-bytes+else-bytes-i-ne37+then-not-allows_pct_encoded}
 
 -- nothing is scanned at an ASCII byte outside the set at which no octet begins
 stops : (t : Table) (text : List ℕ) (i : ℕ) → i < length text → get_or text i 0 < 128
@@ -44,9 +42,9 @@ returns-then-i-bytes-clause-stop c = λ inside below.
       | then-i-bytes-via-then-i-bytes w ↦
           let long : length c.as_bytes-bytes.result.now ≡ length text = ap length same in
           absurd (omega (arith, inside, long, w.if-i-bytes.true))
-      | then-i-bytes-via-else-i-bytes+then-bytes-i-ne37 w ↦
+      | goal.then-i-bytes-via-else-i-bytes+then-bytes-i-ne37 w ↦
           absurd (w.if-bytes-i-ne37.true (ap (λ t. get_or t i 0) same ∙ percent))
-      | then-i-bytes-via-else-i-bytes+else-bytes-i-ne37+then-not-allows_pct_encoded w ↦
+      | goal.then-i-bytes-via-else-i-bytes+else-bytes-i-ne37+then-not-allows_pct_encoded w ↦
           absurd (both_ways _ (sym w.allows_pct_encoded.ensures
           ∙ w.if-not-allows_pct_encoded.true) allowed)
     ])

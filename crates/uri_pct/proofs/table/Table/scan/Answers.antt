@@ -13,11 +13,6 @@ use Rattle.uri_pct.proofs.ValidTexts.PrefixSteps.{valid_prefix_stops_where_none_
 use Rattle.uri_pct.proofs.TableSets.Percent.{lacks_percent}
 use Rattle.uri_pct.proofs.table.Table.scan.Goals as goal
 use Rattle.uri_pct.proofs.table.Table.scan.Goals.{then-run_end-bytes-via-then-run_end-bytes}
-use Rattle.uri_pct.proofs.table.Table.scan.Goals.{then-run_end-bytes-via-else-run_end-bytes+then-bytes-run_end-ne37}
-use Rattle.uri_pct.proofs.table.Table.scan.Goals.{then-bytes-run_end-lt128, else-bytes-run_end-lt128}
-use Rattle.uri_pct.proofs.table.Table.scan.Goals.{then-not-allows_some_past_ascii-via-then-not-allows_some_past_ascii}
-use Rattle.uri_pct.proofs.table.Table.scan.Goals.{then-not-allows_some_past_ascii-via-else-not-allows_some_past_ascii+then-end-bytes}
-use Rattle.uri_pct.proofs.table.Table.scan.Goals.{then-not-allows_some_past_ascii-via-else-not-allows_some_past_ascii+else-end-bytes+then-bytes-end-lt128}
 
 -- a character past ASCII, of which the table allows none
 past_done : (t : Table) (bs : List ℕ) (i : ℕ) → i < length bs → 128 ≤ get_or bs i 0
@@ -45,7 +40,7 @@ returns-then-not-allows_some_past_ascii-clause-end c =
     let within : end ≤ length text = c.pass_encoded-end.ensures.boundary.0 in
     let long : length c.as_bytes-bytes.result.now ≡ length text = ap length same in
     let e : valid_prefix set (drop end text) ≡ 0 = elim c.then-not-allows_some_past_ascii.branch [
-      | then-not-allows_some_past_ascii-via-then-not-allows_some_past_ascii w ↦
+      | goal.then-not-allows_some_past_ascii-via-then-not-allows_some_past_ascii w ↦
           ⊎_elim (λ (inside : end < length text).
           ⊎_elim (λ (below : slice_index text end < 128).
           c.pass_encoded-end.ensures.stop inside below)
@@ -55,9 +50,9 @@ returns-then-not-allows_some_past_ascii-clause-end c =
           (cases_lt (slice_index text end) 128))
           (λ (over : length text ≤ end). valid_prefix_at_end_is_empty set text end over)
           (cases_lt end (length text))
-      | then-not-allows_some_past_ascii-via-else-not-allows_some_past_ascii+then-end-bytes w ↦
+      | goal.then-not-allows_some_past_ascii-via-else-not-allows_some_past_ascii+then-end-bytes w ↦
           valid_prefix_at_end_is_empty set text end (omega (arith, w.if-end-bytes.true, long))
-      | then-not-allows_some_past_ascii-via-else-not-allows_some_past_ascii+else-end-bytes+then-bytes-end-lt128 w ↦
+      | goal.then-not-allows_some_past_ascii-via-else-not-allows_some_past_ascii+else-end-bytes+then-bytes-end-lt128 w ↦
           c.pass_encoded-end.ensures.stop (omega (arith, within, w.if-end-bytes.false, long))
           (subst (λ t. slice_index t end < 128) same w.if-bytes-end-lt128.true)
     ] in
@@ -74,15 +69,15 @@ returns-then-run_end-bytes-clause-end c =
     let e : valid_prefix set (drop end text) ≡ 0 = elim c.then-run_end-bytes.branch [
       | then-run_end-bytes-via-then-run_end-bytes w ↦
           valid_prefix_at_end_is_empty set text end (omega (arith, w.if-run_end-bytes.true, long))
-      | then-run_end-bytes-via-else-run_end-bytes+then-bytes-run_end-ne37 w ↦
+      | goal.then-run_end-bytes-via-else-run_end-bytes+then-bytes-run_end-ne37 w ↦
           elim w.if-bytes-run_end-lt128.branch [
-            | then-bytes-run_end-lt128 w' ↦
+            | goal.then-bytes-run_end-lt128 w' ↦
                 c.pass_chars-run_end.ensures.stop
                 (omega (arith, within, w.if-run_end-bytes.false, long))
                 (subst (λ t. slice_index t end < 128) same w'.if-bytes-run_end-lt128.true)
                 (λ e. false≢true (sym (sym w.if-bytes-run_end-ne37.true ∙ w'.value-is
                 ∙ ap not (eq-eqb _ _ (ap (λ t. slice_index t end) same ∙ e)))))
-            | else-bytes-run_end-lt128 w' ↦
+            | goal.else-bytes-run_end-lt128 w' ↦
                 absurd (false≢true (sym (le-ltb _ _ w'.if-bytes-run_end-lt128.false)
                 ∙ sym w'.value-is ∙ w.if-bytes-run_end-ne37.true))
           ]

@@ -13,7 +13,6 @@ use Rattle.uri_pct.proofs.TableSets.Percent.{lacks_percent}
 use Rattle.uri_pct.proofs.ValidTexts.ScannedRuns.{octet_is_scanned}
 use Rattle.uri_pct.proofs.table.Table.scan_octets.Goals as goal
 use Rattle.uri_pct.proofs.table.Table.scan_octets.Goals.{then-byte-ge128-via-then-byte-ge128}
-use Rattle.uri_pct.proofs.table.Table.scan_octets.Goals.{then-byte-ge128-via-else-byte-ge128+then-not-has}
 
 pub loop-i-preserved-then-byte-eq37 : goal.loop-i-preserved-then-byte-eq37
 loop-i-preserved-then-byte-eq37 c =
@@ -39,7 +38,8 @@ loop-i-preserved c =
     ∙ sym c.has.ensures ∙ c.if-not-has.false in
     let below : get_or bs i 0 < 128 = omega (arith, c.if-byte-ge128.false) in
     let e : valid_prefix set (drop i bs) ≡ valid_prefix set (drop (i + 1) bs) + 1 =
-    valid_prefix_passes_ascii_char_of_set set (lacks_percent c.args.table.now) bs i c.loop-i-test.true
+    valid_prefix_passes_ascii_char_of_set set (lacks_percent c.args.table.now) bs i
+    c.loop-i-test.true
     below inside in
     record {
       from = omega (arith, c.loop-i.invariant.from);
@@ -57,7 +57,8 @@ returns-then-not-has_octet_digits-clause-stop c = λ _ _.
     let stray : (set.pct_encoded && has_hex_digits_after bs i) ≡ false =
     and_right _ _ (sym c.has_octet_digits.ensures.value ∙ c.if-not-has_octet_digits.true) in
     subst (λ t. valid_prefix set (drop i t) ≡ 0) c.as_bytes-bytes.ensures.value
-    (valid_prefix_stops_at_stray_percent set (lacks_percent c.args.table.now) bs i c.loop-i-test.true
+    (valid_prefix_stops_at_stray_percent set (lacks_percent c.args.table.now) bs i
+    c.loop-i-test.true
     c.if-byte-eq37.true stray)
 
 pub returns-then-byte-ge128-clause-stop : goal.returns-then-byte-ge128-clause-stop
@@ -69,7 +70,7 @@ returns-then-byte-ge128-clause-stop c = λ _ below.
     let low : get_or bs i 0 < 128 = subst (λ t. slice_index t i < 128) (sym same) below in
     let outside : set.ascii (get_or bs i 0) ≡ false = elim c.then-byte-ge128.branch [
       | then-byte-ge128-via-then-byte-ge128 w ↦ absurd (omega (arith, low, w.if-byte-ge128.true))
-      | then-byte-ge128-via-else-byte-ge128+then-not-has w ↦
+      | goal.then-byte-ge128-via-else-byte-ge128+then-not-has w ↦
           sym (ap (λ f. f (get_or bs i 0)) c.masks-low.ensures)
           ∙ sym w.has.ensures ∙ w.if-not-has.true
     ] in

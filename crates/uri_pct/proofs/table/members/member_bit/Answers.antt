@@ -19,35 +19,42 @@ table_is_right low high bit l h same a c b small =
 
 pub returns-then-high : goal.returns-then-high
 unfolding has_bit
-returns-then-high c = λ _. table_is_right 0x03FF680000000000 0x07FFFFFE07FFFFFE 1 _ _ refl c.if-low.true
+returns-then-high c = λ _.
+    table_is_right 0x03FF680000000000 0x07FFFFFE07FFFFFE 1 _ _ refl c.if-low.true
     c.if-high.true
 
 pub returns-then-high-2 : goal.returns-then-high-2
 unfolding has_bit
-returns-then-high-2 c = λ _. table_is_right 0x03FF000000000000 0x0000000000000000 2 _ _ refl c.if-low-2.true
+returns-then-high-2 c = λ _.
+    table_is_right 0x03FF000000000000 0x0000000000000000 2 _ _ refl c.if-low-2.true
     c.if-high-2.true
 
 pub returns-then-high-3 : goal.returns-then-high-3
 unfolding has_bit
-returns-then-high-3 c = λ _. table_is_right 0x2FFF7FD200000000 0x47FFFFFE87FFFFFE 4 _ _ refl c.if-low-3.true
+returns-then-high-3 c = λ _.
+    table_is_right 0x2FFF7FD200000000 0x47FFFFFE87FFFFFE 4 _ _ refl c.if-low-3.true
     c.if-high-3.true
 
 pub returns-then-high-4 : goal.returns-then-high-4
 unfolding has_bit
-returns-then-high-4 c = λ _. table_is_right 0x2BFF7FD200000000 0x47FFFFFE87FFFFFE 8 _ _ refl c.if-low-4.true
+returns-then-high-4 c = λ _.
+    table_is_right 0x2BFF7FD200000000 0x47FFFFFE87FFFFFE 8 _ _ refl c.if-low-4.true
     c.if-high-4.true
 
 pub returns-then-high-5 : goal.returns-then-high-5
 unfolding has_bit
-returns-then-high-5 c = λ _. table_is_right 0x2BFF7FD200000000 0x47FFFFFE87FFFFFF 16 _ _ refl c.if-low-5.true
+returns-then-high-5 c = λ _.
+    table_is_right 0x2BFF7FD200000000 0x47FFFFFE87FFFFFF 16 _ _ refl c.if-low-5.true
     c.if-high-5.true
 
 pub returns-then-high-6 : goal.returns-then-high-6
 unfolding has_bit
-returns-then-high-6 c = λ _. table_is_right 0x2FFFFFD200000000 0x47FFFFFE87FFFFFF 32 _ _ refl c.if-low-6.true
+returns-then-high-6 c = λ _.
+    table_is_right 0x2FFFFFD200000000 0x47FFFFFE87FFFFFF 32 _ _ refl c.if-low-6.true
     c.if-high-6.true
 
 pub returns-then-high-7 : goal.returns-then-high-7
 unfolding has_bit
-returns-then-high-7 c = λ _. table_is_right 0xAFFFFFD200000000 0x47FFFFFE87FFFFFF 64 _ _ refl c.if-low-7.true
+returns-then-high-7 c = λ _.
+    table_is_right 0xAFFFFFD200000000 0x47FFFFFE87FFFFFF 64 _ _ refl c.if-low-7.true
     c.if-high-7.true

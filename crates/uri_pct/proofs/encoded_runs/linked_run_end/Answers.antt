@@ -1,10 +1,8 @@
 use Rattle.std.proofs.Common.{◌+◌, ◌-◌, ℕ, length, arith}
 use Rattle.uri_pct.specs.Models.ByteRuns.{IsByteOfEncodedText}
 use Rattle.uri_pct.specs.Masks.{has_bit}
-use Rattle.uri_pct.proofs.LaneScans.ShiftedLanes.{adjacent_ranges_join}
-use Rattle.uri_pct.proofs.LaneScans.ShiftedLanes.{empty_mask_holds, first_set_lane}
-use Rattle.uri_pct.proofs.LaneScans.ShiftedLanes.{empty_shifted_mask_holds, first_set_shifted_lane}
-use Rattle.uri_pct.proofs.lanes.linked_run_end.Goals as goal
+use Rattle.uri_pct.proofs.LaneScans.ShiftedLanes as ShiftedLanes
+use Rattle.uri_pct.proofs.encoded_runs.linked_run_end.Goals as goal
 
 -- in the first block that has one, the run ends at the first byte that is in no encoded text
 pub returns-then-mask-ne0 : goal.returns-then-mask-ne0
@@ -12,12 +10,13 @@ returns-then-mask-ne0 c =
     let i = c.loop-i.i in
     let o = c.outside_encoded-mask in
     let linked = IsByteOfEncodedText (has_bit c.args.low c.args.high) c.args.bytes.now in
-    let first = first_set_lane linked i o.result o.ensures.below o.ensures.lane
+    let first = ShiftedLanes.first_set_lane linked i o.result o.ensures.below o.ensures.lane
     c.if-mask-ne0.true in
     record {
       from = omega (arith, c.loop-i.invariant.from);
       within = omega (arith, c.loop-i.invariant.within, c.loop-i-test.true, first.0);
-      linked = adjacent_ranges_join linked c.args.start i _ c.loop-i.invariant.linked first.1;
+      linked = ShiftedLanes.adjacent_ranges_join linked c.args.start i _ c.loop-i.invariant.linked
+          first.1;
     }
 
 pub loop-i-preserved : goal.loop-i-preserved
@@ -28,8 +27,9 @@ loop-i-preserved c =
     record {
       from = omega (arith, c.loop-i.invariant.from);
       within = omega (arith, c.loop-i.invariant.within, c.loop-i-test.true);
-      linked = adjacent_ranges_join linked c.args.start i (i + 16) c.loop-i.invariant.linked
-          (empty_mask_holds linked i o.result o.ensures.below o.ensures.lane
+      linked = ShiftedLanes.adjacent_ranges_join linked c.args.start i (i + 16)
+          c.loop-i.invariant.linked
+          (ShiftedLanes.empty_mask_holds linked i o.result o.ensures.below o.ensures.lane
           (omega (arith, c.if-mask-ne0.false)));
     }
 
@@ -43,8 +43,8 @@ returns-then-mask-eq0 c =
     record {
       from = omega (arith, c.requires.within);
       within = omega arith;
-      linked = adjacent_ranges_join linked c.args.start i _ c.loop-i.invariant.linked
-          (λ x from to. empty_shifted_mask_holds linked last (i - last) o.result
+      linked = ShiftedLanes.adjacent_ranges_join linked c.args.start i _ c.loop-i.invariant.linked
+          (λ x from to. ShiftedLanes.empty_shifted_mask_holds linked last (i - last) o.result
           (omega (arith, c.loop-i.invariant.within)) o.ensures.below o.ensures.lane
           c.if-mask-eq0.true x
           (omega (arith, from, c.loop-i-test.false)) (omega (arith, to, c.requires.long)));
@@ -57,13 +57,13 @@ returns c =
     let last : ℕ = length c.args.bytes.now - 16 in
     let o = c.outside_encoded-tail in
     let linked = IsByteOfEncodedText (has_bit c.args.low c.args.high) c.args.bytes.now in
-    let first = first_set_shifted_lane linked last (i - last) o.result
+    let first = ShiftedLanes.first_set_shifted_lane linked last (i - last) o.result
     (omega (arith, c.loop-i.invariant.within)) o.ensures.below o.ensures.lane
     c.if-mask-eq0.false in
     record {
       from = omega (arith, c.loop-i.invariant.from);
       within = omega (arith, first.0, c.requires.long, c.loop-i-test.false);
-      linked = adjacent_ranges_join linked c.args.start i _ c.loop-i.invariant.linked
+      linked = ShiftedLanes.adjacent_ranges_join linked c.args.start i _ c.loop-i.invariant.linked
           (λ x from to. first.1 x (omega (arith, from, c.loop-i-test.false))
           (omega (arith, to, c.loop-i-test.false)));
     }

@@ -5,7 +5,7 @@ use Rattle.uri_pct.specs.Masks.{has_bit}
 use Rattle.uri_pct.proofs.LaneScans.LaneRuns.{set_mask_marks_lanes_outside}
 use Rattle.uri_pct.proofs.LaneScans.LaneBits.{is_set_bit, mask_bit_is_equality_of_byte}
 use Rattle.uri_pct.proofs.LaneScans.LinkedLanes.{clear_lane_holds_byte_of_encoded_text}
-use Rattle.uri_pct.proofs.lanes.outside_encoded.Goals as goal
+use Rattle.uri_pct.proofs.encoded_runs.outside_encoded.Goals as goal
 
 pub returns-clause-below : goal.returns-clause-below
 returns-clause-below c =

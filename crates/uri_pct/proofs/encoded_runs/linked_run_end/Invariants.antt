@@ -1,7 +1,7 @@
 use Rattle.std.proofs.Common.{◌-◌, ◌≤◌, ◌<◌, ℕ, length}
 use Rattle.uri_pct.specs.Models.ByteRuns.{IsByteOfEncodedText}
 use Rattle.uri_pct.specs.Masks.{has_bit}
-use Rattle.uri_pct.proofs.lanes.linked_run_end.Given as goal
+use Rattle.uri_pct.proofs.encoded_runs.linked_run_end.Given as goal
 
 abbrev pub invariant-loop-i : goal.invariant-loop-i
 invariant-loop-i l = record {
