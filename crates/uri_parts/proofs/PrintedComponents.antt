@@ -1,13 +1,14 @@
 -- What `Debug` prints of components is what it prints of their texts.
-use Rattle.std.proofs.Common.{◌≡◌, ℕ, List, refl, ap, ◌∙◌, option_map}
+use Rattle.std.proofs.Common.{◌≡◌, ℕ, List, refl, ap, ◌∙◌, option_map, arith}
 use Rattle.std.specs.Prelude.{Option, Some, None, codes}
 use Rattle.std.specs.Fmt.{debug_option, debug_str}
+use Rattle.std.proofs.lemmas.Bool.Decides.{nat_tests}
 use Rattle.uri_pct.specs.declared.pct_enc.EStr.{EStr}
 use Rattle.uri_pct.specs.EncodedTexts.{text_of}
 use Rattle.uri_parts.specs.AuthorityTexts.{host_kind_of, HasRegisteredName}
 use Rattle.uri_parts.specs.Hosts.{HostKind}
-use Rattle.uri_parts.specs.Printing.{debug_host, debug_host_of, debug_field}
-use Rattle.uri_parts.specs.Printing.{debug_authority_of, debug_reference_of}
+use Rattle.uri_parts.specs.Printing.{debug_host, debug_host_of, debug_field, debug_authority_of}
+use Rattle.uri_parts.specs.Printing.{debug_reference_of}
 use Rattle.uri_parts.specs.declared.component.HostOf.{HostOf}
 use Rattle.uri_parts.specs.declared.component.HostOf.TheVariants as hosts
 
@@ -29,16 +30,13 @@ debug_host-of-kind (hosts.RegName name) kind text is named =
 
 -- what the components of an authority print, equal each, make up what it prints
 pub debug_authority_of-equal : {u u' h h' k k' p p' : Option (List ℕ)}
-    → u ≡ u' → h ≡ h' → k ≡ k' → p ≡ p' → debug_authority_of u h k p ≡ debug_authority_of u' h' k' p'
-debug_authority_of-equal {u} {u'} {h} {h'} {k} {k'} {p} {p'} eu eh ek ep =
-    ap (λ o. debug_authority_of o h k p) eu ∙ ap (λ o. debug_authority_of u' o k p) eh
-    ∙ ap (λ o. debug_authority_of u' h' o p) ek ∙ ap (λ o. debug_authority_of u' h' k' o) ep
+    → u ≡ u' → h ≡ h' → k ≡ k' → p ≡ p'
+    → debug_authority_of u h k p ≡ debug_authority_of u' h' k' p'
+debug_authority_of-equal {u} {u'} {h} {h'} {k} {k'} {p} {p'} eu eh ek ep = grind (arith, nat_tests)
 
 -- what the components of a reference print, equal each, make up what it prints
 pub debug_reference_of-equal : (name : List ℕ) (s : Option (List ℕ))
     {a a' p p' q q' f f' : Option (List ℕ)} → a ≡ a' → p ≡ p' → q ≡ q' → f ≡ f'
     → debug_reference_of name s a p q f ≡ debug_reference_of name s a' p' q' f'
 debug_reference_of-equal name s {a} {a'} {p} {p'} {q} {q'} {f} {f'} ea ep eq ef =
-    ap (λ o. debug_reference_of name s o p q f) ea ∙ ap (λ o. debug_reference_of name s a' o q f) ep
-    ∙ ap (λ o. debug_reference_of name s a' p' o f) eq
-    ∙ ap (λ o. debug_reference_of name s a' p' q' o) ef
+    grind (arith, nat_tests)

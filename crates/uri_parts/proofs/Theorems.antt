@@ -1,7 +1,8 @@
 -- What the crate is for, theorem by theorem.
-use Rattle.std.proofs.Common.{◌≡◌, ℕ, true, List, sym, ap, subst, ◌∙◌}
+use Rattle.std.proofs.Common.{◌≡◌, ℕ, true, List, sym, ap, subst, ◌∙◌, arith}
 use Rattle.std.specs.Prelude.{IfOk, Result, Ok, Err, is_ok}
 use Rattle.std.specs.Str.{IsUtf8}
+use Rattle.std.proofs.lemmas.Bool.Decides.{nat_tests}
 use Rattle.uri_pct.specs.Sets.{TableSet}
 use Rattle.uri_parts.specs.declared.packed_positions.PackedPositions.{PackedPositions}
 use Rattle.uri_parts.specs.Components.{components}
@@ -42,9 +43,7 @@ pub parses-exactly-texts-of-kind : (kind tables : Kind) (segment : TableSet)
     → segment ≡ first_segment_set kind
     → (text : List ℕ) → IsUtf8 text → parses segment tables text ≡ is_of_kind kind text
 parses-exactly-texts-of-kind kind tables segment known k s text u =
-    parses-is-is_of_kind segment tables (tables_of_kind_separate kind tables segment known k s) text
-    u
-    ∙ ap (λ v. is_of_kind v text) k
+    grind (arith, nat_tests, parses-is-is_of_kind, tables_of_kind_separate)
 
 -- main theorem on parsing: the positions that are parsed are those of the text's components
 pub parsed_positions-are-positions_of : (kind tables : Kind) (segment : TableSet)
@@ -53,8 +52,7 @@ pub parsed_positions-are-positions_of : (kind tables : Kind) (segment : TableSet
     → (text : List ℕ) → IsUtf8 text → parses segment tables text ≡ true
     → parsed_positions segment tables text ≡ positions_of (components text)
 parsed_positions-are-positions_of kind tables segment known k s =
-    parsed_positions-are-those-of-components segment tables
-    (tables_of_kind_separate kind tables segment known k s)
+    grind (arith, nat_tests, parsed_positions-are-those-of-components, tables_of_kind_separate)
 
 -- main theorem on parsing: a result that is Ok exactly if the text is parsed,
 -- and has the parsed positions, has those of the components

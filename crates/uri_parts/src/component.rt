@@ -137,7 +137,7 @@ impl<'a, U: Encoder, R: Encoder> Authority<'a, U, R> {
     /// Returns whether there is a userinfo.
     ///
     /// `@a` has one, which is empty, and `a` has none.
-    #[tactic(auto, using(crate::proofs::Authorities::AuthorityPlaces::userinfo_where_host_starts_later))]
+    #[tactic(auto, using(crate::proofs::Authorities::AuthorityPlaces::userinfo_before_later_host))]
     pub fn has_userinfo(self) -> bool
         ensures { result ≡ is_some (authority_parts (authority_text self.entry)).userinfo }
     {

@@ -61,8 +61,8 @@ impl<'a, U: Encoder, R: Encoder> Authority<'a, U, R> {
     /// # Errors
     ///
     /// - `InvalidPort` exactly if the port is over 65535. The port is tested first.
-    /// - Otherwise `UnsupportedMechanism` for an address of a later version, and `NameNotUtf8` for a
-    ///   name that does not decode to UTF-8 (RFC 3986, section 3.2.2).
+    /// - Otherwise `UnsupportedMechanism` for an address of a later version, and `NameNotUtf8` for
+    ///   a name that does not decode to UTF-8 (RFC 3986, section 3.2.2).
     /// - `OutOfMemory` if allocation fails.
     ///
     /// # Examples

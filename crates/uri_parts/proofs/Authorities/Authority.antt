@@ -1,14 +1,13 @@
 -- An authority has one cut, and passes its test exactly if the parts of that cut meet the grammar.
 use Rattle.std.proofs.Common.{◌≡◌, ℕ, true, false, not, eqb, ltb, List, [], ◌∷◌, ◌++◌, drop, refl}
-use Rattle.std.proofs.Common.{sym, ap, subst, ◌∙◌, arith, ◌&&◌, ⊎_elim, inl, inr, ◌⊎◌, append_assoc}
+use Rattle.std.proofs.Common.{sym, ap, subst, ◌∙◌, arith, ◌&&◌, inl, inr, ◌⊎◌, append_assoc}
 use Rattle.std.proofs.Common.{append-nil}
 use Rattle.std.specs.Prelude.{codes, bytes_eq, Option, Some, None, IfSome}
 use Rattle.std.specs.List.{list_any, list_all}
 use Rattle.std.specs.Char.{is_ascii_hexdigit}
 use Rattle.std.specs.Option.{option_map_or}
 use Rattle.std.specs.Str.{IsUtf8}
-use Rattle.std.proofs.lemmas.Bool.{and_from, and_parts, cond-true, cond-false, both_ways}
-use Rattle.std.proofs.lemmas.Bool.{cases_Bool, or_parts}
+use Rattle.std.proofs.lemmas.Bool.{and_from, and_parts, cond-true, cond-false, or_parts}
 use Rattle.std.proofs.lemmas.Bool.Decides.{nat_tests}
 use Rattle.std.proofs.lemmas.Slice.Eq.{bytes_eq-Decides}
 use Rattle.uri_pct.specs.Sets.{TableSet, is_one_of, digit_set, ipv_future_set}
@@ -16,7 +15,7 @@ use Rattle.uri_pct.specs.Tokens.{is_valid_for, IsValidFor}
 use Rattle.uri_pct.proofs.ValidTexts.Cuts.{excludes}
 use Rattle.uri_parts.specs.Components.{Lacks, before_any, from_any, starts, marked, when}
 use Rattle.uri_parts.specs.Hosts.{HostKind, Ipv4, Ipv6, IpvFuture, RegName, IsHost, bracketed}
-use Rattle.uri_parts.specs.Hosts.{host_kind, is_host}
+use Rattle.uri_parts.specs.Hosts.{is_host}
 use Rattle.uri_parts.specs.Authority.{AuthorityParts, recompose_authority, IsAuthorityFor}
 use Rattle.uri_parts.specs.Authority.{LackAuthorityDelimiters, after_userinfo, leading_host}
 use Rattle.uri_parts.specs.Authority.{after_host, authority_parts, is_authority_for}
@@ -49,10 +48,7 @@ set-excludes-marks-outside-it set (b ∷ marks) h e =
 pub Lacks-of-fewer-marks : (some all : List ℕ)
     → ((c : ℕ) → is_one_of some c ≡ true → is_one_of all c ≡ true)
     → (text : List ℕ) → Lacks all text → Lacks some text
-Lacks-of-fewer-marks some all more text h k d l = ⊎_elim
-    (λ e. absurd (both_ways _ (h k d l) (more _ e)))
-    (λ e. e)
-    (cases_Bool (is_one_of some _))
+Lacks-of-fewer-marks some all more text h k d l = grind (arith, nat_tests)
 
 -- cutting authorities: the empty text lacks all delimiters
 pub empty-text-lacks-marks : (marks : List ℕ) → Lacks marks []
@@ -184,16 +180,7 @@ pub is_authority_for-sound : (users names : TableSet) (text : List ℕ)
     → IsAuthorityFor users names text (authority_parts text)
 unfolding is_authority_for
 is_authority_for-sound users names text t =
-    let p : AuthorityParts = authority_parts text in
-    let a = and_parts (bytes_eq (recompose_authority p) text) _ t in
-    let b = and_parts (option_map_or (is_valid_for users) p.userinfo true) _ a.1 in
-    let c = and_parts (is_host names p.host) _ b.1 in
-    record {
-      whole = (bytes_eq-Decides (recompose_authority p) text).0 a.0;
-      userinfo = part-that-passes-test-is-valid users p.userinfo b.0;
-      host = (host_kind p.host, is_host-sound names p.host c.0);
-      port = part-that-passes-test-is-valid digit_set p.port c.1;
-    }
+    grind (arith, nat_tests, bytes_eq-Decides, part-that-passes-test-is-valid, is_host-sound)
 
 -- authorities: userinfo, host and port are UTF-8
 record AreUtf8 (p : AuthorityParts) : Type 0 where
@@ -255,11 +242,7 @@ module _ (users names : TableSet) (apart : LackAuthorityDelimiters users names) 
 
   unbracketed-host-has-host-shape : (host : List ℕ) → Lacks (codes "@:[") host → HasHostShape host
       × Lacks (codes "@") host
-  unbracketed-host-has-host-shape host lacks = (
-    inr lacks,
-    Lacks-of-fewer-marks (codes "@")
-        (codes "@:[") (λ c e. grind (arith, nat_tests)) host lacks,
-  )
+  unbracketed-host-has-host-shape host lacks = grind (arith, nat_tests, Lacks-of-fewer-marks)
 
   host-of-kind-has-host-shape : (text : List ℕ) (host : HostKind) → IsUtf8 text
       → IsHost names text host

@@ -1,29 +1,26 @@
 -- At their positions the parts of an authority can be cut out, and what is cut out is them.
 use Rattle.std.proofs.Common.{◌≡◌, ℕ, ◌+◌, ◌-◌, ◌<◌, ◌≤◌, true, false, eqb, List, [], ◌∷◌, ◌++◌}
 use Rattle.std.proofs.Common.{length, get_or, take, drop, refl, sym, ap, subst, ◌∙◌, arith, not}
-use Rattle.std.proofs.Common.{◌||◌, ◌⊎◌, inl, inr, ⊎_elim, append_assoc, append-nil, length-append}
-use Rattle.std.proofs.Common.{lit<}
-use Rattle.std.specs.Prelude.{codes, Some, None, Option, bytes_eq, slice_range, is_some}
+use Rattle.std.proofs.Common.{◌||◌, ◌⊎◌, inl, append_assoc, append-nil, length-append}
+use Rattle.std.specs.Prelude.{codes, Some, None, Option, slice_range, is_some}
 use Rattle.std.specs.Option.{option_map_or}
-use Rattle.std.specs.Str.{IsUtf8, IsCharBoundary}
+use Rattle.std.specs.Str.{IsUtf8, IsCharBoundary, chars}
 use Rattle.std.proofs.Math.Seq.{drop-append_seam, take-append_seam}
 use Rattle.std.proofs.lemmas.Str.{IsCharBoundary-start, IsCharBoundary-end}
 use Rattle.std.proofs.lemmas.Str.{IsCharBoundary-before_ascii}
-use Rattle.std.proofs.lemmas.Bool.{and_parts, ne_eqb, and_from, or_right, cond-true, cond-false}
+use Rattle.std.proofs.lemmas.Bool.{ne_eqb, and_from, or_right, cond-true, cond-false}
 use Rattle.std.proofs.lemmas.Slice.Eq.{bytes_eq-Decides}
 use Rattle.uri_pct.specs.Sets.{TableSet, digit_set}
 use Rattle.uri_pct.specs.Tokens.{is_valid_for, tokens_from_chars, IsValidFor}
-use Rattle.uri_parts.specs.Components.{marked}
-use Rattle.std.specs.Str.{chars}
-use Rattle.uri_parts.specs.Components.{starts}
+use Rattle.uri_parts.specs.Components.{marked, starts}
 use Rattle.uri_parts.specs.Hosts.{is_host, host_kind, name_kind, literal_kind, literal_of}
 use Rattle.uri_parts.specs.Hosts.{ipv4_value, ipv6_value}
-use Rattle.uri_parts.specs.Authority.{AuthorityParts, recompose_authority, authority_parts}
-use Rattle.uri_parts.specs.Authority.{is_authority_for}
+use Rattle.uri_parts.specs.Authority.{recompose_authority, authority_parts, is_authority_for}
 use Rattle.uri_parts.specs.Positions.{host_start_of, host_end_of, delimited_length}
 use Rattle.uri_parts.proofs.Splitting.Places.{slice-between-prefix-and-suffix, get_or-after-prefix}
 use Rattle.uri_parts.proofs.Splitting.Places.{boundary_after_mark}
 use Rattle.std.proofs.lemmas.List.{drop-drop}
+use Rattle.std.proofs.lemmas.Bool.Decides.{nat_tests}
 
 -- authorities: what the test of one says of its components
 pub record AuthorityMeetsRules (users names : TableSet) (text : List ℕ) : Type 0 where
@@ -36,18 +33,7 @@ pub record AuthorityMeetsRules (users names : TableSet) (text : List ℕ) : Type
 pub holds : (users names : TableSet) (text : List ℕ) → is_authority_for users names text ≡ true
     → AuthorityMeetsRules users names text
 unfolding is_authority_for
-holds users names text t =
-    let p : AuthorityParts = authority_parts text in
-    let a = and_parts (bytes_eq (recompose_authority p) text) _ t in
-    let b = and_parts (option_map_or (is_valid_for users) p.userinfo true) _ a.1 in
-    let c = and_parts (is_host names p.host) _ b.1 in
-    record {
-      whole = (bytes_eq-Decides (recompose_authority p) text).0 a.0;
-      userinfo = b.0;
-      host =
-          c.0;
-      port = c.1;
-    }
+holds users names text t = grind (arith, nat_tests, bytes_eq-Decides)
 
 -- authorities, positions: a character begins at an ASCII byte c after a prefix
 boundary-before-ascii-byte : (prefix rest : List ℕ) (c : ℕ) → c < 128
@@ -85,21 +71,16 @@ host-begins-at-boundary-after-userinfo : (userinfo : Option (List ℕ)) (rest te
     → IsUtf8 text → IsCharBoundary text (delimited_length 1 userinfo)
 host-begins-at-boundary-after-userinfo None rest text whole u = IsCharBoundary-start text u
 host-begins-at-boundary-after-userinfo (Some user) rest text whole u =
-    let e : user ++ (64 ∷ rest) ≡ text = sym (append_assoc user (codes "@") rest) ∙ whole in
-    let n : length user + 1 ≡ 1 + length user = omega arith in
-    subst (IsCharBoundary text) n (subst (λ t. IsCharBoundary t (length user + 1)) e
-    (boundary_after_mark user rest 64 (lit< tt) (subst IsUtf8 (sym e) u)))
+    grind (arith, nat_tests, append_assoc, boundary_after_mark)
 
 -- authorities, positions: a character begins where the host ends,
 -- before the `:` of a port or at the end
 host-ends-at-boundary : (prefix : List ℕ) (port : Option (List ℕ)) (text : List ℕ)
     → prefix ++ port_text port ≡ text → IsCharBoundary text (length prefix)
 host-ends-at-boundary prefix None text whole =
-    subst (λ t. IsCharBoundary t (length prefix)) (sym (append-nil prefix) ∙ whole)
-    (IsCharBoundary-end prefix)
+    grind (arith, nat_tests, append-nil, IsCharBoundary-end)
 host-ends-at-boundary prefix (Some digits) text whole =
-    subst (λ t. IsCharBoundary t (length prefix)) whole
-    (boundary-before-ascii-byte prefix (digits ++ []) 58 (lit< tt))
+    grind (arith, nat_tests, boundary-before-ascii-byte)
 
 -- authorities, positions: the host is between userinfo and port
 host-is-between-userinfo-and-port : (userinfo port : Option (List ℕ)) (host text : List ℕ)
@@ -150,17 +131,13 @@ user_lies : (users : TableSet) (userinfo : Option (List ℕ)) (rest text : List 
     → HasUserinfoBefore users text (delimited_length 1 userinfo) userinfo
 user_lies users None rest text whole h l = absurd (omega arith)
 user_lies users (Some user) rest text whole h l =
-    let e : user ++ (64 ∷ rest) ≡ text = sym (append_assoc user (codes "@") rest) ∙ whole in
-    let n : length user ≡ (1 + length user) - 1 = omega arith in
-    let part : take ((1 + length user) - 1) text ≡ user = ap (λ k. take k text) (sym n)
-    ∙ ap (take (length user)) (sym e) ∙ take-append_seam user (64 ∷ rest) in
-    record {
-      cut = subst (IsCharBoundary text) n
-          (subst (λ t. IsCharBoundary t (length user)) e
-          (boundary-before-ascii-byte user rest 64 (lit< tt)));
-      valid = ap (is_valid_for users) part ∙ h;
-      is = ap Some part;
-    }
+    grind (
+      arith,
+      nat_tests,
+      append_assoc,
+      take-append_seam user (64 ∷ rest),
+      boundary-before-ascii-byte,
+    )
 
 -- authorities: if the host starts later than at 0, userinfo and `@` are before it
 pub userinfo_is_before_host : (users names : TableSet) (text : List ℕ)
@@ -173,10 +150,10 @@ userinfo_is_before_host users names text t l =
     user_lies users p.userinfo (p.host ++ port_text p.port) text w.whole w.userinfo l
 
 -- authorities: the host starts later than at 0 exactly if there is a userinfo
-pub userinfo_where_host_starts_later : (userinfo : Option (List ℕ))
+pub userinfo_before_later_host : (userinfo : Option (List ℕ))
     → not (eqb (delimited_length 1 userinfo) 0) ≡ is_some userinfo
-userinfo_where_host_starts_later None = refl
-userinfo_where_host_starts_later (Some user) = ap not (ne_eqb _ 0 (λ e. omega arith))
+userinfo_before_later_host None = refl
+userinfo_before_later_host (Some user) = ap not (ne_eqb _ 0 (λ e. omega arith))
 
 -- authorities, positions: the port is after the host, which ends at end
 pub record HasPortAfter (text : List ℕ) (end : ℕ) (port : Option (List ℕ)) : Type 0 where
@@ -193,19 +170,15 @@ text-ends-or-port-follows-prefix : (prefix : List ℕ) (port : Option (List ℕ)
 text-ends-or-port-follows-prefix prefix None text whole u h = inl
     (ap length (sym (append-nil prefix) ∙ whole), refl)
 text-ends-or-port-follows-prefix prefix (Some digits) text whole u h =
-    let e : prefix ++ (58 ∷ digits) ≡ text = ap (λ t. prefix ++ (58 ∷ t)) (sym (append-nil digits))
-    ∙ whole in
-    let n = ap length e in
-    let part : drop (length prefix + 1) text ≡ digits = ap (drop (length prefix + 1)) (sym e)
-    ∙ sym (drop-drop 1 (length prefix) (prefix ++ (58 ∷ digits)))
-    ∙ ap (drop 1) (drop-append_seam prefix (58 ∷ digits)) in
-    inr (record {
-      inside = omega (arith, n, length-append prefix (58 ∷ digits));
-      cut = subst (λ t. IsCharBoundary t (length prefix + 1)) e
-          (boundary_after_mark prefix digits 58 (lit< tt) (subst IsUtf8 (sym e) u));
-      valid = ap (is_valid_for digit_set) part ∙ h;
-      is = ap Some part;
-    })
+    grind (
+      arith,
+      nat_tests,
+      append-nil digits,
+      drop-drop 1 (length prefix)
+          (prefix ++ (58 ∷ digits)),
+      drop-append_seam prefix (58 ∷ digits),
+      boundary_after_mark,
+    )
 
 -- authorities, positions: the host ends the authority, or a port follows the host
 pub port_is_after_host : (users names : TableSet) (text : List ℕ)
@@ -258,7 +231,4 @@ kind_of_bracketed_host host address o s a v = ap literal_kind (v ∙ ap ipv6_val
 pub port_follows_host : (users names : TableSet) (text : List ℕ) (end : ℕ)
     → is_authority_for users names text ≡ true → IsUtf8 text → end ≡ host_end_of text
     → (end ≡ length text → ⊥) → HasPortAfter text end (authority_parts text).port
-port_follows_host users names text end t u e apart = ⊎_elim
-    (λ w. absurd (apart (e ∙ w.0)))
-    (λ w. subst (λ n. HasPortAfter text n (authority_parts text).port) (sym e) w)
-    (port_is_after_host users names text t u)
+port_follows_host users names text end t u e apart = grind (arith, nat_tests, port_is_after_host)

@@ -1,7 +1,6 @@
 -- What is after a bracket has a closing one, and is parsed as the literal before that.
-use Rattle.std.proofs.Common.{◌≡◌, ℕ, ◌+◌, true, List, ◌∷◌, ◌++◌, length, drop, refl}
-use Rattle.std.proofs.Common.{sym, ap, subst, ◌∙◌, arith, ◌||◌, ◌&&◌, ⊎_elim}
-use Rattle.std.proofs.Common.{append_assoc, length-append, lit<}
+use Rattle.std.proofs.Common.{◌≡◌, ℕ, ◌+◌, true, List, ◌∷◌, ◌++◌, length, drop, refl, sym, ap}
+use Rattle.std.proofs.Common.{subst, ◌∙◌, arith, ◌||◌, ⊎_elim, append_assoc, length-append, lit<}
 use Rattle.std.specs.Prelude.{codes, is_some}
 use Rattle.std.specs.Str.{IsUtf8}
 use Rattle.std.proofs.Math.Seq.{drop-append_seam}
@@ -97,10 +96,7 @@ parsed-literal-has-closing-bracket rest u h =
 module _ (rest : List ℕ) (u : IsUtf8 rest) (w : IsClosed rest) where
   pub parses_literal-is-is_literal-of-address : parses_literal rest ≡ is_literal w.address
   unfolding parses_literal is_literal
-  parses_literal-is-is_literal-of-address =
-      ap (λ t. starts 93 t && (is_some (ipv6_value (before_any (codes "]") rest))
-      || is_ipv_future (before_any (codes "]") rest))) w.from
-      ∙ ap (λ t. is_some (ipv6_value t) || is_ipv_future t) w.before
+  parses_literal-is-is_literal-of-address = grind (arith, nat_tests)
 
   pub bracketed-address-and-tail-are-text : (bracketed w.address) ++ w.tail ≡ 91 ∷ rest
   bracketed-address-and-tail-are-text = append_assoc (91 ∷ w.address) (codes "]") w.tail

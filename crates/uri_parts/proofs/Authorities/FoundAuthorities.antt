@@ -95,9 +95,7 @@ module _ (segment : TableSet) (kind : Kind) (w : SeparatesComponents segment kin
   name-that-ends-authority-is-host : (rest : List ℕ) → name_ends_authority kind rest ≡ true
       → (starts 91 rest ≡ false) × (finds_host kind rest ≡ true)
   name-that-ends-authority-is-host rest h =
-      let e : starts 91 rest ≡ false =
-      false_from_ne_true _ (λ t. both_ways _ (bracket_begins_no_name segment kind w rest t) h) in
-      (e, finds_host-unbracketed segment kind w rest e ∙ h)
+      grind (arith, nat_tests, false_from_ne_true, bracket_begins_no_name, finds_host-unbracketed)
 
   module _ (rest : List ℕ) (u : IsUtf8 rest) where
     abbrev cut_text : List ℕ

@@ -80,12 +80,7 @@ module _ (segment : TableSet) (kind : Kind) (w : SeparatesComponents segment kin
   pub finds_host-unbracketed : (rest : List ℕ) → starts 91 rest ≡ false
       → finds_host kind rest ≡ name_ends_authority kind rest
   unfolding finds_host passes_host name_ends_authority
-  finds_host-unbracketed rest e =
-      ap (λ t. t && is_empty_or_begins_with_any (codes "/?#")
-      (drop (host_and_port_length kind rest) rest))
-      (cond-false _ _ _ e)
-      ∙ ap (λ n. is_empty_or_begins_with_any (codes "/?#") (drop n rest))
-      (host_and_port_length-unbracketed rest e)
+  finds_host-unbracketed rest e = cc (host_and_port_length-unbracketed rest e)
 
   -- no name begins with `[`
   pub bracket_begins_no_name : (rest : List ℕ) → starts 91 rest ≡ true
@@ -174,12 +169,7 @@ module _ (segment : TableSet) (kind : Kind) (w : SeparatesComponents segment kin
       (drop (port_length c.tail) c.tail))
   unfolding finds_host passes_host host_and_port_length host_end
   bracketed-host-is-found-if-mark-follows-port rest u c =
-      let end : ℕ = 1 + literal_length rest in
-      ap (λ t. parses_literal rest && is_empty_or_begins_with_any (codes "/?#") t)
-      (sym (suffix end (port_length (drop end (91 ∷ rest))) (91 ∷ rest)))
-      ∙ ap (λ t. parses_literal rest && is_empty_or_begins_with_any (codes "/?#")
-      (drop (port_length t) t))
-      (text-after-literal-is-tail rest u c)
+      grind (arith, nat_tests, parses_literal rest, suffix, text-after-literal-is-tail rest u c)
 
   unparsed-literal-begins-no-host : (rest : List ℕ) → parses_literal rest ≡ false
       → finds_host kind (91 ∷ rest) ≡ false

@@ -1,9 +1,9 @@
 -- The positions of an authority that is a host with what is after it, or userinfo and a host.
-use Rattle.std.proofs.Common.{◌≡◌, ℕ, ◌+◌, true, false, cond, List, ◌∷◌, ◌++◌}
-use Rattle.std.proofs.Common.{length, drop, refl, ap, ◌∙◌, arith}
-use Rattle.std.proofs.Common.{length-append}
+use Rattle.std.proofs.Common.{◌≡◌, ℕ, ◌+◌, true, false, cond, List, ◌∷◌, ◌++◌, length, drop, refl}
+use Rattle.std.proofs.Common.{ap, ◌∙◌, arith, length-append}
 use Rattle.std.specs.Prelude.{codes, Some, None}
-use Rattle.std.proofs.lemmas.Bool.{cond-true, cond-false}
+use Rattle.std.proofs.lemmas.Bool.{cond-true}
+use Rattle.std.proofs.lemmas.Bool.Decides.{nat_tests}
 use Rattle.uri_parts.specs.declared.positions.AuthorityPositions.{AuthorityPositions}
 use Rattle.uri_parts.specs.Components.{before_any, from_any, starts, Lacks}
 use Rattle.uri_parts.specs.Positions.{authority_at, host_start_of, host_end_of, delimited_length}
@@ -36,22 +36,7 @@ module _ (host suffix : List ℕ) (at : Lacks (codes "@") (host ++ suffix))
   pub authority_at-without-userinfo : (place : ℕ) → authority_at place bare
       ≡ places place place host suffix
   authority_at-without-userinfo place =
-      let first : host_start_of bare ≡ 0 =
-      ap (λ t. delimited_length 1 (cond t (Some (before_any (codes "@") bare)) None))
-      host-and-suffix-have-no-at-sign in
-      let host_is : (authority_parts bare).host
-      ≡ host = ap leading_host (cond-false _ _ _ host-and-suffix-have-no-at-sign)
-      ∙ is_host in
-      let s : place + host_start_of bare ≡ place = omega (arith, first) in
-      let e : place + host_end_of bare ≡ place + length host =
-      omega (arith, first, ap length host_is) in
-      λ i. record {
-        start = place;
-        host_start = s i;
-        host_end = e i;
-        end =
-            place + length (host ++ suffix);
-      }
+      grind (arith, nat_tests, host-and-suffix-have-no-at-sign, suffix)
 
   module _ (user : List ℕ) (outside : Lacks (codes "@") user) where
     abbrev text : List ℕ

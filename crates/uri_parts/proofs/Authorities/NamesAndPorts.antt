@@ -6,8 +6,7 @@ use Rattle.std.specs.Str.{IsUtf8}
 use Rattle.std.proofs.NetLemmas.Alphabet.{IsDigitOrDot}
 use Rattle.std.proofs.lemmas.Str.{IsUtf8-take}
 use Rattle.std.proofs.lemmas.Bool.{cases_Bool, cond-true, cond-false, and_left, and_parts, or_right}
-use Rattle.std.proofs.lemmas.Bool.{eq-eqb, ne_eqb, eqb-true, both_ways, false≢true}
-use Rattle.std.proofs.lemmas.Bool.{false_from_ne_true}
+use Rattle.std.proofs.lemmas.Bool.{eq-eqb, ne_eqb, eqb-true, false≢true, false_from_ne_true}
 use Rattle.std.proofs.lemmas.Bool.Decides.{nat_tests}
 use Rattle.uri_pct.specs.Sets.{TableSet, LacksPercent, IsSubset, digit_set, reg_name_set, is_one_of}
 use Rattle.uri_pct.specs.Tokens.{is_valid_for}
@@ -90,13 +89,8 @@ pub cut-text-begins-with-same-other-byte : (mark : ℕ) (marks : List ℕ) → i
     ≡ false → (bs : List ℕ)
     → starts mark (before_any marks bs) ≡ starts mark bs
 cut-text-begins-with-same-other-byte mark marks none [] = refl
-cut-text-begins-with-same-other-byte mark marks none (b ∷ bs) = ⊎_elim
-    (λ o. ap (starts mark) (before_any-at-mark marks b bs o)
-    ∙ sym
-    (false_from_ne_true _
-    (λ e. both_ways _ none (sym (ap (is_one_of marks) (eqb-true b mark e)) ∙ o))))
-    (λ o. ap (starts mark) (before_any-past-other marks b bs o))
-    (cases_Bool (is_one_of marks b))
+cut-text-begins-with-same-other-byte mark marks none (b ∷ bs) =
+    grind (arith, nat_tests, before_any-at-mark, false_from_ne_true, before_any-past-other)
 
 -- cutting authorities: what is before the first ASCII delimiter of a text in UTF-8 is UTF-8
 pub utf8_before_marks : (marks bs : List ℕ) → AreAscii marks → IsUtf8 bs
@@ -197,11 +191,7 @@ port_length-of-whole-port (b ∷ bs) u h = ⊎_elim
 pub other_byte_begins_no_port : (b : ℕ) (bs : List ℕ) → is_one_of (codes ":/?#") b ≡ false
     → is_empty_or_begins_with_any (codes "/?#") (drop (port_length (b ∷ bs)) (b ∷ bs)) ≡ false
 unfolding is_empty_or_begins_with_any port_length
-other_byte_begins_no_port b bs o =
-    let p : (eqb b 58 ≡ false) × (is_one_of (codes "/?#") b ≡ false) =
-    (grind (arith, nat_tests), grind (arith, nat_tests)) in
-    ap (λ n. is_empty_or_begins_with_any (codes "/?#") (drop n (b ∷ bs))) (cond-false _ _ _ p.0)
-    ∙ p.1
+other_byte_begins_no_port b bs o = grind (arith, nat_tests)
 
 -- authorities, parsed: a port is nothing, or begins with `:`
 pub port-is-empty-or-begins-with-colon : (bs : List ℕ) → is_empty_or_port bs ≡ true

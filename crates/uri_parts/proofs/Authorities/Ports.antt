@@ -1,7 +1,6 @@
 -- What std parses of a port's digits.
-use Rattle.std.proofs.Common.{◌≡◌, ℕ, ◌<◌, ◌≤◌, ◌^◌, true, false, eqb, ltb, leb, ◌&&◌, List, []}
-use Rattle.std.proofs.Common.{◌∷◌, length, Option, Some, Result, Ok, Err, refl, sym, ap, subst, ◌∙◌}
-use Rattle.std.proofs.Common.{arith, ⊎_elim, true≢false}
+use Rattle.std.proofs.Common.{◌≡◌, ℕ, ◌<◌, ◌^◌, true, false, eqb, List, [], ◌∷◌, length, Option}
+use Rattle.std.proofs.Common.{Some, Result, Ok, Err, refl, sym, ap, subst, ◌∙◌, arith, true≢false}
 use Rattle.std.specs.Char.{digit_value, is_ascii_digit}
 use Rattle.std.specs.List.{list_all}
 use Rattle.std.specs.Result.{OkIff}
@@ -10,10 +9,11 @@ use Rattle.std.specs.Str.Parse.{AllDigits, IsNumeral, ParsesUnsigned, ExplainsUn
 use Rattle.std.specs.Str.Parse.{error_kind, without_leading_plus}
 use Rattle.std.specs.declared.num.IntErrorKind.TheVariants.{PosOverflow}
 use Rattle.std.specs.declared.num.ParseIntError.{ParseIntError}
-use Rattle.std.proofs.lemmas.Bool.{and_parts, leb-true}
+use Rattle.std.proofs.lemmas.Bool.{and_parts}
 use Rattle.std.proofs.lemmas.Str.{digit_value_digit}
 use Rattle.std.proofs.lemmas.Str.Parse.{IsNumeralModel, parse_digits, digit_from_value}
 use Rattle.std.proofs.lemmas.Str.Parse.{without_leading_plus_none}
+use Rattle.std.proofs.lemmas.Bool.Decides.{nat_tests}
 use Rattle.uri_pct.specs.Sets.{digit_set}
 use Rattle.uri_pct.specs.Tokens.{IsValidFor}
 use Rattle.uri_parts.specs.Ports.{port_number, port_value, FitsPort}
@@ -21,12 +21,7 @@ use Rattle.uri_parts.proofs.TextKinds.AsciiSets.{is_ascii_in, valid_ascii_text}
 
 -- ports: an ASCII digit has a value below 10
 ascii-digit-has-value-below-ten : (d : ℕ) → is_ascii_in is_ascii_digit d ≡ true → digit_value d < 10
-ascii-digit-has-value-below-ten d e =
-    let q : (leb 48 d && leb d 57) ≡ true = (and_parts (ltb d 128) (is_ascii_digit d) e).1 in
-    let r = and_parts (leb 48 d) (leb d 57) q in
-    let low : 48 ≤ d = leb-true 48 d r.0 in
-    let high : d ≤ 57 = leb-true d 57 r.1 in
-    omega (arith, digit_value_digit d (low, high))
+ascii-digit-has-value-below-ten d e = grind (arith, nat_tests, digit_value_digit)
 
 -- ports: ASCII digits are decimal digits, as std reads them
 ascii-digits-are-decimal-digits : (digits : List ℕ) → list_all (is_ascii_in is_ascii_digit) digits
@@ -41,9 +36,8 @@ ascii-digits-are-decimal-digits (d ∷ digits) e =
 -- ports: a text that is valid for the set of digits is decimal digits
 valid-digit-text-is-decimal-digits : (digits : List ℕ) → IsUtf8 digits → IsValidFor digit_set digits
     → AllDigits 10 digits
-valid-digit-text-is-decimal-digits digits u v = ascii-digits-are-decimal-digits digits
-    (sym (valid_ascii_text is_ascii_digit refl digits u)
-    ∙ v)
+valid-digit-text-is-decimal-digits digits u v =
+    grind (arith, nat_tests, ascii-digits-are-decimal-digits, valid_ascii_text)
 
 -- ports: the value of a port is one by which std reads numbers
 port_value-is-numeral-model : IsNumeralModel (AllDigits 10) port_value
@@ -88,16 +82,8 @@ parsed-digits-are-parsed-port : (digits : List ℕ) (r : Result ℕ ParseIntErro
     → 0 < length digits
     → port_number (Some digits) ≡ Some (port_value digits) → IsParsed digits r
     → ExplainsUnsignedError 10 digits r → IsPortParsed (Some digits) r
-parsed-digits-are-parsed-port digits r d some is h explains = record {
-  ok = λ n e. let k = subst (IsParsed digits) e h in
-      fits (Some digits) n (port_value digits) is k.1 k.0.1;
-  err = λ e refused. (
-    λ fits. subst (IsParsed digits) refused h (some, subst FitsPort is fits),
-    ⊎_elim (λ w. absurd (omega (arith, w.1)))
-        (λ w. ⊎_elim (λ x. absurd (x.1 (nonempty-digits-are-numeral digits d some))) (λ x. x) w.1)
-        (subst (ExplainsUnsignedError 10 digits) refused explains),
-  );
-}
+parsed-digits-are-parsed-port digits r d some is h explains =
+    grind (arith, nat_tests, fits, nonempty-digits-are-numeral)
 
 -- ports: one that is not empty is parsed as its number, or rejected as too great
 pub port-is-parsed-as-its-number : (port : Option (List ℕ)) (digits : List ℕ)

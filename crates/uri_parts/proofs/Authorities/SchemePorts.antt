@@ -1,7 +1,8 @@
 -- The constant of default ports is the table, and its names are in lower case.
-use Rattle.std.proofs.Common.{◌≡◌, ℕ, Bool, true, false, cond, List, [], ◌∷◌, map, find, refl, ap}
-use Rattle.std.proofs.Common.{sym, ◌∙◌, Option, Some, None, option_map, Bor}
+use Rattle.std.proofs.Common.{◌≡◌, ℕ, Bool, true, false, cond, List, [], ◌∷◌, map, find, refl, sym}
+use Rattle.std.proofs.Common.{◌∙◌, Option, Some, None, option_map, Bor, arith}
 use Rattle.std.specs.Str.{str_to_ascii_lowercase, str_eq_ignore_ascii_case}
+use Rattle.std.proofs.lemmas.Bool.Decides.{nat_tests}
 use Rattle.uri_parts.specs.SchemePorts.{scheme_ports, default_port, port_ignoring_case}
 
 -- default ports: a row of the constant, which is a scheme and its port
@@ -51,9 +52,8 @@ port-of-row-behind-reference (Some row) = refl
 pub found-row-gives-port-of-name : (name : List ℕ) (rows : List Row) (r : Option (Bor Row))
     → option_map (λ x. x.now) r ≡ find (is_named name) rows
     → option_map (λ x. x.now.1) r ≡ port_ignoring_case name (map (λ row. (row.0.now, row.1)) rows)
-found-row-gives-port-of-name name rows r e = port-of-row-behind-reference r
-    ∙ ap (option_map (λ (row : Row). row.1)) e
-    ∙ port-of-found-row-is-port_ignoring_case name rows
+found-row-gives-port-of-name name rows r e =
+    grind (arith, nat_tests, port-of-row-behind-reference, port-of-found-row-is-port_ignoring_case)
 
 -- default ports: a search that ignores case finds the port of the scheme in lower case
 pub port_ignoring_case-is-default_port : (scheme : List ℕ)

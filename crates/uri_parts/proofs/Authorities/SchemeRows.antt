@@ -1,13 +1,12 @@
 -- A scheme is among the rows that begin with its letter, or in no row.
 use Rattle.std.proofs.Common.{◌≡◌, ℕ, ◌+◌, ◌-◌, ◌<◌, ◌≤◌, Bool, true, false, not, ◌&&◌, List, []}
-use Rattle.std.proofs.Common.{◌∷◌, ◌++◌, eqb, ltb, get_or, take, drop, map, find, length, refl}
-use Rattle.std.proofs.Common.{sym, ap, ◌∙◌, arith, Option, Some, None, option_map, ⊎_elim}
+use Rattle.std.proofs.Common.{◌∷◌, ◌++◌, eqb, ltb, get_or, take, drop, map, find, length, refl, sym}
+use Rattle.std.proofs.Common.{ap, ◌∙◌, arith, Option, Some, None, option_map}
 use Rattle.std.specs.Char.{to_ascii_lowercase, is_ascii_lowercase}
 use Rattle.std.specs.List.{list_all, slice_range}
 use Rattle.std.specs.Option.{option_or}
 use Rattle.std.specs.Str.{str_to_ascii_lowercase, str_eq_ignore_ascii_case}
-use Rattle.std.proofs.lemmas.Bool.{agree_below_at, and_parts, and_from, not-true}
-use Rattle.std.proofs.lemmas.Bool.{ltb-true, eqb-true, cases_Bool, false≢true}
+use Rattle.std.proofs.lemmas.Bool.{agree_below_at, and_parts, and_from, not-true, ltb-true}
 use Rattle.std.proofs.lemmas.Bool.Decides.{nat_tests}
 use Rattle.std.proofs.lemmas.List.{take-append-drop, drop-drop, take-map, drop-map}
 use Rattle.std.proofs.lemmas.List.Folds.{find-append}
@@ -60,9 +59,7 @@ find-in-middle-of-three-parts : (p : Row → Bool) (prefix rows back : List Row)
     → find p prefix ≡ None
     → find p back ≡ None → find p (prefix ++ (rows ++ back)) ≡ find p rows
 find-in-middle-of-three-parts p prefix rows back none nothing =
-    find-append p prefix (rows ++ back) ∙ ap (λ x. option_or x (find p (rows ++ back))) none
-    ∙ find-append p rows back ∙ ap (option_or (find p rows)) nothing
-    ∙ option-or-none-is-itself (find p rows)
+    grind (arith, nat_tests, find-append, option-or-none-is-itself)
 
 -- default ports: no row begins with the letter but those between
 abbrev outer_differ : ℕ → Bool
@@ -127,10 +124,7 @@ begins_low row = is_ascii_lowercase (to_ascii_lowercase (get_or row.0 0 0))
 -- default ports: a byte that is no lower-case letter is not the letter that begins a row
 other : (letter first : ℕ) → is_ascii_lowercase letter ≡ false → is_ascii_lowercase first ≡ true
     → not (eqb first letter) ≡ true
-other letter first upper low = ⊎_elim
-    (λ e. absurd (false≢true (sym upper ∙ ap is_ascii_lowercase (sym (eqb-true _ _ e)) ∙ low)))
-    (λ e. ap not e)
-    (cases_Bool (eqb first letter))
+other letter first upper low = grind (arith, nat_tests)
 
 -- default ports: no row begins with what is no lower-case letter
 no-row-begins-with-non-letter : (letter : ℕ) (rows : List Row) → is_ascii_lowercase letter ≡ false
@@ -146,16 +140,12 @@ pub scheme-without-letter-has-no-port : (b : ℕ) (bs : List ℕ)
     → port_ignoring_case (b ∷ bs) scheme_ports ≡ None
 unfolding port_ignoring_case
 scheme-without-letter-has-no-port b bs upper =
-    ap (option_map (λ row. row.1))
-    (no-row-of-other-letters-is-found b bs scheme_ports
-    (no-row-begins-with-non-letter (to_ascii_lowercase b) scheme_ports upper refl))
+    grind (arith, nat_tests, no-row-of-other-letters-is-found, no-row-begins-with-non-letter)
 
 -- general fact on slices, for rows of default ports: mapping a slice is slicing the mapped
 pub map-of-slice-is-slice-of-map : {X Y : Type 0} (f : X → Y) (rows : List X) (start end : ℕ)
     → map f (slice_range rows start end) ≡ slice_range (map f rows) start end
-map-of-slice-is-slice-of-map f rows start end =
-    sym (take-map f (end - start) (drop start rows))
-    ∙ ap (take (end - start)) (sym (drop-map f start rows))
+map-of-slice-is-slice-of-map f rows start end = grind (arith, nat_tests, take-map, drop-map)
 
 -- default ports: a lower-case letter is 97 to 122
 lower-case-letter-is-97-to-122 : (letter : ℕ) → is_ascii_lowercase letter ≡ true → (97 ≤ letter)

@@ -3,6 +3,7 @@ use Rattle.std.proofs.Common.{◌≡◌, ℕ, ◌+◌, false, eqb, List, [], ◌
 use Rattle.std.proofs.Common.{drop, refl, sym, ap, ◌∙◌, arith, ⊎_elim, zero-add}
 use Rattle.std.specs.Prelude.{codes}
 use Rattle.std.proofs.lemmas.Bool.{cases_Bool, cond-true, cond-false, eqb-true}
+use Rattle.std.proofs.lemmas.Bool.Decides.{nat_tests}
 use Rattle.uri_pct.specs.Sets.{TableSet, digit_set}
 use Rattle.uri_pct.specs.Prefixes.{valid_prefix, after}
 use Rattle.uri_pct.proofs.ValidTexts.Cuts.{valid_prefix_at_mark_is_empty}
@@ -25,11 +26,7 @@ module _ (segment : TableSet) (kind : Kind) (w : SeparatesComponents segment kin
       → valid_prefix kind.userinfo bs
       ≡ port_length bs + valid_prefix kind.userinfo (drop (port_length bs) bs)
   unfolding port_length
-  port-is-prefix-of-userinfo [] =
-      let a : valid_prefix kind.userinfo (drop (port_length []) [])
-      ≡ 0 = empty_text_has_empty_valid_prefix kind.userinfo in
-      let b : port_length [] ≡ 0 = refl in
-      omega (arith, empty_text_has_empty_valid_prefix kind.userinfo, a, b)
+  port-is-prefix-of-userinfo [] = grind (arith, nat_tests, empty_text_has_empty_valid_prefix)
   port-is-prefix-of-userinfo (b ∷ bs) = ⊎_elim
       (λ e.
       let c = eqb-true b 58 e in

@@ -2,21 +2,20 @@
 use Rattle.std.proofs.Common.{◌≡◌, ℕ, Bool, true, false, cond, eqb, List, [], ◌∷◌, ◌++◌, length}
 use Rattle.std.proofs.Common.{drop, refl, sym, ap, ◌∙◌, arith, ◌||◌, ◌&&◌, ⊎_elim, append_assoc}
 use Rattle.std.proofs.Common.{append-nil, length-append}
-use Rattle.std.specs.Prelude.{codes, Option, Some, is_some, bytes_eq}
+use Rattle.std.specs.Prelude.{codes, Option, is_some, bytes_eq}
 use Rattle.std.specs.Option.{option_map_or}
-use Rattle.std.proofs.lemmas.Bool.{cases_Bool, cond-true, cond-false, and_left, eqb-true, eq-eqb}
-use Rattle.std.proofs.lemmas.Bool.{both_ways, false≢true, false_from_ne_true}
+use Rattle.std.proofs.lemmas.Bool.{cases_Bool, cond-true, cond-false, and_left, eqb-true, both_ways}
+use Rattle.std.proofs.lemmas.Bool.{false≢true, false_from_ne_true}
 use Rattle.std.proofs.lemmas.Bool.Decides.{nat_tests}
 use Rattle.std.proofs.lemmas.Slice.Eq.{bytes_eq-Decides}
 use Rattle.uri_pct.specs.Sets.{TableSet, digit_set, is_one_of}
 use Rattle.uri_pct.specs.Tokens.{is_valid_for}
 use Rattle.uri_parts.specs.Components.{marked, starts, before_any, from_any, when, Lacks}
-use Rattle.uri_parts.specs.Hosts.{is_host, bracketed, ipv4_value, ipv6_value, is_ipv_future}
+use Rattle.uri_parts.specs.Hosts.{is_host, bracketed, ipv4_value}
 use Rattle.uri_parts.specs.Authority.{leading_host, after_host, is_authority_for}
 use Rattle.uri_parts.proofs.Parsing.Acceptance.{is_literal}
 use Rattle.uri_parts.proofs.Splitting.Cuts.{IsEmptyOrMarked, text-is-cut-at-first-mark}
-use Rattle.uri_parts.proofs.Splitting.Cuts.{before_any-past-other}
-use Rattle.uri_parts.proofs.Splitting.Cuts.{from_any-past-other}
+use Rattle.uri_parts.proofs.Splitting.Cuts.{before_any-past-other, from_any-past-other}
 use Rattle.uri_parts.proofs.HostForms.Hosts.{literal_of-bracketed-is-address}
 
 -- a host without brackets
@@ -57,9 +56,8 @@ different_texts_fail_bytes_eq xs ys apart = false_from_ne_true _
 bytes_eq-ignores-common-prefix : (xs ys zs : List ℕ) → bytes_eq (xs ++ ys) (xs ++ zs)
     ≡ bytes_eq ys zs
 bytes_eq-ignores-common-prefix [] ys zs = refl
-bytes_eq-ignores-common-prefix (x ∷ xs) ys zs = ap (λ t. t && bytes_eq (xs ++ ys) (xs ++ zs))
-    (eq-eqb x x refl)
-    ∙ bytes_eq-ignores-common-prefix xs ys zs
+bytes_eq-ignores-common-prefix (x ∷ xs) ys zs =
+    grind (arith, nat_tests, bytes_eq-ignores-common-prefix xs ys zs)
 
 -- authorities: the port that is after the `:`, if the text begins with it
 port_of : List ℕ → Option (List ℕ)
@@ -72,19 +70,8 @@ suffix-test-is-is_empty_or_port : (suffix : List ℕ)
     ≡ is_empty_or_port suffix
 unfolding port_of is_empty_or_port
 suffix-test-is-is_empty_or_port [] = refl
-suffix-test-is-is_empty_or_port (b ∷ rest) = ⊎_elim
-    (λ e.
-    let p : when (starts 58 (b ∷ rest)) rest ≡ Some rest = cond-true _ _ _ e in
-    let t : (codes ":" ++ rest) ++ [] ≡ b ∷ rest = append-nil (58 ∷ rest)
-    ∙ ap (λ c. c ∷ rest) (sym (eqb-true b 58 e)) in
-    ap (λ o. bytes_eq (marked (codes ":") o []) (b ∷ rest)
-    && option_map_or (is_valid_for digit_set) o true) p
-    ∙ ap (λ x. x && is_valid_for digit_set rest) (equal-texts-pass-bytes_eq _ _ t)
-    ∙ sym (ap (λ x. x && is_valid_for digit_set rest) e))
-    (λ e. ap (λ x. bytes_eq (marked (codes ":") (when x rest) []) (b ∷ rest)
-    && option_map_or (is_valid_for digit_set) (when x rest) true) e
-    ∙ sym (and_left _ _ e))
-    (cases_Bool (eqb b 58))
+suffix-test-is-is_empty_or_port (b ∷ rest) =
+    grind (arith, nat_tests, append-nil, equal-texts-pass-bytes_eq)
 
 -- authorities: the test of the host and the port in what is after the userinfo
 host_test : TableSet → List ℕ → Bool
@@ -106,22 +93,13 @@ host_test-of-known-cut : (names : TableSet) (host suffix rest : List ℕ) → ho
     host_test names rest ≡ (is_host names host && is_empty_or_port suffix)
 unfolding host_test
 host_test-of-known-cut names host suffix rest whole h b =
-    ap (λ x. bytes_eq (x ++ marked (codes ":") (port_of (after_host rest)) []) rest
-    && (is_host names x && option_map_or (is_valid_for digit_set) (port_of (after_host rest))
-    true)) h
-    ∙ ap (λ x. bytes_eq (host ++ marked (codes ":") (port_of x) []) rest
-    && (is_host names host && option_map_or (is_valid_for digit_set) (port_of x) true)) b
-    ∙ ap (λ x. bytes_eq (host ++ marked (codes ":") (port_of suffix) []) x
-    && (is_host names host && option_map_or (is_valid_for digit_set) (port_of suffix) true))
-    (sym whole)
-    ∙ ap
-    (λ x. x && (is_host names host
-    && option_map_or (is_valid_for digit_set) (port_of suffix) true))
-    (bytes_eq-ignores-common-prefix host (marked (codes ":") (port_of suffix) []) suffix)
-    ∙ and-of-three-swaps-first-two (bytes_eq (marked (codes ":") (port_of suffix) []) suffix)
-    (is_host names host)
-    (option_map_or (is_valid_for digit_set) (port_of suffix) true)
-    ∙ ap (λ x. is_host names host && x) (suffix-test-is-is_empty_or_port suffix)
+    grind (
+      arith,
+      nat_tests,
+      bytes_eq-ignores-common-prefix,
+      and-of-three-swaps-first-two,
+      suffix-test-is-is_empty_or_port,
+    )
 
 -- authorities, hosts: the test of one without `[` (91) is that of an IPv4 address or a name
 unbracketed-host-test-is-is_unbracketed_host : (names : TableSet) (host : List ℕ)
@@ -142,15 +120,14 @@ host_test-parses-unbracketed-host : (names : TableSet) (rest : List ℕ) → sta
     → host_test names rest ≡ parses_host_and_port names rest
 unfolding parses_host_and_port
 host_test-parses-unbracketed-host names rest e =
-    let cut = text-is-cut-at-first-mark (codes ":") rest in
-    let host : List ℕ = before_any (codes ":") rest in
-    let suffix : List ℕ = from_any (codes ":") rest in
-    host_test-of-known-cut names host suffix rest cut.whole (cond-false _ _ _ e)
-    (cond-false _ _ _ e)
-    ∙ ap (λ x. x && is_empty_or_port suffix)
-    (unbracketed-host-test-is-is_unbracketed_host names host
-    (prefix-begins-with-no-mark-either 91 host suffix (ap (starts 91) cut.whole ∙ e)))
-    ∙ sym (cond-false _ _ _ e)
+    grind (
+      arith,
+      nat_tests,
+      text-is-cut-at-first-mark,
+      host_test-of-known-cut,
+      unbracketed-host-test-is-is_unbracketed_host,
+      prefix-begins-with-no-mark-either,
+    )
 
 -- authorities, hosts: the test of one in brackets is that of the address in them
 bracketed-host-test-is-is_literal : (names : TableSet) (address : List ℕ)
@@ -158,11 +135,7 @@ bracketed-host-test-is-is_literal : (names : TableSet) (address : List ℕ)
     → is_host names (bracketed address) ≡ is_literal address
 unfolding is_host is_literal
 bracketed-host-test-is-is_literal names address lacks =
-    let l = literal_of-bracketed-is-address address lacks in
-    ap (λ t. bytes_eq (bracketed t) (bracketed address)
-    && (is_some (ipv6_value t) || is_ipv_future t)) l
-    ∙ ap (λ t. t && (is_some (ipv6_value address) || is_ipv_future address))
-    (equal-texts-pass-bytes_eq (bracketed address) (bracketed address) refl)
+    grind (arith, nat_tests, literal_of-bracketed-is-address, equal-texts-pass-bytes_eq)
 
 -- authorities, hosts: the one delimiter `]` is the byte 93
 closing-bracket-is-byte-93 : (c : ℕ) → is_one_of (codes "]") c ≡ true → eqb c 93 ≡ true
@@ -199,23 +172,18 @@ host_test-parses-closed-literal : (names : TableSet) (rest : List ℕ)
     → host_test names (91 ∷ rest) ≡ parses_host_and_port names (91 ∷ rest)
 unfolding parses_host_and_port
 host_test-parses-closed-literal names rest e =
-    let cut = text-is-cut-at-first-mark (codes "]") rest in
-    let address : List ℕ = before_any (codes "]") rest in
-    let suffix : List ℕ = drop 1 (from_any (codes "]") rest) in
-    let f : from_any (codes "]") rest ≡ 93 ∷ suffix = marked-suffix-is-bracket-and-rest
-    (from_any (codes "]") rest)
-    cut.begins e in
-    let whole : bracketed address ++ suffix ≡ 91 ∷ rest =
-    append_assoc (91 ∷ address) (codes "]") suffix ∙ ap (λ t. 91 ∷ (address ++ t)) (sym f)
-    ∙ ap (λ t. 91 ∷ t) cut.whole in
-    let h : leading_host (91 ∷ rest) ≡ bracketed address = ap (λ t. t ++ codes "]")
-    (cut-at-closing-bracket-keeps-open-bracket rest) in
-    let b : after_host (91 ∷ rest)
-    ≡ suffix = ap (drop 1) (text-from-closing-bracket-skips-open-bracket rest) in
-    host_test-of-known-cut names (bracketed address) suffix (91 ∷ rest) whole h b
-    ∙ ap (λ t. t && is_empty_or_port suffix)
-    (bracketed-host-test-is-is_literal names address cut.lacks)
-    ∙ sym (ap (λ t. t && (is_literal address && is_empty_or_port suffix)) e)
+    grind (
+      arith,
+      nat_tests,
+      text-is-cut-at-first-mark,
+      marked-suffix-is-bracket-and-rest,
+      append_assoc,
+      cut-at-closing-bracket-keeps-open-bracket,
+      text-from-closing-bracket-skips-open-bracket,
+      host_test-of-known-cut,
+      bracketed-host-test-is-is_literal,
+      is_literal,
+    )
 
 -- authorities, hosts: a text without `]` is not one in brackets
 unclosed-text-is-not-bracketed : (rest : List ℕ) → (bracketed rest ++ []) ≡ 91 ∷ rest → ⊥

@@ -17,6 +17,7 @@ use Rattle.std.specs.Net.Reader.{read_number, read_ipv4, read_segment}
 use Rattle.std.proofs.NetLemmas.Numbers.{NoDigit, read_number_some_at, read_number_sound}
 use Rattle.std.proofs.NetLemmas.Numbers.{read_number_empty}
 use Rattle.std.proofs.NetLemmas.Ipv4.{read_ipv4_sound, read_ipv4_none}
+use Rattle.std.proofs.lemmas.Bool.Decides.{nat_tests}
 use Rattle.uri_parts.specs.Models.Literals.{AreLeadingHexDigits}
 
 -- IP addresses: the text of an IPv4 address is four decimal numbers with `.` between them
@@ -41,10 +42,7 @@ text-after-prefix-is-suffix prefix {text} {suffix} whole =
 -- IP addresses: a suffix of what is left from a position on is one of the whole text
 pub suffix-at-position : (text suffix : List ℕ) (start : ℕ) → start ≤ length text
     → IsSuffix suffix (drop start text) → IsSuffix suffix text
-suffix-at-position text suffix start within s =
-    let size = length-drop start text in
-    let less = s.0 in
-    (omega arith, s.1 ∙ drop-drop _ start text ∙ ap (λ n. drop n text) (omega arith))
+suffix-at-position text suffix start within s = grind (arith, nat_tests, length-drop, drop-drop)
 
 -- parsing IPv6: each hexadecimal digit has a value below 16
 digit-of-hex-text-is-below-16 : (text : List ℕ) (i : ℕ) → AllDigits 16 text → i < length text

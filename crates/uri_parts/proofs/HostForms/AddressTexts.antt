@@ -1,8 +1,5 @@
 -- The text of an IPv6 address, piece by piece: RFC 5952.
-use Rattle.std.proofs.Common.{◌≡◌, ℕ, ◌/◌, ◌%◌, Bool, List, [], ◌∷◌, ◌++◌, ltb, arith, inl, inr}
-use Rattle.std.proofs.Common.{le-ltb}
-use Rattle.std.proofs.Common.{cond}
-use Rattle.std.proofs.lemmas.Bool.{cases_lt}
+use Rattle.std.proofs.Common.{◌≡◌, ℕ, ◌/◌, ◌%◌, Bool, List, [], ◌∷◌, ◌++◌, ltb, arith, cond}
 use Rattle.std.proofs.lemmas.Bool.Decides.{nat_tests}
 use Rattle.std.specs.Char.{digit_char}
 use Rattle.std.specs.Net.Text.{hex}
@@ -17,7 +14,4 @@ pub hex_has_no_leading_zeros : (n : ℕ) → hex n
     ++ (unless_leading (ltb n 0x100) (n / 0x100 % 16)
     ++ (unless_leading (ltb n 0x10) (n / 0x10 % 16) ++ digit_char (n % 16) ∷ []))
 unfolding hex
-hex_has_no_leading_zeros n = elim (cases_lt n 0x1000) [
-  | inr four ↦ rw (le-ltb n 0x1000 four) (grind (arith, nat_tests))
-  | inl three ↦ grind (arith, nat_tests)
-]
+hex_has_no_leading_zeros n = grind (arith, nat_tests)

@@ -1,18 +1,17 @@
 -- The texts of IP addresses: the characters that they are made of, and the numbers that they write.
-use Rattle.std.proofs.Common.{◌≡◌, ℕ, ◌<◌, ◌≤◌, Bool, true, false, eqb, List, [], ◌∷◌, ◌++◌, length}
-use Rattle.std.proofs.Common.{decimal, refl, sym, ap, ◌∙◌, subst, arith, ◌||◌, inl, inr, lit≤}
-use Rattle.std.proofs.Common.{append-nil, Some, None}
+use Rattle.std.proofs.Common.{◌≡◌, ℕ, ◌<◌, ◌≤◌, Bool, true, false, List, [], ◌∷◌, ◌++◌, length}
+use Rattle.std.proofs.Common.{decimal, refl, sym, ap, ◌∙◌, arith, ◌||◌, inl, inr, lit≤, append-nil}
+use Rattle.std.proofs.Common.{Some, None}
 use Rattle.std.specs.Prelude.{codes}
 use Rattle.std.specs.List.{list_all}
 use Rattle.std.specs.Char.{digit_value, is_ascii_hexdigit}
 use Rattle.std.specs.Str.Parse.{AllDigits}
 use Rattle.std.specs.Net.Grammar.{IsDotted, IsGroupsAfter, IsColonHex}
 use Rattle.std.specs.Net.Reader.{Read, read_ipv4, read_ipv6, whole_value}
-use Rattle.std.proofs.lemmas.Bool.{and_from, and_parts, eqb-true}
+use Rattle.std.proofs.lemmas.Bool.{and_from, and_parts}
 use Rattle.std.proofs.lemmas.Bool.Decides.{nat_tests}
 use Rattle.std.proofs.lemmas.Fmt.{decimal_is_IsNumeral}
 use Rattle.std.proofs.lemmas.List.Folds.{list_all-append}
-use Rattle.std.proofs.NetLemmas.Options.{cond_some}
 use Rattle.std.proofs.NetLemmas.Ipv4.{read_ipv4_complete, read_ipv4_sound}
 use Rattle.std.proofs.NetLemmas.Ipv6.{read_ipv6_complete, read_ipv6_sound, EndsGroups-nil}
 use Rattle.uri_pct.specs.Sets.{is_one_of}
@@ -71,16 +70,13 @@ empty-text-is-address-text = refl
 ipv4-text-is-address-text : (text octets : List ℕ) → IsDotted text octets
     → is_address_text text ≡ true
 ipv4-text-is-address-text text octets h =
-    let dot = separators-are-address-text.0 in
-    let first = joined-address-texts-are-address-text _ _
-    (joined-address-texts-are-address-text _ _ (decimal-byte-is-address-text h.a h.fit.0) dot)
-    (decimal-byte-is-address-text h.b h.fit.1) in
-    let second = joined-address-texts-are-address-text _ _
-    (joined-address-texts-are-address-text _ _ first dot)
-    (decimal-byte-is-address-text h.c h.fit.2) in
-    ap is_address_text h.spelled ∙ joined-address-texts-are-address-text _ _
-    (joined-address-texts-are-address-text _ _ second dot)
-    (decimal-byte-is-address-text h.d h.fit.3)
+    grind (
+      arith,
+      nat_tests,
+      separators-are-address-text,
+      joined-address-texts-are-address-text,
+      decimal-byte-is-address-text,
+    )
 
 -- IP addresses: groups of an IPv6 address have digits, `:` and `.` only; ipv4: whether an IPv4
 -- address ends them, lead: what is before each
@@ -138,10 +134,7 @@ whole-value-is-read-to-end : {A : Type 0} (read : Read A) (x : A) → whole_valu
     ≡ Some (x, [])
 whole-value-is-read-to-end None x e = cc
 whole-value-is-read-to-end (Some (value, rest)) x e =
-    let p = cond_some (eqb (length rest) 0) value x e in
-    let q = text-of-length-zero-is-empty rest (eqb-true _ _ p.0) in
-    let a = p.1 in
-    λ i. Some (a i, q i)
+    grind (arith, nat_tests, text-of-length-zero-is-empty)
 
 -- IP addresses: the text of an IPv4 address is read as its octets
 pub ipv4_value-complete : (text octets : List ℕ) → IsDotted text octets
@@ -155,9 +148,7 @@ ipv4_value-complete text octets h =
 pub ipv4_value-sound : (text octets : List ℕ) → ipv4_value text ≡ Some octets → IsDotted text octets
 unfolding ipv4_value
 ipv4_value-sound text octets e =
-    let (prefix, split, dotted) = read_ipv4_sound text octets []
-    (whole-value-is-read-to-end (read_ipv4 text) octets e) in
-    subst (λ t. IsDotted t octets) (sym (split ∙ append-nil prefix)) dotted
+    grind (arith, nat_tests, read_ipv4_sound, whole-value-is-read-to-end, append-nil)
 
 -- IP addresses: the text of an IPv6 address is read as its segments
 pub ipv6_value-complete : (text segments : List ℕ) → IsColonHex text segments
@@ -172,6 +163,4 @@ pub ipv6_value-sound : (text segments : List ℕ) → ipv6_value text ≡ Some s
     → IsColonHex text segments
 unfolding ipv6_value
 ipv6_value-sound text segments e =
-    let (prefix, split, groups) = read_ipv6_sound text segments []
-    (whole-value-is-read-to-end (read_ipv6 text) segments e) in
-    subst (λ t. IsColonHex t segments) (sym (split ∙ append-nil prefix)) groups
+    grind (arith, nat_tests, read_ipv6_sound, whole-value-is-read-to-end, append-nil)

@@ -5,8 +5,8 @@ use Rattle.std.proofs.Common.{length-append, lit<}
 use Rattle.std.specs.Prelude.{codes, is_some}
 use Rattle.std.specs.Str.{IsUtf8}
 use Rattle.std.proofs.Math.Seq.{drop-append_seam}
-use Rattle.std.proofs.lemmas.Bool.{and_from, and_parts, or_right, lt-ltb, ltb-true, eq-eqb}
-use Rattle.std.proofs.lemmas.Bool.{eqb-true, both_ways, false≢true, false_from_ne_true, cases_Bool}
+use Rattle.std.proofs.lemmas.Bool.{and_from, and_parts, lt-ltb, ltb-true, eq-eqb, eqb-true}
+use Rattle.std.proofs.lemmas.Bool.{both_ways, false≢true, false_from_ne_true, cases_Bool}
 use Rattle.std.proofs.lemmas.Bool.Decides.{nat_tests}
 use Rattle.uri_pct.specs.Sets.{TableSet, LacksPercent, is_one_of, hexdig_set, ipv_future_set}
 use Rattle.uri_pct.specs.Tokens.{is_valid_for}
@@ -129,8 +129,7 @@ closed-ipvfuture-is-parsed-literal : (text tail : List ℕ) → Lacks (codes "]"
     × (literal_length (text ++ (93 ∷ tail)) ≡ length text + 1)
 unfolding is_literal parses_literal literal_length
 closed-ipvfuture-is-parsed-literal text tail lacks future =
-    let c = cut-at-end-of-text-without-marks (codes "]") text (93 ∷ tail) lacks refl in
-    rw (c.0, c.1) (or_right _ _ future, refl)
+    grind (arith, nat_tests, cut-at-end-of-text-without-marks)
 
 module _ (letter : ℕ) (v : (eqb letter 118 || eqb letter 86) ≡ true) where
   version-letter-is-no-bracket : is_one_of (codes "]") letter ≡ false

@@ -1,21 +1,20 @@
 -- The test of an IPvFuture address is its grammar; and what no address in brackets holds.
 use Rattle.std.proofs.Common.{◌≡◌, ℕ, zero, suc, ◌<◌, ◌^◌, Bool, true, false, not, eqb, ltb, List}
-use Rattle.std.proofs.Common.{[], ◌∷◌, ◌++◌, length, get_or, drop, All, refl, sym, ap, subst, ◌∙◌}
-use Rattle.std.proofs.Common.{arith, ◌&&◌, ⊎_elim, inl, inr}
+use Rattle.std.proofs.Common.{[], ◌∷◌, ◌++◌, length, get_or, All, refl, sym, ap, subst, ◌∙◌, arith}
+use Rattle.std.proofs.Common.{◌&&◌, inl, inr}
 use Rattle.std.specs.Prelude.{codes}
 use Rattle.std.specs.Char.{is_ascii_hexdigit}
 use Rattle.std.specs.Str.{IsUtf8}
 use Rattle.std.specs.Net.Grammar.{IsDotted, IsColonHex}
 use Rattle.std.proofs.lemmas.List.Elements.{All-nil, All-cons, All-append}
 use Rattle.std.proofs.NetLemmas.Alphabet.{IsDigitOrDot, All-ipv4_text}
-use Rattle.std.proofs.lemmas.Bool.{and_from, and_parts, lt-ltb, ltb-true, false≢true, both_ways}
-use Rattle.std.proofs.lemmas.Bool.{cases_Bool}
+use Rattle.std.proofs.lemmas.Bool.{and_from, and_parts, lt-ltb, false≢true}
 use Rattle.std.proofs.lemmas.Bool.Decides.{nat_tests}
 use Rattle.uri_pct.specs.Sets.{TableSet, LacksPercent, is_one_of, hexdig_set, reg_name_set}
 use Rattle.uri_pct.specs.Sets.{ipv_future_set, is_userinfo_char, is_reg_name_char}
 use Rattle.uri_pct.specs.Tokens.{is_valid_for}
 use Rattle.uri_pct.proofs.ValidTexts.Cuts.{excludes, excluded_mark_is_not_in_set}
-use Rattle.uri_parts.specs.Components.{Lacks, before_any, from_any}
+use Rattle.uri_parts.specs.Components.{Lacks}
 use Rattle.uri_parts.specs.Hosts.{IsIpvFuture, is_ipv_future, is_future_address}
 use Rattle.uri_parts.proofs.Splitting.Cuts.{cut-at-end-of-text-without-marks}
 use Rattle.uri_parts.proofs.Splitting.Cuts.{text-is-cut-at-first-mark}
@@ -53,23 +52,7 @@ pub is_ipv_future-sound : (text : List ℕ) → is_ipv_future text ≡ true → 
 unfolding is_ipv_future
 is_ipv_future-sound [] e = absurd (false≢true e)
 is_ipv_future-sound (letter ∷ rest) e =
-    let before : List ℕ = before_any (codes ".") rest in
-    let from : List ℕ = from_any (codes ".") rest in
-    let p = and_parts _ _ e in
-    let q = and_parts _ _ p.1 in
-    let version = and_parts _ _ q.0 in
-    let address = and_parts _ _ q.1 in
-    let chars = and_parts _ _ address.1 in
-    record {
-      letter = letter;
-      version = before;
-      address = drop 1 from;
-      whole = ap (λ t. letter ∷ t) (sym (text-is-cut-at-first-mark (codes ".") rest).whole
-          ∙ ap (λ t. before ++ t) (text-with-mark-is-mark-and-rest 46 from address.0));
-      is_v = p.0;
-      version_digits = (ltb-true 0 _ version.0, version.1);
-      address_chars = (ltb-true 0 _ chars.0, chars.1);
-    }
+    grind (arith, nat_tests, text-is-cut-at-first-mark, text-with-mark-is-mark-and-rest)
 
 -- hosts: a character of an IP address may be in userinfo
 address-char-is-userinfo-char : (c : ℕ) → is_address_char c ≡ true → is_userinfo_char c ≡ true
@@ -119,10 +102,7 @@ four-octets-fit-eight-bits a b c d p q r s (suc (suc (suc (suc k)))) = omega ari
 unmarked : (set : TableSet) (marks : List ℕ) → excludes set marks ≡ true → (c : ℕ) → set.ascii c
     ≡ true
     → is_one_of marks c ≡ false
-unmarked set marks outside c e = ⊎_elim
-    (λ m. absurd (both_ways _ (excluded_mark_is_not_in_set set marks outside c m) e))
-    (λ m. m)
-    (cases_Bool (is_one_of marks c))
+unmarked set marks outside c e = grind (arith, nat_tests, excluded_mark_is_not_in_set)
 
 -- hosts: an IPv4 address is digits and dots
 pub ipv4-text-is-digits-and-dots : (text octets : List ℕ) → IsDotted text octets

@@ -1,10 +1,9 @@
 -- One turn of reading the groups of an IPv6 address into their numbers.
 use Rattle.std.proofs.Common.{◌≡◌, ◌≢◌, ℕ, zero, suc, ◌+◌, ◌-◌, ◌<◌, ◌≤◌, ◌==◌, ◌⊎◌, nat_lt, max}
-use Rattle.std.proofs.Common.{Bool, Option, option_map, lt-ltb}
-use Rattle.std.proofs.Common.{true, false, List, [], ◌∷◌, ◌++◌, length, take, drop, get_or, Some}
-use Rattle.std.proofs.Common.{None}
-use Rattle.std.proofs.Common.{replicate, refl, sym, ap, ◌∙◌, arith, inl, inr, ne_eqb, append-nil}
-use Rattle.std.proofs.Common.{append_assoc, length-append, length-take-le, get_or-take, get_or-drop}
+use Rattle.std.proofs.Common.{Bool, Option, option_map, true, false, List, [], ◌∷◌, ◌++◌, length}
+use Rattle.std.proofs.Common.{take, drop, get_or, Some, None, replicate, refl, sym, ap, ◌∙◌, arith}
+use Rattle.std.proofs.Common.{inl, inr, ne_eqb, append-nil, append_assoc, length-append}
+use Rattle.std.proofs.Common.{length-take-le, get_or-take, get_or-drop}
 use Rattle.std.proofs.lemmas.Bool.{cases_lt}
 use Rattle.std.proofs.lemmas.List.{at_drop_more, at_drop_all, get_or_past, ext_get_or}
 use Rattle.std.proofs.lemmas.List.{get_or_append_left, get_or-append_right, get_or-append-add}
@@ -16,13 +15,14 @@ use Rattle.std.proofs.NetLemmas.Numbers.{read_number_empty}
 use Rattle.std.proofs.NetLemmas.Ipv4.{read_ipv4_sound}
 use Rattle.std.proofs.NetLemmas.Options.{map_some}
 use Rattle.std.proofs.lemmas.Option.{none-some}
+use Rattle.std.proofs.lemmas.Bool.Decides.{nat_tests}
 use Rattle.uri_parts.specs.Models.Literals.{AreLeadingHexDigits, segments_of_ipv4}
 use Rattle.uri_parts.proofs.HostForms.AddressParsing.{hex_digits_are_read_as_segment}
 use Rattle.uri_parts.proofs.HostForms.AddressParsing.{five_digits_begin_no_ipv4}
 use Rattle.uri_parts.proofs.HostForms.AddressParsing.{no_dot_means_no_ipv4}
 use Rattle.uri_parts.proofs.HostForms.AddressParsing.{no_digits_are_no_segment}
-use Rattle.uri_parts.proofs.HostForms.AddressParsing.{five_digits_are_no_segment}
-use Rattle.uri_parts.proofs.HostForms.AddressParsing.{IsSuffix, text-after-prefix-is-suffix}
+use Rattle.uri_parts.proofs.HostForms.AddressParsing.{five_digits_are_no_segment, IsSuffix}
+use Rattle.uri_parts.proofs.HostForms.AddressParsing.{text-after-prefix-is-suffix}
 
 -- general fact on options, for an IPv4 address
 option-is-none-if-mapped-is : {A B : Type 0} (f : A → B) (o : Option A) → option_map f o
@@ -50,10 +50,7 @@ colon-at-position-is-read s i e = elim (cases_lt i (length s)) [
 
 -- reading IPv6: a colon at a position is inside the text
 pub colon-at-position-is-inside : (s : List ℕ) (i : ℕ) → get_or s i 0 ≡ 58 → i + 1 ≤ length s
-colon-at-position-is-inside s i e = elim (cases_lt i (length s)) [
-  | inl inside ↦ omega arith
-  | inr past ↦ cc (get_or_past s i 0 past)
-]
+colon-at-position-is-inside s i e = grind (arith, nat_tests, get_or_past)
 
 -- reading IPv6: where another byte is, no colon is read
 other-byte-at-position-is-no-colon : (s : List ℕ) (i : ℕ) → get_or s i 0 ≢ 58
@@ -73,33 +70,25 @@ no-segment-is-read-without-colon (suc room) rest e = rw e
 -- reading IPv6: no IPv4 address begins without a digit
 no-digits-begin-no-ipv4 : (text : List ℕ) → AreLeadingHexDigits text 0 → read_ipv4 text ≡ None
 unfolding read_ipv4 read_octet
-no-digits-begin-no-ipv4 text h =
-    let stop = h.stop (omega arith) in
-    rw (read_number_empty 10 255 text (omega arith))
+no-digits-begin-no-ipv4 text h = grind (arith, nat_tests, read_number_empty)
 
 -- reading IPv6: no group begins where no digit or five come first
 module _ (text : List ℕ) (count : ℕ) (are : AreLeadingHexDigits text count)
     (none : (count ≡ 0) ⊎ (count ≡ 5)) where
   no-ipv4-without-group : (fits : Bool) → read_ipv4_if fits text ≡ None
   no-ipv4-without-group false = refl
-  no-ipv4-without-group true = elim none [
-    | inl zeros ↦ no-digits-begin-no-ipv4 text (rw zeros at are)
-    | inr five ↦ five_digits_begin_no_ipv4 text count are five
-  ]
+  no-ipv4-without-group true =
+      grind (arith, nat_tests, no-digits-begin-no-ipv4, five_digits_begin_no_ipv4)
 
   no-segment-without-group : read_segment text ≡ None
-  no-segment-without-group = elim none [
-    | inl zeros ↦ no_digits_are_no_segment text count are zeros
-    | inr five ↦ five_digits_are_no_segment text count are five
-  ]
+  no-segment-without-group =
+      grind (arith, nat_tests, no_digits_are_no_segment, five_digits_are_no_segment)
 
 -- reading IPv6: what follows an IPv4 address is a suffix of the text
 pub text-after-ipv4-is-suffix : (text two rest : List ℕ) → Some (two, rest) ≡ segments_of_ipv4 text
     → IsSuffix rest text
 text-after-ipv4-is-suffix text two rest e =
-    map_some _ (read_ipv4 text) (two, rest) (sym e) λ p found same.
-    let (prefix, split, h) = read_ipv4_sound text p.0 p.1 found in
-    text-after-prefix-is-suffix prefix (split ∙ ap (λ q. prefix ++ q.1) same)
+    grind (arith, nat_tests, map_some, read_ipv4_sound, text-after-prefix-is-suffix)
 
 -- reading IPv6: no IPv4 address is read where none is parsed, or where it does not fit
 pub unparsed-ipv4-is-not-read : (fits : Bool) (text : List ℕ) → None ≡ segments_of_ipv4 text
@@ -132,11 +121,7 @@ module _ (n i : ℕ) (text s prefix group : List ℕ) (within : i < n)
       → read_segments n true text ≡ (prefix ++ two, true, rest)
   unfolding read_segments
   ipv4-ends-reading two rest fits e =
-      map_some _ (read_ipv4 group) (two, rest) (sym e) λ p found same.
-      let fits_one : nat_lt 0 (n - (i + 1)) ≡ true = lt-ltb 0 (n - (i + 1)) (omega arith) in
-      so_far
-      ∙ rw (room-is-one-more-than-room-after, ← led, fits_one, found)
-      (ap (λ q. (prefix ++ q.0, true, q.1)) same)
+      grind (arith, nat_tests, map_some, nat_lt, room-is-one-more-than-room-after)
 
   module _ (some : count ≢ 0) (few : count ≢ 5)
       (no_ipv4 : read_ipv4_if (nat_lt 0 (n - (i + 1))) group ≡ None) where
@@ -196,15 +181,11 @@ module _ (head part new window : List ℕ) (h t g : ℕ) (eight : length head �
   -- before the groups the window has zeros
   window-begins-with-zeros : (j : ℕ) → j < 8 → get_or window j 0 ≡ 0
   window-begins-with-zeros j less =
-      sym (get_or-take (8 + length part) window j 0 (omega arith))
-      ∙ ap (λ s. get_or s j 0) put
-      ∙ get_or_append_left (replicate 8 0) part 0 j less ∙ get_or-replicate 8 j 0 0 less
+      grind (arith, nat_tests, get_or-take, get_or_append_left, get_or-replicate)
 
   window-has-part-from-eight : (j : ℕ) → j < length part
       → get_or window (8 + j) 0 ≡ get_or part j 0
-  window-has-part-from-eight j less =
-      sym (get_or-take (8 + length part) window (8 + j) 0 (omega arith))
-      ∙ ap (λ s. get_or s (8 + j) 0) put ∙ get_or-append-add (replicate 8 0) part j 0
+  window-has-part-from-eight j less = grind (arith, nat_tests, get_or-take, get_or-append-add)
 
   head-has-zeros-after-groups : (k : ℕ) → h ≤ k → k < 8 → get_or head k 0 ≡ 0
   head-has-zeros-after-groups k after less =
@@ -227,38 +208,20 @@ module _ (head part new window : List ℕ) (h t g : ℕ) (eight : length head �
 
   segments-agree-at-index : (k : ℕ) → k < 8
       → get_or new k 0 ≡ get_or (take h head ++ replicate g 0 ++ take t part) k 0
-  segments-agree-at-index k less = elim (cases_lt k (8 - t)) [
-    | inl front ↦ elim (cases_lt k h) [
-      | inl first ↦
-          let right = get_or_append_left (take h head ++ replicate g 0) (take t part) 0 k
-          (omega (arith, length-before-tail))
-          ∙ get_or_append_left (take h head) (replicate g 0) 0 k
-          (omega (arith, length-take-le h head (omega arith)))
-          ∙ get_or-take h head k 0 first in
-          omega (arith, each k less, window-begins-with-zeros (t + k) (omega arith), right)
-      | inr second ↦
-          let right = get_or_append_left (take h head ++ replicate g 0) (take t part) 0 k
-          (omega (arith, length-before-tail))
-          ∙ get_or-append_right (take h head) (replicate g 0) h k 0
-          (length-take-le h head (omega arith)) second
-          ∙ get_or-replicate g (k - h) 0 0 (omega arith) in
-          omega (
-            arith,
-            each k less,
-            window-begins-with-zeros (t + k) (omega arith),
-            head-has-zeros-after-groups k second less,
-            right,
-          )
-    ]
-    | inr last ↦
-        let j : ℕ = k - (8 - t) in
-        let same : t + k ≡ 8 + j = omega arith in
-        let right = get_or-append_right (take h head ++ replicate g 0) (take t part) (8 - t) k 0
-        length-before-tail last
-        ∙ get_or-take t part j 0 (omega arith) in
-        let left = ap (λ n. get_or window n 0) same ∙ window-has-part-from-eight j (omega arith) in
-        omega (arith, each k less, head-has-zeros-after-groups k (omega arith) less, left, right)
-  ]
+  segments-agree-at-index k less =
+      grind (
+        arith,
+        nat_tests,
+        get_or_append_left,
+        length-before-tail,
+        length-take-le,
+        get_or-take,
+        window-begins-with-zeros,
+        get_or-append_right,
+        get_or-replicate,
+        head-has-zeros-after-groups,
+        window-has-part-from-eight,
+      )
 
   pub tail-groups-are-placed-last : new ≡ take h head ++ replicate g 0 ++ take t part
   tail-groups-are-placed-last = ext_get_or 0 new (take h head ++ replicate g 0 ++ take t part)

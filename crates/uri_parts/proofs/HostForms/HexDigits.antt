@@ -1,10 +1,8 @@
 -- Hexadecimal digits by a table, and how many of them a text begins with.
-use Rattle.std.proofs.Common.{◌≡◌, ℕ, zero, suc, ◌+◌, ◌<◌, ◌≤◌, min, Bool, true}
-use Rattle.std.proofs.Common.{◌&&◌}
-use Rattle.std.proofs.Common.{List, take, get_or, length, refl, arith, eqb}
-use Rattle.std.proofs.Common.{inl, inr, ◌≢◌, ◌*◌, ◌^◌, drop, get_or-drop, length-take-le, lit≤}
-use Rattle.std.proofs.lemmas.Bool.{cases_lt, eqb-true}
-use Rattle.std.proofs.lemmas.Bool.Decides.{Decides-below_and}
+use Rattle.std.proofs.Common.{◌≡◌, ℕ, zero, suc, ◌+◌, ◌<◌, ◌≤◌, min, Bool, true, ◌&&◌, List, get_or}
+use Rattle.std.proofs.Common.{refl, arith, eqb, ◌≢◌, ◌*◌, drop, get_or-drop, length-take-le, lit≤}
+use Rattle.std.proofs.lemmas.Bool.{eqb-true}
+use Rattle.std.proofs.lemmas.Bool.Decides.{Decides-below_and, nat_tests}
 use Rattle.std.proofs.lemmas.Int.Digits.{digits_more, digits_value-lt, digits_value_more}
 use Rattle.std.proofs.lemmas.List.{get_or_past}
 use Rattle.std.proofs.Math.Nat.{pow-le-pow_right}
@@ -36,12 +34,7 @@ no-digit-past-end byte e = rw e (lit≤ tt)
 pub three-digits-are-below-4096 : (text : List ℕ) (count value : ℕ) → BeginsNumber text count value
     → count < 4 → value < 4096
 three-digits-are-below-4096 text count value h few =
-    let below = digits_value-lt 16 (take count text) h.digits in
-    let size = length-take-le count text h.within in
-    let short : length (take count text) ≤ 3 = omega arith in
-    let most : 16 ^ length (take count text) ≤ 16 ^ 3 = pow-le-pow_right (lit≤ tt) short in
-    let is = h.is in
-    omega arith
+    grind (arith, nat_tests, digits_value-lt, length-take-le, pow-le-pow_right)
 
 -- parsing IPv6: a digit after those at the start makes one more
 pub next-digit-extends-number : (text : List ℕ) (start count value byte digit : ℕ)
@@ -49,21 +42,15 @@ pub next-digit-extends-number : (text : List ℕ) (start count value byte digit 
     → digit ≡ min (digit_value byte) 16 → digit ≢ 16
     → BeginsNumber (drop start text) (count + 1) (value * 16 + digit)
 next-digit-extends-number text start count value byte digit h at of other =
-    let here : byte ≡ get_or (drop start text) count 0 = rw (get_or-drop start text count 0) at in
-    let small : digit_value byte < 16 = omega arith in
-    let same : digit ≡ digit_value byte = omega arith in
-    elim (cases_lt count (length (drop start text))) [
-      | inl inside ↦ record {
-        digits = digits_more 16 (drop start text) count inside h.digits (rw (← here) small);
-        within = omega arith;
-        is = rw (digits_value_more 16 (drop start text) count inside, ← h.is, ← here, same);
-      }
-      | inr past ↦ absurd (omega (
-        arith,
-        rw (get_or_past (drop start text) count 0 past) at here,
-        no-digit-past-end byte,
-      ))
-    ]
+    grind (
+      arith,
+      nat_tests,
+      get_or-drop,
+      digits_more,
+      digits_value_more,
+      get_or_past,
+      no-digit-past-end,
+    )
 
 -- parsing IPv6: the digits that come first end at a byte that is no digit
 pub number-ends-at-other-byte : (text : List ℕ) (start count value byte digit : ℕ)
@@ -71,20 +58,9 @@ pub number-ends-at-other-byte : (text : List ℕ) (start count value byte digit 
     → digit ≡ min (digit_value byte) 16 → digit ≡ 16 → count ≤ 5
     → AreLeadingHexDigits (drop start text) count
 number-ends-at-other-byte text start count value byte digit h at of none few =
-    let here : byte ≡ get_or (drop start text) count 0 = rw (get_or-drop start text count 0) at in
-    record {
-      digits = h.digits;
-      most = few;
-      within = h.within;
-      stop = λ _. rw (← here) (omega arith);
-    }
+    grind (arith, nat_tests, get_or-drop)
 
 -- parsing IPv6: five digits are enough to count, as a group has four at most
 pub five-digits-are-leading-digits : (text : List ℕ) (value : ℕ) → BeginsNumber text 5 value
     → AreLeadingHexDigits text 5
-five-digits-are-leading-digits text value h = record {
-  digits = h.digits;
-  most = omega arith;
-  within = h.within;
-  stop = λ l. absurd (omega (arith, l));
-}
+five-digits-are-leading-digits text value h = grind (arith, nat_tests)

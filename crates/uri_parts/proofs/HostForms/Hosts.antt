@@ -1,7 +1,7 @@
 -- The test of a host is its grammar, and a text is a host of one kind.
 use Rattle.std.proofs.Common.{◌≡◌, ℕ, true, false, eqb, List, [], ◌∷◌, ◌++◌, refl, sym, ap, subst}
-use Rattle.std.proofs.Common.{◌∙◌, arith, ◌||◌, ◌&&◌, ⊎_elim, inl, inr, ◌⊎◌, Option, Some, None}
-use Rattle.std.specs.Prelude.{codes, bytes_eq, is_some}
+use Rattle.std.proofs.Common.{◌∙◌, arith, ◌||◌, ⊎_elim, inl, inr, ◌⊎◌, Option, Some, None}
+use Rattle.std.specs.Prelude.{codes, is_some}
 use Rattle.std.specs.Str.{IsUtf8}
 use Rattle.std.proofs.lemmas.Bool.{and_parts, or_right, eqb-true, cond-true, cond-false, both_ways}
 use Rattle.std.proofs.lemmas.Bool.{cases_Bool}
@@ -73,13 +73,7 @@ kind-and-test-of-bracketed-host : (names : TableSet) (address : List ℕ) → La
     × (is_host names (bracketed address) ≡ (is_some (ipv6_value address) || is_ipv_future address))
 unfolding host_kind is_host
 kind-and-test-of-bracketed-host names address h =
-    let e = literal_of-bracketed-is-address address h in (
-      ap (λ t. literal_kind (ipv6_value t)) e,
-      ap (λ t. bytes_eq (bracketed t) (bracketed address)
-          && (is_some (ipv6_value t) || is_ipv_future t)) e
-          ∙ ap (λ t. t && (is_some (ipv6_value address) || is_ipv_future address))
-          ((bytes_eq-Decides (bracketed address) (bracketed address)).1 refl),
-    )
+    grind (arith, nat_tests, literal_of-bracketed-is-address, bytes_eq-Decides)
 
 -- hosts: for one without `[` (91), its kind and the test of it
 -- depend on whether it is an IPv4 address
@@ -104,16 +98,8 @@ lacking_text_does_not_begin_with marks (d ∷ text) c m h = ⊎_elim
 tested-literal-is-host : (names : TableSet) (text address : List ℕ) → text ≡ bracketed address
     → (is_some (ipv6_value address) || is_ipv_future address) ≡ true
     → IsHost names text (literal_kind (ipv6_value address))
-tested-literal-is-host names text address e t = ⊎_elim
-    (λ n. subst (λ o. IsHost names text (literal_kind o)) (sym n) (
-      address,
-      e,
-      is_ipv_future-sound address
-          (subst (λ o. (is_some o || is_ipv_future address) ≡ true) n t),
-    ))
-    (λ (segments, s). subst (λ o. IsHost names text (literal_kind o)) (sym s)
-    (address, e, ipv6_value-sound address segments s))
-    (option-is-none-or-some (ipv6_value address))
+tested-literal-is-host names text address e t =
+    grind (arith, nat_tests, is_ipv_future-sound, ipv6_value-sound, option-is-none-or-some)
 
 -- hosts: one without brackets that passes the test is of the grammar
 tested-name-is-host : (names : TableSet) (text : List ℕ)

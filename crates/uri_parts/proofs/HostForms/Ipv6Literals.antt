@@ -5,9 +5,10 @@ use Rattle.std.proofs.Common.{lit≤, eqb-true, length-append}
 use Rattle.std.specs.Prelude.{codes, is_some}
 use Rattle.std.specs.Net.Reader.{read_ipv6}
 use Rattle.std.proofs.lemmas.Bool.{false≢true, and_parts, false_from_ne_true}
-use Rattle.std.proofs.lemmas.Option.{none-some, same_Some}
+use Rattle.std.proofs.lemmas.Option.{none-some}
 use Rattle.std.proofs.NetLemmas.Options.{map_some}
 use Rattle.std.proofs.NetLemmas.Ipv6.{EndsGroups, read_ipv6_complete, read_ipv6_sound}
+use Rattle.std.proofs.lemmas.Bool.Decides.{nat_tests}
 use Rattle.uri_parts.specs.Components.{starts, before_any, from_any}
 use Rattle.uri_parts.specs.Hosts.{ipv6_value, is_ipv_future}
 use Rattle.uri_parts.specs.Models.Literals.{literal_length}
@@ -40,9 +41,7 @@ closing-bracket-ends-groups (c ∷ text) e = rw (eqb-true c 93 e)
 pub text-after-ipv6-is-suffix : (rest suffix : List ℕ) → Some suffix ≡ left rest
     → IsSuffix suffix rest
 text-after-ipv6-is-suffix rest suffix e =
-    map_some (λ p. p.1) (read_ipv6 rest) suffix (sym e) λ p found same.
-    let (prefix, split, groups) = read_ipv6_sound rest p.0 p.1 found in
-    text-after-prefix-is-suffix prefix (split ∙ ap (λ t. prefix ++ t) same)
+    grind (arith, nat_tests, map_some, read_ipv6_sound, text-after-prefix-is-suffix)
 
 -- parsing IPv6: what is left after an address at a position is a suffix of the whole text
 pub text-after-ipv6-at-position : (text suffix : List ℕ) (start : ℕ) → start ≤ length text
@@ -112,7 +111,5 @@ no_ipv6_is_no_literal rest no_version e = false_from_ne_true _ λ t. none-some _
 pub unclosed_ipv6_is_no_literal : (rest suffix : List ℕ) → (starts 118 rest || starts 86 rest)
     ≡ false
     → Some suffix ≡ left rest → starts 93 suffix ≡ false → parses_literal rest ≡ false
-unclosed_ipv6_is_no_literal rest suffix no_version e other = false_from_ne_true _ λ t.
-    let c = literal_is_ipv6_and_bracket rest no_version t in
-    let same : suffix ≡ from_any (codes "]") rest = same_Some _ _ (e ∙ c.0) in
-    false≢true (sym other ∙ ap (starts 93) same ∙ c.1)
+unclosed_ipv6_is_no_literal rest suffix no_version e other =
+    grind (arith, nat_tests, false_from_ne_true, literal_is_ipv6_and_bracket)

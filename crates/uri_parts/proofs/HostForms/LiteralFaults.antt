@@ -1,16 +1,17 @@
 -- The error of an address in brackets is one in the whole text.
 use Rattle.std.proofs.Common.{◌≡◌, ℕ, ◌+◌, ◌-◌, Bool, true, false, not, cond, List, [], ◌∷◌, drop}
-use Rattle.std.proofs.Common.{get_or, Option, Some, None, ap, sym, subst, ◌∙◌, arith}
-use Rattle.std.specs.Prelude.{Ok, Err, codes, nat_lt, ◌&&◌, ⊤}
+use Rattle.std.proofs.Common.{get_or, Option, Some, None, subst, arith}
+use Rattle.std.specs.Prelude.{Ok, Err, codes, ⊤}
 use Rattle.std.specs.Str.{IsCharBoundary}
 use Rattle.std.proofs.lemmas.List.{get_or-drop}
 use Rattle.std.proofs.lemmas.Bool.{eqb-true, false≢true}
+use Rattle.std.proofs.lemmas.Bool.Decides.{nat_tests}
 use Rattle.uri_parts.specs.declared.error.ParseError.{ParseError}
 use Rattle.uri_pct.specs.Sets.{TableSet, is_one_of, hexdig_set, ipv_future_set}
 use Rattle.uri_parts.specs.Components.{starts}
 use Rattle.uri_parts.specs.Errors.{IsErrorIn, IsErrorKindAt, unexpected}
 use Rattle.uri_parts.specs.LiteralErrors.{closed, literal, cannot_begin_ipv6}
-use Rattle.uri_parts.specs.Scanning.{ScanResult, is_next, scan_end, scan_to_mark}
+use Rattle.uri_parts.specs.Scanning.{ScanResult, scan_to_mark}
 
 -- IP literals, their errors: a text that begins with a byte (mark) has it first
 first-byte-is-mark : (mark : ℕ) (text : List ℕ) → starts mark text ≡ true → get_or text 0 0 ≡ mark
@@ -21,9 +22,7 @@ first-byte-is-mark mark (c ∷ text) e = eqb-true c mark e
 byte-at-position-is-mark : (mark place : ℕ) (text : List ℕ) → starts mark (drop place text) ≡ true
     → get_or text place 0 ≡ mark
 byte-at-position-is-mark mark place text e =
-    let z : place + 0 ≡ place = omega arith in
-    sym (get_or-drop place text 0 0 ∙ ap (λ n. get_or text n 0) z)
-    ∙ first-byte-is-mark mark (drop place text) e
+    grind (arith, nat_tests, get_or-drop, first-byte-is-mark)
 
 -- what is wrong where an address that begins after a `[` ends with an error
 module _ (text : List ℕ) (place : ℕ) (bracket : starts 91 (drop place text) ≡ true) where
@@ -48,20 +47,15 @@ module _ (text : List ℕ) (place : ℕ) (bracket : starts 91 (drop place text) 
   unclosed-literal-error-has-its-kind : (end : Option ℕ)
       → HasErrorKindAt (closed text (place + 1) end)
   unfolding HasErrorKindAt
-  unclosed-literal-error-has-its-kind None =
-      let n : place + 1 - 1 ≡ place = omega arith in
-      (omega arith, ap (λ k. get_or text k 0) n ∙ byte-at-position-is-mark 91 place text bracket)
+  unclosed-literal-error-has-its-kind None = grind (arith, nat_tests, byte-at-position-is-mark)
   unclosed-literal-error-has-its-kind (Some end) =
-      both-branches-have-error-kind (is_next text 93 end) (Ok (end + 1))
-      (Err (unexpected end)) tt tt
+      grind (arith, nat_tests, both-branches-have-error-kind)
 
   scan-to-mark-error-has-its-kind : (set : TableSet) (mark : ℕ) (next : ℕ → ScanResult)
       → ((n : ℕ) → HasErrorKindAt (next n))
       → (i : ℕ) → HasErrorKindAt (scan_to_mark text set mark next i)
   scan-to-mark-error-has-its-kind set mark next h i =
-      let end : ℕ = scan_end text set i in
-      both-branches-have-error-kind (nat_lt i end && is_next text mark end) _ _ (h (end + 1))
-      (unexpected-error-has-its-kind end)
+      grind (arith, nat_tests, both-branches-have-error-kind, unexpected-error-has-its-kind)
 
   literal-error-has-its-kind : HasErrorKindAt (literal text (place + 1))
   unfolding literal

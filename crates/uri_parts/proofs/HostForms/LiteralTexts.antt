@@ -1,11 +1,11 @@
 -- The first characters of an address in brackets, and the digits of one.
 use Rattle.std.proofs.Common.{◌≡◌, ℕ, ◌+◌, ◌<◌, ◌≤◌, true, false, eqb, List, [], ◌∷◌, length}
-use Rattle.std.proofs.Common.{get_or, refl, sym, ap, ◌∙◌, arith, ◌||◌}
+use Rattle.std.proofs.Common.{get_or, refl, arith, ◌||◌}
 use Rattle.std.specs.Prelude.{codes, IsTrue}
 use Rattle.std.specs.Char.{digit_value}
 use Rattle.std.specs.Str.{IsUtf8, IsCharBoundary}
 use Rattle.std.proofs.lemmas.Str.{IsCharBoundary-after_ascii}
-use Rattle.std.proofs.lemmas.Bool.{eqb-true, and_left}
+use Rattle.std.proofs.lemmas.Bool.{and_left}
 use Rattle.std.proofs.lemmas.Bool.Decides.{nat_tests}
 use Rattle.uri_pct.specs.Sets.{is_one_of}
 use Rattle.uri_parts.specs.Components.{starts}
@@ -44,6 +44,4 @@ pub boundary-after-ascii-byte : (text bytes : List ℕ) (i byte : ℕ) → bytes
     → i < length bytes → byte < 128 → IsTrue (eqb (get_or bytes i 0) byte)
     → IsCharBoundary text (i + 1)
 boundary-after-ascii-byte text bytes i byte e u inside ascii h =
-    let same : get_or text i 0 ≡ byte = ap (λ t. get_or t i 0) (sym e)
-    ∙ eqb-true _ _ (eq_true_from_IsTrue _ h) in
-    IsCharBoundary-after_ascii text i u (omega (arith, ap length e)) (omega arith)
+    grind (arith, nat_tests, eq_true_from_IsTrue, IsCharBoundary-after_ascii)

@@ -1,6 +1,6 @@
 -- What the parser accepts is the grammar of its kind.
-use Rattle.std.proofs.Common.{◌≡◌, ℕ, Bool, true, false, eqb, List, [], ◌∷◌, take, drop, refl}
-use Rattle.std.proofs.Common.{sym, ap, ◌∙◌, arith, ◌&&◌, ⊎_elim}
+use Rattle.std.proofs.Common.{◌≡◌, ℕ, Bool, true, false, eqb, List, [], ◌∷◌, drop, refl, sym, ap}
+use Rattle.std.proofs.Common.{◌∙◌, arith, ◌&&◌, ⊎_elim}
 use Rattle.std.specs.Prelude.{codes}
 use Rattle.std.specs.Str.{IsUtf8}
 use Rattle.std.proofs.lemmas.Bool.{cases_Bool, cond-false, eq-eqb, eqb-true, ne_eqb, both_ways}
@@ -59,9 +59,7 @@ module _ (segment : TableSet) (kind : Kind) (w : SeparatesComponents segment kin
   cut-at-no-marks-is-whole : (bs : List ℕ) → (before_any [] bs ≡ bs) × (from_any [] bs ≡ [])
   cut-at-no-marks-is-whole [] = (refl, refl)
   cut-at-no-marks-is-whole (b ∷ bs) =
-      let p = cut-at-no-marks-is-whole bs in
-      let e = length_before_marks_counts_other_byte [] b bs refl in
-      (ap (λ n. take n (b ∷ bs)) e ∙ ap (λ t. b ∷ t) p.0, ap (λ n. drop n (b ∷ bs)) e ∙ p.1)
+      grind (arith, nat_tests, length_before_marks_counts_other_byte, cut-at-no-marks-is-whole bs)
 
   fragment-is-parsed-iff-valid : (bs : List ℕ) → IsUtf8 bs
       → parses_after kind.fragment is_end bs ≡ is_valid_for kind.fragment bs

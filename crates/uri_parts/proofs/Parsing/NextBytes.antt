@@ -1,7 +1,7 @@
 -- What is next at a position in a text.
 use Rattle.std.proofs.Common.{◌≡◌, ℕ, ◌+◌, ◌<◌, ◌≤◌, true, false, eqb, ltb, List, [], ◌∷◌, length}
 use Rattle.std.proofs.Common.{get_or, drop, refl, sym, ap, ◌∙◌, arith, ◌&&◌, ◌||◌, ⊎_elim}
-use Rattle.std.proofs.lemmas.Bool.{cases_lt, and_left, cond-false, eq-eqb, ne_eqb, lt-ltb, le-ltb}
+use Rattle.std.proofs.lemmas.Bool.{cases_lt, cond-false, eq-eqb, ne_eqb}
 use Rattle.std.proofs.lemmas.List.{drop_more, drop_all, drop-drop}
 use Rattle.std.specs.Prelude.{codes}
 use Rattle.std.proofs.lemmas.Bool.Decides.{nat_tests}
@@ -18,26 +18,20 @@ use Rattle.uri_parts.specs.Models.AuthorityParsing.{name_and_port_length, port_l
 -- parsing: what is left from index i begins with a byte exactly if this is the byte at i
 pub starts_at_position : (mark i : ℕ) (text : List ℕ)
     → starts mark (drop i text) ≡ (ltb i (length text) && eqb (get_or text i 0) mark)
-starts_at_position mark i text = ⊎_elim
-    (λ h. ap (starts mark) (drop_more text i 0 h)
-    ∙ sym (ap (λ t. t && eqb (get_or text i 0) mark) (lt-ltb i (length text) h)))
-    (λ h. ap (starts mark) (drop_all i text h) ∙ sym (and_left _ _ (le-ltb i (length text) h)))
-    (cases_lt i (length text))
+starts_at_position mark i text = grind (arith, nat_tests, drop_more, drop_all)
 
 -- parsing: a `%` (37) at which a scan ends, at n, begins no octet
 pub stray_percent_ends_scan : (set : TableSet) (text : List ℕ) (i n : ℕ) → set.pct_encoded ≡ true
     → n ≡ i + valid_prefix set (drop i text) → n < length text → get_or text n 0 ≡ 37
     → IsStrayPercent text n
 stray_percent_ends_scan set text i n o e h p =
-    let d : drop n text ≡ after set (drop i text) = ap (λ k. drop k text) e
-    ∙ sym (drop-drop (valid_prefix set (drop i text)) i text) in
-    record {
-      inside = h;
-      percent = p;
-      stray =
-          unscanned_percent_has_no_hex_digits set text n h o p (ap (valid_prefix set) d
-          ∙ nothing_is_scanned_after_valid_prefix set (drop i text));
-    }
+    grind (
+      arith,
+      nat_tests,
+      drop-drop (valid_prefix set (drop i text)) i text,
+      unscanned_percent_has_no_hex_digits,
+      nothing_is_scanned_after_valid_prefix set (drop i text),
+    )
 
 -- parsing: nothing is left exactly where the position is the length
 pub text_ends_where_position_is_length : (i : ℕ) (text : List ℕ) → i ≤ length text

@@ -1,11 +1,12 @@
 -- The positions that are parsed are those of the components.
-use Rattle.std.proofs.Common.{◌≡◌, ℕ, ◌+◌, Bool, true, false, cond, eqb, not, List, ◌∷◌, length}
-use Rattle.std.proofs.Common.{get_or, drop, refl, sym, ap, ◌∙◌, arith, ◌&&◌, ⊎_elim, lit<}
+use Rattle.std.proofs.Common.{◌≡◌, ℕ, ◌+◌, Bool, true, false, eqb, not, List, ◌∷◌, length, get_or}
+use Rattle.std.proofs.Common.{drop, refl, sym, ap, ◌∙◌, arith, ◌&&◌, ⊎_elim, lit<}
 use Rattle.std.specs.Prelude.{codes, Some, None, Option, option_map}
 use Rattle.std.specs.Char.{is_ascii_alphabetic}
 use Rattle.std.specs.Str.{IsUtf8}
 use Rattle.std.proofs.lemmas.Bool.{cases_Bool, cond-true, cond-false, and_left, and_from, and_parts}
 use Rattle.std.proofs.lemmas.Bool.{ne_eqb, both_ways, not_from_false, false_from_ne_true}
+use Rattle.std.proofs.lemmas.Bool.Decides.{nat_tests}
 use Rattle.uri_pct.specs.Sets.{TableSet, LacksPercent, is_one_of, scheme_set}
 use Rattle.uri_pct.specs.Prefixes.{valid_prefix, after}
 use Rattle.uri_pct.proofs.ValidTexts.Cuts.{excludes}
@@ -18,18 +19,15 @@ use Rattle.uri_parts.specs.Components.{after_authority, components, when}
 use Rattle.uri_parts.specs.Positions.{positions_of, delimited_length, authority_at}
 use Rattle.uri_parts.specs.Grammar.{Kind}
 use Rattle.uri_parts.specs.Models.AuthorityParsing.{found_authority_length}
-use Rattle.uri_parts.specs.Models.Parsing.{query_end_at, path_positions}
+use Rattle.uri_parts.specs.Models.Parsing.{query_end_at, path_positions, authority_positions}
+use Rattle.uri_parts.specs.Models.Parsing.{hier_part_positions, relative_positions}
+use Rattle.uri_parts.specs.Models.Parsing.{schemeless_positions, parsed_positions}
 use Rattle.uri_parts.proofs.Parsing.Acceptance.{finds_authority, is_stray, parses_fragment}
 use Rattle.uri_parts.proofs.Parsing.Acceptance.{parses_end, parses_path, parses_authority}
 use Rattle.uri_parts.proofs.Parsing.Acceptance.{parses_relative, parses_hier_part}
-use Rattle.uri_parts.proofs.Parsing.Acceptance.{parses_schemeless}
-use Rattle.uri_parts.proofs.Parsing.Acceptance.{parses}
-use Rattle.uri_parts.specs.Models.Parsing.{authority_positions, hier_part_positions}
-use Rattle.uri_parts.specs.Models.Parsing.{relative_positions}
-use Rattle.uri_parts.specs.Models.Parsing.{schemeless_positions, parsed_positions}
+use Rattle.uri_parts.proofs.Parsing.Acceptance.{parses_schemeless, parses}
 use Rattle.uri_parts.proofs.Parsing.ScanStops.{scan-stops-at-first-mark-or-within, utf8_from_marks}
-use Rattle.uri_parts.proofs.Parsing.ScanStops.{utf8_after_mark}
-use Rattle.uri_parts.proofs.Parsing.ScanStops.{utf8_after_slashes}
+use Rattle.uri_parts.proofs.Parsing.ScanStops.{utf8_after_mark, utf8_after_slashes}
 use Rattle.uri_parts.proofs.Authorities.AuthorityCuts.{length-of-text-before-marks}
 use Rattle.uri_parts.proofs.TextKinds.Separations.{SeparatesComponents}
 use Rattle.uri_parts.proofs.Parsing.Accepts.{parses_fragment-not-at-other, parses_end-not-at-other}
@@ -188,30 +186,14 @@ module _ (segment : TableSet) (kind : Kind) (w : SeparatesComponents segment kin
       authority_positions kind scheme_end (place + 2) (drop 2 rest)
       ≡ hier_part_layout scheme_end place rest
   positions-after-slashes-are-hier-part-layout scheme_end place rest u a h =
-      let host : List ℕ = before_any (codes "/?#") (drop 2 rest) in
-      let e : place + 2 + length host ≡ place + (2 + length host) = omega arith in
-      authority-positions-are-those-of-cut scheme_end (place + 2) (drop 2 rest)
-      (utf8_after_slashes rest a u) h
-      ∙ ap (λ n. tail_positions scheme_end (Some (authority_at (place + 2) host)) n
-      (from_any (codes "/?#") (drop 2 rest))) e
-      ∙ sym
-      (ap (λ t. tail_positions scheme_end (option_map (authority_at (place + 2)) (when t host))
-      (place + delimited_length 2 (when t host))
-      (cond t (from_any (codes "/?#") (drop 2 rest)) rest)) a)
+      grind (arith, nat_tests, authority-positions-are-those-of-cut, utf8_after_slashes)
 
   positions-without-authority-are-hier-part-layout : (scheme_end : Option ℕ) (place : ℕ)
       (rest : List ℕ) → IsUtf8 rest
       → has_authority rest ≡ false → parses_path kind rest ≡ true →
       path_positions kind scheme_end None place place rest ≡ hier_part_layout scheme_end place rest
   positions-without-authority-are-hier-part-layout scheme_end place rest u a h =
-      let host : List ℕ = before_any (codes "/?#") (drop 2 rest) in
-      let e : place ≡ place + 0 = omega arith in
-      path-positions-are-tail-positions scheme_end None place rest u h
-      ∙ ap (λ n. tail_positions scheme_end None n rest) e
-      ∙ sym
-      (ap (λ t. tail_positions scheme_end (option_map (authority_at (place + 2)) (when t host))
-      (place + delimited_length 2 (when t host))
-      (cond t (from_any (codes "/?#") (drop 2 rest)) rest)) a)
+      grind (arith, nat_tests, path-positions-are-tail-positions)
 
   hier-part-positions-are-hier-part-layout : (scheme_end : Option ℕ) (place : ℕ) (rest : List ℕ)
       → IsUtf8 rest
@@ -232,31 +214,15 @@ module _ (segment : TableSet) (kind : Kind) (w : SeparatesComponents segment kin
       ≡ path_positions kind None None 0 0 text
   unfolding relative_positions path_positions
   relative-positions-are-path-positions text =
-      let inner : List ℕ = after segment (after scheme_set text) in
-      let a : after kind.path inner ≡ after kind.path text =
-      ap (after kind.path) (after_segment-after-scheme-chars segment kind w text)
-      ∙ after_path-after-segment segment kind w text in
-      let n : valid_prefix scheme_set text + valid_prefix segment (after scheme_set text)
-      ≡ valid_prefix segment text =
-      sym (valid_prefix_of_superset_goes_on_from_subset scheme_set segment w.scheme_within
-      scheme_set_lacks_percent text) in
-      let k : valid_prefix kind.path inner ≡ valid_prefix kind.path (after segment text) =
-      ap (valid_prefix kind.path) (after_segment-after-scheme-chars segment kind w text) in
-      let f : valid_prefix kind.path text
-      ≡ valid_prefix segment text + valid_prefix kind.path (after segment text) =
-      valid_prefix_of_superset_goes_on_from_subset segment kind.path w.within
-      w.segment_lacks text in
-      let e : valid_prefix scheme_set text + valid_prefix segment (after scheme_set text)
-      + valid_prefix kind.path inner
-      ≡ 0 + valid_prefix kind.path text = omega arith in
-      λ i. record {
-        scheme_end = None;
-        authority = None;
-        path_start = 0;
-        path_end = e i;
-        query_end =
-            query_end_at kind (e i) (a i);
-      }
+      grind (
+        arith,
+        nat_tests,
+        after_segment-after-scheme-chars,
+        after_path-after-segment,
+        valid_prefix_of_superset_goes_on_from_subset,
+        scheme_set_lacks_percent,
+        path_end,
+      )
 
   parsed-relative-path-is-parsed-path : (text : List ℕ) → parses_relative segment kind text ≡ true
       → parses_path kind text ≡ true
@@ -306,17 +272,11 @@ module _ (segment : TableSet) (kind : Kind) (w : SeparatesComponents segment kin
       positions_of (components text)
       ≡ hier_part_layout (Some (length (before_any (codes ":/?#") text)))
       (1 + length (before_any (codes ":/?#") text)) (drop 1 (from_any (codes ":/?#") text))
-  positions-with-scheme-are-hier-part-layout text e =
-      let s : List ℕ = before_any (codes ":/?#") text in
-      ap (λ t. hier_part_layout (option_map length (when t s)) (delimited_length 1 (when t s))
-      (cond t (drop 1 (from_any (codes ":/?#") text)) text)) e
+  positions-with-scheme-are-hier-part-layout text e = grind (arith, nat_tests)
 
   positions-without-scheme-are-hier-part-layout : (text : List ℕ) → has_scheme text ≡ false
       → positions_of (components text) ≡ hier_part_layout None 0 text
-  positions-without-scheme-are-hier-part-layout text e =
-      let s : List ℕ = before_any (codes ":/?#") text in
-      ap (λ t. hier_part_layout (option_map length (when t s)) (delimited_length 1 (when t s))
-      (cond t (drop 1 (from_any (codes ":/?#") text)) text)) e
+  positions-without-scheme-are-hier-part-layout text e = grind (arith, nat_tests)
 
   positions-after-scheme-are-those-of-components : (text : List ℕ) → IsUtf8 text
       → starts 58 (after scheme_set text) ≡ true

@@ -5,8 +5,8 @@ use Rattle.std.specs.Str.{IsUtf8}
 use Rattle.std.proofs.lemmas.Str.{IsUtf8-drop, IsCharBoundary-after_ascii}
 use Rattle.std.proofs.lemmas.List.{drop_more}
 use Rattle.std.proofs.lemmas.List.Sums.{prefix_len-le-length, prefix_len_passes}
-use Rattle.std.proofs.lemmas.Bool.{and_left, and_right, and_parts, eq-eqb, eqb-true, ne_eqb}
-use Rattle.std.proofs.lemmas.Bool.{not-true, cases_eq, false≢true}
+use Rattle.std.proofs.lemmas.Bool.{and_right, and_parts, eqb-true, not-true, cases_eq, false≢true}
+use Rattle.std.proofs.lemmas.Bool.Decides.{nat_tests}
 use Rattle.uri_pct.specs.Sets.{TableSet, LacksPercent, is_one_of}
 use Rattle.uri_pct.specs.Tokens.{is_valid_for}
 use Rattle.uri_pct.specs.Prefixes.{valid_prefix, after}
@@ -91,13 +91,12 @@ module _ (marks : List ℕ) (set : TableSet) (lacks : LacksPercent set)
       → (bs : List ℕ) → IsUtf8 bs
       → parses_after set test bs
       ≡ (is_valid_for set (before_any marks bs) && test (from_any marks bs))
-  parses_after-is-valid-before-mark test stuck bs u = ⊎_elim
-      (λ e.
-      ap (λ n. not (is_stray set (drop n bs)) && test (drop n bs)) e
-      ∙ ap (λ t. not t && test (from_any marks bs)) (no-stray-percent-at-mark bs)
-      ∙ sym (ap (λ t. t && test (from_any marks bs))
-      (cut marks set lacks outside bs u ∙ eq-eqb _ _ e)))
-      (λ w.
-      and_right _ _ (ap test w.left ∙ stuck w.byte w.rest w.other w.stuck)
-      ∙ sym (and_left _ _ (cut marks set lacks outside bs u ∙ ne_eqb _ _ w.apart)))
-      (scan-stops-at-first-mark-or-within bs u)
+  parses_after-is-valid-before-mark test stuck bs u =
+      grind (
+        arith,
+        nat_tests,
+        is_stray,
+        no-stray-percent-at-mark,
+        cut,
+        scan-stops-at-first-mark-or-within,
+      )

@@ -1,6 +1,6 @@
 -- A whole text is parsed where it is of its kind.
 use Rattle.std.proofs.Common.{◌≡◌, ℕ, Bool, true, false, cond, eqb, not, List, [], ◌∷◌, get_or}
-use Rattle.std.proofs.Common.{drop, refl, sym, ap, ◌∙◌, ◌||◌, ◌&&◌, ⊎_elim, lit<}
+use Rattle.std.proofs.Common.{drop, refl, sym, ap, ◌∙◌, ◌||◌, ◌&&◌, ⊎_elim, lit<, arith}
 use Rattle.std.specs.Prelude.{codes, is_some}
 use Rattle.std.specs.Char.{is_ascii_alphabetic}
 use Rattle.std.specs.Str.{IsUtf8}
@@ -8,6 +8,7 @@ use Rattle.std.proofs.lemmas.Bool.{cases_Bool, cond-true, cond-false, and_left, 
 use Rattle.std.proofs.lemmas.Bool.{and_parts, eq-eqb, eqb-true, ne_eqb, not_from_true}
 use Rattle.std.proofs.lemmas.Bool.{not_from_false, not-true, both_ways, false≢true}
 use Rattle.std.proofs.lemmas.Bool.{false_from_ne_true, or_left}
+use Rattle.std.proofs.lemmas.Bool.Decides.{nat_tests}
 use Rattle.uri_pct.specs.Sets.{TableSet, is_one_of, scheme_set}
 use Rattle.uri_pct.specs.Tokens.{is_valid_for}
 use Rattle.uri_pct.specs.Prefixes.{valid_prefix, after}
@@ -16,8 +17,7 @@ use Rattle.uri_pct.proofs.ValidTexts.MarksInTexts.{AreAscii-by-test, length_befo
 use Rattle.uri_parts.specs.Components.{before_any, from_any, starts, has_authority, has_scheme}
 use Rattle.uri_parts.specs.Components.{after_scheme, after_authority, components, when}
 use Rattle.uri_parts.specs.Grammar.{Kind, absent_or_passes, is_scheme, is_authority}
-use Rattle.uri_parts.specs.Grammar.{has_colon_in_first_segment}
-use Rattle.uri_parts.specs.Grammar.{is_of_kind}
+use Rattle.uri_parts.specs.Grammar.{has_colon_in_first_segment, is_of_kind}
 use Rattle.uri_parts.proofs.Parsing.Acceptance.{parses_path, parses_authority, parses_relative}
 use Rattle.uri_parts.proofs.Parsing.Acceptance.{parses_hier_part, parses_schemeless, parses}
 use Rattle.uri_parts.proofs.Parsing.ScanStops.{utf8_from_marks, utf8_after_mark, utf8_after_slashes}
@@ -80,14 +80,7 @@ slashes-begin-with-no-scheme (b ∷ rest) e = valid_prefix_at_mark_is_empty (cod
 pub slashes-follow-no-scheme-characters : (text : List ℕ)
     → (eqb (valid_prefix scheme_set text) 0 && has_authority (after scheme_set text))
     ≡ has_authority text
-slashes-follow-no-scheme-characters text = ⊎_elim
-    (λ a. let z = slashes-begin-with-no-scheme text a in
-    and_from _ _ (eq-eqb _ 0 z) (ap (λ n. has_authority (drop n text)) z ∙ a) ∙ sym a)
-    (λ a. ⊎_elim
-    (λ z. and_right _ _ (ap (λ n. has_authority (drop n text)) (eqb-true _ 0 z) ∙ a) ∙ sym a)
-    (λ z. and_left _ _ z ∙ sym a)
-    (cases_Bool (eqb (valid_prefix scheme_set text) 0)))
-    (cases_Bool (has_authority text))
+slashes-follow-no-scheme-characters text = grind (arith, nat_tests, slashes-begin-with-no-scheme)
 
 -- parsing: `:` (58) does not begin a scheme
 pub colon_is_no_letter : (text : List ℕ) → starts 58 text ≡ true
@@ -114,16 +107,12 @@ scheme_ok text = absent_or_passes (when (has_scheme text) (before_any (codes ":/
 scheme_ok-tests-scheme-if-present : (text : List ℕ) → has_scheme text ≡ true
     → scheme_ok text ≡ is_scheme (before_any (codes ":/?#") text)
 unfolding scheme_ok
-scheme_ok-tests-scheme-if-present text e = ap
-    (λ t. absent_or_passes (when t (before_any (codes ":/?#") text)) is_scheme)
-    e
+scheme_ok-tests-scheme-if-present text e = grind (arith, nat_tests)
 
 -- parsing: the parser's test of a scheme passes if there is none
 scheme_ok-holds-without-scheme : (text : List ℕ) → has_scheme text ≡ false → scheme_ok text ≡ true
 unfolding scheme_ok
-scheme_ok-holds-without-scheme text e = ap
-    (λ t. absent_or_passes (when t (before_any (codes ":/?#") text)) is_scheme)
-    e
+scheme_ok-holds-without-scheme text e = grind (arith, nat_tests)
 
 -- parsing: a scheme begins with a letter exactly if the text does
 scheme-begins-with-letter-iff-text-does : (text : List ℕ) → has_scheme text ≡ true
@@ -202,44 +191,19 @@ module _ (segment : TableSet) (kind : Kind) (w : SeparatesComponents segment kin
       → unmixed text ≡ not kind.needs_scheme
   unfolding unmixed
   first-segment-rule-with-authority text e f =
-      let X =
-      not (has_colon_in_first_segment
-      (before_any (codes "?#") (after_authority (after_scheme text)))) in
-      let a : has_authority (after_scheme text)
-      ≡ true = ap has_authority (after_scheme-without-scheme-is-whole text e)
-      ∙ f in
-      ap (λ t. is_some (when t (before_any (codes ":/?#") text))
-      || (not kind.needs_scheme
-      && (is_some (when (has_authority (after_scheme text))
-      (before_any (codes "/?#") (drop 2 (after_scheme text)))) || X))) e
-      ∙ ap (λ t. not kind.needs_scheme
-      && (is_some (when t (before_any (codes "/?#") (drop 2 (after_scheme text)))) || X)) a
-      ∙ and_true_is_the_same (not kind.needs_scheme)
+      grind (arith, nat_tests, after_scheme-without-scheme-is-whole, and_true_is_the_same)
 
   first-segment-rule-with-path-alone : (text : List ℕ) → has_scheme text ≡ false
       → has_authority text ≡ false
       → unmixed text ≡ (not kind.needs_scheme && not (starts 58 text))
   unfolding unmixed
   first-segment-rule-with-path-alone text e f =
-      let a : has_authority (after_scheme text)
-      ≡ false = ap has_authority (after_scheme-without-scheme-is-whole text e)
-      ∙ f in
-      ap (λ t. is_some (when t (before_any (codes ":/?#") text))
-      || (not kind.needs_scheme
-      && (is_some (when (has_authority (after_scheme text))
-      (before_any (codes "/?#") (drop 2 (after_scheme text))))
-      || not
-      (has_colon_in_first_segment
-      (before_any (codes "?#") (after_authority (after_scheme text))))))) e
-      ∙ ap (λ t. not kind.needs_scheme
-      && (is_some (when t (before_any (codes "/?#") (drop 2 (after_scheme text))))
-      || not
-      (has_colon_in_first_segment
-      (before_any (codes "?#") (after_authority (after_scheme text)))))) a
-      ∙ ap (λ t. not kind.needs_scheme && not
-      (has_colon_in_first_segment (before_any (codes "?#") t)))
-      (cond-false _ _ _ a ∙ after_scheme-without-scheme-is-whole text e)
-      ∙ ap (λ t. not kind.needs_scheme && not t) (colon_in_first_segment-is-at-start text e)
+      grind (
+        arith,
+        nat_tests,
+        after_scheme-without-scheme-is-whole,
+        colon_in_first_segment-is-at-start,
+      )
 
   tail-without-authority-is-parsed-path : (text : List ℕ) → has_scheme text ≡ false
       → has_authority text ≡ false

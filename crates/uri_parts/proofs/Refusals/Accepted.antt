@@ -9,6 +9,7 @@ use Rattle.std.specs.Str.{IsUtf8}
 use Rattle.std.proofs.lemmas.Bool.{cases_Bool, and_left, and_right, not_from_false, and_parts}
 use Rattle.std.proofs.lemmas.List.{drop-drop}
 use Rattle.std.proofs.lemmas.Str.{IsUtf8-drop}
+use Rattle.std.proofs.lemmas.Bool.Decides.{nat_tests}
 use Rattle.uri_pct.specs.Sets.{TableSet, scheme_set}
 use Rattle.uri_pct.specs.Prefixes.{valid_prefix}
 use Rattle.uri_pct.proofs.ValidTexts.LongestPrefixes.{valid_prefix_ends_at_boundary}
@@ -179,14 +180,7 @@ module _ (kind : Kind) (text : List ℕ) where
       ≡ (starts 64 (drop (user i) text) && is_none (host_error kind text (user i + 1)))
   unfolding userinfo_error further_userinfo_length
   no-userinfo-error-iff-at-sign-and-host i =
-      let end : ℕ = scan_end text kind.userinfo i in ⊎_elim
-      (λ (a : starts 64 (drop i text) ≡ true). simp (a, add-zero, steps) refl)
-      (λ (a : starts 64 (drop i text) ≡ false). ⊎_elim
-      (λ (e : starts 64 (drop end text) ≡ true).
-      simp (a, e, at-sign-is-no-stray-percent kind.userinfo (drop end text) e, steps) refl)
-      (λ (e : starts 64 (drop end text) ≡ false). simp (a, e, name-error-is-an-error, steps) refl)
-      (cases_Bool (starts 64 (drop end text))))
-      (cases_Bool (starts 64 (drop i text)))
+      grind (arith, nat_tests, at-sign-is-no-stray-percent, name-error-is-an-error)
 
   module _ (segment : TableSet) (w : SeparatesComponents segment kind) where
     -- what follows userinfo and its `@`

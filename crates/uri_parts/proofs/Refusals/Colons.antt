@@ -1,9 +1,10 @@
 -- The last `:` before a position.
-use Rattle.std.proofs.Common.{◌≡◌, ℕ, zero, suc, ◌+◌, ◌-◌, ◌<◌, ◌≤◌, true, false, List, length, sym}
+use Rattle.std.proofs.Common.{◌≡◌, ℕ, zero, suc, ◌+◌, ◌-◌, ◌<◌, ◌≤◌, true, false, List, length}
 use Rattle.std.proofs.Common.{get_or, drop, ap, ◌∙◌, arith, ⊎_elim, ◌⊎◌, inl, inr, add-one}
 use Rattle.std.proofs.Common.{add-zero}
 use Rattle.std.proofs.lemmas.Bool.{cases_Bool, cond-true, cond-false, eq-eqb, ne_eqb}
 use Rattle.std.proofs.lemmas.List.{drop_more}
+use Rattle.std.proofs.lemmas.Bool.Decides.{nat_tests}
 use Rattle.uri_parts.specs.Components.{starts}
 use Rattle.uri_parts.specs.Refusals.{last_colon}
 
@@ -34,9 +35,7 @@ pub last_colon-at-colon : (text : List ℕ) (i n : ℕ) → 0 < i → i ≤ leng
     → get_or text n 0 ≡ 58 → n ≡ last_colon text i
 last_colon-at-colon text zero n l k e c = absurd (omega arith)
 last_colon-at-colon text (suc i) n l k e c =
-    let s : n ≡ i = omega arith in
-    s ∙ sym (last_colon-is-colon-just-before text i (omega arith)
-    (ap (λ m. get_or text m 0) (sym s) ∙ c))
+    grind (arith, nat_tests, last_colon-is-colon-just-before)
 
 -- parse errors: another byte than `:` (58) leaves the last `:` before it where it was
 pub last_colon-stays-past-other-byte : (text : List ℕ) (i n : ℕ) → 0 < i → i ≤ length text
@@ -44,18 +43,13 @@ pub last_colon-stays-past-other-byte : (text : List ℕ) (i n : ℕ) → 0 < i �
     → (get_or text n 0 ≡ 58 → ⊥) → last_colon text i ≡ last_colon text n
 last_colon-stays-past-other-byte text zero n l k e c = absurd (omega arith)
 last_colon-stays-past-other-byte text (suc i) n l k e c =
-    let s : n ≡ i = omega arith in
-    last_colon-skips-other-byte text i (omega arith) (λ d. c (ap (λ m. get_or text m 0) s ∙ d))
-    ∙ ap (last_colon text) (sym s)
+    grind (arith, nat_tests, last_colon-skips-other-byte)
 
 -- parse errors: the last `:` before a position i above 0 is below i
 pub last_colon_is_below_position : (text : List ℕ) (i : ℕ) → 0 < i → last_colon text i < i
 unfolding last_colon
 last_colon_is_below_position text zero l = absurd (omega arith)
-last_colon_is_below_position text (suc zero) l = ⊎_elim
-    (λ e. rw (cond-true (starts 58 (drop 0 text)) _ _ e) (omega arith))
-    (λ e. rw (cond-false (starts 58 (drop 0 text)) _ _ e) (omega arith))
-    (cases_Bool (starts 58 (drop 0 text)))
+last_colon_is_below_position text (suc zero) l = grind (arith, nat_tests)
 last_colon_is_below_position text (suc (suc i)) l = ⊎_elim
     (λ e. rw (cond-true (starts 58 (drop (suc i) text)) _ _ e) (omega arith))
     (λ e. rw (cond-false (starts 58 (drop (suc i) text)) _ _ e)

@@ -14,6 +14,7 @@ use Rattle.std.proofs.lemmas.Bool.{not-true, eq-eqb, lt-ltb, false≢true, eqb-t
 use Rattle.std.proofs.lemmas.Bool.{and_parts}
 use Rattle.std.proofs.lemmas.Fmt.{decimal_is_IsNumeral, length-decimal-le}
 use Rattle.std.proofs.NetLemmas.Numbers.{NoDigit, digit_count_none}
+use Rattle.std.proofs.lemmas.Bool.Decides.{nat_tests}
 use Rattle.uri_parts.specs.Components.{starts, is_end}
 use Rattle.uri_parts.specs.LiteralErrors.{Groups, Groups_end, Elision, digits_end, ipv4_end}
 use Rattle.uri_parts.specs.LiteralErrors.{after_ipv4, groups_from, ipv6_end, cannot_begin_ipv6}
@@ -92,38 +93,21 @@ module _ (text : List ℕ) where
   group-begins-after-lead : (is_first : Bool) (i : ℕ) (xs : List ℕ) → drop i text
       ≡ lead is_first ++ xs
       → starts 58 xs ≡ false → Led is_first i xs
-  group-begins-after-lead true i xs s n =
-      let c = ap (starts 58) s ∙ n in
-      record {
-        place = i;
-        is = sym (cond-false _ _ _ c);
-        apart = ap (λ t. t && true || not t && false) c;
-        at = s;
-        from = omega arith;
-      }
-  group-begins-after-lead false i xs s n =
-      let c : starts 58 (drop i text) ≡ true = ap (starts 58) s in
-      record {
-        place = i + 1;
-        is = sym (cond-true _ _ _ c);
-        apart = ap (λ t. t && false || not t && true) c;
-        at = suffix-after-mark-at-position text 58 i xs s;
-        from = omega arith;
-      }
+  group-begins-after-lead true i xs s n = grind (arith, nat_tests)
+  group-begins-after-lead false i xs s n = grind (arith, nat_tests, suffix-after-mark-at-position)
 
   groups_from-passes-group : (r : ℕ) (is_first : Bool) (i : ℕ) (ds tail : List ℕ)
       (w : Led is_first i (ds ++ tail))
       → AllDigits 16 ds → 0 < length ds → length ds ≤ 4 → Stops tail
       → groups_from text (suc r) is_first i ≡ groups_from text r false (w.place + length ds)
   groups_from-passes-group r is_first i ds tail w all some most stop =
-      let suffix = suffix-after-prefix-at-position text w.place ds tail w.at in
-      groups_from-goes-on-after-group text (suc r) r is_first i w.place (w.place + length ds)
-      (omega arith) w.is
-      (sym (digits_end-is-after-digits text 16 4 w.place ds tail w.at all stop.none most))
-      (λ e. omega (arith, e, some))
-      (and_right _ _ (ap is_end suffix ∙ stop.some))
-      w.apart
-      (and_right _ _ (ap (starts 46) suffix ∙ stop.dot))
+      grind (
+        arith,
+        nat_tests,
+        suffix-after-prefix-at-position,
+        groups_from-goes-on-after-group,
+        digits_end-is-after-digits,
+      )
 
   groups_from-ends-after-ipv4 : (r : ℕ) (is_first : Bool) (i end : ℕ)
       (address octets suffix : List ℕ)
@@ -163,9 +147,7 @@ module _ (text : List ℕ) where
       → IsGroupsAfter ipv4 (lead is_first) groups segments → length segments ≤ room
       → groups_from text room is_first i ≡ answer (room - length segments)
   groups_from-passes-all-groups ipv4 [] room is_first i end groups answer w p s h fits =
-      let same : i ≡ end = omega (arith, p, ap length h) in
-      let all : room ≡ room - 0 = omega arith in
-      ap (groups_from text room is_first) same ∙ w.base room is_first ∙ ap answer all
+      grind (arith, nat_tests)
   groups_from-passes-all-groups ipv4 (g ∷ segments) zero is_first i end groups answer w p s h fits =
       absurd (omega arith)
   groups_from-passes-all-groups ipv4 (g ∷ segments) (suc r) is_first i end groups answer w p s
@@ -240,27 +222,21 @@ module _ (text : List ℕ) where
   groups-end-before-bracket : (ipv4 : Bool) (end : ℕ) → starts 93 (drop end text) ≡ true
       → IsRest ipv4 end (λ m. Groups_end m end)
   groups-end-before-bracket ipv4 end c =
-      let s = text-with-mark-is-mark-and-rest 93 (drop end text) c in
-      let stops = subst Stops (sym s) (bracket-ends-a-group (drop 1 (drop end text))) in
-      let no_colon = ap (starts 58) s in
-      record {
-        stops = stops;
-        decimal_stop = subst (NoDigit 10) (sym s) (lit≤ tt);
-        base = λ m is_first. groups_from-ends-where-none-follows m is_first end stops no_colon;
-        address = λ h m. refl;
-      }
+      grind (
+        arith,
+        nat_tests,
+        text-with-mark-is-mark-and-rest,
+        bracket-ends-a-group,
+        groups_from-ends-where-none-follows,
+      )
 
   abbrev elision : ℕ → ℕ → Groups
   elision end m = cond (eqb m 0) (Groups_end 0 end) (Elision m (end + 2))
 
   groups-end-before-double-colon : (end : ℕ) (suffix : List ℕ) → drop end text ≡ 58 ∷ 58 ∷ suffix
       → IsRest false end (elision end)
-  groups-end-before-double-colon end suffix s = record {
-    stops = subst Stops (sym s) (colon-ends-a-group (58 ∷ suffix));
-    decimal_stop = subst (NoDigit 10) (sym s) (lit≤ tt);
-    base = λ m is_first. groups_from-elides-at-double-colon m is_first end suffix s;
-    address = λ h m. absurd (false≢true h);
-  }
+  groups-end-before-double-colon end suffix s =
+      grind (arith, nat_tests, colon-ends-a-group, groups_from-elides-at-double-colon)
 
   pub ipv6_end-finds-ipv6-before-bracket : (i end : ℕ) (address segments : List ℕ)
       → IsColonHex address segments

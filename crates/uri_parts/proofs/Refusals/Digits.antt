@@ -1,13 +1,12 @@
 -- Where digits end.
 use Rattle.std.proofs.Common.{◌≡◌, ℕ, ◌+◌, ◌-◌, ◌<◌, ◌≤◌, true, false, List, [], ◌∷◌, length, take}
-use Rattle.std.proofs.Common.{get_or, drop, sym, ap, ◌∙◌, arith, refl, ⊎_elim, ltb-true, zero, suc}
-use Rattle.std.proofs.Common.{◌&&◌, length-drop, length-take-le, Some, None, cond}
+use Rattle.std.proofs.Common.{get_or, drop, ap, arith, refl, ⊎_elim, ltb-true, zero, suc, ◌&&◌}
+use Rattle.std.proofs.Common.{length-drop, length-take-le, Some, None, cond}
 use Rattle.std.specs.Prelude.{slice_range, Result, Ok, Err, is_ok, nat_lt, nat_le, option_and_then}
 use Rattle.std.specs.Char.{is_digit}
 use Rattle.std.specs.Str.Parse.{AllDigits, ParsesUnsigned, digits_value}
 use Rattle.std.specs.Net.Reader.{digit_count}
-use Rattle.std.proofs.lemmas.Bool.{cond-true, cond-false, cases_Bool, and_from, and_left, and_right}
-use Rattle.std.proofs.lemmas.Bool.{lt-ltb, le-ltb, le-leb, lt-leb, cases_lt}
+use Rattle.std.proofs.lemmas.Bool.{cond-true, cond-false, cases_Bool}
 use Rattle.std.proofs.lemmas.Bool.Decides.{nat_tests}
 use Rattle.std.proofs.lemmas.List.{drop_more, drop_all}
 use Rattle.uri_parts.specs.Components.{starts}
@@ -18,16 +17,12 @@ use Rattle.uri_parts.proofs.Authorities.Ports.{digits-have-no-leading-plus}
 pub digits_end-passes-digit : (text : List ℕ) (radix i left more : ℕ) → i < length text
     → is_digit (get_or text i 0) radix ≡ true → left ≡ more + 1
     → digits_end text radix more (i + 1) ≡ digits_end text radix left i
-digits_end-passes-digit text radix i left more l d e =
-    let n : digit_count radix (drop i text) ≡ 1 + digit_count radix (drop (i + 1) text) =
-    ap (digit_count radix) (drop_more text i 0 l) ∙ cond-true _ _ _ d in omega arith
+digits_end-passes-digit text radix i left more l d e = grind (arith, nat_tests, drop_more)
 
 -- parse errors: digits end where another byte is
 pub digits_end-stays-at-other-byte : (text : List ℕ) (radix most i : ℕ) → i < length text
     → is_digit (get_or text i 0) radix ≡ false → digits_end text radix most i ≡ i
-digits_end-stays-at-other-byte text radix most i l d =
-    let n : digit_count radix (drop i text) ≡ 0 =
-    ap (digit_count radix) (drop_more text i 0 l) ∙ cond-false _ _ _ d in omega arith
+digits_end-stays-at-other-byte text radix most i l d = grind (arith, nat_tests, drop_more)
 
 -- parse errors: digits end where no more are allowed
 pub digits_end-stays-where-none-may-follow : (text : List ℕ) (radix most i : ℕ) → most ≡ 0
@@ -75,18 +70,9 @@ octet-is-parsed-iff-at-most-255 : {E : Type 0} (bs : List ℕ) (r : Result ℕ E
     → ParsesUnsigned 8 10 bs r
     → is_ok r ≡ (nat_lt 0 (length bs) && nat_le (digits_value 10 bs) 255)
 octet-is-parsed-iff-at-most-255 bs (Ok n) h p =
-    let q = rw (digits-have-no-leading-plus bs h) at p in
-    let small = q.0.1 in
-    sym (and_from _ _ (lt-ltb 0 _ q.0.0.0) (le-leb _ 255 (omega arith)))
+    grind (arith, nat_tests, digits-have-no-leading-plus)
 octet-is-parsed-iff-at-most-255 bs (Err e) h p =
-    let q = rw (digits-have-no-leading-plus bs h) at p in
-    ⊎_elim
-    (λ some. ⊎_elim
-    (λ great. sym (and_right _ _ (lt-leb _ 255 great)))
-    (λ small. absurd (q ((some, h), omega arith)))
-    (cases_lt 255 (digits_value 10 bs)))
-    (λ none. sym (and_left _ _ (le-ltb 0 _ none)))
-    (cases_lt 0 (length bs))
+    grind (arith, nat_tests, digits-have-no-leading-plus)
 
 -- general fact on numbers, for parse errors: there are digits exactly if they end after they begin
 digits-are-some-iff-end-is-later : (i end : ℕ) → nat_lt 0 (end - i) ≡ nat_lt i end
@@ -101,18 +87,14 @@ pub parsed-octet-ends-at-octet_end : {E : Type 0} (text : List ℕ) (i end : ℕ
     → cond (is_ok r) (Some end) None ≡ octet_end text i
 unfolding octet_end
 parsed-octet-ends-at-octet_end text i end bs r e l b p z =
-    let last : ℕ = digits_end text 10 3 i in
-    let same : bs ≡ slice_range text i last = b ∙ ap (slice_range text i) e in
-    let q = rw same at p in
-    let within : last ≤ length text = omega (arith, e) in
-    let t : is_ok r ≡ (nat_lt i last && nat_le (digits_value 10 (slice_range text i last)) 255) =
-    octet-is-parsed-iff-at-most-255 _ r (text-to-digits_end-is-digits text 10 3 i) q
-    ∙ ap (λ n. nat_lt 0 n && nat_le (digits_value 10 (slice_range text i last)) 255)
-    (length-of-text-to-digits_end text 10 3 i within)
-    ∙ ap (λ t. t && nat_le (digits_value 10 (slice_range text i last)) 255)
-    (digits-are-some-iff-end-is-later i last) in
-    ap (λ n. cond (is_ok r) (Some n) None) e ∙ ap (λ t. cond t (Some last) None) t
-    ∙ sym (cond-false _ _ _ z)
+    grind (
+      arith,
+      nat_tests,
+      octet-is-parsed-iff-at-most-255,
+      text-to-digits_end-is-digits,
+      length-of-text-to-digits_end,
+      digits-are-some-iff-end-is-later,
+    )
 
 -- parse errors: no number of an IPv4 address is left to read, so its end is here
 pub octets_end-of-no-octets-stays : (text : List ℕ) (n i : ℕ) → n ≡ 0 → octets_end text n i ≡ Some i
@@ -126,10 +108,7 @@ pub octets_end-goes-on-after-dot : (text : List ℕ) (n m i : ℕ) → n ≡ m +
     → octets_end text n i ≡ option_and_then (octets_end text m) (octet_end text (i + 1))
 unfolding octets_end
 octets_end-goes-on-after-dot text zero m i e d = absurd (omega arith)
-octets_end-goes-on-after-dot text (suc n) m i e d =
-    let s : n ≡ m = omega arith in
-    cond-true _ _ _ d
-    ∙ ap (λ k. option_and_then (octets_end text k) (octet_end text (i + 1))) s
+octets_end-goes-on-after-dot text (suc n) m i e d = grind (arith, nat_tests)
 
 -- parse errors: without a `.` (46), no further octet of an IPv4 address is found
 pub octets_end-fails-without-dot : (text : List ℕ) (n m i : ℕ) → n ≡ m + 1 → starts 46 (drop i text)

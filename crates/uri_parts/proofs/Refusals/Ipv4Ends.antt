@@ -5,7 +5,6 @@ use Rattle.std.proofs.Common.{⊎_elim, append-nil, length-append, take_at, drop
 use Rattle.std.specs.Prelude.{slice_range, nat_le, option_and_then}
 use Rattle.std.specs.Str.Parse.{AllDigits, digits_value}
 use Rattle.std.specs.Net.Grammar.{IsDotted}
-use Rattle.std.specs.Net.Reader.{digit_count}
 use Rattle.std.specs.Net.Text.{dotted_text}
 use Rattle.std.proofs.lemmas.Bool.{cond-true, cond-false, cases_lt, and_from, ne_eqb, lt-ltb}
 use Rattle.std.proofs.lemmas.Bool.{le-leb}
@@ -13,6 +12,7 @@ use Rattle.std.proofs.lemmas.List.{drop-drop}
 use Rattle.std.proofs.lemmas.Fmt.{decimal_is_IsNumeral, decimal_digit, first_decimal}
 use Rattle.std.proofs.lemmas.Fmt.{length-decimal-le}
 use Rattle.std.proofs.NetLemmas.Numbers.{NoDigit, digit_count-append, digit_count_none}
+use Rattle.std.proofs.lemmas.Bool.Decides.{nat_tests}
 use Rattle.uri_parts.specs.Components.{starts}
 use Rattle.uri_parts.specs.LiteralErrors.{digits_end, octet_end, octets_end, ipv4_end}
 use Rattle.uri_parts.proofs.HostForms.AddressParsing.{dotted as dotted_with}
@@ -39,9 +39,7 @@ module _ (text : List ℕ) where
       → AllDigits radix ds → NoDigit radix tail → length ds ≤ most
       → digits_end text radix most p ≡ p + length ds
   digits_end-is-after-digits radix most p ds tail s all stop l =
-      let c = ap (digit_count radix) s ∙ digit_count-append radix ds tail all in
-      let z = digit_count_none radix tail stop in
-      omega (arith, c, z)
+      grind (arith, nat_tests, digit_count-append, digit_count_none)
 
   octet_end-finds-decimal-octet : (a p : ℕ) (tail : List ℕ) → a < 256 → drop p text
       ≡ decimal a ++ tail
@@ -75,10 +73,7 @@ module _ (text : List ℕ) where
       → octets_end text (suc n) p ≡ octets_end text n (p + 1 + length (decimal a))
   unfolding octets_end
   octets_end-passes-dot-and-octet n a p tail fits s stop =
-      cond-true _ _ _ (ap (starts 46) s)
-      ∙ ap (option_and_then (octets_end text n))
-      (octet_end-finds-decimal-octet a (p + 1) tail fits
-      (suffix-after-mark-at-position 46 p _ s) stop)
+      grind (arith, nat_tests, octet_end-finds-decimal-octet, suffix-after-mark-at-position)
 
   pub ipv4_end-finds-ipv4-text : (p end : ℕ)
       (address octets suffix : List ℕ) → IsDotted address octets

@@ -3,12 +3,12 @@ use Rattle.std.proofs.Common.{◌≡◌, ℕ, ◌+◌, ◌-◌, Bool, true, fals
 use Rattle.std.proofs.Common.{◌∙◌, arith, ◌&&◌, ◌||◌, ⊎_elim, length-drop, add_assoc}
 use Rattle.std.specs.Prelude.{Ok, Err, is_ok, codes, nat_lt, length}
 use Rattle.std.specs.Str.{IsUtf8, IsCharBoundary}
-use Rattle.std.proofs.lemmas.Bool.{cond-true, cond-false, cases_Bool, cases_lt, lt-ltb, le-ltb}
-use Rattle.std.proofs.lemmas.Bool.{false≢true}
+use Rattle.std.proofs.lemmas.Bool.{cond-true, cond-false, cases_Bool, false≢true}
 use Rattle.std.proofs.lemmas.List.{drop-drop}
 use Rattle.std.proofs.lemmas.Option.{same_Some}
 use Rattle.std.specs.Result.{result_ok}
 use Rattle.std.proofs.lemmas.Str.{IsUtf8-drop}
+use Rattle.std.proofs.lemmas.Bool.Decides.{nat_tests}
 use Rattle.uri_pct.specs.Delimiters.{full_stop, right_bracket}
 use Rattle.uri_pct.specs.Sets.{hexdig_set, ipv_future_set}
 use Rattle.uri_parts.specs.declared.error.ParseError.{ParseError}
@@ -49,17 +49,11 @@ nested-tests-are-one-and false q end d e = refl
 same-test-and-end-give-same-result : (p q : Bool) (m n : ℕ) (e : ParseError) → q ≡ p
     → (p ≡ true → n ≡ m)
     → cond p (Ok m) (Err e) ≡ cond q (Ok n) (Err e)
-same-test-and-end-give-same-result p q m n e s h = ⊎_elim
-    (λ t. cond-true _ _ _ t ∙ ap (λ k. Ok k) (sym (h t)) ∙ sym (cond-true _ _ _ (s ∙ t)))
-    (λ t. cond-false _ _ _ t ∙ sym (cond-false _ _ _ (s ∙ t)))
-    (cases_Bool p)
+same-test-and-end-give-same-result p q m n e s h = grind (arith, nat_tests)
 
 -- general fact on numbers, for parse errors: a position is later exactly if something was passed
 later-position-iff-some-passed : (i n : ℕ) → nat_lt i (i + n) ≡ nat_lt 0 n
-later-position-iff-some-passed i n = ⊎_elim
-    (λ l. lt-ltb i (i + n) (omega arith) ∙ sym (lt-ltb 0 n l))
-    (λ l. le-ltb i (i + n) (omega arith) ∙ sym (le-ltb 0 n l))
-    (cases_lt 0 n)
+later-position-iff-some-passed i n = grind (arith, nat_tests)
 
 module _ (text : List ℕ) where
   ipvfuture-scan-ends-as-parsed : (i : ℕ) → Ends (parses_future (drop i text))

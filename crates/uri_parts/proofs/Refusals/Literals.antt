@@ -6,14 +6,14 @@ use Rattle.std.specs.Prelude.{Ok, Err, is_ok, option_map, codes}
 use Rattle.std.specs.Char.{is_digit}
 use Rattle.std.specs.Net.Grammar.{IsColonHex}
 use Rattle.std.specs.Net.Reader.{read_ipv6, digit_count}
-use Rattle.std.proofs.lemmas.Bool.{cond-true, cond-false, cases_Bool, both_ways, eq-eqb, and_from}
-use Rattle.std.proofs.lemmas.Bool.{or_left, not_from_true, not_from_false, false≢true}
+use Rattle.std.proofs.lemmas.Bool.{cond-true, cond-false, cases_Bool, not_from_true, not_from_false}
+use Rattle.std.proofs.lemmas.Bool.{false≢true}
 use Rattle.std.proofs.lemmas.Bool.Decides.{nat_tests}
 use Rattle.uri_pct.specs.Delimiters.{full_stop, right_bracket}
 use Rattle.uri_pct.specs.Sets.{is_one_of, hexdig_set, ipv_future_set}
 use Rattle.uri_parts.specs.Components.{starts}
 use Rattle.uri_parts.specs.Errors.{unexpected, malformed_ipv6}
-use Rattle.uri_parts.specs.LiteralErrors.{closed, literal, ipv6_end, cannot_begin_ipv6, digits_end}
+use Rattle.uri_parts.specs.LiteralErrors.{closed, literal, ipv6_end, cannot_begin_ipv6}
 use Rattle.uri_parts.specs.Scanning.{scan_to_mark}
 use Rattle.uri_parts.proofs.Parsing.Acceptance.{parses_literal, is_literal}
 use Rattle.uri_parts.proofs.HostForms.Addresses.{ipv6_value-complete}
@@ -73,9 +73,7 @@ module _ (text : List ℕ) (i : ℕ) where
       → cannot_begin_ipv6 text i ≡ true
   unfolding cannot_begin_ipv6
   version-letter-begins-no-ipv6 e =
-      let l = text-with-version-letter-begins-no-group (drop i text) e in
-      let none : digits_end text 16 4 i ≡ i = let z = l.2 in omega arith in
-      and_from _ _ (not_from_false _ l.1) (or_left _ _ (eq-eqb _ i none))
+      grind (arith, nat_tests, text-with-version-letter-begins-no-group, not_from_false)
 
   pub literal-with-version-letter-scans-ipvfuture : (starts 118 (drop i text) || starts 86
       (drop i text)) ≡ true
@@ -116,20 +114,14 @@ module _ (text : List ℕ) (i : ℕ) where
   pub literal-unclosed-ipv6 : (end : ℕ) → cannot_begin_ipv6 text i ≡ false
       → ipv6_end text i ≡ Some end
       → is_ok (literal text i) ≡ false → literal text i ≡ Err (unexpected end)
-  literal-unclosed-ipv6 end some e none =
-      let s = literal-is-closed-at-ipv6_end some ∙ ap (closed text i) e in
-      s ∙ cond-false _ _ _
-      (⊎_elim (λ c. absurd (both_ways _ none (ap is_ok (s ∙ cond-true _ _ _ c)))) (λ c. c)
-      (cases_Bool (starts 93 (drop end text))))
+  literal-unclosed-ipv6 end some e none = grind (arith, nat_tests, literal-is-closed-at-ipv6_end)
 
   unparsed-literal-is-not-closed : (end : Option ℕ) → ipv6_end text i ≡ end
       → parses_literal (drop i text) ≡ false
       → is_ok (closed text i end) ≡ false
   unparsed-literal-is-not-closed None e none = refl
-  unparsed-literal-is-not-closed (Some end) e none = ⊎_elim
-      (λ c. absurd (both_ways _ none (read-ipv6-with-bracket-is-parsed end e c)))
-      (λ c. ap is_ok (cond-false (starts 93 (drop end text)) _ _ c))
-      (cases_Bool (starts 93 (drop end text)))
+  unparsed-literal-is-not-closed (Some end) e none =
+      grind (arith, nat_tests, read-ipv6-with-bracket-is-parsed)
 
   pub literal-rejects-unparsed : (starts 118 (drop i text) || starts 86 (drop i text)) ≡ false
       → parses_literal (drop i text) ≡ false → is_ok (literal text i) ≡ false

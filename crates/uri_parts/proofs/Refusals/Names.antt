@@ -2,9 +2,8 @@
 use Rattle.std.proofs.Common.{◌≡◌, ◌≢◌, ℕ, zero, suc, ◌+◌, ◌<◌, ◌≤◌, Bool, true, false, cond, eqb}
 use Rattle.std.proofs.Common.{List, [], ◌∷◌, drop, Some, refl, sym, ap, ◌∙◌, arith, ◌&&◌, ⊎_elim}
 use Rattle.std.specs.Prelude.{codes, nat_lt}
-use Rattle.std.proofs.lemmas.Bool.{cond-true, cond-false, cases_Bool, cases_lt, eq-eqb, eqb-true}
-use Rattle.std.proofs.lemmas.Bool.{and_from, and_left, and_right, false≢true, lt-ltb, le-ltb}
-use Rattle.std.proofs.lemmas.Bool.{both_ways}
+use Rattle.std.proofs.lemmas.Bool.{cond-true, cond-false, cases_Bool, eq-eqb, eqb-true, and_from}
+use Rattle.std.proofs.lemmas.Bool.{and_left, and_right, false≢true, lt-ltb, le-ltb, both_ways}
 use Rattle.std.proofs.lemmas.Bool.Decides.{nat_tests}
 use Rattle.std.proofs.lemmas.List.{drop-drop}
 use Rattle.uri_pct.specs.Sets.{TableSet, is_one_of, digit_set, allows_past_ascii}
@@ -41,18 +40,14 @@ use Rattle.uri_parts.proofs.TextKinds.Separations.{SeparatesComponents}
 digit-is-ascii-and-no-colon : (b : ℕ) (bs : List ℕ) → allows_first digit_set b bs ≡ true
     → (b < 128) × (eqb b 58 ≡ false)
 unfolding allows_first allows_past_ascii
-digit-is-ascii-and-no-colon b bs e = ⊎_elim
-    (λ h. let d = sym (cond-true _ _ _ (lt-ltb b 128 h)) ∙ e in (h, grind (arith, nat_tests)))
-    (λ h. absurd (false≢true (sym (cond-false _ _ _ (le-ltb b 128 h)) ∙ e)))
-    (cases_lt b 128)
+digit-is-ascii-and-no-colon b bs e = grind (arith, nat_tests)
 
 -- parse errors: a digit at the start is one more of the leading digits
 pub valid_prefix-at-digit-is-one-more : (b : ℕ) (bs : List ℕ) → allows_first digit_set b bs ≡ true
     → valid_prefix digit_set (b ∷ bs) ≡ valid_prefix digit_set bs + 1
 unfolding valid_prefix_from
-valid_prefix-at-digit-is-one-more b bs e = cond-true _ _ _ e
-    ∙ ap (λ n. valid_prefix_from digit_set n bs + 1)
-    (ascii_byte_has_no_continuation b (digit-is-ascii-and-no-colon b bs e).0)
+valid_prefix-at-digit-is-one-more b bs e =
+    grind (arith, nat_tests, ascii_byte_has_no_continuation, digit-is-ascii-and-no-colon)
 
 -- parse errors: another byte at the start begins no digits
 pub valid_prefix-at-other-byte-is-zero : (b : ℕ) (bs : List ℕ) → allows_first digit_set b bs ≡ false
@@ -66,10 +61,8 @@ leading-digits-hold-no-colon : (bs : List ℕ) (k : ℕ) → k < valid_prefix di
     ≡ false
 leading-digits-hold-no-colon [] k l = absurd
     (let z = empty_text_has_empty_valid_prefix digit_set in omega arith)
-leading-digits-hold-no-colon (b ∷ bs) zero l = ⊎_elim
-    (λ e. (digit-is-ascii-and-no-colon b bs e).1)
-    (λ e. absurd (let z = valid_prefix-at-other-byte-is-zero b bs e in omega arith))
-    (cases_Bool (allows_first digit_set b bs))
+leading-digits-hold-no-colon (b ∷ bs) zero l =
+    grind (arith, nat_tests, digit-is-ascii-and-no-colon, valid_prefix-at-other-byte-is-zero)
 leading-digits-hold-no-colon (b ∷ bs) (suc k) l = ⊎_elim
     (λ e. leading-digits-hold-no-colon bs k
     (let z = valid_prefix-at-digit-is-one-more b bs e in omega arith))
@@ -89,12 +82,7 @@ end-of-authority-is-no-inner-mark : (bs : List ℕ) → is_empty_or_begins_with_
 unfolding is_empty_or_begins_with_any
 end-of-authority-is-no-inner-mark [] e =
     record { percent = refl; at = refl; bracket = refl; all = refl }
-end-of-authority-is-no-inner-mark (b ∷ bs) e = record {
-  percent = grind (arith, nat_tests);
-  at = grind (arith, nat_tests);
-  bracket = grind (arith, nat_tests);
-  all = grind (arith, nat_tests);
-}
+end-of-authority-is-no-inner-mark (b ∷ bs) e = grind (arith, nat_tests)
 
 -- parse errors: a text that begins with one of some delimiters passes the test for them
 text-with-mark-begins-with-any : (mark : ℕ) (marks bs : List ℕ) → is_one_of marks mark ≡ true

@@ -1,22 +1,19 @@
 -- The errors after an authority, and of a host.
 use Rattle.std.proofs.Common.{◌≡◌, ℕ, ◌+◌, Bool, true, false, cond, eqb, List, [], ◌∷◌, drop, Some}
-use Rattle.std.proofs.Common.{refl, sym, ap, ◌∙◌, arith, ◌&&◌, ◌||◌, ⊎_elim, ◌⊎◌, inl, inr}
+use Rattle.std.proofs.Common.{refl, sym, ap, ◌∙◌, arith, ◌&&◌, ◌||◌, ⊎_elim, ◌⊎◌, inr}
 use Rattle.std.specs.Prelude.{Ok, Err, codes}
-use Rattle.std.proofs.lemmas.Bool.{cond-true, cond-false, cases_Bool, eq-eqb, eqb-true, or_left}
-use Rattle.std.proofs.lemmas.Bool.{or_right, false≢true, and_from, and_right}
+use Rattle.std.proofs.lemmas.Bool.{cond-true, cond-false, cases_Bool, eq-eqb, or_left, or_right}
+use Rattle.std.proofs.lemmas.Bool.{false≢true, and_from}
 use Rattle.std.proofs.lemmas.Bool.Decides.{nat_tests}
 use Rattle.std.proofs.lemmas.List.{drop-drop}
-use Rattle.std.specs.Str.{continuation_len}
 use Rattle.uri_pct.specs.Sets.{TableSet, LacksPercent, digit_set, is_one_of}
-use Rattle.uri_pct.specs.Prefixes.{valid_prefix_from, valid_prefix, after, begins_with_hex_digits}
-use Rattle.uri_pct.specs.Prefixes.{allows_first}
+use Rattle.uri_pct.specs.Prefixes.{valid_prefix_from, valid_prefix, after}
 use Rattle.uri_pct.proofs.ValidTexts.Cuts.{excludes, valid_prefix_at_mark_is_empty}
 use Rattle.uri_pct.proofs.ValidTexts.LongestPrefixes.{empty_text_has_empty_valid_prefix}
 use Rattle.uri_pct.proofs.ValidTexts.Prefixes.{nothing_is_scanned_after_valid_prefix}
 use Rattle.uri_parts.specs.declared.error.ParseError.{ParseError}
 use Rattle.uri_parts.specs.Components.{starts, is_end}
 use Rattle.uri_parts.specs.Errors.{unexpected, stray_percent}
-use Rattle.uri_parts.specs.LiteralErrors.{literal}
 use Rattle.uri_parts.specs.Refusals.{OptionalParseError, ◌>>=◌, error_from_end, error_from_fragment}
 use Rattle.uri_parts.specs.Refusals.{error_from_query, error_from_path, error_from_abempty_path}
 use Rattle.uri_parts.specs.Refusals.{error_from_port, error_from_host}
@@ -50,9 +47,8 @@ pub scan-stops-at-stray-percent-or-goes-on : (text : List ℕ) (set : TableSet) 
     → (scan text set i >>= next)
     ≡ cond (set.pct_encoded && is_next text 37 (scan_end text set i))
     (Some (stray_percent (scan_end text set i))) (next (scan_end text set i))
-scan-stops-at-stray-percent-or-goes-on text set i next = bind-of-cond-is-cond-of-binds
-    (set.pct_encoded && is_next text 37 (scan_end text set i))
-    (stray_percent (scan_end text set i)) (scan_end text set i) next
+scan-stops-at-stray-percent-or-goes-on text set i next =
+    grind (arith, nat_tests, bind-of-cond-is-cond-of-binds)
 
 -- general fact on results, for parse errors:
 -- what is next may be replaced by what is equal at each position
@@ -66,11 +62,7 @@ bind-respects-pointwise-equality (Err e) f g h = refl
 stray-percent-stops-greater-set : (small great : TableSet) (bs : List ℕ) → small.pct_encoded ≡ true
     → great.pct_encoded ≡ true → valid_prefix small (37 ∷ bs) ≡ 0 → valid_prefix great (37 ∷ bs) ≡ 0
 unfolding valid_prefix_from
-stray-percent-stops-greater-set small great bs s g e = ⊎_elim
-    (λ h. absurd (let x : valid_prefix small (37 ∷ bs) ≡ valid_prefix_from small 2 bs + 1 =
-    cond-true _ _ _ (ap (λ p. p && true) s) ∙ cond-true _ _ _ h in omega (arith, x, e)))
-    (λ h. cond-true _ _ _ (ap (λ p. p && true) g) ∙ cond-false _ _ _ h)
-    (cases_Bool (begins_with_hex_digits bs))
+stray-percent-stops-greater-set small great bs s g e = grind (arith, nat_tests)
 
 -- parse errors: a `%` that begins no octet stops a scan by either of two sets with octets
 pub stray-percent-stops-every-set : (small great : TableSet) (bs : List ℕ)
@@ -79,10 +71,7 @@ pub stray-percent-stops-every-set : (small great : TableSet) (bs : List ℕ)
     → valid_prefix great bs ≡ 0
 stray-percent-stops-every-set small great [] s g e p = absurd (false≢true p)
 stray-percent-stops-every-set small great (b ∷ bs) s g e p =
-    let d = eqb-true b 37 p in
-    ap (λ c. valid_prefix great (c ∷ bs)) d
-    ∙ stray-percent-stops-greater-set small great bs s g
-    (ap (λ c. valid_prefix small (c ∷ bs)) (sym d) ∙ e)
+    grind (arith, nat_tests, stray-percent-stops-greater-set)
 
 -- parse errors: where a scan by the smaller set stops, at none of the marks,
 -- one by the greater set does
@@ -91,16 +80,8 @@ smaller-set-stops-greater-set : (marks : List ℕ) (small great : TableSet)
     → (b : ℕ) (rest : List ℕ) → is_one_of marks b ≡ false → valid_prefix small (b ∷ rest) ≡ 0
     → valid_prefix great (b ∷ rest) ≡ 0
 unfolding valid_prefix_from
-smaller-set-stops-greater-set marks small great s g more b rest m z = ⊎_elim
-    (λ o. stray-percent-stops-every-set small great (b ∷ rest) s g z o)
-    (λ o.
-    let stop : allows_first small b rest ≡ false = ⊎_elim
-    (λ t. absurd (let x : valid_prefix small (b ∷ rest)
-    ≡ valid_prefix_from small (continuation_len b) rest + 1 =
-    cond-false _ _ _ (and_right _ _ o) ∙ cond-true _ _ _ t in omega (arith, x, z)))
-    (λ t. t) (cases_Bool (allows_first small b rest)) in
-    cond-false _ _ _ (and_right _ _ o) ∙ cond-false _ _ _ (more b rest m stop))
-    (cases_Bool (eqb b 37))
+smaller-set-stops-greater-set marks small great s g more b rest m z =
+    grind (arith, nat_tests, stray-percent-stops-every-set)
 
 -- parse errors: where a scan by the smaller set stops, one by the greater goes on with a mark
 pub greater-set-goes-on-with-mark : (marks : List ℕ) (small great : TableSet)
@@ -108,10 +89,8 @@ pub greater-set-goes-on-with-mark : (marks : List ℕ) (small great : TableSet)
     → (bs : List ℕ) → valid_prefix small bs ≡ 0
     → (valid_prefix great bs ≡ 0) ⊎ IsEmptyOrMarked marks bs
 greater-set-goes-on-with-mark marks small great s g more [] z = inr tt
-greater-set-goes-on-with-mark marks small great s g more (b ∷ rest) z = ⊎_elim
-    (λ m. inr m)
-    (λ m. inl (smaller-set-stops-greater-set marks small great s g more b rest m z))
-    (cases_Bool (is_one_of marks b))
+greater-set-goes-on-with-mark marks small great s g more (b ∷ rest) z =
+    grind (arith, nat_tests, smaller-set-stops-greater-set)
 
 -- parse errors: at a delimiter that a set excludes, or at the end, nothing is scanned
 pub nothing-is-scanned-at-mark : (set : TableSet) (marks : List ℕ) → LacksPercent set
@@ -127,9 +106,8 @@ pub valid_prefix-zero-at-mark : (marks : List ℕ) (set : TableSet) → LacksPer
     → (bs : List ℕ) → is_empty_or_begins_with_any marks bs ≡ true → valid_prefix set bs ≡ 0
 unfolding is_empty_or_begins_with_any
 valid_prefix-zero-at-mark marks set lacks outside [] e = empty_text_has_empty_valid_prefix set
-valid_prefix-zero-at-mark marks set lacks outside (b ∷ bs) e = valid_prefix_at_mark_is_empty
-    marks set lacks
-    outside b bs e
+valid_prefix-zero-at-mark marks set lacks outside (b ∷ bs) e =
+    grind (arith, nat_tests, valid_prefix_at_mark_is_empty)
 
 -- parse errors: where an authority ends, and not by `/` (47), it ends by `?`, `#` or the end
 mark-that-is-no-slash-is-question-or-hash : (bs : List ℕ)
@@ -159,12 +137,7 @@ unmarked_text_begins_with_other_byte : (bs : List ℕ) → is_empty_or_begins_wi
     ≡ false → IsOther bs
 unfolding is_empty_or_begins_with_any is_end
 unmarked_text_begins_with_other_byte [] e = absurd (false≢true (sym e))
-unmarked_text_begins_with_other_byte (b ∷ bs) e = record {
-  slash = grind (arith, nat_tests);
-  question = grind (arith, nat_tests);
-  number = grind (arith, nat_tests);
-  some = refl;
-}
+unmarked_text_begins_with_other_byte (b ∷ bs) e = grind (arith, nat_tests)
 
 module _ (segment : TableSet) (kind : Kind) (w : SeparatesComponents segment kind)
     (a : Adjoins kind)
@@ -182,9 +155,8 @@ module _ (segment : TableSet) (kind : Kind) (w : SeparatesComponents segment kin
       (cond (eqb (scan_end text kind.path p) p || is_next text 47 p)
       (error_from_query kind text (scan_end text kind.path p)) (Some (unexpected p)))
   unfolding error_from_abempty_path
-  abempty-path-error-by-stray-percent p = scan-stops-at-stray-percent-or-goes-on text kind.path p
-      (λ end.
-      cond (eqb end p || is_next text 47 p) (error_from_query kind text end) (Some (unexpected p)))
+  abempty-path-error-by-stray-percent p =
+      grind (arith, nat_tests, scan-stops-at-stray-percent-or-goes-on)
 
   path-error-by-stray-percent : (p : ℕ) → error_from_path kind text p
       ≡ cond (kind.path.pct_encoded && is_next text 37 (scan_end text kind.path p))
@@ -223,16 +195,14 @@ module _ (segment : TableSet) (kind : Kind) (w : SeparatesComponents segment kin
       → is_empty_or_begins_with_any (codes "/?#") (drop p text) ≡ false
       → error_from_abempty_path kind text p ≡ left_over_error kind text p
   abempty-path-error-at-other-byte-is-left-over p e =
-      let o = unmarked_text_begins_with_other_byte (drop p text) e in
-      let end : ℕ = scan_end text kind.path p in
-      abempty-path-error-by-stray-percent p
-      ∙ ap (cond (kind.path.pct_encoded && is_next text 37 end) (Some (stray_percent end)))
-      (⊎_elim
-      (λ h. cond-true _ _ _ (or_left _ _ h) ∙ ap (error_from_query kind text) (eqb-true end p h)
-      ∙ query-error-at-other-byte-is-unexpected p e)
-      (λ h. cond-false _ _ _ (ap (λ t. t || is_next text 47 p) h ∙ o.slash))
-      (cases_Bool (eqb end p)))
-      ∙ sym (left_over_error-by-stray-percent p)
+      grind (
+        arith,
+        nat_tests,
+        unmarked_text_begins_with_other_byte,
+        abempty-path-error-by-stray-percent,
+        query-error-at-other-byte-is-unexpected,
+        left_over_error-by-stray-percent,
+      )
 
   pub error_after_port-is-from-path : (p : ℕ) → error_after_port kind text p
       ≡ error_from_abempty_path kind text p
@@ -292,17 +262,11 @@ module _ (segment : TableSet) (kind : Kind) (w : SeparatesComponents segment kin
   pub host_error-is-error_from_host : (i : ℕ) → host_error kind text i ≡ error_from_host kind text i
   unfolding host_error error_from_host
   host_error-is-error_from_host i =
-      let n : ℕ = scan_end text kind.reg_name i in
-      ⊎_elim
-      (λ e. cond-true _ _ _ e ∙ bind-respects-pointwise-equality (literal text (i + 1)) _ _
-      port_error-is-error_from_port
-      ∙ sym (cond-true _ _ _ e))
-      (λ e. cond-false _ _ _ e
-      ∙ sym (cond-false _ _ _ e ∙ scan-stops-at-stray-percent-or-goes-on text kind.reg_name i
-      (error_from_port kind text)
-      ∙ ⊎_elim
-      (λ p. cond-true _ _ _ (and_from _ _ a.reg_name_octets p)
-      ∙ sym (stray-percent-after-name-is-port-error i p))
-      (λ p. cond-false _ _ _ (and_right _ _ p) ∙ sym (port_error-is-error_from_port n))
-      (cases_Bool (is_next text 37 n))))
-      (cases_Bool (is_next text 91 i))
+      grind (
+        arith,
+        nat_tests,
+        bind-respects-pointwise-equality,
+        port_error-is-error_from_port,
+        scan-stops-at-stray-percent-or-goes-on,
+        stray-percent-after-name-is-port-error,
+      )

@@ -2,24 +2,24 @@
 use Rattle.std.proofs.Common.{◌≡◌, ◌≢◌, ℕ, zero, suc, ◌+◌, ◌-◌, ◌<◌, ◌≤◌, Bool, true, false, not}
 use Rattle.std.proofs.Common.{cond, eqb, List, [], ◌∷◌, ◌++◌, length, get_or, drop, decimal, Option}
 use Rattle.std.proofs.Common.{Some, None, refl, sym, ap, subst, ◌∙◌, arith, ◌&&◌, ◌||◌, ⊎_elim, inl}
-use Rattle.std.proofs.Common.{inr, append_assoc, length-drop, eqb-true, lit<, get_or-drop, add-zero}
+use Rattle.std.proofs.Common.{inr, append_assoc, length-drop, eqb-true, get_or-drop, add-zero}
 use Rattle.std.proofs.Common.{replicate}
 use Rattle.std.specs.Prelude.{slice_range, nat_lt, codes}
 use Rattle.std.specs.Str.Parse.{digits_value}
 use Rattle.std.specs.Net.Addr.{segments_of}
 use Rattle.std.specs.Net.Grammar.{IsDotted, IsGroupsAfter, IsColonHex}
 use Rattle.std.specs.Net.Text.{dotted_text}
-use Rattle.std.proofs.lemmas.Bool.{cond-true, cond-false, cases_Bool, and_parts, ltb-true, leb-true}
-use Rattle.std.proofs.lemmas.Bool.{eq-eqb, false≢true, both_ways}
+use Rattle.std.proofs.lemmas.Bool.{cond-true, cases_Bool, and_parts, eq-eqb, both_ways}
 use Rattle.std.proofs.lemmas.Option.{none-some, same_Some}
 use Rattle.std.proofs.lemmas.List.{get_or-take, drop-drop, drop_more}
 use Rattle.std.proofs.lemmas.List.Sums.{prefix_len-le-length}
-use Rattle.std.proofs.NetLemmas.Options.{cond_some, cond_none, and_then_some}
+use Rattle.std.proofs.NetLemmas.Options.{cond_none, and_then_some}
 use Rattle.std.specs.Char.{is_digit}
 use Rattle.uri_parts.proofs.HostForms.AddressParsing.{dotted as dotted_with}
 use Rattle.std.proofs.lemmas.List.Folds.{drop_split}
 use Rattle.std.proofs.lemmas.Fmt.{decimal-digits_value, decimal_digit}
 use Rattle.std.proofs.lemmas.Str.Parse.{numerals_by_value, tells_digits}
+use Rattle.std.proofs.lemmas.Bool.Decides.{nat_tests}
 use Rattle.uri_parts.specs.Components.{starts, is_end}
 use Rattle.uri_parts.specs.LiteralErrors.{Groups, Groups_end, Elision, Malformed, digits_end}
 use Rattle.uri_parts.specs.LiteralErrors.{octet_end, octets_end, ipv4_end, after_ipv4, groups_from}
@@ -83,31 +83,21 @@ module _ (text : List ℕ) where
 
   octet_end-ends-an-octet : (i end : ℕ) → octet_end text i ≡ Some end → IsOctet i end
   unfolding octet_end
-  octet_end-ends-an-octet i end e = ⊎_elim
-      (λ z.
-      let n : i + 1 ≡ end = same_Some _ _ (sym (cond-true _ _ _ z) ∙ e) in
-      record {
-        value = 0;
-        fits = lit< tt;
-        split = text-at-mark-is-mark-and-rest 48 i z ∙ ap (λ k. 48 ∷ drop k text) n
-            ∙ ap (λ t. t ++ drop end text) (sym (decimal_digit 0 (lit< tt)));
-      })
-      (λ z.
-      let q = cond_some _ _ _ (sym (cond-false _ _ _ z) ∙ e) in
-      let p = and_parts _ _ q.0 in
-      subst (IsOctet i) q.1 (digits-up-to-255-are-octet i z (ltb-true _ _ p.0) (leb-true _ _ p.1)))
-      (cases_Bool (starts 48 (drop i text)))
+  octet_end-ends-an-octet i end e =
+      grind (
+        arith,
+        nat_tests,
+        text-at-mark-is-mark-and-rest,
+        decimal_digit,
+        digits-up-to-255-are-octet,
+      )
 
   octets_end-passed-dot-and-octet : (n i end : ℕ) → octets_end text (suc n) i ≡ Some end →
       (mid : ℕ) × (drop i text ≡ 46 ∷ drop (i + 1) text) × (octet_end text (i + 1) ≡ Some mid)
       × (octets_end text n mid ≡ Some end)
   unfolding octets_end
-  octets_end-passed-dot-and-octet n i end e = ⊎_elim
-      (λ z. and_then_some (octets_end text n) (octet_end text (i + 1)) end
-      (sym (cond-true _ _ _ z) ∙ e) λ mid found left.
-      (mid, text-at-mark-is-mark-and-rest 46 i z, found, left))
-      (λ z. absurd (none-some end (sym (cond-false _ _ _ z) ∙ e)))
-      (cases_Bool (starts 46 (drop i text)))
+  octets_end-passed-dot-and-octet n i end e =
+      grind (arith, nat_tests, and_then_some, text-at-mark-is-mark-and-rest)
 
   record IsAddress (i end : ℕ) : Type 0 where
     address : List ℕ
@@ -217,25 +207,15 @@ module _ (text : List ℕ) where
       → group ≡ i + 1 → starts 58 (drop group text) ≡ true
       → Parses false (suc r) is_first i (suc r) (58 ∷ 58 ∷ drop (group + 1) text)
   double-colon-is-parsed r is_first i group c g d =
-      subst (Parses false (suc r) is_first i (suc r))
-      (text-at-mark-is-mark-and-rest 58 i c ∙ ap (λ t. 58 ∷ t) (ap (λ n. drop n text) (sym g)
-      ∙ text-at-mark-is-mark-and-rest 58 group d))
-      (no-groups-parse-to-same-text false (suc r) is_first i)
+      grind (arith, nat_tests, text-at-mark-is-mark-and-rest, no-groups-parse-to-same-text)
 
   -- a group has its `:`, but the first
   group-follows-its-colon : (is_first : Bool) (i : ℕ)
       → (starts 58 (drop i text) && is_first || not (starts 58 (drop i text)) && not is_first)
       ≡ false
       → drop i text ≡ lead is_first ++ drop (cond (starts 58 (drop i text)) (i + 1) i) text
-  group-follows-its-colon true i m = ⊎_elim
-      (λ c. absurd (false≢true (sym m ∙ ap (λ t. t && true || not t && false) c)))
-      (λ c. ap (λ n. drop n text) (sym (cond-false _ (i + 1) i c)))
-      (cases_Bool (starts 58 (drop i text)))
-  group-follows-its-colon false i m = ⊎_elim
-      (λ c. text-at-mark-is-mark-and-rest 58 i c
-      ∙ ap (λ n. 58 ∷ drop n text) (sym (cond-true _ (i + 1) i c)))
-      (λ c. absurd (false≢true (sym m ∙ ap (λ t. t && false || not t && true) c)))
-      (cases_Bool (starts 58 (drop i text)))
+  group-follows-its-colon true i m = grind (arith, nat_tests)
+  group-follows-its-colon false i m = grind (arith, nat_tests, text-at-mark-is-mark-and-rest)
 
   -- an IPv4 address ends the groups
   ipv4-ends-sound-groups : (r : ℕ) (is_first : Bool) (i group : ℕ) → r ≢ 0
@@ -257,8 +237,7 @@ module _ (text : List ℕ) where
   groups_from-is-sound : (room : ℕ) (is_first : Bool) (i : ℕ)
       → Sound room is_first i (groups_from text room is_first i)
   groups_from-is-sound zero is_first i =
-      subst (Sound zero is_first i) (sym (groups_from-ends-without-room text zero is_first i refl))
-      (λ c. no-groups-parse-to-same-text true zero is_first i)
+      grind (arith, nat_tests, groups_from-ends-without-room, no-groups-parse-to-same-text)
   groups_from-is-sound (suc r) is_first i =
       let colon : Bool = starts 58 (drop i text) in
       let group : ℕ = cond colon (i + 1) i in
@@ -352,16 +331,7 @@ module _ (text : List ℕ) where
 
   groups-give-ipv6 : (i end : ℕ) (g : Groups) → Sound 8 true i g → after_groups text g ≡ Some end
       → is_end (drop end text) ≡ false → Holds i end
-  groups-give-ipv6 i end (Groups_end room last) s b c =
-      let q = cond_some (eqb room 0) last end b in
-      let none : room ≡ 0 = eqb-true room 0 q.0 in
-      let w = s (ap (λ n. is_end (drop n text)) q.1 ∙ c) in
-      record {
-        address = w.groups;
-        segments = w.segments;
-        split = w.split ∙ ap (λ n. w.groups ++ drop n text) q.1;
-        is = inl (w.are, omega (arith, w.count, none));
-      }
+  groups-give-ipv6 i end (Groups_end room last) s b c = grind (arith, nat_tests)
   groups-give-ipv6 i end (Elision room last) s b c =
       elision-gives-ipv6 i room last end s (groups_from text room true last)
       (groups_from-is-sound room true last) b c

@@ -1,7 +1,7 @@
 -- The parser returns the error that `refusal` defines for a whole text.
-use Rattle.std.proofs.Common.{◌≡◌, ℕ, ◌+◌, Bool, true, false, cond, List, get_or, drop, refl}
-use Rattle.std.proofs.Common.{sym, ap, subst, ◌∙◌, arith, ◌&&◌, ⊎_elim, zero-add, Some}
-use Rattle.std.specs.Prelude.{codes, if◌then◌else◌, Ok, Err, Result, is_ok, is_none}
+use Rattle.std.proofs.Common.{◌≡◌, ℕ, ◌+◌, Bool, true, false, cond, List, get_or, refl, sym, ap}
+use Rattle.std.proofs.Common.{subst, ◌∙◌, arith, ⊎_elim, zero-add, Some}
+use Rattle.std.specs.Prelude.{codes, if◌then◌else◌, Result, is_ok, is_none}
 use Rattle.std.specs.Result.{result_err}
 use Rattle.std.specs.Str.{IsUtf8}
 use Rattle.std.specs.Char.{is_ascii_alphabetic}
@@ -13,10 +13,9 @@ use Rattle.std.proofs.lemmas.Bool.Decides.{nat_tests}
 use Rattle.uri_pct.specs.Prefixes.{valid_prefix}
 use Rattle.uri_pct.proofs.ValidTexts.Prefixes.{valid_prefix_of_superset_goes_on_from_subset}
 use Rattle.uri_parts.specs.Components.{has_authority}
-use Rattle.uri_parts.specs.Errors.{unexpected, stray_percent}
-use Rattle.uri_parts.specs.Refusals.{OptionalParseError, ◌>>=◌, error_from_path, refusal}
-use Rattle.uri_parts.specs.Refusals.{error_from_authority, error_from_relative_path}
-use Rattle.uri_parts.specs.Refusals.{error_from_hier_part}
+use Rattle.uri_parts.specs.Errors.{unexpected}
+use Rattle.uri_parts.specs.Refusals.{OptionalParseError, refusal, error_from_authority}
+use Rattle.uri_parts.specs.Refusals.{error_from_relative_path, error_from_hier_part}
 use Rattle.uri_parts.specs.Scanning.{is_next, scan_end}
 use Rattle.uri_parts.specs.Grammar.{Kind, first_segment_set, kind_by_flags}
 use Rattle.uri_parts.specs.Models.ParseErrors.{hier_part_error, schemeless_error, parsed_error}
@@ -49,17 +48,14 @@ module _ (segment : TableSet) (kind : Kind) (w : SeparatesComponents segment kin
       (valid_prefix scheme_set text)
       ≡ error_from_relative_path kind text segment 0
   unfolding error_from_relative_path
-  relative-path-error-from-start = ap (λ e.
-      (if segment.pct_encoded && is_next text 37 e then Err (stray_percent e) else Ok e) >>= λ end.
-      if is_next text 58 end then Some (unexpected end) else error_from_path kind text end)
-      first-segment-scan-goes-on-after-scheme-characters
+  relative-path-error-from-start =
+      grind (arith, nat_tests, first-segment-scan-goes-on-after-scheme-characters)
 
   hier_part_error-is-error_from_hier_part : (i : ℕ) → hier_part_error kind text i
       ≡ error_from_hier_part kind text i
   unfolding hier_part_error error_from_hier_part
-  hier_part_error-is-error_from_hier_part i = ap
-      (λ r. cond (has_authority (drop i text)) r (error_from_path kind text i))
-      (authority_error-is-error_from_authority segment kind w j text (i + 2) (omega arith))
+  hier_part_error-is-error_from_hier_part i =
+      grind (arith, nat_tests, authority_error-is-error_from_authority)
 
   schemeless_error-by-slashes : schemeless_error segment kind text (valid_prefix scheme_set text)
       ≡ (if has_authority text then error_from_authority kind text 2

@@ -1,9 +1,10 @@
 -- A text cut before the first of some marks.
 use Rattle.std.proofs.Common.{◌≡◌, ℕ, zero, suc, true, false, not, List, [], ◌∷◌, ◌++◌, take, drop}
-use Rattle.std.proofs.Common.{refl, sym, ap, ◌∙◌, arith, ⊎_elim, eqb}
+use Rattle.std.proofs.Common.{refl, ap, ◌∙◌, arith, ⊎_elim}
 use Rattle.std.specs.List.{prefix_len}
 use Rattle.std.proofs.lemmas.Bool.{cases_Bool, cond-true, cond-false, not_from_true, not_from_false}
-use Rattle.std.proofs.lemmas.Bool.{both_ways, eqb-true, eq-eqb, or_cases}
+use Rattle.std.proofs.lemmas.Bool.{eqb-true}
+use Rattle.std.proofs.lemmas.Bool.Decides.{nat_tests}
 use Rattle.uri_pct.specs.Sets.{is_one_of}
 use Rattle.uri_parts.specs.Components.{Lacks, before_any, from_any, starts}
 
@@ -29,19 +30,13 @@ begins-with-mark mark marks (b ∷ bs) m e = ap (is_one_of marks) (eqb-true b ma
 pub begins-with-no-other : (other : ℕ) (marks bs : List ℕ) → is_one_of marks other ≡ false
     → IsEmptyOrMarked marks bs → starts other bs ≡ false
 begins-with-no-other other marks [] n m = refl
-begins-with-no-other other marks (b ∷ bs) n m = ⊎_elim
-    (λ e. absurd (both_ways _ n (ap (is_one_of marks) (sym (eqb-true b other e)) ∙ m)))
-    (λ e. e)
-    (cases_Bool (eqb b other))
+begins-with-no-other other marks (b ∷ bs) n m = grind (arith, nat_tests)
 
 -- splitting: a marked text that does not begin with the first mark begins with a further one
 pub begins-with-further-mark : (mark : ℕ) (marks bs : List ℕ) → IsEmptyOrMarked (mark ∷ marks) bs
     → starts mark bs ≡ false → IsEmptyOrMarked marks bs
 begins-with-further-mark mark marks [] m n = tt
-begins-with-further-mark mark marks (b ∷ bs) m n = ⊎_elim
-    (λ e. absurd (both_ways _ n (eq-eqb b mark (sym (eqb-true mark b e)))))
-    (λ e. e)
-    (or_cases (eqb mark b) (is_one_of marks b) m)
+begins-with-further-mark mark marks (b ∷ bs) m n = grind (arith, nat_tests)
 
 -- splitting: the length of what is before the first of the delimiters
 abbrev length_before : List ℕ → List ℕ → ℕ
@@ -120,12 +115,7 @@ pub record IsCut (marks text before from : List ℕ) : Type 0 where
 -- splitting: what is before the first delimiter and what is from it on are a cut of the text
 pub text-is-cut-at-first-mark : (marks text : List ℕ)
     → IsCut marks text (before_any marks text) (from_any marks text)
-text-is-cut-at-first-mark marks [] = record {
-  whole = refl;
-  lacks = λ k d l. absurd
-      (omega arith);
-  begins = tt;
-}
+text-is-cut-at-first-mark marks [] = grind (arith, nat_tests)
 text-is-cut-at-first-mark marks (c ∷ text) = ⊎_elim
     (λ h. rw (before_any-at-mark marks c text h, from_any-at-mark marks c text h) record {
       whole = refl;

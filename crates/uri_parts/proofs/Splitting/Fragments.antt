@@ -174,9 +174,7 @@ boundary-before-fragment : (text before tail : List ℕ) → text ≡ before ++ 
     → IsEmptyOrMarked (codes "#") tail
     → IsCharBoundary text (length before)
 boundary-before-fragment text before tail e begins =
-    let Cut : List ℕ → Type 0 = λ t. IsCharBoundary t (length before) in
-    subst Cut (sym e) (boundary_before_mark before tail
-    (fragment-mark-is-component-mark tail begins))
+    grind (arith, nat_tests, boundary_before_mark, fragment-mark-is-component-mark)
 
 -- general fact on slices, for replacing a fragment:
 -- what is between 0 and mark is the prefix of that length
@@ -257,10 +255,7 @@ stays_of_kind_without_fragment set text made w =
 pub stays_of_kind_with_fragment : (set : TableSet) (text made fragment : List ℕ)
     → is_valid_for set fragment ≡ true
     → IsWithFragment text (Some fragment) made → StaysOfKind set text made
-stays_of_kind_with_fragment set text made fragment valid w = record {
-  of_kind = λ kind e h. of_kind kind text made (Some fragment) h
-      (ap (λ s. is_valid_for s fragment) (sym e) ∙ valid) w;
-}
+stays_of_kind_with_fragment set text made fragment valid w = grind (arith, nat_tests, of_kind)
 
 -- replacing a fragment: the positions of the other components stay
 pub positions_stay_with_fragment : (text made : List ℕ) (fragment : Option (List ℕ)) (p : Positions)

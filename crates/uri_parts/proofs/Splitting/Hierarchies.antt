@@ -1,9 +1,10 @@
 -- An authority and what follows it, as they are cut.
-use Rattle.std.proofs.Common.{◌≡◌, ℕ, Bool, true, cond, List, drop, refl, sym, ap, ◌∙◌, ◌&&◌}
-use Rattle.std.proofs.Common.{⊎_elim}
+use Rattle.std.proofs.Common.{◌≡◌, ℕ, Bool, true, cond, List, drop, sym, ap, ◌∙◌, ◌&&◌, ⊎_elim}
+use Rattle.std.proofs.Common.{arith}
 use Rattle.std.specs.Prelude.{codes}
 use Rattle.std.specs.Str.{IsUtf8}
-use Rattle.std.proofs.lemmas.Bool.{cases_Bool, cond-true, and_left}
+use Rattle.std.proofs.lemmas.Bool.{cases_Bool, and_left}
+use Rattle.std.proofs.lemmas.Bool.Decides.{nat_tests}
 use Rattle.uri_pct.specs.Sets.{TableSet}
 use Rattle.uri_parts.specs.Components.{before_any, from_any, has_authority, after_authority, when}
 use Rattle.uri_parts.specs.Grammar.{Kind, absent_or_passes, is_authority}
@@ -20,9 +21,8 @@ use Rattle.uri_parts.proofs.Authorities.WholeAuthorities.{is_authority_for-is-pa
 module _ (segment : TableSet) (kind : Kind) (w : SeparatesComponents segment kind) where
   pub text_after_found_authority : (bs : List ℕ) → IsUtf8 bs → finds_authority kind bs ≡ true
       → drop (found_authority_length kind bs) bs ≡ from_any (codes "/?#") bs
-  text_after_found_authority bs u h = ap (λ n. drop n bs)
-      ((found-authority-is-the-cut-one segment kind w bs u h).len
-      ∙ length-of-text-before-marks (codes "/?#") bs)
+  text_after_found_authority bs u h =
+      grind (arith, nat_tests, found-authority-is-the-cut-one, length-of-text-before-marks)
 
   authority-is-found-iff-cut-is-authority : (bs : List ℕ) → IsUtf8 bs
       → finds_authority kind bs ≡ is_authority kind (before_any (codes "/?#") bs)
@@ -62,7 +62,4 @@ module _ (segment : TableSet) (kind : Kind) (w : SeparatesComponents segment kin
   pub parses_hier_part-is-valid : (rest : List ℕ) → IsUtf8 rest → parses_hier_part kind rest
       ≡ hierarchy_is_valid rest
   unfolding parses_hier_part hierarchy_is_valid
-  parses_hier_part-is-valid rest u = ⊎_elim
-      (λ e. cond-true _ _ _ e ∙ parses_authority-is-valid rest e u)
-      (λ e. rw e refl)
-      (cases_Bool (has_authority rest))
+  parses_hier_part-is-valid rest u = grind (arith, nat_tests, parses_authority-is-valid)

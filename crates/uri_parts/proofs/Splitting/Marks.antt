@@ -1,9 +1,9 @@
 -- Where each component of a recomposed text is cut: one lemma a component, over its own text.
-use Rattle.std.proofs.Common.{◌≡◌, ℕ, ◌<◌, true, false, eqb, List, [], ◌∷◌, ◌++◌, length, drop, sym}
-use Rattle.std.proofs.Common.{refl, ap, ◌∙◌, arith, ⊎_elim, append_assoc}
+use Rattle.std.proofs.Common.{◌≡◌, ℕ, ◌<◌, true, false, eqb, List, [], ◌∷◌, ◌++◌, length, drop}
+use Rattle.std.proofs.Common.{refl, ap, ◌∙◌, arith, append_assoc}
 use Rattle.std.specs.Prelude.{codes, Some, None, Option, IfSome, IfNone}
 use Rattle.std.proofs.lemmas.List.{append-nil}
-use Rattle.std.proofs.lemmas.Bool.{cond-true, cond-false, and_left, and_right, and_from, eqb-true}
+use Rattle.std.proofs.lemmas.Bool.{cond-true, cond-false, and_left, and_from, eqb-true}
 use Rattle.std.proofs.lemmas.Bool.{not_from_false}
 use Rattle.std.proofs.lemmas.Bool.Decides.{nat_tests}
 use Rattle.uri_pct.specs.Sets.{is_one_of}
@@ -32,9 +32,7 @@ IsEmptyOrMarked-fragment_text (Some f) = refl
 pub IsEmptyOrMarked-query_text : (query fragment : Option (List ℕ))
     → IsEmptyOrMarked (codes "?#") (query_text query fragment)
 IsEmptyOrMarked-query_text None fragment =
-    empty-or-marked-for-more-marks (codes "#") (codes "?#") (fragment_text fragment)
-    (λ c e. grind (arith, nat_tests))
-    (IsEmptyOrMarked-fragment_text fragment)
+    grind (arith, nat_tests, empty-or-marked-for-more-marks, IsEmptyOrMarked-fragment_text)
 IsEmptyOrMarked-query_text (Some q) fragment = refl
 
 -- recomposing: a fragment with its `#`, or nothing, does not begin with `?` (63)
@@ -55,12 +53,7 @@ pub query-found : (query fragment : Option (List ℕ)) → IfSome query (λ q. L
     (when (starts 63 (query_text query fragment))
     (before_any (codes "#") (drop 1 (query_text query fragment))) ≡ query)
     × (after_query (query_text query fragment) ≡ fragment_text fragment)
-query-found None fragment lacks =
-    let e = fragment-begins-with-no-question-mark fragment in (
-      ap (λ t. when t (before_any (codes "#") (drop 1 (fragment_text fragment)))) e,
-      cond-false _ _ _
-          e,
-    )
+query-found None fragment lacks = grind (arith, nat_tests, fragment-begins-with-no-question-mark)
 query-found (Some q) fragment lacks =
     let cut = cut-at-end-of-text-without-marks (codes "#") q (fragment_text fragment) lacks
     (IsEmptyOrMarked-fragment_text fragment) in
@@ -78,9 +71,8 @@ pub has_authority-append : (path tail : List ℕ) → IsEmptyOrMarked (codes "?#
 has_authority-append [] [] begins = refl
 has_authority-append [] (c ∷ tail) begins = and_left _ _ (question-or-hash-is-no-slash c begins)
 has_authority-append (a ∷ []) [] begins = refl
-has_authority-append (a ∷ []) (c ∷ tail) begins = and_right _ _
-    (question-or-hash-is-no-slash c begins)
-    ∙ sym (and_right _ _ refl)
+has_authority-append (a ∷ []) (c ∷ tail) begins =
+    grind (arith, nat_tests, question-or-hash-is-no-slash)
 has_authority-append (a ∷ d ∷ path) tail begins = refl
 
 -- general fact on lists, for texts that begin with a delimiter: such a text is not empty
@@ -96,12 +88,9 @@ pub rooted-path-ends-authority : (path tail : List ℕ) → IsAbemptyPath path
     → IsEmptyOrMarked (codes "?#") tail
     → IsEmptyOrMarked (codes "/?#") (path ++ tail)
 rooted-path-ends-authority [] tail rooted begins =
-    empty-or-marked-for-more-marks (codes "?#") (codes "/?#") tail
-    (λ c e. grind (arith, nat_tests)) begins
+    grind (arith, nat_tests, empty-or-marked-for-more-marks)
 rooted-path-ends-authority (c ∷ path) tail rooted begins =
-    ⊎_elim (λ e. absurd (cons_is_not_nil c path e))
-    (λ e. slash-ends-authority c (eq_true_from_IsTrue _ e))
-    rooted
+    grind (arith, nat_tests, cons_is_not_nil, slash-ends-authority, eq_true_from_IsTrue)
 
 -- recomposing: the authority that is found is the one that was written,
 -- and path and tail are left after it
@@ -112,9 +101,7 @@ pub authority-found : (authority : Option (List ℕ)) (path tail : List ℕ) →
     (before_any (codes "/?#") (drop 2 (marked (codes "//") authority [] ++ (path ++ tail))))
     ≡ authority)
     × (after_authority (marked (codes "//") authority [] ++ (path ++ tail)) ≡ path ++ tail)
-authority-found None path tail some none begins =
-    let e : has_authority (path ++ tail) ≡ false = has_authority-append path tail begins ∙ none in
-    (ap (λ t. when t (before_any (codes "/?#") (drop 2 (path ++ tail)))) e, cond-false _ _ _ e)
+authority-found None path tail some none begins = grind (arith, nat_tests, has_authority-append)
 authority-found (Some a) path tail some none begins =
     let cut = cut-at-end-of-text-without-marks (codes "/?#") a (path ++ tail) some.0
     (rooted-path-ends-authority path tail some.1 begins) in

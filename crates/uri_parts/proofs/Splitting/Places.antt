@@ -139,9 +139,8 @@ query-end-or-path-end path_end (Some q) = omega arith
 -- splitting: what begins with `#` ends a scheme too
 pub fragment-mark-is-component-mark : (text : List ℕ) → IsEmptyOrMarked (codes "#") text
     → IsEmptyOrMarked (codes ":/?#") text
-fragment-mark-is-component-mark text begins = empty-or-marked-for-more-marks (codes "#")
-    (codes ":/?#") text
-    (λ c e. grind (arith, nat_tests)) begins
+fragment-mark-is-component-mark text begins =
+    grind (arith, nat_tests, empty-or-marked-for-more-marks)
 
 -- positions: an authority after a scheme and `//` is between its positions
 authority-after-scheme-is-slice : (text : List ℕ) (scheme : Option (List ℕ))
@@ -170,19 +169,11 @@ path-begins-at-boundary : (text : List ℕ) (scheme authority : Option (List ℕ
     → IfSome authority (λ a. IsAbemptyPath path) → IsEmptyOrMarked (codes "?#") suffix
     → IsCharBoundary text (delimited_length 1 scheme + delimited_length 2 authority)
 path-begins-at-boundary text scheme (Some a) path suffix whole utf8 rooted begins =
-    let n : delimited_length 1 scheme + 2 + length a
-    ≡ delimited_length 1 scheme + delimited_length 2 (Some a) = omega arith in
-    subst (IsCharBoundary text) n
-    (authority-after-scheme-is-slice text scheme a path suffix whole utf8 rooted begins).ends
+    grind (arith, nat_tests, authority-after-scheme-is-slice)
 path-begins-at-boundary text None None path suffix whole utf8 rooted begins =
     IsCharBoundary-start text utf8
 path-begins-at-boundary text (Some s) None path suffix whole utf8 rooted begins =
-    let joined : text ≡ s ++ (58 ∷ (path ++ suffix)) = whole
-    ∙ append_assoc s (codes ":") (path ++ suffix) in
-    let valid : IsUtf8 (s ++ (58 ∷ (path ++ suffix))) = rw (← joined) utf8 in
-    let n : length s + 1 ≡ 1 + length s + 0 = omega arith in
-    subst (IsCharBoundary text) n
-    (rw joined (boundary_after_mark s (path ++ suffix) 58 (omega arith) valid))
+    grind (arith, nat_tests, append_assoc, boundary_after_mark)
 
 -- positions: a path after a scheme and an authority is between its positions
 path-after-authority-is-slice : (text : List ℕ) (scheme authority : Option (List ℕ))
@@ -229,9 +220,7 @@ length-hierarchy_text scheme authority path =
 hierarchy-append : (scheme authority : Option (List ℕ)) (path suffix : List ℕ)
     → scheme_text scheme ++ (marked_authority authority ++ (path ++ suffix))
     ≡ hierarchy_text scheme authority path ++ suffix
-hierarchy-append scheme authority path suffix =
-    sym (append_assoc (scheme_text scheme) (marked_authority authority) (path ++ suffix))
-    ∙ sym (append_assoc (scheme_text scheme ++ marked_authority authority) path suffix)
+hierarchy-append scheme authority path suffix = grind (arith, nat_tests, append_assoc)
 
 -- positions: a query after the path and `?` is between its positions
 query-after-path-is-slice : (text hierarchy q suffix : List ℕ)
@@ -365,9 +354,7 @@ length-before_hash p =
 pub recompose-before_hash : (p : Components)
     → recompose p ≡ before_hash p ++ fragment_text p.fragment
 recompose-before_hash p =
-    hierarchy-append p.scheme p.authority p.path (query_text p.query p.fragment)
-    ∙ sym (append_assoc (hierarchy_text p.scheme p.authority p.path) (marked (codes "?") p.query [])
-    (fragment_text p.fragment))
+    grind (arith, nat_tests, hierarchy-append, query_text, append_assoc, fragment_text)
 
 -- splitting: a text is what is before its fragment, and the fragment with its `#`
 pub split-text-is-before-fragment-and-fragment : (text : List ℕ) (p : Components) → IsSplitOf text p

@@ -36,53 +36,42 @@ scheme-and-rest-are-text : (text : List ℕ)
     → marked [] (when (has_scheme text) (before_any (codes ":/?#") text)) (codes ":")
     ++ after_scheme text
     ≡ text
-scheme-and-rest-are-text text = ⊎_elim
-    (λ h.
-    let back = from_any (codes ":/?#") text in
-    let before = before_any (codes ":/?#") text in
-    rw h (append_assoc before (codes ":") (drop 1 back)
-    ∙ ap (λ t. before ++ t) (sym (text-with-mark-is-mark-and-rest 58 back (and_parts _ _ h).0))
-    ∙ (text-is-cut-at-first-mark (codes ":/?#") text).whole))
-    (λ h. rw h refl)
-    (cases_Bool (has_scheme text))
+scheme-and-rest-are-text text =
+    grind (
+      arith,
+      nat_tests,
+      append_assoc,
+      text-with-mark-is-mark-and-rest,
+      text-is-cut-at-first-mark,
+    )
 
 -- splitting: an authority with its `//`, and what is after it, are the text; or there is none
 authority-and-rest-are-text : (rest : List ℕ)
     → marked (codes "//") (when (has_authority rest) (before_any (codes "/?#") (drop 2 rest))) []
     ++ after_authority rest
     ≡ rest
-authority-and-rest-are-text rest = ⊎_elim
-    (λ h.
-    let suffix = drop 2 rest in
-    rw h (ap (λ t. 47 ∷ 47 ∷ (t ++ from_any (codes "/?#") suffix))
-    (append-nil (before_any (codes "/?#") suffix))
-    ∙ ap (λ t. 47 ∷ 47 ∷ t) (text-is-cut-at-first-mark (codes "/?#") suffix).whole
-    ∙ sym (text-with-authority-is-slashes-and-rest rest h)))
-    (λ h. rw h refl)
-    (cases_Bool (has_authority rest))
+authority-and-rest-are-text rest =
+    grind (
+      arith,
+      nat_tests,
+      append-nil,
+      text-is-cut-at-first-mark,
+      text-with-authority-is-slashes-and-rest,
+    )
 
 -- splitting: a query with its `?`, and what is after it, are the text; or there is none
 query-and-rest-are-text : (end : List ℕ)
     → marked (codes "?") (when (starts 63 end) (before_any (codes "#") (drop 1 end))) []
     ++ after_query end
     ≡ end
-query-and-rest-are-text end = ⊎_elim
-    (λ h.
-    let suffix = drop 1 end in
-    rw h (ap (λ t. 63 ∷ (t ++ from_any (codes "#") suffix))
-    (append-nil (before_any (codes "#") suffix))
-    ∙ ap (λ t. 63 ∷ t) (text-is-cut-at-first-mark (codes "#") suffix).whole
-    ∙ sym (text-with-mark-is-mark-and-rest 63 end h)))
-    (λ h. rw h refl)
-    (cases_Bool (starts 63 end))
+query-and-rest-are-text end =
+    grind (arith, nat_tests, append-nil, text-is-cut-at-first-mark, text-with-mark-is-mark-and-rest)
 
 -- splitting: a fragment with its `#`, or nothing, is what is left
 fragment-with-hash-is-text : (text : List ℕ) → IsEmptyOrMarked (codes "#") text
     → marked (codes "#") (when (starts 35 text) (drop 1 text)) [] ≡ text
 fragment-with-hash-is-text [] begins = refl
-fragment-with-hash-is-text (c ∷ text) begins =
-    let h : eqb c 35 ≡ true = grind (arith, nat_tests) in
-    rw h (ap (λ t. 35 ∷ t) (append-nil text) ∙ ap (λ x. x ∷ text) (sym (eqb-true c 35 h)))
+fragment-with-hash-is-text (c ∷ text) begins = grind (arith, nat_tests, append-nil)
 
 -- splitting: what is after a path, and does not begin with `?` (63), is empty or begins with `#`
 end-without-query-begins-with-hash : (end : List ℕ) → IsEmptyOrMarked (codes "?#") end

@@ -1,17 +1,16 @@
 -- The first segment of a path without a scheme.
-use Rattle.std.proofs.Common.{◌≡◌, ℕ, ◌+◌, Bool, true, false, cond, eqb, not, List, [], ◌∷◌, drop}
-use Rattle.std.proofs.Common.{refl, sym, ap, ◌∙◌, arith, ◌||◌, ◌&&◌, ⊎_elim}
+use Rattle.std.proofs.Common.{◌≡◌, ℕ, Bool, true, false, eqb, not, List, [], ◌∷◌, drop, refl, sym}
+use Rattle.std.proofs.Common.{ap, ◌∙◌, arith, ◌||◌, ◌&&◌, ⊎_elim}
 use Rattle.std.specs.Prelude.{codes}
 use Rattle.std.specs.List.{list_any}
-use Rattle.std.specs.Str.{IsUtf8, continuation_len}
+use Rattle.std.specs.Str.{IsUtf8}
 use Rattle.std.proofs.lemmas.List.{drop-drop}
-use Rattle.std.proofs.lemmas.Bool.{cases_Bool, cond-true, cond-false, and_left, and_right, eqb-true}
-use Rattle.std.proofs.lemmas.Bool.{and_parts, not_from_true, not-false, both_ways, false≢true}
-use Rattle.std.proofs.lemmas.Bool.{and_cases, false_from_ne_true, or_left}
+use Rattle.std.proofs.lemmas.Bool.{cases_Bool, and_left, and_right, eqb-true, and_parts}
+use Rattle.std.proofs.lemmas.Bool.{not_from_true, not-false, both_ways, false≢true, and_cases}
+use Rattle.std.proofs.lemmas.Bool.{false_from_ne_true, or_left}
 use Rattle.std.proofs.lemmas.Bool.Decides.{nat_tests}
 use Rattle.uri_pct.specs.Sets.{TableSet, LacksPercent, is_one_of, scheme_set}
-use Rattle.uri_pct.specs.Prefixes.{valid_prefix_from, valid_prefix, after, allows_first}
-use Rattle.uri_pct.specs.Prefixes.{begins_with_hex_digits}
+use Rattle.uri_pct.specs.Prefixes.{valid_prefix, after}
 use Rattle.uri_pct.proofs.ValidTexts.Cuts.{excludes, valid_prefix_at_mark_is_empty}
 use Rattle.uri_pct.proofs.ValidTexts.Cuts.{valid_prefix_by_first_byte}
 use Rattle.uri_pct.proofs.ValidTexts.MarksInTexts.{length_before_marks}
@@ -144,42 +143,22 @@ scheme_set_excludes_delimiters = refl
 module _ (segment : TableSet) (kind : Kind) (w : SeparatesComponents segment kind) where
   no-scheme-means-no-colon-after-segment : (bs : List ℕ) → IsUtf8 bs → has_scheme bs ≡ false
       → starts 58 (after segment bs) ≡ starts 58 bs
-  no-scheme-means-no-colon-after-segment bs u e = ⊎_elim
-      (λ s. s ∙ sym (⊎_elim
-      (λ f.
-      absurd
-      (both_ways _ f
-      (sym (ap (λ n. starts 58 (drop n bs))
-      (scan_stops_at_first_colon segment w.segment_lacks w.segment_marks bs u s)) ∙ s)))
-      (λ f. not-false _ f) (and_cases (starts 58 (from_any (codes ":/?#") bs)) _ e)))
-      (λ s. s
-      ∙ sym
-      (false_from_ne_true _ (λ t. both_ways _ s
-      (ap (starts 58) (nothing-is-scanned-at-colon segment w.segment_lacks w.segment_marks bs t)
-      ∙ t))))
-      (cases_Bool (starts 58 (after segment bs)))
+  no-scheme-means-no-colon-after-segment bs u e =
+      grind (
+        arith,
+        nat_tests,
+        scan_stops_at_first_colon,
+        not-false,
+        and_cases,
+        false_from_ne_true,
+        nothing-is-scanned-at-colon,
+      )
 
   -- where the first segment stops at no colon, the path stops too
   path-stops-where-segment-stops : (b : ℕ) (rest : List ℕ) → is_one_of (codes ":/") b ≡ false
       → valid_prefix segment (b ∷ rest) ≡ 0 → valid_prefix kind.path (b ∷ rest) ≡ 0
   path-stops-where-segment-stops b rest e z =
-      let c = valid_prefix_by_first_byte segment b rest in
-      valid_prefix_by_first_byte kind.path b rest
-      ∙ ap (λ t. cond (t && eqb b 37)
-      (cond (begins_with_hex_digits rest) (valid_prefix_from kind.path 2 rest + 1) 0)
-      (cond (allows_first kind.path b rest)
-      (valid_prefix_from kind.path (continuation_len b) rest + 1)
-      0)) w.octets
-      ∙ ⊎_elim
-      (λ o. cond-true _ _ _ o ∙ ⊎_elim
-      (λ h. absurd (successor_is_not_zero (valid_prefix_from segment 2 rest)
-      (sym (cond-true _ _ _ h) ∙ sym (cond-true _ _ _ o) ∙ sym c ∙ z)))
-      (λ h. cond-false _ _ _ h) (cases_Bool (begins_with_hex_digits rest)))
-      (λ o. cond-false _ _ _ o ∙ ⊎_elim
-      (λ a. absurd (successor_is_not_zero (valid_prefix_from segment (continuation_len b) rest)
-      (sym (cond-true _ _ _ a) ∙ sym (cond-false _ _ _ o) ∙ sym c ∙ z)))
-      (λ a. cond-false _ _ _ (w.rest b rest e a)) (cases_Bool (allows_first segment b rest)))
-      (cases_Bool (segment.pct_encoded && eqb b 37))
+      grind (arith, nat_tests, valid_prefix_by_first_byte, successor_is_not_zero)
 
   path-stops-at-other-byte : (b : ℕ) (rest : List ℕ) → is_one_of (codes ":/?#") b ≡ false
       → valid_prefix segment (b ∷ rest) ≡ 0 → parses_path kind (b ∷ rest) ≡ false
@@ -193,10 +172,8 @@ module _ (segment : TableSet) (kind : Kind) (w : SeparatesComponents segment kin
 
   pub after_path-after-segment : (bs : List ℕ) → after kind.path (after segment bs)
       ≡ after kind.path bs
-  after_path-after-segment bs = drop-drop (valid_prefix kind.path (after segment bs))
-      (valid_prefix segment bs) bs
-      ∙ ap (λ n. drop n bs) (sym
-      (valid_prefix_of_superset_goes_on_from_subset segment kind.path w.within w.segment_lacks bs))
+  after_path-after-segment bs =
+      grind (arith, nat_tests, drop-drop, valid_prefix_of_superset_goes_on_from_subset)
 
   pub parses_path-after-segment : (bs : List ℕ) → parses_path kind (after segment bs)
       ≡ parses_path kind bs
@@ -210,13 +187,7 @@ module _ (segment : TableSet) (kind : Kind) (w : SeparatesComponents segment kin
   unfolding parses_path
   percent-that-stops-segment-stops-path [] e z s = absurd (false≢true e)
   percent-that-stops-segment-stops-path (b ∷ rest) e z s =
-      let marks : is_one_of (codes ":/") b ≡ false =
-      ap (is_one_of (codes ":/")) (eqb-true b 37 e) in
-      let n = path-stops-where-segment-stops b rest marks z in
-      let stray : is_stray kind.path (b ∷ rest) ≡ true = ap (λ t. t && eqb b 37) w.octets ∙ s in
-      ap (λ n. not (is_stray kind.path (drop n (b ∷ rest)))
-      && parses_end kind (drop n (b ∷ rest))) n
-      ∙ and_left _ _ (not_from_true _ stray)
+      grind (arith, nat_tests, path-stops-where-segment-stops, is_stray, parses_end, not_from_true)
 
   -- a stray `%` stops the path as well
   test-after-path-makes-no-difference : (bs : List ℕ) (x : Bool)

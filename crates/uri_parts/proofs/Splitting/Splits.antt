@@ -1,9 +1,8 @@
 -- The components of a text are its only split.
-use Rattle.std.proofs.Common.{◌≡◌, ℕ, List, [], ◌++◌, drop, ap, subst, ◌∙◌}
-use Rattle.std.specs.Prelude.{codes, Option}
-use Rattle.uri_parts.specs.Components.{Components, IsSplitOf, recompose, marked, starts, components}
-use Rattle.uri_parts.specs.Components.{has_authority, after_scheme, after_authority, after_query}
-use Rattle.uri_parts.specs.Components.{when, before_any, from_any}
+use Rattle.std.proofs.Common.{◌≡◌, ℕ, List, arith}
+use Rattle.std.specs.Prelude.{Option}
+use Rattle.std.proofs.lemmas.Bool.Decides.{nat_tests}
+use Rattle.uri_parts.specs.Components.{Components, IsSplitOf, recompose, components}
 use Rattle.uri_parts.proofs.Splitting.Cuts.{cut-at-end-of-text-without-marks}
 use Rattle.uri_parts.proofs.Splitting.Marks.{query_text, IsEmptyOrMarked-query_text, fragment-found}
 use Rattle.uri_parts.proofs.Splitting.Marks.{query-found, authority-found, scheme-found}
@@ -22,30 +21,20 @@ equal-parts-make-equal-components s a p q f = λ i.
 components-of-recomposed-split : (p : Components) → IsSplitOf (recompose p) p
     → components (recompose p) ≡ p
 components-of-recomposed-split p split =
-    let tail = query_text p.query p.fragment in
-    let rest : List ℕ = marked (codes "//") p.authority [] ++ (p.path ++ tail) in
-    let scheme = scheme-found p.scheme rest split.scheme split.no_scheme in
-    let authority = authority-found p.authority p.path tail split.authority split.no_authority
-    (IsEmptyOrMarked-query_text p.query p.fragment) in
-    let path = cut-at-end-of-text-without-marks (codes "?#") p.path tail split.path
-    (IsEmptyOrMarked-query_text p.query p.fragment) in
-    let query = query-found p.query p.fragment split.query in
-    let suffix : after_authority (after_scheme (recompose p)) ≡ p.path ++ tail =
-    ap after_authority scheme.1
-    ∙ authority.1 in
-    let end : from_any (codes "?#") (after_authority (after_scheme (recompose p))) ≡ tail =
-    ap (from_any (codes "?#")) suffix
-    ∙ path.1 in
-    equal-parts-make-equal-components scheme.0
-    (ap (λ r. when (has_authority r) (before_any (codes "/?#") (drop 2 r))) scheme.1 ∙ authority.0)
-    (ap (before_any (codes "?#")) suffix ∙ path.0)
-    (ap (λ e. when (starts 63 e) (before_any (codes "#") (drop 1 e))) end ∙ query.0)
-    (ap (λ e. when (starts 35 (after_query e)) (drop 1 (after_query e))) end
-    ∙ ap (λ r. when (starts 35 r) (drop 1 r)) query.1 ∙ fragment-found p.fragment)
+    grind (
+      arith,
+      nat_tests,
+      query_text,
+      scheme-found,
+      authority-found,
+      IsEmptyOrMarked-query_text,
+      cut-at-end-of-text-without-marks,
+      query-found,
+      equal-parts-make-equal-components,
+      fragment-found,
+    )
 
 -- splitting: a text has no split but its components (RFC 3986, section 3)
 pub only-split-is-components : (text : List ℕ) (p : Components) → IsSplitOf text p
     → components text ≡ p
-only-split-is-components text p split =
-    let Holds : List ℕ → Type 0 = λ t. IsSplitOf t p → components t ≡ p in
-    subst Holds split.whole (components-of-recomposed-split p) split
+only-split-is-components text p split = grind (arith, nat_tests, components-of-recomposed-split)

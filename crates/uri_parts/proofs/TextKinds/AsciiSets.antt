@@ -1,9 +1,8 @@
 -- Texts without octets and without characters past ASCII.
-use Rattle.std.proofs.Common.{◌≡◌, ℕ, Bool, false, ltb, List, [], ◌∷◌, refl, sym, ap, ◌∙◌, ◌&&◌}
-use Rattle.std.proofs.Common.{⊎_elim}
+use Rattle.std.proofs.Common.{◌≡◌, ℕ, Bool, false, ltb, List, [], ◌∷◌, refl, ap, ◌∙◌, ◌&&◌, arith}
 use Rattle.std.specs.List.{list_all}
-use Rattle.std.specs.Str.{IsUtf8, continuation_len}
-use Rattle.std.proofs.lemmas.Bool.{cases_lt, and_left, cond-true, lt-ltb, le-ltb}
+use Rattle.std.specs.Str.{IsUtf8}
+use Rattle.std.proofs.lemmas.Bool.Decides.{nat_tests}
 use Rattle.uri_pct.specs.Sets.{characters_only, allows_past_ascii}
 use Rattle.uri_pct.specs.Tokens.{is_valid_for}
 use Rattle.uri_pct.proofs.ValidTexts.Validity.{valid_from, validity_by_first_byte}
@@ -20,16 +19,15 @@ ascii-validity-byte-by-byte : (test : ℕ → Bool) (b : ℕ) (bs : List ℕ)
     → valid_from (characters_only test) 0 (b ∷ bs)
     ≡ (is_ascii_in test b && valid_from (characters_only test) 0 bs)
 unfolding allows_past_ascii
-ascii-validity-byte-by-byte test b bs = validity_by_first_byte (characters_only test) b bs ∙ ⊎_elim
-    (λ h.
-    ap (λ t. t && valid_from (characters_only test) (continuation_len b) bs)
-    (ascii_first_byte_is_allowed_iff_in_set (characters_only test) b bs h)
-    ∙ ap (λ n. test b && valid_from (characters_only test) n bs) (cond-true _ _ _ (lt-ltb b 128 h))
-    ∙ ap (λ t. (t && test b) && valid_from (characters_only test) 0 bs) (sym (lt-ltb b 128 h)))
-    (λ h.
-    and_left _ _ (first_byte_past_ascii_is_allowed_by_its_char (characters_only test) b bs h)
-    ∙ ap (λ t. (t && test b) && valid_from (characters_only test) 0 bs) (sym (le-ltb b 128 h)))
-    (cases_lt b 128)
+ascii-validity-byte-by-byte test b bs =
+    grind (
+      arith,
+      nat_tests,
+      validity_by_first_byte,
+      valid_from,
+      ascii_first_byte_is_allowed_iff_in_set,
+      first_byte_past_ascii_is_allowed_by_its_char,
+    )
 
 -- sets of a kind, ASCII alone: a text is valid exactly if each byte is in the set
 ascii-validity-is-test-of-all-bytes : (test : ℕ → Bool) (bs : List ℕ)

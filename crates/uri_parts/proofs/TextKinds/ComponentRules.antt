@@ -1,7 +1,7 @@
 -- The components of a text of a kind meet their rules.
-use Rattle.std.proofs.Common.{◌≡◌, ℕ, Bool, true, List, sym, ap, ◌∙◌, ◌&&◌}
+use Rattle.std.proofs.Common.{◌≡◌, ℕ, Bool, true, List, sym, ap, ◌∙◌, arith}
 use Rattle.std.specs.Prelude.{Option, Some}
-use Rattle.std.proofs.lemmas.Bool.{and_parts}
+use Rattle.std.proofs.lemmas.Bool.Decides.{nat_tests}
 use Rattle.uri_pct.specs.Sets.{TableSet}
 use Rattle.uri_pct.specs.Tokens.{is_valid_for, IsValidFor}
 use Rattle.uri_parts.specs.Components.{Components, components}
@@ -27,18 +27,7 @@ record MeetsRules (kind : Kind) (p : Components) : Type 0 where
 -- texts of a kind: components that pass the tests of a kind meet its rules
 tested-components-meet-rules : (kind : Kind) (p : Components) → components_meet_rules kind p ≡ true
     → MeetsRules kind p
-tested-components-meet-rules kind p h =
-    let S = absent_or_passes p.scheme is_scheme in
-    let A = absent_or_passes p.authority (is_authority kind) in
-    let P = is_valid_for kind.path p.path in
-    let Q = absent_or_passes p.query (is_valid_for kind.query) in
-    let F = absent_or_passes p.fragment (is_valid_for kind.fragment) in
-    let f = and_parts ((((S && A) && P) && Q) && F) _ h in
-    let q = and_parts (((S && A) && P) && Q) F f.0 in
-    let t = and_parts ((S && A) && P) Q q.0 in
-    let a = and_parts (S && A) P t.0 in
-    let s = and_parts S A a.0 in
-    record { scheme = s.0; authority = s.1; path = a.1; query = t.1; fragment = q.1 }
+tested-components-meet-rules kind p h = grind (arith, nat_tests)
 
 -- texts of a kind: the scheme of one, if there is one, meets its rule
 pub scheme-of-text-of-kind-is-valid : (kind : Kind) (text part : List ℕ) → IsOfKind kind text
@@ -51,9 +40,7 @@ pub authority-of-text-of-kind-is-valid : (kind : Kind) (users names : TableSet) 
     → IsOfKind kind text → users ≡ kind.userinfo → names ≡ kind.reg_name
     → (components text).authority ≡ Some part → is_authority_for users names part ≡ true
 authority-of-text-of-kind-is-valid kind users names text part h s t e =
-    ap (λ v. is_authority_for v names part) s ∙ ap (λ v. is_authority_for kind.userinfo v part) t
-    ∙ present-part-passes-test _ (is_authority kind) part
-    (tested-components-meet-rules kind (components text) h).authority e
+    grind (arith, nat_tests, present-part-passes-test, tested-components-meet-rules)
 
 -- texts of a kind: the path of one is valid for the kind's set
 pub path-of-text-of-kind-is-valid : (kind : Kind) (set : TableSet) (text : List ℕ)
@@ -66,9 +53,8 @@ path-of-text-of-kind-is-valid kind set text h s = ap (λ t. is_valid_for t (comp
 pub query-of-text-of-kind-is-valid : (kind : Kind) (set : TableSet) (text part : List ℕ)
     → IsOfKind kind text
     → set ≡ kind.query → (components text).query ≡ Some part → IsValidFor set part
-query-of-text-of-kind-is-valid kind set text part h s e = ap (λ t. is_valid_for t part) s
-    ∙ present-part-passes-test _ (is_valid_for kind.query) part
-    (tested-components-meet-rules kind (components text) h).query e
+query-of-text-of-kind-is-valid kind set text part h s e =
+    grind (arith, nat_tests, present-part-passes-test, tested-components-meet-rules)
 
 -- texts of a kind: the fragment of one, if there is one, is valid for the kind's set
 pub fragment-of-text-of-kind-is-valid : (kind : Kind) (set : TableSet) (text part : List ℕ)

@@ -5,7 +5,6 @@ use Rattle.std.specs.Prelude.{codes, is_some}
 use Rattle.std.specs.Char.{is_ascii_digit}
 use Rattle.std.specs.Str.{chars}
 use Rattle.std.proofs.lemmas.Bool.{and_parts}
-use Rattle.std.proofs.lemmas.Bool.{and_from}
 use Rattle.std.proofs.lemmas.Bool.Decides.{nat_tests}
 use Rattle.uri_pct.specs.Sets.{TableSet, is_one_of, is_scheme_char, is_segment_nz_nc_char, path_set}
 use Rattle.uri_pct.specs.Sets.{is_path_char, is_reg_name_char, is_userinfo_char, segment_nz_nc_set}
@@ -158,16 +157,12 @@ scheme-rule-holds-without-need needed false other h = (and_parts (not needed) ot
 kind-that-needs-scheme-has-one : (kind : Kind) (text : List ℕ) → kind.needs_scheme ≡ true
     → IsOfKind kind text
     → is_some (components text).scheme ≡ true
-kind-that-needs-scheme-has-one kind text n h = with_scheme kind.needs_scheme
-    (is_some (components text).scheme) _ n
-    (and_parts _ _ h).1
+kind-that-needs-scheme-has-one kind text n h = grind (arith, nat_tests, with_scheme)
 
 -- texts of a kind: each is of the same kind without the need for a scheme
 text-of-kind-is-reference : (kind : Kind) (text : List ℕ) → IsOfKind kind text
     → IsOfKind (record kind { needs_scheme = false }) text
-text-of-kind-is-reference kind text h =
-    let parts = and_parts _ _ h in
-    and_from _ _ parts.0 (scheme-rule-holds-without-need kind.needs_scheme _ _ parts.1)
+text-of-kind-is-reference kind text h = grind (arith, nat_tests, scheme-rule-holds-without-need)
 
 -- texts of a kind: a URI has a scheme
 pub uri_has_scheme : (text : List ℕ) → IsOfKind uri text → is_some (components text).scheme ≡ true

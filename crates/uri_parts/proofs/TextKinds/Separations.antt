@@ -1,7 +1,7 @@
 -- What the sets of a kind have to keep apart for its texts to be parsed from left to right.
-use Rattle.std.proofs.Common.{◌≡◌, ℕ, true, false, List, sym, ◌∙◌, ⊎_elim}
-use Rattle.std.proofs.lemmas.Bool.{cases_lt, cond-true, cond-false, lt-ltb, le-ltb}
+use Rattle.std.proofs.Common.{◌≡◌, ℕ, true, false, List, arith}
 use Rattle.std.specs.Prelude.{codes}
+use Rattle.std.proofs.lemmas.Bool.Decides.{nat_tests}
 use Rattle.uri_pct.specs.Sets.{TableSet, LacksPercent, IsSubset, is_one_of, scheme_set, digit_set}
 use Rattle.uri_pct.specs.Sets.{reg_name_set, allows_past_ascii}
 use Rattle.uri_pct.specs.Prefixes.{allows_first}
@@ -20,10 +20,7 @@ pub greater-set-has-all-but-marks : (marks : List ℕ) (small great : TableSet)
     → ((c : ℕ) → allows_past_ascii great c ≡ allows_past_ascii small c)
     → HasAllBut marks small great
 unfolding allows_first
-greater-set-has-all-but-marks marks small great ascii past b bs m e = ⊎_elim
-    (λ h. let l = lt-ltb b 128 h in cond-true _ _ _ l ∙ ascii b m (sym (cond-true _ _ _ l) ∙ e))
-    (λ h. let l = le-ltb b 128 h in cond-false _ _ _ l ∙ past _ ∙ (sym (cond-false _ _ _ l) ∙ e))
-    (cases_lt b 128)
+greater-set-has-all-but-marks marks small great ascii past b bs m e = grind (arith, nat_tests)
 
 -- sets of a kind: what they must lack for its texts to be parsed from left to right
 pub record SeparatesComponents (segment : TableSet) (kind : Kind) : Type 0 where

@@ -17,8 +17,6 @@ use Rattle.uri_parts.proofs.HostForms.GroupReading.{ipv4-ends-reading, unparsed-
 use Rattle.uri_parts.proofs.HostForms.GroupReading.{text-after-ipv4-is-suffix}
 use Rattle.uri_parts.proofs.HostForms.GroupReading.{byte-after-digits-at-position}
 use Rattle.uri_parts.proofs.HostForms.GroupReading.{colon-at-position-is-inside}
-use Rattle.uri_parts.proofs.address_reader.read_groups.Goals.{then-digits-eq46+else-not-takes_ipv4+then-i-room+in_default}
-use Rattle.uri_parts.proofs.address_reader.read_groups.Goals.{then-digits-eq46+else-not-takes_ipv4+else-i-room}
 use Rattle.uri_parts.proofs.address_reader.read_groups.Goals.{else-digits-eq46}
 use Rattle.uri_parts.proofs.address_reader.read_groups.Goals as goal
 
@@ -42,7 +40,8 @@ same-for-suffix f text i = ap f (take_all (length text - i) (drop i text)
 
 -- an IPv4 address leaves a suffix of the text
 ipv4-leaves-suffix : (text two rest : List ℕ) (i : ℕ) → i ≤ length text
-    → Some (two, rest) ≡ segments_of_ipv4 (take (length text - i) (drop i text)) → IsSuffix rest text
+    → Some (two, rest) ≡ segments_of_ipv4 (take (length text - i) (drop i text))
+    → IsSuffix rest text
 ipv4-leaves-suffix text two rest i within e = suffix-at-position text rest i within
     (text-after-ipv4-is-suffix _ two rest (e ∙ same-for-suffix segments_of_ipv4 text i))
 
@@ -85,10 +84,10 @@ returns-then-digits-ne58-clause-value c =
     let room : ℕ = length c.args.segments.now - (c.loop-i.i + 1) in
     let no_ipv4 : read_ipv4_if (nat_lt 0 room) (drop group text) ≡ None =
     elim c.if-digits-eq46.branch [
-      | then-digits-eq46+else-not-takes_ipv4+then-i-room+in_default w ↦
+      | goal.then-digits-eq46+else-not-takes_ipv4+then-i-room+in_default w ↦
           unparsed-ipv4-is-not-read _ _
           (w.in_default.ensures ∙ same-for-suffix segments_of_ipv4 text group)
-      | then-digits-eq46+else-not-takes_ipv4+else-i-room w ↦
+      | goal.then-digits-eq46+else-not-takes_ipv4+else-i-room w ↦
           rw (le-ltb 0 room (let full = w.if-i-room.false in omega arith)) refl
       | else-digits-eq46 w ↦
           no-dot-after-digits-is-no-ipv4 _ _ count digits.ensures.digits

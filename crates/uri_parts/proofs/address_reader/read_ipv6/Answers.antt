@@ -43,7 +43,8 @@ returns-clause-read c =
     let two = colon-at-position-is-read text (end + 1)
     (sym c.byte_at-else-byte_at-ne58.ensures ∙ c.if-byte_at-ne58-2.false) in
     let read_tail : read_segments (7 - length (take h head)) true (drop (end + 2) text)
-    ≡ (take t tail, c.in_ok-last.last.has_ipv4, drop c.in_ok-last.last.end text) = rw (len_h, ← part) found_tail.value in
+    ≡ (take t tail, c.in_ok-last.last.has_ipv4, drop c.in_ok-last.last.end text) =
+    rw (len_h, ← part) found_tail.value in
     let short : (length (take h head) == 8)
     ≡ false = rw len_h (ne_eqb _ _ c.if-head-eq8.false) in
     let next : drop (end + 1 + 1) text ≡ drop (end + 2) text =

@@ -14,14 +14,14 @@ held_once kind text positions = hlevel props
 pub returns : goal.returns
 returns g c =
     let text = g.T.AsStr.text c.args.self.now.text in
-    let positions = c.args.self.now.positions in
+    let packed = c.args.self.now.positions in
     record {
-      cases = ap (λ (held : IsOfKind g.K.Kind.kind text × ArePackedPositionsOf text positions). record {
+      cases = ap (λ (h : IsOfKind g.K.Kind.kind text × ArePackedPositionsOf text packed). record {
         text = c.args.self.now.text;
-        positions = positions;
+        positions = packed;
         kind = record {};
-        of_kind = held.0;
-        at = held.1;
-      }) (held_once g.K.Kind.kind text positions (_, _)
+        of_kind = h.0;
+        at = h.1;
+      }) (held_once g.K.Kind.kind text packed (_, _)
           (c.args.self.now.of_kind, c.args.self.now.at));
     }
