@@ -1,15 +1,11 @@
-use Rattle.std.proofs.Common.{◌≡◌, ◌+◌, Bool, true, false, not, eqb, refl, sym, ap, ◌∙◌}
-use Rattle.std.proofs.Common.{subst, ◌^◌, ◌<◌, ◌||◌}
+use Rattle.std.proofs.Common.{◌+◌, eqb, sym, ap, ◌∙◌, subst, ◌^◌, ◌<◌, ◌||◌}
 use Rattle.std.specs.Prelude.{slice_index}
 use Rattle.std.proofs.lemmas.Nat.{or_lt}
+use Rattle.uri_pct.proofs.General.{twice_negated_is_the_same}
 use Rattle.uri_pct.proofs.TableSets.Masks.{bit_of_bit_or}
 use Rattle.uri_pct.proofs.LaneScans.LaneBits.{equality_mask_is_below_2_16, is_set_bit}
 use Rattle.uri_pct.proofs.LaneScans.LaneBits.{mask_bit_is_equality_of_byte}
 use Rattle.uri_ops.proofs.normalize.kept_octets.lanes_of_special_bytes.Goals as goal
-
-twice_not : (b : Bool) → b ≡ not (not b)
-twice_not true = refl
-twice_not false = refl
 
 pub returns-clause-below : goal.returns-clause-below
 returns-clause-below c =
@@ -31,4 +27,4 @@ returns-clause-lane c k h =
     ∙ mask_bit_is_equality_of_byte 37 bs c.args.at k c.requires h)
     ∙ ap (λ x. eqb b 37 || x) (ap (λ m. is_set_bit m k) c.lanes_equal_to-2.ensures
     ∙ mask_bit_is_equality_of_byte 0xE2 bs c.args.at k c.requires h)
-    ∙ twice_not (eqb b 37 || eqb b 0xE2)
+    ∙ twice_negated_is_the_same (eqb b 37 || eqb b 0xE2)
