@@ -5,10 +5,9 @@ ghost use Rattle.uri_pct.specs.EncodedTexts.{text_of};
 ghost use Rattle.uri_parts.specs.AuthorityTexts.{authority_text};
 ghost use Rattle.uri_parts.specs.Schemes.{scheme_text};
 ghost use Rattle.uri_ops.specs.BuilderParts.{AddsOrFails, MeetsOrFailed, no_parts, parts_text};
-ghost use Rattle.uri_ops.specs.BuilderParts.{with_authority};
-ghost use Rattle.uri_ops.specs.BuilderParts.{with_fragment, with_host, with_path, with_port};
-ghost use Rattle.uri_ops.specs.BuilderParts.{with_port_unless_default, with_query, with_scheme};
-ghost use Rattle.uri_ops.specs.BuilderParts.{with_userinfo};
+ghost use Rattle.uri_ops.specs.BuilderParts.{with_authority, with_fragment, with_host, with_path};
+ghost use Rattle.uri_ops.specs.BuilderParts.{with_port, with_port_unless_default, with_query};
+ghost use Rattle.uri_ops.specs.BuilderParts.{with_scheme, with_userinfo};
 ghost use Rattle.uri_ops.specs.BuilderStates.{contents_of, parts_in_state};
 ghost use Rattle.uri_ops.specs.Builders.{draft_parts};
 ghost use Rattle.uri_ops.specs.Models.DraftPlaces.{HasRightHostRange};
@@ -167,7 +166,7 @@ impl<R: RiMaybeRef, S: StateOf<R>> Builder<R, S> {
         self.contents.into_draft()
     }
 
-    /// Gives the scheme (RFC 3986, section 3.1). `Scheme::new_or_panic("http")` writes `http:`.
+    /// Gives the scheme (RFC 3986, section 3.1).
     ///
     /// The case of its letters makes no difference; it should be lower.
     ///
@@ -205,22 +204,8 @@ impl<R: RiMaybeRef, S: StateOf<R>> Builder<R, S> {
     ///
     /// # Examples
     ///
-    /// `authority_with(|authority| authority.host(Ipv4Addr::LOCALHOST))` writes `//127.0.0.1`.
-    ///
-    /// ```
-    /// Uri::<String>::builder(alloc)
-    ///     .scheme(Scheme::new_or_panic("foo"))
-    ///     .authority_with(|authority| {
-    ///         authority
-    ///             .userinfo(EStr::new_or_panic("user"))
-    ///             .host(EStr::new_or_panic("example.com"))
-    ///             .port(8042)
-    ///     })
-    ///     .path(EStr::new_or_panic("/over/there"))
-    ///     .query(EStr::new_or_panic("name=ferret"))
-    ///     .fragment(EStr::new_or_panic("nose"))
-    ///     .build()
-    /// ```
+    /// `authority_with(|authority| authority.host(Ipv4Addr::LOCALHOST))` writes `//127.0.0.1`. The
+    /// example of `Builder` gives a userinfo and a port too.
     pub fn authority_with<F, T: StateOf<R>>(self, parts: F) -> Builder<R, AuthorityEnd>
     where
         S: BeginsAuthority,
@@ -239,7 +224,6 @@ impl<R: RiMaybeRef, S: StateOf<R>> Builder<R, S> {
     }
 
     /// Gives the authority (RFC 3986, section 3.2): the empty one, or that of another reference.
-    /// `authority(Authority::EMPTY)` writes `//`.
     ///
     /// `authority(Authority::EMPTY)` writes `//`.
     pub fn authority(
@@ -260,8 +244,7 @@ impl<R: RiMaybeRef, S: StateOf<R>> Builder<R, S> {
 
     /// Gives the userinfo (RFC 3986, section 3.2.1), without its `@`.
     ///
-    /// `userinfo(EStr::new_or_panic("user"))` writes `user@`, and `userinfo(EStr::EMPTY)` writes
-    /// `@`.
+    /// `userinfo(EStr::new_or_panic("user"))` writes `user@`, and with `EStr::EMPTY` it writes `@`.
     pub fn userinfo(self, userinfo: EStr<'_, R::UserinfoE>) -> Builder<R, UserinfoEnd>
     where
         S: To<UserinfoEnd>,
@@ -280,16 +263,7 @@ impl<R: RiMaybeRef, S: StateOf<R>> Builder<R, S> {
     /// An IPv6 address is written in brackets, by RFC 5952. A name with the form of an IPv4 address
     /// is one. The case of ASCII letters makes no difference; it should be lower.
     ///
-    /// # Examples
-    ///
     /// `authority.host(Ipv6Addr::LOCALHOST)` writes `[::1]`.
-    ///
-    /// ```
-    /// UriRef::<String>::builder(alloc)
-    ///     .authority_with(|authority| authority.host(host).port(port))
-    ///     .path(EStr::EMPTY)
-    ///     .build()
-    /// ```
     pub fn host<H>(self, host: H) -> Builder<R, HostEnd>
     where
         S: To<HostEnd>,

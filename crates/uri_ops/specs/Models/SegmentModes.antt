@@ -1,5 +1,5 @@
--- What may be done with the segments of a path while its dot segments are removed (RFC 3986, section
--- 5.2.4).
+-- What may be done with the segments of a path while its dot segments are removed (RFC 3986,
+-- section 5.2.4).
 use Rattle.std.specs.Prelude.{◌≡◌, ◌++◌, ◌∷◌, ℕ, Bool, List, [], true, false}
 use Rattle.uri_ops.specs.Dots.{has_slash, is_double_dot, is_empty, is_single_dot}
 use Rattle.uri_ops.specs.Dots.{lacks_dot_segments}

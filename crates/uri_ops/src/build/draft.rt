@@ -5,9 +5,10 @@ ghost use Rattle.uri_pct.specs.Sets.{digit_set};
 ghost use Rattle.uri_pct.specs.Texts.{Pushes};
 ghost use Rattle.uri_parts.specs.Grammar.{has_colon_in_first_segment};
 ghost use Rattle.uri_parts.specs.Positions.{positions_of};
-ghost use Rattle.uri_ops.specs.BuilderParts.{AddsUnlessFailed, as_components, is_text_for, no_parts};
-ghost use Rattle.uri_ops.specs.BuilderParts.{with_authority, with_fragment, with_host, with_path};
-ghost use Rattle.uri_ops.specs.BuilderParts.{with_port, with_query, with_scheme, with_userinfo};
+ghost use Rattle.uri_ops.specs.BuilderParts.{AddsUnlessFailed, as_components, is_text_for};
+ghost use Rattle.uri_ops.specs.BuilderParts.{no_parts, with_authority, with_fragment, with_host};
+ghost use Rattle.uri_ops.specs.BuilderParts.{with_path, with_port, with_query, with_scheme};
+ghost use Rattle.uri_ops.specs.BuilderParts.{with_userinfo};
 ghost use Rattle.uri_ops.specs.Built.{build_error_of_path};
 ghost use Rattle.uri_ops.specs.Drafts.{IsDraft, after_part};
 ghost use Rattle.uri_ops.specs.HostParts.{IsHostText};
@@ -208,7 +209,8 @@ impl Draft {
     #[inline(always)]
     pub fn with_path(self, path: &str) -> Draft
         requires { self.failed ≡ false → lacks_path (draft_parts self) ≡ true }
-        ensures adds { AddsUnlessFailed (with_path path.now) (draft_parts self) (draft_parts result) }
+        ensures adds { AddsUnlessFailed (with_path path.now) (draft_parts self)
+            (draft_parts result) }
         ensures host { result.host ≡ self.host }
     {
         let lengths = Lengths {
@@ -223,7 +225,8 @@ impl Draft {
     #[inline(always)]
     pub fn with_query(self, query: &str) -> Draft
         requires { self.failed ≡ false → lacks_query_and_fragment (draft_parts self) ≡ true }
-        ensures adds { AddsUnlessFailed (with_query query.now) (draft_parts self) (draft_parts result) }
+        ensures adds { AddsUnlessFailed (with_query query.now) (draft_parts self)
+            (draft_parts result) }
         ensures host { result.host ≡ self.host }
     {
         let lengths = Lengths {

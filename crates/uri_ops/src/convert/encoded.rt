@@ -212,7 +212,8 @@ pub fn encoded<R: RiMaybeRef>(
     alloc: Global,
     value: &R,
 ) -> Result<(String, PackedPositions), AllocError>
-    ensures text { IfOk result (λ made. string_bytes made.0 ≡ encode_past_ascii (R.text value.now)) }
+    ensures text { IfOk result
+        (λ made. string_bytes made.0 ≡ encode_past_ascii (R.text value.now)) }
     ensures at { IfOk result (λ made. ArePackedPositionsOf (string_bytes made.0) made.1) }
     ensures utf8 { IsUtf8 (R.text value.now) }
     ensures of_kind { IsOfKind R.kind (R.text value.now) }
