@@ -8,6 +8,7 @@ use Rattle.std.specs.Str.{IsUtf8}
 use Rattle.std.proofs.lemmas.List.Folds.{list_all-append}
 use Rattle.std.proofs.lemmas.Bool.{cases_Bool, cases_lt, cond-true, cond-false, and_parts, and_from}
 use Rattle.std.proofs.lemmas.Bool.{lt-ltb, both_ways, eqb-true}
+use Rattle.std.proofs.lemmas.Bool.Decides.{nat_tests}
 use Rattle.uri_pct.specs.Sets.{TableSet, LacksPercent, allows_past_ascii, digit_set}
 use Rattle.uri_pct.specs.Sets.{is_userinfo_char}
 use Rattle.uri_pct.specs.Tokens.{IsValidFor}
@@ -16,7 +17,7 @@ use Rattle.uri_pct.proofs.ValidTexts.Validity.{valid_from, validity_of_tokens_is
 use Rattle.uri_pct.proofs.ValidTexts.Validity.{first_byte_past_ascii_is_allowed_by_its_char}
 use Rattle.uri_pct.proofs.Unicode.Characters.{hexdigit_is_ascii}
 use Rattle.uri_parts.specs.Components.{Components, components, marked, recompose}
-use Rattle.uri_parts.specs.Grammar.{Kind, is_scheme, is_authority}
+use Rattle.uri_parts.specs.Grammar.{Kind, is_scheme, is_authority, IsTextOf}
 use Rattle.uri_parts.specs.Hosts.{HostKind, Ipv4, Ipv6, IpvFuture, RegName, IsHost}
 use Rattle.uri_parts.specs.Authority.{authority_parts}
 use Rattle.uri_parts.proofs.HostForms.Addresses.{ipv6-text-is-address-text}
@@ -25,7 +26,6 @@ use Rattle.uri_parts.proofs.HostForms.Hosts.{address-in-brackets-is-utf8}
 use Rattle.uri_parts.proofs.Splitting.Recompose.{recompose-components}
 use Rattle.uri_ops.specs.ComponentSets.{IsComponentSet, HasComponentSets}
 use Rattle.uri_ops.specs.Encoded.{ascii_set, ascii_kind}
-use Rattle.uri_parts.specs.Grammar.{IsTextOf}
 use Rattle.uri_ops.proofs.Meanings.AsciiCharacters.{valid_ascii_text}
 use Rattle.uri_ops.proofs.Meanings.HostMeanings.{ipvfuture-has-ascii-parts}
 use Rattle.uri_ops.proofs.Meanings.HostMeanings.{ipvfuture-is-userinfo-characters}
@@ -55,10 +55,7 @@ unfolding begins_with_hex_digits
 octet-digits-are-ascii [] e = refl
 octet-digits-are-ascii (h ∷ []) e =
     and_from _ _ (lt-ltb h 128 (hexdigit_is_ascii h (and_parts (is_ascii_hexdigit h) _ e).0)) refl
-octet-digits-are-ascii (h ∷ l ∷ rest) e =
-    let p = and_parts (is_ascii_hexdigit h) (is_ascii_hexdigit l) e in
-    and_from _ _ (lt-ltb h 128 (hexdigit_is_ascii h p.0))
-    (and_from _ _ (lt-ltb l 128 (hexdigit_is_ascii l p.1)) refl)
+octet-digits-are-ascii (h ∷ l ∷ rest) e = grind (arith, nat_tests, hexdigit_is_ascii)
 
 module _ (set : TableSet) where
   ascii_set-allows-nothing-past-ascii : (c : ℕ) → allows_past_ascii (ascii_set set) c ≡ false

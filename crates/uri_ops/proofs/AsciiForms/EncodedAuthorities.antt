@@ -9,7 +9,7 @@ use Rattle.std.specs.Net.Grammar.{IsDotted}
 use Rattle.std.proofs.lemmas.List.Folds.{list_all-append}
 use Rattle.std.proofs.lemmas.List.Sums.{list_all-from_AllPass}
 use Rattle.std.proofs.lemmas.List.Elements.{All-weaker}
-use Rattle.std.proofs.lemmas.Bool.{and_parts, and_from, false≢true}
+use Rattle.std.proofs.lemmas.Bool.{and_parts, and_from}
 use Rattle.std.proofs.lemmas.Bool.Decides.{nat_tests}
 use Rattle.std.proofs.NetLemmas.Alphabet.{IsDigitOrDot}
 use Rattle.uri_pct.specs.Sets.{TableSet, digit_set, is_userinfo_char}
@@ -20,8 +20,7 @@ use Rattle.uri_parts.specs.Components.{marked}
 use Rattle.uri_parts.specs.Hosts.{HostKind, Ipv4, Ipv6, IpvFuture, RegName, IsHost, bracketed}
 use Rattle.uri_parts.specs.Hosts.{host_kind, ipv4_value}
 use Rattle.uri_parts.specs.Authority.{AuthorityParts, IsAuthorityFor, LackAuthorityDelimiters}
-use Rattle.uri_parts.specs.Authority.{authority_parts}
-use Rattle.uri_parts.specs.Authority.{recompose_authority}
+use Rattle.uri_parts.specs.Authority.{authority_parts, recompose_authority}
 use Rattle.uri_parts.specs.Grammar.{Kind, is_authority}
 use Rattle.uri_parts.proofs.Authorities.Authority.{is_authority_for-sound}
 use Rattle.uri_parts.proofs.Authorities.Authority.{is_authority_for-complete}
@@ -35,8 +34,7 @@ use Rattle.uri_parts.proofs.TextKinds.GrammarTexts.{valid_text_lacks_excluded_ma
 use Rattle.uri_parts.proofs.HostForms.Futures.{ipv4-text-is-digits-and-dots}
 use Rattle.uri_ops.specs.ComponentSets.{IsComponentSet, HasComponentSets}
 use Rattle.uri_ops.specs.Encoded.{encode_past_ascii, ascii_set, ascii_kind}
-use Rattle.uri_ops.specs.Meaning.{AuthorityMeaning, Name, host_meaning, port_meaning}
-use Rattle.uri_ops.specs.Meaning.{authority_meaning}
+use Rattle.uri_ops.specs.Meaning.{Name, host_meaning, authority_meaning}
 use Rattle.uri_ops.proofs.Meanings.AllowedParts.{is_set_text, set-text-from-utf8, set-text-is-utf8}
 use Rattle.uri_ops.proofs.Meanings.AllowedParts.{set-text-is-valid}
 use Rattle.uri_ops.proofs.Meanings.AsciiCharacters.{is_ascii_in, valid_ascii_text}
@@ -59,32 +57,13 @@ use Rattle.uri_pct.proofs.General.{IfSome-combine}
 -- IRIs as URIs: a component's set without its characters past ASCII is a component's set
 ascii_set-is-component-set : (marks : List ℕ) (set : TableSet) → IsComponentSet marks set
     → IsComponentSet marks (ascii_set set)
-ascii_set-is-component-set marks set w = record {
-  unreserved = record {
-    ascii = w.unreserved.ascii;
-    pct_encoded =
-        w.unreserved.pct_encoded;
-    ucschar = λ e. absurd (false≢true e);
-    iprivate =
-        λ e. absurd (false≢true e);
-  };
-  percent = w.percent;
-  octets = w.octets;
-  ends = w.ends;
-}
+ascii_set-is-component-set marks set w = grind (arith, nat_tests)
 
 -- IRIs as URIs: without characters past ASCII,
 -- the sets of a kind still lack what ends each component
 ascii_kind-has-component-sets : (kind : Kind) → HasComponentSets kind
     → HasComponentSets (ascii_kind kind)
-ascii_kind-has-component-sets kind sets = record {
-  userinfo = ascii_set-is-component-set (codes "/?#[]@") kind.userinfo sets.userinfo;
-  reg_name = ascii_set-is-component-set (codes "/?#[]@:") kind.reg_name sets.reg_name;
-  path = ascii_set-is-component-set (codes "?#[]") kind.path sets.path;
-  slash = sets.slash;
-  query = ascii_set-is-component-set (codes "#[]") kind.query sets.query;
-  fragment = ascii_set-is-component-set (codes "#[]") kind.fragment sets.fragment;
-}
+ascii_kind-has-component-sets kind sets = grind (arith, nat_tests, ascii_set-is-component-set)
 
 -- IRIs as URIs: a text whose bytes pass an ASCII test is ASCII
 pub text-passing-ascii-test-is-ascii : (test : ℕ → Bool) (text : List ℕ)
@@ -272,9 +251,8 @@ module _ (kind : Kind) (sets : HasComponentSets kind) (a : List ℕ) (u : IsUtf8
       (subst IsUtf8 (sym grammar.whole) u)
 
   host : EncodingKeepsHost names parts.host
-  host = encoding-keeps-hosts names sets.reg_name (names_exclude_delimiters users names apart)
-      parts.host grammar.host.0
-      utf8.host grammar.host.1
+  host =
+      grind (arith, nat_tests, encoding-keeps-hosts, names_exclude_delimiters, apart, grammar, utf8)
 
   user : IfSome parts.userinfo (λ x. is_set_text users x ≡ true)
   user = IfSome-combine parts.userinfo IsUtf8 (IsValidFor users) (λ x. is_set_text users x ≡ true)
@@ -312,16 +290,14 @@ module _ (kind : Kind) (sets : HasComponentSets kind) (a : List ℕ) (u : IsUtf8
   pub encoding-keeps-authority-meaning : (default : Option ℕ)
       → authority_meaning kind default (encode_past_ascii a) ≡ authority_meaning kind default a
   encoding-keeps-authority-meaning default =
-      let of_parts : AuthorityParts → AuthorityMeaning =
-      λ p. record {
-        userinfo = option_map (decode_unreserved users) p.userinfo;
-        host =
-            host_meaning names p.host (host_kind p.host);
-        port = port_meaning default p.port;
-      } in
-      let user_decoded = decode_unreserved-encoded_option users parts.userinfo user in
-      let host_decoded = host.meaning in
-      let port_decoded = ap (port_meaning default)
-      (port-stays-when-encoded parts.port utf8.port grammar.port) in
-      ap of_parts parts-of-encoded-authority-are-encoded
-      ∙ (λ i. record { userinfo = user_decoded i; host = host_decoded i; port = port_decoded i })
+      grind (
+        arith,
+        nat_tests,
+        host,
+        decode_unreserved-encoded_option,
+        user,
+        port-stays-when-encoded,
+        utf8,
+        grammar,
+        parts-of-encoded-authority-are-encoded,
+      )

@@ -1,9 +1,10 @@
 -- The components of a text without characters past ASCII are those of the text, without them.
-use Rattle.std.proofs.Common.{◌≡◌, ℕ, ◌<◌, Bool, true, false, not, ltb, List, [], ◌++◌, length}
-use Rattle.std.proofs.Common.{refl, sym, ap, ◌∙◌, ◌&&◌, ⊎_elim, inl, inr, option_map}
+use Rattle.std.proofs.Common.{◌≡◌, ℕ, ◌<◌, Bool, true, false, not, ltb, List, length, refl, sym, ap}
+use Rattle.std.proofs.Common.{◌∙◌, ◌&&◌, ⊎_elim, inl, inr, option_map, arith}
 use Rattle.std.specs.Prelude.{codes, Option, Some, None, IfSome, IfNone}
 use Rattle.std.specs.List.{list_all}
 use Rattle.std.specs.Str.{IsUtf8}
+use Rattle.std.proofs.lemmas.Bool.Decides.{nat_tests}
 use Rattle.uri_parts.specs.Components.{Components, IsSplitOf, Lacks, IsAbemptyPath, marked, starts}
 use Rattle.uri_parts.specs.Components.{has_scheme, has_authority, from_any, components, recompose}
 use Rattle.uri_parts.proofs.Splitting.Recompose.{components-are-split-of-text}
@@ -43,36 +44,13 @@ pub encoding-keeps-delimiters : (before suffix : List ℕ) (o : Option (List ℕ
     ≡ marked before (option_map encode_past_ascii o) suffix
 encoding-keeps-delimiters before suffix None e f = encoding-of-nil-is-nil
 encoding-keeps-delimiters before suffix (Some x) e f =
-    encoding-of-append-is-append (before ++ x) suffix
-    ∙ ap (λ t. t ++ encode_past_ascii suffix) (encoding-of-append-is-append before x)
-    ∙ ap (λ t. (t ++ encode_past_ascii x) ++ encode_past_ascii suffix)
-    (ascii-text-is-its-own-encoding before e)
-    ∙ ap (λ t. (before ++ encode_past_ascii x) ++ t) (ascii-text-is-its-own-encoding suffix f)
+    grind (arith, nat_tests, encoding-of-append-is-append, ascii-text-is-its-own-encoding)
 
 -- IRIs as URIs: encoding characters past ASCII in a recomposed text encodes them in each component
 pub encoding-and-recomposing-swap : (p : Components)
     → encode_past_ascii (recompose p) ≡ recompose (encoded_components p)
 encoding-and-recomposing-swap p =
-    let s = marked [] p.scheme (codes ":") in
-    let a = marked (codes "//") p.authority [] in
-    let q = marked (codes "?") p.query [] in
-    let f = marked (codes "#") p.fragment [] in
-    let t = encoded_components p in
-    encoding-of-append-is-append s (a ++ (p.path ++ (q ++ f)))
-    ∙ ap (λ x. x ++ encode_past_ascii (a ++ (p.path ++ (q ++ f))))
-    (encoding-keeps-delimiters [] (codes ":") p.scheme refl refl)
-    ∙ ap (λ x. marked [] t.scheme (codes ":") ++ x) (
-    encoding-of-append-is-append a (p.path ++ (q ++ f))
-    ∙ ap (λ x. x ++ encode_past_ascii (p.path ++ (q ++ f)))
-    (encoding-keeps-delimiters (codes "//") [] p.authority refl refl)
-    ∙ ap (λ x. marked (codes "//") t.authority [] ++ x) (
-    encoding-of-append-is-append p.path (q ++ f)
-    ∙ ap (λ x. t.path ++ x) (
-    encoding-of-append-is-append q f
-    ∙ ap (λ x. x ++ encode_past_ascii f)
-    (encoding-keeps-delimiters (codes "?") [] p.query refl refl)
-    ∙ ap (λ x. marked (codes "?") t.query [] ++ x)
-    (encoding-keeps-delimiters (codes "#") [] p.fragment refl refl))))
+    grind (arith, nat_tests, encoding-of-append-is-append, encoding-keeps-delimiters)
 
 -- IRIs as URIs: a text has a scheme exactly if it does when encoded
 encoding-keeps-has_scheme : (text : List ℕ) → IsUtf8 text

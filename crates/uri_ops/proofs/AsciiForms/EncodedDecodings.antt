@@ -1,6 +1,6 @@
 -- If a text is allowed, so is its form without characters past ASCII, and both decode to the same.
 use Rattle.std.proofs.Common.{◌≡◌, ℕ, true, List, [], ◌∷◌, ◌++◌, map, refl, sym, ap, ◌∙◌, ⊎_elim}
-use Rattle.std.proofs.Common.{append_assoc}
+use Rattle.std.proofs.Common.{append_assoc, arith}
 use Rattle.std.specs.Char.{IsScalar, encode_utf8}
 use Rattle.std.specs.List.{list_all, flat_map}
 use Rattle.std.proofs.lemmas.List.{append-nil}
@@ -8,12 +8,12 @@ use Rattle.std.proofs.lemmas.List.Concat.{flat_map-append}
 use Rattle.std.proofs.lemmas.List.Folds.{list_all-append}
 use Rattle.std.proofs.lemmas.Bool.{cases_lt, cond-true, cond-false, and_parts, and_from, or_right}
 use Rattle.std.proofs.lemmas.Bool.{lt-ltb, le-ltb}
+use Rattle.std.proofs.lemmas.Bool.Decides.{nat_tests}
 use Rattle.uri_pct.specs.Sets.{TableSet, allows, allows_past_ascii}
 use Rattle.uri_pct.specs.Tokens.{Token, Char, Octet, tokens, allows_token, is_valid_for}
 use Rattle.uri_pct.specs.Pieces.{WellFormed, utf8_pieces}
 use Rattle.uri_pct.specs.DecodeUnreserved.{is_decodable, decode_piece, decode_run, decode_after_run}
-use Rattle.uri_pct.specs.DecodeUnreserved.{decode_tokens}
-use Rattle.uri_pct.specs.DecodeUnreserved.{encode_formatting, decode_unreserved}
+use Rattle.uri_pct.specs.DecodeUnreserved.{decode_tokens, encode_formatting, decode_unreserved}
 use Rattle.uri_pct.proofs.ValidTexts.Validity.{ascii_char_is_allowed_iff_in_set}
 use Rattle.uri_pct.proofs.ValidTexts.Validity.{char_past_ascii_is_allowed_by_flags}
 use Rattle.uri_pct.proofs.ValidTexts.Allowed.{allowed_past_ascii_is_scalar}
@@ -71,9 +71,7 @@ module _ (set : TableSet) where
 
   decode_piece-of-decodable-character : (c : ℕ) → IsScalar c → is_decodable set c ≡ true
       → decode_piece set (WellFormed (encode_utf8 c)) ≡ Char c ∷ []
-  decode_piece-of-decodable-character c s e = cond-true _ _ _
-      (ap (is_decodable set) (char_of_utf8_is_the_char c s) ∙ e)
-      ∙ ap (λ d. Char d ∷ []) (char_of_utf8_is_the_char c s)
+  decode_piece-of-decodable-character c s e = grind (arith, nat_tests, char_of_utf8_is_the_char)
 
   decode_run-splits-at-character : (run more : List ℕ) (c : ℕ) → IsScalar c
       → is_decodable set c ≡ true
@@ -101,10 +99,7 @@ module _ (set : TableSet) where
       ∙ ap (λ t. run ++ t) (append_assoc (encode_utf8 c) more (value ∷ [])))
       ∙ decode_after_run-splits-at-character run (more ++ value ∷ []) c ts s e
   decode_after_run-splits-at-character run more c (Char d ∷ ts) s e =
-      ap (λ t. t ++ Char d ∷ decode_after_run set [] ts)
-      (decode_run-splits-at-character run more c s e)
-      ∙ append_assoc (decode_run set run) (Char c ∷ decode_run set more) (Char d
-      ∷ decode_after_run set [] ts)
+      grind (arith, nat_tests, decode_run-splits-at-character, append_assoc)
 
   allowed-past-ascii-is-decodable : (c : ℕ) → allows_past_ascii set c ≡ true
       → is_decodable set c ≡ true

@@ -1,24 +1,23 @@
 -- A text without characters past ASCII is of the kind of URIs that goes with its kind. It is
 -- equivalent to the text that it was made from.
 use Rattle.std.proofs.Common.{◌≡◌, ℕ, true, false, eqb, ltb, not, List, refl, sym, ap, subst, ◌∙◌}
-use Rattle.std.proofs.Common.{◌&&◌, ◌||◌, option_map}
+use Rattle.std.proofs.Common.{◌&&◌, ◌||◌, option_map, arith}
 use Rattle.std.specs.Prelude.{codes, Option, Some, None, IfSome, is_some, slice_index}
-use Rattle.std.specs.Option.{option_and_then}
 use Rattle.std.specs.Char.{is_ascii_alphabetic}
 use Rattle.std.specs.List.{list_all, list_any}
-use Rattle.std.specs.Str.{IsUtf8, str_to_ascii_lowercase}
+use Rattle.std.specs.Str.{IsUtf8}
 use Rattle.std.proofs.lemmas.Bool.{and_parts, and_from, not-true, not_from_false}
+use Rattle.std.proofs.lemmas.Bool.Decides.{nat_tests}
 use Rattle.uri_pct.specs.Sets.{TableSet, is_scheme_char, scheme_set}
 use Rattle.uri_pct.specs.Tokens.{is_valid_for}
 use Rattle.uri_pct.specs.DecodeUnreserved.{decode_unreserved}
 use Rattle.uri_pct.proofs.ValidTexts.MarksInTexts.{AreAscii-by-test}
 use Rattle.uri_parts.specs.Components.{Components, components, before_any}
 use Rattle.uri_parts.specs.Grammar.{Kind, is_scheme, is_authority, has_colon_in_first_segment}
-use Rattle.uri_parts.specs.Grammar.{components_meet_rules}
+use Rattle.uri_parts.specs.Grammar.{components_meet_rules, IsTextOf}
 use Rattle.uri_parts.proofs.Authorities.NamesAndPorts.{utf8_before_marks}
 use Rattle.uri_ops.specs.Target.{dotless_if_absolute}
 use Rattle.uri_ops.specs.ComponentSets.{HasComponentSets}
-use Rattle.uri_parts.specs.Grammar.{IsTextOf}
 use Rattle.uri_parts.specs.Ports.{PortFunction}
 use Rattle.uri_ops.specs.Meaning.{authority_meaning, dotless_path, components_meaning, meaning_of}
 use Rattle.uri_ops.specs.Encoded.{encode_past_ascii, ascii_set, ascii_kind}
@@ -164,27 +163,14 @@ module _ (kind : Kind) (sets : HasComponentSets kind) where
       → ArePartsOfKind kind p
       → components_meaning kind ports (encoded_components p) ≡ components_meaning kind ports p
   encoding-keeps-components_meaning ports p parts =
-      let scheme = schemes-stay-when-encoded p.scheme parts.scheme in
-      let default = option_and_then ports (option_map str_to_ascii_lowercase p.scheme) in
-      let authority =
-      ap
-      (λ s. option_map (authority_meaning kind
-      (option_and_then ports (option_map str_to_ascii_lowercase s)))
-      (option_map encode_past_ascii p.authority)) scheme
-      ∙ encoding-keeps-optional-authority-meaning default p.authority parts.authority in
-      let path = ap (λ s. decode_unreserved kind.path (dotless_path s (encode_past_ascii p.path)))
-      scheme
-      ∙ encoding-keeps-path-meaning p.scheme p.path parts.path in
-      let query = decode_unreserved-encoded_option kind.query p.query parts.query in
-      let fragment = decode_unreserved-encoded_option kind.fragment p.fragment parts.fragment in
-      λ i. record {
-        scheme = option_map str_to_ascii_lowercase (scheme i);
-        authority =
-            authority i;
-        path = path i;
-        query = query i;
-        fragment = fragment i;
-      }
+      grind (
+        arith,
+        nat_tests,
+        schemes-stay-when-encoded,
+        encoding-keeps-optional-authority-meaning,
+        encoding-keeps-path-meaning,
+        decode_unreserved-encoded_option,
+      )
 
   pub encoding-keeps-meaning_of-text : (ports : PortFunction) (text : List ℕ) → IsTextOf kind text
       → meaning_of kind ports (encode_past_ascii text) ≡ meaning_of kind ports text

@@ -1,11 +1,9 @@
 -- Without characters past ASCII a text has the same marks, and a path the same dot segments.
-use Rattle.std.proofs.Common.{◌≡◌, ℕ, ◌/◌, ◌%◌, ◌<◌, ◌≤◌, nat_lt, Bool, true, false, eqb, ltb, not}
-use Rattle.std.proofs.Common.{List, [], ◌∷◌, ◌++◌, map, refl, sym, ap, subst, ◌∙◌, arith, ◌&&◌}
-use Rattle.std.proofs.Common.{⊎_elim, append-nil, lit<}
-use Rattle.std.specs.Prelude.{codes, Option}
-use Rattle.std.specs.Prelude.{is_none as is_absent}
+use Rattle.std.proofs.Common.{◌≡◌, ℕ, ◌/◌, ◌<◌, ◌≤◌, nat_lt, Bool, true, false, eqb, ltb, not, List}
+use Rattle.std.proofs.Common.{[], ◌∷◌, ◌++◌, map, refl, sym, ap, subst, ◌∙◌, arith, ◌&&◌, ⊎_elim}
+use Rattle.std.proofs.Common.{append-nil, lit<}
+use Rattle.std.specs.Prelude.{codes, Option, is_none as is_absent}
 use Rattle.std.specs.Char.{is_ascii_hexdigit}
-use Rattle.std.specs.Fmt.{digit_glyph}
 use Rattle.std.specs.List.{list_all, flat_map}
 use Rattle.std.specs.Str.{IsUtf8, is_utf8, encode_utf8_all, all_scalars}
 use Rattle.std.proofs.lemmas.Str.{IsUtf8-from_is_utf8, is_utf8-from_IsUtf8}
@@ -30,8 +28,8 @@ use Rattle.uri_ops.specs.Encoded.{encode_byte_past_ascii, encode_past_ascii}
 use Rattle.uri_ops.proofs.Paths.Segments.{AllPass, dotless_of, parent}
 use Rattle.uri_ops.proofs.Paths.SlashedSegments.{slashed, NoSlashes}
 use Rattle.uri_ops.proofs.Paths.SlashedSegments.{first-segment-and-rest-lack-slashes}
-use Rattle.uri_ops.proofs.Paths.SlashedSegments.{remove-dots-by-segments}
-use Rattle.uri_ops.proofs.Paths.SlashedSegments.{underflows-by-segments, directory-by-segments}
+use Rattle.uri_ops.proofs.Paths.SlashedSegments.{remove-dots-by-segments, underflows-by-segments}
+use Rattle.uri_ops.proofs.Paths.SlashedSegments.{directory-by-segments}
 use Rattle.uri_ops.proofs.Paths.DotLaws.{property-of-absolute-path-by-segments, rooted}
 use Rattle.uri_ops.proofs.Paths.PathCharacters.{lacked-delimiters-fail-test}
 use Rattle.uri_ops.proofs.Paths.PathCharacters.{test-of-delimiters-gives-lacks}
@@ -102,11 +100,7 @@ module _ (p : ℕ → Bool) (percent : p 37 ≡ true)
   octet_text-passes-test-of-hex-digits : (b : ℕ) → is_byte b ≡ true → list_all p (octet_text b)
       ≡ true
   unfolding is_byte
-  octet_text-passes-test-of-hex-digits b e =
-      let d = and_parts _ _ (byte-digits-have-its-value b (ltb-true b 256 e)) in
-      let q = and_parts (is_ascii_hexdigit (digit_glyph true (b / 16))) _ d.0 in
-      and_from _ _ percent (and_from _ _ (hex (digit_glyph true (b / 16)) q.0)
-      (and_from _ _ (hex (digit_glyph true (b % 16)) q.1) refl))
+  octet_text-passes-test-of-hex-digits b e = grind (arith, nat_tests, byte-digits-have-its-value)
 
   encoded-bytes-pass-test : (text : List ℕ) → list_all is_byte text ≡ true → list_all p text ≡ true
       → list_all p (encode_past_ascii text) ≡ true
@@ -175,18 +169,16 @@ encoding-keeps-emptiness (b ∷ x) = ⊎_elim (λ h. ap is_empty (encoding-start
 -- IRIs as URIs: a text begins with `//` exactly if it does after encoding
 pub encoding-keeps-two-slashes : (x : List ℕ) → has_authority (encode_past_ascii x)
     ≡ has_authority x
-encoding-keeps-two-slashes x = ⊎_elim
-    (λ h.
-    let w = leading-slash-splits-off x h in
-    ap (λ t. has_authority (encode_past_ascii t)) w.1
-    ∙ ap has_authority (encoding-starts-with-ascii-byte 47 w.0 (lit< tt))
-    ∙ second-slash-makes-two-slashes (encode_past_ascii w.0)
-    ∙ encoding-keeps-leading-delimiter 47 refl w.0
-    ∙ sym (ap has_authority w.1 ∙ second-slash-makes-two-slashes w.0))
-    (λ h. no-leading-slash-no-two-slashes (encode_past_ascii x)
-    (encoding-keeps-leading-delimiter 47 refl x ∙ h)
-    ∙ sym (no-leading-slash-no-two-slashes x h))
-    (cases_Bool (starts 47 x))
+encoding-keeps-two-slashes x =
+    grind (
+      arith,
+      nat_tests,
+      leading-slash-splits-off,
+      encoding-starts-with-ascii-byte,
+      second-slash-makes-two-slashes,
+      encoding-keeps-leading-delimiter,
+      no-leading-slash-no-two-slashes,
+    )
 
 -- IRIs as URIs: a text that is empty or begins with a delimiter is so when encoded
 encoding-keeps-empty-or-delimited : (marks : List ℕ) → list_all is_outside_octets marks ≡ true
@@ -195,11 +187,7 @@ encoding-keeps-empty-or-delimited : (marks : List ℕ) → list_all is_outside_o
 encoding-keeps-empty-or-delimited marks not_in_octets [] begins = subst (IsEmptyOrMarked marks)
     (sym encoding-of-nil-is-nil) tt
 encoding-keeps-empty-or-delimited marks not_in_octets (c ∷ x) begins =
-    subst (IsEmptyOrMarked marks)
-    (sym
-    (encoding-starts-with-ascii-byte c x (ltb-true c 128
-    (and_parts (ltb c 128) _
-    (test_holds_of_each is_outside_octets marks not_in_octets c begins)).0))) begins
+    grind (arith, nat_tests, encoding-starts-with-ascii-byte, test_holds_of_each, is_outside_octets)
 
 -- IRIs as URIs: encoding a text and cutting it at the first of some delimiters may swap
 pub encoding-and-cutting-swap : (marks : List ℕ) → list_all is_outside_octets marks ≡ true

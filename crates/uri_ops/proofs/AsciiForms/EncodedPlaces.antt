@@ -5,11 +5,12 @@ use Rattle.std.proofs.Common.{length-append, option_map, lit<}
 use Rattle.std.specs.Prelude.{codes, Option, Some, None, IfSome, unwrap_or}
 use Rattle.std.specs.Str.{IsUtf8}
 use Rattle.std.proofs.Math.Seq.{take-add, take-append_seam}
+use Rattle.std.proofs.lemmas.Bool.Decides.{nat_tests}
 use Rattle.uri_parts.specs.declared.positions.AuthorityPositions.{AuthorityPositions}
 use Rattle.uri_parts.specs.declared.positions.Positions.{Positions}
 use Rattle.uri_parts.specs.Authority.{AuthorityParts, authority_parts, recompose_authority}
 use Rattle.uri_parts.specs.Components.{Components, components, marked}
-use Rattle.uri_parts.specs.Grammar.{Kind, is_authority}
+use Rattle.uri_parts.specs.Grammar.{Kind, is_authority, IsTextOf}
 use Rattle.uri_parts.specs.Positions.{ArePositionsOf, authority_at, host_end_of, host_start_of}
 use Rattle.uri_parts.specs.Positions.{delimited_length, positions_of}
 use Rattle.uri_parts.proofs.Authorities.Authority.{is_authority_for-sound}
@@ -20,7 +21,6 @@ use Rattle.uri_ops.specs.Models.EncodedPlaces.{ArePositionsOrdered, AreAuthority
 use Rattle.uri_ops.specs.Models.EncodedPlaces.{authority_positions_in_encoded, position_in_encoded}
 use Rattle.uri_ops.specs.Models.EncodedPlaces.{positions_in_encoded}
 use Rattle.uri_ops.specs.Models.Written.{authority_parts_at, positions_by_authority_parts}
-use Rattle.uri_parts.specs.Grammar.{IsTextOf}
 use Rattle.uri_ops.proofs.AsciiForms.EncodedAuthorities.{parts-of-encoded-authority-are-encoded}
 use Rattle.uri_ops.proofs.AsciiForms.EncodedAuthorities.{encoded_authority_parts}
 use Rattle.uri_ops.proofs.AsciiForms.EncodedAuthorities.{encoding-and-recomposing-authority-swap}
@@ -47,11 +47,7 @@ pub encoded-prefix-grows-by-encoded-slice : (old new bytes : List ℕ) (i j : �
     → new ≡ old ++ encode_past_ascii (take (j - i) (drop i bytes)) → new
     ≡ encode_past_ascii (take j bytes)
 encoded-prefix-grows-by-encoded-slice old new bytes i j h o e =
-    let slice : List ℕ = take (j - i) (drop i bytes) in
-    let k : i + (j - i) ≡ j = omega arith in
-    e ∙ ap (λ t. t ++ encode_past_ascii slice) o
-    ∙ sym (encoding-of-append-is-append (take i bytes) slice)
-    ∙ ap encode_past_ascii (sym (take-add i (j - i) bytes) ∙ ap (λ n. take n bytes) k)
+    grind (arith, nat_tests, encoding-of-append-is-append, take-add i (j - i) bytes)
 
 -- IRIs as URIs: a position after a prefix is in the encoded text the length of the encoded prefix
 position-encoded-after-prefix : (text before suffix : List ℕ) (n : ℕ) → text ≡ before ++ suffix → n

@@ -4,6 +4,7 @@ use Rattle.std.proofs.Common.{get_or, take, drop, sym, ap, subst, ◌∙◌, ari
 use Rattle.std.proofs.Math.Seq.{take-add}
 use Rattle.std.proofs.lemmas.Bool.{cases_lt}
 use Rattle.std.proofs.lemmas.List.{append-nil, length-append, length-drop, take_all}
+use Rattle.std.proofs.lemmas.Bool.Decides.{nat_tests}
 use Rattle.uri_ops.specs.Encoded.{encode_past_ascii}
 use Rattle.uri_ops.proofs.AsciiForms.EncodedTokens.{octet_text}
 use Rattle.uri_ops.proofs.AsciiForms.EncodedPaths.{encoding-of-append-is-append}
@@ -31,9 +32,8 @@ pub encoding-grows-by-ascii-run : (bytes : List ℕ) (i n : ℕ)
     → encode_past_ascii (take n (drop i bytes)) ≡ take n (drop i bytes)
     → encode_past_ascii (take (i + n) bytes) ≡ encode_past_ascii (take i bytes) ++ take n
     (drop i bytes)
-encoding-grows-by-ascii-run bytes i n e = ap encode_past_ascii (take-add i n bytes)
-    ∙ encoding-of-append-is-append (take i bytes) (take n (drop i bytes))
-    ∙ ap (λ t. encode_past_ascii (take i bytes) ++ t) e
+encoding-grows-by-ascii-run bytes i n e =
+    grind (arith, nat_tests, take-add, encoding-of-append-is-append)
 
 -- IRIs as URIs: a byte past ASCII adds its `%XX` to the encoding of a prefix
 pub encoding-grows-by-octet : (bytes : List ℕ) (i : ℕ) → i < length bytes → 128 ≤ get_or bytes i 0
@@ -80,20 +80,15 @@ byte-past-ascii-adds-three bytes i h high = ap length (encoding-grows-by-octet b
 -- IRIs as URIs: encoding characters past ASCII makes no text shorter
 encoding-is-no-shorter : (text : List ℕ) → length text ≤ length (encode_past_ascii text)
 encoding-is-no-shorter [] = omega arith
-encoding-is-no-shorter (c ∷ text) = ⊎_elim
-    (λ h. omega (
+encoding-is-no-shorter (c ∷ text) =
+    grind (
       arith,
-      ap length (encoding-starts-with-ascii-byte c text h),
+      nat_tests,
+      encoding-starts-with-ascii-byte,
+      encoding-starts-with-octet,
+      octet_text,
       encoding-is-no-shorter text,
-    ))
-    (λ h. omega (
-      arith,
-      ap length (encoding-starts-with-octet c text h),
-      length-append (octet_text c)
-          (encode_past_ascii text),
-      encoding-is-no-shorter text,
-    ))
-    (cases_lt c 128)
+    )
 
 -- IRIs as URIs: a text that is as long as its encoded text is that text
 pub text-as-long-as-its-encoding-is-it : (text : List ℕ) → length (encode_past_ascii text)
@@ -126,9 +121,7 @@ slice_from bytes i = take (length bytes - i) (drop i bytes)
 
 -- general fact on slices, for IRIs as URIs: what is from i on is what is left after i bytes
 slice_from-is-drop : (bytes : List ℕ) (i : ℕ) → slice_from bytes i ≡ drop i bytes
-slice_from-is-drop bytes i = let d : length (drop i bytes)
-    ≡ length bytes - i = length-drop i bytes in
-    take_all (length bytes - i) (drop i bytes) (omega arith)
+slice_from-is-drop bytes i = grind (arith, nat_tests, length-drop, take_all)
 
 -- IRIs as URIs: an ASCII run that is appended after an encoded
 -- prefix makes the encoding of a longer prefix
@@ -137,15 +130,7 @@ pub pushed-ascii-run-is-encoding : (old out new bytes : List ℕ) (i n : ℕ)
     → out ≡ old ++ encode_past_ascii (take i bytes) → new ≡ out ++ take (i + n - i) (drop i bytes)
     → new ≡ old ++ encode_past_ascii (take (i + n) bytes)
 pushed-ascii-run-is-encoding old out new bytes i n all_are_ascii o e =
-    let run : List ℕ = take n (drop i bytes) in
-    let k : i + n - i ≡ n = omega arith in
-    e ∙ ap (λ m. out ++ take m (drop i bytes)) k ∙ ap (λ t. t ++ run) o
-    ∙ append_assoc old (encode_past_ascii (take i bytes)) run
-    ∙ ap (λ t. old ++ t)
-    (sym
-    (encoding-grows-by-ascii-run bytes i n
-    (subst (λ t. encode_past_ascii (take n t) ≡ take n t) (slice_from-is-drop bytes i)
-    all_are_ascii)))
+    grind (arith, nat_tests, append_assoc, encoding-grows-by-ascii-run, slice_from-is-drop)
 
 -- IRIs as URIs: appending the `%XX` of byte i continues the encoded text:
 -- old is what was there, bytes what is encoded
@@ -154,9 +139,7 @@ pub pushed-octet-is-encoding : (old mid new bytes : List ℕ) (i : ℕ) → i < 
     → mid ≡ old ++ encode_past_ascii (take i bytes) → new ≡ mid ++ octet_text (get_or bytes i 0)
     → new ≡ old ++ encode_past_ascii (take (i + 1) bytes)
 pushed-octet-is-encoding old mid new bytes i h high o e =
-    let octet : List ℕ = octet_text (get_or bytes i 0) in
-    e ∙ ap (λ t. t ++ octet) o ∙ append_assoc old (encode_past_ascii (take i bytes)) octet
-    ∙ ap (λ t. old ++ t) (sym (encoding-grows-by-octet bytes i h high))
+    grind (arith, nat_tests, octet_text, append_assoc, encoding-grows-by-octet)
 
 -- IRIs as URIs: before the first byte, nothing is appended
 pub nothing-pushed-is-encoding : (old : List ℕ) → old ≡ old ++ encode_past_ascii []
@@ -166,10 +149,7 @@ nothing-pushed-is-encoding old = sym (ap (λ t. old ++ t) encoding-of-nil-is-nil
 pub end-of-run-is-within-bytes : (bytes : List ℕ) (i n : ℕ) → i ≤ length bytes
     → n ≤ length (slice_from bytes i)
     → i + n ≤ length bytes
-end-of-run-is-within-bytes bytes i n h k =
-    let f : n ≤ length (drop i bytes) = subst (λ t. n ≤ length t) (slice_from-is-drop bytes i) k in
-    let d : length (drop i bytes) ≡ length bytes - i = length-drop i bytes in
-    omega arith
+end-of-run-is-within-bytes bytes i n h k = grind (arith, nat_tests, slice_from-is-drop, length-drop)
 
 pub ruleset encoded_runs = (
   encoding-of-empty-text-is-empty,

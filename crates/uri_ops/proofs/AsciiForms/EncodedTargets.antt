@@ -1,28 +1,24 @@
 -- Without characters past ASCII a base and a reference come to the same target without them.
-use Rattle.std.proofs.Common.{◌≡◌, ℕ, Bool, true, false, cond, not, List, [], ◌∷◌, ◌++◌, refl, sym}
-use Rattle.std.proofs.Common.{ap, subst, ◌∙◌, ◌&&◌, ◌||◌, ⊎_elim, option_map}
+use Rattle.std.proofs.Common.{◌≡◌, ℕ, Bool, true, false, cond, List, [], ◌∷◌, ◌++◌, refl, sym, ap}
+use Rattle.std.proofs.Common.{subst, ◌∙◌, ◌&&◌, ⊎_elim, option_map, arith}
 use Rattle.std.specs.Prelude.{Option, Some, None, Result, Ok, Err, is_some, is_none, is_ok}
 use Rattle.std.specs.Result.{result_map_both}
 use Rattle.std.specs.List.{list_all}
 use Rattle.std.specs.Str.{IsUtf8, is_utf8}
 use Rattle.std.proofs.lemmas.Str.{IsUtf8-append, IsUtf8-nil, IsUtf8-from_is_utf8}
 use Rattle.std.proofs.lemmas.Str.{is_utf8-from_IsUtf8}
-use Rattle.std.proofs.lemmas.Bool.{cases_Bool, cond-true, cond-false, cond_both, and_parts}
-use Rattle.std.proofs.lemmas.Bool.{and_from, and_left, false≢true}
+use Rattle.std.proofs.lemmas.Bool.{cases_Bool, cond_both, and_parts, and_from, and_left, false≢true}
+use Rattle.std.proofs.lemmas.Bool.Decides.{nat_tests}
 use Rattle.uri_parts.specs.Components.{Components, starts, IsAbemptyPath, components, recompose}
 use Rattle.uri_parts.proofs.Splitting.Recompose.{components-are-split-of-text}
 use Rattle.uri_parts.proofs.Splitting.Recompose.{equal-to-true-is-IsTrue}
 use Rattle.uri_ops.specs.Dots.{is_empty, underflows, directory}
-use Rattle.uri_ops.specs.Target.{TargetError, is_opaque, is_fragment_only, is_opaque_rejection}
-use Rattle.uri_ops.specs.Target.{merged}
-use Rattle.uri_ops.specs.Target.{dotted_target, dotless_if_absolute, guarded, target_of}
-use Rattle.uri_ops.specs.Target.{target_underflows}
+use Rattle.uri_ops.specs.Target.{TargetError, is_opaque_rejection, merged, dotted_target}
+use Rattle.uri_ops.specs.Target.{dotless_if_absolute, guarded, target_of, target_underflows}
 use Rattle.uri_ops.specs.Target.{resolution_of}
 use Rattle.uri_ops.specs.Encoded.{encode_past_ascii}
-use Rattle.uri_ops.specs.Resolving.{IsTargetOfEncoded, IsErrorForEncoded}
-use Rattle.uri_ops.specs.Resolving.{IsTarget, IsErrorFor}
+use Rattle.uri_ops.specs.Resolving.{IsTargetOfEncoded, IsErrorForEncoded, IsTarget, IsErrorFor}
 use Rattle.uri_ops.specs.declared.resolve.error.ResolveError.{ResolveError}
-use Rattle.uri_ops.specs.declared.resolve.error.ResolveError.TheVariants as Of
 use Rattle.uri_ops.proofs.Paths.Segments.{AllPass, appended-segments-pass-test}
 use Rattle.uri_ops.proofs.Paths.SlashedSegments.{slashed, directory-by-segments}
 use Rattle.uri_ops.proofs.Paths.SlashedSegments.{parent-segments-pass-test}
@@ -47,6 +43,7 @@ use Rattle.uri_ops.proofs.Targeting.RefusalOrder.{result_or_target_error, map-of
 use Rattle.uri_ops.proofs.Targeting.RefusalOrder.{rejected-results-are-equal}
 use Rattle.uri_ops.proofs.Targeting.RefusalOrder.{ok-result-has-no-opaque-rejection}
 use Rattle.uri_pct.proofs.General.{is_none-option_map, is_some-option_map, not_some_is_none}
+use Rattle.uri_ops.specs.declared.resolve.error.ResolveError.TheVariants as Of
 
 -- IRIs as URIs, paths: segments in UTF-8, all but the first after a `/`, are UTF-8 together
 joined-utf8-segments-are-utf8 : (s : List ℕ) (rest : List (List ℕ)) → AllPass is_utf8 (s ∷ rest)
@@ -92,9 +89,8 @@ choosing-query-and-encoding-swap (Some x) base = refl
 -- IRIs as URIs: merging two paths and encoding them may swap
 merging-and-encoding-swap : (path p : List ℕ) → IsAbemptyPath path → IsUtf8 path
     → merged (encode_past_ascii path) (encode_past_ascii p) ≡ encode_past_ascii (merged path p)
-merging-and-encoding-swap path p h u = ap (λ t. t ++ encode_past_ascii p)
-    (directory-and-encoding-swap path h u)
-    ∙ sym (encoding-of-append-is-append (directory path) p)
+merging-and-encoding-swap path p h u =
+    grind (arith, nat_tests, directory-and-encoding-swap, encoding-of-append-is-append)
 
 -- IRIs as URIs: a reference without scheme and authority (p, q, f: its path, query and fragment)
 -- has the same target before dot segments are removed, encoded
@@ -105,31 +101,16 @@ dotted_target-of-encoded-without-authority : (base : Components) (p : List ℕ)
     → dotted_target (encoded_components base)
     (encoded_components (components_of_parts None None p q f))
     ≡ encoded_components (dotted_target base (components_of_parts None None p q f))
-dotted_target-of-encoded-without-authority base p q f u rooted = ⊎_elim
-    (λ h.
-    let query = choosing-query-and-encoding-swap q base.query in
-    cond-true _ _ _ (encoding-keeps-emptiness p ∙ h)
-    ∙ (λ i. record (encoded_components base)
-    { query = query i; fragment = option_map encode_past_ascii f })
-    ∙ sym (ap encoded_components (cond-true _ _ _ h)))
-    (λ h.
-    let first = encoding-keeps-leading-delimiter 47 refl p in
-    cond-false _ _ _ (encoding-keeps-emptiness p ∙ h)
-    ∙ ⊎_elim
-    (λ e. cond-true _ _ _ (first ∙ e)
-    ∙ sym (ap encoded_components (cond-false _ _ _ h ∙ cond-true _ _ _ e)))
-    (λ e.
-    let path = merging-and-encoding-swap base.path p (rooted h) u.path in
-    cond-false _ _ _ (first ∙ e)
-    ∙ (λ i. record (encoded_components base) {
-      path = path i;
-      query = option_map encode_past_ascii q;
-      fragment =
-          option_map encode_past_ascii f;
-    })
-    ∙ sym (ap encoded_components (cond-false _ _ _ h ∙ cond-false _ _ _ e)))
-    (cases_Bool (starts 47 p)))
-    (cases_Bool (is_empty p))
+dotted_target-of-encoded-without-authority base p q f u rooted =
+    grind (
+      arith,
+      nat_tests,
+      choosing-query-and-encoding-swap,
+      encoding-keeps-emptiness,
+      encoded_components,
+      encoding-keeps-leading-delimiter,
+      merging-and-encoding-swap,
+    )
 
 -- IRIs as URIs: a base and a reference (s, a, p, q, f: its components) have the same target before
 -- dot segments are removed, encoded
@@ -141,8 +122,7 @@ dotted_target-of-encoded-components : (base : Components) (s a : Option (List �
 dotted_target-of-encoded-components base (Some s) a p q f u rooted = refl
 dotted_target-of-encoded-components base None (Some a) p q f u rooted = refl
 dotted_target-of-encoded-components base None None p q f u rooted =
-    dotted_target-of-encoded-without-authority base p q f u
-    (rooted refl)
+    grind (arith, nat_tests, dotted_target-of-encoded-without-authority)
 
 -- IRIs as URIs, targets: the path of a target, before its dot segments are removed, is UTF-8
 dotted_target-path-is-utf8 : (base r : Components) → AreUtf8 base → AreUtf8 r
@@ -193,26 +173,15 @@ encoding-keeps-opaque-rejection : (base r : Components)
     → is_opaque_rejection (encoded_components base) (encoded_components r)
     ≡ is_opaque_rejection base r
 encoding-keeps-opaque-rejection base r =
-    let t = encoded_components r in
-    ap (λ x. (x && not (starts 47 (encode_past_ascii base.path)))
-    && not (is_some t.scheme || is_fragment_only t))
-    (is_none-option_map encode_past_ascii base.authority)
-    ∙ ap (λ x. (is_none base.authority && not x) && not (is_some t.scheme || is_fragment_only t))
-    (encoding-keeps-leading-delimiter 47 refl base.path)
-    ∙ ap (λ x. is_opaque base && not (x || is_fragment_only t))
-    (is_some-option_map encode_past_ascii r.scheme)
-    ∙ ap (λ x. is_opaque base && not
-    (is_some r.scheme || (((x && is_none t.authority) && is_empty t.path) && is_none t.query)))
-    (is_none-option_map encode_past_ascii r.scheme)
-    ∙ ap (λ x. is_opaque base && not
-    (is_some r.scheme || (((is_none r.scheme && x) && is_empty t.path) && is_none t.query)))
-    (is_none-option_map encode_past_ascii r.authority)
-    ∙ ap (λ x. is_opaque base && not
-    (is_some r.scheme || (((is_none r.scheme && is_none r.authority) && x) && is_none t.query)))
-    (encoding-keeps-emptiness r.path)
-    ∙ ap (λ x. is_opaque base && not
-    (is_some r.scheme || (((is_none r.scheme && is_none r.authority) && is_empty r.path) && x)))
-    (is_none-option_map encode_past_ascii r.query)
+    grind (
+      arith,
+      nat_tests,
+      encoded_components,
+      is_none-option_map,
+      encoding-keeps-leading-delimiter,
+      is_some-option_map,
+      encoding-keeps-emptiness,
+    )
 
 -- IRIs as URIs, targets: the path of a base with which a path is merged is empty or begins with `/`
 accepting-base-path-is-rooted : (b t : List ℕ) → is_opaque_rejection (components b) (components t)
@@ -322,11 +291,9 @@ pub error-is-error-for-encoded : (allowed : Bool) (b t : List ℕ) (error : Reso
     → IsUtf8 b → IsUtf8 t
     → IsErrorFor allowed (components b) (components t) error → IsErrorForEncoded allowed b t error
 error-is-error-for-encoded allowed b t Of.BaseWithFragment u v h =
-    resolving-and-encoding-swap b t u v
-    ∙ ap (result_map_both encode_past_ascii (λ (refusal : TargetError). refusal)) h
+    grind (arith, nat_tests, resolving-and-encoding-swap)
 error-is-error-for-encoded allowed b t Of.InvalidReferenceAgainstOpaqueBase u v h =
-    resolving-and-encoding-swap b t u v
-    ∙ ap (result_map_both encode_past_ascii (λ (refusal : TargetError). refusal)) h
+    grind (arith, nat_tests, resolving-and-encoding-swap)
 error-is-error-for-encoded allowed b t Of.PathUnderflow u v h =
     let target = ok-result-has-target (resolution_of (components b) (components t)) h.0 in (
       ap is_ok (resolving-and-encoding-swap b t u v)
@@ -335,6 +302,5 @@ error-is-error-for-encoded allowed b t Of.PathUnderflow u v h =
       h.1,
       encoding-keeps-target-underflow b t target.0 u v target.1 ∙ h.2,
     )
-error-is-error-for-encoded allowed b t Of.OutOfMemory u v h = ap is_ok
-    (resolving-and-encoding-swap b t u v)
-    ∙ encoding-keeps-whether-ok (resolution_of (components b) (components t)) ∙ h
+error-is-error-for-encoded allowed b t Of.OutOfMemory u v h =
+    grind (arith, nat_tests, resolving-and-encoding-swap, encoding-keeps-whether-ok)

@@ -15,12 +15,10 @@ use Rattle.std.proofs.lemmas.Bool.{and_left, and_right, and_from, and_parts, eqb
 use Rattle.std.proofs.lemmas.Bool.{lt-ltb, le-ltb}
 use Rattle.std.proofs.lemmas.Bool.Decides.{nat_tests}
 use Rattle.uri_pct.specs.Tokens.{Token, Char, Octet, tokens, tokens_from_chars, bytes_decoded_from}
-use Rattle.uri_pct.specs.Tokens.{bytes_of_one_token}
-use Rattle.uri_pct.specs.Tokens.{is_pct_encoded, text_of_token}
+use Rattle.uri_pct.specs.Tokens.{bytes_of_one_token, is_pct_encoded, text_of_token}
 use Rattle.uri_pct.specs.Prefixes.{begins_with_hex_digits}
 use Rattle.uri_pct.proofs.Unicode.Characters.{char_has_encoding, is_no_ascii_byte}
-use Rattle.uri_pct.proofs.Unicode.Characters.{char_past_ascii_begins_past_ascii}
-use Rattle.uri_pct.proofs.Unicode.Characters.{hexdigit_is_ascii}
+use Rattle.uri_pct.proofs.Unicode.Characters.{char_past_ascii_begins_past_ascii, hexdigit_is_ascii}
 use Rattle.uri_ops.specs.Encoded.{encode_byte_past_ascii, encode_past_ascii}
 use Rattle.uri_ops.proofs.Meanings.AsciiCharacters.{ascii-bytes-are-ascii-text}
 use Rattle.uri_ops.proofs.Meanings.AsciiCharacters.{ascii-bytes-are-utf8}
@@ -85,27 +83,7 @@ number-below-256-is-byte b h = lt-ltb b 256 h
 pub utf8-of-character-is-bytes : (c : ℕ) → IsScalar c → list_all is_byte (encode_utf8 c) ≡ true
 unfolding encode_utf8
 utf8-of-character-is-bytes c s =
-    let most = scalar-is-below-0x110000 c s in
-    ⊎_elim
-    (λ h. let e = lt-ltb c 128 h in rw e
-    (and_from _ _ (number-below-256-is-byte c (omega arith)) refl))
-    (λ h. let e = le-ltb c 128 h in rw e (⊎_elim
-    (λ k. let f = lt-ltb c 2048 k in
-    rw f (and_from _ _ (number-below-256-is-byte (192 + c / 64) (omega arith))
-    (and_from _ _ (number-below-256-is-byte (128 + c % 64) (omega arith)) refl)))
-    (λ k. let f = le-ltb c 2048 k in rw f (⊎_elim
-    (λ m. let g = lt-ltb c 65536 m in
-    rw g (and_from _ _ (number-below-256-is-byte (224 + c / 4096) (omega arith))
-    (and_from _ _ (number-below-256-is-byte (128 + c / 64 % 64) (omega arith))
-    (and_from _ _ (number-below-256-is-byte (128 + c % 64) (omega arith)) refl))))
-    (λ m. let g = le-ltb c 65536 m in
-    rw g (and_from _ _ (number-below-256-is-byte (240 + c / 262144) (omega arith))
-    (and_from _ _ (number-below-256-is-byte (128 + c / 4096 % 64) (omega arith))
-    (and_from _ _ (number-below-256-is-byte (128 + c / 64 % 64) (omega arith))
-    (and_from _ _ (number-below-256-is-byte (128 + c % 64) (omega arith)) refl)))))
-    (cases_lt c 65536)))
-    (cases_lt c 2048)))
-    (cases_lt c 128)
+    grind (arith, nat_tests, scalar-is-below-0x110000, number-below-256-is-byte)
 
 -- IRIs as URIs: bytes past ASCII are encoded as one `%XX` each
 bytes-past-ascii-encode-to-octets : (bs : List ℕ) → list_all is_no_ascii_byte bs ≡ true
@@ -144,9 +122,7 @@ encoding-is-character-by-character (c ∷ cs) =
 -- IRIs as URIs: the digits that an octet is written with are ASCII
 hex-digit-glyphs-are-ascii : (v : ℕ) → v < 256
     → (ltb (digit_glyph true (v / 16)) 128 && ltb (digit_glyph true (v % 16)) 128) ≡ true
-hex-digit-glyphs-are-ascii v h = agree_below_at
-    (λ v. ltb (digit_glyph true (v / 16)) 128 && ltb (digit_glyph true (v % 16)) 128) (λ _. true)
-    256 v refl h
+hex-digit-glyphs-are-ascii v h = grind (arith, nat_tests, agree_below_at)
 
 -- IRIs as URIs: the byte is ASCII
 abbrev is_ascii_byte : ℕ → Bool
@@ -156,9 +132,7 @@ is_ascii_byte c = ltb c 128
 octet_text-of-byte-is-ascii : (b : ℕ) → is_byte b ≡ true → list_all is_ascii_byte (octet_text b)
     ≡ true
 unfolding is_byte
-octet_text-of-byte-is-ascii b e =
-    let p = and_parts _ _ (hex-digit-glyphs-are-ascii b (ltb-true b 256 e)) in
-    and_from _ _ p.0 (and_from _ true p.1 refl)
+octet_text-of-byte-is-ascii b e = grind (arith, nat_tests, hex-digit-glyphs-are-ascii)
 
 -- IRIs as URIs: the `%XX` of bytes are ASCII
 octet_texts-of-bytes-are-ascii : (bs : List ℕ) → list_all is_byte bs ≡ true
@@ -186,9 +160,8 @@ encoded-characters-are-ascii (c ∷ cs) e =
 -- IRIs as URIs: an encoded text is ASCII
 encoded-text-is-ascii : (text : List ℕ) → IsUtf8 text
     → list_all is_ascii_byte (encode_past_ascii text) ≡ true
-encoded-text-is-ascii text u = ap (λ t. list_all is_ascii_byte (encode_past_ascii t)) (sym u.1.1)
-    ∙ ap (list_all is_ascii_byte) (encoding-is-character-by-character u.0)
-    ∙ encoded-characters-are-ascii u.0 u.1.0
+encoded-text-is-ascii text u =
+    grind (arith, nat_tests, encoding-is-character-by-character, encoded-characters-are-ascii)
 
 -- IRIs as URIs: a text whose characters past ASCII are encoded is UTF-8
 pub encoded-text-is-utf8 : (text : List ℕ) → IsUtf8 text → IsUtf8 (encode_past_ascii text)
@@ -235,12 +208,8 @@ encoding-keeps-leading-hex-digit : (cs : List ℕ)
     → is_ascii_hexdigit (get_or (encoded_chars cs) 0 0) ≡ is_ascii_hexdigit (get_or cs 0 0)
 unfolding encoded_chars
 encoding-keeps-leading-hex-digit [] = refl
-encoding-keeps-leading-hex-digit (c ∷ cs) = ⊎_elim
-    (λ h. ap (λ t. is_ascii_hexdigit (get_or (t ++ encoded_chars cs) 0 0))
-    (cond-true _ _ _ (lt-ltb c 128 h)))
-    (λ h. ap is_ascii_hexdigit (encoded-past-ascii-begins-with-percent c cs h)
-    ∙ sym (past_ascii_is_no_hexdigit c h))
-    (cases_lt c 128)
+encoding-keeps-leading-hex-digit (c ∷ cs) =
+    grind (arith, nat_tests, encoded-past-ascii-begins-with-percent, past_ascii_is_no_hexdigit)
 
 -- IRIs as URIs: a text begins with two hexadecimal digits exactly if it does when encoded
 encoding-keeps-two-leading-hex-digits : (cs : List ℕ) → begins_with_hex_digits (encoded_chars cs)
@@ -265,25 +234,14 @@ tokens-of-encoded-character : (c : ℕ) (cs : List ℕ) → all_scalars (c ∷ c
     ≡ flat_map encoded_token (tokens_from_chars (c ∷ cs))
 unfolding encoded_chars
 tokens-of-encoded-character c cs s e ih =
-    let p = and_parts _ (all_scalars cs) s in
-    ⊎_elim
-    (λ h.
-    ap (λ t. tokens_from_chars (t ++ encoded_chars cs)) (cond-true _ _ _ (lt-ltb c 128 h))
-    ∙ tokens-begin-with-literal-character c (encoded_chars cs)
-    (ap (λ t. eqb c 37 && t) (encoding-keeps-two-leading-hex-digits cs)
-    ∙ e)
-    ∙ ap (λ ts. Char c ∷ ts) ih
-    ∙ sym (ap (flat_map encoded_token) (tokens-begin-with-literal-character c cs e)
-    ∙ ap (λ t. t ++ flat_map encoded_token (tokens_from_chars cs))
-    (cond-true _ _ _ (lt-ltb c 128 h))))
-    (λ h.
-    ap (λ t. tokens_from_chars (t ++ encoded_chars cs)) (cond-false _ _ _ (le-ltb c 128 h))
-    ∙ tokens-begin-with-octets (encode_utf8 c) (encoded_chars cs) (utf8-of-character-is-bytes c p.0)
-    ∙ ap (λ ts. map Octet (encode_utf8 c) ++ ts) ih
-    ∙ sym (ap (flat_map encoded_token) (tokens-begin-with-literal-character c cs e)
-    ∙ ap (λ t. t ++ flat_map encoded_token (tokens_from_chars cs))
-    (cond-false _ _ _ (le-ltb c 128 h))))
-    (cases_lt c 128)
+    grind (
+      arith,
+      nat_tests,
+      tokens-begin-with-literal-character,
+      encoding-keeps-two-leading-hex-digits,
+      tokens-begin-with-octets,
+      utf8-of-character-is-bytes,
+    )
 
 -- IRIs as URIs, tokens: an octet is `%` (37) and two hexadecimal digits
 pct-encoded-is-percent-and-hex-digits : (c h l : ℕ) → is_pct_encoded c h l ≡ true
@@ -368,10 +326,8 @@ tokens-of-encoded-text text u =
 encoded-token-has-same-bytes : (t : Token) → bytes_decoded_from (encoded_token t)
     ≡ bytes_of_one_token t
 encoded-token-has-same-bytes (Octet value) = refl
-encoded-token-has-same-bytes (Char c) = ⊎_elim
-    (λ e. ap bytes_decoded_from (cond-true _ _ _ e) ∙ append-nil (encode_utf8 c))
-    (λ e. ap bytes_decoded_from (cond-false _ _ _ e) ∙ octets_decode_to_their_bytes (encode_utf8 c))
-    (cases_Bool (ltb c 128))
+encoded-token-has-same-bytes (Char c) =
+    grind (arith, nat_tests, append-nil, octets_decode_to_their_bytes)
 
 -- IRIs as URIs: encoded tokens decode to the bytes of the tokens
 encoded-tokens-have-same-bytes : (ts : List Token) → bytes_decoded_from (flat_map encoded_token ts)

@@ -1,10 +1,11 @@
 -- The text of an authority that is built part by part is one: RFC 3986, section 3.2.
-use Rattle.std.proofs.Common.{◌≡◌, ℕ, true, List, [], ◌++◌, refl, sym, ap, subst, ◌∙◌}
-use Rattle.std.proofs.Common.{append_assoc, append-nil}
+use Rattle.std.proofs.Common.{◌≡◌, ℕ, true, List, [], ◌++◌, refl, sym, ap, subst, ◌∙◌, append_assoc}
+use Rattle.std.proofs.Common.{append-nil, arith}
 use Rattle.std.specs.Prelude.{codes, Some, None, is_none}
 use Rattle.std.specs.Str.{IsUtf8}
 use Rattle.std.proofs.lemmas.Str.{IsUtf8-append, IsUtf8-from_is_utf8, is_utf8-from_IsUtf8}
 use Rattle.std.proofs.lemmas.Bool.{and_parts, and_from}
+use Rattle.std.proofs.lemmas.Bool.Decides.{nat_tests}
 use Rattle.uri_pct.specs.Sets.{TableSet, digit_set, reg_name_set}
 use Rattle.uri_pct.specs.Tokens.{IsValidFor, is_valid_for}
 use Rattle.uri_parts.specs.Authority.{AuthorityParts, IsAuthorityFor, authority_parts}
@@ -172,14 +173,12 @@ empty-text-is-authority kind = authority-text-from-rule kind [] (ascii-bytes-are
 -- an authority lacks the marks that would end it
 module _ (kind : Kind) (sets : HasComponentSets kind) where
   userinfo-set-excludes-delimiters : excludes kind.userinfo (codes "/?#") ≡ true
-  userinfo-set-excludes-delimiters = fewer-characters-are-excluded-too (codes "/?#")
-      (codes "[]@") kind.userinfo
-      (ends-are-excluded-from-set (codes "/?#[]@") kind.userinfo refl sets.userinfo.ends)
+  userinfo-set-excludes-delimiters =
+      grind (arith, nat_tests, fewer-characters-are-excluded-too, ends-are-excluded-from-set)
 
   name-set-excludes-delimiters : excludes kind.reg_name (codes "/?#") ≡ true
-  name-set-excludes-delimiters = fewer-characters-are-excluded-too (codes "/?#")
-      (codes "[]@:") kind.reg_name
-      (ends-are-excluded-from-set (codes "/?#[]@:") kind.reg_name refl sets.reg_name.ends)
+  name-set-excludes-delimiters =
+      grind (arith, nat_tests, fewer-characters-are-excluded-too, ends-are-excluded-from-set)
 
   reg_name_set-excludes-delimiters : excludes reg_name_set (codes "/?#") ≡ true
   reg_name_set-excludes-delimiters = refl

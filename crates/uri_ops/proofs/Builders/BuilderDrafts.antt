@@ -1,26 +1,25 @@
 -- What each step of a builder makes of its draft: the text of the parts so changed.
 use Rattle.std.proofs.Common.{◌≡◌, ℕ, Bool, true, false, ◌||◌, List, ◌++◌, length, sym, ap, subst}
-use Rattle.std.proofs.Common.{◌∙◌, append_assoc, refl, string_bytes}
+use Rattle.std.proofs.Common.{◌∙◌, append_assoc, refl, string_bytes, arith}
 use Rattle.std.specs.Prelude.{codes, Some, is_none}
 use Rattle.std.specs.Str.{IsUtf8}
 use Rattle.std.proofs.lemmas.Str.{is_utf8-from_IsUtf8}
 use Rattle.std.proofs.lemmas.Bool.{and_parts, and_from, false≢true}
+use Rattle.std.proofs.lemmas.Bool.Decides.{nat_tests}
 use Rattle.uri_pct.specs.Sets.{TableSet}
 use Rattle.uri_pct.specs.Tokens.{is_valid_for}
 use Rattle.uri_parts.specs.Grammar.{is_scheme}
 use Rattle.uri_ops.specs.declared.build.draft.Draft.{Draft}
 use Rattle.uri_ops.specs.declared.build.lengths.Lengths.{Lengths}
-use Rattle.uri_ops.specs.BuilderParts.{AddsOrFails, AddsUnlessFailed, BuilderParts}
-use Rattle.uri_ops.specs.BuilderParts.{is_scheme_text, is_text_for}
-use Rattle.uri_ops.specs.BuilderParts.{with_authority}
-use Rattle.uri_ops.specs.BuilderParts.{with_fragment, with_path, with_query, with_scheme}
+use Rattle.uri_ops.specs.BuilderParts.{AddsOrFails, AddsUnlessFailed, BuilderParts, is_scheme_text}
+use Rattle.uri_ops.specs.BuilderParts.{is_text_for, with_authority, with_fragment, with_path}
+use Rattle.uri_ops.specs.BuilderParts.{with_query, with_scheme}
 use Rattle.uri_ops.specs.Builders.{draft_parts, lacks_query_and_fragment, lacks_all}
 use Rattle.uri_ops.specs.Builders.{lacks_authority, lacks_path}
 use Rattle.uri_ops.specs.Drafts.{after_part, parts_in}
 use Rattle.uri_ops.proofs.Builders.BuilderSteps.{text-with-authority-is-draft}
 use Rattle.uri_ops.proofs.Builders.BuilderSteps.{text-with-fragment-is-draft}
-use Rattle.uri_ops.proofs.Builders.BuilderSteps.{text-with-path-is-draft}
-use Rattle.uri_ops.proofs.Builders.BuilderSteps.{text-with-query-is-draft}
+use Rattle.uri_ops.proofs.Builders.BuilderSteps.{text-with-path-is-draft, text-with-query-is-draft}
 use Rattle.uri_ops.proofs.Builders.BuilderSteps.{text-with-scheme-is-draft}
 use Rattle.uri_ops.proofs.Builders.Drafting.{IsDraftOfParts, absent-part-has-no-length}
 
@@ -75,9 +74,8 @@ pub change-of-parts-unless-failed : (change : BuilderParts → BuilderParts) (be
     → (g ≡ false → f ≡ false)
     → (g ≡ false → parts_in after new false ≡ change (parts_in before text false)) → g ≡ false
     → parts_in after new g ≡ change (parts_in before text f)
-change-of-parts-unless-failed change before after text new f g kept step e = ap
-    (parts_in after new) e ∙ step e
-    ∙ ap (λ b. change (parts_in before text b)) (sym (kept e))
+change-of-parts-unless-failed change before after text new f g kept step e =
+    grind (arith, nat_tests)
 
 -- building: two texts that are appended to a draft, one after the other, are appended,
 -- unless it is marked failed (f, g)
@@ -85,9 +83,8 @@ pub appended-twice-is-appended : (text one two first second : List ℕ) (f g : B
     → (g ≡ false → f ≡ false)
     → (f ≡ false → first ≡ text ++ one) → (g ≡ false → second ≡ first ++ two)
     → g ≡ false → second ≡ text ++ (one ++ two)
-appended-twice-is-appended text one two first second f g kept a b e = b e
-    ∙ ap (λ t. t ++ two) (a (kept e))
-    ∙ append_assoc text one two
+appended-twice-is-appended text one two first second f g kept a b e =
+    grind (arith, nat_tests, append_assoc)
 
 module _ (a : Draft) (x : List ℕ) where
   abbrev text : List ℕ
@@ -174,6 +171,4 @@ pub change-of-draft-by-appending : (change : BuilderParts → BuilderParts) (a b
     ≡ change (parts_in a.lengths (string_bytes a.text) false))
     → b.failed ≡ false → draft_parts b ≡ change (parts_in a.lengths (string_bytes a.text) a.failed)
 change-of-draft-by-appending change a b lengths more kept same appended step e =
-    let whole = kept e in
-    (λ i. parts_in (same i) (appended e i) (e i)) ∙ step whole
-    ∙ ap (λ f. change (parts_in a.lengths (string_bytes a.text) f)) (sym whole)
+    grind (arith, nat_tests, string_bytes)

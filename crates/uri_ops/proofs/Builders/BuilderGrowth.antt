@@ -4,22 +4,21 @@ use Rattle.std.proofs.Common.{length, take, drop, refl, sym, ap, subst, ◌∙�
 use Rattle.std.proofs.Common.{string_bytes}
 use Rattle.std.specs.Prelude.{codes, Option, Some, None, is_none, option_map}
 use Rattle.std.specs.Option.{option_map_or}
-use Rattle.std.specs.Str.{IsUtf8, is_utf8}
+use Rattle.std.specs.Str.{IsUtf8}
 use Rattle.std.specs.String.{string_len}
 use Rattle.std.specs.declared.string.String.{String}
 use Rattle.std.proofs.lemmas.Str.{IsUtf8-from_is_utf8}
 use Rattle.std.proofs.lemmas.Bool.{and_parts, false≢true}
+use Rattle.std.proofs.lemmas.Bool.Decides.{nat_tests}
 use Rattle.uri_pct.specs.Sets.{digit_set}
 use Rattle.uri_pct.specs.Tokens.{is_valid_for}
 use Rattle.uri_parts.specs.Grammar.{Kind}
 use Rattle.uri_ops.specs.declared.build.draft.Draft.{Draft}
 use Rattle.uri_ops.specs.declared.build.lengths.Lengths.{Lengths}
 use Rattle.uri_ops.specs.BuilderParts.{BuilderParts, is_authority_text, is_text_for}
-use Rattle.uri_ops.specs.BuilderParts.{lacks_host_and_port}
-use Rattle.uri_ops.specs.BuilderParts.{lacks_port, with_more_authority}
+use Rattle.uri_ops.specs.BuilderParts.{lacks_host_and_port, lacks_port, with_more_authority}
 use Rattle.uri_ops.specs.Builders.{any_authority, draft_parts, ends_in_authority}
-use Rattle.uri_ops.specs.Builders.{lacks_query_and_fragment}
-use Rattle.uri_ops.specs.Builders.{lacks_path}
+use Rattle.uri_ops.specs.Builders.{lacks_query_and_fragment, lacks_path}
 use Rattle.uri_ops.specs.ComponentSets.{HasComponentSets}
 use Rattle.uri_ops.specs.Dots.{is_empty}
 use Rattle.uri_ops.specs.Drafts.{after_part, part_in, parts_in}
@@ -66,12 +65,7 @@ pub port-extends-open-authority : (kind : Kind) → HasComponentSets kind → (d
     → ExtendsAuthority kind lacks_port any_authority (codes ":" ++ digits)
 unfolding is_text_for
 port-extends-open-authority kind sets digits d =
-    let p = and_parts (is_utf8 digits) (is_valid_for digit_set digits) d in
-    λ a e t. (
-      authority-with-port-is-authority kind sets digits (IsUtf8-from_is_utf8 digits p.0) p.1
-          a e t,
-      refl,
-    )
+    grind (arith, nat_tests, authority-with-port-is-authority, IsUtf8-from_is_utf8)
 
 -- general fact on strings, for positions in a builder's draft: a length is that of the bytes
 pub string_len-is-length-of-bytes : {Z : Type 0} (s : String Z) → string_len s
@@ -145,5 +139,4 @@ module _ (a : Draft) (x new : List ℕ) (g : Bool) (kept : g ≡ false → a.fai
       → (lengths : Lengths) → (g ≡ false → lengths ≡ longer) → (g ≡ false → new ≡ text ++ x)
       → g ≡ false → IsDraftOfParts (with_more_authority x parts) lengths new
   draft-with-longer-authority ends lengths grown appended e =
-      subst (λ l. IsDraftOfParts (with_more_authority x parts) l new) (sym (grown e))
-      (text-with-longer-authority-is-draft ends e (appended e))
+      grind (arith, nat_tests, text-with-longer-authority-is-draft)

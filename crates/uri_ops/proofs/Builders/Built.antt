@@ -2,6 +2,7 @@
 -- rejected.
 use Rattle.std.proofs.Common.{◌≡◌, ℕ, ◌<◌, Bool, true, false, not, ◌&&◌, ◌||◌, List, [], ◌∷◌, ◌++◌}
 use Rattle.std.proofs.Common.{length, refl, sym, ap, subst, ◌∙◌, inl, inr, cond, string_bytes}
+use Rattle.std.proofs.Common.{arith}
 use Rattle.std.specs.Prelude.{codes, Option, Some, None, IfSome, IfNone, is_some, unwrap_or}
 use Rattle.std.specs.Prelude.{slice_index}
 use Rattle.std.specs.Char.{is_ascii_alphabetic}
@@ -9,14 +10,15 @@ use Rattle.std.specs.Str.{IsUtf8}
 use Rattle.std.proofs.lemmas.Str.{IsUtf8-from_is_utf8}
 use Rattle.std.proofs.lemmas.Bool.{and_parts, and_from, cond-true, cond-false, false≢true, not-true}
 use Rattle.std.proofs.lemmas.Bool.{not_from_false}
+use Rattle.std.proofs.lemmas.Bool.Decides.{nat_tests}
 use Rattle.uri_pct.specs.Sets.{TableSet, scheme_set}
 use Rattle.uri_pct.specs.Tokens.{is_valid_for}
 use Rattle.uri_parts.specs.Positions.{positions_of}
 use Rattle.uri_parts.specs.Components.{IsSplitOf, IsAbemptyPath, Lacks, has_authority, has_scheme}
 use Rattle.uri_parts.specs.Components.{components, marked, starts}
 use Rattle.uri_parts.specs.Grammar.{IsOfKind, Kind, components_meet_rules}
-use Rattle.uri_parts.specs.Grammar.{has_colon_in_first_segment, absent_or_passes}
-use Rattle.uri_parts.specs.Grammar.{is_authority, is_scheme}
+use Rattle.uri_parts.specs.Grammar.{has_colon_in_first_segment, absent_or_passes, is_authority}
+use Rattle.uri_parts.specs.Grammar.{is_scheme}
 use Rattle.uri_parts.proofs.Splitting.Marks.{query_text, IsEmptyOrMarked-query_text}
 use Rattle.uri_parts.proofs.Splitting.Recompose.{components-are-split-of-text}
 use Rattle.uri_parts.proofs.Splitting.Recompose.{equal-to-true-is-IsTrue}
@@ -29,8 +31,8 @@ use Rattle.uri_ops.specs.declared.build.error.BuildError.TheVariants.{FirstPathS
 use Rattle.uri_ops.specs.declared.build.error.BuildError.TheVariants.{NonemptyRootlessPath}
 use Rattle.uri_ops.specs.declared.build.error.BuildError.TheVariants.{PathStartsWithDoubleSlash}
 use Rattle.uri_ops.specs.BuilderParts.{BuilderParts, MeetsOrFailed, as_components}
-use Rattle.uri_ops.specs.BuilderParts.{is_authority_text}
-use Rattle.uri_ops.specs.BuilderParts.{is_scheme_text, is_text_for, meet_rules, parts_text}
+use Rattle.uri_ops.specs.BuilderParts.{is_authority_text, is_scheme_text, is_text_for, meet_rules}
+use Rattle.uri_ops.specs.BuilderParts.{parts_text}
 use Rattle.uri_ops.specs.Built.{IsTextOfParts, refusal, build_error_of_path}
 use Rattle.uri_ops.specs.ComponentSets.{HasComponentSets}
 use Rattle.uri_ops.specs.Dots.{is_empty}
@@ -41,17 +43,15 @@ use Rattle.uri_ops.proofs.Builders.BuilderAuthorities.{authority-lacks-its-ends}
 use Rattle.uri_ops.proofs.Builders.BuilderAuthorities.{authority-text-meets-rule}
 use Rattle.uri_ops.proofs.Builders.BuilderAuthorities.{authority-text-is-utf8}
 use Rattle.uri_ops.proofs.Builders.Drafting.{meet_rules-gives-rules}
-use Rattle.uri_ops.proofs.Meanings.ComponentEnds.{no_scheme}
+use Rattle.uri_ops.proofs.Meanings.ComponentEnds.{no_scheme, path-set-excludes-its-ends}
+use Rattle.uri_ops.proofs.Meanings.ComponentEnds.{query-set-excludes-its-end}
 use Rattle.uri_ops.proofs.Meanings.AllowedParts.{is_set_text, set-text-from-utf8}
-use Rattle.uri_ops.proofs.Meanings.AllowedParts.{empty-text-is-set-text}
-use Rattle.uri_ops.proofs.Meanings.AllowedParts.{set-text-is-utf8}
+use Rattle.uri_ops.proofs.Meanings.AllowedParts.{empty-text-is-set-text, set-text-is-utf8}
 use Rattle.uri_ops.proofs.Meanings.AllowedParts.{set-text-is-valid}
 use Rattle.uri_pct.proofs.General.{eq_true_from_IsTrue}
 use Rattle.uri_ops.proofs.Meanings.TextParts.{ArePartsOfKind, components-of-kind-meet-grammar}
 use Rattle.uri_ops.proofs.Normal.NormalComponents.{text-with-first-letter-is-not-empty}
 use Rattle.uri_parts.proofs.Splitting.Places.{authority_has_abempty_path}
-use Rattle.uri_ops.proofs.Meanings.ComponentEnds.{path-set-excludes-its-ends}
-use Rattle.uri_ops.proofs.Meanings.ComponentEnds.{query-set-excludes-its-end}
 
 -- building: a text that passes a builder's test of a set is UTF-8 and valid for it
 text-for-set-is-set-text : (set : TableSet) (x : List ℕ) → is_text_for set x ≡ true
@@ -145,18 +145,9 @@ path-without-build-error-is-accepted scheme (Some a) path e =
     or_true None = refl
     or_true (Some x) = refl
 path-without-build-error-is-accepted None None path e =
-    let p = no-error-means-no-cause (has_authority path) PathStartsWithDoubleSlash _ e in
-    let q = no-error-means-no-cause (has_colon_in_first_segment path) FirstPathSegmentContainsColon
-    None p.1 in
-    record {
-      rooted = tt;
-      no_authority = p.0;
-      no_colon = not_from_false
-          (has_colon_in_first_segment path) q.0;
-    }
+    grind (arith, nat_tests, no-error-means-no-cause, not_from_false)
 path-without-build-error-is-accepted (Some s) None path e =
-    let p = no-error-means-no-cause (has_authority path) PathStartsWithDoubleSlash _ e in
-    record { rooted = tt; no_authority = p.0; no_colon = refl }
+    grind (arith, nat_tests, no-error-means-no-cause)
 
 -- building: if a path is accepted after the scheme and the authority there is no error
 accepted-path-has-no-build-error : (scheme authority : Option (List ℕ)) (path : List ℕ)

@@ -6,6 +6,7 @@ use Rattle.std.specs.Option.{option_map_or}
 use Rattle.std.specs.Str.{IsUtf8, is_utf8}
 use Rattle.std.proofs.lemmas.Str.{IsUtf8-from_is_utf8}
 use Rattle.std.proofs.lemmas.Bool.{and_parts, false≢true}
+use Rattle.std.proofs.lemmas.Bool.Decides.{nat_tests}
 use Rattle.uri_pct.specs.Sets.{TableSet, digit_set}
 use Rattle.uri_pct.specs.Tokens.{is_valid_for}
 use Rattle.uri_parts.specs.Authority.{AuthorityParts, authority_parts, is_authority_for}
@@ -16,10 +17,9 @@ use Rattle.uri_parts.proofs.Authorities.Authority.{is_authority_for-sound}
 use Rattle.uri_ops.specs.declared.build.draft.Draft.{Draft}
 use Rattle.uri_ops.specs.declared.build.lengths.Lengths.{Lengths}
 use Rattle.uri_ops.specs.declared.build.places.HostRange.{HostRange}
-use Rattle.uri_ops.specs.BuilderParts.{AddsUnlessFailed, BuilderParts, MeetsOrFailed, is_authority_text}
-use Rattle.uri_ops.specs.BuilderParts.{is_text_for}
-use Rattle.uri_ops.specs.BuilderParts.{lacks_host_and_port, lacks_port, with_authority}
-use Rattle.uri_ops.specs.BuilderParts.{with_more_authority}
+use Rattle.uri_ops.specs.BuilderParts.{AddsUnlessFailed, BuilderParts, MeetsOrFailed}
+use Rattle.uri_ops.specs.BuilderParts.{is_authority_text, is_text_for, lacks_host_and_port}
+use Rattle.uri_ops.specs.BuilderParts.{lacks_port, with_authority, with_more_authority}
 use Rattle.uri_ops.specs.Builders.{draft_parts, ends_in_authority, lacks_path, is_in_order}
 use Rattle.uri_ops.specs.ComponentSets.{HasComponentSets}
 use Rattle.uri_ops.specs.Dots.{is_empty}
@@ -59,12 +59,7 @@ pub host-range-from-ends : (users names : TableSet) (place : HostRange) (a : Lis
     → is_authority_for users names a ≡ true → place.start ≡ host_start_of a
     → place.end ≡ host_end_of a → IsHostAt place a
 host-range-from-ends users names place a e s t =
-    record {
-      start = s;
-      end = t;
-      inside = omega
-          (arith, t, authority-is-as-long-as-its-parts users names a e);
-    }
+    grind (arith, nat_tests, authority-is-as-long-as-its-parts)
 
 -- building: in an empty authority the host is from 0 to 0
 pub empty-authority-has-host-range : (place : HostRange) → place.start ≡ 0 → place.end ≡ 0
@@ -91,18 +86,14 @@ pub host-range-stays-with-authority : (change : BuilderParts → BuilderParts) (
     → (change (draft_parts d)).authority ≡ (draft_parts d).authority
     → e.host ≡ d.host → HasRightHostRange d → HasRightHostRange e
 host-range-stays-with-authority change d e adds same authority host knows whole =
-    let same_authority = ap (λ (p : BuilderParts). p.authority) (adds whole) ∙ authority in
-    subst (λ h. IsHostAtIfSome h (draft_parts e).authority) (sym host)
-    (subst (IsHostAtIfSome d.host) (sym same_authority)
-    (knows (failure-is-kept change (draft_parts d) (draft_parts e) adds same whole)))
+    grind (arith, nat_tests, failure-is-kept)
 
 -- building: a step that gives the authority gives the host's positions
 pub host-range-of-new-authority : (x : List ℕ) (d e : Draft)
     → AddsUnlessFailed (with_authority x) (draft_parts d) (draft_parts e) → IsHostAt e.host x
     → HasRightHostRange e
 host-range-of-new-authority x d e adds at whole =
-    subst (IsHostAtIfSome e.host) (sym (ap (λ (p : BuilderParts). p.authority) (adds whole)))
-    (host-range-if-some-authority e.host (Some x) at)
+    grind (arith, nat_tests, host-range-if-some-authority)
 
 -- and one by which it goes on
 module _ (kind : Kind) (needs : Bool) (d e : Draft) (x : List ℕ) (takes : List ℕ → Bool)

@@ -2,7 +2,7 @@
 use Rattle.std.proofs.Common.{◌≡◌, ℕ, ◌+◌, ◌≤◌, List, [], ◌++◌, length, refl, sym, ap, subst, ◌∙◌}
 use Rattle.std.proofs.Common.{arith, length-append, string_bytes, option_map, false}
 use Rattle.std.specs.Prelude.{codes, Option, Some, None, IfSome, unwrap_or}
-use Rattle.uri_parts.specs.declared.positions.AuthorityPositions.{AuthorityPositions}
+use Rattle.std.proofs.lemmas.Bool.Decides.{nat_tests}
 use Rattle.uri_parts.specs.Components.{Components, marked}
 use Rattle.uri_parts.specs.Positions.{authority_at, delimited_length, positions_of}
 use Rattle.uri_ops.specs.declared.build.draft.Draft.{Draft}
@@ -36,17 +36,7 @@ authority-positions-from-its-length : (place : ℕ) (host : HostRange) (o : Opti
     → option_map (authority_positions_from_length place host) (option_map length o)
     ≡ option_map (authority_at place) o
 authority-positions-from-its-length place host None h = refl
-authority-positions-from-its-length place host (Some a) h =
-    let s = h.start in
-    let t = h.end in
-    λ i. Some (let x : AuthorityPositions =
-    record {
-      start = place;
-      host_start = place + s i;
-      host_end = place + t i;
-      end =
-          place + length a;
-    } in x)
+authority-positions-from-its-length place host (Some a) h = grind (arith, nat_tests)
 
 -- building: the end of a query at place, from its length
 query-end-from-its-length : (place : ℕ) (o : Option (List ℕ))
@@ -60,31 +50,14 @@ positions-from-lengths-are-of-parts : (p : BuilderParts) (host : HostRange)
     → IfSome p.authority (IsHostAt host)
     → positions_from_lengths (lengths_of p) host ≡ positions_of (as_components p)
 positions-from-lengths-are-of-parts p host h =
-    let path_start : ℕ = delimited_length 1 p.scheme + delimited_length 2 p.authority in
-    let path_end : ℕ = path_start + length (unwrap_or p.path []) in
-    let scheme : delimited_len 1 (option_map length p.scheme) ≡ delimited_length 1 p.scheme =
-    delimited_len-of-component-length 1 p.scheme in
-    let start : delimited_len 1 (option_map length p.scheme) + delimited_len 2
-    (option_map length p.authority)
-    ≡ path_start = omega (arith, scheme, delimited_len-of-component-length 2 p.authority) in
-    let end : delimited_len 1 (option_map length p.scheme) + delimited_len 2
-    (option_map length p.authority)
-    + delimited_len 0 (option_map length p.path) ≡ path_end =
-    omega (arith, start, delimited_len-of-path-length p.path) in
-    let authority = ap (λ n. option_map (authority_positions_from_length (n + 2) host)
-    (option_map length p.authority))
-    scheme
-    ∙ authority-positions-from-its-length (delimited_length 1 p.scheme + 2) host p.authority h in
-    let query = ap (λ m. option_map (λ n. m + 1 + n) (option_map length p.query)) end
-    ∙ query-end-from-its-length path_end p.query in
-    λ i. record {
-      scheme_end = option_map length p.scheme;
-      authority = authority i;
-      path_start =
-          start i;
-      path_end = end i;
-      query_end = query i;
-    }
+    grind (
+      arith,
+      nat_tests,
+      delimited_len-of-component-length,
+      delimited_len-of-path-length,
+      authority-positions-from-its-length,
+      query-end-from-its-length,
+    )
 
 -- building: the parts with their delimiters, up to the query, are no longer than the text
 part-lengths-are-within-text : (p : BuilderParts)
@@ -159,11 +132,9 @@ module _ (d : Draft) (whole : d.failed ≡ false) (knows : HasRightHostRange d) 
       (part-lengths-are-within-text parts))
 
   pub host-start-is-in-authority : IfSome d.lengths.authority (λ n. d.host.start ≤ n)
-  host-start-is-in-authority = subst (λ (l : Lengths). IfSome l.authority (λ n. d.host.start ≤ n))
-      counted
-      (host-start-is-within-authority-length d.host parts.authority host)
+  host-start-is-in-authority =
+      grind (arith, nat_tests, host, counted, host-start-is-within-authority-length)
 
   pub host-end-is-in-authority : IfSome d.lengths.authority (λ n. d.host.end ≤ n)
-  host-end-is-in-authority = subst (λ (l : Lengths). IfSome l.authority (λ n. d.host.end ≤ n))
-      counted
-      (host-end-is-within-authority-length d.host parts.authority host)
+  host-end-is-in-authority =
+      grind (arith, nat_tests, host, counted, host-end-is-within-authority-length)

@@ -1,10 +1,11 @@
 -- The text of the parts of a builder: parsing it gives the parts, and a text with these parts is
 -- such a text.
-use Rattle.std.proofs.Common.{◌≡◌, ℕ, ◌+◌, Bool, true, false, List, [], ◌++◌, length, take, drop}
-use Rattle.std.proofs.Common.{refl, sym, ap, ◌∙◌, arith, append_assoc, append-nil, length-append}
+use Rattle.std.proofs.Common.{◌≡◌, ℕ, ◌+◌, Bool, true, false, List, [], ◌++◌, length, drop, refl}
+use Rattle.std.proofs.Common.{sym, ap, ◌∙◌, arith, append_assoc, append-nil, length-append}
 use Rattle.std.specs.Prelude.{codes, Option, Some, None, option_map, unwrap_or, is_none}
-use Rattle.std.proofs.lemmas.Bool.{and_parts, and_from, false≢true}
+use Rattle.std.proofs.lemmas.Bool.{and_from, false≢true}
 use Rattle.std.proofs.Math.Seq.{drop-append_seam, take-append_seam}
+use Rattle.std.proofs.lemmas.Bool.Decides.{nat_tests}
 use Rattle.uri_parts.specs.Components.{marked, recompose}
 use Rattle.uri_parts.specs.Grammar.{Kind, absent_or_passes}
 use Rattle.uri_ops.specs.declared.build.lengths.Lengths.{Lengths}
@@ -30,12 +31,7 @@ part_in-finds-delimited-component : (before suffix : List ℕ) (o : Option (List
     → part_in (length before) (option_map length o) (marked before o suffix ++ rest) ≡ o
 part_in-finds-delimited-component before suffix None rest = refl
 part_in-finds-delimited-component before suffix (Some x) rest =
-    let joined : ((before ++ x) ++ suffix) ++ rest ≡ before ++ (x ++ (suffix ++ rest)) =
-    append_assoc (before ++ x) suffix rest
-    ∙ append_assoc before x (suffix ++ rest) in
-    ap (λ t. Some (take (length x) (drop (length before) t))) joined
-    ∙ ap (λ t. Some (take (length x) t)) (drop-append_seam before (x ++ (suffix ++ rest)))
-    ∙ ap Some (take-append_seam x (suffix ++ rest))
+    grind (arith, nat_tests, append_assoc, drop-append_seam, take-append_seam)
 
 -- building: a path has no delimiters around it
 path-is-component-without-delimiters : (o : Option (List ℕ)) → unwrap_or o [] ≡ marked [] o []
@@ -56,16 +52,7 @@ builder-parts-of-equal-components : {s1 s2 a1 a2 p1 p2 q1 q2 f1 f2 : Option (Lis
       failed = failed;
     } in x)
     ≡ record { scheme = s2; authority = a2; path = p2; query = q2; fragment = f2; failed = failed }
-builder-parts-of-equal-components {failed = failed} s a p q f =
-    λ i. record {
-      scheme = s i;
-      authority = a i;
-      path = p i;
-      query = q i;
-      fragment = f i;
-      failed =
-          failed;
-    }
+builder-parts-of-equal-components {failed = failed} s a p q f = grind (arith, nat_tests)
 
 -- building: the parts that are read back from a text, by their lengths, are those it was made of
 parts_in-of-own-text : (p : BuilderParts) → parts_in (lengths_of p) (parts_text p) p.failed ≡ p
@@ -109,12 +96,7 @@ parts-from-their-lengths-and-text p lengths text n t = ap (λ l. parts_in l text
 text-of-parts-is-draft : (p : BuilderParts) (lengths : Lengths) (text : List ℕ) → p.failed ≡ false
     → lengths ≡ lengths_of p → text ≡ parts_text p → IsDraft lengths text
 text-of-parts-is-draft p lengths text f n t =
-    let same : parts_in lengths text false ≡ p = ap (parts_in lengths text) (sym f)
-    ∙ parts-from-their-lengths-and-text p lengths text n t in
-    record {
-      whole = ap parts_text same ∙ sym t;
-      counted = ap lengths_of same ∙ sym n;
-    }
+    grind (arith, nat_tests, parts-from-their-lengths-and-text)
 
 -- building: the text and the lengths are a builder's draft, and these are its parts
 pub record IsDraftOfParts (p : BuilderParts) (lengths : Lengths) (text : List ℕ) : Type 0 where
@@ -126,10 +108,8 @@ pub record IsDraftOfParts (p : BuilderParts) (lengths : Lengths) (text : List �
 pub text-of-parts-is-their-draft : (p : BuilderParts) (lengths : Lengths) (text : List ℕ)
     → p.failed ≡ false
     → lengths ≡ lengths_of p → text ≡ parts_text p → IsDraftOfParts p lengths text
-text-of-parts-is-their-draft p lengths text f n t = record {
-  draft = text-of-parts-is-draft p lengths text f n t;
-  parts = ap (parts_in lengths text) (sym f) ∙ parts-from-their-lengths-and-text p lengths text n t;
-}
+text-of-parts-is-their-draft p lengths text f n t =
+    grind (arith, nat_tests, text-of-parts-is-draft, parts-from-their-lengths-and-text)
 
 -- building: each of a builder's parts is absent or meets its rule
 pub record MeetsEachRule (kind : Kind) (p : BuilderParts) : Type 0 where
@@ -142,13 +122,7 @@ pub record MeetsEachRule (kind : Kind) (p : BuilderParts) : Type 0 where
 -- building: parts that pass the test `meet_rules` meet each rule of the grammar
 pub meet_rules-gives-rules : (kind : Kind) (p : BuilderParts) → meet_rules kind p ≡ true
     → MeetsEachRule kind p
-meet_rules-gives-rules kind p e =
-    let a = and_parts (absent_or_passes p.scheme is_scheme_text) _ e in
-    let b = and_parts (absent_or_passes p.authority (is_authority_text kind)) _ a.1 in
-    let c = and_parts (absent_or_passes p.path (is_text_for kind.path)) _ b.1 in
-    let d = and_parts (absent_or_passes p.query (is_text_for kind.query))
-    (absent_or_passes p.fragment (is_text_for kind.fragment)) c.1 in
-    record { scheme = a.0; authority = b.0; path = c.0; query = d.0; fragment = d.1 }
+meet_rules-gives-rules kind p e = grind (arith, nat_tests)
 
 -- building: parts that meet each rule of the grammar pass the test `meet_rules`
 pub rules-give-meet_rules : (kind : Kind) (p : BuilderParts) → MeetsEachRule kind p
@@ -170,11 +144,7 @@ pub recompose-with-authority-appended : (scheme : Option (List ℕ)) (a : List �
     ++ (codes "//" ++ a)
     ≡ recompose
     (record { scheme = scheme; authority = Some a; path = []; query = None; fragment = None })
-recompose-with-authority-appended scheme a =
-    let S : List ℕ = marked [] scheme (codes ":") in
-    ap (λ t. t ++ (codes "//" ++ a)) (append-nil S)
-    ∙ ap (λ t. S ++ (codes "//" ++ t)) (sym (append-nil a))
-    ∙ ap (λ t. S ++ t) (sym (append-nil ((codes "//" ++ a) ++ [])))
+recompose-with-authority-appended scheme a = grind (arith, nat_tests, append-nil)
 
 -- building: appending to an authority that ends the text recomposes the longer authority
 pub recompose-with-longer-authority : (scheme : Option (List ℕ)) (a more : List ℕ)
@@ -189,21 +159,7 @@ pub recompose-with-longer-authority : (scheme : Option (List ℕ)) (a more : Lis
           None;
       fragment = None;
     })
-recompose-with-longer-authority scheme a more =
-    let S : List ℕ = marked [] scheme (codes ":") in
-    let whole = λ (x : List ℕ). recompose
-    (record {
-      scheme = scheme;
-      authority = Some x;
-      path = [];
-      query = None;
-      fragment =
-          None;
-    }) in
-    let bare : (x : List ℕ) → whole x ≡ S ++ (codes "//" ++ x) =
-    λ x. sym (sym (ap (λ t. S ++ t) (append-nil ((codes "//" ++ x) ++ []))) ∙ refl)
-    ∙ ap (λ t. S ++ (codes "//" ++ t)) (append-nil x) in
-    ap (λ t. t ++ more) (bare a) ∙ append_assoc S (codes "//" ++ a) more ∙ sym (bare (a ++ more))
+recompose-with-longer-authority scheme a more = grind (arith, nat_tests, append-nil, append_assoc)
 
 -- building: appending a path to scheme and authority recomposes the three
 pub recompose-with-path-appended : (scheme authority : Option (List ℕ)) (x : List ℕ)
@@ -218,11 +174,7 @@ pub recompose-with-path-appended : (scheme authority : Option (List ℕ)) (x : L
     ++ x
     ≡ recompose
     (record { scheme = scheme; authority = authority; path = x; query = None; fragment = None })
-recompose-with-path-appended scheme authority x =
-    let S : List ℕ = marked [] scheme (codes ":") in
-    let A : List ℕ = marked (codes "//") authority [] in
-    ap (λ t. (S ++ t) ++ x) (append-nil A) ∙ append_assoc S A x
-    ∙ ap (λ t. S ++ (A ++ t)) (sym (append-nil x))
+recompose-with-path-appended scheme authority x = grind (arith, nat_tests, append-nil, append_assoc)
 
 -- building: appending `?` and a query recomposes the parts with the query
 pub recompose-with-query-appended : (scheme authority : Option (List ℕ)) (path x : List ℕ)
@@ -244,13 +196,7 @@ pub recompose-with-query-appended : (scheme authority : Option (List ℕ)) (path
       fragment = None;
     })
 recompose-with-query-appended scheme authority path x =
-    let S : List ℕ = marked [] scheme (codes ":") in
-    let A : List ℕ = marked (codes "//") authority [] in
-    let Q : List ℕ = codes "?" ++ x in
-    ap (λ t. (S ++ (A ++ t)) ++ Q) (append-nil path) ∙ append_assoc S (A ++ path) Q
-    ∙ ap (λ t. S ++ t) (append_assoc A path Q)
-    ∙ ap (λ t. S ++ (A ++ (path ++ (codes "?" ++ t)))) (sym (append-nil x))
-    ∙ ap (λ t. S ++ (A ++ (path ++ t))) (sym (append-nil ((codes "?" ++ x) ++ [])))
+    grind (arith, nat_tests, append-nil, append_assoc)
 
 -- building: appending `#` and a fragment recomposes the parts with the fragment
 pub recompose-with-fragment-appended : (scheme authority query : Option (List ℕ)) (path x : List ℕ)
@@ -272,11 +218,4 @@ pub recompose-with-fragment-appended : (scheme authority query : Option (List �
       fragment = Some x;
     })
 recompose-with-fragment-appended scheme authority query path x =
-    let S : List ℕ = marked [] scheme (codes ":") in
-    let A : List ℕ = marked (codes "//") authority [] in
-    let Q : List ℕ = marked (codes "?") query [] in
-    let F : List ℕ = codes "#" ++ x in
-    ap (λ t. (S ++ (A ++ (path ++ t))) ++ F) (append-nil Q) ∙ append_assoc S (A ++ (path ++ Q)) F
-    ∙ ap (λ t. S ++ t) (append_assoc A (path ++ Q) F)
-    ∙ ap (λ t. S ++ (A ++ t)) (append_assoc path Q F)
-    ∙ ap (λ t. S ++ (A ++ (path ++ (Q ++ (codes "#" ++ t))))) (sym (append-nil x))
+    grind (arith, nat_tests, append-nil, append_assoc)

@@ -1,19 +1,19 @@
 -- What each step keeps of a builder's parts: each meets its rule, and they are at the next place.
 use Rattle.std.proofs.Common.{◌≡◌, ℕ, Bool, true, false, ◌&&◌, ◌||◌, List, [], ◌++◌, refl, sym, ap}
-use Rattle.std.proofs.Common.{◌∙◌}
+use Rattle.std.proofs.Common.{◌∙◌, arith}
 use Rattle.std.specs.Prelude.{Option, Some, None, is_some, is_none, option_map}
 use Rattle.std.specs.Option.{option_map_or}
 use Rattle.std.proofs.lemmas.Bool.{and_parts, and_from, false≢true}
+use Rattle.std.proofs.lemmas.Bool.Decides.{nat_tests}
 use Rattle.uri_parts.specs.Grammar.{Kind, absent_or_passes}
-use Rattle.uri_ops.specs.BuilderParts.{AddsUnlessFailed, BuilderParts, MeetsOrFailed, is_authority_text}
-use Rattle.uri_ops.specs.BuilderParts.{is_scheme_text}
-use Rattle.uri_ops.specs.BuilderParts.{is_text_for, meet_rules, with_authority, with_fragment}
-use Rattle.uri_ops.specs.BuilderParts.{with_more_authority, with_path, with_query, with_scheme}
+use Rattle.uri_ops.specs.BuilderParts.{AddsUnlessFailed, BuilderParts, MeetsOrFailed}
+use Rattle.uri_ops.specs.BuilderParts.{is_authority_text, is_scheme_text, is_text_for, meet_rules}
+use Rattle.uri_ops.specs.BuilderParts.{with_authority, with_fragment, with_more_authority}
+use Rattle.uri_ops.specs.BuilderParts.{with_path, with_query, with_scheme}
 use Rattle.uri_ops.specs.Builders.{any_authority, ends_in_authority, has_path}
 use Rattle.uri_ops.specs.Builders.{has_path_before_fragment, has_path_last, has_needed_scheme}
-use Rattle.uri_ops.specs.Builders.{is_fresh}
-use Rattle.uri_ops.specs.Builders.{lacks_query_and_fragment, lacks_all, lacks_authority, lacks_path}
-use Rattle.uri_ops.specs.Builders.{is_in_order}
+use Rattle.uri_ops.specs.Builders.{is_fresh, lacks_query_and_fragment, lacks_all, lacks_authority}
+use Rattle.uri_ops.specs.Builders.{lacks_path, is_in_order}
 use Rattle.uri_ops.specs.Dots.{is_empty}
 use Rattle.uri_ops.proofs.Builders.BuilderDrafts.{second-holds-if-first-is-false}
 use Rattle.uri_ops.proofs.Builders.BuilderGrowth.{ExtendsAuthority}
@@ -26,8 +26,7 @@ pub in-order-parts-pass-their-test : (test : BuilderParts → Bool) (needs : Boo
     × (test p ≡ true)
 unfolding is_in_order
 in-order-parts-pass-their-test test needs p h whole =
-    and_parts (has_needed_scheme needs p) (test p)
-    (second-holds-if-first-is-false p.failed _ whole h)
+    grind (arith, nat_tests, second-holds-if-first-is-false)
 
 -- building: a new builder has no parts, unless it is marked failed;
 -- the Bool is whether the kind needs a scheme
@@ -65,18 +64,17 @@ pub path-last-lacks-query-and-fragment : (needs : Bool) (p : BuilderParts)
     → is_in_order has_path_last needs p ≡ true
     → p.failed ≡ false → lacks_query_and_fragment p ≡ true
 path-last-lacks-query-and-fragment needs p h whole =
-    (and_parts (is_some p.path) (lacks_query_and_fragment p)
-    (in-order-parts-pass-the-test has_path_last needs p h whole)).1
+    grind (arith, nat_tests, in-order-parts-pass-the-test)
 
 -- building: before the fragment there is none yet; the Bool is whether the kind needs a scheme
 pub before-fragment-lacks-fragment : (needs : Bool) (p : BuilderParts)
     → is_in_order has_path_before_fragment needs p ≡ true → p.failed ≡ false → is_none p.fragment
     ≡ true
 before-fragment-lacks-fragment needs p h whole =
-    (and_parts (is_some p.path) (is_none p.fragment)
-    (in-order-parts-pass-the-test has_path_before_fragment needs p h whole)).1
+    grind (arith, nat_tests, in-order-parts-pass-the-test)
 
-module _ (change : BuilderParts → BuilderParts) (p q : BuilderParts) (adds : AddsUnlessFailed change p q)
+module _ (change : BuilderParts → BuilderParts) (p q : BuilderParts)
+    (adds : AddsUnlessFailed change p q)
     (same : (change p).failed ≡ p.failed) where
   pub failure-is-kept : q.failed ≡ false → p.failed ≡ false
   failure-is-kept e = sym same ∙ sym (ap (λ (r : BuilderParts). r.failed) (adds e)) ∙ e
@@ -104,16 +102,10 @@ module _ (kind : Kind) (needs : Bool) (p q : BuilderParts) (x : List ℕ) where
       (with_scheme x) p q adds refl kind
       (λ e. let r = meet_rules-gives-rules kind p (meets e) in
       rules-give-meet_rules kind (with_scheme x p)
-      (record {
-        scheme = rule;
-        authority = r.authority;
-        path = r.path;
-        query =
-            r.query;
-        fragment = r.fragment;
-      }))
+      (assumption r))
 
-  pub parts-with-scheme-are-in-order : AddsUnlessFailed (with_scheme x) p q → is_fresh needs p ≡ true
+  pub parts-with-scheme-are-in-order : AddsUnlessFailed (with_scheme x) p q → is_fresh needs p ≡
+      true
       → is_in_order lacks_authority needs q ≡ true
   parts-with-scheme-are-in-order adds before = changed-parts-are-in-order (with_scheme x) p q adds
       refl lacks_authority needs
@@ -121,27 +113,20 @@ module _ (kind : Kind) (needs : Bool) (p q : BuilderParts) (x : List ℕ) where
       (and_parts (is_none p.scheme) (lacks_authority p)
       (fresh-builder-lacks-all-parts needs p before e)).1)
 
-  pub parts-with-authority-meet-rules : AddsUnlessFailed (with_authority x) p q → MeetsOrFailed kind p
+  pub parts-with-authority-meet-rules : AddsUnlessFailed (with_authority x) p q → MeetsOrFailed kind
+      p
       → is_authority_text kind x ≡ true
       → MeetsOrFailed kind q
   parts-with-authority-meet-rules adds meets rule = changed-parts-meet-rules (with_authority x) p q
       adds refl kind
       (λ e. let r = meet_rules-gives-rules kind p (meets e) in
       rules-give-meet_rules kind (with_authority x p)
-      (record {
-        scheme = r.scheme;
-        authority = rule;
-        path = r.path;
-        query =
-            r.query;
-        fragment = r.fragment;
-      }))
+      (assumption r))
 
   parts_before_authority_lack_path : is_in_order lacks_authority needs p ≡ true → p.failed ≡ false
       → (has_needed_scheme needs p ≡ true) × (lacks_path p ≡ true)
-  parts_before_authority_lack_path before e = let h = in-order-parts-pass-their-test lacks_authority
-      needs p before e in
-      (h.0, (and_parts (is_none p.authority) (lacks_path p) h.1).1)
+  parts_before_authority_lack_path before e =
+      grind (arith, nat_tests, in-order-parts-pass-their-test)
 
   pub parts-with-authority-are-in-order : AddsUnlessFailed (with_authority x) p q
       → is_in_order lacks_authority needs p
@@ -168,16 +153,10 @@ module _ (kind : Kind) (needs : Bool) (p q : BuilderParts) (x : List ℕ) where
   parts-with-path-meet-rules adds meets rule = changed-parts-meet-rules
       (with_path x) p q adds refl kind
       (λ e. let r = meet_rules-gives-rules kind p (meets e) in
-      rules-give-meet_rules kind (with_path x p) (record {
-        scheme = r.scheme;
-        authority = r.authority;
-        path = rule;
-        query = r.query;
-        fragment =
-            r.fragment;
-      }))
+      rules-give-meet_rules kind (with_path x p) (assumption r))
 
-  pub parts-with-path-are-in-order : AddsUnlessFailed (with_path x) p q → is_in_order lacks_path needs p
+  pub parts-with-path-are-in-order : AddsUnlessFailed (with_path x) p q → is_in_order lacks_path
+      needs p
       ≡ true
       → is_in_order has_path_last needs q ≡ true
   parts-with-path-are-in-order adds before = changed-parts-are-in-order (with_path x) p q adds refl
@@ -194,14 +173,7 @@ module _ (kind : Kind) (needs : Bool) (p q : BuilderParts) (x : List ℕ) where
       (with_query x) p q adds refl kind
       (λ e. let r = meet_rules-gives-rules kind p (meets e) in
       rules-give-meet_rules kind (with_query x p)
-      (record {
-        scheme = r.scheme;
-        authority = r.authority;
-        path = r.path;
-        query =
-            rule;
-        fragment = r.fragment;
-      }))
+      (assumption r))
 
   pub parts-with-query-are-in-order : AddsUnlessFailed (with_query x) p q
       → is_in_order has_path_last needs p ≡ true
@@ -220,14 +192,7 @@ module _ (kind : Kind) (needs : Bool) (p q : BuilderParts) (x : List ℕ) where
       adds refl kind
       (λ e. let r = meet_rules-gives-rules kind p (meets e) in
       rules-give-meet_rules kind (with_fragment x p)
-      (record {
-        scheme = r.scheme;
-        authority = r.authority;
-        path = r.path;
-        query =
-            r.query;
-        fragment = rule;
-      }))
+      (assumption r))
 
   pub parts-with-fragment-are-in-order : AddsUnlessFailed (with_fragment x) p q
       → is_in_order has_path_before_fragment needs p
@@ -267,14 +232,7 @@ module _ (kind : Kind) (needs : Bool) (p q : BuilderParts) (x : List ℕ) (takes
       changed-parts-meet-rules (with_more_authority x) p q adds refl kind
       (λ e. let r = meet_rules-gives-rules kind p (meets e) in
       rules-give-meet_rules kind (with_more_authority x p)
-      (record {
-        scheme = r.scheme;
-        authority = (authority-of-parts-is-extended f e).rule;
-        path = r.path;
-        query =
-            r.query;
-        fragment = r.fragment;
-      }))
+      (assumption (r, authority-of-parts-is-extended f e)))
       f
 
   pub parts-with-longer-authority-are-in-order : is_in_order (ends_in_authority then) needs q ≡ true

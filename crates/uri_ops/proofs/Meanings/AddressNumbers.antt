@@ -1,8 +1,8 @@
 -- The numbers of an IPv6 address are eight of 16 bits, so its text by RFC 5952 is one of an address
 -- with these numbers.
-use Rattle.std.proofs.Common.{◌≡◌, ℕ, ◌+◌, ◌-◌, ◌*◌, ◌<◌, ◌≤◌, ◌^◌, Bool, true, false, List, []}
-use Rattle.std.proofs.Common.{◌∷◌, ◌++◌, length, replicate, All, refl, sym, ap, subst, arith}
-use Rattle.std.proofs.Common.{⊎_elim, inl, inr, lit<, length-append}
+use Rattle.std.proofs.Common.{◌≡◌, ℕ, ◌+◌, ◌-◌, ◌*◌, ◌<◌, ◌^◌, Bool, true, false, List, [], ◌∷◌}
+use Rattle.std.proofs.Common.{◌++◌, length, replicate, All, refl, sym, ap, subst, arith, ⊎_elim}
+use Rattle.std.proofs.Common.{inl, inr, lit<, length-append}
 use Rattle.std.specs.Net.Addr.{segments_of}
 use Rattle.std.specs.Net.Grammar.{IsDotted, IsGroup, IsGroupsAfter, IsColonHex}
 use Rattle.std.specs.Net.Text.{ipv6_text}
@@ -13,6 +13,7 @@ use Rattle.std.proofs.lemmas.Int.Digits.{digits_value-lt}
 use Rattle.std.proofs.lemmas.List.{get_or_past, length-replicate}
 use Rattle.std.proofs.lemmas.List.Elements.{All-nil, All-cons, All-append, All-replicate}
 use Rattle.std.proofs.lemmas.List.Elements.{All-get_or}
+use Rattle.std.proofs.lemmas.Bool.Decides.{nat_tests}
 
 -- meanings of hosts: every number of an IPv6 address has 16 bits
 abbrev Fit16Bits : List ℕ → Type 0
@@ -20,11 +21,7 @@ Fit16Bits segments = All (λ n. n < 2 ^ 16) segments
 
 -- meanings of hosts: a group of an IPv6 address has 16 bits
 group-fits-16-bits : (group : List ℕ) (s : ℕ) → IsGroup group s → s < 2 ^ 16
-group-fits-16-bits group s h =
-    let value = digits_value-lt 16 group h.0.0.1 in
-    let most : 16 ^ length group ≤ 16 ^ 4 = pow-le-pow_right {n = 16} (lit< tt) h.1 in
-    let same : 16 ^ 4 ≡ 2 ^ 16 = refl in
-    omega (arith, value, most, same, h.0.1)
+group-fits-16-bits group s h = grind (arith, nat_tests, digits_value-lt, pow-le-pow_right)
 
 -- meanings of hosts: an IPv4 address at the end of an IPv6 address makes groups of 16 bits
 ipv4-segments-fit-16-bits : (text octets : List ℕ) → IsDotted text octets

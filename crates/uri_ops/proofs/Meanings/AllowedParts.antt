@@ -1,7 +1,7 @@
 -- Texts that a set allows, cut at `/`, and their decoded forms as printed.
 use Rattle.std.proofs.Common.{◌≡◌, ℕ, ◌+◌, ◌*◌, Bool, true, false, eqb, List, [], ◌∷◌, ◌++◌, refl}
-use Rattle.std.proofs.Common.{ap, ◌∙◌, ◌&&◌, ⊎_elim, lit<}
-use Rattle.std.specs.Char.{encode_utf8, digit_value, is_ascii_hexdigit}
+use Rattle.std.proofs.Common.{ap, ◌∙◌, ◌&&◌, ⊎_elim, lit<, arith}
+use Rattle.std.specs.Char.{digit_value, is_ascii_hexdigit}
 use Rattle.std.specs.List.{list_all}
 use Rattle.std.specs.Str.{chars, IsUtf8, is_utf8}
 use Rattle.std.proofs.lemmas.Str.{IsUtf8-from_is_utf8, is_utf8-from_IsUtf8, IsUtf8-nil}
@@ -9,10 +9,10 @@ use Rattle.std.proofs.lemmas.Str.{chars-append, encode_ascii}
 use Rattle.std.proofs.lemmas.List.Concat.{flat_map-append}
 use Rattle.std.proofs.lemmas.List.Folds.{list_all-append}
 use Rattle.std.proofs.lemmas.Bool.{cases_Bool, cond-false, and_right, and_parts, and_from}
+use Rattle.std.proofs.lemmas.Bool.Decides.{nat_tests}
 use Rattle.uri_pct.specs.Sets.{TableSet, LacksPercent, IsSubset, unreserved_set, allows}
 use Rattle.uri_pct.specs.Tokens.{Token, Char, Octet, tokens, tokens_from_chars, bytes_decoded_from}
-use Rattle.uri_pct.specs.Tokens.{is_pct_encoded, text_of_token, print, allows_token, is_valid_for}
-use Rattle.uri_pct.specs.Tokens.{IsValidFor}
+use Rattle.uri_pct.specs.Tokens.{is_pct_encoded, print, allows_token, is_valid_for, IsValidFor}
 use Rattle.uri_pct.specs.DecodeUnreserved.{is_printable, decode_unreserved, decode_run}
 use Rattle.uri_pct.specs.DecodeUnreserved.{decode_after_run, decode_tokens, encode_formatting}
 use Rattle.uri_pct.specs.Pieces.{pieces_from}
@@ -20,12 +20,12 @@ use Rattle.uri_pct.proofs.UnreservedDecoding.Printing.{printed_tokens_parse_to_t
 use Rattle.uri_pct.proofs.UnreservedDecoding.Printing.{printed_tokens_are_utf8}
 use Rattle.uri_pct.proofs.UnreservedDecoding.Printing.{char_but_percent_is_its_own_token}
 use Rattle.uri_pct.proofs.ValidTexts.Allowed.{valid_text_has_printable_tokens}
-use Rattle.uri_pct.proofs.UnreservedDecoding.DecodedTokens.{decode_unreserved_keeps_tokens_printable}
 use Rattle.uri_pct.proofs.UnreservedDecoding.DecodedTokens.{printed_decode_unreserved_stays_valid}
 use Rattle.uri_pct.proofs.UnreservedDecoding.DecodedTokens.{decode_unreserved_keeps_bytes}
 use Rattle.uri_pct.proofs.UnreservedDecoding.DecodedTokens.{char_separates_decoded_tokens}
 use Rattle.uri_pct.proofs.UnreservedDecoding.Formatting.{ascii_char_separates_encode_formatting}
 use Rattle.uri_pct.proofs.UnreservedDecoding.DecodedTwice.{decode_unreserved_is_idempotent}
+use Rattle.uri_pct.proofs.UnreservedDecoding.DecodedTokens as DecodedTokens
 
 -- a text in UTF-8 that the set allows
 unfoldable pub is_set_text : TableSet → List ℕ → Bool
@@ -70,7 +70,8 @@ module _ (set : TableSet) (lacks : LacksPercent set) where
 
   pub decoded-set-text-is-printable : (text : List ℕ) → is_set_text set text ≡ true
       → list_all is_printable (decode_unreserved set text) ≡ true
-  decoded-set-text-is-printable text e = decode_unreserved_keeps_tokens_printable set text
+  decoded-set-text-is-printable text e = DecodedTokens.decode_unreserved_keeps_tokens_printable set
+      text
       (set-text-has-printable-tokens text e)
 
   tokens-of-decoded-text : (text : List ℕ) → is_set_text set text ≡ true
@@ -114,9 +115,7 @@ slash-is-no-first-hex-digit c d = and_right (eqb c 37) (is_ascii_hexdigit 47 && 
 -- meanings, by tokens: `/` (47) is no second digit of an octet
 slash-is-no-second-hex-digit : (c d : ℕ) → is_pct_encoded c d 47 ≡ false
 unfolding is_pct_encoded
-slash-is-no-second-hex-digit c d = and_right (eqb c 37)
-    (is_ascii_hexdigit d && is_ascii_hexdigit 47)
-    (and_right (is_ascii_hexdigit d) false refl)
+slash-is-no-second-hex-digit c d = grind (arith, nat_tests)
 
 -- meanings, by tokens: those of characters with a `/` (47) are those on each side of it, and it
 tokens_from_chars-splits-at-slash : (cs ds : List ℕ)
@@ -164,9 +163,7 @@ decode_unreserved-splits-at-slash set x y u =
 -- meanings, by tokens: tokens are written on each side of a `/` (47) by themselves
 print-splits-at-slash : (ts us : List Token) → print (ts ++ Char 47 ∷ us)
     ≡ print ts ++ 47 ∷ print us
-print-splits-at-slash ts us =
-    let slash : encode_utf8 47 ≡ 47 ∷ [] = encode_ascii 47 (lit< tt) in
-    flat_map-append text_of_token ts (Char 47 ∷ us) ∙ ap (λ t. print ts ++ (t ++ print us)) slash
+print-splits-at-slash ts us = grind (arith, nat_tests, encode_ascii, flat_map-append)
 
 -- meanings of paths: a path is decoded on each side of a `/` (47) by itself
 pub decoding-splits-at-slash : (set : TableSet) (x y : List ℕ) → IsUtf8 x

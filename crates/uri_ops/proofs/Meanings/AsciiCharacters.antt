@@ -112,10 +112,7 @@ lowered-ascii-passes-test test keeps (c ∷ text) e =
 pub lowering-is-idempotent : (text : List ℕ)
     → str_to_ascii_lowercase (str_to_ascii_lowercase text) ≡ str_to_ascii_lowercase text
 lowering-is-idempotent [] = refl
-lowering-is-idempotent (c ∷ text) = ap
-    (λ d. d ∷ str_to_ascii_lowercase (str_to_ascii_lowercase text))
-    (lowercase-lowercase c)
-    ∙ ap (λ t. to_ascii_lowercase c ∷ t) (lowering-is-idempotent text)
+lowering-is-idempotent (c ∷ text) = cc (lowercase-lowercase c, lowering-is-idempotent text)
 
 -- meanings of schemes: a character of a scheme is one in lower case
 lowered-scheme-character-is-scheme-character : (c : ℕ) → is_scheme_char c ≡ true

@@ -1,4 +1,5 @@
--- What is appended to a text is ASCII: characters, and octets that are decoded or written as they are.
+-- What is appended to a text is ASCII: characters, and octets that are decoded or written as they
+-- are.
 use Rattle.std.proofs.Common.{◌≡◌, ℕ, ◌+◌, ◌*◌, ◌<◌, Bool, true, false, List, [], ◌∷◌, ◌++◌, length}
 use Rattle.std.proofs.Common.{take, drop, refl, sym, ap, subst, ◌∙◌, append_assoc, take_all, arith}
 use Rattle.std.proofs.Common.{⊎_elim, append-nil, eqb, suc}
@@ -33,12 +34,7 @@ text-is-old-and-suffix old new a = sym (take-append-drop (length old) new)
 
 -- ASCII suffixes: a text itself has an empty suffix
 pub no-suffix-is-ascii : (old : List ℕ) → AppendsAscii old old
-no-suffix-is-ascii old =
-    let none : drop (length old) old ≡ [] = drop_all (length old) old (omega arith) in
-    record {
-      kept = take_all (length old) old (omega arith);
-      ascii = subst IsAscii (sym none) IsAscii-nil;
-    }
+no-suffix-is-ascii old = grind (arith, nat_tests, drop_all, take_all, IsAscii-nil)
 
 -- ASCII suffixes: after more ASCII is appended, the suffix is ASCII
 pub longer-suffix-is-ascii : (old out new more : List ℕ) → AppendsAscii old out

@@ -7,6 +7,7 @@ use Rattle.std.specs.List.{list_any, list_all}
 use Rattle.std.specs.Str.{IsUtf8}
 use Rattle.std.proofs.lemmas.Str.{IsUtf8-append, IsUtf8-nil}
 use Rattle.std.proofs.lemmas.Bool.{and_parts, and_from, or_parts, or_from, not_from_false, not-true}
+use Rattle.std.proofs.lemmas.Bool.Decides.{nat_tests}
 use Rattle.uri_pct.specs.Sets.{TableSet, is_one_of, digit_set}
 use Rattle.uri_pct.specs.Tokens.{IsValidFor}
 use Rattle.uri_pct.specs.DecodeUnreserved.{decode_unreserved}
@@ -66,14 +67,8 @@ fewer-delimiters-are-excluded-too set all (m ∷ some) within e =
 -- meanings of authorities: userinfo and host of a kind cannot contain what ends an authority
 pub kind-sets-lack-authority-delimiters : (kind : Kind) → HasComponentSets kind
     → LackAuthorityDelimiters kind.userinfo kind.reg_name
-kind-sets-lack-authority-delimiters kind sets = record {
-  users_percent = sets.userinfo.percent;
-  names_percent = sets.reg_name.percent;
-  users_marks = fewer-delimiters-are-excluded-too kind.userinfo (codes "/?#[]@")
-      (codes "@") refl sets.userinfo.ends;
-  names_marks = fewer-delimiters-are-excluded-too kind.reg_name (codes "/?#[]@:")
-      (codes "@:[") refl sets.reg_name.ends;
-}
+kind-sets-lack-authority-delimiters kind sets =
+    grind (arith, nat_tests, fewer-delimiters-are-excluded-too)
 
 -- meanings of authorities: userinfo, host and port are UTF-8
 pub record PartsUtf8 (p : AuthorityParts) : Type 0 where
@@ -275,9 +270,8 @@ module _ (kind : Kind) (sets : HasComponentSets kind) (default : Option ℕ) (a 
       ∙ (λ i. record { userinfo = user_decoded i; host = host_decoded i; port = port_decoded i })
 
   userinfo-set-excludes-authority-ends : excludes users (codes "/?#") ≡ true
-  userinfo-set-excludes-authority-ends = fewer-characters-are-excluded-too (codes "/?#")
-      (codes "[]@") users
-      (ends-are-excluded-from-set (codes "/?#[]@") users refl sets.userinfo.ends)
+  userinfo-set-excludes-authority-ends =
+      grind (arith, nat_tests, fewer-characters-are-excluded-too, ends-are-excluded-from-set)
 
   normal-authority-lacks-its-ends : Lacks (codes "/?#") (recompose_authority normal)
   normal-authority-lacks-its-ends =

@@ -1,20 +1,19 @@
 -- What a host means, by whether it begins with `[`.
-use Rattle.std.proofs.Common.{◌≡◌, ℕ, true, false, List, map, refl, sym, ap, ◌∙◌}
+use Rattle.std.proofs.Common.{◌≡◌, ℕ, true, false, List, map, refl, sym, arith}
 use Rattle.std.specs.Prelude.{Option, Some, None}
-use Rattle.std.proofs.lemmas.Bool.{cond-true, cond-false}
 use Rattle.std.specs.Str.{str_to_ascii_lowercase}
+use Rattle.std.proofs.lemmas.Bool.Decides.{nat_tests}
 use Rattle.uri_pct.specs.DecodeUnreserved.{decode_unreserved, lower_token}
 use Rattle.uri_pct.specs.Sets.{TableSet}
 use Rattle.uri_pct.specs.Tokens.{print}
 use Rattle.uri_parts.specs.Components.{starts}
-use Rattle.uri_parts.specs.Hosts.{IpvFuture, host_kind, ipv4_value, ipv6_value, literal_of}
-use Rattle.uri_parts.specs.Hosts.{literal_kind, name_kind}
+use Rattle.uri_parts.specs.Hosts.{IpvFuture, host_kind, literal_kind, name_kind}
 use Rattle.uri_parts.specs.AuthorityTexts.{host_kind_of}
 use Rattle.uri_parts.specs.declared.component.HostOf.{HostOf}
-use Rattle.uri_parts.specs.declared.component.HostOf.TheVariants as Of
 use Rattle.uri_parts.specs.declared.net.Ipv6Addr.{Ipv6Addr}
 use Rattle.uri_ops.specs.Meaning.{host_meaning}
 use Rattle.uri_ops.specs.Normal.{host_text}
+use Rattle.uri_parts.specs.declared.component.HostOf.TheVariants as Of
 
 -- meanings of hosts: an IPv4 address is written as a name is, decoded and in lower case
 name_kind-prints-lowered-decoded-name : (names : TableSet) (host : List ℕ) (value : Option (List ℕ))
@@ -28,9 +27,8 @@ pub normal-name-is-lowered-decoded : (names : TableSet) (host : List ℕ) → st
     → host_text (host_meaning names host (host_kind host))
     ≡ print (map lower_token (decode_unreserved names host))
 unfolding host_kind
-normal-name-is-lowered-decoded names host s = ap (λ k. host_text (host_meaning names host k))
-    (cond-false _ _ _ s)
-    ∙ name_kind-prints-lowered-decoded-name names host (ipv4_value host)
+normal-name-is-lowered-decoded names host s =
+    grind (arith, nat_tests, name_kind-prints-lowered-decoded-name)
 
 -- meanings of hosts: what is in brackets, and is no IPv6 address, is an IPvFuture address
 literal-without-ipv6-is-ipvfuture : {N : Type 0} (h : HostOf N) (value : Option (List ℕ))
@@ -49,7 +47,4 @@ pub normal-ipvfuture-is-lowered : {N : Type 0} (h : HostOf N) (names : TableSet)
     → host_text (host_meaning names host (host_kind host)) ≡ str_to_ascii_lowercase host
 unfolding host_kind
 normal-ipvfuture-is-lowered h names host other s e =
-    let literal = cond-true _ _ _ s in
-    ap (λ k. host_text (host_meaning names host k))
-    (literal ∙ literal-without-ipv6-is-ipvfuture h (ipv6_value (literal_of host)) other
-    (e ∙ literal))
+    grind (arith, nat_tests, literal-without-ipv6-is-ipvfuture)

@@ -1,6 +1,6 @@
 -- What is written of a part, as it is or with its letters lowered.
-use Rattle.std.proofs.Common.{◌≡◌, ℕ, ◌≤◌, Bool, true, false, List, [], ◌∷◌, ◌++◌, ◌||◌, map, refl}
-use Rattle.std.proofs.Common.{sym, ap, subst, ◌∙◌, arith, ⊎_elim}
+use Rattle.std.proofs.Common.{◌≡◌, ℕ, ◌≤◌, Bool, true, false, List, [], ◌∷◌, ◌++◌, map, refl, sym}
+use Rattle.std.proofs.Common.{ap, subst, ◌∙◌, arith, ⊎_elim}
 use Rattle.std.specs.Prelude.{slice_index}
 use Rattle.std.specs.List.{list_all, flat_map, All}
 use Rattle.std.specs.Char.{encode_utf8, to_ascii_lowercase}
@@ -14,7 +14,7 @@ use Rattle.std.proofs.lemmas.Str.{encodes-chars, scalars-chars, chars-encodes, e
 use Rattle.std.proofs.lemmas.Str.Ascii.{lowercase_ascii}
 use Rattle.uri_pct.specs.Encoding.{encode_char, encode_text, encode_piece}
 use Rattle.uri_pct.specs.Parts.{ArePastAscii}
-use Rattle.uri_pct.specs.Pieces.{Piece, WellFormed, IllFormed, IsOfCharacter, char_of, utf8_pieces}
+use Rattle.uri_pct.specs.Pieces.{Piece, WellFormed, IllFormed, IsOfCharacter, utf8_pieces}
 use Rattle.uri_pct.specs.DecodeUnreserved.{is_decodable, decode_piece, lower_token}
 use Rattle.uri_pct.specs.Sets.{TableSet, allows, allows_past_ascii, is_unreserved}
 use Rattle.uri_pct.specs.Tokens.{Char, Octet, print}
@@ -171,11 +171,7 @@ module _ (decodable set : TableSet) (same : AllowsDecodable decodable set) where
   decode_piece-is-encode_piece : (p : Piece) → IsOfCharacter p → decode_piece set p
       ≡ encode_piece decodable p
   decode_piece-is-encode_piece (IllFormed bytes) h = refl
-  decode_piece-is-encode_piece (WellFormed bytes) h = ⊎_elim
-      (λ e. cond-true _ _ _ e ∙ sym (cond-true _ _ _ (same (char_of bytes) ∙ e)))
-      (λ e. cond-false _ _ _ e ∙ ap (map Octet) (sym h.1)
-      ∙ sym (cond-false _ _ _ (same (char_of bytes) ∙ e)))
-      (cases_Bool (is_decodable set (char_of bytes)))
+  decode_piece-is-encode_piece (WellFormed bytes) h = grind (arith, nat_tests)
 
   decoding-pieces-is-encoding-them : (ps : List Piece) → All IsOfCharacter ps
       → flat_map (decode_piece set) ps ≡ flat_map (encode_piece decodable) ps
@@ -197,12 +193,8 @@ module _ (decodable set : TableSet) (same : AllowsDecodable decodable set) where
   lowered-decodable-is-decodable : (c : ℕ) → is_decodable set c ≡ true
       → is_decodable set (to_ascii_lowercase c) ≡ true
   unfolding is_decodable
-  lowered-decodable-is-decodable c e = ⊎_elim
-      (λ u. ap (λ b. b || allows_past_ascii set (to_ascii_lowercase c))
-      (lowered-unreserved-is-unreserved c u))
-      (λ u. subst (λ x. (is_unreserved x || allows_past_ascii set x) ≡ true)
-      (sym (not-unreserved-stays-when-lowered c u)) e)
-      (cases_Bool (is_unreserved c))
+  lowered-decodable-is-decodable c e =
+      grind (arith, nat_tests, lowered-unreserved-is-unreserved, not-unreserved-stays-when-lowered)
 
   undecodable-stays-when-lowered : (c : ℕ) → is_decodable set c ≡ false → to_ascii_lowercase c ≡ c
   unfolding is_decodable

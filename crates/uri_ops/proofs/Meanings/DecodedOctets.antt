@@ -1,23 +1,23 @@
 -- Decoding of characters, and of an octet, at the start of a text.
-use Rattle.std.proofs.Common.{◌≡◌, ℕ, ◌+◌, ◌*◌, ◌/◌, ◌%◌, ◌<◌, Bool, true, false, cond, eqb, ltb}
-use Rattle.std.proofs.Common.{not, List, [], ◌∷◌, ◌++◌, take, drop, map, refl, sym, ap, ◌∙◌, arith}
-use Rattle.std.proofs.Common.{◌&&◌, ◌||◌, ⊎_elim, append_assoc}
+use Rattle.std.proofs.Common.{◌≡◌, ℕ, ◌+◌, ◌*◌, ◌<◌, Bool, true, false, cond, eqb, ltb, not, List}
+use Rattle.std.proofs.Common.{[], ◌∷◌, ◌++◌, take, drop, map, refl, sym, ap, ◌∙◌, arith, ◌&&◌, ◌||◌}
+use Rattle.std.proofs.Common.{⊎_elim, append_assoc}
 use Rattle.std.specs.List.{flat_map}
 use Rattle.std.specs.Char.{encode_utf8, digit_value, is_ascii_hexdigit, IsScalar}
 use Rattle.std.specs.Fmt.{digit_glyph}
 use Rattle.std.proofs.Math.Bool.{or-false}
 use Rattle.std.proofs.Math.Utf8.{low_scalar}
-use Rattle.std.proofs.lemmas.Bool.{agree_below_at, cases_Bool, cond-false, and_parts, or_cases}
-use Rattle.std.proofs.lemmas.Bool.{eqb-true, ltb-true, false_from_ne_true}
+use Rattle.std.proofs.lemmas.Bool.{agree_below_at, cases_Bool, cond-false, and_parts, ltb-true}
+use Rattle.std.proofs.lemmas.Bool.{false_from_ne_true}
 use Rattle.std.proofs.lemmas.List.{append-nil}
 use Rattle.std.proofs.lemmas.Str.{encode_ascii}
+use Rattle.std.proofs.lemmas.Bool.Decides.{nat_tests}
 use Rattle.uri_pct.specs.Parts.{Decoded}
 use Rattle.uri_pct.specs.Pieces.{WellFormed, utf8_pieces}
 use Rattle.uri_pct.specs.DecodeUnreserved.{LacksPastAscii, is_decodable, decode_octet, decode_piece}
 use Rattle.uri_pct.specs.DecodeUnreserved.{decode_run, decode_after_run, decode_tokens}
-use Rattle.uri_pct.specs.Sets.{TableSet, allows_past_ascii, is_unreserved}
+use Rattle.uri_pct.specs.Sets.{TableSet, is_unreserved}
 use Rattle.uri_pct.specs.Tokens.{Token, Char, Octet, tokens, text_of_token, print}
-use Rattle.uri_pct.proofs.UnreservedDecoding.Formatting.{encode_formatting_without_flags_keeps_tokens}
 use Rattle.uri_pct.proofs.UnreservedDecoding.Octets.{text_is_decoded_octet_by_octet_in_uri}
 use Rattle.uri_pct.proofs.Unicode.CharacterPieces.{first_char_is_first_piece}
 use Rattle.uri_pct.proofs.Unicode.CharacterPieces.{char_of_utf8_is_the_char}
@@ -26,16 +26,15 @@ use Rattle.uri_pct.proofs.Decodings.Decoding.{BeginsWithOctet}
 use Rattle.uri_ops.specs.Models.Decodings.{IsOctetAt, KeepsPrefixWhenDecoded, decoded_parts}
 use Rattle.uri_ops.specs.Models.Decodings.{lowered_if, cased_append, decoded_text}
 use Rattle.uri_ops.proofs.Meanings.DecodedParts.{decode_run-of-nil-is-nil, decoded_parts-of-run}
+use Rattle.uri_pct.proofs.UnreservedDecoding.Formatting as Formatting
 
 -- meanings, decoded: characters before other tokens are not changed by decoding
 pub decode_tokens-after-chars : (set : TableSet) (cs : List ℕ) (us : List Token)
     → decode_tokens set (map Char cs ++ us) ≡ map Char cs ++ decode_tokens set us
 unfolding decode_after_run
 decode_tokens-after-chars set [] us = refl
-decode_tokens-after-chars set (c ∷ cs) us = ap
-    (λ x. x ++ Char c ∷ decode_after_run set [] (map Char cs ++ us))
-    (decode_run-of-nil-is-nil set)
-    ∙ ap (λ ts. Char c ∷ ts) (decode_tokens-after-chars set cs us)
+decode_tokens-after-chars set (c ∷ cs) us =
+    cc (decode_run-of-nil-is-nil set, decode_tokens-after-chars set cs us)
 
 -- meanings, decoded: a run of octets with a character first is decoded as that and the rest
 decode_run-of-leading-character : (set : TableSet) (c : ℕ) (more : List ℕ) → IsScalar c
@@ -58,20 +57,14 @@ decode_after_run-of-leading-character set c more (Octet value ∷ ts) scalar =
     ap (λ run. decode_after_run set run ts) (append_assoc (encode_utf8 c) more (value ∷ []))
     ∙ decode_after_run-of-leading-character set c (more ++ value ∷ []) ts scalar
 decode_after_run-of-leading-character set c more (Char d ∷ ts) scalar =
-    ap (λ x. x ++ Char d ∷ decode_after_run set [] ts)
-    (decode_run-of-leading-character set c more scalar)
-    ∙ append_assoc (decode_piece set (WellFormed (encode_utf8 c))) (decode_run set more)
-    (Char d ∷ decode_after_run set [] ts)
+    grind (arith, nat_tests, decode_run-of-leading-character, append_assoc)
 
 -- meanings, decoded: an ASCII octet is decoded exactly if its character is unreserved
 ascii-is-decodable-if-unreserved : (set : TableSet) (b : ℕ) → b < 128 → is_decodable set b
     ≡ is_unreserved b
 unfolding is_decodable
 ascii-is-decodable-if-unreserved set b low =
-    let none : allows_past_ascii set b ≡ false =
-    false_from_ne_true _ (λ e. let p = allowed_past_ascii_is_scalar set b e in absurd
-    (omega arith)) in
-    ap (λ x. is_unreserved b || x) none ∙ or-false (is_unreserved b)
+    grind (arith, nat_tests, false_from_ne_true, allowed_past_ascii_is_scalar, or-false)
 
 -- meanings, decoded: an octet is decoded to its character if it is unreserved, else kept
 decode_octet-is-character-if-unreserved : (b : ℕ)
@@ -118,7 +111,8 @@ decoded-part-of-ascii-octet lowers set b low =
 tokens-without-past-ascii-decode-alone : (set : TableSet) (text : List ℕ) → LacksPastAscii set
     → decode_tokens set (tokens text) ≡ map decode_octet (tokens text)
 tokens-without-past-ascii-decode-alone set text none =
-    sym (encode_formatting_without_flags_keeps_tokens set (decode_tokens set (tokens text))
+    sym (Formatting.encode_formatting_without_flags_keeps_tokens set
+    (decode_tokens set (tokens text))
     (ap (λ b. b && set.pct_encoded) none.0))
     ∙ text_is_decoded_octet_by_octet_in_uri set text none
 
@@ -129,14 +123,13 @@ leading-octet-token-decodes-alone : (set : TableSet) (text suffix : List ℕ) (v
     → (alone ≡ true → LacksPastAscii set) → (alone || ltb value 128) ≡ true
     → decode_tokens set (tokens text)
     ≡ decode_octet (Octet value) ∷ decode_tokens set (tokens suffix)
-leading-octet-token-decodes-alone set text suffix value alone first none e = ⊎_elim
-    (λ a.
-    tokens-without-past-ascii-decode-alone set text (none a) ∙ ap (map decode_octet) first
-    ∙ ap (λ ts. decode_octet (Octet value)
-    ∷ ts) (sym (tokens-without-past-ascii-decode-alone set suffix (none a))))
-    (λ low. ap (decode_tokens set) first
-    ∙ leading-ascii-octet-decodes-alone set value (tokens suffix) (ltb-true _ 128 low))
-    (or_cases alone (ltb value 128) e)
+leading-octet-token-decodes-alone set text suffix value alone first none e =
+    grind (
+      arith,
+      nat_tests,
+      tokens-without-past-ascii-decode-alone,
+      leading-ascii-octet-decodes-alone,
+    )
 
 -- meanings, decoded: an octet token at the start of a text is decoded by itself if its byte is
 -- ASCII, or if the set (as of URIs) lacks characters past ASCII: then alone holds
@@ -173,15 +166,7 @@ is_glyph h = not (is_ascii_hexdigit h)
 uppercase-digit-is-its-glyph : (h : ℕ) → is_ascii_hexdigit h ≡ true → h < 97
     → (digit_glyph true (digit_value h) ≡ h) × (digit_value h < 16)
 unfolding is_glyph
-uppercase-digit-is-its-glyph h digit upper =
-    let e : is_glyph h ≡ true = agree_below_at is_glyph (λ _. true) 97 h refl upper in
-    let p =
-    and_parts _ _
-    (sym
-    (ap
-    (λ b. not b || (eqb (digit_glyph true (digit_value h)) h
-    && ltb (digit_value h) 16)) digit) ∙ e) in
-    (eqb-true _ h p.0, ltb-true _ 16 p.1)
+uppercase-digit-is-its-glyph h digit upper = grind (arith, nat_tests, agree_below_at)
 
 -- meanings, decoded: an octet with digits in upper case is written as it is
 pub uppercase-octet-prints-itself : (high low : ℕ) → is_ascii_hexdigit high ≡ true
@@ -189,14 +174,7 @@ pub uppercase-octet-prints-itself : (high low : ℕ) → is_ascii_hexdigit high 
     → high < 97 → low < 97
     → text_of_token (Octet (16 * digit_value high + digit_value low)) ≡ 37 ∷ high ∷ low ∷ []
 uppercase-octet-prints-itself high low h l hu lu =
-    let p = uppercase-digit-is-its-glyph high h hu in
-    let q = uppercase-digit-is-its-glyph low l lu in
-    let above : (16 * digit_value high + digit_value low) / 16 ≡ digit_value high =
-    omega (arith, q.1) in
-    let below : (16 * digit_value high + digit_value low) % 16 ≡ digit_value low =
-    omega (arith, q.1) in
-    rw (above, below) (ap (λ x. 37 ∷ x ∷ digit_glyph true (digit_value low) ∷ []) p.0
-    ∙ ap (λ x. 37 ∷ high ∷ x ∷ []) q.0)
+    grind (arith, nat_tests, uppercase-digit-is-its-glyph)
 
 -- meanings, decoded: an octet of a reserved character with digits in upper case is kept as it is;
 -- alone: the set lacks characters past ASCII

@@ -1,6 +1,6 @@
 -- Decoding the parts of a text gives the decoding of its tokens.
 use Rattle.std.proofs.Common.{◌≡◌, ℕ, true, List, [], ◌∷◌, ◌++◌, map, refl, sym, ap, ◌∙◌}
-use Rattle.std.proofs.Common.{append_assoc}
+use Rattle.std.proofs.Common.{append_assoc, arith}
 use Rattle.std.specs.List.{list_all, flat_map}
 use Rattle.std.specs.Char.{encode_utf8, IsScalar}
 use Rattle.std.specs.Str.{chars, IsUtf8}
@@ -8,15 +8,16 @@ use Rattle.std.proofs.lemmas.Bool.{and_parts, and_from}
 use Rattle.std.proofs.lemmas.List.{append-nil, map-append}
 use Rattle.std.proofs.lemmas.List.Concat.{flat_map-append}
 use Rattle.std.proofs.lemmas.Str.{IsUtf8-encode, chars-append, chars-encodes}
+use Rattle.std.proofs.lemmas.Bool.Decides.{nat_tests}
 use Rattle.uri_pct.specs.Chunks.{Chunk, Text, Byte, prepend_to_chunks, chunks_of_tokens, widest_set}
-use Rattle.uri_pct.specs.Parts.{Literal, Decoded, parts_from, parts}
+use Rattle.uri_pct.specs.Parts.{Decoded, parts_from, parts}
 use Rattle.uri_pct.specs.Pieces.{Piece, utf8_pieces, pieces_from}
 use Rattle.uri_pct.specs.DecodeUnreserved.{is_printable, decode_piece, decode_run, decode_after_run}
 use Rattle.uri_pct.specs.DecodeUnreserved.{decode_tokens}
 use Rattle.uri_pct.specs.Sets.{TableSet}
 use Rattle.uri_pct.specs.Tokens.{Token, Char, Octet, tokens, IsValidFor}
 use Rattle.uri_pct.proofs.ValidTexts.Allowed.{valid_text_has_printable_tokens}
-use Rattle.uri_ops.specs.Models.Decodings.{decoded_part, decoded_parts}
+use Rattle.uri_ops.specs.Models.Decodings.{decoded_parts}
 use Rattle.uri_pct.proofs.Unicode.PartPieces.{printable_char_is_scalar}
 
 module _ (set : TableSet) where
@@ -40,10 +41,7 @@ module _ (set : TableSet) where
       ≡ decode_run set run ++ (map Char (chars text) ++ decoded_parts set (parts_from [] ps))
   unfolding parts_from
   decoded_parts-of-text-chunk run text ps =
-      flat_map-append (decoded_part set) (map Decoded (utf8_pieces run)) (Literal text
-      ∷ parts_from [] ps)
-      ∙ ap (λ x. x ++ (map Char (chars text) ++ decoded_parts set (parts_from [] ps)))
-      (decoded_parts-of-octet-run run)
+      grind (arith, nat_tests, flat_map-append, decoded_parts-of-octet-run)
 
   decoded_parts-of-prepended-text : (run text : List ℕ) (ps : List Chunk) → IsUtf8 text
       → decoded_parts set (parts_from run (prepend_to_chunks text ps))

@@ -2,12 +2,11 @@
 -- set has no characters past ASCII, every octet may be in it.
 use Rattle.std.proofs.Common.{◌≡◌, ℕ, take_all, ◌+◌, ◌*◌, ◌-◌, ◌<◌, Bool, true, ◌&&◌, false, eqb}
 use Rattle.std.proofs.Common.{ltb, not, List, [], ◌∷◌, ◌++◌, length, get_or, take, drop, map, ◌≤◌}
-use Rattle.std.proofs.Common.{add-zero, refl, sym, ap, subst, ◌∙◌, arith, ◌||◌, ⊎_elim, ◌⊎◌}
-use Rattle.std.proofs.Common.{append_assoc}
-use Rattle.std.specs.List.{list_all, position_or_len}
+use Rattle.std.proofs.Common.{add-zero, refl, sym, ap, subst, ◌∙◌, arith, ◌||◌, ◌⊎◌, append_assoc}
+use Rattle.std.specs.List.{position_or_len}
 use Rattle.std.specs.Char.{digit_value, is_ascii_hexdigit, to_ascii_lowercase}
 use Rattle.std.specs.Str.{chars, IsUtf8, IsCharBoundary}
-use Rattle.std.proofs.lemmas.Bool.{and_parts, ne_eqb, or_parts, or_left, or_right, lt-ltb, not-true}
+use Rattle.std.proofs.lemmas.Bool.{ne_eqb, or_parts, not-true}
 use Rattle.std.proofs.lemmas.Bool.Decides.{nat_tests}
 use Rattle.std.proofs.lemmas.List.{append-nil, take-append-drop, drop-drop, length-drop}
 use Rattle.std.proofs.lemmas.List.{get_or-drop, drop_all, drop_more, map-append}
@@ -19,8 +18,8 @@ use Rattle.uri_pct.specs.DecodeUnreserved.{LacksPastAscii, decode_octet, decode_
 use Rattle.uri_pct.specs.DecodeUnreserved.{decode_tokens, lower_token}
 use Rattle.uri_pct.specs.Sets.{TableSet}
 use Rattle.uri_pct.specs.Texts.{lacks}
-use Rattle.uri_pct.specs.Tokens.{Char, Octet, tokens, tokens_from_chars, print, allows_token}
-use Rattle.uri_pct.specs.Tokens.{is_valid_for, IsValidFor}
+use Rattle.uri_pct.specs.Tokens.{Char, Octet, tokens, tokens_from_chars, print, is_valid_for}
+use Rattle.uri_pct.specs.Tokens.{IsValidFor}
 use Rattle.uri_pct.proofs.Decodings.Decoding.{bytes_from_percent_begin_with_octet}
 use Rattle.uri_pct.proofs.Decodings.Decoding.{boundary_after_octet, tokens_after_unencoded_prefix}
 use Rattle.uri_pct.proofs.Decodings.Decoding.{first_percent_is_at_boundary, prefix_len_bytes_pass}
@@ -52,10 +51,7 @@ text-after-literal-prefix-is-valid : (prefix back : List ℕ) → IsUtf8 prefix 
     → IsValidFor widest_set (prefix ++ back) → IsValidFor widest_set back
 unfolding is_valid_for
 text-after-literal-prefix-is-valid prefix back u e v =
-    (and_parts _ _
-    (sym (list_all-append (allows_token widest_set) (map Char (chars prefix)) (tokens back))
-    ∙ sym (ap (list_all (allows_token widest_set)) (tokens_after_unencoded_prefix prefix back u e))
-    ∙ v)).1
+    grind (arith, nat_tests, list_all-append, tokens_after_unencoded_prefix)
 
 -- meanings, decoded: where the first `%` of a text is, or its length
 abbrev first_percent : List ℕ → ℕ
@@ -103,15 +99,14 @@ kept-prefixes-join : (lowers : Bool) (set : TableSet) (text : List ℕ) (n m : �
     → KeepsPrefixWhenDecoded lowers set text n → KeepsPrefixWhenDecoded lowers set (drop n text) m
     → KeepsPrefixWhenDecoded lowers set text (n + m)
 kept-prefixes-join lowers set text n m first next =
-    let prefix = take n text in
-    let more = take m (drop n text) in
-    let suffix = decoded_text lowers set (drop m (drop n text)) in
-    first ∙ ap (λ x. lowered_text_if lowers prefix ++ x) next
-    ∙ sym (append_assoc (lowered_text_if lowers prefix) (lowered_text_if lowers more) suffix)
-    ∙ ap (λ x. x ++ suffix) (sym (lowering-of-append-is-append lowers prefix more))
-    ∙ ap (λ x. lowered_text_if lowers x ++ suffix) (take_then_take_is_take_of_sum n m text)
-    ∙ ap (λ x. lowered_text_if lowers (take (n + m) text)
-    ++ decoded_text lowers set x) (drop-drop m n text)
+    grind (
+      arith,
+      nat_tests,
+      append_assoc,
+      lowering-of-append-is-append,
+      take_then_take_is_take_of_sum n m text,
+      drop-drop m n text,
+    )
 
 -- general fact on lists, for decoding meanings: a suffix of a suffix, by the positions of the text
 suffix-of-suffix-by-positions : (text : List ℕ) (done end : ℕ) → done ≤ end
@@ -142,13 +137,7 @@ pub kept-prefix-is-pushed : (lowers : Bool) (set : TableSet) (text out new whole
     → out ++ decoded_text lowers set (drop done text) ≡ whole
     → new ++ decoded_text lowers set (drop end text) ≡ whole
 kept-prefix-is-pushed lowers set text out new whole done end order prefix pushed total =
-    let written = lowered_text_if lowers (take (end - done) (drop done text)) in
-    let suffix = decoded_text lowers set (drop end text) in
-    let split : decoded_text lowers set (drop done text) ≡ written ++ suffix = prefix
-    ∙ ap (λ x. written ++ decoded_text lowers set x)
-    (suffix-of-suffix-by-positions text done end order) in
-    ap (λ x. x ++ suffix) pushed ∙ append_assoc out written suffix ∙ ap (λ x. out ++ x) (sym split)
-    ∙ total
+    grind (arith, nat_tests, suffix-of-suffix-by-positions, append_assoc)
 
 -- general fact on valid texts, for decoding meanings: what is valid after n and then m bytes is
 -- valid after n + m
@@ -200,10 +189,7 @@ pub octet-is-decoded-alone : {text : List ℕ} {i high low : ℕ} → IsOctetAt 
     → (alone : Bool) → (alone ≡ true) ⊎ (high < 56)
     → (alone || ltb (16 * digit_value high + digit_value low) 128) ≡ true
 octet-is-decoded-alone {text} {i} {high} {low} at alone either =
-    let value = 16 * digit_value high + digit_value low in
-    ⊎_elim (λ a. or_left alone (ltb value 128) a)
-    (λ small. or_right alone (ltb value 128) (lt-ltb value 128
-    (octet-with-digit-below-8-is-ascii high low at.high_digit at.low_digit small))) either
+    grind (arith, nat_tests, octet-with-digit-below-8-is-ascii)
 
 -- meanings, decoded: after an octet is decoded and appended, what is appended and the rest,
 -- decoded, still make the whole
@@ -274,17 +260,16 @@ lacks_first (c ∷ text) e = ap (λ x. not x && true) e
 ascii_prefix : (text : List ℕ) → IsUtf8 text → IsValidFor widest_set text → 0 < length text
     → get_or text 0 0 < 128 → eqb (get_or text 0 0) 37 ≡ false → LiteralPrefix text 1
 ascii_prefix text u v inside small other =
-    let boundary : IsCharBoundary text 1 = IsCharBoundary-after_ascii text 0 u inside small in
-    let utf8 : IsUtf8 (take 1 text) = IsUtf8-take text 1 u boundary in
-    let literal = lacks_first text other in
-    let whole = take-append-drop 1 text in
-    record {
-      boundary = boundary;
-      valid = text-after-literal-prefix-is-valid (take 1 text) (drop 1 text) utf8 literal
-          (subst (IsValidFor widest_set) (sym whole) v);
-      prefix = λ lowers set. ap (decoded_text lowers set) (sym whole)
-          ∙ literal-prefix-decodes-to-itself lowers set (take 1 text) (drop 1 text) utf8 literal;
-    }
+    grind (
+      arith,
+      nat_tests,
+      IsCharBoundary-after_ascii text 0 u inside small,
+      IsUtf8-take,
+      lacks_first text other,
+      take-append-drop 1 text,
+      text-after-literal-prefix-is-valid,
+      literal-prefix-decodes-to-itself,
+    )
 
 -- meanings, decoded byte by byte: after one character the rest is valid, and completes the whole
 pub record CharacterStep (lowers : Bool) (set : TableSet) (text new whole : List ℕ) (i : ℕ) :
@@ -326,6 +311,4 @@ character_step lowers set bytes text out new whole i same u b v inside small oth
 pub none_written : (lowers : Bool) (set : TableSet) (text new whole : List ℕ) (end : ℕ)
     → end ≡ length text → new ++ decoded_text lowers set (drop end text) ≡ whole → new ≡ whole
 none_written lowers set text new whole end all total =
-    let none : drop end text ≡ [] = drop_all end text (omega (arith, all)) in
-    sym (append-nil new) ∙ ap (λ x. new ++ x) (sym (decoded-empty-text-is-empty lowers set))
-    ∙ ap (λ x. new ++ decoded_text lowers set x) (sym none) ∙ total
+    grind (arith, nat_tests, drop_all, append-nil, decoded-empty-text-is-empty)

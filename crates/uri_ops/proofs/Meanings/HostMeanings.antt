@@ -169,36 +169,19 @@ ipvfuture-is-userinfo-characters text h w =
 lowered-ipvfuture-is-ipvfuture : (text : List ℕ) (h : IsIpvFuture text) → AsciiParts text h
     → IsIpvFuture (str_to_ascii_lowercase text)
 lowered-ipvfuture-is-ipvfuture text h w =
-    let version = lowered-ascii-passes-test is_ascii_hexdigit lowered-hex-digit-is-hex-digit
-    h.version w.version in
-    let address = lowered-ascii-passes-test is_userinfo_char
-    lowered-userinfo-character-is-userinfo-character h.address w.address in
-    let size = length-map h.version to_ascii_lowercase in
-    let room = length-map h.address to_ascii_lowercase in
-    let some = h.version_digits.0 in
-    let more = h.address_chars.0 in
-    record {
-      letter = to_ascii_lowercase h.letter;
-      version = str_to_ascii_lowercase h.version;
-      address = str_to_ascii_lowercase h.address;
-      whole = ap str_to_ascii_lowercase h.whole
-          ∙ ap (λ t. to_ascii_lowercase h.letter ∷ t)
-          (map-append to_ascii_lowercase h.version (46 ∷ h.address));
-      is_v = lowered-v-is-v h.letter h.is_v;
-      version_digits = (
-        omega arith,
-        valid_ascii_text is_ascii_hexdigit refl (str_to_ascii_lowercase h.version)
-            (ascii-in-test-is-utf8 is_ascii_hexdigit (str_to_ascii_lowercase h.version) version)
-            ∙ version,
-      );
-      address_chars = (
-        omega arith,
-        valid_ascii_text is_userinfo_char percent-is-no-userinfo-character
-            (str_to_ascii_lowercase h.address)
-            (ascii-in-test-is-utf8 is_userinfo_char (str_to_ascii_lowercase h.address) address)
-            ∙ address,
-      );
-    }
+    grind (
+      arith,
+      nat_tests,
+      lowered-ascii-passes-test,
+      lowered-hex-digit-is-hex-digit,
+      lowered-userinfo-character-is-userinfo-character,
+      length-map,
+      map-append,
+      lowered-v-is-v,
+      valid_ascii_text,
+      ascii-in-test-is-utf8,
+      percent-is-no-userinfo-character,
+    )
 
 -- meanings of hosts: an IPvFuture address has no `/`, `?` or `#`, so it ends no authority
 pub ipv_future_set-excludes-delimiters : excludes ipv_future_set (codes "/?#") ≡ true
@@ -213,9 +196,8 @@ unbracketed-valid-text-is-host names text e valid = cond-false _ _ _ e ∙ or_ri
 module _ (names : TableSet) (w : IsComponentSet (codes "/?#[]@:") names)
     (apart : excludes names (codes "@:[") ≡ true) where
   name-set-excludes-authority-ends : excludes names (codes "/?#") ≡ true
-  name-set-excludes-authority-ends = fewer-characters-are-excluded-too (codes "/?#")
-      (codes "[]@:") names
-      (ends-are-excluded-from-set (codes "/?#[]@:") names refl w.ends)
+  name-set-excludes-authority-ends =
+      grind (arith, nat_tests, fewer-characters-are-excluded-too, ends-are-excluded-from-set)
 
   -- a name, or an IPv4 address, which is one of its texts
   pub meaning-of-name-is-lowered-decoded : (text : List ℕ) (value : Option (List ℕ))

@@ -3,9 +3,8 @@ use Rattle.std.proofs.Common.{◌≡◌, ℕ, zero, suc, Bool, true, false, cond
 use Rattle.std.proofs.Common.{◌++◌, refl, sym, ap, ◌∙◌, arith, ◌&&◌, ⊎_elim}
 use Rattle.std.specs.List.{list_all, list_any, flat_map}
 use Rattle.std.specs.Str.{continuation_len}
-use Rattle.std.proofs.lemmas.Bool.{cases_Bool, cases_lt, and_parts, and_from, or_parts, or_from}
-use Rattle.std.proofs.lemmas.Bool.{eqb-true, lt-ltb, le-ltb, cond-true, cond-false, not-true}
-use Rattle.std.proofs.lemmas.Bool.{not_from_false, false_from_ne_true, both_ways}
+use Rattle.std.proofs.lemmas.Bool.{cases_Bool, and_parts, and_from, or_parts, or_from, not-true}
+use Rattle.std.proofs.lemmas.Bool.{not_from_false, false_from_ne_true}
 use Rattle.std.proofs.lemmas.Bool.Decides.{nat_tests}
 use Rattle.uri_pct.specs.Sets.{TableSet, LacksPercent, IsSubset, unreserved_set, is_unreserved}
 use Rattle.uri_pct.specs.Sets.{is_one_of, allows_past_ascii}
@@ -55,11 +54,7 @@ set_without-allows-other-first-bytes : (m : ℕ) (set : TableSet) (b : ℕ) (res
     → eqb b m ≡ false
     → allows_first (set_without m set) b rest ≡ allows_first set b rest
 unfolding allows_first allows_past_ascii
-set_without-allows-other-first-bytes m set b rest e = ⊎_elim
-    (λ h. cond-true _ _ _ (lt-ltb b 128 h) ∙ ap (λ t. not t && set.ascii b) e
-    ∙ sym (cond-true _ _ _ (lt-ltb b 128 h)))
-    (λ h. cond-false _ _ _ (le-ltb b 128 h) ∙ sym (cond-false _ _ _ (le-ltb b 128 h)))
-    (cases_lt b 128)
+set_without-allows-other-first-bytes m set b rest e = cc
 
 -- meanings of components: a text without the character m is valid for a set without m exactly if it
 -- is for the set; k: bytes to skip
@@ -161,15 +156,8 @@ print_decoded-for-set_without m set text =
 set_without-reserved-has-unreserved : (m : ℕ) (set : TableSet) → is_unreserved m ≡ false
     → IsSubset unreserved_set set
     → IsSubset unreserved_set (set_without m set)
-set_without-reserved-has-unreserved m set reserved wide = record {
-  ascii =
-      λ c e. and_from _ _ (not_from_false _
-      (false_from_ne_true _ (λ h. both_ways _ reserved
-      (ap is_unreserved (sym (eqb-true c m h)) ∙ e)))) (wide.ascii c e);
-  pct_encoded = wide.pct_encoded;
-  ucschar = wide.ucschar;
-  iprivate = wide.iprivate;
-}
+set_without-reserved-has-unreserved m set reserved wide =
+    grind (arith, nat_tests, not_from_false, false_from_ne_true)
 
 -- meanings of components: being one of a single delimiter is being equal to it
 is_one_of-one-is-equality : (c m : ℕ) → is_one_of (m ∷ []) c ≡ eqb c m

@@ -1,11 +1,10 @@
 -- The meaning under a port function is a function of the bare meaning.
 use Rattle.std.proofs.Common.{◌≡◌, ℕ, Bool, true, false, cond, ◌||◌, List, [], ◌∷◌, refl, sym, ap}
-use Rattle.std.proofs.Common.{◌∙◌, Option, Some, None, option_map}
+use Rattle.std.proofs.Common.{◌∙◌, Option, Some, None, option_map, arith}
 use Rattle.std.specs.Option.{option_and_then}
 use Rattle.std.proofs.lemmas.Bool.{cond-false}
-use Rattle.std.specs.Str.{str_to_ascii_lowercase}
+use Rattle.std.proofs.lemmas.Bool.Decides.{nat_tests}
 use Rattle.uri_parts.specs.Components.{Components, components}
-use Rattle.uri_parts.specs.Authority.{authority_parts}
 use Rattle.uri_parts.specs.Grammar.{Kind}
 use Rattle.uri_parts.specs.Ports.{PortFunction, no_defaults, is_default}
 use Rattle.uri_ops.specs.Dots.{is_empty}
@@ -35,11 +34,7 @@ pub bare-authority-meaning-with_default : (kind : Kind) (default : Option ℕ) (
     → with_default default (authority_meaning kind None authority)
     ≡ authority_meaning kind default authority
 bare-authority-meaning-with_default kind default authority =
-    let bare = authority_meaning kind None authority in
-    λ i. record bare {
-      port = port_meaning-of-bare-port_meaning default
-          (authority_parts authority).port i;
-    }
+    grind (arith, nat_tests, port_meaning-of-bare-port_meaning)
 
 -- meanings of ports: a port that is kept is its own meaning under the default; t: whether it is
 -- left out
@@ -83,8 +78,7 @@ authority-meanings-are-bare-with_default : (kind : Kind) (default other : Option
     ≡ option_map (with_default default) (option_map (authority_meaning kind other) authority)
 authority-meanings-are-bare-with_default kind default other e None = refl
 authority-meanings-are-bare-with_default kind default other e (Some authority) =
-    ap Some (sym (ap (λ d. with_default default (authority_meaning kind d authority)) e
-    ∙ bare-authority-meaning-with_default kind default authority))
+    grind (arith, nat_tests, bare-authority-meaning-with_default)
 
 -- meanings of ports: a meaning with another authority
 with_authority : Meaning → Option AuthorityMeaning → Meaning
@@ -95,11 +89,7 @@ components_meaning-is-bare-under-ports : (kind : Kind) (ports : PortFunction) (p
     → components_meaning kind ports p ≡ under ports (components_meaning kind no_defaults p)
 unfolding with_authority
 components_meaning-is-bare-under-ports kind ports p =
-    let scheme = option_map str_to_ascii_lowercase p.scheme in
-    ap (with_authority (components_meaning kind ports p))
-    (authority-meanings-are-bare-with_default kind (option_and_then ports scheme)
-    (option_and_then no_defaults scheme)
-    (no_defaults-gives-no-default scheme) p.authority)
+    grind (arith, nat_tests, authority-meanings-are-bare-with_default, no_defaults-gives-no-default)
 
 -- meanings of ports: the meaning of a text under a port function is its meaning without one, with
 -- these ports left out

@@ -1,8 +1,9 @@
 -- What a `Decoding` takes.
-use Rattle.std.proofs.Common.{◌≡◌, ℕ, Bool, true, false, List, [], ◌∷◌, ◌++◌, map, sym, ap, ◌∙◌}
-use Rattle.std.proofs.Common.{string_bytes}
-use Rattle.std.specs.Str.{IsUtf8, chars}
+use Rattle.std.proofs.Common.{◌≡◌, ℕ, Bool, true, false, List, [], ◌∷◌, ◌++◌, map, ap, ◌∙◌}
+use Rattle.std.proofs.Common.{string_bytes, arith}
+use Rattle.std.specs.Str.{IsUtf8}
 use Rattle.std.proofs.lemmas.List.{append-nil}
+use Rattle.std.proofs.lemmas.Bool.Decides.{nat_tests}
 use Rattle.uri_pct.specs.Chunks.{widest_set}
 use Rattle.uri_pct.specs.Encoding.{encode_text}
 use Rattle.uri_pct.specs.Parts.{ArePastAscii, Part, Literal, Decoded, parts}
@@ -10,7 +11,7 @@ use Rattle.uri_pct.specs.Pieces.{IllFormed, utf8_pieces}
 use Rattle.uri_pct.specs.DecodeUnreserved.{decode_tokens, lower_token}
 use Rattle.uri_pct.specs.Sets.{TableSet}
 use Rattle.uri_pct.specs.Tables.{set_of}
-use Rattle.uri_pct.specs.Tokens.{Octet, Char, tokens, print, IsValidFor}
+use Rattle.uri_pct.specs.Tokens.{Octet, tokens, print, IsValidFor}
 use Rattle.uri_ops.specs.declared.normalize.decode_unreserved.Decoding.{Decoding}
 use Rattle.uri_ops.specs.Models.Decodings.{AppendsDecodedParts, decoded_parts, lowered_if}
 use Rattle.uri_ops.specs.Models.Decodings.{lowered_text_if}
@@ -25,9 +26,8 @@ use Rattle.uri_ops.proofs.Meanings.DecodedParts.{decoded_parts-are-decoded-token
 pub literal-part-is-lowered : (lowers : Bool) (set : TableSet) (text : List ℕ) → IsUtf8 text
     → print (lowered_if lowers (decoded_parts set (Literal text ∷ [])))
     ≡ lowered_text_if lowers text
-literal-part-is-lowered lowers set text u = ap (λ ts. print (lowered_if lowers ts))
-    (append-nil (map Char (chars text)))
-    ∙ print-lowers-characters lowers text u
+literal-part-is-lowered lowers set text u =
+    grind (arith, nat_tests, append-nil, print-lowers-characters)
 
 -- meanings, decoded past ASCII: characters that octets decode to are written encoded, unless the
 -- set decodes them
@@ -50,9 +50,8 @@ decoded-octets-past-ascii-are-encoded-text true decodable set text same u past =
 pub ill-formed-octets-stay-octets : (lowers : Bool) (set : TableSet) (bytes : List ℕ)
     → print (lowered_if lowers (decoded_parts set (Decoded (IllFormed bytes) ∷ [])))
     ≡ print (map Octet bytes)
-ill-formed-octets-stay-octets lowers set bytes = ap (λ ts. print (lowered_if lowers ts))
-    (append-nil (map Octet bytes))
-    ∙ ap print (octets-stay-when-lowered lowers bytes)
+ill-formed-octets-stay-octets lowers set bytes =
+    grind (arith, nat_tests, append-nil, octets-stay-when-lowered)
 
 -- meanings, decoded past ASCII: a `Decoding` to which the decoded parts are appended has appended
 -- these parts; s, t: before and after
@@ -62,12 +61,8 @@ pub appended-text-is-decoded-parts : (s t : Decoding) (ps : List Part) (more : L
     → string_bytes t.text.now ≡ string_bytes s.text.now ++ more
     → print (lowered_if s.lowers (decoded_parts (set_of s.table) ps)) ≡ more
     → AppendsDecodedParts s ps t
-appended-text-is-decoded-parts s t ps more set lowers same written meant = record {
-  set = set;
-  lowers = lowers;
-  same = same;
-  text = written ∙ ap (λ x. string_bytes s.text.now ++ x) (sym meant);
-}
+appended-text-is-decoded-parts s t ps more set lowers same written meant =
+    grind (arith, nat_tests, string_bytes)
 
 -- meanings, decoded past ASCII: all parts of a text are written as its decoded tokens; s, t: the
 -- `Decoding` before and after
@@ -77,7 +72,4 @@ pub all-parts-give-decoded-tokens : (text old : List ℕ) (s t : Decoding)
     → string_bytes t.text.now
     ≡ old ++ print (lowered_if s.lowers (decode_tokens (set_of s.table) (tokens text)))
 all-parts-give-decoded-tokens text old s t valid begun took =
-    took.text
-    ∙ ap (λ x. x ++ print (lowered_if s.lowers (decoded_parts (set_of s.table) (parts text)))) begun
-    ∙ ap (λ ts. old ++ print (lowered_if s.lowers ts))
-    (decoded_parts-are-decoded-tokens (set_of s.table) text valid)
+    grind (arith, nat_tests, decoded_parts-are-decoded-tokens)

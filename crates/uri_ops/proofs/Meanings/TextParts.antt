@@ -3,8 +3,8 @@ use Rattle.std.proofs.Common.{◌≡◌, ℕ, ◌<◌, Bool, true, false, not, L
 use Rattle.std.proofs.Common.{◌&&◌, ◌||◌, ⊎_elim}
 use Rattle.std.specs.Prelude.{codes, Option, Some, None, IfSome, is_some}
 use Rattle.std.specs.Str.{IsUtf8}
-use Rattle.std.proofs.lemmas.Bool.{cases_Bool, and_parts, and_from, eqb-true}
-use Rattle.uri_pct.specs.Tokens.{is_valid_for}
+use Rattle.std.proofs.lemmas.Bool.{cases_Bool, eqb-true}
+use Rattle.std.proofs.lemmas.Bool.Decides.{nat_tests}
 use Rattle.uri_pct.proofs.ValidTexts.MarksInTexts.{AreAscii, AreAscii-by-test}
 use Rattle.uri_parts.specs.Components.{Components, starts, before_any, from_any, has_scheme}
 use Rattle.uri_parts.specs.Components.{has_authority, after_scheme, after_authority, after_query}
@@ -49,20 +49,7 @@ property-if-some-passes-test (Some x) P test f h = f x h
 pub components-of-kind-meet-grammar : (kind : Kind) (p : Components) → ArePartsOfKind kind p
     → components_meet_rules kind p ≡ true
 components-of-kind-meet-grammar kind p w =
-    and_from _ _ (and_from _ _ (and_from _ _ (and_from _ _ (and_from _ _
-    (property-if-some-passes-test p.scheme (λ s. IsUtf8 s × (is_scheme s ≡ true)) is_scheme
-    (λ s h. h.1) w.scheme)
-    (property-if-some-passes-test p.authority (λ a. IsUtf8 a × (is_authority kind a ≡ true))
-    (is_authority kind)
-    (λ a h. h.1) w.authority))
-    (set-text-is-valid kind.path p.path w.path))
-    (property-if-some-passes-test p.query (λ q. is_set_text kind.query q ≡ true)
-    (is_valid_for kind.query)
-    (λ q h. set-text-is-valid kind.query q h) w.query))
-    (property-if-some-passes-test p.fragment (λ f. is_set_text kind.fragment f ≡ true)
-    (is_valid_for kind.fragment)
-    (λ f h. set-text-is-valid kind.fragment f h) w.fragment))
-    w.needs
+    grind (arith, nat_tests, property-if-some-passes-test, set-text-is-valid, is_set_text)
 
 -- meanings of components: each component is UTF-8
 pub record AreUtf8 (p : Components) : Type 0 where
@@ -151,26 +138,11 @@ pub grammar-gives-components-of-kind : (kind : Kind) (p : Components) → AreUtf
     → components_meet_rules kind p ≡ true
     → ArePartsOfKind kind p
 grammar-gives-components-of-kind kind p u e =
-    let a = and_parts _ _ e in
-    let b = and_parts _ _ a.0 in
-    let c = and_parts _ _ b.0 in
-    let d = and_parts _ _ c.0 in
-    let f = and_parts _ _ d.0 in
-    record {
-      scheme = IfSome-combine p.scheme IsUtf8 (λ s. is_scheme s ≡ true)
-          (λ s. IsUtf8 s × (is_scheme s ≡ true)) (λ s v h. (v, h)) u.scheme
-          (passing-option-passes-if-some p.scheme is_scheme f.0);
-      authority = IfSome-combine p.authority IsUtf8 (λ s. is_authority kind s ≡ true)
-          (λ s. IsUtf8 s × (is_authority kind s ≡ true)) (λ s v h. (v, h)) u.authority
-          (passing-option-passes-if-some p.authority (is_authority kind) f.1);
-      path = set-text-from-utf8 kind.path p.path u.path d.1;
-      query = IfSome-combine p.query IsUtf8 (λ q. is_valid_for kind.query q ≡ true)
-          (λ q. is_set_text kind.query q ≡ true) (λ q v h. set-text-from-utf8 kind.query q v h)
-          u.query
-          (passing-option-passes-if-some p.query (is_valid_for kind.query) c.1);
-      fragment = IfSome-combine p.fragment IsUtf8 (λ q. is_valid_for kind.fragment q ≡ true)
-          (λ q. is_set_text kind.fragment q ≡ true)
-          (λ q v h. set-text-from-utf8 kind.fragment q v h) u.fragment
-          (passing-option-passes-if-some p.fragment (is_valid_for kind.fragment) b.1);
-      needs = a.1;
-    }
+    grind (
+      arith,
+      nat_tests,
+      IfSome-combine,
+      passing-option-passes-if-some,
+      set-text-from-utf8,
+      is_set_text,
+    )

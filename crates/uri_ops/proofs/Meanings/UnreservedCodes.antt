@@ -1,9 +1,10 @@
 -- The unreserved characters, entry by entry, and one that is written.
 use Rattle.std.proofs.Common.{◌≡◌, ℕ, ◌<◌, ◌≤◌, Bool, true, false, List, [], ◌∷◌, cond, eqb, get_or}
-use Rattle.std.proofs.Common.{refl, ◌∙◌, arith, ⊎_elim, append-nil}
+use Rattle.std.proofs.Common.{refl, arith, append-nil}
 use Rattle.std.specs.Char.{encode_utf8, to_ascii_lowercase}
-use Rattle.std.proofs.lemmas.Bool.{agree_below_at, cases_Bool, cond-true, cond-false, eqb-true}
+use Rattle.std.proofs.lemmas.Bool.{agree_below_at, eqb-true}
 use Rattle.std.proofs.lemmas.Str.Ascii.{lowercase_ascii}
+use Rattle.std.proofs.lemmas.Bool.Decides.{nat_tests}
 use Rattle.uri_pct.specs.DecodeUnreserved.{decode_octet}
 use Rattle.uri_pct.specs.Sets.{is_unreserved}
 use Rattle.uri_pct.specs.Tokens.{Octet, print}
@@ -38,12 +39,7 @@ code_table-entry-of-ascii lowers b small = eqb-true _ _
 pub ascii-entry-is-unreserved : (lowers : Bool) (b : ℕ) → b < 128
     → get_or (code_table lowers) b 0 < 128
     → (get_or (code_table lowers) b 0 ≡ lowered_code_if lowers b) × (is_unreserved b ≡ true)
-ascii-entry-is-unreserved lowers b small ascii = ⊎_elim
-    (λ e. (code_table-entry-of-ascii lowers b small ∙ cond-true _ _ _ e, e))
-    (λ e.
-    let other = code_table-entry-of-ascii lowers b small ∙ cond-false _ _ _ e in
-    absurd (omega (arith, other, ascii)))
-    (cases_Bool (is_unreserved b))
+ascii-entry-is-unreserved lowers b small ascii = grind (arith, nat_tests, code_table-entry-of-ascii)
 
 -- meanings, decoded: an ASCII character is ASCII in lower case
 pub lowered-code-of-ascii-is-ascii : (lowers : Bool) (b : ℕ) → b < 128
@@ -55,13 +51,8 @@ lowered-code-of-ascii-is-ascii false b small = small
 pub entry-past-ascii-is-not-unreserved : (lowers : Bool) (b : ℕ) → b < 128
     → 128 ≤ get_or (code_table lowers) b 0
     → is_unreserved b ≡ false
-entry-past-ascii-is-not-unreserved lowers b small past = ⊎_elim
-    (λ e.
-    let same = code_table-entry-of-ascii lowers b small ∙ cond-true _ _ _ e in
-    let below = lowered-code-of-ascii-is-ascii lowers b small in
-    absurd (omega (arith, same, below, past)))
-    (λ e. e)
-    (cases_Bool (is_unreserved b))
+entry-past-ascii-is-not-unreserved lowers b small past =
+    grind (arith, nat_tests, code_table-entry-of-ascii, lowered-code-of-ascii-is-ascii)
 
 -- meanings, decoded: the octet of an unreserved character is written as the character, in lower
 -- case if lowers

@@ -1,14 +1,12 @@
 -- Where a printed text has its formatting characters as octets, the tokens that were printed have.
-use Rattle.std.proofs.Common.{◌≡◌, ℕ, ◌+◌, ◌/◌, ◌%◌, ◌≤◌, Bool, true, false, eqb, List, [], ◌∷◌}
-use Rattle.std.proofs.Common.{◌++◌, length, take, drop, map, refl, sym, ap, ◌∙◌, arith, ◌&&◌, ◌||◌}
-use Rattle.std.proofs.Common.{⊎_elim, lit<}
+use Rattle.std.proofs.Common.{◌≡◌, ℕ, ◌+◌, ◌≤◌, Bool, true, false, eqb, List, [], ◌∷◌, ◌++◌, length}
+use Rattle.std.proofs.Common.{take, drop, refl, sym, ap, ◌∙◌, arith, ◌&&◌, ◌||◌}
 use Rattle.std.specs.Char.{encode_utf8}
-use Rattle.std.specs.Fmt.{digit_glyph}
 use Rattle.std.specs.List.{list_all, list_any, flat_map}
 use Rattle.std.specs.Str.{chars, encode_utf8_all, IsUtf8}
 use Rattle.std.proofs.Math.Seq.{take-append_seam, drop-append_seam}
-use Rattle.std.proofs.lemmas.Bool.{cases_Bool, cond-true, cond-false, and_parts, or_parts, or_from}
-use Rattle.std.proofs.lemmas.Bool.{le-ltb, lt-ltb, ltb-true, false_from_ne_true, both_ways}
+use Rattle.std.proofs.lemmas.Bool.{cond-false, and_parts, or_parts, or_from, false_from_ne_true}
+use Rattle.std.proofs.lemmas.Bool.{both_ways}
 use Rattle.std.proofs.lemmas.Bool.Decides.{nat_tests}
 use Rattle.std.proofs.lemmas.List.{append-nil, nil_from_length}
 use Rattle.std.proofs.lemmas.List.Concat.{flat_map-append}
@@ -24,7 +22,6 @@ use Rattle.uri_pct.proofs.ValidTexts.Allowed.{valid_text_has_printable_tokens}
 use Rattle.uri_pct.proofs.ValidTexts.Allowed.{lowered_tokens_are_printable}
 use Rattle.uri_pct.proofs.UnreservedDecoding.Formatting.{ascii_char_is_no_formatting_char}
 use Rattle.uri_pct.proofs.UnreservedDecoding.Formatting.{never_literal_is_formatting_if_both_flags}
-use Rattle.uri_pct.proofs.UnreservedDecoding.Formatting.{encode_formatting_without_flags_keeps_tokens}
 use Rattle.uri_pct.proofs.UnreservedDecoding.Formatting.{encode_formatting_commutes_with_lowering}
 use Rattle.uri_pct.proofs.UnreservedDecoding.Printing.{octet_digits_are_hexadecimal, chars_of_token}
 use Rattle.uri_pct.proofs.UnreservedDecoding.Printing.{chars_of_token_encode_to_its_text}
@@ -32,6 +29,7 @@ use Rattle.uri_pct.proofs.UnreservedDecoding.Printing.{chars_of_printed_tokens}
 use Rattle.uri_pct.proofs.UnreservedDecoding.Printing.{printed_tokens_are_utf8}
 use Rattle.uri_pct.proofs.UnreservedDecoding.DecodedTokens.{decode_tokens_keeps_tokens_printable}
 use Rattle.uri_ops.specs.Models.Decodings.{lowered_if}
+use Rattle.uri_pct.proofs.UnreservedDecoding.Formatting as Formatting
 
 -- meanings, bidirectional text: the empty text has no characters
 pub empty-text-has-no-characters : (text : List ℕ) → length text ≡ 0 → chars text ≡ []
@@ -52,14 +50,7 @@ is_byte_E2 b = eqb b 0xE2
 formatting-character-has-byte-E2 : (c : ℕ) → is_bidi_formatting c ≡ true
     → list_any is_byte_E2 (encode_utf8 c) ≡ true
 unfolding encode_utf8 is_byte_E2
-formatting-character-has-byte-E2 c e =
-    let within = formatting-is-from-200E-to-202E c e in
-    let first : 224 + c / 4096 ≡ 0xE2 = omega (arith, within.0, within.1) in
-    let rest = (128 + c / 64 % 64) ∷ (128 + c % 64) ∷ [] in
-    ap (list_any is_byte_E2) (cond-false _ _ _ (le-ltb c 128 (omega (arith, within.0)))
-    ∙ cond-false _ _ _ (le-ltb c 2048 (omega (arith, within.0)))
-    ∙ cond-true _ _ _ (lt-ltb c 65536 (omega (arith, within.1))))
-    ∙ ap (λ b. list_any is_byte_E2 (b ∷ rest)) first
+formatting-character-has-byte-E2 c e = grind (arith, nat_tests, formatting-is-from-200E-to-202E)
 
 -- meanings, bidirectional text: characters without the byte E2 are no formatting characters
 characters-without-byte-E2-are-no-formatting : (cs : List ℕ)
@@ -100,12 +91,7 @@ text-without-formatting-stays text u e = characters-without-formatting-stay (cha
 printable-octet-has-no-formatting : (v : ℕ) → is_printable (Octet v) ≡ true
     → list_any is_bidi_formatting (chars_of_token (Octet v)) ≡ false
 printable-octet-has-no-formatting v e =
-    let p = and_parts _ _ (and_parts _ _ (octet_digits_are_hexadecimal true v (ltb-true v 256 e))).0
-    in
-    let high = ascii_char_is_no_formatting_char (digit_glyph true (v / 16)) (ltb-true _ 128 p.0) in
-    let low = ascii_char_is_no_formatting_char (digit_glyph true (v % 16)) (ltb-true _ 128 p.1) in
-    or_from _ _ (ascii_char_is_no_formatting_char 37 (lit< tt))
-    (or_from _ _ high (or_from _ _ low refl))
+    grind (arith, nat_tests, octet_digits_are_hexadecimal, ascii_char_is_no_formatting_char)
 
 -- meanings, bidirectional text: the text of a token has formatting characters encoded as the token
 printed-token-has-formatting-encoded : (set : TableSet) (t : Token)
@@ -115,13 +101,8 @@ printed-token-has-formatting-encoded : (set : TableSet) (t : Token)
 printed-token-has-formatting-encoded set (Octet v) both e = characters-without-formatting-stay
     (chars_of_token (Octet v)) (printable-octet-has-no-formatting v e)
     ∙ chars_of_token_encode_to_its_text (Octet v) e
-printed-token-has-formatting-encoded set (Char c) both e = ⊎_elim
-    (λ h.
-    ap (λ x. x ++ []) (cond-true _ _ _ h) ∙ append-nil (print (map Octet (encode_utf8 c)))
-    ∙ sym (ap print (cond-true _ _ _ (never_literal_is_formatting_if_both_flags set c both ∙ h))))
-    (λ h. ap (λ x. x ++ []) (cond-false _ _ _ h)
-    ∙ sym (ap print (cond-false _ _ _ (never_literal_is_formatting_if_both_flags set c both ∙ h))))
-    (cases_Bool (is_bidi_formatting c))
+printed-token-has-formatting-encoded set (Char c) both e =
+    grind (arith, nat_tests, append-nil, never_literal_is_formatting_if_both_flags)
 
 -- meanings, bidirectional text: the text of tokens has formatting characters encoded as they have
 printed-tokens-have-formatting-encoded : (set : TableSet) (ts : List Token)
@@ -144,9 +125,8 @@ encoding-formatting-and-printing-swap : (set : TableSet) (ts : List Token)
     → (set.ucschar && set.pct_encoded) ≡ true
     → list_all is_printable ts ≡ true → encoded_formatting_text (print ts)
     ≡ print (encode_formatting set ts)
-encoding-formatting-and-printing-swap set ts both e = ap (flat_map encoded_formatting_char)
-    (chars_of_printed_tokens ts e)
-    ∙ printed-tokens-have-formatting-encoded set ts both e
+encoding-formatting-and-printing-swap set ts both e =
+    grind (arith, nat_tests, chars_of_printed_tokens, printed-tokens-have-formatting-encoded)
 
 -- meanings, bidirectional text: formatting characters are encoded in the text that was appended,
 -- and not before it
@@ -155,9 +135,7 @@ pub formatting-encoded-after-prefix : (old more new : List ℕ) (start : ℕ) �
     → take start new ++ encoded_formatting_text (drop start new)
     ≡ old ++ encoded_formatting_text more
 formatting-encoded-after-prefix old more new start e f =
-    rw (e, f) (ap (λ x. x ++ encoded_formatting_text (drop (length old) (old ++ more)))
-    (take-append_seam old more) ∙ ap (λ x. old ++ encoded_formatting_text x)
-    (drop-append_seam old more))
+    cc (take-append_seam old more, drop-append_seam old more)
 
 -- meanings, bidirectional text: encoding formatting characters and lower case, if lowers, may swap
 encoding-formatting-and-lowering-swap : (lowers : Bool) (set : TableSet) (ts : List Token)
@@ -188,8 +166,7 @@ pub printed-lowered-decoding-is-utf8 : (lowers : Bool) (set : TableSet) (text : 
     → IsValidFor widest_set text
     → IsUtf8 (print (lowered_if lowers (decode_tokens set (tokens text))))
 printed-lowered-decoding-is-utf8 lowers set text valid =
-    printed_tokens_are_utf8 (lowered_if lowers (decode_tokens set (tokens text)))
-    (lowered-decoded-tokens-are-printable lowers set text valid)
+    grind (arith, nat_tests, printed_tokens_are_utf8, lowered-decoded-tokens-are-printable)
 
 -- meanings, bidirectional text: percent-encoding the formatting characters of a decoded component
 -- completes its normal form
@@ -211,7 +188,8 @@ pub decoding-without-formatting-is-complete : (lowers : Bool) (set : TableSet) (
     ≡ print (lowered_if lowers (decode_unreserved set text))
 decoding-without-formatting-is-complete lowers set text none =
     ap (λ ts. print (lowered_if lowers ts))
-    (sym (encode_formatting_without_flags_keeps_tokens set (decode_tokens set (tokens text)) none))
+    (sym (Formatting.encode_formatting_without_flags_keeps_tokens set
+    (decode_tokens set (tokens text)) none))
 
 -- general fact on booleans, for meanings of bidirectional text: `ucschar` decides on U+200E
 second-flag-does-not-matter : (u p : Bool) → ((u && true) || (p && false)) ≡ u

@@ -7,7 +7,8 @@ use Rattle.std.specs.Prelude.{codes, Option, Some, None, IfSome, IfNone, is_some
 use Rattle.std.specs.Option.{option_and_then}
 use Rattle.std.specs.Char.{is_ascii_alphabetic}
 use Rattle.std.specs.Str.{IsUtf8, str_to_ascii_lowercase}
-use Rattle.std.proofs.lemmas.Bool.{and_parts, and_from, not-true, not_from_false, false≢true}
+use Rattle.std.proofs.lemmas.Bool.{and_parts, not-true, not_from_false, false≢true}
+use Rattle.std.proofs.lemmas.Bool.Decides.{nat_tests}
 use Rattle.uri_pct.specs.Sets.{TableSet, scheme_set}
 use Rattle.uri_pct.specs.Tokens.{print, is_valid_for}
 use Rattle.uri_pct.specs.DecodeUnreserved.{decode_unreserved}
@@ -117,8 +118,7 @@ module _ (set : TableSet) (marks : List ℕ) (w : IsComponentSet marks set) wher
       → IfSome o (λ x. is_set_text set x ≡ true) → IfSome o (λ x. Lacks some x)
   part-lacks-excluded-characters some outside None h = tt
   part-lacks-excluded-characters some outside (Some x) h =
-      valid_text_lacks_excluded_marks set some w.percent outside x (set-text-is-utf8 set x h)
-      (set-text-is-valid set x h)
+      grind (arith, nat_tests, valid_text_lacks_excluded_marks, set-text-is-utf8, set-text-is-valid)
 
 -- normal texts: the path, without dot segments and decoded, after its guard if there is a scheme
 abbrev normal_path_of : TableSet → Option (List ℕ) → Option (List ℕ) → List ℕ → List ℕ
@@ -179,8 +179,7 @@ module _ (set : TableSet) (w : IsComponentSet (codes "?#[]") set)
   normal-path-begins-with-no-two-slashes None path h e = decoding-keeps-two-slashes set w.percent
       w.unreserved path h ∙ e
   normal-path-begins-with-no-two-slashes (Some s) path h e =
-      guarded-path-without-authority-has-no-two-slashes None
-      (print_decoded set (dotless_if_absolute path))
+      grind (arith, nat_tests, guarded-path-without-authority-has-no-two-slashes, print_decoded)
 
 module _ (kind : Kind) (sets : HasComponentSets kind) (keeps : NormalAuthoritiesKeepMeaning kind)
     (ports : PortFunction) where
@@ -204,11 +203,8 @@ module _ (kind : Kind) (sets : HasComponentSets kind) (keeps : NormalAuthorities
       → IfSome (printed default o) (λ a. Lacks (codes "/?#") a
       × IsAbemptyPath (normal_path_of kind.path scheme (printed default o) path))
   normal-authority-lacks-ends-before-path default scheme None path part h cut = tt
-  normal-authority-lacks-ends-before-path default scheme (Some a) path part h cut = (
-    keeps.lacks default a h.0 h.1,
-    normal-path-after-authority-is-abempty kind.path sets.path sets.slash scheme
-        (normal_authority (authority_meaning kind default a)) path part cut.1,
-  )
+  normal-authority-lacks-ends-before-path default scheme (Some a) path part h cut =
+      grind (arith, nat_tests, normal-path-after-authority-is-abempty)
 
   normal-path-without-authority-has-none : (default : Option ℕ) (scheme o : Option (List ℕ))
       (path : List ℕ)
@@ -226,11 +222,7 @@ module _ (kind : Kind) (sets : HasComponentSets kind) (keeps : NormalAuthorities
       ≡ option_map (authority_meaning kind default) o
   normal-authority-keeps-meaning default other e None h = refl
   normal-authority-keeps-meaning default other e (Some a) h =
-      ap
-      (λ d. Some
-      (authority_meaning kind d (normal_authority (authority_meaning kind default a)))) e
-      ∙ ap Some (authority_meaning-from-bare-meaning kind default
-      (normal_authority (authority_meaning kind default a)) a (keeps.bare default a h.0 h.1))
+      grind (arith, nat_tests, authority_meaning-from-bare-meaning)
 
   -- a scheme if the kind needs one, and no `:` in the first segment of a path that is alone
   abbrev meets_needs : Option (List ℕ) → Option (List ℕ) → List ℕ → Bool
@@ -242,10 +234,8 @@ module _ (kind : Kind) (sets : HasComponentSets kind) (keeps : NormalAuthorities
       ≡ false
       → has_colon_in_first_segment (print (decode_unreserved kind.path path)) ≡ false
   unfolding print_decoded
-  decoding-keeps-first-segment-without-colon path part e = decoding-adds-no-colon-first kind.path
-      sets.path.percent
-      sets.path.unreserved path
-      part e
+  decoding-keeps-first-segment-without-colon path part e =
+      grind (arith, nat_tests, decoding-adds-no-colon-first)
 
   normal-components-keep-scheme-or-colon-rule : (default : Option ℕ) (scheme o : Option (List ℕ))
       (path : List ℕ)
@@ -256,9 +246,7 @@ module _ (kind : Kind) (sets : HasComponentSets kind) (keeps : NormalAuthorities
   normal-components-keep-scheme-or-colon-rule default (Some s) o path part h = refl
   normal-components-keep-scheme-or-colon-rule default None (Some a) path part h = h
   normal-components-keep-scheme-or-colon-rule default None None path part h =
-      let q = and_parts (not kind.needs_scheme) (not (has_colon_in_first_segment path)) h in
-      and_from _ _ q.0 (not_from_false _ (decoding-keeps-first-segment-without-colon path part
-      (not-true _ q.1)))
+      grind (arith, nat_tests, not_from_false, decoding-keeps-first-segment-without-colon, not-true)
 
   normal-text-without-scheme-has-none : (default : Option ℕ) (scheme o : Option (List ℕ))
       (path : List ℕ)

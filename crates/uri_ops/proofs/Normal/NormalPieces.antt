@@ -1,10 +1,11 @@
 -- The pieces of a normal text, as they are appended one after the other.
-use Rattle.std.proofs.Common.{◌≡◌, ℕ, Bool, true, false, ◌&&◌, List, [], ◌∷◌, ◌++◌, refl, sym, ap}
-use Rattle.std.proofs.Common.{◌∙◌, cond, option_map}
+use Rattle.std.proofs.Common.{◌≡◌, ℕ, Bool, true, false, ◌&&◌, List, [], ◌∷◌, ◌++◌, refl, ap, ◌∙◌}
+use Rattle.std.proofs.Common.{option_map, arith}
 use Rattle.std.specs.Prelude.{codes, Option, Some, None, is_some}
-use Rattle.std.specs.Str.{IsUtf8, str_to_ascii_lowercase}
+use Rattle.std.specs.Str.{IsUtf8}
 use Rattle.std.proofs.lemmas.Bool.{cond-false}
 use Rattle.std.proofs.lemmas.List.{append_assoc}
+use Rattle.std.proofs.lemmas.Bool.Decides.{nat_tests}
 use Rattle.uri_pct.specs.Sets.{TableSet}
 use Rattle.uri_pct.specs.Texts.{is_absolute}
 use Rattle.uri_pct.specs.DecodeUnreserved.{decode_unreserved}
@@ -12,7 +13,7 @@ use Rattle.uri_pct.specs.Tokens.{IsValidFor, print}
 use Rattle.uri_parts.specs.Components.{components, has_authority, starts}
 use Rattle.uri_parts.specs.Grammar.{Kind}
 use Rattle.uri_ops.specs.ComponentSets.{IsComponentSet}
-use Rattle.uri_ops.specs.Meaning.{dotless_path, meaning_of}
+use Rattle.uri_ops.specs.Meaning.{meaning_of}
 use Rattle.uri_ops.specs.Normal.{normal_authority, normal_path, normal_path_text}
 use Rattle.uri_parts.specs.Ports.{PortFunction}
 use Rattle.uri_ops.specs.Target.{guarded}
@@ -28,8 +29,7 @@ decoded-path-keeps-two-slashes : (set : TableSet) → IsComponentSet (codes "?#[
     ≡ has_authority path
 unfolding print_decoded
 decoded-path-keeps-two-slashes set w path utf8 valid =
-    decoding-keeps-two-slashes set w.percent w.unreserved path
-    (set-text-from-utf8 set path utf8 valid)
+    grind (arith, nat_tests, decoding-keeps-two-slashes, set-text-from-utf8)
 
 -- normal paths: one that does not begin with `//` needs no guard `/.`
 path-without-two-slashes-has-no-guard : (authority : Option (List ℕ)) (text : List ℕ)
@@ -61,22 +61,14 @@ pub five-appended-texts-are-one : (old s a p q f o1 o2 o3 o4 new : List ℕ) →
     ≡ o1 ++ a → o3 ≡ o2 ++ p
     → o4 ≡ o3 ++ q → new ≡ o4 ++ f → new ≡ old ++ (s ++ (a ++ (p ++ (q ++ f))))
 five-appended-texts-are-one old s a p q f o1 o2 o3 o4 new e1 e2 e3 e4 e5 =
-    e5 ∙ ap (λ t. t ++ f) e4 ∙ append_assoc o3 q f
-    ∙ ap (λ t. t ++ (q ++ f)) e3 ∙ append_assoc o2 p (q ++ f)
-    ∙ ap (λ t. t ++ (p ++ (q ++ f))) e2 ∙ append_assoc o1 a (p ++ (q ++ f))
-    ∙ ap (λ t. t ++ (a ++ (p ++ (q ++ f)))) e1 ∙ append_assoc old s (a ++ (p ++ (q ++ f)))
+    grind (arith, nat_tests, append_assoc)
 
 -- normal texts: the normal path of a text is the one of its meaning
 pub normal_path-by-components : (kind : Kind) (ports : PortFunction) (text : List ℕ)
     → (let p = components text in let m = meaning_of kind ports text in
     normal_path_text kind.path p.scheme (option_map normal_authority m.authority) p.path
     ≡ normal_path m)
-normal_path-by-components kind ports text =
-    let p = components text in
-    let m = meaning_of kind ports text in
-    let path = print (decode_unreserved kind.path (dotless_path p.scheme p.path)) in
-    ap (λ (b : Bool). cond b (guarded (option_map normal_authority m.authority) path) path)
-    (sym (is_some-option_map str_to_ascii_lowercase p.scheme))
+normal_path-by-components kind ports text = grind (arith, nat_tests, is_some-option_map)
 
 -- general fact on booleans, for the tests of a normal text: and with false is false
 pub and-with-false-is-false : (b c : Bool) → c ≡ false → (b && c) ≡ false

@@ -1,8 +1,9 @@
 -- Where the components of a normal text are.
-use Rattle.std.proofs.Common.{◌≡◌, ℕ, ◌+◌, true, List, refl, sym, ap, ◌∙◌, option_map}
+use Rattle.std.proofs.Common.{◌≡◌, ℕ, ◌+◌, true, List, refl, sym, ap, ◌∙◌, option_map, arith}
 use Rattle.std.specs.Option.{option_and_then}
 use Rattle.std.specs.Prelude.{Option, Some, None, IfSome}
 use Rattle.std.specs.Str.{IsUtf8, str_to_ascii_lowercase}
+use Rattle.std.proofs.lemmas.Bool.Decides.{nat_tests}
 use Rattle.uri_parts.specs.declared.packed_positions.PackedPositions.{PackedPositions}
 use Rattle.uri_parts.specs.Components.{components}
 use Rattle.uri_parts.specs.Grammar.{Kind, is_authority, IsTextOf}
@@ -27,9 +28,7 @@ module _ (kind : Kind) (sets : HasComponentSets kind) (ports : PortFunction) whe
       (option_map normal_authority (option_map (authority_meaning kind default) o))
   normal-authority-positions-by-parts place default None h = refl
   normal-authority-positions-by-parts place default (Some a) h =
-      ap Some (positions-of-parts-are-of-text place
-      (normal_parts (authority_meaning kind default a))
-      (normal-authority-has-normal-parts kind sets default a h.0 h.1))
+      grind (arith, nat_tests, positions-of-parts-are-of-text, normal-authority-has-normal-parts)
 
   pub written-positions-are-of-normal-text : (text normal : List ℕ)
       (positions : PackedPositions) → IsTextOf kind text

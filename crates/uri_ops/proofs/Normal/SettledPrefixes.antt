@@ -1,14 +1,13 @@
 -- Texts whose bytes up to the end of the host are settled: the scheme and the host stay.
-use Rattle.std.proofs.Common.{◌≡◌, ℕ, ◌+◌, ◌<◌, ◌≤◌, ◌||◌, Bool, true, false, eqb, not}
-use Rattle.std.proofs.Common.{List, [], ◌∷◌, ◌++◌, length, get_or, take, refl, sym, ap, ◌∙◌}
-use Rattle.std.proofs.Common.{append_assoc, append-nil, option_map, arith}
+use Rattle.std.proofs.Common.{◌≡◌, ℕ, ◌+◌, ◌<◌, ◌≤◌, ◌||◌, Bool, true, false, eqb, not, List, []}
+use Rattle.std.proofs.Common.{◌∷◌, ◌++◌, length, get_or, take, refl, sym, ap, ◌∙◌, append_assoc}
+use Rattle.std.proofs.Common.{append-nil, option_map, arith}
 use Rattle.std.specs.Prelude.{codes, Option, Some, None, IfSome, unwrap_or}
 use Rattle.std.specs.Char.{to_ascii_lowercase}
 use Rattle.std.specs.List.{list_all}
 use Rattle.std.specs.Str.{str_to_ascii_lowercase}
 use Rattle.std.proofs.Math.Seq.{take-append-add}
-use Rattle.std.proofs.lemmas.Bool.{agree_below_at, and_from, and_parts, both_ways}
-use Rattle.std.proofs.lemmas.Bool.{not-true}
+use Rattle.std.proofs.lemmas.Bool.{agree_below_at, and_from, and_parts, both_ways, not-true}
 use Rattle.std.proofs.lemmas.Bool.Decides.{nat_tests}
 use Rattle.std.proofs.lemmas.List.{get_or-take, length-take-le, take-take}
 use Rattle.std.proofs.lemmas.List.Elements.{All-from_get_or}
@@ -79,9 +78,7 @@ settled-text-lacks-percent (b ∷ text) e =
 settled-text-begins-without-bracket : (text : List ℕ) → all_settled text ≡ true
     → starts 91 text ≡ false
 settled-text-begins-without-bracket [] e = refl
-settled-text-begins-without-bracket (b ∷ text) e =
-    let p = and_parts (is_settled_byte b) (all_settled text) e in
-    not-true _ (and_parts _ _ (and_parts _ _ p.0).1).1
+settled-text-begins-without-bracket (b ∷ text) e = grind (arith, nat_tests, not-true)
 
 -- settled bytes: normalising leaves a host whose bytes are settled
 pub settled_host_is_unchanged : (host : List ℕ) → all_settled host ≡ true → IsUnchangedHost host
@@ -94,9 +91,7 @@ settled_host_is_unchanged host e = (
 settled-prefix-splits : (n : ℕ) (xs ys : List ℕ)
     → all_settled (take (length xs + n) (xs ++ ys)) ≡ true
     → (all_settled xs ≡ true) × (all_settled (take n ys) ≡ true)
-settled-prefix-splits n xs ys e =
-    and_parts _ _ (sym (list_all-append is_settled_byte xs (take n ys))
-    ∙ ap all_settled (sym (take-append-add xs ys n)) ∙ e)
+settled-prefix-splits n xs ys e = grind (arith, nat_tests, list_all-append, take-append-add)
 
 -- settled bytes: normalising leaves a scheme that is settled with the `:` after it
 settled-scheme-is-unchanged : (scheme : Option (List ℕ))
@@ -144,7 +139,8 @@ settled-prefix-keeps-scheme-and-host scheme (Some a) rest whole some e =
     let count : end_of_host scheme (Some a) ≡ length first + (2 + host_end_of a) =
     omega (arith, long) in
     let parts = settled-prefix-splits (2 + host_end_of a) first ((codes "//" ++ (a ++ [])) ++ rest)
-    (ap (λ n. all_settled (take n (first ++ ((codes "//" ++ (a ++ [])) ++ rest)))) (sym count) ∙ e) in
+    (ap (λ n. all_settled (take n (first ++ ((codes "//" ++ (a ++ [])) ++ rest)))) (sym count) ∙ e)
+    in
     let plain : (codes "//" ++ (a ++ [])) ++ rest ≡ codes "//" ++ (a ++ rest) =
     ap (λ x. (codes "//" ++ x) ++ rest) (append-nil a) in
     let authority = (settled-prefix-splits (host_end_of a) (codes "//") (a ++ rest)

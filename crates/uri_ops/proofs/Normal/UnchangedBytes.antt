@@ -1,12 +1,11 @@
 -- Texts without formatting characters whose octets stay: byte by byte, and in the parts of a text.
-use Rattle.std.proofs.Common.{◌≡◌, ℕ, ◌+◌, ◌<◌, ◌≤◌, Bool, true, false, eqb, List, []}
-use Rattle.std.proofs.Common.{◌∷◌, ◌++◌, not, length, get_or, refl, sym, ap, ◌∙◌, arith, ◌||◌, ◌&&◌}
-use Rattle.std.proofs.Common.{⊎_elim, suc}
+use Rattle.std.proofs.Common.{◌≡◌, ℕ, ◌+◌, ◌<◌, ◌≤◌, Bool, true, false, eqb, List, [], ◌∷◌, ◌++◌}
+use Rattle.std.proofs.Common.{not, length, get_or, refl, sym, ap, ◌∙◌, arith, ◌||◌, ◌&&◌, ⊎_elim}
+use Rattle.std.proofs.Common.{suc}
 use Rattle.std.specs.Prelude.{Option, Some, None, IfSome}
 use Rattle.std.specs.Char.{is_ascii_hexdigit}
 use Rattle.std.specs.List.{list_any}
-use Rattle.std.proofs.lemmas.Bool.{and_parts, and_from, cases_lt, not-true}
-use Rattle.std.proofs.lemmas.Bool.{or_parts, or_from}
+use Rattle.std.proofs.lemmas.Bool.{and_parts, and_from, cases_lt, not-true, or_parts, or_from}
 use Rattle.std.proofs.lemmas.Bool.Decides.{nat_tests}
 use Rattle.uri_pct.specs.Models.ByteRuns.{IsLongestRun}
 use Rattle.uri_parts.specs.Components.{marked}
@@ -17,9 +16,7 @@ use Rattle.uri_ops.specs.Models.Unchanged.{is_literal_byte}
 -- kept
 literal-byte-is-kept : (alone : Bool) (bs : List ℕ) (k : ℕ)
     → is_literal_byte (get_or bs k 0) ≡ true → is_kept_at alone bs k ≡ true
-literal-byte-is-kept alone bs k e =
-    let p = or_parts (eqb (get_or bs k 0) 37) (eqb (get_or bs k 0) 0xE2) (not-true _ e) in
-    rw (p.0, p.1) refl
+literal-byte-is-kept alone bs k e = grind (arith, nat_tests, or_parts, not-true)
 
 -- unchanged texts: a hexadecimal digit begins neither an octet nor a formatting character
 hexdigit-is-literal : (h : ℕ) → is_ascii_hexdigit h ≡ true → is_literal_byte h ≡ true
@@ -82,7 +79,8 @@ head-is-kept-by-index : (alone : Bool) (b : ℕ) (text : List ℕ)
     → (not (eqb b 0xE2) && (not (eqb b 37) || keeps_digits alone text)) ≡ true
 head-is-kept-by-index alone b text e =
     let p = and_parts (not (eqb b 0xE2)) _ e in
-    and_from _ _ p.0 (either (eqb b 37) (is_kept_octet alone (get_or text 0 0) (get_or text 1 0)) p.1
+    and_from _ _ p.0 (either (eqb b 37) (is_kept_octet alone (get_or text 0 0) (get_or text 1 0))
+    p.1
     (digits-are-kept-by-index alone text))
   where
     either : {other : Bool} (percent octet : Bool) → (not percent || octet) ≡ true

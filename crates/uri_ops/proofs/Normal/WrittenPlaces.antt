@@ -1,5 +1,5 @@
 -- A text that is put together of components has the positions that their lengths give.
-use Rattle.std.proofs.Common.{◌≡◌, ℕ, ◌+◌, List, [], ◌∷◌, ◌++◌, length, refl, sym, ap, ◌∙◌, arith}
+use Rattle.std.proofs.Common.{◌≡◌, ℕ, ◌+◌, List, [], ◌∷◌, ◌++◌, length, refl, ap, ◌∙◌, arith}
 use Rattle.std.proofs.Common.{length-append, option_map}
 use Rattle.std.specs.Prelude.{codes, Option, Some, None}
 use Rattle.uri_parts.specs.declared.positions.AuthorityPositions.{AuthorityPositions}
@@ -8,6 +8,7 @@ use Rattle.uri_parts.specs.Authority.{AuthorityParts, authority_parts, recompose
 use Rattle.uri_parts.specs.Components.{Components, marked, components}
 use Rattle.uri_parts.specs.Positions.{authority_at, delimited_length, positions_of}
 use Rattle.std.specs.Option.{option_and_then}
+use Rattle.std.proofs.lemmas.Bool.Decides.{nat_tests}
 use Rattle.uri_parts.specs.Grammar.{Kind}
 use Rattle.uri_ops.specs.Meaning.{authority_meaning, meaning_of}
 use Rattle.uri_ops.specs.Normal.{normal_authority, normal_components, normal_parts, normal_part}
@@ -65,15 +66,7 @@ pushed-authority-parts-have-positions p o0 o1 o2 o3 e1 e2 e3 =
 pub positions-of-parts-are-of-text : (place : ℕ) (p : AuthorityParts)
     → authority_parts (recompose_authority p) ≡ p
     → authority_parts_at place p ≡ authority_at place (recompose_authority p)
-positions-of-parts-are-of-text place p cut = ap
-    (λ (q : AuthorityParts). let host = delimited_length 1
-    q.userinfo in let x : AuthorityPositions =
-    record {
-      start = place;
-      host_start = place + host;
-      host_end = place + (host + length q.host);
-      end = place + length (recompose_authority p);
-    } in x) (sym cut)
+positions-of-parts-are-of-text place p cut = grind (arith, nat_tests)
 
 -- positions in a normal text: the positions by the parts of the authority are those of the
 -- components
@@ -196,18 +189,7 @@ pub pushed-prefix-and-path-have-positions : (p : Components) (o0 o2 o3 : List �
     ≡ positions_of p
 pushed-prefix-and-path-have-positions p o0 o2 o3 start stop end query authority e0 e2 e3 starts
     stops ends lies queries =
-    let w = pushed-path-and-query-end-at-lengths p o2 o3 start stop query
-    (ap length (e2 ∙ ap (λ o. o ++ before_path p) e0) ∙ length-before_path-is-path_start p) e3
-    starts stops
-    queries in
-    λ i. record {
-      scheme_end = ends i;
-      authority = lies i;
-      path_start = w.starts i;
-      path_end =
-          w.stops i;
-      query_end = w.queries i;
-    }
+    grind (arith, nat_tests, pushed-path-and-query-end-at-lengths, length-before_path-is-path_start)
 
 -- general fact on options, for positions in a normal text: three functions, one after the other
 option_map-of-three-functions-splits : {A B C D : Type 0} (f : C → D) (h : B → C) (k : A → B)
@@ -253,7 +235,8 @@ pushed-components-are-normal-text kind ports text old o1 o2 o3 o4 new start stop
     e3 ∙ ap (λ t. o2 ++ t) (normal_path-by-components kind ports text) in (
       five-appended-texts-are-one old _ _ _ _ _ o1 o2 o3 o4 new e1 e2 path e4 e5,
       λ empty.
-          pushed-components-have-positions (normal_components m) (option_map normal_parts m.authority)
+          pushed-components-have-positions (normal_components m)
+          (option_map normal_parts m.authority)
           old o1 o2 o3 start stop end query places empty e1 e2 path starts stops ends
           (lies ∙ option_map-of-three-functions-splits (authority_parts_at (length o1 + 2))
           normal_parts meaning p.authority) queries,

@@ -1,14 +1,14 @@
 -- The target of a reference that has a scheme, and a path that does not begin with `/`.
-use Rattle.std.proofs.Common.{◌≡◌, ℕ, true, false, List, [], ◌∷◌, ◌&&◌, ◌||◌, ap, ◌∙◌, refl}
-use Rattle.std.proofs.Common.{eqb, get_or}
+use Rattle.std.proofs.Common.{◌≡◌, ℕ, true, false, List, [], ◌∷◌, ◌&&◌, ◌||◌, ap, ◌∙◌, refl, eqb}
+use Rattle.std.proofs.Common.{get_or, arith}
 use Rattle.std.specs.Prelude.{Option, Some, None, is_some, not}
 use Rattle.std.proofs.lemmas.Bool.{and_right, cond-false, cond-true}
+use Rattle.std.proofs.lemmas.Bool.Decides.{nat_tests}
 use Rattle.uri_parts.specs.Components.{Components, has_authority, starts}
 use Rattle.uri_ops.specs.Dots.{underflows}
 use Rattle.uri_ops.specs.Resolving.{with_final_path}
-use Rattle.uri_ops.specs.Target.{dotless_if_absolute, underflows_if_absolute, guarded}
-use Rattle.uri_ops.specs.Target.{is_fragment_only}
-use Rattle.uri_ops.specs.Target.{is_opaque, is_opaque_rejection, dotted_target}
+use Rattle.uri_ops.specs.Target.{underflows_if_absolute, guarded, is_fragment_only, is_opaque}
+use Rattle.uri_ops.specs.Target.{is_opaque_rejection, dotted_target}
 
 -- targets: a path that does not begin with `/` (47) does not begin with `//`
 rootless : (path : List ℕ) → starts 47 path ≡ false → has_authority path ≡ false
@@ -28,11 +28,7 @@ module _ (base r : Components) (some : is_some r.scheme ≡ true)
 
   -- it is the reference
   pub copied_target : with_final_path (dotted_target base r) ≡ r
-  copied_target =
-      let path : guarded r.authority (dotless_if_absolute r.path) ≡ r.path =
-      ap (guarded r.authority) (cond-false (starts 47 r.path) _ _ rootless-path-has-no-authority)
-      ∙ unguarded r.authority r.path (rootless r.path rootless-path-has-no-authority) in
-      ap with_final_path itself ∙ (λ i. record r { path = path i })
+  copied_target = grind (arith, nat_tests, unguarded, rootless, itself)
 
   pub copied_taken : is_opaque_rejection base r ≡ false
   copied_taken = ap (λ x. is_opaque base && not (x || is_fragment_only r)) some

@@ -1,15 +1,15 @@
 -- If base and reference are replaced by their normal texts, the target is equivalent, and the
 -- errors are the same.
-use Rattle.std.proofs.Common.{◌≡◌, ℕ, true, false, cond, not, List, [], ◌∷◌, ◌++◌, refl, sym, ap}
-use Rattle.std.proofs.Common.{◌∙◌, ◌&&◌, ◌||◌, ⊎_elim, option_map}
+use Rattle.std.proofs.Common.{◌≡◌, ℕ, true, false, cond, List, [], ◌∷◌, ◌++◌, refl, sym, ap, ◌∙◌}
+use Rattle.std.proofs.Common.{◌||◌, ⊎_elim, option_map, arith}
 use Rattle.std.specs.Prelude.{codes, Option, Some, None, IfSome, is_some, is_none}
-use Rattle.std.specs.Str.{IsUtf8, str_to_ascii_lowercase}
-use Rattle.std.proofs.lemmas.Bool.{cases_Bool, and_parts, cond-true, cond-false, cond_both}
-use Rattle.std.proofs.lemmas.Bool.{false≢true}
+use Rattle.std.specs.Str.{IsUtf8}
+use Rattle.std.proofs.lemmas.Bool.{cases_Bool, cond-true, cond-false, cond_both, false≢true}
+use Rattle.std.proofs.lemmas.Bool.Decides.{nat_tests}
 use Rattle.uri_pct.specs.Sets.{TableSet}
 use Rattle.uri_pct.specs.Tokens.{print}
 use Rattle.uri_pct.specs.DecodeUnreserved.{decode_unreserved}
-use Rattle.uri_parts.specs.Components.{Components, starts, has_authority, IsAbemptyPath}
+use Rattle.uri_parts.specs.Components.{Components, starts, IsAbemptyPath}
 use Rattle.uri_parts.specs.Grammar.{Kind, is_authority}
 use Rattle.uri_ops.specs.Dots.{is_empty, directory}
 use Rattle.uri_ops.specs.Target.{is_opaque, is_fragment_only, is_opaque_rejection, dotted_target}
@@ -104,15 +104,7 @@ module _ (set : TableSet) (w : IsComponentSet (codes "?#[]") set)
 
 module _ (kind : Kind) (sets : HasComponentSets kind) (ports : PortFunction) where
   pub reference-kind-has-component-sets : HasComponentSets (reference_kind kind)
-  reference-kind-has-component-sets = record {
-    userinfo = sets.userinfo;
-    reg_name = sets.reg_name;
-    path =
-        sets.path;
-    slash = sets.slash;
-    query = sets.query;
-    fragment = sets.fragment;
-  }
+  reference-kind-has-component-sets = grind (arith, nat_tests)
 
   abbrev meaning : Components → Meaning
   meaning p = components_meaning kind ports p
@@ -265,24 +257,15 @@ module _ (kind : Kind) (sets : HasComponentSets kind) (ports : PortFunction) whe
       ≡ meaning (dotted_target (components_of_parts (Some b) ba bp bq bf)
       (components_of_parts None (Some a) p q f))
   reference-with-authority-has-same-target-meaning b ba bp bq bf a p q f u e hp hq hf =
-      let twice = lowering-is-idempotent b in
-      let authority =
-      ap
-      (λ t. Some (authority_meaning kind (ports t)
-      (normal_authority (authority_meaning kind None a)))) twice
-      ∙ ap Some (normal-bare-authority-has-meaning-under-default
-      (ports (str_to_ascii_lowercase b)) a u e) in
-      let path = removing-dots-of-decoded-path-decodes-same kind.path sets.path sets.slash p hp in
-      let query = normal-query-decodes-as-query q hq in
-      let fragment = normal-fragment-decodes-as-fragment f hf in
-      λ i. record {
-        scheme = Some (twice i);
-        authority = authority i;
-        path = path i;
-        query =
-            query i;
-        fragment = fragment i;
-      }
+      grind (
+        arith,
+        nat_tests,
+        lowering-is-idempotent,
+        normal-bare-authority-has-meaning-under-default,
+        removing-dots-of-decoded-path-decodes-same,
+        normal-query-decodes-as-query,
+        normal-fragment-decodes-as-fragment,
+      )
 
   -- the target's components, before dot segments are removed, are equivalent to those of the
   -- normal texts
@@ -317,11 +300,7 @@ module _ (kind : Kind) (sets : HasComponentSets kind) (ports : PortFunction) whe
   guard-keeps-leading-slash : (authority : Option (List ℕ)) (path : List ℕ)
       → starts 47 (guarded authority path) ≡ starts 47 path
   guard-keeps-leading-slash authority path =
-      cond_both (is_none authority && has_authority path) (codes "/." ++ path) path
-      (λ t. starts 47 t ≡ starts 47 path)
-      (λ e. sym (two-slashes-begin-with-slash path
-      (and_parts (is_none authority) (has_authority path) e).1))
-      (λ e. refl)
+      grind (arith, nat_tests, cond_both, two-slashes-begin-with-slash)
 
   normal-base-is-opaque-as-base : (b : List ℕ) (ba : Option (List ℕ)) (bp : List ℕ)
       (bq bf : Option (List ℕ))
@@ -329,17 +308,15 @@ module _ (kind : Kind) (sets : HasComponentSets kind) (ports : PortFunction) whe
       → is_opaque (normal (components_of_parts (Some b) ba bp bq bf))
       ≡ is_opaque (components_of_parts (Some b) ba bp bq bf)
   normal-base-is-opaque-as-base b ba bp bq bf h =
-      let base = components_of_parts (Some b) ba bp bq bf in
-      let first = guard-keeps-leading-slash (normal base).authority
-      (print (decode_unreserved kind.path (dotless_if_absolute bp)))
-      ∙ normal-path-keeps-leading-slash kind.path sets.path sets.slash (dotless_if_absolute bp)
-      (path-without-dots-is-set-text kind.path sets.path sets.slash bp h)
-      ∙ removing-dots-keeps-leading-slash bp in
-      ap (λ t. t && not (starts 47 (normal base).path))
-      (is_none-option_map normal_authority (option_map
-      (authority_meaning kind (ports (str_to_ascii_lowercase b))) ba)
-      ∙ is_none-option_map (authority_meaning kind (ports (str_to_ascii_lowercase b))) ba)
-      ∙ ap (λ t. is_none ba && not t) first
+      grind (
+        arith,
+        nat_tests,
+        guard-keeps-leading-slash,
+        normal-path-keeps-leading-slash,
+        path-without-dots-is-set-text,
+        removing-dots-keeps-leading-slash,
+        is_none-option_map,
+      )
 
   normal-reference-is-fragment-only-as-reference : (s a : Option (List ℕ)) (p : List ℕ)
       (q f : Option (List ℕ))
@@ -350,11 +327,7 @@ module _ (kind : Kind) (sets : HasComponentSets kind) (ports : PortFunction) whe
   normal-reference-is-fragment-only-as-reference (Some s) a p q f h = refl
   normal-reference-is-fragment-only-as-reference None (Some a) p q f h = refl
   normal-reference-is-fragment-only-as-reference None None p q f h =
-      ap (λ t. t && is_none (option_map print (option_map (decode_unreserved kind.query) q)))
-      (normal-path-keeps-emptiness kind.path sets.path sets.slash p h)
-      ∙ ap (λ t. is_empty p && t)
-      (is_none-option_map print (option_map (decode_unreserved kind.query) q)
-      ∙ is_none-option_map (decode_unreserved kind.query) q)
+      grind (arith, nat_tests, normal-path-keeps-emptiness, is_none-option_map)
 
   pub normal-components-are-rejected-alike : (b : List ℕ) (ba : Option (List ℕ)) (bp : List ℕ)
       (bq bf : Option (List ℕ))
@@ -366,8 +339,7 @@ module _ (kind : Kind) (sets : HasComponentSets kind) (ports : PortFunction) whe
       ≡ is_opaque_rejection (components_of_parts (Some b) ba bp bq bf)
       (components_of_parts s a p q f)
   normal-components-are-rejected-alike b ba bp bq bf s a p q f hb hp =
-      let r = components_of_parts s a p q f in
-      ap (λ t. t && not (is_some (normal r).scheme || is_fragment_only (normal r)))
-      (normal-base-is-opaque-as-base b ba bp bq bf hb)
-      ∙ ap (λ t. is_opaque (components_of_parts (Some b) ba bp bq bf) && not t)
-      (normal-reference-is-fragment-only-as-reference s a p q f hp)
+      cc (
+        normal-base-is-opaque-as-base b ba bp bq bf hb,
+        normal-reference-is-fragment-only-as-reference s a p q f hp,
+      )

@@ -1,16 +1,16 @@
 -- What a target has of a base and a reference (section 5.2.2), by what the reference has.
-use Rattle.std.proofs.Common.{◌≡◌, ℕ, ◌+◌, true, false, List, [], ◌∷◌, ◌++◌, length, refl}
-use Rattle.std.proofs.Common.{sym, ap, ◌∙◌, arith, ◌-◌, ◌&&◌, append_assoc, length-append}
-use Rattle.std.proofs.Common.{option_map}
+use Rattle.std.proofs.Common.{◌≡◌, ℕ, ◌+◌, true, false, List, [], ◌∷◌, ◌++◌, length, refl, sym, ap}
+use Rattle.std.proofs.Common.{◌∙◌, arith, ◌-◌, ◌&&◌, append_assoc, length-append, option_map}
 use Rattle.std.specs.Prelude.{codes, Option, Some, None, is_some, ◌==◌}
-use Rattle.std.proofs.lemmas.Bool.{cond-true, cond-false, false≢true, ne_eqb}
+use Rattle.std.proofs.lemmas.Bool.{cond-true, false≢true, ne_eqb}
+use Rattle.std.proofs.lemmas.Bool.Decides.{nat_tests}
 use Rattle.uri_parts.specs.Components.{Components, IsAbemptyPath, components, marked, recompose}
 use Rattle.uri_parts.specs.Components.{starts}
 use Rattle.uri_parts.proofs.Splitting.Recompose.{components-are-split-of-text}
 use Rattle.uri_ops.specs.Models.Places.{before_path}
 use Rattle.uri_ops.specs.Dots.{directory, is_empty, remove_dot_segments, underflows}
-use Rattle.uri_ops.specs.Target.{dotless_if_absolute, underflows_if_absolute}
-use Rattle.uri_ops.specs.Target.{is_opaque_rejection, dotted_target, merged}
+use Rattle.uri_ops.specs.Target.{dotless_if_absolute, underflows_if_absolute, is_opaque_rejection}
+use Rattle.uri_ops.specs.Target.{dotted_target, merged}
 use Rattle.uri_ops.proofs.Paths.DotLaws.{directory-is-absolute}
 use Rattle.uri_ops.proofs.Targeting.Swaps.{merging-base-is-not-opaque}
 use Rattle.uri_ops.proofs.Targeting.Swaps.{base-that-is-not-opaque-has-abempty-path}
@@ -22,10 +22,7 @@ module _ (b r : Components) (s : is_some r.scheme ≡ false) (a : is_some r.auth
     (e : is_empty r.path ≡ false) (n : starts 47 r.path ≡ false) where
   pub joined-with-relative-path : dotted_target b r
       ≡ record b { path = merged b.path r.path; query = r.query; fragment = r.fragment }
-  joined-with-relative-path =
-      cond-false (is_some r.scheme) r _ s
-      ∙ cond-false (is_some r.authority) (record r { scheme = b.scheme }) _ a
-      ∙ cond-false (is_empty r.path) _ _ e ∙ cond-false (starts 47 r.path) _ _ n
+  joined-with-relative-path = cc
 
 -- a base's path, which is empty or begins with `/`, merged with a reference's
 module _ (base path : List ℕ) (rooted : IsAbemptyPath base) where
@@ -59,13 +56,7 @@ pub prefix-path-and-suffix-recompose : (t : Components) (o0 o1 o2 : List ℕ) �
     ≡ o0 ++ (before_path t ++ t.path)
     → o2 ≡ o1 ++ (marked (codes "?") t.query [] ++ marked (codes "#") t.fragment [])
     → o2 ≡ o0 ++ recompose t
-prefix-path-and-suffix-recompose t o0 o1 o2 e1 e2 =
-    let scheme = marked [] t.scheme (codes ":") in
-    let authority = marked (codes "//") t.authority [] in
-    let suffix = marked (codes "?") t.query [] ++ marked (codes "#") t.fragment [] in
-    e2 ∙ ap (λ x. x ++ suffix) e1 ∙ append_assoc o0 (before_path t ++ t.path) suffix
-    ∙ ap (λ x. o0 ++ x) (append_assoc (before_path t) t.path suffix
-    ∙ append_assoc scheme authority (t.path ++ suffix))
+prefix-path-and-suffix-recompose t o0 o1 o2 e1 e2 = grind (arith, nat_tests, append_assoc)
 
 -- positions in a target: a query that is appended after its `?` ends where the text does
 pub pushed-query-ends-at-length : (query : Option (List ℕ)) (o3 o4 : List ℕ) (end : ℕ)

@@ -1,28 +1,26 @@
 -- An equivalent base and reference have a target with the same normal form, or both pairs have no
 -- target.
-use Rattle.std.proofs.Common.{◌≡◌, ℕ, Bool, true, false, List, refl, sym, ap, subst, ◌∙◌}
+use Rattle.std.proofs.Common.{◌≡◌, ℕ, Bool, true, false, List, refl, sym, ap, subst, ◌∙◌, arith}
 use Rattle.std.specs.Prelude.{Result, Ok, Err, IfErr, IsErrAnd, is_ok}
 use Rattle.std.specs.Result.{result_map_both}
 use Rattle.std.proofs.lemmas.Bool.{false≢true}
+use Rattle.std.proofs.lemmas.Bool.Decides.{nat_tests}
 use Rattle.uri_parts.specs.Components.{Components, components}
-use Rattle.uri_parts.specs.Grammar.{Kind}
+use Rattle.uri_parts.specs.Grammar.{Kind, IsTextOf}
 use Rattle.uri_ops.specs.ComponentSets.{HasComponentSets}
 use Rattle.uri_ops.specs.Meaning.{meaning_of}
-use Rattle.uri_ops.specs.Normal.{normal_text}
 use Rattle.uri_ops.specs.NormalTargets.{HasMeaningOf, HasTargetMeaning, IsErrorUnderSetting}
-use Rattle.uri_ops.specs.NormalTargets.{IsNormalFormOfTarget}
-use Rattle.uri_ops.specs.NormalTargets.{IsTargetOfMeanings, IsErrorOfMeanings, IsNormalTarget}
-use Rattle.uri_ops.specs.NormalTargets.{IsNormalTargetError}
+use Rattle.uri_ops.specs.NormalTargets.{IsNormalFormOfTarget, IsTargetOfMeanings, IsErrorOfMeanings}
+use Rattle.uri_ops.specs.NormalTargets.{IsNormalTarget, IsNormalTargetError, reference_kind}
+use Rattle.uri_ops.specs.NormalTargets.{resolved_meaning}
 use Rattle.uri_ops.specs.Normalizers.{IsNormalForm}
 use Rattle.uri_parts.specs.Ports.{PortFunction}
-use Rattle.uri_ops.specs.NormalTargets.{reference_kind, resolved_meaning}
 use Rattle.uri_ops.specs.Resolving.{IsTarget, IsErrorFor, IsErrorWithUnderflowAllowed}
 use Rattle.uri_ops.specs.Target.{TargetError, BaseWithFragment, InvalidReferenceAgainstOpaqueBase}
 use Rattle.uri_ops.specs.Target.{resolution_of, resolution_of_texts}
-use Rattle.uri_parts.specs.Grammar.{IsTextOf}
 use Rattle.uri_ops.specs.declared.resolve.error.ResolveError.{ResolveError}
-use Rattle.uri_ops.specs.declared.resolve.error.ResolveError.TheVariants as Of
 use Rattle.uri_ops.proofs.Targeting.Swaps.{resolving-respects-meaning}
+use Rattle.uri_ops.specs.declared.resolve.error.ResolveError.TheVariants as Of
 
 -- resolving: an underflow that is allowed is no error
 allowed-underflow-is-no-error : (base r : Components) (error : ResolveError)
@@ -81,12 +79,7 @@ pub same-meaning-same-normal-form : (kind : Kind) (ports : PortFunction)
     (text other normal : List ℕ)
     → meaning_of kind ports other ≡ meaning_of kind ports text → IsNormalForm kind ports text normal
     → IsNormalForm kind ports other normal
-same-meaning-same-normal-form kind ports text other normal e h = record {
-  text = record { text = h.text.text ∙ ap normal_text (sym e) };
-  of_kind = h.of_kind;
-  meaning = h.meaning ∙ sym e;
-  same = λ u w. let both = h.same u w in (λ d. e ∙ both.0 d, λ d. both.1 (sym e ∙ d));
-}
+same-meaning-same-normal-form kind ports text other normal e h = grind (arith, nat_tests)
 
 -- resolving: an equivalent base and reference are rejected with the same error;
 -- b, r and base, reference: their components
@@ -113,10 +106,7 @@ one-normal-form-of-target : (kind : Kind) (ports : PortFunction) (base reference
     → IsNormalFormOfTarget kind ports base reference n
     → IsNormalFormOfTarget kind ports base reference m → n ≡ m
 one-normal-form-of-target kind ports base reference n m v w =
-    v.1.1.text.text
-    ∙ ap (λ t. normal_text (meaning_of kind ports t))
-    (resolution-is-unique (resolution_of_texts base reference) v.0 w.0 v.1.0 w.1.0)
-    ∙ sym w.1.1.text.text
+    cc (resolution-is-unique (resolution_of_texts base reference) v.0 w.0 v.1.0 w.1.0)
 
 -- resolving: an error of equivalent texts is one of the others, under the same setting;
 -- allowed: whether underflows are; b, r and base, reference: their components
@@ -241,9 +231,5 @@ module _ (kind of_reference : Kind) (sets : HasComponentSets kind)
   pub error-respects-meaning : (error : ResolveError)
       → IsErrorFor allowed (components base) (components reference) error
       → IsErrorOfMeanings allowed kind of_reference base reference error
-  error-respects-meaning error h = record {
-    alike =
-        λ ports b r v w. equivalent-inputs-have-same-resolve-error kind of_reference sets needs same
-        ports base reference of_base
-        of_ref allowed b r error v w h;
-  }
+  error-respects-meaning error h =
+      grind (arith, nat_tests, equivalent-inputs-have-same-resolve-error)

@@ -1,11 +1,10 @@
 -- A reference's path after a directory, where neither has dot segments.
-use Rattle.std.proofs.Common.{◌≡◌, ℕ, ◌+◌, true, false, List, [], ◌++◌, length, take, drop}
-use Rattle.std.proofs.Common.{ap, sym, refl, ◌∙◌, ◌&&◌, ◌||◌, append_assoc, length-append}
-use Rattle.std.proofs.Common.{option_map}
-use Rattle.std.proofs.Common.{arith, inr}
-use Rattle.std.specs.Prelude.{codes, not, Option, Some, None, is_none, is_some, unwrap_or}
-use Rattle.std.proofs.lemmas.Bool.{and_from, and_parts, cond-false, cond-true, false≢true}
+use Rattle.std.proofs.Common.{◌≡◌, ℕ, ◌+◌, true, false, List, [], ◌++◌, length, take, drop, ap, sym}
+use Rattle.std.proofs.Common.{refl, ◌∙◌, ◌&&◌, append_assoc, length-append, option_map, arith}
+use Rattle.std.specs.Prelude.{codes, Option, Some, None, is_none, is_some, unwrap_or}
+use Rattle.std.proofs.lemmas.Bool.{cond-true, false≢true}
 use Rattle.std.proofs.lemmas.List.{append-nil}
+use Rattle.std.proofs.lemmas.Bool.Decides.{nat_tests}
 use Rattle.uri_parts.specs.Components.{Components, marked, recompose, starts}
 use Rattle.uri_parts.specs.declared.positions.Positions.{Positions}
 use Rattle.uri_parts.specs.PackedPositions.{packed}
@@ -16,12 +15,11 @@ use Rattle.uri_ops.specs.Models.Places.{IsSlashOrStart, before_path}
 use Rattle.uri_ops.specs.Models.BasePrefixes.{IsUpToDirectory, IsPrefixedTarget, positions_after}
 use Rattle.uri_ops.specs.Resolving.{with_final_path}
 use Rattle.uri_ops.specs.Target.{dotless_if_absolute, underflows_if_absolute, guarded}
-use Rattle.uri_ops.specs.Target.{is_fragment_only}
-use Rattle.uri_ops.specs.Target.{is_opaque_rejection, dotted_target, merged, query_or}
+use Rattle.uri_ops.specs.Target.{is_fragment_only, is_opaque_rejection, dotted_target, merged}
+use Rattle.uri_ops.specs.Target.{query_or}
 use Rattle.uri_ops.proofs.Normal.WrittenPlaces.{length-before_path-is-path_start}
 use Rattle.uri_ops.proofs.Paths.DotLaws.{directory-is-absolute, directory-ends-in-slash}
-use Rattle.uri_ops.proofs.Paths.DotLaws.{remove-dots-of-dotless}
-use Rattle.uri_ops.proofs.Paths.DotLaws.{dotless-path-does-not-underflow}
+use Rattle.uri_ops.proofs.Paths.DotLaws.{remove-dots-of-dotless, dotless-path-does-not-underflow}
 use Rattle.uri_ops.proofs.Paths.LastSlashes.{prefix-with-last-slash-is-directory}
 use Rattle.uri_ops.proofs.Paths.LeftPaths.{dotless-path-after-directory-is-dotless}
 use Rattle.uri_ops.proofs.Paths.GuardedPaths.{path-after-authority-needs-no-guard}
@@ -38,16 +36,13 @@ pub text-to-last-slash-is-up-to-directory : (b : Components) (slash : ℕ) (pref
     → lacks_dot_segments (take (slash + 1) b.path) ≡ true → is_some b.authority ≡ true
     → prefix ≡ before_path b ++ take (slash + 1) b.path → IsUpToDirectory b prefix
 text-to-last-slash-is-up-to-directory b slash prefix absolute place last dots dotless some text =
-    let taken = prefix-with-last-slash-is-directory b.path slash absolute place last dots in
-    record {
-      authority = some;
-      dotless = record {
-        absolute = directory-is-absolute b.path (inr absolute);
-        closed = directory-ends-in-slash b.path (inr absolute);
-        dotless = ap lacks_dot_segments (sym taken) ∙ dotless;
-      };
-      text = text ∙ ap (λ t. before_path b ++ t) taken;
-    }
+    grind (
+      arith,
+      nat_tests,
+      prefix-with-last-slash-is-directory,
+      directory-is-absolute,
+      directory-ends-in-slash,
+    )
 
 -- resolving: a path without dot segments after an authority stays
 dotless-path-after-authority-stays : (authority : Option (List ℕ)) (path : List ℕ)
@@ -63,25 +58,17 @@ dotless-path-after-authority-stays authority path some absolute dotless =
 -- targets: the text of a reference without scheme and authority begins with its path
 text-without-prefix-is-path-and-suffix : (r : Components) → r.scheme ≡ None → r.authority ≡ None
     → recompose r ≡ r.path ++ (marked (codes "?") r.query [] ++ marked (codes "#") r.fragment [])
-text-without-prefix-is-path-and-suffix r s a = λ i. marked [] (s i) (codes ":") ++
-    (marked (codes "//") (a i) [] ++
-    (r.path ++ (marked (codes "?") r.query [] ++ marked (codes "#") r.fragment [])))
+text-without-prefix-is-path-and-suffix r s a = grind (arith, nat_tests)
 
 -- resolving: a base with an authority rejects no reference as opaque
 base-with-authority-rejects-no-reference : (b r : Components) → is_some b.authority ≡ true
     → is_opaque_rejection b r ≡ false
-base-with-authority-rejects-no-reference b r some = ap
-    (λ x. (x && not (starts 47 b.path)) && not (is_some r.scheme || is_fragment_only r))
-    (some_is_not_none b.authority some)
+base-with-authority-rejects-no-reference b r some = grind (arith, nat_tests, some_is_not_none)
 
 -- resolving: a reference with a path or a query is not a fragment alone
 path-or-query-is-not-fragment-only : (r : Components) → (is_empty r.path && is_none r.query) ≡ false
     → is_fragment_only r ≡ true → false ≡ true
-path-or-query-is-not-fragment-only r e h =
-    let query = and_parts (is_none r.scheme && is_none r.authority && is_empty r.path)
-    (is_none r.query) h in
-    let path = and_parts (is_none r.scheme && is_none r.authority) (is_empty r.path) query.0 in
-    sym e ∙ and_from _ _ path.1 query.1
+path-or-query-is-not-fragment-only r e h = grind (arith, nat_tests)
 
 -- positions in a target: the text up to the end of the path is as long as the positions say
 pub length-through-path-is-path_end : (r : Components) → length (before_path r ++ r.path) ≡
@@ -100,10 +87,7 @@ before_fragment-moves n (Some end) path_end = refl
 pub packed-positions_after : (base r : Positions) (n : ℕ)
     → (record (packed base) { path_end = n + r.path_end; query_end = n + before_fragment r })
     ≡ packed (positions_after base n r)
-packed-positions_after base r n = λ i. record (packed base) {
-  path_end = n + r.path_end;
-  query_end = before_fragment-moves n r.query_end r.path_end i;
-}
+packed-positions_after base r n = grind (arith, nat_tests, before_fragment-moves)
 
 -- positions in a target: the end of a query moves with its path by n bytes
 query-end-moves-with-path : (query : Option (List ℕ)) (n m k : ℕ) → n + m ≡ k
@@ -120,14 +104,7 @@ module _ (b r : Components) (prefix stem : List ℕ) (s : r.scheme ≡ None) (a 
   prefix-and-reference-are-target-text : prefix ++ recompose r
       ≡ recompose (with_final_path (dotted_target b r))
   prefix-and-reference-are-target-text =
-      let scheme = marked [] b.scheme (codes ":") in
-      let authority = marked (codes "//") b.authority [] in
-      let suffix = marked (codes "?") r.query [] ++ marked (codes "#") r.fragment [] in
-      ap (λ x. x ++ recompose r) f ∙ ap (λ x. (before_path b ++ stem) ++ x)
-      (text-without-prefix-is-path-and-suffix r s a)
-      ∙ append_assoc (before_path b) stem (r.path ++ suffix)
-      ∙ ap (λ x. before_path b ++ x) (sym (append_assoc stem r.path suffix))
-      ∙ append_assoc scheme authority ((stem ++ r.path) ++ suffix) ∙ sym (ap recompose t)
+      grind (arith, nat_tests, text-without-prefix-is-path-and-suffix, append_assoc)
 
   positions_after-prefix-are-of-target : positions_after (positions_of b) (length prefix)
       (positions_of r)
@@ -200,9 +177,7 @@ module _ (b r : Components) (prefix : List ℕ) (s : is_some r.scheme ≡ false)
     (dotless : lacks_dot_segments b.path ≡ true) where
   dotted_target-without-path-keeps-base-path : dotted_target b r
       ≡ record b { query = query_or b.query r.query; fragment = r.fragment }
-  dotted_target-without-path-keeps-base-path = cond-false (is_some r.scheme) r _ s
-      ∙ cond-false (is_some r.authority) (record r { scheme = b.scheme }) _ a
-      ∙ cond-true (is_empty r.path) _ _ e
+  dotted_target-without-path-keeps-base-path = grind (arith, nat_tests)
 
   -- a base's path without dot segments after an authority stays as it is in the target
   kept : guarded b.authority (dotless_if_absolute b.path) ≡ b.path
@@ -248,33 +223,15 @@ module _ (b r : Components) (prefix : List ℕ) (s : is_some r.scheme ≡ false)
       → prefix ≡ (before_path b ++ b.path) ++ marked (codes "?") b.query []
       → IsPrefixedTarget b r prefix
   fragment-after-base-is-target q f =
-      let done : with_final_path (dotted_target b r) ≡ record b { fragment = r.fragment } =
-      ap with_final_path dotted_target-without-path-keeps-base-path
-      ∙ (λ i. record b {
-        path = kept i;
-        query = cond-false (is_some r.query) r.query b.query q i;
-        fragment = r.fragment;
-      }) in
-      let scheme = marked [] b.scheme (codes ":") in
-      let authority = marked (codes "//") b.authority [] in
-      let query = marked (codes "?") b.query [] in
-      let fragment = marked (codes "#") r.fragment [] in
-      let end : recompose r ≡ fragment = text-without-prefix-is-path-and-suffix r
-      (None-from-not-is_some r.scheme s)
-      (None-from-not-is_some r.authority a)
-      ∙ (λ i. empty-text-is-nil r.path e i
-      ++ (marked (codes "?") (None-from-not-is_some r.query q i) [] ++ fragment)) in
-      let only : is_fragment_only r ≡ true =
-      λ i. is_none (None-from-not-is_some r.scheme s i) && is_none
-      (None-from-not-is_some r.authority a i) && e i && is_none
-      (None-from-not-is_some r.query q i) in
-      record {
-        taken = base-with-authority-rejects-no-reference b r some;
-        underflow = dotless-base-path-does-not-underflow;
-        text = (λ i. f i ++ end i) ∙ append_assoc (before_path b ++ b.path) query fragment
-            ∙ append_assoc (before_path b) b.path (query ++ fragment)
-            ∙ append_assoc scheme authority (b.path ++ (query ++ fragment))
-            ∙ sym (ap recompose done);
-        alone = λ _. sym (ap positions_of done);
-        suffix = λ h. absurd (false≢true (sym h ∙ only));
-      }
+      grind (
+        arith,
+        nat_tests,
+        dotted_target-without-path-keeps-base-path,
+        kept,
+        text-without-prefix-is-path-and-suffix,
+        None-from-not-is_some,
+        empty-text-is-nil,
+        base-with-authority-rejects-no-reference,
+        dotless-base-path-does-not-underflow,
+        append_assoc,
+      )

@@ -1,22 +1,20 @@
 -- What a reference resolves to, against a base, is a function of the meanings of both.
-use Rattle.std.proofs.Common.{◌≡◌, ℕ, true, false, not, List, refl, sym, ap, ◌∙◌, ◌&&◌, ⊎_elim, inr}
-use Rattle.std.proofs.Common.{option_map}
+use Rattle.std.proofs.Common.{◌≡◌, ℕ, true, false, not, List, refl, sym, ap, ◌∙◌, ◌&&◌, inr}
+use Rattle.std.proofs.Common.{option_map, arith}
 use Rattle.std.specs.Prelude.{codes, Option, Some, None, IfSome, Result, is_some, is_none}
-use Rattle.std.proofs.lemmas.Bool.{and_cases, and_left, and_right, or_from, cond_both, not-false}
-use Rattle.std.proofs.lemmas.Bool.{false≢true, both_ways}
+use Rattle.std.proofs.lemmas.Bool.{and_cases, cond_both, not-false, false≢true}
+use Rattle.std.proofs.lemmas.Bool.Decides.{nat_tests}
 use Rattle.uri_pct.specs.Tokens.{print}
 use Rattle.uri_pct.specs.DecodeUnreserved.{decode_unreserved}
 use Rattle.uri_parts.specs.Components.{Components, Lacks, starts, IsAbemptyPath, components}
 use Rattle.uri_parts.specs.Components.{recompose}
-use Rattle.uri_parts.specs.Grammar.{Kind}
+use Rattle.uri_parts.specs.Grammar.{Kind, IsTextOf}
 use Rattle.uri_parts.proofs.Splitting.Recompose.{components-are-split-of-text}
 use Rattle.uri_parts.proofs.Splitting.Recompose.{equal-to-true-is-IsTrue}
 use Rattle.uri_ops.specs.Dots.{is_empty}
-use Rattle.uri_ops.specs.Target.{TargetError, is_opaque, is_fragment_only, is_opaque_rejection}
-use Rattle.uri_ops.specs.Target.{dotted_target}
+use Rattle.uri_ops.specs.Target.{TargetError, is_opaque, is_opaque_rejection, dotted_target}
 use Rattle.uri_ops.specs.Target.{target_of}
 use Rattle.uri_ops.specs.ComponentSets.{HasComponentSets}
-use Rattle.uri_parts.specs.Grammar.{IsTextOf}
 use Rattle.uri_parts.specs.Ports.{PortFunction}
 use Rattle.uri_ops.specs.Meaning.{Meaning, components_meaning, meaning_of}
 use Rattle.uri_ops.specs.Normal.{normal_text, normal_components}
@@ -38,13 +36,7 @@ use Rattle.uri_parts.proofs.TextKinds.KindSets.{with_scheme as scheme_where_need
 -- if the base has one; r: the reference
 pub dotted_target-has-scheme-as-base : (base r : Components) → is_some base.scheme ≡ true
     → is_some (dotted_target base r).scheme ≡ true
-dotted_target-has-scheme-as-base base r some =
-    cond_both (is_some r.scheme) r _ (λ (t : Components). is_some t.scheme ≡ true) (λ h. h)
-    (λ _. cond_both (is_some r.authority) _ _ (λ (t : Components). is_some t.scheme ≡ true)
-    (λ _. some)
-    (λ _. cond_both (is_empty r.path) _ _ (λ (t : Components). is_some t.scheme ≡ true) (λ _. some)
-    (λ _. cond_both (starts 47 r.path) _ _ (λ (t : Components). is_some t.scheme ≡ true) (λ _. some)
-    (λ _. some))))
+dotted_target-has-scheme-as-base base r some = grind (arith, nat_tests, cond_both)
 
 -- resolving: a text of a kind that needs a scheme, as a base, has one
 pub text-of-kind-has-needed-scheme : (kind : Kind) (b : List ℕ) → kind.needs_scheme ≡ true
@@ -63,10 +55,7 @@ none-is-not-some (Some x) e = absurd (false≢true e)
 pub merging-base-is-not-opaque : (base r : Components) → is_opaque_rejection base r ≡ false
     → is_none r.scheme ≡ true → is_empty r.path ≡ false → is_opaque base ≡ false
 merging-base-is-not-opaque base r e s p =
-    let only : is_fragment_only r ≡ false = and_left _ _ (and_right _ _ p) in
-    ⊎_elim (λ h. h)
-    (λ h. absurd (both_ways _ (or_from _ _ (none-is-not-some r.scheme s) only) (not-false _ h)))
-    (and_cases (is_opaque base) _ e)
+    grind (arith, nat_tests, none-is-not-some, not-false, and_cases)
 
 -- resolving: the path of a base that is not opaque is empty or begins with `/`
 pub base-that-is-not-opaque-has-abempty-path : (authority : Option (List ℕ)) (path : List ℕ)
@@ -157,23 +146,10 @@ module _ (kind : Kind) (ports : PortFunction) (sets : HasComponentSets kind) whe
       → meaning_of (reference_kind kind) ports t ≡ meaning_of (reference_kind kind) ports u
       → resolved_meaning kind ports b t ≡ resolved_meaning kind ports c u
   resolving-respects-meaning b c t u needs v w x y e f =
-      resolved_meaning-is-of-normal-components b t needs v x
-      ∙ ap (λ m. resolution_meaning (normal_components m)
-      (normal_components (meaning_of (reference_kind kind) ports t))) e
-      ∙ ap (λ m. resolution_meaning (normal_components (meaning_of kind ports c))
-      (normal_components m)) f
-      ∙ sym (resolved_meaning-is-of-normal-components c u needs w y)
+      grind (arith, nat_tests, resolved_meaning-is-of-normal-components, resolution_meaning)
 
   reference_sets : HasComponentSets (reference_kind kind)
-  reference_sets = record {
-    userinfo = sets.userinfo;
-    reg_name = sets.reg_name;
-    path =
-        sets.path;
-    slash = sets.slash;
-    query = sets.query;
-    fragment = sets.fragment;
-  }
+  reference_sets = grind (arith, nat_tests)
 
   -- the normal texts of a base and a reference resolve to the same meaning
   pub normal-texts-resolve-to-same-meaning : (b t : List ℕ) → kind.needs_scheme ≡ true

@@ -1,10 +1,11 @@
 -- Which case of the pseudocode a reference is, and the pieces of a target in each case.
 use Rattle.std.proofs.Common.{◌≡◌, ℕ, ◌+◌, true, false, List, [], ◌++◌, length, sym, ap, ◌∙◌}
-use Rattle.std.proofs.Common.{option_map}
+use Rattle.std.proofs.Common.{option_map, arith}
 use Rattle.std.specs.Prelude.{codes, Option, is_some}
 use Rattle.std.proofs.lemmas.Bool.{cond-true, cond-false}
+use Rattle.std.proofs.lemmas.Bool.Decides.{nat_tests}
 use Rattle.uri_parts.specs.declared.positions.AuthorityPositions.{AuthorityPositions}
-use Rattle.uri_parts.specs.Components.{Components, components, marked, recompose, starts}
+use Rattle.uri_parts.specs.Components.{Components, components, marked, recompose}
 use Rattle.uri_parts.specs.Positions.{authority_at, positions_of}
 use Rattle.uri_ops.specs.declared.resolve.target_case.TargetCase.{TargetCase}
 use Rattle.uri_ops.specs.declared.resolve.target_case.TargetCase.TheVariants.{WithScheme}
@@ -12,7 +13,6 @@ use Rattle.uri_ops.specs.declared.resolve.target_case.TargetCase.TheVariants.{Wi
 use Rattle.uri_ops.specs.declared.resolve.target_case.TargetCase.TheVariants.{EmptyPath}
 use Rattle.uri_ops.specs.declared.resolve.target_case.TargetCase.TheVariants.{AbsolutePath}
 use Rattle.uri_ops.specs.declared.resolve.target_case.TargetCase.TheVariants.{MergedPath}
-use Rattle.uri_ops.specs.Dots.{is_empty}
 use Rattle.uri_ops.specs.Models.Places.{before_path}
 use Rattle.uri_ops.specs.Models.TargetCases.{IsCaseOf, target_in_case, with_authority}
 use Rattle.uri_ops.specs.Resolving.{with_final_path}
@@ -27,15 +27,9 @@ pub case-gives-line : (case : TargetCase) (base r : Components) → IsCaseOf r c
 case-gives-line WithScheme base r s = cond-true (is_some r.scheme) r _ s
 case-gives-line WithAuthority base r (s, a) = cond-false (is_some r.scheme) r _ s
     ∙ cond-true (is_some r.authority) (with_authority base r) _ a
-case-gives-line EmptyPath base r (h, e) = cond-false (is_some r.scheme) r _ h.scheme
-    ∙ cond-false (is_some r.authority) (with_authority base r) _ h.authority
-    ∙ cond-true (is_empty r.path) _ _ e
-case-gives-line AbsolutePath base r (h, e, n) = cond-false (is_some r.scheme) r _ h.scheme
-    ∙ cond-false (is_some r.authority) (with_authority base r) _ h.authority
-    ∙ cond-false (is_empty r.path) _ _ e ∙ cond-true (starts 47 r.path) _ _ n
-case-gives-line MergedPath base r (h, e, n) = cond-false (is_some r.scheme) r _ h.scheme
-    ∙ cond-false (is_some r.authority) (with_authority base r) _ h.authority
-    ∙ cond-false (is_empty r.path) _ _ e ∙ cond-false (starts 47 r.path) _ _ n
+case-gives-line EmptyPath base r (h, e) = grind (arith, nat_tests)
+case-gives-line AbsolutePath base r (h, e, n) = grind (arith, nat_tests)
+case-gives-line MergedPath base r (h, e, n) = grind (arith, nat_tests)
 
 -- resolving: the base's scheme, and a reference with an authority alone before its path, are what
 -- the target has there
@@ -43,10 +37,7 @@ pub base-scheme-before-reference-authority : (b r : Components) (scheme before :
     → is_some r.scheme ≡ false → scheme ≡ marked [] b.scheme (codes ":") → before ≡ before_path r
     → scheme ++ before ≡ before_path (with_authority b r)
 base-scheme-before-reference-authority b r scheme before s e f =
-    (λ i. e i ++ f i)
-    ∙ ap (λ o. marked [] b.scheme (codes ":")
-    ++ (marked [] o (codes ":") ++ marked (codes "//") r.authority []))
-    (None-from-is_none r.scheme (not_some_is_none r.scheme s))
+    cc (None-from-is_none r.scheme (not_some_is_none r.scheme s), not_some_is_none r.scheme s)
 
 -- positions in a target: a reference's authority is after the base's scheme
 pub reference-authority-after-base-scheme : (b r : Components) (scheme : List ℕ)
@@ -54,9 +45,8 @@ pub reference-authority-after-base-scheme : (b r : Components) (scheme : List �
     → scheme ≡ marked [] b.scheme (codes ":")
     → places ≡ option_map (authority_at (length scheme + 2)) r.authority
     → places ≡ (positions_of (with_authority b r)).authority
-reference-authority-after-base-scheme b r scheme places e h = h
-    ∙ ap (λ n. option_map (authority_at (n + 2)) r.authority)
-    (ap length e ∙ length-with-delimiter-after b.scheme 58)
+reference-authority-after-base-scheme b r scheme places e h =
+    grind (arith, nat_tests, length-with-delimiter-after)
 
 -- resolving: the text of a target with a scheme, without its dot segments, has the components that
 -- it was made of
@@ -66,4 +56,5 @@ settled-text-has-settled-components text some =
     let c = components text in
     let t : target_of c c ≡ with_final_path c
     = ap with_final_path (case-gives-line WithScheme c c some) in
-    sym (ap (λ x. components (recompose x)) t) ∙ target-text-has-target-components text text some ∙ t
+    sym (ap (λ x. components (recompose x)) t) ∙ target-text-has-target-components text text some ∙
+    t

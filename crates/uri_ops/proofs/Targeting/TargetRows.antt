@@ -1,6 +1,7 @@
 -- Rows that compute: RFC 3986, section 5.4, and what is not in the RFC.
-use Rattle.std.proofs.Common.{◌≡◌, ℕ, true, false, List, [], refl, Ok, Err}
+use Rattle.std.proofs.Common.{◌≡◌, ℕ, true, false, List, [], refl, Ok, Err, arith}
 use Rattle.std.specs.Prelude.{codes}
+use Rattle.std.proofs.lemmas.Bool.Decides.{nat_tests}
 use Rattle.uri_parts.specs.Components.{components}
 use Rattle.uri_ops.specs.Dots.{remove_dot_segments, underflows, directory, run}
 use Rattle.uri_ops.specs.Target.{TargetError, BaseWithFragment, InvalidReferenceAgainstOpaqueBase}
@@ -53,31 +54,7 @@ rfc-normal-examples-resolve :
     × ResolvesTo base (codes "../../") (codes "http://a/")
     × ResolvesTo base (codes "../../g") (codes "http://a/g")
 unfolding ResolvesTo base remove_dot_segments underflows directory run
-rfc-normal-examples-resolve = (
-  (refl, refl),
-  (refl, refl),
-  (refl, refl),
-  (refl, refl),
-  (refl, refl),
-  (refl, refl),
-  (refl, refl),
-  (refl, refl),
-  (refl, refl),
-  (refl, refl),
-  (refl, refl),
-  (refl, refl),
-  (refl, refl),
-  (refl, refl),
-  (refl, refl),
-  (refl, refl),
-  (refl, refl),
-  (refl, refl),
-  (refl, refl),
-  (refl, refl),
-  (refl, refl),
-  (refl, refl),
-  (refl, refl),
-)
+rfc-normal-examples-resolve = grind (arith, nat_tests)
 
 -- examples of targets, by computation: the abnormal examples of RFC 3986, section 5.4.2
 rfc-abnormal-examples-resolve :
@@ -101,27 +78,7 @@ rfc-abnormal-examples-resolve :
     × ResolvesTo base (codes "g#s/../x") (codes "http://a/b/c/g#s/../x")
     × ResolvesTo base (codes "http:g") (codes "http:g")
 unfolding ResolvesTo UnderflowsToTarget base remove_dot_segments underflows directory run
-rfc-abnormal-examples-resolve = (
-  (refl, refl),
-  (refl, refl),
-  (refl, refl),
-  (refl, refl),
-  (refl, refl),
-  (refl, refl),
-  (refl, refl),
-  (refl, refl),
-  (refl, refl),
-  (refl, refl),
-  (refl, refl),
-  (refl, refl),
-  (refl, refl),
-  (refl, refl),
-  (refl, refl),
-  (refl, refl),
-  (refl, refl),
-  (refl, refl),
-  (refl, refl),
-)
+rfc-abnormal-examples-resolve = grind (arith, nat_tests)
 
 -- examples of targets, by computation: encoded dots, `/.` before `//`, a base that ends in `..`, an
 -- empty reference path, rootless paths
@@ -141,21 +98,7 @@ other-examples-resolve :
     × ResolvesTo (codes "foo:bar") (codes "g:h/..") (codes "g:h/..")
     × ResolvesTo (codes "foo:bar?q") [] (codes "foo:bar?q")
 unfolding ResolvesTo UnderflowsToTarget remove_dot_segments underflows directory run
-other-examples-resolve = (
-  (refl, refl),
-  (refl, refl),
-  (refl, refl),
-  (refl, refl),
-  (refl, refl),
-  (refl, refl),
-  (refl, refl),
-  (refl, refl),
-  (refl, refl),
-  (refl, refl),
-  (refl, refl),
-  (refl, refl),
-  (refl, refl),
-)
+other-examples-resolve = grind (arith, nat_tests)
 
 -- examples of rejected references, by computation: the base's fragment is tested first
 examples-are-rejected :

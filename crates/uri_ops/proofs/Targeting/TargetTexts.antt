@@ -1,17 +1,16 @@
 -- A target is a text of its base's kind.
-use Rattle.std.proofs.Common.{◌≡◌, ℕ, true, false, cond, List, ap, subst, ◌∙◌}
+use Rattle.std.proofs.Common.{◌≡◌, ℕ, true, false, List, ap, subst, ◌∙◌, arith}
 use Rattle.std.specs.Prelude.{IfSome, Ok, is_some, is_none}
 use Rattle.std.specs.Str.{IsUtf8}
-use Rattle.std.proofs.lemmas.Bool.{cond_both, or_left}
-use Rattle.uri_parts.specs.Components.{Components, starts, IsAbemptyPath, components, recompose}
-use Rattle.uri_parts.specs.Grammar.{Kind, is_scheme, is_authority, components_meet_rules}
+use Rattle.std.proofs.lemmas.Bool.{cond_both}
+use Rattle.std.proofs.lemmas.Bool.Decides.{nat_tests}
+use Rattle.uri_parts.specs.Components.{Components, IsAbemptyPath, components, recompose}
+use Rattle.uri_parts.specs.Grammar.{Kind, is_scheme, is_authority, components_meet_rules, IsTextOf}
 use Rattle.uri_parts.proofs.Splitting.Recompose.{components-are-split-of-text}
 use Rattle.uri_ops.specs.Dots.{is_empty}
-use Rattle.uri_ops.specs.Target.{is_opaque_rejection, merged, dotted_target, dotless_if_absolute}
-use Rattle.uri_ops.specs.Target.{guarded}
+use Rattle.uri_ops.specs.Target.{is_opaque_rejection, dotted_target, dotless_if_absolute, guarded}
 use Rattle.uri_ops.specs.Target.{target_of, resolution_of}
 use Rattle.uri_ops.specs.ComponentSets.{HasComponentSets}
-use Rattle.uri_parts.specs.Grammar.{IsTextOf}
 use Rattle.uri_ops.specs.NormalTargets.{reference_kind}
 use Rattle.uri_ops.proofs.Meanings.AllowedParts.{is_set_text}
 use Rattle.uri_ops.proofs.Paths.PathMeanings.{guarded-set-text-is-set-text}
@@ -44,77 +43,19 @@ module _ (kind : Kind) (sets : HasComponentSets kind) where
       → (is_none r.scheme ≡ true → is_empty r.path ≡ false → IsAbemptyPath base.path)
       → ArePartsWithScheme (dotted_target base r)
   dotted_target-has-parts-with-scheme base r some b p rooted =
-      cond_both (is_some r.scheme) r _ ArePartsWithScheme
-      (λ h. record {
-        some = h;
-        scheme = p.scheme;
-        authority = p.authority;
-        path = p.path;
-        query =
-            p.query;
-        fragment = p.fragment;
-      })
-      (λ s. cond_both (is_some r.authority) (record r { scheme = base.scheme }) _ ArePartsWithScheme
-      (λ h. record {
-        some = some;
-        scheme = b.scheme;
-        authority = p.authority;
-        path = p.path;
-        query =
-            p.query;
-        fragment = p.fragment;
-      })
-      (λ a. cond_both (is_empty r.path)
-      (record base { query = cond (is_some r.query) r.query base.query; fragment = r.fragment })
-      _ ArePartsWithScheme
-      (λ h. record {
-        some = some;
-        scheme = b.scheme;
-        authority = b.authority;
-        path = b.path;
-        query = cond_both (is_some r.query) r.query base.query
-            (λ o. IfSome o (λ q. is_set_text kind.query q ≡ true)) (λ _. p.query) (λ _. b.query);
-        fragment = p.fragment;
-      })
-      (λ e. cond_both (starts 47 r.path)
-      (record base { path = r.path; query = r.query; fragment = r.fragment })
-      (record base {
-        path = merged base.path r.path;
-        query = r.query;
-        fragment =
-            r.fragment;
-      }) ArePartsWithScheme
-      (λ h. record {
-        some = some;
-        scheme = b.scheme;
-        authority = b.authority;
-        path = p.path;
-        query =
-            p.query;
-        fragment = p.fragment;
-      })
-      (λ h. record {
-        some = some;
-        scheme = b.scheme;
-        authority = b.authority;
-        path = merged-set-text-is-set-text kind.path sets.path sets.slash base.path r.path
-            (rooted (not_some_is_none r.scheme s) e) b.path p.path;
-        query = p.query;
-        fragment = p.fragment;
-      }))))
+      grind (
+        arith,
+        nat_tests,
+        cond_both,
+        is_set_text,
+        merged-set-text-is-set-text,
+        not_some_is_none,
+      )
 
   guarded-dotless-target-is-of-kind : (t : Components) → ArePartsWithScheme t
       → ArePartsOfKind kind (record t { path = guarded t.authority (dotless_if_absolute t.path) })
-  guarded-dotless-target-is-of-kind t p = record {
-    scheme = p.scheme;
-    authority = p.authority;
-    path = guarded-set-text-is-set-text kind.path sets.path sets.slash t.authority
-        (dotless_if_absolute t.path)
-        (path-without-dots-is-set-text kind.path sets.path sets.slash t.path p.path);
-    query = p.query;
-    fragment = p.fragment;
-    needs = or_left _ _ p.some;
-  }
+  guarded-dotless-target-is-of-kind t p =
+      grind (arith, nat_tests, guarded-set-text-is-set-text, path-without-dots-is-set-text)
 
   pub target-is-of-kind-of-base : (b t target : List ℕ) → kind.needs_scheme ≡ true → IsTextOf kind b
       → IsTextOf (reference_kind kind) t → resolution_of (components b) (components t) ≡ Ok target

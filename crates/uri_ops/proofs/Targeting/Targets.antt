@@ -1,10 +1,10 @@
 -- The text of a target has the components that were put into it.
 use Rattle.std.proofs.Common.{◌≡◌, ℕ, ◌<◌, true, false, cond, List, [], ◌∷◌, ◌++◌, length, refl}
-use Rattle.std.proofs.Common.{sym, ap, subst, ◌∙◌, ◌&&◌, ◌||◌, inr, ⊎_elim, rules}
+use Rattle.std.proofs.Common.{sym, ap, ◌∙◌, ◌&&◌, ◌||◌, inr, ⊎_elim, rules, arith}
 use Rattle.std.specs.Prelude.{codes, Option, Some, None, IfSome, IfNone, is_some, is_none}
-use Rattle.std.proofs.lemmas.Bool.{cond_both, and_parts, eqb-true, cases_Bool, false≢true}
-use Rattle.std.proofs.lemmas.Bool.{false_from_ne_true}
+use Rattle.std.proofs.lemmas.Bool.{cond_both, and_parts, cases_Bool, false≢true, false_from_ne_true}
 use Rattle.std.proofs.lemmas.List.Elements.{All-append}
+use Rattle.std.proofs.lemmas.Bool.Decides.{nat_tests}
 use Rattle.uri_pct.specs.Sets.{is_one_of}
 use Rattle.uri_parts.specs.Components.{Components, IsSplitOf, Lacks, IsAbemptyPath, marked, starts}
 use Rattle.uri_parts.specs.Components.{has_authority, components, recompose}
@@ -108,9 +108,8 @@ dotted_target-is-splittable b t base r some is_base is_reference =
 -- resolving: without its dot segments, a path is empty or begins with `/` if it is or does
 pub dotless-abempty-path-is-abempty : (path : List ℕ) → IsAbemptyPath path
     → IsAbemptyPath (dotless_if_absolute path)
-dotless-abempty-path-is-abempty path h = cond_both (starts 47 path) (remove_dot_segments path) path
-    IsAbemptyPath
-    (λ e. inr (removing-dots-keeps-absolute path (equal-to-true-is-IsTrue _ e))) (λ e. h)
+dotless-abempty-path-is-abempty path h =
+    grind (arith, nat_tests, cond_both, removing-dots-keeps-absolute, equal-to-true-is-IsTrue)
 
 -- resolving: removing dot segments gives a path neither `?` nor `#`
 dotless-path-lacks-its-ends : (path : List ℕ) → Lacks (codes "?#") path
@@ -131,19 +130,14 @@ guarded-path-lacks-its-ends : (authority : Option (List ℕ)) (path : List ℕ)
     → Lacks (codes "?#") path
     → Lacks (codes "?#") (guarded authority path)
 guarded-path-lacks-its-ends authority path h =
-    cond_both (is_none authority && has_authority path) (codes "/." ++ path) path
-    (Lacks (codes "?#"))
-    (λ e. All-append (λ c. is_one_of (codes "?#") c ≡ false) (codes "/.") path
-    (test-of-delimiters-gives-lacks (codes "?#") (codes "/.") refl) h) (λ e. h)
+    grind (arith, nat_tests, cond_both, All-append, test-of-delimiters-gives-lacks)
 
 -- resolving: a target without an authority has no path that
 -- begins with `//`, owing to the guard `/.`
 pub guarded-path-without-authority-has-no-two-slashes : (authority : Option (List ℕ))
     (path : List ℕ)
     → IfNone authority (has_authority (guarded authority path) ≡ false)
-guarded-path-without-authority-has-no-two-slashes None path = cond_both (has_authority path)
-    (codes "/." ++ path) path
-    (λ p. has_authority p ≡ false) (λ e. refl) (λ e. e)
+guarded-path-without-authority-has-no-two-slashes None path = grind (arith, nat_tests, cond_both)
 guarded-path-without-authority-has-no-two-slashes (Some a) path = tt
 
 -- general fact on options, for components of a target: one that is there makes each statement on
@@ -158,20 +152,18 @@ option-that-is-some-has-no-none (Some x) P h = tt
 guarded-target-is-split-of-its-text : (t : Components) → IsSplittable t
     → IsSplitOf (recompose (record t { path = guarded t.authority (dotless_if_absolute t.path) }))
     (record t { path = guarded t.authority (dotless_if_absolute t.path) })
-guarded-target-is-split-of-its-text t fits = record {
-  whole = refl;
-  scheme = fits.scheme;
-  authority = guarded-path-after-authority-is-abempty t.authority (dotless_if_absolute t.path)
-      (authority-property-implies-other-if-some t.authority (IsAbemptyPath t.path)
-      (IsAbemptyPath (dotless_if_absolute t.path))
-      (dotless-abempty-path-is-abempty t.path) fits.authority);
-  path = guarded-path-lacks-its-ends t.authority (dotless_if_absolute t.path)
-      (dotless-path-lacks-its-ends t.path fits.path);
-  query = fits.query;
-  no_scheme = option-that-is-some-has-no-none t.scheme _ fits.some;
-  no_authority = guarded-path-without-authority-has-no-two-slashes t.authority
-      (dotless_if_absolute t.path);
-}
+guarded-target-is-split-of-its-text t fits =
+    grind (
+      arith,
+      nat_tests,
+      guarded-path-after-authority-is-abempty,
+      authority-property-implies-other-if-some,
+      dotless-abempty-path-is-abempty,
+      guarded-path-lacks-its-ends,
+      dotless-path-lacks-its-ends,
+      option-that-is-some-has-no-none,
+      guarded-path-without-authority-has-no-two-slashes,
+    )
 
 -- resolving: parsing the text of a target splits it into the target's components
 pub target-components-are-split : (base reference : List ℕ) → is_some (components base).scheme
@@ -218,9 +210,7 @@ text-empty-or-beginning-with-hash-is-fragment-only : (text : List ℕ)
     → (is_empty text || starts 35 text) ≡ true
     → is_fragment_only (components text) ≡ true
 text-empty-or-beginning-with-hash-is-fragment-only [] h = refl
-text-empty-or-beginning-with-hash-is-fragment-only (c ∷ rest) h = subst
-    (λ d. is_fragment_only (components (d ∷ rest)) ≡ true)
-    (sym (eqb-true c 35 h)) refl
+text-empty-or-beginning-with-hash-is-fragment-only (c ∷ rest) h = grind (arith, nat_tests)
 
 -- resolving: a reference is a fragment alone exactly if it is empty or begins with `#` (35)
 pub fragment_only_is_empty_or_leading_hash : (text : List ℕ)

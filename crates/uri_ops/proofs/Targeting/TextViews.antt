@@ -5,12 +5,13 @@ use Rattle.std.specs.Prelude.{codes, Option, Some, None, IfSome, slice_range}
 use Rattle.std.specs.Str.{IsUtf8, IsCharBoundary}
 use Rattle.std.proofs.Math.Seq.{drop-append_seam, take-append_seam}
 use Rattle.std.proofs.lemmas.Option.{none-some, same_Some}
+use Rattle.std.proofs.lemmas.Bool.Decides.{nat_tests}
 use Rattle.uri_parts.specs.declared.positions.AuthorityPositions.{AuthorityPositions}
 use Rattle.uri_parts.specs.declared.positions.Positions.{Positions}
 use Rattle.uri_parts.specs.Components.{components, marked}
-use Rattle.uri_parts.specs.Grammar.{Kind, is_authority}
+use Rattle.uri_parts.specs.Grammar.{Kind, is_authority, IsTextOf}
 use Rattle.uri_parts.specs.Positions.{ArePositionsOf, authority_at, before_fragment, host_end_of}
-use Rattle.uri_parts.specs.Positions.{host_start_of, delimited_length}
+use Rattle.uri_parts.specs.Positions.{delimited_length}
 use Rattle.uri_parts.proofs.Authorities.AuthorityPlaces.{host_is_at_positions}
 use Rattle.uri_parts.proofs.Splitting.Fragments.{slice_range-from-start, boundary-at-fragment-mark}
 use Rattle.uri_parts.proofs.Splitting.Marks.{fragment_text}
@@ -21,7 +22,6 @@ use Rattle.uri_parts.proofs.Splitting.ComponentPositions.{path_is_at_positions}
 use Rattle.uri_parts.proofs.Splitting.Recompose.{components-are-split-of-text, recompose-components}
 use Rattle.uri_ops.specs.Dots.{IsAbsolute}
 use Rattle.uri_ops.specs.Models.Places.{IsSlashOrStart, before_path}
-use Rattle.uri_parts.specs.Grammar.{IsTextOf}
 use Rattle.uri_ops.proofs.Normal.NormalTexts.{text-has-parts-of-kind}
 use Rattle.uri_ops.proofs.Normal.WrittenPlaces.{length-with-delimiter-before}
 use Rattle.uri_ops.proofs.Normal.WrittenPlaces.{length-before_path-is-path_start}
@@ -75,9 +75,7 @@ pub authority-positions-are-in-prefix : (text : List ℕ) (p : Positions)
     → ((a : List ℕ) → (components text).authority ≡ Some a → host_end_of a ≤ length a)
     → p.authority ≡ Some places → Within (before_path (components text)) places
 authority-positions-are-in-prefix text p places at host e =
-    authority-positions-are-within-prefix-text (components text).scheme (components text).authority
-    places host
-    (sym e ∙ ap (λ (q : Positions). q.authority) at)
+    grind (arith, nat_tests, authority-positions-are-within-prefix-text)
 
 -- positions in a target: those of an authority in a text without a scheme, moved by n, are those
 -- after a scheme of n bytes (with its `:`)
@@ -90,15 +88,7 @@ moved-authority-positions-are-after-scheme : (n : ℕ) (authority : Option (List
 moved-authority-positions-are-after-scheme n None places moved e start host_start host_end end =
     absurd (none-some places (sym e))
 moved-authority-positions-are-after-scheme n (Some a) places moved e start host_start host_end end =
-    let f = same_Some _ _ e in
-    let a0 : moved.start ≡ n + 2 = start ∙ ap (λ (q : AuthorityPositions). n + q.start) f in
-    let a1 : moved.host_start ≡ n + 2 + host_start_of a = omega
-    (arith, host_start, ap (λ (q : AuthorityPositions). q.host_start) f) in
-    let a2 : moved.host_end ≡ n + 2 + host_end_of a = omega
-    (arith, host_end, ap (λ (q : AuthorityPositions). q.host_end) f) in
-    let a3 : moved.end ≡ n + 2 + length a = omega
-    (arith, end, ap (λ (q : AuthorityPositions). q.end) f) in
-    λ i. Some (record { start = a0 i; host_start = a1 i; host_end = a2 i; end = a3 i })
+    grind (arith, nat_tests)
 
 -- positions in a target: after a scheme of n bytes (with its `:`), an authority is n bytes further
 -- on; moved: its positions there
@@ -109,10 +99,7 @@ pub authority-positions-after-scheme : (text : List ℕ) (p : Positions) (n : �
     → moved.host_end ≡ n + places.host_end → moved.end ≡ n + places.end
     → Some moved ≡ option_map (authority_at (n + 2)) (components text).authority
 authority-positions-after-scheme text p n places moved at none e start host_start host_end end =
-    moved-authority-positions-are-after-scheme n (components text).authority places moved
-    (sym e ∙ ap (λ (q : Positions). q.authority) at
-    ∙ ap (λ s. option_map (authority_at (delimited_length 1 s + 2)) (components text).authority)
-    none) start host_start host_end end
+    grind (arith, nat_tests, moved-authority-positions-are-after-scheme)
 
 -- positions in a target: the text begins with a scheme, which ends at `end`, and its `:`
 pub record HasScheme (text : List ℕ) (scheme : Option (List ℕ)) (end : ℕ) : Type 0 where
@@ -246,10 +233,7 @@ module _ (text : List ℕ) (p : Positions) (utf8 : IsUtf8 text) (at : ArePositio
       (marked (codes "?") (components text).query [] ++ marked (codes "#")
       (components text).fragment []))
   text-is-prefix-path-query-and-fragment =
-      let c = components text in
-      sym (append_assoc (marked [] c.scheme (codes ":")) (marked (codes "//") c.authority [])
-      (c.path ++ (marked (codes "?") c.query [] ++ marked (codes "#") c.fragment []))
-      ∙ recompose-components text)
+      grind (arith, nat_tests, append_assoc, recompose-components)
 
   pub slice-after-path : drop p.path_end text
       ≡ marked (codes "?") (components text).query [] ++ marked (codes "#")

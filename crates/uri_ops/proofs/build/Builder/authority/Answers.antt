@@ -43,5 +43,6 @@ from_draft-requires-clause-host g c =
 
 pub returns : goal.returns
 returns g c =
-    step-adds-to-contents with_authority _ _ _ _ _ _ refl c.as_str.ensures.text c.into_draft.ensures.same
+    step-adds-to-contents with_authority _ _ _ _ _ _ refl c.as_str.ensures.text
+    c.into_draft.ensures.same
     c.with_authority.ensures.adds c.from_draft.ensures
