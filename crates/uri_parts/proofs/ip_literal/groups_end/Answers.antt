@@ -1,4 +1,5 @@
-use Rattle.std.proofs.Common.{◌≡◌, ◌+◌, ◌-◌, Bool, false, not, sym, ap, ◌∙◌, arith, ◌&&◌, ◌||◌}
+use Rattle.std.proofs.Common.{◌≡◌, ◌+◌, ◌-◌, ◌<◌, ℕ, Bool, false, not, sym, ap, ◌∙◌, arith, ◌&&◌}
+use Rattle.std.proofs.Common.{◌||◌}
 use Rattle.std.specs.Prelude.{◌==◌}
 use Rattle.std.proofs.lemmas.Bool.{ne_eqb}
 use Rattle.uri_parts.specs.LiteralErrors.{Groups_end, after_ipv4, groups_from}
@@ -12,6 +13,9 @@ use Rattle.uri_parts.proofs.Refusals.GroupTurns.{groups_from-rejects-ipv4-withou
 use Rattle.uri_parts.proofs.Refusals.GroupTurns.{groups_from-goes-on-after-group}
 use Rattle.uri_parts.proofs.ip_literal.groups_end.Goals as goal
 
+room_left : (room counted : ℕ) → counted < room → room - counted ≡ (room - (counted + 1)) + 1
+room_left room counted l = omega arith
+
 turn_is : (seen has_colon is_first is b : Bool) → has_colon ≡ seen
     → is ≡ (has_colon && is_first || not has_colon && not is_first) → is ≡ b
     → (seen && is_first || not seen && not is_first) ≡ b
@@ -20,32 +24,26 @@ turn_is seen has_colon is_first is b e f g =
 
 pub returns-then-not-has_colon-clause-exact : goal.returns-then-not-has_colon-clause-exact
 returns-then-not-has_colon-clause-exact c =
-    let n : c.args.room - c.loop-counted.counted
-    ≡ (c.args.room - (c.loop-counted.counted + 1)) + 1 =
-    omega (arith, c.loop-counted-test.true) in
     sym (c.loop-counted.invariant.left
-    ∙ groups_from-ends-without-group _ _ _ _ _ _ _ n c.after_colon-first.ensures.exact
+    ∙ groups_from-ends-without-group _ _ _ _ _ _ _ (room_left _ _ c.loop-counted-test.true)
+    c.after_colon-first.ensures.exact
     c.digits_end-last.ensures.exact c.if-last-first.true
     (sym c.next_is-has_colon.ensures.value ∙ c.if-not-has_colon.true))
 
 pub returns-then-next_is-clause-exact : goal.returns-then-next_is-clause-exact
 returns-then-next_is-clause-exact c =
-    let n : c.args.room - c.loop-counted.counted
-    ≡ (c.args.room - (c.loop-counted.counted + 1)) + 1 =
-    omega (arith, c.loop-counted-test.true) in
     sym (c.loop-counted.invariant.left
-    ∙ groups_from-elides-at-two-colons _ _ _ _ _ _ _ n c.after_colon-first.ensures.exact
+    ∙ groups_from-elides-at-two-colons _ _ _ _ _ _ _ (room_left _ _ c.loop-counted-test.true)
+    c.after_colon-first.ensures.exact
     c.digits_end-last.ensures.exact c.if-last-first.true
     (sym c.next_is-has_colon.ensures.value ∙ c.if-not-has_colon.false)
     (sym c.next_is.ensures.value ∙ c.if-next_is.true))
 
 pub returns-then-last-first-clause-exact : goal.returns-then-last-first-clause-exact
 returns-then-last-first-clause-exact c =
-    let n : c.args.room - c.loop-counted.counted
-    ≡ (c.args.room - (c.loop-counted.counted + 1)) + 1 =
-    omega (arith, c.loop-counted-test.true) in
     sym (c.loop-counted.invariant.left
-    ∙ groups_from-rejects-lone-colon _ _ _ _ _ _ _ n c.after_colon-first.ensures.exact
+    ∙ groups_from-rejects-lone-colon _ _ _ _ _ _ _ (room_left _ _ c.loop-counted-test.true)
+    c.after_colon-first.ensures.exact
     c.digits_end-last.ensures.exact c.if-last-first.true
     (sym c.next_is-has_colon.ensures.value ∙ c.if-not-has_colon.false)
     (sym c.next_is.ensures.value ∙ c.if-next_is.false))
@@ -53,22 +51,18 @@ returns-then-last-first-clause-exact c =
 pub returns-then-is_short_group_at_end-clause-exact
     : goal.returns-then-is_short_group_at_end-clause-exact
 returns-then-is_short_group_at_end-clause-exact c =
-    let n : c.args.room - c.loop-counted.counted
-    ≡ (c.args.room - (c.loop-counted.counted + 1)) + 1 =
-    omega (arith, c.loop-counted-test.true) in
     sym (c.loop-counted.invariant.left
-    ∙ groups_from-ends-with-text _ _ _ _ _ _ _ n c.after_colon-first.ensures.exact
+    ∙ groups_from-ends-with-text _ _ _ _ _ _ _ (room_left _ _ c.loop-counted-test.true)
+    c.after_colon-first.ensures.exact
     c.digits_end-last.ensures.exact c.if-last-first.false
     (sym c.is_short_group_at_end.ensures ∙ c.if-is_short_group_at_end.true))
 
 pub returns-then-has_misplaced_colon-clause-exact
     : goal.returns-then-has_misplaced_colon-clause-exact
 returns-then-has_misplaced_colon-clause-exact c =
-    let n : c.args.room - c.loop-counted.counted
-    ≡ (c.args.room - (c.loop-counted.counted + 1)) + 1 =
-    omega (arith, c.loop-counted-test.true) in
     sym (c.loop-counted.invariant.left
-    ∙ groups_from-rejects-misplaced-colon _ _ _ _ _ _ _ n c.after_colon-first.ensures.exact
+    ∙ groups_from-rejects-misplaced-colon _ _ _ _ _ _ _ (room_left _ _ c.loop-counted-test.true)
+    c.after_colon-first.ensures.exact
     c.digits_end-last.ensures.exact c.if-last-first.false
     (sym c.is_short_group_at_end.ensures ∙ c.if-is_short_group_at_end.false)
     (turn_is _ _ _ _ _ c.next_is-has_colon.ensures.value c.has_misplaced_colon.ensures
@@ -76,11 +70,9 @@ returns-then-has_misplaced_colon-clause-exact c =
 
 pub returns-then-room-counted-eq1-clause-exact : goal.returns-then-room-counted-eq1-clause-exact
 returns-then-room-counted-eq1-clause-exact c =
-    let n : c.args.room - c.loop-counted.counted
-    ≡ (c.args.room - (c.loop-counted.counted + 1)) + 1 =
-    omega (arith, c.loop-counted-test.true) in
     sym (c.loop-counted.invariant.left
-    ∙ groups_from-rejects-ipv4-without-room _ _ _ _ _ _ _ n c.after_colon-first.ensures.exact
+    ∙ groups_from-rejects-ipv4-without-room _ _ _ _ _ _ _ (room_left _ _ c.loop-counted-test.true)
+    c.after_colon-first.ensures.exact
     c.digits_end-last.ensures.exact c.if-last-first.false
     (sym c.is_short_group_at_end.ensures ∙ c.if-is_short_group_at_end.false)
     (turn_is _ _ _ _ _ c.next_is-has_colon.ensures.value c.has_misplaced_colon.ensures
@@ -92,11 +84,9 @@ pub returns-in-Some-clause-exact : goal.returns-in-Some-clause-exact
 returns-in-Some-clause-exact c =
     let less : c.args.room - (c.loop-counted.counted + 1) - 1
     ≡ c.args.room - c.loop-counted.counted - 2 = omega arith in
-    let n : c.args.room - c.loop-counted.counted
-    ≡ (c.args.room - (c.loop-counted.counted + 1)) + 1 =
-    omega (arith, c.loop-counted-test.true) in
     sym (c.loop-counted.invariant.left
-    ∙ dotted _ _ _ _ _ _ _ n c.after_colon-first.ensures.exact
+    ∙ dotted _ _ _ _ _ _ _ (room_left _ _ c.loop-counted-test.true)
+    c.after_colon-first.ensures.exact
     c.digits_end-last.ensures.exact c.if-last-first.false
     (sym c.is_short_group_at_end.ensures ∙ c.if-is_short_group_at_end.false)
     (turn_is _ _ _ _ _ c.next_is-has_colon.ensures.value c.has_misplaced_colon.ensures
@@ -108,11 +98,9 @@ returns-in-Some-clause-exact c =
 
 pub returns-in-None-clause-exact : goal.returns-in-None-clause-exact
 returns-in-None-clause-exact c =
-    let n : c.args.room - c.loop-counted.counted
-    ≡ (c.args.room - (c.loop-counted.counted + 1)) + 1 =
-    omega (arith, c.loop-counted-test.true) in
     sym (c.loop-counted.invariant.left
-    ∙ dotted _ _ _ _ _ _ _ n c.after_colon-first.ensures.exact
+    ∙ dotted _ _ _ _ _ _ _ (room_left _ _ c.loop-counted-test.true)
+    c.after_colon-first.ensures.exact
     c.digits_end-last.ensures.exact c.if-last-first.false
     (sym c.is_short_group_at_end.ensures ∙ c.if-is_short_group_at_end.false)
     (turn_is _ _ _ _ _ c.next_is-has_colon.ensures.value c.has_misplaced_colon.ensures
@@ -123,14 +111,12 @@ returns-in-None-clause-exact c =
 
 pub loop-counted-preserved : goal.loop-counted-preserved
 loop-counted-preserved c =
-    let n : c.args.room - c.loop-counted.counted
-    ≡ (c.args.room - (c.loop-counted.counted + 1)) + 1 =
-    omega (arith, c.loop-counted-test.true) in
     let later : (c.loop-counted.counted + 1 == 0) ≡ false = ne_eqb _ _ (omega arith) in
     record {
       boundary = c.digits_end-last.ensures.boundary;
       left = c.loop-counted.invariant.left
-          ∙ groups_from-goes-on-after-group _ _ _ _ _ _ _ n c.after_colon-first.ensures.exact
+          ∙ groups_from-goes-on-after-group _ _ _ _ _ _ _ (room_left _ _ c.loop-counted-test.true)
+          c.after_colon-first.ensures.exact
           c.digits_end-last.ensures.exact
           c.if-last-first.false (sym c.is_short_group_at_end.ensures
           ∙ c.if-is_short_group_at_end.false)
