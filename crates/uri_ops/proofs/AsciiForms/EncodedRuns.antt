@@ -1,8 +1,7 @@
 -- The bytes of a text are encoded in runs.
 use Rattle.std.proofs.Common.{◌≡◌, ℕ, zero, suc, ◌+◌, ◌-◌, ◌<◌, ◌≤◌, List, [], ◌∷◌, ◌++◌, length}
-use Rattle.std.proofs.Common.{get_or, take, drop, sym, ap, subst, ◌∙◌, arith, append_assoc, ⊎_elim}
+use Rattle.std.proofs.Common.{get_or, take, drop, sym, ap, subst, ◌∙◌, arith, append_assoc}
 use Rattle.std.proofs.Math.Seq.{take-add}
-use Rattle.std.proofs.lemmas.Bool.{cases_lt}
 use Rattle.std.proofs.lemmas.List.{append-nil, length-append, length-drop, take_all}
 use Rattle.std.proofs.lemmas.Bool.Decides.{nat_tests}
 use Rattle.uri_ops.specs.Encoded.{encode_past_ascii}
@@ -76,40 +75,6 @@ pub byte-past-ascii-adds-three : (bytes : List ℕ) (i : ℕ) → i < length byt
     ≡ length (encode_past_ascii (take i bytes)) + 3
 byte-past-ascii-adds-three bytes i h high = ap length (encoding-grows-by-octet bytes i h high)
     ∙ length-append (encode_past_ascii (take i bytes)) (octet_text (get_or bytes i 0))
-
--- IRIs as URIs: encoding characters past ASCII makes no text shorter
-encoding-is-no-shorter : (text : List ℕ) → length text ≤ length (encode_past_ascii text)
-encoding-is-no-shorter [] = omega arith
-encoding-is-no-shorter (c ∷ text) =
-    grind (
-      arith,
-      nat_tests,
-      encoding-starts-with-ascii-byte,
-      encoding-starts-with-octet,
-      octet_text,
-      encoding-is-no-shorter text,
-    )
-
--- IRIs as URIs: a text that is as long as its encoded text is that text
-pub text-as-long-as-its-encoding-is-it : (text : List ℕ) → length (encode_past_ascii text)
-    ≡ length text
-    → encode_past_ascii text ≡ text
-text-as-long-as-its-encoding-is-it [] e = encoding-of-nil-is-nil
-text-as-long-as-its-encoding-is-it (c ∷ text) e = ⊎_elim
-    (λ h. encoding-starts-with-ascii-byte c text h
-    ∙ ap (λ t. c ∷ t) (text-as-long-as-its-encoding-is-it text
-    (omega (arith, e, ap length (encoding-starts-with-ascii-byte c text h)))))
-    (λ h.
-    absurd
-    (omega (
-      arith,
-      e,
-      ap length (encoding-starts-with-octet c text h),
-      length-append (octet_text c)
-          (encode_past_ascii text),
-      encoding-is-no-shorter text,
-    )))
-    (cases_lt c 128)
 
 -- IRIs as URIs: of no bytes nothing is appended
 pub encoding-of-empty-text-is-empty : encode_past_ascii [] ≡ []

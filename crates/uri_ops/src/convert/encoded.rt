@@ -221,11 +221,12 @@ pub fn encoded<R: RiMaybeRef>(
     let core = value.core();
     let text = core.as_str();
     let bytes = text.as_bytes();
-    let past = count_past_ascii(bytes);
-    if past == 0 {
+    let ascii = ascii_prefix_len(bytes);
+    if ascii == bytes.len() {
         let copy = String::from_str(alloc, text)?;
         return Ok((copy, core.packed_positions()));
     }
+    let past = count_past_ascii(bytes);
     let len = bytes.len().saturating_add(past.saturating_mul(2));
     let mut out = Vec::with_capacity(alloc, len)?;
     let positions = push_encoded_components(bytes, &core.positions(), &mut out)?;

@@ -1,6 +1,7 @@
-use Rattle.std.proofs.Common.{rules, ◌≡◌, arith, ap, sym, subst, ◌∙◌, length, string_bytes}
+use Rattle.std.proofs.Common.{rules, ◌≡◌, arith, ap, sym, subst, ◌∙◌, length, string_bytes, take}
 use Rattle.std.specs.Str.{IsUtf8}
 use Rattle.std.proofs.lemmas.Bool.{false≢true}
+use Rattle.std.proofs.lemmas.List.{take_all}
 use Rattle.uri_parts.specs.CoreTexts.{core_text}
 use Rattle.uri_parts.specs.Grammar.{IsOfKind}
 use Rattle.uri_parts.specs.PackedPositions.{packed}
@@ -9,20 +10,18 @@ use Rattle.uri_ops.specs.Encoded.{encode_past_ascii}
 use Rattle.uri_ops.specs.Models.EncodedPlaces.{ArePositionsOrdered, positions_in_encoded}
 use Rattle.uri_ops.proofs.AsciiForms.EncodedPlaces.{encoded-positions-are-right}
 use Rattle.uri_ops.proofs.AsciiForms.EncodedPlaces.{positions-are-ordered}
-use Rattle.uri_ops.proofs.AsciiForms.EncodedRuns.{text-as-long-as-its-encoding-is-it}
 use Rattle.uri_ops.proofs.AsciiForms.EncodedTokens.{encoded-text-is-utf8}
 use Rattle.uri_ops.proofs.convert.encoded.encoded.Goals as goal
 
-pub returns-then-past-eq0-clause-text : goal.returns-then-past-eq0-clause-text
-returns-then-past-eq0-clause-text g c =
+pub returns-then-ascii-bytes-clause-text : goal.returns-then-ascii-bytes-clause-text
+returns-then-ascii-bytes-clause-text g c =
     let bytes = c.as_bytes-bytes.result.now in
+    let n = c.ascii_prefix_len-ascii.result in
     let copied : string_bytes c.in_ok-copy.copy ≡ c.as_str-text.result.now = search rules in
-    let none = c.count_past_ascii-past.ensures in
-    let zero = c.if-past-eq0.true in
-    copied ∙ sym c.as_bytes-bytes.ensures.value
-    ∙ sym (text-as-long-as-its-encoding-is-it bytes (omega (arith, none, zero)))
-    ∙ ap encode_past_ascii (c.as_bytes-bytes.ensures.value ∙ c.as_str-text.ensures.text
-    ∙ c.core-core.ensures.text)
+    let all : take n bytes ≡ bytes = take_all n bytes (omega (arith, c.if-ascii-bytes.true)) in
+    copied ∙ sym c.as_bytes-bytes.ensures.value ∙ sym all
+    ∙ sym c.ascii_prefix_len-ascii.ensures.unchanged ∙ ap encode_past_ascii (all
+    ∙ c.as_bytes-bytes.ensures.value ∙ c.as_str-text.ensures.text ∙ c.core-core.ensures.text)
 
 pub push_encoded_components-requires-clause-ordered
     : goal.push_encoded_components-requires-clause-ordered
