@@ -1,12 +1,12 @@
 -- What is appended of a path without its dot segments, and of a reference's path after the
 -- directory of a base's path.
 use Rattle.std.proofs.Common.{◌≡◌, ◌<◌, ◌≤◌, ℕ, zero, suc, Bool, true, false, List, [], ◌∷◌, ◌++◌}
-use Rattle.std.proofs.Common.{length, take, drop, refl, sym, ap, subst, ◌∙◌, ◌||◌, inr, arith}
+use Rattle.std.proofs.Common.{length, take, drop, sym, ap, subst, ◌∙◌, ◌||◌, inr, arith}
 use Rattle.std.proofs.Common.{⊎_elim}
 use Rattle.std.proofs.Math.Seq.{take-length}
 use Rattle.std.proofs.lemmas.Bool.{eqb-true, false≢true}
 use Rattle.uri_pct.proofs.General.{eq_true_from_IsTrue}
-use Rattle.std.specs.Prelude.{◌==◌, codes}
+use Rattle.std.specs.Prelude.{◌==◌}
 use Rattle.std.specs.Str.{IsUtf8, IsCharBoundary}
 use Rattle.std.proofs.lemmas.Str.{IsCharBoundary-after_ascii}
 use Rattle.std.proofs.lemmas.List.{length-drop, take-append-drop, take_at, drop_at}
@@ -40,18 +40,18 @@ absolute-path-begins-with-no-dot (c ∷ path) h =
     (ap (λ b. b == 46 || b == 37) (eqb-true c 47 (eq_true_from_IsTrue _ h)), omega arith)
 
 -- removing dot segments, segment by segment:
--- at first the root of a path is kept, and the rest is left
-pub removal-begins-after-root : (path : List ℕ) → IsAbsolute path
-    → RemovalState path (take 1 path) (drop 1 path) false
-removal-begins-after-root [] h = absurd (false≢true (eq_true_from_IsTrue _ h))
-removal-begins-after-root (c ∷ path) h =
-    let root : c ∷ [] ≡ codes "/" = ap (λ b. b ∷ []) (eqb-true c 47 (eq_true_from_IsTrue _ h)) in
+-- at first a prefix of a path without dot segments is kept, and the rest is left
+pub removal-begins-after-dotless-prefix : (path : List ℕ) (n : ℕ) → IsAbsolute path → 0 < n
+    → lacks_dot_segments (take n path) ≡ true → IsCutAtSegment (take n path) (drop n path)
+    → RemovalState path (take n path) (drop n path) false
+removal-begins-after-dotless-prefix path n h some dotless closed =
+    let whole : take n path ++ drop n path ≡ path = take-append-drop n path in
     record {
-      removed = refl;
-      underflow = refl;
-      absolute = h;
-      dotless = ap lacks_dot_segments root;
-      closed = inr ([], root);
+      removed = ap remove_dot_segments whole;
+      underflow = ap underflows whole;
+      absolute = prefix-of-absolute-path-is-absolute path n h some;
+      dotless = dotless;
+      closed = closed;
     }
 
 -- paths: a character begins after the first `/` of an absolute path

@@ -109,7 +109,8 @@ slashless-segment-and-rest-lack-slashes : (s : List ℕ) (rest : List (List ℕ)
 slashless-segment-and-rest-lack-slashes s rest e f = and_from _ _ (not_from_false _ e) f
 
 -- paths: a text without `/` is its only segment
-pub segments-of-slashless-text-is-one : (s : List ℕ) → has_slash s ≡ false → segments (s ++ []) ≡ s ∷ []
+pub segments-of-slashless-text-is-one : (s : List ℕ) → has_slash s ≡ false
+    → segments (s ++ []) ≡ s ∷ []
 unfolding slashed
 segments-of-slashless-text-is-one s e = segments-of-joined-segments s []
     (slashless-segment-and-rest-lack-slashes s [] e refl)

@@ -95,7 +95,8 @@ pub fn has_dot_segments(path: &str) -> bool
     requires { IsAbsolute path.now }
     ensures { result ≡ not (lacks_dot_segments path.now) }
 {
-    let mut done = 1;
+    let dotless = dotless_prefix_len(path);
+    let mut done = dotless;
     while done < path.len() {
         let rest = &path[done..];
         match leading_dot_segment(rest) {

@@ -1,5 +1,5 @@
-use Rattle.std.proofs.Common.{not, ◌≡◌, ◌<◌, ◌+◌, ◌++◌, length, take, drop, false, arith, refl, sym, ap}
-use Rattle.std.proofs.Common.{subst, ◌∙◌}
+use Rattle.std.proofs.Common.{not, ◌≡◌, ◌<◌, ◌+◌, ◌++◌, length, take, drop, false, arith, refl, sym}
+use Rattle.std.proofs.Common.{ap, subst, ◌∙◌}
 use Rattle.std.specs.Str.{IsCharBoundary}
 use Rattle.std.proofs.lemmas.List.{drop-drop}
 use Rattle.std.proofs.lemmas.Str.{IsCharBoundary-from_rest}
@@ -7,19 +7,34 @@ use Rattle.uri_pct.proofs.Unicode.Pieces.{take_then_take_is_take_of_sum}
 use Rattle.uri_ops.specs.Dots.{is_double_dot, is_single_dot}
 use Rattle.uri_ops.specs.Models.Directories.{RemovalState}
 use Rattle.uri_ops.specs.Models.LeadingSegments.{DescribesLeadingDots}
+use Rattle.uri_ops.proofs.Paths.DotStarts.{path-without-leading-dot-begins-with-none}
 use Rattle.uri_ops.proofs.Paths.FoundDotSegments.{dot-segment-before-rest-is-in-path}
 use Rattle.uri_ops.proofs.Paths.FoundDotSegments.{double-dot-is-dot-segment}
 use Rattle.uri_ops.proofs.Paths.FoundDotSegments.{single-dot-is-dot-segment}
 use Rattle.uri_ops.proofs.Paths.LeftPaths.{removal-state-of-equals, removal-passes-dotless-prefix}
-use Rattle.uri_ops.proofs.Paths.PushedPaths.{removal-begins-after-root}
-use Rattle.uri_ops.proofs.Paths.PushedPaths.{position-after-root-is-boundary}
+use Rattle.uri_ops.proofs.Paths.PushedPaths.{absolute-path-begins-with-no-dot}
+use Rattle.uri_ops.proofs.Paths.PushedPaths.{removal-begins-after-dotless-prefix}
 use Rattle.uri_ops.proofs.path.dot_segments.has_dot_segments.Goals as goal
 
 pub loop-done-init : goal.loop-done-init
-loop-done-init c = record {
-  place = position-after-root-is-boundary c.args.path.now c.utf8.path c.requires;
-  left = removal-begins-after-root c.args.path.now c.requires;
-}
+loop-done-init c =
+    let prefix = c.dotless_prefix_len-dotless.ensures in
+    record {
+      place = prefix.place;
+      left = removal-begins-after-dotless-prefix c.args.path.now c.dotless_prefix_len-dotless.result
+          c.requires prefix.some prefix.dotless.dotless prefix.dotless.closed;
+    }
+
+pub dotless_prefix_len-dotless-requires-clause-some
+    : goal.dotless_prefix_len-dotless-requires-clause-some
+dotless_prefix_len-dotless-requires-clause-some c =
+    (absolute-path-begins-with-no-dot c.args.path.now c.requires).1
+
+pub dotless_prefix_len-dotless-requires-clause-first
+    : goal.dotless_prefix_len-dotless-requires-clause-first
+dotless_prefix_len-dotless-requires-clause-first c =
+    path-without-leading-dot-begins-with-none c.args.path.now
+    (absolute-path-begins-with-no-dot c.args.path.now c.requires).0
 
 pub loop-done-preserved : goal.loop-done-preserved
 loop-done-preserved c =
@@ -51,8 +66,8 @@ pub returns-in-SingleDot : goal.returns-in-SingleDot
 returns-in-SingleDot c =
     let path = c.args.path.now in
     let rest = c.range_from-rest.result.now in
-    sym (ap not (dot-segment-before-rest-is-in-path is_single_dot single-dot-is-dot-segment path rest
-    c.loop-done.done _ c.range_from-rest.ensures.value
+    sym (ap not (dot-segment-before-rest-is-in-path is_single_dot single-dot-is-dot-segment path
+    rest c.loop-done.done _ c.range_from-rest.ensures.value
     (omega (arith, c.range_from-rest.ensures.len, c.loop-done-test.true))
     c.loop-done.invariant.left
     (subst (DescribesLeadingDots rest) c.in-SingleDot.is c.leading_dot_segment.ensures.leading)))
@@ -61,8 +76,8 @@ pub returns-in-DoubleDot : goal.returns-in-DoubleDot
 returns-in-DoubleDot c =
     let path = c.args.path.now in
     let rest = c.range_from-rest.result.now in
-    sym (ap not (dot-segment-before-rest-is-in-path is_double_dot double-dot-is-dot-segment path rest
-    c.loop-done.done _ c.range_from-rest.ensures.value
+    sym (ap not (dot-segment-before-rest-is-in-path is_double_dot double-dot-is-dot-segment path
+    rest c.loop-done.done _ c.range_from-rest.ensures.value
     (omega (arith, c.range_from-rest.ensures.len, c.loop-done-test.true))
     c.loop-done.invariant.left
     (subst (DescribesLeadingDots rest) c.in-DoubleDot.is c.leading_dot_segment.ensures.leading)))
