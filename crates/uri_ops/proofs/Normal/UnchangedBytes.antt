@@ -80,8 +80,7 @@ head-is-kept-by-index : (alone : Bool) (b : ℕ) (text : List ℕ)
 head-is-kept-by-index alone b text e =
     let p = and_parts (not (eqb b 0xE2)) _ e in
     and_from _ _ p.0 (either (eqb b 37) (is_kept_octet alone (get_or text 0 0) (get_or text 1 0))
-    p.1
-    (digits-are-kept-by-index alone text))
+    p.1 (digits-are-kept-by-index alone text))
   where
     either : {other : Bool} (percent octet : Bool) → (not percent || octet) ≡ true
         → (octet ≡ true → other ≡ true) → (not percent || other) ≡ true

@@ -153,7 +153,8 @@ fn push_port<U: Encoder, R: Encoder, P: DefaultPort>(
 
 /// Returns whether a normal authority has the port that this one has, if it has one: the port is
 /// neither empty nor the scheme's default.
-pub(crate) fn is_port_unchanged<U: Encoder, R: Encoder, P: DefaultPort>(
+#[doc(hidden)]
+pub fn is_port_unchanged<U: Encoder, R: Encoder, P: DefaultPort>(
     authority: Option<Authority<'_, U, R>>,
     scheme: Option<Scheme<'_>>,
     ports: &P,
@@ -172,7 +173,8 @@ pub(crate) fn is_port_unchanged<U: Encoder, R: Encoder, P: DefaultPort>(
 /// Returns the port's digits in a normal authority, unless there are none or they write the default
 /// port of the scheme. It calls `ports` only if there is a port that isn't empty. A port over 65535
 /// is no default.
-fn port_unless_default<'a, U: Encoder, R: Encoder, P: DefaultPort>(
+#[doc(hidden)]
+pub fn port_unless_default<'a, U: Encoder, R: Encoder, P: DefaultPort>(
     authority: Authority<'a, U, R>,
     scheme: Option<Scheme<'_>>,
     ports: &P,

@@ -1,20 +1,16 @@
 use Rattle.std.proofs.Common.{arith}
 use Rattle.uri_ops.proofs.Normal.UnchangedBytes.{bytes-kept-by-index-are-kept}
 use Rattle.uri_ops.proofs.Normal.UnchangedBytes.{kept-prefix-grows-by-literal-run}
-use Rattle.uri_ops.proofs.Normal.UnchangedBytes.{kept-prefix-grows-by-octet}
 use Rattle.uri_ops.proofs.normalize.kept_octets.is_kept.Goals as goal
 
 pub loop-i-preserved : goal.loop-i-preserved
 loop-i-preserved c =
     let bs = c.args.bytes.now in
-    let octet = c.is_octet_kept.ensures in
-    let found = c.if-not-is_octet_kept.false in
+    let more = c.kept_octets_end-i.ensures in
     record {
-      within = octet.within found;
-      kept = kept-prefix-grows-by-octet c.args.alone bs c.literal_end-end.result
-          (octet.percent found) (octet.kept found)
-          (kept-prefix-grows-by-literal-run c.args.alone bs c.loop-i.i c.literal_end-end.result
-          c.literal_end-end.ensures c.loop-i.invariant.kept);
+      within = more.within;
+      kept = more.kept (kept-prefix-grows-by-literal-run c.args.alone bs c.loop-i.i
+          c.literal_end-end.result c.literal_end-end.ensures c.loop-i.invariant.kept);
     }
 
 pub returns-then-end-bytes : goal.returns-then-end-bytes
