@@ -30,6 +30,7 @@ fn is_literal_byte(byte: u8) -> bool
 
 /// Returns where the longest run of bytes ends that begins at `start` and of which none begins an
 /// octet or a formatting character. It is for a text that is shorter than a block.
+#[inline(never)]
 fn short_literal_end(bytes: &[u8], start: usize) -> usize
     requires { start ≤ length bytes.now }
     ensures { IsLongestRun is_literal_byte bytes.now start result }

@@ -52,6 +52,7 @@ fn is_settled_byte(byte: u8) -> bool
 }
 
 /// Returns whether each byte of a scheme or a host is settled, so that normalising keeps it.
+#[inline(never)]
 fn is_settled(text: &str) -> bool
     ensures lower { result ≡ true → str_to_ascii_lowercase text.now ≡ text.now }
     ensures host { result ≡ true → IsUnchangedHost text.now }
