@@ -5,3 +5,4 @@ pub mod ScanStops
 pub mod Accepts
 pub mod WholeTexts
 pub mod ParsedPositions
+pub mod WebSchemes

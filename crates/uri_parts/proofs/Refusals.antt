@@ -11,5 +11,6 @@ pub mod Names
 pub mod OnLiterals
 pub mod Rooted
 pub mod Rows
+pub mod Schemes
 pub mod Sound
 pub mod Whole

@@ -24,6 +24,8 @@ use Rattle.uri_parts.proofs.Authorities.AuthorityCuts.{suffix, drop-after-drop-o
 use Rattle.uri_parts.proofs.Parsing.NextBytes.{starts_at_position, stray_percent_ends_scan}
 use Rattle.uri_parts.proofs.Parsing.NextBytes.{authority_may_end_at_end, authority_may_end_at_byte}
 use Rattle.uri_parts.proofs.Parsing.NextBytes.{name_has_no_port_where_authority_may_end}
+use Rattle.uri_parts.proofs.Parsing.WebSchemes.{scheme_of_http_ends_at_4}
+use Rattle.uri_parts.proofs.Parsing.WebSchemes.{scheme_of_https_ends_at_5}
 use Rattle.uri_parts.proofs.Refusals.Colons.{last_colon-at-colon, last_colon-stays-past-other-byte}
 use Rattle.uri_parts.proofs.Refusals.Digits.{digits_end-stays-at-other-byte}
 use Rattle.uri_parts.proofs.Refusals.Digits.{digits_end-stays-where-none-may-follow}
@@ -87,6 +89,8 @@ authority = tt
 
 -- a whole text
 pub ruleset schemes = (scheme_masks_are_scheme_set)
+
+pub ruleset web_schemes = (scheme_of_http_ends_at_4, scheme_of_https_ends_at_5)
 
 -- what a proof unfolds where a path, a query and a fragment are parsed
 unfoldable pub tail : ⊤

@@ -33,5 +33,6 @@ pub mod positions;
 mod printing;
 #[doc(hidden)]
 pub mod scheme;
+mod scheme_prefix;
 #[doc(hidden)]
 pub mod slicing;

@@ -8,11 +8,11 @@ ghost use Rattle.uri_parts.specs.Models.AuthorityParsing.{host_end, host_and_por
 ghost use Rattle.uri_parts.specs.Models.Parsing.{query_end_at};
 ghost use Rattle.uri_parts.specs.Models.Parsing.{authority_positions, path_positions};
 ghost use Rattle.uri_parts.specs.Models.Parsing.{relative_positions};
-ghost use Rattle.uri_parts.specs.Models.Parsing.{hier_part_positions, schemeless_positions};
+ghost use Rattle.uri_parts.specs.Models.Parsing.{schemeless_positions};
 ghost use Rattle.uri_parts.specs.Models.Parsing.{parsed_positions};
 ghost use Rattle.uri_parts.specs.Refusals.{error_from_fragment, error_from_query, error_from_path};
 ghost use Rattle.uri_parts.specs.Refusals.{error_from_relative_path, refusal};
-ghost use Rattle.uri_parts.specs.Models.ParseErrors.{authority_error, hier_part_error};
+ghost use Rattle.uri_parts.specs.Models.ParseErrors.{authority_error};
 ghost use Rattle.uri_parts.specs.Models.ParseErrors.{host_error};
 ghost use Rattle.uri_parts.specs.Models.ParseErrors.{schemeless_error};
 ghost use Rattle.uri_parts.specs.Models.ParseErrors.{parsed_error};
@@ -29,7 +29,7 @@ use crate::cursor::Cursor;
 use crate::error::ParseError;
 use crate::kind::Kind;
 use crate::packed_positions::PackedPositions;
-use uri_pct::table::SCHEME;
+use crate::scheme_prefix::pass_scheme;
 
 /// Parses a fragment, if there is one, and then the end of the text.
 #[tactic(auto, unfolding(crate::proofs::Steps::tail))]
@@ -159,36 +159,6 @@ fn pass_authority<K: Kind>(
     pass_host::<K>(cursor, scheme_end)
 }
 
-/// Parses what follows a scheme, before a path.
-#[tactic(auto, unfolding(crate::proofs::Steps::before_path, crate::proofs::Steps::tail))]
-#[inline(always)]
-fn pass_hier_part<K: Kind>(
-    cursor: &mut Cursor<'_>,
-    scheme_end: usize,
-) -> Result<BeforePath, ParseError>
-    ensures places { IfOk result (λ b.
-        packed (hier_part_positions K.kind (Some scheme_end) (cursor_position cursor.old)
-        (text_after_cursor cursor.old))
-        ≡ packed_if_parsed_from K.kind b cursor.new) }
-    ensures text { cursor_text cursor.new ≡ cursor_text cursor.old }
-    ensures refused { let text = cursor_text cursor.old in
-        hier_part_error K.kind text (cursor_position cursor.old)
-        ≡ option_or (result_err result) (error_from_path K.kind text (cursor_position cursor.new)) }
-    ensures err { IfErr result (IsErrorIn (cursor_text cursor.old)) }
-{
-    if cursor.skip_slashes() {
-        pass_authority::<K>(cursor, scheme_end)
-    } else {
-        Ok(BeforePath {
-            path_start: cursor.position(),
-            padding: false,
-            scheme_end,
-            host_start: 0,
-            host_end: 0,
-        })
-    }
-}
-
 /// Passes the characters of a first segment without `:`. Returns an error if a `:` is next.
 #[tactic(auto, unfolding(crate::proofs::Steps::before_path, crate::proofs::Steps::tail))]
 #[inline(always)]
@@ -305,13 +275,22 @@ fn pass_before_path<K: Kind>(cursor: &mut Cursor<'_>) -> Result<BeforePath, Pars
         ≡ option_or (result_err result) (error_from_path K.kind text (cursor_position cursor.new)) }
     ensures err { IfErr result (IsErrorIn (cursor_text cursor.old)) }
 {
-    let scheme_end = cursor.scan(&SCHEME);
-    if cursor.skip(b':') {
+    let scheme = pass_scheme(cursor);
+    if scheme.has_authority {
+        return pass_authority::<K>(cursor, scheme.end);
+    }
+    if scheme.has_colon {
         let text = cursor.text();
         if !text.as_bytes()[0].is_ascii_alphabetic() {
             return Err(Cursor::new(text).unexpected());
         }
-        return pass_hier_part::<K>(cursor, scheme_end);
+        return Ok(BeforePath {
+            path_start: cursor.position(),
+            padding: false,
+            scheme_end: scheme.end,
+            host_start: 0,
+            host_end: 0,
+        });
     }
     if K::tables().needs_scheme {
         return Err(cursor.unexpected());

@@ -1,0 +1,90 @@
+//! How a text begins that is parsed: its scheme, and the `://` after it.
+ghost use Rattle.std.specs.Prelude.{◌≡◌, ◌+◌, ◌&&◌, IfSome, drop, slice_index, true};
+ghost use Rattle.std.specs.Prelude.{if◌then◌else◌};
+ghost use Rattle.std.specs.Char.{is_ascii_alphabetic};
+ghost use Rattle.std.specs.Str.{IsCharBoundary};
+ghost use Rattle.uri_pct.specs.Delimiters.{colon};
+ghost use Rattle.uri_pct.specs.Prefixes.{valid_prefix, after};
+ghost use Rattle.uri_pct.specs.Sets.{scheme_set};
+ghost use Rattle.uri_parts.specs.Components.{starts, has_authority};
+ghost use Rattle.uri_parts.specs.Models.Cursors.{text_after_cursor, cursor_text, cursor_position};
+
+use crate::cursor::Cursor;
+use uri_pct::lanes::LANES;
+use uri_pct::table::SCHEME;
+
+/// Returns where the scheme ends in a text that begins with `http://` or `https://`. Most texts do
+/// in lower case, and these need no scan. It is `None` for any other text, and for a short one.
+#[tactic(auto, using(crate::proofs::Steps::web_schemes))]
+#[inline(always)]
+fn web_scheme_end(text: &str) -> Option<usize>
+    ensures end { IfSome result (λ end. end ≡ valid_prefix scheme_set text.now) }
+    ensures letter { IfSome result (λ _. is_ascii_alphabetic (slice_index text.now 0) ≡ true) }
+    ensures colon { IfSome result (λ end. starts colon (drop end text.now) ≡ true) }
+    ensures slashes { IfSome result (λ end. has_authority (drop 1 (drop end text.now)) ≡ true) }
+    ensures boundary { IfSome result (λ end. IsCharBoundary text.now (end + 3)) }
+{
+    let bytes = text.as_bytes();
+    if bytes.len() < LANES {
+        return None;
+    }
+    match bytes {
+        [b'h', b't', b't', b'p', b's', b':', b'/', b'/', ..] => Some(5),
+        [b'h', b't', b't', b'p', b':', b'/', b'/', ..] => Some(4),
+        _ => None,
+    }
+}
+
+/// How a text begins: with what may be a scheme, and what follows it.
+#[derive(Clone, Copy)]
+pub(crate) struct SchemePrefix {
+    /// Where the characters end that may be in a scheme.
+    pub end: usize,
+    /// Whether `:` follows them.
+    pub has_colon: bool,
+    /// Whether they begin with a letter, and `://` follows them.
+    pub has_authority: bool,
+}
+
+/// Passes what may be a scheme at the beginning of a text, and the `:` after it. If it is a scheme,
+/// the `//` after the `:` is passed too.
+#[tactic(auto, using(crate::proofs::Steps::schemes))]
+#[inline(always)]
+pub(crate) fn pass_scheme(cursor: &mut Cursor<'_>) -> SchemePrefix
+    requires { cursor_position cursor.old ≡ 0 }
+    ensures end { result.end ≡ valid_prefix scheme_set (cursor_text cursor.old) }
+    ensures colon { result.has_colon ≡ starts colon (after scheme_set (cursor_text cursor.old)) }
+    ensures authority { let text = cursor_text cursor.old in result.has_authority
+        ≡ (result.has_colon && (is_ascii_alphabetic (slice_index text 0)
+        && has_authority (drop 1 (after scheme_set text)))) }
+    ensures text { cursor_text cursor.new ≡ cursor_text cursor.old }
+    ensures place { cursor_position cursor.new ≡ (if result.has_authority then result.end + 1 + 2
+        else (if result.has_colon then result.end + 1 else result.end)) }
+    ensures rest { let rest = after scheme_set (cursor_text cursor.old) in
+        text_after_cursor cursor.new ≡ (if result.has_authority then drop 2 (drop 1 rest)
+        else (if result.has_colon then drop 1 rest else rest)) }
+{
+    let text = cursor.text();
+    if let Some(end) = web_scheme_end(text) {
+        *cursor = Cursor::at(text, end + 3);
+        return SchemePrefix {
+            end,
+            has_colon: true,
+            has_authority: true,
+        };
+    }
+    let end = cursor.scan(&SCHEME);
+    if !cursor.skip(b':') {
+        return SchemePrefix {
+            end,
+            has_colon: false,
+            has_authority: false,
+        };
+    }
+    let has_authority = text.as_bytes()[0].is_ascii_alphabetic() && cursor.skip_slashes();
+    SchemePrefix {
+        end,
+        has_colon: true,
+        has_authority,
+    }
+}
