@@ -34,6 +34,7 @@ pub use Rattle.error_laws.specs.ViablePrefixes
 pub use Rattle.uri_ops.specs.ComponentSets
 pub use Rattle.uri_ops.specs.Conversions
 pub use Rattle.uri_ops.specs.Encoded
+pub use Rattle.uri_ops.specs.Resolved
 pub use Rattle.uri_ops.specs.Resolving
 pub use Rattle.uri_ops.specs.Dots
 pub use Rattle.uri_ops.specs.HostParts

@@ -1,9 +1,8 @@
 //! Resolving references against a base (RFC 3986, section 5.2; RFC 3987, section 6.5).
 ghost use Rattle.std.specs.Prelude.{◌≡◌, IfErr, IfOk, List, Ok, Some, true, ℕ};
 ghost use Rattle.uri_parts.specs.Components.{components};
-ghost use Rattle.uri_ops.specs.NormalTargets.{IsErrorOfMeanings, IsTargetOfMeanings};
-ghost use Rattle.uri_ops.specs.Resolving.{IsErrorForEncoded, IsErrorWithUnderflowAllowed};
-ghost use Rattle.uri_ops.specs.Resolving.{IsTargetOfEncoded};
+ghost use Rattle.uri_ops.specs.Resolved.{IsResolved};
+ghost use Rattle.uri_ops.specs.Resolving.{IsErrorWithUnderflowAllowed};
 ghost use Rattle.uri_ops.specs.Target.{resolution_of_texts};
 ghost use Rattle.fluent_uri.specs.References.{reference_text};
 ghost use Rattle.fluent_uri.specs.Targets.{target_of_texts};
@@ -56,15 +55,9 @@ impl<K: RefKind, T: AsStr> Reference<K, T> {
         ensures refusal { IfErr result
             (IsErrorWithUnderflowAllowed (components (reference_text base.now))
             (components (reference_text self.now))) }
-        ensures encoded { IfOk result (λ target. IsTargetOfEncoded true
-            (reference_text base.now) (reference_text self.now) (reference_text target)) }
-        ensures encoded_error { IfErr result
-            (IsErrorForEncoded true (reference_text base.now) (reference_text self.now)) }
-        ensures alike { IfOk result (λ target. IsTargetOfMeanings K.Base.kind K.kind
-            (reference_text base.now) (reference_text self.now) (reference_text target)) }
-        ensures alike_error { IfErr result (IsErrorOfMeanings true K.Base.kind K.kind
-            (reference_text base.now) (reference_text self.now)) }
+        ensures resolved { IsResolved K.Base.kind K.kind true (reference_text base.now)
+            (reference_text self.now) result reference_text }
     {
-        resolve::resolve_with_underflow(alloc, base, self)
+        resolve::resolve_to_value(alloc, base, self, true)
     }
 }

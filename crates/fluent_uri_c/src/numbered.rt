@@ -4,11 +4,12 @@ ghost use Rattle.std.specs.Prelude.{◌≡◌, IfOk, IsSomeAnd, option_map};
 ghost use Rattle.fluent_uri.specs.References.{reference_text};
 ghost use Rattle.uri_mend.specs.Mended.{IsMended};
 ghost use Rattle.uri_mend.specs.Trimming.{trimmed_link};
+ghost use Rattle.uri_relative.specs.Relativized.{IsRelativized};
 ghost use Rattle.fluent_uri_c.specs.Kinds.{base_numbered, kind_numbered};
 ghost use Rattle.fluent_uri_c.specs.Mends.{mend_link_result, mend_link_takes_memory, mend_result};
 ghost use Rattle.fluent_uri_c.specs.NormalForms.{normal_form_text};
 ghost use Rattle.fluent_uri_c.specs.Options.{basic_choice, path_preference, rules_choice};
-ghost use Rattle.fluent_uri_c.specs.Relatives.{IsReferenceToTarget, relativize_result};
+ghost use Rattle.fluent_uri_c.specs.Relatives.{relativize_result};
 ghost use Rattle.fluent_uri_c.specs.Results.{IsReturnedAs, IsReturnedOrDenied, IsTargetReturned};
 ghost use Rattle.fluent_uri_c.specs.Results.{normalize_result};
 ghost use Rattle.fluent_uri_c.specs.Results.{resolve_normalized_result, resolve_result};
@@ -150,7 +151,7 @@ pub fn reference(
         (relativize_result kind options base.now target.now) result }
     ensures leads { IfOk result (λ reference. IsSomeAnd (path_preference options)
         (λ prefers. IsSomeAnd (base_numbered kind) (λ kind.
-        IsReferenceToTarget prefers kind base.now target.now (reference_text reference)))) }
+        IsRelativized kind prefers base.now target.now (reference_text reference)))) }
 {
     let Some(prefers) = prefers_relative_path(options) else {
         return Err(Rejection::of(Error::InvalidArgument));

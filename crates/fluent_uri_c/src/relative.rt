@@ -1,10 +1,11 @@
 //! The inverse of resolving, on one base, and one target or each of a column.
 ghost use Rattle.std.specs.Prelude.{◌≡◌, IsSomeAnd};
+ghost use Rattle.uri_relative.specs.Relativized.{IsRelativized};
 ghost use Rattle.uri_relative.specs.Rule.{reference_to};
 ghost use Rattle.fluent_uri_c.specs.Columns.{LeavesColumn, buffers, column32, column64};
 ghost use Rattle.fluent_uri_c.specs.Kinds.{base_numbered};
 ghost use Rattle.fluent_uri_c.specs.Options.{path_preference};
-ghost use Rattle.fluent_uri_c.specs.Relatives.{IsReferenceToTarget, relativize_result};
+ghost use Rattle.fluent_uri_c.specs.Relatives.{relativize_result};
 ghost use Rattle.fluent_uri_c.specs.SingleCalls.{relativizing};
 ghost use Rattle.fluent_uri_c.specs.Values.{LeavesValue};
 
@@ -32,7 +33,7 @@ pub extern "C" fn fluent_uri_relativize(
     ensures text { LeavesValue (relativize_result kind options base.now target.now)
         out.old out.new parts.old parts.new outcome.new result }
     ensures leads { result ≡ 0 → IsSomeAnd (path_preference options) (λ prefers.
-        IsSomeAnd (base_numbered kind) (λ kind. IsReferenceToTarget prefers kind
+        IsSomeAnd (base_numbered kind) (λ kind. IsRelativized kind prefers
         base.now target.now (reference_to prefers base.now target.now))) }
 {
     match numbered::reference(alloc, kind, options, base, target) {

@@ -5,9 +5,10 @@ ghost use Rattle.fluent_uri.specs.Grammar.{iri, iri_ref};
 ghost use Rattle.fluent_uri.specs.References.{reference_text};
 ghost use Rattle.uri_mend.specs.Mended.{IsMended};
 ghost use Rattle.uri_mend.specs.Trimming.{trimmed_link};
+ghost use Rattle.uri_relative.specs.Relativized.{IsRelativized};
 ghost use Rattle.fluent_uri_c.specs.Mends.{mended_link_result, mended_result};
 ghost use Rattle.fluent_uri_c.specs.Mends.{takes_memory_for_link};
-ghost use Rattle.fluent_uri_c.specs.Relatives.{IsReferenceToTarget, reference_from};
+ghost use Rattle.fluent_uri_c.specs.Relatives.{reference_from};
 ghost use Rattle.fluent_uri_c.specs.Results.{IsReturnedAs, IsReturnedOrDenied, IsTargetReturned};
 ghost use Rattle.fluent_uri_c.specs.Results.{basic_resolution, encoded_result, resolution_by};
 ghost use Rattle.fluent_uri_c.specs.Results.{normal_target_from, rejection_or_result};
@@ -202,7 +203,7 @@ pub fn reference_from<K: RelativeKind>(
 ) -> Result<Reference<K::Ref, String>, Rejection>
     ensures text { IsReturnedAs reference_text
         (reference_from prefers K.kind (reference_text base.now) target.now) result }
-    ensures leads { IfOk result (λ reference. IsReferenceToTarget prefers K.kind
+    ensures leads { IfOk result (λ reference. IsRelativized K.kind prefers
         (reference_text base.now) target.now (reference_text reference)) }
 {
     let relativizer = Relativizer::with_base(*base).prefer_relative_path(prefers);
@@ -252,7 +253,7 @@ pub fn reference<K: RelativeKind>(
     ensures text { IsReturnedAs reference_text (rejection_or_result (text_error K.kind base.now)
         (reference_from prefers K.kind base.now target.now)) result }
     ensures leads { IfOk result (λ reference.
-        IsReferenceToTarget prefers K.kind base.now target.now (reference_text reference)) }
+        IsRelativized K.kind prefers base.now target.now (reference_text reference)) }
 {
     let base = parsed::<K>(base)?;
     reference_from(alloc, &base, target, prefers)

@@ -1,16 +1,11 @@
 //! Resolving references against a base (RFC 3986, section 5).
-ghost use Rattle.std.specs.Prelude.{◌≡◌, IfOk, IfErr, true};
-ghost use Rattle.std.specs.Prelude.{string_bytes, Ok};
-ghost use Rattle.uri_parts.specs.Components.{components};
+ghost use Rattle.std.specs.Prelude.{◌≡◌, IfOk, IfErr, string_bytes, true};
+ghost use Rattle.uri_parts.specs.Grammar.{IsTextOf};
 ghost use Rattle.uri_parts.specs.PackedPositions.{ArePackedPositionsOf};
 ghost use Rattle.uri_ops.specs.Normalizers.{ports_of};
-ghost use Rattle.uri_ops.specs.Resolving.{IsErrorForEncoded, IsTargetOfEncoded};
-ghost use Rattle.uri_ops.specs.NormalTargets.{IsErrorOfMeanings, IsTargetOfMeanings};
 ghost use Rattle.uri_ops.specs.NormalTargets.{IsNormalTarget, IsNormalTargetError};
-ghost use Rattle.uri_ops.specs.Resolving.{resolver_allows_underflow, base_of};
-ghost use Rattle.uri_ops.specs.Resolving.{IsErrorFor, IsErrorWithUnderflowAllowed, IsTarget};
-ghost use Rattle.uri_ops.specs.Target.{resolution_of_texts};
-ghost use Rattle.uri_parts.specs.Grammar.{IsTextOf};
+ghost use Rattle.uri_ops.specs.Resolved.{IsResolved};
+ghost use Rattle.uri_ops.specs.Resolving.{base_of, resolver_allows_underflow};
 
 pub(crate) mod base_prefix;
 pub(crate) mod copied_target;
@@ -64,22 +59,8 @@ fn resolve_to_text<B: Ri, Q: RefOf<B>>(
     ensures of_kind { IfOk result (λ target. IsTextOf B.kind (string_bytes target.text)) }
     ensures at { IfOk result (λ target.
         ArePackedPositionsOf (string_bytes target.text) target.positions) }
-    ensures target { IfOk result (λ target.
-        IsTarget allow_path_underflow (components (B.text base.now))
-        (components (Q.text reference.now)) (string_bytes target.text)) }
-    ensures error { IfErr result
-        (IsErrorFor allow_path_underflow (components (B.text base.now))
-        (components (Q.text reference.now))) }
-    ensures encoded { IfOk result (λ target.
-        IsTargetOfEncoded allow_path_underflow (B.text base.now) (Q.text reference.now)
-        (string_bytes target.text)) }
-    ensures encoded_error { IfErr result
-        (IsErrorForEncoded allow_path_underflow (B.text base.now) (Q.text reference.now)) }
-    ensures alike { IfOk result (λ target. IsTargetOfMeanings B.kind Q.kind
-        (B.text base.now) (Q.text reference.now) (string_bytes target.text)) }
-    ensures alike_error { IfErr result
-        (IsErrorOfMeanings allow_path_underflow B.kind Q.kind (B.text base.now)
-        (Q.text reference.now)) }
+    ensures resolved { IsResolved B.kind Q.kind allow_path_underflow (B.text base.now)
+        (Q.text reference.now) result (λ target. string_bytes target.text) }
 {
     target_text(
         alloc,
@@ -91,56 +72,18 @@ fn resolve_to_text<B: Ri, Q: RefOf<B>>(
 
 /// Returns the target of a reference against a base (RFC 3986, section 5.2). An error that the two
 /// texts alone decide comes before any allocation.
-fn resolve_to_value<B: Ri, Q: RefOf<B>>(
+#[doc(hidden)]
+pub fn resolve_to_value<B: Ri, Q: RefOf<B>>(
     alloc: Global,
     base: &B,
     reference: &Q,
     allow_path_underflow: bool,
 ) -> Result<B::Owned, ResolveError>
-    ensures target { IfOk result (λ target.
-        IsTarget allow_path_underflow (components (B.text base.now))
-        (components (Q.text reference.now)) (B.owned_text target)) }
-    ensures error { IfErr result
-        (IsErrorFor allow_path_underflow (components (B.text base.now))
-        (components (Q.text reference.now))) }
-    ensures encoded { IfOk result (λ target.
-        IsTargetOfEncoded allow_path_underflow (B.text base.now) (Q.text reference.now)
-        (B.owned_text target)) }
-    ensures encoded_error { IfErr result
-        (IsErrorForEncoded allow_path_underflow (B.text base.now) (Q.text reference.now)) }
-    ensures alike { IfOk result (λ target. IsTargetOfMeanings B.kind Q.kind
-        (B.text base.now) (Q.text reference.now) (B.owned_text target)) }
-    ensures alike_error { IfErr result
-        (IsErrorOfMeanings allow_path_underflow B.kind Q.kind (B.text base.now)
-        (Q.text reference.now)) }
+    ensures { IsResolved B.kind Q.kind allow_path_underflow (B.text base.now)
+        (Q.text reference.now) result B.owned_text }
 {
     let target = resolve_to_text(alloc, base, reference, allow_path_underflow)?;
     Ok(B::make_owned(target.text, target.positions))
-}
-
-/// Returns the target of a reference against a base, with dot segments allowed to underflow (RFC
-/// 3986, section 5.2). An error that the two texts alone decide comes before any allocation.
-#[doc(hidden)]
-pub fn resolve_with_underflow<B: Ri, Q: RefOf<B>>(
-    alloc: Global,
-    base: &B,
-    reference: &Q,
-) -> Result<B::Owned, ResolveError>
-    ensures target { IfOk result (λ target.
-        resolution_of_texts (B.text base.now) (Q.text reference.now) ≡ Ok (B.owned_text target)) }
-    ensures refusal { IfErr result
-        (IsErrorWithUnderflowAllowed (components (B.text base.now))
-        (components (Q.text reference.now))) }
-    ensures encoded { IfOk result (λ target.
-        IsTargetOfEncoded true (B.text base.now) (Q.text reference.now) (B.owned_text target)) }
-    ensures encoded_error { IfErr result
-        (IsErrorForEncoded true (B.text base.now) (Q.text reference.now)) }
-    ensures alike { IfOk result (λ target. IsTargetOfMeanings B.kind Q.kind
-        (B.text base.now) (Q.text reference.now) (B.owned_text target)) }
-    ensures alike_error { IfErr result
-        (IsErrorOfMeanings true B.kind Q.kind (B.text base.now) (Q.text reference.now)) }
-{
-    resolve_to_value(alloc, base, reference, true)
 }
 
 impl<R: Ri> Resolver<R> {
@@ -223,22 +166,8 @@ impl<R: Ri> Resolver<R> {
         alloc: Global,
         reference: &Q,
     ) -> Result<R::Owned, ResolveError>
-        ensures target { IfOk result (λ target.
-            IsTarget (resolver_allows_underflow self.now) (components (R.text (base_of self.now)))
-            (components (Q.text reference.now)) (R.owned_text target)) }
-        ensures error { IfErr result
-            (IsErrorFor (resolver_allows_underflow self.now)
-            (components (R.text (base_of self.now))) (components (Q.text reference.now))) }
-        ensures encoded { IfOk result (λ target.
-            IsTargetOfEncoded (resolver_allows_underflow self.now) (R.text (base_of self.now))
-            (Q.text reference.now) (R.owned_text target)) }
-        ensures encoded_error { IfErr result (IsErrorForEncoded (resolver_allows_underflow self.now)
-            (R.text (base_of self.now)) (Q.text reference.now)) }
-        ensures alike { IfOk result (λ target. IsTargetOfMeanings R.kind Q.kind
-            (R.text (base_of self.now)) (Q.text reference.now) (R.owned_text target)) }
-        ensures alike_error { IfErr result
-            (IsErrorOfMeanings (resolver_allows_underflow self.now) R.kind Q.kind
-            (R.text (base_of self.now)) (Q.text reference.now)) }
+        ensures { IsResolved R.kind Q.kind (resolver_allows_underflow self.now)
+            (R.text (base_of self.now)) (Q.text reference.now) result R.owned_text }
     {
         resolve_to_value(alloc, &self.base, reference, self.allow_path_underflow)
     }

@@ -4,3 +4,4 @@ pub mod Shortest
 pub mod Forms
 pub mod Rule
 pub mod Relativizers
+pub mod Relativized

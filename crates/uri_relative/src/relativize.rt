@@ -1,11 +1,7 @@
 //! The inverse of resolving (RFC 3986, section 5.2).
 ghost use Rattle.std.specs.Prelude.{◌≡◌, IfOk, false};
-ghost use Rattle.uri_parts.specs.Components.{components};
 ghost use Rattle.fluent_uri.specs.References.{reference_text};
-ghost use Rattle.uri_relative.specs.Leading.{LeadsBackToTarget, IsNoLonger, IsRelativeTo, LeadsTo};
-ghost use Rattle.uri_relative.specs.Leading.{settled};
-ghost use Rattle.uri_relative.specs.Rule.{reference_to};
-ghost use Rattle.uri_relative.specs.Shortest.{IsShortest};
+ghost use Rattle.uri_relative.specs.Relativized.{IsRelativized};
 
 use crate::relative::{RelativeKind, relative};
 use fluent_uri::{Reference, RiMaybeRef};
@@ -22,23 +18,8 @@ fn relativized<K: RelativeKind, B: AsStr, T: AsStr>(
     target: &Reference<K, T>,
     prefers_relative_path: bool,
 ) -> Result<Reference<K::Ref, String>, AllocError>
-    ensures text { IfOk result (λ reference. reference_text reference
-        ≡ reference_to prefers_relative_path (reference_text base.now)
-        (reference_text target.now)) }
-    ensures leads { IfOk result (λ reference.
-        LeadsTo (reference_text base.now) (reference_text target.now)
-        (reference_text reference)) }
-    ensures back { IfOk result (λ reference.
-        LeadsBackToTarget (reference_text base.now) (reference_text target.now)
-        (reference_text reference)) }
-    ensures short { prefers_relative_path ≡ false → IfOk result (λ reference.
-        IsNoLonger (reference_text target.now) (reference_text reference)) }
-    ensures shortest { prefers_relative_path ≡ false → IfOk result (λ reference.
-        IsShortest K.kind (reference_text base.now) (reference_text target.now)
-        (reference_text reference)) }
-    ensures relative { IfOk result (λ reference.
-        IsRelativeTo (components (reference_text base.now))
-        (settled (reference_text target.now)) (components (reference_text reference))) }
+    ensures { IfOk result (λ reference. IsRelativized K.kind prefers_relative_path
+        (reference_text base.now) (reference_text target.now) (reference_text reference)) }
 {
     let made = relative(alloc, base.core(), target.core(), prefers_relative_path)?;
     let positions = PackedPositions::of(&made.positions);
@@ -110,23 +91,9 @@ impl<K: RelativeKind, B: AsStr> Relativizer<Reference<K, B>> {
         alloc: Global,
         target: &Reference<K, T>,
     ) -> Result<Reference<K::Ref, String>, AllocError>
-        ensures text { IfOk result (λ reference. reference_text reference
-            ≡ reference_to (prefers_relative_path self.now)
-            (reference_text (base_of self.now)) (reference_text target.now)) }
-        ensures leads { IfOk result (λ reference.
-            LeadsTo (reference_text (base_of self.now)) (reference_text target.now)
+        ensures { IfOk result (λ reference. IsRelativized K.kind (prefers_relative_path self.now)
+            (reference_text (base_of self.now)) (reference_text target.now)
             (reference_text reference)) }
-        ensures back { IfOk result (λ reference.
-            LeadsBackToTarget (reference_text (base_of self.now)) (reference_text target.now)
-            (reference_text reference)) }
-        ensures short { prefers_relative_path self.now ≡ false → IfOk result (λ reference.
-            IsNoLonger (reference_text target.now) (reference_text reference)) }
-        ensures shortest { prefers_relative_path self.now ≡ false → IfOk result (λ reference.
-            IsShortest K.kind (reference_text (base_of self.now)) (reference_text target.now)
-            (reference_text reference)) }
-        ensures relative { IfOk result (λ reference.
-            IsRelativeTo (components (reference_text (base_of self.now)))
-            (settled (reference_text target.now)) (components (reference_text reference))) }
     {
         relativized(alloc, &self.base, target, self.prefers_relative_path)
     }
@@ -151,22 +118,8 @@ pub trait Relativize<K: RelativeKind>: RiMaybeRef {
         alloc: Global,
         target: &Reference<K, T>,
     ) -> Result<Reference<K::Ref, String>, AllocError>
-        ensures text { IfOk result (λ reference. reference_text reference
-            ≡ reference_to false (Self.text self.now) (reference_text target.now)) }
-        ensures leads { IfOk result (λ reference.
-            LeadsTo (Self.text self.now) (reference_text target.now)
-            (reference_text reference)) }
-        ensures back { IfOk result (λ reference.
-            LeadsBackToTarget (Self.text self.now) (reference_text target.now)
-            (reference_text reference)) }
-        ensures short { IfOk result (λ reference.
-            IsNoLonger (reference_text target.now) (reference_text reference)) }
-        ensures shortest { IfOk result (λ reference.
-            IsShortest K.kind (Self.text self.now) (reference_text target.now)
-            (reference_text reference)) }
-        ensures relative { IfOk result (λ reference.
-            IsRelativeTo (components (Self.text self.now))
-            (settled (reference_text target.now)) (components (reference_text reference))) };
+        ensures { IfOk result (λ reference. IsRelativized K.kind false (Self.text self.now)
+            (reference_text target.now) (reference_text reference)) };
 
     ghost same_kind: { Self.RiMaybeRef.kind ≡ K.kind };
 }

@@ -1,5 +1,7 @@
 -- What is known of a base, a reference and a target where a target is computed.
-use Rattle.std.proofs.Common.{◌≡◌, ℕ, Bool, true, List, subst}
+use Rattle.std.proofs.Common.{◌≡◌, ℕ, Bool, true, List, subst, sym}
+use Rattle.std.specs.Prelude.{IfErr, IfOk, Ok, Result}
+use Rattle.std.proofs.lemmas.Result.{IfErr-weaker, IfOk-weaker}
 use Rattle.std.specs.Str.{IsUtf8}
 use Rattle.uri_parts.specs.Components.{Components, components}
 use Rattle.uri_parts.specs.Grammar.{Kind, IsOfKind}
@@ -7,6 +9,7 @@ use Rattle.uri_ops.specs.ComponentSets.{HasComponentSets}
 use Rattle.uri_ops.specs.NormalTargets.{reference_kind}
 use Rattle.uri_ops.specs.Resolving.{IsTargetOfEncoded, IsErrorForEncoded}
 use Rattle.uri_ops.specs.NormalTargets.{IsTargetOfMeanings, IsErrorOfMeanings}
+use Rattle.uri_ops.specs.Resolved.{IsResolved}
 use Rattle.uri_ops.specs.Resolving.{IsTarget, IsErrorFor}
 use Rattle.uri_parts.specs.Grammar.{IsTextOf}
 use Rattle.uri_ops.specs.declared.resolve.error.ResolveError.{ResolveError}
@@ -49,32 +52,48 @@ module _ (kind other : Kind) (sets : HasComponentSets kind) (needs : kind.needs_
       (equal-components-have-same-target allowed p q (components base) (components reference)
       target e f h).0
 
-  pub target-of-texts-is-target-of-encoded : (target : List ℕ) → IsTarget allowed p q target
-      → IsTargetOfEncoded allowed base reference target
-  target-of-texts-is-target-of-encoded target h = target-is-target-of-encoded allowed base
-      reference target u v
-      (equal-components-have-same-target allowed p q (components base) (components reference)
-      target e f h)
+  -- what computing a target returns is what resolving returns; text_of: the text of a target
+  pub computed-target-is-resolved : {T : Type 0} (result : Result T ResolveError)
+      (text_of : T → List ℕ) → IfOk result (λ t. IsTarget allowed p q (text_of t))
+      → IfErr result (IsErrorFor allowed p q)
+      → IsResolved kind other allowed base reference result text_of
+  computed-target-is-resolved result text_of found failed =
+      let target = IfOk-weaker result (λ t. IsTarget allowed p q (text_of t))
+      (λ t. IsTarget allowed (components base) (components reference) (text_of t))
+      (λ t. equal-components-have-same-target allowed p q (components base) (components reference)
+      (text_of t) e f) found in
+      let error = IfErr-weaker result (IsErrorFor allowed p q)
+      (IsErrorFor allowed (components base) (components reference))
+      (λ x. equal-components-have-same-error allowed p q (components base) (components reference)
+      x e f) failed in
+      record {
+        target = target;
+        error = error;
+        encoded = IfOk-weaker result _ (λ t. IsTargetOfEncoded allowed base reference (text_of t))
+        (λ t. target-is-target-of-encoded allowed base reference (text_of t) u v) target;
+        encoded_error = IfErr-weaker result _ (IsErrorForEncoded allowed base reference)
+        (λ x. error-is-error-for-encoded allowed base reference x u v) error;
+        alike = IfOk-weaker result _
+        (λ t. IsTargetOfMeanings kind other base reference (text_of t))
+        (λ t. target-respects-meaning kind other sets needs same allowed base reference
+        base-is-text-of-kind reference-is-text-of-kind (text_of t)) target;
+        alike_error = IfErr-weaker result _ (IsErrorOfMeanings allowed kind other base reference)
+        (λ x. error-respects-meaning kind other sets needs same allowed base reference
+        base-is-text-of-kind reference-is-text-of-kind x) error;
+      }
 
-  pub error-of-texts-is-error-for-encoded : (error : ResolveError) → IsErrorFor allowed p q error
-      → IsErrorForEncoded allowed base reference error
-  error-of-texts-is-error-for-encoded error h = error-is-error-for-encoded allowed base
-      reference error u v
-      (equal-components-have-same-error allowed p q (components base) (components reference)
-      error e f h)
-
-  pub target-of-texts-respects-meaning : (target : List ℕ) → IsTarget allowed p q target
-      → IsTargetOfMeanings kind other base reference target
-  target-of-texts-respects-meaning target h =
-      target-respects-meaning kind other sets needs same allowed base reference base-is-text-of-kind
-      reference-is-text-of-kind
-      target (equal-components-have-same-target allowed p q (components base) (components reference)
-      target e f h)
-
-  pub error-of-texts-respects-meaning : (error : ResolveError) → IsErrorFor allowed p q error
-      → IsErrorOfMeanings allowed kind other base reference error
-  error-of-texts-respects-meaning error h =
-      error-respects-meaning kind other sets needs same allowed base reference base-is-text-of-kind
-      reference-is-text-of-kind
-      error (equal-components-have-same-error allowed p q (components base) (components reference)
-      error e f h)
+-- resolving: another value with the same text is returned as well
+pub value-with-text-is-resolved : {T U : Type 0} (kind other : Kind) (allowed : Bool)
+    (base reference : List ℕ) (value : T) (returned : U) (text_of : T → List ℕ)
+    (text_of_returned : U → List ℕ) → text_of_returned returned ≡ text_of value
+    → IsResolved kind other allowed base reference (Ok value) text_of
+    → IsResolved kind other allowed base reference (Ok returned) text_of_returned
+value-with-text-is-resolved kind other allowed base reference value returned text_of
+    text_of_returned same is = record {
+      target = subst (IsTarget allowed (components base) (components reference)) (sym same) is.target;
+      error = tt;
+      encoded = subst (IsTargetOfEncoded allowed base reference) (sym same) is.encoded;
+      encoded_error = tt;
+      alike = subst (IsTargetOfMeanings kind other base reference) (sym same) is.alike;
+      alike_error = tt;
+    }

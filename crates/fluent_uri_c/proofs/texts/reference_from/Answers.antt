@@ -1,6 +1,6 @@
 use Rattle.std.proofs.Common.{◌∙◌, ap}
 use Rattle.fluent_uri.specs.References.{reference_text}
-use Rattle.fluent_uri_c.proofs.References.{IsReferenceToTarget-of-equal-texts}
+use Rattle.fluent_uri_c.proofs.References.{IsRelativized-of-equal-texts}
 use Rattle.fluent_uri_c.proofs.References.{reference_from-of-reference}
 use Rattle.fluent_uri_c.proofs.texts.reference_from.Goals as goal
 
@@ -17,7 +17,5 @@ pub returns-in_ok-relativize-in-Ok-clause-leads : goal.returns-in_ok-relativize-
 returns-in_ok-relativize-in-Ok-clause-leads g c =
     let made = c.in_ok-relativize-in-Ok.ensures in
     let set = c.prefer_relative_path-relativizer.ensures in
-    IsReferenceToTarget-of-equal-texts c.args.prefers g.K.Kind.kind _ _ _ _ _
-    (ap reference_text (set.base ∙ c.with_base.ensures.base)) c.in-Ok.ensures.text made.leads
-    made.back (λ not. made.short (set.prefers ∙ not)) (λ not. made.shortest (set.prefers ∙ not))
-    made.relative
+    IsRelativized-of-equal-texts g.K.Kind.kind _ _ _ _ _ _ _
+    (ap reference_text (set.base ∙ c.with_base.ensures.base)) c.in-Ok.ensures.text set.prefers made

@@ -1,14 +1,9 @@
 use Rattle.std.proofs.Common.{◌≡◌, true, subst, sym}
 use Rattle.std.specs.Prelude.{is_some, string_bytes}
-use Rattle.std.proofs.lemmas.Result.{IfOk-weaker, IfErr-weaker}
+use Rattle.std.proofs.lemmas.Result.{IfOk-weaker}
+use Rattle.uri_ops.proofs.Targeting.ResolvedTexts.{computed-target-is-resolved}
 use Rattle.uri_ops.proofs.Targeting.ResolvedTexts.{target-is-text-of-base-kind}
-use Rattle.uri_ops.proofs.Targeting.ResolvedTexts.{target-of-texts-is-target-of-encoded}
-use Rattle.uri_ops.proofs.Targeting.ResolvedTexts.{error-of-texts-is-error-for-encoded}
-use Rattle.uri_ops.proofs.Targeting.ResolvedTexts.{target-of-texts-respects-meaning}
-use Rattle.uri_ops.proofs.Targeting.ResolvedTexts.{error-of-texts-respects-meaning}
-use Rattle.uri_ops.specs.Resolving.{IsTargetOfEncoded, IsErrorForEncoded}
-use Rattle.uri_ops.specs.NormalTargets.{IsTargetOfMeanings, IsErrorOfMeanings}
-use Rattle.uri_ops.specs.Resolving.{IsTarget, IsErrorFor, components_of}
+use Rattle.uri_ops.specs.Resolving.{IsTarget, components_of}
 use Rattle.uri_parts.specs.Grammar.{IsTextOf}
 use Rattle.uri_parts.specs.Components.{Components}
 use Rattle.uri_ops.proofs.Targeting.Swaps.{text-of-kind-has-needed-scheme}
@@ -38,72 +33,12 @@ returns-clause-of_kind g c =
     c.of.ensures.of_kind c.of-2.ensures.of_kind (string_bytes made.text))
     c.target_text.ensures.target
 
-pub returns-clause-encoded : goal.returns-clause-encoded
-returns-clause-encoded g c =
-    let kind = g.B.RiMaybeRef.kind in
-    let p = components_of c.of.result in
-    let q = components_of c.of-2.result in
-    let base = g.B.RiMaybeRef.text c.args.base.now in
-    let reference = g.Q.RiMaybeRef.text c.args.reference.now in
-    IfOk-weaker c.target_text.result
-    (λ made. IsTarget c.args.allow_path_underflow p q (string_bytes made.text))
-    (λ made. IsTargetOfEncoded c.args.allow_path_underflow base reference
-    (string_bytes made.text))
-    (λ made. target-of-texts-is-target-of-encoded kind g.Q.RiMaybeRef.kind
-    g.met.B.RiMaybeRef.component_sets
-    g.met.B.Ri.needs_scheme g.met.Q.RefOf.same_tables c.args.allow_path_underflow p q base
-    reference
+pub returns-clause-resolved : goal.returns-clause-resolved
+returns-clause-resolved g c =
+    computed-target-is-resolved g.B.RiMaybeRef.kind g.Q.RiMaybeRef.kind
+    g.met.B.RiMaybeRef.component_sets g.met.B.Ri.needs_scheme g.met.Q.RefOf.same_tables
+    c.args.allow_path_underflow (components_of c.of.result) (components_of c.of-2.result)
+    (g.B.RiMaybeRef.text c.args.base.now) (g.Q.RiMaybeRef.text c.args.reference.now)
     c.of.ensures.components c.of-2.ensures.components c.of.ensures.utf8 c.of-2.ensures.utf8
-    c.of.ensures.of_kind c.of-2.ensures.of_kind (string_bytes made.text))
-    c.target_text.ensures.target
-
-pub returns-clause-encoded_error : goal.returns-clause-encoded_error
-returns-clause-encoded_error g c =
-    let kind = g.B.RiMaybeRef.kind in
-    let p = components_of c.of.result in
-    let q = components_of c.of-2.result in
-    let base = g.B.RiMaybeRef.text c.args.base.now in
-    let reference = g.Q.RiMaybeRef.text c.args.reference.now in
-    IfErr-weaker c.target_text.result (IsErrorFor c.args.allow_path_underflow p q)
-    (IsErrorForEncoded c.args.allow_path_underflow base reference)
-    (error-of-texts-is-error-for-encoded kind g.Q.RiMaybeRef.kind g.met.B.RiMaybeRef.component_sets
-    g.met.B.Ri.needs_scheme g.met.Q.RefOf.same_tables c.args.allow_path_underflow p q base
-    reference
-    c.of.ensures.components c.of-2.ensures.components c.of.ensures.utf8 c.of-2.ensures.utf8
-    c.of.ensures.of_kind c.of-2.ensures.of_kind)
-    c.target_text.ensures.error
-
-pub returns-clause-alike : goal.returns-clause-alike
-returns-clause-alike g c =
-    let kind = g.B.RiMaybeRef.kind in
-    let p = components_of c.of.result in
-    let q = components_of c.of-2.result in
-    let base = g.B.RiMaybeRef.text c.args.base.now in
-    let reference = g.Q.RiMaybeRef.text c.args.reference.now in
-    IfOk-weaker c.target_text.result
-    (λ made. IsTarget c.args.allow_path_underflow p q (string_bytes made.text))
-    (λ made. IsTargetOfMeanings kind g.Q.RiMaybeRef.kind base reference
-    (string_bytes made.text))
-    (λ made. target-of-texts-respects-meaning kind g.Q.RiMaybeRef.kind
-    g.met.B.RiMaybeRef.component_sets
-    g.met.B.Ri.needs_scheme g.met.Q.RefOf.same_tables c.args.allow_path_underflow p q base
-    reference
-    c.of.ensures.components c.of-2.ensures.components c.of.ensures.utf8 c.of-2.ensures.utf8
-    c.of.ensures.of_kind c.of-2.ensures.of_kind (string_bytes made.text))
-    c.target_text.ensures.target
-
-pub returns-clause-alike_error : goal.returns-clause-alike_error
-returns-clause-alike_error g c =
-    let kind = g.B.RiMaybeRef.kind in
-    let p = components_of c.of.result in
-    let q = components_of c.of-2.result in
-    let base = g.B.RiMaybeRef.text c.args.base.now in
-    let reference = g.Q.RiMaybeRef.text c.args.reference.now in
-    IfErr-weaker c.target_text.result (IsErrorFor c.args.allow_path_underflow p q)
-    (IsErrorOfMeanings c.args.allow_path_underflow kind g.Q.RiMaybeRef.kind base reference)
-    (error-of-texts-respects-meaning kind g.Q.RiMaybeRef.kind g.met.B.RiMaybeRef.component_sets
-    g.met.B.Ri.needs_scheme
-    g.met.Q.RefOf.same_tables c.args.allow_path_underflow p q base reference
-    c.of.ensures.components c.of-2.ensures.components c.of.ensures.utf8 c.of-2.ensures.utf8
-    c.of.ensures.of_kind c.of-2.ensures.of_kind)
-    c.target_text.ensures.error
+    c.of.ensures.of_kind c.of-2.ensures.of_kind c.target_text.result
+    (λ target. string_bytes target.text) c.target_text.ensures.target c.target_text.ensures.error

@@ -18,54 +18,35 @@ new-requires-clause-of_kind g c =
 pub new-requires-clause-at : goal.new-requires-clause-at
 new-requires-clause-at g c = c.of-positions.ensures ∙ ap packed c.in_ok-made.ensures.at
 
-pub returns-clause-leads : goal.returns-clause-leads
-returns-clause-leads g c =
-    reference-leads-to-target g.K.Kind.kind c.args.prefers_relative_path (core_text c.core.result)
-    (core_text c.core-2.result) (string_bytes c.in_ok-made.made.text)
-    (reference_text c.args.base.now) (reference_text c.args.target.now)
-    (reference_text c.of_core.result) g.met.K.BaseKind.needs_scheme c.core-2.result.of_kind
-    c.core.ensures.text c.core-2.ensures.text (c.of_core.ensures ∙ c.new.ensures)
-    c.in_ok-made.ensures.leads
-
-pub returns-clause-back : goal.returns-clause-back
-returns-clause-back g c =
-    reference-leads-back-to-target g.K.Kind.kind c.args.prefers_relative_path
-    (core_text c.core.result)
-    (core_text c.core-2.result) (string_bytes c.in_ok-made.made.text)
-    (reference_text c.args.base.now) (reference_text c.args.target.now)
-    (reference_text c.of_core.result) g.met.K.BaseKind.needs_scheme c.core.result.of_kind
-    c.core-2.result.of_kind c.core.ensures.text c.core-2.ensures.text
-    (c.of_core.ensures ∙ c.new.ensures) c.in_ok-made.ensures.leads
-
-pub returns-clause-short : goal.returns-clause-short
-returns-clause-short g c = λ e.
-    reference-is-no-longer-than-target g.K.Kind.kind c.args.prefers_relative_path
-    (components (core_text c.core.result))
-    (core_text c.core-2.result) (string_bytes c.in_ok-made.made.text)
-    (reference_text c.args.target.now) (reference_text c.of_core.result) e
-    c.core-2.ensures.text (c.of_core.ensures ∙ c.new.ensures) c.in_ok-made.ensures.leads
-
-pub returns-clause-shortest : goal.returns-clause-shortest
-returns-clause-shortest g c = λ e.
-    reference-is-shortest g.K.Kind.kind c.args.prefers_relative_path (core_text c.core.result)
-    (core_text c.core-2.result) (string_bytes c.in_ok-made.made.text)
-    (reference_text c.args.base.now) (reference_text c.args.target.now)
-    (reference_text c.of_core.result) g.met.K.BaseKind.needs_scheme c.core.result.of_kind
-    c.core-2.result.of_kind c.core.ensures.text c.core-2.ensures.text
-    (c.of_core.ensures ∙ c.new.ensures) e c.in_ok-made.ensures.leads
-
-pub returns-clause-relative : goal.returns-clause-relative
-returns-clause-relative g c =
-    reference-is-relative g.K.Kind.kind c.args.prefers_relative_path (core_text c.core.result)
-    (core_text c.core-2.result) (string_bytes c.in_ok-made.made.text)
-    (reference_text c.args.base.now) (reference_text c.args.target.now)
-    (reference_text c.of_core.result) c.core.ensures.text c.core-2.ensures.text
-    (c.of_core.ensures ∙ c.new.ensures) c.in_ok-made.ensures.leads
-
-pub returns-clause-text : goal.returns-clause-text
+pub returns : goal.returns
 unfolding reference_to
-returns-clause-text g c =
+returns g c =
+    let kind = g.K.Kind.kind in
     let prefers = c.args.prefers_relative_path in
-    c.of_core.ensures ∙ c.new.ensures ∙ c.in_ok-made.ensures.text
-    ∙ ap (λ base. reference_to prefers base (core_text c.core-2.result)) c.core.ensures.text
-    ∙ ap (reference_to prefers (reference_text c.args.base.now)) c.core-2.ensures.text
+    let made = string_bytes c.in_ok-made.made.text in
+    let base = reference_text c.args.base.now in
+    let target = reference_text c.args.target.now in
+    let reference = reference_text c.of_core.result in
+    let of_base = c.core.ensures.text in
+    let of_target = c.core-2.ensures.text in
+    let of_made = c.of_core.ensures ∙ c.new.ensures in
+    let leads = c.in_ok-made.ensures.leads in
+    record {
+      text = of_made ∙ c.in_ok-made.ensures.text
+      ∙ ap (λ b. reference_to prefers b (core_text c.core-2.result)) of_base
+      ∙ ap (reference_to prefers base) of_target;
+      leads = reference-leads-to-target kind prefers (core_text c.core.result)
+      (core_text c.core-2.result) made base target reference g.met.K.BaseKind.needs_scheme
+      c.core-2.result.of_kind of_base of_target of_made leads;
+      back = reference-leads-back-to-target kind prefers (core_text c.core.result)
+      (core_text c.core-2.result) made base target reference g.met.K.BaseKind.needs_scheme
+      c.core.result.of_kind c.core-2.result.of_kind of_base of_target of_made leads;
+      short = λ not. reference-is-no-longer-than-target kind prefers
+      (components (core_text c.core.result)) (core_text c.core-2.result) made target reference not
+      of_target of_made leads;
+      shortest = λ not. reference-is-shortest kind prefers (core_text c.core.result)
+      (core_text c.core-2.result) made base target reference g.met.K.BaseKind.needs_scheme
+      c.core.result.of_kind c.core-2.result.of_kind of_base of_target of_made not leads;
+      relative = reference-is-relative kind prefers (core_text c.core.result)
+      (core_text c.core-2.result) made base target reference of_base of_target of_made leads;
+    }

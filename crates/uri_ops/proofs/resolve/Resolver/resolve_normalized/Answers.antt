@@ -22,7 +22,7 @@ returns-in_err-target-clause-refusal g c =
     (refusal kind g.Q.RiMaybeRef.kind g.met.R.RiMaybeRef.component_sets g.met.R.Ri.needs_scheme
     g.met.Q.RefOf.same_tables ports base reference
     c.resolve_to_text.ensures.base c.resolve_to_text.ensures.reference c.in_err-target.field-0.0
-    c.in_err-target.ensures.error))
+    c.in_err-target.ensures.resolved.error))
     c.from_residual.ensures.1
 
 pub normalize_string-requires-clause-of_kind : goal.normalize_string-requires-clause-of_kind
@@ -42,7 +42,7 @@ returns-in_err-made-clause-refusal g c =
     (refusal kind g.Q.RiMaybeRef.kind g.met.R.RiMaybeRef.component_sets g.met.R.Ri.needs_scheme
     g.met.Q.RefOf.same_tables ports base reference
     c.resolve_to_text.ensures.base c.resolve_to_text.ensures.reference OutOfMemory
-    (ap is_ok c.in_ok-target.ensures.target.0)))
+    (ap is_ok c.in_ok-target.ensures.resolved.target.0)))
     c.from_residual-in_err-made.ensures.1
 
 pub make_owned-requires-clause-of_kind : goal.make_owned-requires-clause-of_kind
@@ -69,7 +69,7 @@ returns-clause-normal g c =
     g.met.R.Ri.needs_scheme g.met.Q.RefOf.same_tables ports base reference
     c.resolve_to_text.ensures.base c.resolve_to_text.ensures.reference
     (string_bytes c.in_ok-target.target.text) (string_bytes c.in_ok-made.made.text)
-    c.in_ok-target.ensures.target.0
+    c.in_ok-target.ensures.resolved.target.0
     (normal-text-is-normal-form kind g.R.Kind.Kind.kind g.met.R.RiMaybeRef.kind_is_its_own
     g.met.R.RiMaybeRef.component_sets ports
     (string_bytes c.in_ok-target.target.text) (string_bytes c.in_ok-target.target.text)
