@@ -13,7 +13,7 @@ use Rattle.uri_relative.proofs.relativize.relativized.Goals as goal
 pub new-requires-clause-of_kind : goal.new-requires-clause-of_kind
 new-requires-clause-of_kind g c =
     subst (λ k. IsOfKind k (string_bytes c.in_ok-made.made.text))
-    (sym g.met.K.RelativeKind.same_tables) c.in_ok-made.ensures.leads.meets
+    (sym g.met.K.BaseKind.same_tables) c.in_ok-made.ensures.leads.meets
 
 pub new-requires-clause-at : goal.new-requires-clause-at
 new-requires-clause-at g c = c.of-positions.ensures ∙ ap packed c.in_ok-made.ensures.at
@@ -33,20 +33,20 @@ returns g c =
     let leads = c.in_ok-made.ensures.leads in
     record {
       text = of_made ∙ c.in_ok-made.ensures.text
-      ∙ ap (λ b. reference_to prefers b (core_text c.core-2.result)) of_base
-      ∙ ap (reference_to prefers base) of_target;
+          ∙ ap (λ b. reference_to prefers b (core_text c.core-2.result)) of_base
+          ∙ ap (reference_to prefers base) of_target;
       leads = reference-leads-to-target kind prefers (core_text c.core.result)
-      (core_text c.core-2.result) made base target reference g.met.K.BaseKind.needs_scheme
-      c.core-2.result.of_kind of_base of_target of_made leads;
+          (core_text c.core-2.result) made base target reference g.met.K.BaseKind.needs_scheme
+          c.core-2.result.of_kind of_base of_target of_made leads;
       back = reference-leads-back-to-target kind prefers (core_text c.core.result)
-      (core_text c.core-2.result) made base target reference g.met.K.BaseKind.needs_scheme
-      c.core.result.of_kind c.core-2.result.of_kind of_base of_target of_made leads;
+          (core_text c.core-2.result) made base target reference g.met.K.BaseKind.needs_scheme
+          c.core.result.of_kind c.core-2.result.of_kind of_base of_target of_made leads;
       short = λ not. reference-is-no-longer-than-target kind prefers
-      (components (core_text c.core.result)) (core_text c.core-2.result) made target reference not
-      of_target of_made leads;
+          (components (core_text c.core.result)) (core_text c.core-2.result) made target reference not
+          of_target of_made leads;
       shortest = λ not. reference-is-shortest kind prefers (core_text c.core.result)
-      (core_text c.core-2.result) made base target reference g.met.K.BaseKind.needs_scheme
-      c.core.result.of_kind c.core-2.result.of_kind of_base of_target of_made not leads;
+          (core_text c.core-2.result) made base target reference g.met.K.BaseKind.needs_scheme
+          c.core.result.of_kind c.core-2.result.of_kind of_base of_target of_made not leads;
       relative = reference-is-relative kind prefers (core_text c.core.result)
-      (core_text c.core-2.result) made base target reference of_base of_target of_made leads;
+          (core_text c.core-2.result) made base target reference of_base of_target of_made leads;
     }
