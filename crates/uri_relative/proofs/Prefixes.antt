@@ -3,8 +3,8 @@ use Rattle.std.proofs.Common.{◌≡◌, ℕ, zero, suc, ◌+◌, ◌<◌, ◌�
 use Rattle.std.proofs.Common.{get_or, refl, sym, ap, ◌∙◌, arith, append_assoc, length-append, ◌-◌}
 use Rattle.std.proofs.Common.{◌⊎◌, ⊎_elim, drop, false, subst}
 use Rattle.std.proofs.lemmas.Bool.{false≢true}
-use Rattle.std.proofs.lemmas.List.{append-nil, get_or-drop, get_or-take, length-drop, length-take-le}
-use Rattle.std.proofs.lemmas.List.{take-take, take_more}
+use Rattle.std.proofs.lemmas.List.{append-nil, get_or-drop, get_or-take, length-drop}
+use Rattle.std.proofs.lemmas.List.{length-take-le, take-take, take_more}
 use Rattle.std.proofs.lemmas.List.Folds.{list_any_at}
 use Rattle.std.proofs.Math.Seq.{get_or-append_seam}
 use Rattle.std.specs.Prelude.{codes, ◌==◌}
@@ -115,7 +115,8 @@ pub last-slash-of-prefix-is-last-before-its-end : (path prefix : List ℕ) (end 
     → prefix ≡ take end path → IsAbsolute path → 0 < end → end ≤ length path
     → IsSlashOrStart prefix 0 slash → has_slash (drop (slash + 1) prefix) ≡ false
     → IsLastSlashBefore path end slash
-last-slash-of-prefix-is-last-before-its-end path prefix end slash e absolute some within place none =
+last-slash-of-prefix-is-last-before-its-end path prefix end slash e absolute some within place
+    none =
     let at = slash-position-is-of-slash prefix slash
     (subst IsAbsolute (sym e) (prefix-of-absolute-path-is-absolute path end absolute some)) place in
     let len : length prefix ≡ end = ap length e ∙ length-take-le end path within in

@@ -55,7 +55,8 @@ pub dot-segment-before-rest-is-in-path : (test : List ℕ → Bool)
     → IsFirstSegment test rest n
     → lacks_dot_segments path ≡ false
 dot-segment-before-rest-is-in-path test is_dot path rest done n is some h first =
-    ap lacks_dot_segments (sym (take-append-drop done path) ∙ ap (λ r. take done path ++ r) (sym is))
+    ap lacks_dot_segments
+    (sym (take-append-drop done path) ∙ ap (λ r. take done path ++ r) (sym is))
     ∙ dot-segment-after-directory-is-in-path (take done path) rest
     (removal-state-has-directory path (take done path) rest false
     (subst (λ r. RemovalState path (take done path) r false) (sym is) h) some)

@@ -90,7 +90,8 @@ pub value-with-text-is-resolved : {T U : Type 0} (kind other : Kind) (allowed : 
     → IsResolved kind other allowed base reference (Ok returned) text_of_returned
 value-with-text-is-resolved kind other allowed base reference value returned text_of
     text_of_returned same is = record {
-      target = subst (IsTarget allowed (components base) (components reference)) (sym same) is.target;
+      target = subst (IsTarget allowed (components base) (components reference)) (sym same)
+          is.target;
       error = tt;
       encoded = subst (IsTargetOfEncoded allowed base reference) (sym same) is.encoded;
       encoded_error = tt;

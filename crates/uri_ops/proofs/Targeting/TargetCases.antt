@@ -56,5 +56,5 @@ settled-text-has-settled-components text some =
     let c = components text in
     let t : target_of c c ≡ with_final_path c
     = ap with_final_path (case-gives-line WithScheme c c some) in
-    sym (ap (λ x. components (recompose x)) t) ∙ target-text-has-target-components text text some ∙
-    t
+    sym (ap (λ x. components (recompose x)) t)
+    ∙ target-text-has-target-components text text some ∙ t

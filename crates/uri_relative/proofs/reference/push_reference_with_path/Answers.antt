@@ -40,7 +40,8 @@ returns-clause-leads g c =
       pushed-path-and-tail-are-appended (string_bytes c.args.out.now)
           (string_bytes c.push_path.new.out)
           (string_bytes c.push_str.new.self) found.0 c.after_path.result.now _ found.1
-          c.in_ok-push_str.ensures.bytes (c.after_path.ensures ∙ ap after_path c.of_core.ensures.components),
+          c.in_ok-push_str.ensures.bytes
+          (c.after_path.ensures ∙ ap after_path c.of_core.ensures.components),
       c.positions_with_path.ensures found.0
           (omega (arith, start, end, ap length found.1, length-append old found.0)),
       path-form-is-reference g.K.Kind.kind c.args.prefers_relative b t

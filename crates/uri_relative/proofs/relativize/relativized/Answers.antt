@@ -42,8 +42,8 @@ returns g c =
           (core_text c.core-2.result) made base target reference g.met.K.BaseKind.needs_scheme
           c.core.result.of_kind c.core-2.result.of_kind of_base of_target of_made leads;
       short = λ not. reference-is-no-longer-than-target kind prefers
-          (components (core_text c.core.result)) (core_text c.core-2.result) made target reference not
-          of_target of_made leads;
+          (components (core_text c.core.result)) (core_text c.core-2.result) made target reference
+          not of_target of_made leads;
       shortest = λ not. reference-is-shortest kind prefers (core_text c.core.result)
           (core_text c.core-2.result) made base target reference g.met.K.BaseKind.needs_scheme
           c.core.result.of_kind c.core-2.result.of_kind of_base of_target of_made not leads;

@@ -19,8 +19,8 @@ pub returns-clause-places : goal.returns-clause-places
 returns-clause-places c =
     let r = components_of c.args.reference.now in
     c.packed_positions.ensures
-    ∙ sym (ap (λ p. packed (positions_of p)) (copied_target (components_of c.args.base.now) r c.requires.scheme
-    c.requires.rootless))
+    ∙ sym (ap (λ p. packed (positions_of p)) (copied_target (components_of c.args.base.now) r
+    c.requires.scheme c.requires.rootless))
 
 pub returns-clause-taken : goal.returns-clause-taken
 returns-clause-taken c = copied_taken (components_of c.args.base.now)

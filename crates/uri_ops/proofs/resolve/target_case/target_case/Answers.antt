@@ -12,14 +12,12 @@ use Rattle.uri_ops.proofs.Targeting.TargetCases.{case-gives-line}
 use Rattle.uri_ops.proofs.resolve.target_case.target_case.Goals as goal
 
 pub returns-then-has_scheme-clause-case : goal.returns-then-has_scheme-clause-case
-returns-then-has_scheme-clause-case c = (
-    sym c.has_scheme.ensures ∙ c.if-has_scheme.true
-    )
+returns-then-has_scheme-clause-case c = sym c.has_scheme.ensures ∙ c.if-has_scheme.true
 
 pub returns-then-has_scheme-clause-line : goal.returns-then-has_scheme-clause-line
-returns-then-has_scheme-clause-line c = λ base. case-gives-line WithScheme base (components_of c.args.reference.now) (
-    sym c.has_scheme.ensures ∙ c.if-has_scheme.true
-    )
+returns-then-has_scheme-clause-line c = λ base.
+    case-gives-line WithScheme base (components_of c.args.reference.now)
+    (returns-then-has_scheme-clause-case c)
 
 pub returns-then-has_authority-clause-case : goal.returns-then-has_authority-clause-case
 returns-then-has_authority-clause-case c = (
@@ -28,10 +26,9 @@ returns-then-has_authority-clause-case c = (
 )
 
 pub returns-then-has_authority-clause-line : goal.returns-then-has_authority-clause-line
-returns-then-has_authority-clause-line c = λ base. case-gives-line WithAuthority base (components_of c.args.reference.now) (
-  (sym c.has_scheme.ensures ∙ c.if-has_scheme.false),
-  (sym c.has_authority.ensures ∙ c.if-has_authority.true),
-)
+returns-then-has_authority-clause-line c = λ base.
+    case-gives-line WithAuthority base (components_of c.args.reference.now)
+    (returns-then-has_authority-clause-case c)
 
 pub returns-then-is_empty-clause-case : goal.returns-then-is_empty-clause-case
 returns-then-is_empty-clause-case c = (
@@ -44,14 +41,9 @@ returns-then-is_empty-clause-case c = (
 )
 
 pub returns-then-is_empty-clause-line : goal.returns-then-is_empty-clause-line
-returns-then-is_empty-clause-line c = λ base. case-gives-line EmptyPath base (components_of c.args.reference.now) (
-  record {
-    scheme = sym c.has_scheme.ensures ∙ c.if-has_scheme.false;
-    authority = sym c.has_authority.ensures ∙ c.if-has_authority.false;
-  },
-  sym (ap is_empty c.path-path.ensures) ∙ sym (zero-length-is-empty c.path-path.result.now)
-      ∙ sym c.is_empty.ensures ∙ c.if-is_empty.true,
-)
+returns-then-is_empty-clause-line c = λ base.
+    case-gives-line EmptyPath base (components_of c.args.reference.now)
+    (returns-then-is_empty-clause-case c)
 
 pub returns-then-begins_with_slash-clause-case : goal.returns-then-begins_with_slash-clause-case
 returns-then-begins_with_slash-clause-case c = (
@@ -66,16 +58,9 @@ returns-then-begins_with_slash-clause-case c = (
 )
 
 pub returns-then-begins_with_slash-clause-line : goal.returns-then-begins_with_slash-clause-line
-returns-then-begins_with_slash-clause-line c = λ base. case-gives-line AbsolutePath base (components_of c.args.reference.now) (
-  record {
-    scheme = sym c.has_scheme.ensures ∙ c.if-has_scheme.false;
-    authority = sym c.has_authority.ensures ∙ c.if-has_authority.false;
-  },
-  sym (ap is_empty c.path-path.ensures) ∙ sym (zero-length-is-empty c.path-path.result.now)
-      ∙ sym c.is_empty.ensures ∙ c.if-is_empty.false,
-  ap (starts 47) (sym (c.as_bytes.ensures.value ∙ c.path-path.ensures))
-      ∙ sym c.begins_with_slash.ensures ∙ c.if-begins_with_slash.true,
-)
+returns-then-begins_with_slash-clause-line c = λ base.
+    case-gives-line AbsolutePath base (components_of c.args.reference.now)
+    (returns-then-begins_with_slash-clause-case c)
 
 pub returns-clause-case : goal.returns-clause-case
 returns-clause-case c = (
@@ -90,13 +75,6 @@ returns-clause-case c = (
 )
 
 pub returns-clause-line : goal.returns-clause-line
-returns-clause-line c = λ base. case-gives-line MergedPath base (components_of c.args.reference.now) (
-  record {
-    scheme = sym c.has_scheme.ensures ∙ c.if-has_scheme.false;
-    authority = sym c.has_authority.ensures ∙ c.if-has_authority.false;
-  },
-  sym (ap is_empty c.path-path.ensures) ∙ sym (zero-length-is-empty c.path-path.result.now)
-      ∙ sym c.is_empty.ensures ∙ c.if-is_empty.false,
-  ap (starts 47) (sym (c.as_bytes.ensures.value ∙ c.path-path.ensures))
-      ∙ sym c.begins_with_slash.ensures ∙ c.if-begins_with_slash.false,
-)
+returns-clause-line c = λ base.
+    case-gives-line MergedPath base (components_of c.args.reference.now)
+    (returns-clause-case c)

@@ -7,19 +7,22 @@ use Rattle.uri_ops.proofs.resolve.text_view.TextView.through_slash.Goals as goal
 
 pub range-requires-clause-end_boundary : goal.range-requires-clause-end_boundary
 range-requires-clause-end_boundary c =
-    subst (λ t. IsCharBoundary t (c.unpack-positions.result.path_start + c.args.slash + 1))
-    (sym c.as_str-text.ensures.text)
-    (through_slash c.args.self.now.text.now c.unpack-positions.result
-    (subst IsUtf8 c.as_str-text.ensures.text c.as_str-text.utf8) (subst (λ t. ArePositionsOf t c.unpack-positions.result)
-    c.as_str-text.ensures.text c.unpack-positions.ensures) c.args.slash
-    c.requires.absolute c.requires.place).0
+    let text = c.args.self.now.text.now in
+    let p = c.unpack-positions.result in
+    let same = c.as_str-text.ensures.text in
+    let at : ArePositionsOf text p = subst (λ t. ArePositionsOf t p) same c.unpack-positions.ensures in
+    subst (λ t. IsCharBoundary t (p.path_start + c.args.slash + 1)) (sym same)
+    (through_slash text p (subst IsUtf8 same c.as_str-text.utf8) at c.args.slash c.requires.absolute
+    c.requires.place).0
 
 pub returns : goal.returns
 returns c =
-    c.range.ensures.value ∙ slice_range-from-start c.as_str-text.result.now
-    (c.unpack-positions.result.path_start + c.args.slash + 1)
-    ∙ ap (take (c.unpack-positions.result.path_start + c.args.slash + 1)) c.as_str-text.ensures.text
-    ∙ (through_slash c.args.self.now.text.now c.unpack-positions.result
-    (subst IsUtf8 c.as_str-text.ensures.text c.as_str-text.utf8) (subst (λ t. ArePositionsOf t c.unpack-positions.result)
-    c.as_str-text.ensures.text c.unpack-positions.ensures) c.args.slash
+    let text = c.args.self.now.text.now in
+    let p = c.unpack-positions.result in
+    let end = p.path_start + c.args.slash + 1 in
+    let same = c.as_str-text.ensures.text in
+    let at : ArePositionsOf text p = subst (λ t. ArePositionsOf t p) same c.unpack-positions.ensures in
+    c.range.ensures.value ∙ slice_range-from-start c.as_str-text.result.now end
+    ∙ ap (take end) same
+    ∙ (through_slash text p (subst IsUtf8 same c.as_str-text.utf8) at c.args.slash
     c.requires.absolute c.requires.place).1
