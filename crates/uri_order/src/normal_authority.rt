@@ -1,12 +1,10 @@
 //! The authority of a normal text, read from its end (RFC 3986, sections 6.2.2 and 6.2.3; RFC 3987,
 //! section 5.3.2).
-ghost use Rattle.std.specs.Prelude.{◌≡◌, ◌==◌, ◌≤◌, [], codes, false, option_map, take, true};
-ghost use Rattle.std.specs.Option.{option_map_or};
-ghost use Rattle.uri_pct.specs.Delimiters.{left_bracket};
+ghost use Rattle.std.specs.Prelude.{◌≡◌, ◌≤◌, [], codes, option_map, take, true};
 ghost use Rattle.uri_pct.specs.EncodedTexts.{text_of};
 ghost use Rattle.uri_parts.specs.Authority.{authority_parts};
 ghost use Rattle.uri_parts.specs.AuthorityTexts.{authority_text};
-ghost use Rattle.uri_parts.specs.Components.{marked, starts};
+ghost use Rattle.uri_parts.specs.Components.{marked};
 ghost use Rattle.uri_parts.specs.Grammar.{Kind};
 ghost use Rattle.uri_parts.specs.Hosts.{host_kind};
 ghost use Rattle.uri_parts.specs.Schemes.{scheme_text};
@@ -20,6 +18,7 @@ use crate::literal_back::LiteralBack;
 use crate::octets_back::OctetsBack;
 use crate::read_back::{Joined, ReadBack, join};
 use uri_ops::default_port::DefaultPort;
+use uri_ops::normalize::normal_authority::{is_bracketed, port_unless_default};
 use uri_parts::component::{Authority, HostOf, Scheme};
 use uri_pct::encoder::Encoder;
 use uri_pct::pct_enc::EStr;
@@ -61,13 +60,6 @@ pub(crate) fn part_back<'a, E: Encoder>(
             LiteralBack::copied(b""),
         ),
     }
-}
-
-/// Returns whether a host is in brackets.
-fn is_bracketed(host: &str) -> bool
-    ensures { result ≡ starts left_bracket host.now }
-{
-    matches!(host.as_bytes(), [b'[', ..])
 }
 
 /// Returns the normal text of an authority's host in an array, and where it ends, if it is an IPv6
@@ -121,55 +113,6 @@ fn host_back<'a, U: Encoder, R: Encoder>(
     )
 }
 
-/// Returns whether a normal authority leaves out a port of this number: there is a default port,
-/// and it is this number.
-fn is_default_number(default: Option<u16>, number: u16) -> bool
-    ensures { result ≡ option_map_or (λ port. number == port) default false }
-{
-    match default {
-        Some(port) => number == port,
-        None => false,
-    }
-}
-
-/// Returns the port's digits in a normal authority, unless there are none or they write the
-/// default. A port over 65535 is no default.
-fn port_unless_default<'a, U: Encoder, R: Encoder>(
-    authority: Authority<'a, U, R>,
-    default: Option<u16>,
-) -> Option<&'a str>
-    ensures { let p = authority_parts (authority_text authority.entry) in
-        option_map (λ digits. digits.now) result ≡ port_meaning default p.port }
-{
-    let port = authority.port()?;
-    if default.is_none() && !port.is_empty() {
-        return Some(port.as_str());
-    }
-    match authority.port_to_u16() {
-        Ok(None) => None,
-        Ok(Some(number)) if is_default_number(default, number) => None,
-        _ => Some(port.as_str()),
-    }
-}
-
-/// Returns the default port of the scheme, which a normal authority leaves out. It calls `ports`
-/// only if there is a port that isn't empty.
-fn default_for_port<U: Encoder, R: Encoder, P: DefaultPort>(
-    authority: Authority<'_, U, R>,
-    scheme: Option<Scheme<'_>>,
-    ports: &P,
-) -> Option<u16>
-    ensures { let port = (authority_parts (authority_text authority.entry)).port in
-        port_meaning result port
-        ≡ port_meaning (default_port_of (P.port_of ports.now) (option_map scheme_text scheme.entry))
-        port }
-{
-    if authority.port()?.is_empty() {
-        return None;
-    }
-    ports.default_port(scheme?)
-}
-
 /// Returns the port with its `:`, or nothing if it is absent, empty or the scheme's default.
 fn port_back<'a, U: Encoder, R: Encoder, P: DefaultPort>(
     authority: Authority<'a, U, R>,
@@ -181,8 +124,7 @@ fn port_back<'a, U: Encoder, R: Encoder, P: DefaultPort>(
         ⟦<Joined<LiteralBack<'a>, LiteralBack<'a>> as ReadBack>⟧.unread result
         ≡ marked (codes ":") (port_meaning default p.port) [] }
 {
-    let default = default_for_port(authority, scheme, ports);
-    match port_unless_default(authority, default) {
+    match port_unless_default(authority, scheme, ports) {
         Some(digits) => join(
             LiteralBack::copied(b":"),
             LiteralBack::copied(digits.as_bytes()),

@@ -126,7 +126,8 @@ fn push_host<U: Encoder, R: Encoder>(
 }
 
 /// Returns whether a host is in brackets, so that normalising decodes nothing in it.
-pub(crate) fn is_bracketed(host: &str) -> bool
+#[doc(hidden)]
+pub fn is_bracketed(host: &str) -> bool
     ensures { result ≡ starts left_bracket host.now }
 {
     matches!(host.as_bytes(), [b'[', ..])
@@ -153,8 +154,7 @@ fn push_port<U: Encoder, R: Encoder, P: DefaultPort>(
 
 /// Returns whether a normal authority has the port that this one has, if it has one: the port is
 /// neither empty nor the scheme's default.
-#[doc(hidden)]
-pub fn is_port_unchanged<U: Encoder, R: Encoder, P: DefaultPort>(
+pub(crate) fn is_port_unchanged<U: Encoder, R: Encoder, P: DefaultPort>(
     authority: Option<Authority<'_, U, R>>,
     scheme: Option<Scheme<'_>>,
     ports: &P,

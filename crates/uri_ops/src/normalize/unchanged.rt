@@ -205,9 +205,8 @@ fn begins_with_dot_segments(has_scheme: bool, path: &str) -> bool {
 
 /// Returns `true` only if the normal text of a value is its own, under any default ports that keep
 /// its port.
-#[doc(hidden)]
 #[inline(always)]
-pub fn is_unchanged_but_for_port<K: Kind>(core: Core<K, &str>) -> bool
+pub(crate) fn is_unchanged_but_for_port<K: Kind>(core: Core<K, &str>) -> bool
     requires { HasComponentSets K.kind }
     ensures text { let p = components (core_text core.entry) in
         result ≡ true → (ports : PortFunction)
