@@ -23,7 +23,7 @@ use Rattle.uri_ops.proofs.Targeting.Swaps.{resolving-respects-meaning}
 use Rattle.uri_ops.specs.declared.resolve.error.ResolveError.TheVariants as Of
 
 -- resolving: an underflow that is allowed is no error
-allowed-underflow-is-no-error : (base r : Components) (error : ResolveError)
+pub allowed-underflow-is-no-error : (base r : Components) (error : ResolveError)
     → IsErrorFor true base r error → IsErrorWithUnderflowAllowed base r error
 allowed-underflow-is-no-error base r Of.BaseWithFragment h = h
 allowed-underflow-is-no-error base r Of.InvalidReferenceAgainstOpaqueBase h = h
