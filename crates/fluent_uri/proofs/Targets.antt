@@ -10,8 +10,8 @@ use Rattle.uri_ops.specs.declared.resolve.error.ResolveError.{ResolveError}
 use Rattle.uri_ops.proofs.Targeting.NormalTargets.{allowed-underflow-is-no-error}
 use Rattle.fluent_uri.specs.Targets.{target_of_texts}
 
--- targets for callers: a returned text is what a reference resolves to, also by an equal text; so it
--- is the target
+-- targets for callers: a returned text is what a reference resolves to, also by an equal text; so
+-- it is the target
 module _ {A E : Type 0} (base reference : List ℕ) (text_of : A → List ℕ) where
   pub target_is_resolution : (result : Result A E)
       → IfOk result (λ target.

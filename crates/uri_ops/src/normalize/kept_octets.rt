@@ -112,7 +112,7 @@ const SECOND_DIGITS: &[u8; 256] = &[
     0, 0, 0, 0, 0, 0, 0, 0, 0, 0, 0, 0, 0, 0, 0, 0, // F0
 ];
 
-/// Returns the classes of the first digits of octets that may stay: octets past ASCII may only if no
+/// Returns the classes of the first digits of octets that may stay. Octets past ASCII may only if no
 /// component may have characters past ASCII (`alone`).
 #[inline(always)]
 fn kept_classes(alone: bool) -> u8

@@ -88,7 +88,7 @@ fn push_userinfo<U: Encoder, R: Encoder>(
 /// Appends the normal form of a host in brackets: an IPv6 address is written by its numbers (RFC
 /// 5952), and another one gets ASCII letters in lower case.
 ///
-/// It is a function of its own, since a function clears the room for a parsed host when it is called.
+/// It is a function of its own, since a function clears the room for a parsed host at its call.
 #[inline(always)]
 fn push_bracketed_host<U: Encoder, R: Encoder>(
     authority: Authority<'_, U, R>,

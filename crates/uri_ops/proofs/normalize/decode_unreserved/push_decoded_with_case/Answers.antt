@@ -35,7 +35,8 @@ formatting-completes-decoding lowers set text valid = ⊎_elim
     (cases_Bool (set.ucschar && set.pct_encoded))
 
 -- decoding: ASCII has no formatting characters
-formatting-leaves-ascii : (set : TableSet) (text : List ℕ) → IsAscii text → formatted set text ≡ text
+formatting-leaves-ascii : (set : TableSet) (text : List ℕ) → IsAscii text
+    → formatted set text ≡ text
 formatting-leaves-ascii set text ascii =
     let utf8 = IsUtf8-from_ascii text ascii in
     ⊎_elim

@@ -60,7 +60,8 @@ returns c = λ e.
     let low = c.args.low in
     let k = c.kept_classes.result in
     digits-that-pass-stay c.args.alone high low (omega arith) (omega arith)
-    (ap (λ n. not (eqb (bit_and (bit_and (first high) (second low)) n) 0)) (sym c.kept_classes.ensures)
+    (ap (λ n. not (eqb (bit_and (bit_and (first high) (second low)) n) 0))
+    (sym c.kept_classes.ensures)
     ∙ ap (λ n. not (eqb (bit_and (bit_and (first n) (second low)) k) 0)) (sym c.from.ensures)
     ∙ ap (λ n. not (eqb (bit_and (bit_and (first c.from.result) (second n)) k) 0))
     (sym c.from-2.ensures) ∙ e)

@@ -269,7 +269,8 @@ zeros-are-longest_zero_run (s ∷ head) n tail h t k =
     let run = zero_run-of-positive s (head ++ (replicate n 0 ++ tail)) h.0 in
     rw (later, run, lt-leb n 0 k, add-one) refl
 
--- normal addresses: with `::` for two zeros or more, after a number above 0, an address is printed so
+-- normal addresses: with `::` for two zeros or more, after a number above 0, an address is printed
+-- so
 elided-text-is-printed : (s : ℕ) (head tail : List ℕ) (n : ℕ) → AllPositive (s ∷ head)
     → AllPositive tail → 1 < n
     → ipv6_text ((s ∷ head) ++ replicate n 0 ++ tail)
@@ -338,7 +339,8 @@ usual-text-is-printed : (text segments : List ℕ) → usual 91 text ≡ true �
 usual-text-is-printed text segments u few (inl h) =
     let groups = usual-groups-are-normal true 91 text segments refl u h.0 in
     absurd (omega (arith, few, groups.count, h.1))
-usual-text-is-printed text segments u few (inr h) = usual-elided-text-is-printed text segments u few h
+usual-text-is-printed text segments u few (inr h) =
+    usual-elided-text-is-printed text segments u few h
 
 -- normal addresses: a usual text has no letter in upper case
 usual-text-is-lower : (p : ℕ) (text : List ℕ) → usual p text ≡ true

@@ -10,7 +10,8 @@ range-requires-clause-end_boundary c =
     let text = c.args.self.now.text.now in
     let p = c.unpack-positions.result in
     let same = c.as_str-text.ensures.text in
-    let at : ArePositionsOf text p = subst (λ t. ArePositionsOf t p) same c.unpack-positions.ensures in
+    let at : ArePositionsOf text p =
+    subst (λ t. ArePositionsOf t p) same c.unpack-positions.ensures in
     subst (λ t. IsCharBoundary t (p.path_start + c.args.slash + 1)) (sym same)
     (through_slash text p (subst IsUtf8 same c.as_str-text.utf8) at c.args.slash c.requires.absolute
     c.requires.place).0
@@ -21,7 +22,8 @@ returns c =
     let p = c.unpack-positions.result in
     let end = p.path_start + c.args.slash + 1 in
     let same = c.as_str-text.ensures.text in
-    let at : ArePositionsOf text p = subst (λ t. ArePositionsOf t p) same c.unpack-positions.ensures in
+    let at : ArePositionsOf text p =
+    subst (λ t. ArePositionsOf t p) same c.unpack-positions.ensures in
     c.range.ensures.value ∙ slice_range-from-start c.as_str-text.result.now end
     ∙ ap (take end) same
     ∙ (through_slash text p (subst IsUtf8 same c.as_str-text.utf8) at c.args.slash
