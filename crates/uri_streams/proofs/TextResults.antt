@@ -4,14 +4,19 @@ use Rattle.std.proofs.Common.{refl, ap, sym, ◌∙◌}
 use Rattle.fluent_uri.specs.Components.{components}
 use Rattle.fluent_uri.specs.Grammar.{Kind, IsOfKind, is_of_kind}
 use Rattle.fluent_uri.specs.Refusals.{refusal}
+use Rattle.fluent_uri.specs.Normal.{normal_text}
 use Rattle.fluent_uri.specs.declared.ParseError.{ParseError}
 use Rattle.fluent_uri.specs.Resolving.{IsErrorWithUnderflowAllowed}
 use Rattle.fluent_uri.specs.Target.{resolution_of_texts}
 use Rattle.fluent_uri.specs.declared.resolve.ResolveError.{ResolveError}
 use Rattle.fluent_uri.specs.declared.resolve.ResolveError.TheVariants as errors
 use Rattle.std.specs.Prelude.{◌↔◌, IfOk, if◌then◌else◌, unwrap_or, option_map}
+use Rattle.uri_commands.specs.Kinds.{normal_form_of}
 use Rattle.uri_commands.specs.Messages.{error_text, resolve_error_text}
 use Rattle.uri_commands.specs.declared.refusal.CommandError.TheVariants.{Target}
+use Rattle.uri_ops.specs.Normalizers.{HasNormalText}
+use Rattle.uri_parts.specs.SchemePorts.{default_port}
+use Rattle.uri_rules.proofs.RuledMeanings.{meaning-under-ports-alone}
 use Rattle.uri_streams.specs.Results.{LineResult, Text, Error, parse_message}
 use Rattle.uri_streams.specs.Results.{parsed_result, resolution_result, target_result}
 use Rattle.uri_streams.specs.Returned.{result_in}
@@ -44,6 +49,14 @@ parsed_result-of-error subject kind text line_result e accepts is =
     ap (λ m. Error (subject ++ m)) (error_text-is-parse_message kind text e is)
     ∙ sym (ap (λ b. if b then line_result else Error (subject ++ parse_message kind text))
     (not-true-is-false (is_of_kind kind text) (λ of_kind. cc (accepts.1 of_kind))))
+
+-- lines: a text that is its own normal text under default ports is its own normal form without the
+-- rules of schemes
+pub unchanged-is-normal_form : (kind : Kind) (text : List ℕ)
+    → HasNormalText kind default_port text text → text ≡ normal_form_of false kind text
+unfolding normal_form_of
+unchanged-is-normal_form kind text is =
+    is.text ∙ ap normal_text (sym (meaning-under-ports-alone kind default_port text))
 
 -- lines: what `urilines resolve` writes of a target is its text
 pub target_result-of-target : (base reference target : List ℕ) → resolution_of_texts base reference

@@ -41,6 +41,7 @@ cut_in cut = record {
 -- the result of a line as contracts name it, with bytes and messages, for one that a call returned
 abbrev pub result_in : Returned → LineResult
 result_in (returned.Text text) = Text (string_bytes text)
+result_in (returned.Borrowed text) = Text text.now
 result_in returned.Unchanged = Unchanged
 result_in returned.NoLine = NoLine
 result_in (returned.Error fault) = Error (line_error_message fault)
@@ -50,8 +51,9 @@ result_in (returned.Error fault) = Error (line_error_message fault)
 abbrev pub IsResult : Command → LineResult × Known → Returned → Task → Type 0
 IsResult command next returned task = (result_in returned ≡ next.0) × Remembers task command next.1
 
--- the result of a line that a call returned is a text of its own, or an error
-abbrev pub IsOwned : Returned → Type 0
-IsOwned (returned.Text text) = Unit {0}
-IsOwned (returned.Error fault) = Unit {0}
-IsOwned other = ⊥
+-- the result of a line that a call returned is a text, or an error
+abbrev pub IsTextOrError : Returned → Type 0
+IsTextOrError (returned.Text text) = Unit {0}
+IsTextOrError (returned.Borrowed text) = Unit {0}
+IsTextOrError (returned.Error fault) = Unit {0}
+IsTextOrError other = ⊥

@@ -23,7 +23,11 @@ use uri_mend::trim_link;
 /// # Errors
 ///
 /// Only if allocation fails.
-pub(crate) fn mend(alloc: Global, kind: KindName, text: &str) -> Result<LineResult, AllocError>
+pub(crate) fn mend(
+    alloc: Global,
+    kind: KindName,
+    text: &str,
+) -> Result<LineResult<'static>, AllocError>
     ensures { IfOk result (λ line. result_in line ≡ mend_result (kind_named kind) text.now) }
 {
     match mended(alloc, kind, text) {
@@ -38,7 +42,7 @@ pub(crate) fn mend(alloc: Global, kind: KindName, text: &str) -> Result<LineResu
 /// # Errors
 ///
 /// Exactly if the error is that allocation failed.
-fn mend_error_result(error: CommandError) -> Result<LineResult, AllocError>
+fn mend_error_result(error: CommandError) -> Result<LineResult<'static>, AllocError>
     ensures output { IfOk result (λ line_result.
         line_result ≡ LineResult.Error (LineError.Refused error)) }
     ensures some { IfOk result (λ _. error ≢ CommandError.OutOfMemory) }

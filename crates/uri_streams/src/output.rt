@@ -130,28 +130,35 @@ struct Around<'a> {
 #[inline(always)]
 fn write_result<W: Write, E: Write>(
     step: Step<'_>,
-    line_result: LineResult,
+    line_result: LineResult<'_>,
     around: Around<'_>,
     writer: &mut Sink<W>,
     err: &mut Sink<E>,
 ) -> Result<StepResult, Cause>
     ensures whole { IfOk result (WritesResult step.entry.job.now.errors (step.entry.before + 1)
-        around.entry.line.now around.entry.before.now (result_in line_result)
+        around.entry.line.now around.entry.before.now (result_in line_result.entry)
         (around.entry.after.now ++ around.entry.end.now)
         (W.contents writer.old.writer) (W.contents writer.new.writer)
         (error_output_of E.contents err.old) (error_output_of E.contents err.new)) }
     ensures prefix { AppendsPrefix (W.contents writer.old.writer)
         (W.contents writer.new.writer) (result_output step.entry.job.now.errors
-        around.entry.line.now around.entry.before.now (result_in line_result)
+        around.entry.line.now around.entry.before.now (result_in line_result.entry)
         (around.entry.after.now ++ around.entry.end.now)) }
     ensures reports { ReportsPrefix (error_output_of E.contents err.old)
         (error_output_of E.contents err.new)
         (result_report step.entry.job.now.errors (step.entry.before + 1)
-        (result_in line_result)) }
+        (result_in line_result.entry)) }
     ensures failures { FailsInWriting result writer.old writer.new }
 {
     match line_result {
         LineResult::Text(text) => {
+            if put_around(writer, text.as_bytes(), around) {
+                Ok(StepResult::of_line(false, step.job.errors))
+            } else {
+                Err(Cause::Output)
+            }
+        }
+        LineResult::Borrowed(text) => {
             if put_around(writer, text.as_bytes(), around) {
                 Ok(StepResult::of_line(false, step.job.errors))
             } else {

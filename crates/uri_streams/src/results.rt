@@ -1,11 +1,12 @@
 //! The result of the text of a line, whatever the other lines are.
 ghost use Rattle.std.specs.Prelude.{◌≡◌, IfOk};
 ghost use Rattle.fluent_uri.specs.Grammar as test;
-ghost use Rattle.uri_commands.specs.Kinds.{kind_named};
+ghost use Rattle.fluent_uri.specs.References.{reference_text};
+ghost use Rattle.uri_commands.specs.Kinds.{kind_named, normal_form_of};
 ghost use Rattle.uri_streams.specs.Results as results;
-ghost use Rattle.uri_streams.specs.Results.{check_result, normalize_result};
+ghost use Rattle.uri_streams.specs.Results.{Text, check_result, normalize_result};
 ghost use Rattle.uri_streams.specs.Results.{parse_result, passes_check, query_result};
-ghost use Rattle.uri_streams.specs.Returned.{IsOwned, result_in};
+ghost use Rattle.uri_streams.specs.Returned.{IsTextOrError, result_in};
 
 use crate::command::LineCommand;
 use crate::json::json;
@@ -13,11 +14,12 @@ use crate::line_result::{LineResult, refused};
 use crate::mending::mend;
 use crate::queries::query_json;
 use crate::targets::{relativize, resolve};
-use fluent_uri::Reference;
 use fluent_uri::kind::{IriKind, IriRefKind, Kind, UriKind, UriRefKind};
+use fluent_uri::{Reference, RiMaybeRef};
 use std::alloc::{AllocError, Global};
 use uri_commands::kinds::{KindName, parse_as_iri_ref};
 use uri_commands::refusal::CommandError;
+use uri_ops::normalize::unchanged::is_unchanged;
 use uri_setting::RuleSetting;
 
 /// Returns the result of a text under a command that remembers nothing of earlier lines.
@@ -26,11 +28,11 @@ use uri_setting::RuleSetting;
 ///
 /// Only if allocation fails.
 #[inline(always)]
-pub(crate) fn command_result(
+pub(crate) fn command_result<'t>(
     alloc: Global,
     command: &LineCommand<'_>,
-    text: &str,
-) -> Result<LineResult, AllocError>
+    text: &'t str,
+) -> Result<LineResult<'t>, AllocError>
     ensures { IfOk result (λ line_result.
         result_in line_result ≡ results.command_result command.now text.now) }
 {
@@ -52,15 +54,15 @@ pub(crate) fn command_result(
 ///
 /// Only if allocation fails.
 #[inline(always)]
-pub(crate) fn normalize(
+pub(crate) fn normalize<'t>(
     alloc: Global,
     kind: KindName,
     scheme_rules: bool,
-    text: &str,
-) -> Result<LineResult, AllocError>
+    text: &'t str,
+) -> Result<LineResult<'t>, AllocError>
     ensures result { IfOk result (λ line_result.
         result_in line_result ≡ normalize_result scheme_rules (kind_named kind) text.now) }
-    ensures owned { IfOk result IsOwned }
+    ensures text { IfOk result IsTextOrError }
 {
     match kind {
         KindName::Uri => normal_form::<UriKind>(alloc, scheme_rules, text),
@@ -72,33 +74,49 @@ pub(crate) fn normalize(
 
 /// Returns the normal form of a text of the kind as the result of its line, or an error if it is
 /// not of the kind.
-fn normal_form<K: Kind>(
+fn normal_form<'t, K: Kind>(
     alloc: Global,
     scheme_rules: bool,
-    text: &str,
-) -> Result<LineResult, AllocError>
+    text: &'t str,
+) -> Result<LineResult<'t>, AllocError>
     ensures result { IfOk result (λ line_result.
         result_in line_result ≡ normalize_result scheme_rules K.kind text.now) }
-    ensures owned { IfOk result IsOwned }
+    ensures text { IfOk result IsTextOrError }
 {
     match Reference::<K, &str>::parse(text) {
-        Ok(value) => {
-            let setting = RuleSetting { scheme_rules };
-            Ok(LineResult::Text(setting.normalize(alloc, &value)?.into_string()))
-        }
+        Ok(value) => normal_form_of(alloc, scheme_rules, value),
         Err(error) => Ok(refused(CommandError::Text(error))),
     }
 }
 
+/// Returns the normal form of a value as the result of its line. Most texts are their own: if that
+/// is found by one scan, the text is borrowed.
+#[inline(always)]
+fn normal_form_of<'t, K: Kind>(
+    alloc: Global,
+    scheme_rules: bool,
+    value: Reference<K, &'t str>,
+) -> Result<LineResult<'t>, AllocError>
+    ensures result { IfOk result (λ line_result. result_in line_result
+        ≡ Text (normal_form_of scheme_rules K.kind (reference_text value.entry))) }
+    ensures text { IfOk result IsTextOrError }
+{
+    if !scheme_rules && is_unchanged(value.core()) {
+        return Ok(LineResult::Borrowed(value.into_core().as_str()));
+    }
+    let setting = RuleSetting { scheme_rules };
+    Ok(LineResult::Text(setting.normalize(alloc, &value)?.into_string()))
+}
+
 /// Returns the result of `urilines check` for a text: its line as it is, or no line.
-fn check(kind: KindName, is_inverted: bool, text: &str) -> LineResult
+fn check(kind: KindName, is_inverted: bool, text: &str) -> LineResult<'static>
     ensures { result_in result ≡ check_result (kind_named kind) is_inverted text.now }
 {
     passed_if(passes_check(kind, is_inverted, text))
 }
 
 /// Returns the result of `urilines check` for a line that passes, or does not.
-pub(crate) fn passed_if(passes: bool) -> LineResult
+pub(crate) fn passed_if(passes: bool) -> LineResult<'static>
     ensures { result_in result ≡ results.passed_if passes }
 {
     if passes {
@@ -139,7 +157,7 @@ fn is_of_kind<K: Kind>(text: &str) -> bool
 
 /// Returns the result of `urilines parse` for a text: its components as JSON, or an error if it is
 /// not of the kind.
-fn parse(alloc: Global, kind: KindName, text: &str) -> Result<LineResult, AllocError>
+fn parse(alloc: Global, kind: KindName, text: &str) -> Result<LineResult<'static>, AllocError>
     ensures { IfOk result (λ line. result_in line ≡ parse_result (kind_named kind) text.now) }
 {
     match parse_as_iri_ref(kind, text) {
@@ -150,7 +168,7 @@ fn parse(alloc: Global, kind: KindName, text: &str) -> Result<LineResult, AllocE
 
 /// Returns the result of `urilines query` for a text: the decoded pairs of its query as JSON, or an
 /// error if it is not of the kind.
-fn query(alloc: Global, kind: KindName, text: &str) -> Result<LineResult, AllocError>
+fn query(alloc: Global, kind: KindName, text: &str) -> Result<LineResult<'static>, AllocError>
     ensures { IfOk result (λ line_result.
         result_in line_result ≡ query_result (kind_named kind) text.now) }
 {

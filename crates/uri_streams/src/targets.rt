@@ -29,7 +29,7 @@ pub(crate) fn resolve(
     base: &Base<'_>,
     is_basic: bool,
     text: &str,
-) -> Result<LineResult, AllocError>
+) -> Result<LineResult<'static>, AllocError>
     ensures { IfOk result (λ line. result_in line
         ≡ resolve_result is_basic (reference_kind base.now) (base_text base.now) text.now) }
 {
@@ -45,7 +45,7 @@ fn resolve_text<K: RefKind>(
     base: &Reference<K::Base, &str>,
     is_basic: bool,
     text: &str,
-) -> Result<LineResult, AllocError>
+) -> Result<LineResult<'static>, AllocError>
     ensures { IfOk result (λ line. result_in line
         ≡ resolve_result is_basic K.kind (reference_text base.now) text.now) }
 {
@@ -62,7 +62,7 @@ fn resolve_reference<K: RefKind>(
     base: &Reference<K::Base, &str>,
     is_basic: bool,
     reference: &Reference<K, &str>,
-) -> Result<LineResult, AllocError>
+) -> Result<LineResult<'static>, AllocError>
     ensures { IfOk result (λ line. result_in line ≡ target_result_by is_basic
         (reference_text base.now) (reference_text reference.now)) }
 {
@@ -78,7 +78,7 @@ fn target<K: RefKind>(
     alloc: Global,
     base: &Reference<K::Base, &str>,
     reference: &Reference<K, &str>,
-) -> Result<LineResult, AllocError>
+) -> Result<LineResult<'static>, AllocError>
     ensures { IfOk result (λ line. result_in line
         ≡ target_result (reference_text base.now) (reference_text reference.now)) }
 {
@@ -94,7 +94,7 @@ fn basic_target<K: RefKind>(
     alloc: Global,
     base: &Reference<K::Base, &str>,
     reference: &Reference<K, &str>,
-) -> Result<LineResult, AllocError>
+) -> Result<LineResult<'static>, AllocError>
     ensures { IfOk result (λ line. result_in line
         ≡ basic_target_result (reference_text base.now) (reference_text reference.now)) }
 {
@@ -110,7 +110,7 @@ fn basic_target<K: RefKind>(
 /// # Errors
 ///
 /// Exactly if the error is that allocation failed.
-fn resolve_error_result(error: ResolveError) -> Result<LineResult, AllocError>
+fn resolve_error_result(error: ResolveError) -> Result<LineResult<'static>, AllocError>
     ensures output { IfOk result (λ line_result.
         line_result ≡ LineResult.Error (LineError.Refused (CommandError.Target error))) }
     ensures some { IfOk result (λ _. error ≢ ResolveError.OutOfMemory) }
@@ -128,7 +128,7 @@ fn resolve_error_result(error: ResolveError) -> Result<LineResult, AllocError>
 /// # Errors
 ///
 /// Exactly if the error is that allocation failed.
-fn basic_error_result(error: BasicResolveError) -> Result<LineResult, AllocError>
+fn basic_error_result(error: BasicResolveError) -> Result<LineResult<'static>, AllocError>
     ensures output { IfOk result (λ line_result.
         line_result ≡ LineResult.Error LineError.PathStartsWithDoubleSlash) }
     ensures some { IfOk result (λ _. error ≢ BasicResolveError.OutOfMemory) }
@@ -154,7 +154,7 @@ pub(crate) fn relativize(
     base: &Base<'_>,
     prefers: bool,
     text: &str,
-) -> Result<LineResult, AllocError>
+) -> Result<LineResult<'static>, AllocError>
     ensures { IfOk result (λ line. result_in line
         ≡ relativize_result prefers (target_kind base.now) (base_text base.now) text.now) }
 {
@@ -170,7 +170,7 @@ fn relativize_text<K: BaseKind>(
     base: &Reference<K, &str>,
     prefers: bool,
     text: &str,
-) -> Result<LineResult, AllocError>
+) -> Result<LineResult<'static>, AllocError>
     ensures { IfOk result (λ line. result_in line
         ≡ relativize_result prefers K.kind (reference_text base.now) text.now) }
 {
@@ -185,7 +185,7 @@ fn relativize_text<K: BaseKind>(
 }
 
 /// Returns the result of `urilines relativize` for a text that is not a target: its parse error.
-fn target_error_result(error: ParseError) -> LineResult
+fn target_error_result(error: ParseError) -> LineResult<'static>
     ensures { result ≡ LineResult.Error (LineError.Target error) }
 {
     LineResult::Error(LineError::Target(error))

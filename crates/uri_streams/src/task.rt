@@ -85,12 +85,12 @@ impl<'a> Task<'a> {
     /// # Errors
     ///
     /// Only if allocation fails.
-    pub(crate) fn result_for(
+    pub(crate) fn result_for<'t>(
         &mut self,
         alloc: Global,
         job: &Job<'_>,
-        text: Result<&[u8], NoText>,
-    ) -> Result<LineResult, AllocError>
+        text: Result<&'t [u8], NoText>,
+    ) -> Result<LineResult<'t>, AllocError>
         ensures { (known : List (List ℕ)) → Remembers self.old job.now.command known
             → IfOk result (λ line_result. IsResult job.now.command
             (cut_result job.now known (text_in text.entry)) line_result self.new) }
@@ -108,13 +108,13 @@ impl<'a> Task<'a> {
     ///
     /// Only if allocation fails.
     #[inline(always)]
-    pub(crate) fn bytes_result(
+    pub(crate) fn bytes_result<'t>(
         &mut self,
         alloc: Global,
         job: &Job<'_>,
-        bytes: &[u8],
+        bytes: &'t [u8],
         is_ascii: bool,
-    ) -> Result<LineResult, AllocError>
+    ) -> Result<LineResult<'t>, AllocError>
         requires { IsTrue is_ascii → IsAscii bytes.now }
         ensures { (known : List (List ℕ)) → Remembers self.old job.now.command known
             → IfOk result (λ line_result. IsResult job.now.command
@@ -137,7 +137,7 @@ impl<'a> Task<'a> {
     /// Returns the result of a line of which the command gets no text.
     #[cold]
     #[inline(never)]
-    fn no_text_result(&self, why: NoText) -> LineResult
+    fn no_text_result(&self, why: NoText) -> LineResult<'static>
         ensures { (command : Command) → (known : List (List ℕ)) → Remembers self.now command known
             → result_in result ≡ tasks.no_text_result command why }
     {
@@ -160,19 +160,23 @@ impl<'a> Task<'a> {
         alloc: Global,
         job: &Job<'_>,
         text: &str,
-    ) -> Result<LineResult, AllocError>
+    ) -> Result<LineResult<'static>, AllocError>
         ensures { (known : List (List ℕ)) → Remembers self.old job.now.command known
             → IfOk result (λ line_result. IsResult job.now.command
             (tasks.text_result job.now.command known
             (mended_link (tasks.text_kind job.now.command) text.now)) line_result self.new) }
     {
         let link = mended_or_trimmed(alloc, text_kind(&job.command), text)?;
-        self.text_result(alloc, link.as_str())
+        self.text_result(alloc, link.as_str())?.into_owned(alloc)
     }
 
     /// Returns the result of a text under the task's command, and remembers what later lines need.
     #[inline(always)]
-    fn text_result(&mut self, alloc: Global, text: &str) -> Result<LineResult, AllocError>
+    fn text_result<'t>(
+        &mut self,
+        alloc: Global,
+        text: &'t str,
+    ) -> Result<LineResult<'t>, AllocError>
         ensures { (command : Command) → (known : List (List ℕ)) → Remembers self.old command known
             → IfOk result (λ line_result.
             IsResult command (tasks.text_result command known text.now) line_result self.new) }
@@ -186,7 +190,7 @@ impl<'a> Task<'a> {
 }
 
 /// Returns the result of a line of which a command gets no text that remembers nothing.
-fn no_text_result(command: &LineCommand<'_>, why: NoText) -> LineResult
+fn no_text_result(command: &LineCommand<'_>, why: NoText) -> LineResult<'static>
     ensures { result_in result ≡ tasks.no_text_result (Command.Each command.now) why }
 {
     match command {
@@ -202,7 +206,7 @@ fn no_text_result(command: &LineCommand<'_>, why: NoText) -> LineResult
 
 /// Returns the result of `urilines check` for a line of which it gets no text. The line is not of
 /// the kind, so it passes if `is_inverted`; but one that is too long is not kept, and so an error.
-fn no_text_checked(is_inverted: bool, why: NoText) -> LineResult
+fn no_text_checked(is_inverted: bool, why: NoText) -> LineResult<'static>
     ensures { (kind : _) → result_in result
         ≡ tasks.no_text_result (Command.Each (LineCommand.Check kind is_inverted)) why }
 {
@@ -216,7 +220,7 @@ fn no_text_checked(is_inverted: bool, why: NoText) -> LineResult
 impl UniqueTask {
     /// Returns the result of `urilines unique` for a text: its normal form if that was not met
     /// before, no line if it was, or an error.
-    fn result_for(&mut self, alloc: Global, text: &str) -> Result<LineResult, AllocError>
+    fn result_for<'t>(&mut self, alloc: Global, text: &'t str) -> Result<LineResult<'t>, AllocError>
         ensures output { (known : List (List ℕ)) → HasMet self.old.met known
             → IfOk result (λ line_result. let next = unique_result self.old.scheme_rules
             (kind_named self.old.kind) known text.now in
@@ -226,6 +230,7 @@ impl UniqueTask {
     {
         match normalize(alloc, self.kind, self.scheme_rules, text)? {
             LineResult::Text(normal) => text_if_new(alloc, &mut self.met, normal),
+            LineResult::Borrowed(normal) => borrowed_if_new(alloc, &mut self.met, normal),
             LineResult::Error(fault) => Ok(LineResult::Error(fault)),
             LineResult::Unchanged => unreachable!(),
             LineResult::NoLine => unreachable!(),
@@ -236,7 +241,7 @@ impl UniqueTask {
 impl<'a> LinksTask<'a> {
     /// Returns the result of `urilines links` for a text: whether its target is new, the target's
     /// id and the target, or an error.
-    fn result_for(&mut self, alloc: Global, text: &str) -> Result<LineResult, AllocError>
+    fn result_for(&mut self, alloc: Global, text: &str) -> Result<LineResult<'static>, AllocError>
         ensures output { (by_rules : Bool) → target_rules self.old.register ≡ rules_set by_rules
             → IfOk result (λ line_result. (result_in line_result, texts_of self.new.register)
             ≡ link_result by_rules (uri_text self.old.base) (texts_of self.old.register) text.now) }
@@ -249,7 +254,11 @@ impl<'a> LinksTask<'a> {
 
 /// Returns a normal form as the result if it was not met before, and otherwise no line. Adds it to
 /// those that were met.
-fn text_if_new(alloc: Global, met: &mut MetTexts, normal: String) -> Result<LineResult, AllocError>
+fn text_if_new(
+    alloc: Global,
+    met: &mut MetTexts,
+    normal: String,
+) -> Result<LineResult<'static>, AllocError>
     ensures { (known : List (List ℕ)) → HasMet met.old known → IfOk result (λ line_result.
         (result_in line_result ≡ (tasks.text_if_new known (Text (string_bytes normal))).0)
         × HasMet met.new (tasks.text_if_new known (Text (string_bytes normal))).1) }
@@ -262,6 +271,24 @@ fn text_if_new(alloc: Global, met: &mut MetTexts, normal: String) -> Result<Line
     Ok(LineResult::Text(normal))
 }
 
+/// Returns a normal form that is borrowed as the result if it was not met before, and otherwise no
+/// line. Adds a copy of it to those that were met.
+fn borrowed_if_new<'t>(
+    alloc: Global,
+    met: &mut MetTexts,
+    normal: &'t str,
+) -> Result<LineResult<'t>, AllocError>
+    ensures { (known : List (List ℕ)) → HasMet met.old known → IfOk result (λ line_result.
+        (result_in line_result ≡ (tasks.text_if_new known (Text normal.now)).0)
+        × HasMet met.new (tasks.text_if_new known (Text normal.now)).1) }
+{
+    if met.contains(normal) {
+        return Ok(LineResult::NoLine);
+    }
+    met.note(String::from_str(alloc, normal)?)?;
+    Ok(LineResult::Borrowed(normal))
+}
+
 /// Parses a text as a reference, notes its target in the register, and returns the result of
 /// `urilines links` for it.
 fn link(
@@ -269,7 +296,7 @@ fn link(
     base: &Uri<&str>,
     register: &mut Register<RuleSetting>,
     text: &str,
-) -> Result<LineResult, AllocError>
+) -> Result<LineResult<'static>, AllocError>
     ensures output { (by_rules : Bool) → target_rules register.old ≡ rules_set by_rules
         → IfOk result (λ line_result. (result_in line_result, texts_of register.new)
         ≡ link_result by_rules (uri_text base.now) (texts_of register.old) text.now) }
@@ -288,7 +315,7 @@ fn note(
     base: &Uri<&str>,
     register: &mut Register<RuleSetting>,
     reference: &UriRef<&str>,
-) -> Result<LineResult, AllocError>
+) -> Result<LineResult<'static>, AllocError>
     ensures output { IfOk result (λ line_result. (result_in line_result, texts_of register.new)
         ≡ noted_result (outcome_of (target_rules register.old) (uri_text base.now)
         (texts_of register.old) (uri_ref_text reference.now))) }
@@ -303,7 +330,7 @@ fn outcome_result(
     alloc: Global,
     register: &Register<RuleSetting>,
     outcome: Outcome,
-) -> Result<LineResult, AllocError>
+) -> Result<LineResult<'static>, AllocError>
     ensures { IfOk result (λ line_result.
         result_in line_result ≡ tasks.outcome_result (outcome, texts_of register.now)) }
 {
@@ -321,7 +348,7 @@ fn link_line(
     word: &str,
     register: &Register<RuleSetting>,
     id: usize,
-) -> Result<LineResult, AllocError>
+) -> Result<LineResult<'static>, AllocError>
     ensures { IfOk result (λ line_result.
         result_in line_result ≡ Text (tasks.link_line word.now id (texts_of register.now))) }
 {

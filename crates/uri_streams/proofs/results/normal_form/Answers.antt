@@ -1,25 +1,21 @@
-use Rattle.std.proofs.Common.{[], ap, subst, ◌∙◌}
-use Rattle.fluent_uri.specs.References.{reference_text}
-use Rattle.uri_commands.proofs.NormalForms.{normal_form_is}
+use Rattle.std.proofs.Common.{ℕ, List, [], ap, ◌∙◌}
+use Rattle.std.proofs.lemmas.Result.{IfOk-weaker}
 use Rattle.uri_commands.specs.Kinds.{normal_form_of}
-use Rattle.uri_rules.specs.NormalForms.{IsNormalFormUnder}
-use Rattle.uri_setting.specs.Settings.{rules_set}
 use Rattle.uri_streams.proofs.TextResults.{parsed_result-of-error, parsed_result-of-kind}
-use Rattle.uri_streams.specs.Results.{Text, normalize_result}
+use Rattle.uri_streams.specs.Results.{LineResult, Text, normalize_result}
 use Rattle.uri_streams.specs.Returned.{result_in}
 use Rattle.uri_streams.proofs.results.normal_form.Goals as goal
 
-pub returns-in_ok-normalize-in-Ok-clause-result : goal.returns-in_ok-normalize-in-Ok-clause-result
+pub returns-in-Ok-clause-result : goal.returns-in-Ok-clause-result
 unfolding normalize_result
-returns-in_ok-normalize-in-Ok-clause-result g c =
-    let normal = reference_text c.in_ok-normalize-in-Ok.field-0 in
-    ap Text (c.into_string.ensures
-    ∙ normal_form_is c.args.scheme_rules g.K.Kind.kind c.args.text.now normal
-    (subst (λ text. IsNormalFormUnder g.K.Kind.kind (rules_set c.args.scheme_rules) text normal)
-    c.in-Ok.ensures.text c.in_ok-normalize-in-Ok.ensures))
-    ∙ parsed_result-of-kind [] g.K.Kind.kind c.args.text.now
-    (Text (normal_form_of c.args.scheme_rules g.K.Kind.kind c.args.text.now))
-    c.in-Ok.ensures.accepts
+returns-in-Ok-clause-result g c =
+    let form : List ℕ → LineResult =
+    λ t. Text (normal_form_of c.args.scheme_rules g.K.Kind.kind t) in
+    IfOk-weaker c.normal_form_of.result _ _
+    (λ line_result e. e ∙ ap form c.in-Ok.ensures.text
+    ∙ parsed_result-of-kind [] g.K.Kind.kind c.args.text.now (form c.args.text.now)
+    c.in-Ok.ensures.accepts)
+    c.normal_form_of.ensures.result
 
 pub returns-in-Err-clause-result : goal.returns-in-Err-clause-result
 unfolding normalize_result

@@ -15,6 +15,15 @@ returns-in-Text-clause-output c = λ known has.
     (sym (ap result_in c.in-Text.is) ∙ c.in_ok-normal.ensures.result))
     (c.text_if_new.ensures known has)
 
+pub returns-in-Borrowed-clause-output : goal.returns-in-Borrowed-clause-output
+returns-in-Borrowed-clause-output c = λ known has.
+    subst (λ (next : LineResult × Known). IfOk c.borrowed_if_new.result (λ line_result.
+    (result_in line_result ≡ next.0) × HasMet c.borrowed_if_new.new.met next.1))
+    (unique_result-of-normalize_result c.args.self.now.scheme_rules
+    (kind_named c.args.self.now.kind) known c.args.text.now _
+    (sym (ap result_in c.in-Borrowed.is) ∙ c.in_ok-normal.ensures.result))
+    (c.borrowed_if_new.ensures known has)
+
 pub returns-in-Error-clause-output : goal.returns-in-Error-clause-output
 returns-in-Error-clause-output c = λ known has.
     subst (λ (next : LineResult × Known). (Error (line_error_message c.in-Error.fault) ≡ next.0)
