@@ -70,16 +70,16 @@ module _ (kind other : Kind) (sets : HasComponentSets kind) (needs : kind.needs_
         target = target;
         error = error;
         encoded = IfOk-weaker result _ (λ t. IsTargetOfEncoded allowed base reference (text_of t))
-        (λ t. target-is-target-of-encoded allowed base reference (text_of t) u v) target;
+            (λ t. target-is-target-of-encoded allowed base reference (text_of t) u v) target;
         encoded_error = IfErr-weaker result _ (IsErrorForEncoded allowed base reference)
-        (λ x. error-is-error-for-encoded allowed base reference x u v) error;
+            (λ x. error-is-error-for-encoded allowed base reference x u v) error;
         alike = IfOk-weaker result _
-        (λ t. IsTargetOfMeanings kind other base reference (text_of t))
-        (λ t. target-respects-meaning kind other sets needs same allowed base reference
-        base-is-text-of-kind reference-is-text-of-kind (text_of t)) target;
+            (λ t. IsTargetOfMeanings kind other base reference (text_of t))
+            (λ t. target-respects-meaning kind other sets needs same allowed base reference
+            base-is-text-of-kind reference-is-text-of-kind (text_of t)) target;
         alike_error = IfErr-weaker result _ (IsErrorOfMeanings allowed kind other base reference)
-        (λ x. error-respects-meaning kind other sets needs same allowed base reference
-        base-is-text-of-kind reference-is-text-of-kind x) error;
+            (λ x. error-respects-meaning kind other sets needs same allowed base reference
+            base-is-text-of-kind reference-is-text-of-kind x) error;
       }
 
 -- resolving: another value with the same text is returned as well

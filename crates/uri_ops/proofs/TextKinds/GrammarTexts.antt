@@ -116,9 +116,10 @@ module _ (kind : Kind) (sets : HasComponentSets kind) where
 
   text-is-of-kind-if-in-grammar : (text : List ℕ) → IsUtf8 text
       → (IsOfKind kind text ↔ IsInGrammar kind text)
-  text-is-of-kind-if-in-grammar text u =
-      (λ h. (components text, text-of-kind-follows-rules text u h),
-      grammar-gives-text-of-kind text u)
+  text-is-of-kind-if-in-grammar text u = (
+    λ h. (components text, text-of-kind-follows-rules text u h),
+    grammar-gives-text-of-kind text u,
+  )
 
 -- grammar of the four kinds: URIs are exactly the texts of the grammar of RFC 3986
 pub uris-are-texts-of-grammar : (text : List ℕ) → IsUtf8 text
