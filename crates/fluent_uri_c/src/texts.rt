@@ -27,6 +27,7 @@ use uri_parts::core_text::Core;
 use uri_parts::kind::{IriKind, IriRefKind, Kind};
 use uri_parts::parse::parse;
 use uri_relative::Relativizer;
+use uri_relative::relative::RelativeKind;
 use uri_setting::RuleSetting;
 
 /// Returns whether bytes that C hands over are no more than `PTRDIFF_MAX`, so that they can be there.
@@ -194,7 +195,7 @@ pub fn normal_target_from<K: RefKind>(
 
 /// Returns a reference that leads from a base to a target, which is bytes. The last argument says
 /// whether it has a relative path even if the path from the root is shorter.
-pub fn reference_from<K: BaseKind>(
+pub fn reference_from<K: RelativeKind>(
     alloc: Global,
     base: &Reference<K, &str>,
     target: &[u8],
@@ -243,7 +244,7 @@ pub fn normal_target<K: RefKind>(
 }
 
 /// Returns a reference that leads from a base to a target, both as bytes, as `reference_from` does.
-pub fn reference<K: BaseKind>(
+pub fn reference<K: RelativeKind>(
     alloc: Global,
     base: &[u8],
     target: &[u8],

@@ -4,13 +4,14 @@ use crate::basic;
 use crate::fields::{RowError, Words};
 use crate::operation::Setting;
 use crate::references::{self, parsed};
-use fluent_uri::roles::{BaseKind, RefKind};
+use fluent_uri::roles::RefKind;
 use std::alloc::Global;
 use uri_relative::Relativizer;
+use uri_relative::relative::RelativeKind;
 
 /// Returns the reference that leads from a base to a target, where a relative path is preferred or
 /// not.
-fn reference<B: BaseKind>(
+fn reference<B: RelativeKind>(
     alloc: Global,
     prefers: bool,
     base: &str,
@@ -22,7 +23,7 @@ fn reference<B: BaseKind>(
 }
 
 /// Appends to a row's result the reference that leads from a base to a target.
-pub(crate) fn relativize<B: BaseKind>(
+pub(crate) fn relativize<B: RelativeKind>(
     alloc: Global,
     prefers: bool,
     base: &str,
@@ -34,7 +35,7 @@ pub(crate) fn relativize<B: BaseKind>(
 
 /// Appends to a row's result the reference that leads from a base to a target. If it does not lead
 /// back to it, `not back` follows; if it does not by the basic algorithm, `lost`.
-pub(crate) fn relativize_back<B: BaseKind, K: RefKind>(
+pub(crate) fn relativize_back<B: RelativeKind, K: RefKind>(
     alloc: Global,
     base: &str,
     target: &str,

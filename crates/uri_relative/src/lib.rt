@@ -7,7 +7,8 @@ mod paths;
 mod pieces;
 mod places;
 mod reference;
-mod relative;
+#[doc(hidden)]
+pub mod relative;
 pub mod relativize;
 
 pub use relativize::{Relativize, Relativizer};

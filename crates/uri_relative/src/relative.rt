@@ -24,7 +24,35 @@ use uri_ops::path::slashes::begins_with_slash;
 use uri_ops::resolve::target_text::target_with_scheme;
 use uri_ops::resolve::text_view::TextView;
 use uri_parts::core_text::Core;
+use uri_parts::kind::{IriKind, IriRefKind, Kind, UriKind, UriRefKind};
 use uri_parts::positions::Positions;
+
+/// A kind whose texts have a scheme. `Ref` is the kind of the references that are resolved against
+/// its texts.
+#[doc(hidden)]
+pub trait RelativeKind: BaseKind {
+    ghost use Rattle.std.specs.Prelude.{false};
+
+    type Ref: Kind;
+
+    ghost same_tables: { Self.Ref.kind ≡ record Self.kind { needs_scheme = false } };
+}
+
+impl RelativeKind for UriKind {
+    ghost use Rattle.std.specs.Prelude.{refl};
+
+    type Ref = UriRefKind;
+
+    ghost same_tables = { refl };
+}
+
+impl RelativeKind for IriKind {
+    ghost use Rattle.std.specs.Prelude.{refl};
+
+    type Ref = IriRefKind;
+
+    ghost same_tables = { refl };
+}
 
 /// The text of a reference, and the positions of its components.
 #[derive(Drop)]

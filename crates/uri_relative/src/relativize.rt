@@ -3,8 +3,7 @@ ghost use Rattle.std.specs.Prelude.{◌≡◌, IfOk, false};
 ghost use Rattle.fluent_uri.specs.References.{reference_text};
 ghost use Rattle.uri_relative.specs.Relativized.{IsRelativized};
 
-use crate::relative::relative;
-use fluent_uri::roles::BaseKind;
+use crate::relative::{RelativeKind, relative};
 use fluent_uri::{Reference, RiMaybeRef};
 use std::alloc::{AllocError, Global};
 use std::convert::AsStr;
@@ -13,7 +12,7 @@ use uri_parts::packed_positions::PackedPositions;
 
 /// Returns a reference that leads from the base to the target.
 #[inline(always)]
-fn relativized<K: BaseKind, B: AsStr, T: AsStr>(
+fn relativized<K: RelativeKind, B: AsStr, T: AsStr>(
     alloc: Global,
     base: &Reference<K, B>,
     target: &Reference<K, T>,
@@ -73,7 +72,7 @@ impl<R> Relativizer<R> {
     }
 }
 
-impl<K: BaseKind, B: AsStr> Relativizer<Reference<K, B>> {
+impl<K: RelativeKind, B: AsStr> Relativizer<Reference<K, B>> {
     ghost use Rattle.uri_relative.specs.Relativizers.{base_of, prefers_relative_path};
 
     /// Returns a reference that leads from the base to the target. Resolved against the base
@@ -105,7 +104,7 @@ impl<K: BaseKind, B: AsStr> Relativizer<Reference<K, B>> {
 /// It is implemented for `Uri` and `Iri` alone, over borrowed and owned text.
 ///
 /// With it, `base.relativize(alloc, &target)` may be called on a `Uri<&str>`.
-pub trait Relativize<K: BaseKind>: RiMaybeRef {
+pub trait Relativize<K: RelativeKind>: RiMaybeRef {
     /// Returns a reference that leads from this one to the target. If the base's path has no dot
     /// segment, none is shorter.
     ///
@@ -125,7 +124,7 @@ pub trait Relativize<K: BaseKind>: RiMaybeRef {
     ghost same_kind: { Self.RiMaybeRef.kind ≡ K.kind };
 }
 
-impl<K: BaseKind, B: AsStr> Relativize<K> for Reference<K, B> {
+impl<K: RelativeKind, B: AsStr> Relativize<K> for Reference<K, B> {
     ghost use Rattle.std.specs.Prelude.{refl};
 
     /// Returns a reference that leads from this one to the target.

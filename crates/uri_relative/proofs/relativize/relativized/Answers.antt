@@ -13,7 +13,7 @@ use Rattle.uri_relative.proofs.relativize.relativized.Goals as goal
 pub new-requires-clause-of_kind : goal.new-requires-clause-of_kind
 new-requires-clause-of_kind g c =
     subst (λ k. IsOfKind k (string_bytes c.in_ok-made.made.text))
-    (sym g.met.K.BaseKind.same_tables) c.in_ok-made.ensures.leads.meets
+    (sym g.met.K.RelativeKind.same_tables) c.in_ok-made.ensures.leads.meets
 
 pub new-requires-clause-at : goal.new-requires-clause-at
 new-requires-clause-at g c = c.of-positions.ensures ∙ ap packed c.in_ok-made.ensures.at
