@@ -6,10 +6,9 @@ use Rattle.std.specs.Prelude.{codes, ◌==◌, slice_range}
 use Rattle.std.proofs.Math.Seq.{take-add}
 use Rattle.std.proofs.lemmas.Bool.{cases_Bool, cond-true, cond-false, ne_eqb, or_from, eq-eqb}
 use Rattle.std.proofs.lemmas.Bool.{eqb-true, false≢true, not-false, not_from_true}
-use Rattle.std.proofs.lemmas.List.{append-nil, drop_all, get_or-drop, get_or_append_left}
-use Rattle.std.proofs.lemmas.List.{length-append, length-drop, length-take-le}
-use Rattle.std.proofs.lemmas.List.{take-append-drop, take-append-le, take_at, drop_at}
-use Rattle.std.proofs.lemmas.List.{get_or-take, length-take, take_more}
+use Rattle.std.proofs.lemmas.List.{append-nil, get_or_append_left, length-take-le, take-append-drop}
+use Rattle.std.proofs.lemmas.List.{drop_all, drop_at, get_or-take, length-take, take_more}
+use Rattle.std.proofs.lemmas.List.{get_or-drop, length-append, length-drop, take-append-le, take_at}
 use Rattle.std.proofs.lemmas.Str.{IsCharBoundary-after_ascii, IsCharBoundary-from_take}
 use Rattle.std.specs.Str.{IsCharBoundary, IsUtf8}
 use Rattle.uri_pct.specs.Models.ByteRuns.{IsLongestRun}

@@ -12,12 +12,11 @@ use Rattle.uri_ops.specs.Dots as Dots
 use Rattle.uri_ops.proofs.Paths.DotLaws.{property-of-absolute-path-by-segments}
 use Rattle.uri_ops.proofs.Paths.Segments.{closing, dotless_of, end_of, next_output, pop, step_of}
 use Rattle.uri_ops.proofs.Paths.Segments.{next_output-passes-test, steps}
-use Rattle.uri_ops.proofs.Paths.SlashedSegments.{NoSlashes, first-segment-and-rest-lack-slashes}
-use Rattle.uri_ops.proofs.Paths.SlashedSegments.{lacks_slash, remove-dots-by-segments}
-use Rattle.uri_ops.proofs.Paths.SlashedSegments.{segments-of-joined-segments}
-use Rattle.uri_ops.proofs.Paths.SlashedSegments.{segments-of-slashed-segments, slashed}
-use Rattle.uri_ops.proofs.Paths.SlashedSegments.{slashed-of-push}
-use Rattle.uri_ops.proofs.Paths.SlashedSegments.{before_last_slash-of-slashed-is-popped}
+use Rattle.uri_ops.proofs.Paths.SlashedSegments.{NoSlashes, before_last_slash-of-slashed-is-popped}
+use Rattle.uri_ops.proofs.Paths.SlashedSegments.{first-segment-and-rest-lack-slashes, lacks_slash}
+use Rattle.uri_ops.proofs.Paths.SlashedSegments.{remove-dots-by-segments}
+use Rattle.uri_ops.proofs.Paths.SlashedSegments.{segments-of-joined-segments, slashed}
+use Rattle.uri_ops.proofs.Paths.SlashedSegments.{segments-of-slashed-segments, slashed-of-push}
 use Rattle.uri_basic.specs.Deviations.{has_encoded_dot_segment, has_literal_dot_segment}
 use Rattle.uri_basic.specs.Deviations.{is_literal_dot_segment}
 use Rattle.uri_basic.specs.Models.Directories.{after_segment}

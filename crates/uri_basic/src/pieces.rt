@@ -5,6 +5,7 @@ ghost use Rattle.uri_parts.specs.CoreTexts.{core_text};
 ghost use Rattle.uri_ops.specs.Models.Places.{before_path};
 ghost use Rattle.uri_basic.specs.Models.Pieces.{after_path};
 
+use uri_ops::resolve::text_view::TextView;
 use uri_parts::core_text::Core;
 use uri_parts::kind::Kind;
 
@@ -38,23 +39,19 @@ pub(crate) fn before_path<'a, K: Kind>(core: Core<K, &'a str>) -> &'a str
 pub(crate) fn after_path<'a, K: Kind>(core: Core<K, &'a str>) -> &'a str
     ensures { result.now ≡ after_path (components (core_text core.entry)) }
 {
-    let text = core.as_str();
-    &text[core.positions().path_end..]
+    TextView::of_core(core).after_path()
 }
 
 /// Returns the query of a base with its `?`, or nothing.
 pub(crate) fn query_with_delimiter<'a, K: Kind>(core: Core<K, &'a str>) -> &'a str
     ensures { result.now ≡ marked (codes "?") (components (core_text core.entry)).query [] }
 {
-    let text = core.as_str();
-    let positions = core.positions();
-    &text[positions.path_end..positions.before_fragment()]
+    TextView::of_core(core).query_with_delimiter()
 }
 
 /// Returns the fragment of a reference with its `#`, or nothing.
 pub(crate) fn fragment_with_delimiter<'a, K: Kind>(core: Core<K, &'a str>) -> &'a str
     ensures { result.now ≡ marked (codes "#") (components (core_text core.entry)).fragment [] }
 {
-    let text = core.as_str();
-    &text[core.positions().before_fragment()..]
+    TextView::of_core(core).fragment_with_delimiter()
 }
