@@ -1,5 +1,5 @@
 -- The loop of section 5.2.4: each pass shortens the input buffer, so that the loop empties it.
-use Rattle.std.proofs.Common.{◌≡◌, ℕ, zero, suc, ◌<◌, ◌≤◌, true, false, not, List, [], ◌∷◌}
+use Rattle.std.proofs.Common.{◌≡◌, ℕ, zero, suc, ◌<◌, ◌≤◌, true, false, not, List, [], ◌∷◌, rules}
 use Rattle.std.proofs.Common.{◌++◌, length, take, drop, refl, sym, ap, ◌∙◌, arith, ⊎_elim, ◌||◌}
 use Rattle.std.specs.Prelude.{◌==◌, codes, bytes_eq}
 use Rattle.std.specs.List.{prefix_len}
@@ -22,9 +22,7 @@ equal-bytes-have-equal-lengths a b e = ap length ((bytes_eq-Decides a b).0 e)
 prefix-is-no-longer : (prefix buffer : List ℕ) → has_prefix prefix buffer ≡ true
     → length prefix ≤ length buffer
 prefix-is-no-longer prefix buffer e =
-    let same : length (take (length prefix) buffer) ≡ length prefix =
-    equal-bytes-have-equal-lengths (take (length prefix) buffer) prefix e in
-    omega (arith, same, length-take (length prefix) buffer)
+    search (rules, equal-bytes-have-equal-lengths, length-take)
 
 -- paths: the byte that ends a segment is `/` (47)
 segment-end-is-slash : (c : ℕ) → is_one_of (codes "/") c ≡ (c == 47)
@@ -40,26 +38,14 @@ buffer-after-rootless-segment-is-shorter : (buffer : List ℕ) → is_empty buff
     → starts 47 buffer ≡ false → length (from_any (codes "/") buffer) < length buffer
 buffer-after-rootless-segment-is-shorter [] some e = absurd (false≢true (sym some))
 buffer-after-rootless-segment-is-shorter (c ∷ rest) some e =
-    let m : prefix_len (λ c. not (is_one_of (codes "/") c)) (c ∷ rest)
-    ≡ suc (prefix_len (λ c. not (is_one_of (codes "/") c)) rest) =
-    cond-true _ _ _ (other-byte-ends-no-segment c e) ∙ omega arith in
-    omega (
-      arith,
-      m,
-      length-drop (prefix_len (λ c. not (is_one_of (codes "/") c)) (c ∷ rest)) (c ∷ rest),
-    )
+    search (rules, cond-true, other-byte-ends-no-segment, length-drop)
 
 -- removing dot segments: without its first segment a buffer is shorter
 buffer-after-first-segment-is-shorter : (buffer : List ℕ) → is_empty buffer ≡ false
     → length (after_first_segment buffer) < length buffer
 buffer-after-first-segment-is-shorter buffer e =
     let some = not-empty-has-length buffer e in
-    let n = prefix_len (λ c. not (is_one_of (codes "/") c)) (drop 1 buffer) in
-    cond_both (starts 47 buffer) (from_any (codes "/") (drop 1 buffer))
-    (from_any (codes "/") buffer)
-    (λ t. length t < length buffer)
-    (λ _. omega (arith, some, length-drop n (drop 1 buffer), length-drop 1 buffer))
-    (λ f. buffer-after-rootless-segment-is-shorter buffer e f)
+    search (rules, cond_both, length-drop, buffer-after-rootless-segment-is-shorter)
 
 -- removing dot segments: a prefix that is replaced by `/` and is longer shortens a buffer
 replaced-prefix-shortens : (n : ℕ) (buffer : List ℕ) → 1 < n → n ≤ length buffer
@@ -86,9 +72,7 @@ step-shortens-input b e =
     (prefix-is-no-longer (codes "/../") b.input h))
     (λ _. cond_both (bytes_eq b.input (codes "/..")) _ _ Q
     (λ h. omega (arith, equal-bytes-have-equal-lengths b.input (codes "/..") h))
-    (λ _. cond_both (bytes_eq b.input (codes ".") || bytes_eq b.input (codes "..")) _ _ Q
-    (λ _. some)
-    (λ _. buffer-after-first-segment-is-shorter b.input e)))))))
+    (search (rules, cond_both, buffer-after-first-segment-is-shorter)))))))
 
 -- removing dot segments: passes beyond the bytes of the input buffer change nothing
 more-passes-change-nothing : (n m : ℕ) (b : Buffers) → length b.input ≤ n → length b.input ≤ m
@@ -114,12 +98,7 @@ more-passes-change-nothing (suc n) (suc m) b h k = ⊎_elim
 pub output-after-step : (b : Buffers) → is_empty b.input ≡ false → output_of b ≡ output_of (step b)
 unfolding output_of run
 output-after-step b e =
-    let n = length b.input in
-    let less = step-shortens-input b e in
-    ap (λ (x : Buffers). x.output)
-    (more-passes-change-nothing n (suc n) b (omega arith) (omega arith)
-    ∙ cond-false (is_empty b.input) b (run n (step b)) e
-    ∙ more-passes-change-nothing n (length (step b).input) (step b) (omega arith) (omega arith))
+    search (rules, step-shortens-input, more-passes-change-nothing, cond-false)
 
 -- removing dot segments: with an empty input buffer the loop is done
 pub output-of-empty-input : (output : List ℕ)

@@ -1,6 +1,6 @@
 -- Whether a path has dot segments with percent-encoded dots, or without: RFC 3986, section 3.3.
 use Rattle.std.proofs.Common.{◌≡◌, ℕ, Bool, true, false, not, List, [], ◌∷◌, ◌++◌, ◌&&◌, refl, sym}
-use Rattle.std.proofs.Common.{ap, ◌∙◌, ◌||◌, drop}
+use Rattle.std.proofs.Common.{ap, ◌∙◌, ◌||◌, drop, rules}
 use Rattle.std.specs.Prelude.{bytes_eq, codes}
 use Rattle.std.specs.List.{list_all, list_any}
 use Rattle.std.proofs.lemmas.Bool.{and_left, and_parts, not-true, or_from, or_parts}
@@ -71,11 +71,7 @@ dotless-path-has-no-encoded-dot path e = dotless-segments-have-no-encoded-dot (s
 dotless-segment-is-not-literal : (s : List ℕ) → is_dot_segment s ≡ false
     → is_literal_dot_segment s ≡ false
 dotless-segment-is-not-literal s e =
-    let f = or_parts (is_single_dot s) (is_double_dot s) e in
-    let g = or_parts (bytes_eq s (codes ".")) _ f.0 in
-    let h = or_parts (list_any (λ second. bytes_eq s (codes "." ++ second)) dots) _ f.1 in
-    let k = or_parts (bytes_eq s (codes "..")) _ h.0 in
-    or_from _ _ g.0 k.0
+    search (rules, or_parts, or_from)
 
 -- dot segments: segments that are none are neither `.` nor `..`
 dotless-segments-are-not-literal : (xs : List (List ℕ)) → AllPass is_dotless xs

@@ -82,12 +82,7 @@ bytes-of-parent-pass : (p : ℕ → Bool) → p 47 ≡ true → (kept : List ℕ
     → list_all p (parent kept) ≡ true
 unfolding parent
 bytes-of-parent-pass p slash kept e =
-    cond_both (is_empty kept) [] (before_last_slash (before_last_slash kept) ++ codes "/")
-    (λ t. list_all p t ≡ true) (λ _. refl)
-    (λ _. bytes-of-append-pass p (before_last_slash (before_last_slash kept)) (codes "/")
-    (before_last_slash-passes-test p (before_last_slash kept)
-    (before_last_slash-passes-test p kept e))
-    (and_from _ _ slash refl))
+    search (rules, cond_both, bytes-of-append-pass, before_last_slash-passes-test, and_from)
 
 -- paths: the bytes of each segment pass a test that the path's bytes pass
 bytes-of-segments-pass : (p : ℕ → Bool) (s : List ℕ) (rest : List (List ℕ))
@@ -160,13 +155,8 @@ module _ (set : TableSet) (slash : set.ascii 47 ≡ true) where
 
   set-directory-with-text : (kept t : List ℕ) → IsSetDirectory kept → is_set_text set t ≡ true
       → is_set_text set (kept ++ t) ≡ true
-  set-directory-with-text kept t h e = ⊎_elim
-      (λ n. ap (λ k. is_set_text set (k ++ t)) n ∙ e)
-      (λ d. ap (λ k. is_set_text set (k ++ t)) d.1
-      ∙ ap (is_set_text set) (append_assoc d.0 (codes "/") t)
-      ∙ set-texts-join-at-slash set slash d.0 t
-      (set-text-splits set d.0 [] (ap (is_set_text set) (sym d.1) ∙ h.1)).0 e)
-      h.0
+  set-directory-with-text kept t h e =
+      search (rules, is_set_text, append_assoc, set-texts-join-at-slash, set-text-splits)
 
   set-text-with-slash : (t : List ℕ) → is_set_text set t ≡ true
       → is_set_text set (t ++ codes "/") ≡ true
@@ -178,9 +168,7 @@ module _ (set : TableSet) (slash : set.ascii 47 ≡ true) where
     parent-is-directory kept h.0,
     cond_both (is_empty kept) [] (before_last_slash (before_last_slash kept) ++ codes "/")
         (λ t. is_set_text set t ≡ true) (λ _. empty-text-is-set-text set)
-        (λ _. set-text-with-slash (before_last_slash (before_last_slash kept))
-        (set-text-before-last-slash (before_last_slash kept)
-        (set-text-before-last-slash kept h.1))),
+        (search (rules, set-text-with-slash, set-text-before-last-slash)),
   )
 
   -- removing dot segments: what is left of any path is of the set that the path is of
@@ -204,28 +192,19 @@ module _ (set : TableSet) (slash : set.ascii 47 ≡ true) where
 prefix-of-rooted-path-is-rooted : (path : List ℕ) → IsAbemptyPath path
     → IsAbemptyPath (before_last_slash path)
 prefix-of-rooted-path-is-rooted [] h = inl refl
-prefix-of-rooted-path-is-rooted (c ∷ rest) h = ⊎_elim
-    (λ e. absurd (false≢true (ap is_empty e)))
-    (λ e. cond_both (has_slash rest) (c ∷ before_last_slash rest) [] IsAbemptyPath
-    (λ _. inr e) (λ _. inl refl))
-    h
+prefix-of-rooted-path-is-rooted (c ∷ rest) h = search (rules, cond_both)
 
 -- paths: a path that is empty or begins with `/` begins with `/` if one is after it
 rooted-path-with-slash-is-absolute : (path : List ℕ) → IsAbemptyPath path
     → IsAbsolute (path ++ codes "/")
-rooted-path-with-slash-is-absolute path h = ⊎_elim
-    (λ e. subst (λ t. IsAbsolute (t ++ codes "/")) (sym e) (search rules))
-    (λ a. appended-absolute-path-is-absolute path (codes "/") a)
-    h
+rooted-path-with-slash-is-absolute path h = search (rules, appended-absolute-path-is-absolute)
 
 -- removing dot segments: the parent of a directory that begins with `/` does so too
 parent-of-absolute-is-absolute : (kept : List ℕ) → IsAbsolute kept → IsAbsolute (parent kept)
 unfolding parent
 parent-of-absolute-is-absolute [] h = h
 parent-of-absolute-is-absolute (c ∷ kept) h =
-    rooted-path-with-slash-is-absolute (before_last_slash (before_last_slash (c ∷ kept)))
-    (prefix-of-rooted-path-is-rooted (before_last_slash (c ∷ kept))
-    (prefix-of-rooted-path-is-rooted (c ∷ kept) (inr h)))
+    search (rules, rooted-path-with-slash-is-absolute, prefix-of-rooted-path-is-rooted)
 
 -- removing dot segments: after the first `/` of a path `/` is kept
 pub root-is-kept : (t : List ℕ) (rest : List (List ℕ))
@@ -251,9 +230,7 @@ segments-of-absolute-stay-absolute [] (t ∷ rest) lack h =
     subst IsAbsolute (sym (removal-by-segments [] (t ∷ rest) lack ∙ root-is-kept t rest))
     (kept-of-absolute-is-absolute (codes "/") t rest (search rules))
 segments-of-absolute-stay-absolute (c ∷ s) rest lack h =
-    let none = first-segment-and-rest-lack-slashes (c ∷ s) rest lack in
-    absurd (false≢true (sym (or_parts (c == 47) (has_slash s) none.0).0
-    ∙ eq_true_from_IsTrue _ h))
+    search (rules, first-segment-and-rest-lack-slashes, or_parts, eq_true_from_IsTrue)
 
 -- removing dot segments: a path that begins with `/` still does
 pub removal-keeps-absolute : (path : List ℕ) → IsAbsolute path

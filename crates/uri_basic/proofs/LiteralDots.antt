@@ -1,6 +1,6 @@
 -- Which targets of the basic algorithm have a segment `.` or `..`: RFC 3986, sections 5.2.2, 5.2.4.
 use Rattle.std.proofs.Common.{◌≡◌, ℕ, true, false, not, List, [], ◌∷◌, ◌++◌, ◌&&◌, refl, sym, ap}
-use Rattle.std.proofs.Common.{◌∙◌, append_assoc, inl, ⊎_elim}
+use Rattle.std.proofs.Common.{◌∙◌, append_assoc, inl, ⊎_elim, rules}
 use Rattle.std.specs.Prelude.{Ok, bytes_eq, codes, is_none, is_some}
 use Rattle.std.specs.List.{list_any}
 use Rattle.std.proofs.lemmas.Bool.{and_from, and_parts, both_ways, cases_Bool}
@@ -43,24 +43,14 @@ no-literal-dot-in-parent : (kept : List ℕ) → has_literal_dot_segment kept �
     → has_literal_dot_segment (parent kept) ≡ false
 unfolding parent
 no-literal-dot-in-parent kept e =
-    cond_both (is_empty kept) [] (before_last_slash (before_last_slash kept) ++ codes "/")
-    (λ t. has_literal_dot_segment t ≡ false) (λ _. refl)
-    (λ _. no-literal-dot-with-slash (before_last_slash (before_last_slash kept))
-    (no-literal-dot-before-last-slash (before_last_slash kept)
-    (no-literal-dot-before-last-slash kept e)))
+    search (rules, cond_both, no-literal-dot-with-slash, no-literal-dot-before-last-slash)
 
 -- removing dot segments: a directory and a text after it have no `.` and `..`, if both have none
 no-literal-dot-after-directory : (kept t : List ℕ) → IsDirectoryOrNothing kept
     → has_literal_dot_segment kept ≡ false → has_literal_dot_segment t ≡ false
     → has_literal_dot_segment (kept ++ t) ≡ false
-no-literal-dot-after-directory kept t closed e f = ⊎_elim
-    (λ n. ap (λ k. has_literal_dot_segment (k ++ t)) n ∙ f)
-    (λ d. ap (λ k. has_literal_dot_segment (k ++ t)) d.1
-    ∙ ap has_literal_dot_segment (append_assoc d.0 (codes "/") t)
-    ∙ literal-dots-at-slash d.0 t
-    ∙ or_from _ _ (or_parts _ _ (sym (literal-dots-at-slash d.0 [])
-    ∙ ap has_literal_dot_segment (sym d.1) ∙ e)).0 f)
-    closed
+no-literal-dot-after-directory kept t closed e f =
+    search (rules, append_assoc, literal-dots-at-slash, or_from, or_parts)
 
 -- removing dot segments: a segment that is neither `.` nor `..` has none
 no-literal-dot-in-other-segment : (s : List ℕ) → has_slash s ≡ false
@@ -80,10 +70,7 @@ no-literal-dot-after-segment : (kept s piece : List ℕ) → has_literal_dot_seg
     → has_literal_dot_segment (after_segment kept s piece) ≡ false
 unfolding after_segment
 no-literal-dot-after-segment kept s piece e more =
-    cond_both (bytes_eq s (codes ".")) kept _ (λ t. has_literal_dot_segment t ≡ false) (λ _. e)
-    (λ single. cond_both (bytes_eq s (codes "..")) (parent kept) (kept ++ piece)
-    (λ t. has_literal_dot_segment t ≡ false) (λ _. no-literal-dot-in-parent kept e)
-    (more single))
+    search (rules, cond_both, no-literal-dot-in-parent)
 
 -- removing dot segments: what is kept of segments has no `.` and `..`
 no-literal-dot-is-kept : (kept s : List ℕ) (rest : List (List ℕ)) → IsDirectoryOrNothing kept
@@ -116,28 +103,13 @@ removal-leaves-no-literal-dot = property-of-path-by-segments
 target-has-no-literal-dot : (base r : Components) → takes_base_path r ≡ false
     → has_literal_dot_segment (target base r).path ≡ false
 target-has-no-literal-dot base r own =
-    let P = λ (c : Components). has_literal_dot_segment c.path ≡ false in
-    cond_both (is_some r.scheme) _ _ P (λ _. removal-leaves-no-literal-dot r.path)
-    (λ s. cond_both (is_some r.authority) _ _ P (λ _. removal-leaves-no-literal-dot r.path)
-    (λ a. cond_both (is_empty r.path) _ _ P
-    (λ e. absurd (both_ways _ own (and_from _ _
-    (and_from _ _ (not_some_is_none r.scheme s) (not_some_is_none r.authority a)) e)))
-    (λ _. cond_both (starts slash r.path) _ _ P (λ _. removal-leaves-no-literal-dot r.path)
-    (λ _. removal-leaves-no-literal-dot (merge base r.path)))))
+    search (rules, cond_both, removal-leaves-no-literal-dot, both_ways, and_from, not_some_is_none)
 
 -- targets: with a reference that takes the base's path, the target has it
 target-has-taken-path : (base r : Components) → takes_base_path r ≡ true
     → (target base r).path ≡ base.path
 target-has-taken-path base r takes =
-    let P = λ (c : Components). c.path ≡ base.path in
-    let empty = and_parts (is_none r.scheme && is_none r.authority) _ takes in
-    let none = and_parts (is_none r.scheme) _ empty.0 in
-    cond_both (is_some r.scheme) _ _ P
-    (λ s. absurd (both_ways _ (some_is_not_none r.scheme s) none.0))
-    (λ _. cond_both (is_some r.authority) _ _ P
-    (λ a. absurd (both_ways _ (some_is_not_none r.authority a) none.1))
-    (λ _. cond_both (is_empty r.path) _ _ P (λ _. refl)
-    (λ e. absurd (both_ways _ e empty.1))))
+    search (rules, and_parts, cond_both, both_ways, some_is_not_none)
 
 -- targets: only a reference that takes the base's path leads to a target with a segment `.` or `..`
 pub target-with-literal-dot-has-base-path : (base target reference : List ℕ)
@@ -151,8 +123,7 @@ target-with-literal-dot-has-base-path base text reference some e literal =
     let r = components reference in
     let f = result-by-test (is_ambiguous (target b r)) (recompose (target b r)) text e in
     let same : (components text).path ≡ (target b r).path =
-    ap (λ t. (components t).path) (sym f.1)
-    ∙ ap (λ (c : Components). c.path) (basic-target-has-its-components base reference some f.0) in
+    cc (basic-target-has-its-components base reference some f.0) in
     let takes : takes_base_path r ≡ true = ⊎_elim (λ h. h)
     (λ h. absurd (both_ways _ (ap has_literal_dot_segment same ∙ target-has-no-literal-dot b r h)
     literal))

@@ -1,7 +1,7 @@
 -- Where the last segment of a path begins, by its positions.
 use Rattle.std.proofs.Common.{◌≡◌, ℕ, zero, suc, ◌+◌, ◌-◌, ◌<◌, ◌≤◌, false, ◌⊎◌, List, [], ◌∷◌}
 use Rattle.std.proofs.Common.{◌++◌, length, take, drop, get_or, refl, sym, ap, subst, ◌∙◌, arith}
-use Rattle.std.proofs.Common.{append_assoc, eqb, inl, inr, not, ⊎_elim, drop-cons}
+use Rattle.std.proofs.Common.{append_assoc, eqb, inl, inr, not, ⊎_elim, drop-cons, rules}
 use Rattle.std.specs.Prelude.{codes, ◌==◌, slice_range}
 use Rattle.std.proofs.Math.Seq.{take-add}
 use Rattle.std.proofs.lemmas.Bool.{cases_Bool, cond-true, cond-false, ne_eqb, or_from, eq-eqb}
@@ -34,9 +34,7 @@ no-byte-is-slash (c ∷ text) h = or_from (c == 47) (has_slash text)
 suffix-has-no-slash : (text : List ℕ) (i : ℕ)
     → ((k : ℕ) → i ≤ k → k < length text → get_or text k 0 ≡ 47 → ⊥)
     → has_slash (drop i text) ≡ false
-suffix-has-no-slash text i h = no-byte-is-slash (drop i text)
-    (λ k l e. h (i + k) (omega arith) (omega (arith, l, length-drop i text))
-    (sym (get_or-drop i text k 0) ∙ e))
+suffix-has-no-slash text i h = search (rules, no-byte-is-slash, length-drop, get_or-drop)
 
 -- paths: a text that is cut at its last `/`
 up-to-last-slash-of-cut-text : (x y : List ℕ) → has_slash y ≡ false
@@ -49,9 +47,7 @@ up-to-last-slash-of-cut-text x y e =
 cut-at-slash : (text : List ℕ) (j : ℕ) → j < length text → get_or text j 0 ≡ 47
     → text ≡ take j text ++ 47 ∷ drop (suc j) text
 cut-at-slash text j within e =
-    sym (take-append-drop j text)
-    ∙ ap (λ t. take j text ++ t) (drop-cons text j 0 within
-    ∙ ap (λ c. c ∷ drop (suc j) text) e)
+    cc (take-append-drop j text, drop-cons text j 0 within)
 
 -- paths: a text up to a position is the text up to its last `/`, if none is from there on, and one
 -- is before it or it is the start
@@ -60,14 +56,12 @@ pub prefix-is-up-to-last-slash : (text : List ℕ) (i : ℕ) → i ≤ length te
     → (i ≡ 0) ⊎ ((0 < i) × (get_or text (i - 1) 0 ≡ 47))
     → take i text ≡ up_to_last_slash text
 prefix-is-up-to-last-slash text i within none (inl e) =
-    ap (λ n. take n text) e
-    ∙ sym (cond-false _ _ _ (ap (λ n. has_slash (drop n text)) (sym e) ∙ none))
+    cc (cond-false _ _ _ (ap (λ n. has_slash (drop n text)) (sym e) ∙ none))
 prefix-is-up-to-last-slash text i within none (inr at) =
     let j = i - 1 in
     let next : suc j ≡ i = omega (arith, at.0) in
     let cut : text ≡ take j text ++ 47 ∷ drop i text =
-    cut-at-slash text j (omega (arith, at.0, within)) at.1
-    ∙ ap (λ n. take j text ++ 47 ∷ drop n text) next in
+    cc (cut-at-slash text j (omega (arith, at.0, within)) at.1) in
     let long : length (take j text ++ codes "/") ≡ i =
     length-append (take j text) (codes "/")
     ∙ omega (arith, length-take-le j text (omega (arith, at.0, within)), at.0) in
@@ -88,13 +82,7 @@ last-segment-begins-after-prefix d i ends within none place =
     ap (λ t. get_or t k 0) ends.1 ∙ get_or_append_left p (codes "/") 0 k l in
     let lacks : has_slash (drop i p) ≡ false =
     suffix-has-no-slash p i (λ k l m e. none k l (omega (arith, m, long)) (byte k m ∙ e)) in
-    ap (take i) ends.1 ∙ take-append-le i p (codes "/") (omega (arith, within, long))
-    ∙ prefix-is-up-to-last-slash p i (omega (arith, within, long)) lacks
-    (⊎_elim (λ e. inl e)
-    (λ a. inr (a.0, sym (byte (i - 1) (omega (arith, within, long, a.0))) ∙ a.1))
-    place)
-    ∙ ap up_to_last_slash
-    (sym (ap before_last_slash ends.1 ∙ before_last_slash-of-slashless-tail p [] refl))
+    search (rules, take-append-le, prefix-is-up-to-last-slash, before_last_slash-of-slashless-tail)
 
 -- removing dot segments: the parent of a directory, by the text before its last segment
 parent-by-prefix : (d : List ℕ) (n : ℕ) → EndsInSlash d → n < length d
@@ -103,30 +91,18 @@ parent-by-prefix : (d : List ℕ) (n : ℕ) → EndsInSlash d → n < length d
 parent-by-prefix d n ends within before =
     let p = before_last_slash d in
     let up : parent d ≡ before_last_slash p ++ codes "/" =
-    ap parent ends.1 ∙ parent-of-directory ends.0
-    ∙ ap (λ t. before_last_slash t ++ codes "/")
-    (sym (ap before_last_slash ends.1 ∙ before_last_slash-of-slashless-tail ends.0 [] refl)) in
+    cc (parent-of-directory ends.0, before_last_slash-of-slashless-tail ends.0 [] refl) in
     let long : length (take n d) ≡ n = length-take-le n d (omega (arith, within)) in
     ⊎_elim
-    (λ h.
-    let more : take n d ≡ before_last_slash p ++ codes "/" = before ∙ cond-true _ _ _ h in (
-      λ e. absurd (omega
-          (arith, e, long, ap length more, length-append (before_last_slash p) (codes "/"))),
-      λ _. up ∙ sym more,
-    ))
-    (λ h. (
-      λ _. up ∙ ap (λ t. t ++ codes "/") (before_last_slash-of-slashless-is-empty p h),
-      λ ne. absurd (ne (sym long ∙ ap length (before ∙ cond-false _ _ _ h))),
-    ))
+    (search (rules, cond-true, length-append))
+    (search (rules, before_last_slash-of-slashless-is-empty, cond-false))
     (cases_Bool (has_slash p))
 
 -- removing dot segments: where nothing is kept, nothing is removed
 pub nothing-to-pop : (text : List ℕ) (start : ℕ) → start ≡ length text
     → text ≡ take start text ++ parent (drop start text)
 nothing-to-pop text start e =
-    let none : drop start text ≡ [] = drop_all start text (omega (arith, e)) in
-    sym (take-append-drop start text)
-    ∙ ap (λ t. take start text ++ t) (none ∙ sym (ap parent none ∙ parent-of-nothing))
+    search (rules, drop_all, take-append-drop, parent-of-nothing)
 
 -- removing dot segments: something that is kept is a directory
 pub something-kept-is-directory : (text : List ℕ) (start : ℕ) → start ≤ length text
@@ -143,9 +119,7 @@ pub pop-of-only-segment : (text : List ℕ) (start n : ℕ) → EndsInSlash (dro
     → take n (drop start text) ≡ up_to_last_slash (before_last_slash (drop start text)) → n ≡ 0
     → take (start + n) text ++ codes "/" ≡ take start text ++ parent (drop start text)
 pop-of-only-segment text start n ends within before e =
-    ap (λ m. take m text ++ codes "/") (omega (arith, e))
-    ∙ ap (λ t. take start text ++ t)
-    (sym ((parent-by-prefix (drop start text) n ends within before).0 e))
+    search (rules, parent-by-prefix)
 
 -- removing dot segments: of a directory with more segments its parent is left
 pub pop-of-last-segment : (text : List ℕ) (start n : ℕ) → EndsInSlash (drop start text)
@@ -153,20 +127,14 @@ pub pop-of-last-segment : (text : List ℕ) (start n : ℕ) → EndsInSlash (dro
     → take n (drop start text) ≡ up_to_last_slash (before_last_slash (drop start text))
     → (n ≡ 0 → ⊥) → take (start + n) text ≡ take start text ++ parent (drop start text)
 pop-of-last-segment text start n ends within before e =
-    take-add start n text
-    ∙ ap (λ t. take start text ++ t)
-    (sym ((parent-by-prefix (drop start text) n ends within before).1 e))
+    cc (take-add start n text, (parent-by-prefix (drop start text) n ends within before).1 e)
 
 -- removing dot segments: what is put after the first bytes of a text
 pub replaced-suffix : (text new kept : List ℕ) (start : ℕ) → start ≤ length text
     → new ≡ take start text ++ kept
     → (start ≤ length new) × (take start new ≡ take start text) × (drop start new ≡ kept)
 replaced-suffix text new kept start within e =
-    let long : length (take start text) ≡ start = length-take-le start text within in (
-      omega (arith, long, ap length e, length-append (take start text) kept),
-      ap (take start) e ∙ take_at (take start text) kept start long,
-      ap (drop start) e ∙ drop_at (take start text) kept start long,
-    )
+    search (rules, length-take-le, length-append, take_at, drop_at)
 
 -- removing dot segments: a character begins where a directory is cut, before its last segment
 pub position-of-last-segment-is-boundary : (text : List ℕ) (start n : ℕ) → IsUtf8 text
@@ -195,15 +163,7 @@ run-lacks-slash : (path : List ℕ) (done end : ℕ)
     → IsLongestRun (λ b. not (eqb b 47)) path done end
     → has_slash (take (end - done) (drop done path)) ≡ false
 run-lacks-slash path done end run =
-    no-byte-is-slash (take (end - done) (drop done path))
-    (λ k l e.
-    let short : k < end - done =
-    omega (arith, l, length-take (end - done) (drop done path)) in
-    let byte : get_or path (done + k) 0 ≡ 47 =
-    sym (get_or-drop done path k 0) ∙ sym (get_or-take (end - done) (drop done path) k 0 short)
-    ∙ e in
-    false≢true (sym (not_from_true _ (eq-eqb (get_or path (done + k) 0) 47 byte))
-    ∙ run.pass (done + k) (omega arith) (omega (arith, short))))
+    search (rules, no-byte-is-slash, length-take, get_or-drop, get_or-take, not_from_true, eq-eqb)
 
 -- paths: the search for a `/` finds a segment
 pub run-is-segment : (path : List ℕ) (done end : ℕ)
@@ -219,9 +179,7 @@ run-is-segment path done end run within =
     get_or-drop done path (end - done) 0
     ∙ ap (λ k. get_or path k 0) (omega (arith, from)) ∙ byte in
     let piece : slice_range path done (end + 1) ≡ slice_range path done end ++ codes "/" =
-    ap (λ n. take n (drop done path)) count
-    ∙ take_more (drop done path) (end - done) 0 inside
-    ∙ ap (λ c. take (end - done) (drop done path) ++ c ∷ []) at in
+    cc (take_more (drop done path) (end - done) 0 inside) in
     record {
       byte = byte;
       lacks = run-lacks-slash path done end run;
@@ -236,9 +194,7 @@ pub rest-after-run-lacks-slash : (path : List ℕ) (done end : ℕ)
     → IsLongestRun (λ b. not (eqb b 47)) path done end → length path ≤ end
     → has_slash (drop done path) ≡ false
 rest-after-run-lacks-slash path done end run none =
-    suffix-has-no-slash path done
-    (λ k l m e. false≢true (sym (not_from_true _ (eq-eqb (get_or path k 0) 47 e))
-    ∙ run.pass k l (omega (arith, m, none))))
+    search (rules, suffix-has-no-slash, not_from_true, eq-eqb)
 
 -- removing dot segments: what is appended for a path is the path without its dot segments
 pub appended-path-is-without-dots : (old new whole last : List ℕ) (start : ℕ)
@@ -251,8 +207,7 @@ pub appended-path-is-without-dots : (old new whole last : List ℕ) (start : ℕ
 appended-path-is-without-dots old new whole last start at before closed lacks left =
     let none : drop start old ≡ [] = drop_all start old (omega (arith, at)) in
     ap (λ t. t ++ after_segment (drop start new) last last)
-    (before ∙ sym (append-nil (take start old)) ∙ ap (λ t. take start old ++ t) (sym none)
-    ∙ take-append-drop start old)
+    (cc (append-nil (take start old), take-append-drop start old))
     ∙ ap (λ t. old ++ t)
     (sym (path-left-after-last-segment (drop start new) last closed lacks) ∙ left last
     ∙ ap (λ k. path_left k (whole ++ last)) none ∙ path-left-of-path (whole ++ last))

@@ -1,7 +1,7 @@
 -- The paths of relativized references: how they are parsed, and what they lead to.
 use Rattle.std.proofs.Common.{◌≡◌, ℕ, zero, suc, ◌-◌, ◌<◌, Bool, true, false, not, cond, eqb, List}
 use Rattle.std.proofs.Common.{[], ◌∷◌, ◌++◌, ◌&&◌, ◌||◌, take, drop, refl, sym, ap, ◌∙◌, subst, inr}
-use Rattle.std.proofs.Common.{⊎_elim, arith, append_assoc, true≢false}
+use Rattle.std.proofs.Common.{⊎_elim, arith, append_assoc, true≢false, rules}
 use Rattle.std.specs.Prelude.{None, Option, codes, is_none, is_some, nat_lt}
 use Rattle.std.specs.List.{list_all}
 use Rattle.std.proofs.lemmas.Bool.{and_from, and_parts, and_right, cond-false, cond-true, cond_both}
@@ -89,13 +89,7 @@ some-double-dots-are-relative (suc n) rest e =
 relative-path-is-relative : (n : ℕ) (rest : List ℕ) → IsRelativePath (relative_path n rest)
 relative-path-is-relative n rest =
     cond_both (eqb n 0) _ _ IsRelativePath
-    (λ _. cond_both (is_empty rest) _ _ IsRelativePath
-    (λ _. record { some = refl; rootless = refl; no_scheme = refl })
-    (λ some. cond_both (needs_leading_dot rest) _ _ IsRelativePath
-    (λ _. record { some = refl; rootless = refl; no_scheme = refl })
-    (λ plain.
-    let p = or_parts (starts slash rest) (has_colon_in_first_segment rest) plain in
-    record { some = some; rootless = p.0; no_scheme = p.1 })))
+    (search (rules, cond_both, or_parts))
     (λ e. cond_both (is_empty rest) _ _ IsRelativePath
     (λ _. double-dots-and-last-are-relative (n - 1))
     (λ _. some-double-dots-are-relative n rest e))
@@ -105,14 +99,8 @@ relative-path-is-relative n rest =
 equal-first-byte-extends-shared-prefix : (a b : ℕ) (base path : List ℕ) (n : ℕ) → a ≡ b
     → (eqb a 47 || nat_lt 0 n) ≡ true → (0 < n → IsSharedPrefix n base path)
     → IsSharedPrefix (suc n) (a ∷ base) (b ∷ path)
-equal-first-byte-extends-shared-prefix a b base path zero e k shared = record {
-  same = ap (λ c. c ∷ []) e;
-  closed = (
-    [],
-    ap (λ c. c ∷ []) (⊎_elim (eqb-true a 47) (λ h. absurd (omega (arith, ltb-true 0 0 h)))
-        (or_cases (eqb a 47) (nat_lt 0 0) k)),
-  );
-}
+equal-first-byte-extends-shared-prefix a b base path zero e k shared =
+    search (rules, eqb-true, ltb-true, or_cases)
 equal-first-byte-extends-shared-prefix a b base path (suc n) e k shared =
     let s = shared (omega arith) in
     record {
@@ -143,19 +131,13 @@ absolute-paths-share-a-directory [] path h k = absurd (false≢true (eq_true_fro
 absolute-paths-share-a-directory (a ∷ base) [] h k =
     absurd (false≢true (eq_true_from_IsTrue _ k))
 absolute-paths-share-a-directory (a ∷ base) (b ∷ path) h k =
-    let one = eq_true_from_IsTrue _ h in
-    let same = eqb-true a 47 one ∙ sym (eqb-true b 47 (eq_true_from_IsTrue _ k)) in
-    let n = shared_directory_len base path in
-    let e : shared_directory_len (a ∷ base) (b ∷ path) ≡ suc n =
-    cond-true _ _ _ (and_from _ _ (eq-eqb a b same) (or_left _ _ one)) in
-    omega (arith, e)
+    search (rules, eq_true_from_IsTrue, eqb-true, cond-true, and_from, eq-eqb, or_left)
 
 -- relativized paths: a path is what it shares with the base's, without the last `/`, and the rest
 path-is-shared-prefix-and-rest : (n : ℕ) (base path : List ℕ) (s : IsSharedPrefix n base path)
     → path ≡ s.closed.0 ++ 47 ∷ drop n path
 path-is-shared-prefix-and-rest n base path s =
-    sym (take-append-drop n path) ∙ ap (λ t. t ++ drop n path) (sym s.same ∙ s.closed.1)
-    ∙ append_assoc s.closed.0 (codes "/") (drop n path)
+    cc (take-append-drop n path, append_assoc s.closed.0 (codes "/") (drop n path))
 
 -- relativized paths: the path begins with `/`, has no dot segment, and neither `?` nor `#`
 pub record IsFinalPath (path : List ℕ) : Type 0 where
@@ -192,23 +174,14 @@ rooted-path-leads-to-path base rest true e w =
           (47 ∷ rest) refl
           ∙ remove-dots-of-dotless (47 ∷ rest) refl w.dotless;
     }
-rooted-path-leads-to-path base rest false e w = record {
-  some = refl;
-  no_authority = e;
-  no_scheme = refl;
-  lacks = w.lacks;
-  leads = removal-of-path-without-dots (47 ∷ rest)
-      (dotless-path-has-no-literal-dot (47 ∷ rest) w.dotless);
-}
+rooted-path-leads-to-path base rest false e w =
+    search (rules, removal-of-path-without-dots, dotless-path-has-no-literal-dot)
 
 -- relativized paths: the path from the root, guarded, leads to the path
 path-from-root-leads-to-path : (base : Components) (path : List ℕ) → IsFinalPath path
     → LeadsByPath base path (guarded None path)
 path-from-root-leads-to-path base path w =
-    subst (λ p. IsFinalPath p → LeadsByPath base p (guarded None p))
-    (sym (absolute-path-is-slash-and-rest path w.absolute))
-    (λ v. rooted-path-leads-to-path base (drop 1 path) (has_authority (47 ∷ drop 1 path)) refl v)
-    w
+    search (rules, absolute-path-is-slash-and-rest, rooted-path-leads-to-path)
 
 -- targets: a path without dot segments is merged after its directory, and an empty one (o: the
 -- authority) after `/`

@@ -1,6 +1,6 @@
 -- What the references of `relativize` lead to by the basic algorithm: RFC 3986, section 5.2.
 use Rattle.std.proofs.Common.{◌≡◌, ℕ, Bool, true, false, not, cond, List, [], ◌++◌, ◌&&◌, refl, sym}
-use Rattle.std.proofs.Common.{ap, ◌∙◌, subst, ⊎_elim}
+use Rattle.std.proofs.Common.{ap, ◌∙◌, subst, ⊎_elim, rules}
 use Rattle.std.specs.Prelude.{IfNone, IfSome, None, Ok, Option, Some, bytes_eq, codes, is_none}
 use Rattle.std.specs.Prelude.{is_some}
 use Rattle.std.specs.Option.{option_eq}
@@ -71,11 +71,7 @@ guarded-path-without-dots-is-the-path : (o : Option (List ℕ)) (path whole : Li
     → IsAbsolute path → guarded o path ≡ whole → has_literal_dot_segment whole ≡ false
     → path ≡ whole
 guarded-path-without-dots-is-the-path o path whole h g literal =
-    cond_both (is_none o && has_authority path) (codes "/." ++ path) path
-    (λ p. p ≡ whole → path ≡ whole)
-    (λ _ e. absurd (both_ways _ literal
-    (ap has_literal_dot_segment (sym e) ∙ guard-is-literal-dot-segment path h)))
-    (λ _ e. e) g
+    search (rules, cond_both, both_ways, guard-is-literal-dot-segment)
 
 -- targets to relativize: a path that begins with `/` is its own path without dot segments
 plain-path-is-without-dots : (t : Components) → IsPlainTarget t → IsAbsolute t.path
@@ -83,18 +79,13 @@ plain-path-is-without-dots : (t : Components) → IsPlainTarget t → IsAbsolute
 plain-path-is-without-dots t w h =
     guarded-path-without-dots-is-the-path t.authority (Dots.remove_dot_segments t.path) t.path
     (removing-dots-keeps-absolute t.path h)
-    (sym (ap (guarded t.authority) (cond-true _ _ _ (eq_true_from_IsTrue _ h)))
-    ∙ ap (λ (c : Components). c.path) w.settled)
+    (cc (cond-true _ _ _ (eq_true_from_IsTrue _ h)))
     w.literal
 
 -- targets to relativize: a path that begins with `/` has no dot segment
 plain-path-is-final : (t : Components) → IsPlainTarget t → IsAbsolute t.path → IsFinalPath t.path
-plain-path-is-final t w h = record {
-  absolute = h;
-  dotless = subst (λ p. lacks_dot_segments p ≡ true) (plain-path-is-without-dots t w h)
-      (removing-dots-leaves-no-dot-segment t.path h);
-  lacks = w.split.path;
-}
+plain-path-is-final t w h =
+    search (rules, plain-path-is-without-dots, removing-dots-leaves-no-dot-segment)
 
 -- general fact on options, for targets: a path is not parsed as an authority, if it is not where
 -- there is none
@@ -108,17 +99,12 @@ text-of-leading-reference-leads : (base t r : Components) → IsPlainTarget t
     → IsSplitOf (recompose r) r → target base r ≡ t
     → basic_resolution base (components (recompose r)) ≡ Ok (recompose t)
 text-of-leading-reference-leads base t r w split leads =
-    ap (λ c. basic_resolution base c) (only-split-is-components (recompose r) r split)
-    ∙ cond-false _ _ _ (ap is_ambiguous leads
-    ∙ path-after-authority-is-not-ambiguous t.authority (has_authority t.path)
-    w.split.no_authority)
-    ∙ ap (λ c. Ok (recompose c)) leads
+    search (rules, only-split-is-components, cond-false, path-after-authority-is-not-ambiguous)
 
 -- relativized references: the target leads to itself
 whole-target-leads-to-itself : (base t : Components) → IsPlainTarget t → target base t ≡ t
 whole-target-leads-to-itself base t w =
-    cond-true _ _ _ w.scheme
-    ∙ ap (λ p. record t { path = p }) (removal-of-path-without-dots t.path w.literal)
+    cc (cond-true _ _ _ w.scheme, removal-of-path-without-dots t.path w.literal)
 
 -- relativized references: a text that begins with `//` has no scheme
 authority-form-has-no-scheme : (o : Option (List ℕ)) (path : List ℕ) (q f : Option (List ℕ))
@@ -136,25 +122,14 @@ authority-form-has-no-scheme (Some a) path q f e = refl
 -- relativized references: one that begins with `//` is parsed as its components
 authority-form-is-split : (t : Components) → IsPlainTarget t → is_some t.authority ≡ true
     → IsSplitOf (recompose (record t { scheme = None })) (record t { scheme = None })
-authority-form-is-split t w some = record {
-  whole = refl;
-  scheme = tt;
-  authority = w.split.authority;
-  path = w.split.path;
-  query = w.split.query;
-  no_scheme = authority-form-has-no-scheme t.authority t.path t.query t.fragment some;
-  no_authority = w.split.no_authority;
-}
+authority-form-is-split t w some = search (rules, no_scheme, authority-form-has-no-scheme)
 
 -- relativized references: one that begins with `//` leads to the target
 authority-form-leads-to-target : (base t : Components) → IsPlainTarget t
     → is_some t.authority ≡ true → base.scheme ≡ t.scheme
     → target base (record t { scheme = None }) ≡ t
 authority-form-leads-to-target base t w some s =
-    let r : Components = record t { scheme = base.scheme; path = remove_dot_segments t.path } in
-    let e : target base (record t { scheme = None }) ≡ r = cond-true _ _ _ some in
-    e ∙ ap (λ x. record t { scheme = x; path = remove_dot_segments t.path }) s
-    ∙ ap (λ p. record t { path = p }) (removal-of-path-without-dots t.path w.literal)
+    search (rules, cond-true, removal-of-path-without-dots)
 
 -- relativized references: one of a path, a query and the target's fragment is parsed as these
 path-form-is-split : (t : Components) (path : List ℕ) (query : Option (List ℕ))
@@ -163,16 +138,8 @@ path-form-is-split : (t : Components) (path : List ℕ) (query : Option (List �
     → IsSplitOf
     (recompose (record t { scheme = None; authority = None; path = path; query = query }))
     (record t { scheme = None; authority = None; path = path; query = query })
-path-form-is-split t path query lacks colon slashes q = record {
-  whole = refl;
-  scheme = tt;
-  authority = tt;
-  path = lacks;
-  query = q;
-  no_scheme = no_scheme path (marked (codes "?") query [] ++ marked (codes "#") t.fragment []) colon
-      (IsEmptyOrMarked-query_text query t.fragment);
-  no_authority = slashes;
-}
+path-form-is-split t path query lacks colon slashes q =
+    search (rules, no_scheme, IsEmptyOrMarked-query_text)
 
 -- relativized references: one without a path is parsed as its query and fragment
 pathless-form-is-split : (t : Components) (query : Option (List ℕ))
@@ -204,17 +171,7 @@ path-form-leads-to-target : (base t : Components) (way : List ℕ) → base.sche
     → base.authority ≡ t.authority → LeadsByPath base t.path way
     → target base (record t { scheme = None; authority = None; path = way }) ≡ t
 path-form-leads-to-target base t way s a w =
-    let c : Components = record base {
-      path = cond (starts slash way) (remove_dot_segments way)
-          (remove_dot_segments (merge base way));
-      query = t.query;
-      fragment = t.fragment;
-    } in
-    let e : target base (record t { scheme = None; authority = None; path = way }) ≡ c =
-    cond-false _ _ _ w.some
-    ∙ target-of-path-by-case base t (starts slash way) (remove_dot_segments way)
-    (remove_dot_segments (merge base way)) in
-    e ∙ (λ i. record t { scheme = s i; authority = a i; path = w.leads i })
+    search (rules, cond-false, target-of-path-by-case)
 
 -- relativized references: one of a fragment alone, or empty, leads to the target
 fragment-form-leads-to-target : (base t : Components) → base.scheme ≡ t.scheme
@@ -264,10 +221,7 @@ module _ (prefers : Bool) (base : List ℕ) (t : Components) (w : IsPlainTarget 
       (sym (plain-path-is-without-dots t w h))
       (chosen-path-leads-to-path prefers (components base) t.path opaque
       (base-that-is-not-opaque-is-rooted base opaque) (plain-path-is-final t w h)) in
-      text-of-leading-reference-leads (components base) t
-      (record t { scheme = None; authority = None; path = path }) w
-      (path-form-is-split t path t.query by.lacks by.no_scheme by.no_authority w.split.query)
-      (path-form-leads-to-target (components base) t path s a by)
+      search (rules, text-of-leading-reference-leads, path-form-is-split, path-form-leads-to-target)
 
   made-reference-leads : Leads (reference_components prefers (components base) t)
   unfolding reference_components
@@ -342,7 +296,6 @@ pub reference-to-target-without-dots-leads : (prefers : Bool) (base target : Lis
 reference-to-target-without-dots-leads prefers base target some dotless =
     let same = target-without-dots-is-settled target dotless in
     reference-to-settled-target-leads prefers base target some
-    (ap (λ (c : Components). has_literal_dot_segment c.path) same
-    ∙ dotless-path-has-no-literal-dot (components target).path dotless)
+    (cc (dotless-path-has-no-literal-dot (components target).path dotless))
     ∙ ap (λ c. Ok (recompose c)) same
     ∙ ap (λ x. Ok x) (recompose-components target)

@@ -1,6 +1,6 @@
 -- Where removing dot segments of section 5.2.4 is removing those of `Resolver`, or changes nothing.
 use Rattle.std.proofs.Common.{◌≡◌, ℕ, false, not, List, [], ◌∷◌, ◌++◌, refl, sym, ap, ◌∙◌, ◌&&◌}
-use Rattle.std.proofs.Common.{append_assoc, ⊎_elim}
+use Rattle.std.proofs.Common.{append_assoc, ⊎_elim, rules}
 use Rattle.std.specs.Prelude.{bytes_eq, codes}
 use Rattle.std.specs.List.{list_any}
 use Rattle.std.proofs.lemmas.Bool.{cases_Bool, and_cases, both_ways, not_from_false, or_from}
@@ -29,23 +29,14 @@ segment-leaves : (out : List (List ℕ)) (s : List ℕ)
     → (step_of out (codes ".") ≡ out) × (step_of out (codes "..") ≡ pop out)
     × (is_dot_segment s ≡ false → step_of out s ≡ out ++ s ∷ [])
 unfolding step_of next_output
-segment-leaves out s = (
-  refl,
-  refl,
-  λ e.
-      let f = or_parts (is_single_dot s) (is_double_dot s) e in
-      ap (λ b. next_output b (is_double_dot s) out s) f.0
-      ∙ ap (λ b. next_output false b out s) f.1,
-)
+segment-leaves out s = search (rules, or_parts, next_output)
 
 -- dot segments: a segment that is neither `.` nor `..`, nor one with an encoded dot, is none
 other-segment-is-dotless : (s : List ℕ)
     → (is_dot_segment s && not (is_literal_dot_segment s)) ≡ false
     → bytes_eq s (codes ".") ≡ false → bytes_eq s (codes "..") ≡ false → is_dot_segment s ≡ false
-other-segment-is-dotless s e single double = ⊎_elim (λ f. f)
-    (λ f. absurd (both_ways (not (is_literal_dot_segment s)) f
-    (not_from_false _ (or_from _ _ single double))))
-    (and_cases (is_dot_segment s) _ e)
+other-segment-is-dotless s e single double =
+    search (rules, both_ways, not_from_false, or_from, and_cases)
 
 -- dot segments: a directory after a segment and its `/` is that of the segments that are left
 directory-by-segments : (out : List (List ℕ)) (s : List ℕ) → NoSlashes out
@@ -56,19 +47,13 @@ directory-by-segments out s lack literal =
     let after = after-segment-by-test (slashed out ++ codes "/") s (s ++ codes "/") in
     let leaves = segment-leaves out s in
     ⊎_elim
-    (λ e. after.0 e ∙ ap (λ o. slashed o ++ codes "/")
-    (sym (ap (step_of out) ((bytes_eq-Decides s (codes ".")).0 e) ∙ leaves.0)))
+    (λ e. cc (after.0 e, (bytes_eq-Decides s (codes ".")).0 e))
     (λ single. ⊎_elim
     (λ e. after.1 e ∙ parent-of-directory (slashed out)
     ∙ ap (λ t. t ++ codes "/") (before_last_slash-of-slashed-is-popped out lack)
     ∙ ap (λ o. slashed o ++ codes "/")
     (sym (ap (step_of out) ((bytes_eq-Decides s (codes "..")).0 e) ∙ leaves.1)))
-    (λ double. after.2 single double
-    ∙ append_assoc (slashed out) (codes "/") (s ++ codes "/")
-    ∙ sym (append_assoc (slashed out) (47 ∷ s) (codes "/"))
-    ∙ ap (λ t. t ++ codes "/") (sym (slashed-of-push out s))
-    ∙ ap (λ o. slashed o ++ codes "/")
-    (sym (leaves.2 (other-segment-is-dotless s literal single double))))
+    (search (rules, append_assoc, slashed-of-push, other-segment-is-dotless))
     (cases_Bool (bytes_eq s (codes ".."))))
     (cases_Bool (bytes_eq s (codes ".")))
 
@@ -89,26 +74,15 @@ path-by-segments out s lack literal =
     let leaves = segment-leaves out s in
     let ends = end-of-segment s in
     ⊎_elim
-    (λ e.
-    let same = (bytes_eq-Decides s (codes ".")).0 e in
-    after.0 e ∙ sym (slashed-of-push out [])
-    ∙ sym (ap (λ t. slashed (step_of out t ++ end_of (is_dot_segment t))) same
-    ∙ ap (λ o. slashed (o ++ [] ∷ [])) leaves.0))
+    (search (rules, bytes_eq-Decides, slashed-of-push, step_of, end_of))
     (λ single. ⊎_elim
     (λ e.
     let same = (bytes_eq-Decides s (codes "..")).0 e in
     after.1 e ∙ parent-of-directory (slashed out)
     ∙ ap (λ t. t ++ codes "/") (before_last_slash-of-slashed-is-popped out lack)
     ∙ sym (slashed-of-push (pop out) [])
-    ∙ sym (ap (λ t. slashed (step_of out t ++ end_of (is_dot_segment t))) same
-    ∙ ap (λ o. slashed (o ++ [] ∷ [])) leaves.1))
-    (λ double.
-    let none = other-segment-is-dotless s literal single double in
-    after.2 single double
-    ∙ append_assoc (slashed out) (codes "/") s
-    ∙ sym (slashed-of-push out s)
-    ∙ ap slashed (sym (append-nil (out ++ s ∷ [])))
-    ∙ sym (λ i. slashed (leaves.2 none i ++ ends.2 none i)))
+    ∙ sym (cc))
+    (search (rules, other-segment-is-dotless, append_assoc, slashed-of-push, append-nil))
     (cases_Bool (bytes_eq s (codes ".."))))
     (cases_Bool (bytes_eq s (codes ".")))
 
@@ -170,7 +144,4 @@ pub removal-of-path-without-dots : (path : List ℕ) → has_literal_dot_segment
     → remove_dot_segments path ≡ path
 removal-of-path-without-dots = property-of-path-by-segments
     (λ path. has_literal_dot_segment path ≡ false → remove_dot_segments path ≡ path)
-    (λ s rest lack e.
-    removal-by-segments s rest lack
-    ∙ kept-segments-stay [] s rest
-    (ap (list_any is_literal_dot_segment) (sym (segments-of-joined-segments s rest lack)) ∙ e))
+    (search (rules, removal-by-segments, kept-segments-stay, segments-of-joined-segments))

@@ -1,5 +1,5 @@
 -- Where nothing deviates, the basic algorithm and `Resolver` have the same target.
-use Rattle.std.proofs.Common.{◌≡◌, ℕ, true, false, not, List, [], ◌++◌, refl, sym, ap, subst}
+use Rattle.std.proofs.Common.{◌≡◌, ℕ, true, false, not, List, [], ◌++◌, refl, sym, ap, subst, rules}
 use Rattle.std.proofs.Common.{◌∙◌, ◌&&◌, ⊎_elim}
 use Rattle.std.specs.Prelude.{None, Ok, Option, Some, is_none, is_some}
 use Rattle.std.proofs.lemmas.Bool.{and_from, and_right, cases_Bool, cond-true, cond-false}
@@ -46,13 +46,7 @@ same-target : (base r d t : Components) → dotted_target base r ≡ d → targe
     → (path : List ℕ) → dotless_if_absolute d.path ≡ path → record d { path = path } ≡ t
     → is_ambiguous (target base r) ≡ false → target_of base r ≡ target base r
 same-target base r d t is_d is_t path same whole clear =
-    let plain : is_ambiguous (record d { path = path }) ≡ false =
-    ap is_ambiguous (whole ∙ sym is_t) ∙ clear in
-    ap finished is_d
-    ∙ (λ i. record d {
-      path = unguarded-path d.authority (dotless_if_absolute d.path) path same plain i;
-    })
-    ∙ whole ∙ sym is_t
+    search (rules, unguarded-path)
 
 -- targets: an empty base path to merge with is after an authority, if the base is not opaque
 pub base-with-empty-path-has-authority : (o : Option (List ℕ)) (path : List ℕ)
@@ -66,13 +60,8 @@ same-merged-path : (base : Components) (path : List ℕ) → is_opaque base ≡ 
     → is_double_dot (last_segment base.path) ≡ false → merged base.path path ≡ merge base path
 unfolding directory
 same-merged-path base path opaque last = ⊎_elim
-    (λ h.
-    let some = base-with-empty-path-has-authority base.authority base.path opaque
-    (empty-text-is-nil base.path h) in
-    ap (λ t. t ++ path) (cond-true _ _ _ h) ∙ sym (cond-true _ _ _ (and_from _ _ some h)))
-    (λ h.
-    ap (λ t. t ++ path) (cond-false _ _ _ h ∙ cond-false _ _ _ last)
-    ∙ sym (cond-false _ _ _ (and_right (is_some base.authority) _ h)))
+    (search (rules, base-with-empty-path-has-authority, empty-text-is-nil, cond-true, and_from))
+    (search (rules, cond-false, and_right))
     (cases_Bool (is_empty base.path))
 
 -- targets: where nothing deviates, the target is that of `Resolver`
@@ -151,11 +140,7 @@ same-targets base r n =
 pub same-resolutions : (base r : Components) → NothingDeviates base r
     → (resolution_of base r ≡ Ok (recompose (target base r)))
     × (basic_resolution base r ≡ Ok (recompose (target base r)))
-same-resolutions base r n = (
-  cond-false _ _ _ (ap is_some n.no_fragment) ∙ cond-false _ _ _ n.taken
-      ∙ ap (λ t. Ok (recompose t)) (same-targets base r n),
-  cond-false _ _ _ n.unguarded,
-)
+same-resolutions base r n = search (rules, cond-false, same-targets)
 
 -- references that lead to a target: where nothing deviates, they do so by the basic algorithm too
 pub leading-reference-resolves : (base target reference : List ℕ) → LeadsTo base target reference

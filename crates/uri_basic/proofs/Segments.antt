@@ -1,6 +1,6 @@
 -- Removing dot segments segment by segment, as the code does: the path that is left of a directory
 -- and the rest of a path.
-use Rattle.std.proofs.Common.{◌≡◌, ℕ, true, false, List, [], ◌∷◌, ◌++◌, refl, sym, ap, ◌∙◌}
+use Rattle.std.proofs.Common.{◌≡◌, ℕ, true, false, List, [], ◌∷◌, ◌++◌, refl, sym, ap, ◌∙◌, rules}
 use Rattle.std.proofs.Common.{append_assoc, inl, inr, ⊎_elim}
 use Rattle.std.specs.Prelude.{codes, bytes_eq}
 use Rattle.std.proofs.lemmas.Bool.{cases_Bool, cond-true, cond-false, cond_both, or_parts}
@@ -66,12 +66,7 @@ nothing-left-of-dots : (q : List ℕ)
     × (path_left [] (codes "../" ++ q) ≡ path_left [] q)
     × (path_left [] (codes ".") ≡ []) × (path_left [] (codes "..") ≡ [])
 unfolding path_left buffers_at
-nothing-left-of-dots q = (
-  output-after-step (record { input = codes "./" ++ q; output = [] }) refl,
-  output-after-step (record { input = codes "../" ++ q; output = [] }) refl,
-  output-after-step (record { input = codes "."; output = [] }) refl ∙ output-of-empty-input [],
-  output-after-step (record { input = codes ".."; output = [] }) refl ∙ output-of-empty-input [],
-)
+nothing-left-of-dots q = search (rules, output-after-step, output-of-empty-input)
 
 -- removing dot segments: a `/` that is all of the input buffer is moved
 output-after-slash : (p : List ℕ)
@@ -87,16 +82,9 @@ directory-left-of-dots : (p q : List ℕ)
     × (path_left (p ++ codes "/") (codes ".") ≡ p ++ codes "/")
     × (path_left (p ++ codes "/") (codes "..") ≡ parent (p ++ codes "/"))
 directory-left-of-dots p q = (
-  path-left-after-directory p (codes "./" ++ q)
-      ∙ output-after-step (record { input = codes "/./" ++ q; output = p }) refl
-      ∙ sym (path-left-after-directory p q),
-  path-left-after-directory p (codes "../" ++ q)
-      ∙ output-after-step (record { input = codes "/../" ++ q; output = p }) refl
-      ∙ sym (ap (λ k. path_left k q) (parent-of-directory p)
-      ∙ path-left-after-directory (before_last_slash p) q),
-  path-left-after-directory p (codes ".")
-      ∙ output-after-step (record { input = codes "/."; output = p }) refl
-      ∙ output-after-slash p,
+  search (rules, path-left-after-directory, output-after-step),
+  search (rules, path-left-after-directory, output-after-step, parent-of-directory),
+  search (rules, path-left-after-directory, output-after-step, output-after-slash),
   path-left-after-directory p (codes "..")
       ∙ output-after-step (record { input = codes "/.."; output = p }) refl
       ∙ output-after-slash (before_last_slash p) ∙ sym (parent-of-directory p),
@@ -161,11 +149,7 @@ pub after-segment-by-test : (kept s piece : List ℕ)
     × (bytes_eq s (codes ".") ≡ false → bytes_eq s (codes "..") ≡ false
     → after_segment kept s piece ≡ kept ++ piece)
 unfolding after_segment
-after-segment-by-test kept s piece = (
-  λ e. cond-true _ _ _ e,
-  λ e. ap (λ t. after_segment kept t piece) ((bytes_eq-Decides s (codes "..")).0 e),
-  λ e f. cond-false _ _ _ e ∙ cond-false _ _ _ f,
-)
+after-segment-by-test kept s piece = search (rules, cond-true, bytes_eq-Decides, cond-false)
 
 -- removing dot segments: what is left of a segment and the rest is what is left of the rest after
 -- the segment
@@ -176,32 +160,15 @@ path-left-after-segment kept s q closed lacks =
     let after = after-segment-by-test kept s (s ++ codes "/") in
     ap (path_left kept) (append_assoc s (codes "/") q)
     ∙ ⊎_elim
-    (λ e. ap (λ t. path_left kept (t ++ 47 ∷ q)) ((bytes_eq-Decides s (codes ".")).0 e)
-    ∙ ⊎_elim
-    (λ n. ap (λ k. path_left k (codes "./" ++ q)) n ∙ (nothing-left-of-dots q).0
-    ∙ ap (λ k. path_left k q) (sym n))
-    (λ d. ap (λ k. path_left k (codes "./" ++ q)) d.1 ∙ (directory-left-of-dots d.0 q).0
-    ∙ ap (λ k. path_left k q) (sym d.1))
-    closed
-    ∙ ap (λ k. path_left k q) (sym (after.0 e)))
+    (search (rules, bytes_eq-Decides, nothing-left-of-dots, directory-left-of-dots))
     (λ single. ⊎_elim
     (λ e. ap (λ t. path_left kept (t ++ 47 ∷ q)) ((bytes_eq-Decides s (codes "..")).0 e)
     ∙ ⊎_elim
-    (λ n. ap (λ k. path_left k (codes "../" ++ q)) n ∙ (nothing-left-of-dots q).1
-    ∙ ap (λ k. path_left k q) (sym (ap parent n ∙ parent-of-nothing)))
-    (λ d. ap (λ k. path_left k (codes "../" ++ q)) d.1 ∙ (directory-left-of-dots d.0 q).1
-    ∙ ap (λ k. path_left (parent k) q) (sym d.1))
+    (λ n. cc (n, (nothing-left-of-dots q).1, n, parent-of-nothing))
+    (λ d. cc ((directory-left-of-dots d.0 q).1))
     closed
     ∙ ap (λ k. path_left k q) (sym (after.1 e)))
-    (λ double. ⊎_elim
-    (λ n. ap (λ k. path_left k (s ++ 47 ∷ q)) n
-    ∙ nothing-gets-other-segment s q lacks single double
-    ∙ ap (λ k. path_left (k ++ (s ++ codes "/")) q) (sym n))
-    (λ d. ap (λ k. path_left k (s ++ 47 ∷ q)) d.1
-    ∙ directory-gets-other-segment d.0 s q lacks single double
-    ∙ ap (λ k. path_left (k ++ (s ++ codes "/")) q) (sym d.1))
-    closed
-    ∙ ap (λ k. path_left k q) (sym (after.2 single double)))
+    (search (rules, nothing-gets-other-segment, directory-gets-other-segment))
     (cases_Bool (bytes_eq s (codes ".."))))
     (cases_Bool (bytes_eq s (codes ".")))
 
@@ -220,20 +187,11 @@ path-left-after-last-segment kept s closed lacks =
     (λ single. ⊎_elim
     (λ e. ap (path_left kept) ((bytes_eq-Decides s (codes "..")).0 e)
     ∙ ⊎_elim
-    (λ n. ap (λ k. path_left k (codes "..")) n ∙ (nothing-left-of-dots []).3
-    ∙ sym (ap parent n ∙ parent-of-nothing))
-    (λ d. ap (λ k. path_left k (codes "..")) d.1 ∙ (directory-left-of-dots d.0 []).3
-    ∙ ap parent (sym d.1))
+    (λ n. cc (n, (nothing-left-of-dots []).3, n, parent-of-nothing))
+    (λ d. cc ((directory-left-of-dots d.0 []).3))
     closed
     ∙ sym (after.1 e))
-    (λ double. ⊎_elim
-    (λ n. ap (λ k. path_left k s) n ∙ nothing-gets-other-last-segment s lacks single double
-    ∙ ap (λ k. k ++ s) (sym n))
-    (λ d. ap (λ k. path_left k s) d.1
-    ∙ directory-gets-other-last-segment d.0 s lacks single double
-    ∙ ap (λ k. k ++ s) (sym d.1))
-    closed
-    ∙ sym (after.2 single double))
+    (search (rules, nothing-gets-other-last-segment, directory-gets-other-last-segment))
     (cases_Bool (bytes_eq s (codes ".."))))
     (cases_Bool (bytes_eq s (codes ".")))
 
@@ -242,18 +200,13 @@ pub after-segment-keeps : (Q : List ℕ → Type 0) (kept s piece : List ℕ) �
     → Q (kept ++ piece) → Q (after_segment kept s piece)
 unfolding after_segment
 after-segment-keeps Q kept s piece same up more =
-    cond_both (bytes_eq s (codes ".")) kept _ Q (λ _. same)
-    (λ _. cond_both (bytes_eq s (codes "..")) (parent kept) (kept ++ piece) Q (λ _. up)
-    (λ _. more))
+    search (rules, cond_both)
 
 -- removing dot segments: the parent of a directory is a directory
 pub parent-is-directory : (kept : List ℕ) → IsDirectoryOrNothing kept
     → IsDirectoryOrNothing (parent kept)
 unfolding parent
-parent-is-directory kept closed = ⊎_elim
-    (λ n. inl (ap parent n))
-    (λ d. inr (before_last_slash d.0, ap parent d.1 ∙ parent-of-directory d.0))
-    closed
+parent-is-directory kept closed = search (rules, parent-of-directory)
 
 -- removing dot segments: after a segment and its `/` a directory is kept
 pub directory-after-segment : (kept s : List ℕ) → IsDirectoryOrNothing kept
@@ -273,9 +226,7 @@ pub path-left-by-segments : (kept s : List ℕ) (rest : List (List ℕ)) → IsD
     → NoSlashes (s ∷ rest) → path_left kept (s ++ slashed rest) ≡ kept_of kept s rest
 unfolding kept_of slashed
 path-left-by-segments kept s [] closed lack =
-    ap (path_left kept) (append-nil s)
-    ∙ path-left-after-last-segment kept s closed
-    (first-segment-and-rest-lack-slashes s [] lack).0
+    search (rules, append-nil, path-left-after-last-segment, first-segment-and-rest-lack-slashes)
 path-left-by-segments kept s (t ∷ rest) closed lack =
     let first = first-segment-and-rest-lack-slashes s (t ∷ rest) lack in
     ap (path_left kept) (sym (append_assoc s (codes "/") (t ++ slashed rest)))

@@ -1,6 +1,6 @@
 -- One segment of a path in the loop of section 5.2.4.
 use Rattle.std.proofs.Common.{◌≡◌, ℕ, suc, Bool, true, false, not, List, [], ◌∷◌, ◌++◌, take, drop}
-use Rattle.std.proofs.Common.{refl, sym, ap, ◌∙◌, ◌&&◌, arith}
+use Rattle.std.proofs.Common.{refl, sym, ap, ◌∙◌, ◌&&◌, arith, rules}
 use Rattle.std.specs.Prelude.{codes, bytes_eq, ◌==◌}
 use Rattle.std.specs.List.{prefix_len}
 use Rattle.std.proofs.lemmas.Bool.{cond-true, cond-false, and_left, and_right, false≢true, or_parts}
@@ -35,54 +35,23 @@ pub other-segment-begins-with-no-dots : (s q : List ℕ) → has_slash s ≡ fal
     → BeginsWithNoDots (s ++ 47 ∷ q)
 other-segment-begins-with-no-dots [] q lacks single double =
     record { double_slash = refl; single_slash = refl; single = refl; double = refl }
-other-segment-begins-with-no-dots (c ∷ []) q lacks single double = record {
-  double_slash = and_right (c == 46) _ refl;
-  single_slash = first-test-fails (c == 46) _ single;
-  single = and_right (c == 46) _ refl;
-  double = and_right (c == 46) _ refl;
-}
-other-segment-begins-with-no-dots (c ∷ d ∷ []) q lacks single double = record {
-  double_slash = first-two-tests-fail (c == 46) (d == 46) _ double;
-  single_slash = and_right (c == 46) _ (and_left (d == 47) _
-      (or_parts (d == 47) false (or_parts (c == 47) _ lacks).1).0);
-  single = and_right (c == 46) _ refl;
-  double = and_right (c == 46) _ (and_right (d == 46) _ refl);
-}
-other-segment-begins-with-no-dots (c ∷ d ∷ e ∷ s) q lacks single double = record {
-  double_slash = and_right (c == 46) _ (and_right (d == 46) _ (and_left (e == 47) _
-      (or_parts (e == 47) _ (or_parts (d == 47) _ (or_parts (c == 47) _ lacks).1).1).0));
-  single_slash = and_right (c == 46) _ (and_left (d == 47) _
-      (or_parts (d == 47) _ (or_parts (c == 47) _ lacks).1).0);
-  single = and_right (c == 46) _ refl;
-  double = and_right (c == 46) _ (and_right (d == 46) _ refl);
-}
+other-segment-begins-with-no-dots (c ∷ []) q lacks single double =
+    search (rules, and_right, first-test-fails)
+other-segment-begins-with-no-dots (c ∷ d ∷ []) q lacks single double =
+    search (rules, first-two-tests-fail, and_right, and_left, or_parts)
+other-segment-begins-with-no-dots (c ∷ d ∷ e ∷ s) q lacks single double =
+    search (rules, and_right, and_left, or_parts)
 
 -- dot segments: a last segment that is none begins with none
 pub other-last-segment-begins-with-no-dots : (s : List ℕ) → has_slash s ≡ false
     → bytes_eq s (codes ".") ≡ false → bytes_eq s (codes "..") ≡ false → BeginsWithNoDots s
 other-last-segment-begins-with-no-dots [] lacks single double =
     record { double_slash = refl; single_slash = refl; single = refl; double = refl }
-other-last-segment-begins-with-no-dots (c ∷ []) lacks single double = record {
-  double_slash = and_right (c == 46) _ refl;
-  single_slash = and_right (c == 46) _ refl;
-  single = single;
-  double = double;
-}
-other-last-segment-begins-with-no-dots (c ∷ d ∷ []) lacks single double = record {
-  double_slash = and_right (c == 46) _ (and_right (d == 46) _ refl);
-  single_slash = and_right (c == 46) _ (and_left (d == 47) _
-      (or_parts (d == 47) false (or_parts (c == 47) _ lacks).1).0);
-  single = single;
-  double = double;
-}
-other-last-segment-begins-with-no-dots (c ∷ d ∷ e ∷ s) lacks single double = record {
-  double_slash = and_right (c == 46) _ (and_right (d == 46) _ (and_left (e == 47) _
-      (or_parts (e == 47) _ (or_parts (d == 47) _ (or_parts (c == 47) _ lacks).1).1).0));
-  single_slash = and_right (c == 46) _ (and_left (d == 47) _
-      (or_parts (d == 47) _ (or_parts (c == 47) _ lacks).1).0);
-  single = single;
-  double = double;
-}
+other-last-segment-begins-with-no-dots (c ∷ []) lacks single double = search (rules, and_right)
+other-last-segment-begins-with-no-dots (c ∷ d ∷ []) lacks single double =
+    search (rules, and_right, and_left, or_parts)
+other-last-segment-begins-with-no-dots (c ∷ d ∷ e ∷ s) lacks single double =
+    search (rules, and_right, and_left, or_parts)
 
 -- paths: the first segment of a text ends before its first `/` (47)
 pub segment-ends-before-slash : (s q : List ℕ) → has_slash s ≡ false
@@ -132,16 +101,7 @@ step-moves-rootless-segment : (c : ℕ) (text output : List ℕ) → (c == 47) �
       output = output ++ before_any (codes "/") (c ∷ text);
     }
 step-moves-rootless-segment c text output e f =
-    cond-false _ _ _ f.double_slash ∙ cond-false _ _ _ f.single_slash
-    ∙ cond-false _ _ _ (and_left (c == 47) _ e) ∙ cond-false _ _ _ (and_left (c == 47) _ e)
-    ∙ cond-false _ _ _ (and_left (c == 47) _ e) ∙ cond-false _ _ _ (and_left (c == 47) _ e)
-    ∙ cond-false _ _ _ (or_from _ _ f.single f.double)
-    ∙ (λ i. record {
-      input = cond-false (c == 47) (from_any (codes "/") text)
-          (from_any (codes "/") (c ∷ text)) e i;
-      output = output ++ cond-false (c == 47) (codes "/" ++ before_any (codes "/") text)
-          (before_any (codes "/") (c ∷ text)) e i;
-    })
+    search (rules, cond-false, and_left, or_from)
 
 -- removing dot segments: the output where a buffer has a `/` before no dot segment
 pub output-after-rooted-segment : (text output segment rest : List ℕ) → BeginsWithNoDots text
@@ -149,9 +109,7 @@ pub output-after-rooted-segment : (text output segment rest : List ℕ) → Begi
     → output_of (record { input = 47 ∷ text; output = output })
     ≡ output_of (record { input = rest; output = output ++ 47 ∷ segment })
 output-after-rooted-segment text output segment rest f e g =
-    output-after-step (record { input = 47 ∷ text; output = output }) refl
-    ∙ ap output_of (step-moves-rooted-segment text output f
-    ∙ (λ i. record { input = g i; output = output ++ 47 ∷ e i }))
+    search (rules, output-after-step, step-moves-rooted-segment)
 
 -- removing dot segments: the output where a buffer begins with no `/` and no dot segment
 pub output-after-rootless-segment : (c : ℕ) (text output segment rest : List ℕ)
@@ -160,6 +118,4 @@ pub output-after-rootless-segment : (c : ℕ) (text output segment rest : List �
     → output_of (record { input = c ∷ text; output = output })
     ≡ output_of (record { input = rest; output = output ++ segment })
 output-after-rootless-segment c text output segment rest h f e g =
-    output-after-step (record { input = c ∷ text; output = output }) refl
-    ∙ ap output_of (step-moves-rootless-segment c text output h f
-    ∙ (λ i. record { input = g i; output = output ++ e i }))
+    search (rules, output-after-step, step-moves-rootless-segment)

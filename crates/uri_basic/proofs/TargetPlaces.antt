@@ -1,5 +1,5 @@
 -- Where the components of a target are.
-use Rattle.std.proofs.Common.{◌≡◌, ℕ, ◌+◌, ◌-◌, ◌≤◌, true, false, List, [], ◌++◌, length}
+use Rattle.std.proofs.Common.{◌≡◌, ℕ, ◌+◌, ◌-◌, ◌≤◌, true, false, List, [], ◌++◌, length, rules}
 use Rattle.std.proofs.Common.{refl, sym, ap, subst, ◌∙◌, arith, option_map, unwrap_or}
 use Rattle.std.specs.Prelude.{Err, IfOk, None, Ok, Option, Result, Some, codes, is_some}
 use Rattle.std.specs.Str.{IsUtf8}
@@ -38,13 +38,7 @@ pub basic-result-is-at : (kind : Kind) → kind.needs_scheme ≡ true
 basic-result-is-at kind needs b r held base at same utf8 of_kind text places e is =
     let t = target (components b) (components r) in
     let f = result-by-test (is_ambiguous t) (recompose t) text e in
-    let w : IsTextOf kind b = record {
-      utf8 = subst IsUtf8 (sym at) utf8;
-      grammar = subst (IsOfKind kind) (sym (at ∙ same)) of_kind;
-    } in
-    is ∙ ap (λ (p : Components). packed (positions_of p))
-    (sym (basic-target-has-its-components b r (text-of-kind-has-needed-scheme kind b needs w) f.0)
-    ∙ ap components f.1)
+    search (rules, basic-target-has-its-components, text-of-kind-has-needed-scheme)
 
 -- targets: the scheme and the authority are these
 record HasPrefix (scheme authority : Option (List ℕ)) (t : Components) : Type 0 where
@@ -55,25 +49,13 @@ record HasPrefix (scheme authority : Option (List ℕ)) (t : Components) : Type 
 prefix-of-authority : (b r : Components) → is_some r.scheme ≡ false → is_some r.authority ≡ true
     → HasPrefix b.scheme r.authority (target b r)
 prefix-of-authority b r s a =
-    cond_both (is_some r.scheme) _ _ (HasPrefix b.scheme r.authority)
-    (λ f. absurd (both_ways (is_some r.scheme) s f))
-    (λ _. cond_both (is_some r.authority) _ _ (HasPrefix b.scheme r.authority)
-    (λ _. record { scheme_is = refl; authority_is = refl })
-    (λ f. absurd (both_ways (is_some r.authority) f a)))
+    search (rules, cond_both, both_ways)
 
 -- targets: a reference with neither takes the base's
 prefix-of-base : (b r : Components) → is_some r.scheme ≡ false → is_some r.authority ≡ false
     → HasPrefix b.scheme b.authority (target b r)
 prefix-of-base b r s a =
-    cond_both (is_some r.scheme) _ _ (HasPrefix b.scheme b.authority)
-    (λ f. absurd (both_ways (is_some r.scheme) s f))
-    (λ _. cond_both (is_some r.authority) _ _ (HasPrefix b.scheme b.authority)
-    (λ f. absurd (both_ways (is_some r.authority) a f))
-    (λ _. cond_both (is_empty r.path) _ _ (HasPrefix b.scheme b.authority)
-    (λ _. record { scheme_is = refl; authority_is = refl })
-    (λ _. cond_both (starts 47 r.path) _ _ (HasPrefix b.scheme b.authority)
-    (λ _. record { scheme_is = refl; authority_is = refl })
-    (λ _. record { scheme_is = refl; authority_is = refl }))))
+    search (rules, cond_both, both_ways)
 
 -- targets: where the host of an authority begins and ends, after a scheme, or 0 if there is none
 abbrev host_start_after : Option (List ℕ) → Option (List ℕ) → ℕ
@@ -90,21 +72,14 @@ places-by-prefix : (scheme authority : Option (List ℕ)) (t : Components) (plac
     → places.scheme_end ≡ unwrap_or (option_map length scheme) 0
     → places.host_start ≡ host_start_after scheme authority
     → places.host_end ≡ host_end_after scheme authority → ArePlacesToHost t places
-places-by-prefix scheme authority t places p s start end = record {
-  scheme_end = s ∙ ap (λ o. unwrap_or (option_map length o) 0) (sym p.scheme_is);
-  host_start = start ∙ (λ i. host_start_after (sym p.scheme_is i) (sym p.authority_is i));
-  host_end = end ∙ (λ i. host_end_after (sym p.scheme_is i) (sym p.authority_is i));
-}
+places-by-prefix scheme authority t places p s start end = search (rules, unwrap_or, option_map)
 
 -- targets: the base has the target's positions up to the host of a reference with no prefix
 pub places-of-base : (b r : Components) (places : PackedPositions)
     → places ≡ packed (positions_of b) → is_some r.scheme ≡ false → is_some r.authority ≡ false
     → ArePlacesToHost (target b r) places
 places-of-base b r places at s a =
-    places-by-prefix b.scheme b.authority (target b r) places (prefix-of-base b r s a)
-    (ap (λ (p : PackedPositions). p.scheme_end) at)
-    (ap (λ (p : PackedPositions). p.host_start) at)
-    (ap (λ (p : PackedPositions). p.host_end) at)
+    search (rules, places-by-prefix, prefix-of-base)
 
 -- targets: an authority without a scheme, after a scheme, is further on by this
 moved-host : (scheme none authority : Option (List ℕ)) → is_some none ≡ false
@@ -126,15 +101,7 @@ pub places-of-authority : (b r : Components) (own from made : PackedPositions) (
     → made.host_start ≡ length scheme + own.host_start
     → made.host_end ≡ length scheme + own.host_end → ArePlacesToHost (target b r) made
 places-of-authority b r own from made scheme at base is s a ends starts stops =
-    let long : length scheme ≡ delimited_length 1 b.scheme =
-    ap length is ∙ length-with-delimiter-after b.scheme 58 in
-    let moved = moved-host b.scheme r.scheme r.authority s a in
-    places-by-prefix b.scheme r.authority (target b r) made (prefix-of-authority b r s a)
-    (ends ∙ ap (λ (p : PackedPositions). p.scheme_end) base)
-    (starts
-    ∙ (λ i. long i + ap (λ (p : PackedPositions). p.host_start) at i) ∙ sym moved.0)
-    (stops
-    ∙ (λ i. long i + ap (λ (p : PackedPositions). p.host_end) at i) ∙ sym moved.1)
+    search (rules, length-with-delimiter-after, moved-host, places-by-prefix, prefix-of-authority)
 
 -- targets: the host of a text is within it, by its scheme and authority
 host-within-parts : (scheme authority : Option (List ℕ)) (rest : List ℕ)
@@ -145,17 +112,7 @@ host-within-parts : (scheme authority : Option (List ℕ)) (rest : List ℕ)
     ≤ length (marked [] scheme (codes ":") ++ (marked (codes "//") authority [] ++ rest)))
 host-within-parts scheme None rest h = (omega arith, omega arith)
 host-within-parts scheme (Some a) rest h =
-    let s = marked [] scheme (codes ":") in
-    let bound = h a refl in
-    let total : length (s ++ ((codes "//" ++ a ++ []) ++ rest))
-    ≡ delimited_length 1 scheme + (2 + length a + length rest) = omega (
-      arith,
-      length-append s ((codes "//" ++ a ++ []) ++ rest),
-      length-append (codes "//" ++ a ++ []) rest,
-      length-append (codes "//" ++ a) [],
-      length-append (codes "//") a,
-      length-with-delimiter-after scheme 58,
-    ) in (omega (arith, total, bound), omega (arith, total, bound))
+    search (rules, length-append, length-with-delimiter-after)
 
 -- targets: the host of a text of the kind is within it
 pub host-is-within-text : (kind : Kind) (text : List ℕ) (own : PackedPositions) → IsTextOf kind text
@@ -165,10 +122,7 @@ host-is-within-text kind text own w at =
     let p = components text in
     let in_parts = host-within-parts p.scheme p.authority (p.path ++ after_path p)
     (λ a e. host-ends-within-authority kind text w a e) in
-    let whole : length (recompose p) ≡ length text = ap length (recompose-components text) in (
-      omega (arith, ap (λ (q : PackedPositions). q.host_start) at, in_parts.0, whole),
-      omega (arith, ap (λ (q : PackedPositions). q.host_end) at, in_parts.1, whole),
-    )
+    search (rules, recompose-components)
 
 -- targets: the query ends before the fragment, which is the last of what is after the path
 query-ends-before-fragment : (query fragment : Option (List ℕ)) (n : ℕ)
@@ -192,41 +146,12 @@ pub written-target-is-at : (t : Components) (places made : PackedPositions) (o1 
     → made.host_end ≡ places.host_end → made.path_start ≡ length o1 → made.path_end ≡ length o2
     → made.query_end ≡ length o3 - length last → made ≡ packed (positions_of t)
 written-target-is-at t places made o1 o2 o3 last to e1 e2 e3 el s hs he ps pe qe =
-    let suffix = marked (codes "#") t.fragment [] in
-    let before : length o1 ≡ (positions_of t).path_start =
-    ap length e1 ∙ length-before_path-is-path_start t in
-    let stop : length o2 ≡ (positions_of t).path_end =
-    omega (arith, before, ap length e2, length-append o1 t.path) in
-    let n = length (marked (codes "?") t.query []) in
-    let query = query-ends-before-fragment t.query t.fragment n
-    (length-append (marked (codes "?") t.query []) suffix) (positions_of t).path_end in
-    let end : made.query_end ≡ (packed (positions_of t)).query_end = omega (
-      arith,
-      qe,
-      query,
-      stop,
-      ap length e3,
-      ap length el,
-      length-append o2 (after_path t),
-      length-append (marked (codes "?") t.query []) suffix,
-    ) in
-    λ i. record {
-      scheme_end = (s ∙ to.scheme_end) i;
-      host_start = (hs ∙ to.host_start) i;
-      host_end = (he ∙ to.host_end) i;
-      path_start = (ps ∙ before) i;
-      path_end = (pe ∙ stop) i;
-      query_end = end i;
-    }
+    search (rules, length-before_path-is-path_start, length-append, query-ends-before-fragment)
 
 -- targets: the fragment is the reference's
 pub fragment-of-target : (b r : Components) → (target b r).fragment ≡ r.fragment
 fragment-of-target b r =
-    let P : Components → Type 0 = λ t. t.fragment ≡ r.fragment in
-    cond_both (is_some r.scheme) _ _ P (λ _. refl)
-    (λ _. cond_both (is_some r.authority) _ _ P (λ _. refl)
-    (λ _. cond_both (is_empty r.path) _ _ P (λ _. refl)
-    (λ _. cond_both (starts 47 r.path) _ _ P (λ _. refl) (λ _. refl))))
+    search (rules, cond_both)
 
 -- targets: the fragment is no longer than the text that it ends
 pub fragment-fits-in-target : (t : Components) (o2 o3 last : List ℕ) → o3 ≡ o2 ++ after_path t

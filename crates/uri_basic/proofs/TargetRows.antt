@@ -1,5 +1,5 @@
 -- The examples of RFC 3986, section 5.4, by computation.
-use Rattle.std.proofs.Common.{◌≡◌, ℕ, List, refl, Ok, Err}
+use Rattle.std.proofs.Common.{◌≡◌, ℕ, List, refl, Ok, Err, rules}
 use Rattle.std.specs.Prelude.{codes}
 use Rattle.std.proofs.lemmas.Bool.{false≢true, true≢false}
 use Rattle.uri_parts.specs.Components.{components}
@@ -39,31 +39,7 @@ normal-examples :
     × IsTargetOf (codes "../../") (codes "http://a/")
     × IsTargetOf (codes "../../g") (codes "http://a/g")
 unfolding IsTargetOf remove_dot_segments output_of run
-normal-examples = (
-  refl,
-  refl,
-  refl,
-  refl,
-  refl,
-  refl,
-  refl,
-  refl,
-  refl,
-  refl,
-  refl,
-  refl,
-  refl,
-  refl,
-  refl,
-  refl,
-  refl,
-  refl,
-  refl,
-  refl,
-  refl,
-  refl,
-  refl,
-)
+normal-examples = search rules
 
 -- examples of targets: the abnormal examples, for strict parsers (section 5.4.2)
 abnormal-examples :
@@ -87,27 +63,7 @@ abnormal-examples :
     × IsTargetOf (codes "g#s/../x") (codes "http://a/b/c/g#s/../x")
     × IsTargetOf (codes "http:g") (codes "http:g")
 unfolding IsTargetOf remove_dot_segments output_of run
-abnormal-examples = (
-  refl,
-  refl,
-  refl,
-  refl,
-  refl,
-  refl,
-  refl,
-  refl,
-  refl,
-  refl,
-  refl,
-  refl,
-  refl,
-  refl,
-  refl,
-  refl,
-  refl,
-  refl,
-  refl,
-)
+abnormal-examples = search rules
 
 -- examples of targets: the two paths of section 5.2.4
 removals :
@@ -136,12 +92,4 @@ deviating-examples = (refl, refl, refl, refl, refl, refl, refl)
 nothing-deviates-in-an-example :
     NothingDeviates (components (codes "http://a/b/c/d;p?q")) (components (codes "../g"))
 unfolding remove_dot_segments output_of run directory
-nothing-deviates-in-an-example = record {
-  no_fragment = refl;
-  taken = refl;
-  unguarded = refl;
-  literal = λ own rooted. refl;
-  last = λ joins. refl;
-  base_path = λ takes rooted. absurd (false≢true takes);
-  rootless = λ own rootless. absurd (true≢false rootless);
-}
+nothing-deviates-in-an-example = search rules

@@ -57,49 +57,28 @@ removal-of-nothing = refl
 -- paths: without its dot segments, a path is empty or begins with `/` if it is or does
 removal-keeps-rooted : (path : List ℕ) → IsAbemptyPath path
     → IsAbemptyPath (remove_dot_segments path)
-removal-keeps-rooted path h = ⊎_elim
-    (λ e. inl (ap remove_dot_segments e ∙ removal-of-nothing))
-    (λ a. inr (removal-keeps-absolute path a)) h
+removal-keeps-rooted path h = search (rules, removal-of-nothing, removal-keeps-absolute)
 
 -- paths: the text up to the last `/` of a path begins with `/`, if the path is not empty and does
 up-to-last-slash-is-absolute : (path : List ℕ) → IsAbsolute path
     → IsAbsolute (up_to_last_slash path)
 up-to-last-slash-is-absolute [] h = h
-up-to-last-slash-is-absolute (c ∷ rest) h = ⊎_elim
-    (λ e. subst IsAbsolute
-    (sym (cond-true _ _ _ (or_right (c == 47) (has_slash rest) e)
-    ∙ ap (λ t. t ++ codes "/") (cond-true (has_slash rest) (c ∷ before_last_slash rest) [] e)))
-    h)
-    (λ e.
-    let at : (c == 47) ≡ true = eq_true_from_IsTrue _ h in
-    subst IsAbsolute
-    (sym (cond-true _ _ _ (or_left (c == 47) (has_slash rest) at)
-    ∙ ap (λ t. t ++ codes "/") (cond-false (has_slash rest) (c ∷ before_last_slash rest) [] e)))
-    (search rules))
-    (cases_Bool (has_slash rest))
+up-to-last-slash-is-absolute (c ∷ rest) h =
+    search (rules, cond-true, or_right, eq_true_from_IsTrue, or_left, cond-false, cases_Bool)
 
 -- targets: the merged path after an authority begins with `/`
 merged-path-is-absolute : (base : Components) (path : List ℕ) → is_some base.authority ≡ true
     → IsAbemptyPath base.path → IsAbsolute (merge base path)
 merged-path-is-absolute base path some h = ⊎_elim
-    (λ e. subst IsAbsolute
-    (sym (cond-true _ _ _ (and_from _ _ some (ap is_empty e))))
-    (search rules))
-    (λ a. cond_both (is_some base.authority && is_empty base.path) (codes "/" ++ path)
-    (up_to_last_slash base.path ++ path) IsAbsolute
-    (λ _. search rules)
-    (λ _. appended-absolute-path-is-absolute (up_to_last_slash base.path) path
-    (up-to-last-slash-is-absolute base.path a)))
+    (search (rules, cond-true, and_from))
+    (search (rules, cond_both, appended-absolute-path-is-absolute, up-to-last-slash-is-absolute))
     h
 
 -- paths: the bytes up to the last `/` pass a test that `/` (47) and all pass
 bytes-up-to-last-slash-pass : (p : ℕ → Bool) → p 47 ≡ true → (path : List ℕ)
     → list_all p path ≡ true → list_all p (up_to_last_slash path) ≡ true
 bytes-up-to-last-slash-pass p slash path e =
-    cond_both (has_slash path) (before_last_slash path ++ codes "/") [] (λ t. list_all p t ≡ true)
-    (λ _. bytes-of-append-pass p (before_last_slash path) (codes "/")
-    (before_last_slash-passes-test p path e) (and_from _ _ slash refl))
-    (λ _. refl)
+    search (rules, cond_both, bytes-of-append-pass, before_last_slash-passes-test, and_from)
 
 -- targets: the merged path has no delimiter that neither path has
 merge-adds-no-delimiter : (base : Components) (path : List ℕ) → Lacks (codes "?#") base.path
@@ -197,15 +176,8 @@ basic-target-has-its-components base reference some clear =
     let t = target (components base) (components reference) in
     let fits = target-is-splittable base reference (components base) (components reference) some
     (components-are-split-of-text base) (components-are-split-of-text reference) in
-    only-split-is-components (recompose t) t (record {
-      whole = refl;
-      scheme = fits.scheme;
-      authority = fits.authority;
-      path = fits.path;
-      query = fits.query;
-      no_scheme = option-that-is-some-has-no-none t.scheme _ fits.some;
-      no_authority = unambiguous-path-is-no-authority t.authority t.path clear;
-    })
+    only-split-is-components (recompose t) t (
+    search (rules, option-that-is-some-has-no-none, unambiguous-path-is-no-authority))
 
 module _ (kind : Kind) (sets : HasComponentSets kind) where
   merged-path-is-set-text : (base : Components) (path : List ℕ)
@@ -291,9 +263,7 @@ module _ (kind : Kind) (sets : HasComponentSets kind) where
       (text-has-parts-of-kind (reference_kind kind) reference w) in
       record {
         utf8 = recomposed-components-are-utf8 kind t parts;
-        grammar = ap (components_meet_rules kind)
-            (basic-target-has-its-components base reference some clear)
-            ∙ components-of-kind-meet-grammar kind t parts;
+        grammar = search (rules, basic-target-has-its-components, components-of-kind-meet-grammar);
       }
 
 -- general fact on options, for targets: of two ways one is taken
@@ -314,14 +284,8 @@ pub basic-result-is-of-kind : (kind of_reference : Kind) → HasComponentSets ki
     → basic_resolution_of_texts b r ≡ Ok text → IsTextOf kind text
 basic-result-is-of-kind kind of_reference sets needs tables b r held_base held_reference base
     reference at bt ht hr ub ur kb kr text e =
-    let v : IsTextOf kind b = record {
-      utf8 = subst IsUtf8 (sym at) ub;
-      grammar = subst (IsOfKind kind) (sym (at ∙ ht)) kb;
-    } in
-    let w : IsTextOf (reference_kind kind) r = record {
-      utf8 = subst IsUtf8 (sym bt) ur;
-      grammar = subst (λ k. IsOfKind k r) tables (subst (IsOfKind of_reference) (sym (bt ∙ hr)) kr);
-    } in
+    let v : IsTextOf kind b = search rules in
+    let w : IsTextOf (reference_kind kind) r = search rules in
     let t = target (components b) (components r) in
     let f = result-by-test (is_ambiguous t) (recompose t) text e in
     subst (IsTextOf kind) f.1 (basic-target-is-of-kind kind sets b r needs v w f.0)
@@ -343,11 +307,7 @@ rejected-by-test false text e = absurd (cc)
 ambiguous-target-has-other-components : (t : Components) → is_ambiguous t ≡ true
     → components (recompose t) ≡ t → ⊥
 ambiguous-target-has-other-components t e same =
-    let p = and_parts (is_none t.authority) (has_authority t.path) e in
-    let split : IsSplitOf (recompose t) t = subst (IsSplitOf (recompose t)) same
-    (components-are-split-of-text (recompose t)) in
-    false≢true (sym (absent-authority-has-no-slashes t.authority (has_authority t.path) p.0
-    split.no_authority) ∙ p.1)
+    search (rules, and_parts, components-are-split-of-text, absent-authority-has-no-slashes)
 
 -- targets: the basic algorithm rejects a reference exactly if its target has no text
 pub rejection_is_of_other_components : (base reference : List ℕ)
