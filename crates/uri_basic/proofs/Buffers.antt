@@ -1,8 +1,7 @@
 -- The loop of section 5.2.4: each pass shortens the input buffer, so that the loop empties it.
 use Rattle.std.proofs.Common.{◌≡◌, ℕ, zero, suc, ◌<◌, ◌≤◌, true, false, not, List, [], ◌∷◌, rules}
-use Rattle.std.proofs.Common.{◌++◌, length, take, drop, refl, sym, ap, ◌∙◌, arith, ⊎_elim, ◌||◌}
+use Rattle.std.proofs.Common.{◌++◌, length, drop, refl, sym, ap, ◌∙◌, arith, ⊎_elim}
 use Rattle.std.specs.Prelude.{◌==◌, codes, bytes_eq}
-use Rattle.std.specs.List.{prefix_len}
 use Rattle.std.proofs.lemmas.Bool.{cases_Bool, cond-true, cond-false, cond_both, false≢true}
 use Rattle.std.proofs.lemmas.Bool.{not_from_false}
 use Rattle.std.proofs.lemmas.Bool.Decides.{nat_tests}
@@ -21,8 +20,7 @@ equal-bytes-have-equal-lengths a b e = ap length ((bytes_eq-Decides a b).0 e)
 -- removing dot segments: a buffer is no shorter than its prefix
 prefix-is-no-longer : (prefix buffer : List ℕ) → has_prefix prefix buffer ≡ true
     → length prefix ≤ length buffer
-prefix-is-no-longer prefix buffer e =
-    search (rules, equal-bytes-have-equal-lengths, length-take)
+prefix-is-no-longer prefix buffer e = search (rules, equal-bytes-have-equal-lengths, length-take)
 
 -- paths: the byte that ends a segment is `/` (47)
 segment-end-is-slash : (c : ℕ) → is_one_of (codes "/") c ≡ (c == 47)
@@ -97,8 +95,7 @@ more-passes-change-nothing (suc n) (suc m) b h k = ⊎_elim
 -- removing dot segments: the output after a pass is that before it
 pub output-after-step : (b : Buffers) → is_empty b.input ≡ false → output_of b ≡ output_of (step b)
 unfolding output_of run
-output-after-step b e =
-    search (rules, step-shortens-input, more-passes-change-nothing, cond-false)
+output-after-step b e = search (rules, step-shortens-input, more-passes-change-nothing, cond-false)
 
 -- removing dot segments: with an empty input buffer the loop is done
 pub output-of-empty-input : (output : List ℕ)

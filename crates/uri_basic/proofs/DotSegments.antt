@@ -1,12 +1,12 @@
 -- Whether a path has dot segments with percent-encoded dots, or without: RFC 3986, section 3.3.
 use Rattle.std.proofs.Common.{◌≡◌, ℕ, Bool, true, false, not, List, [], ◌∷◌, ◌++◌, ◌&&◌, refl, sym}
 use Rattle.std.proofs.Common.{ap, ◌∙◌, ◌||◌, drop, rules}
-use Rattle.std.specs.Prelude.{bytes_eq, codes}
+use Rattle.std.specs.Prelude.{codes}
 use Rattle.std.specs.List.{list_all, list_any}
 use Rattle.std.proofs.lemmas.Bool.{and_left, and_parts, not-true, or_from, or_parts}
 use Rattle.std.proofs.lemmas.List.Folds.{list_any-append}
-use Rattle.uri_ops.specs.Dots.{IsAbsolute, directory, dots, is_dot_segment, is_double_dot}
-use Rattle.uri_ops.specs.Dots.{is_single_dot, lacks_dot_segments, segments, up_to_last_slash}
+use Rattle.uri_ops.specs.Dots.{IsAbsolute, directory, is_dot_segment}
+use Rattle.uri_ops.specs.Dots.{lacks_dot_segments, segments, up_to_last_slash}
 use Rattle.uri_ops.proofs.Paths.DotLaws.{appended-segments-lack-slashes}
 use Rattle.uri_ops.proofs.Paths.DotLaws.{path-after-slash-appends-its-segments}
 use Rattle.uri_ops.proofs.Paths.DotLaws.{property-of-absolute-path-by-segments}
@@ -70,8 +70,7 @@ dotless-path-has-no-encoded-dot path e = dotless-segments-have-no-encoded-dot (s
 -- dot segments: a segment that is none is neither `.` nor `..`
 dotless-segment-is-not-literal : (s : List ℕ) → is_dot_segment s ≡ false
     → is_literal_dot_segment s ≡ false
-dotless-segment-is-not-literal s e =
-    search (rules, or_parts, or_from)
+dotless-segment-is-not-literal s e = search (rules, or_parts, or_from)
 
 -- dot segments: segments that are none are neither `.` nor `..`
 dotless-segments-are-not-literal : (xs : List (List ℕ)) → AllPass is_dotless xs

@@ -5,7 +5,7 @@ use Rattle.std.proofs.Common.{append_assoc, eqb, inl, inr, not, ⊎_elim, drop-c
 use Rattle.std.specs.Prelude.{codes, ◌==◌, slice_range}
 use Rattle.std.proofs.Math.Seq.{take-add}
 use Rattle.std.proofs.lemmas.Bool.{cases_Bool, cond-true, cond-false, ne_eqb, or_from, eq-eqb}
-use Rattle.std.proofs.lemmas.Bool.{eqb-true, false≢true, not-false, not_from_true}
+use Rattle.std.proofs.lemmas.Bool.{eqb-true, not-false, not_from_true}
 use Rattle.std.proofs.lemmas.List.{append-nil, get_or_append_left, length-take-le, take-append-drop}
 use Rattle.std.proofs.lemmas.List.{drop_all, drop_at, get_or-take, length-take, take_more}
 use Rattle.std.proofs.lemmas.List.{get_or-drop, length-append, length-drop, take-append-le, take_at}
@@ -46,8 +46,7 @@ up-to-last-slash-of-cut-text x y e =
 -- paths: a text is cut at a `/`
 cut-at-slash : (text : List ℕ) (j : ℕ) → j < length text → get_or text j 0 ≡ 47
     → text ≡ take j text ++ 47 ∷ drop (suc j) text
-cut-at-slash text j within e =
-    cc (take-append-drop j text, drop-cons text j 0 within)
+cut-at-slash text j within e = cc (take-append-drop j text, drop-cons text j 0 within)
 
 -- paths: a text up to a position is the text up to its last `/`, if none is from there on, and one
 -- is before it or it is the start
@@ -101,8 +100,7 @@ parent-by-prefix d n ends within before =
 -- removing dot segments: where nothing is kept, nothing is removed
 pub nothing-to-pop : (text : List ℕ) (start : ℕ) → start ≡ length text
     → text ≡ take start text ++ parent (drop start text)
-nothing-to-pop text start e =
-    search (rules, drop_all, take-append-drop, parent-of-nothing)
+nothing-to-pop text start e = search (rules, drop_all, take-append-drop, parent-of-nothing)
 
 -- removing dot segments: something that is kept is a directory
 pub something-kept-is-directory : (text : List ℕ) (start : ℕ) → start ≤ length text
@@ -118,8 +116,7 @@ pub pop-of-only-segment : (text : List ℕ) (start n : ℕ) → EndsInSlash (dro
     → n < length (drop start text)
     → take n (drop start text) ≡ up_to_last_slash (before_last_slash (drop start text)) → n ≡ 0
     → take (start + n) text ++ codes "/" ≡ take start text ++ parent (drop start text)
-pop-of-only-segment text start n ends within before e =
-    search (rules, parent-by-prefix)
+pop-of-only-segment text start n ends within before e = search (rules, parent-by-prefix)
 
 -- removing dot segments: of a directory with more segments its parent is left
 pub pop-of-last-segment : (text : List ℕ) (start n : ℕ) → EndsInSlash (drop start text)

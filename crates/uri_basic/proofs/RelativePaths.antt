@@ -1,6 +1,6 @@
 -- The paths of relativized references: how they are parsed, and what they lead to.
 use Rattle.std.proofs.Common.{◌≡◌, ℕ, zero, suc, ◌-◌, ◌<◌, Bool, true, false, not, cond, eqb, List}
-use Rattle.std.proofs.Common.{[], ◌∷◌, ◌++◌, ◌&&◌, ◌||◌, take, drop, refl, sym, ap, ◌∙◌, subst, inr}
+use Rattle.std.proofs.Common.{[], ◌∷◌, ◌++◌, ◌&&◌, ◌||◌, take, drop, refl, sym, ap, ◌∙◌, inr}
 use Rattle.std.proofs.Common.{⊎_elim, arith, append_assoc, true≢false, rules}
 use Rattle.std.specs.Prelude.{None, Option, codes, is_none, is_some, nat_lt}
 use Rattle.std.specs.List.{list_all}

@@ -10,7 +10,7 @@ use Rattle.std.proofs.lemmas.Slice.Eq.{bytes_eq-Decides}
 use Rattle.uri_pct.proofs.General.{eq_true_from_IsTrue}
 use Rattle.uri_pct.specs.Delimiters.{slash}
 use Rattle.uri_parts.specs.Components.{Components, IsSplitOf, Lacks, components, has_authority}
-use Rattle.uri_parts.specs.Components.{has_scheme, marked, recompose, starts}
+use Rattle.uri_parts.specs.Components.{has_scheme, recompose, starts}
 use Rattle.uri_parts.specs.Grammar.{has_colon_in_first_segment}
 use Rattle.uri_parts.proofs.Splitting.Marks.{IsEmptyOrMarked-query_text}
 use Rattle.uri_parts.proofs.Splitting.Recompose.{components-are-split-of-text}
@@ -36,8 +36,7 @@ use Rattle.uri_relative.proofs.Settled.{dotless-target-is-settled, final-path-is
 use Rattle.uri_relative.proofs.Settled.{rootless-target-is-settled}
 use Rattle.uri_basic.specs.Deviations.{has_literal_dot_segment}
 use Rattle.uri_basic.specs.Removal.{remove_dot_segments}
-use Rattle.uri_basic.specs.Target.{basic_resolution, basic_resolution_of_texts, is_ambiguous, merge}
-use Rattle.uri_basic.specs.Target.{target}
+use Rattle.uri_basic.specs.Target.{basic_resolution, basic_resolution_of_texts, target}
 use Rattle.uri_basic.proofs.DotSegments.{dotless-path-has-no-literal-dot}
 use Rattle.uri_basic.proofs.RelativePaths.{IsFinalPath, LeadsByPath, chosen-path-leads-to-path}
 use Rattle.uri_basic.proofs.SameRemovals.{removal-of-path-without-dots}
@@ -170,8 +169,7 @@ target-of-path-by-case base t false one other = refl
 path-form-leads-to-target : (base t : Components) (way : List ℕ) → base.scheme ≡ t.scheme
     → base.authority ≡ t.authority → LeadsByPath base t.path way
     → target base (record t { scheme = None; authority = None; path = way }) ≡ t
-path-form-leads-to-target base t way s a w =
-    search (rules, cond-false, target-of-path-by-case)
+path-form-leads-to-target base t way s a w = search (rules, cond-false, target-of-path-by-case)
 
 -- relativized references: one of a fragment alone, or empty, leads to the target
 fragment-form-leads-to-target : (base t : Components) → base.scheme ≡ t.scheme

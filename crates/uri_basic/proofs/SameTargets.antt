@@ -1,5 +1,5 @@
 -- Where nothing deviates, the basic algorithm and `Resolver` have the same target.
-use Rattle.std.proofs.Common.{◌≡◌, ℕ, true, false, not, List, [], ◌++◌, refl, sym, ap, subst, rules}
+use Rattle.std.proofs.Common.{◌≡◌, ℕ, true, false, not, List, [], refl, sym, ap, subst, rules}
 use Rattle.std.proofs.Common.{◌∙◌, ◌&&◌, ⊎_elim}
 use Rattle.std.specs.Prelude.{None, Ok, Option, Some, is_none, is_some}
 use Rattle.std.proofs.lemmas.Bool.{and_from, and_right, cases_Bool, cond-true, cond-false}
@@ -37,16 +37,11 @@ unguarded-path : (o : Option (List ℕ)) (path same : List ℕ) → path ≡ sam
     → (is_none o && has_authority same) ≡ false → guarded o path ≡ same
 unguarded-path o path same e clear = ap (guarded o) e ∙ cond-false _ _ _ clear
 
--- targets: the target of `Resolver`, by its components before dot segments are removed
-abbrev finished : Components → Components
-finished t = record t { path = guarded t.authority (dotless_if_absolute t.path) }
-
 -- targets: the two targets are the same if their paths are, and the others of their components
 same-target : (base r d t : Components) → dotted_target base r ≡ d → target base r ≡ t
     → (path : List ℕ) → dotless_if_absolute d.path ≡ path → record d { path = path } ≡ t
     → is_ambiguous (target base r) ≡ false → target_of base r ≡ target base r
-same-target base r d t is_d is_t path same whole clear =
-    search (rules, unguarded-path)
+same-target base r d t is_d is_t path same whole clear = search (rules, unguarded-path)
 
 -- targets: an empty base path to merge with is after an authority, if the base is not opaque
 pub base-with-empty-path-has-authority : (o : Option (List ℕ)) (path : List ℕ)

@@ -1,7 +1,7 @@
 -- Removing dot segments segment by segment, as the code does: the path that is left of a directory
 -- and the rest of a path.
 use Rattle.std.proofs.Common.{◌≡◌, ℕ, true, false, List, [], ◌∷◌, ◌++◌, refl, sym, ap, ◌∙◌, rules}
-use Rattle.std.proofs.Common.{append_assoc, inl, inr, ⊎_elim}
+use Rattle.std.proofs.Common.{append_assoc, inr, ⊎_elim}
 use Rattle.std.specs.Prelude.{codes, bytes_eq}
 use Rattle.std.proofs.lemmas.Bool.{cases_Bool, cond-true, cond-false, cond_both, or_parts}
 use Rattle.std.proofs.lemmas.List.{append-nil}
@@ -199,8 +199,7 @@ path-left-after-last-segment kept s closed lacks =
 pub after-segment-keeps : (Q : List ℕ → Type 0) (kept s piece : List ℕ) → Q kept → Q (parent kept)
     → Q (kept ++ piece) → Q (after_segment kept s piece)
 unfolding after_segment
-after-segment-keeps Q kept s piece same up more =
-    search (rules, cond_both)
+after-segment-keeps Q kept s piece same up more = search (rules, cond_both)
 
 -- removing dot segments: the parent of a directory is a directory
 pub parent-is-directory : (kept : List ℕ) → IsDirectoryOrNothing kept

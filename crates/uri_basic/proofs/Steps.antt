@@ -100,8 +100,7 @@ step-moves-rootless-segment : (c : ℕ) (text output : List ℕ) → (c == 47) �
       input = from_any (codes "/") (c ∷ text);
       output = output ++ before_any (codes "/") (c ∷ text);
     }
-step-moves-rootless-segment c text output e f =
-    search (rules, cond-false, and_left, or_from)
+step-moves-rootless-segment c text output e f = search (rules, cond-false, and_left, or_from)
 
 -- removing dot segments: the output where a buffer has a `/` before no dot segment
 pub output-after-rooted-segment : (text output segment rest : List ℕ) → BeginsWithNoDots text

@@ -1,6 +1,6 @@
 -- Where the components of a target are.
 use Rattle.std.proofs.Common.{◌≡◌, ℕ, ◌+◌, ◌-◌, ◌≤◌, true, false, List, [], ◌++◌, length, rules}
-use Rattle.std.proofs.Common.{refl, sym, ap, subst, ◌∙◌, arith, option_map, unwrap_or}
+use Rattle.std.proofs.Common.{sym, ap, arith, option_map, unwrap_or}
 use Rattle.std.specs.Prelude.{Err, IfOk, None, Ok, Option, Result, Some, codes, is_some}
 use Rattle.std.specs.Str.{IsUtf8}
 use Rattle.std.proofs.lemmas.Bool.{both_ways, cond_both, false≢true}
@@ -12,7 +12,6 @@ use Rattle.uri_parts.specs.Positions.{authority_at, delimited_length, host_end_o
 use Rattle.uri_parts.specs.declared.packed_positions.PackedPositions.{PackedPositions}
 use Rattle.uri_parts.specs.declared.positions.AuthorityPositions.{AuthorityPositions}
 use Rattle.uri_parts.proofs.Splitting.Recompose.{recompose-components}
-use Rattle.uri_ops.specs.Dots.{is_empty}
 use Rattle.uri_ops.specs.Models.Places.{before_path}
 use Rattle.uri_ops.proofs.Normal.WrittenPlaces.{length-before_path-is-path_start}
 use Rattle.uri_ops.proofs.Normal.WrittenPlaces.{length-with-delimiter-after}
@@ -48,14 +47,12 @@ record HasPrefix (scheme authority : Option (List ℕ)) (t : Components) : Type 
 -- targets: a reference with an authority alone is after the base's scheme
 prefix-of-authority : (b r : Components) → is_some r.scheme ≡ false → is_some r.authority ≡ true
     → HasPrefix b.scheme r.authority (target b r)
-prefix-of-authority b r s a =
-    search (rules, cond_both, both_ways)
+prefix-of-authority b r s a = search (rules, cond_both, both_ways)
 
 -- targets: a reference with neither takes the base's
 prefix-of-base : (b r : Components) → is_some r.scheme ≡ false → is_some r.authority ≡ false
     → HasPrefix b.scheme b.authority (target b r)
-prefix-of-base b r s a =
-    search (rules, cond_both, both_ways)
+prefix-of-base b r s a = search (rules, cond_both, both_ways)
 
 -- targets: where the host of an authority begins and ends, after a scheme, or 0 if there is none
 abbrev host_start_after : Option (List ℕ) → Option (List ℕ) → ℕ
@@ -78,8 +75,7 @@ places-by-prefix scheme authority t places p s start end = search (rules, unwrap
 pub places-of-base : (b r : Components) (places : PackedPositions)
     → places ≡ packed (positions_of b) → is_some r.scheme ≡ false → is_some r.authority ≡ false
     → ArePlacesToHost (target b r) places
-places-of-base b r places at s a =
-    search (rules, places-by-prefix, prefix-of-base)
+places-of-base b r places at s a = search (rules, places-by-prefix, prefix-of-base)
 
 -- targets: an authority without a scheme, after a scheme, is further on by this
 moved-host : (scheme none authority : Option (List ℕ)) → is_some none ≡ false
@@ -150,8 +146,7 @@ written-target-is-at t places made o1 o2 o3 last to e1 e2 e3 el s hs he ps pe qe
 
 -- targets: the fragment is the reference's
 pub fragment-of-target : (b r : Components) → (target b r).fragment ≡ r.fragment
-fragment-of-target b r =
-    search (rules, cond_both)
+fragment-of-target b r = search (rules, cond_both)
 
 -- targets: the fragment is no longer than the text that it ends
 pub fragment-fits-in-target : (t : Components) (o2 o3 last : List ℕ) → o3 ≡ o2 ++ after_path t

@@ -1,7 +1,6 @@
 -- The examples of RFC 3986, section 5.4, by computation.
 use Rattle.std.proofs.Common.{◌≡◌, ℕ, List, refl, Ok, Err, rules}
 use Rattle.std.specs.Prelude.{codes}
-use Rattle.std.proofs.lemmas.Bool.{false≢true, true≢false}
 use Rattle.uri_parts.specs.Components.{components}
 use Rattle.uri_ops.specs.Dots.{directory}
 use Rattle.uri_basic.specs.Deviations.{NothingDeviates}

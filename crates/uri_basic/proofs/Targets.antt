@@ -1,9 +1,7 @@
 -- The text of a target has the components that were put into it, and is of its base's kind.
-use Rattle.std.proofs.Common.{◌≡◌, ℕ, ◌<◌, Bool, true, false, cond, List, [], ◌∷◌, ◌++◌, length}
-use Rattle.std.proofs.Common.{refl, sym, ap, subst, ◌∙◌, ◌&&◌, ◌↔◌, inl, inr, ⊎_elim, rules}
-use Rattle.std.proofs.Common.{append_assoc}
+use Rattle.std.proofs.Common.{◌≡◌, ℕ, ◌<◌, List, [], ◌∷◌, ◌++◌, refl, sym, ap, ◌∙◌, ◌&&◌, ◌↔◌, inr}
+use Rattle.std.proofs.Common.{Bool, true, false, cond, length, subst, ⊎_elim, rules, append_assoc}
 use Rattle.std.specs.Prelude.{codes, Option, Some, None, Ok, Err, IfSome, IfNone, is_some, is_none}
-use Rattle.std.specs.Prelude.{◌==◌}
 use Rattle.std.specs.Str.{IsUtf8}
 use Rattle.std.specs.List.{list_all}
 use Rattle.std.proofs.lemmas.Bool.{cond_both, cond-false, cond-true, cases_Bool, false≢true}
@@ -12,7 +10,7 @@ use Rattle.std.proofs.lemmas.List.Elements.{All-append}
 use Rattle.uri_pct.specs.Sets.{is_one_of}
 use Rattle.uri_parts.specs.Components.{Components, IsSplitOf, Lacks, IsAbemptyPath, components}
 use Rattle.uri_parts.specs.Components.{has_authority, recompose, starts}
-use Rattle.uri_parts.specs.Grammar.{IsOfKind, IsTextOf, Kind, components_meet_rules}
+use Rattle.uri_parts.specs.Grammar.{IsOfKind, IsTextOf, Kind}
 use Rattle.uri_parts.proofs.Splitting.Recompose.{components-are-split-of-text}
 use Rattle.uri_parts.proofs.Splitting.Recompose.{equal-to-true-is-IsTrue}
 use Rattle.uri_parts.proofs.Splitting.Splits.{only-split-is-components}
