@@ -1,7 +1,7 @@
 -- Where an edited text has its components.
 use Rattle.std.proofs.Common.{◌≡◌, ℕ, ◌+◌, ◌-◌, ◌<◌, ◌≤◌, Bool, true, false, cond, List, [], ◌∷◌}
 use Rattle.std.proofs.Common.{◌++◌, length, take, drop, get_or, refl, sym, ap, subst, ◌∙◌, arith}
-use Rattle.std.proofs.Common.{append_assoc, length-append, lit<, Option, Some}
+use Rattle.std.proofs.Common.{append_assoc, length-append, lit<, Option, Some, rules}
 use Rattle.std.specs.Prelude.{codes}
 use Rattle.std.specs.Str.{IsUtf8, IsCharBoundary}
 use Rattle.std.proofs.Math.Seq.{drop-append_seam, take-append_seam}
@@ -66,8 +66,7 @@ before-edited-path : (drops adds : Bool) (scheme authority : Option (List ℕ)) 
 before-edited-path false adds scheme authority path query fragment host =
     sym (append-nil (marked [] scheme (codes ":") ++ marked (codes "//") authority []))
 before-edited-path true adds scheme authority path query fragment host =
-    ap (λ o. marked [] scheme (codes ":") ++ marked (codes "//") o []) (host refl)
-    ∙ sym (append_assoc (marked [] scheme (codes ":")) (codes "//") (codes "localhost"))
+    cc (host refl, append_assoc (marked [] scheme (codes ":")) (codes "//") (codes "localhost"))
 
 edited-path : (adds : Bool) (path : List ℕ) → (adds ≡ true → path ≡ [])
     → put adds ++ path ≡ cond adds (codes "/") path
@@ -83,11 +82,7 @@ path-of-edited-text-begins : (drops adds : Bool) (scheme authority : Option (Lis
     ≡ (positions_of (edited drops adds p)).path_start)
 path-of-edited-text-begins false adds scheme authority path query fragment host = refl
 path-of-edited-text-begins true adds scheme authority path query fragment host =
-    let same : delimited_length 1 scheme + 2 + 0 ≡ delimited_length 1 scheme + (2 + 0) =
-    omega arith in
-    ap (λ o. (packed (positions_of (components_of_parts scheme o path query fragment))).host_start)
-    (host refl)
-    ∙ same
+    search (rules, components_of_parts)
 
 host-of-edited-text-begins : (drops adds : Bool) (scheme authority : Option (List ℕ))
     (path : List ℕ) (query fragment : Option (List ℕ))
@@ -96,8 +91,7 @@ host-of-edited-text-begins : (drops adds : Bool) (scheme authority : Option (Lis
     (packed (positions_of p)).host_start ≡ (packed (positions_of (edited drops adds p))).host_start)
 host-of-edited-text-begins false adds scheme authority path query fragment host = refl
 host-of-edited-text-begins true adds scheme authority path query fragment host =
-    ap (λ o. (packed (positions_of (components_of_parts scheme o path query fragment))).host_start)
-    (host refl)
+    cc (host refl)
 
 -- places: and its host ends by as much earlier as the path begins
 host-of-edited-text-ends : (drops adds : Bool) (scheme authority : Option (List ℕ))
@@ -108,14 +102,9 @@ host-of-edited-text-ends : (drops adds : Bool) (scheme authority : Option (List 
     q.host_end - (q.path_start - cond drops q.host_start q.path_start)
     ≡ (packed (positions_of (edited drops adds p))).host_end)
 host-of-edited-text-ends false adds scheme authority path query fragment host =
-    let q = packed (positions_of (components_of_parts scheme authority path query fragment)) in
-    let same : q.host_end - (q.path_start - q.path_start) ≡ q.host_end = omega arith in
-    same
+    search (rules, components_of_parts)
 host-of-edited-text-ends true adds scheme authority path query fragment host =
-    let n = delimited_length 1 scheme in
-    ap (λ o. let q = packed (positions_of (components_of_parts scheme o path query fragment)) in
-    q.host_end - (q.path_start - q.host_start)) (host refl)
-    ∙ ends n
+    search (rules, components_of_parts)
   where
     ends : (n : ℕ) → (n + 2 + 9) - ((n + 11) - (n + 2 + 0)) ≡ n + 2 + 0
     ends n = omega arith
@@ -124,11 +113,7 @@ host-of-edited-text-ends true adds scheme authority path query fragment host =
 boundary-before-localhost : (before rest : List ℕ)
     → IsCharBoundary (before ++ (codes "localhost" ++ rest)) (length before)
 boundary-before-localhost before rest =
-    let tail = codes "ocalhost" ++ rest in
-    let at : get_or (before ++ (108 ∷ tail)) (length before) 0 < 128 =
-    rw (get_or-after-prefix before tail 108) (lit< tt) in
-    IsCharBoundary-before_ascii (before ++ (108 ∷ tail)) (length before)
-    (omega (arith, length-append before (108 ∷ tail))) at
+    search (rules, get_or-after-prefix, IsCharBoundary-before_ascii, length-append)
 
 boundary-at-start : (drops : Bool) (text before rest : List ℕ) (host_start path_start : ℕ)
     → text ≡ before ++ (cut drops ++ rest)
@@ -152,8 +137,7 @@ module _ (drops adds : Bool) (text : List ℕ) (q : PackedPositions)
   start = cond drops q.host_start q.path_start
 
   path-begins : q.path_start ≡ length (before_path p)
-  path-begins = ap (λ (x : PackedPositions). x.path_start) at
-      ∙ sym (length-before_path-is-path_start p)
+  path-begins = cc (length-before_path-is-path_start p)
 
   start-is-path_start : start ≡ (positions_of e).path_start
   start-is-path_start = ap (λ (x : PackedPositions). cond drops x.host_start x.path_start) at
@@ -167,10 +151,7 @@ module _ (drops adds : Bool) (text : List ℕ) (q : PackedPositions)
 
   text-by-edit : text ≡ before_path e ++ (cut drops ++ (p.path ++ after_path p))
   text-by-edit =
-      text-by-path
-      ∙ ap (λ t. t ++ (p.path ++ after_path p))
-      (before-edited-path drops adds p.scheme p.authority p.path p.query p.fragment host)
-      ∙ append_assoc (before_path e) (cut drops) (p.path ++ after_path p)
+      search (rules, text-by-path, before-edited-path, append_assoc)
 
   pub edit-ends-at-boundary : IsUtf8 text → IsCharBoundary text q.path_start
   edit-ends-at-boundary utf8 =
@@ -211,19 +192,10 @@ module _ (drops adds : Bool) (text : List ℕ) (q : PackedPositions)
   edited-text-is-recomposed =
       let rest = p.path ++ after_path p in
       let first : take start text ≡ before_path e =
-      ap (λ n. take n text) edit-begins
-      ∙ ap (take (length (before_path e))) text-by-edit
-      ∙ take-append_seam (before_path e) (cut drops ++ rest) in
+      cc (edit-begins, text-by-edit, take-append_seam (before_path e) (cut drops ++ rest)) in
       let last : drop q.path_start text ≡ rest =
-      ap (λ n. drop n text) path-begins
-      ∙ ap (drop (length (before_path p))) text-by-path
-      ∙ drop-append_seam (before_path p) rest in
-      ap (λ t. (t ++ put adds) ++ drop q.path_start text) first
-      ∙ ap (λ t. (before_path e ++ put adds) ++ t) last
-      ∙ append_assoc (before_path e) (put adds) rest
-      ∙ ap (λ t. before_path e ++ t) (sym (append_assoc (put adds) p.path (after_path p))
-      ∙ ap (λ t. t ++ after_path p) (edited-path adds p.path empty))
-      ∙ sym (recompose-by-path e)
+      cc (path-begins, text-by-path, drop-append_seam (before_path p) rest) in
+      search (rules, append_assoc, edited-path, recompose-by-path)
 
   module _ (made : List ℕ) (is : made ≡ recompose e) where
     path-of-edited-text-ends : length made - (length text - q.path_end)
@@ -264,17 +236,7 @@ module _ (drops adds : Bool) (text : List ℕ) (q : PackedPositions)
         ∙ ap (λ (x : PackedPositions). x.host_end
         - (x.path_start - cond drops x.host_start x.path_start)) at
         ∙ host-of-edited-text-ends drops adds p.scheme p.authority p.path p.query p.fragment host in
-        let d = path_start ∙ start-is-path_start in
-        let f = path_end ∙ path-of-edited-text-ends in
-        let g = query_end ∙ query-of-edited-text-ends in
-        λ i. record {
-          scheme_end = a i;
-          host_start = b i;
-          host_end = c i;
-          path_start = d i;
-          path_end = f i;
-          query_end = g i;
-        }
+        search (rules, start-is-path_start, path-of-edited-text-ends, query-of-edited-text-ends)
 
 -- places: the tests of an edit, and the edit by them
 module _ (roots locals : List ℕ → Bool) (p : Components) (drops adds : Bool)

@@ -1,5 +1,5 @@
 -- A normal text, edited by the rules of its scheme, is the normal text under the rules.
-use Rattle.std.proofs.Common.{◌≡◌, ℕ, Bool, true, false, cond, List, [], refl, sym, ap, ◌∙◌}
+use Rattle.std.proofs.Common.{◌≡◌, ℕ, Bool, true, false, cond, List, [], refl, sym, ap, ◌∙◌, rules}
 use Rattle.std.proofs.Common.{◌&&◌, Option, Some, None, option_map}
 use Rattle.std.specs.Prelude.{codes, is_some}
 use Rattle.std.specs.Char.{encode_utf8}
@@ -19,9 +19,8 @@ use Rattle.uri_ops.proofs.Normal.NormalTexts.{components-of-normal_text}
 use Rattle.uri_ops.proofs.Normal.NormalComponents.{lowering-scheme-is-idempotent}
 use Rattle.uri_rules.specs.Edits.{edited_by, is_text}
 use Rattle.uri_rules.specs.NormalForms.{IsNormalFormUnder}
-use Rattle.uri_rules.specs.Rules.{Rules, authority_under, empty_authority, has_no_token}
-use Rattle.uri_rules.specs.Rules.{is_localhost, is_scheme_of, meaning_under, path_under, root}
-use Rattle.uri_rules.specs.Rules.{under_rules}
+use Rattle.uri_rules.specs.Rules.{Rules, is_localhost, is_scheme_of, path_under, root, under_rules}
+use Rattle.uri_rules.specs.Rules.{authority_under, empty_authority, has_no_token, meaning_under}
 use Rattle.uri_rules.proofs.NormalForms.{normal-text-under-rules-is-normal-form}
 use Rattle.uri_rules.proofs.RuledMeanings.{map-cond, print-is-empty-without-tokens}
 use Rattle.uri_rules.proofs.RuledTexts.{ruled_text, ruled-text-has-meaning-under}
@@ -63,10 +62,7 @@ edited-path-is-normal : (rooted : Bool) (scheme : Option (List ℕ))
 edited-path-is-normal true scheme None f ts = refl
 edited-path-is-normal false scheme None f ts = refl
 edited-path-is-normal rooted scheme (Some a) f ts =
-    ap (λ t. cond ((rooted && true) && is_empty t) (codes "/") t)
-    (path-after-authority scheme (normal_authority a) (print ts))
-    ∙ edited-path-is-printed rooted ts
-    ∙ sym (path-after-authority scheme (normal_authority (f a)) (print (path_under rooted true ts)))
+    search (rules, path-after-authority, edited-path-is-printed)
 
 -- edits: what the rules change in the components of a normal text, they change in its meaning
 edited-normal-components-are-normal : (rules : Rules) (m : Meaning)
@@ -131,5 +127,4 @@ module _ (kind : Kind) (rules : Rules) (sets : HasComponentSets kind) (text : Li
       → q ≡ packed (positions_of (edited_by rules.roots rules.locals (components text)))
       → ArePackedPositionsOf made q
   edited-text-has-positions made is q at =
-      at ∙ ap (λ c. packed (positions_of c))
-      (sym components-of-edited-text ∙ ap components (sym is))
+      cc (at, components-of-edited-text, is)

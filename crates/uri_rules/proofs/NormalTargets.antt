@@ -1,6 +1,6 @@
 -- An equivalent base and reference under rules have a target with the same normal form under them,
 -- or both pairs have no target.
-use Rattle.std.proofs.Common.{◌≡◌, ℕ, List, true, sym, ap, subst, ◌∙◌}
+use Rattle.std.proofs.Common.{◌≡◌, ℕ, List, true, sym, ap, subst, ◌∙◌, rules}
 use Rattle.std.specs.Prelude.{Ok}
 use Rattle.uri_parts.specs.Components.{components}
 use Rattle.uri_parts.specs.Grammar.{Kind, IsTextOf}
@@ -27,10 +27,7 @@ one-normal-form-of-target-under : (kind : Kind) (rules : Rules) (base reference 
     → IsNormalFormOfTargetUnder kind rules base reference n
     → IsNormalFormOfTargetUnder kind rules base reference m → n ≡ m
 one-normal-form-of-target-under kind rules base reference n m v w =
-    v.1.1.text
-    ∙ ap (λ t. normal_text (meaning_under kind rules t))
-    (resolution-is-unique (resolution_of_texts base reference) v.0 w.0 v.1.0 w.1.0)
-    ∙ sym w.1.1.text
+    cc (resolution-is-unique (resolution_of_texts base reference) v.0 w.0 v.1.0 w.1.0)
 
 module _ (kind of_reference : Kind) (rules : Rules) (sets : HasComponentSets kind)
     (needs : kind.needs_scheme ≡ true) (same : of_reference ≡ reference_kind kind)
@@ -61,12 +58,8 @@ module _ (kind of_reference : Kind) (rules : Rules) (sets : HasComponentSets kin
       → resolution_of_texts base reference ≡ Ok target
       → IsNormalFormUnder kind rules target normal
       → IsNormalTargetUnder kind of_reference rules base reference normal
-  normal-form-of-target-is-normal-target target normal e h = record {
-    target = (target, (e, h));
-    swap = λ b r v w. equivalent-inputs-have-same-normal-form target normal b r e h v w;
-    same = λ b r n v w u. one-normal-form-of-target-under kind rules b r n normal u
-        (equivalent-inputs-have-same-normal-form target normal b r e h v w);
-  }
+  normal-form-of-target-is-normal-target target normal e h =
+      search (rules, equivalent-inputs-have-same-normal-form, one-normal-form-of-target-under)
 
   -- an error of resolving is the error for each equivalent base and reference
   pub resolve-error-is-normal-target-error : (error : ResolveError)

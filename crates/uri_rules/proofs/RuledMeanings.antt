@@ -1,6 +1,6 @@
 -- What the rules of schemes make of a meaning.
 use Rattle.std.proofs.Common.{◌≡◌, ℕ, ◌<◌, Bool, true, false, cond, List, [], ◌∷◌, ◌++◌, length}
-use Rattle.std.proofs.Common.{refl, ap, ◌∙◌, ◌&&◌, arith, Option, Some, None, option_map}
+use Rattle.std.proofs.Common.{refl, ap, ◌∙◌, ◌&&◌, arith, Option, Some, None, option_map, rules}
 use Rattle.std.specs.Prelude.{is_some}
 use Rattle.std.specs.Char.{encode_utf8}
 use Rattle.std.proofs.lemmas.Bool.{cond-false}
@@ -86,9 +86,4 @@ authority-without-rules (Some a) = refl
 pub meaning-under-ports-alone : (kind : Kind) (ports : PortFunction) (text : List ℕ)
     → meaning_under kind (only_ports ports) text ≡ meaning_of kind ports text
 meaning-under-ports-alone kind ports text =
-    let m = meaning_of kind ports text in
-    let none = no-scheme-is-of-no-rule m.scheme in
-    let authority = ap (λ t. option_map (authority_under t) m.authority) none
-    ∙ authority-without-rules m.authority in
-    let path = ap (λ t. path_under t (is_some m.authority) m.path) none in
-    λ i. record m { authority = authority i; path = path i }
+    search (rules, no-scheme-is-of-no-rule, option_map, authority-without-rules)

@@ -29,16 +29,14 @@ use Rattle.uri_ops.proofs.Targeting.Targets.{target-text-has-target-components}
 use Rattle.uri_rules.specs.Rules.{Rules, authority_under, is_scheme_of, meaning_under, path_under}
 use Rattle.uri_rules.specs.Rules.{under_rules}
 use Rattle.uri_rules.specs.Targets.{resolved_under}
-use Rattle.uri_rules.proofs.RuledTexts.{ruled_authority, ruled_path, ruled_components, ruled_text}
+use Rattle.uri_rules.proofs.RuledTexts.{ruled_authority, components-without-scheme-are-ruled}
+use Rattle.uri_rules.proofs.RuledTexts.{ruled_path, ruled_text, ruled_components-have-meaning-under}
+use Rattle.uri_rules.proofs.RuledTexts.{ruled_components, normal-text-under-rules-is-text-of-kind}
+use Rattle.uri_rules.proofs.RuledTexts.{ruled_authority-has-meaning-under, components-of-ruled_text}
+use Rattle.uri_rules.proofs.RuledTexts.{path-without-authority-is-ruled, ruled-text-is-text-of-kind}
+use Rattle.uri_rules.proofs.RuledTexts.{ruled-text-has-meaning-under, meaning_under-normal_text}
 use Rattle.uri_rules.proofs.RuledMeanings.{authority_under-if-some-is-idempotent}
 use Rattle.uri_rules.proofs.RuledMeanings.{under_rules-is-idempotent}
-use Rattle.uri_rules.proofs.RuledTexts.{ruled_authority-has-meaning-under}
-use Rattle.uri_rules.proofs.RuledTexts.{components-without-scheme-are-ruled}
-use Rattle.uri_rules.proofs.RuledTexts.{path-without-authority-is-ruled}
-use Rattle.uri_rules.proofs.RuledTexts.{ruled_components-have-meaning-under}
-use Rattle.uri_rules.proofs.RuledTexts.{components-of-ruled_text, ruled-text-is-text-of-kind}
-use Rattle.uri_rules.proofs.RuledTexts.{ruled-text-has-meaning-under, meaning_under-normal_text}
-use Rattle.uri_rules.proofs.RuledTexts.{normal-text-under-rules-is-text-of-kind}
 
 -- general fact on booleans, for rules: what one test chooses is alike if both choices are
 choices-are-alike : {A B : Type 0} (f : A → B) (b : Bool) (x y u v : A) → f x ≡ f u → f y ≡ f v
@@ -73,8 +71,7 @@ ruled-reference-passes-alike : (kind : Kind) (rules : Rules) (scheme authority :
     let s = ruled_components kind rules r in
     (is_some s.scheme || is_fragment_only s) ≡ (is_some r.scheme || is_fragment_only r))
 ruled-reference-passes-alike kind rules None authority path query fragment =
-    ap is_fragment_only
-    (components-without-scheme-are-ruled kind rules authority path query fragment)
+    cc (components-without-scheme-are-ruled kind rules authority path query fragment)
 ruled-reference-passes-alike kind rules (Some s) authority path query fragment = refl
 
 -- general fact on results, for resolving under rules: a target is mapped twice
@@ -133,8 +130,7 @@ module _ (kind : Kind) (rules : Rules) (sets : HasComponentSets kind) where
       ruled-components-mean-same-under
       (components_of_parts (Some s) authority path query fragment) h
   ruled-targets-mean-same base None (Some a) path query fragment valid h =
-      ap (λ r. under (dotted_target (ruled_components kind rules base) r))
-      (components-without-scheme-are-ruled kind rules (Some a) path query fragment)
+      cc (components-without-scheme-are-ruled kind rules (Some a) path query fragment)
   ruled-targets-mean-same base None None path query fragment valid h =
       let s = ruled_components kind rules base in
       let scheme = option_map str_to_ascii_lowercase base.scheme in
@@ -182,12 +178,7 @@ module _ (kind : Kind) (rules : Rules) (sets : HasComponentSets kind) where
       base.path in
       let passes = ruled-reference-passes-alike kind rules r.scheme r.authority r.path r.query
       r.fragment in
-      ap (λ o. result_or_target_error (is_some base.fragment)
-      (o && not (is_some t.scheme || is_fragment_only t)) (under (dotted_target s t))) opaque
-      ∙ ap (λ o. result_or_target_error (is_some base.fragment)
-      (is_opaque base && not o) (under (dotted_target s t))) passes
-      ∙ ap (result_or_target_error (is_some base.fragment) (is_opaque_rejection base r))
-      (ruled-targets-mean-same base r.scheme r.authority r.path r.query r.fragment valid h)
+      cc (ruled-targets-mean-same base r.scheme r.authority r.path r.query r.fragment valid h)
 
   -- so do the ruled texts
   ruled-texts-resolve-to-same-meaning : (b t : List ℕ) → kind.needs_scheme ≡ true

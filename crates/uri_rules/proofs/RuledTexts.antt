@@ -2,7 +2,7 @@
 -- ports alone it has the meaning that the text has under the rules. So the laws of normal texts
 -- hold under any rules.
 use Rattle.std.proofs.Common.{◌≡◌, ℕ, Bool, true, false, cond, List, [], ◌∷◌, refl, sym, ap, ◌∙◌}
-use Rattle.std.proofs.Common.{⊎_elim, ◌&&◌, ◌||◌, Option, Some, None, option_map, inr, not}
+use Rattle.std.proofs.Common.{⊎_elim, ◌&&◌, ◌||◌, Option, Some, None, option_map, inr, not, rules}
 use Rattle.std.proofs.Common.{lit<, subst}
 use Rattle.std.specs.Prelude.{codes, is_some, IfSome, IfNone, ◌↔◌, if◌then◌else◌}
 use Rattle.std.specs.Option.{option_and_then}
@@ -105,9 +105,7 @@ module _ (set : TableSet) (w : IsComponentSet (codes "?#[]") set)
   dotless-path-keeps-emptiness None path = refl
   dotless-path-keeps-emptiness (Some s) path =
       ⊎_elim
-      (λ e. text-with-slash-is-not-empty (dotless_if_absolute path)
-      (removing-dots-keeps-leading-slash path ∙ e)
-      ∙ sym (text-with-slash-is-not-empty path e))
+      (search (rules, text-with-slash-is-not-empty, removing-dots-keeps-leading-slash))
       (λ e. ap is_empty (cond-false (starts 47 path) _ _ e))
       (cases_Bool (starts 47 path))
 
@@ -120,8 +118,7 @@ module _ (set : TableSet) (w : IsComponentSet (codes "?#[]") set)
       → decode_unreserved set (dotless_path scheme (codes "/")) ≡ root
   slash-is-dotless None = slash-means-root set
   slash-is-dotless (Some s) =
-      ap (decode_unreserved set) (remove-dots-of-dotless (codes "/") refl refl)
-      ∙ slash-means-root set
+      cc (remove-dots-of-dotless (codes "/") refl refl, slash-means-root set)
 
   -- a ruled path means what the rules make of the path's meaning
   ruled_path-has-meaning-under : (rooted after : Bool) (scheme : Option (List ℕ))
@@ -133,10 +130,7 @@ module _ (set : TableSet) (w : IsComponentSet (codes "?#[]") set)
       let blank = path-has-tokens-unless-empty (dotless_path scheme path)
       (dotless-path-is-set-text scheme path e)
       ∙ dotless-path-keeps-emptiness scheme path in
-      map-cond (λ t. decode_unreserved set (dotless_path scheme t))
-      ((rooted && after) && is_empty path) (codes "/") path
-      ∙ ap (λ t. cond ((rooted && after) && is_empty path) t ts) (slash-is-dotless scheme)
-      ∙ ap (λ t. cond ((rooted && after) && t) root ts) (sym blank)
+      search (rules, map-cond, slash-is-dotless)
 
 -- rules: a ruled authority means what the rules make of the authority's meaning
 pub ruled_authority-has-meaning-under : (kind : Kind) (default : Option ℕ) (local : Bool)
@@ -177,20 +171,13 @@ ruled-authority-lacks-ends : (kind : Kind) (default : Option ℕ) (local rooted 
     → IfSome (option_map (ruled_authority kind default local) o)
     (λ a. Lacks (codes "/?#") a × IsAbemptyPath (ruled_path rooted (is_some o) path))
 ruled-authority-lacks-ends kind default local rooted None path h = tt
-ruled-authority-lacks-ends kind default local rooted (Some a) path h = (
-  cond_both (local && is_localhost (authority_meaning kind default a)) [] a
-      (λ t. Lacks (codes "/?#") t) (λ _. All-nil (λ c. is_one_of (codes "/?#") c ≡ false))
-      (λ _. h.0),
-  cond_both ((rooted && true) && is_empty path) (codes "/") path IsAbemptyPath
-      (λ _. inr refl) (λ _. h.1),
-)
+ruled-authority-lacks-ends kind default local rooted (Some a) path h =
+    search (rules, cond_both, All-nil)
 
 ruled-path-lacks-ends : (rooted after : Bool) (path : List ℕ) → Lacks (codes "?#") path
     → Lacks (codes "?#") (ruled_path rooted after path)
 ruled-path-lacks-ends rooted after path h =
-    let other : ℕ → Type 0 = λ c. is_one_of (codes "?#") c ≡ false in
-    cond_both ((rooted && after) && is_empty path) (codes "/") path (λ t. Lacks (codes "?#") t)
-    (λ _. All-cons other 47 [] refl (All-nil other)) (λ _. h)
+    search (rules, cond_both, All-cons, All-nil)
 
 ruled-text-has-no-scheme : (kind : Kind) (rules : Rules) (scheme authority : Option (List ℕ))
     (path : List ℕ) (query fragment : Option (List ℕ)) (text : List ℕ)
@@ -199,9 +186,7 @@ ruled-text-has-no-scheme : (kind : Kind) (rules : Rules) (scheme authority : Opt
     → IfNone scheme (has_scheme (recompose (ruled_components kind rules
     (components_of_parts scheme authority path query fragment))) ≡ false)
 ruled-text-has-no-scheme kind rules None authority path query fragment text whole h =
-    ap (λ p. has_scheme (recompose p))
-    (components-without-scheme-are-ruled kind rules authority path query fragment)
-    ∙ ap has_scheme whole ∙ h
+    cc (components-without-scheme-are-ruled kind rules authority path query fragment)
 ruled-text-has-no-scheme kind rules (Some s) authority path query fragment text whole h = tt
 
 ruled-path-has-no-authority : (kind : Kind) (default : Option ℕ) (local rooted : Bool)
@@ -317,8 +302,7 @@ module _ (kind : Kind) (rules : Rules) (sets : HasComponentSets kind) where
       (text-has-parts-of-kind kind text w) in
       record {
         utf8 = recomposed-components-are-utf8 kind _ parts;
-        grammar = ap (components_meet_rules kind) (components-of-ruled_text text)
-            ∙ components-of-kind-meet-grammar kind _ parts;
+        grammar = cc (components-of-ruled_text text, components-of-kind-meet-grammar kind _ parts);
       }
 
   -- and has, without rules but those of ports, the meaning that the text has under the rules
@@ -355,8 +339,7 @@ module _ (kind : Kind) (rules : Rules) (sets : HasComponentSets kind) where
       → (normal_text (meaning_under kind rules t) ≡ normal_text (meaning_under kind rules u))
       ↔ (meaning_under kind rules t ≡ meaning_under kind rules u)
   same-normal-text-same-meaning-under t u v w = (
-    λ e. sym (meaning_under-normal_text t v) ∙ ap (meaning_under kind rules) e
-        ∙ meaning_under-normal_text u w,
+    λ e. cc (meaning_under-normal_text t v, meaning_under-normal_text u w),
     λ e. ap normal_text e,
   )
 
