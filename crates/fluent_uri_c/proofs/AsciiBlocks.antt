@@ -3,7 +3,7 @@ use Rattle.std.proofs.Common.{◌≡◌, ℕ, zero, suc, ◌+◌, ◌-◌, ◌^�
 use Rattle.std.proofs.Common.{cond, eqb, leb, List, [], ◌∷◌, map, length, get_or, replicate, sym}
 use Rattle.std.proofs.Common.{refl, ap, ◌∙◌, arith, leb-false, eqb-true}
 use Rattle.std.specs.Simd.Lanes.{chunk, zip2, mask_l, top}
-use Rattle.std.proofs.lemmas.List.{length-map}
+use Rattle.std.proofs.lemmas.List.{length-map, length-replicate}
 use Rattle.std.proofs.lemmas.Simd.{get_or-chunk, length-chunk, length-zip2, mask_l-mod}
 
 -- for the C exports' test of ASCII: a lane of the comparison, whose top bit is set where the byte
@@ -27,22 +27,25 @@ no-lane-past-ascii (byte ∷ block) e zero = go (leb 128 byte) refl (omega arith
     go false p q = leb-false _ _ p
 no-lane-past-ascii (byte ∷ block) e (suc i) = no-lane-past-ascii block (omega arith) i
 
--- for the C exports' test of ASCII: if the mask of a block of
--- 32 bytes has no bit, each byte of it is ASCII
-pub block_is_ascii : (bytes : List ℕ) (at : ℕ) → at + 32 ≤ length bytes
-    → eqb (mask_l (lanes_past_ascii 32 (chunk at 32 bytes)) % 2 ^ 64) 0 ≡ true → (k : ℕ) → at ≤ k
-    → k < at + 32 → get_or bytes k 0 < 128
-block_is_ascii bytes at room e k from to =
-    let block : List ℕ = chunk at 32 bytes in
-    let long : length block ≡ 32 = length-chunk at 32 bytes room in
-    let few : length (lanes_past_ascii 32 block) ≤ 64 = omega (
+-- for the C exports' test of ASCII: if the mask of a block has no bit, each byte of it is ASCII
+pub block_is_ascii : (lanes : ℕ) → lanes ≤ 64 → (bytes : List ℕ) (at : ℕ)
+    → at + lanes ≤ length bytes
+    → eqb (mask_l (lanes_past_ascii lanes (chunk at lanes bytes)) % 2 ^ 64) 0 ≡ true → (k : ℕ)
+    → at ≤ k → k < at + lanes → get_or bytes k 0 < 128
+block_is_ascii lanes small bytes at room e k from to =
+    let block : List ℕ = chunk at lanes bytes in
+    let long : length block ≡ lanes = length-chunk at lanes bytes room in
+    let wide = length-replicate {A = ℕ} lanes 128 in
+    let few : length (lanes_past_ascii lanes block) ≤ 64 = omega (
       arith,
-      length-map (zip2 compared_lane (replicate 32 128) block) (top 7),
-      length-zip2 compared_lane (replicate 32 128) block (sym long),
+      length-map (zip2 compared_lane (replicate lanes 128) block) (top 7),
+      length-zip2 compared_lane (replicate lanes 128) block (wide ∙ sym long),
+      wide,
+      small,
     ) in
     let none : mask_l (lanes_past_ascii (length block) block) ≡ 0 =
     ap (λ n. mask_l (lanes_past_ascii n block)) long ∙ sym (mask_l-mod _ 64 few) ∙ eqb-true _ _ e in
     let here : at + (k - at) ≡ k = omega arith in
-    let lane = get_or-chunk at 32 bytes (k - at) 0 (omega arith) in
+    let lane = get_or-chunk at lanes bytes (k - at) 0 (omega arith) in
     let byte : get_or block (k - at) 0 < 128 = no-lane-past-ascii block none (k - at) in
     omega (arith, ap (λ n. get_or bytes n 0) here, lane, byte)

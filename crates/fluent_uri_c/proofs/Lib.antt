@@ -29,3 +29,4 @@ mod SchemeTexts
 mod Targets
 mod ValidBytes
 mod WrittenLines
+mod WrittenValues

@@ -22,8 +22,9 @@ use Rattle.uri_parts.proofs.TextKinds.ComponentRules.{authority-of-text-of-kind-
 use Rattle.uri_ops.proofs.Meanings.TextParts.{components-of-utf8-are-utf8}
 use Rattle.fluent_uri_c.specs.declared.parts.Parts.{Parts}
 use Rattle.fluent_uri_c.specs.declared.parts.Span.{Span}
-use Rattle.fluent_uri_c.specs.Spans.{AreSpansOf, IsSpan, absent, authority_start, host_of}
-use Rattle.fluent_uri_c.specs.Spans.{host_start, port_of, port_start, userinfo_of}
+use Rattle.fluent_uri_c.specs.Spans.{AreSpansOf, IsSpan, absent, authority_host_number}
+use Rattle.fluent_uri_c.specs.Spans.{authority_start, fragment_start, host_of, host_start, path_start}
+use Rattle.fluent_uri_c.specs.Spans.{port_of, port_start, query_start, userinfo_of}
 
 -- parts for C: a component at its positions is the span from start to end
 pub IsSpan-of-positions : (text : List ℕ) (begin start end : ℕ) (part : Option (List ℕ))
@@ -224,3 +225,34 @@ IsSpan-of-equal-span text begin part span e h =
 pub AreSpansOf-of-equal-text : (text same : List ℕ) (parts : Parts) → same ≡ text
     → AreSpansOf same parts → AreSpansOf text parts
 AreSpansOf-of-equal-text text same parts e h = subst (λ t. AreSpansOf t parts) e h
+
+-- parts for C: those of a text, whose authority is written after the other components
+pub AreSpansOf-with-authority : (text : List ℕ) (parts : Parts) (scheme path query fragment : Span)
+    → parts.index ≡ 0 → parts.scheme ≡ scheme → parts.path ≡ path → parts.query ≡ query
+    → parts.fragment ≡ fragment → IsSpan text 0 (components text).scheme scheme
+    → IsSpan text (path_start text) (Some (components text).path) path
+    → IsSpan text (query_start text) (components text).query query
+    → IsSpan text (fragment_start text) (components text).fragment fragment
+    → IsSpan text (authority_start text) (components text).authority parts.authority
+    → IsSpan text (authority_start text) (userinfo_of (components text).authority) parts.userinfo
+    → IsSpan text (host_start text) (host_of (components text).authority) parts.host
+    → IsSpan text (port_start text) (port_of (components text).authority) parts.port
+    → parts.host_kind ≡ authority_host_number (components text).authority → AreSpansOf text parts
+AreSpansOf-with-authority text parts scheme path query fragment index at_scheme at_path at_query
+    at_fragment is_scheme is_path is_query is_fragment authority userinfo host port kind =
+    let part = components text in
+    record {
+      index = index;
+      scheme = subst (λ (s : Span). IsSpan text 0 part.scheme s) (sym at_scheme) is_scheme;
+      authority = authority;
+      userinfo = userinfo;
+      host = host;
+      port = port;
+      path = subst (λ (s : Span). IsSpan text (path_start text) (Some part.path) s) (sym at_path)
+          is_path;
+      query = subst (λ (s : Span). IsSpan text (query_start text) part.query s) (sym at_query)
+          is_query;
+      fragment = subst (λ (s : Span). IsSpan text (fragment_start text) part.fragment s)
+          (sym at_fragment) is_fragment;
+      host_kind = kind;
+    }

@@ -33,3 +33,4 @@ mod rules;
 mod setting_order;
 mod single;
 mod texts;
+mod values;

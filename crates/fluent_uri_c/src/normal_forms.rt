@@ -60,7 +60,7 @@ impl<'a> NormalForm<'a> {
 /// Returns `true` only if a value is plainly its own normal form under the setting's rules. With
 /// the rules of schemes it returns `false`.
 #[inline(always)]
-fn is_own_normal_form<K: Kind>(setting: RuleSetting, value: &Reference<K, &str>) -> bool
+pub fn is_own_normal_form<K: Kind>(setting: RuleSetting, value: &Reference<K, &str>) -> bool
     ensures { let text = reference_text value.now in
         result ≡ true → normal_form_of setting.scheme_rules K.kind text ≡ text }
 {

@@ -10,9 +10,7 @@ ghost use Rattle.fluent_uri_c.specs.Mends.{mend_link_result, mend_link_takes_mem
 ghost use Rattle.fluent_uri_c.specs.NormalForms.{normal_form_text};
 ghost use Rattle.fluent_uri_c.specs.Options.{basic_choice, path_preference, rules_choice};
 ghost use Rattle.fluent_uri_c.specs.Relatives.{relativize_result};
-ghost use Rattle.fluent_uri_c.specs.Results.{IsReturnedAs, IsReturnedOrDenied, IsTargetReturned};
-ghost use Rattle.fluent_uri_c.specs.Results.{normalize_result};
-ghost use Rattle.fluent_uri_c.specs.Results.{resolve_normalized_result, resolve_result};
+ghost use Rattle.fluent_uri_c.specs.Results.{IsReturnedAs, IsReturnedOrDenied, normalize_result};
 ghost use Rattle.fluent_uri_c.specs.Results.{to_uri_result};
 
 use crate::errors::{Error, Rejection};
@@ -79,50 +77,6 @@ pub fn is_basic(options: u32) -> Option<bool>
         0 => Some(false),
         4 => Some(true),
         _ => None,
-    }
-}
-
-/// Returns the target of a reference against a base of the kind with this number of the header, by
-/// options of the header.
-pub fn target(
-    alloc: Global,
-    kind: u32,
-    options: u32,
-    base: &[u8],
-    reference: &[u8],
-) -> Result<IriRef<String>, Rejection>
-    ensures { IsTargetReturned reference_text
-        (resolve_result kind options base.now reference.now) result }
-{
-    let Some(is_basic) = is_basic(options) else {
-        return Err(Rejection::of(Error::InvalidArgument));
-    };
-    match kind {
-        0 => Ok(IriRef::from(texts::target::<UriRefKind>(alloc, is_basic, base, reference)?)),
-        2 => Ok(IriRef::from(texts::target::<IriRefKind>(alloc, is_basic, base, reference)?)),
-        _ => Err(Rejection::of(Error::InvalidArgument)),
-    }
-}
-
-/// Returns the normal form of the target of a reference against a base of the kind with this number
-/// of the header, by options of the header.
-pub fn normal_target(
-    alloc: Global,
-    kind: u32,
-    options: u32,
-    base: &[u8],
-    reference: &[u8],
-) -> Result<IriRef<String>, Rejection>
-    ensures { IsReturnedAs reference_text
-        (resolve_normalized_result kind options base.now reference.now) result }
-{
-    let Some(setting) = rule_setting(options) else {
-        return Err(Rejection::of(Error::InvalidArgument));
-    };
-    match kind {
-        0 => Ok(IriRef::from(texts::normal_target::<UriRefKind>(alloc, base, reference, setting)?)),
-        2 => Ok(IriRef::from(texts::normal_target::<IriRefKind>(alloc, base, reference, setting)?)),
-        _ => Err(Rejection::of(Error::InvalidArgument)),
     }
 }
 

@@ -4,14 +4,14 @@ ghost use Rattle.fluent_uri.specs.References.{reference_text};
 ghost use Rattle.fluent_uri_c.specs.Outcomes.{LeavesText, outcome_of, outcome_of_batch};
 ghost use Rattle.fluent_uri_c.specs.Outcomes.{outcome_of_text, written};
 ghost use Rattle.fluent_uri_c.specs.Errors.{number_of};
-ghost use Rattle.fluent_uri_c.specs.NormalForms.{normal_form_text};
 ghost use Rattle.fluent_uri_c.specs.Results.{IsReturnedAs, IsReturnedOrDenied, Returned};
-ghost use Rattle.fluent_uri_c.specs.Values.{HasPartsFirst, LeavesValue, LeavesValueOrDenied};
+ghost use Rattle.fluent_uri_c.specs.Values.{HasPartsFirst, LeavesValueOrDenied};
 
 use crate::errors::Rejection;
-use crate::normal_forms::NormalForm;
 use crate::parts::{Parts, write_first_parts};
-use fluent_uri::IriRef;
+use fluent_uri::{Reference, RiMaybeRef};
+use std::convert::AsStr;
+use uri_parts::kind::Kind;
 
 /// What a call reports: an error, or 0; which of two texts is rejected, or which buffer is full;
 /// where in the text; the length of the text that it returns; how long the buffer that is full must
@@ -114,9 +114,14 @@ pub fn put_or_report(made: Result<String, Rejection>, out: &mut [u8], outcome: &
     }
 }
 
-/// Writes the text of a borrowed value that a call for C returns, and its parts if there is room for
-/// these.
-fn put_borrowed(value: &IriRef<&str>, out: &mut [u8], parts: &mut [Parts], outcome: &mut Outcome)
+/// Writes the text of a value that a call for C returns, and its parts if there is room for these.
+#[inline(always)]
+pub fn put_value<K: Kind, T: AsStr>(
+    value: &Reference<K, T>,
+    out: &mut [u8],
+    parts: &mut [Parts],
+    outcome: &mut Outcome,
+)
     ensures outcome { outcome.new ≡ outcome_of_text (reference_text value.now) }
     ensures written { out.new ≡ written (reference_text value.now) out.old }
     ensures parts { HasPartsFirst (reference_text value.now) parts.old parts.new }
@@ -125,33 +130,11 @@ fn put_borrowed(value: &IriRef<&str>, out: &mut [u8], parts: &mut [Parts], outco
     write_first_parts(value, parts);
 }
 
-/// Writes the text of a value that a call for C made, and its parts if there is room for these.
-pub fn put_value(value: &IriRef<String>, out: &mut [u8], parts: &mut [Parts], outcome: &mut Outcome)
-    ensures outcome { outcome.new ≡ outcome_of_text (reference_text value.now) }
-    ensures written { out.new ≡ written (reference_text value.now) out.old }
-    ensures parts { HasPartsFirst (reference_text value.now) parts.old parts.new }
-{
-    put_borrowed(&value.borrow(), out, parts, outcome);
-}
-
-/// Writes the text of a normal form, and its parts if there is room for these.
-fn put_normal_form(
-    form: &NormalForm<'_>,
-    out: &mut [u8],
-    parts: &mut [Parts],
-    outcome: &mut Outcome,
-)
-    ensures outcome { outcome.new ≡ outcome_of_text (normal_form_text form.now) }
-    ensures written { out.new ≡ written (normal_form_text form.now) out.old }
-    ensures parts { HasPartsFirst (normal_form_text form.now) parts.old parts.new }
-{
-    put_borrowed(&form.borrow(), out, parts, outcome);
-}
-
 /// Writes a value that a call for C made, as its text and its parts, or reports why there is none.
 /// Returns the number of the error, or 0.
-pub fn put_value_or_report(
-    made: Result<IriRef<String>, Rejection>,
+#[inline(always)]
+pub fn put_value_or_report<K: Kind>(
+    made: Result<Reference<K, String>, Rejection>,
     out: &mut [u8],
     parts: &mut [Parts],
     outcome: &mut Outcome,
@@ -167,25 +150,5 @@ pub fn put_value_or_report(
             0
         }
         Err(rejection) => report(rejection, outcome),
-    }
-}
-
-/// Writes a normal form, as its text and its parts, or reports why there is none. Returns the
-/// number of the error, or 0.
-pub fn put_normal_form_or_report(
-    found: Result<NormalForm<'_>, Rejection>,
-    out: &mut [u8],
-    parts: &mut [Parts],
-    outcome: &mut Outcome,
-) -> u32
-    ensures { (returned : Returned) → IsReturnedAs normal_form_text returned found.entry
-        → LeavesValue returned out.old out.new parts.old parts.new outcome.new result }
-{
-    match found {
-        Ok(form) => {
-            put_normal_form(&form, out, parts, outcome);
-            0
-        }
-        Err(why) => report(why, outcome),
     }
 }

@@ -35,7 +35,7 @@ fn parse_column<O: Offset>(
         let Some(text) = text_at(texts, offsets, index) else {
             return report_progress(9, index, 0, outcome);
         };
-        parse(kind, text, &mut parts[index]);
+        let _ = parse(kind, text, &mut parts[index]);
     }
     report_progress(0, count, 0, outcome)
 }

@@ -1,5 +1,5 @@
 //! Where the components of a text are.
-ghost use Rattle.std.specs.Prelude.{◌≡◌, IsTrue, Some};
+ghost use Rattle.std.specs.Prelude.{◌≡◌, IsTrue, Some, is_some, true};
 ghost use Rattle.fluent_uri.specs.Authority.{authority_parts};
 ghost use Rattle.fluent_uri.specs.AuthorityTexts.{authority_text};
 ghost use Rattle.fluent_uri.specs.Components.{components};
@@ -13,13 +13,14 @@ ghost use Rattle.fluent_uri_c.specs.Spans.{authority_host_number, host_number, r
 ghost use Rattle.fluent_uri_c.specs.Spans.{authority_start, fragment_start, host_of, host_start};
 ghost use Rattle.fluent_uri_c.specs.Spans.{path_start, port_of, port_start, query_start};
 ghost use Rattle.fluent_uri_c.specs.Spans.{userinfo_of};
-ghost use Rattle.fluent_uri_c.specs.Values.{HasPartsFirst};
+ghost use Rattle.fluent_uri_c.specs.Values.{ArePartsOfResult, HasPartsFirst};
 
 use crate::errors::{Error, Rejection};
 use crate::texts::parsed;
 use fluent_uri::component::{Authority, Host};
 use fluent_uri::pct_enc::Encoder;
 use fluent_uri::{Reference, RiMaybeRef};
+use std::convert::AsStr;
 use uri_parts::kind::{IriKind, IriRefKind, Kind, UriKind, UriRefKind};
 use uri_parts::positions::Positions;
 
@@ -58,12 +59,16 @@ pub fn absent() -> Span
     }
 }
 
-/// Writes the parts that C gets of a text that is rejected: the error, and no component.
-fn write_rejected_parts(why: Rejection, parts: &mut Parts)
-    ensures { parts.new ≡ rejected_parts why }
+/// Writes the parts that C gets of a text that is rejected: the error, and no component. Returns
+/// the number of the error.
+#[inline(never)]
+fn write_rejected_parts(why: Rejection, parts: &mut Parts) -> u32
+    ensures error { parts.new.error ≡ result }
+    ensures parts { parts.new ≡ rejected_parts why }
 {
+    let error = why.error.number();
     *parts = Parts {
-        error: why.error.number(),
+        error,
         host_kind: 0,
         index: why.index,
         scheme: absent(),
@@ -75,30 +80,26 @@ fn write_rejected_parts(why: Rejection, parts: &mut Parts)
         query: absent(),
         fragment: absent(),
     };
+    error
 }
 
 /// Returns whether the first byte of a host shows that it is a registered name, so that C gets that
 /// number.
 #[inline(always)]
-fn begins_as_a_name(host: &str) -> bool
+fn begins_as_a_name(host: &[u8]) -> bool
     ensures { IsTrue result → host_kind host.now ≡ RegName }
 {
-    match host.as_bytes() {
+    match host {
         [] => true,
         [first, ..] => !first.is_ascii_digit() && *first != b'[',
     }
 }
 
-/// Returns the number, in the header, of the kind of an authority's host. Most hosts are names by
-/// their first byte.
-#[inline(always)]
+/// Returns the number, in the header, of the kind of an authority's host.
 fn host_number<'a, U: Encoder, R: Encoder>(authority: Authority<'a, U, R>) -> u32
     ensures { result
         ≡ host_number (host_kind (authority_parts (authority_text authority.entry)).host) }
 {
-    if begins_as_a_name(authority.host()) {
-        return 1;
-    }
     match authority.host_parsed() {
         Host::RegName(_) => 1,
         Host::Ipv4(_) => 2,
@@ -108,7 +109,10 @@ fn host_number<'a, U: Encoder, R: Encoder>(authority: Authority<'a, U, R>) -> u3
 }
 
 /// Returns the number, in the header, of the kind of a value's host, or 0 if it has no authority.
-fn host_kind<K: Kind>(value: &Reference<K, &str>) -> u32
+/// The host is parsed.
+#[cold]
+#[inline(never)]
+fn parsed_host_kind<K: Kind, T: AsStr>(value: &Reference<K, T>) -> u32
     ensures { result ≡ authority_host_number (components (reference_text value.now)).authority }
 {
     match value.authority() {
@@ -243,53 +247,124 @@ fn fragment(text: &str, at: Positions) -> Span
     }
 }
 
-/// Writes the parts that C gets of a parsed value: the spans of its components.
+/// Returns the number, in the header, of the kind of the host of a value, which is at this span of
+/// its text. Most hosts are names by their first byte.
 #[inline(always)]
-fn write_parts<K: Kind>(value: &Reference<K, &str>, parts: &mut Parts)
+fn host_kind<K: Kind, T: AsStr>(value: &Reference<K, T>, text: &str, host: Span) -> u32
+    requires same { text.now ≡ reference_text value.now }
+    requires span { IsSpan text.now (host_start text.now)
+        (host_of (components text.now).authority) host }
+    requires present { is_some (components text.now).authority ≡ true }
+    ensures { result ≡ authority_host_number (components text.now).authority }
+{
+    if begins_as_a_name(&text.as_bytes()[host.start..host.end]) {
+        return 1;
+    }
+    parsed_host_kind(value)
+}
+
+/// Writes the spans, for C, of the authority of a value and of its components, and the number of
+/// its host's kind. Whether there is an authority is tested once.
+#[inline(always)]
+fn write_authority<K: Kind, T: AsStr>(
+    value: &Reference<K, T>,
+    text: &str,
+    at: Positions,
+    parts: &mut Parts,
+)
+    requires same { text.now ≡ reference_text value.now }
+    requires at { ArePositionsOf text.now at }
+    requires of_kind { IsOfKind K.kind text.now }
+    ensures authority { IsSpan text.now (authority_start text.now) (components text.now).authority
+        parts.new.authority }
+    ensures userinfo { IsSpan text.now (authority_start text.now)
+        (userinfo_of (components text.now).authority) parts.new.userinfo }
+    ensures host { IsSpan text.now (host_start text.now)
+        (host_of (components text.now).authority) parts.new.host }
+    ensures port { IsSpan text.now (port_start text.now)
+        (port_of (components text.now).authority) parts.new.port }
+    ensures host_kind { parts.new.host_kind
+        ≡ authority_host_number (components text.now).authority }
+    ensures error { parts.new.error ≡ parts.old.error }
+    ensures index { parts.new.index ≡ parts.old.index }
+    ensures scheme { parts.new.scheme ≡ parts.old.scheme }
+    ensures path { parts.new.path ≡ parts.old.path }
+    ensures query { parts.new.query ≡ parts.old.query }
+    ensures fragment { parts.new.fragment ≡ parts.old.fragment }
+{
+    let Some(_) = at.authority else {
+        parts.host_kind = 0;
+        parts.authority = absent();
+        parts.userinfo = absent();
+        parts.host = absent();
+        parts.port = absent();
+        return;
+    };
+    let host = host::<K>(text, at);
+    parts.authority = authority(text, at);
+    parts.userinfo = userinfo::<K>(text, at);
+    parts.host = host;
+    parts.port = port::<K>(text, at);
+    parts.host_kind = host_kind(value, text, host);
+}
+
+/// Writes the parts that C gets of a value: the spans of its components.
+#[inline(always)]
+fn write_parts<K: Kind, T: AsStr>(value: &Reference<K, T>, parts: &mut Parts)
     ensures error { parts.new.error ≡ 0 }
     ensures spans { AreSpansOf (reference_text value.now) parts.new }
 {
     let at = value.core().positions();
     let text = value.as_str();
-    *parts = Parts {
-        error: 0,
-        host_kind: host_kind(value),
-        index: 0,
-        scheme: scheme(text, at),
-        authority: authority(text, at),
-        userinfo: userinfo::<K>(text, at),
-        host: host::<K>(text, at),
-        port: port::<K>(text, at),
-        path: path(text, at),
-        query: query(text, at),
-        fragment: fragment(text, at),
-    };
+    parts.error = 0;
+    parts.index = 0;
+    parts.scheme = scheme(text, at);
+    parts.path = path(text, at);
+    parts.query = query(text, at);
+    parts.fragment = fragment(text, at);
+    write_authority(value, text, at, parts);
+}
+
+/// Writes the parts that C gets of the value that a call returns.
+#[inline(never)]
+fn write_parts_of_result<K: Kind, T: AsStr>(value: &Reference<K, T>, parts: &mut Parts)
+    ensures { ArePartsOfResult (reference_text value.now) parts.new }
+{
+    write_parts(value, parts);
 }
 
 /// Writes the parts that C gets of a value to the first of its caller's parts, if there is one.
-pub fn write_first_parts<K: Kind>(value: &Reference<K, &str>, parts: &mut [Parts])
+#[inline(always)]
+pub fn write_first_parts<K: Kind, T: AsStr>(value: &Reference<K, T>, parts: &mut [Parts])
     ensures { HasPartsFirst (reference_text value.now) parts.old parts.new }
 {
     if !parts.is_empty() {
-        write_parts(value, &mut parts[0]);
+        write_parts_of_result(value, &mut parts[0]);
     }
 }
 
 /// Parses the bytes as a text of the kind, and writes the parts that C gets, or the error and its
-/// index.
-fn parse_as<K: Kind>(bytes: &[u8], parts: &mut Parts)
-    ensures { ArePartsOf (Some K.kind) bytes.now parts.new }
+/// index. Returns the number of the error, or 0.
+#[inline(never)]
+fn parse_as<K: Kind>(bytes: &[u8], parts: &mut Parts) -> u32
+    ensures error { parts.new.error ≡ result }
+    ensures parts { ArePartsOf (Some K.kind) bytes.now parts.new }
 {
     match parsed::<K>(bytes) {
-        Ok(value) => write_parts(&value, parts),
+        Ok(value) => {
+            write_parts(&value, parts);
+            0
+        }
         Err(why) => write_rejected_parts(why, parts),
     }
 }
 
 /// Parses the bytes as a text of the kind with this number, and writes the parts that C gets, or
-/// the error and its index.
-pub fn parse(kind: u32, bytes: &[u8], parts: &mut Parts)
-    ensures { ArePartsOf (kind_numbered kind) bytes.now parts.new }
+/// the error and its index. Returns the number of the error, or 0.
+#[inline(always)]
+pub fn parse(kind: u32, bytes: &[u8], parts: &mut Parts) -> u32
+    ensures error { parts.new.error ≡ result }
+    ensures parts { ArePartsOf (kind_numbered kind) bytes.now parts.new }
 {
     match kind {
         0 => parse_as::<UriKind>(bytes, parts),

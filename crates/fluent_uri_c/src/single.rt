@@ -8,12 +8,14 @@ ghost use Rattle.fluent_uri_c.specs.Results.{takes_memory_for_target, to_uri_res
 ghost use Rattle.fluent_uri_c.specs.Spans.{ArePartsOf};
 ghost use Rattle.fluent_uri_c.specs.Values.{LeavesValue, LeavesValueOrDenied};
 
-use crate::outcome::{
-    Outcome, put, put_normal_form_or_report, put_or_report, put_value_or_report, report,
-};
+use crate::errors::{Error, Rejection};
+use crate::numbered::{is_basic, rule_setting};
+use crate::outcome::{Outcome, put, put_or_report, put_value_or_report, report};
 use crate::parts::{Parts, parse};
+use crate::values::{normalize, resolve, resolve_normalized};
 use crate::{codes, numbered};
 use std::alloc::Global;
+use uri_parts::kind::{IriKind, IriRefKind, UriKind, UriRefKind};
 
 /// Parses a text as the kind, and reports where its components are. Takes no memory.
 #[unsafe(no_mangle)]
@@ -21,8 +23,7 @@ pub extern "C" fn fluent_uri_parse(kind: u32, text: &[u8], parts: &mut Parts) ->
     ensures error { parts.new.error ≡ result }
     ensures parts { ArePartsOf (kind_numbered kind) text.now parts.new }
 {
-    parse(kind, text, parts);
-    parts.error
+    parse(kind, text, parts)
 }
 
 /// Writes the normal form of a text of the kind by options, and its parts if there is room for
@@ -40,12 +41,16 @@ pub extern "C" fn fluent_uri_normalize(
     ensures { LeavesValue (normalize_result kind options text.now) out.old out.new parts.old parts.new
         outcome.new result }
 {
-    put_normal_form_or_report(
-        numbered::normal_form(alloc, kind, options, text),
-        out,
-        parts,
-        outcome,
-    )
+    let Some(setting) = rule_setting(options) else {
+        return report(Rejection::of(Error::InvalidArgument), outcome);
+    };
+    match kind {
+        0 => normalize::<UriKind>(alloc, setting, text, out, parts, outcome),
+        1 => normalize::<UriRefKind>(alloc, setting, text, out, parts, outcome),
+        2 => normalize::<IriKind>(alloc, setting, text, out, parts, outcome),
+        3 => normalize::<IriRefKind>(alloc, setting, text, out, parts, outcome),
+        _ => report(Rejection::of(Error::InvalidArgument), outcome),
+    }
 }
 
 /// Writes the target of a reference against a base of the kind without its fragment, by options.
@@ -64,12 +69,14 @@ pub extern "C" fn fluent_uri_resolve(
         LeavesValueOrDenied (takes_memory_for_target returned) returned
         out.old out.new parts.old parts.new outcome.new result }
 {
-    put_value_or_report(
-        numbered::target(alloc, kind, options, base, reference),
-        out,
-        parts,
-        outcome,
-    )
+    let Some(is_basic) = is_basic(options) else {
+        return report(Rejection::of(Error::InvalidArgument), outcome);
+    };
+    match kind {
+        0 => resolve::<UriRefKind>(alloc, is_basic, base, reference, out, parts, outcome),
+        2 => resolve::<IriRefKind>(alloc, is_basic, base, reference, out, parts, outcome),
+        _ => report(Rejection::of(Error::InvalidArgument), outcome),
+    }
 }
 
 /// Writes the normal form of the target of a reference against a base of the kind without its
@@ -88,12 +95,18 @@ pub extern "C" fn fluent_uri_resolve_normalized(
     ensures { LeavesValue (resolve_normalized_result kind options base.now reference.now)
         out.old out.new parts.old parts.new outcome.new result }
 {
-    put_value_or_report(
-        numbered::normal_target(alloc, kind, options, base, reference),
-        out,
-        parts,
-        outcome,
-    )
+    let Some(setting) = rule_setting(options) else {
+        return report(Rejection::of(Error::InvalidArgument), outcome);
+    };
+    match kind {
+        0 => {
+            resolve_normalized::<UriRefKind>(alloc, setting, base, reference, out, parts, outcome)
+        }
+        2 => {
+            resolve_normalized::<IriRefKind>(alloc, setting, base, reference, out, parts, outcome)
+        }
+        _ => report(Rejection::of(Error::InvalidArgument), outcome),
+    }
 }
 
 /// Writes a text of a kind of IRIs as a URI or a URI reference.

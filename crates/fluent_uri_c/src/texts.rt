@@ -1,6 +1,8 @@
 //! The calls of `fluent_uri` on bytes, for each kind.
-ghost use Rattle.std.specs.Prelude.{◌≡◌, ◌↔◌, IfOk, IsOk};
+ghost use Rattle.std.specs.Prelude.{◌≡◌, ◌↔◌, IfOk, IfSome, IsOk, None};
 ghost use Rattle.std.specs.Result.{result_err};
+ghost use Rattle.std.specs.Str.{IsUtf8, IsValidUpTo};
+ghost use Rattle.std.specs.Str.Lossy.{utf8_valid_len};
 ghost use Rattle.fluent_uri.specs.Grammar.{iri, iri_ref};
 ghost use Rattle.fluent_uri.specs.References.{reference_text};
 ghost use Rattle.uri_mend.specs.Mended.{IsMended};
@@ -38,8 +40,22 @@ pub fn is_possible_length(bytes: &[u8]) -> bool
     bytes.len() < 1 << 63
 }
 
+/// Returns where bytes that C hands over stop being UTF-8, or `None` if they are UTF-8.
+#[inline(never)]
+fn utf8_end(bytes: &[u8]) -> Option<usize>
+    ensures valid { result ≡ None → IsUtf8 bytes.now }
+    ensures invalid { IfSome result (λ end. ¬ (IsUtf8 bytes.now) × IsValidUpTo bytes.now end) }
+    ensures index { IfSome result (λ end. end ≡ utf8_valid_len bytes.now) }
+{
+    match std::str::from_utf8(bytes) {
+        Ok(_) => None,
+        Err(error) => Some(error.valid_up_to()),
+    }
+}
+
 /// Returns bytes that C hands over as a text, if they are UTF-8. Most are ASCII, which is tested in
 /// blocks.
+#[inline(always)]
 pub fn utf8_text(bytes: &[u8]) -> Result<&str, Rejection>
     ensures accepts { IsOk result ↔ IsPossibleUtf8 bytes.now }
     ensures text { IfOk result (λ text. text.now ≡ bytes.now) }
@@ -51,13 +67,9 @@ pub fn utf8_text(bytes: &[u8]) -> Result<&str, Rejection>
     if is_ascii(bytes) {
         return Ok(unsafe { std::str::from_utf8_unchecked(bytes) });
     }
-    match std::str::from_utf8(bytes) {
-        Ok(text) => Ok(text),
-        Err(error) => Err(Rejection {
-            error: Error::NotUtf8,
-            which: 0,
-            index: error.valid_up_to(),
-        }),
+    match utf8_end(bytes) {
+        None => Ok(unsafe { std::str::from_utf8_unchecked(bytes) }),
+        Some(end) => Err(Rejection::at(Error::NotUtf8, end)),
     }
 }
 
@@ -215,6 +227,7 @@ pub fn reference_from<K: RelativeKind>(
 
 /// Returns the target of a reference against a base, both as bytes. The flag says whether it is by
 /// the basic algorithm.
+#[inline(always)]
 pub fn target<K: RefKind>(
     alloc: Global,
     is_basic: bool,
@@ -230,6 +243,7 @@ pub fn target<K: RefKind>(
 }
 
 /// Returns the normal form of the target of a reference against a base, both as bytes.
+#[inline(always)]
 pub fn normal_target<K: RefKind>(
     alloc: Global,
     base: &[u8],

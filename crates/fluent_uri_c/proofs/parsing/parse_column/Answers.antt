@@ -14,6 +14,6 @@ loop-index-preserved g c =
     let inside : n < length c.loop-index.parts = search rules in (
       holds-up-to-set-item (λ i o. IsSomeAnd (text_in column i)
           (λ text. IsSomeAnd o (ArePartsOf (kind_numbered c.args.kind) text))) c.loop-index.parts n
-          c.parse.new.parts inside (rw (← c.in-Some.ensures) c.parse.ensures) before.0,
+          c.parse.new.parts inside (rw (← c.in-Some.ensures) c.parse.ensures.parts) before.0,
       later-items-unchanged c.args.parts.now c.loop-index.parts n c.parse.new.parts before.1,
     )

@@ -1,14 +1,12 @@
-use Rattle.std.proofs.Common.{◌<◌, ◌∙◌, sym, ap, arith, length}
+use Rattle.std.proofs.Common.{◌<◌, ◌∙◌, sym, arith, length}
 use Rattle.fluent_uri_c.proofs.HostNames.{begins_as_name, empty_is_name}
 use Rattle.fluent_uri_c.proofs.parts.begins_as_a_name.Goals as goal
 
 pub returns-in-empty : goal.returns-in-empty
 returns-in-empty c =
-    let short : length c.args.host.now < 1 = omega (arith, ap length c.as_bytes.ensures.value) in
-    λ _. empty_is_name c.args.host.now short
+    let short : length c.args.host.now < 1 = omega arith in λ _. empty_is_name c.args.host.now short
 
 pub returns-then-not-is_ascii_digit : goal.returns-then-not-is_ascii_digit
 returns-then-not-is_ascii_digit c =
-    rw (← c.as_bytes.ensures.value)
-    (begins_as_name c.as_bytes.result.now
-    (sym c.is_ascii_digit.ensures.value ∙ c.if-not-is_ascii_digit.true))
+    begins_as_name c.args.host.now
+    (sym c.is_ascii_digit.ensures.value ∙ c.if-not-is_ascii_digit.true)

@@ -1,22 +1,12 @@
-use Rattle.std.proofs.Common.{◌∙◌, ap, refl, sym}
-use Rattle.uri_parts.specs.Components.{components}
-use Rattle.fluent_uri_c.specs.Spans.{authority_host_number}
-use Rattle.fluent_uri_c.proofs.Places.{AreSpansOf-of-equal-text}
+use Rattle.fluent_uri_c.proofs.Places.{AreSpansOf-of-equal-text, AreSpansOf-with-authority}
 use Rattle.fluent_uri_c.proofs.parts.write_parts.Goals as goal
 
 pub returns-clause-spans : goal.returns-clause-spans
 returns-clause-spans g c =
-    let same = c.as_str-text.ensures.text in
-    AreSpansOf-of-equal-text _ _ _ same (record {
-      index = refl;
-      scheme = c.scheme.ensures;
-      authority = c.authority.ensures;
-      userinfo = c.userinfo.ensures;
-      host = c.host.ensures;
-      port = c.port.ensures;
-      path = c.path.ensures;
-      query = c.query.ensures;
-      fragment = c.fragment.ensures;
-      host_kind = c.host_kind.ensures
-          ∙ ap (λ t. authority_host_number (components t).authority) (sym same);
-    })
+    let made = c.write_authority.ensures in
+    AreSpansOf-of-equal-text _ _ _ c.as_str-text.ensures.text
+    (AreSpansOf-with-authority c.as_str-text.result.now c.write_authority.new.parts
+    c.scheme-parts.result c.path-parts.result c.query-parts.result c.fragment-parts.result
+    made.index made.scheme made.path made.query made.fragment
+    c.scheme-parts.ensures c.path-parts.ensures c.query-parts.ensures c.fragment-parts.ensures
+    made.authority made.userinfo made.host made.port made.host_kind)

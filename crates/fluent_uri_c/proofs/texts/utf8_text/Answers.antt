@@ -1,11 +1,11 @@
 use Rattle.std.proofs.lemmas.Str.{IsUtf8-from_ascii}
-use Rattle.std.proofs.Common.{rules}
+use Rattle.std.proofs.Common.{refl, rules}
 use Rattle.fluent_uri_c.proofs.ValidBytes.{utf8_error-of-utf8}
 use Rattle.fluent_uri_c.proofs.texts.utf8_text.Goals as goal
 
-pub returns-in-Ok-clause-rejected : goal.returns-in-Ok-clause-rejected
-returns-in-Ok-clause-rejected c =
-    utf8_error-of-utf8 c.args.bytes.now c.in-Ok.ensures.cases.1 (search rules)
+pub returns-in-None-clause-rejected : goal.returns-in-None-clause-rejected
+returns-in-None-clause-rejected c =
+    utf8_error-of-utf8 c.args.bytes.now (c.in-None.ensures.valid refl) (search rules)
 
 pub returns-then-is_ascii-clause-rejected : goal.returns-then-is_ascii-clause-rejected
 returns-then-is_ascii-clause-rejected c =

@@ -1,0 +1,6 @@
+use Rattle.std.proofs.Common.{lit≤}
+use Rattle.fluent_uri_c.proofs.AsciiBlocks.{block_is_ascii}
+use Rattle.fluent_uri_c.proofs.ascii.is_ascii_word.Goals as goal
+
+pub returns : goal.returns
+returns c = block_is_ascii 4 (lit≤ tt) c.args.bytes.now c.args.at c.requires
