@@ -1,7 +1,7 @@
 #!/bin/sh
-# Each file of must-not-compile/ is the source of a crate over fluent_uri that the check must reject.
-# Its first line, `expect: NAME`, names the error. Nothing is proved here: the errors are those of
-# types and borrows.
+# Each file of must-not-compile/ is the source of a crate over fluent_uri that the check must
+# reject. Its first line, `expect: NAME`, names the error. Nothing is proved here: the errors are
+# those of types and borrows.
 set -eu
 root=$(cd "$(dirname "$0")/.." && pwd)
 work=$(mktemp -d)

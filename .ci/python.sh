@@ -1,8 +1,8 @@
 #!/bin/sh
 # Tests the Python package over the shared library: with the compiled module and by ctypes, with
 # sanitizers, by a Python that counts references, then the wheel, and the commands that install the
-# package. It writes nothing into the tree but what make and rt keep in out/. A test whose program is
-# missing is skipped, and a line says so. FLUENT_URI_LIBRARY names a shared library to test with, in
+# package. It writes nothing into the tree but what make and rt keep in out/. A test whose program
+# is missing is skipped, and a line says so. FLUENT_URI_LIBRARY names a shared library to test with, in
 # place of the one that is built of the proved archive, and PYTHON_DEBUG the Python that counts
 # references, if it is not python3-dbg. GENERATED_SECONDS (6) says how long generated calls are
 # compared, and GENERATED_SEED (1) which.

@@ -19,8 +19,8 @@ lines() {
     for line; do printf '%s\n' "$line"; done
 }
 
-# does FORM: runs $program in that way. What it prints goes to out and err of the current folder, and
-# what it must print is in wanted.out and wanted.err.
+# does FORM: runs $program in that way. What it prints goes to out and err of the current folder,
+# and what it must print is in wanted.out and wanted.err.
 does() {
     case $1 in
     answer)
