@@ -1,6 +1,6 @@
 -- General facts for all crates: on tests, and on components that may be absent.
-use Rattle.std.proofs.Common.{◌≡◌, ℕ, Bool, true, false, ◌&&◌, ◌||◌, List, refl, rules}
-use Rattle.std.proofs.Common.{option_map, sym, not, cond, eqb, ◌<◌, arith}
+use Rattle.std.proofs.Common.{◌≡◌, ℕ, Bool, true, false, ◌||◌, List, refl, rules}
+use Rattle.std.proofs.Common.{option_map, sym, subst, not, cond, eqb, ◌<◌, arith}
 use Rattle.std.proofs.lemmas.Bool.{false≢true}
 use Rattle.std.proofs.lemmas.Bool.Decides.{nat_tests}
 use Rattle.std.specs.Prelude.{Option, Some, None, IsTrue, IfSome, is_some, is_none}
@@ -43,6 +43,11 @@ pub not_some_is_none : {A : Type 0} (o : Option A) → is_some o ≡ false → i
 not_some_is_none None e = refl
 not_some_is_none (Some x) e = absurd (false≢true (sym e))
 
+-- a component that is absent is not there
+pub none-is-not-some : {A : Type 0} (o : Option A) → is_none o ≡ true → is_some o ≡ false
+none-is-not-some None e = refl
+none-is-not-some (Some x) e = absurd (false≢true e)
+
 -- a component that is not there is `None`
 pub None-from-not-is_some : {A : Type 0} (o : Option A) → is_some o ≡ false → o ≡ None
 None-from-not-is_some None e = refl
@@ -61,10 +66,6 @@ twice_negated_is_the_same false = refl
 pub bit_is_failing_test : (n : ℕ) (b : Bool) → n < 2 → eqb n 1 ≡ not b → n ≡ cond (not b) 1 0
 bit_is_failing_test n b h e = grind (arith, nat_tests)
 
-pub and_true_is_the_same : (b : Bool) → (b && true) ≡ b
-and_true_is_the_same true = refl
-and_true_is_the_same false = refl
-
-pub or_false_is_the_same : (b : Bool) → (b || false) ≡ b
-or_false_is_the_same true = refl
-or_false_is_the_same false = refl
+-- if one of two tests holds, and not the first, the second holds
+pub second-holds-if-first-is-false : (f t : Bool) → f ≡ false → (f || t) ≡ true → t ≡ true
+second-holds-if-first-is-false f t e h = subst (λ x. (x || t) ≡ true) e h

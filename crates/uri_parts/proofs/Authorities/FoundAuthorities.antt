@@ -1,12 +1,13 @@
 -- An authority is parsed exactly where the one that is cut out is taken apart, and its
 -- positions are where it is cut.
-use Rattle.std.proofs.Common.{◌≡◌, ℕ, ◌+◌, Bool, true, false, eqb, List, ◌∷◌, ◌++◌}
+use Rattle.std.proofs.Common.{◌≡◌, ℕ, ◌+◌, true, false, eqb, List, ◌∷◌, ◌++◌}
 use Rattle.std.proofs.Common.{length, drop, refl, sym, ap, ◌∙◌, arith, ◌||◌, ◌&&◌, ⊎_elim}
 use Rattle.std.proofs.Common.{append_assoc, length-append, subst, zero-add, lit<}
 use Rattle.std.specs.Prelude.{codes}
 use Rattle.std.specs.Str.{IsUtf8}
 use Rattle.std.proofs.lemmas.Bool.{cases_Bool, cond-true, cond-false, and_left, and_parts, eq-eqb}
 use Rattle.std.proofs.lemmas.Bool.{ne_eqb, both_ways, false_from_ne_true}
+use Rattle.std.proofs.Math.Bool.{or-false}
 use Rattle.std.proofs.lemmas.Bool.Decides.{nat_tests}
 use Rattle.uri_pct.specs.Sets.{TableSet}
 use Rattle.uri_pct.specs.Tokens.{is_valid_for}
@@ -46,7 +47,7 @@ use Rattle.uri_parts.proofs.Parsing.ScanStops.{utf8_after_mark}
 use Rattle.uri_parts.proofs.Authorities.WholeAuthorities.{parses_host_and_port}
 use Rattle.uri_parts.proofs.Authorities.WholeAuthorities.{parses_whole_authority}
 use Rattle.uri_parts.proofs.Splitting.Recompose.{text-with-mark-is-mark-and-rest}
-use Rattle.uri_pct.proofs.General.{or_false_is_the_same}
+use Rattle.uri_pct.proofs.General.{second-holds-if-first-is-false}
 use Rattle.uri_parts.proofs.Authorities.HostPositions.{places, authority_at-without-userinfo}
 use Rattle.uri_parts.proofs.Authorities.HostPositions.{authority_at-with-userinfo}
 use Rattle.uri_parts.proofs.Authorities.UserinfoLengths.{host_offset-is-after-userinfo-and-at-sign}
@@ -222,7 +223,7 @@ module _ (segment : TableSet) (kind : Kind) (w : SeparatesComponents segment kin
         unbracketed-authority-is-name-or-userinfo-and-host rest b
         ∙ ap (λ t. name_ends_authority kind rest
         || (t && finds_host kind (text_from_host kind rest))) (no-userinfo-without-at-sign e)
-        ∙ or_false_is_the_same (name_ends_authority kind rest)
+        ∙ or-false (name_ends_authority kind rest)
         ∙ sym (finds_host-unbracketed segment kind w rest b))
         (cases_Bool (starts 91 rest))
         ∙ sym (authority-without-at-sign-is-host e))
@@ -366,10 +367,6 @@ module _ (segment : TableSet) (kind : Kind) (w : SeparatesComponents segment kin
         same ∙ sym (ap (authority_at place) text_is
         ∙ authority_at-with-userinfo f.host f.suffix f.at f.cut user outside place))
 
-    second-holds-if-first-of-or-fails : (x y : Bool) → (x || y) ≡ true → x ≡ false → y ≡ true
-    second-holds-if-first-of-or-fails true y h e = absurd (both_ways true e refl)
-    second-holds-if-first-of-or-fails false y h e = h
-
     pub found-authority-is-the-cut-one : finds_authority kind rest ≡ true → IsFound kind rest
     found-authority-is-the-cut-one h = ⊎_elim name-alone-is-found-authority
         (λ none. ⊎_elim
@@ -377,8 +374,8 @@ module _ (segment : TableSet) (kind : Kind) (w : SeparatesComponents segment kin
         (sym (bracketed-authority-is-host-and-port rest e) ∙ h))
         (λ e.
         let p = and_parts (passes_user kind rest) _
-        (second-holds-if-first-of-or-fails (name_ends_authority kind rest) _
-        (sym (unbracketed-authority-is-name-or-userinfo-and-host rest e) ∙ h) none) in
+        (second-holds-if-first-is-false (name_ends_authority kind rest) _ none
+        (sym (unbracketed-authority-is-name-or-userinfo-and-host rest e) ∙ h)) in
         userinfo-and-host-are-found-authority none e p.0 p.1)
         (cases_Bool (starts 91 rest)))
         (cases_Bool (name_ends_authority kind rest))

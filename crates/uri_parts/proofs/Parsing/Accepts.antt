@@ -4,6 +4,7 @@ use Rattle.std.proofs.Common.{◌∙◌, arith, ◌&&◌, ⊎_elim}
 use Rattle.std.specs.Prelude.{codes}
 use Rattle.std.specs.Str.{IsUtf8}
 use Rattle.std.proofs.lemmas.Bool.{cases_Bool, cond-false, eq-eqb, eqb-true, ne_eqb, both_ways}
+use Rattle.std.proofs.Math.Bool.{and-true, or-false}
 use Rattle.std.proofs.lemmas.Bool.Decides.{nat_tests}
 use Rattle.uri_pct.specs.Sets.{TableSet, is_one_of}
 use Rattle.uri_pct.specs.Tokens.{is_valid_for}
@@ -16,7 +17,6 @@ use Rattle.uri_parts.specs.Grammar.{Kind, absent_or_passes}
 use Rattle.uri_parts.proofs.Parsing.ScanStops.{parses_after-is-valid-before-mark, utf8_from_marks}
 use Rattle.uri_parts.proofs.Parsing.ScanStops.{utf8_after_ascii_byte}
 use Rattle.uri_parts.proofs.TextKinds.Separations.{SeparatesComponents}
-use Rattle.uri_pct.proofs.General.{and_true_is_the_same, or_false_is_the_same}
 
 -- general fact on numbers, for comparing bytes in the parser
 eqb-is-symmetric : (a b : ℕ) → eqb b a ≡ true → eqb a b ≡ true
@@ -28,7 +28,7 @@ eqb-false-is-symmetric a b e = ne_eqb a b (λ d. both_ways _ e (eq-eqb b a (sym 
 
 -- parser: the one delimiter `#` is the byte 35
 one-of-hash-is-byte-35 : (b : ℕ) → is_one_of (codes "#") b ≡ eqb 35 b
-one-of-hash-is-byte-35 b = or_false_is_the_same _
+one-of-hash-is-byte-35 b = or-false _
 
 -- parser: a delimiter `?` or `#` that is not 63 is 35, `#`
 mark-that-is-no-question-is-hash : (b : ℕ) → is_one_of (codes "?#") b ≡ true → eqb b 63 ≡ false
@@ -69,7 +69,7 @@ module _ (segment : TableSet) (kind : Kind) (w : SeparatesComponents segment kin
       parses_after-is-valid-before-mark [] kind.fragment w.fragment_lacks refl is_end
       (λ b rest _ _. refl) bs u
       ∙ ap (λ xs. is_valid_for kind.fragment xs && is_end (from_any [] bs)) p.0
-      ∙ ap (λ xs. is_valid_for kind.fragment bs && is_end xs) p.1 ∙ and_true_is_the_same _
+      ∙ ap (λ xs. is_valid_for kind.fragment bs && is_end xs) p.1 ∙ and-true _
 
   pub parses_fragment-not-at-other : (b : ℕ) (rest : List ℕ) → eqb b 35 ≡ false
       → parses_fragment kind (b ∷ rest) ≡ false

@@ -8,6 +8,7 @@ use Rattle.std.proofs.lemmas.Bool.{cases_Bool, cond-true, cond-false, and_left, 
 use Rattle.std.proofs.lemmas.Bool.{and_parts, eq-eqb, eqb-true, ne_eqb, not_from_true}
 use Rattle.std.proofs.lemmas.Bool.{not_from_false, not-true, both_ways, false≢true}
 use Rattle.std.proofs.lemmas.Bool.{false_from_ne_true, or_left}
+use Rattle.std.proofs.Math.Bool.{and-true, and_assoc}
 use Rattle.std.proofs.lemmas.Bool.Decides.{nat_tests}
 use Rattle.uri_pct.specs.Sets.{TableSet, is_one_of, scheme_set}
 use Rattle.uri_pct.specs.Tokens.{is_valid_for}
@@ -34,7 +35,6 @@ use Rattle.uri_parts.proofs.Splitting.Relative.{parses_relative-without-scheme}
 use Rattle.uri_parts.proofs.Splitting.Relative.{parses_relative-rejects-scheme}
 use Rattle.uri_parts.proofs.Splitting.Relative.{parses_relative-after-scheme-chars}
 use Rattle.uri_parts.proofs.Splitting.Cuts.{before_any-past-other, from_any-at-mark}
-use Rattle.uri_pct.proofs.General.{and_true_is_the_same}
 
 -- general fact on booleans, for parsing a whole text
 and-of-six-regrouped : (a b p q f c : Bool)
@@ -50,11 +50,6 @@ and-of-six-regrouped true true true true false true = refl
 and-of-six-regrouped true true true true false false = refl
 and-of-six-regrouped true true true true true true = refl
 and-of-six-regrouped true true true true true false = refl
-
--- general fact on booleans, for parsing a whole text
-and_assoc : (a b c : Bool) → (a && (b && c)) ≡ ((a && b) && c)
-and_assoc true b c = refl
-and_assoc false b c = refl
 
 -- parsing: a text that begins with `//` begins with a delimiter that ends a scheme
 pub slashes-are-first-mark : (bs : List ℕ) → has_authority bs ≡ true → from_any (codes ":/?#") bs
@@ -191,7 +186,7 @@ module _ (segment : TableSet) (kind : Kind) (w : SeparatesComponents segment kin
       → unmixed text ≡ not kind.needs_scheme
   unfolding unmixed
   first-segment-rule-with-authority text e f =
-      grind (arith, nat_tests, after_scheme-without-scheme-is-whole, and_true_is_the_same)
+      grind (arith, nat_tests, after_scheme-without-scheme-is-whole, and-true)
 
   first-segment-rule-with-path-alone : (text : List ℕ) → has_scheme text ≡ false
       → has_authority text ≡ false
@@ -250,7 +245,7 @@ module _ (segment : TableSet) (kind : Kind) (w : SeparatesComponents segment kin
       ≡ is_ascii_alphabetic (get_or text 0 0) =
       ap (λ t. is_ascii_alphabetic (get_or (before_any (codes ":/?#") text) 0 0) && t)
       (scheme-validity-by-prefix-length text u ∙ eq-eqb _ _ eq)
-      ∙ and_true_is_the_same _ ∙ scheme-begins-with-letter-iff-text-does text h in
+      ∙ and-true _ ∙ scheme-begins-with-letter-iff-text-does text h in
       ap (λ t. is_ascii_alphabetic (get_or text 0 0) && t)
       (ap (λ r. parses_hier_part kind (drop 1 r)) back
       ∙ ap (parses_hier_part kind) (sym (after_scheme-is-after-colon text h))
@@ -305,7 +300,7 @@ module _ (segment : TableSet) (kind : Kind) (w : SeparatesComponents segment kin
       ap (λ t. not kind.needs_scheme && t)
       (schemeless-text-without-slashes-parses-relative text a
       ∙ parses_relative-without-scheme segment kind w text u h)
-      ∙ and_assoc (not kind.needs_scheme) (not (starts 58 text)) (parses_path kind text)
+      ∙ sym (and_assoc (not kind.needs_scheme) (not (starts 58 text)) (parses_path kind text))
       ∙ ap (λ t. (not kind.needs_scheme && not (starts 58 text)) && t)
       (sym (tail-without-authority-is-parsed-path text h a))
       ∙ ap (λ t. t && tail_ok text) (sym (first-segment-rule-with-path-alone text h a))

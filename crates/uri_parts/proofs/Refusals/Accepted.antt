@@ -2,7 +2,7 @@
 use Rattle.std.proofs.Common.{◌≡◌, ℕ, ◌+◌, Bool, true, false, not, cond, eqb, List, drop, Some, ap}
 use Rattle.std.proofs.Common.{None, refl, subst, ◌∙◌, arith, lit<, ⊎_elim, ◌&&◌, zero-add, add-zero}
 use Rattle.std.proofs.Common.{add_assoc}
-use Rattle.std.proofs.Math.Bool.{and-false, and_assoc}
+use Rattle.std.proofs.Math.Bool.{and-false, and-true, and_assoc}
 use Rattle.std.specs.Prelude.{Ok, Err, codes, is_none, is_ok, Result}
 use Rattle.std.specs.Result.{result_err}
 use Rattle.std.specs.Str.{IsUtf8}
@@ -13,7 +13,6 @@ use Rattle.std.proofs.lemmas.Bool.Decides.{nat_tests}
 use Rattle.uri_pct.specs.Sets.{TableSet, scheme_set}
 use Rattle.uri_pct.specs.Prefixes.{valid_prefix}
 use Rattle.uri_pct.proofs.ValidTexts.LongestPrefixes.{valid_prefix_ends_at_boundary}
-use Rattle.uri_pct.proofs.General.{and_true_is_the_same}
 use Rattle.uri_parts.specs.declared.error.ParseError.{ParseError}
 use Rattle.uri_parts.specs.Components.{starts, has_authority}
 use Rattle.uri_parts.specs.Grammar.{Kind}
@@ -97,7 +96,7 @@ ruleset steps = (
   cond-or-false-is-and,
   cond-of-false-is-not-and,
   scan-has-no-error-iff-no-stray-percent,
-  and_true_is_the_same,
+  and-true,
   and-false,
   and_assoc,
   drop-drop,

@@ -10,11 +10,12 @@ use Rattle.std.specs.Net.Addr.{segments_of}
 use Rattle.std.specs.Net.Grammar.{IsDotted, IsGroupsAfter, IsColonHex}
 use Rattle.std.specs.Net.Reader.{digit_count}
 use Rattle.std.proofs.lemmas.Bool.{cond-true, cond-false, cases_Bool, and_from, and_right, ne_eqb}
-use Rattle.std.proofs.lemmas.Bool.{not-true, eq-eqb, lt-ltb, false≢true, eqb-true, both_ways}
+use Rattle.std.proofs.lemmas.Bool.{not-true, eq-eqb, lt-ltb, eqb-true, both_ways}
 use Rattle.std.proofs.lemmas.Bool.{and_parts}
 use Rattle.std.proofs.lemmas.Fmt.{decimal_is_IsNumeral, length-decimal-le}
 use Rattle.std.proofs.NetLemmas.Numbers.{NoDigit, digit_count_none}
 use Rattle.std.proofs.lemmas.Bool.Decides.{nat_tests}
+use Rattle.uri_pct.proofs.General.{second-holds-if-first-is-false}
 use Rattle.uri_parts.specs.Components.{starts, is_end}
 use Rattle.uri_parts.specs.LiteralErrors.{Groups, Groups_end, Elision, digits_end, ipv4_end}
 use Rattle.uri_parts.specs.LiteralErrors.{after_ipv4, groups_from, ipv6_end, cannot_begin_ipv6}
@@ -74,11 +75,6 @@ text-of-groups-ends-a-group ipv4 groups (s ∷ segments) suffix
 bracket-ends-a-group : (tail : List ℕ) → Stops (93 ∷ tail)
 unfolding is_end
 bracket-ends-a-group tail = record { none = lit≤ tt; dot = refl; some = refl }
-
--- general fact on booleans, for parse errors
-second-holds-if-first-of-or-fails : (a b : Bool) → a ≡ false → (a || b) ≡ true → b ≡ true
-second-holds-if-first-of-or-fails true b n e = absurd (false≢true (sym n))
-second-holds-if-first-of-or-fails false b n e = e
 
 module _ (text : List ℕ) where
   -- where a group begins, after its `:`
@@ -291,11 +287,11 @@ module _ (text : List ℕ) where
       (groups_from-ends-without-group text 8 7 true i i end refl is refl
       (eqb-true end i q) colon))
       (λ q.
-      let d = and_parts _ _ (second-holds-if-first-of-or-fails _ _ q p.1) in
+      let d = and_parts _ _ (second-holds-if-first-is-false _ _ q p.1) in
       ap (after_groups text) (dotted text 8 7 true i i end refl is refl
       (λ s. both_ways _ q (eq-eqb end i s))
       (and_right _ _ (text-with-mark-is-not-ended 46 (drop end text) d.1))
       (ap (λ t. t && true || not t && false) colon)
-      (second-holds-if-first-of-or-fails _ _ q p.1) (λ z. omega (arith, z)))
+      (second-holds-if-first-is-false _ _ q p.1) (λ z. omega (arith, z)))
       ∙ ipv4-with-six-groups-left-is-no-ipv6 (ipv4_end text i))
       (cases_Bool (eqb end i))

@@ -19,6 +19,7 @@ use Rattle.uri_parts.proofs.Splitting.Cuts.{IsEmptyOrMarked, empty-or-marked-for
 use Rattle.uri_parts.proofs.Splitting.Marks.{query_text, fragment_text, IsEmptyOrMarked-query_text}
 use Rattle.uri_parts.proofs.Splitting.Marks.{IsEmptyOrMarked-fragment_text}
 use Rattle.uri_parts.proofs.Splitting.Marks.{rooted-path-ends-authority}
+use Rattle.uri_parts.proofs.Splitting.Recompose.{components_of_parts}
 
 -- positions: a text may be cut at both positions, and between them is this component
 pub record IsComponentAt (text : List ℕ) (start end : ℕ) (part : Option (List ℕ)) : Type 0 where
@@ -255,24 +256,9 @@ fragment-after-all-else-is-slice text before f whole utf8 =
 pub authority-of-split-is-at-positions : (text : List ℕ) (scheme authority : Option (List ℕ))
     (path : List ℕ)
     (query fragment : Option (List ℕ))
-    → IsSplitOf text (record {
-      scheme = scheme;
-      authority = authority;
-      path = path;
-      query =
-          query;
-      fragment = fragment;
-    })
+    → IsSplitOf text (components_of_parts scheme authority path query fragment)
     → IsUtf8 text
-    → (let at =
-    positions_of (record {
-      scheme = scheme;
-      authority = authority;
-      path = path;
-      query =
-          query;
-      fragment = fragment;
-    }) in
+    → (let at = positions_of (components_of_parts scheme authority path query fragment) in
     IfSome at.authority (λ a. IsComponentAt text a.start a.end authority))
 authority-of-split-is-at-positions text scheme None path query fragment split utf8 = tt
 authority-of-split-is-at-positions text scheme (Some a) path query fragment split utf8 =
@@ -301,24 +287,9 @@ path-of-split-is-at-positions text p split utf8 =
 pub query-of-split-is-at-positions : (text : List ℕ) (scheme authority : Option (List ℕ))
     (path : List ℕ)
     (query fragment : Option (List ℕ))
-    → IsSplitOf text (record {
-      scheme = scheme;
-      authority = authority;
-      path = path;
-      query =
-          query;
-      fragment = fragment;
-    })
+    → IsSplitOf text (components_of_parts scheme authority path query fragment)
     → IsUtf8 text
-    → (let at =
-    positions_of (record {
-      scheme = scheme;
-      authority = authority;
-      path = path;
-      query =
-          query;
-      fragment = fragment;
-    }) in
+    → (let at = positions_of (components_of_parts scheme authority path query fragment) in
     IfSome at.query_end (λ end. IsComponentAt text (at.path_end + 1) end query))
 query-of-split-is-at-positions text scheme authority path None fragment split utf8 = tt
 query-of-split-is-at-positions text scheme authority path (Some q) fragment split utf8 =

@@ -2,16 +2,29 @@
 use Rattle.std.proofs.Common.{◌≡◌, ℕ, ◌<◌, Bool, true, false, eqb, List, [], ◌∷◌, ◌++◌, length}
 use Rattle.std.proofs.Common.{drop, refl, sym, ap, subst, ◌∙◌, arith, ⊎_elim, inl, inr, rules}
 use Rattle.std.proofs.Common.{append_assoc}
-use Rattle.std.specs.Prelude.{codes, IsTrue, IfSome, IfNone}
+use Rattle.std.specs.Prelude.{codes, Option, IsTrue, IfSome, IfNone}
 use Rattle.std.proofs.lemmas.List.{append-nil}
 use Rattle.std.proofs.lemmas.Bool.{cases_Bool, and_parts, eqb-true, both_ways, not-true}
 use Rattle.std.proofs.lemmas.Bool.Decides.{nat_tests}
 use Rattle.uri_pct.specs.Sets.{is_one_of}
 use Rattle.uri_parts.specs.Components.{IsSplitOf, recompose, marked, starts, has_scheme, components}
 use Rattle.uri_parts.specs.Components.{has_authority, after_scheme, after_authority, after_query}
-use Rattle.uri_parts.specs.Components.{when, Lacks, IsAbemptyPath, before_any, from_any}
+use Rattle.uri_parts.specs.Components.{Components, when, Lacks, IsAbemptyPath, before_any, from_any}
 use Rattle.uri_parts.proofs.Splitting.Cuts.{IsEmptyOrMarked, text-is-cut-at-first-mark}
 use Rattle.uri_parts.proofs.Splitting.Marks.{has_authority-append}
+
+-- the components of which these are the five
+abbrev pub components_of_parts : Option (List ℕ) → Option (List ℕ) → List ℕ → Option (List ℕ)
+    → Option (List ℕ)
+    → Components
+components_of_parts scheme authority path query fragment =
+    record {
+      scheme = scheme;
+      authority = authority;
+      path = path;
+      query = query;
+      fragment = fragment;
+    }
 
 -- general fact on booleans, for splitting a text
 pub equal-to-true-is-IsTrue : (b : Bool) → b ≡ true → IsTrue b

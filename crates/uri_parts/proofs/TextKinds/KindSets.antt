@@ -147,14 +147,14 @@ with_scheme needed false other n h = absurd (cc (ap not n))
 
 -- general fact on booleans, for kinds that need a scheme;
 -- needed, present: whether one is needed, is there
-scheme-rule-holds-without-need : (needed present other : Bool) → (present || (not needed && other))
-    ≡ true
+pub scheme-rule-holds-without-need : (needed present other : Bool)
+    → (present || (not needed && other)) ≡ true
     → (present || other) ≡ true
 scheme-rule-holds-without-need needed true other h = refl
 scheme-rule-holds-without-need needed false other h = (and_parts (not needed) other h).1
 
 -- texts of a kind: one of a kind that needs a scheme has one
-kind-that-needs-scheme-has-one : (kind : Kind) (text : List ℕ) → kind.needs_scheme ≡ true
+pub kind-that-needs-scheme-has-one : (kind : Kind) (text : List ℕ) → kind.needs_scheme ≡ true
     → IsOfKind kind text
     → is_some (components text).scheme ≡ true
 kind-that-needs-scheme-has-one kind text n h = grind (arith, nat_tests, with_scheme)

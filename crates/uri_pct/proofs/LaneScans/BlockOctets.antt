@@ -4,6 +4,7 @@ use Rattle.std.proofs.Common.{eqb, leb, List, length, get_or, refl, sym, ap, sub
 use Rattle.std.proofs.Common.{bit_and, ◌&&◌, ⊎_elim}
 use Rattle.std.specs.Int.{bit_at, trailing_zeros}
 use Rattle.std.specs.Char.{is_ascii_hexdigit}
+use Rattle.std.proofs.Math.Bool.{and-true}
 use Rattle.std.proofs.lemmas.Nat.{and_le_l}
 use Rattle.std.proofs.lemmas.Nat.Bits.{bit_at-zero, bit_at_above, bit_at_ones}
 use Rattle.std.proofs.lemmas.Bool.{cases_lt, cases_Bool, both_ways, eq-eqb, eqb-true, and_parts}
@@ -11,7 +12,6 @@ use Rattle.std.proofs.lemmas.Bool.{and_from, and_right, not-true, leb-true, le-l
 use Rattle.uri_pct.specs.Texts.{has_hex_digits_after}
 use Rattle.uri_pct.specs.Models.ByteRuns.{AreCharactersOrOctets, IsLongestRun}
 use Rattle.uri_pct.specs.Models.LaneMasks.{is_lane_of_octet}
-use Rattle.uri_pct.proofs.General.{and_true_is_the_same}
 use Rattle.uri_pct.proofs.TableSets.Masks.{bit_of_bit_and, bit_that_is_not_one_is_zero}
 use Rattle.uri_pct.proofs.LaneScans.LaneBits.{is_set_bit, trailing_zeros_is_first_set_lane}
 use Rattle.uri_pct.proofs.LaneScans.OctetLanes.{first_is_false_if_and_is_false}
@@ -49,7 +49,7 @@ pub record IsFirstLane (left n : ℕ) : Type 0 where
 lane_of_part : (left part k : ℕ) → is_set_bit part k ≡ true
     → is_set_bit (bit_and left part) k ≡ is_set_bit left k
 lane_of_part left part k e = bit_of_bit_and left part k
-    ∙ ap (λ b. is_set_bit left k && b) e ∙ and_true_is_the_same (is_set_bit left k)
+    ∙ ap (λ b. is_set_bit left k && b) e ∙ and-true (is_set_bit left k)
 
 lane_below_14 : (left k : ℕ) → k < 14 → is_set_bit (bit_and left 16383) k ≡ is_set_bit left k
 lane_below_14 left k h = lane_of_part left 16383 k (ap (λ n. eqb n 1) (bit_at_ones 14 k h))

@@ -8,7 +8,7 @@ use Rattle.std.proofs.lemmas.Nat.{or_lt}
 use Rattle.std.proofs.lemmas.Nat.Bits.{bit_at_and, bit_at_above}
 use Rattle.std.proofs.lemmas.Bool.{cases_lt, both_ways, eqb-true, eq-eqb, and_from, or_from}
 use Rattle.std.proofs.lemmas.Bool.{or_parts, and_right, cases_Bool, le-leb, lt-leb}
-use Rattle.std.proofs.Math.Bool.{or-false}
+use Rattle.std.proofs.Math.Bool.{and-true, or-false}
 use Rattle.uri_pct.specs.Texts.{has_hex_digits_after}
 use Rattle.uri_pct.specs.Models.LaneMasks.{is_lane_of_octet}
 use Rattle.uri_pct.specs.Masks.{has_bit}
@@ -18,7 +18,6 @@ use Rattle.uri_pct.proofs.LaneScans.LaneRuns.{MarksFailingLanes}
 use Rattle.uri_pct.proofs.LaneScans.LaneBits.{is_set_bit, bit_of_right_shift, bit_of_left_shift}
 use Rattle.uri_pct.proofs.LaneScans.LaneBits.{low_bit_of_left_shift_is_clear}
 use Rattle.uri_pct.proofs.LaneScans.LaneBits.{clear_lane_passes_test}
-use Rattle.uri_pct.proofs.General.{and_true_is_the_same}
 use Rattle.std.proofs.lemmas.Bool.Decides.{nat_tests}
 
 -- sixteen bytes at a time: the two words of the table of digits have hexadecimal digits only
@@ -189,4 +188,4 @@ miss_outside_digits_is_in_octet_that_begins_there misses starts k digits = ⊎_e
     before set s none = grind (arith, nat_tests, is_set_bit, bit_of_bit_and)
 
     here : is_set_bit misses k ≡ true → is_lane_of_octet begun k ≡ is_set_bit starts k
-    here set = grind (arith, nat_tests, is_set_bit, or-false, bit_of_bit_and, and_true_is_the_same)
+    here set = grind (arith, nat_tests, is_set_bit, or-false, bit_of_bit_and, and-true)

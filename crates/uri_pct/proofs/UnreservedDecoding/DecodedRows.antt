@@ -14,6 +14,7 @@ use Rattle.uri_pct.specs.Pieces.{lossy_text}
 use Rattle.uri_pct.specs.DecodeUnreserved.{decode_unreserved, decode_octet, decode_after_run}
 use Rattle.uri_pct.specs.DecodeUnreserved.{decode_run, is_decodable, is_bidi_formatting}
 use Rattle.uri_pct.specs.DecodeUnreserved.{is_never_literal, lower_token}
+use Rattle.uri_pct.proofs.UnreservedDecoding.Printing.{print_decoded}
 
 -- examples of unreserved octets: the set of an IRI's component, from that of a URI's
 iri_component_set : TableSet → TableSet
@@ -23,10 +24,6 @@ iri_component_set set = record set { ucschar = true }
 iquery_set : TableSet
 iquery_set = record query_set { ucschar = true; iprivate = true }
 
--- examples of unreserved octets: the decoded form of a text as a component of the set
-decoded_text : TableSet → List ℕ → List ℕ
-decoded_text set text = print (decode_unreserved set text)
-
 -- examples of unreserved octets: the decoded form of a text in lower case
 decoded_lower_text : TableSet → List ℕ → List ℕ
 decoded_lower_text set text = print (map lower_token (decode_unreserved set text))
@@ -34,103 +31,103 @@ decoded_lower_text set text = print (map lower_token (decode_unreserved set text
 -- examples of unreserved octets: the components
 -- of `FOO://%55se%72@EXamp%4ce%2ecom:8042/%4b%2f?%4c%2b#%24%4d`
 examples_of_decoded_uri_components :
-    (decoded_text userinfo_set (codes "%55se%72") ≡ codes "User")
+    (print_decoded userinfo_set (codes "%55se%72") ≡ codes "User")
     × (decoded_lower_text reg_name_set (codes "EXamp%4ce%2ecom") ≡ codes "example.com")
-    × (decoded_text path_set (codes "/%4b%2f") ≡ codes "/K%2F")
-    × (decoded_text query_set (codes "%4c%2b") ≡ codes "L%2B")
-    × (decoded_text fragment_set (codes "%24%4d") ≡ codes "%24M")
-unfolding decoded_text decoded_lower_text chars encode_utf8 tokens_from_chars is_pct_encoded
+    × (print_decoded path_set (codes "/%4b%2f") ≡ codes "/K%2F")
+    × (print_decoded query_set (codes "%4c%2b") ≡ codes "L%2B")
+    × (print_decoded fragment_set (codes "%24%4d") ≡ codes "%24M")
+unfolding print_decoded decoded_lower_text chars encode_utf8 tokens_from_chars is_pct_encoded
     pieces_from following_ranges
     decode_after_run decode_run is_decodable is_bidi_formatting is_never_literal allows_past_ascii
 examples_of_decoded_uri_components = (refl, refl, refl, refl, refl)
 
 -- examples of unreserved octets: in a URI no octet past ASCII is decoded,
 -- and each octet is decoded by itself
-octets_past_ascii_stay_octets_in_uri : (decoded_text path_set (codes "/%c3%a9%61")
+octets_past_ascii_stay_octets_in_uri : (print_decoded path_set (codes "/%c3%a9%61")
     ≡ codes "/%C3%A9a")
     × (map decode_octet (tokens (codes "%c3%61%41"))
     ≡ decode_unreserved path_set (codes "%c3%61%41"))
-unfolding decoded_text chars encode_utf8 tokens_from_chars is_pct_encoded pieces_from
+unfolding print_decoded chars encode_utf8 tokens_from_chars is_pct_encoded pieces_from
     following_ranges decode_after_run decode_run
     is_decodable is_bidi_formatting is_never_literal allows_past_ascii
 octets_past_ascii_stay_octets_in_uri = (refl, refl)
 
 -- examples of unreserved octets: a character between two
 -- octets separates them, though together they would be `é`
-char_between_octets_keeps_them_apart : (decoded_text (iri_component_set path_set)
+char_between_octets_keeps_them_apart : (print_decoded (iri_component_set path_set)
     (codes "/%C3%41%A9%C3%A9") ≡ codes "/%C3A%A9"
     ++ encode_utf8 0xE9)
-    × (decoded_text (iri_component_set path_set) (codes "/%C3A%A9" ++ encode_utf8 0xE9)
+    × (print_decoded (iri_component_set path_set) (codes "/%C3A%A9" ++ encode_utf8 0xE9)
     ≡ codes "/%C3A%A9" ++ encode_utf8 0xE9)
-unfolding decoded_text iri_component_set chars encode_utf8 tokens_from_chars is_pct_encoded
+unfolding print_decoded iri_component_set chars encode_utf8 tokens_from_chars is_pct_encoded
     pieces_from following_ranges decode_after_run
     decode_run is_decodable is_bidi_formatting is_never_literal allows_past_ascii is_ucschar
 char_between_octets_keeps_them_apart = (refl, refl)
 
 -- example of unreserved octets: a character after 31 octets
-char_after_31_octets_is_decoded : decoded_text (iri_component_set path_set)
+char_after_31_octets_is_decoded : print_decoded (iri_component_set path_set)
     (repeat 31 (codes "%61") ++ codes "%C3%A9")
     ≡ repeat 31 (codes "a") ++ encode_utf8 0xE9
-unfolding decoded_text iri_component_set chars encode_utf8 tokens_from_chars is_pct_encoded
+unfolding print_decoded iri_component_set chars encode_utf8 tokens_from_chars is_pct_encoded
     pieces_from following_ranges decode_after_run
     decode_run is_decodable is_bidi_formatting is_never_literal allows_past_ascii is_ucschar
 char_after_31_octets_is_decoded = refl
 
 -- examples of unreserved octets: U+202E, a formatting character
 -- of bidirectional text, as octets and as a character
-bidi_override_becomes_octets : (decoded_text (iri_component_set path_set) (codes "/%e2%80%ae")
+bidi_override_becomes_octets : (print_decoded (iri_component_set path_set) (codes "/%e2%80%ae")
     ≡ codes "/%E2%80%AE")
-    × (decoded_text (iri_component_set path_set) (codes "/" ++ encode_utf8 0x202E)
+    × (print_decoded (iri_component_set path_set) (codes "/" ++ encode_utf8 0x202E)
     ≡ codes "/%E2%80%AE")
-unfolding decoded_text iri_component_set chars encode_utf8 tokens_from_chars is_pct_encoded
+unfolding print_decoded iri_component_set chars encode_utf8 tokens_from_chars is_pct_encoded
     pieces_from following_ranges decode_after_run
     decode_run is_decodable is_bidi_formatting is_never_literal allows_past_ascii is_ucschar
 bidi_override_becomes_octets = (refl, refl)
 
 -- examples of unreserved octets: U+200E between two octets separates them;
 -- decoding again keeps them apart
-formatting_char_keeps_octets_apart : (decoded_text (iri_component_set path_set)
+formatting_char_keeps_octets_apart : (print_decoded (iri_component_set path_set)
     (codes "%C3" ++ encode_utf8 0x200E ++ codes "%A9")
     ≡ codes "%C3%E2%80%8E%A9")
-    × (decoded_text (iri_component_set path_set) (codes "%C3%E2%80%8E%A9")
+    × (print_decoded (iri_component_set path_set) (codes "%C3%E2%80%8E%A9")
     ≡ codes "%C3%E2%80%8E%A9")
-unfolding decoded_text iri_component_set chars encode_utf8 tokens_from_chars is_pct_encoded
+unfolding print_decoded iri_component_set chars encode_utf8 tokens_from_chars is_pct_encoded
     pieces_from following_ranges decode_after_run
     decode_run is_decodable is_bidi_formatting is_never_literal allows_past_ascii is_ucschar
 formatting_char_keeps_octets_apart = (refl, refl)
 
 -- example of unreserved octets: the octets of U+202A, a formatting character, stay in a query
-bidi_embedding_in_query_stays_octets : decoded_text iquery_set (codes "%E2%80%AA")
+bidi_embedding_in_query_stays_octets : print_decoded iquery_set (codes "%E2%80%AA")
     ≡ codes "%E2%80%AA"
-unfolding decoded_text iquery_set chars encode_utf8 tokens_from_chars is_pct_encoded pieces_from
+unfolding print_decoded iquery_set chars encode_utf8 tokens_from_chars is_pct_encoded pieces_from
     following_ranges
     decode_after_run decode_run is_decodable is_bidi_formatting is_never_literal allows_past_ascii
     is_ucschar is_iprivate
 bidi_embedding_in_query_stays_octets = refl
 
 -- examples of unreserved octets: U+202F and U+200D, beside formatting characters, are decoded
-neighbours_of_formatting_chars_are_decoded : (decoded_text (iri_component_set path_set)
+neighbours_of_formatting_chars_are_decoded : (print_decoded (iri_component_set path_set)
     (codes "%E2%80%AF") ≡ encode_utf8 0x202F)
-    × (decoded_text (iri_component_set path_set) (codes "%E2%80%8D") ≡ encode_utf8 0x200D)
-unfolding decoded_text iri_component_set chars encode_utf8 tokens_from_chars is_pct_encoded
+    × (print_decoded (iri_component_set path_set) (codes "%E2%80%8D") ≡ encode_utf8 0x200D)
+unfolding print_decoded iri_component_set chars encode_utf8 tokens_from_chars is_pct_encoded
     pieces_from following_ranges decode_after_run
     decode_run is_decodable is_bidi_formatting is_never_literal allows_past_ascii is_ucschar
 neighbours_of_formatting_chars_are_decoded = (refl, refl)
 
 -- example of unreserved octets: the octets of U+200F, a formatting character, stay after 30 octets
-formatting_char_after_30_octets_stays_octets : decoded_text (iri_component_set path_set)
+formatting_char_after_30_octets_stays_octets : print_decoded (iri_component_set path_set)
     (repeat 30 (codes "%61") ++ codes "%E2%80%8F")
     ≡ repeat 30 (codes "a") ++ codes "%E2%80%8F"
-unfolding decoded_text iri_component_set chars encode_utf8 tokens_from_chars is_pct_encoded
+unfolding print_decoded iri_component_set chars encode_utf8 tokens_from_chars is_pct_encoded
     pieces_from following_ranges decode_after_run
     decode_run is_decodable is_bidi_formatting is_never_literal allows_past_ascii is_ucschar
 formatting_char_after_30_octets_stays_octets = refl
 
 -- examples of unreserved octets: only a query decodes U+E000
-private_use_is_decoded_in_query_only : (decoded_text iquery_set (codes "%EE%80%80")
+private_use_is_decoded_in_query_only : (print_decoded iquery_set (codes "%EE%80%80")
     ≡ encode_utf8 0xE000)
-    × (decoded_text (iri_component_set path_set) (codes "%EE%80%80") ≡ codes "%EE%80%80")
-unfolding decoded_text iri_component_set iquery_set chars encode_utf8 tokens_from_chars
+    × (print_decoded (iri_component_set path_set) (codes "%EE%80%80") ≡ codes "%EE%80%80")
+unfolding print_decoded iri_component_set iquery_set chars encode_utf8 tokens_from_chars
     is_pct_encoded pieces_from following_ranges
     decode_after_run decode_run is_decodable is_bidi_formatting is_never_literal allows_past_ascii
     is_ucschar is_iprivate

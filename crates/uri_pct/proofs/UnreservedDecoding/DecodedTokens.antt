@@ -212,7 +212,7 @@ decodable_char_octets_split_run set run c more scalar decodable =
 
 -- unreserved octets: in a run, the octets
 -- of a decodable character decode to it, and it ends the run
-decodable_char_octets_split_decoding : (set : TableSet) (run : List ℕ) (c : ℕ) (more : List ℕ)
+pub decodable_char_octets_split_decoding : (set : TableSet) (run : List ℕ) (c : ℕ) (more : List ℕ)
     (ts : List Token)
     → IsScalar c → is_decodable set c ≡ true
     → decode_after_run set (run ++ (encode_utf8 c ++ more)) ts
@@ -228,7 +228,7 @@ decodable_char_octets_split_decoding set run c more (Char d ∷ ts) scalar decod
     grind (arith, nat_tests, decodable_char_octets_split_run, append_assoc)
 
 -- unreserved octets: octets (more) before tokens lengthen the run of octets before them
-octets_before_tokens_lengthen_run : (set : TableSet) (run more : List ℕ) (ts : List Token)
+pub octets_before_tokens_lengthen_run : (set : TableSet) (run more : List ℕ) (ts : List Token)
     → decode_after_run set run (map Octet more ++ ts) ≡ decode_after_run set (run ++ more) ts
 unfolding decode_after_run
 octets_before_tokens_lengthen_run set run [] ts = ap (λ r. decode_after_run set r ts)

@@ -3,6 +3,7 @@ use Rattle.std.proofs.Common.{◌≡◌, ℕ, zero, suc, ◌<◌, ◌≤◌, tru
 use Rattle.std.proofs.Common.{◌∷◌, ◌++◌, take, drop, map, refl, sym, ap, ◌∙◌, arith, ◌&&◌}
 use Rattle.std.proofs.Common.{⊎_elim, append_assoc, Option, Some, None}
 use Rattle.std.specs.List.{list_all, flat_map}
+use Rattle.std.proofs.Math.Bool.{or-false}
 use Rattle.std.proofs.Math.Utf8.{low_scalar}
 use Rattle.std.proofs.lemmas.Str.{encode_ascii}
 use Rattle.std.proofs.lemmas.List.{append-nil, map-append, take-append-drop}
@@ -23,7 +24,6 @@ use Rattle.uri_pct.proofs.Unicode.CharacterPieces.{char_of_utf8_is_the_char}
 use Rattle.uri_pct.proofs.Unicode.FirstBytes.{no_range_follows_ascii_byte}
 use Rattle.uri_pct.proofs.ValidTexts.Allowed.{unreserved_is_ascii}
 use Rattle.uri_pct.proofs.UnreservedDecoding.Formatting as Formatting
-use Rattle.uri_pct.proofs.General.{or_false_is_the_same}
 use Rattle.std.proofs.lemmas.Bool.Decides.{nat_tests}
 
 -- unreserved octets of a URI: exactly unreserved characters are decoded,
@@ -32,7 +32,7 @@ decodable_is_unreserved_in_uri : (set : TableSet) (c : ℕ) → LacksPastAscii s
     ≡ is_unreserved c
 unfolding is_decodable allows_past_ascii
 decodable_is_unreserved_in_uri set c alone = rw (alone.0, alone.1)
-    (or_false_is_the_same (is_unreserved c))
+    (or-false (is_unreserved c))
 
 -- unreserved octets of a URI: the token that an octet of this byte is decoded to
 decoded_octet_token : ℕ → Token

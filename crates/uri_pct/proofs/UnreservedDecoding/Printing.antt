@@ -13,8 +13,12 @@ use Rattle.std.proofs.lemmas.List.{append-nil}
 use Rattle.uri_pct.specs.Sets.{TableSet}
 use Rattle.uri_pct.specs.Tokens.{Token, Char, Octet, tokens, tokens_from_chars, print}
 use Rattle.uri_pct.specs.Tokens.{text_of_token, is_pct_encoded, allows_token, is_valid_for}
-use Rattle.uri_pct.specs.DecodeUnreserved.{is_printable}
+use Rattle.uri_pct.specs.DecodeUnreserved.{decode_unreserved, is_printable}
 use Rattle.std.proofs.lemmas.Bool.Decides.{nat_tests}
+
+-- the decoded text, as printed
+unfoldable pub print_decoded : TableSet → List ℕ → List ℕ
+print_decoded set text = print (decode_unreserved set text)
 
 -- printing tokens: the digits of a byte, in either case, are two hexadecimal digits of its value
 abbrev pub are_digits_of_octet : Bool → ℕ → Bool

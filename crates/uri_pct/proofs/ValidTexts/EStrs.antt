@@ -17,7 +17,7 @@ unfolding is_valid_for tokens_from_chars chars
 empty_text_is_valid set = refl
 
 -- valid texts: a greater set t has the characters past ASCII of s
-superset_allows_same_past_ascii : (s t : TableSet) (c : ℕ) → IsSubset s t
+pub superset_allows_same_past_ascii : (s t : TableSet) (c : ℕ) → IsSubset s t
     → allows_past_ascii s c ≡ true → allows_past_ascii t c ≡ true
 unfolding allows_past_ascii
 superset_allows_same_past_ascii s t c subset e = grind (arith, nat_tests)

@@ -3,8 +3,9 @@ use Rattle.std.proofs.Common.{◌≡◌, ℕ, zero, suc, ◌+◌, ◌≤◌, tru
 use Rattle.std.proofs.Common.{drop, refl, sym, ap, ◌∙◌, arith, add-one, zero-add}
 use Rattle.std.specs.Str.{continuation_len}
 use Rattle.std.proofs.lemmas.Bool.{eqb-true}
-use Rattle.uri_pct.specs.Sets.{TableSet, LacksPercent, IsSubset, allows_past_ascii}
+use Rattle.uri_pct.specs.Sets.{TableSet, LacksPercent, IsSubset}
 use Rattle.uri_pct.specs.Prefixes.{allows_first, valid_prefix_from, valid_prefix, after}
+use Rattle.uri_pct.proofs.ValidTexts.EStrs.{superset_allows_same_past_ascii}
 use Rattle.uri_pct.proofs.ValidTexts.Validity.{ascii_first_byte_is_allowed_iff_in_set}
 use Rattle.std.proofs.lemmas.Bool.Decides.{nat_tests}
 
@@ -56,12 +57,6 @@ valid_prefix_from_is_at_most_length set zero (b ∷ bs) =
 pub valid_prefix_is_at_most_length : (set : TableSet) (bs : List ℕ)
     → valid_prefix set bs ≤ length bs
 valid_prefix_is_at_most_length set bs = valid_prefix_from_is_at_most_length set 0 bs
-
--- scanning: a greater set has the characters past ASCII of a smaller one
-superset_allows_same_past_ascii : (small great : TableSet) → IsSubset small great → (c : ℕ)
-    → allows_past_ascii small c ≡ true → allows_past_ascii great c ≡ true
-unfolding allows_past_ascii
-superset_allows_same_past_ascii small great w c e = grind (arith, nat_tests)
 
 -- scanning: a greater set allows the first character that a smaller one does
 superset_allows_same_first_char : (small great : TableSet) → IsSubset small great

@@ -1,9 +1,9 @@
 use Rattle.std.proofs.Common.{◌≡◌, ◌≤◌, ℕ, true, false, not, eqb, sym, ap, ◌∙◌, arith, ◌&&◌, ◌||◌}
 use Rattle.std.specs.Prelude.{nat_le}
+use Rattle.std.proofs.Math.Bool.{and-true}
 use Rattle.std.proofs.lemmas.Bool.Decides.{nat_tests}
 use Rattle.uri_pct.specs.Masks.{has_bit}
 use Rattle.uri_pct.specs.Models.ByteRuns.{is_char_byte}
-use Rattle.uri_pct.proofs.General.{and_true_is_the_same}
 use Rattle.uri_pct.proofs.TableSets.Masks.{has_bit_past_ascii_is_false}
 use Rattle.uri_pct.proofs.lanes.is_char_byte.Goals as goal
 
@@ -15,7 +15,7 @@ past low high b h =
     ap (λ x. x || ((nat_le b 237 && not (nat_le b 127)) && not (eqb b 194)))
     (has_bit_past_ascii_is_false low high b h)
     ∙ ap (λ x. (nat_le b 237 && not x) && not (eqb b 194)) far
-    ∙ ap (λ x. x && not (eqb b 194)) (and_true_is_the_same (nat_le b 237))
+    ∙ ap (λ x. x && not (eqb b 194)) (and-true (nat_le b 237))
 
 pub returns-then-byte-le237 : goal.returns-then-byte-le237
 returns-then-byte-le237 c =
