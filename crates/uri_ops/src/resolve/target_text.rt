@@ -10,7 +10,7 @@ ghost use Rattle.uri_ops.specs.Models.Places.{before_path};
 ghost use Rattle.uri_ops.specs.Models.TargetCases.{IsCaseOf, IsDottedTarget, dotted_path};
 ghost use Rattle.uri_ops.specs.Resolving.{IsErrorFor, IsTarget, components_of, with_final_path};
 ghost use Rattle.uri_ops.specs.Target.{dotless_if_absolute, guarded, underflows_if_absolute};
-ghost use Rattle.uri_ops.specs.Target.{is_opaque_rejection};
+ghost use Rattle.uri_ops.specs.Target.{is_opaque, is_opaque_rejection};
 
 use crate::path::dot_segments::{push_merged, push_without_dot_segments};
 use crate::path::slashes::{begins_with_slash, guard_path};
@@ -24,13 +24,21 @@ use std::alloc::{AllocError, Global};
 use uri_parts::packed_positions::PackedPositions;
 use uri_parts::positions::Positions;
 
-/// Returns whether an opaque base rejects a reference: the base has no authority, and no `/` begins
-/// its path, and the reference has no scheme, is not empty and doesn't begin with `#`.
+/// Returns whether a base is opaque: it has no authority, and no `/` begins its path. Of references
+/// without a scheme, it takes only an empty one and a fragment.
+#[inline(always)]
+pub fn is_opaque(base: &TextView<'_>) -> bool
+    ensures { result ≡ is_opaque (components_of base.now) }
+{
+    !base.has_authority() && !begins_with_slash(base.path().as_bytes())
+}
+
+/// Returns whether an opaque base rejects a reference: the reference has no scheme, is not empty
+/// and doesn't begin with `#`.
 fn is_opaque_rejection(base: &TextView<'_>, reference: &TextView<'_>) -> bool
     ensures { result ≡ is_opaque_rejection (components_of base.now) (components_of reference.now) }
 {
-    let is_opaque = !base.has_authority() && !begins_with_slash(base.path().as_bytes());
-    is_opaque && !(reference.has_scheme() || is_fragment_only(reference))
+    is_opaque(base) && !(reference.has_scheme() || is_fragment_only(reference))
 }
 
 /// Appends a target's path, without its dot segments if it begins with `/`, and returns whether

@@ -55,7 +55,7 @@ impl<'a> TextView<'a> {
     }
 
     /// Returns the text that is viewed.
-    pub(crate) fn as_str(&self) -> &'a str
+    pub fn as_str(&self) -> &'a str
         ensures text { result.now ≡ self.now.text.now }
         ensures at { ArePackedPositionsOf result.now self.now.positions }
     {
@@ -64,7 +64,7 @@ impl<'a> TextView<'a> {
 
     /// Returns the positions of the components of the text.
     #[inline(always)]
-    fn positions(&self) -> Positions
+    pub fn positions(&self) -> Positions
         ensures { ArePositionsOf self.now.text.now result }
     {
         self.positions.unpack(self.text)
@@ -78,14 +78,14 @@ impl<'a> TextView<'a> {
     }
 
     /// Returns whether the text has an authority.
-    pub(crate) fn has_authority(&self) -> bool
+    pub fn has_authority(&self) -> bool
         ensures { result ≡ is_some (components_of self.now).authority }
     {
         self.positions().has_authority(self.text)
     }
 
     /// Returns whether the text has a query.
-    pub(crate) fn has_query(&self) -> bool
+    pub fn has_query(&self) -> bool
         ensures { result ≡ is_some (components_of self.now).query }
     {
         self.positions().has_query(self.text)
@@ -99,14 +99,14 @@ impl<'a> TextView<'a> {
     }
 
     /// Returns the path of the text, which may be empty.
-    pub(crate) fn path(&self) -> &'a str
+    pub fn path(&self) -> &'a str
         ensures { result.now ≡ (components_of self.now).path }
     {
         self.positions().path(self.text)
     }
 
     /// Returns the scheme with its `:`, or no text.
-    pub(crate) fn scheme_with_delimiter(&self) -> &'a str
+    pub fn scheme_with_delimiter(&self) -> &'a str
         ensures { result.now ≡ marked [] (components_of self.now).scheme (codes ":") }
     {
         let text = self.as_str();
@@ -199,7 +199,7 @@ impl<'a> TextView<'a> {
     }
 
     /// Returns where the authority is, if there is one.
-    pub(crate) fn authority(&self) -> Option<AuthorityPositions>
+    pub fn authority(&self) -> Option<AuthorityPositions>
         ensures { result ≡ (positions_of (components_of self.now)).authority }
     {
         self.positions().authority
