@@ -29,7 +29,6 @@ use uri_parts::core_text::Core;
 use uri_parts::kind::{IriKind, IriRefKind, Kind};
 use uri_parts::parse::parse;
 use uri_relative::Relativizer;
-use uri_relative::relative::RelativeKind;
 use uri_setting::RuleSetting;
 
 /// Returns whether bytes that C hands over are no more than `PTRDIFF_MAX`, so that they can be there.
@@ -207,7 +206,7 @@ pub fn normal_target_from<K: RefKind>(
 
 /// Returns a reference that leads from a base to a target, which is bytes. The last argument says
 /// whether it has a relative path even if the path from the root is shorter.
-pub fn reference_from<K: RelativeKind>(
+pub fn reference_from<K: BaseKind>(
     alloc: Global,
     base: &Reference<K, &str>,
     target: &[u8],
@@ -258,7 +257,7 @@ pub fn normal_target<K: RefKind>(
 }
 
 /// Returns a reference that leads from a base to a target, both as bytes, as `reference_from` does.
-pub fn reference<K: RelativeKind>(
+pub fn reference<K: BaseKind>(
     alloc: Global,
     base: &[u8],
     target: &[u8],

@@ -8,11 +8,10 @@ use crate::{ascii_hosts, basic, conversions, encoded, mending, references, relat
 use fluent_uri::component::Scheme;
 use fluent_uri::net::{IpAddr, Ipv4Addr, Ipv6Addr};
 use fluent_uri::normalize::SchemeDefaults;
-use fluent_uri::roles::RefKind;
+use fluent_uri::roles::{BaseKind, RefKind};
 use std::alloc::Global;
 use std::hash::{DefaultHasher, Hash, Hasher};
 use uri_parts::kind::{self, IriKind, IriRefKind, UriKind, UriRefKind};
-use uri_relative::relative::RelativeKind;
 
 /// Returns the words of a row's result: what its operation gives of its fields.
 pub(crate) fn evaluate(alloc: Global, asked: &str) -> Result<Words, RowError> {
@@ -128,7 +127,7 @@ fn evaluate_pair(
 
 /// Appends to a row's result what the row asks of a base of the kind `B`, and a reference of the
 /// kind `K` or a target.
-fn of_base<B: RelativeKind, K: RefKind>(
+fn of_base<B: BaseKind, K: RefKind>(
     alloc: Global,
     ask: PairOperation,
     (base, other): (&str, &str),

@@ -4,14 +4,13 @@ use crate::basic;
 use crate::fields::{RowError, Words};
 use crate::operation::Setting;
 use crate::references::{self, parsed};
-use fluent_uri::roles::RefKind;
+use fluent_uri::roles::{BaseKind, RefKind};
 use std::alloc::Global;
 use uri_relative::Relativizer;
-use uri_relative::relative::RelativeKind;
 
 /// Returns the reference that leads from a base to a target, where a relative path is preferred or
 /// not.
-fn reference<B: RelativeKind>(
+fn reference<B: BaseKind>(
     alloc: Global,
     prefers: bool,
     base: &str,
@@ -23,7 +22,7 @@ fn reference<B: RelativeKind>(
 }
 
 /// Appends to a row's result the reference that leads from a base to a target.
-pub(crate) fn relativize<B: RelativeKind>(
+pub(crate) fn relativize<B: BaseKind>(
     alloc: Global,
     prefers: bool,
     base: &str,
@@ -35,7 +34,7 @@ pub(crate) fn relativize<B: RelativeKind>(
 
 /// Appends to a row's result the reference that leads from a base to a target. If it does not lead
 /// back to it, `not back` follows; if it does not by the basic algorithm, `lost`.
-pub(crate) fn relativize_back<B: RelativeKind, K: RefKind>(
+pub(crate) fn relativize_back<B: BaseKind, K: RefKind>(
     alloc: Global,
     base: &str,
     target: &str,

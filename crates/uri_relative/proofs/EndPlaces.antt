@@ -1,7 +1,7 @@
 -- The positions of the components after a scheme, and of a query and a fragment.
 use Rattle.std.proofs.Common.{◌≡◌, ℕ, ◌+◌, ◌-◌, ◌≤◌, List, [], length, refl, sym, ap, ◌∙◌}
 use Rattle.std.proofs.Common.{arith, length-append, option_map, subst}
-use Rattle.std.specs.Prelude.{codes, true, false, is_some, Option, Some, None}
+use Rattle.std.specs.Prelude.{codes, true, false, is_some, IfSome, Option, Some, None}
 use Rattle.std.proofs.lemmas.Bool.{false≢true}
 use Rattle.std.proofs.lemmas.Option.{none-some, same_Some}
 use Rattle.uri_parts.specs.declared.positions.AuthorityPositions.{AuthorityPositions}
@@ -55,13 +55,11 @@ authority-positions-without-scheme n (Some a) places moved e start host_start ho
 
 -- relativized references: an authority begins n + 2 bytes into a text with a scheme of n bytes
 -- (with its `:`)
-pub authority-positions-of-components : (t : Components) (p : Positions) (n : ℕ)
-    (places : AuthorityPositions)
-    → p ≡ positions_of t → n ≡ delimited_length 1 t.scheme → p.authority ≡ Some places
+pub authority-positions-of-components : (t : Components) (n : ℕ) (places : AuthorityPositions)
+    → n ≡ delimited_length 1 t.scheme → (positions_of t).authority ≡ Some places
     → Some places ≡ option_map (authority_at (n + 2)) t.authority
-authority-positions-of-components t p n places at m e =
-    sym e ∙ ap (λ (q : Positions). q.authority) at
-    ∙ ap (λ k. option_map (authority_at (k + 2)) t.authority) (sym m)
+authority-positions-of-components t n places m e =
+    sym e ∙ ap (λ k. option_map (authority_at (k + 2)) t.authority) (sym m)
 
 -- relativized references: without an authority there are no positions of one, wherever it would be
 absent-authority-has-no-positions : (n m : ℕ) (authority : Option (List ℕ)) → None
@@ -71,12 +69,10 @@ absent-authority-has-no-positions n m None e = refl
 absent-authority-has-no-positions n m (Some a) e = absurd (none-some (authority_at n a) e)
 
 -- relativized references: without positions of an authority there is none
-pub no-authority-positions-no-authority : (t : Components) (p : Positions) → p ≡ positions_of t
-    → p.authority ≡ None
+pub no-authority-positions-no-authority : (t : Components) → (positions_of t).authority ≡ None
     → None ≡ option_map (authority_at 2) t.authority
-no-authority-positions-no-authority t p at e =
-    absent-authority-has-no-positions (delimited_length 1 t.scheme + 2) 2 t.authority
-    (sym e ∙ ap (λ (q : Positions). q.authority) at)
+no-authority-positions-no-authority t e =
+    absent-authority-has-no-positions (delimited_length 1 t.scheme + 2) 2 t.authority (sym e)
 
 -- relativized references: the position after a scheme and its `:`
 pub scheme-end-is-scheme-length : (t : Components) (p : Positions) (end : ℕ) → p ≡ positions_of t
@@ -88,6 +84,19 @@ scheme-end-is-scheme-length t p end at e =
         → end + 1 ≡ delimited_length 1 scheme
     marked_at None f = absurd (none-some end (sym f))
     marked_at (Some s) f = omega (arith, same_Some _ _ f)
+
+-- relativized references: the position after a scheme of n bytes (with its `:`) is before the end
+-- of the query
+pub query-ends-after-scheme : (t : Components) (p : Positions) (n : ℕ) → p ≡ positions_of t
+    → n ≡ delimited_length 1 t.scheme → IfSome p.query_end (λ q. n ≤ q)
+query-ends-after-scheme t p n at m =
+    subst (λ (end : Option ℕ). IfSome end (λ q. n ≤ q))
+    (sym (ap (λ (q : Positions). q.query_end) at)) (after t.query)
+  where
+    after : (query : Option (List ℕ))
+        → IfSome (option_map (λ q. (positions_of t).path_end + 1 + length q) query) (λ q. n ≤ q)
+    after None = tt
+    after (Some q) = omega (arith, m)
 
 -- relativized references: without an end of a scheme there is none
 absent-scheme-end-means-no-scheme : (scheme : Option (List ℕ)) → None ≡ option_map length scheme

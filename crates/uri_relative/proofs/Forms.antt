@@ -15,10 +15,8 @@ use Rattle.uri_parts.specs.Grammar.{absent_or_passes, is_authority, is_scheme}
 use Rattle.uri_pct.specs.Sets.{TableSet, allows}
 use Rattle.uri_pct.specs.Tokens.{is_valid_for, tokens_from_chars}
 use Rattle.uri_parts.proofs.Splitting.Marks.{IsEmptyOrMarked-query_text}
-use Rattle.uri_ops.specs.ComponentSets.{HasComponentSets}
 use Rattle.uri_ops.specs.Dots.{IsAbsolute, lacks_dot_segments}
 use Rattle.uri_ops.specs.NormalTargets.{reference_kind}
-use Rattle.uri_ops.specs.Resolving.{with_final_path}
 use Rattle.uri_ops.specs.Target.{underflows_if_absolute, guarded, is_opaque, is_fragment_only}
 use Rattle.uri_ops.specs.Target.{dotted_target}
 use Rattle.uri_ops.proofs.Meanings.ComponentEnds.{no_scheme}
@@ -27,7 +25,8 @@ use Rattle.uri_ops.proofs.Meanings.AsciiCharacters.{ascii-bytes-are-utf8}
 use Rattle.uri_ops.proofs.Paths.PathCharacters.{lacked-delimiters-fail-test}
 use Rattle.uri_ops.proofs.Paths.PathCharacters.{test-of-delimiters-gives-lacks}
 use Rattle.uri_ops.proofs.Paths.TakenSegments.{absolute-path-is-slash-and-rest}
-use Rattle.uri_relative.specs.Forms.{IsReferenceTo, IsUnguarded, NeedsPath, after_path}
+use Rattle.uri_relative.specs.Forms.{IsDotlessTargetOf, IsReferenceTo, IsUnguarded, NeedsPath}
+use Rattle.uri_relative.specs.Forms.{after_path}
 use Rattle.uri_relative.specs.Forms.{after_scheme, from_authority}
 use Rattle.uri_relative.specs.Leading.{IsRelativeTo, needs_authority}
 use Rattle.uri_relative.specs.Relative.{IsPathTo}
@@ -39,14 +38,6 @@ use Rattle.uri_relative.proofs.References.{target_of-whole-target}
 use Rattle.uri_relative.proofs.Settled.{and-false-is-false, settled-target-does-not-underflow}
 use Rattle.uri_relative.proofs.ShortestForms.{fragment-form-is-shortest, path-form-is-shortest}
 use Rattle.uri_relative.proofs.ShortestForms.{query-form-is-shortest}
-
--- targets to relativize: the components are a target of which no dot segment is removed, of a kind
--- that needs a scheme
-pub record IsDotlessTargetOf (kind : Kind) (t : Components) : Type 0 where
-  pub split : IsSplitOf (recompose t) t
-  pub meets : components_meet_rules kind t ≡ true
-  pub scheme : is_some t.scheme ≡ true
-  pub settled : with_final_path t ≡ t
 
 -- targets to relativize: each component is absent or meets its rule of the grammar
 pub record MeetsRules (kind : Kind) (t : Components) : Type 0 where
@@ -271,7 +262,7 @@ module _ (kind : Kind) (prefers : Bool) (base t : Components) (w : IsDotlessTarg
   )
 
   -- a path, and the text after the target's
-  pub path-form-is-reference : (path way : List ℕ) → HasComponentSets kind → base.scheme ≡ t.scheme
+  pub path-form-is-reference : (path way : List ℕ) → base.scheme ≡ t.scheme
       → base.authority ≡ t.authority → IsAbemptyPath base.path → is_opaque base ≡ false
       → IsUnguarded t path → IsPathTo base.path path way
       → (prefers ≡ false → length way ≤ length (guarded None path))
@@ -280,7 +271,7 @@ module _ (kind : Kind) (prefers : Bool) (base t : Components) (w : IsDotlessTarg
       → starts slash t.path ≡ true
       → IsReferenceTo kind prefers base t
       (record t { scheme = None; authority = None; path = way })
-  path-form-is-reference path way sets s a rooted opaque u p short least none needs absolute =
+  path-form-is-reference path way s a rooted opaque u p short least none needs absolute =
       let m = components-of-kind-meet-rules kind t w.meets in
       let r : Components = record t { scheme = None; authority = None; path = way } in
       record {
@@ -288,7 +279,7 @@ module _ (kind : Kind) (prefers : Bool) (base t : Components) (w : IsDotlessTarg
             (p.lacks (path-without-guard-lacks-marks t path u.guards w.split.path))
             w.split.query p.no_scheme p.no_authority;
         meets = path-and-query-meet-rules way t.query
-            (p.valid kind.path sets.path sets.slash
+            (p.valid kind.path w.sets.path w.sets.slash
             (path-without-guard-is-valid kind.path t path u.absolute u.guards m.path)) m.query
             p.no_scheme;
         leads = target_of-path-form base t path way s a rooted u.guards p;

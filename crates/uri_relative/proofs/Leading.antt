@@ -19,11 +19,11 @@ use Rattle.uri_ops.proofs.Meanings.TextParts.{components-of-utf8-are-utf8}
 use Rattle.uri_ops.proofs.Paths.PathMeanings.{path-without-dots-is-set-text}
 use Rattle.uri_ops.proofs.Paths.PathMeanings.{guarded-set-text-is-set-text}
 use Rattle.uri_ops.proofs.Targeting.TargetCases.{settled-text-has-settled-components}
-use Rattle.uri_relative.specs.Forms.{IsReferenceTo}
+use Rattle.uri_relative.specs.Forms.{IsDotlessTargetOf, IsReferenceTo}
 use Rattle.uri_relative.specs.Leading.{LeadsBackToTarget, IsNoLonger, IsRelativeTo, LeadsTo}
 use Rattle.uri_relative.specs.Leading.{without_fragment}
 use Rattle.uri_relative.specs.Leading.{settled}
-use Rattle.uri_relative.proofs.Forms.{IsDotlessTargetOf, components-of-kind-meet-rules}
+use Rattle.uri_relative.proofs.Forms.{components-of-kind-meet-rules}
 use Rattle.uri_relative.proofs.Returning.{reference-leads-back-to-resolved-target}
 use Rattle.uri_relative.proofs.Settled.{final-path-is-idempotent, and-false-is-false}
 use Rattle.uri_relative.proofs.Shrinking.{settled-text-is-no-longer}
@@ -42,18 +42,20 @@ pub kind-needs-scheme : (kind : Kind) (text : List ℕ) → kind.needs_scheme �
 kind-needs-scheme kind text e h =
     needs (is_some (components text).scheme) kind.needs_scheme _ e (and_parts _ _ h).1
 
--- relativized references: a text of a kind with a scheme is a possible target, if it has no dot
--- segments left to remove
-pub dotless-text-is-target : (kind : Kind) (text : List ℕ) → kind.needs_scheme ≡ true
-    → IsOfKind kind text
-    → with_final_path (components text) ≡ components text → IsDotlessTargetOf kind (components text)
-dotless-text-is-target kind text e h done = record {
-  split = subst (λ t. IsSplitOf t (components text)) (sym (recompose-components text))
-      (components-are-split-of-text text);
-  meets = h;
-  scheme = kind-needs-scheme kind text e h;
-  settled = done;
-}
+-- relativized references: the components (t) of a text of a kind with a scheme are a possible
+-- target, if there are no dot segments left to remove
+pub dotless-text-is-target : (kind : Kind) (text : List ℕ) (t : Components) → t ≡ components text
+    → HasComponentSets kind → kind.needs_scheme ≡ true → IsOfKind kind text
+    → with_final_path t ≡ t → IsDotlessTargetOf kind t
+dotless-text-is-target kind text t same sets e h =
+    subst (λ t. with_final_path t ≡ t → IsDotlessTargetOf kind t) (sym same) (λ done. record {
+      sets = sets;
+      split = subst (λ s. IsSplitOf s (components text)) (sym (recompose-components text))
+          (components-are-split-of-text text);
+      meets = h;
+      scheme = kind-needs-scheme kind text e h;
+      settled = done;
+    })
 
 -- relativized references: the text that is written of one has its components
 pub components-of-reference-text : (kind : Kind) (prefers : Bool) (base target r : Components)
@@ -102,11 +104,10 @@ pub components-of-settled-text : (text made : List ℕ) → is_some (components 
 components-of-settled-text text made some e = ap components e
     ∙ settled-text-has-settled-components text some
 
--- relativized references: a text made as the target without removable dot segments has none left
-pub settled-text-stays-settled : (text made : List ℕ) → is_some (components text).scheme ≡ true
-    → made ≡ recompose (settled text) → with_final_path (components made) ≡ components made
-settled-text-stays-settled text made some e =
-    let same = components-of-settled-text text made some e in
+-- targets to relativize: components (t) of one without removable dot segments have none left
+pub settled-components-stay-settled : (text : List ℕ) (t : Components) → t ≡ settled text
+    → with_final_path t ≡ t
+settled-components-stay-settled text t same =
     ap with_final_path same ∙ final-path-is-idempotent (components text) ∙ sym same
 
 -- targets to relativize: the text of one without removable dot segments is of the kind

@@ -4,7 +4,6 @@ pub mod Ways
 pub mod Lengths
 pub mod References
 pub mod Settled
-pub mod Slices
 pub mod EndPlaces
 pub mod Forms
 pub mod RootedTargets

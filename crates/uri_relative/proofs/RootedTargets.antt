@@ -13,9 +13,9 @@ use Rattle.uri_parts.proofs.Splitting.Recompose.{components-are-split-of-text}
 use Rattle.uri_parts.proofs.Splitting.Recompose.{equal-to-true-is-IsTrue}
 use Rattle.uri_ops.specs.Dots.{is_empty}
 use Rattle.uri_ops.specs.Target.{is_opaque}
-use Rattle.uri_relative.specs.Forms.{NeedsPath}
+use Rattle.uri_relative.specs.Forms.{IsDotlessTargetOf, NeedsPath}
 use Rattle.uri_relative.specs.Leading.{is_rootless, has_emptied_path, needs_authority}
-use Rattle.uri_relative.proofs.Forms.{IsDotlessTargetOf, or-holds-if-first-does}
+use Rattle.uri_relative.proofs.Forms.{or-holds-if-first-does}
 
 -- targets to relativize: a path after an authority that does not begin with `/` is empty
 abempty-path-without-slash-is-empty : (path : List ℕ) → IsAbemptyPath path → starts slash path

@@ -6,8 +6,10 @@ use Rattle.uri_parts.specs.Components.{Components, IsSplitOf, marked, recompose,
 use Rattle.uri_parts.specs.Grammar.{Kind, components_meet_rules}
 use Rattle.uri_parts.specs.Positions.{positions_of}
 use Rattle.uri_parts.specs.declared.positions.Positions.{Positions}
+use Rattle.uri_ops.specs.ComponentSets.{HasComponentSets}
 use Rattle.uri_ops.specs.Dots.{IsAbsolute, lacks_dot_segments}
 use Rattle.uri_ops.specs.NormalTargets.{reference_kind}
+use Rattle.uri_ops.specs.Resolving.{with_final_path}
 use Rattle.uri_ops.specs.Target.{guarded, is_opaque, is_opaque_rejection, target_of}
 use Rattle.uri_ops.specs.Target.{target_underflows}
 use Rattle.uri_relative.specs.Leading.{IsRelativeTo}
@@ -42,13 +44,28 @@ pub record IsReferenceTo (kind : Kind) (prefers : Bool) (base target r : Compone
   pub shortest : prefers ≡ false → lacks_dot_segments base.path ≡ true
       → Shortest kind base target (length (recompose r))
 
--- The text is that of a reference of the kind from the base to the target, in this order, and the
--- positions are those of its components.
+-- targets to relativize: the components are a target of which no dot segment is removed, of a kind
+-- that needs a scheme
+pub record IsDotlessTargetOf (kind : Kind) (t : Components) : Type 0 where
+  pub sets : HasComponentSets kind
+  pub split : IsSplitOf (recompose t) t
+  pub meets : components_meet_rules kind t ≡ true
+  pub scheme : is_some t.scheme ≡ true
+  pub settled : with_final_path t ≡ t
+
+-- of each kind that the target is of, the last components are a reference from the base to it; the
+-- Bool is whether a relative path is preferred
+abbrev pub IsReferenceOfEachKind : Bool → Components → Components → Components → Type 0
+IsReferenceOfEachKind prefers base target r =
+    (kind : Kind) → IsDotlessTargetOf kind target → IsReferenceTo kind prefers base target r
+
+-- The text is that of a reference from the base to the target, in this order, and the positions are
+-- those of its components.
 -- It is one whether or not a relative path is preferred.
-abbrev pub IsTextOfReference : Kind → Components → Components → List ℕ → Positions → Type 0
-IsTextOfReference kind base target text positions =
+abbrev pub IsTextOfReference : Components → Components → List ℕ → Positions → Type 0
+IsTextOfReference base target text positions =
     (r : Components) × (text ≡ recompose r) × (positions ≡ positions_of r)
-    × ((prefers : Bool) → IsReferenceTo kind prefers base target r)
+    × ((prefers : Bool) → IsReferenceOfEachKind prefers base target r)
 
 -- No reference without a path leads from the base to the target: if authority and path are equal,
 -- the queries differ and the target has none.

@@ -1,15 +1,13 @@
 //! The suffixes of a target's text that may be references to it (RFC 3986, section 4.2).
 ghost use Rattle.std.specs.Prelude.{◌≡◌, [], None};
-ghost use Rattle.uri_parts.specs.Components.{components, recompose};
-ghost use Rattle.uri_parts.specs.CoreTexts.{core_text};
+ghost use Rattle.uri_parts.specs.Components.{recompose};
 ghost use Rattle.uri_parts.specs.Positions.{positions_of};
+ghost use Rattle.uri_ops.specs.Resolving.{components_of};
 ghost use Rattle.uri_relative.specs.Forms.{from_authority};
 
 use crate::pieces::after_scheme;
 use crate::places::{positions_after_scheme, positions_of_fragment, positions_with_path};
 use uri_ops::resolve::text_view::TextView;
-use uri_parts::core_text::Core;
-use uri_parts::kind::Kind;
 use uri_parts::positions::Positions;
 
 /// A suffix of a text, and the positions of its components.
@@ -22,9 +20,9 @@ pub(crate) struct TargetSuffix<'a> {
 impl<'a> TargetSuffix<'a> {
     /// Returns the reference that is all of the target's text.
     #[inline(always)]
-    pub(crate) fn whole<K: Kind>(target: Core<K, &'a str>) -> TargetSuffix<'a>
-        ensures text { result.text.now ≡ core_text target.entry }
-        ensures at { result.positions ≡ positions_of (components (core_text target.entry)) }
+    pub(crate) fn whole(target: &TextView<'a>) -> TargetSuffix<'a>
+        ensures text { result.text.now ≡ recompose (components_of target.now) }
+        ensures at { result.positions ≡ positions_of (components_of target.now) }
     {
         TargetSuffix {
             text: target.as_str(),
@@ -35,11 +33,9 @@ impl<'a> TargetSuffix<'a> {
     /// Returns the reference that is the target's text without its scheme if it has an authority,
     /// or else all of it.
     #[inline(always)]
-    pub(crate) fn from_authority<K: Kind>(target: Core<K, &'a str>) -> TargetSuffix<'a>
-        ensures text { result.text.now
-            ≡ recompose (from_authority (components (core_text target.entry))) }
-        ensures at { result.positions
-            ≡ positions_of (from_authority (components (core_text target.entry))) }
+    pub(crate) fn from_authority(target: &TextView<'a>) -> TargetSuffix<'a>
+        ensures text { result.text.now ≡ recompose (from_authority (components_of target.now)) }
+        ensures at { result.positions ≡ positions_of (from_authority (components_of target.now)) }
     {
         if target.has_authority() {
             return TargetSuffix {
@@ -52,28 +48,28 @@ impl<'a> TargetSuffix<'a> {
 
     /// Returns the reference that is the target's query and fragment with their delimiters.
     #[inline(always)]
-    pub(crate) fn from_query<K: Kind>(target: Core<K, &'a str>) -> TargetSuffix<'a>
-        ensures text { let t = components (core_text target.entry) in result.text.now
+    pub(crate) fn from_query(target: &TextView<'a>) -> TargetSuffix<'a>
+        ensures text { let t = components_of target.now in result.text.now
             ≡ recompose (record t { scheme = None; authority = None; path = [] }) }
-        ensures at { let t = components (core_text target.entry) in result.positions
+        ensures at { let t = components_of target.now in result.positions
             ≡ positions_of (record t { scheme = None; authority = None; path = [] }) }
     {
         TargetSuffix {
-            text: TextView::of_core(target).after_path(),
+            text: target.after_path(),
             positions: positions_with_path(target, 0),
         }
     }
 
     /// Returns the reference that is the target's fragment with its `#`, or empty without one.
     #[inline(always)]
-    pub(crate) fn from_fragment<K: Kind>(target: Core<K, &'a str>) -> TargetSuffix<'a>
-        ensures text { let t = components (core_text target.entry) in result.text.now
+    pub(crate) fn from_fragment(target: &TextView<'a>) -> TargetSuffix<'a>
+        ensures text { let t = components_of target.now in result.text.now
             ≡ recompose (record t { scheme = None; authority = None; path = []; query = None }) }
-        ensures at { let t = components (core_text target.entry) in result.positions
+        ensures at { let t = components_of target.now in result.positions
             ≡ positions_of (record t { scheme = None; authority = None; path = []; query = None }) }
     {
         TargetSuffix {
-            text: TextView::of_core(target).fragment_with_delimiter(),
+            text: target.fragment_with_delimiter(),
             positions: positions_of_fragment(),
         }
     }

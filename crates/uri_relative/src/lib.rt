@@ -7,8 +7,7 @@ mod paths;
 mod pieces;
 mod places;
 mod reference;
-#[doc(hidden)]
-pub mod relative;
+mod relative;
 pub mod relativize;
 
 pub use relativize::{Relativize, Relativizer};

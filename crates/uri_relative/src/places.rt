@@ -2,13 +2,11 @@
 //! 3986, section 4.2).
 ghost use Rattle.std.specs.Prelude.{◌≡◌, ◌≤◌, ◌+◌, ◌-◌, ◌^◌, ℕ, List, [], IfSome, None, length};
 ghost use Rattle.std.specs.Prelude.{option_map};
-ghost use Rattle.uri_parts.specs.Components.{Components, components};
-ghost use Rattle.uri_parts.specs.CoreTexts.{core_text};
+ghost use Rattle.uri_parts.specs.Components.{Components};
 ghost use Rattle.uri_parts.specs.Positions.{authority_at, delimited_length, positions_of};
+ghost use Rattle.uri_ops.specs.Resolving.{components_of};
 
 use uri_ops::resolve::text_view::TextView;
-use uri_parts::core_text::Core;
-use uri_parts::kind::Kind;
 use uri_parts::positions::{AuthorityPositions, Positions};
 
 /// Returns a position of a target in the reference that is its text without the first `start`
@@ -48,12 +46,11 @@ fn shift_authority_back(start: usize, authority: AuthorityPositions) -> Authorit
 /// Returns the positions of the authority in a reference that is the target's text without its
 /// scheme and `:`, which end at `start`.
 #[inline(always)]
-fn authority_after_scheme<K: Kind>(core: Core<K, &str>, start: usize) -> Option<AuthorityPositions>
-    requires { start ≡ delimited_length 1 (components (core_text core)).scheme }
-    ensures { let t = components (core_text core.entry) in
-        result ≡ option_map (authority_at 2) t.authority }
+fn authority_after_scheme(target: &TextView<'_>, start: usize) -> Option<AuthorityPositions>
+    requires { start ≡ delimited_length 1 (components_of target.now).scheme }
+    ensures { result ≡ option_map (authority_at 2) (components_of target.now).authority }
 {
-    match core.positions().authority {
+    match target.authority() {
         Some(authority) => Some(shift_authority_back(start, authority)),
         None => None,
     }
@@ -61,18 +58,18 @@ fn authority_after_scheme<K: Kind>(core: Core<K, &str>, start: usize) -> Option<
 
 /// Returns the positions in a reference that is the target's text without its scheme.
 #[inline(always)]
-pub(crate) fn positions_after_scheme<K: Kind>(core: Core<K, &str>) -> Positions
-    ensures { let t = components (core_text core.entry) in
+pub(crate) fn positions_after_scheme(target: &TextView<'_>) -> Positions
+    ensures { let t = components_of target.now in
         result ≡ positions_of (record t { scheme = None }) }
 {
-    let positions = core.positions();
+    let positions = target.positions();
     match positions.scheme_end {
         None => positions,
         Some(end) => {
             let start = end + 1;
             Positions {
                 scheme_end: None,
-                authority: authority_after_scheme(core, start),
+                authority: authority_after_scheme(target, start),
                 path_start: positions.path_start - start,
                 path_end: positions.path_end - start,
                 query_end: shift_position_back(start, positions.query_end),
@@ -83,13 +80,13 @@ pub(crate) fn positions_after_scheme<K: Kind>(core: Core<K, &str>) -> Positions
 
 /// Returns the end of the query, if there is one, in a reference whose path has this length.
 #[inline(always)]
-fn query_end_after<K: Kind>(core: Core<K, &str>, path_len: usize) -> Option<usize>
+fn query_end_after(target: &TextView<'_>, path_len: usize) -> Option<usize>
     requires { path_len ≤ 2 ^ 63 }
-    ensures { let t = components (core_text core.entry) in
-        result ≡ option_map (λ q. path_len + 1 + length q) t.query }
+    ensures { result
+        ≡ option_map (λ q. path_len + 1 + length q) (components_of target.now).query }
 {
-    if core.has_query() {
-        return Some(path_len + TextView::of_core(core).query_with_delimiter().len());
+    if target.has_query() {
+        return Some(path_len + target.query_with_delimiter().len());
     }
     None
 }
@@ -97,9 +94,9 @@ fn query_end_after<K: Kind>(core: Core<K, &str>, path_len: usize) -> Option<usiz
 /// Returns the positions in a reference that is a path of this length, followed by the target's
 /// query and fragment.
 #[inline(always)]
-pub(crate) fn positions_with_path<K: Kind>(core: Core<K, &str>, path_len: usize) -> Positions
+pub(crate) fn positions_with_path(target: &TextView<'_>, path_len: usize) -> Positions
     requires { path_len ≤ 2 ^ 63 }
-    ensures { let t = components (core_text core.entry) in
+    ensures { let t = components_of target.now in
         (path : List ℕ) → length path ≡ path_len → result
         ≡ positions_of (record t { scheme = None; authority = None; path = path }) }
 {
@@ -108,7 +105,7 @@ pub(crate) fn positions_with_path<K: Kind>(core: Core<K, &str>, path_len: usize)
         authority: None,
         path_start: 0,
         path_end: path_len,
-        query_end: query_end_after(core, path_len),
+        query_end: query_end_after(target, path_len),
     }
 }
 

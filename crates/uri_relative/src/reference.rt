@@ -2,39 +2,33 @@
 ghost use Rattle.std.specs.Prelude.{◌≡◌, Bool, IfOk, IfSome, IsNone, OnOk, false, true};
 ghost use Rattle.uri_pct.specs.Delimiters.{slash};
 ghost use Rattle.uri_pct.specs.Texts.{Pushes};
-ghost use Rattle.uri_parts.specs.Components.{Components, components, recompose, starts};
-ghost use Rattle.uri_parts.specs.CoreTexts.{core_text};
+ghost use Rattle.uri_parts.specs.Components.{Components, recompose, starts};
 ghost use Rattle.uri_parts.specs.Positions.{positions_of};
-ghost use Rattle.uri_ops.specs.Resolving.{with_final_path};
-ghost use Rattle.uri_relative.specs.Forms.{NeedsRelativePath, IsReferenceTo, IsTextOfReference};
-ghost use Rattle.uri_relative.specs.Forms.{IsUnguarded, NeedsPath, is_guarded};
+ghost use Rattle.uri_ops.specs.Resolving.{components_of, with_final_path};
+ghost use Rattle.uri_relative.specs.Forms.{IsReferenceOfEachKind, IsTextOfReference};
+ghost use Rattle.uri_relative.specs.Forms.{IsUnguarded, NeedsPath, NeedsRelativePath, is_guarded};
 ghost use Rattle.uri_relative.specs.Rule.{reference_components};
 
 use crate::ends::TargetSuffix;
 use crate::paths::push_path;
-use crate::pieces::{
-    have_same_authority, have_same_path, have_same_query, have_same_scheme, is_opaque, path,
-};
+use crate::pieces::{have_same_authority, have_same_path, have_same_query, have_same_scheme};
 use crate::places::positions_with_path;
-use fluent_uri::roles::BaseKind;
 use std::alloc::AllocError;
 use uri_ops::path::slashes::begins_with_slash;
+use uri_ops::resolve::target_text::is_opaque;
 use uri_ops::resolve::text_view::TextView;
-use uri_parts::core_text::Core;
 use uri_parts::positions::Positions;
 
 /// Returns whether a base and a target have equal authorities, and equal paths too, so that the
 /// reference needs neither.
 #[inline(always)]
-fn have_same_authority_and_path<K: BaseKind>(base: Core<K, &str>, target: Core<K, &str>) -> bool
-    ensures same { result ≡ true → ((components (core_text base.entry)).authority
-        ≡ (components (core_text target.entry)).authority)
-        × ((components (core_text base.entry)).path ≡ (components (core_text target.entry)).path) }
+fn have_same_authority_and_path(base: &TextView<'_>, target: &TextView<'_>) -> bool
+    ensures same { result ≡ true
+        → ((components_of base.now).authority ≡ (components_of target.now).authority)
+        × ((components_of base.now).path ≡ (components_of target.now).path) }
     ensures other { result ≡ false
-        → (components (core_text base.entry)).authority
-        ≡ (components (core_text target.entry)).authority
-        → (components (core_text base.entry)).path ≡ (components (core_text target.entry)).path
-        → ⊥ }
+        → (components_of base.now).authority ≡ (components_of target.now).authority
+        → (components_of base.now).path ≡ (components_of target.now).path → ⊥ }
 {
     if !have_same_authority(base, target) {
         return false;
@@ -45,21 +39,15 @@ fn have_same_authority_and_path<K: BaseKind>(base: Core<K, &str>, target: Core<K
 /// Returns the reference without a path, if there is one: the target's text from the fragment or
 /// the query on.
 #[inline(always)]
-fn suffix_without_path<'a, K: BaseKind>(
-    base: Core<K, &str>,
-    target: Core<K, &'a str>,
-) -> Option<TargetSuffix<'a>>
-    requires settled { let t = components (core_text target) in with_final_path t ≡ t }
-    requires scheme { (components (core_text base)).scheme
-        ≡ (components (core_text target)).scheme }
-    ensures some { IfSome result (λ end. IsTextOfReference K.kind
-        (components (core_text base.entry)) (components (core_text target.entry))
-        end.text.now end.positions) }
+fn suffix_without_path<'a>(base: &TextView<'_>, target: &TextView<'a>) -> Option<TargetSuffix<'a>>
+    requires settled { let t = components_of target.now in with_final_path t ≡ t }
+    requires scheme { (components_of base.now).scheme ≡ (components_of target.now).scheme }
+    ensures some { IfSome result (λ end. IsTextOfReference (components_of base.now)
+        (components_of target.now) end.text.now end.positions) }
     ensures text { IfSome result (λ end. (prefers : Bool) → end.text.now
-        ≡ recompose (reference_components prefers (components (core_text base.entry))
-        (components (core_text target.entry)))) }
-    ensures none { IsNone result → NeedsPath (components (core_text base.entry))
-        (components (core_text target.entry)) }
+        ≡ recompose (reference_components prefers (components_of base.now)
+        (components_of target.now))) }
+    ensures none { IsNone result → NeedsPath (components_of base.now) (components_of target.now) }
 {
     if !have_same_authority_and_path(base, target) {
         return None;
@@ -79,22 +67,17 @@ fn suffix_without_path<'a, K: BaseKind>(
 /// Returns the target's text from the scheme or the authority on, or none if a path leads from the
 /// base's to the target's.
 #[inline(always)]
-fn suffix_from_authority<'a, K: BaseKind>(
-    base: Core<K, &str>,
-    target: Core<K, &'a str>,
-) -> Option<TargetSuffix<'a>>
-    requires settled { let t = components (core_text target) in with_final_path t ≡ t }
-    requires scheme { (components (core_text base)).scheme
-        ≡ (components (core_text target)).scheme }
-    requires path { NeedsPath (components (core_text base)) (components (core_text target)) }
-    ensures some { IfSome result (λ end. IsTextOfReference K.kind
-        (components (core_text base.entry)) (components (core_text target.entry))
-        end.text.now end.positions) }
+fn suffix_from_authority<'a>(base: &TextView<'_>, target: &TextView<'a>) -> Option<TargetSuffix<'a>>
+    requires settled { let t = components_of target.now in with_final_path t ≡ t }
+    requires scheme { (components_of base.now).scheme ≡ (components_of target.now).scheme }
+    requires path { NeedsPath (components_of base.now) (components_of target.now) }
+    ensures some { IfSome result (λ end. IsTextOfReference (components_of base.now)
+        (components_of target.now) end.text.now end.positions) }
     ensures text { IfSome result (λ end. (prefers : Bool) → end.text.now
-        ≡ recompose (reference_components prefers (components (core_text base.entry))
-        (components (core_text target.entry)))) }
-    ensures none { IsNone result → NeedsRelativePath (components (core_text base.entry))
-        (components (core_text target.entry)) }
+        ≡ recompose (reference_components prefers (components_of base.now)
+        (components_of target.now))) }
+    ensures none { IsNone result → NeedsRelativePath (components_of base.now)
+        (components_of target.now) }
 {
     if is_opaque(base) {
         return Some(TargetSuffix::whole(target));
@@ -102,7 +85,7 @@ fn suffix_from_authority<'a, K: BaseKind>(
     if !have_same_authority(base, target) {
         return Some(TargetSuffix::from_authority(target));
     }
-    if begins_with_slash(path(target).as_bytes()) {
+    if begins_with_slash(target.path().as_bytes()) {
         return None;
     }
     Some(TargetSuffix::from_authority(target))
@@ -111,19 +94,15 @@ fn suffix_from_authority<'a, K: BaseKind>(
 /// Returns the reference that is a suffix of the target's text, or none if a path leads from the
 /// base's to the target's.
 #[inline(always)]
-fn target_suffix<'a, K: BaseKind>(
-    base: Core<K, &str>,
-    target: Core<K, &'a str>,
-) -> Option<TargetSuffix<'a>>
-    requires { let t = components (core_text target) in with_final_path t ≡ t }
-    ensures some { IfSome result (λ end. IsTextOfReference K.kind
-        (components (core_text base.entry)) (components (core_text target.entry))
-        end.text.now end.positions) }
+fn target_suffix<'a>(base: &TextView<'_>, target: &TextView<'a>) -> Option<TargetSuffix<'a>>
+    requires { let t = components_of target.now in with_final_path t ≡ t }
+    ensures some { IfSome result (λ end. IsTextOfReference (components_of base.now)
+        (components_of target.now) end.text.now end.positions) }
     ensures text { IfSome result (λ end. (prefers : Bool) → end.text.now
-        ≡ recompose (reference_components prefers (components (core_text base.entry))
-        (components (core_text target.entry)))) }
-    ensures none { IsNone result → NeedsRelativePath (components (core_text base.entry))
-        (components (core_text target.entry)) }
+        ≡ recompose (reference_components prefers (components_of base.now)
+        (components_of target.now))) }
+    ensures none { IsNone result → NeedsRelativePath (components_of base.now)
+        (components_of target.now) }
 {
     if !have_same_scheme(base, target) {
         return Some(TargetSuffix::whole(target));
@@ -145,12 +124,12 @@ fn is_guarded(path: &[u8]) -> bool
 /// Returns the path that a reference leads to: the target's without a guard `/.` (RFC 3986, section
 /// 5.2.2).
 #[inline(always)]
-fn without_guard<'a, K: BaseKind>(target: Core<K, &'a str>) -> &'a str
-    requires settled { let t = components (core_text target) in with_final_path t ≡ t }
-    requires absolute { starts slash (components (core_text target)).path ≡ true }
-    ensures { IsUnguarded (components (core_text target.entry)) result.now }
+fn without_guard<'a>(target: &TextView<'a>) -> &'a str
+    requires settled { let t = components_of target.now in with_final_path t ≡ t }
+    requires absolute { starts slash (components_of target.now).path ≡ true }
+    ensures { IsUnguarded (components_of target.now) result.now }
 {
-    let path = path(target);
+    let path = target.path();
     if target.has_authority() {
         return path;
     }
@@ -163,47 +142,46 @@ fn without_guard<'a, K: BaseKind>(target: Core<K, &'a str>) -> &'a str
 /// Appends a reference with a path that leads from the base's to the target's. Returns the
 /// positions of its components.
 #[inline(always)]
-fn push_reference_with_path<K: BaseKind>(
-    base: Core<K, &str>,
-    target: Core<K, &str>,
+fn push_reference_with_path(
+    base: &TextView<'_>,
+    target: &TextView<'_>,
     prefers_relative: bool,
     out: &mut String,
 ) -> Result<Positions, AllocError>
-    requires settled { let t = components (core_text target) in with_final_path t ≡ t }
-    requires path { NeedsRelativePath (components (core_text base))
-        (components (core_text target)) }
+    requires settled { let t = components_of target.now in with_final_path t ≡ t }
+    requires path { NeedsRelativePath (components_of base.now) (components_of target.now) }
     ensures leads { IfOk result (λ positions. (r : Components)
         × Pushes out.old out.new (recompose r) × (positions ≡ positions_of r)
-        × IsReferenceTo K.kind prefers_relative (components (core_text base.entry))
-        (components (core_text target.entry)) r) }
+        × IsReferenceOfEachKind prefers_relative (components_of base.now) (components_of target.now)
+        r) }
     ensures text { OnOk result (Pushes out.old out.new
-        (recompose (reference_components prefers_relative (components (core_text base.entry))
-        (components (core_text target.entry))))) }
+        (recompose (reference_components prefers_relative (components_of base.now)
+        (components_of target.now)))) }
 {
     let start = out.len();
-    push_path(path(base), without_guard(target), prefers_relative, out)?;
+    push_path(base.path(), without_guard(target), prefers_relative, out)?;
     let path_len = out.len() - start;
-    out.push_str(TextView::of_core(target).after_path())?;
+    out.push_str(target.after_path())?;
     Ok(positions_with_path(target, path_len))
 }
 
 /// Appends a reference that leads from the base, without its fragment, to a target without dot
 /// segments to remove. Returns the positions of its components.
 #[inline(always)]
-pub(crate) fn push_reference<K: BaseKind>(
-    base: Core<K, &str>,
-    target: Core<K, &str>,
+pub(crate) fn push_reference(
+    base: &TextView<'_>,
+    target: &TextView<'_>,
     prefers_relative: bool,
     out: &mut String,
 ) -> Result<Positions, AllocError>
-    requires { let t = components (core_text target) in with_final_path t ≡ t }
+    requires { let t = components_of target.now in with_final_path t ≡ t }
     ensures leads { IfOk result (λ positions. (r : Components)
         × Pushes out.old out.new (recompose r) × (positions ≡ positions_of r)
-        × IsReferenceTo K.kind prefers_relative (components (core_text base.entry))
-        (components (core_text target.entry)) r) }
+        × IsReferenceOfEachKind prefers_relative (components_of base.now) (components_of target.now)
+        r) }
     ensures text { OnOk result (Pushes out.old out.new
-        (recompose (reference_components prefers_relative (components (core_text base.entry))
-        (components (core_text target.entry))))) }
+        (recompose (reference_components prefers_relative (components_of base.now)
+        (components_of target.now)))) }
 {
     match target_suffix(base, target) {
         Some(end) => {

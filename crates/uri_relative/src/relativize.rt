@@ -3,16 +3,18 @@ ghost use Rattle.std.specs.Prelude.{◌≡◌, IfOk, false};
 ghost use Rattle.fluent_uri.specs.References.{reference_text};
 ghost use Rattle.uri_relative.specs.Relativized.{IsRelativized};
 
-use crate::relative::{RelativeKind, relative};
+use crate::relative::relative;
+use fluent_uri::roles::BaseKind;
 use fluent_uri::{Reference, RiMaybeRef};
 use std::alloc::{AllocError, Global};
 use std::convert::AsStr;
+use uri_ops::resolve::text_view::TextView;
 use uri_parts::core_text::Core;
 use uri_parts::packed_positions::PackedPositions;
 
 /// Returns a reference that leads from the base to the target.
 #[inline(always)]
-fn relativized<K: RelativeKind, B: AsStr, T: AsStr>(
+fn relativized<K: BaseKind, B: AsStr, T: AsStr>(
     alloc: Global,
     base: &Reference<K, B>,
     target: &Reference<K, T>,
@@ -21,7 +23,8 @@ fn relativized<K: RelativeKind, B: AsStr, T: AsStr>(
     ensures { IfOk result (λ reference. IsRelativized K.kind prefers_relative_path
         (reference_text base.now) (reference_text target.now) (reference_text reference)) }
 {
-    let made = relative(alloc, base.core(), target.core(), prefers_relative_path)?;
+    let base = TextView::of_core(base.core());
+    let made = relative(alloc, &base, target.core(), prefers_relative_path)?;
     let positions = PackedPositions::of(&made.positions);
     Ok(Reference::of_core(Core::new(made.text, positions)))
 }
@@ -72,7 +75,7 @@ impl<R> Relativizer<R> {
     }
 }
 
-impl<K: RelativeKind, B: AsStr> Relativizer<Reference<K, B>> {
+impl<K: BaseKind, B: AsStr> Relativizer<Reference<K, B>> {
     ghost use Rattle.uri_relative.specs.Relativizers.{base_of, prefers_relative_path};
 
     /// Returns a reference that leads from the base to the target. Resolved against the base
@@ -104,7 +107,7 @@ impl<K: RelativeKind, B: AsStr> Relativizer<Reference<K, B>> {
 /// It is implemented for `Uri` and `Iri` alone, over borrowed and owned text.
 ///
 /// With it, `base.relativize(alloc, &target)` may be called on a `Uri<&str>`.
-pub trait Relativize<K: RelativeKind>: RiMaybeRef {
+pub trait Relativize<K: BaseKind>: RiMaybeRef {
     /// Returns a reference that leads from this one to the target. If the base's path has no dot
     /// segment, none is shorter.
     ///
@@ -124,7 +127,7 @@ pub trait Relativize<K: RelativeKind>: RiMaybeRef {
     ghost same_kind: { Self.RiMaybeRef.kind ≡ K.kind };
 }
 
-impl<K: RelativeKind, B: AsStr> Relativize<K> for Reference<K, B> {
+impl<K: BaseKind, B: AsStr> Relativize<K> for Reference<K, B> {
     ghost use Rattle.std.specs.Prelude.{refl};
 
     /// Returns a reference that leads from this one to the target.

@@ -11,13 +11,12 @@ use crate::fault::LineError;
 use crate::line_result::{LineResult, refused};
 use fluent_uri::kind::{IriKind, IriRefKind, UriKind, UriRefKind};
 use fluent_uri::resolve::ResolveError;
-use fluent_uri::roles::RefKind;
+use fluent_uri::roles::{BaseKind, RefKind};
 use fluent_uri::{ParseError, Reference};
 use std::alloc::{AllocError, Global};
 use uri_basic::{BasicResolveError, BasicResolver};
 use uri_commands::refusal::CommandError;
 use uri_relative::Relativizer;
-use uri_relative::relative::RelativeKind;
 
 /// Returns the result of `urilines resolve` for a text: its target against the base, or why it has
 /// none. `is_basic` is whether the target is by the basic algorithm.
@@ -166,7 +165,7 @@ pub(crate) fn relativize(
 }
 
 /// Returns the result of `urilines relativize` for a text that is parsed as a target of the kind.
-fn relativize_text<K: RelativeKind>(
+fn relativize_text<K: BaseKind>(
     alloc: Global,
     base: &Reference<K, &str>,
     prefers: bool,

@@ -1,32 +1,36 @@
-use Rattle.std.proofs.Common.{ap, sym, subst, ◌∙◌}
-use Rattle.uri_parts.specs.Components.{components}
-use Rattle.uri_parts.specs.Positions.{ArePositionsOf}
+use Rattle.std.proofs.Common.{◌≡◌, ℕ, ◌≤◌, List, ◌++◌, ap, arith, drop, length, length-append}
+use Rattle.std.proofs.Common.{refl, subst, sym, take, ◌∙◌}
+use Rattle.std.specs.Str.{IsCharBoundary, IsUtf8}
+use Rattle.std.proofs.lemmas.List.{drop_at, take_at}
+use Rattle.std.proofs.lemmas.Str.{IsCharBoundary-from_take}
+use Rattle.uri_parts.proofs.Splitting.Recompose.{recompose-components}
+use Rattle.uri_ops.specs.Resolving.{components_of}
 use Rattle.uri_relative.specs.Forms.{after_scheme}
-use Rattle.uri_relative.proofs.Slices.{text-after-scheme-end, scheme-end-is-boundary}
-use Rattle.uri_relative.proofs.Slices.{text-without-scheme-is-after-scheme}
 use Rattle.uri_relative.proofs.pieces.after_scheme.Goals as goal
 
+-- relativized references: a text may be cut after its scheme
+boundary-after-scheme : (scheme rest text : List ℕ) → scheme ++ rest ≡ text → IsUtf8 text
+    → IsUtf8 scheme → IsCharBoundary text (length scheme)
+boundary-after-scheme scheme rest text whole utf8 scheme_utf8 =
+    IsCharBoundary-from_take text (length scheme) utf8
+    (omega (arith, ap length whole, length-append scheme rest))
+    (subst IsUtf8 (sym (ap (take (length scheme)) (sym whole)
+    ∙ take_at scheme rest (length scheme) refl)) scheme_utf8)
+
 pub range_from-requires : goal.range_from-requires
-range_from-requires g c = λ _. scheme-end-is-boundary c.as_str-text.result.now c.positions.result
-    c.as_str-text.utf8
-    (subst (λ t. ArePositionsOf t c.positions.result) (sym c.as_str-text.ensures.text)
-    c.positions.ensures)
-    c.in-Some.end c.in-Some.is
+range_from-requires c = λ _.
+    let t = components_of c.args.target.now in
+    boundary-after-scheme c.scheme_with_delimiter.result.now (after_scheme t) c.as_str.result.now
+    (ap (λ s. s ++ after_scheme t) c.scheme_with_delimiter.ensures
+    ∙ recompose-components c.args.target.now.text.now ∙ sym c.as_str.ensures.text)
+    c.as_str.utf8 c.scheme_with_delimiter.utf8
 
-pub returns-in-Some : goal.returns-in-Some
-returns-in-Some g c =
+pub returns : goal.returns
+returns c =
+    let t = components_of c.args.target.now in
+    let scheme = c.scheme_with_delimiter.result.now in
     c.range_from.ensures.value
-    ∙ text-after-scheme-end c.as_str-text.result.now c.positions.result c.as_str-text.utf8
-    (subst (λ t. ArePositionsOf t c.positions.result) (sym c.as_str-text.ensures.text)
-    c.positions.ensures)
-    c.in-Some.end c.in-Some.is
-    ∙ ap (λ t. after_scheme (components t)) c.as_str-text.ensures.text
-
-pub returns-in-None : goal.returns-in-None
-returns-in-None g c =
-    text-without-scheme-is-after-scheme c.as_str-text.result.now c.positions.result
-    c.as_str-text.utf8
-    (subst (λ t. ArePositionsOf t c.positions.result) (sym c.as_str-text.ensures.text)
-    c.positions.ensures)
-    c.in-None.is
-    ∙ ap (λ t. after_scheme (components t)) c.as_str-text.ensures.text
+    ∙ ap (drop (length scheme)) (c.as_str.ensures.text
+    ∙ sym (recompose-components c.args.target.now.text.now)
+    ∙ sym (ap (λ s. s ++ after_scheme t) c.scheme_with_delimiter.ensures))
+    ∙ drop_at scheme (after_scheme t) (length scheme) refl

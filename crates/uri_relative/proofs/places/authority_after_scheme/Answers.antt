@@ -1,5 +1,5 @@
-use Rattle.uri_parts.specs.Components.{components}
-use Rattle.uri_parts.specs.CoreTexts.{core_text}
+use Rattle.std.proofs.Common.{sym, ◌∙◌}
+use Rattle.uri_ops.specs.Resolving.{components_of}
 use Rattle.uri_relative.proofs.EndPlaces.{authority-positions-of-components}
 use Rattle.uri_relative.proofs.EndPlaces.{authority-begins-after-scheme}
 use Rattle.uri_relative.proofs.EndPlaces.{authority-positions-without-scheme}
@@ -7,27 +7,24 @@ use Rattle.uri_relative.proofs.EndPlaces.{no-authority-positions-no-authority}
 use Rattle.uri_relative.proofs.places.authority_after_scheme.Goals as goal
 
 pub shift_authority_back-requires : goal.shift_authority_back-requires
-shift_authority_back-requires g c =
-    let t = components (core_text c.args.core) in
+shift_authority_back-requires c =
+    let t = components_of c.args.target.now in
     let w = authority-begins-after-scheme c.args.start t.authority c.in-Some.authority
-    (authority-positions-of-components t c.positions.result c.args.start c.in-Some.authority
-    c.positions.ensures
-    c.requires c.in-Some.is) in
+    (authority-positions-of-components t c.args.start c.in-Some.authority c.requires
+    (sym c.authority.ensures ∙ c.in-Some.is)) in
     record { start = w.start; host_start = w.host_start; host_end = w.host_end; end = w.end }
 
 pub returns-in-Some : goal.returns-in-Some
-returns-in-Some g c =
-    let t = components (core_text c.args.core) in
+returns-in-Some c =
+    let t = components_of c.args.target.now in
     authority-positions-without-scheme c.args.start t.authority c.in-Some.authority
     c.shift_authority_back.result
-    (authority-positions-of-components t c.positions.result c.args.start c.in-Some.authority
-    c.positions.ensures
-    c.requires c.in-Some.is) c.shift_authority_back.ensures.start
+    (authority-positions-of-components t c.args.start c.in-Some.authority c.requires
+    (sym c.authority.ensures ∙ c.in-Some.is)) c.shift_authority_back.ensures.start
     c.shift_authority_back.ensures.host_start
     c.shift_authority_back.ensures.host_end c.shift_authority_back.ensures.end
 
 pub returns-in-None : goal.returns-in-None
-returns-in-None g c =
-    no-authority-positions-no-authority (components (core_text c.args.core)) c.positions.result
-    c.positions.ensures
-    c.in-None.is
+returns-in-None c =
+    no-authority-positions-no-authority (components_of c.args.target.now)
+    (sym c.authority.ensures ∙ c.in-None.is)

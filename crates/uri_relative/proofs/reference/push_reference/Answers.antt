@@ -2,7 +2,7 @@ use Rattle.std.proofs.Common.{◌++◌, ap, string_bytes, ◌∙◌}
 use Rattle.uri_relative.proofs.reference.push_reference.Goals as goal
 
 pub returns-in_ok-push_str-in-Some-clause-leads : goal.returns-in_ok-push_str-in-Some-clause-leads
-returns-in_ok-push_str-in-Some-clause-leads g c =
+returns-in_ok-push_str-in-Some-clause-leads c =
     let found = c.in-Some.ensures.some in (
       found.0,
       c.in_ok-push_str-in-Some.ensures.bytes ∙ ap (λ t. string_bytes c.args.out.now ++ t) found.1,
@@ -11,6 +11,6 @@ returns-in_ok-push_str-in-Some-clause-leads g c =
     )
 
 pub returns-in_ok-push_str-in-Some-clause-text : goal.returns-in_ok-push_str-in-Some-clause-text
-returns-in_ok-push_str-in-Some-clause-text g c =
+returns-in_ok-push_str-in-Some-clause-text c =
     c.in_ok-push_str-in-Some.ensures.bytes
     ∙ ap (λ t. string_bytes c.args.out.now ++ t) (c.in-Some.ensures.text c.args.prefers_relative)

@@ -1,15 +1,13 @@
 use Rattle.std.proofs.Common.{◌≡◌, ap, arith, length, length-append, rules, string_bytes, subst}
 use Rattle.std.proofs.Common.{◌++◌, ◌∙◌, sym}
 use Rattle.std.specs.Prelude.{None}
-use Rattle.uri_parts.specs.Components.{IsAbemptyPath, components, recompose}
-use Rattle.uri_parts.specs.CoreTexts.{core_text}
-use Rattle.uri_ops.proofs.TextKinds.FourKinds.{one-of-four-kinds-has-sets}
+use Rattle.uri_parts.specs.Components.{IsAbemptyPath, recompose}
+use Rattle.uri_ops.specs.Resolving.{components_of}
 use Rattle.uri_relative.proofs.Forms.{path-form-is-reference}
 use Rattle.uri_relative.proofs.RootedTargets.{base-that-is-not-opaque-is-rooted}
-use Rattle.uri_relative.proofs.Leading.{pushed-path-and-tail-are-appended, dotless-text-is-target}
+use Rattle.uri_relative.proofs.Leading.{pushed-path-and-tail-are-appended}
 use Rattle.std.specs.Prelude.{false}
 use Rattle.uri_parts.proofs.Splitting.Recompose.{components-are-split-of-text}
-use Rattle.uri_relative.specs.Forms.{after_path}
 use Rattle.uri_relative.specs.Relative.{IsPathTo}
 use Rattle.uri_relative.specs.Rule.{shortest_or_preferred_path}
 use Rattle.uri_relative.specs.Shortest.{IsShortestPath}
@@ -18,18 +16,17 @@ use Rattle.uri_relative.proofs.Rules.{unguarded-path-is-without-dots}
 use Rattle.uri_relative.proofs.reference.push_reference_with_path.Goals as goal
 
 pub push_path-requires : goal.push_path-requires
-push_path-requires g c = record {
+push_path-requires c = record {
   base = subst IsAbemptyPath (sym c.path.ensures)
-      (base-that-is-not-opaque-is-rooted (core_text c.args.base) c.requires.path.opaque);
+      (base-that-is-not-opaque-is-rooted c.args.base.now.text.now c.requires.path.opaque);
   path = c.without_guard.ensures.absolute;
   dotless = c.without_guard.ensures.dotless;
 }
 
 pub returns-clause-leads : goal.returns-clause-leads
-returns-clause-leads g c =
-    let b = components (core_text c.args.base) in
-    let text = core_text c.args.target in
-    let t = components text in
+returns-clause-leads c =
+    let b = components_of c.args.base.now in
+    let t = components_of c.args.target.now in
     let found = c.in_ok-push_path.ensures.way in
     let p = c.requires.path in
     let old = string_bytes c.args.out.now in
@@ -41,27 +38,24 @@ returns-clause-leads g c =
           (string_bytes c.push_path.new.out)
           (string_bytes c.push_str.new.self) found.0 c.after_path.result.now _ found.1
           c.in_ok-push_str.ensures.bytes
-          (c.after_path.ensures ∙ ap after_path c.of_core.ensures.components),
+          c.after_path.ensures,
       c.positions_with_path.ensures found.0
           (omega (arith, start, end, ap length found.1, length-append old found.0)),
-      path-form-is-reference g.K.Kind.kind c.args.prefers_relative b t
-          (dotless-text-is-target g.K.Kind.kind text g.met.K.BaseKind.needs_scheme
-          c.args.target.of_kind
-          c.requires.settled) c.without_guard.result.now found.0
-          (one-of-four-kinds-has-sets g.K.Kind.kind g.met.K.Kind.known) p.scheme p.authority
-          (base-that-is-not-opaque-is-rooted (core_text c.args.base) p.opaque) p.opaque
+      λ kind w. path-form-is-reference kind c.args.prefers_relative b t w
+          c.without_guard.result.now found.0 p.scheme p.authority
+          (base-that-is-not-opaque-is-rooted c.args.base.now.text.now p.opaque) p.opaque
           c.without_guard.ensures
           (subst (λ q. IsPathTo q c.without_guard.result.now found.0) c.path.ensures found.2)
           found.3
           (subst (λ q. c.args.prefers_relative ≡ false
           → IsShortestPath q c.without_guard.result.now found.0) c.path.ensures found.4)
-          (components-are-split-of-text (core_text c.args.base)).no_authority p.needs p.absolute,
+          (components-are-split-of-text c.args.base.now.text.now).no_authority p.needs p.absolute,
     )
 
 pub returns-clause-text : goal.returns-clause-text
-returns-clause-text g c =
-    let b = components (core_text c.args.base) in
-    let t = components (core_text c.args.target) in
+returns-clause-text c =
+    let b = components_of c.args.base.now in
+    let t = components_of c.args.target.now in
     let p = c.requires.path in
     let prefers = c.args.prefers_relative in
     let path = c.without_guard.result.now in
@@ -69,7 +63,7 @@ returns-clause-text g c =
     (string_bytes c.push_path.new.out)
     (string_bytes c.push_str.new.self) (shortest_or_preferred_path prefers c.path.result.now path)
     c.after_path.result.now _ c.in_ok-push_path.ensures.text c.in_ok-push_str.ensures.bytes
-    (c.after_path.ensures ∙ ap after_path c.of_core.ensures.components)
+    c.after_path.ensures
     ∙ ap (λ r. string_bytes c.args.out.now ++ recompose r)
     (rule-gives-path-for-same-authority prefers b t p.scheme p.authority p.needs p.opaque p.absolute
     (shortest_or_preferred_path prefers c.path.result.now path)

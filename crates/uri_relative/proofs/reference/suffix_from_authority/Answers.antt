@@ -1,55 +1,45 @@
 use Rattle.std.proofs.Common.{sym, ap, ◌∙◌}
 use Rattle.std.proofs.lemmas.Bool.{both_ways}
 use Rattle.uri_pct.specs.Delimiters.{slash}
-use Rattle.uri_parts.specs.Components.{components, recompose, starts}
-use Rattle.uri_parts.specs.CoreTexts.{core_text}
-use Rattle.uri_parts.proofs.Splitting.Recompose.{recompose-components}
+use Rattle.uri_parts.specs.Components.{recompose, starts}
+use Rattle.uri_ops.specs.Resolving.{components_of}
 use Rattle.uri_relative.specs.Forms.{from_authority}
 use Rattle.uri_relative.proofs.Forms.{authority-form-is-reference, whole}
 use Rattle.uri_relative.proofs.RootedTargets.{rootless-target-needs-authority}
 use Rattle.uri_relative.proofs.RootedTargets.{base-that-is-not-opaque-is-rooted}
-use Rattle.uri_relative.proofs.Leading.{dotless-text-is-target}
 use Rattle.uri_relative.proofs.Rules.{rule-gives-authority, rule-gives-target-for-opaque-base}
 use Rattle.uri_relative.proofs.ShortestForms.{authority-form-is-shortest}
 use Rattle.uri_relative.proofs.ShortestForms.{target-is-shortest-for-opaque-base}
 use Rattle.uri_relative.proofs.reference.suffix_from_authority.Goals as goal
 
 pub returns-then-is_opaque-clause-some : goal.returns-then-is_opaque-clause-some
-returns-then-is_opaque-clause-some g c =
-    let b = components (core_text c.args.base) in
-    let text = core_text c.args.target in
-    let t = components text in (
+returns-then-is_opaque-clause-some c =
+    let b = components_of c.args.base.now in
+    let t = components_of c.args.target.now in (
       t,
-      c.whole.ensures.text ∙ sym (recompose-components text),
+      c.whole.ensures.text,
       c.whole.ensures.at,
-      λ prefers. whole g.K.Kind.kind prefers b t
-          (dotless-text-is-target g.K.Kind.kind text g.met.K.BaseKind.needs_scheme
-          c.args.target.of_kind
-          c.requires.settled)
+      λ prefers kind w. whole kind prefers b t w
           (λ _ _ opaque _. absurd
           (both_ways _ opaque (sym c.is_opaque.ensures ∙ c.if-is_opaque.true)))
-          (λ _ _. target-is-shortest-for-opaque-base g.K.Kind.kind b t
+          (λ _ _. target-is-shortest-for-opaque-base kind b t
           (sym c.is_opaque.ensures ∙ c.if-is_opaque.true) c.requires.path),
     )
 
 pub returns-then-not-have_same_authority-clause-some
     : goal.returns-then-not-have_same_authority-clause-some
-returns-then-not-have_same_authority-clause-some g c =
-    let b = components (core_text c.args.base) in
-    let text = core_text c.args.target in
-    let t = components text in (
+returns-then-not-have_same_authority-clause-some c =
+    let b = components_of c.args.base.now in
+    let t = components_of c.args.target.now in (
       from_authority t,
       c.from_authority.ensures.text,
       c.from_authority.ensures.at,
-      λ prefers. authority-form-is-reference g.K.Kind.kind prefers b t
-          (dotless-text-is-target g.K.Kind.kind text g.met.K.BaseKind.needs_scheme
-          c.args.target.of_kind
-          c.requires.settled) c.requires.scheme
+      λ prefers kind w. authority-form-is-reference kind prefers b t w c.requires.scheme
           (sym c.is_opaque.ensures ∙ c.if-is_opaque.false)
           (λ a. absurd (both_ways _ c.if-not-have_same_authority.true
           (c.have_same_authority.ensures.1 a)))
-          (authority-form-is-shortest g.K.Kind.kind b t c.requires.scheme
-          (base-that-is-not-opaque-is-rooted (core_text c.args.base) (sym c.is_opaque.ensures
+          (authority-form-is-shortest kind b t c.requires.scheme
+          (base-that-is-not-opaque-is-rooted c.args.base.now.text.now (sym c.is_opaque.ensures
           ∙ c.if-is_opaque.false))
           (sym c.is_opaque.ensures ∙ c.if-is_opaque.false)
           (λ a. absurd (both_ways _ c.if-not-have_same_authority.true
@@ -57,7 +47,7 @@ returns-then-not-have_same_authority-clause-some g c =
     )
 
 pub returns-then-begins_with_slash-clause-none : goal.returns-then-begins_with_slash-clause-none
-returns-then-begins_with_slash-clause-none g c = λ _. record {
+returns-then-begins_with_slash-clause-none c = λ _. record {
   scheme = c.requires.scheme;
   authority = c.have_same_authority.ensures.0 c.if-not-have_same_authority.false;
   opaque = sym c.is_opaque.ensures ∙ c.if-is_opaque.false;
@@ -68,23 +58,20 @@ returns-then-begins_with_slash-clause-none g c = λ _. record {
 }
 
 pub returns-clause-some : goal.returns-clause-some
-returns-clause-some g c =
-    let b = components (core_text c.args.base) in
-    let text = core_text c.args.target in
-    let t = components text in
-    let w = dotless-text-is-target g.K.Kind.kind text g.met.K.BaseKind.needs_scheme
-    c.args.target.of_kind c.requires.settled in
+returns-clause-some c =
+    let b = components_of c.args.base.now in
+    let t = components_of c.args.target.now in
     let opaque = sym c.is_opaque.ensures ∙ c.if-is_opaque.false in (
       from_authority t,
       c.from_authority-2.ensures.text,
       c.from_authority-2.ensures.at,
-      λ prefers. authority-form-is-reference g.K.Kind.kind prefers b t w c.requires.scheme opaque
-          (λ a. rootless-target-needs-authority g.K.Kind.kind b t w c.requires.path a opaque
+      λ prefers kind w. authority-form-is-reference kind prefers b t w c.requires.scheme opaque
+          (λ a. rootless-target-needs-authority kind b t w c.requires.path a opaque
           (sym (c.begins_with_slash.ensures
           ∙ ap (starts slash) (c.as_bytes.ensures.value ∙ c.path.ensures))
           ∙ c.if-begins_with_slash.false))
-          (authority-form-is-shortest g.K.Kind.kind b t c.requires.scheme
-          (base-that-is-not-opaque-is-rooted (core_text c.args.base) opaque) opaque
+          (authority-form-is-shortest kind b t c.requires.scheme
+          (base-that-is-not-opaque-is-rooted c.args.base.now.text.now opaque) opaque
           (λ _. (
             c.requires.path,
             sym (c.begins_with_slash.ensures
@@ -94,27 +81,27 @@ returns-clause-some g c =
     )
 
 pub returns-then-is_opaque-clause-text : goal.returns-then-is_opaque-clause-text
-returns-then-is_opaque-clause-text g c = λ prefers.
-    c.whole.ensures.text ∙ sym (recompose-components (core_text c.args.target))
-    ∙ ap recompose (rule-gives-target-for-opaque-base prefers (components (core_text c.args.base))
-    (components (core_text c.args.target)) c.requires.scheme c.requires.path
+returns-then-is_opaque-clause-text c = λ prefers.
+    c.whole.ensures.text
+    ∙ ap recompose (rule-gives-target-for-opaque-base prefers (components_of c.args.base.now)
+    (components_of c.args.target.now) c.requires.scheme c.requires.path
     (sym c.is_opaque.ensures ∙ c.if-is_opaque.true))
 
 pub returns-then-not-have_same_authority-clause-text
     : goal.returns-then-not-have_same_authority-clause-text
-returns-then-not-have_same_authority-clause-text g c = λ prefers.
+returns-then-not-have_same_authority-clause-text c = λ prefers.
     c.from_authority.ensures.text
-    ∙ ap recompose (rule-gives-authority prefers (components (core_text c.args.base))
-    (components (core_text c.args.target)) c.requires.scheme c.requires.path
+    ∙ ap recompose (rule-gives-authority prefers (components_of c.args.base.now)
+    (components_of c.args.target.now) c.requires.scheme c.requires.path
     (sym c.is_opaque.ensures ∙ c.if-is_opaque.false)
     (λ a. absurd (both_ways _ c.if-not-have_same_authority.true
     (c.have_same_authority.ensures.1 a))))
 
 pub returns-clause-text : goal.returns-clause-text
-returns-clause-text g c = λ prefers.
+returns-clause-text c = λ prefers.
     c.from_authority-2.ensures.text
-    ∙ ap recompose (rule-gives-authority prefers (components (core_text c.args.base))
-    (components (core_text c.args.target)) c.requires.scheme c.requires.path
+    ∙ ap recompose (rule-gives-authority prefers (components_of c.args.base.now)
+    (components_of c.args.target.now) c.requires.scheme c.requires.path
     (sym c.is_opaque.ensures ∙ c.if-is_opaque.false)
     (λ _. sym (c.begins_with_slash.ensures
     ∙ ap (starts slash) (c.as_bytes.ensures.value ∙ c.path.ensures))

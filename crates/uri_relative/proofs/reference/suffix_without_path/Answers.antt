@@ -2,17 +2,16 @@ use Rattle.std.proofs.Common.{sym, ap, ◌∙◌, []}
 use Rattle.std.specs.Prelude.{None}
 use Rattle.std.proofs.lemmas.Bool.{both_ways}
 use Rattle.uri_pct.proofs.General.{not_some_is_none}
-use Rattle.uri_parts.specs.Components.{components, recompose}
-use Rattle.uri_parts.specs.CoreTexts.{core_text}
+use Rattle.uri_parts.specs.Components.{recompose}
+use Rattle.uri_ops.specs.Resolving.{components_of}
 use Rattle.uri_relative.proofs.Forms.{fragment-form-is-reference, query-form-is-reference}
 use Rattle.uri_relative.proofs.Rules.{rule-gives-fragment-for-same-query}
 use Rattle.uri_relative.proofs.Rules.{rule-gives-query-for-same-path}
-use Rattle.uri_relative.proofs.Leading.{dotless-text-is-target}
 use Rattle.uri_relative.proofs.reference.suffix_without_path.Goals as goal
 
 pub returns-then-not-have_same_authority_and_path-clause-none
     : goal.returns-then-not-have_same_authority_and_path-clause-none
-returns-then-not-have_same_authority_and_path-clause-none g c = λ _. record {
+returns-then-not-have_same_authority_and_path-clause-none c = λ _. record {
   other_query = λ a p. absurd
       (c.have_same_authority_and_path.ensures.other c.if-not-have_same_authority_and_path.true a p);
   no_query = λ a p _. absurd
@@ -20,70 +19,62 @@ returns-then-not-have_same_authority_and_path-clause-none g c = λ _. record {
 }
 
 pub returns-then-have_same_query-clause-some : goal.returns-then-have_same_query-clause-some
-returns-then-have_same_query-clause-some g c =
-    let b = components (core_text c.args.base) in
-    let text = core_text c.args.target in
-    let t = components text in
+returns-then-have_same_query-clause-some c =
+    let b = components_of c.args.base.now in
+    let t = components_of c.args.target.now in
     let same = c.have_same_authority_and_path.ensures.same
     c.if-not-have_same_authority_and_path.false in (
       record t { scheme = None; authority = None; path = []; query = None },
       c.from_fragment.ensures.text,
       c.from_fragment.ensures.at,
-      λ prefers. fragment-form-is-reference g.K.Kind.kind prefers b t
-          (dotless-text-is-target g.K.Kind.kind text g.met.K.BaseKind.needs_scheme
-          c.args.target.of_kind
-          c.requires.settled) c.requires.scheme same.0 same.1
-          (c.have_same_query.ensures.0 c.if-have_same_query.true),
+      λ prefers kind w. fragment-form-is-reference kind prefers b t w c.requires.scheme
+          same.0 same.1 (c.have_same_query.ensures.0 c.if-have_same_query.true),
     )
 
 pub returns-then-not-has_query-clause-none : goal.returns-then-not-has_query-clause-none
-returns-then-not-has_query-clause-none g c = λ _. record {
+returns-then-not-has_query-clause-none c = λ _. record {
   other_query = λ a p e. both_ways _ c.if-have_same_query.false (c.have_same_query.ensures.1 e);
   no_query = λ a p _. not_some_is_none _ (sym c.has_query.ensures ∙ c.if-not-has_query.true);
 }
 
 pub returns-then-is_opaque-clause-none : goal.returns-then-is_opaque-clause-none
-returns-then-is_opaque-clause-none g c = λ _. record {
+returns-then-is_opaque-clause-none c = λ _. record {
   other_query = λ a p e. both_ways _ c.if-have_same_query.false (c.have_same_query.ensures.1 e);
   no_query = λ a p opaque. absurd
       (both_ways _ opaque (sym c.is_opaque.ensures ∙ c.if-is_opaque.true));
 }
 
 pub returns-clause-some : goal.returns-clause-some
-returns-clause-some g c =
-    let b = components (core_text c.args.base) in
-    let text = core_text c.args.target in
-    let t = components text in
+returns-clause-some c =
+    let b = components_of c.args.base.now in
+    let t = components_of c.args.target.now in
     let same = c.have_same_authority_and_path.ensures.same
     c.if-not-have_same_authority_and_path.false in (
       record t { scheme = None; authority = None; path = [] },
       c.from_query.ensures.text,
       c.from_query.ensures.at,
-      λ prefers. query-form-is-reference g.K.Kind.kind prefers b t
-          (dotless-text-is-target g.K.Kind.kind text g.met.K.BaseKind.needs_scheme
-          c.args.target.of_kind
-          c.requires.settled) c.requires.scheme same.0 same.1
+      λ prefers kind w. query-form-is-reference kind prefers b t w c.requires.scheme same.0 same.1
           (sym c.has_query.ensures ∙ c.if-not-has_query.false)
           (sym c.is_opaque.ensures ∙ c.if-is_opaque.false)
           (λ e. both_ways _ c.if-have_same_query.false (c.have_same_query.ensures.1 e)),
     )
 
 pub returns-then-have_same_query-clause-text : goal.returns-then-have_same_query-clause-text
-returns-then-have_same_query-clause-text g c = λ prefers.
+returns-then-have_same_query-clause-text c = λ prefers.
     let same = c.have_same_authority_and_path.ensures.same
     c.if-not-have_same_authority_and_path.false in
     c.from_fragment.ensures.text
-    ∙ ap recompose (rule-gives-fragment-for-same-query prefers (components (core_text c.args.base))
-    (components (core_text c.args.target)) c.requires.scheme same.0 same.1
+    ∙ ap recompose (rule-gives-fragment-for-same-query prefers (components_of c.args.base.now)
+    (components_of c.args.target.now) c.requires.scheme same.0 same.1
     (c.have_same_query.ensures.0 c.if-have_same_query.true))
 
 pub returns-clause-text : goal.returns-clause-text
-returns-clause-text g c = λ prefers.
+returns-clause-text c = λ prefers.
     let same = c.have_same_authority_and_path.ensures.same
     c.if-not-have_same_authority_and_path.false in
     c.from_query.ensures.text
-    ∙ ap recompose (rule-gives-query-for-same-path prefers (components (core_text c.args.base))
-    (components (core_text c.args.target)) c.requires.scheme same.0 same.1
+    ∙ ap recompose (rule-gives-query-for-same-path prefers (components_of c.args.base.now)
+    (components_of c.args.target.now) c.requires.scheme same.0 same.1
     (λ e. both_ways _ c.if-have_same_query.false (c.have_same_query.ensures.1 e))
     (sym c.is_opaque.ensures ∙ c.if-is_opaque.false)
     (sym c.has_query.ensures ∙ c.if-not-has_query.false))

@@ -1,6 +1,5 @@
 use Rattle.std.proofs.Common.{sym, ap, drop, subst, ◌∙◌}
-use Rattle.uri_parts.specs.Components.{components}
-use Rattle.uri_parts.specs.CoreTexts.{core_text}
+use Rattle.uri_ops.specs.Resolving.{components_of}
 use Rattle.uri_parts.proofs.Splitting.Recompose.{equal-to-true-is-IsTrue}
 use Rattle.uri_relative.specs.Forms.{IsUnguarded, is_guarded}
 use Rattle.uri_relative.proofs.Settled.{guard-ends-at-character, path-without-guard-is-unguarded}
@@ -9,20 +8,20 @@ use Rattle.uri_relative.proofs.Settled.{path-that-needs-no-guard-is-unguarded}
 use Rattle.uri_relative.proofs.reference.without_guard.Goals as goal
 
 pub returns-then-has_authority : goal.returns-then-has_authority
-returns-then-has_authority g c =
-    let t = components (core_text c.args.target) in
+returns-then-has_authority c =
+    let t = components_of c.args.target.now in
     subst (IsUnguarded t) (sym c.path-path.ensures)
     (path-after-authority-is-unguarded t (sym c.has_authority.ensures ∙ c.if-has_authority.true)
     (equal-to-true-is-IsTrue _ c.requires.absolute) c.requires.settled)
 
 pub range_from-requires : goal.range_from-requires
-range_from-requires g c = λ _.
+range_from-requires c = λ _.
     guard-ends-at-character c.path-path.result.now c.path-path.utf8
     (sym (c.is_guarded.ensures ∙ ap is_guarded c.as_bytes.ensures.value) ∙ c.if-is_guarded.true)
 
 pub returns-then-is_guarded : goal.returns-then-is_guarded
-returns-then-is_guarded g c =
-    let t = components (core_text c.args.target) in
+returns-then-is_guarded c =
+    let t = components_of c.args.target.now in
     subst (IsUnguarded t) (sym (c.range_from.ensures.value ∙ ap (drop 2) c.path-path.ensures))
     (path-without-guard-is-unguarded t (sym c.has_authority.ensures ∙ c.if-has_authority.false)
     (equal-to-true-is-IsTrue _ c.requires.absolute) c.requires.settled
@@ -30,8 +29,8 @@ returns-then-is_guarded g c =
     ∙ ap is_guarded (c.as_bytes.ensures.value ∙ c.path-path.ensures)) ∙ c.if-is_guarded.true))
 
 pub returns : goal.returns
-returns g c =
-    let t = components (core_text c.args.target) in
+returns c =
+    let t = components_of c.args.target.now in
     subst (IsUnguarded t) (sym c.path-path.ensures)
     (path-that-needs-no-guard-is-unguarded t (sym c.has_authority.ensures
     ∙ c.if-has_authority.false)

@@ -1,19 +1,21 @@
 use Rattle.std.proofs.Common.{string_bytes, subst, sym, ap, ◌∙◌}
-use Rattle.uri_parts.specs.Components.{components}
+use Rattle.uri_parts.specs.Components.{components, recompose}
 use Rattle.uri_parts.specs.CoreTexts.{core_text}
 use Rattle.uri_parts.specs.Grammar.{IsOfKind}
 use Rattle.uri_parts.specs.PackedPositions.{packed}
 use Rattle.fluent_uri.specs.References.{reference_text}
 use Rattle.uri_relative.proofs.Leading.{reference-leads-back-to-target, reference-leads-to-target}
 use Rattle.uri_relative.proofs.Leading.{reference-is-no-longer-than-target, reference-is-relative}
-use Rattle.uri_relative.specs.Rule.{reference_to}
+use Rattle.uri_relative.specs.Forms.{IsReferenceTo}
+use Rattle.uri_relative.specs.Leading.{settled}
+use Rattle.uri_relative.specs.Rule.{reference_components, reference_to}
 use Rattle.uri_relative.proofs.ShortestTexts.{reference-is-shortest}
 use Rattle.uri_relative.proofs.relativize.relativized.Goals as goal
 
 pub new-requires-clause-of_kind : goal.new-requires-clause-of_kind
 new-requires-clause-of_kind g c =
     subst (λ k. IsOfKind k (string_bytes c.in_ok-made.made.text))
-    (sym g.met.K.RelativeKind.same_tables) c.in_ok-made.ensures.leads.meets
+    (sym g.met.K.BaseKind.same_tables) c.in_ok-made.ensures.leads.meets
 
 pub new-requires-clause-at : goal.new-requires-clause-at
 new-requires-clause-at g c = c.of-positions.ensures ∙ ap packed c.in_ok-made.ensures.at
@@ -30,9 +32,12 @@ returns g c =
     let of_base = c.core.ensures.text in
     let of_target = c.core-2.ensures.text in
     let of_made = c.of_core.ensures ∙ c.new.ensures in
-    let leads = c.in_ok-made.ensures.leads in
+    let leads = subst (λ b. IsReferenceTo kind prefers b (settled (core_text c.core-2.result))
+    (components made)) c.of_core-base.ensures.components c.in_ok-made.ensures.leads in
     record {
       text = of_made ∙ c.in_ok-made.ensures.text
+          ∙ ap (λ b. recompose (reference_components prefers b
+          (settled (core_text c.core-2.result)))) c.of_core-base.ensures.components
           ∙ ap (λ b. reference_to prefers b (core_text c.core-2.result)) of_base
           ∙ ap (reference_to prefers base) of_target;
       leads = reference-leads-to-target kind prefers (core_text c.core.result)

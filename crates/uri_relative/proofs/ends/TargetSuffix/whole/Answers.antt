@@ -1,0 +1,7 @@
+use Rattle.std.proofs.Common.{sym, ◌∙◌}
+use Rattle.uri_parts.proofs.Splitting.Recompose.{recompose-components}
+use Rattle.uri_relative.proofs.ends.TargetSuffix.whole.Goals as goal
+
+pub returns-clause-text : goal.returns-clause-text
+returns-clause-text c =
+    c.as_str.ensures.text ∙ sym (recompose-components c.args.target.now.text.now)
