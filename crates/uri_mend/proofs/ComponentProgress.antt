@@ -77,4 +77,5 @@ scan-goes-on marks set lacks octets outside text out whole start end stop u at l
 pub octets-go-on : (out new octets rest left whole : List ℕ) → new ≡ out ++ octets
     → rest ≡ octets ++ left → out ++ rest ≡ whole → new ++ left ≡ whole
 octets-go-on out new octets rest left whole written split total =
-    ap (λ t. t ++ left) written ∙ append_assoc out octets left ∙ ap (λ t. out ++ t) (sym split) ∙ total
+    ap (λ t. t ++ left) written ∙ append_assoc out octets left ∙ ap (λ t. out ++ t) (sym split)
+    ∙ total

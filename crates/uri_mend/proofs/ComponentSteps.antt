@@ -18,7 +18,8 @@ use Rattle.uri_pct.specs.Tokens.{IsValidFor, Octet, print}
 use Rattle.uri_pct.proofs.Unicode.Characters.{HasEncoding, char_has_encoding, is_no_ascii_byte}
 use Rattle.uri_pct.proofs.ValidTexts.Cuts.{excludes, valid_prefix-ends-by-mark}
 use Rattle.uri_pct.proofs.ValidTexts.LongestPrefixes.{valid_prefix_ends_at_boundary}
-use Rattle.uri_pct.proofs.ValidTexts.LongestPrefixes.{valid_prefix_is_longest, valid_prefix_is_valid}
+use Rattle.uri_pct.proofs.ValidTexts.LongestPrefixes.{valid_prefix_is_longest}
+use Rattle.uri_pct.proofs.ValidTexts.LongestPrefixes.{valid_prefix_is_valid}
 use Rattle.uri_pct.proofs.ValidTexts.MarksInTexts.{AreAscii, first_mark_is_at_boundary}
 use Rattle.uri_pct.proofs.ValidTexts.MarksInTexts.{length_before_marks, test_holds_of_each}
 use Rattle.uri_parts.specs.Components.{before_any, from_any}
@@ -120,7 +121,8 @@ module _ (marks : List ℕ) (set : TableSet) (lacks : LacksPercent set)
       let within : k ≤ m = omega (arith, at.0, length-take-le m rest inside) in
       let first : n ≤ k = valid_prefix_is_longest set lacks (before_any marks rest) n v
       (boundary-within-prefix m n rest inside few (valid_prefix_ends_at_boundary set lacks rest u))
-      (subst (IsValidFor set) (sym (take-take n m rest few)) (valid_prefix_is_valid set lacks rest u)) in
+      (subst (IsValidFor set) (sym (take-take n m rest few))
+      (valid_prefix_is_valid set lacks rest u)) in
       let second : k ≤ n = valid_prefix_is_longest set lacks rest k u
       (boundary-of-prefix m k rest end within at)
       (subst (IsValidFor set) (take-take k m rest within)
@@ -152,7 +154,8 @@ module _ (marks : List ℕ) (set : TableSet) (lacks : LacksPercent set)
       (λ k d l. subst (λ b. is_one_of marks b ≡ false) (sym (get_or-drop n before k d))
       (cut.lacks (n + k) d (omega (arith, length-drop n before, l)))) cut.begins in (
         scanned-prefix-is-kept set lacks octets before (component-is-utf8 rest u)
-            ∙ ap (λ j. take j before ++ mended set (drop j before)) (component-is-scanned-as-text rest u)
+            ∙ ap (λ j. take j before ++ mended set (drop j before))
+            (component-is-scanned-as-text rest u)
             ∙ ap (λ t. t ++ mended set (drop n before)) (sym kept)
             ∙ ap (λ t. take n rest ++ mended set t) (sym (ap (before_any marks) left ∙ parts.0)),
         sym (ap (from_any marks) left ∙ parts.1),

@@ -1,7 +1,7 @@
 -- The character where a scan stops, and those after it that a set lacks, become octets.
-use Rattle.std.proofs.Common.{◌≡◌, ℕ, suc, ◌+◌, ◌-◌, ◌<◌, ◌≤◌, true, false, not, eqb, ltb, List, [], ◌∷◌}
-use Rattle.std.proofs.Common.{◌++◌, ◌&&◌, ◌||◌, length, take, drop, map, get_or, refl, sym, ap, subst}
-use Rattle.std.proofs.Common.{◌∙◌, arith, ⊎_elim, append_assoc, length-append, length-drop}
+use Rattle.std.proofs.Common.{◌≡◌, ℕ, suc, ◌+◌, ◌-◌, ◌<◌, ◌≤◌, true, false, not, eqb, ltb, List, []}
+use Rattle.std.proofs.Common.{◌∷◌, ◌++◌, ◌&&◌, ◌||◌, length, take, drop, map, get_or, refl, sym, ap}
+use Rattle.std.proofs.Common.{subst, ◌∙◌, arith, ⊎_elim, append_assoc, length-append, length-drop}
 use Rattle.std.specs.Char.{encode_utf8, is_ascii_hexdigit, len_utf8}
 use Rattle.std.specs.Prelude.{nat_le}
 use Rattle.std.specs.Str.{IsUtf8, IsCharBoundary, chars, encode_utf8_all}
@@ -49,9 +49,9 @@ byte-of-run-is-never b e = ⊎_elim
     (nat_le b 237 && not (nat_le b 127) && not (eqb b 194)) e)
 
 -- runs: after the character at a boundary a text may be cut
-pub boundary-after-char : (text : List ℕ) (start c len : ℕ) → IsUtf8 text → IsCharBoundary text start
-    → drop start text ≡ encode_utf8 c ++ drop (start + len_utf8 c) text → len ≡ len_utf8 c
-    → IsCharBoundary text (start + len)
+pub boundary-after-char : (text : List ℕ) (start c len : ℕ) → IsUtf8 text
+    → IsCharBoundary text start → drop start text ≡ encode_utf8 c ++ drop (start + len_utf8 c) text
+    → len ≡ len_utf8 c → IsCharBoundary text (start + len)
 boundary-after-char text start c len u at joined size =
     subst (λ n. IsCharBoundary text (start + n)) (sym size)
     (IsCharBoundary-past_char text (drop (start + len_utf8 c) text) start c at.0
@@ -168,7 +168,8 @@ ascii-run-ends-at-boundary text start end u at le within last = ⊎_elim
     let place : end - 1 + 1 ≡ end = omega arith in
     subst (IsCharBoundary text) place
     (IsCharBoundary-after_ascii text (end - 1) u (omega arith) (last l)))
-    (λ (l : end ≤ start). let same : start ≡ end = omega arith in subst (IsCharBoundary text) same at)
+    (λ (l : end ≤ start).
+    let same : start ≡ end = omega arith in subst (IsCharBoundary text) same at)
     (cases_lt start end)
 
 module _ (marks : List ℕ) (set : TableSet) (lacks : LacksPercent set)
@@ -183,7 +184,8 @@ module _ (marks : List ℕ) (set : TableSet) (lacks : LacksPercent set)
 
   module _ (text : List ℕ) (u : IsUtf8 text) (end : ℕ) where
     -- characters at which a scan stops are mended to their octets
-    stopped-chars-are-encoded : (cs : List ℕ) (start : ℕ) → start + length (encode_utf8_all cs) ≡ end
+    stopped-chars-are-encoded : (cs : List ℕ) (start : ℕ)
+        → start + length (encode_utf8_all cs) ≡ end
         → drop start text ≡ encode_utf8_all cs ++ drop end text → IsCharBoundary text start
         → ((k : ℕ) → start ≤ k → k < end → is_never (get_or text k 0) ≡ true)
         → ((k : ℕ) → start ≤ k → k < end → valid_prefix set (drop k text) ≡ 0)
@@ -216,7 +218,8 @@ module _ (marks : List ℕ) (set : TableSet) (lacks : LacksPercent set)
         (whole ∙ ap (λ t. encode_utf8 c ++ t) (sym later)) (stops start (omega arith) inside)
         (ap (is_one_of marks) begins
         ∙ never-is-no-mark (get_or text start 0) (never start (omega arith) inside)) in
-        let next = stopped-chars-are-encoded cs (start + len) (omega (arith, size, both, long)) later
+        let next = stopped-chars-are-encoded cs (start + len) (omega (arith, size, both, long))
+        later
         (IsCharBoundary-past_char text (rest ++ drop end text) start c at.0 v whole)
         (λ k a b. never k (omega (arith, a)) b) (λ k a b. stops k (omega (arith, a)) b) in (
           step.0 ∙ ap (λ t. print (map Octet (encode_utf8 c)) ++ t) next.0
@@ -246,10 +249,12 @@ module _ (set : TableSet) (lacks : LacksPercent set) (octets : set.pct_encoded �
       sym (take-append-drop (end - next) (drop next text)) ∙ ap (λ t. part ++ t) suffix
       ∙ ap (λ t. t ++ drop end text) (sym back) in
       let long : length part ≡ end - next =
-      length-take-le (end - next) (drop next text) (omega (arith, length-drop next text, run.boundary.0)) in
+      length-take-le (end - next) (drop next text)
+      (omega (arith, length-drop next text, run.boundary.0)) in
       let step = stopped-chars-are-encoded marks set lacks octets are text u end (chars part) next
       (omega (arith, ap length back, long, run.from)) split at run.never run.stops in (
-        step.0 ∙ ap (λ t. print (map Octet t) ++ mended set (before_any marks (drop end text))) back,
+        step.0
+            ∙ ap (λ t. print (map Octet t) ++ mended set (before_any marks (drop end text))) back,
         step.1,
       )
 

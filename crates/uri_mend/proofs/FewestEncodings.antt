@@ -52,7 +52,8 @@ octets-before-encoded-tokens : (bytes : List ℕ) (ts us : List Token) → AreEn
 unfolding AreEncodedAs
 octets-before-encoded-tokens [] ts us h = h
 octets-before-encoded-tokens (b ∷ bytes) ts us h =
-    (Octet b ∷ [], (map Octet bytes ++ us, (refl, refl, octets-before-encoded-tokens bytes ts us h)))
+    let rest = octets-before-encoded-tokens bytes ts us h in
+    (Octet b ∷ [], (map Octet bytes ++ us, (refl, refl, rest)))
 
 -- fewest encodings: an octet is in each encoding
 octet-before-encoded-tokens : (value : ℕ) (ts us first : List Token) → first ≡ Octet value ∷ []

@@ -1,7 +1,7 @@
 -- A text, cut before its path, and the pieces of the text that it is mended to.
-use Rattle.std.proofs.Common.{◌≡◌, ℕ, true, false, not, List, [], ◌∷◌, ◌++◌, length}
-use Rattle.std.proofs.Common.{take, drop, refl, sym, ap, subst, ◌∙◌, arith, append_assoc, ◌&&◌, lit<}
-use Rattle.std.proofs.Common.{◌≤◌, ◌-◌, length-append}
+use Rattle.std.proofs.Common.{◌≡◌, ℕ, true, false, not, List, [], ◌∷◌, ◌++◌, length, take, drop}
+use Rattle.std.proofs.Common.{refl, sym, ap, subst, ◌∙◌, arith, append_assoc, ◌&&◌, lit<, ◌≤◌, ◌-◌}
+use Rattle.std.proofs.Common.{length-append}
 use Rattle.std.specs.Str.{IsUtf8, IsCharBoundary}
 use Rattle.std.proofs.Math.Seq.{take-append_seam}
 use Rattle.std.proofs.lemmas.Str.{IsCharBoundary-from_drop, IsCharBoundary-at_seam}
@@ -10,8 +10,8 @@ use Rattle.uri_parts.proofs.Parsing.ScanStops.{utf8_after_slashes}
 use Rattle.std.specs.Prelude.{codes}
 use Rattle.std.proofs.lemmas.Bool.{cond-true, cond-false, and_parts, both_ways, or_left}
 use Rattle.uri_pct.specs.Sets.{allows}
-use Rattle.uri_parts.specs.Components.{components, recompose, marked, starts, when}
-use Rattle.uri_parts.specs.Components.{before_any, from_any, after_scheme, after_authority, after_query}
+use Rattle.uri_parts.specs.Components.{components, recompose, marked, starts, when, before_any}
+use Rattle.uri_parts.specs.Components.{from_any, after_scheme, after_authority, after_query}
 use Rattle.uri_parts.specs.Grammar.{Kind}
 use Rattle.uri_parts.proofs.Splitting.Cuts.{before_any-past-other, from_any-past-other}
 use Rattle.uri_parts.proofs.Splitting.Recompose.{recompose-components}
@@ -115,7 +115,8 @@ unfolding link_components mended_text mended_tail
 text-with-false-scheme-is-mended text e kind sets =
     let end : List ℕ → List ℕ = λ t. mended_query kind.query t
     ++ mended_fragment kind.fragment (after_query t) in
-    ap (λ t. recompose (mended_components kind (components t))) (false-scheme-gets-dot-segment text e)
+    ap (λ t. recompose (mended_components kind (components t)))
+    (false-scheme-gets-dot-segment text e)
     ∙ ap (λ t. mended kind.path t ++ end (from_any (codes "?#") (46 ∷ 47 ∷ text)))
     (path-after-dot-segment text)
     ∙ ap (λ t. t ++ end (from_any (codes "?#") (46 ∷ 47 ∷ text)))

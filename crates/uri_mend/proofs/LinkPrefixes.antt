@@ -6,7 +6,8 @@ use Rattle.std.specs.List.{list_any}
 use Rattle.std.specs.Prelude.{codes, IfSome, None, Option, Some, is_some, option_map, unwrap_or}
 use Rattle.std.specs.Str.{IsCharBoundary, IsUtf8}
 use Rattle.std.proofs.Math.Seq.{drop-append_seam, take-append_seam}
-use Rattle.std.proofs.lemmas.Bool.{and_parts, both_ways, cases_Bool, cond-true, cond-false, eqb-true}
+use Rattle.std.proofs.lemmas.Bool.{and_parts, both_ways, cases_Bool, cond-true, cond-false}
+use Rattle.std.proofs.lemmas.Bool.{eqb-true}
 use Rattle.std.proofs.lemmas.List.{drop-append-le, length-take-le}
 use Rattle.std.proofs.lemmas.Str.{IsCharBoundary-at_seam}
 use Rattle.uri_pct.specs.Sets.{is_one_of}
@@ -36,7 +37,7 @@ use Rattle.uri_mend.proofs.MendedPositions.{length-before-path}
 use Rattle.uri_mend.proofs.MendedReferences.{link-components-are-mendable}
 use Rattle.uri_mend.proofs.Unchanged.{prefix_components, prefix-components-are-split}
 use Rattle.uri_mend.proofs.Unchanged.{prefix-components-are-text-before-path}
-use Rattle.uri_mend.proofs.Unchanged.{no-text-of-kind-has-rejected-scheme-and-authority}
+use Rattle.uri_mend.proofs.Unchanged.{no_text_of_kind_has_rejected_scheme_and_authority}
 
 -- prefixes: the text is not empty
 abbrev pub is_some_text : List ℕ → Bool
@@ -128,12 +129,14 @@ module _ (p s : List ℕ) (shows : ShowsPath p) where
   false-scheme-is-that-of-prefix : has_false_scheme (p ++ s) ≡ has_false_scheme p
   unfolding has_false_scheme
   false-scheme-is-that-of-prefix =
-      ap (λ t. starts 58 t && not (is_scheme (before_any (codes ":/?#") (p ++ s)))) cut-at-scheme.from
+      ap (λ t. starts 58 t && not (is_scheme (before_any (codes ":/?#") (p ++ s))))
+      cut-at-scheme.from
       ∙ ap (λ t. t && not (is_scheme (before_any (codes ":/?#") (p ++ s))))
       (starts-of-prefix 58 (from_any (codes ":/?#") p) s shows.mark)
       ∙ ap (λ t. starts 58 (from_any (codes ":/?#") p) && not (is_scheme t)) cut-at-scheme.before
 
-  authority-is-that-of-prefix : has_authority (after_scheme (p ++ s)) ≡ has_authority (after_scheme p)
+  authority-is-that-of-prefix : has_authority (after_scheme (p ++ s))
+      ≡ has_authority (after_scheme p)
   authority-is-that-of-prefix = ap has_authority rest-is-that-of-prefix
       ∙ authority-of-prefix (after_scheme p) s shows.two
 
@@ -153,7 +156,8 @@ module _ (p s : List ℕ) (shows : ShowsPath p) where
   authority-of-text-is-that-of-prefix = ⊎_elim
       (λ e. ap (λ t. when t (before_any (codes "/?#") (drop 2 (after_scheme (p ++ s)))))
       authority-is-that-of-prefix
-      ∙ ap (λ t. when (has_authority (after_scheme p)) t) (ap (before_any (codes "/?#")) bytes-of-authority
+      ∙ ap (λ t. when (has_authority (after_scheme p)) t)
+      (ap (before_any (codes "/?#")) bytes-of-authority
       ∙ (cut-at-mark-of-prefix (codes "/?#") (drop 2 (after_scheme p)) s (shows.ended e)).before))
       (λ e. ap (λ t. when t (before_any (codes "/?#") (drop 2 (after_scheme (p ++ s)))))
       (authority-is-that-of-prefix ∙ e)
@@ -227,7 +231,8 @@ positions-show-path p before e some two mark =
     let size = length-of-tail p before e in
     record {
       mark = ⊎_elim
-          (λ s. text-that-starts-is-some 58 _ (and_parts (starts 58 (from_any (codes ":/?#") p)) _ s).0)
+          (λ s. text-that-starts-is-some 58 _
+          (and_parts (starts 58 (from_any (codes ":/?#") p)) _ s).0)
           (λ s. ⊎_elim
           (λ a. authority-begins-with-mark p (sym (ap has_authority (cond-false _ _ _ s)) ∙ a))
           (λ a. mark (no-host-is-at-zero p before e a) (no-scheme-is-at-zero p before e s))
@@ -310,7 +315,8 @@ link-of-prefix text p s before u e at none shows =
       query = query-without-false-scheme text kept ∙ ap query_of_tail (sym second);
       before = λ path_end query_end.
           ap (λ (x : PackedPositions). with_ends_at x path_end query_end) at
-          ∙ positions-by-scheme-and-authority (components p) (link_components text) path_end query_end
+          ∙ positions-by-scheme-and-authority (components p) (link_components text) path_end
+          query_end
           (sym (ap (λ (x : Components). x.scheme) link ∙ scheme))
           (sym (ap (λ (x : Components). x.authority) link ∙ authority));
     }
@@ -323,7 +329,7 @@ text-with-prefix-can-be-mended kind text p s e none shows h =
     (ap has_false_scheme e ∙ false-scheme-is-that-of-prefix p s shows ∙ none) in
     ⊎_elim
     (λ can. can)
-    (λ can. absurd (no-text-of-kind-has-rejected-scheme-and-authority kind text p can h
+    (λ can. absurd (no_text_of_kind_has_rejected_scheme_and_authority kind text p can h
     (sym (ap (λ (x : Components). x.scheme) link ∙ ap (λ t. (components t).scheme) e
     ∙ scheme-of-text-is-that-of-prefix p s shows))
     (sym (ap (λ (x : Components). x.authority) link ∙ ap (λ t. (components t).authority) e

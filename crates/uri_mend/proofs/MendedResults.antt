@@ -2,7 +2,8 @@
 use Rattle.std.proofs.Common.{◌≡◌, ◌+◌, length, true, false, refl, sym, ap, ◌∙◌, subst, List, ℕ}
 use Rattle.std.proofs.Common.{◌≤◌, arith, length-append}
 use Rattle.std.proofs.lemmas.List.{length-take-le}
-use Rattle.std.specs.Prelude.{Bool, IfSome, None, Option, Some, [], ◌++◌, ◌-◌, drop, option_map, take}
+use Rattle.std.specs.Prelude.{Bool, IfSome, None, Option, Some, [], ◌++◌, ◌-◌, drop, option_map}
+use Rattle.std.specs.Prelude.{take}
 use Rattle.std.specs.Str.{IsUtf8}
 use Rattle.uri_pct.specs.Sets.{LacksPercent, TableSet}
 use Rattle.uri_parts.specs.Components.{Components, components}
@@ -132,6 +133,7 @@ module _ (kind : Kind) (sets : HasComponentSets kind) (text : List ℕ) (u : IsU
         authority = parts.authority;
         path = mended-text-is-utf8 kind.path p.path sets.path.percent parts.path;
         query = mended-part-is-utf8 kind.query p.query sets.query.percent parts.query;
-        fragment = mended-part-is-utf8 kind.fragment p.fragment sets.fragment.percent parts.fragment;
+        fragment = mended-part-is-utf8 kind.fragment p.fragment sets.fragment.percent
+            parts.fragment;
       }) (subst (λ c. components_meet_rules kind c ≡ true) made-components
       (mended-text-is-of-kind kind sets text u mendable)))

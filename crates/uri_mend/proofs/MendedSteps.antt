@@ -20,7 +20,8 @@ use Rattle.uri_pct.proofs.EncodedTexts.Encodings.{allowed_char_is_printed_litera
 use Rattle.uri_pct.proofs.EncodedTexts.Encodings.{disallowed_char_is_encoded_as_octets}
 use Rattle.uri_pct.proofs.Unicode.Characters.{hexdigit_is_ascii}
 use Rattle.uri_pct.proofs.Unicode.Characters.{encoded_chars_begin_with_same_hex_digits}
-use Rattle.uri_pct.proofs.ValidTexts.Cuts.{is_valid_for_is_scanned_to_end, valid_prefix_by_first_byte}
+use Rattle.uri_pct.proofs.ValidTexts.Cuts.{is_valid_for_is_scanned_to_end}
+use Rattle.uri_pct.proofs.ValidTexts.Cuts.{valid_prefix_by_first_byte}
 use Rattle.uri_pct.proofs.ValidTexts.PrefixSteps.{valid_prefix_by_first_char}
 use Rattle.uri_pct.proofs.ValidTexts.PrefixSteps.{valid_prefix_passes_octet}
 use Rattle.uri_mend.specs.MendedParts.{mended_from_chars, mended}

@@ -1,6 +1,7 @@
 -- The characters that no path, query or fragment of the four kinds may have, and the marks that end
 -- these.
-use Rattle.std.proofs.Common.{◌≡◌, ℕ, ◌<◌, ◌≤◌, Bool, true, false, refl, sym, ap, subst, ◌∙◌, ◌&&◌, ⊎_elim}
+use Rattle.std.proofs.Common.{◌≡◌, ℕ, ◌<◌, ◌≤◌, Bool, true, false, refl, sym, ap, subst, ◌∙◌, ◌&&◌}
+use Rattle.std.proofs.Common.{⊎_elim}
 use Rattle.std.specs.Prelude.{codes}
 use Rattle.std.proofs.lemmas.Bool.{agree_below_at, and_left, cases_lt}
 use Rattle.uri_pct.specs.Masks.{has_bit}
@@ -28,15 +29,15 @@ fails-for-never test below b bit = ⊎_elim
 never-is-no-path-char : (b : ℕ) → has_bit NEVER_LOW NEVER_HIGH b ≡ true → is_path_char b ≡ false
 unfolding has_bit
 never-is-no-path-char = fails-for-never is_path_char
-    (λ b h. agree_below_at (λ c. has_bit NEVER_LOW NEVER_HIGH c && is_path_char c) (λ c. false) 128 b
-    refl h)
+    (λ b h. agree_below_at (λ c. has_bit NEVER_LOW NEVER_HIGH c && is_path_char c) (λ c. false) 128
+    b refl h)
 
 -- sets: no such character may be in a query or a fragment
 never-is-no-query-char : (b : ℕ) → has_bit NEVER_LOW NEVER_HIGH b ≡ true → is_query_char b ≡ false
 unfolding has_bit
 never-is-no-query-char = fails-for-never is_query_char
-    (λ b h. agree_below_at (λ c. has_bit NEVER_LOW NEVER_HIGH c && is_query_char c) (λ c. false) 128 b
-    refl h)
+    (λ b h. agree_below_at (λ c. has_bit NEVER_LOW NEVER_HIGH c && is_query_char c) (λ c. false)
+    128 b refl h)
 
 -- sets: what mending asks of the sets of a kind
 pub record HasMendedSets (kind : Kind) : Type 0 where

@@ -11,8 +11,8 @@ use Rattle.uri_pct.specs.Sets.{TableSet, LacksPercent}
 use Rattle.uri_pct.specs.Tokens.{is_valid_for}
 use Rattle.uri_pct.proofs.ValidTexts.EStrs.{empty_text_is_valid}
 use Rattle.uri_parts.specs.Components.{Components, components, recompose, marked, starts, Lacks}
-use Rattle.uri_parts.specs.Components.{IsSplitOf, IsAbemptyPath, has_scheme, has_authority, from_any}
-use Rattle.uri_parts.specs.Components.{before_any, after_scheme, after_authority, when}
+use Rattle.uri_parts.specs.Components.{IsSplitOf, IsAbemptyPath, has_scheme, has_authority}
+use Rattle.uri_parts.specs.Components.{from_any, before_any, after_scheme, after_authority, when}
 use Rattle.uri_parts.specs.Grammar.{Kind, IsOfKind, is_of_kind, absent_or_passes, is_scheme}
 use Rattle.uri_parts.specs.Grammar.{is_authority, has_colon_in_first_segment, components_meet_rules}
 use Rattle.uri_parts.proofs.Splitting.Recompose.{recompose-components}
@@ -91,11 +91,13 @@ rules-of-prefix true false false false = refl
 -- is there if it is needed
 prefix-rules : (kind : Kind) (p : Components) → AreMendable p
     → components_meet_rules kind (prefix_components p)
-    ≡ (absent_or_passes p.authority (is_authority kind) && (is_some p.scheme || not kind.needs_scheme))
+    ≡ (absent_or_passes p.authority (is_authority kind)
+    && (is_some p.scheme || not kind.needs_scheme))
 unfolding prefix_components
 prefix-rules kind p m =
     let a = absent_or_passes p.authority (is_authority kind) in
-    let rest : Bool = is_some p.scheme || (not kind.needs_scheme && (is_some p.authority || true)) in
+    let rest : Bool = is_some p.scheme
+    || (not kind.needs_scheme && (is_some p.authority || true)) in
     ap (λ s. ((((s && a) && is_valid_for kind.path []) && true) && true) && rest)
     (part-with-property-passes p.scheme is_scheme m.scheme)
     ∙ ap (λ v. ((((true && a) && v) && true) && true) && rest) (empty_text_is_valid kind.path)
@@ -255,12 +257,12 @@ rules-of-text-of-kind kind text h =
     and_from _ _ authority (rule-on-schemes _ kind.needs_scheme _ rules.1)
 
 -- mending: no text of the kind has the scheme and the authority of a text that cannot be mended
-pub no-text-of-kind-has-rejected-scheme-and-authority : (kind : Kind) (text other : List ℕ)
+pub no_text_of_kind_has_rejected_scheme_and_authority : (kind : Kind) (text other : List ℕ)
     → can_be_mended kind text ≡ false → IsOfKind kind other
     → (components other).scheme ≡ (link_components text).scheme
     → (components other).authority ≡ (link_components text).authority → ⊥
 unfolding can_be_mended
-no-text-of-kind-has-rejected-scheme-and-authority kind text other e h scheme authority =
+no_text_of_kind_has_rejected_scheme_and_authority kind text other e h scheme authority =
     both_ways _ e (sym (ap (λ a. absent_or_passes a (is_authority kind)
     && (is_some (components other).scheme || not kind.needs_scheme)) authority
     ∙ ap (λ s. absent_or_passes (link_components text).authority (is_authority kind)

@@ -58,7 +58,8 @@ pub(crate) fn place_run(bytes: &[u8], start: usize, end: usize, at: usize, out: 
     requires inside { end ≤ length bytes.now }
     requires room { at + (end - start) + LANES ≤ length out.old }
     ensures end { result ≡ at + (end - start) }
-    ensures text { take result out.new ≡ take at out.old ++ take (end - start) (drop start bytes.now) }
+    ensures text { take result out.new
+        ≡ take at out.old ++ take (end - start) (drop start bytes.now) }
 {
     let len = end - start;
     if len <= LANES {

@@ -1,6 +1,6 @@
 //! Components, mended (RFC 3986, sections 2.1 and 2.4).
-ghost use Rattle.std.specs.Prelude.{◌≡◌, ◌+◌, ◌-◌, ◌<◌, ◌≤◌, ◌&&◌, ◌||◌, ◌++◌, ℕ, [], IfOk, drop, false};
-ghost use Rattle.std.specs.Prelude.{length, map, nat_lt, not, slice_index, take, true};
+ghost use Rattle.std.specs.Prelude.{◌≡◌, ◌+◌, ◌-◌, ◌<◌, ◌≤◌, ◌&&◌, ◌||◌, ◌++◌, ℕ, [], IfOk, drop};
+ghost use Rattle.std.specs.Prelude.{false, length, map, nat_lt, not, slice_index, take, true};
 ghost use Rattle.std.specs.Str.{IsCharBoundary};
 ghost use Rattle.uri_pct.specs.Masks.{has_bit};
 ghost use Rattle.uri_pct.specs.Prefixes.{valid_prefix};
@@ -38,8 +38,8 @@ pub(crate) struct Progress {
     pub(crate) at: usize,
 }
 
-/// Returns where a run of bytes ends that begins at `start`: of `%`, of the ASCII characters that no
-/// component may have, and of those past ASCII if the table allows none.
+/// Returns where a run of bytes ends that begins at `start`: of `%`, of the ASCII characters that
+/// no component may have, and of those past ASCII if the table allows none.
 ///
 /// If the table allows some, a text of less than sixteen bytes is not looked at: the run is empty.
 #[inline(always)]
@@ -65,15 +65,15 @@ fn never_end(table: &Table, text: &str, start: usize) -> usize
 /// table allows.
 #[inline(always)]
 fn lacks_byte(table: &Table, text: &str, at: usize) -> bool
-    ensures { result
-        ≡ (nat_lt at (length text.now) && not (allows (set_of table.now) (slice_index text.now at))) }
+    ensures { result ≡ (nat_lt at (length text.now)
+        && not (allows (set_of table.now) (slice_index text.now at))) }
 {
     let bytes = text.as_bytes();
     at < bytes.len() && !table.allows(char::from(bytes[at]))
 }
 
-/// Returns where a run of characters ends that begins at `start`, and that the table lacks. A `%` at
-/// the end of the run may begin an octet, and is left out.
+/// Returns where a run of characters ends that begins at `start`, and that the table lacks. A `%`
+/// at the end of the run may begin an octet, and is left out.
 #[inline(always)]
 fn lacked_end(table: &Table, text: &str, start: usize) -> usize
     requires never { (b : ℕ) → has_bit NEVER_LOW NEVER_HIGH b ≡ true

@@ -11,6 +11,7 @@ ghost use Rattle.uri_mend.specs.MendedParts.{mend_token, mended};
 ghost use Rattle.uri_mend.specs.Mending.{can_be_mended, link_components, mended_text};
 
 /// A text that cannot be mended has a scheme and an authority that no text of the kind has.
+#[tactic(auto, using(crate::proofs::Unchanged::no_text_of_kind_has_rejected_scheme_and_authority))]
 pub fn no_text_of_the_kind_has_a_rejected_scheme_and_authority()
     ensures { (kind : Kind) (text other : List ℕ) → can_be_mended kind text ≡ false
         → IsOfKind kind other

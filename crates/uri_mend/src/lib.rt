@@ -1,5 +1,5 @@
-//! The least change that makes a text a reference (RFC 3986, sections 2.1 and 4.1; RFC 3987, section
-//! 3.1).
+//! The least change that makes a text a reference (RFC 3986, sections 2.1 and 4.1; RFC 3987,
+//! section 3.1).
 #![tactic(auto)]
 
 mod buffer;

@@ -1,6 +1,6 @@
 //! A text that is no reference, perhaps, cut before its path (RFC 3986, appendix B).
-ghost use Rattle.std.specs.Prelude.{◌≡◌, ◌++◌, ◌-◌, ◌<◌, ◌≤◌, [], IfSome, codes, false, is_some, length, not};
-ghost use Rattle.std.specs.Prelude.{take, true};
+ghost use Rattle.std.specs.Prelude.{◌≡◌, ◌++◌, ◌-◌, ◌<◌, ◌≤◌, [], IfSome, codes, false, is_some};
+ghost use Rattle.std.specs.Prelude.{length, not, take, true};
 ghost use Rattle.std.specs.List.{list_any};
 ghost use Rattle.std.specs.Str.{IsCharBoundary};
 ghost use Rattle.uri_pct.specs.Sets.{is_one_of};
@@ -64,8 +64,8 @@ pub(crate) fn has_mark(text: &str) -> bool
         .any(|byte| matches!(*byte, b':' | b'/' | b'?' | b'#'))
 }
 
-/// Returns whether a prefix of a text has more than a scheme and an authority, whose positions these
-/// are, so that it shows where the path begins.
+/// Returns whether a prefix of a text has more than a scheme and an authority, whose positions
+/// these are, so that it shows where the path begins.
 #[inline(always)]
 fn shows_path(text: &str, index: usize, before: PackedPositions) -> bool
     requires { IsCharBoundary text.now index }

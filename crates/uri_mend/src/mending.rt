@@ -1,6 +1,6 @@
 //! The reference that a text is mended to (RFC 3986, sections 4.2 and 5.3).
-ghost use Rattle.std.specs.Prelude.{◌≡◌, ◌↔◌, ◌≤◌, ◌+◌, IfErr, IfOk, IfSome, IsOk, Some, codes, drop};
-ghost use Rattle.std.specs.Prelude.{is_some, length, string_bytes, take, true};
+ghost use Rattle.std.specs.Prelude.{◌≡◌, ◌↔◌, ◌≤◌, ◌+◌, IfErr, IfOk, IfSome, IsOk, Some, codes};
+ghost use Rattle.std.specs.Prelude.{drop, is_some, length, string_bytes, take, true};
 ghost use Rattle.std.specs.Str.{IsCharBoundary, IsUtf8};
 ghost use Rattle.uri_parts.specs.Components.{from_any};
 ghost use Rattle.uri_parts.specs.CoreTexts.{core_text};
@@ -223,8 +223,8 @@ fn mend_invalid<K: Kind>(
 
 /// Returns the reference that a text is mended to, or the text itself if it is one.
 ///
-/// Each `?` returns its error at once. Without them the two results are one value, which LLVM copies
-/// twice more.
+/// Each `?` returns its error at once. Without them the two results are one value, which LLVM
+/// copies twice more.
 fn mended_reference<K: Kind>(alloc: Global, text: &str) -> Result<Reference<K, String>, MendError>
     ensures mended { IfOk result (λ made. IsMended K.kind text.now (reference_text made)) }
     ensures refused { IfErr result (IsMendErrorOf K.kind text.now) }

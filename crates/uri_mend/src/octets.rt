@@ -1,6 +1,6 @@
 //! Bytes written as percent-encoded octets, sixteen at a time (RFC 3986, section 2.1).
-ghost use Rattle.std.specs.Prelude.{◌≡◌, ◌+◌, ◌*◌, ◌/◌, ◌%◌, ◌≤◌, ◌++◌, IfOk, List, drop, length, map};
-ghost use Rattle.std.specs.Prelude.{take, true, ℕ};
+ghost use Rattle.std.specs.Prelude.{◌≡◌, ◌+◌, ◌*◌, ◌/◌, ◌%◌, ◌≤◌, ◌++◌, IfOk, List, drop, length};
+ghost use Rattle.std.specs.Prelude.{map, take, true, ℕ};
 ghost use Rattle.std.specs.Fmt.{digit_glyph};
 ghost use Rattle.std.specs.Simd.Lanes.{chunk};
 ghost use Rattle.uri_pct.specs.Tokens.{Octet, print, text_of_token};
@@ -88,8 +88,8 @@ fn place_block(bytes: &[u8], start: usize, at: usize, out: &mut [u8]) -> usize
     at + BLOCK_LEN
 }
 
-/// Writes bytes as octets, one by one, to a position of a buffer that has room for them. Returns the
-/// position after the octets.
+/// Writes bytes as octets, one by one, to a position of a buffer that has room for them. Returns
+/// the position after the octets.
 fn place_few(bytes: &[u8], start: usize, out: &mut [u8]) -> usize
     requires { start + 3 * length bytes.now ≤ length out.old }
     ensures end { result ≡ start + 3 * length bytes.now }

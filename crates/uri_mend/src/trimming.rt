@@ -50,8 +50,8 @@ pub fn trim_link(alloc: Global, text: &str) -> Result<CowStr<'_>, AllocError>
     ensures text { IfOk result (λ link. cow_text link ≡ trimmed_link text.now) }
     ensures borrowed { list_any (is_one_of tab_and_newlines) (without_outer_space text.now) ≡ false
         → IfOk result IsBorrowedText }
-    ensures unrequested { list_any (is_one_of tab_and_newlines) (without_outer_space text.now) ≡ false
-        → IsOk result }
+    ensures unrequested { list_any (is_one_of tab_and_newlines)
+        (without_outer_space text.now) ≡ false → IsOk result }
 {
     let link = text.trim_ascii();
     if !has_tab_or_newline(link) {

@@ -11,8 +11,8 @@ returns-then-not-lacks_byte c = empty-run-is-lacked (set_of c.args.table.now) c.
     c.args.start c.requires.boundary
 
 pub returns-then-end-start : goal.returns-then-end-start
-returns-then-end-start c = empty-run-is-lacked (set_of c.args.table.now) c.args.text.now c.args.start
-    c.requires.boundary
+returns-then-end-start c =
+    empty-run-is-lacked (set_of c.args.table.now) c.args.text.now c.args.start c.requires.boundary
 
 pub returns-then-bytes-end-eq37 : goal.returns-then-bytes-end-eq37
 returns-then-bytes-end-eq37 c =
@@ -20,8 +20,8 @@ returns-then-bytes-end-eq37 c =
     let text = c.args.text.now in
     let end = c.never_end-end.result in
     run-before-percent-is-lacked (set_of c.args.table.now) (lacks_percent c.args.table.now)
-    (has_bit_past_ascii_is_false _ _) c.requires.never text c.args.start end run.boundary.0 run.never
-    run.past (omega (arith, run.from, c.if-end-start.false))
+    (has_bit_past_ascii_is_false _ _) c.requires.never text c.args.start end run.boundary.0
+    run.never run.past (omega (arith, run.from, c.if-end-start.false))
     (ap (λ t. get_or t (end - 1) 0) (sym c.as_bytes-bytes.ensures.value) ∙ c.if-bytes-end-eq37.true)
 
 pub returns : goal.returns
@@ -30,7 +30,7 @@ returns c =
     let text = c.args.text.now in
     let end = c.never_end-end.result in
     run-is-lacked (set_of c.args.table.now) (lacks_percent c.args.table.now)
-    (has_bit_past_ascii_is_false _ _) c.requires.never text c.args.start end run.boundary.0 run.never
-    run.past run.from run.boundary
+    (has_bit_past_ascii_is_false _ _) c.requires.never text c.args.start end run.boundary.0
+    run.never run.past run.from run.boundary
     (λ p. c.if-bytes-end-eq37.false
     (ap (λ t. get_or t (end - 1) 0) c.as_bytes-bytes.ensures.value ∙ p))

@@ -48,8 +48,8 @@ prefix-of-text c =
     let whole : text ≡ prefix ++ tail = text-is-cut-before-path text
     ∙ ap (λ t. prefix ++ t) (sym (c.after_authority-tail.ensures
     ∙ ap after_authority c.in-Some.ensures.rest)) in
-    let cut : slice_range text 0 (length text - length tail) ≡ take (length text - length tail) text =
-    grind arith in
+    let cut : slice_range text 0 (length text - length tail)
+    ≡ take (length text - length tail) text = grind arith in
     c.range.ensures.value ∙ cut ∙ piece-before-cut text prefix tail whole
     ∙ sym (prefix-without-false-scheme text (not-true _ (sym c.in-Some.ensures.some)))
 

@@ -18,8 +18,9 @@ pub new-requires-clause-at : goal.new-requires-clause-at
 new-requires-clause-at g c =
     let kind = g.K.Kind.kind in
     let sets = one-of-four-kinds-has-sets kind g.met.K.Kind.known in
-    subst (ArePackedPositionsOf (string_bytes c.in-Ok.made.text)) (sym c.with_ends-positions.ensures)
-    (positions-of-mended-text kind sets c.args.text.now (string_bytes c.in-Ok.made.text) c.args.link
+    let text = string_bytes c.in-Ok.made.text in
+    subst (ArePackedPositionsOf text) (sym c.with_ends-positions.ensures)
+    (positions-of-mended-text kind sets c.args.text.now text c.args.link
     c.in-Ok.made.path_end c.in-Ok.made.query_end c.utf8.text c.requires.link c.in-Ok.ensures.text
     c.in-Ok.ensures.path_end c.in-Ok.ensures.query_end)
 

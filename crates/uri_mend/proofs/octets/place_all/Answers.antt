@@ -11,7 +11,8 @@ loop-done-preserved c = record {
   text = c.place_block-at.ensures.text
       ∙ ap (λ t. t ++ print (map Octet (take 16 (drop c.loop-done.done c.args.bytes.now))))
       c.loop-done.invariant.text
-      ∙ octets-of-more-bytes c.loop-done.done 16 c.args.bytes.now (take c.args.start c.args.out.now);
+      ∙ octets-of-more-bytes c.loop-done.done 16 c.args.bytes.now
+      (take c.args.start c.args.out.now);
 }
 
 pub returns-clause-text : goal.returns-clause-text
@@ -23,7 +24,8 @@ returns-clause-text c =
     c.place_block.ensures.text
     ∙ ap (λ t. t ++ print (map Octet (take 16 (drop last bytes))))
     (octets-of-fewer-bytes last done c.args.start bytes before c.loop-done.out
-    (omega (arith, c.loop-done-test.false)) (length-take-le c.args.start c.args.out.now (omega arith))
+    (omega (arith, c.loop-done-test.false))
+    (length-take-le c.args.start c.args.out.now (omega arith))
     (sym (ap (λ k. take k c.loop-done.out) c.loop-done.invariant.at) ∙ c.loop-done.invariant.text))
     ∙ octets-of-more-bytes last 16 bytes before
     ∙ ap (λ t. before ++ print (map Octet t)) (take_all (last + 16) bytes (omega arith))

@@ -38,7 +38,8 @@ returns-clause-text g c =
     let text = c.args.text.now in
     let tail = drop c.args.from.end text in
     let old : List ℕ = mended_so_far text c.args.out.now.items c.args.from in
-    let made : List ℕ = mended_so_far text c.mend_fragment.new.out.items c.in_ok-progress.progress in
+    let made : List ℕ = mended_so_far text c.mend_fragment.new.out.items
+    c.in_ok-progress.progress in
     subst (λ k. made ≡ old ++ mended_tail k tail) c.tables-tables.ensures.kind
     (parts-are-mended-tail (kind_of c.tables-tables.result) tail (drop c.in_ok-path.path.end text)
     (drop c.in_ok-query.query.end text) old
@@ -65,7 +66,8 @@ returns-clause-query_end g c =
     part-ends-where-mended text c.mend_query.new.out.items path _ c.in_ok-query.query
     c.in_ok-query_end.query_end c.in_ok-query.ensures.progress c.in_ok-query_end.ensures
     c.in_ok-query.ensures.text
-    ∙ ap (λ n. n + length (mended_query (kind_of c.tables-tables.result).query (drop c.in_ok-path.path.end text)))
+    ∙ ap (λ n. n + length (mended_query (kind_of c.tables-tables.result).query
+    (drop c.in_ok-path.path.end text)))
     (length-of-mended-so-far text c.mend_component.new.out.items c.in_ok-path.path
     c.in_ok-path.ensures.progress ∙ sym c.in_ok-path_end.ensures)
     ∙ ap (λ (k : Kind). c.in_ok-path_end.path_end
