@@ -5,7 +5,9 @@ pub mod NormalPieces
 pub mod NormalForms
 pub mod WrittenPlaces
 pub mod NormalPlaces
+pub mod LiteralBlocks
 pub mod UnchangedBytes
 pub mod UnchangedParts
 pub mod UnchangedTexts
 pub mod SettledPrefixes
+pub mod UnchangedPaths

@@ -24,3 +24,4 @@ pub mod MergedPaths
 pub mod GuardedPaths
 pub mod SlashBlocks
 pub mod FoundDotSegments
+pub mod KeptDots

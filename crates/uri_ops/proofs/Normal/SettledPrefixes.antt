@@ -9,7 +9,7 @@ use Rattle.std.specs.Str.{str_to_ascii_lowercase}
 use Rattle.std.proofs.Math.Seq.{take-append-add}
 use Rattle.std.proofs.lemmas.Bool.{agree_below_at, and_from, and_parts, both_ways, not-true}
 use Rattle.std.proofs.lemmas.Bool.Decides.{nat_tests}
-use Rattle.std.proofs.lemmas.List.{get_or-take, length-take-le, take-take}
+use Rattle.std.proofs.lemmas.List.{get_or-take, length-append, length-take-le, take-take}
 use Rattle.std.proofs.lemmas.List.Elements.{All-from_get_or}
 use Rattle.std.proofs.lemmas.List.Folds.{list_all-append}
 use Rattle.std.proofs.lemmas.List.Sums.{list_all-from_AllPass}
@@ -18,9 +18,10 @@ use Rattle.uri_pct.specs.Models.ByteRuns.{IsLongestRun}
 use Rattle.uri_pct.specs.Texts.{lacks}
 use Rattle.uri_pct.proofs.TableSets.Masks.{has_bit-only-ascii}
 use Rattle.uri_parts.specs.Authority.{authority_parts, recompose_authority}
-use Rattle.uri_parts.specs.Components.{marked, starts}
-use Rattle.uri_parts.specs.Positions.{authority_at, delimited_length, host_end_of}
-use Rattle.uri_ops.specs.Models.Unchanged.{IsUnchangedHost, is_settled_byte}
+use Rattle.uri_parts.specs.Components.{Components, marked, starts}
+use Rattle.uri_parts.specs.PackedPositions.{packed}
+use Rattle.uri_parts.specs.Positions.{authority_at, delimited_length, host_end_of, positions_of}
+use Rattle.uri_ops.specs.Models.Unchanged.{IsUnchangedHost, is_literal_byte, is_settled_byte}
 use Rattle.uri_ops.specs.Normal.{normal_scheme}
 use Rattle.uri_ops.proofs.Normal.WrittenPlaces.{length-with-delimiter-after}
 
@@ -56,6 +57,29 @@ run-of-settled-bytes-is-settled-prefix bytes window limit end last same within i
     (ap (λ x. has_bit 0xFFFFFFDFFFFFFFFF 0xFFFFFFFFF0000001 (get_or x k 0)) (sym whole)
     ∙ ap (has_bit 0xFFFFFFDFFFFFFFFF 0xFFFFFFFFF0000001) (get_or-take end window k 0 before)
     ∙ run.pass k (omega arith) (omega (arith, before, over)))))
+
+-- settled bytes: the bytes of the two masks begin neither octets nor formatting characters
+settled-masks-have-literal-bytes : (b : ℕ)
+    → has_bit 0xFFFFFFDFFFFFFFFF 0xFFFFFFFFF0000001 b ≡ true → is_literal_byte b ≡ true
+unfolding has_bit
+settled-masks-have-literal-bytes b e =
+    let low : ℕ = 0xFFFFFFDFFFFFFFFF in
+    let high : ℕ = 0xFFFFFFFFF0000001 in
+    let agrees : (not (has_bit low high b) || is_literal_byte b) ≡ true =
+    agree_below_at (λ c. not (has_bit low high c) || is_literal_byte c) (λ _. true) 128 b refl
+    (has_bit-only-ascii low high b e) in
+    sym (ap (λ x. not x || is_literal_byte b) e) ∙ agrees
+
+-- settled bytes: nor do those of a run of the set, in a window of a text
+pub run-of-settled-bytes-is-literal : (bytes window : List ℕ) (limit end last : ℕ)
+    → window ≡ take limit bytes → end ≤ limit
+    → IsLongestRun (has_bit 0xFFFFFFDFFFFFFFFF 0xFFFFFFFFF0000001) window 0 last → end ≤ last
+    → (k : ℕ) → k < end → is_literal_byte (get_or bytes k 0) ≡ true
+run-of-settled-bytes-is-literal bytes window limit end last same within run over k h =
+    settled-masks-have-literal-bytes (get_or bytes k 0)
+    (ap (has_bit 0xFFFFFFDFFFFFFFFF 0xFFFFFFFFF0000001)
+    (sym (ap (λ w. get_or w k 0) same ∙ get_or-take limit bytes k 0 (omega (arith, h, within))))
+    ∙ run.pass k (omega arith) (omega (arith, h, over)))
 
 -- settled bytes: a settled text is in lower case
 pub settled_text_is_lower : (text : List ℕ) → all_settled text ≡ true
@@ -149,3 +173,24 @@ settled-prefix-keeps-scheme-and-host scheme (Some a) rest whole some e =
       settled_host_is_unchanged (authority_parts a).host
           (settled-authority-has-settled-host a rest (whole a refl) authority),
     )
+
+-- settled bytes: the host of these components ends in their text before the path begins
+pub host-ends-before-path : (p : Components)
+    → ((a : List ℕ) → p.authority ≡ Some a → recompose_authority (authority_parts a) ≡ a)
+    → (packed (positions_of p)).host_end ≤ (positions_of p).path_start
+host-ends-before-path p whole = by-authority p.scheme p.authority whole
+  where
+    by-authority : (scheme authority : Option (List ℕ))
+        → ((a : List ℕ) → authority ≡ Some a → recompose_authority (authority_parts a) ≡ a)
+        → end_of_host scheme authority
+        ≤ delimited_length 1 scheme + delimited_length 2 authority
+    by-authority scheme None whole = omega arith
+    by-authority scheme (Some a) whole =
+        let parts = authority_parts a in
+        let user = marked [] parts.userinfo (codes "@") in
+        let port = marked (codes ":") parts.port [] in
+        let long = length-with-delimiter-after parts.userinfo 64 in
+        let first = length-append user (parts.host ++ port) in
+        let second = length-append parts.host port in
+        let joined = ap length (whole a refl) in
+        omega (arith, long, first, second, joined)

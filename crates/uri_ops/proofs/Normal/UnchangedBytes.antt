@@ -1,20 +1,21 @@
 -- Texts without formatting characters whose octets stay: byte by byte, and in the parts of a text.
 use Rattle.std.proofs.Common.{◌≡◌, ℕ, ◌+◌, ◌<◌, ◌≤◌, Bool, true, false, eqb, List, [], ◌∷◌, ◌++◌}
 use Rattle.std.proofs.Common.{not, length, get_or, refl, sym, ap, ◌∙◌, arith, ◌||◌, ◌&&◌, ⊎_elim}
-use Rattle.std.proofs.Common.{suc}
+use Rattle.std.proofs.Common.{suc, ◌-◌, subst}
 use Rattle.std.specs.Prelude.{Option, Some, None, IfSome}
 use Rattle.std.specs.Char.{is_ascii_hexdigit}
 use Rattle.std.specs.List.{list_any}
-use Rattle.std.proofs.lemmas.Bool.{and_parts, and_from, cases_lt, not-true, or_parts, or_from}
+use Rattle.std.proofs.lemmas.Bool.{and_parts, and_from, cases_lt, not-true, not_from_false}
+use Rattle.std.proofs.lemmas.Bool.{or_from, or_left, or_parts}
 use Rattle.std.proofs.lemmas.Bool.Decides.{nat_tests}
-use Rattle.uri_pct.specs.Models.ByteRuns.{IsLongestRun}
 use Rattle.uri_parts.specs.Components.{marked}
 use Rattle.uri_ops.specs.Models.Unchanged.{IsKept, is_kept, is_kept_at, is_kept_octet, keeps_digits}
-use Rattle.uri_ops.specs.Models.Unchanged.{is_literal_byte}
+use Rattle.uri_ops.specs.Models.Unchanged.{is_dot_kept_at, is_literal_at, is_literal_byte}
+use Rattle.uri_ops.specs.Models.Unchanged.{stays_at}
 
 -- unchanged texts: at a byte that begins neither an octet nor a formatting character, a text is
 -- kept
-literal-byte-is-kept : (alone : Bool) (bs : List ℕ) (k : ℕ)
+pub literal-byte-is-kept : (alone : Bool) (bs : List ℕ) (k : ℕ)
     → is_literal_byte (get_or bs k 0) ≡ true → is_kept_at alone bs k ≡ true
 literal-byte-is-kept alone bs k e = grind (arith, nat_tests, or_parts, not-true)
 
@@ -22,48 +23,70 @@ literal-byte-is-kept alone bs k e = grind (arith, nat_tests, or_parts, not-true)
 hexdigit-is-literal : (h : ℕ) → is_ascii_hexdigit h ≡ true → is_literal_byte h ≡ true
 hexdigit-is-literal h e = grind (arith, nat_tests)
 
+-- unchanged texts: nor is one a dot
+hexdigit-is-no-dot : (h : ℕ) → is_ascii_hexdigit h ≡ true → eqb h 46 ≡ false
+hexdigit-is-no-dot h e = grind (arith, nat_tests)
+
 -- unchanged texts: at an octet that is kept a text is kept
 kept-octet-is-kept : (alone : Bool) (bs : List ℕ) (k : ℕ) → get_or bs k 0 ≡ 37
     → is_kept_octet alone (get_or bs (k + 1) 0) (get_or bs (k + 2) 0) ≡ true
     → is_kept_at alone bs k ≡ true
 kept-octet-is-kept alone bs k percent e = rw (percent, e) refl
 
--- unchanged texts: the bytes of a run without octets and formatting characters are kept, after
--- others
-pub kept-prefix-grows-by-literal-run : (alone : Bool) (bs : List ℕ) (i end : ℕ)
-    → IsLongestRun is_literal_byte bs i end
-    → ((k : ℕ) → k < i → is_kept_at alone bs k ≡ true)
-    → (k : ℕ) → k < end → is_kept_at alone bs k ≡ true
-kept-prefix-grows-by-literal-run alone bs i end run before k to = ⊎_elim
-    (λ (h : k < i). before k h)
-    (λ (h : i ≤ k). literal-byte-is-kept alone bs k (run.pass k h to))
-    (cases_lt k i)
-
--- unchanged texts: the three bytes of an octet that is kept are kept, after others
-pub kept-prefix-grows-by-octet : (alone : Bool) (bs : List ℕ) (i : ℕ) → get_or bs i 0 ≡ 37
+-- unchanged texts: the three bytes of an octet that is kept are kept
+octet-is-kept-at-each-byte : (alone : Bool) (bs : List ℕ) (i : ℕ) → get_or bs i 0 ≡ 37
     → is_kept_octet alone (get_or bs (i + 1) 0) (get_or bs (i + 2) 0) ≡ true
-    → ((k : ℕ) → k < i → is_kept_at alone bs k ≡ true)
-    → (k : ℕ) → k < i + 3 → is_kept_at alone bs k ≡ true
-kept-prefix-grows-by-octet alone bs i percent octet before k to =
+    → (k : ℕ) → i ≤ k → k < i + 3
+    → (is_kept_at alone bs k ≡ true) × (eqb (get_or bs k 0) 46 ≡ false)
+octet-is-kept-at-each-byte alone bs i percent octet k from to =
     let digits = and_parts (is_ascii_hexdigit (get_or bs (i + 1) 0)) _ (and_parts _ _ octet).0 in
     ⊎_elim
-    (λ (h : k < i). before k h)
-    (λ (h : i ≤ k). ⊎_elim
     (λ (first : k < i + 1).
-    let same : i ≡ k = omega (arith, h, first) in
-    ap (is_kept_at alone bs) (sym same) ∙ kept-octet-is-kept alone bs i percent octet)
+    let same : i ≡ k = omega (arith, from, first) in
+    subst (λ n. (is_kept_at alone bs n ≡ true) × (eqb (get_or bs n 0) 46 ≡ false)) same
+    (kept-octet-is-kept alone bs i percent octet, ap (λ b. eqb b 46) percent))
     (λ (after : i + 1 ≤ k). ⊎_elim
     (λ (second : k < i + 2).
     let same : i + 1 ≡ k = omega (arith, after, second) in
-    ap (is_kept_at alone bs) (sym same)
-    ∙ literal-byte-is-kept alone bs (i + 1) (hexdigit-is-literal (get_or bs (i + 1) 0) digits.0))
+    subst (λ n. (is_kept_at alone bs n ≡ true) × (eqb (get_or bs n 0) 46 ≡ false)) same
+    (hexdigit-is-kept alone bs (i + 1) digits.0))
     (λ (last : i + 2 ≤ k).
     let same : i + 2 ≡ k = omega (arith, last, to) in
-    ap (is_kept_at alone bs) (sym same)
-    ∙ literal-byte-is-kept alone bs (i + 2) (hexdigit-is-literal (get_or bs (i + 2) 0) digits.1))
+    subst (λ n. (is_kept_at alone bs n ≡ true) × (eqb (get_or bs n 0) 46 ≡ false)) same
+    (hexdigit-is-kept alone bs (i + 2) digits.1))
     (cases_lt k (i + 2)))
-    (cases_lt k (i + 1)))
-    (cases_lt k i)
+    (cases_lt k (i + 1))
+  where
+    hexdigit-is-kept : (alone : Bool) (bs : List ℕ) (k : ℕ)
+        → is_ascii_hexdigit (get_or bs k 0) ≡ true
+        → (is_kept_at alone bs k ≡ true) × (eqb (get_or bs k 0) 46 ≡ false)
+    hexdigit-is-kept alone bs k e = (
+      literal-byte-is-kept alone bs k (hexdigit-is-literal (get_or bs k 0) e),
+      hexdigit-is-no-dot (get_or bs k 0) e,
+    )
+
+-- unchanged texts: normalising leaves what is at an index where neither an octet nor a formatting
+-- character begins, and no dot is after a `/`
+pub literal-index-stays : (alone : Bool) (limit : ℕ) (bs : List ℕ) (k : ℕ)
+    → is_literal_at bs k ≡ true → stays_at alone limit bs k ≡ true
+literal-index-stays alone limit bs k e =
+    let p = and_parts (is_literal_byte (get_or bs k 0)) _ e in
+    and_from _ _ (literal-byte-is-kept alone bs k p.0) (or_left _ _ p.1)
+
+-- unchanged texts: it leaves each byte of an octet that is kept
+pub kept-octet-stays : (alone : Bool) (limit : ℕ) (bs : List ℕ) (i : ℕ) → get_or bs i 0 ≡ 37
+    → is_kept_octet alone (get_or bs (i + 1) 0) (get_or bs (i + 2) 0) ≡ true
+    → (k : ℕ) → i ≤ k → k < i + 3 → stays_at alone limit bs k ≡ true
+kept-octet-stays alone limit bs i percent octet k from to =
+    let p = octet-is-kept-at-each-byte alone bs i percent octet k from to in
+    and_from _ _ p.0 (or_left _ _ (not_from_false _
+    (ap (λ b. b && eqb (get_or bs (k - 1) 0) 47) p.1)))
+
+-- unchanged texts: it leaves a dot after a `/` with which no dot segment begins
+pub kept-dot-stays : (alone : Bool) (limit : ℕ) (bs : List ℕ) (k : ℕ) → get_or bs k 0 ≡ 46
+    → is_dot_kept_at limit bs k ≡ true → stays_at alone limit bs k ≡ true
+kept-dot-stays alone limit bs k dot e = and_from _ _
+    (literal-byte-is-kept alone bs k (ap is_literal_byte dot)) e
 
 -- unchanged texts: digits that are kept at their indices are kept
 digits-are-kept-by-index : (alone : Bool) (text : List ℕ)

@@ -25,7 +25,7 @@ use Rattle.uri_ops.proofs.Paths.SlashedSegments.{segments-of-text-lack-slashes}
 use Rattle.uri_ops.proofs.Paths.SlashedSegments.{slashed, slashed-of-segments-is-text-after-slash}
 
 -- dot segments: the byte is `.` or `%`, with which each dot segment begins
-abbrev is_dot_start : ℕ → Bool
+abbrev pub is_dot_start : ℕ → Bool
 is_dot_start c = c == 46 || c == 37
 
 -- such a byte is after a `/`, where one may be before the text
@@ -35,7 +35,7 @@ has_dot_start_after_slash suffix (c ∷ rest) = (suffix && is_dot_start c)
     || has_dot_start_after_slash (c == 47) rest
 
 -- dot segments: a segment whose first byte begins no dot is none
-segment-without-dot-start-is-dotless : (c : ℕ) (s : List ℕ) → is_dot_start c ≡ false
+pub segment-without-dot-start-is-dotless : (c : ℕ) (s : List ℕ) → is_dot_start c ≡ false
     → is_dot_segment (c ∷ s) ≡ false
 segment-without-dot-start-is-dotless c s e = grind (arith, nat_tests)
 

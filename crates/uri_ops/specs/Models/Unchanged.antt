@@ -1,16 +1,18 @@
 -- What is asked of a text which then is its own normal text: RFC 3986, section 6.2.2.
-use Rattle.std.specs.Prelude.{◌≡◌, ◌||◌, ◌&&◌, ◌==◌, ◌+◌, ◌*◌, ℕ, Bool, true, false, not, nat_lt}
+use Rattle.std.specs.Prelude.{◌≡◌, ◌||◌, ◌&&◌, ◌==◌, ◌≤◌, ◌<◌, ◌+◌, ◌-◌, ◌*◌, ℕ, Bool, true, false}
+use Rattle.std.specs.Prelude.{not, nat_le, nat_lt, codes, length, is_some}
 use Rattle.std.specs.Prelude.{List, [], ◌∷◌, Option, IfSome, slice_index}
 use Rattle.std.specs.Char.{digit_value, is_ascii_hexdigit, is_ascii_uppercase}
 use Rattle.std.specs.Str.{str_to_ascii_lowercase}
 use Rattle.uri_pct.specs.DecodeUnreserved.{LacksPastAscii}
-use Rattle.uri_pct.specs.Delimiters.{left_bracket, percent_sign}
-use Rattle.uri_pct.specs.Sets.{TableSet, is_unreserved}
+use Rattle.uri_pct.specs.Delimiters.{full_stop, left_bracket, percent_sign, slash}
+use Rattle.uri_pct.specs.Sets.{TableSet, is_one_of, is_unreserved}
 use Rattle.uri_pct.specs.Texts.{lacks}
 use Rattle.uri_parts.specs.Authority.{authority_parts}
-use Rattle.uri_parts.specs.Components.{Components, starts}
+use Rattle.uri_parts.specs.Components.{Components, components, starts}
 use Rattle.uri_parts.specs.Grammar.{Kind}
 use Rattle.uri_parts.specs.Hosts.{host_kind, is_host}
+use Rattle.uri_parts.specs.Positions.{positions_of}
 use Rattle.uri_ops.specs.Meaning.{dotless_path, host_meaning, port_meaning}
 use Rattle.uri_ops.specs.Normal.{host_text, normal_scheme, path_underflows}
 
@@ -50,6 +52,32 @@ is_kept_at alone text k = not (slice_index text k == 0xE2)
     && (not (slice_index text k == percent_sign)
     || is_kept_octet alone (slice_index text (k + 1)) (slice_index text (k + 2)))
 
+-- a dot is at this index of a text, and a `/` before it, as where a dot segment begins
+abbrev pub is_dot_after_slash : List ℕ → ℕ → Bool
+is_dot_after_slash text k =
+    slice_index text k == full_stop && slice_index text (k - 1) == slash
+
+-- at this index of a text begins neither an octet nor a formatting character, and no dot is there
+-- after a `/`
+abbrev pub is_literal_at : List ℕ → ℕ → Bool
+is_literal_at text k = is_literal_byte (slice_index text k) && not (is_dot_after_slash text k)
+
+-- no dot segment begins with the dot that is at this index after a `/`, if it is before the limit
+-- (section 3.3): another byte than `.`, `/` and `%` follows it before the limit
+abbrev pub is_dot_kept_at : ℕ → List ℕ → ℕ → Bool
+is_dot_kept_at limit text k = not (is_dot_after_slash text k) || (nat_le limit k
+    || (nat_lt (k + 1) limit && not (is_one_of (codes "./%") (slice_index text (k + 1)))))
+
+-- normalising leaves what begins at this index, where it removes dot segments before the limit
+abbrev pub stays_at : Bool → ℕ → List ℕ → ℕ → Bool
+stays_at alone limit text k = is_kept_at alone text k && is_dot_kept_at limit text k
+
+-- no such byte begins at the indices from start up to end, which is an index of the text
+pub record IsLiteralRun (text : List ℕ) (start end : ℕ) : Type 0 where
+  pub from : start ≤ end
+  pub within : end < length text
+  pub pass : (k : ℕ) → start ≤ k → k < end → is_literal_at text k ≡ true
+
 -- no component of the kind has characters past ASCII, as of URIs
 pub record KindLacksPastAscii (kind : Kind) : Type 0 where
   pub userinfo : LacksPastAscii kind.userinfo
@@ -87,3 +115,13 @@ pub record AreUnchanged (p : Components) : Type 0 where
   pub scheme : normal_scheme p.scheme ≡ p.scheme
   pub host : IfSome p.authority (λ a. IsUnchangedHost (authority_parts a).host)
   pub path : IsUnchangedPath p.scheme p.path
+
+-- normalising leaves the scheme and the host of the text, and neither an octet nor a formatting
+-- character begins in its first n bytes, of which none is of the path if there is a scheme
+pub record IsUnchangedPrefix (text : List ℕ) (n : ℕ) : Type 0 where
+  pub scheme : normal_scheme (components text).scheme ≡ (components text).scheme
+  pub host : IfSome (components text).authority (λ a. IsUnchangedHost (authority_parts a).host)
+  pub within : n ≤ length text
+  pub literal : (k : ℕ) → k < n → is_literal_byte (slice_index text k) ≡ true
+  pub path : is_some (components text).scheme ≡ true
+      → n ≤ (positions_of (components text)).path_start

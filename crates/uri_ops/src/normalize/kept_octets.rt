@@ -1,63 +1,75 @@
-//! Texts of which normalising leaves each octet and each character (RFC 3986, section 6.2.2; RFC
-//! 3987, section 4.1).
-ghost use Rattle.std.specs.Prelude.{◌≡◌, ◌+◌, ◌≤◌, ◌<◌, ◌==◌, ◌^◌, ℕ, length, not, slice_index};
-ghost use Rattle.std.specs.Prelude.{if◌then◌else◌, true};
+//! Texts of which normalising leaves each octet, each character and each segment of the path (RFC
+//! 3986, section 6.2.2; RFC 3987, section 4.1).
+ghost use Rattle.std.specs.Prelude.{◌≡◌, ◌+◌, ◌≤◌, ◌<◌, ◌==◌, ◌^◌, ℕ, IfSome, None, length, not};
+ghost use Rattle.std.specs.Prelude.{slice_index, true};
 ghost use Rattle.std.specs.Int.{bit_at};
-ghost use Rattle.uri_pct.specs.Models.ByteRuns.{IsLongestRun};
-ghost use Rattle.uri_ops.specs.Models.Unchanged.{IsKept, is_kept_at, is_kept_octet};
-ghost use Rattle.uri_ops.specs.Models.Unchanged.{is_literal_byte};
+ghost use Rattle.uri_ops.specs.Models.Unchanged.{IsLiteralRun, is_dot_after_slash};
+ghost use Rattle.uri_ops.specs.Models.Unchanged.{is_dot_kept_at, is_kept_octet, is_literal_at};
+ghost use Rattle.uri_ops.specs.Models.Unchanged.{is_literal_byte, stays_at};
 
 use uri_pct::lanes::{LANES, lanes_equal_to};
 
-/// Returns at which of the sixteen bytes from `at` on an octet or a formatting character may begin.
+/// Returns at which of the sixteen bytes from `at` on an octet or a formatting character may begin,
+/// or a dot is after a `/`.
 #[inline(always)]
 fn lanes_of_special_bytes(bytes: &[u8], at: usize) -> u64
-    requires { at + LANES ≤ length bytes.now }
+    requires later { 0 < at }
+    requires room { at + LANES ≤ length bytes.now }
     ensures below { result < 2 ^ 16 }
     ensures lane { (k : ℕ) → k < 16 → (bit_at result k == 1)
-        ≡ not (is_literal_byte (slice_index bytes.now (at + k))) }
+        ≡ not (is_literal_at bytes.now (at + k)) }
 {
-    lanes_equal_to(b'%', bytes, at) | lanes_equal_to(0xE2, bytes, at)
+    let dots = lanes_equal_to(b'/', bytes, at - 1) & lanes_equal_to(b'.', bytes, at);
+    lanes_equal_to(b'%', bytes, at) | lanes_equal_to(0xE2, bytes, at) | dots
 }
 
 /// Returns whether the byte begins neither an octet nor a formatting character.
 #[inline(always)]
-fn is_literal_byte(byte: u8) -> bool
+pub(crate) fn is_literal_byte(byte: u8) -> bool
     ensures { result ≡ is_literal_byte byte }
 {
     byte != b'%' && byte != 0xE2
 }
 
-/// Returns where the longest run of bytes ends that begins at `start` and of which none begins an
-/// octet or a formatting character. It is for a text that is shorter than a block.
+/// Returns the first index from `start` on at which an octet or a formatting character may begin,
+/// or a dot is after a `/`, if there is one. It is for a text that is hardly longer than a block.
 #[inline(never)]
-fn short_literal_end(bytes: &[u8], start: usize) -> usize
-    requires { start ≤ length bytes.now }
-    ensures { IsLongestRun is_literal_byte bytes.now start result }
+fn short_literal_end(bytes: &[u8], start: usize) -> Option<usize>
+    requires later { 0 < start }
+    requires within { start ≤ length bytes.now }
+    ensures some { IfSome result (λ end. IsLiteralRun bytes.now start end) }
+    ensures none { result ≡ None → (k : ℕ) → start ≤ k → k < length bytes.now
+        → is_literal_at bytes.now k ≡ true }
 {
     let mut i = start;
-    while i < bytes.len() && is_literal_byte(bytes[i]) {
+    while i < bytes.len() {
+        if !is_literal_byte(bytes[i]) || bytes[i] == b'.' && bytes[i - 1] == b'/' {
+            return Some(i);
+        }
         i += 1;
     }
-    i
+    None
 }
 
-/// Returns where the longest run of bytes ends that begins at `start` and of which none begins an
-/// octet or a formatting character. The last sixteen bytes overlap those before.
+/// Returns the first index from `start` on at which an octet or a formatting character may begin,
+/// or a dot is after a `/`, if there is one. The last sixteen bytes overlap those before.
 #[inline(always)]
-fn literal_end(bytes: &[u8], start: usize) -> usize
-    requires { start ≤ length bytes.now }
-    ensures { IsLongestRun is_literal_byte bytes.now start result }
+fn literal_end(bytes: &[u8], start: usize) -> Option<usize>
+    requires later { 0 < start }
+    requires within { start ≤ length bytes.now }
+    ensures some { IfSome result (λ end. IsLiteralRun bytes.now start end) }
+    ensures none { result ≡ None → (k : ℕ) → start ≤ k → k < length bytes.now
+        → is_literal_at bytes.now k ≡ true }
 {
     let len = bytes.len();
-    if len < LANES {
+    if len <= LANES {
         return short_literal_end(bytes, start);
     }
     let mut i = start;
     while len - i > LANES {
         let mask = lanes_of_special_bytes(bytes, i);
         if mask != 0 {
-            return i + mask.trailing_zeros() as usize;
+            return Some(i + mask.trailing_zeros() as usize);
         }
         i += LANES;
     }
@@ -65,9 +77,9 @@ fn literal_end(bytes: &[u8], start: usize) -> usize
     let tail = lanes_of_special_bytes(bytes, last);
     let mask = tail >> (i - last);
     if mask == 0 {
-        return len;
+        return None;
     }
-    i + mask.trailing_zeros() as usize
+    Some(i + mask.trailing_zeros() as usize)
 }
 
 /// The class of each digit that begins an octet which normalising may leave, and 0 for each other
@@ -112,15 +124,6 @@ const SECOND_DIGITS: &[u8; 256] = &[
     0, 0, 0, 0, 0, 0, 0, 0, 0, 0, 0, 0, 0, 0, 0, 0, // F0
 ];
 
-/// Returns the classes of the first digits of octets that may stay. Octets past ASCII may only if no
-/// component may have characters past ASCII (`alone`).
-#[inline(always)]
-fn kept_classes(alone: bool) -> u8
-    ensures { result ≡ (if alone then 127 else 63) }
-{
-    if alone { 127 } else { 63 }
-}
-
 /// Returns whether normalising leaves the octet with these digits: they are in upper case, and it
 /// is not decoded. An octet past ASCII stays if no component may have characters past ASCII
 /// (`alone`).
@@ -128,21 +131,8 @@ fn kept_classes(alone: bool) -> u8
 fn are_digits_kept(alone: bool, high: u8, low: u8) -> bool
     ensures { result ≡ true → is_kept_octet alone high low ≡ true }
 {
-    FIRST_DIGITS[usize::from(high)] & SECOND_DIGITS[usize::from(low)] & kept_classes(alone) != 0
-}
-
-/// Returns `true` only if normalising leaves the octet that begins at `at`.
-#[inline(always)]
-fn is_octet_kept(alone: bool, bytes: &[u8], at: usize) -> bool
-    requires { at < length bytes.now }
-    ensures within { result ≡ true → at + 3 ≤ length bytes.now }
-    ensures percent { result ≡ true → slice_index bytes.now at ≡ 37 }
-    ensures kept { result ≡ true → is_kept_octet alone (slice_index bytes.now (at + 1))
-        (slice_index bytes.now (at + 2)) ≡ true }
-{
-    bytes[at] == b'%'
-        && bytes.len() - at >= 3
-        && are_digits_kept(alone, bytes[at + 1], bytes[at + 2])
+    let classes: u8 = if alone { 127 } else { 63 };
+    FIRST_DIGITS[usize::from(high)] & SECOND_DIGITS[usize::from(low)] & classes != 0
 }
 
 /// Returns where a run of octets ends that begins at `start` and of which normalising leaves each.
@@ -151,29 +141,64 @@ fn kept_octets_end(alone: bool, bytes: &[u8], start: usize) -> usize
     requires { start ≤ length bytes.now }
     ensures from { start ≤ result }
     ensures within { result ≤ length bytes.now }
-    ensures kept { ((k : ℕ) → k < start → is_kept_at alone bytes.now k ≡ true)
-        → (k : ℕ) → k < result → is_kept_at alone bytes.now k ≡ true }
+    ensures kept { (limit k : ℕ) → start ≤ k → k < result
+        → stays_at alone limit bytes.now k ≡ true }
 {
     let mut end = start;
-    while end < bytes.len() && is_octet_kept(alone, bytes, end) {
+    while bytes.len() - end >= 3
+        && bytes[end] == b'%'
+        && are_digits_kept(alone, bytes[end + 1], bytes[end + 2])
+    {
         end += 3;
     }
     end
 }
 
-/// Returns `true` only if normalising leaves each octet of the text, and the text has no formatting
-/// character. Octets past ASCII stay only if no component may have characters past ASCII (`alone`).
-#[inline(always)]
-pub(crate) fn is_kept(alone: bool, bytes: &[u8]) -> bool
-    ensures { result ≡ true → IsKept alone bytes.now }
+/// Returns `true` only if no dot segment before `limit` begins with the dot at `at`, which is after
+/// a `/`.
+fn is_dot_kept(bytes: &[u8], at: usize, limit: usize) -> bool
+    requires { at < length bytes.now }
+    ensures { result ≡ true → is_dot_kept_at limit bytes.now at ≡ true }
 {
-    let mut i = 0;
-    while i < bytes.len() {
-        let end = literal_end(bytes, i);
-        if end == bytes.len() {
-            return true;
-        }
-        i = kept_octets_end(alone, bytes, end);
+    if limit <= at {
+        return true;
+    }
+    let next = at + 1;
+    next < limit && next < bytes.len() && !matches!(bytes[next], b'.' | b'/' | b'%')
+}
+
+/// Returns where a run ends of what normalising leaves: of octets, if one begins at `start`, or of
+/// the dot that is there after a `/`. Dot segments before `limit` are removed.
+#[inline(always)]
+fn kept_end(alone: bool, bytes: &[u8], start: usize, limit: usize) -> usize
+    requires { start < length bytes.now }
+    ensures from { start ≤ result }
+    ensures within { result ≤ length bytes.now }
+    ensures kept { (k : ℕ) → start ≤ k → k < result → stays_at alone limit bytes.now k ≡ true }
+{
+    if bytes[start] != b'.' {
+        return kept_octets_end(alone, bytes, start);
+    }
+    if is_dot_kept(bytes, start, limit) {
+        start + 1
+    } else {
+        start
+    }
+}
+
+/// Returns `true` only if normalising leaves each octet of the text from `start` on, and the text
+/// has no formatting character there, and before `limit` no dot segment. Octets past ASCII stay
+/// only if no component may have characters past ASCII (`alone`).
+#[inline(always)]
+pub(crate) fn is_kept(alone: bool, bytes: &[u8], start: usize, limit: usize) -> bool
+    requires later { 0 < start }
+    requires within { start ≤ length bytes.now }
+    ensures { result ≡ true → (k : ℕ) → start ≤ k → k < length bytes.now
+        → stays_at alone limit bytes.now k ≡ true }
+{
+    let mut i = start;
+    while let Some(end) = literal_end(bytes, i) {
+        i = kept_end(alone, bytes, end, limit);
         if i == end {
             return false;
         }

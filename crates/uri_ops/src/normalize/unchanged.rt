@@ -1,7 +1,7 @@
 //! A cheap test of values that are their own normal text (RFC 3986, section 6.2.2). It misses a few
 //! of them.
-ghost use Rattle.std.specs.Prelude.{◌≡◌, ◌≤◌, ℕ, List, Option, IfOk, IfSome, None, codes, false};
-ghost use Rattle.std.specs.Prelude.{is_some, length, option_map, string_bytes, take, true};
+ghost use Rattle.std.specs.Prelude.{◌≡◌, ◌≤◌, ◌<◌, ℕ, IfOk, IfSome, None, codes, false, length};
+ghost use Rattle.std.specs.Prelude.{option_map, slice_index, string_bytes, take, true};
 ghost use Rattle.std.specs.Char.{is_ascii_uppercase};
 ghost use Rattle.std.specs.List.{list_all};
 ghost use Rattle.std.specs.Str.{str_to_ascii_lowercase};
@@ -15,19 +15,17 @@ ghost use Rattle.uri_parts.specs.CoreTexts.{core_text};
 ghost use Rattle.uri_parts.specs.PackedPositions.{ArePackedPositionsOf};
 ghost use Rattle.uri_parts.specs.Schemes.{scheme_text};
 ghost use Rattle.uri_ops.specs.ComponentSets.{HasComponentSets};
-ghost use Rattle.uri_ops.specs.Models.Unchanged.{IsUnchangedHost, IsUnchangedPath};
-ghost use Rattle.uri_ops.specs.Models.Unchanged.{IsUnchangedPort, KindLacksPastAscii};
-ghost use Rattle.uri_ops.specs.Models.Unchanged.{is_settled_byte};
+ghost use Rattle.uri_ops.specs.Models.Unchanged.{IsUnchangedHost, IsUnchangedPort};
+ghost use Rattle.uri_ops.specs.Models.Unchanged.{IsUnchangedPrefix, KindLacksPastAscii};
+ghost use Rattle.uri_ops.specs.Models.Unchanged.{is_literal_byte, is_settled_byte};
 ghost use Rattle.uri_ops.specs.Meaning.{host_meaning};
 ghost use Rattle.uri_ops.specs.Normal.{default_port_of, host_text, normal_scheme};
 ghost use Rattle.uri_ops.specs.Normalizers.{HasNormalText, text_underflows};
 ghost use Rattle.uri_parts.specs.Ports.{PortFunction};
 
-use crate::normalize::kept_octets::is_kept;
+use crate::normalize::kept_octets::{is_kept, is_literal_byte};
 use crate::normalize::normal_authority::is_bracketed;
 use crate::normalize::normalized::Normalized;
-use crate::path::dot_segments::has_dot_segments;
-use crate::path::slashes::begins_with_slash;
 use std::alloc::{AllocError, Global};
 use uri_parts::component::{Authority, Scheme};
 use uri_parts::core_text::Core;
@@ -146,7 +144,9 @@ const SETTLED_FROM_64: u64 = 0xFFFF_FFFF_F000_0001;
 #[inline(always)]
 fn is_prefix_settled(bytes: &[u8], end: usize) -> bool
     requires { end ≤ length bytes.now }
-    ensures { result ≡ true → list_all is_settled_byte (take end bytes.now) ≡ true }
+    ensures settled { result ≡ true → list_all is_settled_byte (take end bytes.now) ≡ true }
+    ensures literal { result ≡ true → (k : ℕ) → k < end
+        → is_literal_byte (slice_index bytes.now k) ≡ true }
 {
     if bytes.len() < LANES {
         return false;
@@ -155,52 +155,33 @@ fn is_prefix_settled(bytes: &[u8], end: usize) -> bool
     end <= run_end(SETTLED_BELOW_64, SETTLED_FROM_64, window, 0)
 }
 
-/// Returns `true` only if the text has an authority, and its bytes up to the end of the host are
-/// settled, so that normalising keeps the scheme and the host.
+/// Returns whether a text has a first byte that begins neither an octet nor a formatting character.
+fn begins_with_literal_byte(bytes: &[u8]) -> bool
+    ensures some { result ≡ true → 0 < length bytes.now }
+    ensures literal { result ≡ true → is_literal_byte (slice_index bytes.now 0) ≡ true }
+{
+    !bytes.is_empty() && is_literal_byte(bytes[0])
+}
+
+/// Returns the length of a prefix of the text in which normalising leaves each octet and each
+/// character, if it also leaves the scheme and the host: up to the end of the host, if each byte
+/// there is settled, or else one byte. If it may change one of them, the result is 0.
 #[inline(always)]
-fn is_host_settled<K: Kind>(core: Core<K, &str>) -> bool
-    ensures scheme { result ≡ true → let p = components (core_text core.entry) in
-        normal_scheme p.scheme ≡ p.scheme }
-    ensures host { result ≡ true → let p = components (core_text core.entry) in
-        IfSome p.authority (λ a. IsUnchangedHost (authority_parts a).host) }
+fn unchanged_prefix_len<K: Kind>(core: Core<K, &str>) -> usize
+    ensures { 0 < result → IsUnchangedPrefix (core_text core.entry) result }
 {
     let host_end = core.packed_positions().host_end;
     let bytes = core.as_str().as_bytes();
-    if host_end == 0 || bytes.len() < host_end {
-        return false;
+    if 0 < host_end && host_end <= bytes.len() && is_prefix_settled(bytes, host_end) {
+        return host_end;
     }
-    is_prefix_settled(bytes, host_end)
-}
-
-/// Returns `true` only if normalising keeps the scheme and the host, if no formatting character is
-/// in the host.
-fn are_scheme_and_host_unchanged<K: Kind>(core: Core<K, &str>) -> bool
-    ensures scheme { result ≡ true → let p = components (core_text core.entry) in
-        normal_scheme p.scheme ≡ p.scheme }
-    ensures host { result ≡ true → let p = components (core_text core.entry) in
-        IfSome p.authority (λ a. IsUnchangedHost (authority_parts a).host) }
-{
-    if is_host_settled(core) {
-        return true;
+    if is_scheme_unchanged(core.scheme())
+        && is_host_unchanged(core.authority())
+        && begins_with_literal_byte(bytes)
+    {
+        return 1;
     }
-    is_scheme_unchanged(core.scheme()) && is_host_unchanged(core.authority())
-}
-
-/// Returns `true` only if normalising removes no dot segment of the path.
-fn is_path_unchanged(has_scheme: bool, path: &str) -> bool
-    ensures { result ≡ true → (scheme : Option (List ℕ)) → is_some scheme ≡ has_scheme
-        → IsUnchangedPath scheme path.now }
-{
-    if !has_scheme || !begins_with_slash(path.as_bytes()) {
-        return true;
-    }
-    !has_dot_segments(path)
-}
-
-/// Returns whether a path begins with a `.` after its `/` and has dot segments that are removed. It
-/// is tested before a long text is scanned, which such a path often makes useless.
-fn begins_with_dot_segments(has_scheme: bool, path: &str) -> bool {
-    matches!(path.as_bytes(), [b'/', b'.', ..]) && !is_path_unchanged(has_scheme, path)
+    0
 }
 
 /// Returns `true` only if the normal text of a value is its own, under any default ports that keep
@@ -215,15 +196,17 @@ pub(crate) fn is_unchanged_but_for_port<K: Kind>(core: Core<K, &str>) -> bool
         → HasNormalText K.kind ports (core_text core.entry) (core_text core.entry) }
     ensures underflow { result ≡ true → text_underflows (core_text core.entry) ≡ false }
 {
-    let path = core.path().as_str();
-    let has_scheme = core.has_scheme();
-    if !are_scheme_and_host_unchanged(core)
-        || begins_with_dot_segments(has_scheme, path)
-        || !is_kept(lacks_past_ascii::<K>(), core.as_str().as_bytes())
-    {
+    let start = unchanged_prefix_len(core);
+    let bytes = core.as_str().as_bytes();
+    if start == 0 || bytes.len() < start {
         return false;
     }
-    is_path_unchanged(has_scheme, path)
+    let limit = if core.has_scheme() {
+        core.packed_positions().path_end
+    } else {
+        0
+    };
+    is_kept(lacks_past_ascii::<K>(), bytes, start, limit)
 }
 
 /// Returns whether no port is after the host of the authority, if there is one.

@@ -1,10 +1,12 @@
 use Rattle.std.proofs.Common.{◌≡◌, ℕ, ◌<◌, ◌||◌, Bool, true, false, not, cond, eqb, bit_and}
 use Rattle.std.proofs.Common.{get_or, refl, sym, ap, ◌∙◌, ⊎_elim, arith}
 use Rattle.std.specs.Int.Bits.{and_zero_l}
-use Rattle.std.proofs.lemmas.Bool.{agree_below, agree_below_at, cases_Bool, eqb-true}
+use Rattle.std.proofs.lemmas.Bool.{agree_below, agree_below_at, cases_Bool, cond-false, cond-true}
+use Rattle.std.proofs.lemmas.Bool.{eqb-true}
 use Rattle.uri_ops.specs.declared.normalize.kept_octets.TheConstants.{FIRST_DIGITS, SECOND_DIGITS}
 use Rattle.uri_ops.specs.Models.Unchanged.{is_kept_octet}
 use Rattle.uri_ops.proofs.normalize.kept_octets.are_digits_kept.Goals as goal
+use Rattle.uri_ops.proofs.normalize.kept_octets.are_digits_kept.Goals.{else-alone, then-alone}
 
 -- octets that stay: the class of a first digit
 abbrev first : ℕ → ℕ
@@ -58,10 +60,13 @@ pub returns : goal.returns
 returns c = λ e.
     let high = c.args.high in
     let low = c.args.low in
-    let k = c.kept_classes.result in
+    let k : ℕ = c.if-alone.classes in
+    let classes : k ≡ cond c.args.alone 127 63 = elim c.if-alone.branch [
+      | then-alone w ↦ w.classes-is ∙ sym (cond-true c.args.alone 127 63 w.if-alone.true)
+      | else-alone w ↦ w.classes-is ∙ sym (cond-false c.args.alone 127 63 w.if-alone.false)
+    ] in
     digits-that-pass-stay c.args.alone high low (omega arith) (omega arith)
-    (ap (λ n. not (eqb (bit_and (bit_and (first high) (second low)) n) 0))
-    (sym c.kept_classes.ensures)
+    (ap (λ n. not (eqb (bit_and (bit_and (first high) (second low)) n) 0)) (sym classes)
     ∙ ap (λ n. not (eqb (bit_and (bit_and (first n) (second low)) k) 0)) (sym c.from.ensures)
     ∙ ap (λ n. not (eqb (bit_and (bit_and (first c.from.result) (second n)) k) 0))
     (sym c.from-2.ensures) ∙ e)

@@ -1,26 +1,30 @@
-use Rattle.std.proofs.Common.{arith}
-use Rattle.uri_ops.proofs.Normal.UnchangedBytes.{bytes-kept-by-index-are-kept}
-use Rattle.uri_ops.proofs.Normal.UnchangedBytes.{kept-prefix-grows-by-literal-run}
+use Rattle.std.proofs.Common.{arith, ⊎_elim, ◌<◌, ◌≤◌}
+use Rattle.std.proofs.lemmas.Bool.{cases_lt}
+use Rattle.uri_ops.proofs.Normal.UnchangedBytes.{literal-index-stays}
 use Rattle.uri_ops.proofs.normalize.kept_octets.is_kept.Goals as goal
 
-pub loop-i-preserved : goal.loop-i-preserved
-loop-i-preserved c =
-    let bs = c.args.bytes.now in
-    let more = c.kept_octets_end-i.ensures in
+pub loop-end-preserved : goal.loop-end-preserved
+loop-end-preserved c =
+    let i = c.loop-end.i in
+    let end = c.in-Some.end in
+    let more = c.kept_end-i.ensures in
+    let run = c.in-Some.ensures.some in
     record {
+      from = omega (arith, c.loop-end.invariant.from, run.from, more.from);
       within = more.within;
-      kept = more.kept (kept-prefix-grows-by-literal-run c.args.alone bs c.loop-i.i
-          c.literal_end-end.result c.literal_end-end.ensures c.loop-i.invariant.kept);
+      kept = λ k from to. ⊎_elim
+          (λ (h : k < i). c.loop-end.invariant.kept k from h)
+          (λ (h : i ≤ k). ⊎_elim
+          (λ (before : k < end). literal-index-stays c.args.alone c.args.limit c.args.bytes.now k
+          (run.pass k h before))
+          (λ (after : end ≤ k). more.kept k after to)
+          (cases_lt k end))
+          (cases_lt k i);
     }
 
-pub returns-then-end-bytes : goal.returns-then-end-bytes
-returns-then-end-bytes c = λ e.
-    let bs = c.args.bytes.now in
-    bytes-kept-by-index-are-kept c.args.alone bs (λ k h.
-    kept-prefix-grows-by-literal-run c.args.alone bs c.loop-i.i c.literal_end-end.result
-    c.literal_end-end.ensures c.loop-i.invariant.kept k (omega (arith, h)))
-
 pub returns : goal.returns
-returns c = λ e.
-    bytes-kept-by-index-are-kept c.args.alone c.args.bytes.now
-    (λ k h. c.loop-i.invariant.kept k (omega (arith, h, c.loop-i-test.false)))
+returns c = λ e k from to. ⊎_elim
+    (λ (h : k < c.loop-end.i). c.loop-end.invariant.kept k from h)
+    (λ (h : c.loop-end.i ≤ k). literal-index-stays c.args.alone c.args.limit c.args.bytes.now k
+    (c.literal_end.ensures.none c.in_default.is k h to))
+    (cases_lt k c.loop-end.i)

@@ -1,32 +1,18 @@
-use Rattle.std.proofs.Common.{◌≡◌, ◌+◌, ◌-◌, ◌≤◌, ◌<◌, true, false, not, List, ℕ, length, get_or}
-use Rattle.std.proofs.Common.{arith, ◌^◌}
-use Rattle.std.proofs.lemmas.Nat.Bits.{bit_at-lt}
-use Rattle.uri_pct.proofs.General.{bit_is_failing_test}
-use Rattle.uri_pct.proofs.LaneScans.LaneRuns.{MarksFailingLanes, last_load_marks_failing_lanes}
-use Rattle.uri_pct.proofs.LaneScans.LaneRuns.{run_goes_on_past_unmarked_lanes}
-use Rattle.uri_pct.proofs.LaneScans.LaneRuns.{run_ends_at_first_marked_lane}
+use Rattle.std.proofs.Common.{◌≡◌, ◌+◌, ◌-◌, ◌≤◌, ◌<◌, ◌^◌, not, true, List, ℕ, length, arith, w64}
+use Rattle.std.specs.Int.{trailing_zeros}
 use Rattle.uri_pct.proofs.LaneScans.LaneBits.{is_set_bit}
-use Rattle.uri_ops.specs.Models.Unchanged.{is_literal_byte}
+use Rattle.uri_ops.specs.Models.Unchanged.{IsLiteralRun, is_literal_at}
+use Rattle.uri_ops.proofs.Normal.LiteralBlocks.{MarksIndices, first-bit-is-of-block}
+use Rattle.uri_ops.proofs.Normal.LiteralBlocks.{indices-before-first-bit-pass}
+use Rattle.uri_ops.proofs.Normal.LiteralBlocks.{indices-pass-where-mask-is-zero}
+use Rattle.uri_ops.proofs.Normal.LiteralBlocks.{shifted-mask-marks-later-indices}
 use Rattle.uri_ops.proofs.normalize.kept_octets.literal_end.Goals as goal
 
 -- what a block's mask says
 block : (bs : List ℕ) (i mask : ℕ) → mask < 2 ^ 16
-    → ((k : ℕ) → k < 16 → is_set_bit mask k ≡ not (is_literal_byte (get_or bs (i + k) 0)))
-    → MarksFailingLanes is_literal_byte bs i 16 mask
-block bs i mask below lane = record {
-  lane = λ k h. bit_is_failing_test _ _ (bit_at-lt mask k) (lane k h);
-  below = below;
-}
-
-pub returns-then-mask-ne0 : goal.returns-then-mask-ne0
-returns-then-mask-ne0 c =
-    let bs = c.args.bytes.now in
-    let i = c.loop-i.i in
-    let room : i + 16 ≤ length bs = omega (arith, c.loop-i.invariant.within, c.loop-i-test.true) in
-    let lanes = c.lanes_of_special_bytes-mask.ensures in
-    run_ends_at_first_marked_lane _ bs c.args.start i 16 _
-    (block bs i _ lanes.below lanes.lane) c.loop-i.invariant.pass
-    (omega (arith, c.if-mask-ne0.true)) (omega arith) c.loop-i.invariant.from room
+    → ((k : ℕ) → k < 16 → is_set_bit mask k ≡ not (is_literal_at bs (i + k)))
+    → MarksIndices (is_literal_at bs) i 16 mask
+block bs i mask below lane = record { lane = lane; below = below }
 
 pub loop-i-preserved : goal.loop-i-preserved
 loop-i-preserved c =
@@ -36,38 +22,59 @@ loop-i-preserved c =
     record {
       from = omega (arith, c.loop-i.invariant.from);
       within = omega (arith, c.loop-i.invariant.within, c.loop-i-test.true);
-      pass = run_goes_on_past_unmarked_lanes _ bs c.args.start i 16 _
+      pass = indices-pass-where-mask-is-zero _ c.args.start i 16 _
           (block bs i _ lanes.below lanes.lane) c.loop-i.invariant.pass
           (omega (arith, c.if-mask-ne0.false));
     }
 
-pub returns-then-mask-eq0 : goal.returns-then-mask-eq0
-returns-then-mask-eq0 c =
+pub returns-then-mask-eq0-clause-none : goal.returns-then-mask-eq0-clause-none
+returns-then-mask-eq0-clause-none c = λ _ k from to.
     let bs = c.args.bytes.now in
     let i = c.loop-i.i in
     let lanes = c.lanes_of_special_bytes-tail.ensures in
-    let m = last_load_marks_failing_lanes _ bs i c.lanes_of_special_bytes-tail.result
-    (omega arith) c.loop-i.invariant.within
-    (omega (arith, c.loop-i.invariant.within, c.loop-i-test.false))
-    (block bs (length bs - 16) _ lanes.below lanes.lane) in
-    record {
-      from = omega (arith, c.requires);
-      within = omega arith;
-      pass = λ k from to. run_goes_on_past_unmarked_lanes _ bs c.args.start i
-          (length bs - i) _ m c.loop-i.invariant.pass
-          c.if-mask-eq0.true k from (omega (arith, c.loop-i.invariant.within));
-      stop = λ h. absurd (omega arith);
-    }
+    let within = c.loop-i.invariant.within in
+    indices-pass-where-mask-is-zero _ c.args.start i _ _
+    (shifted-mask-marks-later-indices _ (length bs - 16) i _
+    (omega (arith, within, c.loop-i-test.false)) (omega (arith, within))
+    (block bs (length bs - 16) _ lanes.below lanes.lane)) c.loop-i.invariant.pass
+    c.if-mask-eq0.true k from (omega (arith, to, within))
 
-pub returns : goal.returns
-returns c =
+module _ (bs : List ℕ) (start i w mask : ℕ) (m : MarksIndices (is_literal_at bs) i w mask)
+    (pass : (k : ℕ) → start ≤ k → k < i → is_literal_at bs k ≡ true) (from : start ≤ i)
+    (room : i + w ≤ length bs) (some : 0 < mask) (small : w ≤ 16) where
+  -- the run ends at the first index of a block that its mask marks
+  run-ends-at-first-bit : IsLiteralRun bs start (i + trailing_zeros w64 mask)
+  run-ends-at-first-bit =
+      let first = first-bit-is-of-block _ start i w mask m pass some small in
+      record {
+        from = omega (arith, from);
+        within = omega (arith, first, room);
+        pass = indices-before-first-bit-pass _ start i w mask m pass some small;
+      }
+
+pub returns-then-mask-ne0-clause-some : goal.returns-then-mask-ne0-clause-some
+returns-then-mask-ne0-clause-some c =
+    let bs = c.args.bytes.now in
+    let i = c.loop-i.i in
+    let lanes = c.lanes_of_special_bytes-mask.ensures in
+    let some : 0 < c.lanes_of_special_bytes-mask.result = omega (arith, c.if-mask-ne0.true) in
+    let room : i + 16 ≤ length bs = omega (arith, c.loop-i.invariant.within, c.loop-i-test.true) in
+    let small : 16 ≤ 16 = omega arith in
+    run-ends-at-first-bit bs c.args.start i 16 _ (block bs i _ lanes.below lanes.lane)
+    c.loop-i.invariant.pass c.loop-i.invariant.from room some small
+
+pub returns-clause-some : goal.returns-clause-some
+returns-clause-some c =
     let bs = c.args.bytes.now in
     let i = c.loop-i.i in
     let lanes = c.lanes_of_special_bytes-tail.ensures in
-    let m = last_load_marks_failing_lanes _ bs i c.lanes_of_special_bytes-tail.result
-    (omega arith) c.loop-i.invariant.within
-    (omega (arith, c.loop-i.invariant.within, c.loop-i-test.false))
-    (block bs (length bs - 16) _ lanes.below lanes.lane) in
-    run_ends_at_first_marked_lane _ bs c.args.start i (length bs - i) _ m c.loop-i.invariant.pass
-    (omega (arith, c.if-mask-eq0.false)) (omega (arith, c.loop-i-test.false))
-    c.loop-i.invariant.from (omega (arith, c.loop-i.invariant.within))
+    let within = c.loop-i.invariant.within in
+    let later : length bs - 16 ≤ i = omega (arith, within, c.loop-i-test.false) in
+    let near : i ≤ length bs - 16 + 16 = omega (arith, within) in
+    let w : ℕ = length bs - 16 + 16 - i in
+    let room : i + w ≤ length bs = omega (arith, within) in
+    let small : w ≤ 16 = omega (arith, within, later) in
+    run-ends-at-first-bit bs c.args.start i w _
+    (shifted-mask-marks-later-indices _ (length bs - 16) i _ later near
+    (block bs (length bs - 16) _ lanes.below lanes.lane))
+    c.loop-i.invariant.pass c.loop-i.invariant.from room (omega (arith, c.if-mask-eq0.false)) small

@@ -1,41 +1,62 @@
-use Rattle.std.proofs.Common.{◌≡◌, true, sym, subst, ◌∙◌}
+use Rattle.std.proofs.Common.{◌≡◌, ◌<◌, ◌≤◌, List, ℕ, true, length, arith, ap, sym, subst, ◌∙◌}
+use Rattle.std.specs.Prelude.{is_some}
 use Rattle.std.specs.Str.{IsUtf8}
+use Rattle.std.proofs.lemmas.Bool.{both_ways}
 use Rattle.uri_parts.specs.Components.{Components, components}
 use Rattle.uri_parts.specs.CoreTexts.{core_text}
-use Rattle.uri_ops.specs.Models.Unchanged.{AreUnchanged, IsKept}
-use Rattle.uri_ops.specs.Models.Unchanged.{IsUnchangedPath}
+use Rattle.uri_parts.specs.Positions.{positions_of}
+use Rattle.uri_ops.specs.Models.Unchanged.{AreUnchanged, IsKept, IsUnchangedPrefix, stays_at}
 use Rattle.uri_ops.specs.Normalizers.{text_underflows}
+use Rattle.uri_ops.proofs.Normal.UnchangedPaths.{path-of-text-that-stays-is-unchanged}
+use Rattle.uri_ops.proofs.Normal.UnchangedPaths.{text-that-stays-is-kept}
 use Rattle.uri_ops.proofs.Normal.UnchangedTexts.{unchanged-text-is-its-normal-text}
 use Rattle.uri_ops.proofs.normalize.unchanged.is_unchanged_but_for_port.Goals as goal
+use Rattle.uri_ops.proofs.normalize.unchanged.is_unchanged_but_for_port.Goals.{then-has_scheme}
+use Rattle.uri_ops.proofs.normalize.unchanged.is_unchanged_but_for_port.Goals.{else-has_scheme}
 
-kept : (g : _) (c : goal.After-is_path_unchanged g) → c.is_path_unchanged.result ≡ true
-    → AreUnchanged (components (core_text c.args.core))
+kept : (g : _) (c : goal.After-is_kept g) → c.is_kept.result ≡ true
+    → IsKept c.lacks_past_ascii.result (core_text c.args.core)
+    × AreUnchanged (components (core_text c.args.core))
 kept g c e =
-    let p : Components = components (core_text c.args.core) in
-    record {
-      scheme = c.are_scheme_and_host_unchanged.ensures.scheme
-          c.if-not-are_scheme_and_host_unchanged.false;
-      host = c.are_scheme_and_host_unchanged.ensures.host
-          c.if-not-are_scheme_and_host_unchanged.false;
-      path = subst (IsUnchangedPath p.scheme) (c.as_str-path.ensures.text ∙ c.path.ensures)
-          (c.is_path_unchanged.ensures e p.scheme (sym c.has_scheme-has_scheme.ensures));
-    }
+    let text : List ℕ = core_text c.args.core in
+    let p : Components = components text in
+    let alone = c.lacks_past_ascii.result in
+    let start : ℕ = c.unchanged_prefix_len-start.result in
+    let limit : ℕ = c.if-has_scheme.limit in
+    let later : 0 < start = omega (arith, c.if-start-eq0.false) in
+    let prefix : IsUnchangedPrefix text start = c.unchanged_prefix_len-start.ensures later in
+    let stays : (k : ℕ) → start ≤ k → k < length text → stays_at alone limit text k ≡ true =
+    subst (λ t. (k : ℕ) → start ≤ k → k < length t → stays_at alone limit t k ≡ true)
+    (c.as_bytes-bytes.ensures.value ∙ c.as_str.ensures.text) (c.is_kept.ensures e) in
+    let ends : is_some p.scheme ≡ true → limit ≡ (positions_of p).path_end =
+    λ some. elim c.if-has_scheme.branch [
+      | then-has_scheme w ↦ w.limit-is ∙ ap (λ q. q.path_end) w.packed_positions.ensures
+      | else-has_scheme w ↦ absurd (both_ways _ (sym c.has_scheme.ensures ∙ w.if-has_scheme.false)
+          some)
+    ] in (
+      text-that-stays-is-kept alone text start limit later prefix.literal stays,
+      record {
+        scheme = prefix.scheme;
+        host = prefix.host;
+        path = path-of-text-that-stays-is-unchanged alone text start limit later prefix.literal
+            stays prefix.path ends;
+      },
+    )
 
 pub returns-clause-text : goal.returns-clause-text
 returns-clause-text g c = λ e ports port.
     let text = core_text c.args.core in
     let alone = c.lacks_past_ascii.result in
-    let bytes = subst (IsKept alone) (c.as_bytes.ensures.value ∙ c.as_str.ensures.text)
-    (c.is_kept.ensures c.if-not-is_kept.false) in
+    let both = kept g c e in
     record {
       text = unchanged-text-is-its-normal-text g.K.Kind.kind c.requires alone
           c.lacks_past_ascii.ensures ports text
           (record {
             utf8 = subst IsUtf8 c.as_str.ensures.text c.as_str.utf8;
             grammar = c.args.core.of_kind;
-          }) bytes (kept g c e) port;
+          }) both.0 both.1 port;
     }
 
 pub returns-clause-underflow : goal.returns-clause-underflow
 unfolding text_underflows
-returns-clause-underflow g c = λ e. (kept g c e).path.underflow
+returns-clause-underflow g c = λ e. (kept g c e).1.path.underflow

@@ -1,0 +1,93 @@
+-- Texts in which normalising leaves each byte: it leaves their paths.
+use Rattle.std.proofs.Common.{◌≡◌, ℕ, ◌+◌, ◌<◌, ◌≤◌, Bool, true, false, List, [], ◌++◌, length, ap}
+use Rattle.std.proofs.Common.{sym, ◌∙◌, ◌&&◌, get_or, arith, append_assoc, subst, ⊎_elim}
+use Rattle.std.specs.Prelude.{codes, is_some}
+use Rattle.std.proofs.lemmas.Bool.{and_parts, and_right, cases_Bool, cases_lt, cond-false}
+use Rattle.std.proofs.lemmas.Bool.{cond-true}
+use Rattle.std.proofs.lemmas.List.{length-append}
+use Rattle.uri_parts.specs.Components.{Components, components, marked, starts}
+use Rattle.uri_parts.specs.Positions.{positions_of}
+use Rattle.uri_parts.proofs.Splitting.Recompose.{equal-to-true-is-IsTrue, recompose-components}
+use Rattle.uri_ops.specs.Dots.{IsAbsolute, lacks_dot_segments, underflows}
+use Rattle.uri_ops.specs.Models.Unchanged.{IsKept, IsUnchangedPath, is_dot_kept_at, is_kept_at}
+use Rattle.uri_ops.specs.Models.Unchanged.{is_literal_byte, stays_at}
+use Rattle.uri_ops.proofs.Normal.UnchangedBytes.{bytes-kept-by-index-are-kept, kept-text-splits}
+use Rattle.uri_ops.proofs.Normal.UnchangedBytes.{literal-byte-is-kept}
+use Rattle.uri_ops.proofs.Normal.WrittenPlaces.{length-with-delimiter-after}
+use Rattle.uri_ops.proofs.Normal.WrittenPlaces.{length-with-delimiter-before}
+use Rattle.uri_ops.proofs.Paths.DotLaws.{remove-dots-of-dotless, dotless-path-does-not-underflow}
+use Rattle.uri_ops.proofs.Paths.KeptDots.{path-is-dotless-in-text}
+
+-- unchanged paths: a text in which each byte stays from an index on, after literal bytes
+module _ (alone : Bool) (text : List ℕ) (start limit : ℕ) (later : 0 < start)
+    (literal : (k : ℕ) → k < start → is_literal_byte (get_or text k 0) ≡ true)
+    (stays : (k : ℕ) → start ≤ k → k < length text → stays_at alone limit text k ≡ true) where
+  -- it is kept
+  pub text-that-stays-is-kept : IsKept alone text
+  text-that-stays-is-kept = bytes-kept-by-index-are-kept alone text (λ k h. ⊎_elim
+      (λ (before : k < start). literal-byte-is-kept alone text k (literal k before))
+      (λ (after : start ≤ k). (and_parts (is_kept_at alone text k) _ (stays k after h)).0)
+      (cases_lt k start))
+
+  abbrev p : Components
+  p = components text
+
+  abbrev before : List ℕ
+  before = marked [] p.scheme (codes ":") ++ marked (codes "//") p.authority []
+
+  abbrev tail : List ℕ
+  tail = marked (codes "?") p.query [] ++ marked (codes "#") p.fragment []
+
+  text-is-around-path : text ≡ before ++ (p.path ++ tail)
+  text-is-around-path = sym (recompose-components text)
+      ∙ sym (append_assoc (marked [] p.scheme (codes ":")) (marked (codes "//") p.authority [])
+      (p.path ++ tail))
+
+  path-begins-after-marked : length before ≡ (positions_of p).path_start
+  path-begins-after-marked =
+      let scheme = length-with-delimiter-after p.scheme 58 in
+      let authority = length-with-delimiter-before (codes "//") p.authority in
+      let both = length-append (marked [] p.scheme (codes ":"))
+      (marked (codes "//") p.authority []) in
+      omega (arith, scheme, authority, both)
+
+  path-is-kept : IsKept alone p.path
+  path-is-kept =
+      let rest = (kept-text-splits alone before (p.path ++ tail)
+      (subst (IsKept alone) text-is-around-path text-that-stays-is-kept)).1 in
+      (kept-text-splits alone p.path tail rest).0
+
+  module _ (early : is_some p.scheme ≡ true → start ≤ (positions_of p).path_start)
+      (ends : is_some p.scheme ≡ true → limit ≡ (positions_of p).path_end) where
+    path-is-dotless : is_some p.scheme ≡ true → IsAbsolute p.path
+        → lacks_dot_segments p.path ≡ true
+    path-is-dotless some absolute =
+        let first = path-begins-after-marked in
+        let from = early some in
+        let end : limit ≡ length before + length p.path = omega (arith, first, ends some) in
+        let long : length text ≡ length before + (length p.path + length tail) =
+        ap length text-is-around-path ∙ length-append before (p.path ++ tail)
+        ∙ ap (λ n. length before + n) (length-append p.path tail) in
+        path-is-dotless-in-text before p.path tail start later (omega (arith, first, from))
+        (λ k h to. ap (λ t. is_dot_kept_at (length before + length p.path) t k)
+        (sym text-is-around-path)
+        ∙ ap (λ n. is_dot_kept_at n text k) (sym end)
+        ∙ (and_parts (is_kept_at alone text k) _ (stays k h (omega (arith, long, to)))).1)
+        alone absolute path-is-kept
+
+    -- and normalising leaves its path, if the limit is the end of that under a scheme
+    pub path-of-text-that-stays-is-unchanged : IsUnchangedPath p.scheme p.path
+    path-of-text-that-stays-is-unchanged = ⊎_elim
+        (λ (e : (is_some p.scheme && starts 47 p.path) ≡ true).
+        let both = and_parts (is_some p.scheme) (starts 47 p.path) e in
+        let absolute : IsAbsolute p.path = equal-to-true-is-IsTrue _ both.1 in
+        let lacks = path-is-dotless both.0 absolute in
+        record {
+          dotless = cond-true _ _ _ e ∙ remove-dots-of-dotless p.path absolute lacks;
+          underflow = and_right _ _ (dotless-path-does-not-underflow p.path absolute lacks);
+        })
+        (λ (e : (is_some p.scheme && starts 47 p.path) ≡ false). record {
+          dotless = cond-false _ _ _ e;
+          underflow = ap (λ b. b && underflows p.path) e;
+        })
+        (cases_Bool (is_some p.scheme && starts 47 p.path))
