@@ -17,7 +17,7 @@ use Rattle.uri_parts.proofs.Splitting.Places.{recompose-before_hash}
 use Rattle.uri_parts.proofs.Splitting.Recompose.{recompose-components}
 use Rattle.uri_ops.specs.Models.Places.{before_path}
 use Rattle.uri_ops.proofs.Normal.WrittenPlaces.{length-before_path-is-path_start}
-use Rattle.uri_ops.proofs.Targeting.JoinedMeanings.{components_of_parts}
+use Rattle.uri_parts.proofs.Splitting.Recompose.{components_of_parts}
 use Rattle.uri_ops.proofs.Targeting.TextViews.{path_start-is-boundary}
 use Rattle.uri_rules.specs.Edits.{edited, edited_by, has_default_host, has_root_path}
 

@@ -18,7 +18,7 @@ use Rattle.uri_ops.specs.Target.{TargetError, is_opaque_rejection, is_opaque, is
 use Rattle.uri_ops.specs.Target.{dotted_target, target_of, query_or}
 use Rattle.uri_ops.proofs.Meanings.AllowedParts.{is_set_text}
 use Rattle.uri_ops.proofs.Normal.NormalTexts.{text-has-parts-of-kind}
-use Rattle.uri_ops.proofs.Targeting.JoinedMeanings.{components_of_parts}
+use Rattle.uri_parts.proofs.Splitting.Recompose.{components_of_parts}
 use Rattle.uri_ops.proofs.Targeting.JoinedMeanings.{target-path-has-meaning-of-joined}
 use Rattle.uri_ops.proofs.Targeting.JoinedMeanings.{reference-kind-has-component-sets}
 use Rattle.uri_ops.proofs.Targeting.RefusalOrder.{result_or_target_error, map-of-result_or_error}

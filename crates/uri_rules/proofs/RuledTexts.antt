@@ -30,10 +30,11 @@ use Rattle.uri_ops.specs.Dots.{is_empty}
 use Rattle.uri_ops.specs.Meaning.{authority_meaning, dotless_path, components_meaning, meaning_of}
 use Rattle.uri_ops.specs.Normal.{normal_text}
 use Rattle.uri_ops.specs.Target.{dotless_if_absolute}
-use Rattle.uri_ops.proofs.Meanings.AllowedParts.{is_set_text, print_decoded, set-text-from-utf8}
+use Rattle.uri_pct.proofs.UnreservedDecoding.Printing.{print_decoded}
+use Rattle.uri_ops.proofs.Meanings.AllowedParts.{is_set_text, set-text-from-utf8}
 use Rattle.uri_ops.proofs.Meanings.AllowedParts.{validity-splits-at-slash}
 use Rattle.uri_ops.proofs.Meanings.AsciiCharacters.{ascii-bytes-are-utf8}
-use Rattle.uri_ops.proofs.Targeting.JoinedMeanings.{components_of_parts}
+use Rattle.uri_parts.proofs.Splitting.Recompose.{components_of_parts}
 use Rattle.uri_ops.proofs.Meanings.TextParts.{ArePartsOfKind, components-of-kind-meet-grammar}
 use Rattle.uri_ops.proofs.Normal.NormalTexts.{meaning_of-normal_text, normal-text-is-text-of-kind}
 use Rattle.uri_ops.proofs.Normal.NormalTexts.{recomposed-components-are-utf8}

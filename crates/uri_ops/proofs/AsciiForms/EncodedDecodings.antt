@@ -1,24 +1,20 @@
 -- If a text is allowed, so is its form without characters past ASCII, and both decode to the same.
 use Rattle.std.proofs.Common.{◌≡◌, ℕ, true, List, [], ◌∷◌, ◌++◌, map, refl, sym, ap, ◌∙◌, ⊎_elim}
-use Rattle.std.proofs.Common.{append_assoc, arith}
-use Rattle.std.specs.Char.{IsScalar, encode_utf8}
+use Rattle.std.specs.Char.{encode_utf8}
 use Rattle.std.specs.List.{list_all, flat_map}
 use Rattle.std.proofs.lemmas.List.{append-nil}
-use Rattle.std.proofs.lemmas.List.Concat.{flat_map-append}
 use Rattle.std.proofs.lemmas.List.Folds.{list_all-append}
 use Rattle.std.proofs.lemmas.Bool.{cases_lt, cond-true, cond-false, and_parts, and_from, or_right}
 use Rattle.std.proofs.lemmas.Bool.{lt-ltb, le-ltb}
-use Rattle.std.proofs.lemmas.Bool.Decides.{nat_tests}
 use Rattle.uri_pct.specs.Sets.{TableSet, allows, allows_past_ascii}
 use Rattle.uri_pct.specs.Tokens.{Token, Char, Octet, tokens, allows_token, is_valid_for}
-use Rattle.uri_pct.specs.Pieces.{WellFormed, utf8_pieces}
-use Rattle.uri_pct.specs.DecodeUnreserved.{is_decodable, decode_piece, decode_run, decode_after_run}
+use Rattle.uri_pct.specs.DecodeUnreserved.{is_decodable, decode_run, decode_after_run}
 use Rattle.uri_pct.specs.DecodeUnreserved.{decode_tokens, encode_formatting, decode_unreserved}
 use Rattle.uri_pct.proofs.ValidTexts.Validity.{ascii_char_is_allowed_iff_in_set}
 use Rattle.uri_pct.proofs.ValidTexts.Validity.{char_past_ascii_is_allowed_by_flags}
 use Rattle.uri_pct.proofs.ValidTexts.Allowed.{allowed_past_ascii_is_scalar}
-use Rattle.uri_pct.proofs.Unicode.CharacterPieces.{char_separates_utf8_pieces}
-use Rattle.uri_pct.proofs.Unicode.CharacterPieces.{char_of_utf8_is_the_char}
+use Rattle.uri_pct.proofs.UnreservedDecoding.DecodedTokens.{decodable_char_octets_split_decoding}
+use Rattle.uri_pct.proofs.UnreservedDecoding.DecodedTokens.{octets_before_tokens_lengthen_run}
 use Rattle.uri_ops.specs.Encoded.{encode_past_ascii, ascii_set}
 use Rattle.uri_ops.proofs.Meanings.AllowedParts.{is_set_text, set-text-from-utf8, set-text-is-utf8}
 use Rattle.uri_ops.proofs.Meanings.AllowedParts.{set-text-is-valid}
@@ -60,47 +56,6 @@ module _ (set : TableSet) (octets : set.pct_encoded ≡ true) where
       ∙ ascii_set-allows-encoded-tokens (tokens text) (set-text-is-valid set text e))
 
 module _ (set : TableSet) where
-  decode_after_run-takes-octets-into-run : (run bytes : List ℕ) (ts : List Token)
-      → decode_after_run set run (map Octet bytes ++ ts) ≡ decode_after_run set (run ++ bytes) ts
-  unfolding decode_after_run
-  decode_after_run-takes-octets-into-run run [] ts = ap (λ r. decode_after_run set r ts)
-      (sym (append-nil run))
-  decode_after_run-takes-octets-into-run run (b ∷ bytes) ts = decode_after_run-takes-octets-into-run
-      (run ++ b ∷ []) bytes ts
-      ∙ ap (λ r. decode_after_run set r ts) (append_assoc run (b ∷ []) bytes)
-
-  decode_piece-of-decodable-character : (c : ℕ) → IsScalar c → is_decodable set c ≡ true
-      → decode_piece set (WellFormed (encode_utf8 c)) ≡ Char c ∷ []
-  decode_piece-of-decodable-character c s e = grind (arith, nat_tests, char_of_utf8_is_the_char)
-
-  decode_run-splits-at-character : (run more : List ℕ) (c : ℕ) → IsScalar c
-      → is_decodable set c ≡ true
-      → decode_run set (run ++ (encode_utf8 c ++ more))
-      ≡ decode_run set run ++ Char c ∷ decode_run set more
-  unfolding decode_run
-  decode_run-splits-at-character run more c s e =
-      ap (flat_map (decode_piece set)) (char_separates_utf8_pieces run c more s)
-      ∙ flat_map-append (decode_piece set) (utf8_pieces run)
-      (WellFormed (encode_utf8 c) ∷ utf8_pieces more)
-      ∙ ap (λ t. flat_map (decode_piece set) (utf8_pieces run)
-      ++ (t ++ flat_map (decode_piece set) (utf8_pieces more)))
-      (decode_piece-of-decodable-character c s e)
-
-  -- the octets of a character separate the decoding as the character does
-  decode_after_run-splits-at-character : (run more : List ℕ) (c : ℕ) (ts : List Token) → IsScalar c
-      → is_decodable set c ≡ true
-      → decode_after_run set (run ++ (encode_utf8 c ++ more)) ts
-      ≡ decode_run set run ++ Char c ∷ decode_after_run set more ts
-  unfolding decode_after_run
-  decode_after_run-splits-at-character run more c [] s e = decode_run-splits-at-character
-      run more c s e
-  decode_after_run-splits-at-character run more c (Octet value ∷ ts) s e =
-      ap (λ r. decode_after_run set r ts) (append_assoc run (encode_utf8 c ++ more) (value ∷ [])
-      ∙ ap (λ t. run ++ t) (append_assoc (encode_utf8 c) more (value ∷ [])))
-      ∙ decode_after_run-splits-at-character run (more ++ value ∷ []) c ts s e
-  decode_after_run-splits-at-character run more c (Char d ∷ ts) s e =
-      grind (arith, nat_tests, decode_run-splits-at-character, append_assoc)
-
   allowed-past-ascii-is-decodable : (c : ℕ) → allows_past_ascii set c ≡ true
       → is_decodable set c ≡ true
   unfolding is_decodable
@@ -125,10 +80,10 @@ module _ (set : TableSet) where
       let past = sym (char_past_ascii_is_allowed_by_flags set c h) ∙ p.0 in
       ap (λ t. decode_after_run set run (t ++ flat_map encoded_token ts))
       (cond-false _ _ _ (le-ltb c 128 h))
-      ∙ decode_after_run-takes-octets-into-run run (encode_utf8 c) (flat_map encoded_token ts)
+      ∙ octets_before_tokens_lengthen_run set run (encode_utf8 c) (flat_map encoded_token ts)
       ∙ ap (λ r. decode_after_run set (run ++ r) (flat_map encoded_token ts))
       (sym (append-nil (encode_utf8 c)))
-      ∙ decode_after_run-splits-at-character run [] c (flat_map encoded_token ts)
+      ∙ decodable_char_octets_split_decoding set run c [] (flat_map encoded_token ts)
       (allowed_past_ascii_is_scalar set c past).1
       (allowed-past-ascii-is-decodable c past)
       ∙ ap (λ t. decode_run set run ++ Char c ∷ t) rest)

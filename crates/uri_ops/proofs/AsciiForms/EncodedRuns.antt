@@ -76,16 +76,12 @@ pub byte-past-ascii-adds-three : (bytes : List ℕ) (i : ℕ) → i < length byt
 byte-past-ascii-adds-three bytes i h high = ap length (encoding-grows-by-octet bytes i h high)
     ∙ length-append (encode_past_ascii (take i bytes)) (octet_text (get_or bytes i 0))
 
--- IRIs as URIs: of no bytes nothing is appended
-pub encoding-of-empty-text-is-empty : encode_past_ascii [] ≡ []
-encoding-of-empty-text-is-empty = encoding-of-nil-is-nil
-
 -- IRIs as URIs: the bytes to encode from index i on, as they are sliced
 abbrev slice_from : List ℕ → ℕ → List ℕ
 slice_from bytes i = take (length bytes - i) (drop i bytes)
 
 -- general fact on slices, for IRIs as URIs: what is from i on is what is left after i bytes
-slice_from-is-drop : (bytes : List ℕ) (i : ℕ) → slice_from bytes i ≡ drop i bytes
+pub slice_from-is-drop : (bytes : List ℕ) (i : ℕ) → slice_from bytes i ≡ drop i bytes
 slice_from-is-drop bytes i = grind (arith, nat_tests, length-drop, take_all)
 
 -- IRIs as URIs: an ASCII run that is appended after an encoded
@@ -117,7 +113,7 @@ pub end-of-run-is-within-bytes : (bytes : List ℕ) (i n : ℕ) → i ≤ length
 end-of-run-is-within-bytes bytes i n h k = grind (arith, nat_tests, slice_from-is-drop, length-drop)
 
 pub ruleset encoded_runs = (
-  encoding-of-empty-text-is-empty,
+  encoding-of-nil-is-nil,
   ascii-prefix-grows-by-byte,
   encoding-grows-by-ascii-run,
   encoding-grows-by-octet,

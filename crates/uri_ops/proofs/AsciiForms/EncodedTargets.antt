@@ -25,7 +25,7 @@ use Rattle.uri_ops.proofs.Paths.SlashedSegments.{parent-segments-pass-test}
 use Rattle.uri_ops.proofs.Paths.DotLaws.{property-of-absolute-path-by-segments, rooted}
 use Rattle.uri_ops.proofs.Paths.DecodedPaths.{utf8-joined-at-slash-is-utf8}
 use Rattle.uri_ops.proofs.Meanings.TextParts.{AreUtf8, components-of-utf8-are-utf8}
-use Rattle.uri_ops.proofs.Targeting.JoinedMeanings.{components_of_parts}
+use Rattle.uri_parts.proofs.Splitting.Recompose.{components_of_parts}
 use Rattle.uri_ops.proofs.Targeting.Swaps.{merging-base-is-not-opaque}
 use Rattle.uri_ops.proofs.Targeting.Swaps.{base-that-is-not-opaque-has-abempty-path}
 use Rattle.uri_ops.proofs.AsciiForms.EncodedPaths.{encoding-of-append-is-append}

@@ -1,5 +1,5 @@
 -- What each step of a builder makes of its draft: the text of the parts so changed.
-use Rattle.std.proofs.Common.{◌≡◌, ℕ, Bool, true, false, ◌||◌, List, ◌++◌, length, sym, ap, subst}
+use Rattle.std.proofs.Common.{◌≡◌, ℕ, Bool, true, false, List, ◌++◌, length, sym, ap}
 use Rattle.std.proofs.Common.{◌∙◌, append_assoc, refl, string_bytes, arith}
 use Rattle.std.specs.Prelude.{codes, Some, is_none}
 use Rattle.std.specs.Str.{IsUtf8}
@@ -61,10 +61,6 @@ pub scheme-rule-gives-scheme-text : (x : List ℕ) → IsUtf8 x → is_scheme x 
     → is_scheme_text x ≡ true
 unfolding is_scheme_text
 scheme-rule-gives-scheme-text x u e = and_from _ _ (is_utf8-from_IsUtf8 x u) e
-
--- general fact on booleans, for a builder's draft: it is marked failed, or a test holds
-pub second-holds-if-first-is-false : (f t : Bool) → f ≡ false → (f || t) ≡ true → t ≡ true
-second-holds-if-first-is-false f t e h = subst (λ x. (x || t) ≡ true) e h
 
 -- building: the parts that a draft holds are those before, changed,
 -- unless it is marked failed (f, g)

@@ -26,6 +26,7 @@ use Rattle.uri_parts.proofs.Splitting.Relative.{scheme_set_lacks_percent}
 use Rattle.uri_parts.proofs.Splitting.Relative.{scheme_set_excludes_delimiters}
 use Rattle.uri_parts.proofs.TextKinds.GrammarTexts.{valid_text_lacks_excluded_marks}
 use Rattle.uri_parts.proofs.Splitting.Splits.{only-split-is-components}
+use Rattle.uri_parts.proofs.TextKinds.KindSets.{scheme-rule-holds-without-need}
 use Rattle.uri_ops.specs.declared.build.error.BuildError.{BuildError}
 use Rattle.uri_ops.specs.declared.build.error.BuildError.TheVariants.{FirstPathSegmentContainsColon}
 use Rattle.uri_ops.specs.declared.build.error.BuildError.TheVariants.{NonemptyRootlessPath}
@@ -289,12 +290,6 @@ module _ (kind : Kind) (sets : HasComponentSets kind) (p : BuilderParts)
         components = same;
       }
 
--- general fact on booleans, for a builder's rules: s, n, r: whether a scheme is there, is needed,
--- or may be missing before the path
-scheme-rule-without-need-follows : (s n r : Bool) → (s || (not n && r)) ≡ true → (s || r) ≡ true
-scheme-rule-without-need-follows true n r h = refl
-scheme-rule-without-need-follows false n r h = (and_parts (not n) r h).1
-
 -- building: parts whose text has them as its components are accepted
 pub text-of-parts-is-accepted : (kind : Kind) (p : BuilderParts) → IsTextOfParts kind p
     → refusal p ≡ None
@@ -308,7 +303,7 @@ text-of-parts-is-accepted kind p w =
     (unwrap_or p.path []) (record {
       rooted = authority_has_abempty_path p.authority (unwrap_or p.path []) split.authority;
       no_authority = split.no_authority;
-      no_colon = scheme-rule-without-need-follows (is_some p.scheme) kind.needs_scheme
+      no_colon = scheme-rule-holds-without-need kind.needs_scheme (is_some p.scheme)
           (is_some p.authority || not (has_colon_in_first_segment (unwrap_or p.path [])))
           (and_parts _ _ meets).1;
     })

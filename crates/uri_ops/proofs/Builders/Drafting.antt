@@ -8,6 +8,7 @@ use Rattle.std.proofs.Math.Seq.{drop-append_seam, take-append_seam}
 use Rattle.std.proofs.lemmas.Bool.Decides.{nat_tests}
 use Rattle.uri_parts.specs.Components.{marked, recompose}
 use Rattle.uri_parts.specs.Grammar.{Kind, absent_or_passes}
+use Rattle.uri_parts.proofs.Splitting.Recompose.{components_of_parts}
 use Rattle.uri_ops.specs.declared.build.lengths.Lengths.{Lengths}
 use Rattle.uri_ops.specs.BuilderParts.{BuilderParts, is_authority_text, is_scheme_text, is_text_for}
 use Rattle.uri_ops.specs.BuilderParts.{meet_rules, parts_text}
@@ -139,83 +140,32 @@ absent-part-has-no-length mark (Some n) text e = absurd (false≢true e)
 
 -- building: appending `//` and an authority to a scheme recomposes the two
 pub recompose-with-authority-appended : (scheme : Option (List ℕ)) (a : List ℕ)
-    → recompose
-    (record { scheme = scheme; authority = None; path = []; query = None; fragment = None })
-    ++ (codes "//" ++ a)
-    ≡ recompose
-    (record { scheme = scheme; authority = Some a; path = []; query = None; fragment = None })
+    → recompose (components_of_parts scheme None [] None None) ++ (codes "//" ++ a)
+    ≡ recompose (components_of_parts scheme (Some a) [] None None)
 recompose-with-authority-appended scheme a = grind (arith, nat_tests, append-nil)
 
 -- building: appending to an authority that ends the text recomposes the longer authority
 pub recompose-with-longer-authority : (scheme : Option (List ℕ)) (a more : List ℕ)
-    → recompose
-    (record { scheme = scheme; authority = Some a; path = []; query = None; fragment = None })
-    ++ more
-    ≡ recompose (record {
-      scheme = scheme;
-      authority = Some (a ++ more);
-      path = [];
-      query =
-          None;
-      fragment = None;
-    })
+    → recompose (components_of_parts scheme (Some a) [] None None) ++ more
+    ≡ recompose (components_of_parts scheme (Some (a ++ more)) [] None None)
 recompose-with-longer-authority scheme a more = grind (arith, nat_tests, append-nil, append_assoc)
 
 -- building: appending a path to scheme and authority recomposes the three
 pub recompose-with-path-appended : (scheme authority : Option (List ℕ)) (x : List ℕ)
-    → recompose (record {
-      scheme = scheme;
-      authority = authority;
-      path = [];
-      query =
-          None;
-      fragment = None;
-    })
-    ++ x
-    ≡ recompose
-    (record { scheme = scheme; authority = authority; path = x; query = None; fragment = None })
+    → recompose (components_of_parts scheme authority [] None None) ++ x
+    ≡ recompose (components_of_parts scheme authority x None None)
 recompose-with-path-appended scheme authority x = grind (arith, nat_tests, append-nil, append_assoc)
 
 -- building: appending `?` and a query recomposes the parts with the query
 pub recompose-with-query-appended : (scheme authority : Option (List ℕ)) (path x : List ℕ)
-    → recompose (record {
-      scheme = scheme;
-      authority = authority;
-      path = path;
-      query =
-          None;
-      fragment = None;
-    })
-    ++ (codes "?" ++ x)
-    ≡ recompose (record {
-      scheme = scheme;
-      authority = authority;
-      path = path;
-      query =
-          Some x;
-      fragment = None;
-    })
+    → recompose (components_of_parts scheme authority path None None) ++ (codes "?" ++ x)
+    ≡ recompose (components_of_parts scheme authority path (Some x) None)
 recompose-with-query-appended scheme authority path x =
     grind (arith, nat_tests, append-nil, append_assoc)
 
 -- building: appending `#` and a fragment recomposes the parts with the fragment
 pub recompose-with-fragment-appended : (scheme authority query : Option (List ℕ)) (path x : List ℕ)
-    → recompose (record {
-      scheme = scheme;
-      authority = authority;
-      path = path;
-      query =
-          query;
-      fragment = None;
-    })
-    ++ (codes "#" ++ x)
-    ≡ recompose (record {
-      scheme = scheme;
-      authority = authority;
-      path = path;
-      query =
-          query;
-      fragment = Some x;
-    })
+    → recompose (components_of_parts scheme authority path query None) ++ (codes "#" ++ x)
+    ≡ recompose (components_of_parts scheme authority path query (Some x))
 recompose-with-fragment-appended scheme authority query path x =
     grind (arith, nat_tests, append-nil, append_assoc)

@@ -15,7 +15,7 @@ use Rattle.uri_ops.specs.Builders.{has_path_before_fragment, has_path_last, has_
 use Rattle.uri_ops.specs.Builders.{is_fresh, lacks_query_and_fragment, lacks_all, lacks_authority}
 use Rattle.uri_ops.specs.Builders.{lacks_path, is_in_order}
 use Rattle.uri_ops.specs.Dots.{is_empty}
-use Rattle.uri_ops.proofs.Builders.BuilderDrafts.{second-holds-if-first-is-false}
+use Rattle.uri_pct.proofs.General.{second-holds-if-first-is-false}
 use Rattle.uri_ops.proofs.Builders.BuilderGrowth.{ExtendsAuthority}
 use Rattle.uri_ops.proofs.Builders.Drafting.{rules-give-meet_rules, meet_rules-gives-rules}
 

@@ -16,6 +16,7 @@ use Rattle.uri_pct.specs.Tokens.{is_pct_encoded, print, allows_token, is_valid_f
 use Rattle.uri_pct.specs.DecodeUnreserved.{is_printable, decode_unreserved, decode_run}
 use Rattle.uri_pct.specs.DecodeUnreserved.{decode_after_run, decode_tokens, encode_formatting}
 use Rattle.uri_pct.specs.Pieces.{pieces_from}
+use Rattle.uri_pct.proofs.UnreservedDecoding.Printing.{print_decoded}
 use Rattle.uri_pct.proofs.UnreservedDecoding.Printing.{printed_tokens_parse_to_themselves}
 use Rattle.uri_pct.proofs.UnreservedDecoding.Printing.{printed_tokens_are_utf8}
 use Rattle.uri_pct.proofs.UnreservedDecoding.Printing.{char_but_percent_is_its_own_token}
@@ -52,10 +53,6 @@ set-text-is-valid set text e = (and_parts (is_utf8 text) _ e).1
 pub empty-text-is-set-text : (set : TableSet) → is_set_text set [] ≡ true
 unfolding is_valid_for tokens_from_chars chars
 empty-text-is-set-text set = set-text-from-utf8 set [] IsUtf8-nil refl
-
--- the decoded text, as printed
-unfoldable pub print_decoded : TableSet → List ℕ → List ℕ
-print_decoded set text = print (decode_unreserved set text)
 
 -- meanings of components: the empty text decodes to the empty text
 pub print_decoded-of-nil-is-nil : (set : TableSet) → print_decoded set [] ≡ []

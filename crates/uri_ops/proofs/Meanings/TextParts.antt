@@ -1,9 +1,9 @@
 -- The components of a text of a kind: each is in UTF-8 and meets its rule, and they are cut apart.
-use Rattle.std.proofs.Common.{◌≡◌, ℕ, ◌<◌, Bool, true, false, not, List, [], ◌∷◌, drop, refl, arith}
+use Rattle.std.proofs.Common.{◌≡◌, ℕ, Bool, true, false, not, List, drop, refl, arith}
 use Rattle.std.proofs.Common.{◌&&◌, ◌||◌, ⊎_elim}
 use Rattle.std.specs.Prelude.{codes, Option, Some, None, IfSome, is_some}
 use Rattle.std.specs.Str.{IsUtf8}
-use Rattle.std.proofs.lemmas.Bool.{cases_Bool, eqb-true}
+use Rattle.std.proofs.lemmas.Bool.{cases_Bool}
 use Rattle.std.proofs.lemmas.Bool.Decides.{nat_tests}
 use Rattle.uri_pct.proofs.ValidTexts.MarksInTexts.{AreAscii, AreAscii-by-test}
 use Rattle.uri_parts.specs.Components.{Components, starts, before_any, from_any, has_scheme}
@@ -11,7 +11,7 @@ use Rattle.uri_parts.specs.Components.{has_authority, after_scheme, after_author
 use Rattle.uri_parts.specs.Components.{components, when}
 use Rattle.uri_parts.specs.Grammar.{Kind, absent_or_passes, is_scheme, has_colon_in_first_segment}
 use Rattle.uri_parts.specs.Grammar.{is_authority, components_meet_rules}
-use Rattle.uri_parts.proofs.Parsing.ScanStops.{utf8_from_marks, utf8_after_ascii_byte}
+use Rattle.uri_parts.proofs.Parsing.ScanStops.{utf8_from_marks, utf8_after_mark}
 use Rattle.uri_parts.proofs.Parsing.ScanStops.{utf8_after_slashes}
 use Rattle.uri_ops.proofs.Meanings.AllowedParts.{is_set_text, set-text-from-utf8, set-text-is-valid}
 use Rattle.uri_pct.proofs.General.{IfSome-combine}
@@ -59,14 +59,6 @@ pub record AreUtf8 (p : Components) : Type 0 where
   pub query : IfSome p.query IsUtf8
   pub fragment : IfSome p.fragment IsUtf8
 
--- meanings of components: after an ASCII byte c at its start, a text in UTF-8 is UTF-8
-utf8-after-leading-ascii-is-utf8 : (c : ℕ) (text : List ℕ) → c < 128 → starts c text ≡ true
-    → IsUtf8 text
-    → IsUtf8 (drop 1 text)
-utf8-after-leading-ascii-is-utf8 c [] h e u = u
-utf8-after-leading-ascii-is-utf8 c (b ∷ rest) h e u = utf8_after_ascii_byte b rest
-    (let d = eqb-true b c e in omega arith) u
-
 -- meanings of components: a component that is found if a test passes is UTF-8
 optional-text-is-utf8 : (test : Bool) (text : List ℕ) → (test ≡ true → IsUtf8 text)
     → IfSome (when test text) IsUtf8
@@ -94,7 +86,7 @@ text-after-query-is-utf8 : (end : List ℕ) → IsUtf8 end → IsUtf8 (after_que
 text-after-query-is-utf8 end u = ⊎_elim
     (λ e.
     rw e (utf8_from_marks (codes "#") (drop 1 end) query-ends-are-ascii
-    (utf8-after-leading-ascii-is-utf8 63 end (omega arith) e u)))
+    (utf8_after_mark 63 (omega arith) end e u)))
     (λ e. rw e u)
     (cases_Bool (starts 63 end))
 
@@ -119,16 +111,14 @@ components-of-utf8-are-utf8 text u =
           (starts 63 (from_any (codes "?#") (after_authority (after_scheme text)))) _
           (λ e. utf8_before_marks (codes "#") (drop 1
           (from_any (codes "?#") (after_authority (after_scheme text)))) query-ends-are-ascii
-          (utf8-after-leading-ascii-is-utf8 63
-          (from_any (codes "?#") (after_authority (after_scheme text)))
-          (omega arith) e end));
+          (utf8_after_mark 63 (omega arith)
+          (from_any (codes "?#") (after_authority (after_scheme text))) e end));
       fragment =
           optional-text-is-utf8
           (starts 35
           (after_query (from_any (codes "?#") (after_authority (after_scheme text))))) _
-          (λ e. utf8-after-leading-ascii-is-utf8 35 (after_query
-          (from_any (codes "?#") (after_authority (after_scheme text))))
-          (omega arith) e
+          (λ e. utf8_after_mark 35 (omega arith) (after_query
+          (from_any (codes "?#") (after_authority (after_scheme text)))) e
           (text-after-query-is-utf8 (from_any (codes "?#")
           (after_authority (after_scheme text))) end));
     }

@@ -8,10 +8,10 @@ use Rattle.std.proofs.Math.Seq.{take-append_seam, drop-append_seam}
 use Rattle.std.proofs.lemmas.Bool.{cond-false, and_parts, or_parts, or_from, false_from_ne_true}
 use Rattle.std.proofs.lemmas.Bool.{both_ways}
 use Rattle.std.proofs.lemmas.Bool.Decides.{nat_tests}
-use Rattle.std.proofs.lemmas.List.{append-nil, nil_from_length}
+use Rattle.std.proofs.lemmas.List.{append-nil}
 use Rattle.std.proofs.lemmas.List.Concat.{flat_map-append}
 use Rattle.std.proofs.lemmas.List.Folds.{list_any-append}
-use Rattle.std.proofs.lemmas.Str.{chars-nil, encodes-chars}
+use Rattle.std.proofs.lemmas.Str.{encodes-chars}
 use Rattle.uri_pct.specs.Chunks.{widest_set}
 use Rattle.uri_pct.specs.DecodeUnreserved.{is_bidi_formatting, is_printable, formatting_as_octets}
 use Rattle.uri_pct.specs.DecodeUnreserved.{encode_formatting, decode_tokens, decode_unreserved}
@@ -30,10 +30,6 @@ use Rattle.uri_pct.proofs.UnreservedDecoding.Printing.{printed_tokens_are_utf8}
 use Rattle.uri_pct.proofs.UnreservedDecoding.DecodedTokens.{decode_tokens_keeps_tokens_printable}
 use Rattle.uri_ops.specs.Models.Decodings.{lowered_if}
 use Rattle.uri_pct.proofs.UnreservedDecoding.Formatting as Formatting
-
--- meanings, bidirectional text: the empty text has no characters
-pub empty-text-has-no-characters : (text : List ℕ) → length text ≡ 0 → chars text ≡ []
-empty-text-has-no-characters text none = ap chars (nil_from_length text none) ∙ chars-nil
 
 -- meanings, bidirectional text: a formatting character is from U+200E to U+202E, so it begins with
 -- the byte E2

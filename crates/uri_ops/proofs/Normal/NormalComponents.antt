@@ -31,7 +31,8 @@ use Rattle.uri_ops.proofs.Meanings.PortMeanings.{authority_meaning-from-bare-mea
 use Rattle.uri_ops.proofs.Targeting.Targets.{guarded-path-without-authority-has-no-two-slashes}
 use Rattle.uri_ops.proofs.Targeting.Targets.{dotless-abempty-path-is-abempty}
 use Rattle.uri_ops.proofs.Meanings.AllowedParts.{is_set_text, set-text-is-utf8, set-text-is-valid}
-use Rattle.uri_ops.proofs.Meanings.AllowedParts.{print_decoded, print_decoded-of-nil-is-nil}
+use Rattle.uri_pct.proofs.UnreservedDecoding.Printing.{print_decoded}
+use Rattle.uri_ops.proofs.Meanings.AllowedParts.{print_decoded-of-nil-is-nil}
 use Rattle.uri_ops.proofs.Meanings.AllowedParts.{decode_unreserved-is-idempotent}
 use Rattle.uri_ops.proofs.Meanings.AllowedParts.{decoded-set-text-is-set-text}
 use Rattle.uri_ops.proofs.Paths.DecodedStarts.{decoding-keeps-leading-slash}

@@ -1,5 +1,5 @@
 -- The pieces of a normal text, as they are appended one after the other.
-use Rattle.std.proofs.Common.{◌≡◌, ℕ, Bool, true, false, ◌&&◌, List, [], ◌∷◌, ◌++◌, refl, ap, ◌∙◌}
+use Rattle.std.proofs.Common.{◌≡◌, ℕ, false, ◌&&◌, List, [], ◌∷◌, ◌++◌, refl, ap, ◌∙◌}
 use Rattle.std.proofs.Common.{option_map, arith}
 use Rattle.std.specs.Prelude.{codes, Option, Some, None, is_some}
 use Rattle.std.specs.Str.{IsUtf8}
@@ -17,9 +17,11 @@ use Rattle.uri_ops.specs.Meaning.{meaning_of}
 use Rattle.uri_ops.specs.Normal.{normal_authority, normal_path, normal_path_text}
 use Rattle.uri_parts.specs.Ports.{PortFunction}
 use Rattle.uri_ops.specs.Target.{guarded}
-use Rattle.uri_ops.proofs.Meanings.AllowedParts.{set-text-from-utf8, print_decoded}
+use Rattle.uri_pct.proofs.UnreservedDecoding.Printing.{print_decoded}
+use Rattle.uri_ops.proofs.Meanings.AllowedParts.{set-text-from-utf8}
 use Rattle.uri_ops.proofs.Paths.DecodedStarts.{decoding-keeps-two-slashes}
 use Rattle.uri_ops.proofs.Paths.DecodedStarts.{no-leading-slash-no-two-slashes}
+use Rattle.uri_ops.proofs.Paths.GuardedPaths.{path-without-two-slashes-has-no-guard}
 use Rattle.uri_pct.proofs.General.{is_some-option_map}
 
 -- normal paths: a decoded path begins with `//` exactly if the path does
@@ -30,13 +32,6 @@ decoded-path-keeps-two-slashes : (set : TableSet) → IsComponentSet (codes "?#[
 unfolding print_decoded
 decoded-path-keeps-two-slashes set w path utf8 valid =
     grind (arith, nat_tests, decoding-keeps-two-slashes, set-text-from-utf8)
-
--- normal paths: one that does not begin with `//` needs no guard `/.`
-path-without-two-slashes-has-no-guard : (authority : Option (List ℕ)) (text : List ℕ)
-    → has_authority text ≡ false
-    → guarded authority text ≡ text
-path-without-two-slashes-has-no-guard None text e = cond-false _ _ _ e
-path-without-two-slashes-has-no-guard (Some a) text e = refl
 
 -- normal paths: the normal form of a path that keeps its dot segments is its decoded form
 pub path-with-dots-is-normal-when-decoded : (set : TableSet) → IsComponentSet (codes "?#[]") set
@@ -69,11 +64,6 @@ pub normal_path-by-components : (kind : Kind) (ports : PortFunction) (text : Lis
     normal_path_text kind.path p.scheme (option_map normal_authority m.authority) p.path
     ≡ normal_path m)
 normal_path-by-components kind ports text = grind (arith, nat_tests, is_some-option_map)
-
--- general fact on booleans, for the tests of a normal text: and with false is false
-pub and-with-false-is-false : (b c : Bool) → c ≡ false → (b && c) ≡ false
-and-with-false-is-false false c e = refl
-and-with-false-is-false true c e = e
 
 -- normal paths: beginning with `/` (47) is being absolute
 pub absolute-is-leading-slash : (path : List ℕ) → starts 47 path ≡ is_absolute path

@@ -24,7 +24,8 @@ use Rattle.uri_ops.proofs.Paths.SlashedSegments.{parent-segments-pass-test}
 use Rattle.uri_ops.proofs.Paths.DotLaws.{property-of-absolute-path-by-segments, rooted}
 use Rattle.uri_ops.proofs.Meanings.AllowedParts.{is_set_text, set-text-from-utf8, set-text-is-utf8}
 use Rattle.uri_ops.proofs.Meanings.AllowedParts.{set-text-is-valid}
-use Rattle.uri_ops.proofs.Meanings.AllowedParts.{empty-text-is-set-text, print_decoded}
+use Rattle.uri_pct.proofs.UnreservedDecoding.Printing.{print_decoded}
+use Rattle.uri_ops.proofs.Meanings.AllowedParts.{empty-text-is-set-text}
 use Rattle.uri_ops.proofs.Meanings.AllowedParts.{print_decoded-of-nil-is-nil}
 use Rattle.uri_ops.proofs.Meanings.AllowedParts.{decoded-text-is-utf8, decoding-keeps-decoded-bytes}
 use Rattle.uri_ops.proofs.Meanings.AllowedParts.{decoding-splits-at-slash, validity-splits-at-slash}

@@ -300,13 +300,13 @@ merged-path-underflows-as-base-or-remainder path q h =
     ∙ ap (λ t. underflows path || underflows (t ++ q)) (removing-dots-and-directory-swap path h)
 
 -- paths: two lists of segments, each segment after a `/`, are as long as both texts
-length-of-slashed-append-is-sum : (xs ys : List (List ℕ))
+pub length-of-slashed-append-is-sum : (xs ys : List (List ℕ))
     → length (slashed (xs ++ ys)) ≡ length (slashed xs) + length (slashed ys)
 length-of-slashed-append-is-sum xs ys = ap length (slashed-of-append xs ys)
     ∙ length-append (slashed xs) (slashed ys)
 
 -- removing dot segments: taking the last segment away makes the text no longer
-popped-segments-are-no-longer : (xs : List (List ℕ)) → length (slashed (pop xs)) ≤ length
+pub popped-segments-are-no-longer : (xs : List (List ℕ)) → length (slashed (pop xs)) ≤ length
     (slashed xs)
 unfolding pop slashed
 popped-segments-are-no-longer [] = omega arith

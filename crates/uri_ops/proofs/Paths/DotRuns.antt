@@ -11,7 +11,7 @@ use Rattle.uri_ops.specs.Dots.{Buffers, is_empty, is_single_dot, is_double_dot, 
 use Rattle.uri_ops.specs.Dots.{buffers_after_removal}
 
 -- dot segments: `.` has bytes
-single-dot-is-not-empty : (segment : List ℕ) → is_single_dot segment ≡ true → 0 < length segment
+pub single-dot-is-not-empty : (segment : List ℕ) → is_single_dot segment ≡ true → 0 < length segment
 single-dot-is-not-empty [] e = absurd (false≢true e)
 single-dot-is-not-empty (c ∷ rest) e = omega arith
 

@@ -5,8 +5,9 @@ use Rattle.std.proofs.Common.{arith, length-append, subst}
 use Rattle.std.specs.Prelude.{Option, Some, None, is_some}
 use Rattle.std.specs.Str.{IsCharBoundary, IsUtf8}
 use Rattle.std.proofs.lemmas.Str.{IsCharBoundary-from_take}
-use Rattle.std.proofs.lemmas.Bool.{false≢true}
+use Rattle.std.proofs.lemmas.Bool.{cond-false, false≢true}
 use Rattle.std.proofs.lemmas.List.{drop_at, take_at}
+use Rattle.uri_parts.specs.Components.{has_authority}
 use Rattle.uri_ops.specs.Target.{guarded}
 
 -- guarded paths: a path that is appended to a text begins where a character does
@@ -24,6 +25,13 @@ pub path-after-authority-needs-no-guard : (authority : Option (List ℕ)) (path 
     → path ≡ guarded authority path
 path-after-authority-needs-no-guard None path e = absurd (false≢true e)
 path-after-authority-needs-no-guard (Some a) path e = refl
+
+-- guarded paths: one that does not begin with `//` needs no guard `/.`
+pub path-without-two-slashes-has-no-guard : (authority : Option (List ℕ)) (path : List ℕ)
+    → has_authority path ≡ false
+    → guarded authority path ≡ path
+path-without-two-slashes-has-no-guard None path e = cond-false _ _ _ e
+path-without-two-slashes-has-no-guard (Some a) path e = refl
 
 -- guarded paths: inserting the guard before a path that was appended appends the guarded path
 pub guard-inserted-before-path : (authority : Option (List ℕ)) (old mid new path : List ℕ)

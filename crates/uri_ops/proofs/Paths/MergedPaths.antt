@@ -14,7 +14,8 @@ use Rattle.uri_ops.proofs.Paths.DotLaws.{directory-is-absolute, directory-ends-i
 use Rattle.uri_ops.proofs.Paths.DotLaws.{base-dots-may-be-removed-before-merging}
 use Rattle.uri_ops.proofs.Targeting.Targets.{appended-absolute-path-is-absolute}
 use Rattle.uri_ops.proofs.Targeting.Targets.{dotless-abempty-path-is-abempty}
-use Rattle.uri_ops.proofs.Meanings.AllowedParts.{is_set_text, set-text-is-utf8, print_decoded}
+use Rattle.uri_pct.proofs.UnreservedDecoding.Printing.{print_decoded}
+use Rattle.uri_ops.proofs.Meanings.AllowedParts.{is_set_text, set-text-is-utf8}
 use Rattle.uri_ops.proofs.Meanings.AllowedParts.{print_decoded-of-nil-is-nil}
 use Rattle.uri_ops.proofs.Meanings.AllowedParts.{decoding-splits-at-slash}
 use Rattle.uri_ops.proofs.Meanings.AllowedParts.{decode_unreserved-is-idempotent}

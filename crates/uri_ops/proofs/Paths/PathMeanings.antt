@@ -24,7 +24,7 @@ use Rattle.uri_ops.proofs.Paths.DotLaws.{removing-dots-keeps-absolute}
 use Rattle.uri_ops.proofs.Paths.DotLaws.{removing_dots_is_idempotent}
 use Rattle.uri_ops.proofs.Meanings.AllowedParts.{is_set_text, set-text-from-utf8}
 use Rattle.uri_ops.proofs.Meanings.AllowedParts.{empty-text-is-set-text}
-use Rattle.uri_ops.proofs.Meanings.AllowedParts.{print_decoded}
+use Rattle.uri_pct.proofs.UnreservedDecoding.Printing.{print_decoded}
 use Rattle.uri_ops.proofs.Meanings.AllowedParts.{decode_unreserved-is-idempotent}
 use Rattle.uri_ops.proofs.Paths.DecodedPaths.{set-texts-join-at-slash, set-text-splits}
 use Rattle.uri_ops.proofs.Paths.DecodedPaths.{removing-dots-and-decoding-swap}
@@ -94,7 +94,7 @@ module _ (set : TableSet) (w : IsComponentSet (codes "?#[]") set)
   path-set-allows-dot = and_from _ true (ascii_char_is_allowed_iff_in_set set 46 (lit< tt)
       ∙ w.unreserved.ascii 46 refl) refl
 
-  dot-is-set-text : is_set_text set (codes ".") ≡ true
+  pub dot-is-set-text : is_set_text set (codes ".") ≡ true
   dot-is-set-text = set-text-from-utf8 set (codes ".")
       (subst IsUtf8 (encode_ascii 46 (lit< tt)) (IsUtf8-encode 46 (low_scalar 46 (omega arith))))
       path-set-allows-dot

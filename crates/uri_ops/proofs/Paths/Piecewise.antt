@@ -18,7 +18,8 @@ use Rattle.uri_ops.specs.Models.Directories.{parent_directory}
 use Rattle.uri_ops.specs.Models.LeadingSegments.{IsFirstSegment, IsDotlessPrefix}
 use Rattle.uri_ops.specs.Models.SegmentModes.{KeepsSlashesAndDots}
 use Rattle.uri_ops.proofs.Meanings.AllowedParts.{is_set_text, empty-text-is-set-text}
-use Rattle.uri_ops.proofs.Meanings.AllowedParts.{set-text-is-utf8, print_decoded}
+use Rattle.uri_pct.proofs.UnreservedDecoding.Printing.{print_decoded}
+use Rattle.uri_ops.proofs.Meanings.AllowedParts.{set-text-is-utf8}
 use Rattle.uri_ops.proofs.Meanings.AllowedParts.{decoding-splits-at-slash}
 use Rattle.uri_ops.proofs.Meanings.AllowedParts.{print_decoded-of-nil-is-nil}
 use Rattle.uri_ops.proofs.Paths.DotLaws.{removing-dots-leaves-no-dot-segment}

@@ -47,7 +47,7 @@ pub slashed-of-push : (xs : List (List ℕ)) (s : List ℕ) → slashed (xs ++ s
 unfolding slashed
 slashed-of-push xs s = slashed-of-append xs (s ∷ []) ∙ ap (λ t. slashed xs ++ 47 ∷ t) (append-nil s)
 
-is_one_of-slash-is-equality : (c : ℕ) → is_one_of (codes "/") c ≡ eqb c 47
+pub is_one_of-slash-is-equality : (c : ℕ) → is_one_of (codes "/") c ≡ eqb c 47
 is_one_of-slash-is-equality c = grind (arith, nat_tests)
 
 text-splits-before-next-slash : (s : List ℕ) (rest : List (List ℕ)) → has_slash s ≡ false

@@ -11,6 +11,7 @@ use Rattle.uri_pct.specs.Tokens.{print}
 use Rattle.uri_pct.specs.DecodeUnreserved.{decode_unreserved}
 use Rattle.uri_parts.specs.Components.{Components, starts, IsAbemptyPath}
 use Rattle.uri_parts.specs.Grammar.{Kind, is_authority}
+use Rattle.uri_parts.proofs.Splitting.Recompose.{components_of_parts}
 use Rattle.uri_ops.specs.Dots.{is_empty, directory}
 use Rattle.uri_ops.specs.Target.{is_opaque, is_fragment_only, is_opaque_rejection, dotted_target}
 use Rattle.uri_ops.specs.Target.{dotless_if_absolute, guarded}
@@ -19,7 +20,8 @@ use Rattle.uri_parts.specs.Ports.{PortFunction}
 use Rattle.uri_ops.specs.Meaning.{Meaning, authority_meaning, components_meaning}
 use Rattle.uri_ops.specs.Normal.{normal_authority, normal_components}
 use Rattle.uri_ops.specs.NormalTargets.{reference_kind}
-use Rattle.uri_ops.proofs.Meanings.AllowedParts.{is_set_text, print_decoded}
+use Rattle.uri_pct.proofs.UnreservedDecoding.Printing.{print_decoded}
+use Rattle.uri_ops.proofs.Meanings.AllowedParts.{is_set_text}
 use Rattle.uri_ops.proofs.Meanings.AllowedParts.{print_decoded-of-nil-is-nil}
 use Rattle.uri_ops.proofs.Meanings.AllowedParts.{decode_unreserved-is-idempotent}
 use Rattle.uri_ops.proofs.Paths.DecodedStarts.{decoding-keeps-emptiness}
@@ -38,20 +40,6 @@ use Rattle.uri_ops.proofs.Normal.NormalComponents.{normal-components-have-same-m
 use Rattle.uri_ops.proofs.Meanings.AuthorityMeanings.{normal-authorities-are-authorities}
 use Rattle.uri_ops.proofs.Paths.MergedPaths.{merged-normal-paths-decode-as-merged}
 use Rattle.uri_pct.proofs.General.{is_none-option_map}
-
--- targets: the components of which these are the five
-abbrev pub components_of_parts : Option (List ℕ) → Option (List ℕ) → List ℕ → Option (List ℕ)
-    → Option (List ℕ)
-    → Components
-components_of_parts scheme authority path query fragment =
-    record {
-      scheme = scheme;
-      authority = authority;
-      path = path;
-      query = query;
-      fragment =
-          fragment;
-    }
 
 -- targets: what holds of all components with a scheme (s) holds of components that have one
 pub with_scheme : (P : Components → Type 0)

@@ -32,23 +32,23 @@ equal-components-have-same-error : (allowed : Bool) (p q b r : Components) (erro
 equal-components-have-same-error allowed p q b r error e f h =
     subst (λ c. IsErrorFor allowed c r error) e (subst (λ c. IsErrorFor allowed p c error) f h)
 
+-- texts of a kind: UTF-8 that its grammar describes
+text-is-of-kind : (kind : Kind) (text : List ℕ) → IsUtf8 text → IsOfKind kind text
+    → IsTextOf kind text
+text-is-of-kind kind text u h = record { utf8 = u; grammar = h }
+
 module _ (kind other : Kind) (sets : HasComponentSets kind) (needs : kind.needs_scheme ≡ true)
     (same : other ≡ reference_kind kind) (allowed : Bool) (p q : Components)
     (base reference : List ℕ) (e : p ≡ components base) (f : q ≡ components reference)
     (u : IsUtf8 base) (v : IsUtf8 reference) (of_base : IsOfKind kind base)
     (of_reference : IsOfKind other reference) where
-  base-is-text-of-kind : IsTextOf kind base
-  base-is-text-of-kind = record { utf8 = u; grammar = of_base }
-
-  reference-is-text-of-kind : IsTextOf other reference
-  reference-is-text-of-kind = record { utf8 = v; grammar = of_reference }
-
   -- the target is of the base's kind
   pub target-is-text-of-base-kind : (target : List ℕ) → IsTarget allowed p q target
       → IsTextOf kind target
   target-is-text-of-base-kind target h =
-      target-is-of-kind-of-base kind sets base reference target needs base-is-text-of-kind
-      (subst (λ k. IsTextOf k reference) same reference-is-text-of-kind)
+      target-is-of-kind-of-base kind sets base reference target needs
+      (text-is-of-kind kind base u of_base)
+      (subst (λ k. IsTextOf k reference) same (text-is-of-kind other reference v of_reference))
       (equal-components-have-same-target allowed p q (components base) (components reference)
       target e f h).0
 
@@ -58,6 +58,8 @@ module _ (kind other : Kind) (sets : HasComponentSets kind) (needs : kind.needs_
       → IfErr result (IsErrorFor allowed p q)
       → IsResolved kind other allowed base reference result text_of
   computed-target-is-resolved result text_of found failed =
+      let base_is = text-is-of-kind kind base u of_base in
+      let reference_is = text-is-of-kind other reference v of_reference in
       let target = IfOk-weaker result (λ t. IsTarget allowed p q (text_of t))
       (λ t. IsTarget allowed (components base) (components reference) (text_of t))
       (λ t. equal-components-have-same-target allowed p q (components base) (components reference)
@@ -76,10 +78,10 @@ module _ (kind other : Kind) (sets : HasComponentSets kind) (needs : kind.needs_
         alike = IfOk-weaker result _
             (λ t. IsTargetOfMeanings kind other base reference (text_of t))
             (λ t. target-respects-meaning kind other sets needs same allowed base reference
-            base-is-text-of-kind reference-is-text-of-kind (text_of t)) target;
+            base_is reference_is (text_of t)) target;
         alike_error = IfErr-weaker result _ (IsErrorOfMeanings allowed kind other base reference)
             (λ x. error-respects-meaning kind other sets needs same allowed base reference
-            base-is-text-of-kind reference-is-text-of-kind x) error;
+            base_is reference_is x) error;
       }
 
 -- resolving: another value with the same text is returned as well

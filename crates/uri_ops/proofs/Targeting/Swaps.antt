@@ -1,8 +1,8 @@
 -- What a reference resolves to, against a base, is a function of the meanings of both.
-use Rattle.std.proofs.Common.{◌≡◌, ℕ, true, false, not, List, refl, sym, ap, ◌∙◌, ◌&&◌, inr}
+use Rattle.std.proofs.Common.{◌≡◌, ℕ, true, false, not, List, sym, ap, ◌∙◌, ◌&&◌, inr}
 use Rattle.std.proofs.Common.{option_map, arith}
 use Rattle.std.specs.Prelude.{codes, Option, Some, None, IfSome, Result, is_some, is_none}
-use Rattle.std.proofs.lemmas.Bool.{and_cases, cond_both, not-false, false≢true}
+use Rattle.std.proofs.lemmas.Bool.{and_cases, cond_both, not-false}
 use Rattle.std.proofs.lemmas.Bool.Decides.{nat_tests}
 use Rattle.uri_pct.specs.Tokens.{print}
 use Rattle.uri_pct.specs.DecodeUnreserved.{decode_unreserved}
@@ -23,13 +23,15 @@ use Rattle.uri_ops.proofs.Targeting.Targets.{target-text-has-target-components}
 use Rattle.uri_ops.proofs.Meanings.TextParts.{ArePartsOfKind}
 use Rattle.uri_ops.proofs.Normal.NormalTexts.{text-has-parts-of-kind, normal-text-is-text-of-kind}
 use Rattle.uri_ops.proofs.Normal.NormalTexts.{meaning_of-normal_text}
-use Rattle.uri_ops.proofs.Targeting.JoinedMeanings.{components_of_parts, with_scheme}
+use Rattle.uri_parts.proofs.Splitting.Recompose.{components_of_parts}
+use Rattle.uri_ops.proofs.Targeting.JoinedMeanings.{with_scheme}
+use Rattle.uri_ops.proofs.Targeting.JoinedMeanings.{reference-kind-has-component-sets}
 use Rattle.uri_ops.proofs.Targeting.JoinedMeanings.{target-path-has-meaning-of-joined}
 use Rattle.uri_ops.proofs.Targeting.JoinedMeanings.{joined-normal-components-have-same-meaning}
 use Rattle.uri_ops.proofs.Targeting.JoinedMeanings.{normal-components-are-rejected-alike}
 use Rattle.uri_ops.proofs.Targeting.RefusalOrder.{result_or_target_error, map-of-result_or_error}
 use Rattle.uri_ops.proofs.Targeting.RefusalOrder.{rejected-results-are-equal}
-use Rattle.uri_pct.proofs.General.{is_some-option_map}
+use Rattle.uri_pct.proofs.General.{is_some-option_map, none-is-not-some}
 use Rattle.uri_parts.proofs.TextKinds.KindSets.{with_scheme as scheme_where_needed}
 
 -- resolving: a target has a scheme, before its dot segments are removed,
@@ -44,11 +46,6 @@ pub text-of-kind-has-needed-scheme : (kind : Kind) (b : List ℕ) → kind.needs
     → is_some (components b).scheme ≡ true
 text-of-kind-has-needed-scheme kind b needs w =
     scheme_where_needed kind.needs_scheme _ _ needs (text-has-parts-of-kind kind b w).needs
-
--- general fact on options, for components of a target: what is absent is not there
-none-is-not-some : (o : Option (List ℕ)) → is_none o ≡ true → is_some o ≡ false
-none-is-not-some None e = refl
-none-is-not-some (Some x) e = absurd (false≢true e)
 
 -- resolving: a base that does not reject a reference with a path,
 -- and without a scheme, is not opaque
@@ -148,9 +145,6 @@ module _ (kind : Kind) (ports : PortFunction) (sets : HasComponentSets kind) whe
   resolving-respects-meaning b c t u needs v w x y e f =
       grind (arith, nat_tests, resolved_meaning-is-of-normal-components, resolution_meaning)
 
-  reference_sets : HasComponentSets (reference_kind kind)
-  reference_sets = grind (arith, nat_tests)
-
   -- the normal texts of a base and a reference resolve to the same meaning
   pub normal-texts-resolve-to-same-meaning : (b t : List ℕ) → kind.needs_scheme ≡ true
       → IsTextOf kind b
@@ -159,6 +153,7 @@ module _ (kind : Kind) (ports : PortFunction) (sets : HasComponentSets kind) whe
       (normal_text (meaning_of (reference_kind kind) ports t))
       ≡ resolved_meaning kind ports b t
   normal-texts-resolve-to-same-meaning b t needs v w =
+      let reference_sets = reference-kind-has-component-sets kind sets ports in
       resolving-respects-meaning (normal_text (meaning_of kind ports b)) b
       (normal_text (meaning_of (reference_kind kind) ports t)) t needs
       (normal-text-is-text-of-kind kind ports sets b v) v

@@ -1,6 +1,7 @@
 use Rattle.std.proofs.Common.{◌≡◌, ◌++◌, ◌&&◌, false, subst, sym, ap, ◌∙◌}
 use Rattle.std.specs.Prelude.{is_some}
 use Rattle.std.specs.Str.{IsUtf8}
+use Rattle.std.proofs.lemmas.Bool.{and_right}
 use Rattle.uri_pct.specs.DecodeUnreserved.{decode_unreserved}
 use Rattle.uri_pct.specs.EncodedTexts.{text_of}
 use Rattle.uri_pct.specs.Tokens.{print}
@@ -9,7 +10,6 @@ use Rattle.uri_ops.specs.Dots.{remove_dot_segments}
 use Rattle.uri_ops.specs.Target.{guarded}
 use Rattle.uri_ops.proofs.Meanings.Decodable.{valid-text-is-decodable}
 use Rattle.uri_ops.proofs.Normal.NormalPieces.{absolute-is-leading-slash}
-use Rattle.uri_ops.proofs.Normal.NormalPieces.{and-with-false-is-false}
 use Rattle.uri_ops.proofs.Normal.NormalPieces.{path-with-dots-is-normal-when-decoded}
 use Rattle.uri_order.specs.PathBack.{path_unread}
 use Rattle.uri_order.proofs.NormalParts.{normal_path_under_scheme, second_piece_alone}
@@ -45,7 +45,7 @@ pub returns : goal.returns
 returns g c = λ scheme authority s a.
     let path = text_of c.args.path in
     let off : (is_some scheme && starts 47 path) ≡ false = elim c.else-has_scheme.branch [
-      | else-has_scheme-via-then-has_scheme+else-is_absolute w ↦ and-with-false-is-false
+      | else-has_scheme-via-then-has_scheme+else-is_absolute w ↦ and_right
           (is_some scheme)
           (starts 47 path) (absolute-is-leading-slash path ∙ sym w.is_absolute.ensures
           ∙ w.if-is_absolute.false)

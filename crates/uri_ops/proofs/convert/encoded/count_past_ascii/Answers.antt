@@ -1,12 +1,12 @@
 use Rattle.std.proofs.Common.{arith, ap, length}
-use Rattle.uri_ops.proofs.AsciiForms.EncodedRuns.{encoding-of-empty-text-is-empty}
+use Rattle.uri_ops.proofs.AsciiForms.EncodedPaths.{encoding-of-nil-is-nil}
 use Rattle.uri_ops.proofs.AsciiForms.EncodedRuns.{ascii-byte-adds-one}
 use Rattle.uri_ops.proofs.AsciiForms.EncodedRuns.{byte-past-ascii-adds-three}
 use Rattle.uri_ops.proofs.convert.encoded.count_past_ascii.Goals as goal
 use Rattle.uri_ops.proofs.convert.encoded.count_past_ascii.Goals.{then-byte-ge128, else-byte-ge128}
 
 pub loop-byte-init : goal.loop-byte-init
-loop-byte-init c = record { few = omega arith; total = ap length encoding-of-empty-text-is-empty }
+loop-byte-init c = record { few = omega arith; total = ap length encoding-of-nil-is-nil }
 
 pub loop-byte-preserved : goal.loop-byte-preserved
 loop-byte-preserved c =

@@ -4,7 +4,7 @@ use Rattle.std.proofs.lemmas.Grind.{take-set_at}
 use Rattle.std.proofs.lemmas.List.{length-set}
 use Rattle.uri_ops.proofs.AsciiForms.EncodedTokens.{octet_text}
 use Rattle.uri_ops.proofs.AsciiForms.EncodedRuns.{pushed-octet-is-encoding}
-use Rattle.uri_ops.proofs.AsciiForms.EncodedRuns.{encoding-of-empty-text-is-empty}
+use Rattle.uri_ops.proofs.AsciiForms.EncodedPaths.{encoding-of-nil-is-nil}
 use Rattle.uri_ops.proofs.convert.encoded.push_leading_octets.Goals as goal
 
 -- general fact on lists, for the octets of a run: three stores, one after the other
@@ -36,7 +36,7 @@ loop-count-init c = record {
   inside = omega arith;
   few = omega arith;
   size = refl;
-  octets = sym encoding-of-empty-text-is-empty;
+  octets = sym encoding-of-nil-is-nil;
 }
 
 pub loop-count-preserved : goal.loop-count-preserved

@@ -1,12 +1,11 @@
 use Rattle.std.proofs.Common.{◌≡◌, ℕ, ◌+◌, ◌-◌, List, ◌++◌, length, take, drop, arith, ap, sym, ◌∙◌}
 use Rattle.std.proofs.Common.{append_assoc}
 use Rattle.std.proofs.Math.Seq.{take-add}
-use Rattle.std.proofs.lemmas.List.{length-drop, take_all}
 use Rattle.uri_ops.specs.Encoded.{encode_past_ascii}
 use Rattle.uri_ops.proofs.AsciiForms.EncodedPaths.{encoding-of-append-is-append}
 use Rattle.uri_ops.proofs.AsciiForms.EncodedRuns.{pushed-ascii-run-is-encoding}
 use Rattle.uri_ops.proofs.AsciiForms.EncodedRuns.{nothing-pushed-is-encoding}
-use Rattle.uri_ops.proofs.AsciiForms.EncodedRuns.{end-of-run-is-within-bytes}
+use Rattle.uri_ops.proofs.AsciiForms.EncodedRuns.{end-of-run-is-within-bytes, slice_from-is-drop}
 use Rattle.uri_ops.proofs.convert.encoded.push_past_ascii_encoded.Goals as goal
 
 pub loop-done-init : goal.loop-done-init
@@ -16,13 +15,6 @@ loop-done-init c = record {
       c.args.out.now.items;
 }
 
--- general fact on lists, for the bytes to encode: a slice to the end is what is dropped to
-slice-to-end-is-drop : (bytes : List ℕ) (i : ℕ) → take (length bytes - i) (drop i bytes)
-    ≡ drop i bytes
-slice-to-end-is-drop bytes i =
-    let long : length (drop i bytes) ≡ length bytes - i = length-drop i bytes in
-    take_all (length bytes - i) (drop i bytes) (omega arith)
-
 -- IRIs as URIs: appending the encoding of n bytes from i on continues the encoded text
 pushed-encoding-is-encoding : (old mid new bytes : List ℕ) (i n : ℕ)
     → mid ≡ old ++ encode_past_ascii (take i bytes)
@@ -31,7 +23,7 @@ pushed-encoding-is-encoding : (old mid new bytes : List ℕ) (i n : ℕ)
 pushed-encoding-is-encoding old mid new bytes i n o e =
     let prefix = encode_past_ascii (take i bytes) in
     let more = encode_past_ascii (take n (drop i bytes)) in
-    e ∙ ap (λ t. mid ++ encode_past_ascii (take n t)) (slice-to-end-is-drop bytes i)
+    e ∙ ap (λ t. mid ++ encode_past_ascii (take n t)) (slice_from-is-drop bytes i)
     ∙ ap (λ t. t ++ more) o ∙ append_assoc old prefix more
     ∙ ap (λ t. old ++ t) (sym (encoding-of-append-is-append (take i bytes) (take n (drop i bytes))))
     ∙ ap (λ t. old ++ encode_past_ascii t) (sym (take-add i n bytes))

@@ -6,7 +6,8 @@ use Rattle.uri_pct.specs.Tables.{set_of}
 use Rattle.uri_pct.specs.Tokens.{print}
 use Rattle.uri_ops.specs.Dots.{remove_dot_segments, underflows}
 use Rattle.uri_ops.specs.Models.Directories.{IsDotlessDirectory}
-use Rattle.uri_ops.proofs.Meanings.AllowedParts.{is_set_text, print_decoded, set-text-from-utf8}
+use Rattle.uri_pct.proofs.UnreservedDecoding.Printing.{print_decoded}
+use Rattle.uri_ops.proofs.Meanings.AllowedParts.{is_set_text, set-text-from-utf8}
 use Rattle.uri_ops.proofs.Paths.Piecewise.{decoding-keeps-slashes-and-dots}
 use Rattle.uri_ops.proofs.Paths.PushedPaths.{text-after-old-is-pushed-text}
 use Rattle.uri_ops.proofs.Paths.PushedPaths.{position-after-root-is-boundary, whole}

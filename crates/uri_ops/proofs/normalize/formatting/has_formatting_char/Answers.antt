@@ -2,9 +2,9 @@ use Rattle.std.proofs.Common.{◌≡◌, true, false, ◌||◌, sym, ap, ◌∙�
 use Rattle.std.specs.List.{list_any}
 use Rattle.std.specs.Str.{chars}
 use Rattle.std.specs.Str.Iter.{chars_rest}
+use Rattle.std.proofs.StrCases.{chars_of_empty}
 use Rattle.std.proofs.lemmas.Str.{IsUtf8-past_char, chars_past_char}
 use Rattle.uri_pct.specs.DecodeUnreserved.{is_bidi_formatting}
-use Rattle.uri_ops.proofs.Meanings.WrittenFormatting.{empty-text-has-no-characters}
 use Rattle.uri_ops.proofs.normalize.formatting.has_formatting_char.Goals as goal
 
 pub returns-then-is_bidi_formatting : goal.returns-then-is_bidi_formatting
@@ -32,5 +32,5 @@ loop-ch-preserved c =
 
 pub returns : goal.returns
 returns c = sym (ap (list_any is_bidi_formatting)
-    (empty-text-has-no-characters _ c.in-None.ensures.steps.0.0))
+    (chars_of_empty _ c.in-None.ensures.steps.0.0))
     ∙ c.loop-ch.invariant.1

@@ -1,9 +1,9 @@
 use Rattle.std.proofs.Common.{◌++◌, sym, ap, ◌∙◌, append_assoc, append-nil, string_bytes}
 use Rattle.std.specs.List.{flat_map}
 use Rattle.std.specs.Str.Iter.{chars_rest}
+use Rattle.std.proofs.StrCases.{chars_of_empty}
 use Rattle.std.proofs.lemmas.Str.{IsUtf8-past_char, chars_past_char}
 use Rattle.uri_pct.specs.DecodeUnreserved.{encoded_formatting_char, encoded_formatting_text}
-use Rattle.uri_ops.proofs.Meanings.WrittenFormatting.{empty-text-has-no-characters}
 use Rattle.uri_ops.proofs.normalize.formatting.push_with_formatting_encoded.Goals as goal
 
 pub loop-ch-preserved : goal.loop-ch-preserved
@@ -26,5 +26,5 @@ returns c =
     let out = string_bytes c.loop-ch.out in
     sym (append-nil out)
     ∙ ap (λ x. out ++ flat_map encoded_formatting_char x)
-    (sym (empty-text-has-no-characters _ c.in-None.ensures.steps.0.0))
+    (sym (chars_of_empty _ c.in-None.ensures.steps.0.0))
     ∙ c.loop-ch.invariant.1

@@ -1,9 +1,10 @@
 use Rattle.std.proofs.Common.{rules, ◌≡◌, ◌++◌, ◌&&◌, false, sym, ap, ◌∙◌, string_bytes}
 use Rattle.std.specs.Prelude.{is_some}
+use Rattle.std.proofs.lemmas.Bool.{and_right}
 use Rattle.uri_pct.specs.EncodedTexts.{text_of}
 use Rattle.uri_parts.specs.Components.{starts}
 use Rattle.uri_ops.proofs.Normal.NormalPieces.{path-with-dots-is-normal-when-decoded}
-use Rattle.uri_ops.proofs.Normal.NormalPieces.{and-with-false-is-false, absolute-is-leading-slash}
+use Rattle.uri_ops.proofs.Normal.NormalPieces.{absolute-is-leading-slash}
 use Rattle.uri_ops.proofs.normalize.normal_text.push_normal_path.Goals as goal
 use Rattle.uri_ops.proofs.normalize.normal_text.push_normal_path.Goals.{else-has_scheme-via-then-has_scheme+else-is_absolute}
 use Rattle.uri_ops.proofs.normalize.normal_text.push_normal_path.Goals.{else-has_scheme-via-else-has_scheme}
@@ -12,7 +13,7 @@ pub returns-clause-text : goal.returns-clause-text
 returns-clause-text g c = λ scheme authority s a.
     let path = text_of c.args.path in
     let off : (is_some scheme && starts 47 path) ≡ false = elim c.else-has_scheme.branch [
-      | else-has_scheme-via-then-has_scheme+else-is_absolute w ↦ and-with-false-is-false
+      | else-has_scheme-via-then-has_scheme+else-is_absolute w ↦ and_right
           (is_some scheme)
           (starts 47 path) (absolute-is-leading-slash path ∙ sym w.is_absolute.ensures
           ∙ w.if-is_absolute.false)
