@@ -41,8 +41,9 @@ pub failed-output-is-error-of-normalize : {A : Type 0} (by_rules : Bool) (name :
     → IfErr result (λ why. why ≡ OutputFailed)
     → IfErr result (IsErrorOfCommand (Normalize by_rules name text))
 failed-output-is-error-of-normalize by_rules name text result is given =
+    let command = Normalize by_rules name text in
     let lines = normal_form_of by_rules (kind_named name) text ++ codes "\n" in
-    if_err-of-equal-error (IsErrorOfCommand (Normalize by_rules name text)) result OutputFailed given
+    if_err-of-equal-error (IsErrorOfCommand command) result OutputFailed given
     (lines, ap (λ b. if b then Some lines else None) is)
 
 -- commands: if the output of `mend` cannot be written, that failure is its error,
@@ -79,5 +80,6 @@ pub failed-output-is-error-of-links : {A : Type 0} (by_rules : Bool) (base refer
     → IfErr result (λ why. why ≡ OutputFailed)
     → IfErr result (IsErrorOfCommand (Links by_rules base reference others))
 failed-output-is-error-of-links by_rules base reference others result b r given =
-    if_err-of-equal-error (IsErrorOfCommand (Links by_rules base reference others)) result OutputFailed given
+    let command = Links by_rules base reference others in
+    if_err-of-equal-error (IsErrorOfCommand command) result OutputFailed given
     (link_lines by_rules base (reference ∷ others), cc (b, r))

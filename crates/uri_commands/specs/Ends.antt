@@ -24,8 +24,8 @@ IsFailure words out out_new status =
     (command : Command) → words ≡ words_of command → output_of command ≡ None
     → (status ≡ 1) × Keeps out out_new
 
--- a writer of `uritool` got the line, or a prefix of it if the Bool, whether it was written whole, is
--- false; the Options are its bytes before and after
+-- a writer of `uritool` got the line, or a prefix of it if the Bool, whether it was written whole,
+-- is false; the Options are its bytes before and after
 abbrev pub WritesLineOrPrefix : Option (List ℕ) → Option (List ℕ) → List ℕ → Bool → Type 0
 WritesLineOrPrefix old new line is_shown = AppendsPrefix old new line
     × (IsTrue is_shown → Appends old new line)

@@ -32,6 +32,7 @@ error_text e = error_kind_text (error_kind_of e) ++ codes " at index " ++ decima
 abbrev pub resolve_error_text : ResolveError → List ℕ
 resolve_error_text resolve_errors.BaseWithFragment = codes "base should not have fragment"
 resolve_error_text resolve_errors.InvalidReferenceAgainstOpaqueBase =
-    codes "when base has a rootless path and no authority, reference should either have scheme, be empty or start with '#'"
+    codes "when base has a rootless path and no authority, reference should either have scheme, "
+    ++ codes "be empty or start with '#'"
 resolve_error_text resolve_errors.PathUnderflow = codes "underflow occurred in path resolution"
 resolve_error_text resolve_errors.OutOfMemory = codes "out of memory"

@@ -33,7 +33,8 @@ error_line why = codes "error: " ++ command_error_text why ++ codes "\n"
 
 -- the line on the error output of `uritool` for words that make no command
 abbrev pub usage_line : List ℕ
-usage_line = codes "usage: uritool parse KIND TEXT | [--scheme-rules] normalize KIND TEXT | mend KIND TEXT | resolve uri|iri BASE REF | [--scheme-rules] links BASE REF...\n"
+usage_line = codes "usage: uritool parse KIND TEXT | [--scheme-rules] normalize KIND TEXT "
+    ++ codes "| mend KIND TEXT | resolve uri|iri BASE REF | [--scheme-rules] links BASE REF...\n"
 
 -- a text of a command of `uritool` is not of the kind, and this is its parse error
 abbrev pub IsErrorOf : Kind → List ℕ → ParseError → Type 0

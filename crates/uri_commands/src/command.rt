@@ -30,8 +30,8 @@ pub enum Command<'a> {
     Mend(KindName, &'a str),
     /// `resolve uri|iri BASE REF`
     Resolve(BaseName, &'a str, &'a str),
-    /// `links BASE REF...`: the base, the first reference and the others, by the rules of schemes if
-    /// the `bool` is true (`--scheme-rules`)
+    /// `links BASE REF...`: the base, the first reference and the others, by the rules of schemes
+    /// if the `bool` is true (`--scheme-rules`)
     Links(&'a str, &'a str, &'a [String], bool),
 }
 

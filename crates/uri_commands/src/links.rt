@@ -32,8 +32,8 @@ pub struct NotedLinks {
 }
 
 /// Notes the first reference of `links` and the others against the base, in order, in a new
-/// register: by the rules of schemes if `scheme_rules` is true, and otherwise by their default ports
-/// alone.
+/// register: by the rules of schemes if `scheme_rules` is true, and otherwise by their default
+/// ports alone.
 ///
 /// # Errors
 ///

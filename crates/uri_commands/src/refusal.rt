@@ -2,8 +2,8 @@
 ghost use Rattle.std.specs.Prelude.{◌≡◌, ◌||◌, ◌++◌, IsTrue, codes, not};
 ghost use Rattle.std.specs.Io.KnownBytes.{Appends};
 ghost use Rattle.uri_commands.specs.Prefixes.{AppendsPrefix};
-ghost use Rattle.uri_commands.specs.Messages.{error_kind_text, error_text, index_text, message_text};
-ghost use Rattle.uri_commands.specs.Messages.{resolve_error_text};
+ghost use Rattle.uri_commands.specs.Messages.{error_kind_text, error_text, index_text};
+ghost use Rattle.uri_commands.specs.Messages.{message_text, resolve_error_text};
 ghost use Rattle.uri_commands.specs.Refusals.{command_error_text, error_line};
 
 use crate::sink::{Sink, put_both};
@@ -174,7 +174,8 @@ pub(crate) fn resolve_message(error: ResolveError) -> &'static str
     match error {
         ResolveError::BaseWithFragment => "base should not have fragment",
         ResolveError::InvalidReferenceAgainstOpaqueBase => {
-            "when base has a rootless path and no authority, reference should either have scheme, be empty or start with '#'"
+            "when base has a rootless path and no authority, reference should either have scheme, \
+            be empty or start with '#'"
         }
         ResolveError::PathUnderflow => "underflow occurred in path resolution",
         ResolveError::OutOfMemory => "out of memory",

@@ -59,7 +59,8 @@ pub fn run<O: Write, E: Write>(
     ensures refused { IsFailure (texts words.now) (O.contents out.old.writer)
         (O.contents out.new.writer) result.status }
     ensures usage { (result.status ≡ 2) ↔ ¬ IsCommand (texts words.now) }
-    ensures usage_keeps { result.status ≡ 2 → Keeps (O.contents out.old.writer) (O.contents out.new.writer) }
+    ensures usage_keeps { result.status ≡ 2
+        → Keeps (O.contents out.old.writer) (O.contents out.new.writer) }
     ensures status { result.status ≤ 2 }
     ensures shown { result.status ≡ 1 → (command : Asked) × (why : CommandError)
         × (texts words.now ≡ words_of command) × IsErrorOfCommand command why
@@ -103,7 +104,8 @@ fn run_command<O: Write>(
     out: &mut Sink<O>,
 ) -> Result<(), CommandError>
     ensures succeeded { OnOk result
-        (Prints (O.contents out.old.writer) (O.contents out.new.writer) (contract_command command.entry)) }
+        (Prints (O.contents out.old.writer) (O.contents out.new.writer)
+        (contract_command command.entry)) }
     ensures refused { IfErr result (IsErrorOfCommand (contract_command command.entry)) }
     ensures keeps { output_of (contract_command command.entry) ≡ None
         → Keeps (O.contents out.old.writer) (O.contents out.new.writer) }
@@ -145,7 +147,8 @@ fn normalize<O: Write>(
     out: &mut Sink<O>,
 ) -> Result<(), CommandError>
     ensures succeeded { OnOk result
-        (Prints (O.contents out.old.writer) (O.contents out.new.writer) (Normalize scheme_rules kind text.now)) }
+        (Prints (O.contents out.old.writer) (O.contents out.new.writer)
+        (Normalize scheme_rules kind text.now)) }
     ensures refused { IfErr result (IsErrorOfCommand (Normalize scheme_rules kind text.now)) }
     ensures keeps { output_of (Normalize scheme_rules kind text.now) ≡ None
         → Keeps (O.contents out.old.writer) (O.contents out.new.writer) }
@@ -186,7 +189,8 @@ fn resolve<O: Write>(
     out: &mut Sink<O>,
 ) -> Result<(), CommandError>
     ensures succeeded { OnOk result
-        (Prints (O.contents out.old.writer) (O.contents out.new.writer) (Resolve kind base.now reference.now)) }
+        (Prints (O.contents out.old.writer) (O.contents out.new.writer)
+        (Resolve kind base.now reference.now)) }
     ensures refused { IfErr result (IsErrorOfCommand (Resolve kind base.now reference.now)) }
     ensures keeps { output_of (Resolve kind base.now reference.now) ≡ None
         → Keeps (O.contents out.old.writer) (O.contents out.new.writer) }

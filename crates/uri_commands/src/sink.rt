@@ -4,7 +4,8 @@ ghost use Rattle.std.specs.Prelude.{IfErr, IfSome, OnOk};
 ghost use Rattle.std.specs.Io.{WritesAtMost};
 ghost use Rattle.std.specs.Io.KnownBytes.{Appends, Keeps, WriteAppends};
 ghost use Rattle.uri_commands.specs.Prefixes.{AppendsPrefix};
-ghost use Rattle.uri_commands.specs.Sinks.{IsFinal, IsFlushedUnlessPut, KeepsErrorOf, KeepsFinalError};
+ghost use Rattle.uri_commands.specs.Sinks.{IsFinal, IsFlushedUnlessPut, KeepsErrorOf};
+ghost use Rattle.uri_commands.specs.Sinks.{KeepsFinalError};
 
 use std::io::{self, ErrorKind, Write};
 

@@ -7,8 +7,8 @@ ghost use Rattle.uri_commands.specs.Refusals.{usage_line};
 use crate::sink::Sink;
 use std::io::Write;
 
-const USAGE: &str =
-    "usage: uritool parse KIND TEXT | [--scheme-rules] normalize KIND TEXT | mend KIND TEXT | resolve uri|iri BASE REF | [--scheme-rules] links BASE REF...\n";
+const USAGE: &str = "usage: uritool parse KIND TEXT | [--scheme-rules] normalize KIND TEXT \
+    | mend KIND TEXT | resolve uri|iri BASE REF | [--scheme-rules] links BASE REF...\n";
 
 /// Writes the usage line of `uritool`. Returns whether it was written whole. If it was not, the
 /// writer failed, and got a prefix of the line.

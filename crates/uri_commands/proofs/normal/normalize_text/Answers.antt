@@ -11,8 +11,10 @@ returns-in-Uri-clause-refused c =
 
 pub returns-in-UriRef-clause-refused : goal.returns-in-UriRef-clause-refused
 returns-in-UriRef-clause-refused c =
-    error-of-normal-form-is-error-of-normalize c.args.scheme_rules c.args.kind uri_ref c.args.text.now
-    c.normal_form-in-UriRef.result (ap kind_named c.in-UriRef.is) c.normal_form-in-UriRef.ensures.refused
+    error-of-normal-form-is-error-of-normalize c.args.scheme_rules c.args.kind uri_ref
+    c.args.text.now
+    c.normal_form-in-UriRef.result (ap kind_named c.in-UriRef.is)
+    c.normal_form-in-UriRef.ensures.refused
 
 pub returns-in-Iri-clause-refused : goal.returns-in-Iri-clause-refused
 returns-in-Iri-clause-refused c =
@@ -21,5 +23,7 @@ returns-in-Iri-clause-refused c =
 
 pub returns-in-IriRef-clause-refused : goal.returns-in-IriRef-clause-refused
 returns-in-IriRef-clause-refused c =
-    error-of-normal-form-is-error-of-normalize c.args.scheme_rules c.args.kind iri_ref c.args.text.now
-    c.normal_form-in-IriRef.result (ap kind_named c.in-IriRef.is) c.normal_form-in-IriRef.ensures.refused
+    error-of-normal-form-is-error-of-normalize c.args.scheme_rules c.args.kind iri_ref
+    c.args.text.now
+    c.normal_form-in-IriRef.result (ap kind_named c.in-IriRef.is)
+    c.normal_form-in-IriRef.ensures.refused
