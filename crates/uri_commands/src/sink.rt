@@ -1,6 +1,6 @@
 //! A writer that says whether it failed, and keeps its error.
 ghost use Rattle.std.specs.Prelude.{◌≡◌, ◌||◌, ◌++◌, ℕ, List, Option, false, true, not, IsTrue};
-ghost use Rattle.std.specs.Prelude.{IfErr, IfSome, OnOk};
+ghost use Rattle.std.specs.Prelude.{IfErr, IfSome, None, OnOk};
 ghost use Rattle.std.specs.Io.{WritesAtMost};
 ghost use Rattle.std.specs.Io.KnownBytes.{Appends, Keeps, WriteAppends};
 ghost use Rattle.uri_commands.specs.Prefixes.{AppendsPrefix};
@@ -23,10 +23,12 @@ pub struct Sink<W> {
 }
 
 impl<W: Write> Sink<W> {
-    /// Returns the writer, as one that has not failed.
+    /// Returns the writer, as one that has not failed and to which nothing was written.
     pub fn new(writer: W) -> Sink<W>
         ensures writer { result.writer ≡ writer }
         ensures failed { result.has_failed ≡ false }
+        ensures flushed { result.is_flushed ≡ true }
+        ensures error { result.error ≡ None }
     {
         Sink {
             writer,
