@@ -1,6 +1,6 @@
 //! How a text begins that is parsed: its scheme, and the `://` after it.
 ghost use Rattle.std.specs.Prelude.{◌≡◌, ◌+◌, ◌&&◌, IfSome, drop, slice_index, true};
-ghost use Rattle.std.specs.Prelude.{if◌then◌else◌};
+ghost use Rattle.std.specs.Prelude.{IsTrue, if◌then◌else◌};
 ghost use Rattle.std.specs.Char.{is_ascii_alphabetic};
 ghost use Rattle.std.specs.Str.{IsCharBoundary};
 ghost use Rattle.uri_pct.specs.Delimiters.{colon};
@@ -12,6 +12,28 @@ ghost use Rattle.uri_parts.specs.Models.Cursors.{text_after_cursor, cursor_text,
 use crate::cursor::Cursor;
 use uri_pct::lanes::LANES;
 use uri_pct::table::SCHEME;
+
+/// Returns whether four bytes are the same as the others. They are compared as one number.
+#[inline(always)]
+fn are_same(four: [u8; 4], others: [u8; 4]) -> bool
+    ensures first { IsTrue result → slice_index four 0 ≡ slice_index others 0 }
+    ensures second { IsTrue result → slice_index four 1 ≡ slice_index others 1 }
+    ensures third { IsTrue result → slice_index four 2 ≡ slice_index others 2 }
+    ensures last { IsTrue result → slice_index four 3 ≡ slice_index others 3 }
+{
+    u32::from_le_bytes(four) == u32::from_le_bytes(others)
+}
+
+/// Returns whether the first three of four bytes are the same as the others, of which the last is
+/// 0. They are compared as one number.
+#[inline(always)]
+fn begin_same(four: [u8; 4], others: [u8; 4]) -> bool
+    ensures first { IsTrue result → slice_index four 0 ≡ slice_index others 0 }
+    ensures second { IsTrue result → slice_index four 1 ≡ slice_index others 1 }
+    ensures third { IsTrue result → slice_index four 2 ≡ slice_index others 2 }
+{
+    u32::from_le_bytes(four) % 0x100_0000 == u32::from_le_bytes(others)
+}
 
 /// Returns where the scheme ends in a text that begins with `http://` or `https://`. Most texts do
 /// in lower case, and these need no scan. It is `None` for any other text, and for a short one.
@@ -25,14 +47,17 @@ fn web_scheme_end(text: &str) -> Option<usize>
     ensures boundary { IfSome result (λ end. IsCharBoundary text.now (end + 3)) }
 {
     let bytes = text.as_bytes();
-    if bytes.len() < LANES {
+    if bytes.len() < LANES || !are_same([bytes[0], bytes[1], bytes[2], bytes[3]], *b"http") {
         return None;
     }
-    match bytes {
-        [b'h', b't', b't', b'p', b's', b':', b'/', b'/', ..] => Some(5),
-        [b'h', b't', b't', b'p', b':', b'/', b'/', ..] => Some(4),
-        _ => None,
+    let next = [bytes[4], bytes[5], bytes[6], bytes[7]];
+    if are_same(next, *b"s://") {
+        return Some(5);
     }
+    if begin_same(next, *b"://\0") {
+        return Some(4);
+    }
+    None
 }
 
 /// How a text begins: with what may be a scheme, and what follows it.
