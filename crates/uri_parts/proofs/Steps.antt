@@ -13,7 +13,7 @@ use Rattle.uri_parts.specs.Models.AuthorityParsing.{host_offset, other_authority
 use Rattle.uri_parts.specs.Models.AuthorityParsing.{other_authority_length}
 use Rattle.uri_parts.specs.Models.AuthorityParsing.{found_authority_length, found_authority}
 use Rattle.uri_parts.specs.Models.ParseErrors.{error_after_port, port_error, host_error}
-use Rattle.uri_parts.specs.Models.ParseErrors.{userinfo_error}
+use Rattle.uri_parts.specs.Models.ParseErrors.{left_over_error, name_error, userinfo_error}
 use Rattle.uri_parts.specs.Models.ParseErrors.{other_authority_error, authority_error}
 use Rattle.uri_parts.specs.Models.ParseErrors.{hier_part_error}
 use Rattle.uri_parts.specs.Models.ParseErrors.{schemeless_error, parsed_error}
@@ -75,6 +75,11 @@ host = tt
 unfoldable pub user : ⊤
 unfolding further_userinfo_length userinfo_error
 user = tt
+
+-- what a proof unfolds where a name and a port were parsed that do not end the authority
+unfoldable pub after_name : ⊤
+unfolding further_userinfo_length userinfo_error name_error left_over_error
+after_name = tt
 
 -- what a proof unfolds where an authority that is no name alone is parsed
 unfoldable pub other : ⊤

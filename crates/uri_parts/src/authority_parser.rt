@@ -195,17 +195,6 @@ pub(crate) fn pass_userinfo<K: Kind>(cursor: &mut Cursor<'_>) -> Result<(), Pars
     Err(error_after_name::<K>(cursor.text(), start, end))
 }
 
-/// Returns whether what is next after a name and a port is in no component of the kind, and is no
-/// delimiter.
-#[tactic(auto, unfolding(crate::proofs::Steps::user, crate::specs::Models::ParseErrors::name_error, crate::specs::Models::ParseErrors::left_over_error))]
-#[inline(always)]
-pub(crate) fn is_unexpected_after_name<K: Kind>(after_name: &Cursor<'_>) -> bool
-    ensures { let i = cursor_position after_name.now in IsTrue result
-        → userinfo_error K.kind (cursor_text after_name.now) i ≡ Some (unexpected i) }
-{
-    after_name.is_before_excluded::<K>()
-}
-
 /// Where a host ends, and the authority that it is in.
 #[derive(Clone, Copy)]
 pub(crate) struct HostEnds {

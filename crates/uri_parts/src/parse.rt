@@ -22,31 +22,12 @@ ghost use Rattle.uri_parts.specs.PackedPositions.{ArePackedPositionsOf, packed};
 ghost use Rattle.uri_parts.specs.Models.Cursors.{text_after_cursor, cursor_text, cursor_position};
 ghost use Rattle.uri_parts.specs.Models.Cursors.{packed_from, packed_if_parsed_from};
 
-use crate::authority_parser::{
-    find_host, is_before_literal, is_unexpected_after_name, pass_name, pass_userinfo,
-};
+use crate::authority_parser::{find_host, is_before_literal, pass_name, pass_userinfo};
 use crate::cursor::Cursor;
 use crate::error::ParseError;
 use crate::kind::Kind;
 use crate::packed_positions::PackedPositions;
 use crate::scheme_prefix::pass_scheme;
-
-/// Parses a fragment, if there is one, and then the end of the text.
-#[tactic(auto, unfolding(crate::proofs::Steps::tail))]
-#[inline(always)]
-fn parse_fragment<K: Kind>(cursor: &mut Cursor<'_>) -> Result<(), ParseError>
-    ensures refused { result_err result
-        ≡ error_from_fragment K.kind (cursor_text cursor.old) (cursor_position cursor.old) }
-    ensures err { IfErr result (IsErrorIn (cursor_text cursor.old)) }
-{
-    if cursor.skip(b'#') {
-        cursor.pass(&K::tables().fragment)?;
-    }
-    if !cursor.is_at_end() {
-        return Err(cursor.unexpected());
-    }
-    Ok(())
-}
 
 /// What comes before the rest of a path, in the words of [`PackedPositions`].
 #[derive(Clone, Copy)]
@@ -59,7 +40,7 @@ struct BeforePath {
     host_end: usize,
 }
 
-/// Parses the rest of a path, and the query and the fragment after it.
+/// Parses the rest of a path, the query and the fragment after it, and then the end of the text.
 #[tactic(auto, unfolding(crate::proofs::Steps::tail))]
 #[inline(always)]
 fn parse_path<K: Kind>(
@@ -77,7 +58,12 @@ fn parse_path<K: Kind>(
     } else {
         path_end
     };
-    parse_fragment::<K>(cursor)?;
+    if cursor.skip(b'#') {
+        cursor.pass(&K::tables().fragment)?;
+    }
+    if !cursor.is_at_end() {
+        return Err(cursor.unexpected());
+    }
     Ok(PackedPositions {
         scheme_end: before.scheme_end,
         host_start: before.host_start,
@@ -120,7 +106,7 @@ fn pass_host<K: Kind>(cursor: &mut Cursor<'_>, scheme_end: usize) -> Result<Befo
 }
 
 /// Parses an authority, which comes before a path.
-#[tactic(auto, unfolding(crate::proofs::Steps::authority, crate::proofs::Steps::other, crate::proofs::Steps::before_path, crate::proofs::Steps::tail))]
+#[tactic(auto, unfolding(crate::proofs::Steps::authority, crate::proofs::Steps::other, crate::proofs::Steps::before_path, crate::proofs::Steps::tail, crate::proofs::Steps::after_name))]
 #[inline(always)]
 fn pass_authority<K: Kind>(
     cursor: &mut Cursor<'_>,
@@ -152,38 +138,11 @@ fn pass_authority<K: Kind>(
             host_end,
         });
     }
-    if is_unexpected_after_name::<K>(cursor) {
+    if cursor.is_before_excluded::<K>() {
         return Err(cursor.unexpected());
     }
     pass_userinfo::<K>(cursor)?;
     pass_host::<K>(cursor, scheme_end)
-}
-
-/// Passes the characters of a first segment without `:`. Returns an error if a `:` is next.
-#[tactic(auto, unfolding(crate::proofs::Steps::before_path, crate::proofs::Steps::tail))]
-#[inline(always)]
-fn pass_relative<K: Kind>(cursor: &mut Cursor<'_>) -> Result<BeforePath, ParseError>
-    ensures places { let segment = first_segment_set K.kind in IfOk result (λ b.
-        packed (relative_positions segment K.kind (cursor_position cursor.old)
-        (text_after_cursor cursor.old))
-        ≡ packed_if_parsed_from K.kind b cursor.new) }
-    ensures text { cursor_text cursor.new ≡ cursor_text cursor.old }
-    ensures refused { let text = cursor_text cursor.old in
-        error_from_relative_path K.kind text (first_segment_set K.kind) (cursor_position cursor.old)
-        ≡ option_or (result_err result) (error_from_path K.kind text (cursor_position cursor.new)) }
-    ensures err { IfErr result (IsErrorIn (cursor_text cursor.old)) }
-{
-    cursor.pass(&K::tables().segment_nz_nc)?;
-    if cursor.next_is(b':') {
-        return Err(cursor.unexpected());
-    }
-    Ok(BeforePath {
-        path_start: 0,
-        padding: false,
-        scheme_end: 0,
-        host_start: 0,
-        host_end: 0,
-    })
 }
 
 /// Returns whether what is next shows that a path without a scheme cannot begin there, and that
@@ -235,8 +194,8 @@ fn pass_after_slashes<K: Kind>(cursor: &mut Cursor<'_>) -> Result<BeforePath, Pa
     Ok(before)
 }
 
-/// Parses what comes before a path in a text that has no scheme. It begins after the characters
-/// that might have been one.
+/// Parses what comes before a path in a text that has no scheme, from the characters on that might
+/// have been one: an authority, or else the first segment, which has no `:`.
 #[tactic(auto, unfolding(crate::proofs::Steps::whole, crate::proofs::Steps::before_path, crate::proofs::Steps::tail))]
 #[inline(always)]
 fn pass_schemeless<K: Kind>(cursor: &mut Cursor<'_>) -> Result<BeforePath, ParseError>
@@ -258,7 +217,17 @@ fn pass_schemeless<K: Kind>(cursor: &mut Cursor<'_>) -> Result<BeforePath, Parse
             return Err(cursor.unexpected());
         }
     }
-    pass_relative::<K>(cursor)
+    cursor.pass(&K::tables().segment_nz_nc)?;
+    if cursor.next_is(b':') {
+        return Err(cursor.unexpected());
+    }
+    Ok(BeforePath {
+        path_start: 0,
+        padding: false,
+        scheme_end: 0,
+        host_start: 0,
+        host_end: 0,
+    })
 }
 
 /// Parses what comes before a path, from the beginning of the text on.
