@@ -32,9 +32,9 @@ pub mod unchanged;
 
 use crate::default_port::{DefaultPort, SchemeDefaults};
 use crate::normalize::normal_authority::is_port_unchanged;
-use crate::normalize::normal_text::push_normal_text;
+use crate::normalize::normal_text::written_normal_text;
 use crate::normalize::normalized::Normalized;
-use crate::normalize::unchanged::{copy_unchanged, is_unchanged, is_unchanged_but_for_port};
+use crate::normalize::unchanged::{is_unchanged, is_unchanged_but_for_port};
 use crate::traits::RiMaybeRef;
 use std::alloc::{AllocError, Global};
 use thiserror::Error;
@@ -85,31 +85,6 @@ pub struct Normalizer<P> {
     pub(crate) ports: P,
 }
 
-/// Returns the normal text of a text of a kind, written component by component.
-#[tactic(auto, unfolding(crate::specs::Normalizers::text_underflows))]
-fn normalize_components<K: Kind, P: DefaultPort>(
-    alloc: Global,
-    core: Core<K, &str>,
-    ports: &P,
-) -> Result<Normalized, AllocError>
-    requires { HasComponentSets K.kind }
-    ensures text { IfOk result (λ made.
-        HasNormalText K.kind (P.port_of ports.now) (core_text core.entry)
-        (string_bytes made.text)) }
-    ensures at { IfOk result (λ made.
-        ArePackedPositionsOf (string_bytes made.text) made.positions) }
-    ensures underflow { IfOk result (λ made.
-        made.underflows ≡ text_underflows (core_text core.entry)) }
-{
-    let mut text = String::with_capacity(alloc, core.as_str().len())?;
-    let (positions, underflows) = push_normal_text(core, ports, &mut text)?;
-    Ok(Normalized {
-        text,
-        positions,
-        underflows,
-    })
-}
-
 /// Returns the normal text of a text of a kind. If that is the text itself, the result
 /// is a copy.
 pub(crate) fn normalize_core<K: Kind, P: DefaultPort>(
@@ -130,9 +105,13 @@ pub(crate) fn normalize_core<K: Kind, P: DefaultPort>(
     if is_unchanged_but_for_port(core)
         && is_port_unchanged(core.authority(), core.scheme(), ports)
     {
-        return copy_unchanged(alloc, core);
+        return Ok(Normalized {
+            text: String::from_str(alloc, core.as_str())?,
+            positions: core.packed_positions(),
+            underflows: false,
+        });
     }
-    normalize_components(alloc, core, ports)
+    written_normal_text(alloc, core, ports)
 }
 
 /// Returns the normal text of a text of a kind whose components are at these positions. If the text
@@ -161,7 +140,7 @@ pub(crate) fn normalize_string<K: Kind, P: DefaultPort>(
             underflows: false,
         });
     }
-    normalize_components(alloc, core, ports)
+    written_normal_text(alloc, core, ports)
 }
 
 impl Normalizer<SchemeDefaults> {
@@ -286,9 +265,6 @@ pub fn normalize_with_defaults<R: RiMaybeRef>(
     ensures { IfOk result (λ normal.
         IsNormalForm R.kind default_port (R.text value.now) (R.owned_text normal)) }
 {
-    match Normalizer::new().normalize(alloc, value) {
-        Ok(normal) => Ok(normal),
-        Err(NormalizeError::OutOfMemory) => Err(AllocError),
-        Err(NormalizeError::PathUnderflow) => unreachable!(),
-    }
+    let made = normalize_core(alloc, value.core(), &SchemeDefaults)?;
+    Ok(R::make_owned(made.text, made.positions))
 }

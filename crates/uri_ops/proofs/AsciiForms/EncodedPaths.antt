@@ -1,5 +1,5 @@
 -- Without characters past ASCII a text has the same marks, and a path the same dot segments.
-use Rattle.std.proofs.Common.{◌≡◌, ℕ, ◌/◌, ◌<◌, ◌≤◌, nat_lt, Bool, true, false, eqb, ltb, not, List}
+use Rattle.std.proofs.Common.{◌≡◌, ℕ, ◌<◌, ◌≤◌, nat_lt, Bool, true, false, eqb, ltb, not, List}
 use Rattle.std.proofs.Common.{[], ◌∷◌, ◌++◌, map, refl, sym, ap, subst, ◌∙◌, arith, ◌&&◌, ⊎_elim}
 use Rattle.std.proofs.Common.{append-nil, lit<}
 use Rattle.std.specs.Prelude.{codes, Option, is_none as is_absent}

@@ -1,9 +1,9 @@
 -- The pieces of a normal text, as they are appended one after the other.
-use Rattle.std.proofs.Common.{◌≡◌, ℕ, false, ◌&&◌, List, [], ◌∷◌, ◌++◌, refl, ap, ◌∙◌}
-use Rattle.std.proofs.Common.{option_map, arith}
+use Rattle.std.proofs.Common.{◌≡◌, ℕ, Bool, true, false, ◌&&◌, List, [], ◌∷◌, ◌++◌, refl, ap, ◌∙◌}
+use Rattle.std.proofs.Common.{option_map, arith, sym}
 use Rattle.std.specs.Prelude.{codes, Option, Some, None, is_some}
 use Rattle.std.specs.Str.{IsUtf8}
-use Rattle.std.proofs.lemmas.Bool.{cond-false}
+use Rattle.std.proofs.lemmas.Bool.{cond-false, cond-true, false≢true}
 use Rattle.std.proofs.lemmas.List.{append_assoc}
 use Rattle.std.proofs.lemmas.Bool.Decides.{nat_tests}
 use Rattle.uri_pct.specs.Sets.{TableSet}
@@ -13,6 +13,7 @@ use Rattle.uri_pct.specs.Tokens.{IsValidFor, print}
 use Rattle.uri_parts.specs.Components.{components, has_authority, starts}
 use Rattle.uri_parts.specs.Grammar.{Kind}
 use Rattle.uri_ops.specs.ComponentSets.{IsComponentSet}
+use Rattle.uri_ops.specs.Dots.{remove_dot_segments}
 use Rattle.uri_ops.specs.Meaning.{meaning_of}
 use Rattle.uri_ops.specs.Normal.{normal_authority, normal_path, normal_path_text}
 use Rattle.uri_parts.specs.Ports.{PortFunction}
@@ -43,6 +44,18 @@ path-with-dots-is-normal-when-decoded set w (Some s) authority path utf8 valid e
     ap (λ t. guarded authority (print (decode_unreserved set t))) (cond-false _ _ _ e)
     ∙ path-without-two-slashes-has-no-guard authority (print (decode_unreserved set path))
     (decoded-path-keeps-two-slashes set w path utf8 valid ∙ no-leading-slash-no-two-slashes path e)
+
+-- normal paths: if a path that begins with `/` is appended under a scheme, decoded, without its dot
+-- segments and after the guard that this needs, its normal form is appended
+pub pushed-path-without-dots-is-normal : (set : TableSet) (scheme authority : Option (List ℕ))
+    (path old new : List ℕ) → is_some scheme ≡ true → starts 47 path ≡ true
+    → new ≡ old ++ guarded authority (print (decode_unreserved set (remove_dot_segments path)))
+    → new ≡ old ++ normal_path_text set scheme authority path
+pushed-path-without-dots-is-normal set None authority path old new some absolute pushed =
+    absurd (false≢true some)
+pushed-path-without-dots-is-normal set (Some s) authority path old new some absolute pushed = pushed
+    ∙ ap (λ t. old ++ guarded authority (print (decode_unreserved set t)))
+    (sym (cond-true _ _ _ absolute))
 
 -- general fact on options, for components of a normal text: a value mapped twice is there if it was
 pub is_some-of-mapped-twice : {A B C : Type 0} (f : A → B) (h : B → C) (o : Option A)

@@ -3,7 +3,7 @@ use Rattle.std.proofs.Common.{◌≡◌, ℕ, zero, suc, ◌+◌, ◌-◌, ◌<�
 use Rattle.std.proofs.Common.{◌||◌, List, [], ◌∷◌, ◌++◌, length, get_or, eqb, ltb, leb, ap, arith}
 use Rattle.std.proofs.Common.{refl, sym, ◌∙◌, ⊎_elim}
 use Rattle.std.specs.Prelude.{codes}
-use Rattle.std.proofs.lemmas.Bool.{and_from, and_parts, cases_Bool, cases_lt, eqb-true, false≢true}
+use Rattle.std.proofs.lemmas.Bool.{and_from, and_parts, cases_Bool, eqb-true, false≢true}
 use Rattle.std.proofs.lemmas.Bool.{leb-true, ltb-true, not-true, not_from_false, or_cases}
 use Rattle.std.proofs.lemmas.Bool.{or_from, or_left, or_right}
 use Rattle.std.proofs.lemmas.Bool.Decides.{nat_tests}

@@ -5,7 +5,7 @@ ghost use Rattle.std.specs.Prelude.{slice_index, true};
 ghost use Rattle.std.specs.Int.{bit_at};
 ghost use Rattle.uri_ops.specs.Models.Unchanged.{IsLiteralRun, is_dot_after_slash};
 ghost use Rattle.uri_ops.specs.Models.Unchanged.{is_dot_kept_at, is_kept_octet, is_literal_at};
-ghost use Rattle.uri_ops.specs.Models.Unchanged.{is_literal_byte, stays_at};
+ghost use Rattle.uri_ops.specs.Models.Unchanged.{stays_at};
 
 use uri_pct::lanes::{LANES, lanes_equal_to};
 
@@ -23,14 +23,6 @@ fn lanes_of_special_bytes(bytes: &[u8], at: usize) -> u64
     lanes_equal_to(b'%', bytes, at) | lanes_equal_to(0xE2, bytes, at) | dots
 }
 
-/// Returns whether the byte begins neither an octet nor a formatting character.
-#[inline(always)]
-pub(crate) fn is_literal_byte(byte: u8) -> bool
-    ensures { result ≡ is_literal_byte byte }
-{
-    byte != b'%' && byte != 0xE2
-}
-
 /// Returns the first index from `start` on at which an octet or a formatting character may begin,
 /// or a dot is after a `/`, if there is one. It is for a text that is hardly longer than a block.
 #[inline(never)]
@@ -43,7 +35,8 @@ fn short_literal_end(bytes: &[u8], start: usize) -> Option<usize>
 {
     let mut i = start;
     while i < bytes.len() {
-        if !is_literal_byte(bytes[i]) || bytes[i] == b'.' && bytes[i - 1] == b'/' {
+        let is_dot = bytes[i] == b'.' && bytes[i - 1] == b'/';
+        if is_dot || bytes[i] == b'%' || bytes[i] == 0xE2 {
             return Some(i);
         }
         i += 1;
@@ -167,25 +160,6 @@ fn is_dot_kept(bytes: &[u8], at: usize, limit: usize) -> bool
     next < limit && next < bytes.len() && !matches!(bytes[next], b'.' | b'/' | b'%')
 }
 
-/// Returns where a run ends of what normalising leaves: of octets, if one begins at `start`, or of
-/// the dot that is there after a `/`. Dot segments before `limit` are removed.
-#[inline(always)]
-fn kept_end(alone: bool, bytes: &[u8], start: usize, limit: usize) -> usize
-    requires { start < length bytes.now }
-    ensures from { start ≤ result }
-    ensures within { result ≤ length bytes.now }
-    ensures kept { (k : ℕ) → start ≤ k → k < result → stays_at alone limit bytes.now k ≡ true }
-{
-    if bytes[start] != b'.' {
-        return kept_octets_end(alone, bytes, start);
-    }
-    if is_dot_kept(bytes, start, limit) {
-        start + 1
-    } else {
-        start
-    }
-}
-
 /// Returns `true` only if normalising leaves each octet of the text from `start` on, and the text
 /// has no formatting character there, and before `limit` no dot segment. Octets past ASCII stay
 /// only if no component may have characters past ASCII (`alone`).
@@ -198,7 +172,11 @@ pub(crate) fn is_kept(alone: bool, bytes: &[u8], start: usize, limit: usize) -> 
 {
     let mut i = start;
     while let Some(end) = literal_end(bytes, i) {
-        i = kept_end(alone, bytes, end, limit);
+        i = if bytes[end] == b'.' && is_dot_kept(bytes, end, limit) {
+            end + 1
+        } else {
+            kept_octets_end(alone, bytes, end)
+        };
         if i == end {
             return false;
         }

@@ -10,7 +10,7 @@ ghost use Rattle.uri_parts.specs.AuthorityTexts.{authority_text};
 ghost use Rattle.uri_parts.specs.Components.{components, marked};
 ghost use Rattle.uri_parts.specs.CoreTexts.{core_text};
 ghost use Rattle.uri_parts.specs.Grammar.{Kind};
-ghost use Rattle.uri_parts.specs.PackedPositions.{packed};
+ghost use Rattle.uri_parts.specs.PackedPositions.{ArePackedPositionsOf};
 ghost use Rattle.uri_parts.specs.Schemes.{scheme_text};
 ghost use Rattle.uri_ops.specs.ComponentSets.{HasComponentSets, IsComponentSet};
 ghost use Rattle.uri_ops.specs.Dots.{IsAbsolute, remove_dot_segments, underflows};
@@ -21,15 +21,17 @@ ghost use Rattle.uri_ops.specs.Normal.{normal_parts, normal_scheme, normal_text}
 ghost use Rattle.uri_ops.specs.Normal.{normal_path_text, path_underflows};
 ghost use Rattle.uri_ops.specs.Normal.{default_port_of};
 ghost use Rattle.uri_ops.specs.Target.{guarded};
-ghost use Rattle.uri_ops.specs.Models.Written.{authority_parts_at, positions_by_authority_parts};
+ghost use Rattle.uri_ops.specs.Normalizers.{HasNormalText, text_underflows};
+ghost use Rattle.uri_ops.specs.Models.Written.{authority_parts_at};
 
 use crate::default_port::DefaultPort;
 use crate::normalize::decode_unreserved::push_decoded_component;
 use crate::normalize::decoded_paths::push_decoded_path;
 use crate::normalize::literal_runs::push_lower;
 use crate::normalize::normal_authority::push_authority;
+use crate::normalize::normalized::Normalized;
 use crate::path::slashes::guard_path;
-use std::alloc::AllocError;
+use std::alloc::{AllocError, Global};
 use uri_parts::component::{Authority, Scheme};
 use uri_parts::core_text::Core;
 use uri_parts::kind::Kind;
@@ -78,33 +80,9 @@ fn push_with_delimiter<E: Encoder>(
     Ok(Some(out.len()))
 }
 
-/// Appends the path of a normal text that is under a scheme and begins with `/`: decoded and
-/// without its dot segments, after `/.` if it would otherwise be parsed as an authority. Returns
-/// whether a double dot had nothing left to remove.
-fn push_normal_absolute_path<E: Encoder>(
-    has_authority: bool,
-    path: EStr<'_, E>,
-    out: &mut String,
-) -> Result<bool, AllocError>
-    requires absolute { IsAbsolute (text_of path) }
-    requires set { IsComponentSet (codes "?#[]") E.set }
-    requires slash { E.set.ascii slash ≡ true }
-    ensures text { (authority : Option (List ℕ)) → is_some authority ≡ has_authority
-        → OnOk result (Pushes out.old out.new
-        (guarded authority (print
-        (decode_unreserved E.set (remove_dot_segments (text_of path.entry)))))) }
-    ensures underflow { IfOk result (λ underflowed. underflowed ≡ underflows (text_of path.entry)) }
-{
-    let start = out.len();
-    let underflowed = push_decoded_path(path, out)?;
-    if !has_authority {
-        guard_path(start, out)?;
-    }
-    Ok(underflowed)
-}
-
 /// Appends a path as it is in a normal text, and returns whether a double dot had nothing left
-/// to remove. Only under a scheme and from a `/` on are dot segments removed.
+/// to remove. Only under a scheme and from a `/` on are dot segments removed, and `/.` is put
+/// before the path if it would otherwise be parsed as an authority.
 fn push_normal_path<E: PathEncoder>(
     has_scheme: bool,
     has_authority: bool,
@@ -120,48 +98,56 @@ fn push_normal_path<E: PathEncoder>(
     ensures underflow { (scheme : Option (List ℕ)) → is_some scheme ≡ has_scheme
         → IfOk result (λ underflowed. underflowed ≡ path_underflows scheme (text_of path.entry)) }
 {
-    if has_scheme && path.is_absolute() {
-        return push_normal_absolute_path(has_authority, path, out);
+    if !has_scheme || !path.is_absolute() {
+        push_decoded_component(path, out)?;
+        return Ok(false);
     }
-    push_decoded_component(path, out)?;
-    Ok(false)
+    let start = out.len();
+    let underflowed = push_decoded_path(path, out)?;
+    if !has_authority {
+        guard_path(start, out)?;
+    }
+    Ok(underflowed)
 }
 
-/// Appends the normal text of a value to what is empty, and returns where its components are, and
+/// Returns the normal text of a value, written component by component, with its positions and
 /// whether the removal of its dot segments underflows.
-///
-/// After an error, part of it may have been appended.
-pub(crate) fn push_normal_text<K: Kind, P: DefaultPort>(
+pub(crate) fn written_normal_text<K: Kind, P: DefaultPort>(
+    alloc: Global,
     core: Core<K, &str>,
     ports: &P,
-    out: &mut String,
-) -> Result<(PackedPositions, bool), AllocError>
+) -> Result<Normalized, AllocError>
     requires { HasComponentSets K.kind }
-    ensures text { OnOk result (Pushes out.old out.new
-        (normal_text (meaning_of K.kind (P.port_of ports.now) (core_text core.entry)))) }
-    ensures places { let m = meaning_of K.kind (P.port_of ports.now) (core_text core.entry) in
-        string_bytes out.old ≡ [] → IfOk result (λ written.
-        written.0 ≡ packed (positions_by_authority_parts (normal_components m)
-        (option_map normal_parts m.authority))) }
-    ensures underflow { let p = components (core_text core.entry) in
-        IfOk result (λ written. written.1 ≡ path_underflows p.scheme p.path) }
+    ensures text { IfOk result (λ made.
+        HasNormalText K.kind (P.port_of ports.now) (core_text core.entry)
+        (string_bytes made.text)) }
+    ensures at { IfOk result (λ made.
+        ArePackedPositionsOf (string_bytes made.text) made.positions) }
+    ensures underflow { IfOk result (λ made.
+        made.underflows ≡ text_underflows (core_text core.entry)) }
 {
+    let mut text = String::with_capacity(alloc, core.as_str().len())?;
     let scheme = core.scheme();
-    let scheme_end = push_scheme(scheme, out)?;
+    let scheme_end = push_scheme(scheme, &mut text)?;
     let authority = core.authority();
-    let places = push_authority(authority, scheme, ports, out)?;
-    let path_start = out.len();
+    let places = push_authority(authority, scheme, ports, &mut text)?;
+    let path_start = text.len();
     let path = core.path();
-    let underflows = push_normal_path(scheme.is_some(), authority.is_some(), path, out)?;
-    let path_end = out.len();
-    let query_end = push_with_delimiter('?', core.query(), out)?;
-    push_with_delimiter('#', core.fragment(), out)?;
-    let positions = Positions {
+    let has_authority = authority.is_some();
+    let underflows = push_normal_path(scheme.is_some(), has_authority, path, &mut text)?;
+    let path_end = text.len();
+    let query_end = push_with_delimiter('?', core.query(), &mut text)?;
+    push_with_delimiter('#', core.fragment(), &mut text)?;
+    let positions = PackedPositions::of(&Positions {
         scheme_end,
         authority: places,
         path_start,
         path_end,
         query_end,
-    };
-    Ok((PackedPositions::of(&positions), underflows))
+    });
+    Ok(Normalized {
+        text,
+        positions,
+        underflows,
+    })
 }

@@ -1,7 +1,7 @@
 //! A cheap test of values that are their own normal text (RFC 3986, section 6.2.2). It misses a few
 //! of them.
-ghost use Rattle.std.specs.Prelude.{◌≡◌, ◌≤◌, ◌<◌, ℕ, IfOk, IfSome, None, codes, false, length};
-ghost use Rattle.std.specs.Prelude.{option_map, slice_index, string_bytes, take, true};
+ghost use Rattle.std.specs.Prelude.{◌≡◌, ◌≤◌, ◌<◌, ℕ, IfSome, None, codes, false, length};
+ghost use Rattle.std.specs.Prelude.{option_map, slice_index, take, true};
 ghost use Rattle.std.specs.Char.{is_ascii_uppercase};
 ghost use Rattle.std.specs.List.{list_all};
 ghost use Rattle.std.specs.Str.{str_to_ascii_lowercase};
@@ -12,7 +12,6 @@ ghost use Rattle.uri_parts.specs.Authority.{authority_parts};
 ghost use Rattle.uri_parts.specs.AuthorityTexts.{authority_text};
 ghost use Rattle.uri_parts.specs.Components.{components, starts};
 ghost use Rattle.uri_parts.specs.CoreTexts.{core_text};
-ghost use Rattle.uri_parts.specs.PackedPositions.{ArePackedPositionsOf};
 ghost use Rattle.uri_parts.specs.Schemes.{scheme_text};
 ghost use Rattle.uri_ops.specs.ComponentSets.{HasComponentSets};
 ghost use Rattle.uri_ops.specs.Models.Unchanged.{IsUnchangedHost, IsUnchangedPort};
@@ -23,10 +22,8 @@ ghost use Rattle.uri_ops.specs.Normal.{default_port_of, host_text, normal_scheme
 ghost use Rattle.uri_ops.specs.Normalizers.{HasNormalText, text_underflows};
 ghost use Rattle.uri_parts.specs.Ports.{PortFunction};
 
-use crate::normalize::kept_octets::{is_kept, is_literal_byte};
+use crate::normalize::kept_octets::is_kept;
 use crate::normalize::normal_authority::is_bracketed;
-use crate::normalize::normalized::Normalized;
-use std::alloc::{AllocError, Global};
 use uri_parts::component::{Authority, Scheme};
 use uri_parts::core_text::Core;
 use uri_parts::kind::Kind;
@@ -41,21 +38,15 @@ fn lacks_past_ascii<K: Kind>() -> bool
     !K::QueryE::table().allows_some_past_ascii()
 }
 
-/// Returns whether the byte is settled: it is neither a letter in upper case nor a `%` nor a `[`.
-#[inline(always)]
-fn is_settled_byte(byte: u8) -> bool
-    ensures { result ≡ is_settled_byte byte }
-{
-    !byte.is_ascii_uppercase() && byte != b'%' && byte != b'['
-}
-
-/// Returns whether each byte of a scheme or a host is settled, so that normalising keeps it.
+/// Returns whether each byte of a scheme or a host is settled, so that normalising keeps it: it is
+/// neither a letter in upper case nor a `%` nor a `[`.
 #[inline(never)]
 fn is_settled(text: &str) -> bool
     ensures lower { result ≡ true → str_to_ascii_lowercase text.now ≡ text.now }
     ensures host { result ≡ true → IsUnchangedHost text.now }
 {
-    text.as_bytes().iter().all(|byte| is_settled_byte(*byte))
+    let bytes = text.as_bytes();
+    bytes.iter().all(|byte| !byte.is_ascii_uppercase() && *byte != b'%' && *byte != b'[')
 }
 
 /// Returns whether normalising keeps the scheme: there is none, or it is in lower case.
@@ -155,14 +146,6 @@ fn is_prefix_settled(bytes: &[u8], end: usize) -> bool
     end <= run_end(SETTLED_BELOW_64, SETTLED_FROM_64, window, 0)
 }
 
-/// Returns whether a text has a first byte that begins neither an octet nor a formatting character.
-fn begins_with_literal_byte(bytes: &[u8]) -> bool
-    ensures some { result ≡ true → 0 < length bytes.now }
-    ensures literal { result ≡ true → is_literal_byte (slice_index bytes.now 0) ≡ true }
-{
-    !bytes.is_empty() && is_literal_byte(bytes[0])
-}
-
 /// Returns the length of a prefix of the text in which normalising leaves each octet and each
 /// character, if it also leaves the scheme and the host: up to the end of the host, if each byte
 /// there is settled, or else one byte. If it may change one of them, the result is 0.
@@ -177,7 +160,9 @@ fn unchanged_prefix_len<K: Kind>(core: Core<K, &str>) -> usize
     }
     if is_scheme_unchanged(core.scheme())
         && is_host_unchanged(core.authority())
-        && begins_with_literal_byte(bytes)
+        && !bytes.is_empty()
+        && bytes[0] != b'%'
+        && bytes[0] != 0xE2
     {
         return 1;
     }
@@ -230,21 +215,4 @@ pub fn is_unchanged<K: Kind>(core: Core<K, &str>) -> bool
     ensures underflow { result ≡ true → text_underflows (core_text core.entry) ≡ false }
 {
     lacks_port(core.authority()) && is_unchanged_but_for_port(core)
-}
-
-/// Returns a copy of a text that is its own normal text, with its positions.
-pub(crate) fn copy_unchanged<K: Kind>(
-    alloc: Global,
-    core: Core<K, &str>,
-) -> Result<Normalized, AllocError>
-    ensures text { IfOk result (λ made. string_bytes made.text ≡ core_text core.entry) }
-    ensures at { IfOk result (λ made.
-        ArePackedPositionsOf (string_bytes made.text) made.positions) }
-    ensures underflow { IfOk result (λ made. made.underflows ≡ false) }
-{
-    Ok(Normalized {
-        text: String::from_str(alloc, core.as_str())?,
-        positions: core.packed_positions(),
-        underflows: false,
-    })
 }

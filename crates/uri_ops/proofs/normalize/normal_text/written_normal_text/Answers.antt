@@ -1,28 +1,35 @@
-use Rattle.std.proofs.Common.{[], ◌+◌, ◌++◌, codes, length, sym, ap, ◌∙◌, option_map, rules}
-use Rattle.std.proofs.Common.{string_bytes}
+use Rattle.std.proofs.Common.{◌≡◌, [], ◌+◌, ◌++◌, codes, length, sym, ap, ◌∙◌, option_map, rules}
+use Rattle.std.proofs.Common.{string_bytes, subst}
 use Rattle.std.specs.Prelude.{is_some}
+use Rattle.std.specs.Str.{IsUtf8}
 use Rattle.uri_parts.specs.AuthorityTexts.{authority_text}
 use Rattle.uri_parts.specs.Schemes.{scheme_text}
 use Rattle.uri_parts.specs.Components.{components, marked}
 use Rattle.uri_parts.specs.PackedPositions.{packed}
-use Rattle.uri_ops.specs.Meaning.{authority_meaning}
+use Rattle.uri_ops.specs.Meaning.{authority_meaning, meaning_of}
 use Rattle.uri_ops.specs.Normal.{default_port_of, normal_authority_with_delimiter, normal_authority}
 use Rattle.uri_ops.specs.Normal.{normal_part, normal_parts, normal_path_text, normal_scheme}
+use Rattle.uri_ops.specs.Normal.{normal_text, path_underflows}
+use Rattle.uri_ops.specs.Normalizers.{text_underflows}
 use Rattle.uri_ops.specs.Models.Written.{authority_parts_at}
 use Rattle.uri_ops.proofs.Builders.BuilderGrowth.{string_len-is-length-of-bytes}
 use Rattle.uri_ops.proofs.Normal.NormalPieces.{is_some-of-mapped-twice}
+use Rattle.uri_ops.proofs.Normal.NormalPlaces.{written-positions-are-of-normal-text}
 use Rattle.uri_ops.proofs.Normal.WrittenPlaces.{pushed-components-are-normal-text}
-use Rattle.uri_ops.proofs.normalize.normal_text.push_normal_text.Goals as goal
+use Rattle.uri_ops.proofs.normalize.normal_text.written_normal_text.Goals as goal
 use Rattle.uri_pct.proofs.General.{is_some-option_map}
 
 pub returns : goal.returns
+unfolding text_underflows
 returns g c =
     let kind = g.K.Kind.kind in
     let ports = g.P.DefaultPort.port_of c.args.ports.now in
     let p = components c.args.core.text.now in
     let meaning = authority_meaning kind (default_port_of ports p.scheme) in
     let authority = option_map normal_authority (option_map meaning p.authority) in
-    let old = string_bytes c.args.out.now in
+    let text = c.args.core.text.now in
+    let old = string_bytes c.in_ok-text.text in
+    let empty : old ≡ [] = search rules in
     let o1 = string_bytes c.push_scheme.new.out in
     let o2 = string_bytes c.push_authority.new.out in
     let o3 = string_bytes c.push_normal_path.new.out in
@@ -42,7 +49,7 @@ returns g c =
     ∙ sym c.is_some.ensures)
     (is_some-of-mapped-twice meaning normal_authority p.authority
     ∙ ap is_some (sym c.authority-authority.ensures) ∙ is_some-option_map authority_text _
-    ∙ sym c.is_some-2.ensures)
+    ∙ sym c.is_some-has_authority.ensures)
     ∙ (λ i. o2 ++ normal_path_text (g.met.K.Kind.path_set i) p.scheme authority
     (c.path-path.ensures i)))
     (c.in_ok-query_end.ensures.text
@@ -62,8 +69,17 @@ returns g c =
     (c.in_ok-query_end.ensures.end
     ∙ (λ i. option_map (λ s. length o3 + 1 + length s)
     (normal_part (g.met.K.Kind.query_set i) (c.query.ensures i)))) in
+    let whole = written.0 ∙ ap (λ t. t ++ normal_text (meaning_of kind ports text)) empty in
     record {
-      text = written.0;
-      places = λ empty. c.of.ensures ∙ ap packed (written.1 empty);
-      underflow = search rules;
+      text = record { text = whole };
+      at = written-positions-are-of-normal-text kind c.requires ports text
+          (string_bytes c.push_with_delimiter-2.new.out) c.of-positions.result
+          (record {
+            utf8 = subst IsUtf8 c.as_str.ensures.text c.as_str.utf8;
+            grammar = c.args.core.of_kind;
+          }) whole (c.of-positions.ensures ∙ ap packed (written.1 empty));
+      underflow = c.in_ok-underflows.ensures.underflow p.scheme
+          (ap is_some (sym c.scheme-scheme.ensures) ∙ is_some-option_map scheme_text _
+          ∙ sym c.is_some.ensures)
+          ∙ ap (path_underflows p.scheme) c.path-path.ensures;
     }
