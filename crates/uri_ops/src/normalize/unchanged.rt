@@ -24,7 +24,7 @@ ghost use Rattle.uri_parts.specs.Ports.{PortFunction};
 
 use crate::normalize::kept_octets::is_kept;
 use crate::normalize::normal_authority::is_bracketed;
-use uri_parts::component::{Authority, Scheme};
+use uri_parts::component::Authority;
 use uri_parts::core_text::Core;
 use uri_parts::kind::Kind;
 use uri_pct::encoder::Encoder;
@@ -47,17 +47,6 @@ fn is_settled(text: &str) -> bool
 {
     let bytes = text.as_bytes();
     bytes.iter().all(|byte| !byte.is_ascii_uppercase() && *byte != b'%' && *byte != b'[')
-}
-
-/// Returns whether normalising keeps the scheme: there is none, or it is in lower case.
-fn is_scheme_unchanged(scheme: Option<Scheme<'_>>) -> bool
-    ensures { result ≡ true → normal_scheme (option_map scheme_text scheme.entry)
-        ≡ option_map scheme_text scheme.entry }
-{
-    match scheme {
-        Some(scheme) => is_settled(scheme.as_str()),
-        None => true,
-    }
 }
 
 /// Returns whether a byte of an IPv6 address other than `:` may be written otherwise in a normal
@@ -158,8 +147,12 @@ fn unchanged_prefix_len<K: Kind>(core: Core<K, &str>) -> usize
     if 0 < host_end && host_end <= bytes.len() && is_prefix_settled(bytes, host_end) {
         return host_end;
     }
-    if is_scheme_unchanged(core.scheme())
-        && is_host_unchanged(core.authority())
+    if let Some(scheme) = core.scheme() {
+        if !is_settled(scheme.as_str()) {
+            return 0;
+        }
+    }
+    if is_host_unchanged(core.authority())
         && !bytes.is_empty()
         && bytes[0] != b'%'
         && bytes[0] != 0xE2

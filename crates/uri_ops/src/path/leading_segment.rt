@@ -78,12 +78,16 @@ fn long_dotless_prefix_len(bytes: &[u8]) -> usize
     last + dotless + 1
 }
 
-/// Returns the length of a path, which may be short, up to and with the first `/` that has a dot or
-/// an octet after it.
-fn short_dotless_prefix_len(bytes: &[u8]) -> usize
-    requires { 0 < length bytes.now }
-    ensures { IsPrefixToSlashDot bytes.now result }
+/// Returns how many bytes of a path come before the first segment that begins with a dot or an
+/// octet, as each dot segment does. The leading segment is no dot segment.
+pub(crate) fn dotless_prefix_len(path: &str) -> usize
+    requires some { 0 < length path.now }
+    requires first { BeginsWithoutDotSegment path.now }
+    ensures dotless { IsDotlessPrefix path.now result }
+    ensures some { 0 < result }
+    ensures place { IsCharBoundary path.now result }
 {
+    let bytes = path.as_bytes();
     if bytes.len() > LANES {
         return long_dotless_prefix_len(bytes);
     }
@@ -95,18 +99,6 @@ fn short_dotless_prefix_len(bytes: &[u8]) -> usize
         i += 1;
     }
     bytes.len()
-}
-
-/// Returns how many bytes of a path come before the first segment that begins with a dot or an
-/// octet, as each dot segment does. The leading segment is no dot segment.
-pub(crate) fn dotless_prefix_len(path: &str) -> usize
-    requires some { 0 < length path.now }
-    requires first { BeginsWithoutDotSegment path.now }
-    ensures dotless { IsDotlessPrefix path.now result }
-    ensures some { 0 < result }
-    ensures place { IsCharBoundary path.now result }
-{
-    short_dotless_prefix_len(path.as_bytes())
 }
 
 /// Returns where the segment after the leading one begins, or the end of the path: after the `/`

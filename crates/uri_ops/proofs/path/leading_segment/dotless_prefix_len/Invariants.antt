@@ -1,6 +1,6 @@
 use Rattle.std.proofs.Common.{◌≡◌, ◌<◌, ◌-◌, ℕ, false, length}
 use Rattle.uri_ops.specs.Models.LeadingSegments.{has_slash_dot_at}
-use Rattle.uri_ops.proofs.path.leading_segment.short_dotless_prefix_len.Given as goal
+use Rattle.uri_ops.proofs.path.leading_segment.dotless_prefix_len.Given as goal
 
 abbrev pub invariant-loop-i : goal.invariant-loop-i
 invariant-loop-i l =
