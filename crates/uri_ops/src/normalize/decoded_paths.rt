@@ -4,19 +4,16 @@ ghost use Rattle.std.specs.Prelude.{◌≡◌, ◌==◌, ◌&&◌, IfOk, OnOk, c
 ghost use Rattle.uri_pct.specs.Chunks.{widest_set};
 ghost use Rattle.uri_pct.specs.Delimiters.{slash};
 ghost use Rattle.uri_pct.specs.DecodeUnreserved.{decode_unreserved};
-ghost use Rattle.uri_pct.specs.EncodedTexts.{text_of};
 ghost use Rattle.uri_pct.specs.Tables.{set_of};
 ghost use Rattle.uri_pct.specs.Tokens.{IsValidFor, print};
 ghost use Rattle.uri_pct.specs.Texts.{Pushes};
 ghost use Rattle.uri_ops.specs.ComponentSets.{IsComponentSet};
 ghost use Rattle.uri_ops.specs.Dots.{IsAbsolute, remove_dot_segments, underflows};
 
-use crate::normalize::decode_unreserved::{push_decoded, push_decoded_component};
+use crate::normalize::decode_unreserved::push_decoded;
 use crate::path::dot_segments::{has_dot_segments, push_segments};
 use crate::path::segment_mode::SegmentMode;
 use std::alloc::AllocError;
-use uri_pct::encoder::Encoder;
-use uri_pct::pct_enc::EStr;
 use uri_pct::table::Table;
 
 /// Returns whether a piece of a path that is to be decoded is `/` alone.
@@ -65,10 +62,10 @@ impl SegmentMode for Decoded<'_> {
     }
 }
 
-/// Appends a path that begins with `/`, with its decodable octets decoded and without its dot
-/// segments. Returns whether a double dot had nothing left to remove. A double dot removes the last
-/// segment that was appended.
-fn push_decoded_without_dot_segments(
+/// Appends a path that begins with `/` as it is in a normal text but for a guard before it: with its
+/// decodable octets decoded, and without its dot segments. Returns whether a double dot had nothing
+/// left to remove. A double dot removes the last segment that was appended.
+pub(crate) fn push_decoded_path(
     table: &Table,
     path: &str,
     out: &mut String,
@@ -81,28 +78,12 @@ fn push_decoded_without_dot_segments(
         (print (decode_unreserved (set_of table.now) (remove_dot_segments path.now)))) }
     ensures underflow { IfOk result (λ underflowed. underflowed ≡ underflows path.now) }
 {
+    if !has_dot_segments(path) {
+        push_decoded(table, path, out)?;
+        return Ok(false);
+    }
     let start = out.len();
     out.push('/')?;
     let underflowed = push_segments(Decoded { table }, &path[1..], start, out)?;
     Ok(underflowed)
-}
-
-/// Appends a path that begins with `/` as it is in a normal text but for a guard before it: decoded
-/// and without its dot segments. Returns whether a double dot had nothing left to remove.
-pub(crate) fn push_decoded_path<E: Encoder>(
-    path: EStr<'_, E>,
-    out: &mut String,
-) -> Result<bool, AllocError>
-    requires absolute { IsAbsolute (text_of path) }
-    requires set { IsComponentSet (codes "?#[]") E.set }
-    requires slash { E.set.ascii slash ≡ true }
-    ensures text { OnOk result (Pushes out.old out.new
-        (print (decode_unreserved E.set (remove_dot_segments (text_of path.entry))))) }
-    ensures underflow { IfOk result (λ underflowed. underflowed ≡ underflows (text_of path.entry)) }
-{
-    if has_dot_segments(path.as_str()) {
-        return push_decoded_without_dot_segments(&E::table(), path.as_str(), out);
-    }
-    push_decoded_component(path, out)?;
-    Ok(false)
 }

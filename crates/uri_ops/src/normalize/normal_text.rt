@@ -103,7 +103,7 @@ fn push_normal_path<E: PathEncoder>(
         return Ok(false);
     }
     let start = out.len();
-    let underflowed = push_decoded_path(path, out)?;
+    let underflowed = push_decoded_path(&E::table(), path.as_str(), out)?;
     if !has_authority {
         guard_path(start, out)?;
     }

@@ -12,13 +12,12 @@ ghost use Rattle.uri_parts.specs.Authority.{authority_parts};
 ghost use Rattle.uri_parts.specs.AuthorityTexts.{authority_text};
 ghost use Rattle.uri_parts.specs.Components.{components, starts};
 ghost use Rattle.uri_parts.specs.CoreTexts.{core_text};
-ghost use Rattle.uri_parts.specs.Schemes.{scheme_text};
 ghost use Rattle.uri_ops.specs.ComponentSets.{HasComponentSets};
 ghost use Rattle.uri_ops.specs.Models.Unchanged.{IsUnchangedHost, IsUnchangedPort};
 ghost use Rattle.uri_ops.specs.Models.Unchanged.{IsUnchangedPrefix, KindLacksPastAscii};
 ghost use Rattle.uri_ops.specs.Models.Unchanged.{is_literal_byte, is_settled_byte};
 ghost use Rattle.uri_ops.specs.Meaning.{host_meaning};
-ghost use Rattle.uri_ops.specs.Normal.{default_port_of, host_text, normal_scheme};
+ghost use Rattle.uri_ops.specs.Normal.{default_port_of, host_text};
 ghost use Rattle.uri_ops.specs.Normalizers.{HasNormalText, text_underflows};
 ghost use Rattle.uri_parts.specs.Ports.{PortFunction};
 
@@ -95,23 +94,6 @@ fn is_address_unchanged(host: &str) -> bool
     colons <= 6
 }
 
-/// Returns `true` only if normalising keeps the host, if nothing in it is decoded: it is a name in
-/// lower case, or an address in brackets in its normal form.
-fn is_host_unchanged<U: Encoder, R: Encoder>(authority: Option<Authority<'_, U, R>>) -> bool
-    ensures { result ≡ true → IfSome (option_map authority_text authority.entry)
-        (λ a. IsUnchangedHost (authority_parts a).host) }
-{
-    let Some(authority) = authority else {
-        return true;
-    };
-    let host = authority.host();
-    if is_bracketed(host) {
-        is_address_unchanged(host)
-    } else {
-        is_settled(host)
-    }
-}
-
 /// The ASCII characters below 64 but `%`, as a mask.
 const SETTLED_BELOW_64: u64 = 0xFFFF_FFDF_FFFF_FFFF;
 
@@ -152,11 +134,17 @@ fn unchanged_prefix_len<K: Kind>(core: Core<K, &str>) -> usize
             return 0;
         }
     }
-    if is_host_unchanged(core.authority())
-        && !bytes.is_empty()
-        && bytes[0] != b'%'
-        && bytes[0] != 0xE2
-    {
+    if let Some(authority) = core.authority() {
+        let host = authority.host();
+        if is_bracketed(host) {
+            if !is_address_unchanged(host) {
+                return 0;
+            }
+        } else if !is_settled(host) {
+            return 0;
+        }
+    }
+    if !bytes.is_empty() && bytes[0] != b'%' && bytes[0] != 0xE2 {
         return 1;
     }
     0

@@ -3,8 +3,11 @@ use Rattle.std.proofs.Common.{string_bytes}
 use Rattle.std.specs.Prelude.{is_some}
 use Rattle.std.proofs.lemmas.Bool.{and_right}
 use Rattle.std.proofs.lemmas.Str.{IsUtf8-string_bytes}
+use Rattle.uri_pct.specs.DecodeUnreserved.{decode_unreserved}
 use Rattle.uri_pct.specs.EncodedTexts.{text_of}
+use Rattle.uri_pct.specs.Tokens.{print}
 use Rattle.uri_parts.specs.Components.{starts}
+use Rattle.uri_ops.specs.Dots.{remove_dot_segments}
 use Rattle.uri_ops.proofs.Normal.NormalPieces.{path-with-dots-is-normal-when-decoded}
 use Rattle.uri_ops.proofs.Normal.NormalPieces.{pushed-path-without-dots-is-normal}
 use Rattle.uri_ops.proofs.Normal.NormalPieces.{absolute-is-leading-slash}
@@ -50,4 +53,6 @@ returns-in_ok-guard_path-clause-text g c = λ scheme authority s same.
     (string_bytes c.guard_path.new.out) (s ∙ c.if-not-has_scheme.false) absolute
     (guard-inserted-before-path authority old (string_bytes c.push_decoded_path.new.out)
     (string_bytes c.guard_path.new.out) _ c.len-start.result (same ∙ c.if-not-has_authority.true)
-    at c.in_ok-underflowed.ensures.text c.in_ok-guard_path.ensures)
+    at (c.in_ok-underflowed.ensures.text
+    ∙ (λ i. old ++ print (decode_unreserved (c.table.ensures i)
+    (remove_dot_segments (c.as_str.ensures.text i))))) c.in_ok-guard_path.ensures)
