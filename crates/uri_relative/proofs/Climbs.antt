@@ -26,6 +26,7 @@ use Rattle.uri_ops.proofs.Paths.DotLaws.{property-of-path-to-slash-by-segments}
 use Rattle.uri_ops.proofs.Paths.DotLaws.{property-of-absolute-path-by-segments}
 use Rattle.uri_ops.proofs.Paths.DotLaws.{segments-of-dotless-path-are-dotless}
 use Rattle.uri_ops.proofs.Paths.DotLaws.{remove-dots-of-dotless, dotless-path-does-not-underflow}
+use Rattle.uri_ops.proofs.Paths.DotRuns.{empty-text-is-nil}
 use Rattle.uri_ops.proofs.Paths.TakenSegments.{removing-dots-after-directory}
 use Rattle.uri_ops.proofs.Paths.TakenSegments.{underflow-after-directory}
 use Rattle.uri_relative.specs.Relative.{double_dots, slashes, relative_path, relative_from}
@@ -124,11 +125,6 @@ underflows-follows-dots = record {
       (single-dot-does-not-underflow xs)
       ∙ ap (λ s. underflows (dir s ++ drop 1 rest)) (single-dot-keeps-segments xs);
 }
-
--- general fact on texts, for relativized paths: one that passes the test of emptiness is empty
-empty-test-means-empty-text : (text : List ℕ) → is_empty text ≡ true → text ≡ []
-empty-test-means-empty-text [] e = refl
-empty-test-means-empty-text (c ∷ text) e = cc
 
 -- general fact on lists of segments, for relativized paths: equal lists have equal tails
 equal-lists-have-equal-tails : (xs ys : List (List ℕ)) → [] ∷ xs ≡ [] ∷ ys → xs ≡ ys
@@ -258,12 +254,12 @@ module _ {X : Type 0} (f : List ℕ → X) (by : FollowsDotsFromDirectory f) whe
       let e = append-nil xs in
       ap (λ s. f (dir s ++ relative_path 0 rest)) e
       ∙ path-without-double-dots-leads-to-rest xs rest (is_empty rest) (needs_leading_dot rest)
-      (empty-test-means-empty-text rest)
+      (empty-text-is-nil rest)
       (subst (AllPass is_dotless) e dotless) (subst NoSlashes e lack)
   relative-path-leads-from-directory (y ∷ ys) xs rest dotless lack =
       ap (λ t. f (dir (xs ++ y ∷ ys) ++ t)) (relative_path-of-some-climbs (length ys) rest)
       ∙ path-with-double-dots-leads-up ys xs y rest (is_empty rest)
-      (empty-test-means-empty-text rest) dotless lack
+      (empty-text-is-nil rest) dotless lack
 
   -- from the directory of a path to one above it
   relative-path-leads-to-directory-above : (xs zs : List (List ℕ)) (last below rest : List ℕ)

@@ -1,19 +1,21 @@
 -- The forms of references that lead to a target: RFC 3986, sections 4.2 and 5.2.2.
 use Rattle.std.proofs.Common.{◌≡◌, ℕ, ◌+◌, ◌≤◌, ◌<◌, Bool, true, false, not, List, [], ◌++◌}
 use Rattle.std.proofs.Common.{◌&&◌, ◌||◌, ◌∷◌, drop, length, refl, sym, ap, ◌∙◌, subst, arith}
+use Rattle.std.proofs.Common.{rules}
 use Rattle.std.specs.Prelude.{codes, Option, None, Some, IfSome, IfNone, is_some, is_none}
+use Rattle.std.proofs.Math.Bool.{and-false}
 use Rattle.std.proofs.lemmas.List.{length-append}
-use Rattle.std.proofs.lemmas.Bool.{and_from, and_parts, both_ways, cond_both}
+use Rattle.std.proofs.lemmas.Bool.{and_from, and_parts, both_ways, cond_both, or_left}
 use Rattle.std.proofs.lemmas.Bool.{cond-false, cond-true, false≢true, not_from_false}
 use Rattle.std.proofs.lemmas.Str.{IsUtf8-nil}
-use Rattle.std.specs.Str.{chars}
 use Rattle.uri_pct.specs.Delimiters.{slash}
 use Rattle.uri_parts.specs.Components.{Components, IsAbemptyPath, IsSplitOf, Lacks, marked}
 use Rattle.uri_parts.specs.Components.{has_authority, has_scheme, recompose, starts}
 use Rattle.uri_parts.specs.Grammar.{Kind, components_meet_rules, has_colon_in_first_segment}
 use Rattle.uri_parts.specs.Grammar.{absent_or_passes, is_authority, is_scheme}
 use Rattle.uri_pct.specs.Sets.{TableSet, allows}
-use Rattle.uri_pct.specs.Tokens.{is_valid_for, tokens_from_chars}
+use Rattle.uri_pct.specs.Tokens.{is_valid_for}
+use Rattle.uri_pct.proofs.ValidTexts.EStrs.{empty_text_is_valid}
 use Rattle.uri_parts.proofs.Splitting.Marks.{IsEmptyOrMarked-query_text}
 use Rattle.uri_ops.specs.Dots.{IsAbsolute, lacks_dot_segments}
 use Rattle.uri_ops.specs.NormalTargets.{reference_kind}
@@ -35,7 +37,7 @@ use Rattle.uri_relative.proofs.References.{target_of-fragment-form, target_of-au
 use Rattle.uri_relative.proofs.References.{target_of-path-form}
 use Rattle.uri_relative.proofs.References.{path-form-does-not-underflow, target_of-query-form}
 use Rattle.uri_relative.proofs.References.{target_of-whole-target}
-use Rattle.uri_relative.proofs.Settled.{and-false-is-false, settled-target-does-not-underflow}
+use Rattle.uri_relative.proofs.Settled.{settled-target-does-not-underflow}
 use Rattle.uri_relative.proofs.ShortestForms.{fragment-form-is-shortest, path-form-is-shortest}
 use Rattle.uri_relative.proofs.ShortestForms.{query-form-is-shortest}
 
@@ -66,10 +68,6 @@ reference-components-meet-rules : (kind : Kind) (r : Components) → MeetsRules 
 reference-components-meet-rules kind r m needs =
     and_from _ _ (and_from _ _ (and_from _ _ (and_from _ _
     (and_from _ _ m.scheme m.authority) m.path) m.query) m.fragment) needs
-
--- general fact on booleans, for the rules of relativized references: or holds if the first does
-pub or-holds-if-first-does : (a b : Bool) → a ≡ true → (a || b) ≡ true
-or-holds-if-first-does a b e = ap (λ c. c || b) e
 
 -- relativized references: one that has neither scheme nor authority is relative
 reference-without-authority-is-relative : (base t r : Components) → r.scheme ≡ None → r.authority
@@ -105,11 +103,6 @@ path-without-guard-lacks-marks t path e h =
     (λ k. test-of-delimiters-gives-lacks (codes "?#") path
     (lacked-delimiters-fail-test (codes "?#") (codes "/." ++ path) k)) h
 
--- targets to relativize: the empty text is valid for each set
-empty-text-is-valid-for-set : (set : TableSet) → is_valid_for set [] ≡ true
-unfolding is_valid_for tokens_from_chars chars
-empty-text-is-valid-for-set set = refl
-
 -- targets to relativize: a path that is valid with the guard `/.` is valid without
 path-after-guard-is-valid : (set : TableSet) (rest : List ℕ)
     → is_valid_for set (codes "/." ++ 47 ∷ rest) ≡ true
@@ -119,7 +112,7 @@ path-after-guard-is-valid set rest e =
     (sym (validity-splits-at-slash set (codes "/.") rest (ascii-bytes-are-utf8 (codes "/.") refl))
     ∙ e) in
     validity-splits-at-slash set [] rest IsUtf8-nil
-    ∙ and_from _ _ (empty-text-is-valid-for-set set) p.1
+    ∙ and_from _ _ (empty_text_is_valid set) p.1
 
 -- targets to relativize: a path before a guard is added is valid, as the target's
 path-without-guard-is-valid : (set : TableSet) (t : Components) (path : List ℕ) → IsAbsolute path
@@ -146,6 +139,17 @@ path-is-at-most-two-longer-than-target t path way e h =
     (λ _. omega arith) (λ _. omega arith) in
     omega (arith, h, least, most)
 
+-- relativized references: one of a path, a query and the target's fragment is parsed as these
+pub path-and-query-are-split : (t : Components) (path : List ℕ) (query : Option (List ℕ))
+    → Lacks (codes "?#") path
+    → IfSome query (λ q. Lacks (codes "#") q) → has_colon_in_first_segment path ≡ false
+    → has_authority path ≡ false
+    → IsSplitOf
+    (recompose (record t { scheme = None; authority = None; path = path; query = query }))
+    (record t { scheme = None; authority = None; path = path; query = query })
+path-and-query-are-split t path query lacks q e f =
+    search (rules, no_scheme, IsEmptyOrMarked-query_text)
+
 module _ (kind : Kind) (prefers : Bool) (base t : Components) (w : IsDotlessTargetOf kind t) where
   -- the whole target
   pub whole : IsRelativeTo base t t
@@ -155,10 +159,10 @@ module _ (kind : Kind) (prefers : Bool) (base t : Components) (w : IsDotlessTarg
   whole relative least = record {
     split = w.split;
     meets = reference-components-meet-rules kind t (components-of-kind-meet-rules kind t w.meets)
-        (or-holds-if-first-does (is_some t.scheme) _ w.scheme);
+        (or_left (is_some t.scheme) _ w.scheme);
     leads = target_of-whole-target base t w.scheme w.settled;
     taken = ap (λ b. is_opaque base && not (b || is_fragment_only t)) w.scheme
-        ∙ and-false-is-false (is_opaque base);
+        ∙ and-false (is_opaque base);
     below = ap (λ (c : Components). underflows_if_absolute c.path) (whole_joined base t w.scheme)
         ∙ settled-target-does-not-underflow t w.settled;
     relative = relative;
@@ -199,7 +203,7 @@ module _ (kind : Kind) (prefers : Bool) (base t : Components) (w : IsDotlessTarg
           path = m.path;
           query = m.query;
           fragment = m.fragment;
-        }) (or-holds-if-first-does (is_some t.authority) _ some);
+        }) (or_left (is_some t.authority) _ some);
         leads = target_of-authority-form base t s some w.settled;
         taken = ap (λ b. b && not (is_fragment_only (record t { scheme = None }))) opaque;
         below = ap (λ (c : Components). underflows_if_absolute c.path)
@@ -233,23 +237,6 @@ module _ (kind : Kind) (prefers : Bool) (base t : Components) (w : IsDotlessTarg
         fragment = (components-of-kind-meet-rules kind t w.meets).fragment;
       }) (not_from_false _ e)
 
-  path-and-query-are-split : (path : List ℕ) (query : Option (List ℕ)) → Lacks (codes "?#") path
-      → IfSome query (λ q. Lacks (codes "#") q) → has_colon_in_first_segment path ≡ false
-      → has_authority path ≡ false
-      → IsSplitOf
-      (recompose (record t { scheme = None; authority = None; path = path; query = query }))
-      (record t { scheme = None; authority = None; path = path; query = query })
-  path-and-query-are-split path query lacks q e f = record {
-    whole = refl;
-    scheme = tt;
-    authority = tt;
-    path = lacks;
-    query = q;
-    no_scheme = no_scheme path (marked (codes "?") query [] ++ marked (codes "#") t.fragment []) e
-        (IsEmptyOrMarked-query_text query t.fragment);
-    no_authority = f;
-  }
-
   path-and-tail-are-no-longer-than-target : (path : List ℕ) → length path ≤ length t.path + 2
       → length (path ++ after_path t) ≤ length (recompose t)
   path-and-tail-are-no-longer-than-target path h = omega (
@@ -275,7 +262,7 @@ module _ (kind : Kind) (prefers : Bool) (base t : Components) (w : IsDotlessTarg
       let m = components-of-kind-meet-rules kind t w.meets in
       let r : Components = record t { scheme = None; authority = None; path = way } in
       record {
-        split = path-and-query-are-split way t.query
+        split = path-and-query-are-split t way t.query
             (p.lacks (path-without-guard-lacks-marks t path u.guards w.split.path))
             w.split.query p.no_scheme p.no_authority;
         meets = path-and-query-meet-rules way t.query
@@ -311,9 +298,9 @@ module _ (kind : Kind) (prefers : Bool) (base t : Components) (w : IsDotlessTarg
       let m = components-of-kind-meet-rules kind t w.meets in
       let r : Components = record t { scheme = None; authority = None; path = [] } in
       record {
-        split = path-and-query-are-split [] t.query
+        split = path-and-query-are-split t [] t.query
             (test-of-delimiters-gives-lacks (codes "?#") [] refl) w.split.query refl refl;
-        meets = path-and-query-meet-rules [] t.query (empty-text-is-valid-for-set kind.path)
+        meets = path-and-query-meet-rules [] t.query (empty_text_is_valid kind.path)
             m.query refl;
         leads = target_of-query-form base t s a p some w.settled;
         taken = ap (λ b. b && not (is_fragment_only r)) opaque;
@@ -332,11 +319,11 @@ module _ (kind : Kind) (prefers : Bool) (base t : Components) (w : IsDotlessTarg
   fragment-form-is-reference s a p q =
       let r : Components = record t { scheme = None; authority = None; path = []; query = None } in
       record {
-        split = path-and-query-are-split [] None
+        split = path-and-query-are-split t [] None
             (test-of-delimiters-gives-lacks (codes "?#") [] refl) tt refl refl;
-        meets = path-and-query-meet-rules [] None (empty-text-is-valid-for-set kind.path) refl refl;
+        meets = path-and-query-meet-rules [] None (empty_text_is_valid kind.path) refl refl;
         leads = target_of-fragment-form base t s a p q w.settled;
-        taken = and-false-is-false (is_opaque base);
+        taken = and-false (is_opaque base);
         below = ap underflows_if_absolute p ∙ settled-target-does-not-underflow t w.settled;
         relative = reference-without-authority-is-relative base t r refl refl;
         short = λ _. omega (

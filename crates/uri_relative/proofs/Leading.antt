@@ -1,14 +1,16 @@
 -- References that lead to a target: RFC 3986, section 5.2.
-use Rattle.std.proofs.Common.{◌≡◌, ℕ, Bool, true, false, not, List, ◌++◌, ◌&&◌, ◌||◌, refl, sym, ap}
+use Rattle.std.proofs.Common.{◌≡◌, ℕ, Bool, true, false, not, List, ◌++◌, ◌&&◌, ◌||◌, sym, ap}
 use Rattle.std.proofs.Common.{◌∙◌, ◌≤◌, append_assoc, length, subst}
 use Rattle.std.specs.Prelude.{Ok, is_some}
 use Rattle.std.specs.Str.{IsUtf8}
-use Rattle.std.proofs.lemmas.Bool.{and_from, and_parts, cond-false, cond-true}
+use Rattle.std.proofs.Math.Bool.{and-false}
+use Rattle.std.proofs.lemmas.Bool.{and_from, cond-false, cond-true}
 use Rattle.uri_parts.specs.Components.{Components, IsSplitOf, components, recompose}
 use Rattle.uri_parts.specs.Grammar.{Kind, IsOfKind, components_meet_rules}
 use Rattle.uri_parts.specs.Grammar.{has_colon_in_first_segment}
 use Rattle.uri_parts.proofs.Splitting.Recompose.{components-are-split-of-text, recompose-components}
 use Rattle.uri_parts.proofs.Splitting.Splits.{only-split-is-components}
+use Rattle.uri_parts.proofs.TextKinds.KindSets.{kind-that-needs-scheme-has-one}
 use Rattle.uri_ops.specs.ComponentSets.{HasComponentSets}
 use Rattle.uri_ops.specs.Resolving.{with_final_path}
 use Rattle.uri_ops.specs.Target.{dotless_if_absolute, is_fragment_only, is_opaque, dotted_target}
@@ -25,22 +27,8 @@ use Rattle.uri_relative.specs.Leading.{without_fragment}
 use Rattle.uri_relative.specs.Leading.{settled}
 use Rattle.uri_relative.proofs.Forms.{components-of-kind-meet-rules}
 use Rattle.uri_relative.proofs.Returning.{reference-leads-back-to-resolved-target}
-use Rattle.uri_relative.proofs.Settled.{final-path-is-idempotent, and-false-is-false}
+use Rattle.uri_relative.proofs.Settled.{final-path-is-idempotent}
 use Rattle.uri_relative.proofs.Shrinking.{settled-text-is-no-longer}
-
--- general fact on booleans, for the scheme of a target to relativize: one that is needed is there
-needs : (scheme : Bool) (needed : Bool) (other : Bool) → needed ≡ true
-    → (scheme || (not needed && other)) ≡ true → scheme ≡ true
-needs true needed other e h = refl
-needs false true other e h = h
-needs false false other e h = e
-
--- relativized references: a text of a kind that needs a scheme has one
-pub kind-needs-scheme : (kind : Kind) (text : List ℕ) → kind.needs_scheme ≡ true
-    → IsOfKind kind text
-    → is_some (components text).scheme ≡ true
-kind-needs-scheme kind text e h =
-    needs (is_some (components text).scheme) kind.needs_scheme _ e (and_parts _ _ h).1
 
 -- relativized references: the components (t) of a text of a kind with a scheme are a possible
 -- target, if there are no dot segments left to remove
@@ -53,7 +41,7 @@ dotless-text-is-target kind text t same sets e h =
       split = subst (λ s. IsSplitOf s (components text)) (sym (recompose-components text))
           (components-are-split-of-text text);
       meets = h;
-      scheme = kind-needs-scheme kind text e h;
+      scheme = kind-that-needs-scheme-has-one kind text e h;
       settled = done;
     })
 
@@ -76,7 +64,7 @@ itself base t e =
     resolves base t (with_final_path t)
     (let j : dotted_target base t ≡ t = cond-true _ _ _ e in ap with_final_path j)
     (ap (λ b. is_opaque base && not (b || is_fragment_only t)) e
-    ∙ and-false-is-false (is_opaque base))
+    ∙ and-false (is_opaque base))
 
 -- relativized references: the text of one leads to the target that its components lead to
 reference-text-leads-to-target : (kind : Kind) (prefers : Bool) (base target reference : List ℕ)
@@ -116,7 +104,7 @@ pub settled-text-is-of-kind : (kind : Kind) (text : List ℕ) → HasComponentSe
     → IsOfKind kind (recompose (settled text))
 settled-text-is-of-kind kind text sets e utf8 h =
     let c = components text in
-    let some = kind-needs-scheme kind text e h in
+    let some = kind-that-needs-scheme-has-one kind text e h in
     let m = components-of-kind-meet-rules kind c h in
     let path = guarded-set-text-is-set-text kind.path sets.path sets.slash c.authority
     (dotless_if_absolute c.path)
@@ -149,7 +137,7 @@ reference-leads-to-target kind prefers base target made base' target' made' need
     subst (λ x. LeadsTo x target' made') e (subst (λ x. LeadsTo base x made') f
     (subst (LeadsTo base target) (sym h)
     (reference-text-leads-to-target kind prefers base target made
-    (kind-needs-scheme kind target needs of_kind) w)))
+    (kind-that-needs-scheme-has-one kind target needs of_kind) w)))
 
 -- relativized references: if a reference resolves to the target against the base, so does the one
 -- made; primed texts are those of the call's clause
@@ -163,7 +151,7 @@ reference-leads-back-to-target kind prefers base target made base' target' made'
     of_kind e f h w =
     λ reference resolves. reference-leads-back-to-resolved-target base' reference target' made'
     (subst (λ x. is_some (components x).scheme ≡ true) e
-    (kind-needs-scheme kind base needs of_base))
+    (kind-that-needs-scheme-has-one kind base needs of_base))
     resolves
     (reference-leads-to-target kind prefers base target made base' target' made' needs
     of_kind e f h w)

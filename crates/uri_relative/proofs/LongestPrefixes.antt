@@ -79,7 +79,7 @@ text-from-before-slash-is-split text last m h e least =
     (drop_more text last 0 h ∙ ap (λ c. c ∷ drop (last + 1) text) e)
 
 -- relativized paths: a text with a `/` (47) is not empty
-text-with-slash-is-nonempty : (a b : List ℕ) → is_empty (a ++ 47 ∷ b) ≡ false
+pub text-with-slash-is-nonempty : (a b : List ℕ) → is_empty (a ++ 47 ∷ b) ≡ false
 text-with-slash-is-nonempty [] b = refl
 text-with-slash-is-nonempty (c ∷ a) b = refl
 

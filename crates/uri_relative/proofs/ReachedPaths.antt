@@ -6,16 +6,17 @@ use Rattle.std.proofs.Common.{ap, subst, ◌∙◌, arith, append_assoc, inl, in
 use Rattle.std.specs.Prelude.{codes}
 use Rattle.std.specs.List.{list_any, prefix_len}
 use Rattle.std.proofs.lemmas.Bool.{cases_Bool, cond-true, false≢true, not_from_false, or_parts}
-use Rattle.std.proofs.lemmas.Bool.Decides.{nat_tests}
 use Rattle.uri_pct.specs.Sets.{is_one_of}
 use Rattle.uri_parts.specs.Components.{starts}
 use Rattle.uri_parts.specs.Grammar.{has_colon_in_first_segment}
 use Rattle.uri_ops.specs.Dots.{has_slash, is_empty, remove_dot_segments, segments}
 use Rattle.uri_ops.proofs.Paths.DotLaws.{path-after-slash-appends-its-segments}
+use Rattle.uri_ops.proofs.Paths.DotRuns.{not-empty-has-length}
 use Rattle.uri_ops.proofs.Paths.Segments.{AllPass, appended-segments-pass-test, dotless_of-append}
 use Rattle.uri_ops.proofs.Paths.Segments.{closing, is_none, is_dotless, steps}
 use Rattle.uri_ops.proofs.Paths.Segments.{steps-of-dotless-append-all}
 use Rattle.uri_ops.proofs.Paths.SlashedSegments.{NoSlashes, first-segment-and-rest-lack-slashes}
+use Rattle.uri_ops.proofs.Paths.SlashedSegments.{is_one_of-slash-is-equality}
 use Rattle.uri_ops.proofs.Paths.SlashedSegments.{lacks_slash, remove-dots-by-segments}
 use Rattle.uri_ops.proofs.Paths.SlashedSegments.{segments-of-text-lack-slashes}
 use Rattle.uri_ops.proofs.Paths.SlashedSegments.{segments-of-text-are-not-none}
@@ -28,10 +29,6 @@ use Rattle.uri_relative.proofs.Shrinking.{segments_left}
 use Rattle.uri_relative.proofs.SharedSegments.{BeginWithSameSegment}
 use Rattle.uri_relative.proofs.SharedSegments.{segments-share-directory-prefix}
 
--- relativized paths: being one of the delimiter `/` is being 47
-one-of-slash-is-byte-47 : (c : ℕ) → is_one_of (codes "/") c ≡ eqb c 47
-one-of-slash-is-byte-47 c = grind (arith, nat_tests)
-
 -- relativized paths: the first segment (s) of a path has a `:` (58) exactly if the path has one
 -- there
 colon-is-in-first-segment-alone : (s : List ℕ) (rest : List (List ℕ)) → has_slash s ≡ false
@@ -43,7 +40,7 @@ colon-is-in-first-segment-alone (c ∷ s) rest e =
     let p = or_parts (eqb c 47) (has_slash s) e in
     let more : prefix_len (λ c. not (is_one_of (codes "/") c)) ((c ∷ s) ++ slashed rest)
     ≡ suc (prefix_len (λ c. not (is_one_of (codes "/") c)) (s ++ slashed rest)) =
-    cond-true _ _ _ (not_from_false _ (one-of-slash-is-byte-47 c ∙ p.0)) ∙ omega arith in
+    cond-true _ _ _ (not_from_false _ (is_one_of-slash-is-equality c ∙ p.0)) ∙ omega arith in
     ap (λ n. list_any (λ c. eqb c 58) (take n ((c ∷ s) ++ slashed rest))) more
     ∙ ap (λ b. eqb c 58 || b) (colon-is-in-first-segment-alone s rest p.1)
 
@@ -83,11 +80,6 @@ path-with-double-dots-is-no-longer k rest x spare few exact h = ⊎_elim
     (λ e. omega (arith, length-of-path-up-to-nothing k rest e, few, h))
     (λ e. omega (arith, length-of-path-up-to-some k rest e, exact e, h))
     (cases_Bool (is_empty rest))
-
--- general fact on texts, for relativized paths: one that is not empty has a length above 0
-nonempty-text-has-length : (x : List ℕ) → is_empty x ≡ false → 0 < length x
-nonempty-text-has-length [] e = absurd (false≢true (sym e))
-nonempty-text-has-length (c ∷ x) e = omega arith
 
 -- relativized paths: segments, each after a `/` (47), are `/`, the first, and the others
 joined-segments-begin-with-slash : (d : List ℕ) (ds : List (List ℕ)) → slashed (d ∷ ds)
@@ -180,7 +172,7 @@ parts-are-reached-by-short-path output left segs prefix [] (d ∷ ds) s spare fr
       output_is = e;
       path_is = segments-left-are-directory-and-rest left prefix d ds f;
       short = path-without-double-dots-is-no-longer rest x (is_empty rest) (needs_leading_dot rest)
-          (nonempty-text-has-length x some)
+          (not-empty-has-length x some)
           (λ h. omega (arith, n, m, cost, no-byte-is-spare-for-some-rest spare d ds [] why h))
           (λ h g. omega (
             arith,

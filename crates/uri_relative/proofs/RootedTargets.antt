@@ -1,9 +1,9 @@
 -- Which targets need an authority in their reference, and which bases have a rooted path: RFC 3986,
 -- section 5.2.2.
 use Rattle.std.proofs.Common.{◌≡◌, ◌≢◌, ℕ, Bool, true, false, List, []}
-use Rattle.std.proofs.Common.{◌&&◌, ◌||◌, ◌∷◌, refl, sym, ap, ◌∙◌, inl, inr, ⊎_elim}
+use Rattle.std.proofs.Common.{◌&&◌, refl, sym, ap, ◌∙◌, inl, inr, ⊎_elim}
 use Rattle.std.specs.Prelude.{codes, Option, None, Some, IfSome, is_some, is_none}
-use Rattle.std.proofs.lemmas.Bool.{and_from, both_ways, cases_Bool}
+use Rattle.std.proofs.lemmas.Bool.{and_from, both_ways, cases_Bool, or_left, or_right}
 use Rattle.std.proofs.lemmas.Bool.{false≢true, not-false, not_from_false}
 use Rattle.uri_pct.specs.Delimiters.{slash}
 use Rattle.uri_parts.specs.Components.{Components, IsAbemptyPath, Lacks, components, starts}
@@ -13,9 +13,9 @@ use Rattle.uri_parts.proofs.Splitting.Recompose.{components-are-split-of-text}
 use Rattle.uri_parts.proofs.Splitting.Recompose.{equal-to-true-is-IsTrue}
 use Rattle.uri_ops.specs.Dots.{is_empty}
 use Rattle.uri_ops.specs.Target.{is_opaque}
+use Rattle.uri_ops.proofs.Paths.DotRuns.{empty-text-is-nil}
 use Rattle.uri_relative.specs.Forms.{IsDotlessTargetOf, NeedsPath}
 use Rattle.uri_relative.specs.Leading.{is_rootless, has_emptied_path, needs_authority}
-use Rattle.uri_relative.proofs.Forms.{or-holds-if-first-does}
 
 -- targets to relativize: a path after an authority that does not begin with `/` is empty
 abempty-path-without-slash-is-empty : (path : List ℕ) → IsAbemptyPath path → starts slash path
@@ -23,11 +23,6 @@ abempty-path-without-slash-is-empty : (path : List ℕ) → IsAbemptyPath path �
 abempty-path-without-slash-is-empty path (inl e) h = e
 abempty-path-without-slash-is-empty path (inr e) h = absurd
     (both_ways _ h (eq_true_from_IsTrue _ e))
-
--- general fact on texts, for paths of targets to relativize: a text that is found empty is empty
-empty-test-means-empty-text : (path : List ℕ) → is_empty path ≡ true → path ≡ []
-empty-test-means-empty-text [] e = refl
-empty-test-means-empty-text (c ∷ path) e = absurd (false≢true e)
 
 -- targets to relativize: if the target has no query, and another than the base, the base has one
 base-has-query-that-target-lacks : (base t : Option (List ℕ)) → is_none t ≡ true → base ≢ t
@@ -41,13 +36,8 @@ base-has-query-that-target-lacks (Some p) t e other = refl
 rootless-path-without-authority-needs-one : (base t : Components) → is_some t.authority ≡ false
     → starts slash t.path ≡ false → needs_authority base t ≡ true
 rootless-path-without-authority-needs-one base t none e =
-    or-holds-if-first-does (is_rootless t) _ (and_from _ _ (not_some_is_none t.authority none)
+    or_left (is_rootless t) _ (and_from _ _ (not_some_is_none t.authority none)
     (not_from_false _ e))
-
--- general fact on booleans, for targets to relativize: or holds if the second does
-or-holds-if-second-does : (a b : Bool) → b ≡ true → (a || b) ≡ true
-or-holds-if-second-does true b e = refl
-or-holds-if-second-does false b e = e
 
 -- targets to relativize: one with an empty path, if the base has another, needs a reference with a
 -- scheme or an authority
@@ -57,14 +47,14 @@ empty-path-after-authority-needs-authority : (base t : Components) → NeedsPath
     → needs_authority base t ≡ true
 empty-path-after-authority-needs-authority base t n a opaque some e =
     let none : is_empty t.path ≡ true = ap is_empty e in
-    or-holds-if-second-does (is_rootless t) _
+    or_right (is_rootless t) _
     (⊎_elim
-    (λ h. let same : base.path ≡ t.path = empty-test-means-empty-text base.path h ∙ sym e in
+    (λ h. let same : base.path ≡ t.path = empty-text-is-nil base.path h ∙ sym e in
     let no = n.no_query a same opaque in
-    or-holds-if-second-does (has_emptied_path base t) _
+    or_right (has_emptied_path base t) _
     (and_from _ _ (and_from _ _ (and_from _ _ none h) no)
     (base-has-query-that-target-lacks base.query t.query no (n.other_query a same))))
-    (λ h. or-holds-if-first-does (has_emptied_path base t) _
+    (λ h. or_left (has_emptied_path base t) _
     (and_from _ _ (and_from _ _ some none) (not_from_false _ h)))
     (cases_Bool (is_empty base.path)))
 

@@ -2,6 +2,7 @@
 use Rattle.std.proofs.Common.{◌≡◌, ℕ, Bool, true, false, cond, List, [], ◌∷◌, ◌++◌, ◌&&◌, arith}
 use Rattle.std.proofs.Common.{drop, eqb, get_or, refl, sym, ap, ◌∙◌, subst, ⊎_elim}
 use Rattle.std.specs.Prelude.{codes, Option, None, Some, IfNone, is_some, is_none}
+use Rattle.std.proofs.Math.Bool.{and-false}
 use Rattle.std.proofs.lemmas.Bool.{and_from, and_parts, both_ways, cases_Bool, cond-true}
 use Rattle.std.proofs.lemmas.Bool.{cond-false, eqb-true, false_from_ne_true, false≢true}
 use Rattle.std.proofs.lemmas.Str.{IsCharBoundary-after_ascii}
@@ -24,11 +25,6 @@ use Rattle.uri_ops.proofs.Paths.TakenSegments.{absolute-path-is-slash-and-rest}
 use Rattle.uri_relative.specs.Forms.{IsUnguarded, is_guarded}
 use Rattle.uri_relative.proofs.Climbs.{underflows-follows-dots}
 use Rattle.uri_relative.proofs.Ways.{guard-counts-as-no-segment, rootless-path-has-no-authority}
-
--- general fact on booleans, for targets to relativize: and with false is false
-pub and-false-is-false : (b : Bool) → (b && false) ≡ false
-and-false-is-false true = refl
-and-false-is-false false = refl
 
 -- targets to relativize: the path without dot segments and guarded; a: the authority
 abbrev finish : Option (List ℕ) → List ℕ → List ℕ
@@ -57,7 +53,7 @@ pub finish-keeps-rootless-path : (a : Option (List ℕ)) (path : List ℕ) → s
 finish-keeps-rootless-path a path e =
     ap (guarded a) (cond-false _ _ _ e)
     ∙ cond-false _ _ _ (ap (λ b. is_none a && b) (rootless-path-has-no-authority path e)
-    ∙ and-false-is-false (is_none a))
+    ∙ and-false (is_none a))
 
 -- targets to relativize: nothing is left to remove of a path without dot segments that is guarded
 guarded-path-does-not-underflow : (path : List ℕ) (guard : Bool) → IsAbsolute path
@@ -66,7 +62,7 @@ guarded-path-does-not-underflow : (path : List ℕ) (guard : Bool) → IsAbsolut
 guarded-path-does-not-underflow path true h e = guard-counts-as-no-segment underflows
     underflows-follows-dots path h ∙ e
 guarded-path-does-not-underflow path false h e = ap (λ u. starts slash path && u) e
-    ∙ and-false-is-false (starts slash path)
+    ∙ and-false (starts slash path)
 
 -- targets to relativize: an absolute path without dot segments, guarded, does not underflow
 finished-absolute-path-does-not-underflow : (a : Option (List ℕ)) (path : List ℕ) → IsAbsolute path
@@ -97,7 +93,7 @@ settled-target-does-not-underflow t done =
 
 -- targets to relativize: a path after an authority, or without `//` at its start, needs no guard;
 -- a: the authority
-path-without-slashes-needs-no-guard : (a : Option (List ℕ)) (path : List ℕ)
+pub path-without-slashes-needs-no-guard : (a : Option (List ℕ)) (path : List ℕ)
     → IfNone a (has_authority path ≡ false)
     → guarded a path ≡ path
 path-without-slashes-needs-no-guard None path e = cond-false _ _ _ e

@@ -3,14 +3,15 @@
 use Rattle.std.proofs.Common.{◌≡◌, ◌⊎◌, ℕ, ◌+◌, ◌*◌, ◌<◌, ◌≤◌, Bool, true, false, List, [], ◌∷◌}
 use Rattle.std.proofs.Common.{◌++◌, ◌||◌, length, refl, sym, ap, ◌∙◌, arith, append_assoc, inl, inr}
 use Rattle.std.proofs.Common.{length-append}
+use Rattle.std.proofs.Math.Bool.{and-false}
 use Rattle.std.proofs.lemmas.List.{append-nil}
 use Rattle.std.proofs.lemmas.Bool.{false≢true}
 use Rattle.uri_ops.specs.Dots.{is_double_dot, is_single_dot}
+use Rattle.uri_ops.proofs.Paths.DotRuns.{single-dot-is-not-empty}
 use Rattle.uri_ops.proofs.Paths.Segments.{closing, end_of, pop, pop-undoes-push, step_of, steps}
 use Rattle.uri_ops.proofs.Paths.Segments.{next_output}
 use Rattle.uri_ops.proofs.Paths.SlashedSegments.{slashed}
 use Rattle.uri_relative.proofs.Climbs.{segments-are-all-but-last-and-last}
-use Rattle.uri_relative.proofs.Settled.{and-false-is-false}
 use Rattle.uri_relative.proofs.Shrinking.{segments_left, length-of-first-segment-and-rest}
 use Rattle.uri_relative.proofs.Shrinking.{no-segments-have-length-zero}
 
@@ -35,14 +36,9 @@ pub record SharesDirectoryPrefix (output left segs : List (List ℕ)) : Type 0 w
   pub first : (0 < length up) ⊎ ((down ≡ [] ∷ []) ⊎ (BeginWithSameSegment segs down
       ⊎ (3 * length up + length (slashed down) + 2 ≤ length (slashed segs) + spare)))
 
--- relativized paths: `.` has a byte at least
-single-dot-segment-is-nonempty : (s : List ℕ) → is_single_dot s ≡ true → 0 < length s
-single-dot-segment-is-nonempty [] e = absurd (false≢true e)
-single-dot-segment-is-nonempty (c ∷ s) e = omega arith
-
 -- relativized paths: a single byte is not `..`
 one-byte-is-no-double-dot : (c : ℕ) → is_double_dot (c ∷ []) ≡ false
-one-byte-is-no-double-dot c = simp and-false-is-false
+one-byte-is-no-double-dot c = simp and-false
 
 -- relativized paths: the segment `..` has two bytes at least
 double-dot-segment-has-two-bytes : (s : List ℕ) → is_double_dot s ≡ true → 1 < length s
@@ -272,9 +268,9 @@ pub segments-share-directory-prefix : (s : List ℕ) (rest output : List (List �
 unfolding segments_left steps step_of closing
 segments-share-directory-prefix s [] output =
     last-segment-shares-directory-prefix (is_single_dot s) (is_double_dot s) s output
-    (single-dot-segment-is-nonempty s) (double-dot-segment-has-two-bytes s)
+    (single-dot-is-not-empty s) (double-dot-segment-has-two-bytes s)
 segments-share-directory-prefix s (t ∷ rest) output =
     next-segment-shares-directory-prefix (is_single_dot s) (is_double_dot s) s output
-    (segments_left (step_of output s) (t ∷ rest)) (t ∷ rest) (single-dot-segment-is-nonempty s)
+    (segments_left (step_of output s) (t ∷ rest)) (t ∷ rest) (single-dot-is-not-empty s)
     (double-dot-segment-has-two-bytes s)
     (segments-share-directory-prefix t rest (step_of output s))

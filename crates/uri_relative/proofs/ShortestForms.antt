@@ -5,7 +5,7 @@ use Rattle.std.proofs.Common.{◌&&◌, ◌||◌, length, refl, sym, ap, ◌∙�
 use Rattle.std.specs.Prelude.{codes, Option, None, Some, IfNone, is_none, is_some}
 use Rattle.std.proofs.lemmas.Bool.{and_parts, both_ways, cases_Bool, cond-false, cond-true}
 use Rattle.std.proofs.lemmas.Bool.{false≢true, not-true}
-use Rattle.uri_pct.proofs.General.{eq_true_from_IsTrue}
+use Rattle.uri_pct.proofs.General.{eq_true_from_IsTrue, none-is-not-some}
 use Rattle.uri_pct.specs.Delimiters.{slash}
 use Rattle.uri_parts.specs.Components.{Components, IsAbemptyPath, has_authority}
 use Rattle.uri_parts.specs.Components.{marked, recompose, starts}
@@ -21,6 +21,7 @@ use Rattle.uri_relative.specs.Shortest.{Shortest}
 use Rattle.uri_relative.proofs.JoinedPaths.{target-path-stays-absolute}
 use Rattle.uri_relative.proofs.JoinedPaths.{nonempty-joined-path-is-absolute}
 use Rattle.uri_relative.proofs.Settled.{finish-keeps-rootless-path}
+use Rattle.uri_relative.proofs.Settled.{path-without-slashes-needs-no-guard}
 use Rattle.uri_relative.proofs.Shrinking.{length-of-recompose, no-slashes-without-authority}
 use Rattle.uri_relative.proofs.ReferenceForms.{reference-with-scheme-is-no-shorter, IsPathForm}
 use Rattle.uri_relative.proofs.ReferenceForms.{reference-is-of-one-form}
@@ -95,10 +96,6 @@ module _ (kind : Kind) (b t : Components) where
   part-is-not-both-present-and-absent None e f = false≢true e
   part-is-not-both-present-and-absent (Some x) e f = false≢true f
 
-  absent-part-is-not-present : (a : Option (List ℕ)) → is_none a ≡ true → is_some a ≡ false
-  absent-part-is-not-present None e = refl
-  absent-part-is-not-present (Some x) e = absurd (false≢true e)
-
   pub target-is-shortest-for-opaque-base : is_opaque b ≡ true → NeedsPath b t
       → Shortest kind b t (length (recompose t))
   target-is-shortest-for-opaque-base opaque n o l =
@@ -111,7 +108,7 @@ module _ (kind : Kind) (b t : Components) where
       (accepted-reference-passes-second-test (is_opaque b) (is_some o.scheme) (is_fragment_only o)
       opaque e l.taken) in
       let q : b.query ≡ t.query =
-      sym (cond-true _ _ _ p.1 ∙ cond-false _ _ _ (absent-part-is-not-present o.query p.2))
+      sym (cond-true _ _ _ p.1 ∙ cond-false _ _ _ (none-is-not-some o.query p.2))
       ∙ w.query in
       let rootless = not-true _
       (and_parts (is_none b.authority) (not (starts slash b.path)) opaque).1 in
@@ -203,12 +200,6 @@ module _ (kind : Kind) (b t : Components) where
       ∙ remove-dots-of-dotless q k dotless in
       sym twice ∙ ap dotless_if_absolute e ∙ once
 
-  path-without-slashes-gets-no-guard : (a : Option (List ℕ)) (p : List ℕ)
-      → IfNone a (has_authority p ≡ false)
-      → guarded a p ≡ p
-  path-without-slashes-gets-no-guard None p e = cond-false _ _ _ e
-  path-without-slashes-gets-no-guard (Some x) p e = refl
-
   first-segment-has-no-colon-without-scheme : (a c d : Bool) → a ≡ false → c ≡ false
       → (a || (c || not d)) ≡ true → d ≡ false
   first-segment-has-no-colon-without-scheme false false false e f h = refl
@@ -275,6 +266,6 @@ module _ (kind : Kind) (b t : Components) where
           (λ h. empty-path-form-misses-target o w needs opaque empty
           (sym (ap (guarded b.authority) (cond-true _ _ _ (eq_true_from_IsTrue _ h)
           ∙ remove-dots-of-dotless b.path h dotless)
-          ∙ path-without-slashes-gets-no-guard b.authority b.path none)
+          ∙ path-without-slashes-needs-no-guard b.authority b.path none)
           ∙ joins))
           rooted

@@ -11,7 +11,7 @@ use Rattle.uri_ops.proofs.Targeting.Targets.{target-text-has-target-components}
 use Rattle.uri_relative.specs.Forms.{IsReferenceTo}
 use Rattle.uri_relative.specs.Leading.{without_fragment, settled}
 use Rattle.uri_relative.specs.Shortest.{IsShortest}
-use Rattle.uri_relative.proofs.Leading.{kind-needs-scheme}
+use Rattle.uri_parts.proofs.TextKinds.KindSets.{kind-that-needs-scheme-has-one}
 use Rattle.uri_ops.proofs.Targeting.TargetCases.{settled-text-has-settled-components}
 
 -- relativized references: the text made is the shortest that leads to the target, if relative ones
@@ -54,5 +54,5 @@ reference-is-shortest kind prefers base target made base' target' made' needs of
     (subst (λ x. IsShortest kind base x made') f
     (subst (IsShortest kind base target) (sym h)
     (reference-text-is-shortest kind prefers base target made
-    (kind-needs-scheme kind base needs of_base)
-    (kind-needs-scheme kind target needs of_target) p w)))
+    (kind-that-needs-scheme-has-one kind base needs of_base)
+    (kind-that-needs-scheme-has-one kind target needs of_target) p w)))

@@ -13,6 +13,8 @@ use Rattle.uri_ops.specs.Dots.{IsAbsolute, has_slash, is_double_dot, is_single_d
 use Rattle.uri_ops.specs.Dots.{remove_dot_segments}
 use Rattle.uri_ops.specs.Resolving.{with_final_path}
 use Rattle.uri_ops.specs.Target.{dotless_if_absolute, guarded}
+use Rattle.uri_ops.proofs.Paths.DotLaws.{length-of-slashed-append-is-sum}
+use Rattle.uri_ops.proofs.Paths.DotLaws.{popped-segments-are-no-longer}
 use Rattle.uri_ops.proofs.Paths.DotLaws.{property-of-absolute-path-by-segments}
 use Rattle.uri_ops.proofs.Paths.DotLaws.{removing-dots-lengthens-no-path}
 use Rattle.uri_ops.proofs.Paths.Segments.{dotless_of, closing, end_of, pop, step_of, steps}
@@ -20,15 +22,8 @@ use Rattle.uri_ops.proofs.Paths.Segments.{next_output}
 use Rattle.uri_ops.proofs.Paths.SlashedSegments.{NoSlashes, first-segment-and-rest-lack-slashes}
 use Rattle.uri_ops.proofs.Paths.SlashedSegments.{remove-dots-by-segments}
 use Rattle.uri_ops.proofs.Paths.SlashedSegments.{slashed}
-use Rattle.uri_ops.proofs.Paths.SlashedSegments.{slashed-of-append}
 use Rattle.uri_relative.specs.Leading.{settled}
 use Rattle.uri_relative.proofs.Settled.{finish-keeps-rootless-path}
-
--- lengths of paths to relativize: the text of two lists of segments is as long as both
-length-of-joined-segments-adds-up : (xs ys : List (List ℕ))
-    → length (slashed (xs ++ ys)) ≡ length (slashed xs) + length (slashed ys)
-length-of-joined-segments-adds-up xs ys = ap length (slashed-of-append xs ys)
-    ∙ length-append (slashed xs) (slashed ys)
 
 -- lengths of paths to relativize: a `/`, the first segment and the text of the others
 pub length-of-first-segment-and-rest : (s : List ℕ) (rest : List (List ℕ))
@@ -40,18 +35,6 @@ length-of-first-segment-and-rest s rest = omega (arith, length-append s (slashed
 pub no-segments-have-length-zero : length (slashed []) ≡ 0
 unfolding slashed
 no-segments-have-length-zero = refl
-
--- lengths of paths to relativize: without the last segment, a path is no longer
-pop-is-no-longer : (xs : List (List ℕ)) → length (slashed (pop xs)) ≤ length (slashed xs)
-unfolding pop
-pop-is-no-longer [] = omega arith
-pop-is-no-longer (s ∷ []) = omega (arith, no-segments-have-length-zero)
-pop-is-no-longer (s ∷ t ∷ rest) = omega (
-  arith,
-  pop-is-no-longer (t ∷ rest),
-  length-of-first-segment-and-rest s (pop (t ∷ rest)),
-  length-of-first-segment-and-rest s (t ∷ rest),
-)
 
 -- what is left of some segments
 unfoldable pub segments_left : List (List ℕ) → List (List ℕ) → List (List ℕ)
@@ -141,7 +124,7 @@ next-segment-keeps-first-or-leaves-room false true s t (u ∷ output) segs some 
     kept-first-or-room-within-greater-length s (s ∷ pop (u ∷ output)) segs _
     (ih (pop (u ∷ output))) (omega (
       arith,
-      pop-is-no-longer (u ∷ output),
+      popped-segments-are-no-longer (u ∷ output),
       length-of-first-segment-and-rest s (pop (u ∷ output)),
       length-of-first-segment-and-rest s (u ∷ output),
       length-of-first-segment-and-rest t segs,
@@ -150,7 +133,7 @@ next-segment-keeps-first-or-leaves-room false false s t output segs some ih lack
     kept-first-or-room-within-greater-length s (s ∷ (output ++ t ∷ [])) segs _
     (ih (output ++ t ∷ [])) (omega (
       arith,
-      length-of-joined-segments-adds-up (s ∷ output) (t ∷ []),
+      length-of-slashed-append-is-sum (s ∷ output) (t ∷ []),
       length-of-first-segment-and-rest t [],
       no-segments-have-length-zero,
       length-of-first-segment-and-rest t segs,

@@ -8,7 +8,6 @@ use Rattle.std.specs.Str.{IsUtf8, IsCharBoundary, chars}
 use Rattle.std.proofs.lemmas.Str.{IsCharBoundary-after_ascii}
 use Rattle.std.proofs.lemmas.List.{length-drop, take-append-drop}
 use Rattle.std.proofs.lemmas.List.Folds.{list_all-append}
-use Rattle.std.proofs.Math.Seq.{take-length}
 use Rattle.std.proofs.lemmas.Bool.{and_from, and_parts, cond_both, cond-false, or_parts}
 use Rattle.uri_pct.specs.Delimiters.{slash}
 use Rattle.uri_pct.specs.Sets.{TableSet, allows, is_one_of}
@@ -25,7 +24,7 @@ use Rattle.uri_ops.proofs.Meanings.AsciiCharacters.{ascii-bytes-are-utf8}
 use Rattle.uri_ops.proofs.Paths.DotLaws.{remove-dots-of-dotless, dotless-path-does-not-underflow}
 use Rattle.uri_ops.proofs.Paths.PathCharacters.{lacked-delimiters-fail-test}
 use Rattle.uri_ops.proofs.Paths.PathCharacters.{test-of-delimiters-gives-lacks}
-use Rattle.uri_ops.proofs.Paths.PathMeanings.{guarded-set-text-is-set-text}
+use Rattle.uri_ops.proofs.Paths.PathMeanings.{dot-is-set-text, guarded-set-text-is-set-text}
 use Rattle.uri_ops.proofs.Paths.DecodedPaths.{set-text-splits, set-texts-join-at-slash}
 use Rattle.uri_ops.proofs.Paths.SlashedSegments.{slashed}
 use Rattle.uri_ops.proofs.Paths.TakenSegments.{absolute-path-is-slash-and-rest}
@@ -149,11 +148,6 @@ module _ (set : TableSet) (w : IsComponentSet (codes "?#[]") set)
   path-set-allows-dot = ascii_char_is_allowed_iff_in_set set 46 (lit< tt)
       ∙ w.unreserved.ascii 46 refl
 
-  dot-is-text-of-set : is_set_text set (codes ".") ≡ true
-  unfolding is_valid_for chars tokens_from_chars
-  dot-is-text-of-set = set-text-from-utf8 set (codes ".") (ascii-bytes-are-utf8 (codes ".") refl)
-      (and_from _ _ path-set-allows-dot refl)
-
   double-dot-is-text-of-set : is_set_text set (codes "..") ≡ true
   unfolding is_valid_for chars tokens_from_chars
   double-dot-is-text-of-set = set-text-from-utf8 set (codes "..")
@@ -173,8 +167,8 @@ module _ (set : TableSet) (w : IsComponentSet (codes "?#[]") set)
       → is_set_text set (relative_path n rest) ≡ true
   relative-path-is-text-of-set n rest e =
       property-of-each-case-holds-of-relative-path (λ t. is_set_text set t ≡ true) rest
-      dot-is-text-of-set
-      (set-texts-join-at-slash set slash (codes ".") rest dot-is-text-of-set e) e
+      (dot-is-set-text set w slash)
+      (set-texts-join-at-slash set slash (codes ".") rest (dot-is-set-text set w slash) e) e
       (λ m. double-dots-are-text-of-set m (codes "..") double-dot-is-text-of-set)
       (λ m. double-dots-are-text-of-set m rest e) n
 
@@ -308,11 +302,6 @@ boundary-after-last-slash path bytes last e utf8 within at =
     (let h : last < length path = subst (λ t. last < length t) e within in h)
     (let h : get_or path last 0 ≡ 47 = subst (λ t. get_or t last 0 ≡ 47) e at in
     let k : get_or path last 0 < 128 = omega arith in k)
-
--- general fact on lists, for relativized paths: all of what is left after n is taken
-pub take-all-of-suffix : (n : ℕ) (l : List ℕ) → take (length l - n) (drop n l) ≡ drop n l
-take-all-of-suffix n l = ap (λ m. take m (drop n l)) (sym (length-drop n l))
-    ∙ take-length (drop n l)
 
 -- relativized paths: equal texts share the same prefix
 pub shared-prefix-of-equals : (n : ℕ) (a b p q : List ℕ) → a ≡ b → p ≡ q → IsSharedPrefix n a p

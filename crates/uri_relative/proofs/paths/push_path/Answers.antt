@@ -7,7 +7,7 @@ use Rattle.uri_ops.specs.Target.{guarded}
 use Rattle.uri_relative.specs.Relative.{slashes, relative_path}
 use Rattle.uri_relative.proofs.Ways.{path-from-root-leads-to-path, relative-path-leads-to-path}
 use Rattle.uri_relative.proofs.Ways.{pushed-path-leads-to-path, boundary-after-last-slash}
-use Rattle.uri_relative.proofs.Ways.{take-all-of-suffix}
+use Rattle.uri_ops.proofs.AsciiForms.EncodedRuns.{slice_from-is-drop}
 use Rattle.uri_relative.proofs.Ways.{shared-prefix-of-equals, pushed-relative-path-leads-to-path}
 use Rattle.uri_relative.proofs.Ways.{relative-path-is-no-longer-than-from-root}
 use Rattle.uri_relative.specs.Shortest.{IsShortestPath}
@@ -64,7 +64,7 @@ returns-then-uses_relative_path-clause-way c =
     (c.uses_relative_path.ensures.short c.if-uses_relative_path.true e) in
     let double_dots : c.count_slashes-double_dots.result ≡ slashes (drop n base) =
     c.count_slashes-double_dots.ensures
-    ∙ ap (λ t. slashes t) (take-all-of-suffix n c.as_bytes-3.result.now)
+    ∙ ap (λ t. slashes t) (slice_from-is-drop c.as_bytes-3.result.now n)
     ∙ ap (λ t. slashes (drop n t)) c.as_bytes-3.ensures.value in
     pushed-relative-path-leads-to-path _ _
     (λ way. c.args.prefers_relative ≡ false → length way ≤ length (guarded None path))
@@ -107,7 +107,7 @@ returns-then-uses_relative_path-clause-text c =
     let rest = c.range_from-rest.result.now in
     let double_dots : c.count_slashes-double_dots.result ≡ slashes (drop n base) =
     c.count_slashes-double_dots.ensures
-    ∙ ap (λ t. slashes t) (take-all-of-suffix n c.as_bytes-3.result.now)
+    ∙ ap (λ t. slashes t) (slice_from-is-drop c.as_bytes-3.result.now n)
     ∙ ap (λ t. slashes (drop n t)) c.as_bytes-3.ensures.value in
     let found = relative-path-by-longest-prefix c.args.base.now base path c.as_bytes.result.now
     c.as_bytes-2.result.now rest c.last_shared_slash-last.result c.count_slashes-double_dots.result
@@ -137,7 +137,7 @@ returns-clause-way c =
     let rest = c.range_from-rest.result.now in
     let double_dots : c.count_slashes-double_dots.result ≡ slashes (drop n base) =
     c.count_slashes-double_dots.ensures
-    ∙ ap (λ t. slashes t) (take-all-of-suffix n c.as_bytes-3.result.now)
+    ∙ ap (λ t. slashes t) (slice_from-is-drop c.as_bytes-3.result.now n)
     ∙ ap (λ t. slashes (drop n t)) c.as_bytes-3.ensures.value in
     let within : n ≤ length path =
     subst (λ t. n ≤ length t) c.as_bytes-2.ensures.value
@@ -182,7 +182,7 @@ returns-clause-text c =
     let rest = c.range_from-rest.result.now in
     let double_dots : c.count_slashes-double_dots.result ≡ slashes (drop n base) =
     c.count_slashes-double_dots.ensures
-    ∙ ap (λ t. slashes t) (take-all-of-suffix n c.as_bytes-3.result.now)
+    ∙ ap (λ t. slashes t) (slice_from-is-drop c.as_bytes-3.result.now n)
     ∙ ap (λ t. slashes (drop n t)) c.as_bytes-3.ensures.value in
     let found = relative-path-by-longest-prefix c.args.base.now base path c.as_bytes.result.now
     c.as_bytes-2.result.now rest c.last_shared_slash-last.result c.count_slashes-double_dots.result
