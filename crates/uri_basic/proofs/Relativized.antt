@@ -9,10 +9,8 @@ use Rattle.std.proofs.lemmas.Bool.{cond_both, false≢true, not-false}
 use Rattle.std.proofs.lemmas.Slice.Eq.{bytes_eq-Decides}
 use Rattle.uri_pct.proofs.General.{eq_true_from_IsTrue}
 use Rattle.uri_pct.specs.Delimiters.{slash}
-use Rattle.uri_parts.specs.Components.{Components, IsSplitOf, Lacks, components, has_authority}
+use Rattle.uri_parts.specs.Components.{Components, IsSplitOf, Lacks, components}
 use Rattle.uri_parts.specs.Components.{has_scheme, recompose, starts}
-use Rattle.uri_parts.specs.Grammar.{has_colon_in_first_segment}
-use Rattle.uri_parts.proofs.Splitting.Marks.{IsEmptyOrMarked-query_text}
 use Rattle.uri_parts.proofs.Splitting.Recompose.{components-are-split-of-text}
 use Rattle.uri_parts.proofs.Splitting.Recompose.{equal-to-true-is-IsTrue, recompose-components}
 use Rattle.uri_parts.proofs.Splitting.Splits.{only-split-is-components}
@@ -30,12 +28,12 @@ use Rattle.uri_relative.specs.Leading.{settled}
 use Rattle.uri_relative.specs.Rule.{has_same_authority, has_same_authority_and_path}
 use Rattle.uri_relative.specs.Rule.{has_same_query, has_same_scheme, reference_components}
 use Rattle.uri_relative.specs.Rule.{reference_to, shortest_or_preferred_path}
+use Rattle.uri_relative.proofs.Forms.{path-and-query-are-split}
 use Rattle.uri_ops.proofs.Targeting.TargetCases.{settled-text-has-settled-components}
 use Rattle.uri_relative.proofs.RootedTargets.{base-that-is-not-opaque-is-rooted}
 use Rattle.uri_relative.proofs.Settled.{dotless-target-is-settled, final-path-is-idempotent}
 use Rattle.uri_relative.proofs.Settled.{rootless-target-is-settled}
 use Rattle.uri_basic.specs.Deviations.{has_literal_dot_segment}
-use Rattle.uri_basic.specs.Removal.{remove_dot_segments}
 use Rattle.uri_basic.specs.Target.{basic_resolution, basic_resolution_of_texts, target}
 use Rattle.uri_basic.proofs.DotSegments.{dotless-path-has-no-literal-dot}
 use Rattle.uri_basic.proofs.RelativePaths.{IsFinalPath, LeadsByPath, chosen-path-leads-to-path}
@@ -130,23 +128,14 @@ authority-form-leads-to-target : (base t : Components) → IsPlainTarget t
 authority-form-leads-to-target base t w some s =
     search (rules, cond-true, removal-of-path-without-dots)
 
--- relativized references: one of a path, a query and the target's fragment is parsed as these
-path-form-is-split : (t : Components) (path : List ℕ) (query : Option (List ℕ))
-    → Lacks (codes "?#") path → has_colon_in_first_segment path ≡ false
-    → has_authority path ≡ false → IfSome query (λ q. Lacks (codes "#") q)
-    → IsSplitOf
-    (recompose (record t { scheme = None; authority = None; path = path; query = query }))
-    (record t { scheme = None; authority = None; path = path; query = query })
-path-form-is-split t path query lacks colon slashes q =
-    search (rules, no_scheme, IsEmptyOrMarked-query_text)
-
 -- relativized references: one without a path is parsed as its query and fragment
 pathless-form-is-split : (t : Components) (query : Option (List ℕ))
     → IfSome query (λ q. Lacks (codes "#") q)
     → IsSplitOf (recompose (record t { scheme = None; authority = None; path = []; query = query }))
     (record t { scheme = None; authority = None; path = []; query = query })
 pathless-form-is-split t query q =
-    path-form-is-split t [] query (test-of-delimiters-gives-lacks (codes "?#") [] refl) refl refl q
+    path-and-query-are-split t [] query (test-of-delimiters-gives-lacks (codes "?#") [] refl) q
+    refl refl
 
 -- relativized references: the target of one with a path, by the path that it begins with
 target-of-path-by-case : (base t : Components) (rooted : Bool) (one other : List ℕ)
@@ -219,7 +208,12 @@ module _ (prefers : Bool) (base : List ℕ) (t : Components) (w : IsPlainTarget 
       (sym (plain-path-is-without-dots t w h))
       (chosen-path-leads-to-path prefers (components base) t.path opaque
       (base-that-is-not-opaque-is-rooted base opaque) (plain-path-is-final t w h)) in
-      search (rules, text-of-leading-reference-leads, path-form-is-split, path-form-leads-to-target)
+      search (
+        rules,
+        text-of-leading-reference-leads,
+        path-and-query-are-split,
+        path-form-leads-to-target,
+      )
 
   made-reference-leads : Leads (reference_components prefers (components base) t)
   unfolding reference_components

@@ -6,10 +6,11 @@ use Rattle.std.specs.Prelude.{codes, bytes_eq}
 use Rattle.std.proofs.lemmas.Bool.{cases_Bool, cond-true, cond-false, cond_both, or_parts}
 use Rattle.std.proofs.lemmas.List.{append-nil}
 use Rattle.std.proofs.lemmas.Slice.Eq.{bytes_eq-Decides}
-use Rattle.uri_ops.specs.Dots.{before_last_slash, has_slash, is_empty}
+use Rattle.uri_ops.specs.Dots.{before_last_slash, has_slash}
 use Rattle.uri_ops.proofs.Paths.LastSlashes.{before_last_slash-of-slashless-tail}
 use Rattle.uri_ops.proofs.Paths.SlashedSegments.{NoSlashes, first-segment-and-rest-lack-slashes}
 use Rattle.uri_ops.proofs.Paths.SlashedSegments.{slashed}
+use Rattle.uri_relative.proofs.LongestPrefixes.{text-with-slash-is-nonempty}
 use Rattle.uri_basic.specs.Removal.{output_of, remove_dot_segments}
 use Rattle.uri_basic.specs.Models.Directories.{IsDirectoryOrNothing, after_segment, buffers_at}
 use Rattle.uri_basic.specs.Models.Directories.{parent, path_left}
@@ -18,24 +19,19 @@ use Rattle.uri_basic.proofs.Steps.{last-segment-is-text, other-last-segment-begi
 use Rattle.uri_basic.proofs.Steps.{other-segment-begins-with-no-dots, output-after-rooted-segment}
 use Rattle.uri_basic.proofs.Steps.{output-after-rootless-segment, segment-ends-before-slash}
 
--- paths: a text with a `/` is not empty
-text-with-slash-is-not-empty : (x y : List ℕ) → is_empty (x ++ 47 ∷ y) ≡ false
-text-with-slash-is-not-empty [] y = refl
-text-with-slash-is-not-empty (c ∷ x) y = refl
-
 -- removing dot segments: the buffers after a directory
 buffers-at-directory : (p q : List ℕ)
     → buffers_at (p ++ codes "/") q ≡ record { input = 47 ∷ q; output = p }
 unfolding buffers_at
 buffers-at-directory p q =
-    cond-false _ _ _ (text-with-slash-is-not-empty p [])
+    cond-false _ _ _ (text-with-slash-is-nonempty p [])
     ∙ (λ i. record { input = 47 ∷ q; output = before_last_slash-of-slashless-tail p [] refl i })
 
 -- removing dot segments: the parent of a directory
 pub parent-of-directory : (p : List ℕ) → parent (p ++ codes "/") ≡ before_last_slash p ++ codes "/"
 unfolding parent
 parent-of-directory p =
-    cond-false _ _ _ (text-with-slash-is-not-empty p [])
+    cond-false _ _ _ (text-with-slash-is-nonempty p [])
     ∙ ap (λ t. before_last_slash t ++ codes "/") (before_last_slash-of-slashless-tail p [] refl)
 
 -- removing dot segments: nothing has no parent
