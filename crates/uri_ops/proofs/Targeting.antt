@@ -9,6 +9,6 @@ pub mod ResolvedTexts
 pub mod NormalTargets
 pub mod JoinedPieces
 pub mod TextViews
-pub mod PrefixedTargets
+pub mod TargetPieces
 pub mod CopiedTargets
 pub mod TargetCases

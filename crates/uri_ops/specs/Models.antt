@@ -5,7 +5,7 @@ pub mod EncodedPlaces
 pub mod LeadingSegments
 pub mod SegmentModes
 pub mod Places
-pub mod BasePrefixes
+pub mod TargetPieces
 pub mod Decodings
 pub mod Unchanged
 pub mod Written

@@ -1,5 +1,5 @@
 //! Resolving references against a base (RFC 3986, section 5).
-ghost use Rattle.std.specs.Prelude.{◌≡◌, IfOk, IfErr, string_bytes, true};
+ghost use Rattle.std.specs.Prelude.{◌≡◌, ◌++◌, IfErr, IfOk, IfSome, Ok, string_bytes, true};
 ghost use Rattle.uri_parts.specs.Grammar.{IsTextOf};
 ghost use Rattle.uri_parts.specs.PackedPositions.{ArePackedPositionsOf};
 ghost use Rattle.uri_ops.specs.Normalizers.{ports_of};
@@ -7,11 +7,11 @@ ghost use Rattle.uri_ops.specs.NormalTargets.{IsNormalTarget, IsNormalTargetErro
 ghost use Rattle.uri_ops.specs.Resolved.{IsResolved};
 ghost use Rattle.uri_ops.specs.Resolving.{base_of, resolver_allows_underflow};
 
-pub(crate) mod base_prefix;
-pub(crate) mod copied_target;
 pub(crate) mod dotted_target;
 pub(crate) mod error;
 pub(crate) mod target_case;
+#[doc(hidden)]
+pub mod target_pieces;
 #[doc(hidden)]
 pub mod target_text;
 #[doc(hidden)]
@@ -19,9 +19,9 @@ pub mod text_view;
 
 use crate::default_port::DefaultPort;
 use crate::normalize::{Normalizer, normalize_string};
-use crate::resolve::copied_target::Target;
 pub use crate::resolve::error::ResolveError;
-use crate::resolve::target_text::target_text;
+use crate::resolve::target_pieces::{TargetPieces, taken_pieces};
+use crate::resolve::target_text::{Target, target_text};
 use crate::resolve::text_view::TextView;
 use crate::traits::{RefOf, Ri, RiMaybeRef};
 use std::alloc::{AllocError, Global};
@@ -84,6 +84,33 @@ pub fn resolve_to_value<B: Ri, Q: RefOf<B>>(
 {
     let target = resolve_to_text(alloc, base, reference, allow_path_underflow)?;
     Ok(B::make_owned(target.text, target.positions))
+}
+
+/// Returns the target of a reference against a base as a prefix of the base and a suffix of the
+/// reference, with where its components are, and requests no memory. `None` says nothing of the
+/// target: `resolve_to_value` makes it.
+///
+/// Most targets are two such pieces, as that of `../g?y` against `http://a/b/c/d`. One of a base
+/// with a fragment isn't, nor one that has to lose a dot segment between other segments.
+#[doc(hidden)]
+pub fn resolve_to_pieces<'a, B: Ri, Q: RefOf<B>>(
+    base: &'a B,
+    reference: &'a Q,
+    allow_path_underflow: bool,
+) -> Option<TargetPieces<'a>>
+    ensures of_kind { IfSome result (λ target.
+        IsTextOf B.kind (target.prefix.now ++ target.suffix.now)) }
+    ensures at { IfSome result (λ target.
+        ArePackedPositionsOf (target.prefix.now ++ target.suffix.now) target.positions) }
+    ensures resolved { IfSome result (λ target.
+        IsResolved B.kind Q.kind allow_path_underflow (B.text base.now) (Q.text reference.now)
+        (Ok target) (λ pieces. pieces.prefix.now ++ pieces.suffix.now)) }
+{
+    taken_pieces(
+        &TextView::of(base),
+        &TextView::of(reference),
+        allow_path_underflow,
+    )
 }
 
 impl<R: Ri> Resolver<R> {

@@ -1,11 +1,12 @@
 -- A reference's path after a directory without dot segments.
 use Rattle.std.proofs.Common.{◌≡◌, ◌<◌, ◌-◌, ◌+◌, ℕ, Bool, eqb, List, [], ◌∷◌, ◌++◌, length, take}
-use Rattle.std.proofs.Common.{drop, get_or}
+use Rattle.std.proofs.Common.{append_assoc, drop, get_or, inr}
 use Rattle.std.proofs.Common.{refl, sym, ap, subst, ◌∙◌, ◌||◌, arith}
 use Rattle.std.proofs.Math.Seq.{take-length}
 use Rattle.uri_ops.specs.Dots.{EndsInSlash, before_last_slash, is_empty, remove_dot_segments}
 use Rattle.uri_ops.specs.Dots.{IsAbsolute, lacks_dot_segments, underflows}
-use Rattle.uri_ops.specs.Models.Directories.{RemovalState, IsDotlessDirectory, parent_directory}
+use Rattle.uri_ops.specs.Models.Directories.{BeginsWith, EndsIn, IsDotlessDirectory}
+use Rattle.uri_ops.specs.Models.Directories.{RemovalState, parent_directory}
 use Rattle.uri_ops.specs.Models.LeadingSegments.{IsDotlessPrefix, begins_with_dot}
 use Rattle.uri_ops.proofs.Paths.LeftPaths.{appending-keeps-text-to-start}
 use Rattle.uri_ops.proofs.Paths.LeftPaths.{removal-state-has-directory}
@@ -16,7 +17,11 @@ use Rattle.uri_ops.proofs.Paths.LeftPaths.{removal-passes-dotless-prefix}
 use Rattle.uri_ops.proofs.Paths.LeftPaths.{removal-state-without-rest-is-done}
 use Rattle.uri_ops.proofs.Paths.Piecewise.{removal-ends-with-nothing-left}
 use Rattle.uri_ops.proofs.Paths.Piecewise.{identity-keeps-slashes-and-dots}
-use Rattle.std.proofs.lemmas.List.{drop_all, length-drop}
+use Rattle.std.proofs.Math.Seq.{drop-append_seam, take-append_seam}
+use Rattle.std.proofs.lemmas.List.{drop_all, get_or-drop, length-append, length-drop}
+use Rattle.std.proofs.lemmas.List.{take-append-drop}
+use Rattle.uri_ops.specs.Models.Places.{IsSlashOrStart}
+use Rattle.uri_ops.proofs.Targeting.Targets.{appended-absolute-path-is-absolute}
 use Rattle.std.specs.Prelude.{◌==◌}
 use Rattle.std.proofs.lemmas.Bool.{false≢true}
 use Rattle.std.proofs.Common.{true, false}
@@ -61,6 +66,58 @@ directory-of-one-byte-is-root path d =
     text-is-empty-if-positions-are-equal d.closed.0 (length path) 1
     (omega (arith, length-of-directory path d.closed))
     ∙ ap is_empty (sym (before_last_slash-of-directory path d.closed))
+
+-- general fact on texts, for what is kept of a directory: its first n bytes are a prefix of it
+pub first-bytes-are-prefix : (text prefix : List ℕ) (n : ℕ) → prefix ≡ take n text
+    → BeginsWith text prefix
+first-bytes-are-prefix text prefix n e =
+    (drop n text, sym (ap (λ t. t ++ drop n text) e ∙ take-append-drop n text))
+
+-- general fact on texts, for what is kept of a directory: a prefix of a prefix is one of the text
+pub prefix-of-prefix-is-prefix : (text prefix kept : List ℕ) → BeginsWith text prefix
+    → BeginsWith prefix kept → BeginsWith text kept
+prefix-of-prefix-is-prefix text prefix kept (rest, e) (between, f) =
+    (between ++ rest, e ∙ ap (λ t. t ++ rest) f ∙ append_assoc kept between rest)
+
+-- paths: one that begins with a directory is absolute
+pub path-with-directory-at-start-is-absolute : (path kept : List ℕ) → IsDotlessDirectory kept
+    → BeginsWith path kept → IsAbsolute path
+path-with-directory-at-start-is-absolute path kept d (rest, e) =
+    subst IsAbsolute (sym e) (appended-absolute-path-is-absolute kept rest d.absolute)
+
+-- paths: the last byte of a directory that a path begins with is a `/` (47) of it, and the path up
+-- to it is the directory
+pub directory-at-start-ends-at-slash : (path kept : List ℕ) → IsDotlessDirectory kept
+    → BeginsWith path kept
+    → (0 < length kept) × IsSlashOrStart path 0 (length kept - 1)
+    × (take (length kept - 1 + 1) path ≡ kept)
+directory-at-start-ends-at-slash path kept d (rest, e) =
+    let prefix = d.closed.0 in
+    let n : length kept ≡ length prefix + 1 = length-of-directory kept d.closed in
+    let whole : path ≡ prefix ++ (47 ∷ rest) = e ∙ ap (λ t. t ++ rest) d.closed.1
+    ∙ append_assoc prefix (47 ∷ []) rest in
+    let slash : length kept - 1 ≡ length prefix + 0 = omega (arith, n) in
+    let within : length kept - 1 < length path = omega
+    (arith, n, ap length e, length-append kept rest) in
+    let byte : get_or path (length kept - 1) 0 ≡ 47 = ap (λ k. get_or path k 0) slash
+    ∙ sym (get_or-drop (length prefix) path 0 0)
+    ∙ ap (λ t. get_or t 0 0)
+    (ap (drop (length prefix)) whole ∙ drop-append_seam prefix (47 ∷ rest)) in
+    let all : length kept - 1 + 1 ≡ length kept = omega (arith, n) in (
+      omega (arith, n),
+      (omega arith, inr (within, byte)),
+      ap (λ k. take k path) all ∙ ap (take (length kept)) e ∙ take-append_seam kept rest,
+    )
+
+-- general fact on texts, for what is left of a path: a suffix of a suffix is one of the text
+pub rest-of-suffix-is-suffix : (text suffix rest : List ℕ) (n : ℕ) → rest ≡ drop n suffix
+    → EndsIn text suffix → EndsIn text rest
+rest-of-suffix-is-suffix text suffix rest n e (before, f) = (
+  before ++ take n suffix,
+  f ∙ ap (λ t. before ++ t) (sym (take-append-drop n suffix))
+      ∙ sym (append_assoc before (take n suffix) (drop n suffix))
+      ∙ ap (λ t. (before ++ take n suffix) ++ t) (sym e),
+)
 
 -- removing dot segments: what is kept when a `..` is taken is a directory
 pub parent-of-directory-is-directory : (path kept rest : List ℕ) (underflowed : Bool)

@@ -1,6 +1,6 @@
 -- What a target has of a base and a reference (section 5.2.2), by what the reference has.
 use Rattle.std.proofs.Common.{◌≡◌, ℕ, ◌+◌, true, false, List, [], ◌∷◌, ◌++◌, length, refl, sym, ap}
-use Rattle.std.proofs.Common.{◌∙◌, arith, ◌-◌, ◌&&◌, append_assoc, length-append, option_map}
+use Rattle.std.proofs.Common.{◌∙◌, arith, ◌&&◌, append_assoc, length-append, option_map}
 use Rattle.std.specs.Prelude.{codes, Option, Some, None, is_some, ◌==◌}
 use Rattle.std.proofs.lemmas.Bool.{cond-true, false≢true, ne_eqb}
 use Rattle.std.proofs.lemmas.Bool.Decides.{nat_tests}

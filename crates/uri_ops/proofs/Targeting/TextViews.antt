@@ -1,10 +1,11 @@
 -- The substrings of a text between the positions of its components.
-use Rattle.std.proofs.Common.{◌≡◌, ℕ, ◌+◌, ◌≤◌, true, List, [], ◌∷◌, ◌++◌, length, take, drop, refl}
+use Rattle.std.proofs.Common.{◌≡◌, ℕ, ◌+◌, ◌-◌, ◌≤◌, true, List, [], ◌∷◌, ◌++◌, length, take, drop, refl}
 use Rattle.std.proofs.Common.{sym, ap, subst, ◌∙◌, arith, append_assoc, length-append, option_map}
 use Rattle.std.specs.Prelude.{codes, Option, Some, None, IfSome, slice_range}
 use Rattle.std.specs.Str.{IsUtf8, IsCharBoundary}
 use Rattle.std.proofs.Math.Seq.{drop-append_seam, take-append_seam}
 use Rattle.std.proofs.lemmas.Option.{none-some, same_Some}
+use Rattle.std.proofs.lemmas.Str.{IsCharBoundary-from_drop, IsUtf8-append, IsUtf8-drop}
 use Rattle.std.proofs.lemmas.Bool.Decides.{nat_tests}
 use Rattle.uri_parts.specs.declared.positions.AuthorityPositions.{AuthorityPositions}
 use Rattle.uri_parts.specs.declared.positions.Positions.{Positions}
@@ -21,6 +22,7 @@ use Rattle.uri_parts.proofs.Splitting.Places.{length-before_hash, slice-between-
 use Rattle.uri_parts.proofs.Splitting.ComponentPositions.{path_is_at_positions}
 use Rattle.uri_parts.proofs.Splitting.Recompose.{components-are-split-of-text, recompose-components}
 use Rattle.uri_ops.specs.Dots.{IsAbsolute}
+use Rattle.uri_ops.specs.Models.Directories.{EndsIn}
 use Rattle.uri_ops.specs.Models.Places.{IsSlashOrStart, before_path}
 use Rattle.uri_ops.proofs.Normal.NormalTexts.{text-has-parts-of-kind}
 use Rattle.uri_ops.proofs.Normal.WrittenPlaces.{length-with-delimiter-before}
@@ -253,6 +255,42 @@ module _ (text : List ℕ) (p : Positions) (utf8 : IsUtf8 text) (at : ArePositio
       ∙ ap (drop (length prefix)) (text-is-prefix-path-query-and-fragment
       ∙ sym (append_assoc (before_path c) c.path suffix))
       ∙ drop-append_seam prefix suffix
+
+  -- a text from a suffix of its path on
+  pub from_path_suffix : (rest : List ℕ) → EndsIn (components text).path rest → IsUtf8 rest
+      → (length rest ≤ p.path_end) × IsCharBoundary text (p.path_end - length rest)
+      × (drop (p.path_end - length rest) text ≡ rest
+      ++ (marked (codes "?") (components text).query []
+      ++ marked (codes "#") (components text).fragment []))
+  from_path_suffix rest (before, e) u =
+      let c = components text in
+      let prefix = before_path c ++ before in
+      let suffix = marked (codes "?") c.query [] ++ marked (codes "#") c.fragment [] in
+      let whole : text ≡ prefix ++ (rest ++ suffix) = text-is-prefix-path-query-and-fragment
+      ∙ ap (λ t. before_path c ++ (t ++ suffix)) e
+      ∙ ap (λ t. before_path c ++ t) (append_assoc before rest suffix)
+      ∙ sym (append_assoc (before_path c) before (rest ++ suffix)) in
+      let n : p.path_end ≡ length prefix + length rest = omega (
+        arith,
+        length-append (before_path c) before,
+        length-append before rest,
+        ap length e,
+        length-before_path-is-path_start c,
+        ap (λ (q : Positions). q.path_end) at,
+      ) in
+      let start : p.path_end - length rest ≡ length prefix = omega (arith, n) in
+      let dropped : drop (p.path_end - length rest) text ≡ rest ++ suffix =
+      ap (λ k. drop k text) start ∙ ap (drop (length prefix)) whole
+      ∙ drop-append_seam prefix (rest ++ suffix) in
+      let within : p.path_end - length rest ≤ length text = omega
+      (arith, start, ap length whole, length-append prefix (rest ++ suffix)) in
+      let utf8_suffix : IsUtf8 suffix = subst IsUtf8 slice-after-path
+      (IsUtf8-drop text p.path_end utf8 path_end-is-boundary) in (
+        omega (arith, n),
+        IsCharBoundary-from_drop text (p.path_end - length rest) within
+            (subst IsUtf8 (sym dropped) (IsUtf8-append rest suffix u utf8_suffix)),
+        dropped,
+      )
 
   pub slice-through-path : slice_range text 0 p.path_end
       ≡ before_path (components text) ++ (components text).path

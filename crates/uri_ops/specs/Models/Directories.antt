@@ -28,3 +28,11 @@ pub record RemovalState (path kept rest : List ℕ) (underflowed : Bool) : Type 
   pub absolute : IsAbsolute kept
   pub dotless : lacks_dot_segments kept ≡ true
   pub closed : IsCutAtSegment kept rest
+
+-- the text begins with this prefix
+abbrev pub BeginsWith : List ℕ → List ℕ → Type 0
+BeginsWith text prefix = (rest : List ℕ) × (text ≡ prefix ++ rest)
+
+-- the text ends in this suffix
+abbrev pub EndsIn : List ℕ → List ℕ → Type 0
+EndsIn text suffix = (before : List ℕ) × (text ≡ before ++ suffix)

@@ -4,7 +4,8 @@ ghost use Rattle.std.specs.Prelude.{drop, not, take, string_bytes};
 ghost use Rattle.std.specs.Str.{IsCharBoundary};
 ghost use Rattle.uri_pct.specs.Texts.{Pushes};
 ghost use Rattle.uri_parts.specs.Components.{IsAbemptyPath};
-ghost use Rattle.uri_ops.specs.Models.Directories.{RemovalState, IsDotlessDirectory};
+ghost use Rattle.uri_ops.specs.Models.Directories.{BeginsWith, EndsIn, IsDotlessDirectory};
+ghost use Rattle.uri_ops.specs.Models.Directories.{RemovalState};
 ghost use Rattle.uri_ops.specs.Models.Directories.{parent_directory};
 ghost use Rattle.uri_ops.specs.Models.LeadingSegments.{BeginsWithoutDotSegment};
 ghost use Rattle.uri_ops.specs.Models.SegmentModes.{KeepsSlashesAndDots};
@@ -214,7 +215,8 @@ fn is_dotless_directory(path: &str) -> bool
 /// Returns the parent of a directory, which a `..` leads to; that of `/` is `/`.
 fn parent(directory: &str) -> &str
     requires { IsDotlessDirectory directory.now }
-    ensures { result.now ≡ parent_directory directory.now }
+    ensures parent { result.now ≡ parent_directory directory.now }
+    ensures prefix { BeginsWith directory.now result.now }
 {
     let end = directory.len() - 1;
     let before = &directory.as_bytes()[..end];
@@ -225,10 +227,14 @@ fn parent(directory: &str) -> &str
 /// Follows the dot segments that a reference begins with from a directory. Returns what is left of
 /// the directory, what is left of the reference, and whether a double dot had nothing left to
 /// remove.
-#[inline(always)]
-fn follow_leading_dots<'a>(directory: &'a str, reference: &'a str) -> (&'a str, &'a str, bool)
+pub(crate) fn follow_leading_dots<'a>(
+    directory: &'a str,
+    reference: &'a str,
+) -> (&'a str, &'a str, bool)
     requires { IsDotlessDirectory directory.now }
     ensures kept { IsDotlessDirectory result.0.now }
+    ensures prefix { BeginsWith directory.now result.0.now }
+    ensures suffix { EndsIn reference.now result.1.now }
     ensures first { BeginsWithoutDotSegment result.1.now }
     ensures left { RemovalState (directory.now ++ reference.now) result.0.now
         result.1.now result.2 }

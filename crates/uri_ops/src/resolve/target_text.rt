@@ -1,28 +1,52 @@
 //! The text of a target, and where its components are (RFC 3986, sections 5.2 and 5.3).
-ghost use Rattle.std.specs.Prelude.{◌≡◌, ◌+◌, ℕ, List, Option, [], codes, false, length, IfOk};
+ghost use Rattle.std.specs.Prelude.{◌≡◌, ◌+◌, ◌++◌, ◌||◌, ℕ, List, Option, [], codes, false, length};
+ghost use Rattle.std.specs.Prelude.{IfOk};
 ghost use Rattle.std.specs.Prelude.{IfErr, IfSome, OnOk, is_some, option_map, string_bytes, true};
-ghost use Rattle.uri_pct.specs.Delimiters.{slash};
+ghost use Rattle.uri_pct.specs.Delimiters.{number_sign};
 ghost use Rattle.uri_pct.specs.Texts.{Pushes};
 ghost use Rattle.uri_parts.specs.Components.{Components, IsAbemptyPath, marked, recompose, starts};
 ghost use Rattle.uri_parts.specs.PackedPositions.{ArePackedPositionsOf, packed};
 ghost use Rattle.uri_parts.specs.Positions.{positions_of};
+ghost use Rattle.uri_ops.specs.Dots.{is_empty};
 ghost use Rattle.uri_ops.specs.Models.Places.{before_path};
-ghost use Rattle.uri_ops.specs.Models.TargetCases.{IsCaseOf, IsDottedTarget, dotted_path};
+ghost use Rattle.uri_ops.specs.Models.TargetCases.{IsDottedTarget, dotted_path};
 ghost use Rattle.uri_ops.specs.Resolving.{IsErrorFor, IsTarget, components_of, with_final_path};
 ghost use Rattle.uri_ops.specs.Target.{dotless_if_absolute, guarded, underflows_if_absolute};
-ghost use Rattle.uri_ops.specs.Target.{is_opaque, is_opaque_rejection};
+ghost use Rattle.uri_ops.specs.Target.{is_fragment_only, is_opaque, is_opaque_rejection};
 
 use crate::path::dot_segments::{push_merged, push_without_dot_segments};
 use crate::path::slashes::{begins_with_slash, guard_path};
-use crate::resolve::base_prefix::target_prefix;
-use crate::resolve::copied_target::{Target, copied_reference, is_fragment_only, prefixed_target};
 use crate::resolve::dotted_target::{DottedTarget, dotted_target, with_scheme};
 use crate::resolve::error::ResolveError;
-use crate::resolve::target_case::{TargetCase, target_case};
+use crate::resolve::target_case::target_case;
+use crate::resolve::target_pieces::{TargetPieces, target_pieces};
 use crate::resolve::text_view::TextView;
 use std::alloc::{AllocError, Global};
 use uri_parts::packed_positions::PackedPositions;
 use uri_parts::positions::Positions;
+
+/// The text of a target, and where its components are.
+#[derive(Drop)]
+pub(crate) struct Target {
+    pub(crate) text: String,
+    pub(crate) positions: PackedPositions,
+}
+
+/// Returns whether a reference's text is empty or begins with `#`, as one that an opaque base
+/// takes.
+fn is_empty_or_fragment(text: &[u8]) -> bool
+    ensures { result ≡ (is_empty text.now || starts number_sign text.now) }
+{
+    matches!(text, [] | [b'#', ..])
+}
+
+/// Returns whether a reference has nothing but a fragment, or not even that.
+#[tactic(auto, using(crate::proofs::Targeting::Targets::fragment_only_is_empty_or_leading_hash))]
+fn is_fragment_only(reference: &TextView<'_>) -> bool
+    ensures { result ≡ is_fragment_only (components_of reference.now) }
+{
+    is_empty_or_fragment(reference.as_str().as_bytes())
+}
 
 /// Returns whether a base is opaque: it has no authority, and no `/` begins its path. Of references
 /// without a scheme, it takes only an empty one and a fragment.
@@ -174,17 +198,15 @@ pub fn target_with_scheme(
     Ok((text, positions))
 }
 
-/// Returns whether a reference has a scheme, and a path that doesn't begin with `/`.
-#[inline(always)]
-fn is_rootless_with_scheme(case: TargetCase, reference: &TextView<'_>) -> bool
-    requires { IsCaseOf (components_of reference.now) case }
-    ensures scheme { result ≡ true → is_some (components_of reference.now).scheme ≡ true }
-    ensures rootless { result ≡ true → starts slash (components_of reference.now).path ≡ false }
+/// Returns the text of a target that is two pieces.
+fn joined(alloc: Global, pieces: &TargetPieces<'_>) -> Result<String, AllocError>
+    ensures { IfOk result (λ text.
+        string_bytes text ≡ pieces.now.prefix.now ++ pieces.now.suffix.now) }
 {
-    match case {
-        TargetCase::WithScheme => !begins_with_slash(reference.path().as_bytes()),
-        _ => false,
-    }
+    let mut text = String::with_capacity(alloc, pieces.prefix.len() + pieces.suffix.len())?;
+    text.push_str(pieces.prefix)?;
+    text.push_str(pieces.suffix)?;
+    Ok(text)
 }
 
 /// Returns the target's text, and where its components are. An error that the components alone
@@ -208,13 +230,15 @@ pub(crate) fn target_text(
         return Err(ResolveError::BaseWithFragment);
     }
     let case = target_case(reference);
-    if is_rootless_with_scheme(case, reference) {
-        let copy = copied_reference(alloc, base, reference)?;
-        return Ok(copy);
-    }
-    if let Some(prefix) = target_prefix(case, base, reference) {
-        let target = prefixed_target(alloc, base, reference, prefix)?;
-        return Ok(target);
+    if let Some(pieces) = target_pieces(case, base, reference) {
+        if pieces.underflows && !allow_path_underflow {
+            return Err(ResolveError::PathUnderflow);
+        }
+        let text = joined(alloc, &pieces)?;
+        return Ok(Target {
+            text,
+            positions: pieces.positions,
+        });
     }
     if is_opaque_rejection(base, reference) {
         return Err(ResolveError::InvalidReferenceAgainstOpaqueBase);

@@ -29,6 +29,7 @@ pub struct TextView<'a> {
 impl<'a> TextView<'a> {
     ghost use Rattle.std.specs.Prelude.{take};
     ghost use Rattle.uri_ops.specs.Dots.{IsAbsolute};
+    ghost use Rattle.uri_ops.specs.Models.Directories.{EndsIn};
     ghost use Rattle.uri_ops.specs.Models.Places.{IsSlashOrStart, before_path};
     ghost use Rattle.uri_ops.specs.Resolving.{components_of};
 
@@ -154,6 +155,17 @@ impl<'a> TextView<'a> {
         let text = self.as_str();
         let positions = self.positions.unpack(text);
         &text[..positions.before_fragment()]
+    }
+
+    /// Returns the text from this suffix of its path on.
+    pub(crate) fn from_path_suffix(&self, rest: &str) -> &'a str
+        requires { EndsIn (components_of self.now).path rest.now }
+        ensures { let p = components_of self.now in result.now ≡ rest.now
+            ++ (marked (codes "?") p.query [] ++ marked (codes "#") p.fragment []) }
+    {
+        let text = self.as_str();
+        let positions = self.positions.unpack(text);
+        &text[positions.path_end - rest.len()..]
     }
 
     /// Returns the query and the fragment with their marks: what is after the path.

@@ -3,17 +3,17 @@ use Rattle.std.specs.Prelude.{is_some}
 use Rattle.uri_parts.specs.Components.{Components, recompose}
 use Rattle.uri_parts.specs.CoreTexts.{core_text}
 use Rattle.uri_parts.specs.Grammar.{IsOfKind}
+use Rattle.uri_parts.proofs.TextKinds.KindSets.{kind-that-needs-scheme-has-one}
 use Rattle.uri_ops.specs.Resolving.{with_final_path}
 use Rattle.uri_ops.proofs.TextKinds.FourKinds.{one-of-four-kinds-has-sets}
-use Rattle.uri_relative.proofs.Leading.{components-of-settled-text, kind-needs-scheme}
-use Rattle.uri_relative.proofs.Leading.{settled-text-is-of-kind}
+use Rattle.uri_relative.proofs.Leading.{components-of-settled-text, settled-text-is-of-kind}
 use Rattle.uri_relative.proofs.relative.settled_target.Goals as goal
 
 pub target_with_scheme-requires : goal.target_with_scheme-requires
 target_with_scheme-requires g c =
     subst (λ (t : Components). is_some t.scheme ≡ true) (sym c.of_core.ensures.components)
-    (kind-needs-scheme g.K.Kind.kind (core_text c.args.target) g.met.K.BaseKind.needs_scheme
-    c.args.target.of_kind)
+    (kind-that-needs-scheme-has-one g.K.Kind.kind (core_text c.args.target)
+    g.met.K.BaseKind.needs_scheme c.args.target.of_kind)
 
 pub new-requires-clause-of_kind : goal.new-requires-clause-of_kind
 new-requires-clause-of_kind g c =
@@ -28,6 +28,7 @@ pub returns : goal.returns
 returns g c =
     let text = core_text c.args.target in
     components-of-settled-text text (core_text c.new.result)
-    (kind-needs-scheme g.K.Kind.kind text g.met.K.BaseKind.needs_scheme c.args.target.of_kind)
+    (kind-that-needs-scheme-has-one g.K.Kind.kind text g.met.K.BaseKind.needs_scheme
+    c.args.target.of_kind)
     (c.new.ensures ∙ c.in_ok-text.ensures.text
     ∙ ap (λ t. recompose (with_final_path t)) c.of_core.ensures.components)

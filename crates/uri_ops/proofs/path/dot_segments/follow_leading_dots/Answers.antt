@@ -6,6 +6,8 @@ use Rattle.uri_ops.proofs.Paths.LeftPaths.{removal-state-of-equals, removal-pass
 use Rattle.uri_ops.proofs.Paths.LeftPaths.{removal-passes-single-dot}
 use Rattle.uri_ops.proofs.Paths.ClimbedDirectories.{path-beginning-with-dot-is-not-empty}
 use Rattle.uri_ops.proofs.Paths.ClimbedDirectories.{parent-of-directory-is-directory}
+use Rattle.uri_ops.proofs.Paths.ClimbedDirectories.{prefix-of-prefix-is-prefix}
+use Rattle.uri_ops.proofs.Paths.ClimbedDirectories.{rest-of-suffix-is-suffix}
 use Rattle.uri_ops.proofs.Paths.ClimbedDirectories.{directory-of-one-byte-is-root}
 use Rattle.uri_ops.proofs.path.dot_segments.follow_leading_dots.Goals as goal
 
@@ -20,6 +22,9 @@ loop-next-preserved-in-SingleDot c =
     let first = c.in-SingleDot.ensures.leading in
     record {
       kept = c.loop-next.invariant.kept;
+      prefix = c.loop-next.invariant.prefix;
+      suffix = rest-of-suffix-is-suffix c.args.reference.now rest c.range_from-rest.result.now _
+          c.range_from-rest.ensures.value c.loop-next.invariant.suffix;
       left = removal-state-of-equals path kept kept _ c.range_from-rest.result.now
           c.loop-next.underflowed
           c.loop-next.underflowed
@@ -45,11 +50,16 @@ loop-next-preserved c =
     some first.end
     first.segment first.suffix first.passes in
     record {
-      kept = subst IsDotlessDirectory (sym c.parent-kept.ensures)
+      kept = subst IsDotlessDirectory (sym c.parent-kept.ensures.parent)
           (parent-of-directory-is-directory path kept _ _ up);
+      prefix = prefix-of-prefix-is-prefix c.args.directory.now kept c.parent-kept.result.now
+          c.loop-next.invariant.prefix c.parent-kept.ensures.prefix;
+      suffix = rest-of-suffix-is-suffix c.args.reference.now rest
+          c.range_from-rest-in-DoubleDot.result.now _
+          c.range_from-rest-in-DoubleDot.ensures.value c.loop-next.invariant.suffix;
       left = removal-state-of-equals path (parent_directory kept) c.parent-kept.result.now _
           c.range_from-rest-in-DoubleDot.result.now _ _
-          c.parent-kept.ensures (c.range_from-rest-in-DoubleDot.ensures.value ∙ first.rest)
+          c.parent-kept.ensures.parent (c.range_from-rest-in-DoubleDot.ensures.value ∙ first.rest)
           (ap (λ b. underflowed || b)
           (directory-of-one-byte-is-root kept c.loop-next.invariant.kept)) up;
       utf8 = c.range_from-rest-in-DoubleDot.utf8;

@@ -1,5 +1,6 @@
 use Rattle.std.proofs.Common.{◌≡◌, ◌+◌, ◌-◌, length, take, ap, ◌∙◌, arith}
 use Rattle.std.proofs.lemmas.Str.{IsCharBoundary-after_ascii}
+use Rattle.uri_ops.proofs.Paths.ClimbedDirectories.{first-bytes-are-prefix}
 use Rattle.uri_ops.proofs.Paths.LastSlashes.{popped-directory-is-parent}
 use Rattle.uri_ops.proofs.Paths.LastSlashes.{slash-before-popped-segment}
 use Rattle.uri_ops.proofs.Paths.LeftPaths.{slice-from-zero-is-prefix}
@@ -17,8 +18,14 @@ range-requires-clause-end_boundary c =
     IsCharBoundary-after_ascii text c.last_slash_before-slash.result c.utf8.directory slash.0
     (omega (arith, slash.1))
 
-pub returns : goal.returns
-returns c =
+pub returns-clause-prefix : goal.returns-clause-prefix
+returns-clause-prefix c =
+    let end = c.last_slash_before-slash.result + 1 in
+    first-bytes-are-prefix c.args.directory.now c.range.result.now end
+    (slice-from-zero-is-prefix c.args.directory.now c.range.result.now end c.range.ensures.value)
+
+pub returns-clause-parent : goal.returns-clause-parent
+returns-clause-parent c =
     let text = c.args.directory.now in
     let all = take (length text - 1) c.as_bytes.result.now in
     let all_is : all ≡ take (length text - 1) text =

@@ -1,19 +1,19 @@
-use Rattle.std.proofs.Common.{rules, ◌≡◌, ◌+◌, ap, drop, false, is_some, sym, take, true, ◌∙◌}
+use Rattle.std.proofs.Common.{rules, ◌≡◌, ◌+◌, ap, drop, false, is_some, take, true, ◌∙◌}
 use Rattle.uri_parts.proofs.Splitting.Fragments.{slice_range-from-start}
-use Rattle.uri_ops.specs.Dots.{IsAbsolute, has_slash, is_double_dot, lacks_dot_segments}
+use Rattle.uri_ops.specs.Dots.{IsAbsolute, has_slash, is_double_dot}
 use Rattle.uri_ops.specs.Models.Places.{IsSlashOrStart}
 use Rattle.uri_ops.specs.Resolving.{components_of}
 use Rattle.uri_ops.proofs.Paths.LastSlashes.{position-after-slash-is-boundary}
-use Rattle.uri_ops.proofs.Targeting.PrefixedTargets.{text-to-last-slash-is-up-to-directory}
-use Rattle.uri_ops.proofs.resolve.base_prefix.directory_prefix.Goals as goal
+use Rattle.uri_ops.proofs.Targeting.TargetPieces.{prefix-with-last-slash-is-directory-of-base}
+use Rattle.uri_ops.proofs.resolve.target_pieces.dotless_directory.Goals as goal
 
 pub range_from-requires : goal.range_from-requires
 range_from-requires c = λ _. position-after-slash-is-boundary c.path-path.result.now
     c.last_slash-slash.result
     (search rules) (search rules) c.path-path.utf8
 
-pub range-requires-clause-end_boundary : goal.range-requires-clause-end_boundary
-range-requires-clause-end_boundary c =
+pub range-directory-requires-clause-end_boundary : goal.range-directory-requires-clause-end_boundary
+range-directory-requires-clause-end_boundary c =
     position-after-slash-is-boundary c.path-path.result.now c.last_slash-slash.result (search rules)
     (search rules)
     c.path-path.utf8
@@ -27,9 +27,7 @@ returns-then-is_dotless c =
     let last : has_slash (drop (slash + 1) b.path) ≡ false = search rules in
     let dots : is_double_dot (drop (slash + 1) b.path) ≡ false = search rules in
     let some : is_some b.authority ≡ true = search rules in
-    text-to-last-slash-is-up-to-directory b slash c.through_slash.result.now absolute
-    place last dots
-    (ap lacks_dot_segments
-    (sym (c.range.ensures.value ∙ slice_range-from-start c.path-path.result.now (slash + 1)
-    ∙ ap (take (slash + 1)) c.path-path.ensures)) ∙ c.is_dotless.ensures c.if-is_dotless.true)
-    some c.through_slash.ensures
+    prefix-with-last-slash-is-directory-of-base b slash c.range-directory.result.now absolute
+    place last dots (c.is_dotless.ensures c.if-is_dotless.true) some
+    (c.range-directory.ensures.value ∙ slice_range-from-start c.path-path.result.now (slash + 1)
+    ∙ ap (take (slash + 1)) c.path-path.ensures)

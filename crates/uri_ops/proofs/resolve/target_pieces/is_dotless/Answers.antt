@@ -4,7 +4,7 @@ use Rattle.std.proofs.Math.Seq.{take-length}
 use Rattle.uri_ops.specs.Dots.{lacks_dot_segments}
 use Rattle.uri_ops.specs.Models.LeadingSegments.{begins_with_dot}
 use Rattle.uri_ops.proofs.Paths.DotStarts.{path-without-leading-dot-begins-with-none}
-use Rattle.uri_ops.proofs.resolve.base_prefix.is_dotless.Goals as goal
+use Rattle.uri_ops.proofs.resolve.target_pieces.is_dotless.Goals as goal
 
 pub dotless_prefix_len-requires-clause-first : goal.dotless_prefix_len-requires-clause-first
 dotless_prefix_len-requires-clause-first c =

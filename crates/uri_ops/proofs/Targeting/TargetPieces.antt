@@ -1,0 +1,272 @@
+-- Targets that are a prefix of the base and a suffix of the reference.
+use Rattle.std.proofs.Common.{◌≡◌, ℕ, ◌+◌, true, false, Bool, List, [], ◌++◌, length, take, drop, ap}
+use Rattle.std.proofs.Common.{inr, subst, sym, ◌∙◌, ◌&&◌, ◌||◌, append_assoc, length-append, arith}
+use Rattle.std.specs.Prelude.{codes, Option, None, Ok, is_some}
+use Rattle.std.proofs.lemmas.Bool.{cond-false, cond-true}
+use Rattle.std.proofs.lemmas.List.{append-nil}
+use Rattle.std.proofs.lemmas.Bool.Decides.{nat_tests}
+use Rattle.std.proofs.Math.Bool.{or-false}
+use Rattle.uri_parts.specs.Components.{Components, components, marked, recompose, starts}
+use Rattle.uri_parts.specs.PackedPositions.{ArePackedPositionsOf, packed}
+use Rattle.uri_parts.specs.Positions.{before_fragment, positions_of}
+use Rattle.uri_parts.proofs.Splitting.Places.{length-before_hash}
+use Rattle.uri_ops.specs.Dots.{EndsInSlash, IsAbsolute, directory, has_slash, is_double_dot, is_empty}
+use Rattle.uri_ops.specs.Dots.{lacks_dot_segments, remove_dot_segments, underflows}
+use Rattle.uri_ops.specs.Models.Directories.{IsDotlessDirectory, RemovalState}
+use Rattle.uri_ops.specs.Models.Places.{IsSlashOrStart, before_path}
+use Rattle.uri_ops.specs.Models.TargetCases.{IsCaseOf}
+use Rattle.uri_ops.specs.Models.TargetPieces.{ArePiecesOfTarget, HasJoinedPath}
+use Rattle.uri_ops.specs.declared.resolve.target_case.TargetCase.TheVariants.{AbsolutePath}
+use Rattle.uri_ops.specs.Models.TargetPieces.{IsDirectoryOfBase}
+use Rattle.uri_ops.specs.Resolving.{IsTarget, with_final_path}
+use Rattle.uri_ops.specs.Target.{dotless_if_absolute, underflows_if_absolute, guarded}
+use Rattle.uri_ops.specs.Target.{is_opaque_rejection, dotted_target, merged, query_or}
+use Rattle.uri_ops.specs.Target.{resolution_of}
+use Rattle.uri_ops.specs.declared.resolve.target_pieces.TargetPieces.{TargetPieces}
+use Rattle.uri_ops.proofs.Normal.WrittenPlaces.{length-before_path-is-path_start}
+use Rattle.uri_ops.proofs.Paths.ClimbedDirectories.{first-bytes-are-prefix}
+use Rattle.uri_ops.proofs.Paths.DotLaws.{directory-is-absolute, directory-ends-in-slash}
+use Rattle.uri_ops.proofs.Paths.DotLaws.{remove-dots-of-dotless, dotless-path-does-not-underflow}
+use Rattle.uri_ops.proofs.Paths.LastSlashes.{prefix-with-last-slash-is-directory}
+use Rattle.uri_ops.proofs.Paths.LeftPaths.{dotless-path-after-directory-is-dotless}
+use Rattle.uri_ops.proofs.Paths.GuardedPaths.{path-after-authority-needs-no-guard}
+use Rattle.uri_ops.proofs.Targeting.JoinedPieces.{joined-with-relative-path}
+use Rattle.uri_ops.proofs.Targeting.TargetCases.{case-gives-line}
+use Rattle.uri_parts.proofs.Splitting.Recompose.{equal-to-true-is-IsTrue}
+use Rattle.uri_ops.proofs.Targeting.Targets.{appended-absolute-path-is-absolute}
+use Rattle.uri_ops.proofs.Targeting.Targets.{target-text-has-target-components}
+use Rattle.uri_pct.proofs.General.{eq_true_from_IsTrue, some_is_not_none, None-from-not-is_some}
+use Rattle.uri_ops.proofs.Paths.DotRuns.{empty-text-is-nil}
+
+-- resolving: what is up to the last `/` of a base's path is its directory
+pub prefix-with-last-slash-is-directory-of-base : (b : Components) (slash : ℕ) (prefix : List ℕ)
+    → IsAbsolute b.path
+    → IsSlashOrStart b.path 0 slash → has_slash (drop (slash + 1) b.path) ≡ false
+    → is_double_dot (drop (slash + 1) b.path) ≡ false
+    → lacks_dot_segments prefix ≡ true → is_some b.authority ≡ true
+    → prefix ≡ take (slash + 1) b.path → IsDirectoryOfBase b prefix
+prefix-with-last-slash-is-directory-of-base b slash prefix absolute place last dots dotless some
+    text =
+    let same : prefix ≡ directory b.path = text
+    ∙ prefix-with-last-slash-is-directory b.path slash absolute place last dots in
+    record {
+      authority = some;
+      dotless = record {
+        absolute = subst IsAbsolute (sym same) (directory-is-absolute b.path (inr absolute));
+        closed = subst EndsInSlash (sym same) (directory-ends-in-slash b.path (inr absolute));
+        dotless = dotless;
+      };
+      text = same;
+      place = first-bytes-are-prefix b.path prefix (slash + 1) text;
+    }
+
+-- resolving: a path without dot segments after an authority stays
+dotless-path-after-authority-stays : (authority : Option (List ℕ)) (path : List ℕ)
+    → is_some authority ≡ true
+    → IsAbsolute path → lacks_dot_segments path ≡ true
+    → guarded authority (dotless_if_absolute path) ≡
+    path
+dotless-path-after-authority-stays authority path some absolute dotless =
+    sym (path-after-authority-needs-no-guard authority (dotless_if_absolute path) some)
+    ∙ cond-true (starts 47 path) _ _ (eq_true_from_IsTrue _ absolute)
+    ∙ remove-dots-of-dotless path absolute dotless
+
+-- targets: the text of a reference without scheme and authority begins with its path
+text-without-prefix-is-path-and-suffix : (r : Components) → r.scheme ≡ None → r.authority ≡ None
+    → recompose r ≡ r.path ++ (marked (codes "?") r.query [] ++ marked (codes "#") r.fragment [])
+text-without-prefix-is-path-and-suffix r s a = grind (arith, nat_tests)
+
+-- resolving: a base with an authority rejects no reference as opaque
+base-with-authority-rejects-no-reference : (b r : Components) → is_some b.authority ≡ true
+    → is_opaque_rejection b r ≡ false
+base-with-authority-rejects-no-reference b r some = grind (arith, nat_tests, some_is_not_none)
+
+-- positions in a target: the text up to the end of the path is as long as the positions say
+length-through-path-is-path_end : (r : Components) → length (before_path r ++ r.path) ≡
+    (positions_of r).path_end
+length-through-path-is-path_end r = omega
+    (arith, length-append (before_path r) r.path, length-before_path-is-path_start r)
+
+-- the reference's path and query after a prefix of the base
+module _ (b r : Components) (prefix rest : List ℕ) (underflows : Bool)
+    (h : HasJoinedPath b r prefix rest underflows) where
+  -- the target's components
+  joined : Components
+  joined = record b { path = h.stem ++ rest; query = r.query; fragment = r.fragment }
+
+  pub joined-pieces-are-target-text : (suffix : List ℕ)
+      → suffix ≡ rest ++ (marked (codes "?") r.query [] ++ marked (codes "#") r.fragment [])
+      → prefix ++ suffix ≡ recompose (with_final_path (dotted_target b r))
+  joined-pieces-are-target-text suffix e = grind (arith, append_assoc, h.before, h.target)
+
+  pub joined-pieces-have-target-positions : (path_end query_end : ℕ)
+      → path_end ≡ length prefix + length rest
+      → query_end ≡ length prefix + (length rest + length (marked (codes "?") r.query []))
+      → record (packed (positions_of b)) { path_end = path_end; query_end = query_end }
+      ≡ packed (positions_of (with_final_path (dotted_target b r)))
+  unfolding joined
+  joined-pieces-have-target-positions path_end query_end e f =
+      let through : length (before_path joined ++ joined.path) ≡ length prefix + length rest = omega (
+        arith,
+        length-append (before_path b) (h.stem ++ rest),
+        length-append h.stem rest,
+        ap length h.before,
+        length-append (before_path b) h.stem,
+      ) in
+      let path : path_end ≡ (positions_of joined).path_end = e ∙ sym through
+      ∙ length-through-path-is-path_end joined in
+      let query : query_end ≡ before_fragment (positions_of joined) = omega (
+        arith,
+        f,
+        through,
+        length-before_hash joined,
+        length-append (before_path joined ++ joined.path) (marked (codes "?") r.query []),
+      ) in
+      (λ i. record (packed (positions_of b)) { path_end = path i; query_end = query i })
+      ∙ sym (ap (λ c. packed (positions_of c)) h.target)
+
+-- resolving: a relative path follows the directory of a base with an authority; what its dot
+-- segments leave of both is kept and rest
+module _ (b r : Components) (s : is_some r.scheme ≡ false) (a : is_some r.authority ≡ false)
+    (e : is_empty r.path ≡ false) (n : starts 47 r.path ≡ false) (base kept rest : List ℕ)
+    (underflowed : Bool) (d : IsDirectoryOfBase b base)
+    (h : RemovalState (base ++ r.path) kept rest underflowed) (k : IsDotlessDirectory kept)
+    (dotless : lacks_dot_segments rest ≡ true) where
+  pub relative-path-after-directory-is-joined : (prefix : List ℕ) → prefix ≡ before_path b ++ kept
+      → HasJoinedPath b r prefix rest underflowed
+  relative-path-after-directory-is-joined prefix f =
+      let t = joined-with-relative-path b r s a e n in
+      let path = merged b.path r.path in
+      let same : base ++ r.path ≡ path = ap (λ t. t ++ r.path) d.text in
+      let absolute : IsAbsolute path = subst IsAbsolute same
+      (appended-absolute-path-is-absolute base r.path d.dotless.absolute) in
+      let is_absolute = eq_true_from_IsTrue _ absolute in
+      let whole = appended-absolute-path-is-absolute kept rest k.absolute in
+      let lacks = dotless-path-after-directory-is-dotless kept rest k dotless in
+      let final : guarded b.authority (dotless_if_absolute path) ≡ kept ++ rest =
+      sym (path-after-authority-needs-no-guard b.authority (dotless_if_absolute path) d.authority)
+      ∙ cond-true (starts 47 path) _ _ is_absolute ∙ sym (ap remove_dot_segments same)
+      ∙ sym h.removed ∙ remove-dots-of-dotless (kept ++ rest) whole lacks in
+      record {
+        taken = base-with-authority-rejects-no-reference b r d.authority;
+        underflow = ap (λ (c : Components). underflows_if_absolute c.path) t
+            ∙ ap (λ x. x && underflows path) is_absolute ∙ sym (ap underflows same)
+            ∙ sym h.underflow
+            ∙ ap (λ x. underflowed || x)
+            (dotless-path-does-not-underflow (kept ++ rest) whole lacks)
+            ∙ or-false underflowed;
+        stem = kept;
+        before = f;
+        target = ap with_final_path t
+            ∙ (λ i. record b { path = final i; query = r.query; fragment = r.fragment });
+      }
+
+-- resolving: a path without dot segments that begins with `/` (47) is after the base's authority
+pub absolute-path-after-authority-is-joined : (b r : Components) (prefix : List ℕ)
+    → IsCaseOf r AbsolutePath → is_some b.authority ≡ true → lacks_dot_segments r.path ≡ true
+    → prefix ≡ before_path b → HasJoinedPath b r prefix r.path false
+absolute-path-after-authority-is-joined b r prefix (h, e, n) some dotless f =
+    let absolute : IsAbsolute r.path = equal-to-true-is-IsTrue _ n in
+    let t = case-gives-line AbsolutePath b r (h, e, n) in
+    record {
+      taken = base-with-authority-rejects-no-reference b r some;
+      underflow = ap (λ (c : Components). underflows_if_absolute c.path) t
+          ∙ ap (λ x. x && underflows r.path) n
+          ∙ dotless-path-does-not-underflow r.path absolute dotless;
+      stem = [];
+      before = f ∙ sym (append-nil (before_path b));
+      target = ap with_final_path t
+          ∙ (λ i. record b {
+            path = dotless-path-after-authority-stays b.authority r.path some absolute dotless i;
+            query = r.query;
+            fragment = r.fragment;
+          });
+    }
+
+-- a reference without a path, of a base whose path stays
+module _ (b r : Components) (prefix : List ℕ) (s : is_some r.scheme ≡ false)
+    (a : is_some r.authority ≡ false)
+    (e : is_empty r.path ≡ true) (some : is_some b.authority ≡ true) (absolute : IsAbsolute b.path)
+    (dotless : lacks_dot_segments b.path ≡ true) where
+  dotted_target-without-path-keeps-base-path : dotted_target b r
+      ≡ record b { query = query_or b.query r.query; fragment = r.fragment }
+  dotted_target-without-path-keeps-base-path = grind (arith, nat_tests)
+
+  -- a base's path without dot segments after an authority stays as it is in the target
+  kept : guarded b.authority (dotless_if_absolute b.path) ≡ b.path
+  kept = dotless-path-after-authority-stays b.authority b.path some absolute dotless
+
+  pub dotless-base-path-does-not-underflow : underflows_if_absolute (dotted_target b r).path ≡ false
+  dotless-base-path-does-not-underflow = ap (λ (c : Components). underflows_if_absolute c.path)
+      dotted_target-without-path-keeps-base-path
+      ∙ ap (λ x. x && underflows b.path) (eq_true_from_IsTrue _ absolute)
+      ∙ dotless-path-does-not-underflow b.path absolute dotless
+
+  -- a reference that begins with `?` is after the base's path in the target
+  pub query-after-base-path-is-joined : is_some r.query ≡ true → prefix ≡ before_path b ++ b.path
+      → HasJoinedPath b r prefix r.path false
+  query-after-base-path-is-joined q f =
+      let path : b.path ≡ b.path ++ r.path = sym
+      (ap (λ x. b.path ++ x) (empty-text-is-nil r.path e) ∙ append-nil b.path) in
+      record {
+        taken = base-with-authority-rejects-no-reference b r some;
+        underflow = dotless-base-path-does-not-underflow;
+        stem = b.path;
+        before = f;
+        target = ap with_final_path dotted_target-without-path-keeps-base-path
+            ∙ (λ i. record b {
+              path = (kept ∙ path) i;
+              query = cond-true (is_some r.query) r.query
+                  b.query q i;
+              fragment = r.fragment;
+            });
+      }
+
+  -- an empty reference, or one that begins with `#`, is after all but the base's fragment
+  pub fragment-after-base-is-target-text : is_some r.query ≡ false
+      → prefix ≡ (before_path b ++ b.path) ++ marked (codes "?") b.query []
+      → prefix ++ recompose r ≡ recompose (with_final_path (dotted_target b r))
+  fragment-after-base-is-target-text q f =
+      grind (
+        arith,
+        nat_tests,
+        dotted_target-without-path-keeps-base-path,
+        kept,
+        text-without-prefix-is-path-and-suffix,
+        None-from-not-is_some,
+        empty-text-is-nil,
+        append_assoc,
+      )
+
+  -- it has the base's positions
+  pub fragment-after-base-keeps-positions : is_some r.query ≡ false
+      → positions_of b ≡ positions_of (with_final_path (dotted_target b r))
+  fragment-after-base-keeps-positions q =
+      grind (arith, nat_tests, dotted_target-without-path-keeps-base-path, kept)
+
+  pub base-rejects-no-reference : is_opaque_rejection b r ≡ false
+  base-rejects-no-reference = base-with-authority-rejects-no-reference b r some
+
+-- two pieces of a target, where the base has no fragment
+module _ (b r : Components) (pieces : TargetPieces) (h : ArePiecesOfTarget b r pieces)
+    (none : is_some b.fragment ≡ false) where
+  resolution-is-text-of-pieces : (text : List ℕ) → text ≡ pieces.prefix.now ++ pieces.suffix.now
+      → resolution_of b r ≡ Ok text
+  resolution-is-text-of-pieces text e = cond-false (is_some b.fragment) _ _ none
+      ∙ cond-false (is_opaque_rejection b r) _ _ h.taken ∙ ap Ok (sym (e ∙ h.text))
+
+  pub pieces-are-target : (allowed : Bool) (text : List ℕ)
+      → (allowed ≡ false → pieces.underflows ≡ false)
+      → text ≡ pieces.prefix.now ++ pieces.suffix.now → IsTarget allowed b r text
+  pieces-are-target allowed text u e =
+      (resolution-is-text-of-pieces text e, λ a. h.underflow ∙ u a)
+
+-- positions in a target: those of two pieces are those of their text
+pub pieces-have-positions-of-text : (base reference text : List ℕ) (pieces : TargetPieces)
+    → is_some (components base).scheme ≡ true
+    → ArePiecesOfTarget (components base) (components reference) pieces
+    → text ≡ pieces.prefix.now ++ pieces.suffix.now → ArePackedPositionsOf text pieces.positions
+pieces-have-positions-of-text base reference text pieces some h e =
+    h.places
+    ∙ sym (ap (λ p. packed (positions_of p))
+    (ap components (e ∙ h.text) ∙ target-text-has-target-components base reference some))
