@@ -89,7 +89,7 @@ module _ (kind : Kind) (sets : HasComponentSets kind) (alone : Bool)
         ap Some (kept-authority-is-its-normal-form a h.0 h.1 kept host port)
 
 -- unchanged texts: a path gets no guard `/.` if it doesn't begin with `//` or follows an authority
-pub path-that-needs-no-guard-is-kept : (scheme authority : Option (List ℕ)) (path : List ℕ)
+path-that-needs-no-guard-is-kept : (scheme authority : Option (List ℕ)) (path : List ℕ)
     → IfNone authority (has_authority path ≡ false)
     → cond (is_some scheme) (guarded authority path) path ≡ path
 path-that-needs-no-guard-is-kept None authority path h = refl
