@@ -62,9 +62,9 @@ impl SegmentMode for Decoded<'_> {
     }
 }
 
-/// Appends a path that begins with `/` as it is in a normal text but for a guard before it: with its
-/// decodable octets decoded, and without its dot segments. Returns whether a double dot had nothing
-/// left to remove. A double dot removes the last segment that was appended.
+/// Appends a path that begins with `/` as it is in a normal text but for a guard before it: with
+/// its decodable octets decoded, and without its dot segments. Returns whether a double dot had
+/// nothing left to remove. A double dot removes the last segment that was appended.
 pub(crate) fn push_decoded_path(
     table: &Table,
     path: &str,
