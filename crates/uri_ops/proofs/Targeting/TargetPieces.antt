@@ -1,6 +1,7 @@
 -- Targets that are a prefix of the base and a suffix of the reference.
-use Rattle.std.proofs.Common.{◌≡◌, ℕ, ◌+◌, true, false, Bool, List, [], ◌++◌, length, take, drop, ap}
-use Rattle.std.proofs.Common.{inr, subst, sym, ◌∙◌, ◌&&◌, ◌||◌, append_assoc, length-append, arith}
+use Rattle.std.proofs.Common.{◌≡◌, ℕ, ◌+◌, true, false, Bool, List, [], ◌++◌, length, take, drop}
+use Rattle.std.proofs.Common.{ap, inr, subst, sym, ◌∙◌, ◌&&◌, ◌||◌, append_assoc, arith}
+use Rattle.std.proofs.Common.{length-append}
 use Rattle.std.specs.Prelude.{codes, Option, None, Ok, is_some}
 use Rattle.std.proofs.lemmas.Bool.{cond-false, cond-true}
 use Rattle.std.proofs.lemmas.List.{append-nil}
@@ -10,7 +11,8 @@ use Rattle.uri_parts.specs.Components.{Components, components, marked, recompose
 use Rattle.uri_parts.specs.PackedPositions.{ArePackedPositionsOf, packed}
 use Rattle.uri_parts.specs.Positions.{before_fragment, positions_of}
 use Rattle.uri_parts.proofs.Splitting.Places.{length-before_hash}
-use Rattle.uri_ops.specs.Dots.{EndsInSlash, IsAbsolute, directory, has_slash, is_double_dot, is_empty}
+use Rattle.uri_ops.specs.Dots.{EndsInSlash, IsAbsolute, directory, has_slash, is_double_dot}
+use Rattle.uri_ops.specs.Dots.{is_empty}
 use Rattle.uri_ops.specs.Dots.{lacks_dot_segments, remove_dot_segments, underflows}
 use Rattle.uri_ops.specs.Models.Directories.{IsDotlessDirectory, RemovalState}
 use Rattle.uri_ops.specs.Models.Places.{IsSlashOrStart, before_path}
@@ -106,7 +108,8 @@ module _ (b r : Components) (prefix rest : List ℕ) (underflows : Bool)
       ≡ packed (positions_of (with_final_path (dotted_target b r)))
   unfolding joined
   joined-pieces-have-target-positions path_end query_end e f =
-      let through : length (before_path joined ++ joined.path) ≡ length prefix + length rest = omega (
+      let through : length (before_path joined ++ joined.path)
+      ≡ length prefix + length rest = omega (
         arith,
         length-append (before_path b) (h.stem ++ rest),
         length-append h.stem rest,

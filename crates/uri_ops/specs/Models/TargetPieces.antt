@@ -22,7 +22,8 @@ pub record IsDirectoryOfBase (base : Components) (prefix : List ℕ) : Type 0 wh
 -- the fragment of the reference. Its path is a stem, which ends the prefix of the base, and the
 -- rest, which is what follows of the reference's path.
 -- The Bool is whether removing dot segments underflows.
-pub record HasJoinedPath (base r : Components) (prefix rest : List ℕ) (underflows : Bool) : Type 0 where
+pub record HasJoinedPath (base r : Components) (prefix rest : List ℕ) (underflows : Bool)
+    : Type 0 where
   pub taken : is_opaque_rejection base r ≡ false
   pub underflow : underflows_if_absolute (dotted_target base r).path ≡ underflows
   pub stem : List ℕ

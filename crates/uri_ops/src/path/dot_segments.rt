@@ -1,6 +1,7 @@
 //! The removal of dot segments (RFC 3986, section 5.2.4).
 ghost use Rattle.std.specs.Prelude.{◌≡◌, ◌≤◌, ◌<◌, ◌++◌, ◌+◌, IfOk, OnOk, false, true, length};
-ghost use Rattle.std.specs.Prelude.{drop, not, take, string_bytes};
+ghost use Rattle.std.specs.Prelude.{ℕ, ◌^◌, drop, not, take, string_bytes};
+ghost use Rattle.std.specs.Int.{bit_at};
 ghost use Rattle.std.specs.Str.{IsCharBoundary};
 ghost use Rattle.uri_pct.specs.Texts.{Pushes};
 ghost use Rattle.uri_parts.specs.Components.{IsAbemptyPath};
@@ -22,22 +23,16 @@ use crate::path::segment_mode::{Copied, SegmentMode};
 use std::alloc::AllocError;
 use uri_pct::lanes::{LANES, lanes_equal_to};
 
-/// Returns the end of the last block of sixteen bytes of a path that has a `/`, or of the bytes
-/// that are left at `start`. Blocks are counted from the end of the text back to `start`.
-fn end_of_last_block_with_slash(bytes: &[u8], start: usize) -> usize
-    requires { start ≤ length bytes.now }
-    ensures from { start ≤ result }
-    ensures within { result ≤ length bytes.now }
-    ensures none { has_slash (drop result bytes.now) ≡ false }
+/// Returns the highest lane that a mask of sixteen lanes has.
+#[inline(always)]
+fn last_lane(mask: u64) -> usize
+    requires some { 0 < mask }
+    requires below { mask < 2 ^ 16 }
+    ensures within { result < 16 }
+    ensures lane { bit_at mask result ≡ 1 }
+    ensures above { (k : ℕ) → result < k → bit_at mask k ≡ 0 }
 {
-    let mut left = bytes.len();
-    while left - start >= LANES {
-        if lanes_equal_to(b'/', bytes, left - LANES) != 0 {
-            return left;
-        }
-        left -= LANES;
-    }
-    left
+    63 - mask.leading_zeros() as usize
 }
 
 /// Returns the position of a path's last `/` that is not before `start`, or `start` if there is
@@ -71,7 +66,16 @@ pub fn last_slash(bytes: &[u8], start: usize) -> usize
     ensures last { has_slash (drop (result + 1) bytes.now) ≡ false }
     ensures place { IsSlashOrStart bytes.now start result }
 {
-    last_slash_before(bytes, start, end_of_last_block_with_slash(bytes, start))
+    let mut left = bytes.len();
+    while left - start >= LANES {
+        let block = left - LANES;
+        let mask = lanes_equal_to(b'/', bytes, block);
+        if mask != 0 {
+            return block + last_lane(mask);
+        }
+        left = block;
+    }
+    last_slash_before(bytes, start, left)
 }
 
 /// Cuts off the last segment of the directory that is in `out` from `start` on, with the `/`

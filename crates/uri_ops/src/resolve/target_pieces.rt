@@ -147,8 +147,8 @@ fn pieces_with_empty_path<'a>(
     })
 }
 
-/// Returns the pieces of the target of a reference whose path begins with `/`, where the base has an
-/// authority and the path no dot segments: what the base has before its path, and the reference.
+/// Returns the pieces of the target of a reference whose path begins with `/`, where the base has
+/// an authority and the path no dot segments: what the base has before its path, and the reference.
 fn pieces_with_absolute_path<'a>(
     base: &TextView<'a>,
     reference: &TextView<'a>,

@@ -1,6 +1,6 @@
 //! The text of a target, and where its components are (RFC 3986, sections 5.2 and 5.3).
-ghost use Rattle.std.specs.Prelude.{◌≡◌, ◌+◌, ◌++◌, ◌||◌, ℕ, List, Option, [], codes, false, length};
-ghost use Rattle.std.specs.Prelude.{IfOk};
+ghost use Rattle.std.specs.Prelude.{◌≡◌, ◌+◌, ◌++◌, ◌||◌, ℕ, List, Option, [], codes, false};
+ghost use Rattle.std.specs.Prelude.{IfOk, length};
 ghost use Rattle.std.specs.Prelude.{IfErr, IfSome, OnOk, is_some, option_map, string_bytes, true};
 ghost use Rattle.uri_pct.specs.Delimiters.{number_sign};
 ghost use Rattle.uri_pct.specs.Texts.{Pushes};

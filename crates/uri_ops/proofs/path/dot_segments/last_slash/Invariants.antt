@@ -1,6 +1,6 @@
 use Rattle.std.proofs.Common.{◌-◌, ◌≡◌, ◌≤◌, false, length, drop}
 use Rattle.uri_ops.specs.Dots.{has_slash}
-use Rattle.uri_ops.proofs.path.dot_segments.end_of_last_block_with_slash.Given as goal
+use Rattle.uri_ops.proofs.path.dot_segments.last_slash.Given as goal
 
 abbrev pub invariant-loop-left : goal.invariant-loop-left
 invariant-loop-left l = record {
