@@ -1,19 +1,15 @@
 //! The result of the text of a line, whatever the other lines are.
 ghost use Rattle.std.specs.Prelude.{◌≡◌, IfOk};
 ghost use Rattle.fluent_uri.specs.Grammar as test;
-ghost use Rattle.fluent_uri.specs.References.{reference_text};
-ghost use Rattle.uri_commands.specs.Kinds.{kind_named, normal_form_of};
+ghost use Rattle.uri_commands.specs.Kinds.{kind_named};
 ghost use Rattle.uri_streams.specs.Results as results;
-ghost use Rattle.uri_streams.specs.Results.{Text, check_result, normalize_result};
-ghost use Rattle.uri_streams.specs.Results.{parse_result, passes_check, query_result};
+ghost use Rattle.uri_streams.specs.Results.{check_result, normalize_result, parse_result};
+ghost use Rattle.uri_streams.specs.Results.{passes_check, query_result};
 ghost use Rattle.uri_streams.specs.Returned.{IsTextOrError, result_in};
 
-use crate::command::LineCommand;
 use crate::json::json;
 use crate::line_result::{LineResult, refused};
-use crate::mending::mend;
 use crate::queries::query_json;
-use crate::targets::{relativize, resolve};
 use fluent_uri::kind::{IriKind, IriRefKind, Kind, UriKind, UriRefKind};
 use fluent_uri::{Reference, RiMaybeRef};
 use std::alloc::{AllocError, Global};
@@ -21,31 +17,6 @@ use uri_commands::kinds::{KindName, parse_as_iri_ref};
 use uri_commands::refusal::CommandError;
 use uri_ops::normalize::unchanged::is_unchanged;
 use uri_setting::RuleSetting;
-
-/// Returns the result of a text under a command that remembers nothing of earlier lines.
-///
-/// # Errors
-///
-/// Only if allocation fails.
-#[inline(always)]
-pub(crate) fn command_result<'t>(
-    alloc: Global,
-    command: &LineCommand<'_>,
-    text: &'t str,
-) -> Result<LineResult<'t>, AllocError>
-    ensures { IfOk result (λ line_result.
-        result_in line_result ≡ results.command_result command.now text.now) }
-{
-    match command {
-        LineCommand::Normalize(kind, scheme_rules) => normalize(alloc, *kind, *scheme_rules, text),
-        LineCommand::Resolve(base, is_basic) => resolve(alloc, base, *is_basic, text),
-        LineCommand::Relativize(base, prefers) => relativize(alloc, base, *prefers, text),
-        LineCommand::Check(kind, is_inverted) => Ok(check(*kind, *is_inverted, text)),
-        LineCommand::Mend(kind) => mend(alloc, *kind, text),
-        LineCommand::Parse(kind) => parse(alloc, *kind, text),
-        LineCommand::Query(kind) => query(alloc, *kind, text),
-    }
-}
 
 /// Returns the result of `urilines normalize` for a text: its normal form, by the rules of its
 /// scheme if `scheme_rules` is true, or an error if it is not of the kind.
@@ -73,7 +44,7 @@ pub(crate) fn normalize<'t>(
 }
 
 /// Returns the normal form of a text of the kind as the result of its line, or an error if it is
-/// not of the kind.
+/// not of the kind. Most texts are their own: if that is found by one scan, the text is borrowed.
 fn normal_form<'t, K: Kind>(
     alloc: Global,
     scheme_rules: bool,
@@ -83,33 +54,19 @@ fn normal_form<'t, K: Kind>(
         result_in line_result ≡ normalize_result scheme_rules K.kind text.now) }
     ensures text { IfOk result IsTextOrError }
 {
-    match Reference::<K, &str>::parse(text) {
-        Ok(value) => normal_form_of(alloc, scheme_rules, value),
-        Err(error) => Ok(refused(CommandError::Text(error))),
-    }
-}
-
-/// Returns the normal form of a value as the result of its line. Most texts are their own: if that
-/// is found by one scan, the text is borrowed.
-#[inline(always)]
-fn normal_form_of<'t, K: Kind>(
-    alloc: Global,
-    scheme_rules: bool,
-    value: Reference<K, &'t str>,
-) -> Result<LineResult<'t>, AllocError>
-    ensures result { IfOk result (λ line_result. result_in line_result
-        ≡ Text (normal_form_of scheme_rules K.kind (reference_text value.entry))) }
-    ensures text { IfOk result IsTextOrError }
-{
+    let value = match Reference::<K, &str>::parse(text) {
+        Ok(value) => value,
+        Err(error) => return Ok(refused(CommandError::Text(error))),
+    };
     if !scheme_rules && is_unchanged(value.core()) {
-        return Ok(LineResult::Borrowed(value.into_core().as_str()));
+        return Ok(LineResult::Borrowed(text));
     }
     let setting = RuleSetting { scheme_rules };
     Ok(LineResult::Text(setting.normalize(alloc, &value)?.into_string()))
 }
 
 /// Returns the result of `urilines check` for a text: its line as it is, or no line.
-fn check(kind: KindName, is_inverted: bool, text: &str) -> LineResult<'static>
+pub(crate) fn check(kind: KindName, is_inverted: bool, text: &str) -> LineResult<'static>
     ensures { result_in result ≡ check_result (kind_named kind) is_inverted text.now }
 {
     passed_if(passes_check(kind, is_inverted, text))
@@ -157,7 +114,11 @@ fn is_of_kind<K: Kind>(text: &str) -> bool
 
 /// Returns the result of `urilines parse` for a text: its components as JSON, or an error if it is
 /// not of the kind.
-fn parse(alloc: Global, kind: KindName, text: &str) -> Result<LineResult<'static>, AllocError>
+pub(crate) fn parse(
+    alloc: Global,
+    kind: KindName,
+    text: &str,
+) -> Result<LineResult<'static>, AllocError>
     ensures { IfOk result (λ line. result_in line ≡ parse_result (kind_named kind) text.now) }
 {
     match parse_as_iri_ref(kind, text) {
@@ -168,7 +129,11 @@ fn parse(alloc: Global, kind: KindName, text: &str) -> Result<LineResult<'static
 
 /// Returns the result of `urilines query` for a text: the decoded pairs of its query as JSON, or an
 /// error if it is not of the kind.
-fn query(alloc: Global, kind: KindName, text: &str) -> Result<LineResult<'static>, AllocError>
+pub(crate) fn query(
+    alloc: Global,
+    kind: KindName,
+    text: &str,
+) -> Result<LineResult<'static>, AllocError>
     ensures { IfOk result (λ line_result.
         result_in line_result ≡ query_result (kind_named kind) text.now) }
 {

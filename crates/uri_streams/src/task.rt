@@ -19,9 +19,10 @@ use crate::command::{Command, LineCommand};
 use crate::fault::{LineError, NoText};
 use crate::job::Job;
 use crate::line_result::{LineResult, refused};
-use crate::mending::{mended_or_trimmed, text_kind};
+use crate::mending::{mend, mended_or_trimmed, text_kind};
 use crate::met::MetTexts;
-use crate::results::{command_result, normalize, passed_if};
+use crate::results::{check, normalize, parse, passed_if, query};
+use crate::targets::{relativize, resolve};
 use fluent_uri::{Uri, UriRef};
 use std::alloc::{AllocError, Global};
 use uri_commands::kinds::KindName;
@@ -182,7 +183,15 @@ impl<'a> Task<'a> {
             IsResult command (tasks.text_result command known text.now) line_result self.new) }
     {
         match self {
-            Task::Each(command) => command_result(alloc, command, text),
+            Task::Each(command) => match &*command {
+                LineCommand::Normalize(kind, by_rules) => normalize(alloc, *kind, *by_rules, text),
+                LineCommand::Resolve(base, is_basic) => resolve(alloc, base, *is_basic, text),
+                LineCommand::Relativize(base, prefers) => relativize(alloc, base, *prefers, text),
+                LineCommand::Check(kind, is_inverted) => Ok(check(*kind, *is_inverted, text)),
+                LineCommand::Mend(kind) => mend(alloc, *kind, text),
+                LineCommand::Parse(kind) => parse(alloc, *kind, text),
+                LineCommand::Query(kind) => query(alloc, *kind, text),
+            },
             Task::Unique(unique) => unique.result_for(alloc, text),
             Task::Links(links) => links.result_for(alloc, text),
         }
