@@ -1,6 +1,6 @@
 use Rattle.std.proofs.Common.{◌≡◌, ◌+◌, ◌<◌, ◌≤◌, ℕ, List, map, ◌^◌, ◌||◌, ◌&&◌, ◌∙◌, Bool, true}
-use Rattle.std.proofs.Common.{false, not, arith, bit_or, eqb, get_or, length, refl, replicate, subst}
-use Rattle.std.proofs.Common.{sym, ap, w8, ◌%◌}
+use Rattle.std.proofs.Common.{false, not, arith, bit_or, eqb, get_or, length, refl, replicate}
+use Rattle.std.proofs.Common.{subst, sym, ap, w8, ◌%◌}
 use Rattle.std.specs.Prelude.{nat_le}
 use Rattle.std.proofs.lemmas.Nat.{or_of_16}
 use Rattle.uri_pct.proofs.TableSets.Masks.{bit_of_bit_or}

@@ -17,4 +17,5 @@ pub returns-in-Err-clause-output : goal.returns-in-Err-clause-output
 returns-in-Err-clause-output c = λ by_rules rules.
     ap (λ (line : Returned). (result_in line, texts_of c.args.register.now)) c.refused.ensures
     ∙ link_result-of-error by_rules (uri_text c.args.base.now) (texts_of c.args.register.now)
-    c.args.text.now c.in-Err.error (λ of_kind. cc (c.in-Err.ensures.accepts.1 of_kind)) c.in-Err.ensures.refused
+    c.args.text.now c.in-Err.error (λ of_kind. cc (c.in-Err.ensures.accepts.1 of_kind))
+    c.in-Err.ensures.refused
