@@ -4,9 +4,10 @@ use Rattle.std.proofs.Common.{Some, None, IfSome, cond, drop, length, take, min,
 use Rattle.std.proofs.Common.{subst, sym, ◌∙◌, take-take, take_all, length-take-le}
 use Rattle.std.proofs.Common.{lt-ltb, ltb-true, ltb-false, ◌≢◌, All, eqb, eq-eqb, get_or-take}
 use Rattle.std.proofs.Common.{◌==◌, get_or}
-use Rattle.std.specs.Prelude.{◌&&◌, nat_lt, slice_index, OnErr, Result, Ok, Err}
-use Rattle.std.specs.Io.BufRead.{ends_with_byte, take_through, DropsConsumable, DropsThrough}
-use Rattle.std.specs.Io.KnownBytes.{Consumes, prepend_known}
+use Rattle.std.specs.Prelude.{◌&&◌, nat_lt, slice_index, OnErr, OnOk, Result, Ok, Err}
+use Rattle.std.specs.Io.BufRead.{drop_through, ends_with_byte, take_through, DropsConsumable}
+use Rattle.std.specs.Io.BufRead.{DropsThrough}
+use Rattle.std.specs.Io.KnownBytes.{Consumes, IsAtEnd, Keeps, prepend_known}
 use Rattle.std.proofs.BufReadLemmas.{take_through_nonempty}
 use Rattle.std.proofs.lemmas.List.{take-append-drop, take-append-le, length-take, append-nil}
 use Rattle.std.proofs.lemmas.List.Elements.{All-from_get_or}
@@ -92,6 +93,20 @@ Consumes-buffered false buffer (Some xs) new n within drops = at new (drops with
 pub OnErr-of-any : {T E : Type 0} (result : Result T E) (P : Type 0) → P → OnErr result P
 OnErr-of-any (Ok value) P p = tt
 OnErr-of-any (Err error) P p = p
+
+-- general fact on results, for a run: what holds always holds after a success
+pub OnOk-of-any : {T E : Type 0} (result : Result T E) (P : Type 0) → P → OnOk result P
+OnOk-of-any (Ok value) P p = p
+OnOk-of-any (Err error) P p = tt
+
+-- lines: at the end of the bytes nothing is dropped through the end of a line; a, c: what is left
+-- before and after
+pub Keeps-at-end : (end : ℕ) (a c : Option (List ℕ)) → IsAtEnd a → DropsThrough a c end → Keeps a c
+Keeps-at-end end None c none drops = tt
+Keeps-at-end end (Some xs) None none drops = absurd cc
+Keeps-at-end end (Some xs) (Some ys) none drops =
+    let same : ys ≡ drop_through end xs = cc in
+    same ∙ ap (drop_through end) none ∙ sym none
 
 -- lines: the first line of a buffer is up to and including the first byte that ends a line
 pub IsBufferedLine-up-to : (end byte index : ℕ) (buffer line : List ℕ) → byte ≡ end

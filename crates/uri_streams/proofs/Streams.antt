@@ -2,10 +2,10 @@
 use Rattle.std.proofs.Common.{◌≡◌, ◌+◌, ◌-◌, ◌^◌, ◌<◌, ◌≤◌, ◌++◌, ℕ, Bool, true, false, cond, eqb}
 use Rattle.std.proofs.Common.{List, [], ◌∷◌, refl, ap, sym, ◌∙◌, subst, append_assoc, length}
 use Rattle.std.proofs.Common.{length-append, Option, Some, None, arith, ◌⊎◌, ⊎_elim, true≢false}
-use Rattle.std.proofs.Common.{min, zero-add}
-use Rattle.std.specs.List.{flat_map}
+use Rattle.std.proofs.Common.{min, zero-add, drop}
+use Rattle.std.specs.List.{concat, flat_map}
 use Rattle.std.specs.Prelude.{if◌then◌else◌}
-use Rattle.std.proofs.lemmas.List.{append-nil}
+use Rattle.std.proofs.lemmas.List.{append-nil, drop-drop}
 use Rattle.std.proofs.lemmas.List.Concat.{flat_map-append}
 use Rattle.std.proofs.lemmas.List.Sums.{sum_by-append}
 use Rattle.std.specs.Io.BufRead.{take_through, drop_through}
@@ -15,7 +15,9 @@ use Rattle.uri_streams.specs.Lines.{end_byte, lines_of, prepend_to_first_line}
 use Rattle.uri_streams.specs.Outputs.{ProcessedLine, processed, processed_lines, processed_in}
 use Rattle.uri_streams.specs.Outputs.{error_count, errors_of, line_report, tallies_of}
 use Rattle.uri_streams.specs.Outputs.{is_error, is_last, line_result, line_output, output_of}
-use Rattle.uri_streams.specs.Runs.{ErrorOutput, Reports, Sees, WritesOutput}
+use Rattle.uri_streams.specs.Runs.{ErrorOutput, LeavesRest, Reports, Sees, WritesOutput}
+use Rattle.uri_streams.specs.Runs.{left_after}
+use Rattle.uri_streams.proofs.MergedLines.{concat-of-lines}
 use Rattle.uri_streams.specs.Models.{FindsEnd, HasWrittenSoFar, ProcessedSoFar, Steps, WritesLine}
 use Rattle.uri_streams.specs.Tasks.{Known, Remembers}
 use Rattle.uri_streams.specs.declared.job.Job.{Job}
@@ -44,6 +46,12 @@ lines-step end x (y ∷ ys) = at (eqb x end) (lines-step end y ys)
         ∷ lines_of end (cond b (y ∷ ys) (drop_through end (y ∷ ys)))
     at true e = refl
     at false e = ap (prepend_to_first_line x) e
+
+-- lines: the first of some bytes is up to the first end, and the others are after it
+lines-of-some : (end : ℕ) (xs : List ℕ) → 0 < length xs
+    → lines_of end xs ≡ take_through end xs ∷ lines_of end (drop_through end xs)
+lines-of-some end [] some = absurd (omega (arith, some))
+lines-of-some end (x ∷ xs) some = lines-step end x xs
 
 module _ (job : Job) where
   -- the lines after one of known bytes
@@ -94,6 +102,19 @@ error_count-of-one-more-line lines line =
     sum_by-append (λ l. cond (is_error l.result) 1 0) lines (line ∷ [])
     ∙ ap (λ n. error_count lines + n) (zero-add (if is_error line.result then 1 else 0))
 
+-- general fact on lists, for streams: after one element more, what is left is the tail
+left-after-one-more : {A : Type 0} (n : ℕ) (xs ys : List A) (y : A) → drop n xs ≡ y ∷ ys
+    → drop (n + 1) xs ≡ ys
+left-after-one-more n xs ys y e = sym (drop-drop 1 n xs) ∙ ap (drop 1) e
+
+-- streams: what a run leaves is what the lines that are left make up
+left_after-of-lines : (job : Job) (number : ℕ) (xs rest : List ℕ)
+    → length (processed_in job xs) ≡ number → drop number (lines_of (end_byte job.is_null) xs)
+    ≡ lines_of (end_byte job.is_null) rest → left_after job xs ≡ rest
+left_after-of-lines job number xs rest count left =
+    ap (λ n. concat (drop n (lines_of (end_byte job.is_null) xs))) count ∙ ap concat left
+    ∙ concat-of-lines (end_byte job.is_null) rest
+
 -- streams: a step of a run; b, c: what is left to read before and after it; h, i, j: what the
 -- writer holds, d, e, f: the error output, s, t, u: what the observer saw, when the run begins,
 -- before the step and after it
@@ -141,6 +162,11 @@ module _ (job : Job) (number : ℕ) (task task_new : Task) (b c h i j : Option (
       count_new : length lines ≡ number + 1
       count_new = omega (arith, length-append so.lines (line ∷ []), so.count)
 
+      lines_left_new : drop (number + 1) (lines_of (end_byte job.is_null) xs)
+          ≡ lines_of (end_byte job.is_null) (drop_through (end_byte job.is_null) so.rest)
+      lines_left_new = left-after-one-more number (lines_of (end_byte job.is_null) xs) _ first
+          (so.lines_left ∙ lines-of-some (end_byte job.is_null) so.rest is.0)
+
       reported_new : Reports d f (errors_of job lines)
       reported_new =
           subst (Reports d f) (sym (of-one-more-line (line_report job) so.lines line))
@@ -178,6 +204,7 @@ module _ (job : Job) (number : ℕ) (task task_new : Task) (b c h i j : Option (
             (lines_after_first-by job number so.known so.rest false (sym is.5 ∙ more));
         remembers = is.6;
         count = count_new;
+        lines_left = lines_left_new;
         lines_counted = lines_are;
         errors_counted = errors_are;
         few_errors = omega (arith, errors_here, one step.is_error, so.few_errors);
@@ -185,12 +212,15 @@ module _ (job : Job) (number : ℕ) (task task_new : Task) (b c h i j : Option (
         saw = saw_new;
       }
 
-      last : step.is_last ≡ true → WritesOutput job (Some xs) h j d f s u tally_new
-      last ends =
-          let all : processed_in job xs ≡ lines =
+      all_processed : step.is_last ≡ true → processed_in job xs ≡ lines
+      all_processed ends =
           whole_new ∙ ap (λ l. lines ++ l)
           (lines_after_first-by job number so.known so.rest true (sym is.5 ∙ ends))
-          ∙ append-nil lines in (
+          ∙ append-nil lines
+
+      last : step.is_last ≡ true → WritesOutput job (Some xs) h j d f s u tally_new
+      last ends =
+          let all = all_processed ends in (
             subst (λ l. Appends h j (output_of job l)) (sym all) written_new,
             subst (λ l. Reports d f (errors_of job l)) (sym all) reported_new,
             subst (λ l. Sees s u (tallies_of l)) (sym all) saw_new,
@@ -198,14 +228,26 @@ module _ (job : Job) (number : ℕ) (task task_new : Task) (b c h i j : Option (
             errors_are ∙ sym (ap error_count all),
           )
 
-    at_end : FindsEnd so.rest i j e f step → WritesOutput job (Some xs) h j d f s u tally_new
-    at_end is =
-        let all : processed_in job xs ≡ so.lines =
+      rest_left : step.is_last ≡ true → LeavesRest job (Some xs) c
+      rest_left ends = is.1 ∙ ap Some (sym (left_after-of-lines job (number + 1) xs _
+          (ap length (all_processed ends) ∙ count_new) lines_left_new))
+
+    all_processed_at_end : so.rest ≡ [] → processed_in job xs ≡ so.lines
+    all_processed_at_end none =
         so.whole
         ∙ ap (λ l. so.lines ++ processed_lines job number so.known
-        (lines_of (end_byte job.is_null) l)) is.0
+        (lines_of (end_byte job.is_null) l)) none
         ∙ ap (λ l. so.lines ++ l) (processed_lines-of-nothing job number so.known)
-        ∙ append-nil so.lines in
+        ∙ append-nil so.lines
+
+    rest_left_at_end : FindsEnd so.rest c i j e f step → LeavesRest job (Some xs) c
+    rest_left_at_end is = is.6 ∙ ap Some (sym is.0
+        ∙ sym (left_after-of-lines job number xs so.rest
+        (ap length (all_processed_at_end is.0) ∙ so.count) so.lines_left))
+
+    at_end : FindsEnd so.rest c i j e f step → WritesOutput job (Some xs) h j d f s u tally_new
+    at_end is =
+        let all = all_processed_at_end is.0 in
         let same_lines = lines_new
         ∙ ap (λ y. min (tally.lines + (if y then 1 else 0)) (2 ^ 64 - 1)) is.2 in
         let same_errors = errors_new
@@ -228,7 +270,7 @@ module _ (job : Job) (number : ℕ) (task task_new : Task) (b c h i j : Option (
 
     stepped : Steps job number task b c i j e f task_new step
         → WritesLine job number so.known so.rest c i j e f task_new step
-        ⊎ FindsEnd so.rest i j e f step
+        ⊎ FindsEnd so.rest c i j e f step
     stepped st =
         let here = subst (λ o. Steps job number task o c i j e f task_new step) so.left_is st in
         here.stepped so.known so.remembers
@@ -243,7 +285,7 @@ module _ (job : Job) (number : ℕ) (task task_new : Task) (b c h i j : Option (
   HasWrittenSoFar-after-step (Some xs) so st more = record {
     so_far = ⊎_elim (λ (is : WritesLine job number so.so_far.known so.so_far.rest c i j e f task_new
         step). so_far xs so.so_far is more)
-        (λ (is : FindsEnd so.so_far.rest i j e f step). absurd (true≢false (sym is.4 ∙ more)))
+        (λ (is : FindsEnd so.so_far.rest c i j e f step). absurd (true≢false (sym is.4 ∙ more)))
         (stepped xs so.so_far st);
   }
 
@@ -256,6 +298,16 @@ module _ (job : Job) (number : ℕ) (task task_new : Task) (b c h i j : Option (
   HasWrittenSoFar-then-last-step (Some xs) so st ends =
       ⊎_elim (λ (is : WritesLine job number so.so_far.known so.so_far.rest c i j e f task_new step).
       last xs so.so_far is ends) (at_end xs so.so_far) (stepped xs so.so_far st)
+
+  -- streams: after the last step the reader is left with what is after the lines
+  pub HasWrittenSoFar-then-rest-is-left : (a : Option (List ℕ))
+      → HasWrittenSoFar job number task a b h i d e s t tally
+      → Steps job number task b c i j e f task_new step → step.is_last ≡ true
+      → LeavesRest job a c
+  HasWrittenSoFar-then-rest-is-left None so st ends = tt
+  HasWrittenSoFar-then-rest-is-left (Some xs) so st ends =
+      ⊎_elim (λ (is : WritesLine job number so.so_far.known so.so_far.rest c i j e f task_new step).
+      rest_left xs so.so_far is ends) (rest_left_at_end xs so.so_far) (stepped xs so.so_far st)
 
 -- streams: at first nothing has been read or written, and the tally is zero; a, h: what is left to
 -- read, what the writer holds, d, s: the error output, what the observer saw
@@ -275,6 +327,7 @@ HasWrittenSoFar-at-start job task (Some xs) h d s tally remembers lines errors =
     whole = refl;
     remembers = remembers;
     count = refl;
+    lines_left = refl;
     lines_counted = lines;
     errors_counted = errors;
     few_errors = omega (arith, errors);

@@ -1,7 +1,7 @@
 -- What private functions say of a run on its way.
 use Rattle.std.specs.Prelude.{◌≡◌, ◌≢◌, ◌<◌, ◌≤◌, ◌+◌, ◌⊎◌, ℕ, List, [], ◌++◌, length, take, All}
 use Rattle.std.specs.Prelude.{Bool, true, false, Option, Some, IfSome, ◌&&◌, ◌-◌, slice_index, ◌||◌}
-use Rattle.std.specs.Prelude.{IfErr, IfOk, IsTrue, Result}
+use Rattle.std.specs.Prelude.{IfErr, IfOk, IsTrue, Result, drop}
 use Rattle.std.specs.Str.{IsAscii}
 use Rattle.std.specs.Io.{StopsAt}
 use Rattle.std.specs.Io.BufRead.{take_through, drop_through}
@@ -123,11 +123,11 @@ WritesLine job before known xs left_new held held_new err err_new task_new step 
 
 -- a step of a run finds the end of the input, as nothing is left to read, and writes nothing;
 -- `held`, `err`: what the writer holds, and the error output, before and after (`_new`)
-abbrev pub FindsEnd : List ℕ → Option (List ℕ) → Option (List ℕ) → ErrorOutput → ErrorOutput
-    → StepResult → Type 0
-FindsEnd xs held held_new err err_new step =
+abbrev pub FindsEnd : List ℕ → Option (List ℕ) → Option (List ℕ) → Option (List ℕ) → ErrorOutput
+    → ErrorOutput → StepResult → Type 0
+FindsEnd xs left_new held held_new err err_new step =
     (xs ≡ []) × Keeps held held_new × (step.is_line ≡ false) × (step.is_error ≡ false)
-    × (step.is_last ≡ true) × Reports err err_new []
+    × (step.is_last ≡ true) × Reports err err_new [] × (left_new ≡ Some [])
 
 -- A step of a run succeeds: it processes the first line left to read, or finds the end of the
 -- input.
@@ -138,7 +138,7 @@ pub record Steps (job : Job) (before : ℕ) (task : Task)
     (step : StepResult) : Type 0 where
   pub stepped : IfSome left (λ xs. (known : Known) → Remembers task job.command known
       → WritesLine job before known xs left_new held held_new err err_new task_new step
-      ⊎ FindsEnd xs held held_new err err_new step)
+      ⊎ FindsEnd xs left_new held held_new err err_new step)
 
 -- A step of a run fails: a prefix of the output for what is left to read is written, and nothing if
 -- the reader failed.
@@ -207,6 +207,8 @@ pub record ProcessedSoFar (job : Job) (number : ℕ) (task : Task) (xs : List �
       ≡ lines ++ processed_lines job number known (lines_of (end_byte job.is_null) rest)
   pub remembers : Remembers task job.command known
   pub count : length lines ≡ number
+  pub lines_left : drop number (lines_of (end_byte job.is_null) xs)
+      ≡ lines_of (end_byte job.is_null) rest
   pub lines_counted : tally.lines ≡ number
   pub errors_counted : tally.errors ≡ error_count lines
   pub few_errors : tally.errors ≤ number

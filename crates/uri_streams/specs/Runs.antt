@@ -1,6 +1,7 @@
 -- What a run reads and writes.
 use Rattle.std.specs.Prelude.{◌≡◌, ◌≢◌, ℕ, Bool, List, ◌++◌, length, All, true, false, Option}
-use Rattle.std.specs.Prelude.{IfSome, Some}
+use Rattle.std.specs.Prelude.{IfSome, Some, drop}
+use Rattle.std.specs.List.{concat}
 use Rattle.std.specs.Io.KnownBytes.{Appends, Keeps}
 use Rattle.uri_commands.specs.Prefixes.{AppendsPrefix}
 use Rattle.uri_commands.specs.declared.sink.Sink.{Sink}
@@ -62,6 +63,16 @@ WritesWholeLines job xs left_new held held_new err err_new =
     ≡ lines ++ processed_lines job (length lines) known
     (lines_of (end_byte job.is_null) (part ++ rest)))
     × (left_new ≡ Some rest) × All (λ x. x ≢ end_byte job.is_null) part
+
+-- what a run leaves of an input: the lines after those that the job processes
+abbrev pub left_after : Job → List ℕ → List ℕ
+left_after job input =
+    concat (drop (length (processed_in job input)) (lines_of (end_byte job.is_null) input))
+
+-- a run that succeeds leaves the reader what is after the lines that it processed; the Options are
+-- what is left to read before and after it
+abbrev pub LeavesRest : Job → Option (List ℕ) → Option (List ℕ) → Type 0
+LeavesRest job left left_new = IfSome left (λ xs. left_new ≡ Some (left_after job xs))
 
 -- A run ends early: what the writer holds, before and after (`_new`), grows by a prefix of the
 -- output for what was left to read, and so does the error output, `err`, of its errors.

@@ -25,6 +25,9 @@ pub(crate) fn read_line<R: Read, W: Write>(
         (reader_remaining R.remaining reader.new.reader) end limit line.new.items)) }
     ensures end { IfOk result (λ read. read ≡ None
         → IsAtEnd (reader_remaining R.remaining reader.old.reader)) }
+    ensures ended { IfOk result (λ read. read ≡ None
+        → Keeps (reader_remaining R.remaining reader.old.reader)
+        (reader_remaining R.remaining reader.new.reader)) }
     ensures keeps { Keeps (W.contents writer.old.writer) (W.contents writer.new.writer) }
     ensures stopped { OnErr result
         (ReadsPartOfLine (reader_remaining R.remaining reader.old.reader)

@@ -7,8 +7,8 @@ ghost use Rattle.uri_streams.specs.Causes.{HasFinalError, is_input, is_input_cau
 ghost use Rattle.uri_streams.specs.Causes.{is_output_cause, reading_failed, writing_failed};
 ghost use Rattle.uri_streams.specs.declared.failure.Cause.{Cause};
 ghost use Rattle.uri_streams.specs.Models.{FailsInWriting, IsStepOf, KeepsFailures};
-ghost use Rattle.uri_streams.specs.Runs.{FailsAfterPrefix, Sees, StopsAfterPrefix, WritesOutput};
-ghost use Rattle.uri_streams.specs.Runs.{error_output_of};
+ghost use Rattle.uri_streams.specs.Runs.{FailsAfterPrefix, LeavesRest, Sees, StopsAfterPrefix};
+ghost use Rattle.uri_streams.specs.Runs.{WritesOutput, error_output_of};
 
 use crate::failure::{Cause, Failure};
 use crate::job::Job;
@@ -58,6 +58,7 @@ impl Watch for Unwatched {
 /// many lines it processed, and how many of them were errors.
 ///
 /// The writer is flushed before the reader is asked for more than it has buffered, and at the end.
+/// The reader is left with what is after the lines that were processed.
 /// A message for the error output begins with the number of its line; a failing `err` changes
 /// nothing else. `watch` sees the tally after each line.
 ///
@@ -82,6 +83,9 @@ pub fn run<R: Read, W: Write, E: Write, V: Watch>(
         (reader_remaining R.remaining reader.new.reader) (W.contents writer.old.writer)
         (W.contents writer.new.writer) (error_output_of E.contents err.old)
         (error_output_of E.contents err.new)) }
+    ensures left { OnOk result (LeavesRest job.now
+        (reader_remaining R.remaining reader.old.reader)
+        (reader_remaining R.remaining reader.new.reader)) }
     ensures flushed { OnOk result (writer.new.is_flushed ≡ true) }
     // A call that is interrupted is made again.
     ensures error { IfErr result HasFinalError }
@@ -114,6 +118,9 @@ fn process_lines<R: Read, W: Write, E: Write, V: Watch>(
         (reader_remaining R.remaining reader.new.reader) (W.contents writer.old.writer)
         (W.contents writer.new.writer) (error_output_of E.contents err.old)
         (error_output_of E.contents err.new) (is_input_cause cause)) }
+    ensures left { OnOk result (LeavesRest job.now
+        (reader_remaining R.remaining reader.old.reader)
+        (reader_remaining R.remaining reader.new.reader)) }
     ensures flushed { OnOk result (writer.new.is_flushed ≡ true) }
     ensures failures { KeepsFailures result reader.old reader.new writer.old writer.new }
 {

@@ -7,7 +7,8 @@ use Rattle.std.proofs.KnownBytes.{Keeps-trans}
 use Rattle.std.proofs.BufReadLemmas.{Consumes_through, IsAtEnd-of_take_through}
 use Rattle.std.proofs.lemmas.List.Elements.{All-nil, All-append}
 use Rattle.std.specs.Io.Buffered.{reader_remaining}
-use Rattle.uri_streams.proofs.Parts.{ReadsFirstLine-of-parts, OnErr-of-any, take-of-appended-part}
+use Rattle.uri_streams.proofs.Parts.{Keeps-at-end, ReadsFirstLine-of-parts, OnErr-of-any}
+use Rattle.uri_streams.proofs.Parts.{take-of-appended-part}
 use Rattle.uri_streams.proofs.Returns.{return_after-inner-part, return_after-last-part}
 use Rattle.uri_streams.specs.Lines.{return_after}
 use Rattle.uri_streams.proofs.lines.read_line.Goals as goal
@@ -70,6 +71,14 @@ returns-then-count-eq0-clause-end g c = λ _.
       long,
       counted,
     ))
+
+pub returns-then-count-eq0-clause-ended : goal.returns-then-count-eq0-clause-ended
+returns-then-count-eq0-clause-ended g c = λ e.
+    let (done, kept, none, read, counted, held, was, reading, writing) = c.loop.invariant in
+    let (bs, long, more, stops, read', none', ends, end, is) = c.in_ok-part.ensures.taken in
+    let all = Consumes_through c.args.end _ _ _ done bs read none read' stops (ends
+    c.if-part.true) (end c.if-part.true) in
+    Keeps-at-end c.args.end _ _ (returns-then-count-eq0-clause-end g c e) all.1
 
 pub returns-then-is_return-clause-line : goal.returns-then-is_return-clause-line
 returns-then-is_return-clause-line g c =

@@ -9,6 +9,8 @@ use Rattle.uri_streams.proofs.Failures.{HasWrittenSoFar-then-run-fails, KeepsFai
 use Rattle.uri_streams.proofs.Failures.{HasWrittenSoFar-then-step-fails}
 use Rattle.uri_streams.proofs.Streams.{HasWrittenSoFar-after-step, HasWrittenSoFar-at-start}
 use Rattle.uri_streams.proofs.Streams.{HasWrittenSoFar-then-last-step}
+use Rattle.uri_streams.proofs.Streams.{HasWrittenSoFar-then-rest-is-left}
+use Rattle.uri_streams.proofs.Parts.{OnOk-of-any}
 use Rattle.uri_streams.proofs.run.process_lines.Goals as goal
 
 pub loop-number-init : goal.loop-number-init
@@ -38,6 +40,7 @@ returns-in_err-step g c =
       stops = IfErr-of-only-error _ c.from_residual.result c.in_err-step.field-0.0
           c.from_residual.ensures.1 (HasWrittenSoFar-then-step-fails _ _ _ _ _ _ _ _ _ _ _ _ _ _
           _ _ written c.in_err-step.ensures.fails);
+      left = search rules;
       flushed = search rules;
       failures = KeepsFailures-passed-on c.from_residual.result c.in_err-step.field-0.0
           c.args.reader.now c.loop-number.reader c.process_line.new.reader c.args.writer.now
@@ -67,6 +70,10 @@ returns-then-step g c =
     record {
       output = ended.output;
       stops = ended.stops;
+      left = OnOk-of-any c.flushed.result _ (HasWrittenSoFar-then-rest-is-left _ _ _ _ _ _ _ _ _
+          _ _ _ _ _ _ _ _ _ (omega (arith, c.loop-number-test.true)) c.count.ensures.lines
+          c.count.ensures.errors c.show_tally.ensures _ written c.in_ok-step.ensures.steps
+          c.if-step.true);
       flushed = c.flushed.ensures.flushed;
       failures = KeepsFailures-in-writing c.flushed.result _ _ _ _ _
           (failures.reading ∙ read_failures) (failures.writing ∙ write_failures)
