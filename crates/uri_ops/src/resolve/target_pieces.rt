@@ -101,7 +101,7 @@ fn is_dotless_rest(rest: &str) -> bool
 
 /// Returns the pieces of the target of a reference whose path is merged with the base's, where the
 /// base has an authority, and the only dot segments are those that the reference begins with.
-fn pieces_with_merged_path<'a>(
+fn pieces_after_leading_dots<'a>(
     base: &TextView<'a>,
     reference: &TextView<'a>,
 ) -> Option<TargetPieces<'a>>
@@ -116,6 +116,29 @@ fn pieces_with_merged_path<'a>(
     }
     let prefix = base.through_slash(kept.len() - 1);
     Some(pieces_after(base, prefix, reference, rest, underflows))
+}
+
+/// Returns the pieces of the target of a reference whose path is merged with the base's, where the
+/// base has an authority, and the only dot segments are those that the reference begins with. Most
+/// references have none.
+fn pieces_with_merged_path<'a>(
+    base: &TextView<'a>,
+    reference: &TextView<'a>,
+) -> Option<TargetPieces<'a>>
+    requires { IsCaseOf (components_of reference.now) MergedPath }
+    ensures { IfSome result (ArePiecesOfTarget (components_of base.now)
+        (components_of reference.now)) }
+{
+    let path = reference.path();
+    if begins_with_dot(path.as_bytes()) {
+        return pieces_after_leading_dots(base, reference);
+    }
+    if !is_dotless(path) {
+        return None;
+    }
+    let directory = dotless_directory(base)?;
+    let prefix = base.through_slash(directory.len() - 1);
+    Some(pieces_after(base, prefix, reference, path, false))
 }
 
 /// Returns the pieces of the target of a reference that has no path, where the base has an

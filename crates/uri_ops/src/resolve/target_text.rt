@@ -2,23 +2,24 @@
 ghost use Rattle.std.specs.Prelude.{◌≡◌, ◌+◌, ◌++◌, ◌||◌, ℕ, List, Option, [], codes, false};
 ghost use Rattle.std.specs.Prelude.{IfOk, length};
 ghost use Rattle.std.specs.Prelude.{IfErr, IfSome, OnOk, is_some, option_map, string_bytes, true};
-ghost use Rattle.uri_pct.specs.Delimiters.{number_sign};
+ghost use Rattle.uri_pct.specs.Delimiters.{number_sign, slash};
 ghost use Rattle.uri_pct.specs.Texts.{Pushes};
 ghost use Rattle.uri_parts.specs.Components.{Components, IsAbemptyPath, marked, recompose, starts};
 ghost use Rattle.uri_parts.specs.PackedPositions.{ArePackedPositionsOf, packed};
 ghost use Rattle.uri_parts.specs.Positions.{positions_of};
 ghost use Rattle.uri_ops.specs.Dots.{is_empty};
 ghost use Rattle.uri_ops.specs.Models.Places.{before_path};
-ghost use Rattle.uri_ops.specs.Models.TargetCases.{IsDottedTarget, dotted_path};
+ghost use Rattle.uri_ops.specs.Models.TargetCases.{IsCaseOf, IsDottedTarget, dotted_path};
 ghost use Rattle.uri_ops.specs.Resolving.{IsErrorFor, IsTarget, components_of, with_final_path};
 ghost use Rattle.uri_ops.specs.Target.{dotless_if_absolute, guarded, underflows_if_absolute};
-ghost use Rattle.uri_ops.specs.Target.{is_fragment_only, is_opaque, is_opaque_rejection};
+ghost use Rattle.uri_ops.specs.Target.{dotted_target, is_fragment_only, is_opaque};
+ghost use Rattle.uri_ops.specs.Target.{is_opaque_rejection};
 
 use crate::path::dot_segments::{push_merged, push_without_dot_segments};
 use crate::path::slashes::{begins_with_slash, guard_path};
 use crate::resolve::dotted_target::{DottedTarget, dotted_target, with_scheme};
 use crate::resolve::error::ResolveError;
-use crate::resolve::target_case::target_case;
+use crate::resolve::target_case::{TargetCase, target_case};
 use crate::resolve::target_pieces::{TargetPieces, target_pieces};
 use crate::resolve::text_view::TextView;
 use std::alloc::{AllocError, Global};
@@ -198,6 +199,44 @@ pub fn target_with_scheme(
     Ok((text, positions))
 }
 
+/// Returns the target of a reference that has a scheme, and a path that doesn't begin with `/`: the
+/// reference's text. It is copied at once: as pieces it would cost more.
+fn copied_reference(
+    alloc: Global,
+    base: &TextView<'_>,
+    reference: &TextView<'_>,
+) -> Result<Target, AllocError>
+    requires scheme { is_some (components_of reference.now).scheme ≡ true }
+    requires rootless { starts slash (components_of reference.now).path ≡ false }
+    ensures text { let t = dotted_target (components_of base.now) (components_of reference.now) in
+        IfOk result (λ target. string_bytes target.text ≡ recompose (with_final_path t)) }
+    ensures places { let t = dotted_target (components_of base.now) (components_of reference.now) in
+        IfOk result (λ target.
+        target.positions ≡ packed (positions_of (with_final_path t))) }
+    ensures taken { is_opaque_rejection (components_of base.now) (components_of reference.now)
+        ≡ false }
+    ensures underflow { let t = dotted_target (components_of base.now)
+        (components_of reference.now) in underflows_if_absolute t.path ≡ false }
+{
+    Ok(Target {
+        text: String::from_str(alloc, reference.as_str())?,
+        positions: reference.packed_positions(),
+    })
+}
+
+/// Returns whether a reference has a scheme, and a path that doesn't begin with `/`.
+#[inline(always)]
+fn is_rootless_with_scheme(case: TargetCase, reference: &TextView<'_>) -> bool
+    requires { IsCaseOf (components_of reference.now) case }
+    ensures scheme { result ≡ true → is_some (components_of reference.now).scheme ≡ true }
+    ensures rootless { result ≡ true → starts slash (components_of reference.now).path ≡ false }
+{
+    match case {
+        TargetCase::WithScheme => !begins_with_slash(reference.path().as_bytes()),
+        _ => false,
+    }
+}
+
 /// Returns the text of a target that is two pieces.
 fn joined(alloc: Global, pieces: &TargetPieces<'_>) -> Result<String, AllocError>
     ensures { IfOk result (λ text.
@@ -230,6 +269,10 @@ pub(crate) fn target_text(
         return Err(ResolveError::BaseWithFragment);
     }
     let case = target_case(reference);
+    if is_rootless_with_scheme(case, reference) {
+        let copy = copied_reference(alloc, base, reference)?;
+        return Ok(copy);
+    }
     if let Some(pieces) = target_pieces(case, base, reference) {
         if pieces.underflows && !allow_path_underflow {
             return Err(ResolveError::PathUnderflow);

@@ -37,6 +37,15 @@ returns-in-Some-clause-at c =
     (string_bytes c.in_ok-text.text) c.in-Some.pieces c.requires c.in-Some.ensures
     c.in_ok-text.ensures
 
+pub returns-then-is_rootless_with_scheme-clause-at
+    : goal.returns-then-is_rootless_with_scheme-clause-at
+returns-then-is_rootless_with_scheme-clause-at c =
+    c.in_ok-copy.ensures.places
+    ∙ sym (ap (λ p. packed (positions_of p))
+    (ap components c.in_ok-copy.ensures.text
+    ∙ target-text-has-target-components c.args.base.now.text.now c.args.reference.now.text.now
+    c.requires))
+
 pub returns-then-is_opaque_rejection-clause-error
     : goal.returns-then-is_opaque_rejection-clause-error
 returns-then-is_opaque_rejection-clause-error c = search rules
