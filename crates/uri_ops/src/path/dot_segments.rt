@@ -224,7 +224,7 @@ fn parent(directory: &str) -> &str
 {
     let end = directory.len() - 1;
     let before = &directory.as_bytes()[..end];
-    let slash = last_slash_before(before, 0, before.len());
+    let slash = last_slash(before, 0);
     &directory[..slash + 1]
 }
 

@@ -13,14 +13,14 @@ range-requires-clause-end_boundary c =
     let all_is : all ≡ take (length text - 1) text =
     ap (take (length text - 1)) c.as_bytes.ensures.value in
     let slash = slash-before-popped-segment text 0 c.requires all all_is
-    c.last_slash_before-slash.result
-    c.last_slash_before-slash.ensures.place in
-    IsCharBoundary-after_ascii text c.last_slash_before-slash.result c.utf8.directory slash.0
+    c.last_slash-slash.result
+    c.last_slash-slash.ensures.place in
+    IsCharBoundary-after_ascii text c.last_slash-slash.result c.utf8.directory slash.0
     (omega (arith, slash.1))
 
 pub returns-clause-prefix : goal.returns-clause-prefix
 returns-clause-prefix c =
-    let end = c.last_slash_before-slash.result + 1 in
+    let end = c.last_slash-slash.result + 1 in
     first-bytes-are-prefix c.args.directory.now c.range.result.now end
     (slice-from-zero-is-prefix c.args.directory.now c.range.result.now end c.range.ensures.value)
 
@@ -30,8 +30,8 @@ returns-clause-parent c =
     let all = take (length text - 1) c.as_bytes.result.now in
     let all_is : all ≡ take (length text - 1) text =
     ap (take (length text - 1)) c.as_bytes.ensures.value in
-    slice-from-zero-is-prefix text c.range.result.now (c.last_slash_before-slash.result + 1)
+    slice-from-zero-is-prefix text c.range.result.now (c.last_slash-slash.result + 1)
     c.range.ensures.value
-    ∙ popped-directory-is-parent text 0 c.requires all all_is c.last_slash_before-slash.result
-    c.last_slash_before-slash.ensures.place
-    c.last_slash_before-slash.ensures.prefix
+    ∙ popped-directory-is-parent text 0 c.requires all all_is c.last_slash-slash.result
+    c.last_slash-slash.ensures.place
+    c.last_slash-slash.ensures.prefix
