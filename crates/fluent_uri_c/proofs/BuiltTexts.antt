@@ -1,5 +1,5 @@
 -- The text that is built of components has them again.
-use Rattle.std.proofs.Common.{◌≡◌, ℕ, Bool, true, false, ◌&&◌, ◌||◌, not, List, [], ◌++◌, refl, ap}
+use Rattle.std.proofs.Common.{◌≡◌, ℕ, Bool, true, false, ◌&&◌, ◌||◌, not, List, [], ◌++◌, refl}
 use Rattle.std.proofs.Common.{sym, ◌∙◌, subst}
 use Rattle.std.specs.Prelude.{Option, Some, None, IfSome, codes, is_none, is_some, option_map}
 use Rattle.std.specs.Prelude.{slice_index, unwrap_or}
@@ -12,7 +12,7 @@ use Rattle.fluent_uri.specs.Authority.{AuthorityParts, IsAuthorityFor, authority
 use Rattle.fluent_uri.specs.Authority.{recompose_authority}
 use Rattle.fluent_uri.specs.Components.{marked, starts}
 use Rattle.fluent_uri.specs.Grammar.{Kind, absent_or_passes}
-use Rattle.fluent_uri.specs.Hosts.{HostKind, IsHost, host_kind, is_host}
+use Rattle.fluent_uri.specs.Hosts.{host_kind, is_host}
 use Rattle.fluent_uri.specs.Sets.{TableSet, digit_set, scheme_set}
 use Rattle.fluent_uri.specs.Tokens.{is_valid_for}
 use Rattle.uri_parts.proofs.Theorems.{authority_parts-are-unique, is_authority_for-complete}

@@ -9,7 +9,6 @@ use Rattle.std.proofs.lemmas.Str.{is_utf8-from_IsUtf8}
 use Rattle.uri_pct.specs.Delimiters.{percent_sign}
 use Rattle.uri_pct.specs.Prefixes.{valid_prefix}
 use Rattle.uri_pct.specs.Sets.{LacksPercent, TableSet}
-use Rattle.uri_pct.specs.Tokens.{is_valid_for}
 use Rattle.uri_pct.proofs.ValidTexts.Cuts.{is_valid_for_is_scanned_to_end}
 use Rattle.uri_pct.proofs.ValidTexts.Prefixes.{valid_prefix_is_at_most_length}
 use Rattle.uri_parts.specs.Components.{starts}

@@ -1,12 +1,13 @@
 -- A host that begins with neither a digit nor a `[` is a name.
-use Rattle.std.proofs.Common.{◌≡◌, ℕ, ◌<◌, ◌≤◌, ◌==◌, Bool, true, false, not, List, [], ◌∷◌}
-use Rattle.std.proofs.Common.{length, refl, arith, ⊎_elim, le-leb, lit≤}
+use Rattle.std.proofs.Common.{◌≡◌, ℕ, ◌<◌, ◌≤◌, ◌==◌, false, not, List, [], ◌∷◌}
+use Rattle.std.proofs.Common.{length, arith, ⊎_elim, le-leb, lit≤}
 use Rattle.std.specs.Prelude.{None, IsTrue, slice_index}
 use Rattle.std.specs.Char.{digit_value, is_ascii_digit}
 use Rattle.std.specs.Int.{IsInRange}
 use Rattle.std.specs.Net.Reader.{read_ipv4, read_octet}
 use Rattle.std.proofs.NetLemmas.Numbers.{NoDigit, read_number_empty}
 use Rattle.std.proofs.lemmas.Bool.{and_from, both_ways, cases_lt, not-true}
+use Rattle.std.proofs.lemmas.Bool.Decides.{nat_tests}
 use Rattle.std.proofs.lemmas.Str.Parse.{digit_from_value}
 use Rattle.uri_parts.specs.Hosts.{RegName, host_kind, ipv4_value}
 
@@ -36,3 +37,14 @@ unfolding host_kind
 begins_as_name [] digit bracket = rw (no_ipv4 [] (lit≤ tt))
 begins_as_name (c ∷ rest) digit bracket =
     rw (not-true _ bracket, no_ipv4 (c ∷ rest) (no_digit c digit))
+
+-- exports for C: so is one that begins with a byte after `[` (91), as a letter in lower case
+pub begins_after_bracket : (host : List ℕ) → 91 < slice_index host 0 → host_kind host ≡ RegName
+begins_after_bracket host h = begins_as_name host (no-digit (slice_index host 0) h)
+    (not-from-false (slice_index host 0) h)
+  where
+    no-digit : (c : ℕ) → 91 < c → is_ascii_digit c ≡ false
+    no-digit c h = grind (arith, nat_tests, h)
+
+    not-from-false : (c : ℕ) → 91 < c → IsTrue (not (c == 91))
+    not-from-false c h = grind (arith, nat_tests, h)

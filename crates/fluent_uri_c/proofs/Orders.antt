@@ -18,7 +18,8 @@ use Rattle.uri_rules.specs.Standard.{standard_rules}
 use Rattle.fluent_uri_c.specs.declared.fnv.Fnv.{Fnv}
 use Rattle.fluent_uri_c.specs.Fnv.{fnv_bytes, fnv_write}
 use Rattle.fluent_uri_c.specs.Orders.{AreOneKey, byte_order, key_order, normal_key, order_of_keys}
-use Rattle.fluent_uri_c.specs.Results.{normal_form_of, normal_result, rejection_or_result, text_error}
+use Rattle.fluent_uri_c.specs.Results.{normal_form_of, normal_result, rejection_or_result}
+use Rattle.fluent_uri_c.specs.Results.{text_error}
 
 -- exports for C: a normal form by the rules of schemes is that of the order by them
 pub form-by-rules : (by_rules : Bool) → by_rules ≡ true → (kind : Kind) (text : List ℕ)

@@ -23,8 +23,8 @@ use Rattle.uri_ops.proofs.Meanings.TextParts.{components-of-utf8-are-utf8}
 use Rattle.fluent_uri_c.specs.declared.parts.Parts.{Parts}
 use Rattle.fluent_uri_c.specs.declared.parts.Span.{Span}
 use Rattle.fluent_uri_c.specs.Spans.{AreSpansOf, IsSpan, absent, authority_host_number}
-use Rattle.fluent_uri_c.specs.Spans.{authority_start, fragment_start, host_of, host_start, path_start}
-use Rattle.fluent_uri_c.specs.Spans.{port_of, port_start, query_start, userinfo_of}
+use Rattle.fluent_uri_c.specs.Spans.{authority_start, fragment_start, host_of, host_start}
+use Rattle.fluent_uri_c.specs.Spans.{path_start, port_of, port_start, query_start, userinfo_of}
 
 -- parts for C: a component at its positions is the span from start to end
 pub IsSpan-of-positions : (text : List ℕ) (begin start end : ℕ) (part : Option (List ℕ))

@@ -1,12 +1,11 @@
 -- Plain texts: those that are found to be their own normal forms by their bytes and their parts.
-use Rattle.std.proofs.Common.{◌≡◌, ◌∙◌, ◌||◌, ◌<◌, ℕ, Bool, true, false, not, cond, eqb, ltb, List}
-use Rattle.std.proofs.Common.{length, ap, arith, refl, subst, sym}
+use Rattle.std.proofs.Common.{◌≡◌, ◌∙◌, ◌<◌, ℕ, Bool, true, false, cond, eqb, ltb, List, length}
+use Rattle.std.proofs.Common.{ap, arith, refl, subst, sym}
 use Rattle.std.specs.Prelude.{Option, Some, None, Ok, IfSome, IsSomeAnd, slice_range}
-use Rattle.std.specs.Str.{IsUtf8, str_to_ascii_lowercase}
-use Rattle.std.proofs.lemmas.Bool.{eqb-true, false≢true, not-true, or_parts}
+use Rattle.std.specs.Str.{str_to_ascii_lowercase}
+use Rattle.std.proofs.lemmas.Bool.{eqb-true, false≢true}
 use Rattle.fluent_uri.specs.Components.{components, starts}
-use Rattle.uri_pct.specs.Sets.{TableSet}
-use Rattle.uri_parts.specs.Grammar.{IsOfKind, IsTextOf, Kind, iri, iri_ref, kind_by_flags, uri}
+use Rattle.uri_parts.specs.Grammar.{IsTextOf, Kind, iri, iri_ref, kind_by_flags, uri}
 use Rattle.uri_parts.specs.Grammar.{uri_ref}
 use Rattle.fluent_uri.specs.SchemePorts.{default_port}
 use Rattle.uri_ops.specs.ComponentSets.{HasComponentSets}
@@ -100,20 +99,6 @@ known-kind-is-of-plain-texts past kind known ascii = record {
       (sym (known ∙ ap (λ b. kind_by_flags b kind.needs_scheme) (ascii e)))
       (kind-lacks-past-ascii kind.needs_scheme);
 }
-
--- plain texts: a text of one of the four kinds that normalising keeps is its own normal form; some:
--- whether the path may have characters past ASCII
-pub plain-text-is-its-normal-form : (kind : Kind) (path : TableSet) (some : Bool) (text : List ℕ)
-    → kind ≡ kind_by_flags kind.path.ucschar kind.needs_scheme → path ≡ kind.path
-    → some ≡ (path.ucschar || path.iprivate) → IsPlain (not some) text
-    → ArePlain (components text) → IsUtf8 text → IsOfKind kind text
-    → normal_form_of false kind text ≡ text
-plain-text-is-its-normal-form kind path some text known same is bytes plain utf8 grammar =
-    plain-text-of-kind-is-its-normal-form (not some) kind text
-    (known-kind-is-of-plain-texts (not some) kind known
-    (λ e. ap (λ (set : TableSet). set.ucschar) (sym same)
-    ∙ (or_parts _ _ (sym is ∙ not-true some e)).0))
-    bytes plain (record { utf8 = utf8; grammar = grammar })
 
 -- plain texts: what each of two kinds has, the one that a test chooses has
 chosen-kind-is-of-plain-texts : (past b : Bool) (kind : Kind) (other : Option Kind)

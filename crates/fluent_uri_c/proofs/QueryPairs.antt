@@ -1,10 +1,9 @@
 -- The next pair of a query, as C gets it.
-use Rattle.std.proofs.Common.{◌≡◌, ℕ, ◌<◌, ◌≤◌, List, [], refl, sym, subst, ◌∙◌, arith}
-use Rattle.std.proofs.Common.{⊎_elim, drop, length, ◌+◌}
+use Rattle.std.proofs.Common.{ℕ, ◌<◌, ◌≤◌, List, refl, sym, subst, ◌∙◌, arith}
+use Rattle.std.proofs.Common.{⊎_elim, length, ◌+◌}
 use Rattle.std.specs.Prelude.{Some, slice_range}
 use Rattle.std.proofs.lemmas.Bool.{cases_lt, cond-false, cond-true, le-ltb, lt-ltb}
 use Rattle.uri_query.specs.declared.places.PairPlace.{PairPlace}
-use Rattle.uri_query.specs.Pairs.{nonempty_substrings}
 use Rattle.uri_query.specs.Places.{IsNextPair, pair_at, value_of_pair}
 use Rattle.fluent_uri_c.specs.declared.queries.Pair.{Pair}
 use Rattle.fluent_uri_c.specs.Pairs.{LeavesPair, value_span}

@@ -1,5 +1,5 @@
 -- The text of a scheme, by whether it is UTF-8.
-use Rattle.std.proofs.Common.{◌≡◌, ℕ, true, false, ◌&&◌, List, ap}
+use Rattle.std.proofs.Common.{◌≡◌, ℕ, false, ◌&&◌, List, ap}
 use Rattle.std.specs.Str.{IsUtf8, is_utf8}
 use Rattle.std.proofs.lemmas.Bool.{and_parts, false_from_ne_true}
 use Rattle.std.proofs.lemmas.Str.{IsUtf8-from_is_utf8, is_utf8-from_IsUtf8}

@@ -1,7 +1,7 @@
 -- What is written of lines, and what a batch of them leaves.
-use Rattle.std.proofs.Common.{◌≡◌, ◌≢◌, ℕ, zero, suc, ◌+◌, ◌<◌, ◌≤◌, List, [], ◌∷◌, ◌++◌, length, take}
-use Rattle.std.proofs.Common.{drop, refl, sym, ap, ◌∙◌, arith, append_assoc, length-append, true}
-use Rattle.std.proofs.Common.{false, Bool, ◌⊎◌, inl, inr}
+use Rattle.std.proofs.Common.{◌≡◌, ◌≢◌, ℕ, zero, suc, ◌+◌, ◌<◌, ◌≤◌, List, [], ◌∷◌, ◌++◌, length}
+use Rattle.std.proofs.Common.{take, drop, refl, sym, ap, ◌∙◌, arith, append_assoc, length-append}
+use Rattle.std.proofs.Common.{true, false, Bool, ◌⊎◌, inl, inr}
 use Rattle.std.specs.Prelude.{Some, None, IsSome, IsTrue, cond, slice_get, nat_lt}
 use Rattle.std.specs.List.{position, position_or_len}
 use Rattle.std.specs.Result.{result_ok}
@@ -43,13 +43,13 @@ no-newline-found rest e =
     let n = position_or_len is_newline rest in
     ltb-false n (length rest) (cond_none (nat_lt n (length rest)) n e)
 
--- lines for C: bytes that are written at a position and a byte
--- after them are one text that is written there
-pub two-writes-are-one : (out one two bytes : List ℕ) (at end byte : ℕ) → end ≡ at + length bytes
+-- lines for C: bytes that are written at a position and more after them are one text that is written
+-- there
+pub two-writes-are-one : (out one two bytes more : List ℕ) (at end : ℕ) → end ≡ at + length bytes
     → at ≤ length out → one ≡ take at out ++ (bytes ++ drop (at + length bytes) out)
-    → two ≡ take end one ++ ((byte ∷ []) ++ drop (end + 1) one)
-    → two ≡ take at out ++ ((bytes ++ byte ∷ []) ++ drop (at + length (bytes ++ byte ∷ [])) out)
-two-writes-are-one out one two bytes at end byte ends inside first second =
+    → two ≡ take end one ++ (more ++ drop (end + length more) one)
+    → two ≡ take at out ++ ((bytes ++ more) ++ drop (at + length (bytes ++ more)) out)
+two-writes-are-one out one two bytes more at end ends inside first second =
     let P : List ℕ = take at out ++ bytes in
     let R : List ℕ = drop (at + length bytes) out in
     let whole : one ≡ P ++ R = first ∙ sym (append_assoc (take at out) bytes R) in
@@ -61,16 +61,17 @@ two-writes-are-one out one two bytes at end byte ends inside first second =
     ) in
     let before : take end one ≡ P = ap (λ k. take k one) long ∙ ap (take (length P)) whole
     ∙ take-append_seam P R in
-    let after : drop (end + 1) one ≡ drop (at + length (bytes ++ byte ∷ [])) out =
-    sym (drop-drop 1 end one) ∙ ap (λ k. drop 1 (drop k one)) long
-    ∙ ap (λ l. drop 1 (drop (length P) l)) whole ∙ ap (drop 1) (drop-append_seam P R)
-    ∙ drop-drop 1 (at + length bytes) out
-    ∙ ap (λ k. drop k out) (omega (arith, length-append bytes (byte ∷ []))) in
+    let n = length more in
+    let after : drop (end + n) one ≡ drop (at + length (bytes ++ more)) out =
+    sym (drop-drop n end one) ∙ ap (λ k. drop n (drop k one)) long
+    ∙ ap (λ l. drop n (drop (length P) l)) whole ∙ ap (drop n) (drop-append_seam P R)
+    ∙ drop-drop n (at + length bytes) out
+    ∙ ap (λ k. drop k out) (omega (arith, length-append bytes more)) in
     second
-    ∙ ap (λ l. l ++ ((byte ∷ []) ++ drop (end + 1) one)) before
-    ∙ ap (λ l. P ++ ((byte ∷ []) ++ l)) after
+    ∙ ap (λ l. l ++ (more ++ drop (end + n) one)) before
+    ∙ ap (λ l. P ++ (more ++ l)) after
     ∙ append_assoc (take at out) bytes _
-    ∙ ap (λ l. take at out ++ l) (sym (append_assoc bytes (byte ∷ []) _))
+    ∙ ap (λ l. take at out ++ l) (sym (append_assoc bytes more _))
 
 -- lines for C: what is written for line n is its normal form and a newline
 pub written_at-of-line : (kind options : ℕ) (input line bytes : List ℕ) (n : ℕ)
@@ -129,7 +130,8 @@ pub leaves_lines : (kind options : ℕ) (input : List ℕ) (old new : LineBuffer
     → at ≡ length (joined_results (written_at kind options input) done)
     → ((i : ℕ) → i < done → slice_get new.errors i ≡ error_number_at kind options input i)
     → drop done new.errors ≡ drop done old.errors
-    → EndsAt (length (lines_of input)) (slice_get (lines_of input)) (TakesMemoryAt kind options input)
+    → EndsAt (length (lines_of input)) (slice_get (lines_of input))
+    (TakesMemoryAt kind options input)
     (IsFullAt kind options input old.bytes old.errors which needed) done number
     → HasConsumed input done consumed
     → LeavesLines kind options input old new outcome returned

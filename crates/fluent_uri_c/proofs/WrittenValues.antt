@@ -11,7 +11,8 @@ pub value-is-left : (takes_memory : Bool) (text result old new : List ℕ)
     → outcome ≡ outcome_of_text text → new ≡ written text old
     → HasPartsFirst text old_parts new_parts
     → LeavesValueOrDenied takes_memory (Ok result) old new old_parts new_parts outcome 0
-value-is-left takes_memory text result old new old_parts new_parts outcome is reported written first =
+value-is-left takes_memory text result old new old_parts new_parts outcome is reported written
+    first =
     subst (λ t. LeavesValueOrDenied takes_memory (Ok t) old new old_parts new_parts outcome 0) is
     (record {
       text = record {

@@ -154,12 +154,15 @@ pub record LeavesColumn {O : Type 0} (call : SingleCall) (column : TextColumn O)
   pub error : outcome.error ≡ number
   pub consumed : outcome.consumed ≡ 0
   pub full : SaysFullIfFull outcome number
-  pub invalid : IsFalse (are_arguments_valid call.is_valid column) → DoesNothing 9 old new outcome number
+  pub invalid : IsFalse (are_arguments_valid call.is_valid column)
+      → DoesNothing 9 old new outcome number
   -- the ends are one more than the results
-  pub no_ends : IsTrue (are_arguments_valid call.is_valid column) → length old.ends ≤ count_of column
+  pub no_ends : IsTrue (are_arguments_valid call.is_valid column)
+      → length old.ends ≤ count_of column
       → LacksRoom ends_buffer (count_of column + 1) old new outcome number
   -- each byte has eight bits
-  pub no_bits : IsTrue (are_arguments_valid call.is_valid column) → count_of column < length old.ends
+  pub no_bits : IsTrue (are_arguments_valid call.is_valid column)
+      → count_of column < length old.ends
       → 8 * length old.valid < count_of column
       → LacksRoom valid_buffer ((count_of column + 7) / 8) old new outcome number
   pub done : IsTrue (are_arguments_valid call.is_valid column) → count_of column < length old.ends

@@ -34,12 +34,14 @@ number_returned (Err why) = number_of why.error
 -- what a batch over lines writes for a text: its normal form, or nothing if it is rejected, and a
 -- newline; the numbers are those of its kind and of the options
 abbrev pub written_line : ℕ → ℕ → List ℕ → List ℕ
-written_line kind options text = bytes_of (result_ok (normalize_result kind options text)) ++ newline ∷ []
+written_line kind options text =
+    bytes_of (result_ok (normalize_result kind options text)) ++ newline ∷ []
 
 -- what a batch over lines writes for the line at an index of the input, if there is one; the first
 -- numbers are those of the kind and of the options
 abbrev pub written_at : ℕ → ℕ → List ℕ → ℕ → Option (List ℕ)
-written_at kind options input i = option_map (written_line kind options) (slice_get (lines_of input) i)
+written_at kind options input i =
+    option_map (written_line kind options) (slice_get (lines_of input) i)
 
 -- the number of the error of the line at an index of a batch's input, if there is one; the first
 -- numbers are those of the kind and of the options
@@ -64,7 +66,8 @@ IsFullAt kind options input buffer errors which needed done =
     ⊎ ((which ≡ errors_buffer) × (length errors ≤ done) × (needed ≡ as_size (done + 1)))
 
 -- a batch over lines has done the first `done` lines, which take `consumed` bytes of the input with
--- the newlines after them: the lines that are left are those of what is after these, if there are any
+-- the newlines after them: the lines that are left are those of what is after these, if there are
+-- any
 pub record HasConsumed (input : List ℕ) (done consumed : ℕ) : Type 0 where
   pub all : done ≡ length (lines_of input) → consumed ≡ length input
   pub left : done < length (lines_of input)
@@ -80,10 +83,10 @@ abbrev pub line_buffers : List ℕ → List ℕ → LineBuffers
 line_buffers bytes errors = record { bytes = bytes; errors = errors }
 
 -- What a batch over lines leaves if there are such a kind and such options: what is written for the
--- lines that are done, and their numbers. The lines are one after the other. After these, everything
--- is as it was.
-pub record HasWritten (kind options : ℕ) (input : List ℕ) (old new : LineBuffers) (outcome : Outcome)
-    (number : ℕ) : Type 0 where
+-- lines that are done, and their numbers. The lines are one after the other. After these,
+-- everything is as it was.
+pub record HasWritten (kind options : ℕ) (input : List ℕ) (old new : LineBuffers)
+    (outcome : Outcome) (number : ℕ) : Type 0 where
   pub bytes : new.bytes ≡ joined_results (written_at kind options input) outcome.index
       ++ drop (length (joined_results (written_at kind options input) outcome.index)) old.bytes
   pub total : outcome.length ≡ length (joined_results (written_at kind options input) outcome.index)
@@ -104,8 +107,8 @@ are_lines_valid kind options input =
 -- What the batch that normalises lines writes to its buffers, reports in its outcome and returns as
 -- a number.
 -- If there is no such kind or no such option, or the input is too long, it does nothing.
-pub record LeavesLines (kind options : ℕ) (input : List ℕ) (old new : LineBuffers) (outcome : Outcome)
-    (number : ℕ) : Type 0 where
+pub record LeavesLines (kind options : ℕ) (input : List ℕ) (old new : LineBuffers)
+    (outcome : Outcome) (number : ℕ) : Type 0 where
   pub error : outcome.error ≡ number
   pub full : SaysFullIfFull outcome number
   pub invalid : IsFalse (are_lines_valid kind options input) → (number ≡ 9)

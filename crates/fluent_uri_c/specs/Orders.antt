@@ -1,5 +1,6 @@
 -- The order of texts by their normal forms, and the hash of these: for tables and indexes.
-use Rattle.std.specs.Prelude.{◌≡◌, ◌⊎◌, ℕ, List, [], ◌∷◌, ◌++◌, Option, Some, None, bit_xor, reverse}
+use Rattle.std.specs.Prelude.{◌≡◌, ◌⊎◌, ℕ, List, [], ◌∷◌, ◌++◌, Option, Some, None, bit_xor}
+use Rattle.std.specs.Prelude.{reverse}
 use Rattle.std.specs.Cmp.Lexicographic.{slice_cmp}
 use Rattle.std.specs.Option.{unwrap_or}
 use Rattle.std.specs.Ordering.{nat_cmp}
@@ -9,8 +10,8 @@ use Rattle.std.specs.declared.cmp.Ordering.TheVariants.{Less, Equal, Greater}
 use Rattle.fluent_uri_c.specs.Fnv.{fnv_bytes}
 use Rattle.fluent_uri_c.specs.Results.{normalize_result}
 
--- the normal form of bytes that are a text of the kind; other bytes have none. The numbers are those
--- of the kind and of the options in the C header.
+-- the normal form of bytes that are a text of the kind; other bytes have none. The numbers are
+-- those of the kind and of the options in the C header.
 abbrev pub normal_key : ℕ → ℕ → List ℕ → Option (List ℕ)
 normal_key kind options bytes = result_ok (normalize_result kind options bytes)
 

@@ -16,14 +16,15 @@ use Rattle.fluent_uri_c.specs.Results.{with_valid_number}
 abbrev pub is_possible_port : Option ℕ → Bool
 is_possible_port number = option_map_or (λ n. nat_lt n 65536) number true
 
--- whether a scheme and the components of an authority have an origin: the scheme has a default port,
--- the host is not empty, and the port is a possible one (section 4)
+-- whether a scheme and the components of an authority have an origin: the scheme has a default
+-- port, the host is not empty, and the port is a possible one (section 4)
 abbrev pub has_origin : List ℕ → AuthorityParts → Bool
 has_origin scheme parts =
     is_some (default_port (str_to_ascii_lowercase scheme))
     && (nat_lt 0 (length parts.host) && is_possible_port (port_number parts.port))
 
--- an origin as a text: the scheme, the host, and the port if there is one, in base ten (section 6.2)
+-- an origin as a text: the scheme, the host, and the port if there is one, in base ten (section
+-- 6.2)
 abbrev pub origin_text : List ℕ → AuthorityParts → List ℕ
 origin_text scheme parts =
     scheme ++ (codes "://" ++ (parts.host

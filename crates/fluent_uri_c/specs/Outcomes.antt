@@ -26,16 +26,20 @@ outcome_of why = record {
   consumed = 0;
 }
 
--- the outcome of a call for C that reports a text, the argument: its length
-abbrev pub outcome_of_text : List ℕ → Outcome
-outcome_of_text text = record {
+-- the outcome of a call for C that reports a text of this length
+abbrev pub outcome_of_length : ℕ → Outcome
+outcome_of_length n = record {
   error = 0;
   which = 0;
   index = 0;
-  length = length text;
+  length = n;
   needed = 0;
   consumed = 0;
 }
+
+-- the outcome of a call for C that reports a text, the argument: its length
+abbrev pub outcome_of_text : List ℕ → Outcome
+outcome_of_text text = outcome_of_length (length text)
 
 -- the outcome of a batch: its error, which buffer is full and how long it must be, how many texts
 -- are done, how long their results are, and how much of the input they take

@@ -11,8 +11,8 @@ use Rattle.uri_ops.specs.Models.Unchanged.{IsUnchangedPath}
 use Rattle.uri_ops.specs.Normal.{normal_scheme}
 
 -- normalising keeps the percent-encoded octet with these two digits: they are in upper case, and it
--- is no unreserved character. It is ASCII, unless each octet past ASCII stays, as in a URI (sections
--- 6.2.2.1 and 6.2.2.2).
+-- is no unreserved character. It is ASCII, unless each octet past ASCII stays, as in a URI
+-- (sections 6.2.2.1 and 6.2.2.2).
 abbrev pub is_kept_octet : Bool → ℕ → ℕ → Bool
 is_kept_octet past_ascii high low =
     let value = 16 * digit_value high + digit_value low in

@@ -11,8 +11,8 @@ use Rattle.uri_parts.specs.SchemePorts.{default_port}
 use Rattle.fluent_uri_c.specs.Errors.{number_of}
 use Rattle.fluent_uri_c.specs.Spans.{parse_error, port_of}
 
--- what C gets in place of a number where there is no port, where it is empty, and where its number is
--- above 65535
+-- what C gets in place of a number where there is no port, where it is empty, and where its number
+-- is above 65535
 abbrev pub no_port : ℕ
 no_port = 65536
 
@@ -35,8 +35,8 @@ default_port_code scheme =
     if is_scheme_text scheme then unwrap_or (default_port (str_to_ascii_lowercase scheme)) 0
     else 0
 
--- what `fluent_uri_port_number` returns and writes for a text of the kind: 0 and what its port is, or
--- the number of the error, and then nothing has changed
+-- what `fluent_uri_port_number` returns and writes for a text of the kind: 0 and what its port is,
+-- or the number of the error, and then nothing has changed
 pub record LeavesPortNumber (kind : Option Kind) (text : List ℕ) (old new returned : ℕ)
     : Type 0 where
   pub error : returned ≡ option_map_or (λ why. number_of why.error) (parse_error kind text) 0

@@ -1,6 +1,6 @@
 -- The result of each call for its arguments: a text, or why there is none.
-use Rattle.std.specs.Prelude.{◌≡◌, ◌⊎◌, ℕ, ◌^◌, Bool, false, true, ◌==◌, List, length, nat_lt, Option}
-use Rattle.std.specs.Prelude.{Some, None}
+use Rattle.std.specs.Prelude.{◌≡◌, ◌⊎◌, ℕ, ◌^◌, Bool, false, true, ◌==◌, List, length, nat_lt}
+use Rattle.std.specs.Prelude.{Option, Some, None}
 use Rattle.std.specs.Prelude.{Result, Ok, Err, IsTrue, option_map, if◌then◌else◌}
 use Rattle.std.specs.Str.{IsUtf8}
 use Rattle.std.specs.Result.{is_ok, result_map_both}
@@ -86,8 +86,8 @@ IsPossibleUtf8 bytes = IsUtf8 bytes × IsTrue (is_possible_length bytes)
 abbrev pub IsPossibleText : Kind → List ℕ → Type 0
 IsPossibleText kind bytes = IsTextOf kind bytes × IsTrue (is_possible_length bytes)
 
--- the normal form of a text of the kind, where the Bool is whether it is by the rules of schemes, or
--- by their default ports alone (section 6.2.3)
+-- the normal form of a text of the kind, where the Bool is whether it is by the rules of schemes,
+-- or by their default ports alone (section 6.2.3)
 unfoldable pub normal_form_of : Bool → Kind → List ℕ → List ℕ
 normal_form_of by_rules kind text = normal_text (meaning_under kind (rules_set by_rules) text)
 

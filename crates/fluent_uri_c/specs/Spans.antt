@@ -17,8 +17,8 @@ use Rattle.fluent_uri_c.specs.Results.{IsPossibleText, text_error}
 abbrev pub absent : Span
 absent = record { start = 2 ^ 64 - 1; end = 2 ^ 64 - 1 }
 
--- a component of a text, which begins at a position of it, is between the offsets of the span that C
--- gets, if it is present; if it is absent, so is the span
+-- a component of a text, which begins at a position of it, is between the offsets of the span that
+-- C gets, if it is present; if it is absent, so is the span
 abbrev pub IsSpan : List ℕ → ℕ → Option (List ℕ) → Span → Type 0
 IsSpan text start None span = span ≡ absent
 IsSpan text start (Some part) span =
@@ -78,8 +78,8 @@ query_start text = (positions_of (components text)).path_end + 1
 abbrev pub fragment_start : List ℕ → ℕ
 fragment_start text = before_fragment (positions_of (components text)) + 1
 
--- each span of the parts that C gets is that of its component at its position in the text, and there
--- is no index of an error
+-- each span of the parts that C gets is that of its component at its position in the text, and
+-- there is no index of an error
 pub record AreSpansOf (text : List ℕ) (parts : Parts) : Type 0 where
   pub index : parts.index ≡ 0
   pub scheme : IsSpan text 0 (components text).scheme parts.scheme

@@ -44,7 +44,8 @@ impl<'a> Base<'a> {
         options: u32,
         reference: &[u8],
     ) -> Result<IriRef<String>, Rejection>
-        ensures { IsTargetReturned reference_text (target_by options self.now reference.now) result }
+        ensures { IsTargetReturned reference_text
+            (target_by options self.now reference.now) result }
     {
         let Some(is_basic) = is_basic(options) else {
             return Err(Rejection::of(Error::InvalidArgument));

@@ -4,7 +4,7 @@ ghost use Rattle.std.specs.Prelude.{option_map, string_bytes, true, unwrap_or};
 ghost use Rattle.std.specs.Result.{result_err};
 ghost use Rattle.fluent_uri.specs.Authority.{recompose_authority};
 ghost use Rattle.fluent_uri.specs.Components.{marked, recompose};
-ghost use Rattle.fluent_uri.specs.Grammar.{absent_or_passes, has_colon_in_first_segment};
+ghost use Rattle.fluent_uri.specs.Grammar.{absent_or_passes};
 ghost use Rattle.fluent_uri.specs.References.{reference_text};
 ghost use Rattle.uri_ops.specs.Built.{build_error_of_path};
 ghost use Rattle.uri_pct.specs.Texts.{Pushes};
@@ -28,6 +28,7 @@ use crate::texts::is_possible_length;
 use fluent_uri::pct_enc::encoder::Port;
 use fluent_uri::{IriRef, Reference};
 use std::alloc::{AllocError, Global};
+use uri_ops::build::draft::has_colon_in_first_segment;
 use uri_ops::path::slashes::{begins_with_slash, begins_with_two_slashes};
 use uri_parts::core_text::Core;
 use uri_parts::kind::{IriKind, IriRefKind, Kind, UriKind, UriRefKind};
@@ -128,15 +129,6 @@ fn missing(which: u32) -> Rejection
     ensures { Some result ≡ missing which true }
 {
     Rejection::of(Error::MissingComponent).in_component(which)
-}
-
-/// Returns whether the first segment of a path has a `:`.
-fn has_colon_in_first_segment(path: &[u8]) -> bool
-    ensures { result ≡ has_colon_in_first_segment path.now }
-{
-    path.iter()
-        .take_while(|byte| **byte != b'/')
-        .any(|byte| *byte == b':')
 }
 
 /// Returns why a path is rejected after a scheme and an authority, if it is.

@@ -103,8 +103,8 @@ impl<'b> Call for Resolve<'b> {
 
     ghost is_ready = { λ call. IsBaseOf call.kind call.bytes.now call.base };
 
-    /// Returns whether the numbers are a base's kind, a URI or an IRI, and options of this call, and
-    /// the base can be there.
+    /// Returns whether the numbers are a base's kind, a URI or an IRI, and options of this call,
+    /// and the base can be there.
     fn is_valid(&self) -> bool {
         (self.kind == 0 || self.kind == 2)
             && (self.options == 0 || self.options == 4)
@@ -134,8 +134,8 @@ impl<'b> Call for ResolveNormalized<'b> {
 
     ghost is_ready = { λ call. IsBaseOf call.kind call.bytes.now call.base };
 
-    /// Returns whether the numbers are a base's kind, a URI or an IRI, and options of this call, and
-    /// the base can be there.
+    /// Returns whether the numbers are a base's kind, a URI or an IRI, and options of this call,
+    /// and the base can be there.
     fn is_valid(&self) -> bool {
         (self.kind == 0 || self.kind == 2)
             && (self.options == 0 || self.options == 2)

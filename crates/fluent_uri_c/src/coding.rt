@@ -14,8 +14,8 @@ use crate::outcome::Outcome;
 use fluent_uri::pct_enc::CowSlice;
 use std::alloc::{AllocError, Global};
 
-/// Returns decoded bytes as the result of a batch's call: none for a rejection, and an error only if
-/// an allocation failed.
+/// Returns decoded bytes as the result of a batch's call: none for a rejection, and an error only
+/// if an allocation failed.
 fn decoded_result<'a>(
     returned: Result<CowSlice<'a, u8>, Rejection>,
 ) -> Result<Option<CallResult<'a>>, AllocError>

@@ -13,7 +13,7 @@ ghost use Rattle.fluent_uri_c.specs.Results.{normalize_result};
 use crate::batch::{CallResult, bytes_of};
 use crate::errors::Error;
 use crate::numbered;
-use crate::outcome::{Full, Outcome, report_progress};
+use crate::outcome::{Full, Outcome, report_progress, write_at};
 use crate::texts::is_possible_length;
 use std::alloc::{AllocError, Global};
 
@@ -35,14 +35,6 @@ fn line_end(lines: &[u8], start: usize) -> usize
         Some(length) => start + length,
         None => lines.len(),
     }
-}
-
-/// Writes bytes of a line to the buffer of a batch over lines, from a position on.
-fn write_at(bytes: &[u8], at: usize, out: &mut [u8])
-    requires { at + length bytes.now ≤ length out.old }
-    ensures { out.new ≡ take at out.old ++ (bytes.now ++ drop (at + length bytes.now) out.old) }
-{
-    out[at..at + bytes.len()].copy_from_slice(bytes);
 }
 
 /// Writes a line of a batch over lines, bytes and a newline, at a position, if they fit there, and

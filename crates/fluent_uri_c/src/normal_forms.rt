@@ -5,11 +5,11 @@ ghost use Rattle.fluent_uri_c.specs.NormalForms.{normal_form_text};
 ghost use Rattle.fluent_uri_c.specs.Results.{IsReturnedAs, normal_form_of, normal_result};
 
 use crate::errors::Rejection;
-use crate::plain::is_plainly_normal;
 use crate::texts::parsed;
-use fluent_uri::{IriRef, Reference};
+use fluent_uri::{IriRef, Reference, RiMaybeRef};
 use std::alloc::Global;
 use std::convert::AsStr;
+use uri_ops::normalize::unchanged::is_unchanged;
 use uri_parts::kind::Kind;
 use uri_setting::RuleSetting;
 
@@ -67,11 +67,11 @@ pub fn is_own_normal_form<K: Kind>(setting: RuleSetting, value: &Reference<K, &s
     if setting.scheme_rules {
         return false;
     }
-    is_plainly_normal(value)
+    is_unchanged(value.core())
 }
 
-/// Returns the normal form of bytes that are a text of the kind. It takes no memory if default ports
-/// alone count, and the text is plainly its own normal form.
+/// Returns the normal form of bytes that are a text of the kind. It takes no memory if default
+/// ports alone count, and the text is plainly its own normal form.
 pub fn normal_form<'a, K: Kind>(
     alloc: Global,
     bytes: &'a [u8],

@@ -1,5 +1,5 @@
-//! What each call returns for the kind of a number. A value of any kind is one of IRI references too,
-//! so that what follows is compiled once.
+//! What each call returns for the kind of a number. A value of any kind is one of IRI references
+//! too, so that what follows is compiled once.
 ghost use Rattle.std.specs.Prelude.{◌≡◌, IfOk, IsSomeAnd, option_map};
 ghost use Rattle.fluent_uri.specs.References.{reference_text};
 ghost use Rattle.uri_mend.specs.Mended.{IsMended};

@@ -53,8 +53,9 @@ fn order_by_numbers(kind: u32, options: u32, one: &[u8], other: &[u8]) -> Orderi
     }
 }
 
-/// Returns 0 if the first text is before the second, 1 if they are one key, and 2 if it is after the
-/// second: texts of the kind by their normal forms, and all other bytes after these. Takes no memory.
+/// Returns 0 if the first text is before the second, 1 if they are one key, and 2 if it is after
+/// the second: texts of the kind by their normal forms, and all other bytes after these. Takes no
+/// memory.
 #[unsafe(no_mangle)]
 pub extern "C" fn fluent_uri_compare(kind: u32, options: u32, one: &[u8], other: &[u8]) -> u32
     ensures order { result ≡ order_number (key_order kind options one.now other.now) }
@@ -157,8 +158,8 @@ fn hash<K: Kind>(setting: RuleSetting, seed: u64, text: &[u8]) -> (u64, bool)
     }
 }
 
-/// Returns the hash of bytes for tables, and whether they are a text of the kind, by the kind and the
-/// options with these numbers of the header.
+/// Returns the hash of bytes for tables, and whether they are a text of the kind, by the kind and
+/// the options with these numbers of the header.
 fn hash_by_numbers(kind: u32, options: u32, seed: u64, text: &[u8]) -> (u64, bool)
     ensures hash { result.0 ≡ key_hash kind options seed text.now }
     ensures text { result.1 ≡ is_some (normal_key kind options text.now) }
@@ -175,9 +176,9 @@ fn hash_by_numbers(kind: u32, options: u32, seed: u64, text: &[u8]) -> (u64, boo
     }
 }
 
-/// Writes the hash of a text for tables, FNV-1a of 64 bits: of its normal form if it is of the kind,
-/// and else of itself, from the last byte to the first, and then of 255. Returns 1 if it is of the
-/// kind, and else 0. Takes no memory.
+/// Writes the hash of a text for tables, FNV-1a of 64 bits: of its normal form if it is of the
+/// kind, and else of itself, from the last byte to the first, and then of 255. Returns 1 if it is
+/// of the kind, and else 0. Takes no memory.
 #[unsafe(no_mangle)]
 pub extern "C" fn fluent_uri_hash(
     kind: u32,

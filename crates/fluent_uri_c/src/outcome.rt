@@ -1,8 +1,8 @@
 //! What a call leaves in its caller's memory.
-ghost use Rattle.std.specs.Prelude.{◌≡◌, Bool, string_bytes};
+ghost use Rattle.std.specs.Prelude.{◌≡◌, ◌+◌, ◌++◌, ◌≤◌, Bool, drop, length, string_bytes, take};
 ghost use Rattle.fluent_uri.specs.References.{reference_text};
 ghost use Rattle.fluent_uri_c.specs.Outcomes.{LeavesText, outcome_of, outcome_of_batch};
-ghost use Rattle.fluent_uri_c.specs.Outcomes.{outcome_of_text, written};
+ghost use Rattle.fluent_uri_c.specs.Outcomes.{outcome_of_length, outcome_of_text, written};
 ghost use Rattle.fluent_uri_c.specs.Errors.{number_of};
 ghost use Rattle.fluent_uri_c.specs.Results.{IsReturnedAs, IsReturnedOrDenied, Returned};
 ghost use Rattle.fluent_uri_c.specs.Values.{HasPartsFirst, LeavesValueOrDenied};
@@ -82,18 +82,35 @@ pub fn report(why: Rejection, outcome: &mut Outcome) -> u32
     outcome.error
 }
 
+/// Reports the length of a text in the outcome that the caller in C gets.
+#[inline(always)]
+fn report_length(len: usize, outcome: &mut Outcome)
+    ensures { outcome.new ≡ outcome_of_length len }
+{
+    outcome.error = 0;
+    outcome.which = 0;
+    outcome.index = 0;
+    outcome.length = len;
+    outcome.needed = 0;
+    outcome.consumed = 0;
+}
+
+/// Writes bytes to a buffer, from a position on.
+#[inline(always)]
+pub fn write_at(bytes: &[u8], at: usize, out: &mut [u8])
+    requires { at + length bytes.now ≤ length out.old }
+    ensures { out.new ≡ take at out.old ++ (bytes.now ++ drop (at + length bytes.now) out.old) }
+{
+    out[at..at + bytes.len()].copy_from_slice(bytes);
+}
+
 /// Reports the length of a text in the outcome that the caller in C gets, and writes it to the
 /// buffer if that is long enough.
 pub fn put(text: &[u8], out: &mut [u8], outcome: &mut Outcome)
     ensures outcome { outcome.new ≡ outcome_of_text text.now }
     ensures written { out.new ≡ written text.now out.old }
 {
-    outcome.error = 0;
-    outcome.which = 0;
-    outcome.index = 0;
-    outcome.length = text.len();
-    outcome.needed = 0;
-    outcome.consumed = 0;
+    report_length(text.len(), outcome);
     if text.len() <= out.len() {
         out[..text.len()].copy_from_slice(text);
     }

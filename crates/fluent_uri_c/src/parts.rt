@@ -1,11 +1,12 @@
 //! Where the components of a text are.
-ghost use Rattle.std.specs.Prelude.{◌≡◌, IsTrue, Some, is_some, true};
+ghost use Rattle.std.specs.Prelude.{◌≡◌, IsTrue, None, Some, is_some, true};
 ghost use Rattle.fluent_uri.specs.Authority.{authority_parts};
 ghost use Rattle.fluent_uri.specs.AuthorityTexts.{authority_text};
 ghost use Rattle.fluent_uri.specs.Components.{components};
 ghost use Rattle.fluent_uri.specs.Grammar.{IsOfKind};
 ghost use Rattle.fluent_uri.specs.Hosts.{RegName, host_kind};
 ghost use Rattle.fluent_uri.specs.References.{reference_text};
+ghost use Rattle.uri_parts.specs.CoreTexts.{core_text};
 ghost use Rattle.uri_parts.specs.Positions.{ArePositionsOf};
 ghost use Rattle.fluent_uri_c.specs.Kinds.{kind_numbered};
 ghost use Rattle.fluent_uri_c.specs.Spans.{ArePartsOf, AreSpansOf, IsSpan, absent};
@@ -21,6 +22,7 @@ use fluent_uri::component::{Authority, Host};
 use fluent_uri::pct_enc::Encoder;
 use fluent_uri::{Reference, RiMaybeRef};
 use std::convert::AsStr;
+use uri_parts::core_text::Core;
 use uri_parts::kind::{IriKind, IriRefKind, Kind, UriKind, UriRefKind};
 use uri_parts::positions::Positions;
 
@@ -84,14 +86,14 @@ fn write_rejected_parts(why: Rejection, parts: &mut Parts) -> u32
 }
 
 /// Returns whether the first byte of a host shows that it is a registered name, so that C gets that
-/// number.
+/// number. Most names begin with a letter in lower case, which one test tells.
 #[inline(always)]
 fn begins_as_a_name(host: &[u8]) -> bool
     ensures { IsTrue result → host_kind host.now ≡ RegName }
 {
     match host {
         [] => true,
-        [first, ..] => !first.is_ascii_digit() && *first != b'[',
+        [first, ..] => *first > b'[' || !first.is_ascii_digit() && *first != b'[',
     }
 }
 
@@ -108,28 +110,38 @@ fn host_number<'a, U: Encoder, R: Encoder>(authority: Authority<'a, U, R>) -> u3
     }
 }
 
-/// Returns the number, in the header, of the kind of a value's host, or 0 if it has no authority.
-/// The host is parsed.
+/// Returns the number, in the header, of the kind of a text's host, or 0 if it has no authority. The
+/// host is parsed. The text is passed with its positions, so that only this call writes them to
+/// memory.
 #[cold]
 #[inline(never)]
-fn parsed_host_kind<K: Kind, T: AsStr>(value: &Reference<K, T>) -> u32
-    ensures { result ≡ authority_host_number (components (reference_text value.now)).authority }
+fn parsed_host_kind<K: Kind>(core: Core<K, &str>) -> u32
+    ensures { result ≡ authority_host_number (components (core_text core.entry)).authority }
 {
-    match value.authority() {
+    match core.authority() {
         None => 0,
         Some(authority) => host_number(authority),
     }
 }
 
-/// Returns the span, for C, of the scheme of a text with these positions.
-pub fn scheme(text: &str, at: Positions) -> Span
-    requires { ArePositionsOf text.now at }
+/// Returns the span, for C, of the scheme of a text with these positions, which ends here.
+#[inline(always)]
+fn scheme_up_to(text: &str, at: Positions, end: usize) -> Span
+    requires at { ArePositionsOf text.now at }
+    requires end { at.scheme_end ≡ Some end }
     ensures { IsSpan text.now 0 (components text.now).scheme result }
 {
-    match at.scheme_end {
-        Some(end) => Span { start: 0, end },
-        None => absent(),
-    }
+    Span { start: 0, end }
+}
+
+/// Returns the span, for C, of the scheme of a text with these positions, which has none.
+#[inline(always)]
+fn no_scheme(text: &str, at: Positions) -> Span
+    requires at { ArePositionsOf text.now at }
+    requires none { at.scheme_end ≡ None }
+    ensures { IsSpan text.now 0 (components text.now).scheme result }
+{
+    absent()
 }
 
 /// Returns the span, for C, of the authority of a text with these positions.
@@ -169,7 +181,7 @@ fn userinfo<K: Kind>(text: &str, at: Positions) -> Span
 }
 
 /// Returns the span, for C, of the host of a text with these positions.
-pub fn host<K: Kind>(text: &str, at: Positions) -> Span
+fn host<K: Kind>(text: &str, at: Positions) -> Span
     requires at { ArePositionsOf text.now at }
     requires of_kind { IsOfKind K.kind text.now }
     ensures { IsSpan text.now (host_start text.now)
@@ -185,7 +197,7 @@ pub fn host<K: Kind>(text: &str, at: Positions) -> Span
 }
 
 /// Returns the span, for C, of the port of a text with these positions.
-pub fn port<K: Kind>(text: &str, at: Positions) -> Span
+fn port<K: Kind>(text: &str, at: Positions) -> Span
     requires at { ArePositionsOf text.now at }
     requires of_kind { IsOfKind K.kind text.now }
     ensures { IsSpan text.now (port_start text.now)
@@ -260,7 +272,7 @@ fn host_kind<K: Kind, T: AsStr>(value: &Reference<K, T>, text: &str, host: Span)
     if begins_as_a_name(&text.as_bytes()[host.start..host.end]) {
         return 1;
     }
-    parsed_host_kind(value)
+    parsed_host_kind(value.core())
 }
 
 /// Writes the spans, for C, of the authority of a value and of its components, and the number of
@@ -308,7 +320,8 @@ fn write_authority<K: Kind, T: AsStr>(
     parts.host_kind = host_kind(value, text, host);
 }
 
-/// Writes the parts that C gets of a value: the spans of its components.
+/// Writes the parts that C gets of a value: the spans of its components. The positions are asked
+/// for again after the test for a scheme, which decides where an authority begins.
 #[inline(always)]
 fn write_parts<K: Kind, T: AsStr>(value: &Reference<K, T>, parts: &mut Parts)
     ensures error { parts.new.error ≡ 0 }
@@ -318,11 +331,19 @@ fn write_parts<K: Kind, T: AsStr>(value: &Reference<K, T>, parts: &mut Parts)
     let text = value.as_str();
     parts.error = 0;
     parts.index = 0;
-    parts.scheme = scheme(text, at);
     parts.path = path(text, at);
     parts.query = query(text, at);
     parts.fragment = fragment(text, at);
-    write_authority(value, text, at, parts);
+    match at.scheme_end {
+        Some(end) => {
+            parts.scheme = scheme_up_to(text, at, end);
+            write_authority(value, text, value.core().positions(), parts);
+        }
+        None => {
+            parts.scheme = no_scheme(text, at);
+            write_authority(value, text, value.core().positions(), parts);
+        }
+    }
 }
 
 /// Writes the parts that C gets of the value that a call returns.

@@ -4,22 +4,15 @@ ghost use Rattle.std.specs.Prelude.{◌^◌, slice_index, true};
 ghost use Rattle.std.specs.Int.{bit_at};
 ghost use Rattle.std.specs.Str.{str_to_ascii_lowercase};
 ghost use Rattle.fluent_uri.specs.Components.{components, starts};
-ghost use Rattle.fluent_uri.specs.Grammar.{IsOfKind};
-ghost use Rattle.fluent_uri.specs.References.{reference_text};
-ghost use Rattle.uri_parts.specs.Positions.{ArePositionsOf};
 ghost use Rattle.uri_pct.specs.Delimiters.{left_bracket, percent_sign};
 ghost use Rattle.fluent_uri_c.specs.Kinds.{kind_numbered};
 ghost use Rattle.fluent_uri_c.specs.PlainTexts.{ArePlain, IsPlain, is_kept_at, is_kept_octet};
 ghost use Rattle.fluent_uri_c.specs.PlainTexts.{is_lower_after};
-ghost use Rattle.fluent_uri_c.specs.Results.{normal_form_of, normalize_result};
+ghost use Rattle.fluent_uri_c.specs.Results.{normalize_result};
 ghost use Rattle.fluent_uri_c.specs.Spans.{ArePartsOf, IsSpan, host_of, host_start, port_of};
 ghost use Rattle.fluent_uri_c.specs.Spans.{port_start};
 
-use crate::parts::{Parts, Span, host, port, scheme};
-use fluent_uri::{Reference, RiMaybeRef};
-use uri_parts::kind::Kind;
-use uri_parts::positions::Positions;
-use uri_pct::encoder::Encoder;
+use crate::parts::{Parts, Span};
 use uri_pct::lanes::{LANES, lanes_equal_to};
 
 /// The octets that normalising keeps, by their two digits from `0` to `F`: bit n of a row is of the
@@ -214,28 +207,6 @@ fn is_unchanged(text: &[u8], scheme: Span, host: Span, port: Span, past_ascii: b
         return false;
     }
     is_host_plain(text, host)
-}
-
-/// Returns `true` only if a text of the kind with these positions is its own normal form.
-fn is_plain_text<K: Kind>(text: &str, at: Positions) -> bool
-    requires at { ArePositionsOf text.now at }
-    requires of_kind { IsOfKind K.kind text.now }
-    ensures { result ≡ true → normal_form_of false K.kind text.now ≡ text.now }
-{
-    // Octets past ASCII stay octets in URIs and URI references.
-    let past_ascii = !K::PathE::table().allows_some_past_ascii();
-    let host = host::<K>(text, at);
-    let port = port::<K>(text, at);
-    is_unchanged(text.as_bytes(), scheme(text, at), host, port, past_ascii)
-}
-
-/// Returns `true` only if a value is its own normal form under default ports. It misses a few such
-/// values.
-pub fn is_plainly_normal<K: Kind>(value: &Reference<K, &str>) -> bool
-    ensures { let text = reference_text value.now in
-        result ≡ true → normal_form_of false K.kind text ≡ text }
-{
-    is_plain_text::<K>(value.as_str(), value.core().positions())
 }
 
 /// Returns 1 only if a text of the kind, of which `fluent_uri_parse` wrote these parts, is its own

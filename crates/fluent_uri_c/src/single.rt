@@ -38,8 +38,8 @@ pub extern "C" fn fluent_uri_normalize(
     parts: &mut [Parts],
     outcome: &mut Outcome,
 ) -> u32
-    ensures { LeavesValue (normalize_result kind options text.now) out.old out.new parts.old parts.new
-        outcome.new result }
+    ensures { LeavesValue (normalize_result kind options text.now)
+        out.old out.new parts.old parts.new outcome.new result }
 {
     let Some(setting) = rule_setting(options) else {
         return report(Rejection::of(Error::InvalidArgument), outcome);

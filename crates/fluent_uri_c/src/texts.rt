@@ -31,7 +31,8 @@ use uri_parts::parse::parse;
 use uri_relative::Relativizer;
 use uri_setting::RuleSetting;
 
-/// Returns whether bytes that C hands over are no more than `PTRDIFF_MAX`, so that they can be there.
+/// Returns whether bytes that C hands over are no more than `PTRDIFF_MAX`, so that they can be
+/// there.
 #[inline(always)]
 pub fn is_possible_length(bytes: &[u8]) -> bool
     ensures { result ≡ is_possible_length bytes.now }

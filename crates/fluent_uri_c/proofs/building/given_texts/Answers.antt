@@ -1,4 +1,4 @@
-use Rattle.std.proofs.Common.{◌≡◌, ◌∙◌, ap, sym}
+use Rattle.std.proofs.Common.{◌∙◌, ap, sym}
 use Rattle.uri_ops.proofs.TextKinds.FourKinds.{one-of-four-kinds-has-sets}
 use Rattle.fluent_uri_c.specs.Building.{together_rejection}
 use Rattle.fluent_uri_c.proofs.BuiltTexts.{built-text-has-given-components}

@@ -18,7 +18,8 @@ returns-in_default c =
     let before = c.loop-index.invariant in
     let line = IsLine-from-position c.args.lines.now c.loop-index.index c.loop-index.start
     c.line_end-end.result before.0 before.1 c.line_end-end.ensures.end in
-    leaves_lines c.args.kind c.args.options c.args.lines.now (line_buffers c.args.out.now c.args.errors.now)
+    leaves_lines c.args.kind c.args.options c.args.lines.now
+    (line_buffers c.args.out.now c.args.errors.now)
     (line_buffers _ _) _ 8 0 0 c.loop-index.index c.loop-index.at c.loop-index.start _
     (omega arith) (search rules) (search rules) c.report_lines.ensures.number
     c.report_lines.ensures.outcome (λ _. (refl, refl))
@@ -34,8 +35,8 @@ returns-in-Err c =
     let line = IsLine-from-position c.args.lines.now n c.loop-index.start c.line_end-end.result
     before.0 before.1
     c.line_end-end.ensures.end in
-    let bytes = written_at-of-line c.args.kind c.args.options c.args.lines.now _ c.bytes_of.result.now n
-    (c.bytes_of.ensures ∙ ap bytes_of c.in-Ok.ensures.text) line.here in
+    let bytes = written_at-of-line c.args.kind c.args.options c.args.lines.now _
+    c.bytes_of.result.now n (c.bytes_of.ensures ∙ ap bytes_of c.in-Ok.ensures.text) line.here in
     let long : length (joined_results at (suc n))
     ≡ c.loop-index.at + length (c.bytes_of.result.now ++ newline ∷ []) =
     length-append (joined_results at n) (bytes_of (at n))
@@ -43,7 +44,8 @@ returns-in-Err c =
     ∙ ap (λ l. c.loop-index.at + length l) (sym bytes) in
     let full : length c.args.out.now < length (joined_results at (suc n)) =
     omega (arith, long, c.in-Err.ensures.full, c.loop-index.auto.out) in
-    leaves_lines c.args.kind c.args.options c.args.lines.now (line_buffers c.args.out.now c.args.errors.now)
+    leaves_lines c.args.kind c.args.options c.args.lines.now
+    (line_buffers c.args.out.now c.args.errors.now)
     (line_buffers _ _) _ 10 0 c.in-Err.needed n c.loop-index.at c.loop-index.start _
     (omega arith) (search rules) (search rules) c.report_lines-in-Err.ensures.number
     c.report_lines-in-Err.ensures.outcome (λ ne. absurd (ne refl))
@@ -68,16 +70,18 @@ returns-then-end-lines c =
     let line = IsLine-from-position c.args.lines.now n c.loop-index.start c.line_end-end.result
     before.0 before.1
     c.line_end-end.ensures.end in
-    let bytes = written_at-of-line c.args.kind c.args.options c.args.lines.now _ c.bytes_of.result.now n
-    (c.bytes_of.ensures ∙ ap bytes_of c.in-Ok.ensures.text) line.here in
-    let number = error_number_at-of-line c.args.kind c.args.options c.args.lines.now _ n c.in-Ok.line.number
-    c.in-Ok.ensures.number line.here in
+    let bytes = written_at-of-line c.args.kind c.args.options c.args.lines.now _
+    c.bytes_of.result.now n (c.bytes_of.ensures ∙ ap bytes_of c.in-Ok.ensures.text) line.here in
+    let number = error_number_at-of-line c.args.kind c.args.options c.args.lines.now _ n
+    c.in-Ok.line.number c.in-Ok.ensures.number line.here in
     let inside : n < length c.loop-index.errors = search rules in
-    leaves_lines c.args.kind c.args.options c.args.lines.now (line_buffers c.args.out.now c.args.errors.now)
+    leaves_lines c.args.kind c.args.options c.args.lines.now
+    (line_buffers c.args.out.now c.args.errors.now)
     (line_buffers _ _) _ 0 0 0 (n + 1) c.in-Ok-push_line.next c.line_end-end.result _
     (omega arith) (search rules) (search rules) c.report_lines-then-end-lines.ensures.number
     c.report_lines-then-end-lines.ensures.outcome (λ _. (refl, refl))
-    (buffer-of-one-more-result at n _ _ before.3 bytes _ _ _ before.2 c.in-Ok-push_line.ensures.written)
+    (buffer-of-one-more-result at n _ _ before.3 bytes _ _ _ before.2
+    c.in-Ok-push_line.ensures.written)
     (end-of-one-more-result at n _ _ before.3 bytes _ c.in-Ok-push_line.ensures.end)
     (holds-up-to-set-item
     (λ i o. o ≡ error_number_at c.args.kind c.args.options c.args.lines.now i) c.loop-index.errors n
@@ -94,16 +98,17 @@ loop-index-preserved c =
     let line = IsLine-from-position c.args.lines.now n c.loop-index.start c.line_end-end.result
     before.0 before.1
     c.line_end-end.ensures.end in
-    let bytes = written_at-of-line c.args.kind c.args.options c.args.lines.now _ c.bytes_of.result.now n
-    (c.bytes_of.ensures ∙ ap bytes_of c.in-Ok.ensures.text) line.here in
-    let number = error_number_at-of-line c.args.kind c.args.options c.args.lines.now _ n c.in-Ok.line.number
-    c.in-Ok.ensures.number line.here in
+    let bytes = written_at-of-line c.args.kind c.args.options c.args.lines.now _
+    c.bytes_of.result.now n (c.bytes_of.ensures ∙ ap bytes_of c.in-Ok.ensures.text) line.here in
+    let number = error_number_at-of-line c.args.kind c.args.options c.args.lines.now _ n
+    c.in-Ok.line.number c.in-Ok.ensures.number line.here in
     let inside : n < length c.loop-index.errors = search rules in
     let below : c.line_end-end.result < length c.args.lines.now =
     omega (arith, line.inside, c.if-end-lines.false) in (
       omega (arith, below),
       line.next below,
-      buffer-of-one-more-result at n _ _ before.3 bytes _ _ _ before.2 c.in-Ok-push_line.ensures.written,
+      buffer-of-one-more-result at n _ _ before.3 bytes _ _ _ before.2
+          c.in-Ok-push_line.ensures.written,
       end-of-one-more-result at n _ _ before.3 bytes _ c.in-Ok-push_line.ensures.end,
       c.in-Ok-push_line.ensures.inside,
       holds-up-to-set-item
@@ -124,7 +129,8 @@ returns c =
     c.loop-index.start) c.saturating_add.ensures
     ∙ ap (λ k. outcome_of_batch 10 4 (as_size (length c.loop-index.errors + 1)) k c.loop-index.at
     c.loop-index.start) (sym same) in
-    leaves_lines c.args.kind c.args.options c.args.lines.now (line_buffers c.args.out.now c.args.errors.now)
+    leaves_lines c.args.kind c.args.options c.args.lines.now
+    (line_buffers c.args.out.now c.args.errors.now)
     (line_buffers _ _) _ 10 4 (as_size (length c.loop-index.errors + 1)) c.loop-index.index
     c.loop-index.at c.loop-index.start _
     (omega arith) (search rules) (search rules) c.report_lines-2.ensures.number outcome

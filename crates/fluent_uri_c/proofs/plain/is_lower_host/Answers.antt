@@ -4,9 +4,6 @@ use Rattle.fluent_uri_c.specs.PlainTexts.{is_lower_after}
 use Rattle.fluent_uri_c.proofs.LowerHosts.{digit-is-passed, end-is-lower, other-byte-is-lower}
 use Rattle.fluent_uri_c.proofs.LowerHosts.{percent-begins-octet}
 use Rattle.fluent_uri_c.proofs.plain.is_lower_host.Goals as goal
-use Rattle.fluent_uri_c.proofs.plain.is_lower_host.Goals.{then-digits-gt0}
-use Rattle.fluent_uri_c.proofs.plain.is_lower_host.Goals.{else-digits-gt0+then-byte-eq37}
-use Rattle.fluent_uri_c.proofs.plain.is_lower_host.Goals.{else-digits-gt0+else-byte-eq37+else-is_ascii_uppercase}
 
 pub loop-byte-preserved : goal.loop-byte-preserved
 loop-byte-preserved c =
@@ -17,20 +14,20 @@ loop-byte-preserved c =
     let within = c.loop-byte-test.true in
     let rest = drop (i + 1) bytes in
     elim c.if-digits-gt0.branch [
-      | then-digits-gt0 w ↦ record {
+      | goal.then-digits-gt0 w ↦ record {
         within = omega (arith, within);
         few = omega (arith, w.digits-is, holds.few);
         suffix = λ e. holds.suffix (digit-is-passed bytes i within digits w.if-digits-gt0.true
             (sym (ap (λ d. is_lower_after d rest) w.digits-is) ∙ e));
       }
-      | else-digits-gt0+then-byte-eq37 w ↦ record {
+      | goal.else-digits-gt0+then-byte-eq37 w ↦ record {
         within = omega (arith, within);
         few = omega (arith, w.digits-is);
         suffix = λ e. holds.suffix (percent-begins-octet bytes i within digits
             (omega (arith, w.if-digits-gt0.false)) w.if-byte-eq37.true
             (sym (ap (λ d. is_lower_after d rest) w.digits-is) ∙ e));
       }
-      | else-digits-gt0+else-byte-eq37+else-is_ascii_uppercase w ↦
+      | goal.else-digits-gt0+else-byte-eq37+else-is_ascii_uppercase w ↦
           let none : digits ≡ 0 = omega (arith, w.if-digits-gt0.false) in
           record {
             within = omega (arith, within);

@@ -1,4 +1,5 @@
-use Rattle.std.proofs.Common.{◌≡◌, ◌≤◌, ◌&&◌, ◌∙◌, List, Some, ap, arith, false, length, refl, subst}
+use Rattle.std.proofs.Common.{◌≡◌, ◌≤◌, ◌&&◌, ◌∙◌, List, Some, ap, arith, false, length, refl}
+use Rattle.std.proofs.Common.{subst}
 use Rattle.std.proofs.Common.{ℕ, sym}
 use Rattle.std.specs.Str.{IsCharBoundary}
 use Rattle.std.proofs.lemmas.Str.{IsCharBoundary-start}
@@ -21,7 +22,8 @@ returns-then-end-text-clause-valid c =
     let end = c.scan-end.result in
     let is : IsScanned set c.args.bytes.now end = scanned-bytes set c.args.bytes.now _ end
     (c.in_ok-text.ensures.accepts.0 refl) c.in_ok-text.ensures.text c.scan-end.ensures.end in
-    let whole : end ≡ length c.args.bytes.now = omega (arith, ap length c.in_ok-text.ensures.text) in
+    let whole : end ≡ length c.args.bytes.now =
+    omega (arith, ap length c.in_ok-text.ensures.text) in
     scanned-text-passes set c.args.bytes.now end is c.requires whole
 
 pub returns-then-end-text-clause-rejected : goal.returns-then-end-text-clause-rejected
@@ -30,7 +32,8 @@ returns-then-end-text-clause-rejected c =
     let end = c.scan-end.result in
     let is : IsScanned set c.args.bytes.now end = scanned-bytes set c.args.bytes.now _ end
     (c.in_ok-text.ensures.accepts.0 refl) c.in_ok-text.ensures.text c.scan-end.ensures.end in
-    let whole : end ≡ length c.args.bytes.now = omega (arith, ap length c.in_ok-text.ensures.text) in
+    let whole : end ≡ length c.args.bytes.now =
+    omega (arith, ap length c.in_ok-text.ensures.text) in
     sym (scanned-text-has-no-error set c.args.bytes.now end is whole)
 
 pub returns-else-is_stray_percent-clause-rejected :

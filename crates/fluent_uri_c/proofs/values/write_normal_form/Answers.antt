@@ -1,4 +1,3 @@
-use Rattle.std.proofs.Common.{◌≡◌}
 use Rattle.fluent_uri.specs.References.{reference_text}
 use Rattle.fluent_uri_c.specs.Results.{normal_form_of}
 use Rattle.fluent_uri_c.proofs.WrittenValues.{value-is-left}
