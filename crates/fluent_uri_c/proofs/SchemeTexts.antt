@@ -7,12 +7,12 @@ use Rattle.fluent_uri.specs.Grammar.{is_scheme}
 use Rattle.uri_ops.specs.BuilderParts.{is_scheme_text}
 
 -- default ports for C: of a text in UTF-8 the rule of a scheme says whether it is one
-pub scheme_text_in_utf8 : (text : List ℕ) → IsUtf8 text → is_scheme_text text ≡ is_scheme text
+pub in_utf8 : (text : List ℕ) → IsUtf8 text → is_scheme_text text ≡ is_scheme text
 unfolding is_scheme_text
-scheme_text_in_utf8 text utf8 = ap (λ b. b && is_scheme text) (is_utf8-from_IsUtf8 text utf8)
+in_utf8 text utf8 = ap (λ b. b && is_scheme text) (is_utf8-from_IsUtf8 text utf8)
 
 -- default ports for C: a text that is not UTF-8 is no scheme
-pub scheme_text_not_in_utf8 : (text : List ℕ) → ¬ (IsUtf8 text) → is_scheme_text text ≡ false
+pub not_in_utf8 : (text : List ℕ) → ¬ (IsUtf8 text) → is_scheme_text text ≡ false
 unfolding is_scheme_text
-scheme_text_not_in_utf8 text not-utf8 = false_from_ne_true _
+not_in_utf8 text not-utf8 = false_from_ne_true _
     λ e. not-utf8 (IsUtf8-from_is_utf8 text (and_parts (is_utf8 text) (is_scheme text) e).0)

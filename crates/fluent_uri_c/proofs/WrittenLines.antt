@@ -43,8 +43,8 @@ no-newline-found rest e =
     let n = position_or_len is_newline rest in
     ltb-false n (length rest) (cond_none (nat_lt n (length rest)) n e)
 
--- lines for C: bytes that are written at a position and more after them are one text that is written
--- there
+-- lines for C: bytes that are written at a position and more after them are one text that is
+-- written there
 pub two-writes-are-one : (out one two bytes more : List ℕ) (at end : ℕ) → end ≡ at + length bytes
     → at ≤ length out → one ≡ take at out ++ (bytes ++ drop (at + length bytes) out)
     → two ≡ take end one ++ (more ++ drop (end + length more) one)

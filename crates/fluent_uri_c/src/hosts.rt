@@ -130,7 +130,7 @@ pub extern "C" fn fluent_uri_port_number(kind: u32, text: &[u8], port: &mut u32)
 }
 
 /// Returns the default port of a scheme, or 0 if it has none. Takes no memory.
-#[tactic(auto, using(crate::proofs::SchemeTexts::scheme_text_in_utf8, crate::proofs::SchemeTexts::scheme_text_not_in_utf8,))]
+#[tactic(auto, using(crate::proofs::SchemeTexts::in_utf8, crate::proofs::SchemeTexts::not_in_utf8))]
 #[unsafe(no_mangle)]
 pub extern "C" fn fluent_uri_default_port(scheme: &[u8]) -> u32
     ensures { result ≡ default_port_code scheme.now }

@@ -110,9 +110,9 @@ fn host_number<'a, U: Encoder, R: Encoder>(authority: Authority<'a, U, R>) -> u3
     }
 }
 
-/// Returns the number, in the header, of the kind of a text's host, or 0 if it has no authority. The
-/// host is parsed. The text is passed with its positions, so that only this call writes them to
-/// memory.
+/// Returns the number, in the header, of the kind of a text's host, or 0 if it has no authority.
+/// The host is parsed. The text is passed with its positions, so that only this call writes them
+/// to memory.
 #[cold]
 #[inline(never)]
 fn parsed_host_kind<K: Kind>(core: Core<K, &str>) -> u32
