@@ -104,6 +104,21 @@ pub fn write_at(bytes: &[u8], at: usize, out: &mut [u8])
     out[at..at + bytes.len()].copy_from_slice(bytes);
 }
 
+/// Reports the length of a text that is two pieces in the outcome that the caller in C gets, and
+/// writes them to the buffer, which is long enough.
+#[inline(always)]
+pub fn put_pieces(prefix: &[u8], suffix: &[u8], out: &mut [u8], outcome: &mut Outcome)
+    requires { length prefix.now + length suffix.now ≤ length out.old }
+    ensures outcome { outcome.new ≡ outcome_of_text (prefix.now ++ suffix.now) }
+    ensures written { out.new ≡ written (prefix.now ++ suffix.now) out.old }
+    ensures text { take (length prefix.now + length suffix.now) out.new
+        ≡ prefix.now ++ suffix.now }
+{
+    report_length(prefix.len() + suffix.len(), outcome);
+    write_at(prefix, 0, out);
+    write_at(suffix, prefix.len(), out);
+}
+
 /// Reports the length of a text in the outcome that the caller in C gets, and writes it to the
 /// buffer if that is long enough.
 pub fn put(text: &[u8], out: &mut [u8], outcome: &mut Outcome)

@@ -4,6 +4,7 @@ ghost use Rattle.std.specs.Result.{result_err};
 ghost use Rattle.std.specs.Str.{IsUtf8, IsValidUpTo};
 ghost use Rattle.std.specs.Str.Lossy.{utf8_valid_len};
 ghost use Rattle.fluent_uri.specs.Grammar.{iri, iri_ref};
+ghost use Rattle.fluent_uri.specs.NormalTargets.{reference_kind};
 ghost use Rattle.fluent_uri.specs.References.{reference_text};
 ghost use Rattle.uri_mend.specs.Mended.{IsMended};
 ghost use Rattle.uri_mend.specs.Trimming.{trimmed_link};
@@ -14,6 +15,7 @@ ghost use Rattle.fluent_uri_c.specs.Relatives.{reference_from};
 ghost use Rattle.fluent_uri_c.specs.Results.{IsReturnedAs, IsReturnedOrDenied, IsTargetReturned};
 ghost use Rattle.fluent_uri_c.specs.Results.{basic_resolution, encoded_result, resolution_by};
 ghost use Rattle.fluent_uri_c.specs.Results.{normal_target_from, rejection_or_result};
+ghost use Rattle.fluent_uri_c.specs.Results.{second_text_error};
 ghost use Rattle.fluent_uri_c.specs.Results.{target_from, text_error};
 ghost use Rattle.fluent_uri_c.specs.Results.{IsPossibleText, IsPossibleUtf8, is_possible_length};
 ghost use Rattle.fluent_uri_c.specs.Results.{normal_resolution, resolution, utf8_error};
@@ -105,7 +107,7 @@ pub fn uri_ref_of_iri_ref(alloc: Global, bytes: &[u8]) -> Result<UriRef<String>,
 
 /// Returns the target of a reference against a base without its fragment, both parsed from bytes.
 #[inline(always)]
-fn resolve_text<K: RefKind>(
+pub fn resolve_text<K: RefKind>(
     alloc: Global,
     base: &Reference<K::Base, &str>,
     reference: &Reference<K, &str>,
@@ -120,7 +122,7 @@ fn resolve_text<K: RefKind>(
 }
 
 /// Returns the target of a reference against a base by the basic algorithm, both parsed from bytes.
-fn resolve_text_by_basic_algorithm<K: RefKind>(
+pub fn resolve_text_by_basic_algorithm<K: RefKind>(
     alloc: Global,
     base: &Reference<K::Base, &str>,
     reference: &Reference<K, &str>,
@@ -167,6 +169,19 @@ fn resolve_normalized_text<K: RefKind>(
     match setting.resolve_normalized(alloc, &base.strip_fragment(), reference) {
         Ok(target) => Ok(target),
         Err(error) => Err(Rejection::from(error)),
+    }
+}
+
+/// Parses bytes that C hands over as a reference, which is the second text of its call.
+#[inline(always)]
+pub fn parsed_reference<'a, K: RefKind>(bytes: &'a [u8]) -> Result<Reference<K, &'a str>, Rejection>
+    ensures text { IfOk result (λ value. reference_text value ≡ bytes.now) }
+    ensures rejected { result_err result
+        ≡ second_text_error (reference_kind K.Base.kind) bytes.now }
+{
+    match parsed::<K>(bytes) {
+        Ok(reference) => Ok(reference),
+        Err(why) => Err(why.in_reference()),
     }
 }
 
@@ -223,23 +238,6 @@ pub fn reference_from<K: BaseKind>(
         Ok(target) => Ok(relativizer.relativize(alloc, &target)?),
         Err(why) => Err(why.in_reference()),
     }
-}
-
-/// Returns the target of a reference against a base, both as bytes. The flag says whether it is by
-/// the basic algorithm.
-#[inline(always)]
-pub fn target<K: RefKind>(
-    alloc: Global,
-    is_basic: bool,
-    base: &[u8],
-    reference: &[u8],
-) -> Result<Reference<K::Base, String>, Rejection>
-    ensures { IsTargetReturned reference_text
-        (rejection_or_result (text_error K.Base.kind base.now)
-        (target_from is_basic K.Base.kind base.now reference.now)) result }
-{
-    let base = parsed::<K::Base>(base)?;
-    target_from::<K>(alloc, is_basic, &base, reference)
 }
 
 /// Returns the normal form of the target of a reference against a base, both as bytes.
