@@ -12,7 +12,7 @@ use Rattle.std.proofs.lemmas.List.Elements.{All-from_get_or}
 use Rattle.std.proofs.lemmas.List.Splits.{slice_split_at, slice_split_none}
 use Rattle.std.proofs.lemmas.Option.{slice_get_past}
 use Rattle.memchr.specs.Find.{NoneBefore, Nowhere, Passes, is_byte}
-use Rattle.uri_streams.proofs.Tests.{not-true-is-false}
+use Rattle.std.proofs.lemmas.Bool.{false_from_ne_true}
 use Rattle.uri_streams.specs.Fields.{Cut, IsFieldStart, fields_after_delimiters}
 use Rattle.uri_streams.specs.Fields.{fields_before_delimiters}
 use Rattle.uri_streams.specs.Fields.{field_cut, fields_of, cut_at_field, cut_without_other_fields}
@@ -58,14 +58,14 @@ fields_of-at-first-delimiter d i xs none is =
     lacks = All-from_get_or (λ x. eqb x d ≡ false) (take i xs) 0 (λ k below.
         let within : k < i = omega (arith, length-take-le i xs (omega (arith, none.high)), below) in
         subst (λ x. eqb x d ≡ false) (sym (get_or-take i xs k 0 within))
-        (not-true-is-false (eqb (get_or xs k 0) d) (none.before k (omega arith) within)))
+        (false_from_ne_true (eqb (get_or xs k 0) d) (none.before k (omega arith) within)))
 
 -- fields: a line without the delimiter d is its only field
 fields_of-without-delimiter : (d : ℕ) (xs : List ℕ) → Nowhere (Passes (is_byte d) xs) 0 (length xs)
     → fields_of d xs ≡ xs ∷ []
 fields_of-without-delimiter d xs none = slice_split_none (λ b. eqb b d) xs
     (All-from_get_or (λ x. eqb x d ≡ false) xs 0 (λ k below.
-    not-true-is-false (eqb (get_or xs k 0) d) (none k (omega arith) below)))
+    false_from_ne_true (eqb (get_or xs k 0) d) (none k (omega arith) below)))
 
 -- fields: if each field with a delimiter before it gives the line after one,
 -- so it is with one byte x before

@@ -4,8 +4,8 @@ use Rattle.std.specs.Prelude.{IsUtf8, if◌then◌else◌}
 use Rattle.std.specs.Str.{is_utf8}
 use Rattle.std.specs.Str.Lossy.{utf8_valid_len}
 use Rattle.std.proofs.lemmas.Str.{IsUtf8-from_is_utf8, is_utf8-from_IsUtf8}
+use Rattle.std.proofs.lemmas.Bool.{false_from_ne_true}
 use Rattle.uri_commands.specs.MendedLinks.{mended_link}
-use Rattle.uri_streams.proofs.Tests.{not-true-is-false}
 use Rattle.uri_streams.specs.Results.{LineResult}
 use Rattle.uri_streams.specs.Tasks.{Known, bytes_result, given_text, no_text_result, text_kind}
 use Rattle.uri_streams.specs.Tasks.{text_result}
@@ -27,7 +27,7 @@ pub bytes_result-of-non-utf8 : (job : Job) (known : Known) (bytes : List ℕ) �
 bytes_result-of-non-utf8 job known bytes is_not =
     sym (ap (λ b. if b then text_result job.command known (given_text job bytes)
     else (no_text_result job.command (NotUtf8 (utf8_valid_len bytes)), known))
-    (not-true-is-false (is_utf8 bytes) (λ yes. is_not (IsUtf8-from_is_utf8 bytes yes))))
+    (false_from_ne_true (is_utf8 bytes) (λ yes. is_not (IsUtf8-from_is_utf8 bytes yes))))
 
 -- lines: what a command gets of a text, if it is mended first or not
 given_result_if : Job → Known → List ℕ → Bool → LineResult × Known

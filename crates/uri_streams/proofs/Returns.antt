@@ -8,7 +8,7 @@ use Rattle.std.specs.Prelude.{◌&&◌, nat_lt, not}
 use Rattle.std.proofs.Math.Seq.{get_or-append_right, take-append-add}
 use Rattle.std.proofs.lemmas.List.{nil_from_length}
 use Rattle.std.proofs.lemmas.List.Elements.{All-get_or}
-use Rattle.uri_streams.proofs.Tests.{not-true-is-false}
+use Rattle.std.proofs.lemmas.Bool.{false_from_ne_true}
 use Rattle.uri_streams.specs.Lines.{end_byte, ends_with_return, has_return, return_after}
 use Rattle.uri_streams.specs.Outputs.{line_ending}
 
@@ -54,7 +54,7 @@ ends_with_byte-of-lacking byte xs none = at (nat_lt 0 (length xs)) refl
     at true is =
         let some : 0 < length xs = ltb-true 0 (length xs) is in
         ap (λ c. c && (get_or xs (length xs - 1) 0 == byte)) is
-        ∙ not-true-is-false (get_or xs (length xs - 1) 0 == byte)
+        ∙ false_from_ne_true (get_or xs (length xs - 1) 0 == byte)
         (λ same. All-get_or (λ x. x ≢ byte) xs (length xs - 1) 0 (omega (arith, some)) none
         (eqb-true (get_or xs (length xs - 1) 0) byte same))
     at false is = ap (λ c. c && (get_or xs (length xs - 1) 0 == byte)) is

@@ -5,6 +5,7 @@ use Rattle.std.specs.Prelude.{codes, ◌++◌, if◌then◌else◌}
 use Rattle.fluent_uri.specs.Grammar.{IsOfKind, Kind, is_of_kind, uri_ref}
 use Rattle.fluent_uri.specs.Refusals.{refusal}
 use Rattle.fluent_uri.specs.declared.ParseError.{ParseError}
+use Rattle.std.proofs.lemmas.Bool.{false_from_ne_true}
 use Rattle.uri_commands.specs.Messages.{error_text}
 use Rattle.uri_rules.specs.Rules.{Rules}
 use Rattle.uri_setting.specs.Settings.{rules_set}
@@ -26,7 +27,6 @@ use Rattle.uri_streams.specs.declared.fault.NoText.{NoText}
 use Rattle.uri_streams.specs.declared.fault.NoText.TheVariants.{NoField, NotUtf8, TooLong}
 use Rattle.uri_streams.specs.declared.task.LinksTask.{LinksTask}
 use Rattle.uri_streams.specs.declared.task.UniqueTask.{UniqueTask}
-use Rattle.uri_streams.proofs.Tests.{not-true-is-false}
 use Rattle.uri_streams.proofs.TextResults.{error_text-is-parse_message}
 
 -- lines: after a result that adds nothing, the task remembers what it did before
@@ -122,7 +122,7 @@ link_result-of-error by_rules base known text e not_of_kind is =
     (error_text-is-parse_message uri_ref text e is)
     ∙ sym (ap (λ b. if b then noted_result (outcome_of (rules_set by_rules) base known text)
     else (Error (codes "reference: " ++ parse_message uri_ref text), known))
-    (not-true-is-false (is_of_kind uri_ref text) not_of_kind))
+    (false_from_ne_true (is_of_kind uri_ref text) not_of_kind))
 
 -- lines: the command that the task of a command that remembers nothing is of
 pub command-of-each : (own : LineCommand) (command : Command) (known : Known)

@@ -7,8 +7,3 @@ pub equal-if-true-together : (a b : Bool) → ((a ≡ true) ↔ (b ≡ true)) �
 equal-if-true-together true b both = sym (both.0 refl)
 equal-if-true-together false true both = both.1 refl
 equal-if-true-together false false both = refl
-
--- general fact on booleans, for tests of lines and texts: what is not true is false
-pub not-true-is-false : (b : Bool) → (b ≡ true → ⊥) → b ≡ false
-not-true-is-false true h = absurd (h refl)
-not-true-is-false false h = refl

@@ -11,6 +11,7 @@ use Rattle.fluent_uri.specs.Target.{resolution_of_texts}
 use Rattle.fluent_uri.specs.declared.resolve.ResolveError.{ResolveError}
 use Rattle.fluent_uri.specs.declared.resolve.ResolveError.TheVariants as errors
 use Rattle.std.specs.Prelude.{◌↔◌, IfOk, if◌then◌else◌, unwrap_or, option_map}
+use Rattle.std.proofs.lemmas.Bool.{false_from_ne_true}
 use Rattle.uri_commands.specs.Kinds.{normal_form_of}
 use Rattle.uri_commands.specs.Messages.{error_text, resolve_error_text}
 use Rattle.uri_commands.specs.declared.refusal.CommandError.TheVariants.{Target}
@@ -23,7 +24,6 @@ use Rattle.uri_streams.specs.Returned.{result_in}
 use Rattle.uri_streams.specs.declared.line_result.LineResult.{LineResult as Returned}
 use Rattle.uri_streams.specs.declared.line_result.LineResult.TheVariants as returned
 use Rattle.uri_streams.specs.declared.fault.LineError.TheVariants.{Refused}
-use Rattle.uri_streams.proofs.Tests.{not-true-is-false}
 
 -- lines: the message of a text's error is the one that its rejection defines
 pub error_text-is-parse_message : (kind : Kind) (text : List ℕ) (e : ParseError)
@@ -48,7 +48,7 @@ pub parsed_result-of-error : (subject : List ℕ) (kind : Kind) (text : List ℕ
 parsed_result-of-error subject kind text line_result e accepts is =
     ap (λ m. Error (subject ++ m)) (error_text-is-parse_message kind text e is)
     ∙ sym (ap (λ b. if b then line_result else Error (subject ++ parse_message kind text))
-    (not-true-is-false (is_of_kind kind text) (λ of_kind. cc (accepts.1 of_kind))))
+    (false_from_ne_true (is_of_kind kind text) (λ of_kind. cc (accepts.1 of_kind))))
 
 -- lines: a text that is its own normal text under default ports is its own normal form without the
 -- rules of schemes

@@ -4,6 +4,7 @@ use Rattle.std.proofs.Common.{◌∙◌, subst, String, string_bytes}
 use Rattle.std.specs.HashSet as bag
 use Rattle.std.specs.Prelude.{bytes_eq, if◌then◌else◌, ◌||◌}
 use Rattle.std.specs.String.{string_eq}
+use Rattle.std.proofs.Math.Bool.{or-false}
 use Rattle.std.proofs.lemmas.Map.Text.{hash_set_updates_text}
 use Rattle.std.proofs.lemmas.List.Folds.{list_any-append}
 use Rattle.std.proofs.lemmas.Slice.Eq.{bytes_eq-Decides}
@@ -32,11 +33,6 @@ or-as-cond true true = refl
 or-as-cond true false = refl
 or-as-cond false true = refl
 or-as-cond false false = refl
-
--- general fact on booleans, for `unique`: a test or false is the test
-or-false : (a : Bool) → (a || false) ≡ a
-or-false true = refl
-or-false false = refl
 
 -- lines: after one text more, `unique` has met it and those before
 has_met-more : (known : Known) (text other : List ℕ)

@@ -1,27 +1,20 @@
-use Rattle.std.proofs.Common.{◌≡◌, ◌+◌, ◌-◌, ◌≤◌, ◌<◌, Bool, true, false, not, cond, eqb, List, ℕ}
-use Rattle.std.proofs.Common.{zero, suc, length, get_or, arith, refl, ◌^◌}
+use Rattle.std.proofs.Common.{◌≡◌, ◌+◌, ◌-◌, ◌≤◌, ◌<◌, not, List, ℕ}
+use Rattle.std.proofs.Common.{length, get_or, arith, ◌^◌}
 use Rattle.std.proofs.lemmas.Nat.Bits.{bit_at-lt}
-use Rattle.std.proofs.lemmas.Bool.{both_ways}
 use Rattle.uri_streams.proofs.source.run_before.Invariants.{is_inside}
+use Rattle.uri_pct.proofs.General.{bit_is_failing_test}
 use Rattle.uri_pct.proofs.LaneScans.LaneRuns.{MarksFailingLanes, last_load_marks_failing_lanes}
 use Rattle.uri_pct.proofs.LaneScans.LaneRuns.{run_goes_on_past_unmarked_lanes}
 use Rattle.uri_pct.proofs.LaneScans.LaneRuns.{run_ends_at_first_marked_lane}
 use Rattle.uri_pct.proofs.LaneScans.LaneBits.{is_set_bit}
 use Rattle.uri_streams.proofs.source.run_before.Goals as goal
 
-one_if : (n : ℕ) (b : Bool) → n < 2 → eqb n 1 ≡ not b → n ≡ cond (not b) 1 0
-one_if zero true h e = refl
-one_if zero false h e = absurd (both_ways _ refl e)
-one_if (suc zero) true h e = absurd (both_ways _ e refl)
-one_if (suc zero) false h e = refl
-one_if (suc (suc n)) b h e = absurd (omega arith)
-
 -- what a block's mask says
 block : (end : ℕ) (bs : List ℕ) (i mask : ℕ) → mask < 2 ^ 16
     → ((k : ℕ) → k < 16 → is_set_bit mask k ≡ not (is_inside end (get_or bs (i + k) 0)))
     → MarksFailingLanes (is_inside end) bs i 16 mask
 block end bs i mask below lane = record {
-  lane = λ k h. one_if _ _ (bit_at-lt mask k) (lane k h);
+  lane = λ k h. bit_is_failing_test _ _ (bit_at-lt mask k) (lane k h);
   below = below;
 }
 
