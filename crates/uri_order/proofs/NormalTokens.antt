@@ -2,19 +2,24 @@
 use Rattle.std.proofs.Common.{◌≡◌, ℕ, ◌<◌, Bool, true, false, List, [], ◌∷◌, ◌++◌, length, map}
 use Rattle.std.proofs.Common.{refl}
 use Rattle.std.proofs.Common.{sym, ap, ◌∙◌, arith, eqb, ⊎_elim}
+use Rattle.std.specs.Prelude.{◌&&◌, ◌||◌, ◌==◌}
 use Rattle.std.specs.Char.{IsScalar, encode_utf8, to_ascii_lowercase}
+use Rattle.std.specs.Int.{is_in_range}
 use Rattle.std.proofs.lemmas.Bool.{cases_Bool, cond-true, cond-false, and_parts, eqb-true}
+use Rattle.std.proofs.lemmas.Bool.Decides.{nat_tests}
 use Rattle.std.proofs.lemmas.List.{append-nil}
 use Rattle.std.proofs.lemmas.Str.{encode_ascii}
 use Rattle.std.proofs.lemmas.Str.Ascii.{lowercase_ascii}
-use Rattle.uri_pct.specs.Sets.{TableSet}
+use Rattle.uri_pct.specs.Sets.{TableSet, allows}
 use Rattle.uri_pct.specs.Tokens.{Token, Char, Octet, tokens, text_of_token, print}
-use Rattle.uri_pct.specs.DecodeUnreserved.{is_never_literal, formatting_as_octets}
+use Rattle.uri_pct.specs.DecodeUnreserved.{is_bidi_formatting, is_never_literal}
+use Rattle.uri_pct.specs.DecodeUnreserved.{formatting_as_octets}
 use Rattle.uri_pct.specs.DecodeUnreserved.{decode_after_run, decode_run}
 use Rattle.uri_pct.specs.Pieces.{pieces_from}
 use Rattle.uri_pct.proofs.UnreservedDecoding.Formatting.{ascii_char_separates_encode_formatting}
 use Rattle.uri_pct.proofs.ValidTexts.Allowed.{decodable_char_is_printable}
 use Rattle.uri_ops.proofs.Meanings.Cased.{octets-stay-when-lowered}
+use Rattle.uri_ops.proofs.Meanings.WrittenFormatting.{set_allows_formatting_by_ucschar}
 use Rattle.uri_ops.specs.Models.Decodings.{lowered_if, lowered_code_if, cased_append}
 use Rattle.uri_order.specs.LastTokens.{EndsIn, EndsInDecodable, TokensEndInNoDecodable}
 use Rattle.uri_order.specs.NormalComponents.{normal_component}
@@ -22,6 +27,17 @@ use Rattle.uri_order.proofs.LastOctets.{decoded, last_octet_stays, last_characte
 use Rattle.uri_order.proofs.LastOctets.{last_decodable_is_decoded}
 use Rattle.uri_order.proofs.LastTokens.{empty_text_has_no_tokens, list_of_no_length_is_empty}
 use Rattle.uri_order.proofs.LastDecodables.{char_has_one_to_four_bytes}
+
+-- normal texts: which characters a set never has literally, as the code tests it
+pub never_literal_by_tests : (set : TableSet) (c : ℕ) → is_never_literal set c
+    ≡ (allows set 0x200E && set.pct_encoded
+    && (c == 0x200E || c == 0x200F || is_in_range 0x202A 0x202E c))
+unfolding is_never_literal is_bidi_formatting
+never_literal_by_tests set c = ap (λ b. b && set.pct_encoded
+    && (c == 0x200E || c == 0x200F || is_in_range 0x202A 0x202E c))
+    (sym (set_allows_formatting_by_ucschar set))
+
+pub ruleset never_literals = (never_literal_by_tests, nat_tests)
 
 -- normal texts: a formatting character is written as octets
 pub never_literal_char_is_written_as_octets : (set : TableSet) (lowers : Bool) (c : ℕ)

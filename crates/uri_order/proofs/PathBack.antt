@@ -27,7 +27,8 @@ IsDecodableText text = IsUtf8 text × IsValidFor widest_set text
 pub decodable-text-splits : (x y : List ℕ) → IsDecodableText (x ++ 47 ∷ y)
     → IsDecodableText x × IsDecodableText y
 decodable-text-splits x y h =
-    let p = set-text-splits widest_set x y (set-text-from-utf8 widest_set (x ++ 47 ∷ y) h.0 h.1) in (
+    let whole = set-text-from-utf8 widest_set (x ++ 47 ∷ y) h.0 h.1 in
+    let p = set-text-splits widest_set x y whole in (
       (set-text-is-utf8 widest_set x p.0, set-text-is-valid widest_set x p.0),
       (set-text-is-utf8 widest_set y p.1, set-text-is-valid widest_set y p.1),
     )

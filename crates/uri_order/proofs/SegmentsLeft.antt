@@ -20,7 +20,8 @@ use Rattle.uri_ops.proofs.Paths.Segments.{closing, closing-of-append, dotless_of
 use Rattle.uri_ops.proofs.Paths.Segments.{dotless_of-with-empty-last, end_of, next_output, step_of}
 use Rattle.uri_ops.proofs.Paths.Segments.{appended-segments-pass-test, steps}
 use Rattle.uri_ops.proofs.Paths.Segments.{segments-after-steps-pass-test}
-use Rattle.uri_ops.proofs.Paths.SlashedSegments.{NoSlashes, before_last_slash-of-append, lacks_slash}
+use Rattle.uri_ops.proofs.Paths.SlashedSegments.{NoSlashes, before_last_slash-of-append}
+use Rattle.uri_ops.proofs.Paths.SlashedSegments.{lacks_slash}
 use Rattle.uri_ops.proofs.Paths.SlashedSegments.{before_last_slash-of-slashed-is-popped, slashed}
 use Rattle.uri_ops.proofs.Paths.SlashedSegments.{remove-dots-by-segments, slashed-of-append}
 use Rattle.uri_ops.proofs.Paths.SlashedSegments.{slashed-of-push}

@@ -3,6 +3,7 @@ use Rattle.std.specs.Prelude.{ℕ, List, ◌++◌, reverse}
 use Rattle.std.specs.List.{flat_map}
 use Rattle.std.specs.Hash as fed
 
--- what a hasher is given for a text: its bytes, the last one first, and then 255, which no UTF-8 has
+-- what a hasher is given for a text: its bytes, the last one first, and then 255, which no UTF-8
+-- has
 abbrev pub hashed_text : List ℕ → fed.HashWrites
 hashed_text text = flat_map fed.u8 (reverse text) ++ fed.u8 255

@@ -15,7 +15,7 @@ use uri_pct::table::Table;
 
 /// Returns whether a component of the table has the character as octets alone: it is a formatting
 /// character of bidirectional text, and the table allows both.
-#[tactic(auto, using(uri_ops::proofs::Meanings::WrittenFormatting::set_allows_formatting_by_ucschar, std::proofs::lemmas::Bool::Decides::nat_tests), unfolding(uri_pct::specs::DecodeUnreserved::is_bidi_formatting, uri_pct::specs::DecodeUnreserved::is_never_literal))]
+#[tactic(auto, using(crate::proofs::NormalTokens::never_literals))]
 fn is_never_literal(table: &Table, ch: char) -> bool
     ensures { result ≡ is_never_literal (set_of table.now) ch }
 {

@@ -8,8 +8,6 @@ use Rattle.uri_pct.specs.DecodeUnreserved.{is_decodable}
 use Rattle.uri_pct.specs.Tables.{set_of}
 use Rattle.uri_order.proofs.LastDecodables.{char_has_one_to_four_bytes, first_char_is_only_char}
 use Rattle.uri_order.proofs.last_tokens.decodable.Goals as goal
-use Rattle.uri_order.proofs.last_tokens.decodable.Goals.{else-len_utf8-bytes-via-then-len_utf8-bytes+else-allows}
-use Rattle.uri_order.proofs.last_tokens.decodable.Goals.{else-len_utf8-bytes-via-else-len_utf8-bytes}
 
 pub returns-in_default : goal.returns-in_default
 returns-in_default c = λ d scalar decodable e.
@@ -30,11 +28,11 @@ returns-else-len_utf8-bytes c = λ d scalar decodable e.
     let one = first_char_is_only_char c.in-Ok.text.now _ c.char_at-ch.result d c.char_at-ch.ensures
     (c.in-Ok.ensures.cases.0 ∙ e) in
     elim c.else-len_utf8-bytes.branch [
-      | else-len_utf8-bytes-via-then-len_utf8-bytes+else-allows w ↦
+      | goal.else-len_utf8-bytes-via-then-len_utf8-bytes+else-allows w ↦
           false≢true (sym w.if-allows.false ∙ w.allows.ensures
           ∙ w.decodable.ensures c.char_at-ch.result
           ∙ ap (is_decodable (set_of c.args.table.now)) one.0 ∙ decodable)
-      | else-len_utf8-bytes-via-else-len_utf8-bytes w ↦
+      | goal.else-len_utf8-bytes-via-else-len_utf8-bytes w ↦
           w.if-len_utf8-bytes.false (c.len_utf8.ensures.value ∙ ap len_utf8 one.0
           ∙ sym (length-encode d) ∙ sym (ap length e))
     ]

@@ -14,8 +14,6 @@ use Rattle.uri_ops.proofs.Normal.NormalPieces.{path-with-dots-is-normal-when-dec
 use Rattle.uri_order.specs.PathBack.{path_unread}
 use Rattle.uri_order.proofs.NormalParts.{normal_path_under_scheme, second_piece_alone}
 use Rattle.uri_order.proofs.normal_path.normal_path_back.Goals as goal
-use Rattle.uri_order.proofs.normal_path.normal_path_back.Goals.{else-has_scheme-via-then-has_scheme+else-is_absolute}
-use Rattle.uri_order.proofs.normal_path.normal_path_back.Goals.{else-has_scheme-via-else-has_scheme}
 
 pub new-text-requires-clause-valid : goal.new-text-requires-clause-valid
 new-text-requires-clause-valid g c =
@@ -45,11 +43,11 @@ pub returns : goal.returns
 returns g c = λ scheme authority s a.
     let path = text_of c.args.path in
     let off : (is_some scheme && starts 47 path) ≡ false = elim c.else-has_scheme.branch [
-      | else-has_scheme-via-then-has_scheme+else-is_absolute w ↦ and_right
+      | goal.else-has_scheme-via-then-has_scheme+else-is_absolute w ↦ and_right
           (is_some scheme)
           (starts 47 path) (absolute-is-leading-slash path ∙ sym w.is_absolute.ensures
           ∙ w.if-is_absolute.false)
-      | else-has_scheme-via-else-has_scheme w ↦ ap (λ b. b && starts 47 path)
+      | goal.else-has_scheme-via-else-has_scheme w ↦ ap (λ b. b && starts 47 path)
           (s ∙ w.if-has_scheme.false)
     ] in
     second_piece_alone _ _ _ _ c.join-2.ensures c.copied-2.ensures
