@@ -8,9 +8,9 @@ use Rattle.std.specs.Char.{IsScalar, encode_utf8, digit_value, is_ascii_hexdigit
 use Rattle.std.specs.Str.{chars, all_scalars, IsUtf8}
 use Rattle.std.proofs.lemmas.Bool.{cases_Bool, cond-true, cond-false, and_parts, and_from}
 use Rattle.std.proofs.lemmas.Bool.{and_right, ne_eqb}
-use Rattle.std.proofs.lemmas.List.{take-append-drop, drop_more, drop_all, length-drop}
+use Rattle.std.proofs.lemmas.List.{take-append-drop, drop_more, length-drop}
 use Rattle.std.proofs.lemmas.List.{get_or-drop, get_or_at, length-append, append-nil, take_at}
-use Rattle.std.proofs.lemmas.List.{drop_at}
+use Rattle.std.proofs.lemmas.List.{drop_at, nil_from_length}
 use Rattle.std.proofs.lemmas.List.{take_all, take_more}
 use Rattle.std.proofs.lemmas.List.Folds.{list_all-append}
 use Rattle.std.proofs.lemmas.Str.{chars-append, chars-nil, IsUtf8-take, IsUtf8-drop}
@@ -105,10 +105,6 @@ octet_from_last_percent text n u valid long percent =
           (ap (is_valid_for widest_set) cut ∙ both.1) some first,
     )
 
--- general fact on lists: one of no length is empty
-pub list_of_no_length_is_empty : {X : Type 0} (xs : List X) → length xs ≡ 0 → xs ≡ []
-list_of_no_length_is_empty xs e = drop_all 0 xs (omega arith)
-
 -- cuts of valid texts: the empty text has no tokens
 pub empty_text_has_no_tokens : (text : List ℕ) → text ≡ [] → tokens text ≡ []
 unfolding tokens_from_chars
@@ -130,7 +126,7 @@ percent_third_from_end_begins_last_octet text n u valid long percent =
     let o = p.2 in
     let three : length (drop n text) ≡ 3 = length-drop n text ∙ omega arith in
     let none : o.suffix ≡ [] =
-    list_of_no_length_is_empty o.suffix (omega (arith, ap length o.joined)) in
+    nil_from_length o.suffix (omega (arith, ap length o.joined)) in
     let high : o.high ≡ get_or text (n + 1) 0 =
     sym (ap (λ t. get_or t 1 0) o.joined) ∙ get_or-drop n text 1 0 in
     let low : o.low ≡ get_or text (n + 2) 0 =

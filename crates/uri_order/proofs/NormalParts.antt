@@ -4,7 +4,7 @@ use Rattle.std.proofs.Common.{cond, eqb, length, option_map}
 use Rattle.std.specs.Prelude.{codes, Option, Some, None, is_some}
 use Rattle.std.specs.Str.{chars, str_to_ascii_lowercase}
 use Rattle.std.proofs.lemmas.Bool.{and_from, cond-false, cond-true, eqb-true}
-use Rattle.std.proofs.lemmas.List.{append-nil}
+use Rattle.std.proofs.lemmas.List.{append-nil, nil_from_length}
 use Rattle.std.proofs.lemmas.Str.{IsUtf8-nil}
 use Rattle.uri_pct.specs.DecodeUnreserved.{decode_unreserved}
 use Rattle.uri_pct.specs.Sets.{TableSet}
@@ -22,7 +22,6 @@ use Rattle.uri_ops.specs.Target.{guarded}
 use Rattle.uri_ops.proofs.Meanings.AllowedParts.{validity-splits-at-slash}
 use Rattle.uri_order.specs.Addresses.{ipv6_host_text}
 use Rattle.uri_order.specs.NormalComponents.{normal_component}
-use Rattle.uri_order.proofs.LastTokens.{list_of_no_length_is_empty}
 use Rattle.uri_order.proofs.NormalTokens.{nothing_is_left}
 
 -- normal texts: of an empty component nothing is written
@@ -48,7 +47,7 @@ second_piece_alone whole first second text e none f = e ∙ ap (λ t. t ++ secon
 
 -- normal texts: a text without length is empty
 pub empty_if_tested : (text : List ℕ) → eqb (length text) 0 ≡ true → text ≡ []
-empty_if_tested text e = list_of_no_length_is_empty text (eqb-true (length text) 0 e)
+empty_if_tested text e = nil_from_length text (eqb-true (length text) 0 e)
 
 -- normal texts: a text with a length is not empty
 pub not_empty_if_tested : (text : List ℕ) → eqb (length text) 0 ≡ false → text ≡ [] → ⊥

@@ -7,7 +7,7 @@ use Rattle.std.specs.Char.{IsScalar, encode_utf8, to_ascii_lowercase}
 use Rattle.std.specs.Int.{is_in_range}
 use Rattle.std.proofs.lemmas.Bool.{cases_Bool, cond-true, cond-false, and_parts, eqb-true}
 use Rattle.std.proofs.lemmas.Bool.Decides.{nat_tests}
-use Rattle.std.proofs.lemmas.List.{append-nil}
+use Rattle.std.proofs.lemmas.List.{append-nil, nil_from_length}
 use Rattle.std.proofs.lemmas.Str.{encode_ascii}
 use Rattle.std.proofs.lemmas.Str.Ascii.{lowercase_ascii}
 use Rattle.uri_pct.specs.Sets.{TableSet, allows}
@@ -25,7 +25,7 @@ use Rattle.uri_order.specs.LastTokens.{EndsIn, EndsInDecodable, TokensEndInNoDec
 use Rattle.uri_order.specs.NormalComponents.{normal_component}
 use Rattle.uri_order.proofs.LastOctets.{decoded, last_octet_stays, last_character_stays}
 use Rattle.uri_order.proofs.LastOctets.{last_decodable_is_decoded}
-use Rattle.uri_order.proofs.LastTokens.{empty_text_has_no_tokens, list_of_no_length_is_empty}
+use Rattle.uri_order.proofs.LastTokens.{empty_text_has_no_tokens}
 use Rattle.uri_order.proofs.LastDecodables.{char_has_one_to_four_bytes}
 
 -- normal texts: which characters a set never has literally, as the code tests it
@@ -156,7 +156,7 @@ pub nothing_is_left : (lowers : Bool) (set : TableSet) (text held : List ℕ)
     → eqb (length text) 0 ≡ true → held ≡ [] → normal_component lowers set text ++ held ≡ []
 nothing_is_left lowers set text held none empty =
     let left = empty_component_is_empty lowers set text
-    (list_of_no_length_is_empty text (eqb-true (length text) 0 none)) in
+    (nil_from_length text (eqb-true (length text) 0 none)) in
     rw (left, empty) refl
 
 -- normal texts: an ASCII character is no formatting character, in lower case if `lowers` or not
