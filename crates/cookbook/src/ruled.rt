@@ -9,8 +9,8 @@ use fluent_uri::Uri;
 use std::alloc::Global;
 use uri_rules::SchemeNormalizer;
 
-/// Parses a text as a URI, and returns its normal form by the rules of its scheme (RFC 3986, section
-/// 6.2.3).
+/// Parses a text as a URI, and returns its normal form by the rules of its scheme (RFC 3986,
+/// section 6.2.3).
 ///
 /// # Errors
 ///

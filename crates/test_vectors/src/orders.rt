@@ -127,8 +127,8 @@ fn name_of(order: Ordering) -> &'static str {
     }
 }
 
-/// Appends to a row's result the order of two texts by their normal forms, and what differs if these
-/// are made, the texts change places, or their equivalence or hashes are asked for.
+/// Appends to a row's result the order of two texts by their normal forms, and what differs if
+/// these are made, the texts change places, or their equivalence or hashes are asked for.
 pub(crate) fn compare<K: Kind, O: FormOrder>(
     alloc: Global,
     order: &O,

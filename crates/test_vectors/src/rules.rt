@@ -45,8 +45,8 @@ fn normal_form<K: Kind, T: AsStr>(
     }
 }
 
-/// Appends to a row's result the normal form of a text by a row's rules, and that of the normal form
-/// where it is another.
+/// Appends to a row's result the normal form of a text by a row's rules, and that of the normal
+/// form where it is another.
 pub(crate) fn normalize<K: Kind>(
     alloc: Global,
     rules: Rules,

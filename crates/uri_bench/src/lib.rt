@@ -95,8 +95,8 @@ fn resolve(alloc: Global, base: &str, reference: &str, rounds: u64) -> u64 {
     length_of!(rounds, call::resolve(alloc, &resolver, reference))
 }
 
-/// Resolves a URI reference by the basic algorithm in so many counted rounds, and returns the length
-/// of the target, or `REJECTED`.
+/// Resolves a URI reference by the basic algorithm in so many counted rounds, and returns the
+/// length of the target, or `REJECTED`.
 fn resolve_basic(alloc: Global, base: &str, reference: &str, rounds: u64) -> u64 {
     let Ok(base) = Uri::<&str>::parse(base) else {
         return REJECTED;

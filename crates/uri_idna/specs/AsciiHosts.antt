@@ -51,8 +51,8 @@ IsDnsNameError name NameNotUtf8 = ⊥
 IsDnsNameError name InvalidName = dns_name name ≡ None
 IsDnsNameError name OutOfMemory = ⊤
 
--- a registered name may be rejected with the error: its bytes are not UTF-8; or they are, and it has
--- no name in ASCII; or it is encoded or past ASCII, so that it needs memory
+-- a registered name may be rejected with the error: its bytes are not UTF-8; or they are, and it
+-- has no name in ASCII; or it is encoded or past ASCII, so that it needs memory
 abbrev pub IsAsciiNameError : List ℕ → AsciiHostError → Type 0
 IsAsciiNameError host NameNotUtf8 = ¬ (IsUtf8 (name_bytes host))
 IsAsciiNameError host InvalidName = IsUtf8 (name_bytes host) × (ascii_name host ≡ None)

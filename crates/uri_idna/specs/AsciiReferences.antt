@@ -22,7 +22,8 @@ ascii_components c (Some authority) =
     option_map (λ host. with_authority c (with_host authority host))
     (ascii_host (authority_parts authority).host)
 
--- a text with its host in ASCII, if it has such a form: nothing else changes (RFC 3987, section 3.1)
+-- a text with its host in ASCII, if it has such a form: nothing else changes (RFC 3987, section
+-- 3.1)
 abbrev pub with_ascii_host : List ℕ → Option (List ℕ)
 with_ascii_host text =
     option_map recompose (ascii_components (components text) (components text).authority)

@@ -89,8 +89,8 @@ fn ascii_name<'a, R: Encoder>(
 /// and one with characters past ASCII is converted by ToASCII of UTS 46, without transitional
 /// processing. Every other host is returned as it is: an address, and a name that decodes to ASCII.
 ///
-/// In a name that is converted, a label has letters, digits and hyphens alone in ASCII, no hyphen at
-/// either end, and at most 63 characters. A `.` may end the name.
+/// In a name that is converted, a label has letters, digits and hyphens alone in ASCII, no hyphen
+/// at either end, and at most 63 characters. A `.` may end the name.
 ///
 /// If the host is ASCII and has no `%`, no memory is taken and the host is `CowStr::Borrowed`.
 ///

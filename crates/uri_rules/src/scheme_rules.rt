@@ -43,8 +43,8 @@ pub trait SchemeRules: Drop {
 /// | `ftp` | the same | RFC 1738, section 3.2.2 |
 /// | `file` | the host `localhost` is left out | RFC 8089, section 2 |
 ///
-/// The target of an `OPTIONS` request must not be normalised by them: there an empty path is not `/`
-/// (RFC 9110, section 4.2.3).
+/// The target of an `OPTIONS` request must not be normalised by them: there an empty path is not
+/// `/` (RFC 9110, section 4.2.3).
 #[derive(Clone, Copy, Debug, PartialEq, Eq)]
 pub struct StandardRules;
 

@@ -58,8 +58,8 @@ impl RuleSetting {
     /// Returns the normal form, under the setting's rules, of the target of a reference against a
     /// base (RFC 3986, sections 5.2 and 6.2.3).
     ///
-    /// With the rules of schemes, `//a:80` against `http://x/` becomes `http://a/`. Without them, it
-    /// becomes `http://a`.
+    /// With the rules of schemes, `//a:80` against `http://x/` becomes `http://a/`. Without them,
+    /// it becomes `http://a`.
     ///
     /// # Errors
     ///
