@@ -86,7 +86,7 @@ fn write_rejected_parts(why: Rejection, parts: &mut Parts) -> u32
 }
 
 /// Returns whether the first byte of a host shows that it is a registered name, so that C gets that
-/// number. Most names begin with a letter in lower case, which one test tells.
+/// number. Most names begin with a letter in lower case, which one comparison finds.
 #[inline(always)]
 fn begins_as_a_name(host: &[u8]) -> bool
     ensures { IsTrue result → host_kind host.now ≡ RegName }
