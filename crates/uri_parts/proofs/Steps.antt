@@ -2,6 +2,8 @@
 use Rattle.std.specs.Prelude.{⊤}
 use Rattle.uri_pct.proofs.TableSets.Constants.{digit_masks_are_digit_set}
 use Rattle.uri_pct.proofs.TableSets.Constants.{scheme_masks_are_scheme_set}
+use Rattle.uri_pct.proofs.TableSets.Constants.{segment_nz_nc_masks_are_segment_nz_nc_set}
+use Rattle.uri_pct.proofs.TableSets.Constants.{isegment_nz_nc_masks_are_isegment_nz_nc_set}
 use Rattle.uri_parts.specs.Refusals.{error_from_end, error_from_fragment, error_from_query}
 use Rattle.uri_parts.specs.Refusals.{error_from_path}
 use Rattle.uri_parts.specs.Refusals.{error_from_relative_path}
@@ -23,10 +25,13 @@ use Rattle.uri_parts.specs.Models.Parsing.{schemeless_positions, parsed_position
 use Rattle.uri_parts.proofs.Authorities.AuthorityCuts.{suffix, drop-after-drop-of-one}
 use Rattle.uri_parts.proofs.Parsing.NextBytes.{starts_at_position, stray_percent_ends_scan}
 use Rattle.uri_parts.proofs.Parsing.NextBytes.{authority_may_end_at_end, authority_may_end_at_byte}
+use Rattle.uri_parts.proofs.Parsing.NextBytes.{authority_may_end_at_slash}
+use Rattle.uri_parts.proofs.Parsing.NextBytes.{text_ends_where_position_is_length}
 use Rattle.uri_parts.proofs.Parsing.NextBytes.{name_has_no_port_where_authority_may_end}
 use Rattle.uri_parts.proofs.Parsing.WebSchemes.{scheme_of_http_ends_at_4}
 use Rattle.uri_parts.proofs.Parsing.WebSchemes.{scheme_of_https_ends_at_5}
 use Rattle.uri_parts.proofs.Refusals.Colons.{last_colon-at-colon, last_colon-stays-past-other-byte}
+use Rattle.uri_parts.proofs.Refusals.Colons.{last_colon_is_below_position}
 use Rattle.uri_parts.proofs.Refusals.Digits.{digits_end-stays-at-other-byte}
 use Rattle.uri_parts.proofs.Refusals.Digits.{digits_end-stays-where-none-may-follow}
 use Rattle.uri_parts.proofs.Refusals.Digits.{digits_end-stays-past-text}
@@ -37,7 +42,15 @@ use Rattle.uri_parts.proofs.Refusals.Digits.{octets_end-fails-without-dot}
 -- what is next
 pub ruleset marks = (authority_may_end_at_end, authority_may_end_at_byte)
 
+pub ruleset next_bytes = (starts_at_position, text_ends_where_position_is_length)
+
 pub ruleset strays = (stray_percent_ends_scan, starts_at_position)
+
+-- the tables of a kind
+pub ruleset segments = (
+  segment_nz_nc_masks_are_segment_nz_nc_set,
+  isegment_nz_nc_masks_are_isegment_nz_nc_set,
+)
 
 -- an address in brackets
 pub ruleset digits = (
@@ -55,11 +68,17 @@ pub ruleset octets = (
 -- an authority
 pub ruleset colons = (last_colon-at-colon, last_colon-stays-past-other-byte)
 
+pub ruleset last_colons = (last_colon_is_below_position)
+
 pub ruleset ports = (digit_masks_are_digit_set, drop-after-drop-of-one)
 
 pub ruleset cuts = (suffix)
 
-pub ruleset names = (suffix, name_has_no_port_where_authority_may_end)
+pub ruleset names = (
+  suffix,
+  name_has_no_port_where_authority_may_end,
+  authority_may_end_at_slash,
+)
 
 -- what a proof unfolds where a name and a port are parsed
 unfoldable pub name : ⊤
@@ -113,3 +132,13 @@ before_path = tt
 unfoldable pub whole : ⊤
 unfolding schemeless_positions schemeless_error parsed_positions parsed_error
 whole = tt
+
+-- what a proof unfolds where an authority that comes before a path is parsed
+unfoldable pub authority_before_path : ⊤
+unfolding authority other before_path tail after_name
+authority_before_path = tt
+
+-- what a proof unfolds where what comes before a path is parsed from the beginning of the text on
+unfoldable pub beginning : ⊤
+unfolding whole before_path tail
+beginning = tt

@@ -1,6 +1,6 @@
 -- What `Display` and `Debug` print, as bytes. `Debug` of a text is that of a `str`, which std
 -- specifies for ASCII: `None` is a text that no clause states.
-use Rattle.std.specs.Prelude.{ℕ, List, Option, Some, None, ◌++◌, codes, decimal}
+use Rattle.std.specs.Prelude.{ℕ, List, Option, Some, ◌++◌, codes, decimal}
 use Rattle.std.specs.Fmt.{◌++?◌, debug_option, debug_str}
 use Rattle.std.specs.Net.Text.{ipv4_text, ipv6_text}
 use Rattle.uri_parts.specs.Addresses.{ipv4_octets, ipv6_segments}

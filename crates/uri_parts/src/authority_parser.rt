@@ -3,12 +3,11 @@
 //! What passes as a name and a port is a prefix of userinfo. So nothing is scanned again to
 //! distinguish the two, nor to find where and why an authority is rejected.
 ghost use Rattle.std.specs.Prelude.{◌≡◌, ◌≤◌, ◌+◌, drop, length, true, IfErr, IfOk, IfSome, OnOk};
-ghost use Rattle.std.specs.Prelude.{Some, Ok, IfNone, IsTrue, ◌<◌, codes, false};
+ghost use Rattle.std.specs.Prelude.{Some, Ok, IfNone, IsTrue, ◌<◌, false};
 ghost use Rattle.std.specs.Str.{IsCharBoundary};
 ghost use Rattle.uri_pct.specs.Delimiters.{left_bracket};
 ghost use Rattle.uri_pct.specs.Prefixes.{valid_prefix};
 ghost use Rattle.uri_parts.specs.Models.AuthorityParsing.{port_length, name_and_port_length};
-ghost use Rattle.uri_parts.specs.Models.AuthorityParsing.{is_empty_or_begins_with_any};
 ghost use Rattle.uri_parts.specs.Models.AuthorityParsing.{name_ends_authority};
 ghost use Rattle.uri_parts.specs.Models.AuthorityParsing.{host_end, host_and_port_length};
 ghost use Rattle.uri_parts.specs.Models.AuthorityParsing.{further_userinfo_length};
@@ -57,15 +56,14 @@ pub(crate) fn is_before_literal<K: Kind>(cursor: &Cursor<'_>) -> bool
     cursor.next_is(b'[')
 }
 
-/// Passes a registered name and the port after it, if there is one. Returns where the name ends.
-/// Most names end the authority.
-#[tactic(auto, using(crate::proofs::Steps::names), unfolding(crate::specs::Models::AuthorityParsing::name_ends_authority, crate::specs::Models::AuthorityParsing::name_and_port_length))]
+/// Passes a registered name and the port after it, if there is one. Returns where the name ends,
+/// and whether the authority may end after both. `/` follows most names, and is looked for first.
+#[tactic(auto, using(crate::proofs::Steps::names), unfolding(crate::proofs::Steps::name))]
 #[inline(always)]
-pub(crate) fn pass_name<K: Kind>(cursor: &mut Cursor<'_>) -> usize
-    ensures end { result ≡ cursor_position cursor.old + valid_prefix K.kind.reg_name
+pub(crate) fn pass_name<K: Kind>(cursor: &mut Cursor<'_>) -> (usize, bool)
+    ensures end { result.0 ≡ cursor_position cursor.old + valid_prefix K.kind.reg_name
         (text_after_cursor cursor.old) }
-    ensures finds { is_empty_or_begins_with_any (codes "/?#") (text_after_cursor cursor.new)
-        ≡ name_ends_authority K.kind (text_after_cursor cursor.old) }
+    ensures finds { result.1 ≡ name_ends_authority K.kind (text_after_cursor cursor.old) }
     ensures text { cursor_text cursor.new ≡ cursor_text cursor.old }
     ensures place { cursor_position cursor.new
         ≡ cursor_position cursor.old + name_and_port_length K.kind (text_after_cursor cursor.old) }
@@ -74,11 +72,11 @@ pub(crate) fn pass_name<K: Kind>(cursor: &mut Cursor<'_>) -> usize
         (text_after_cursor cursor.old) }
 {
     let end = cursor.scan(&K::tables().reg_name);
-    if cursor.ends_authority() {
-        return end;
+    if cursor.next_is(b'/') {
+        return (end, true);
     }
     pass_port(cursor);
-    end
+    (end, cursor.ends_authority())
 }
 
 /// Returns the error of what is left over after an authority, from `start` on. It reports a
@@ -123,7 +121,7 @@ fn last_colon(text: &str, start: usize, end: usize) -> Option<usize>
 /// Returns the error of what was scanned as userinfo up to `end`, where no `@` is next. A name and
 /// a port end at `start`. After them the error is at the last of several `:`, or at the port's
 /// first byte that is no digit.
-#[tactic(auto, using(crate::proofs::Refusals::Colons::last_colon_is_below_position), unfolding(crate::specs::Models::ParseErrors::name_error))]
+#[tactic(auto, using(crate::proofs::Steps::last_colons), unfolding(crate::proofs::Steps::after_name))]
 #[cold]
 #[inline(never)]
 fn error_after_name<K: Kind>(text: &str, start: usize, end: usize) -> ParseError
@@ -149,8 +147,8 @@ fn error_after_name<K: Kind>(text: &str, start: usize, end: usize) -> ParseError
 fn pass_literal(cursor: &mut Cursor<'_>) -> Result<(), ParseError>
     requires { starts left_bracket (text_after_cursor cursor.old) ≡ true }
     ensures text { cursor_text cursor.new ≡ cursor_text cursor.old }
-    ensures place { OnOk result (cursor_position cursor.new
-        ≡ cursor_position cursor.old + (1 + literal_length (drop 1 (text_after_cursor cursor.old)))) }
+    ensures place { OnOk result (cursor_position cursor.new ≡ cursor_position cursor.old
+        + (1 + literal_length (drop 1 (text_after_cursor cursor.old)))) }
     ensures rest { OnOk result (text_after_cursor cursor.new
         ≡ drop (1 + literal_length (drop 1 (text_after_cursor cursor.old)))
         (text_after_cursor cursor.old)) }

@@ -121,8 +121,8 @@ impl<'a> Cursor<'a> {
             (text_after_cursor self.old)) }
         ensures rest { OnOk result
             (text_after_cursor self.new ≡ after (set_of table.now) (text_after_cursor self.old)) }
-        ensures refused { result_err result
-            ≡ result_err (scan (cursor_text self.old) (set_of table.now) (cursor_position self.old)) }
+        ensures refused { result_err result ≡ result_err
+            (scan (cursor_text self.old) (set_of table.now) (cursor_position self.old)) }
         ensures err { IfErr result (IsErrorIn (cursor_text self.old)) }
     {
         let end = table.scan(self.text, self.position);
@@ -136,7 +136,7 @@ impl<'a> Cursor<'a> {
 
     /// Returns whether what is next is in no component of the kind, and is no delimiter: a control
     /// character or a space, or a character past ASCII in a URI.
-    #[tactic(auto, using(crate::proofs::Parsing::NextBytes::starts_at_position, crate::proofs::Parsing::NextBytes::text_ends_where_position_is_length))]
+    #[tactic(auto, using(crate::proofs::Steps::next_bytes))]
     #[inline(always)]
     pub(crate) fn is_before_excluded<K: Kind>(&self) -> bool
         ensures userinfo { let i = cursor_position self.now in IsTrue result

@@ -26,7 +26,7 @@ pub struct KindTables {
 
 /// Returns the tables of URIs, where a scheme is needed (RFC 3986, section 3), and else of URI
 /// references (section 4.1).
-#[tactic(auto, using(uri_pct::proofs::TableSets::Constants::segment_nz_nc_masks_are_segment_nz_nc_set))]
+#[tactic(auto, using(crate::proofs::Steps::segments))]
 pub(crate) fn uri_tables(needs_scheme: bool) -> KindTables
     ensures kind { kind_of result ≡ record uri_ref { needs_scheme = needs_scheme } }
     ensures segment { set_of result.segment_nz_nc ≡ segment_nz_nc_set }
@@ -44,7 +44,7 @@ pub(crate) fn uri_tables(needs_scheme: bool) -> KindTables
 
 /// Returns the tables of IRIs, where a scheme is needed, and else of IRI references (RFC 3987,
 /// section 2.2).
-#[tactic(auto, using(uri_pct::proofs::TableSets::Constants::isegment_nz_nc_masks_are_isegment_nz_nc_set))]
+#[tactic(auto, using(crate::proofs::Steps::segments))]
 pub(crate) fn iri_tables(needs_scheme: bool) -> KindTables
     ensures kind { kind_of result ≡ record iri_ref { needs_scheme = needs_scheme } }
     ensures segment { set_of result.segment_nz_nc ≡ isegment_nz_nc_set }

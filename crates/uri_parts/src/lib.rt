@@ -18,7 +18,8 @@ pub mod fragment;
 mod ip_literal;
 #[doc(hidden)]
 pub mod kind;
-mod kind_tables;
+#[doc(hidden)]
+pub mod kind_tables;
 #[doc(hidden)]
 pub mod laws;
 pub mod net;

@@ -106,7 +106,7 @@ fn pass_host<K: Kind>(cursor: &mut Cursor<'_>, scheme_end: usize) -> Result<Befo
 }
 
 /// Parses an authority, which comes before a path.
-#[tactic(auto, unfolding(crate::proofs::Steps::authority, crate::proofs::Steps::other, crate::proofs::Steps::before_path, crate::proofs::Steps::tail, crate::proofs::Steps::after_name))]
+#[tactic(auto, unfolding(crate::proofs::Steps::authority_before_path))]
 #[inline(always)]
 fn pass_authority<K: Kind>(
     cursor: &mut Cursor<'_>,
@@ -128,8 +128,8 @@ fn pass_authority<K: Kind>(
         return pass_host::<K>(cursor, scheme_end);
     }
     let host_start = cursor.position();
-    let host_end = pass_name::<K>(cursor);
-    if cursor.ends_authority() {
+    let (host_end, is_whole) = pass_name::<K>(cursor);
+    if is_whole {
         return Ok(BeforePath {
             path_start: cursor.position(),
             padding: false,
@@ -196,7 +196,7 @@ fn pass_after_slashes<K: Kind>(cursor: &mut Cursor<'_>) -> Result<BeforePath, Pa
 
 /// Parses what comes before a path in a text that has no scheme, from the characters on that might
 /// have been one: an authority, or else the first segment, which has no `:`.
-#[tactic(auto, unfolding(crate::proofs::Steps::whole, crate::proofs::Steps::before_path, crate::proofs::Steps::tail))]
+#[tactic(auto, unfolding(crate::proofs::Steps::beginning))]
 #[inline(always)]
 fn pass_schemeless<K: Kind>(cursor: &mut Cursor<'_>) -> Result<BeforePath, ParseError>
     ensures places { let segment = first_segment_set K.kind in IfOk result (λ b.
@@ -231,7 +231,7 @@ fn pass_schemeless<K: Kind>(cursor: &mut Cursor<'_>) -> Result<BeforePath, Parse
 }
 
 /// Parses what comes before a path, from the beginning of the text on.
-#[tactic(auto, using(crate::proofs::Steps::schemes), unfolding(crate::proofs::Steps::whole, crate::proofs::Steps::before_path, crate::proofs::Steps::tail))]
+#[tactic(auto, using(crate::proofs::Steps::schemes), unfolding(crate::proofs::Steps::beginning))]
 #[inline(always)]
 fn pass_before_path<K: Kind>(cursor: &mut Cursor<'_>) -> Result<BeforePath, ParseError>
     requires start { cursor_position cursor.old ≡ 0 }

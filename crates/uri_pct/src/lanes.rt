@@ -114,9 +114,9 @@ fn first_block_outside(
     ensures indices { result.2 ≡ map (λ b. b / 8 % 16) (chunk result.0 16 bytes.now) }
     ensures bits { result.3 ≡ map bit_in_mask_byte (chunk result.0 16 bytes.now) }
 {
-    let len = bytes.len();
+    let last = bytes.len() - LANES;
     let mut i = start;
-    while len - i > LANES {
+    while i < last {
         let mask = outside(low, high, bytes, i);
         if mask != 0 {
             let (indices, bits) = lane_keys(bytes, i);
@@ -124,7 +124,6 @@ fn first_block_outside(
         }
         i += LANES;
     }
-    let last = len - LANES;
     let passed = i - last;
     let tail = outside(low, high, bytes, last);
     let (indices, bits) = lane_keys(bytes, last);
@@ -221,15 +220,15 @@ pub fn chars_end(low: u64, high: u64, bytes: &[u8], start: usize) -> usize
     if len < LANES {
         return chars_end_by_byte(low, high, bytes, start);
     }
+    let last = len - LANES;
     let mut i = start;
-    while len - i > LANES {
+    while i < last {
         let mask = outside_chars(low, high, bytes, i);
         if mask != 0 {
             return i + mask.trailing_zeros() as usize;
         }
         i += LANES;
     }
-    let last = len - LANES;
     let tail = outside_chars(low, high, bytes, last);
     let mask = tail >> (i - last);
     if mask == 0 {

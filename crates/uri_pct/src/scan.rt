@@ -104,8 +104,7 @@ impl Table {
         if start < 2 || bytes.len() < LANES + 2 {
             return start;
         }
-        let (low, high) = self.masks();
-        encoded_run_end(low, high, bytes, start)
+        encoded_run_end(self, bytes, start)
     }
 
     // The table is last: LLVM passes its masks in registers, and so leaves the text in those that

@@ -118,7 +118,7 @@ impl<'a> TextView<'a> {
     }
 
     /// Returns the scheme and the authority with their marks: what is before the path.
-    pub(crate) fn before_path(&self) -> &'a str
+    pub fn before_path(&self) -> &'a str
         ensures { result.now ≡ before_path (components_of self.now) }
     {
         let text = self.as_str();

@@ -62,6 +62,14 @@ unfolding is_empty_or_begins_with_any
 authority_may_end_at_byte i text h = ap (is_empty_or_begins_with_any (codes "/?#"))
     (drop_more text i 0 h) ∙ authority-ends-at-slash-question-or-hash (get_or text i 0)
 
+-- parsing: an authority may end where `/` (47) is next
+pub authority_may_end_at_slash : (rest : List ℕ) → starts 47 rest ≡ true
+    → is_empty_or_begins_with_any (codes "/?#") rest ≡ true
+unfolding is_empty_or_begins_with_any
+authority_may_end_at_slash [] e = refl
+authority_may_end_at_slash (b ∷ rest) e = authority-ends-at-slash-question-or-hash b
+    ∙ ap (λ t. (t || eqb b 63) || eqb b 35) e
+
 -- parsing: what ends an authority is no colon (58)
 mark-after-authority-is-no-colon : (b : ℕ) → is_one_of (codes "/?#") b ≡ true → eqb b 58 ≡ false
 mark-after-authority-is-no-colon b e = grind (arith, nat_tests)

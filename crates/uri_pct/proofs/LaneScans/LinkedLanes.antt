@@ -1,9 +1,10 @@
 -- The lanes that are linked to those before them: a mask has those that are not.
 use Rattle.std.proofs.Common.{◌≡◌, ℕ, ◌+◌, ◌-◌, ◌^◌, ◌<◌, ◌≤◌, Bool, true, false, not, eqb, List}
 use Rattle.std.proofs.Common.{get_or, sym, ap, ◌∙◌, arith, w64, bit_and, bit_or, ◌&&◌, ◌||◌}
+use Rattle.std.proofs.Common.{⊎_elim}
 use Rattle.std.specs.Int.{bit_at, bit_not}
 use Rattle.std.specs.Char.{is_ascii_hexdigit}
-use Rattle.std.proofs.lemmas.Bool.{eq-eqb, or_left, or_right, or_parts}
+use Rattle.std.proofs.lemmas.Bool.{eq-eqb, or_left, or_right, or_parts, both_ways, cases_lt}
 use Rattle.uri_pct.specs.Models.ByteRuns.{IsByteOfEncodedText}
 use Rattle.uri_pct.specs.Masks.{has_bit}
 use Rattle.uri_pct.proofs.TableSets.Masks.{bit_of_bit_and, bit_of_bit_or, bit_of_bit_and_not}
@@ -55,4 +56,38 @@ module _ (test : ℕ → Bool) (bs : List ℕ) (i misses others percents one two
           let p : i + k - 2 ≡ i - 2 + k = omega arith in
           lane_after_percent_holds_hexdigit (or_right _ _ (two_before k h
           ∙ eq-eqb _ _ (ap (λ j. get_or bs j 0) (sym p) ∙ e)));
+    }
+
+-- a block of bytes that all pass the test, which `%` does not: if none of the two bytes before it
+-- is a `%`, each is a byte of encoded text
+module _ (test : ℕ → Bool) (bs : List ℕ) (i : ℕ) (before : 2 ≤ i) (percent : test 37 ≡ false)
+    (pass : (k : ℕ) → k < 16 → test (get_or bs (i + k) 0) ≡ true)
+    (one_before : get_or bs (i - 1) 0 ≡ 37 → ⊥) (two_before : get_or bs (i - 2) 0 ≡ 37 → ⊥)
+    (k : ℕ) (h : k < 16)
+  where
+    no_byte_of_block_is_percent : (j : ℕ) → j < 16 → get_or bs (i + j) 0 ≡ 37 → ⊥
+    no_byte_of_block_is_percent j few e = both_ways _ percent (sym (ap test e) ∙ pass j few)
+
+    byte_one_before_is_no_percent : get_or bs (i + k - 1) 0 ≡ 37 → ⊥
+    byte_one_before_is_no_percent e = ⊎_elim
+        (λ (first : k < 1). one_before (ap (λ j. get_or bs j 0) (omega arith) ∙ e))
+        (λ (later : 1 ≤ k). no_byte_of_block_is_percent (k - 1) (omega arith)
+        (ap (λ j. get_or bs j 0) (omega arith) ∙ e))
+        (cases_lt k 1)
+
+    byte_two_before_is_no_percent : get_or bs (i + k - 2) 0 ≡ 37 → ⊥
+    byte_two_before_is_no_percent e = ⊎_elim
+        (λ (first : k < 1). two_before (ap (λ j. get_or bs j 0) (omega arith) ∙ e))
+        (λ (later : 1 ≤ k). ⊎_elim
+        (λ (second : k < 2). one_before (ap (λ j. get_or bs j 0) (omega arith) ∙ e))
+        (λ (third : 2 ≤ k). no_byte_of_block_is_percent (k - 2) (omega arith)
+        (ap (λ j. get_or bs j 0) (omega arith) ∙ e))
+        (cases_lt k 2))
+        (cases_lt k 1)
+
+    pub byte_of_plain_block_is_of_encoded_text : IsByteOfEncodedText test bs (i + k)
+    byte_of_plain_block_is_of_encoded_text = record {
+      no_octet = λ _. pass k h;
+      first = λ e. absurd (byte_one_before_is_no_percent e);
+      second = λ e. absurd (byte_two_before_is_no_percent e);
     }

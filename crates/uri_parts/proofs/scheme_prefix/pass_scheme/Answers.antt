@@ -1,4 +1,4 @@
-use Rattle.std.proofs.Common.{◌≡◌, ◌+◌, ap, drop, ◌∙◌}
+use Rattle.std.proofs.Common.{ap, drop, ◌∙◌}
 use Rattle.uri_pct.specs.Prefixes.{after}
 use Rattle.uri_pct.specs.Sets.{scheme_set}
 use Rattle.uri_parts.proofs.Parsing.WebSchemes.{text_after_scheme_and_slashes}

@@ -1,6 +1,6 @@
 use Rattle.std.proofs.Common.{◌+◌, ◌-◌, ℕ, length, arith}
 use Rattle.uri_pct.specs.Models.ByteRuns.{IsByteOfEncodedText}
-use Rattle.uri_pct.specs.Masks.{has_bit}
+use Rattle.uri_pct.specs.Tables.{set_of}
 use Rattle.uri_pct.proofs.LaneScans.ShiftedLanes as ShiftedLanes
 use Rattle.uri_pct.proofs.encoded_runs.linked_run_end.Goals as goal
 
@@ -8,8 +8,8 @@ use Rattle.uri_pct.proofs.encoded_runs.linked_run_end.Goals as goal
 pub returns-then-mask-ne0 : goal.returns-then-mask-ne0
 returns-then-mask-ne0 c =
     let i = c.loop-i.i in
-    let o = c.outside_encoded-mask in
-    let linked = IsByteOfEncodedText (has_bit c.args.low c.args.high) c.args.bytes.now in
+    let o = c.outside_encoded_block-mask in
+    let linked = IsByteOfEncodedText (set_of c.args.table.now).ascii c.args.bytes.now in
     let first = ShiftedLanes.first_set_lane linked i o.result o.ensures.below o.ensures.lane
     c.if-mask-ne0.true in
     record {
@@ -22,8 +22,8 @@ returns-then-mask-ne0 c =
 pub loop-i-preserved : goal.loop-i-preserved
 loop-i-preserved c =
     let i = c.loop-i.i in
-    let o = c.outside_encoded-mask in
-    let linked = IsByteOfEncodedText (has_bit c.args.low c.args.high) c.args.bytes.now in
+    let o = c.outside_encoded_block-mask in
+    let linked = IsByteOfEncodedText (set_of c.args.table.now).ascii c.args.bytes.now in
     record {
       from = omega (arith, c.loop-i.invariant.from);
       within = omega (arith, c.loop-i.invariant.within, c.loop-i-test.true);
@@ -38,8 +38,8 @@ pub returns-then-mask-eq0 : goal.returns-then-mask-eq0
 returns-then-mask-eq0 c =
     let i = c.loop-i.i in
     let last : ℕ = length c.args.bytes.now - 16 in
-    let o = c.outside_encoded-tail in
-    let linked = IsByteOfEncodedText (has_bit c.args.low c.args.high) c.args.bytes.now in
+    let o = c.outside_encoded_block-tail in
+    let linked = IsByteOfEncodedText (set_of c.args.table.now).ascii c.args.bytes.now in
     record {
       from = omega (arith, c.requires.within);
       within = omega arith;
@@ -55,8 +55,8 @@ pub returns : goal.returns
 returns c =
     let i = c.loop-i.i in
     let last : ℕ = length c.args.bytes.now - 16 in
-    let o = c.outside_encoded-tail in
-    let linked = IsByteOfEncodedText (has_bit c.args.low c.args.high) c.args.bytes.now in
+    let o = c.outside_encoded_block-tail in
+    let linked = IsByteOfEncodedText (set_of c.args.table.now).ascii c.args.bytes.now in
     let first = ShiftedLanes.first_set_shifted_lane linked last (i - last) o.result
     (omega (arith, c.loop-i.invariant.within)) o.ensures.below o.ensures.lane
     c.if-mask-eq0.false in

@@ -3,7 +3,6 @@ use Rattle.std.proofs.Common.{arith}
 use Rattle.std.specs.Str.{IsUtf8, IsCharBoundary}
 use Rattle.uri_pct.specs.Models.ByteRuns.{AreCharactersOrOctets}
 use Rattle.uri_pct.specs.Prefixes.{valid_prefix}
-use Rattle.uri_pct.specs.Masks.{has_bit}
 use Rattle.uri_pct.specs.Tables.{set_of}
 use Rattle.uri_pct.specs.declared.table.Table.{Table}
 use Rattle.uri_pct.proofs.TableSets.Masks.{has_bit-only-ascii}
@@ -12,28 +11,26 @@ use Rattle.uri_pct.proofs.ValidTexts.ScannedRuns.{characters_and_octets_are_scan
 use Rattle.uri_pct.proofs.table.Table.pass_blocks.Goals as goal
 
 -- a run that is as long as its end says
-passed : (t : Table) (low high : ℕ) (bs : List ℕ) (start end : ℕ)
-    → has_bit low high ≡ has_bit t.low t.high → t.pct_encoded ≡ true → IsUtf8 bs
+passed : (t : Table) (bs : List ℕ) (start end : ℕ) → t.pct_encoded ≡ true → IsUtf8 bs
     → IsCharBoundary bs start → start ≤ end → end ≤ length bs
-    → AreCharactersOrOctets (has_bit low high) bs start (end - start)
+    → AreCharactersOrOctets (set_of t).ascii bs start (end - start)
     → (end + valid_prefix (set_of t) (drop end bs)
     ≡ start + valid_prefix (set_of t) (drop start bs))
     × IsCharBoundary bs end
-passed t low high bs start end masks pct u here from within allowed =
+passed t bs start end pct u here from within allowed =
     let e : start + (end - start) ≡ end = omega arith in
     subst (λ n. (n + valid_prefix (set_of t) (drop n bs)
     ≡ start + valid_prefix (set_of t) (drop start bs)) × IsCharBoundary bs n) e
     (characters_and_octets_are_scanned (set_of t) (lacks_percent t) pct
-    (has_bit-only-ascii t.low t.high) bs start (end - start) (omega arith) u here
-    (subst (λ f. AreCharactersOrOctets f bs start (end - start)) masks allowed))
+    (has_bit-only-ascii t.low t.high) bs start (end - start) (omega arith) u here allowed)
 
 pub returns-clause-total : goal.returns-clause-total
 returns-clause-total c =
     let run = c.encoded_run_end.ensures in
     let b = c.as_bytes-bytes in
     rw (← b.ensures.value)
-    (passed c.args.self.now _ _ b.result.now c.args.start c.encoded_run_end.result
-    c.masks-low.ensures c.requires.octets b.ensures.utf8
+    (passed c.args.self.now b.result.now c.args.start c.encoded_run_end.result
+    c.requires.octets b.ensures.utf8
     (subst (λ t. IsCharBoundary t c.args.start) (sym b.ensures.value) c.requires.here)
     run.from run.within run.allowed).0
 
@@ -42,7 +39,7 @@ returns-clause-boundary c =
     let run = c.encoded_run_end.ensures in
     let b = c.as_bytes-bytes in
     rw (← b.ensures.value)
-    (passed c.args.self.now _ _ b.result.now c.args.start c.encoded_run_end.result
-    c.masks-low.ensures c.requires.octets b.ensures.utf8
+    (passed c.args.self.now b.result.now c.args.start c.encoded_run_end.result
+    c.requires.octets b.ensures.utf8
     (subst (λ t. IsCharBoundary t c.args.start) (sym b.ensures.value) c.requires.here)
     run.from run.within run.allowed).1
