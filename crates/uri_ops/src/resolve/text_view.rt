@@ -72,7 +72,7 @@ impl<'a> TextView<'a> {
     }
 
     /// Returns whether the text has a scheme.
-    pub(crate) fn has_scheme(&self) -> bool
+    pub fn has_scheme(&self) -> bool
         ensures { result ≡ is_some (components_of self.now).scheme }
     {
         self.positions().has_scheme(self.text)
@@ -197,7 +197,7 @@ impl<'a> TextView<'a> {
     }
 
     /// Returns the positions of the components of the text as a value holds them.
-    pub(crate) fn packed_positions(&self) -> PackedPositions
+    pub fn packed_positions(&self) -> PackedPositions
         ensures { result ≡ packed (positions_of (components_of self.now)) }
     {
         self.positions
