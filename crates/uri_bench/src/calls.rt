@@ -1,4 +1,6 @@
 //! The calls that are counted: none is inlined, and each returns its whole result.
+//!
+//! Each kind is parsed in one of them, which the others call. So LLVM inlines its parser there.
 use fluent_uri::normalize::{Normalizer, SchemeDefaults};
 use fluent_uri::pct_enc::encoder::{Data, IPath, Path};
 use fluent_uri::pct_enc::{CowStr, EStr, EString};
@@ -21,9 +23,7 @@ pub fn parse_uri(text: &str) -> Result<Uri<&str>, ParseError> {
 #[inline(never)]
 pub fn normalize_by_setting(alloc: Global, text: &str, scheme_rules: bool) -> Option<Uri<String>> {
     let setting = RuleSetting { scheme_rules };
-    setting
-        .normalize(alloc, &Uri::<&str>::parse(text).ok()?)
-        .ok()
+    setting.normalize(alloc, &parse_uri(text).ok()?).ok()
 }
 
 /// A counted call: parses a text as a URI reference.
@@ -47,33 +47,33 @@ pub fn parse_iri_ref(text: &str) -> Result<IriRef<&str>, ParseError> {
 /// A counted call: parses a text as a URI and normalises it. `None` if either fails.
 #[inline(never)]
 pub fn normalize_uri(alloc: Global, text: &str) -> Option<Uri<String>> {
-    Uri::<&str>::parse(text).ok()?.normalize(alloc).ok()
+    parse_uri(text).ok()?.normalize(alloc).ok()
 }
 
 /// A counted call: parses a text as a URI reference and normalises it. `None` if either fails.
 #[inline(never)]
 pub fn normalize_uri_ref(alloc: Global, text: &str) -> Option<UriRef<String>> {
-    UriRef::<&str>::parse(text).ok()?.normalize(alloc).ok()
+    parse_uri_ref(text).ok()?.normalize(alloc).ok()
 }
 
 /// A counted call: parses a text as an IRI and normalises it. `None` if either fails.
 #[inline(never)]
 pub fn normalize_iri(alloc: Global, text: &str) -> Option<Iri<String>> {
-    Iri::<&str>::parse(text).ok()?.normalize(alloc).ok()
+    parse_iri(text).ok()?.normalize(alloc).ok()
 }
 
 /// A counted call: parses a text as an IRI reference and normalises it. `None` if either fails.
 #[inline(never)]
 pub fn normalize_iri_ref(alloc: Global, text: &str) -> Option<IriRef<String>> {
-    IriRef::<&str>::parse(text).ok()?.normalize(alloc).ok()
+    parse_iri_ref(text).ok()?.normalize(alloc).ok()
 }
 
 /// A counted call: parses a URI and a URI reference, and resolves the second against the first.
 /// `None` if one of these fails.
 #[inline(never)]
 pub fn resolve_uri(alloc: Global, base: &str, reference: &str) -> Option<Uri<String>> {
-    let base = Uri::<&str>::parse(base).ok()?;
-    let reference = UriRef::<&str>::parse(reference).ok()?;
+    let base = parse_uri(base).ok()?;
+    let reference = parse_uri_ref(reference).ok()?;
     reference.resolve_against(alloc, &base).ok()
 }
 
@@ -81,8 +81,8 @@ pub fn resolve_uri(alloc: Global, base: &str, reference: &str) -> Option<Uri<Str
 /// `None` if one of these fails.
 #[inline(never)]
 pub fn resolve_iri(alloc: Global, base: &str, reference: &str) -> Option<Iri<String>> {
-    let base = Iri::<&str>::parse(base).ok()?;
-    let reference = IriRef::<&str>::parse(reference).ok()?;
+    let base = parse_iri(base).ok()?;
+    let reference = parse_iri_ref(reference).ok()?;
     reference.resolve_against(alloc, &base).ok()
 }
 
@@ -120,8 +120,8 @@ pub fn resolve_basic(
 /// `None` if one of them fails.
 #[inline(never)]
 pub fn resolve_normalized(alloc: Global, base: &str, reference: &str) -> Option<Uri<String>> {
-    let base = Uri::<&str>::parse(base).ok()?;
-    let reference = UriRef::<&str>::parse(reference).ok()?;
+    let base = parse_uri(base).ok()?;
+    let reference = parse_uri_ref(reference).ok()?;
     let resolver = Resolver::with_base(base);
     resolver
         .resolve_normalized(alloc, &reference, &Normalizer::new())
@@ -146,7 +146,7 @@ pub fn encode(alloc: Global, text: &str) -> Option<EString<Path>> {
 /// A counted call: parses a text as an IRI and converts it to a URI. `None` if either fails.
 #[inline(never)]
 pub fn to_uri(alloc: Global, text: &str) -> Option<Uri<String>> {
-    Iri::<&str>::parse(text).ok()?.to_uri(alloc).ok()
+    parse_iri(text).ok()?.to_uri(alloc).ok()
 }
 
 /// A counted call: builds a URI of the components of another. `None` if that lacks an authority, a
@@ -171,7 +171,7 @@ pub fn note(
     base: &Uri<&str>,
     reference: &str,
 ) -> Option<Outcome> {
-    let reference = UriRef::<&str>::parse(reference).ok()?;
+    let reference = parse_uri_ref(reference).ok()?;
     register.note(base, &reference).ok()
 }
 
@@ -184,7 +184,7 @@ pub fn copy(alloc: Global, text: &str) -> Option<String> {
 /// A counted call: parses a text as a URI reference and copies it. `None` if either fails.
 #[inline(never)]
 pub fn copy_uri_ref(alloc: Global, text: &str) -> Option<UriRef<String>> {
-    UriRef::<&str>::parse(text).ok()?.to_owned(alloc).ok()
+    parse_uri_ref(text).ok()?.to_owned(alloc).ok()
 }
 
 /// A counted call: mends a text to a URI reference.

@@ -73,10 +73,10 @@ pub extern "C" fn bench(alloc: Global, work: u32, text: &[u8], base: &[u8], roun
 /// Resolves a URI reference against a URI in so many counted rounds, and returns the length of the
 /// target, or `REJECTED`.
 fn resolve_values(alloc: Global, base: &str, reference: &str, rounds: u64) -> u64 {
-    let Ok(base) = Uri::<&str>::parse(base) else {
+    let Ok(base) = call::parse_uri(base) else {
         return REJECTED;
     };
-    let Ok(reference) = UriRef::<&str>::parse(reference) else {
+    let Ok(reference) = call::parse_uri_ref(reference) else {
         return REJECTED;
     };
     length_of!(rounds, call::resolve_values(alloc, base, reference))
@@ -85,10 +85,10 @@ fn resolve_values(alloc: Global, base: &str, reference: &str, rounds: u64) -> u6
 /// Resolves a URI reference by a resolver in so many counted rounds, and returns the length of the
 /// target, or `REJECTED`.
 fn resolve(alloc: Global, base: &str, reference: &str, rounds: u64) -> u64 {
-    let Ok(base) = Uri::<&str>::parse(base) else {
+    let Ok(base) = call::parse_uri(base) else {
         return REJECTED;
     };
-    let Ok(reference) = UriRef::<&str>::parse(reference) else {
+    let Ok(reference) = call::parse_uri_ref(reference) else {
         return REJECTED;
     };
     let resolver = Resolver::with_base(base);
@@ -98,10 +98,10 @@ fn resolve(alloc: Global, base: &str, reference: &str, rounds: u64) -> u64 {
 /// Resolves a URI reference by the basic algorithm in so many counted rounds, and returns the
 /// length of the target, or `REJECTED`.
 fn resolve_basic(alloc: Global, base: &str, reference: &str, rounds: u64) -> u64 {
-    let Ok(base) = Uri::<&str>::parse(base) else {
+    let Ok(base) = call::parse_uri(base) else {
         return REJECTED;
     };
-    let Ok(reference) = UriRef::<&str>::parse(reference) else {
+    let Ok(reference) = call::parse_uri_ref(reference) else {
         return REJECTED;
     };
     let resolver = BasicResolver::with_base(base);
@@ -111,7 +111,7 @@ fn resolve_basic(alloc: Global, base: &str, reference: &str, rounds: u64) -> u64
 /// Decodes the path of an IRI in so many counted rounds, and returns the length of the text, or
 /// `REJECTED`.
 fn decode(alloc: Global, text: &str, rounds: u64) -> u64 {
-    let Ok(value) = Iri::<&str>::parse(text) else {
+    let Ok(value) = call::parse_iri(text) else {
         return REJECTED;
     };
     length_of!(rounds, call::decode(alloc, value.path()))
@@ -120,7 +120,7 @@ fn decode(alloc: Global, text: &str, rounds: u64) -> u64 {
 /// Builds a URI of the components of another in so many counted rounds, and returns its length, or
 /// `REJECTED`.
 fn build(alloc: Global, text: &str, rounds: u64) -> u64 {
-    let Ok(value) = Uri::<&str>::parse(text) else {
+    let Ok(value) = call::parse_uri(text) else {
         return REJECTED;
     };
     length_of!(rounds, call::build(alloc, value))
@@ -129,7 +129,7 @@ fn build(alloc: Global, text: &str, rounds: u64) -> u64 {
 /// Notes each line in a new register in so many counted rounds, and returns how many targets it has
 /// then, or `REJECTED`.
 fn links(alloc: Global, base: &str, lines: &str, rounds: u64) -> u64 {
-    let Ok(base) = Uri::<&str>::parse(base) else {
+    let Ok(base) = call::parse_uri(base) else {
         return REJECTED;
     };
     let mut targets = REJECTED;
