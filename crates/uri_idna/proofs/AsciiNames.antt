@@ -72,7 +72,8 @@ dns-name-is-host : (kind : Kind) → HasComponentSets kind → (name made : List
     → dns_name name ≡ Some made → IsHostText kind.reg_name made
 dns-name-is-host kind sets name made e =
     let set = kind.reg_name in
-    let part = dns-name-is-set-text set sets.reg_name.unreserved sets.reg_name.percent name made e in
+    let part = dns-name-is-set-text set sets.reg_name.unreserved sets.reg_name.percent name made e
+    in
     valid-name-is-host set sets.reg_name.percent
     (bracket-is-excluded set sets.reg_name.ends)
     made (set-text-is-utf8 set made part) (set-text-is-valid set made part)

@@ -68,7 +68,8 @@ authority-with-ascii-host kind sets authority host utf8 rule e =
     let apart = kind-sets-lack-authority-delimiters kind sets in
     let h = is_authority_for-sound kind.userinfo kind.reg_name authority rule in
     let u = authority-parts-are-utf8 p.userinfo p.port p.host (subst IsUtf8 (sym h.whole) utf8) in
-    let made = ascii-host-is-host kind sets p.host host (record { utf8 = u.host; host = h.host }) e in
+    let made = ascii-host-is-host kind sets p.host host (record { utf8 = u.host; host = h.host }) e
+    in
     let utf8' : IsUtf8 text =
     authority-of-utf8-is-utf8 p.userinfo host p.port u.userinfo made.utf8 u.port in
     let grammar : IsAuthorityFor kind.userinfo kind.reg_name text new = record {

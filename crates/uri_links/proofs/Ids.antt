@@ -37,7 +37,8 @@ outcome_of_lookup-fits : (rules : Rules) (texts : List (List ℕ)) (target : Lis
     → IsInRangeAfter texts (outcome_of_lookup place texts
     (normal_text (meaning_under uri rules target)))
 outcome_of_lookup-fits rules texts target (Some place) e = (
-  (position-Some (λ text. same_meaning (meaning_under uri rules text) (meaning_under uri rules target))
+  (position-Some
+      (λ text. same_meaning (meaning_under uri rules text) (meaning_under uri rules target))
       texts place [] e).0,
   omega arith,
 )

@@ -24,16 +24,17 @@ module _ (same : ComparesMeanings) (rules : Rules) (base : List ℕ)
       ≡ Some place
       → HasMeaningAt rules texts place meaning
   found-index-has-meaning meaning place e =
-      let at = position-Some (λ text. same_meaning (meaning_under uri rules text) meaning) texts place
-      [] e in
+      let at = position-Some (λ text. same_meaning (meaning_under uri rules text) meaning) texts
+      place [] e in
       (_, (slice_get-get_or texts place [] at.0, (same _ _).0 at.1))
 
   meaning-at-no-index : (meaning : Meaning) → index_of_meaning rules texts meaning ≡ None
       → (place : ℕ)
       → ¬ (HasMeaningAt rules texts place meaning)
   meaning-at-no-index meaning e place m =
-      let passes = any_passes_from_place (λ text. same_meaning (meaning_under uri rules text) meaning)
-      texts place m.0 m.1.0 ((same (meaning_under uri rules m.0) meaning).1 m.1.1) in
+      let passes = any_passes_from_place
+      (λ text. same_meaning (meaning_under uri rules text) meaning) texts place m.0 m.1.0
+      ((same (meaning_under uri rules m.0) meaning).1 m.1.1) in
       let fails = position-None-no-element-passes
       (λ text. same_meaning (meaning_under uri rules text) meaning) texts e in
       cc

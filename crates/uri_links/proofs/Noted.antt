@@ -50,7 +50,8 @@ is_text text e = let p = and_parts (is_utf8 text) (is_of_kind uri text) e in
 text-test-is-meaning-test : ComparesMeanings → (rules : Rules) (target normal text : List ℕ)
     → IsNormalFormUnder uri rules target normal → IsTextOf uri text
     → normal_text (meaning_under uri rules text) ≡ text
-    → bytes_eq normal text ≡ same_meaning (meaning_under uri rules text) (meaning_under uri rules target)
+    → bytes_eq normal text
+    ≡ same_meaning (meaning_under uri rules text) (meaning_under uri rules target)
 text-test-is-meaning-test same rules target normal text h of_kind own =
     let both = h.same text of_kind in
     same_from_decides {P = normal ≡ text} _ _ (bytes_eq-Decides normal text)
@@ -75,7 +76,8 @@ index-by-text-is-index-by-meaning : ComparesMeanings
     → (rules : Rules) (target normal : List ℕ)
     (texts : List (List ℕ)) → IsNormalFormUnder uri rules target normal → AreUris texts
     → AreNormal rules texts
-    → position (bytes_eq normal) texts ≡ index_of_meaning rules texts (meaning_under uri rules target)
+    → position (bytes_eq normal) texts
+    ≡ index_of_meaning rules texts (meaning_under uri rules target)
 index-by-text-is-index-by-meaning same rules target normal texts h uris own =
     position-of-equal-tests _ _ texts
     (text-tests-are-meaning-tests same rules target normal texts h uris own)

@@ -12,7 +12,8 @@ use Rattle.uri_links.specs.declared.links.Outcome.TheVariants.{New, Known, Refus
 -- the text of a register of links at this index has this meaning, under the rules
 abbrev pub HasMeaningAt : Rules → List (List ℕ) → ℕ → Meaning → Type 0
 HasMeaningAt rules texts place meaning =
-    (text : List ℕ) × ((slice_get texts place ≡ Some text) × (meaning_under uri rules text ≡ meaning))
+    (text : List ℕ)
+    × ((slice_get texts place ≡ Some text) × (meaning_under uri rules text ≡ meaning))
 
 -- The outcome of noting a reference, the last text, against the base, the first, in a register with
 -- these texts, stated by meanings.

@@ -256,7 +256,8 @@ impl<N: TargetNormalizer> Register<N> {
             outcomes_of (target_rules self.old) (uri_text base.now) (texts_of self.old)
             (map uri_ref_text references.now) ≡ (outcomes.items, texts_of self.new)) }
         // Each id that is returned has a registered target.
-        ensures ids { IfOk result (λ outcomes. All (IdIsInRange (texts_of self.new)) outcomes.items) }
+        ensures ids { IfOk result (λ outcomes.
+            All (IdIsInRange (texts_of self.new)) outcomes.items) }
         ensures prefix { OnErr result ((n : ℕ) × (texts_of self.new ≡
             (outcomes_of (target_rules self.old) (uri_text base.now) (texts_of self.old)
             (map uri_ref_text (take n references.now))).1)) }

@@ -1,7 +1,7 @@
 -- Where the pairs of a query are, by where its `&` and `=` are.
 use Rattle.std.proofs.Common.{◌≡◌, ℕ, ◌+◌, ◌-◌, ◌<◌, ◌≤◌, true, false, not, eqb, List, [], ◌∷◌}
-use Rattle.std.proofs.Common.{◌++◌, length, take, drop, get_or, cond, refl, sym, ap, ◌∙◌, arith, ⊎_elim}
-use Rattle.std.proofs.Common.{append-nil, ltb, suc}
+use Rattle.std.proofs.Common.{◌++◌, length, take, drop, get_or, cond, refl, sym, ap, ◌∙◌, arith}
+use Rattle.std.proofs.Common.{⊎_elim, append-nil, ltb, suc}
 use Rattle.std.specs.Prelude.{Some, None, slice_range}
 use Rattle.std.specs.List.{onto_first, slice_split}
 use Rattle.std.proofs.lemmas.Bool.{and_parts, and_right, cases_lt, cond-false, cond-true, eqb-true}
@@ -137,7 +137,8 @@ module _ (query : List ℕ) (start name_end end : ℕ) (inside : end ≤ length 
       ≡ slice_range query start name_end ++ 61 ∷ slice_range query (name_end + 1) end
   substring-is-cut-at-equals more =
       let further : name_end < length before_end = omega (arith, more, size) in
-      let mark : get_or before_end name_end 0 ≡ 61 = eqb-true _ 61 (not-false _ (run.stop further)) in
+      let mark : get_or before_end name_end 0 ≡ 61 =
+      eqb-true _ 61 (not-false _ (run.stop further)) in
       between_is query start end
       ∙ drop_split before_end start name_end run.from
       ∙ ap (λ name. name ++ drop name_end before_end)

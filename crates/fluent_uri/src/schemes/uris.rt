@@ -81,7 +81,8 @@ impl<T: AsStr> fmt::Debug for Reference<UriKind, T> {
 }
 
 impl<T: AsStr> fmt::Debug for Reference<UriRefKind, T> {
-    ghost debug_output = { λ value. debug_with_optional_scheme (codes "UriRef") (reference_text value) };
+    ghost debug_output = { λ value.
+        debug_with_optional_scheme (codes "UriRef") (reference_text value) };
 
     /// Prints each component with its name.
     fn fmt<W: fmt::Write>(&self, f: &mut fmt::Formatter<W>) -> fmt::Result {
