@@ -8,6 +8,7 @@ mod ascii_hosts;
 mod bases;
 mod batch;
 mod building;
+mod call_kind;
 mod calls;
 mod codes;
 mod coding;

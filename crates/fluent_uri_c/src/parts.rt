@@ -16,6 +16,7 @@ ghost use Rattle.fluent_uri_c.specs.Spans.{path_start, port_of, port_start, quer
 ghost use Rattle.fluent_uri_c.specs.Spans.{userinfo_of};
 ghost use Rattle.fluent_uri_c.specs.Values.{ArePartsOfResult, HasPartsFirst};
 
+use crate::call_kind::CallKind;
 use crate::errors::{Error, Rejection};
 use crate::texts::parsed;
 use fluent_uri::component::{Authority, Host};
@@ -388,10 +389,10 @@ pub fn parse(kind: u32, bytes: &[u8], parts: &mut Parts) -> u32
     ensures parts { ArePartsOf (kind_numbered kind) bytes.now parts.new }
 {
     match kind {
-        0 => parse_as::<UriKind>(bytes, parts),
-        1 => parse_as::<UriRefKind>(bytes, parts),
-        2 => parse_as::<IriKind>(bytes, parts),
-        3 => parse_as::<IriRefKind>(bytes, parts),
+        0 => parse_as::<CallKind<UriKind>>(bytes, parts),
+        1 => parse_as::<CallKind<UriRefKind>>(bytes, parts),
+        2 => parse_as::<CallKind<IriKind>>(bytes, parts),
+        3 => parse_as::<CallKind<IriRefKind>>(bytes, parts),
         _ => write_rejected_parts(Rejection::of(Error::InvalidArgument), parts),
     }
 }
