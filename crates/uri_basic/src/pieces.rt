@@ -13,26 +13,21 @@ use uri_parts::kind::Kind;
 pub(crate) fn path<'a, K: Kind>(core: Core<K, &'a str>) -> &'a str
     ensures { result.now ≡ (components (core_text core.entry)).path }
 {
-    core.positions().path(core.as_str())
+    TextView::of_core(core).path()
 }
 
 /// Returns the scheme of a base with its `:`, or nothing.
 pub(crate) fn scheme_with_delimiter<'a, K: Kind>(core: Core<K, &'a str>) -> &'a str
     ensures { result.now ≡ marked [] (components (core_text core.entry)).scheme (codes ":") }
 {
-    let text = core.as_str();
-    match core.positions().scheme_end {
-        Some(end) => &text[..end + 1],
-        None => "",
-    }
+    TextView::of_core(core).scheme_with_delimiter()
 }
 
 /// Returns what is before the path: the scheme and the authority with their delimiters.
 pub(crate) fn before_path<'a, K: Kind>(core: Core<K, &'a str>) -> &'a str
     ensures { result.now ≡ before_path (components (core_text core.entry)) }
 {
-    let text = core.as_str();
-    &text[..core.positions().path_start]
+    TextView::of_core(core).before_path()
 }
 
 /// Returns what is after the path: the query and the fragment with their delimiters.
