@@ -6,17 +6,17 @@ use Rattle.std.specs.Str.{IsUtf8}
 use Rattle.std.proofs.lemmas.Bool.{both_ways, cond_both, false≢true}
 use Rattle.std.proofs.lemmas.List.{length-append}
 use Rattle.uri_parts.specs.Components.{Components, components, marked, recompose, starts}
-use Rattle.uri_parts.specs.Grammar.{IsOfKind, IsTextOf, Kind}
+use Rattle.uri_parts.specs.Grammar.{IsOfKind, Kind}
 use Rattle.uri_parts.specs.PackedPositions.{ArePackedPositionsOf, packed}
 use Rattle.uri_parts.specs.Positions.{authority_at, delimited_length, host_end_of, positions_of}
 use Rattle.uri_parts.specs.declared.packed_positions.PackedPositions.{PackedPositions}
 use Rattle.uri_parts.specs.declared.positions.AuthorityPositions.{AuthorityPositions}
 use Rattle.uri_parts.proofs.Splitting.Recompose.{recompose-components}
+use Rattle.uri_ops.specs.Dots.{is_empty}
 use Rattle.uri_ops.specs.Models.Places.{before_path}
 use Rattle.uri_ops.proofs.Normal.WrittenPlaces.{length-before_path-is-path_start}
 use Rattle.uri_ops.proofs.Normal.WrittenPlaces.{length-with-delimiter-after}
 use Rattle.uri_ops.proofs.Targeting.Swaps.{text-of-kind-has-needed-scheme}
-use Rattle.uri_ops.proofs.Targeting.TextViews.{host-ends-within-authority}
 use Rattle.uri_basic.specs.Models.Pieces.{ArePlacesToHost, after_path}
 use Rattle.uri_basic.specs.Target.{basic_resolution_of_texts, is_ambiguous, target}
 use Rattle.uri_basic.proofs.Targets.{basic-target-has-its-components, result-by-test}
@@ -110,14 +110,14 @@ host-within-parts scheme None rest h = (omega arith, omega arith)
 host-within-parts scheme (Some a) rest h =
     search (rules, length-append, length-with-delimiter-after)
 
--- targets: the host of a text of the kind is within it
-pub host-is-within-text : (kind : Kind) (text : List ℕ) (own : PackedPositions) → IsTextOf kind text
+-- targets: the host of a text is within it, if it is within its authority
+pub host-is-within-text : (text : List ℕ) (own : PackedPositions)
+    → ((a : List ℕ) → (components text).authority ≡ Some a → host_end_of a ≤ length a)
     → own ≡ packed (positions_of (components text))
     → (own.host_start ≤ length text) × (own.host_end ≤ length text)
-host-is-within-text kind text own w at =
+host-is-within-text text own host at =
     let p = components text in
-    let in_parts = host-within-parts p.scheme p.authority (p.path ++ after_path p)
-    (λ a e. host-ends-within-authority kind text w a e) in
+    let in_parts = host-within-parts p.scheme p.authority (p.path ++ after_path p) host in
     search (rules, recompose-components)
 
 -- targets: the query ends before the fragment, which is the last of what is after the path
@@ -147,6 +147,11 @@ written-target-is-at t places made o1 o2 o3 last to e1 e2 e3 el s hs he ps pe qe
 -- targets: the fragment is the reference's
 pub fragment-of-target : (b r : Components) → (target b r).fragment ≡ r.fragment
 fragment-of-target b r = search (rules, cond_both)
+
+-- targets: the query is the reference's, if that has a path
+pub query-of-target-with-path : (b r : Components) → is_empty r.path ≡ false
+    → (target b r).query ≡ r.query
+query-of-target-with-path b r some = search (rules, cond_both, both_ways)
 
 -- targets: the fragment is no longer than the text that it ends
 pub fragment-fits-in-target : (t : Components) (o2 o3 last : List ℕ) → o3 ≡ o2 ++ after_path t

@@ -4,7 +4,6 @@
 mod dots;
 pub mod error;
 pub mod laws;
-mod pieces;
 pub mod resolver;
 mod target_text;
 

@@ -8,18 +8,16 @@ ghost use Rattle.uri_parts.specs.PackedPositions.{packed};
 ghost use Rattle.uri_parts.specs.Positions.{positions_of};
 ghost use Rattle.uri_ops.specs.Dots.{up_to_last_slash};
 ghost use Rattle.uri_ops.specs.Models.Places.{before_path};
+ghost use Rattle.uri_ops.specs.Resolving.{components_of};
 ghost use Rattle.uri_basic.specs.Models.Pieces.{ArePlacesToHost, after_path};
 ghost use Rattle.uri_basic.specs.Resolving.{IsBasicError};
 ghost use Rattle.uri_basic.specs.Target.{basic_resolution, is_ambiguous, merge, target};
 
 use crate::dots::{push_merged, push_without_dot_segments};
 use crate::error::BasicResolveError;
-use crate::pieces::{
-    after_path, before_path, fragment_with_delimiter, path, query_with_delimiter,
-    scheme_with_delimiter,
-};
 use std::alloc::{AllocError, Global};
 use uri_ops::path::slashes::{begins_with_slash, begins_with_two_slashes};
+use uri_ops::resolve::text_view::TextView;
 use uri_parts::core_text::Core;
 use uri_parts::kind::Kind;
 use uri_parts::packed_positions::PackedPositions;
@@ -32,9 +30,9 @@ pub(crate) struct BasicTarget {
 }
 
 /// Returns whether a target has an authority.
-fn has_authority<B: Kind, R: Kind>(base: Core<B, &str>, reference: Core<R, &str>) -> bool
-    ensures { let t = target (components (core_text base.entry))
-        (components (core_text reference.entry)) in result ≡ is_some t.authority }
+fn has_authority(base: &TextView<'_>, reference: &TextView<'_>) -> bool
+    ensures { let t = target (components_of base.now) (components_of reference.now) in
+        result ≡ is_some t.authority }
 {
     if reference.has_scheme() || reference.has_authority() {
         return reference.has_authority();
@@ -43,23 +41,22 @@ fn has_authority<B: Kind, R: Kind>(base: Core<B, &str>, reference: Core<R, &str>
 }
 
 /// Appends the scheme and the authority of a target, with their delimiters.
-fn push_before_path<B: Kind, R: Kind>(
-    base: Core<B, &str>,
-    reference: Core<R, &str>,
+fn push_before_path(
+    base: &TextView<'_>,
+    reference: &TextView<'_>,
     out: &mut String,
 ) -> Result<(), AllocError>
-    ensures { let t = target (components (core_text base.entry))
-        (components (core_text reference.entry)) in
+    ensures { let t = target (components_of base.now) (components_of reference.now) in
         OnOk result (Pushes out.old out.new (before_path t)) }
 {
     if reference.has_scheme() {
-        return out.push_str(before_path(reference));
+        return out.push_str(reference.before_path());
     }
     if reference.has_authority() {
-        out.push_str(scheme_with_delimiter(base))?;
-        return out.push_str(before_path(reference));
+        out.push_str(base.scheme_with_delimiter())?;
+        return out.push_str(reference.before_path());
     }
-    out.push_str(before_path(base))
+    out.push_str(base.before_path())
 }
 
 /// Returns where the host of a reference, whose text and positions these are, begins and ends in a
@@ -75,12 +72,9 @@ fn host_after_scheme(text: &str, places: PackedPositions, scheme: &str) -> (usiz
 }
 
 /// Returns positions that are those of a target up to the end of its host.
-fn places_to_host<B: Kind, R: Kind>(
-    base: Core<B, &str>,
-    reference: Core<R, &str>,
-) -> PackedPositions
-    ensures { let t = target (components (core_text base.entry))
-        (components (core_text reference.entry)) in ArePlacesToHost t result }
+fn places_to_host(base: &TextView<'_>, reference: &TextView<'_>) -> PackedPositions
+    ensures { let t = target (components_of base.now) (components_of reference.now) in
+        ArePlacesToHost t result }
 {
     let own = reference.packed_positions();
     if reference.has_scheme() {
@@ -91,7 +85,7 @@ fn places_to_host<B: Kind, R: Kind>(
         return places;
     }
     let text = reference.as_str();
-    let (start, end) = host_after_scheme(text, own, scheme_with_delimiter(base));
+    let (start, end) = host_after_scheme(text, own, base.scheme_with_delimiter());
     PackedPositions {
         scheme_end: places.scheme_end,
         host_start: start,
@@ -104,11 +98,11 @@ fn places_to_host<B: Kind, R: Kind>(
 
 /// Returns the base's path to merge a reference's path with, or `/` if it is empty after an
 /// authority (RFC 3986, section 5.2.3).
-fn path_to_merge<'a, K: Kind>(base: Core<K, &'a str>) -> &'a str
+fn path_to_merge<'a>(base: &TextView<'a>) -> &'a str
     ensures { (path : List ℕ)
-        → up_to_last_slash result.now ++ path ≡ merge (components (core_text base.entry)) path }
+        → up_to_last_slash result.now ++ path ≡ merge (components_of base.now) path }
 {
-    let path = path(base);
+    let path = base.path();
     if base.has_authority() && path.is_empty() {
         return "/";
     }
@@ -116,21 +110,20 @@ fn path_to_merge<'a, K: Kind>(base: Core<K, &'a str>) -> &'a str
 }
 
 /// Appends the path of a target.
-fn push_path<B: Kind, R: Kind>(
-    base: Core<B, &str>,
-    reference: Core<R, &str>,
+fn push_path(
+    base: &TextView<'_>,
+    reference: &TextView<'_>,
     out: &mut String,
 ) -> Result<(), AllocError>
-    ensures { let t = target (components (core_text base.entry))
-        (components (core_text reference.entry)) in
+    ensures { let t = target (components_of base.now) (components_of reference.now) in
         OnOk result (Pushes out.old out.new t.path) }
 {
-    let own = path(reference);
+    let own = reference.path();
     if reference.has_scheme() || reference.has_authority() {
         return push_without_dot_segments(own, out);
     }
     if own.is_empty() {
-        return out.push_str(path(base));
+        return out.push_str(base.path());
     }
     if begins_with_slash(own.as_bytes()) {
         return push_without_dot_segments(own, out);
@@ -139,41 +132,37 @@ fn push_path<B: Kind, R: Kind>(
 }
 
 /// Appends the query and the fragment of a target, with their delimiters.
-fn push_after_path<B: Kind, R: Kind>(
-    base: Core<B, &str>,
-    reference: Core<R, &str>,
+fn push_after_path(
+    base: &TextView<'_>,
+    reference: &TextView<'_>,
     out: &mut String,
 ) -> Result<(), AllocError>
-    ensures { let t = target (components (core_text base.entry))
-        (components (core_text reference.entry)) in
+    ensures { let t = target (components_of base.now) (components_of reference.now) in
         OnOk result (Pushes out.old out.new (after_path t)) }
 {
     if reference.has_scheme()
         || reference.has_authority()
-        || !path(reference).is_empty()
+        || !reference.path().is_empty()
         || reference.has_query()
     {
-        return out.push_str(after_path(reference));
+        return out.push_str(reference.after_path());
     }
-    out.push_str(query_with_delimiter(base))?;
-    out.push_str(fragment_with_delimiter(reference))
+    out.push_str(base.query_with_delimiter())?;
+    out.push_str(reference.fragment_with_delimiter())
 }
 
 /// Appends a target up to the end of its path to what is empty, and returns where the path begins,
 /// and whether it would be parsed as an authority.
-fn push_to_path_end<B: Kind, R: Kind>(
-    base: Core<B, &str>,
-    reference: Core<R, &str>,
+fn push_to_path_end(
+    base: &TextView<'_>,
+    reference: &TextView<'_>,
     out: &mut String,
 ) -> Result<(usize, bool), AllocError>
-    ensures text { let t = target (components (core_text base.entry))
-        (components (core_text reference.entry)) in
+    ensures text { let t = target (components_of base.now) (components_of reference.now) in
         OnOk result (Pushes out.old out.new (before_path t ++ t.path)) }
-    ensures start { let t = target (components (core_text base.entry))
-        (components (core_text reference.entry)) in
+    ensures start { let t = target (components_of base.now) (components_of reference.now) in
         string_bytes out.old ≡ [] → IfOk result (λ written. written.0 ≡ length (before_path t)) }
-    ensures ambiguous { let t = target (components (core_text base.entry))
-        (components (core_text reference.entry)) in
+    ensures ambiguous { let t = target (components_of base.now) (components_of reference.now) in
         IfOk result (λ written. written.1 ≡ is_ambiguous t) }
 {
     push_before_path(base, reference, out)?;
@@ -200,16 +189,18 @@ pub(crate) fn target_text<B: Kind, R: Kind>(
     ensures error { IfErr result (IsBasicError (components (core_text base.entry))
         (components (core_text reference.entry))) }
 {
+    let base = TextView::of_core(base);
+    let reference = TextView::of_core(reference);
     let capacity = base.as_str().len().saturating_add(reference.as_str().len());
     let mut text = String::with_capacity(alloc, capacity.saturating_add(1))?;
-    let (path_start, is_ambiguous) = push_to_path_end(base, reference, &mut text)?;
+    let (path_start, is_ambiguous) = push_to_path_end(&base, &reference, &mut text)?;
     if is_ambiguous {
         return Err(BasicResolveError::PathStartsWithDoubleSlash);
     }
     let path_end = text.len();
-    push_after_path(base, reference, &mut text)?;
-    let places = places_to_host(base, reference);
-    let query_end = text.len() - fragment_with_delimiter(reference).len();
+    push_after_path(&base, &reference, &mut text)?;
+    let places = places_to_host(&base, &reference);
+    let query_end = text.len() - reference.fragment_with_delimiter().len();
     let positions = PackedPositions {
         scheme_end: places.scheme_end,
         host_start: places.host_start,

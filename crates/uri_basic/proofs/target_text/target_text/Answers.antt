@@ -3,7 +3,10 @@ use Rattle.std.proofs.Common.{sym, ◌∙◌}
 use Rattle.std.specs.Prelude.{codes}
 use Rattle.uri_parts.specs.Components.{components, marked}
 use Rattle.uri_parts.specs.CoreTexts.{core_text}
+use Rattle.uri_parts.specs.PackedPositions.{packed}
+use Rattle.uri_parts.specs.Positions.{positions_of}
 use Rattle.uri_ops.specs.Models.Places.{before_path}
+use Rattle.uri_ops.specs.Resolving.{components_of}
 use Rattle.uri_ops.proofs.Builders.BuilderGrowth.{string_len-is-length-of-bytes}
 use Rattle.uri_basic.specs.Target.{target}
 use Rattle.uri_basic.proofs.TargetPlaces.{fragment-fits-in-target, fragment-of-target}
@@ -12,8 +15,8 @@ use Rattle.uri_basic.proofs.target_text.target_text.Goals as goal
 
 pub overflow_sub-query_end : goal.overflow_sub-query_end
 overflow_sub-query_end g c =
-    let b = components (core_text c.args.base) in
-    let r = components (core_text c.args.reference) in
+    let b = components_of c.of_core-base.result in
+    let r = components_of c.of_core-reference.result in
     let long : c.len.result ≡ length (string_bytes c.push_after_path.new.out) =
     c.len.ensures ∙ string_len-is-length-of-bytes c.push_after_path.new.out in
     let fits = fragment-fits-in-target (target b r) (string_bytes c.push_to_path_end.new.out)
@@ -25,8 +28,8 @@ overflow_sub-query_end g c =
 
 pub returns-clause-positions : goal.returns-clause-positions
 returns-clause-positions g c =
-    let b = components (core_text c.args.base) in
-    let r = components (core_text c.args.reference) in
+    let b = components_of c.of_core-base.result in
+    let r = components_of c.of_core-reference.result in
     let t = target b r in
     let last = c.fragment_with_delimiter.result.now in
     let empty : string_bytes c.in_ok-text.text ≡ [] = search rules in
@@ -41,3 +44,6 @@ returns-clause-positions g c =
     (c.len-path_end.ensures ∙ string_len-is-length-of-bytes c.push_to_path_end.new.out)
     (ap (λ n. n - length last)
     (c.len.ensures ∙ string_len-is-length-of-bytes c.push_after_path.new.out))
+    ∙ ap (λ b. packed (positions_of (target b r))) c.of_core-base.ensures.components
+    ∙ ap (λ r. packed (positions_of (target (components (core_text c.args.base)) r)))
+    c.of_core-reference.ensures.components
