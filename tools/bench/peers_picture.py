@@ -33,11 +33,11 @@ def text(x, y, words, of, **more):
 
 
 def drawn(page, title, ours, limit):
-    """The picture as text: the lines `ours` and `limit` have a colour of their own, and other lines
-    whose names begin with `ours` are left out."""
+    """The picture as text: the lines `ours` and `limit` have a colour of their own. Lines with a
+    comma in their names are left out."""
     heads, lines = rows_of(page, title)
     heads = [it.replace("`", "") for it in heads[1:-1]]
-    lines = [it for it in lines if it[0] == ours or not it[0].startswith(f"{ours},")]
+    lines = [it for it in lines if "," not in it[0]]
     height = TOP + ROW * len(lines) + BOTTOM
     width = NAMES + (PANEL + GAP) * len(heads) + GAP
     out = [
