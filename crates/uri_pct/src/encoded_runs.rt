@@ -35,7 +35,7 @@ fn outside_encoded(low: u64, high: u64, bytes: &[u8], at: usize) -> u64
     (outside(low, high, bytes, at) & no_octet) | missed
 }
 
-/// Returns such a mask for a table. Most blocks have no octet, and none reaches into them: they are
+/// Returns such a mask for a table. A block of bytes of the set, into which no octet reaches, is
 /// looked up in the set alone.
 #[inline(always)]
 fn outside_encoded_block(table: &Table, bytes: &[u8], at: usize) -> u64
