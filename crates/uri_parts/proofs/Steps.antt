@@ -68,7 +68,7 @@ pub ruleset octets = (
 -- an authority
 pub ruleset colons = (last_colon-at-colon, last_colon-stays-past-other-byte)
 
-pub ruleset last_colons = (last_colon_is_below_position)
+pub ruleset below = (last_colon_is_below_position)
 
 pub ruleset ports = (digit_masks_are_digit_set, drop-after-drop-of-one)
 

@@ -121,7 +121,7 @@ fn last_colon(text: &str, start: usize, end: usize) -> Option<usize>
 /// Returns the error of what was scanned as userinfo up to `end`, where no `@` is next. A name and
 /// a port end at `start`. After them the error is at the last of several `:`, or at the port's
 /// first byte that is no digit.
-#[tactic(auto, using(crate::proofs::Steps::last_colons), unfolding(crate::proofs::Steps::after_name))]
+#[tactic(auto, using(crate::proofs::Steps::below), unfolding(crate::proofs::Steps::after_name))]
 #[cold]
 #[inline(never)]
 fn error_after_name<K: Kind>(text: &str, start: usize, end: usize) -> ParseError
