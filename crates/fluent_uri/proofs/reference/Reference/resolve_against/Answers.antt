@@ -16,8 +16,12 @@ returns-clause-target_of_text g c =
 
 pub returns-clause-resolves : goal.returns-clause-resolves
 returns-clause-resolves g c =
-    resolution_is_target (reference_text c.args.base.now) (reference_text c.args.self.now)
-    (λ target. reference_text target) c.resolve_to_value.result (returns-clause-target g c)
+    let base = reference_text c.args.base.now in
+    let reference = reference_text c.args.self.now in
+    resolution_is_target base reference (λ target. reference_text target)
+    c.resolve_to_value.result
+    (target_is_resolution base reference (λ target. reference_text target)
+    c.resolve_to_value.result c.resolve_to_value.ensures.target)
 
 pub returns-clause-refusal : goal.returns-clause-refusal
 returns-clause-refusal g c =
