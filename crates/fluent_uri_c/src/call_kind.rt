@@ -1,4 +1,4 @@
-//! The kinds as the calls have them that parse a text and make no value of it.
+//! The kinds of the calls that only parse a text.
 use std::marker::PhantomData;
 use uri_parts::kind::Kind;
 use uri_parts::kind_tables::KindTables;

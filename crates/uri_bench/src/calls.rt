@@ -1,6 +1,7 @@
 //! The calls that are counted: none is inlined, and each returns its whole result.
 //!
-//! Each kind is parsed in one of them, which the others call. So LLVM inlines its parser there.
+//! Each kind is parsed in one of them, which the others call. So LLVM inlines the parsers of URIs
+//! and of IRIs there; references are parsed by `uri_mend` too.
 use fluent_uri::normalize::{Normalizer, SchemeDefaults};
 use fluent_uri::pct_enc::encoder::{Data, IPath, Path};
 use fluent_uri::pct_enc::{CowStr, EStr, EString};
