@@ -7,13 +7,10 @@
 # runs has a line `refused: CALL` before the run that prints `refused none`, and none later. That
 # finds a call that passes over a denied request, and one that returns out of memory where none
 # was denied.
-set -u
-cd "$(dirname "$0")/../crates/alloc_failure" || exit 2
+. "$(dirname "$0")/lib.sh"
+cd "$root/crates/alloc_failure" || exit 2
 at_once=${1:-4}
 most=40
-work=$(mktemp -d) || exit 2
-trap 'rm -rf "$work"' EXIT
-trap 'exit 1' HUP INT TERM
 tests=$(cat src/*.rt | grep -c '^#\[test\]$')
 
 # What the runs from $1 to $2 printed: `TEST N LINE`, and `ran N HOW MANY` where no test failed or

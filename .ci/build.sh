@@ -1,18 +1,9 @@
 #!/bin/sh
 # Tries ./build and what ./uritool makes of its builds, on a copy of the tree with a command `rt`
 # that proves nothing: it prints what rt prints, and makes a program that prints the word MADE.
-set -u
-root=$(cd "$(dirname "$0")/.." && pwd)
-work=$(mktemp -d)
-trap 'rm -rf "$work"' EXIT
-trap 'exit 1' HUP INT TERM
-tree=$work/tree
-mkdir "$tree" "$work/bin" "$work/tools"
-cp -R "$root/uritool" "$root/build" "$root/tools" "$root/README.md" "$root/crates.txt" "$tree"
-for crate in "$root"/crates/*/; do
-    mkdir -p "$tree/crates/$(basename "$crate")"
-    cp -R "$crate/src" "$tree/crates/$(basename "$crate")/src"
-done
+. "$(dirname "$0")/lib.sh"
+copy_tree "$work/tree" src
+mkdir "$work/bin"
 kit=$(grep -ohE 'rattle-kit-[0-9a-z]+ logic [0-9a-f]+' "$root/README.md" | head -n 1)
 cat > "$work/bin/rt" <<'RT'
 #!/bin/sh
@@ -50,23 +41,9 @@ try)
 esac
 RT
 chmod +x "$work/bin/rt"
-# All that the commands need but rt, for a PATH without it.
-for it in sh env readlink grep head dirname; do
-    ln -s "$(command -v "$it")" "$work/tools/$it"
-done
-ln -s "$(python3 -c 'import sys; print(sys.executable)')" "$work/tools/python3"
+without_rt
 KIT=$kit WORK=$work MADE=first PATH=$work/bin:$PATH
 export KIT WORK MADE PATH
-tried=0 wrong=0
-
-# must NAME WANTED FOUND
-must() {
-    tried=$((tried + 1))
-    [ "$2" = "$3" ] && return
-    wrong=$((wrong + 1))
-    printf 'build: %s: %s, and not %s\n' "$1" "$3" "$2"
-}
-
 # program NAME WANTED: what ./uritool prints
 program() {
     must "$1" "$2" "$("$tree/uritool" 2> "$work/err")"
@@ -104,15 +81,8 @@ MADE=third ./build uritool 2> "$work/err"
 program 'it is built of the older source' third
 
 echo '// changed' >> crates/uri_pct/src/lib.rt
-SLOW=1 ./build uritool 2> "$work/err" &
-ran=$!
-for _ in 1 2 3 4 5 6 7 8 9 10; do
-    [ -s "$work/slow" ] && break
-    sleep 1
-done
-kill -TERM "$ran"
-wait "$ran"
-must 'the status of an interrupted build' 1 $?
+SLOW=1 interrupted ./build uritool
+must 'the status of an interrupted build' 1 "$status"
 must 'the line of an interrupted build' \
     'build: interrupted; the next ./build goes on from here' "$(cat "$work/err")"
 kill -0 "$(cat "$work/slow")" 2> /dev/null
@@ -129,11 +99,11 @@ must 'the line of a kit with another logic' \
 KIT=$other ./build uritool 2> "$work/err"
 must 'no line of a kit with the same logic' 0 "$(grep -c 'the kit here' "$work/err")"
 no_rt='rt is not on the PATH: add the folder bin of the Rattle kit (README.md, "Build and prove")'
-PATH=$work/tools ./build uritool 2> "$work/err"
+PATH=$tools ./build uritool 2> "$work/err"
 must 'the status of ./build without rt' 1 $?
 must 'the line of ./build without rt' "build: $no_rt" "$(cat "$work/err")"
 rm -r out
-PATH=$work/tools ./uritool parse uri a 2> "$work/err"
+PATH=$tools ./uritool parse uri a 2> "$work/err"
 must 'the status of ./uritool without rt' 126 $?
 must 'the line of ./uritool without rt' "uritool: $no_rt" "$(cat "$work/err")"
 ./build no_crate 2> "$work/err"
@@ -152,5 +122,4 @@ for word in "$(printf '\364\220\200\200')" "$(printf '\355\240\200')"; do
     must 'its error' 'error: arguments' "$(tail -n 1 "$work/err")"
     must 'its output' '' "$(cat "$work/out")"
 done
-echo "build: $tried trials, $wrong wrong"
-[ "$wrong" -eq 0 ]
+ends

@@ -1,40 +1,14 @@
 #!/bin/sh
 # Tries the C library over the proved archive: with gcc and clang, by the static and the shared
 # library, with sanitizers, under valgrind, as it is installed, and by libFuzzer for FUZZ_SECONDS
-# (60), beside a second build where `tools/archive fluent_uri_c` made one. A tool that is missing is
-# skipped with a word. It writes nothing into the tree but what rt keeps in out/.
-set -u
-root=$(cd "$(dirname "$0")/.." && pwd)
-crate=$root/crates/fluent_uri_c
-archive=$crate/out/libfluent_uri_c.a
-second=$crate/out/libfluent_uri_c.by-rattle.a
+# (60), beside a second build where `tools/archive fluent_uri_c` made one. It writes nothing into the
+# tree but what rt keeps in out/.
+. "$(dirname "$0")/lib.sh"
+second=$root/crates/fluent_uri_c/out/libfluent_uri_c.by-rattle.a
 seconds=${FUZZ_SECONDS:-60}
-work=$(mktemp -d) || exit 2
-trap 'rm -rf "$work"' EXIT
-trap 'exit 1' HUP INT TERM
 
-fail() {
-    [ ! -f "$work/log" ] || tail -n 60 "$work/log"
-    echo "c: $1"
-    exit 1
-}
-
-# does WHAT COMMAND..: runs it, and prints what it says only where it fails.
-does() {
-    what=$1
-    shift
-    "$@" > "$work/log" 2>&1 || fail "$what"
-}
-
-has() {
-    command -v "$1" > /dev/null && return 0
-    echo "c: skipped: there is no $1 to $2"
-    return 1
-}
-
-[ -f "$archive" ] || (cd "$crate" && rt lib --jobs 1) > "$work/log" 2>&1 ||
-    fail 'the archive could not be built'
-has cc 'build the library' || exit 0
+has cc 'the library' || exit 0
+need_archive
 
 build() {
     out=$1
@@ -50,7 +24,7 @@ readelf -n "$work/gcc/libfluent_uri_c.so" 2> "$work/log" | grep -q 'x86-64-v2' |
 
 # On a processor without x86-64-v2 a line says so, and no signal: by the loader, or by the library
 # where no loader looks.
-if has qemu-x86_64 'run on an older processor'; then
+if has qemu-x86_64 'an older processor'; then
     cat > "$work/main.c" <<'C'
 #include <fluent_uri.h>
 int main(void) { return (int)fluent_uri_version() == 0; }
@@ -72,7 +46,7 @@ fi
 
 # What is installed is found by pkg-config, and runs.
 does 'it cannot be installed' build gcc CC=cc PREFIX=/usr DESTDIR="$work/stage" install
-if has pkg-config 'try what is installed'; then
+if has pkg-config 'what is installed'; then
     flags=$(PKG_CONFIG_PATH="$work/stage/usr/lib/pkgconfig" PKG_CONFIG_SYSROOT_DIR="$work/stage" \
         pkg-config --cflags --libs fluent_uri_c) || fail 'pkg-config does not find it'
     # shellcheck disable=SC2086 # (words)
@@ -95,7 +69,7 @@ if has pkg-config 'try what is installed'; then
     does 'the programs of docs/C.md print other words' cmp "$work/wanted" "$work/printed"
 fi
 
-if has valgrind 'watch memory'; then
+if has valgrind 'memory'; then
     for it in borders calls columns hosts; do
         does "valgrind: $it" valgrind -q --error-exitcode=1 --leak-check=full "$work/gcc/$it.static"
     done
@@ -118,10 +92,10 @@ if echo 'int main(void) { return 0; }' | cc $sanitized -x c - -o "$work/none" 2>
         -o "$work/cplusplus"
     does 'sanitizers of c++' "$work/cplusplus"
 else
-    echo 'c: skipped: cc has no sanitizers'
+    skip 'what is written by hand' 'cc has no sanitizers'
 fi
 
-if has clang 'try a second compiler and the sanitizers'; then
+if has clang 'a second compiler'; then
     does 'clang: the tests fail' build clang CC=clang CXX=clang++ check
     flags=$sanitized
     for it in borders calls columns hosts orders threads rows; do
@@ -145,7 +119,7 @@ if has clang 'try a second compiler and the sanitizers'; then
             fuzzed="-DSECOND_BUILD $fuzzed $work/second.o"
             builds='two builds'
         else
-            echo 'c: skipped: no second build is as new as the archive (tools/archive makes both)'
+            skip 'a second build' 'none is as new as the archive (tools/archive makes both)'
         fi
         # shellcheck disable=SC2086 # (words)
         does 'the fuzz target cannot be built' clang -std=c99 -O1 -g -DLIBFUZZER \
@@ -159,7 +133,7 @@ if has clang 'try a second compiler and the sanitizers'; then
         count=$(sed -n 's/^stat::number_of_executed_units: *//p' "$work/log")
         echo "c: fuzzed $builds with $count texts in $seconds s"
     else
-        echo 'c: skipped: clang has no libFuzzer'
+        skip fuzzing 'clang has no libFuzzer'
     fi
 fi
 echo 'c: passed'

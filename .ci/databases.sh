@@ -2,41 +2,16 @@
 # Tries the extensions of SQLite and PostgreSQL over the proved archive (docs/DATABASES.md): what
 # statements write, random texts against the library, denied memory, concurrent writers, sanitizers
 # and valgrind, and one table over three servers. It installs nothing, and writes nothing into the
-# tree but what rt keeps in out/. What is missing is skipped with a word.
+# tree but what rt keeps in out/.
 #
 # FUZZ_ROWS (100000) says how many random texts are tried, SERVER_ROWS (100000) how many URLs the
 # three servers get, and FLUENT_URI_ARCHIVE names an archive in place of the proved one.
-set -u
-root=$(cd "$(dirname "$0")/.." && pwd)
-archive=${FLUENT_URI_ARCHIVE:-$root/crates/fluent_uri_c/out/libfluent_uri_c.a}
+. "$(dirname "$0")/lib.sh"
 rows=${FUZZ_ROWS:-100000}
-work=$(mktemp -d) || exit 2
-trap 'rm -rf "$work"' EXIT
-trap 'exit 1' HUP INT TERM
-
-fail() {
-    [ ! -f "$work/log" ] || tail -n 60 "$work/log"
-    echo "databases: $1"
-    exit 1
-}
-
-# does WHAT COMMAND..: runs it, and prints what it says only where it fails.
-does() {
-    what=$1
-    shift
-    "$@" > "$work/log" 2>&1 || fail "$what"
-}
-
-has() {
-    command -v "$1" > /dev/null && return 0
-    echo "databases: skipped: there is no $1 to $2"
-    return 1
-}
-
-# has_header NAME WHY
+# has_header NAME WHAT
 has_header() {
     printf '#include <%s>\n' "$1" | cc -E - > "$work/none" 2>&1 && return 0
-    echo "databases: skipped: there is no $1 to $2"
+    skip "$2" "there is no $1"
     return 1
 }
 
@@ -47,9 +22,9 @@ exports() {
     rm -f "$work/log"
 }
 
-has cc 'build the extensions' || exit 0
-[ -f "$archive" ] || (cd "$root/crates/fluent_uri_c" && rt lib --jobs 1) > "$work/log" 2>&1 ||
-    fail 'the archive could not be built'
+has cc 'the extensions' || exit 0
+archive=${FLUENT_URI_ARCHIVE-}
+[ -n "$archive" ] || need_archive
 does 'the library cannot be built' make -s -C "$root/c" OUT="$work/c" ARCHIVE="$archive" \
     "$work/c/libfluent_uri_c.a"
 LIBRARY=$work/c/libfluent_uri_c.a
@@ -71,7 +46,7 @@ crates/fluent_uri_c and FLUENT_URI_NORMAL_VERSION of the header, and write the \
 number and these digests there: ${now#* }"
 }
 
-if has sqlite3 'try its extension' && has_header sqlite3.h 'build the extension of SQLite'; then
+if has sqlite3 'the extension of SQLite' && has_header sqlite3.h 'the extension of SQLite'; then
     sqlite() {
         make -s -C "$root/sqlite" CC=cc OUT="$work/sqlite" "$@"
     }
@@ -81,25 +56,26 @@ if has sqlite3 'try its extension' && has_header sqlite3.h 'build the extension 
     does 'sqlite: it cannot be installed' sqlite PREFIX=/usr DESTDIR="$work/stage" install
     does 'sqlite: the statements of docs/DATABASES.md' "$root/databases/statements" \
         'Statements for SQLite' sqlite3 -batch -cmd ".load $work/sqlite/fluent_uri" :memory:
-    if has valgrind 'watch the memory of SQLite'; then
+    if has valgrind 'the memory of SQLite'; then
         does 'sqlite: with sanitizers or valgrind' sqlite FUZZ_MORE=$((rows / 4)) check-more
     fi
 fi
 
 config=${PG_CONFIG:-pg_config}
-if ! has "$config" 'build the extension of PostgreSQL'; then
+of_postgres='the extension of PostgreSQL'
+if ! has "$config" "$of_postgres"; then
     :
 elif [ ! -f "$("$config" --includedir-server)/postgres.h" ]; then
-    echo 'databases: skipped: there are no headers of a PostgreSQL server'
+    skip "$of_postgres" 'there are no headers of a server'
 elif [ ! -x "$("$config" --bindir)/initdb" ]; then
-    echo 'databases: skipped: there is no PostgreSQL server'
+    skip "$of_postgres" 'there is no server'
 elif [ "$(id -u)" = 0 ] && ! id postgres > "$work/none" 2>&1; then
-    echo 'databases: skipped: PostgreSQL does not run as root, and there is no user postgres'
+    skip "$of_postgres" 'it does not run as root, and there is no user postgres'
 else
     does 'postgres: a test fails' env FUZZ_ROWS="$rows" ROUNDS=500 PORT=$((20000 + $$ % 20000)) \
         "$root/postgres/tests/run"
     sed -n '/^\(fuzz\|sessions\)/s/^/databases: postgres: /p' "$work/log"
-    if has python3 'write the URLs of three servers'; then
+    if has python3 'three servers'; then
         does 'postgres: three servers' env PORT=$((20000 + $$ % 20000)) \
             "$root/postgres/tests/servers" "${SERVER_ROWS:-100000}"
         sed -n 's/^servers/databases: postgres/p' "$work/log"

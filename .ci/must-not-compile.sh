@@ -2,11 +2,8 @@
 # Each file of must-not-compile/ is the source of a crate over fluent_uri that the check must
 # reject. Its first line, `expect: NAME`, names the error. Nothing is proved here: the errors are
 # those of types and borrows.
-set -eu
-root=$(cd "$(dirname "$0")/.." && pwd)
-work=$(mktemp -d)
-trap 'rm -rf "$work"' EXIT
-trap 'exit 1' HUP INT TERM
+. "$(dirname "$0")/lib.sh"
+set -e
 
 tar -C "$root" --exclude=out -cf - crates crates.txt HANDLES | tar -C "$work" -xf -
 echo 'refused: fluent_uri' >> "$work/crates.txt"

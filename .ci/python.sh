@@ -1,40 +1,18 @@
 #!/bin/sh
 # Tests the Python package over the shared library: with the compiled module and by ctypes, with
 # sanitizers, by a Python that counts references, then the wheel, and the commands that install the
-# package. It writes nothing into the tree but what make and rt keep in out/. A test whose program
-# is missing is skipped, and a line says so. FLUENT_URI_LIBRARY names a shared library to test with, in
-# place of the one that is built of the proved archive, and PYTHON_DEBUG the Python that counts
-# references, if it is not python3-dbg. GENERATED_SECONDS (6) says how long generated calls are
-# compared, and GENERATED_SEED (1) which.
-set -u
-root=$(cd "$(dirname "$0")/.." && pwd)
+# package. It writes nothing into the tree but what make and rt keep in out/. FLUENT_URI_LIBRARY
+# names a shared library to test with, in place of the one that is built of the proved archive, and
+# PYTHON_DEBUG the Python that counts references, if it is not python3-dbg. GENERATED_SECONDS (6)
+# says how long generated calls are compared, and GENERATED_SEED (1) which.
+. "$(dirname "$0")/lib.sh"
 python=${PYTHON:-python3}
 if ! "$python" -c 'import sys; sys.exit(sys.version_info < (3, 8))' 2> /dev/null; then
-    echo 'python: skipped: there is no Python from 3.8 on'
+    skip 'the package' 'there is no Python from 3.8 on'
     exit 0
 fi
-work=$(mktemp -d) || exit 2
-trap 'rm -rf "$work"' EXIT
-trap 'exit 1' HUP INT TERM
-
-fail() {
-    [ ! -f "$work/log" ] || tail -n 60 "$work/log"
-    echo "python: $1"
-    exit 1
-}
-
-library=${FLUENT_URI_LIBRARY-} archive=
-if [ -z "$library" ]; then
-    crate=$root/crates/fluent_uri_c
-    archive=$crate/out/libfluent_uri_c.a
-    [ -f "$archive" ] || (cd "$crate" && rt lib --jobs 1) > "$work/log" 2>&1 ||
-        fail 'the archive could not be built'
-    make -s -C "$root/c" OUT="$work/c" ARCHIVE="$archive" all > "$work/log" 2>&1 ||
-        fail 'the shared library could not be built'
-    library=$(readlink -f "$work/c/libfluent_uri_c.so.0") || fail 'there is no shared library'
-fi
+need_library
 export PYTHONDONTWRITEBYTECODE=1
-unset FLUENT_URI_LIBRARY FLUENT_URI_CTYPES
 
 # tests PYTHON FOLDER WANTED [MODULE..]: runs these tests, or all, with the package in the folder.
 # WANTED says whether the compiled module must make the calls.
@@ -81,12 +59,12 @@ if "$python" "$root/python/build-compiled" "$work/site/fluent_uri" > "$work/log"
         tests "$work/sanitized-python" "$work/sanitized" True $border test_imports test_threads \
             test_generated
     else
-        echo "python: skipped: ${CC:-cc} has no sanitizers"
+        skip 'the module with sanitizers' "${CC:-cc} has none"
     fi
 
     debug=${PYTHON_DEBUG:-python3-dbg}
-    if ! command -v "$debug" > /dev/null; then
-        echo "python: skipped: there is no $debug to count references"
+    if ! has "$debug" 'references that are counted'; then
+        :
     elif ! "$debug" -c 'import sys; sys.gettotalrefcount()' > "$work/log" 2>&1; then
         fail "$debug counts no references"
     else
@@ -99,7 +77,7 @@ if "$python" "$root/python/build-compiled" "$work/site/fluent_uri" > "$work/log"
     fi
 else
     grep -q 'not built: there is no' "$work/log" || fail 'the compiled module could not be built'
-    sed 's/^build-compiled: /python: the compiled module is /' "$work/log"
+    skip 'the compiled module' "$(sed 's/^build-compiled: //' "$work/log")"
 fi
 
 for it in one other; do
@@ -118,6 +96,6 @@ assert str(Uri.parse("A:%7e").normalize()) == batch.normalize(["A:%7e"])[0] == "
 if [ -n "$archive" ]; then
     sh "$root/.ci/python_install.sh" "$archive" || exit 1
 else
-    echo 'python: skipped: a library that is given is not installed as the page has it'
+    skip 'the package as it is installed' 'a library is given'
 fi
 echo 'python: ok'

@@ -7,28 +7,16 @@
 #
 # With an archive of the proved library, as the gate has one, `./build` is left out and `make` takes
 # that archive.
-set -u
-root=$(cd "$(dirname "$0")/.." && pwd)
-for it in rt cc; do
-    command -v $it > /dev/null || { echo "python install: skipped: there is no $it"; exit 0; }
-done
+. "$(dirname "$0")/lib.sh"
+has rt 'the commands of the page' && has cc 'the compiled module' || exit 0
 if ! python3 -c 'import ensurepip, venv' 2> /dev/null; then
-    echo 'python install: skipped: python3 has no venv (Debian: python3-venv)'
+    skip 'the commands of the page' 'python3 has no venv (Debian: python3-venv)'
     exit 0
 fi
 [ $# -eq 0 ] || ARCHIVE=$(readlink -f "$1") || exit 2
 [ $# -eq 0 ] || export ARCHIVE
 cd "$root" || exit 2
-work=$(mktemp -d) || exit 2
-trap 'rm -rf "$work"' EXIT
-trap 'exit 1' HUP INT TERM
 unset FLUENT_URI_LIBRARY FLUENT_URI_CTYPES PYTHONPATH PYTHONDONTWRITEBYTECODE
-
-fail() {
-    [ ! -f "$work/log" ] || tail -n 40 "$work/log"
-    echo "python install: $1"
-    exit 1
-}
 
 # What git does not keep, and does not ignore.
 beside() {
@@ -50,11 +38,11 @@ assert fluent_uri.__file__.startswith(__import__("sys").prefix)
 assert str(Uri.parse("A:%7e").normalize()) == batch.normalize(["A:%7e"])[0] == "a:~"
 print(fluent_uri.is_compiled)
 ') > "$work/log" 2>&1 || fail 'what is installed does not work'
-echo "python install: installed (compiled: $(cat "$work/log"))"
+echo "python_install: installed (compiled: $(cat "$work/log"))"
 
 FLUENT_URI_LIBRARY=/no/such "$installed" -m pip install --force-reinstall ./python \
     > "$work/log" 2>&1 && fail 'pip installs the package without the shared library'
 grep -q 'fluent_uri: there is no shared library /no/such: build it by' "$work/log" ||
     fail 'pip does not say that the shared library is missing'
 [ "$(beside)" = "$before" ] || fail "left beside the sources: $(beside)"
-echo 'python install: ok'
+echo 'python_install: ok'

@@ -1,13 +1,9 @@
 #!/bin/sh
 # Tries ./test on a copy of the tree, with a command `rt` that compiles nothing: it prints what rt
 # prints, for as many tests as there are. What is wrong is said by environment variables.
-set -u
-root=$(cd "$(dirname "$0")/.." && pwd)
-work=$(mktemp -d)
-trap 'rm -rf "$work"' EXIT
-trap 'exit 1' HUP INT TERM
+. "$(dirname "$0")/lib.sh"
 tree=$work/tree
-mkdir "$tree" "$work/bin" "$work/tools" "$work/tmp"
+mkdir "$tree" "$work/bin" "$work/tmp"
 tar -C "$root" --exclude=out --exclude=.git -cf - . | tar -C "$tree" -xf -
 # These have trials of their own, or take long.
 for it in tools/mutants tools/lemmas .ci/build.sh .ci/python.sh; do
@@ -72,23 +68,9 @@ esac
 RT
 printf '#!/bin/sh\necho made "$@"\n' > "$work/bin/make"
 chmod +x "$work/bin/rt" "$work/bin/make"
-# All that the command needs but rt, for a PATH without it.
-for it in sh env readlink grep head dirname; do
-    ln -s "$(command -v "$it")" "$work/tools/$it"
-done
-ln -s "$(python3 -c 'import sys; print(sys.executable)')" "$work/tools/python3"
+without_rt
 KIT=$kit ROOT=$root WORK=$work TMPDIR=$work/tmp PATH=$work/bin:$PATH
 export KIT ROOT WORK TMPDIR PATH
-tried=0 wrong=0
-
-# must NAME WANTED FOUND
-must() {
-    tried=$((tried + 1))
-    [ "$2" = "$3" ] && return
-    wrong=$((wrong + 1))
-    printf 'test: %s: %s, and not %s\n' "$1" "$3" "$2"
-}
-
 # does STATUS LAST-LINE WORDS..: runs ./test, and compares its status and its last line
 does() {
     status=$1 last=$2
@@ -177,7 +159,7 @@ refuses 'crates.txt has no ipv6; a word of rows stands alone' uritool ipv6
 refuses 'uri_pct has no tests of its own' uri_pct
 refuses 'nothing was run: C and Python, since the kit builds no library that is not proved: '`
     `'./build fluent_uri_c proves and builds it, and then ./test runs them' fluent_uri_c
-PATH=$work/tools ./test uritool > "$work/out" 2> "$work/err"
+PATH=$tools ./test uritool > "$work/out" 2> "$work/err"
 must 'the status without rt' 1 $?
 no_rt='rt is not on the PATH: add the folder bin of the Rattle kit (README.md, "Build and prove")'
 must 'the line without rt' "test: $no_rt" "$(cat "$work/err")"
@@ -199,19 +181,11 @@ touch crates/fluent_uri_c/src/lib.rt
 does 1 '' fluent_uri_c
 rm -r out
 
-SLOW=1 ./test conformance cli_tests > "$work/out" 2> "$work/err" &
-ran=$!
-for _ in 1 2 3 4 5 6 7 8 9 10; do
-    [ -s "$work/slow" ] && break
-    sleep 1
-done
-kill -TERM "$ran"
-wait "$ran"
-must 'the status of an interrupted run' 1 $?
+SLOW=1 interrupted ./test conformance cli_tests
+must 'the status of an interrupted run' 1 "$status"
 must 'its line' 'test: interrupted' "$(cat "$work/err")"
 must 'it prints no verdict' '' "$(cat "$work/out")"
 kill -0 "$(cat "$work/slow")" 2> /dev/null
 must 'rt ends with it' 1 $?
 must 'nothing of it is left' '' "$(ls "$work/tmp")"
-echo "test: $tried trials, $wrong wrong"
-[ "$wrong" -eq 0 ]
+ends

@@ -3,17 +3,13 @@
 # no contract says what `main` does with them. It takes the program that `rt ci` built, or another
 # that is named. Then it takes ./uritool of a copy of the tree: with that program in out/, and with
 # nothing built. There the program runs unproved, and prints the same after one line of its own.
-set -u
-root=$(cd "$(dirname "$0")/.." && pwd)
+. "$(dirname "$0")/lib.sh"
 built=${1:-$root/crates/uritool/out/uritool}
 at_once=${2:-4}
 usage='usage: uritool parse KIND TEXT | [--scheme-rules] normalize KIND TEXT | mend KIND TEXT | resolve uri|iri BASE REF | [--scheme-rules] links BASE REF...'
 notice='uritool: this run is checked and not yet proved; ./build proves and builds the program'
 opaque="refused when base has a rootless path and no authority, reference should either have scheme, be empty or start with '#'"
 bad=$(printf 'a\377')
-work=$(mktemp -d)
-trap 'rm -rf "$work"' EXIT
-trap 'exit 1' HUP INT TERM
 
 lines() {
     for line; do printf '%s\n' "$line"; done
@@ -129,15 +125,7 @@ FORMS
 [ -x "$built" ] || { echo "uritool: $built is not built"; exit 1; }
 : > "$work/wrong"
 try_all built "$(readlink -f "$built")"
-# A copy of the tree.
-mkdir "$work/tree"
-cp -R "$root/uritool" "$root/tools" "$root/README.md" "$root/crates.txt" "$work/tree"
-for crate in "$root"/crates/*/; do
-    mkdir -p "$work/tree/crates/$(basename "$crate")"
-    for part in src specs proofs; do
-        [ ! -d "$crate/$part" ] || cp -R "$crate/$part" "$work/tree/crates/$(basename "$crate")/$part"
-    done
-done
+copy_tree "$work/tree" src specs proofs
 mkdir "$work/tree/out"
 cp "$(readlink -f "$built")" "$work/tree/out/uritool"
 echo crates.txt > "$work/tree/out/uritool.stamp"

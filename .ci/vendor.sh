@@ -3,32 +3,10 @@
 # docs/CALLING.md into one: each must print what the page says.
 #
 # usage: .ci/vendor.sh [--copies], which leaves the programs out
-set -u
-root=$(cd "$(dirname "$0")/.." && pwd)
-work=$(mktemp -d)
-trap 'rm -rf "$work"' EXIT
-trap 'exit 1' HUP INT TERM
-tree=$work/tree
+. "$(dirname "$0")/lib.sh"
+copy_tree "$work/tree" src specs proofs
 own=$work/own
-mkdir -p "$tree/crates" "$own/crates/app/src"
-cp -R "$root/tools" "$root/CHANGELOG.md" "$root/crates.txt" "$root/LICENSE" "$tree"
-for crate in "$root"/crates/*/; do
-    name=$(basename "$crate")
-    mkdir "$tree/crates/$name"
-    for part in src specs proofs; do
-        [ ! -d "$crate$part" ] || cp -R "$crate$part" "$tree/crates/$name/$part"
-    done
-done
-tried=0 wrong=0
-
-# must NAME WANTED FOUND
-must() {
-    tried=$((tried + 1))
-    [ "$2" = "$3" ] && return
-    wrong=$((wrong + 1))
-    printf 'vendor: %s: %s, and not %s\n' "$1" "$3" "$2"
-}
-
+mkdir -p "$own/crates/app/src"
 # vendor ARGUMENT..: calls the script of the tree, and sets `status`
 vendor() {
     "$tree/tools/vendor" "$@" > "$work/out" 2> "$work/err"
@@ -143,5 +121,4 @@ if [ "${1-}" != --copies ]; then
     program README.md hosts
     program docs/CALLING.md link_report
 fi
-echo "vendor: $tried trials, $wrong wrong"
-[ "$wrong" -eq 0 ]
+ends
