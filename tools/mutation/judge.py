@@ -1,4 +1,8 @@
-"""A mutant as it is written in a file, and the check that has to reject it."""
+"""Tries mutants in checks of their functions, and holds each to the clauses that it names.
+
+A check says of each function by itself whether it is proved, and a caller rests on the contract
+alone. So one check tries mutants of different functions.
+"""
 import contextlib
 import os
 import pathlib
@@ -8,30 +12,12 @@ import signal
 import subprocess
 import tempfile
 
+from .mutant import ONLY_CLAUSE
 
-class Mutant:
-    def __init__(self, crate, path):
-        self.crate, self.name = crate, f"{crate.name}/{path.name}"
-        self.text = path.read_text(encoding="utf-8")
-        head = self.text.split("\n")
-        self.function = next((it[10:].strip() for it in head if it.startswith("function: ")), None)
-        self.is_told = bool(head[0].startswith("# ") and head[0][2:].strip())
-        self.file = next((it[6:].strip() for it in head if it.startswith("file: ")), "")
-        # Whether it has to be tried alone, how often it was tried, and whether it was rejected.
-        self.is_alone, self.tries, self.verdict, self.why = False, 0, None, ""
-
-    def end(self, is_rejected, why):
-        self.verdict, self.why = is_rejected, why
-
-    def again(self, is_alone):
-        """Has it tried once more, with other mutants at most twice."""
-        self.tries += 1
-        self.is_alone = is_alone or self.tries > 1
-
-    def line(self, folder):
-        """The line that its first pair changes. No mutant moves a line."""
-        old = next(it[5:] for it in self.text.split("\n") if it.startswith("old: "))
-        return pathlib.Path(folder, self.file).read_text(encoding="utf-8").partition(old)[0].count("\n") + 1
+NAME = r"`([^`]+)`"
+# What is said of an answer that names what the mutant took away: it tells nothing of the goal.
+TAKEN_AWAY = re.compile(r"has no field|is not in scope|has no `|was not admitted|was rejected")
+THROUGH_ANOTHER = re.compile(r"(it calls|it passes|a call of)\b.*not proved")
 
 
 class Room:
@@ -66,17 +52,9 @@ class Room:
         with self.written(texts):
             return self.rt.edited(mutant.text, str(self.sources))
 
-    def begin_with(self, seed):
-        """Takes what a check by `rt ci` keeps in a folder for as long as it needs it; answers whether it was there."""
-        try:
-            shutil.copytree(seed, self.kept)
-        except (OSError, shutil.Error):
-            shutil.rmtree(self.kept, ignore_errors=True)
-        return self.kept.exists()
-
     @contextlib.contextmanager
     def going_on(self):
-        """What is kept, where nothing is as yet, and else a copy: no check takes what a later one left."""
+        """What is kept, if nothing is yet, and else a copy: no check takes what a later one left."""
         if not self.kept.exists():
             yield self.kept
             return
@@ -85,7 +63,7 @@ class Room:
             yield f"{folder}/kept"
 
     def check(self, functions, texts):
-        """The lines that a check of these functions prints; the last begins `only=` where it read them all."""
+        """The lines that a check of these functions prints; the last begins `only=` if it read them all."""
         only = [word for it in sorted(functions) for word in ("--only", it)]
         words = ["check", *self.crate.words(["--jobs", "1", *only], keeps=False), "--incremental"]
         with self.written(texts):
@@ -110,13 +88,13 @@ class Room:
         return began.returncode, lines
 
     def unproved(self, functions):
-        """The first of these functions that is not proved as it stands, and what is said of it."""
+        """Why some of these functions are not proved as they are, or None."""
         lines = self.check(functions, {})
         for it in sorted(functions):
             head = f"fn {self.crate.name}::{it}: "
             said = next((line[len(head) :] for line in lines if line.startswith(head)), lines[-1])
             if said != "proved":
-                return f"{it} is not proved as it stands: {said}"
+                return f"{it} is not proved as it is: {said}"
         return None
 
 
@@ -125,7 +103,7 @@ def batches_of(room, mutants, most):
     left = sorted(mutants, key=lambda it: (it.tries, it.function))
     while left:
         batch, texts = next_batch(room, left, most)
-        left = [it for it in left if it.verdict is None and it not in batch]
+        left = [it for it in left if it.is_rejected is None and it not in batch]
         if batch:
             yield batch, texts
 
@@ -133,16 +111,16 @@ def batches_of(room, mutants, most):
 def next_batch(room, left, most):
     batch, texts = [], {}
     for it in left:
-        if len(batch) == most or it.is_alone and batch or it.function in (other.function for other in batch):
+        if len(batch) == most or batch and batch[0].is_alone:
+            break
+        if batch and it.is_alone or it.function in (other.function for other in batch):
             continue
         changed, why = room.applied(it, texts)
         if not why:
             texts.update(changed)
             batch.append(it)
         elif not texts:
-            it.end(False, f"BAD MUTANT: {why}")
-        if it.is_alone and batch:
-            break
+            it.end(False, f"cannot be applied: {why}")
     return batch, texts
 
 
@@ -160,12 +138,12 @@ class Judge:
                 self.read_verdict(it, lines, len(batch) == 1)
         elif len(batch) == 1:
             wrong = next((it for it in [*unread, *lines] if re.search(r"error|rattle:", it)), lines[-1])
-            batch[0].end(False, f"BAD MUTANT: the prover did not read it: {wrong}")
+            batch[0].end(False, f"the prover did not read it: {wrong}")
         else:
             self.set_apart(batch, lines)
 
     def set_apart(self, batch, lines):
-        """Has each mutant that lies nearest to a line that could not be read tried alone."""
+        """Has each mutant that is nearest to a line that could not be read tried alone."""
         found = False
         for line in lines:
             at = re.match(r"(?:\./)?(\S+?):(\d+):\d+: error", line)
@@ -180,30 +158,50 @@ class Judge:
         head = f"fn {self.crate.name}::{mutant.function}: "
         said = next((it[len(head) :] for it in lines if it.startswith(head)), "the check names no such function")
         is_rejected = re.match(r"not proved|no proof", said)
-        if is_rejected and self.is_for_itself(mutant, said, lines):
-            mutant.end(True, self.reason(mutant, said, lines))
+        goals = self.goals(mutant, lines)
+        wanted = {it.name for it in mutant.clauses}
+        if is_rejected and goals == wanted:
+            mutant.end(True, ", ".join(sorted(goals)))
         elif not is_alone:
-            mutant.again(not is_rejected)
-        elif is_rejected:
-            mutant.end(False, f"BAD MUTANT: rejected only through another function: {said}")
-        else:
+            mutant.again(True)
+        elif not is_rejected:
             mutant.end(False, f"NOT REJECTED: {said}")
+        elif not goals and THROUGH_ANOTHER.search(said):
+            mutant.end(False, f"rejected only through another function: {said}")
+        else:
+            found = ", ".join(sorted(goals)) or f"no goal of its own: {said}"
+            mutant.end(False, f"REJECTED ELSEWHERE: at {found}, and not at {', '.join(sorted(wanted))}")
 
-    def is_for_itself(self, mutant, said, lines):
-        """Whether a goal of the function's own is not proved, and it does not only call another that is not."""
-        is_through = re.search(r"(it calls|it passes|a call of)\b.*not proved", said)
-        return not is_through or said.startswith("no proof: expected") or bool(self.errors(mutant, lines))
+    def goals(self, mutant, lines):
+        """The goals of its function that a check says are not proved, each clause by its name."""
+        own = f"./proofs/{mutant.function.replace('::', '/')}/"
+        found, notes = set(), []
+        for it in messages_of(lines):
+            if it.startswith(own) and not TAKEN_AWAY.search(it):
+                found.update(re.findall(r"^\S+: error: `([^`]+)`:", it))
+            # (the notes on a function come before the line that says whether it is proved)
+            elif it.startswith(f"fn {self.crate.name}::{mutant.function}: "):
+                listed = re.search(r"`search` did not prove ((?:`[^`]+`(?:, | and )?)+)", it)
+                found.update(notes, re.findall(NAME, listed[1] if listed else ""))
+            if it.startswith("fn "):
+                notes = []
+            elif it.startswith("note: src/"):
+                notes += re.findall(r"\(`([^`]+)`\)", it)
+        return {clause_of(it) for it in found}
 
-    def errors(self, mutant, lines):
-        """What is said of the function's own proof file."""
-        folder = f"./proofs/{mutant.function.replace('::', '/')}/"
-        return [it[len(folder) :] for it in lines if it.startswith(folder) and ": error: " in it]
 
-    def reason(self, mutant, said, lines):
-        """The goal or the line of a proof file at which the function is rejected."""
-        errors = self.errors(mutant, lines)
-        names = r"has no field|is not in scope|has no `|was not admitted|was rejected"
-        goals = [it for it in errors if not re.search(names, it)]
-        if errors and not goals:
-            return f"(only since its proof file names what the mutant took away) {errors[0]}"
-        return goals[0] if goals else re.sub(r"^no proof: expected answers in \S+; ", "", said)
+def messages_of(lines):
+    """What a check says, each with the lines after it that belong to it."""
+    found = []
+    for line in lines:
+        if line.startswith("  ") and found:
+            found[-1] += line
+        else:
+            found.append(line)
+    return found
+
+
+def clause_of(goal):
+    """The clause that a goal of an `ensures` is of, or another goal as it is named."""
+    is_return = re.match(ONLY_CLAUSE + r"\b", goal)
+    return (goal.partition("-clause-")[2] or ONLY_CLAUSE) if is_return else goal
