@@ -1,14 +1,14 @@
-/* Denies one request for memory of the program that it is preloaded into: the one of the number in
-   DENY, counted from 1. Only requests that the program itself makes count, not those of the C
-   library within it. */
+/* Denies a program one request for memory, once it is preloaded: that of the number in DENY, counted
+   from 1, in a program of the name in DENY_IN. Requests that the C library makes do not count. */
 #define _GNU_SOURCE
 #include <dlfcn.h>
 #include <errno.h>
 #include <link.h>
 #include <stdlib.h>
+#include <string.h>
 
 static const char *begin, *end;
-static long left = -1;
+static long left;
 
 /* The first object is the program. */
 static int find_program(struct dl_phdr_info *info, size_t size, void *unused)
@@ -26,9 +26,10 @@ static int find_program(struct dl_phdr_info *info, size_t size, void *unused)
 
 __attribute__((constructor)) static void prepare(void)
 {
-    const char *number = getenv("DENY");
+    const char *number = getenv("DENY"), *name = getenv("DENY_IN");
     dl_iterate_phdr(find_program, NULL);
-    left = number ? atol(number) : 0;
+    if (number && name && !strcmp(name, program_invocation_short_name))
+        left = atol(number);
 }
 
 static int is_denied(const void *caller)
