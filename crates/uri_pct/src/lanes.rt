@@ -17,6 +17,12 @@ use std::simd::prelude::*;
 /// How many bytes are scanned at once.
 pub const LANES: usize = 16;
 
+/// Whether the target shuffles sixteen bytes by one instruction. If it does not, the functions that
+/// would shuffle take the path of a text below [`LANES`] bytes for every text.
+///
+/// Every proof holds for either value.
+pub const SWIZZLES: bool = true;
+
 /// Returns which of the sixteen bytes from `at` on equal this one: bit k is for the byte at
 /// `at + k`.
 #[inline(always)]
@@ -217,7 +223,7 @@ pub fn chars_end(low: u64, high: u64, bytes: &[u8], start: usize) -> usize
     ensures { IsLongestRun (is_char_byte (has_bit low high)) bytes.now start result }
 {
     let len = bytes.len();
-    if len < LANES {
+    if len < LANES || !SWIZZLES {
         return chars_end_by_byte(low, high, bytes, start);
     }
     let last = len - LANES;

@@ -4,7 +4,7 @@ ghost use Rattle.uri_pct.specs.Masks.{has_bit};
 
 /// Returns the two words of a set of ASCII, and two empty words for bytes past ASCII.
 #[inline]
-pub(crate) fn words(low: u64, high: u64) -> [u64; 4]
+pub(crate) const fn words(low: u64, high: u64) -> [u64; 4]
     ensures low { slice_index result 0 ≡ low }
     ensures high { slice_index result 1 ≡ high }
     ensures third { slice_index result 2 ≡ 0 }
@@ -15,7 +15,7 @@ pub(crate) fn words(low: u64, high: u64) -> [u64; 4]
 
 /// Returns whether the set of these words has the byte. The last two words, past ASCII, are empty.
 #[inline]
-pub(crate) fn holds(words: &[u64; 4], byte: u8) -> bool
+pub(crate) const fn holds(words: &[u64; 4], byte: u8) -> bool
     requires third { slice_index words.now 2 ≡ 0 }
     requires fourth { slice_index words.now 3 ≡ 0 }
     ensures { result ≡ has_bit (slice_index words.now 0) (slice_index words.now 1) byte }

@@ -11,7 +11,7 @@ ghost use Rattle.uri_pct.specs.Tables.{set_of as set_of_table};
 ghost use Rattle.uri_pct.specs.Tokens.{is_valid_for};
 
 use crate::encoded_runs::encoded_run_end;
-use crate::lanes::{LANES, chars_end, first_run_end, run_end};
+use crate::lanes::{LANES, SWIZZLES, chars_end, first_run_end, run_end};
 use crate::masks::has;
 use crate::table::Table;
 use crate::table::members::{run_end_by_members, run_end_by_words};
@@ -80,7 +80,7 @@ impl Table {
     {
         let (low, high) = self.masks();
         let bytes = text.as_bytes();
-        if bytes.len() >= LANES {
+        if bytes.len() >= LANES && SWIZZLES {
             run_end(low, high, bytes, start)
         } else if is_constant {
             run_end_by_members(low, high, bytes, start)
@@ -101,7 +101,7 @@ impl Table {
         ensures boundary { IsCharBoundary text.now result }
     {
         let bytes = text.as_bytes();
-        if start < 2 || bytes.len() < LANES + 2 {
+        if start < 2 || bytes.len() < LANES + 2 || !SWIZZLES {
             return start;
         }
         encoded_run_end(self, bytes, start)
@@ -172,7 +172,7 @@ impl Table {
             → valid_prefix (set_of self.now) (drop result text.now) ≡ 0 }
     {
         let bytes = text.as_bytes();
-        if bytes.len() < LANES {
+        if bytes.len() < LANES || !SWIZZLES {
             let i = self.pass_ascii(text, start, true);
             if i == bytes.len() || bytes[i] != b'%' || !self.allows_pct_encoded() {
                 return i;

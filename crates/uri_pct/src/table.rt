@@ -103,7 +103,7 @@ impl Table {
     /// Returns the union of two tables: of their characters, and of each flag.
     ///
     /// `ALPHA.or(&DIGIT)` allows `a` and `1`, and not `-`.
-    pub fn or(self, other: &Table) -> Table
+    pub const fn or(self, other: &Table) -> Table
         ensures { set_of result ≡ union (set_of self) (set_of other.now) }
     {
         Table {
@@ -118,7 +118,7 @@ impl Table {
     /// Returns what `self` allows and `other` does not, among the characters and the flags.
     ///
     /// `PATH.sub(&GEN_DELIMS)` allows `a` and not `/`.
-    pub fn sub(self, other: &Table) -> Table
+    pub const fn sub(self, other: &Table) -> Table
         ensures { set_of result ≡ difference (set_of self) (set_of other.now) }
     {
         Table {
@@ -133,7 +133,7 @@ impl Table {
     /// Returns the table with percent-encoded octets allowed.
     ///
     /// `DIGIT.or_pct_encoded()` allows the text `1%20`, and `DIGIT` does not.
-    pub fn or_pct_encoded(mut self) -> Table
+    pub const fn or_pct_encoded(mut self) -> Table
         ensures { set_of result ≡ record (set_of self) { pct_encoded = true } }
     {
         self.pct_encoded = true;
@@ -152,7 +152,7 @@ impl Table {
     /// Returns the table with the characters of `ucschar` (RFC 3987, section 2.2) allowed.
     ///
     /// `ALPHA.or_ucschar()` allows `é`, and `ALPHA` does not.
-    pub fn or_ucschar(mut self) -> Table
+    pub const fn or_ucschar(mut self) -> Table
         ensures { set_of result ≡ record (set_of self) { ucschar = true } }
     {
         self.ucschar = true;
@@ -162,7 +162,7 @@ impl Table {
     /// Returns the table with the characters of `iprivate` (RFC 3987, section 2.2) allowed.
     ///
     /// `ALPHA.or_iprivate()` allows U+E000, and `ALPHA` does not.
-    pub fn or_iprivate(mut self) -> Table
+    pub const fn or_iprivate(mut self) -> Table
         ensures { set_of result ≡ record (set_of self) { iprivate = true } }
     {
         self.iprivate = true;
@@ -183,14 +183,14 @@ impl Table {
     ///     None
     /// }
     /// ```
-    pub fn is_subset(&self, other: &Table) -> bool
+    pub const fn is_subset(&self, other: &Table) -> bool
         ensures { IsTrue result ↔ IsSubset (set_of self.now) (set_of other.now) }
     {
         self.sub(other).is_empty()
     }
 
     /// Returns whether there is no character and no flag.
-    fn is_empty(&self) -> bool
+    const fn is_empty(&self) -> bool
         ensures { IsTrue result ↔ (set_of self.now ≡ empty_set) }
     {
         (self.low | self.high == 0) & !(self.pct_encoded | self.ucschar | self.iprivate)
@@ -199,14 +199,14 @@ impl Table {
     /// Returns whether percent-encoded octets are allowed.
     ///
     /// `PATH` allows them, and `DIGIT` does not.
-    pub fn allows_pct_encoded(&self) -> bool
+    pub const fn allows_pct_encoded(&self) -> bool
         ensures { result ≡ (set_of self.now).pct_encoded }
     {
         self.pct_encoded
     }
 
     /// Returns whether the ASCII character of the code `byte` is allowed; from 128 on no byte is.
-    pub(crate) fn allows_ascii(&self, byte: u8) -> bool
+    pub(crate) const fn allows_ascii(&self, byte: u8) -> bool
         ensures value { result ≡ (set_of self.now).ascii byte }
         ensures ascii { IsTrue result → byte < 128 }
     {
@@ -242,7 +242,7 @@ impl Table {
 
     /// Returns the table of these parts.
     #[inline(always)]
-    pub(crate) fn of_parts(
+    pub(crate) const fn of_parts(
         low: u64,
         high: u64,
         pct_encoded: bool,
@@ -288,7 +288,7 @@ impl Table {
     /// Returns whether a character past ASCII is allowed, as one of `ucschar` or of `iprivate`.
     #[tactic(auto, unfolding(crate::specs::Sets::allows_past_ascii))]
     #[doc(hidden)]
-    pub fn allows_past_ascii(&self, ch: char) -> bool
+    pub const fn allows_past_ascii(&self, ch: char) -> bool
         ensures { result ≡ allows_past_ascii (set_of self.now) ch }
     {
         (self.ucschar && is_ucschar(ch)) || (self.iprivate && is_iprivate(ch))
@@ -306,7 +306,7 @@ impl Table {
     /// }
     /// ```
     #[tactic(auto, using(std::proofs::lemmas::Bool::Decides::nat_tests))]
-    pub fn allows(&self, ch: char) -> bool
+    pub const fn allows(&self, ch: char) -> bool
         ensures { result ≡ allows (set_of self.now) ch }
     {
         if ch.is_ascii() {
@@ -342,7 +342,7 @@ fn are_unencoded_ascii(bytes: &[u8]) -> bool
 
 /// Returns whether a character is of the rule `ucschar` (RFC 3987, section 2.2).
 #[tactic(auto, using(crate::proofs::TableSets::Ranges::ucschar_ranges))]
-fn is_ucschar(ch: char) -> bool
+const fn is_ucschar(ch: char) -> bool
     ensures { result ≡ is_ucschar ch }
 {
     let code = ch as u32;
@@ -357,7 +357,7 @@ fn is_ucschar(ch: char) -> bool
 
 /// Returns whether a character is of the rule `iprivate` (RFC 3987, section 2.2).
 #[tactic(auto, using(crate::proofs::TableSets::Ranges::iprivate_ranges))]
-fn is_iprivate(ch: char) -> bool
+const fn is_iprivate(ch: char) -> bool
     ensures { result ≡ is_iprivate ch }
 {
     matches!(ch as u32, 0xE000..=0xF8FF | 0xF0000..=0xFFFFD | 0x100000..=0x10FFFD)

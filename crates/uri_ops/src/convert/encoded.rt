@@ -14,7 +14,7 @@ use crate::traits::RiMaybeRef;
 use std::alloc::{AllocError, Global};
 use uri_parts::packed_positions::PackedPositions;
 use uri_parts::positions::{AuthorityPositions, Positions};
-use uri_pct::lanes::{LANES, ascii_end};
+use uri_pct::lanes::{LANES, SWIZZLES, ascii_end};
 use uri_pct::octet::pct_encoded;
 
 /// Returns how many bytes of an IRI are before its first one past ASCII, or before its end.
@@ -24,7 +24,7 @@ fn ascii_prefix_len(bytes: &[u8]) -> usize
     ensures unchanged { encode_past_ascii (take result bytes.now) ≡ take result bytes.now }
     ensures stops { result < length bytes.now → 128 ≤ slice_index bytes.now result }
 {
-    if bytes.len() >= LANES {
+    if bytes.len() >= LANES && SWIZZLES {
         return ascii_end(bytes, 0);
     }
     let mut i = 0;

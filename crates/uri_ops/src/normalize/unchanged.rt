@@ -27,7 +27,7 @@ use uri_parts::component::Authority;
 use uri_parts::core_text::Core;
 use uri_parts::kind::Kind;
 use uri_pct::encoder::Encoder;
-use uri_pct::lanes::{LANES, run_end};
+use uri_pct::lanes::{LANES, SWIZZLES, run_end};
 
 /// Returns whether no component of the kind may have characters past ASCII, as of URIs.
 #[inline(always)]
@@ -110,7 +110,7 @@ fn is_prefix_settled(bytes: &[u8], end: usize) -> bool
     ensures literal { result ≡ true → (k : ℕ) → k < end
         → is_literal_byte (slice_index bytes.now k) ≡ true }
 {
-    if bytes.len() < LANES {
+    if bytes.len() < LANES || !SWIZZLES {
         return false;
     }
     let window = &bytes[..end.max(LANES)];

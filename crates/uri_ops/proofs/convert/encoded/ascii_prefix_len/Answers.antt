@@ -3,13 +3,13 @@ use Rattle.std.proofs.lemmas.Bool.{ltb-true, ltb-false}
 use Rattle.uri_ops.proofs.AsciiForms.EncodedRuns.{ascii-run-stays-when-encoded}
 use Rattle.uri_ops.proofs.convert.encoded.ascii_prefix_len.Goals as goal
 
-pub returns-then-bytes-ge-LANES-clause-inside : goal.returns-then-bytes-ge-LANES-clause-inside
-returns-then-bytes-ge-LANES-clause-inside c = c.ascii_end.ensures.within
+pub returns-then-this-clause-inside : goal.returns-then-this-clause-inside
+returns-then-this-clause-inside c = c.ascii_end.ensures.within
 
-pub returns-then-bytes-ge-LANES-clause-unchanged : goal.returns-then-bytes-ge-LANES-clause-unchanged
-returns-then-bytes-ge-LANES-clause-unchanged c =
+pub returns-then-this-clause-unchanged : goal.returns-then-this-clause-unchanged
+returns-then-this-clause-unchanged c =
     ascii-run-stays-when-encoded c.args.bytes.now c.ascii_end.result c.ascii_end.ensures.within
     (λ k h. ltb-true _ 128 (c.ascii_end.ensures.pass k (omega arith) h))
 
-pub returns-then-bytes-ge-LANES-clause-stops : goal.returns-then-bytes-ge-LANES-clause-stops
-returns-then-bytes-ge-LANES-clause-stops c = λ h. ltb-false _ 128 (c.ascii_end.ensures.stop h)
+pub returns-then-this-clause-stops : goal.returns-then-this-clause-stops
+returns-then-this-clause-stops c = λ h. ltb-false _ 128 (c.ascii_end.ensures.stop h)

@@ -23,13 +23,13 @@ run_is_scanned table low high ascii bytes text same utf8 start end here run =
     (subst (λ f. IsLongestRun f bytes start end) ascii run)) in
     (scanned.0, scanned.1)
 
-pub returns-then-bytes-ge-LANES-clause-total : goal.returns-then-bytes-ge-LANES-clause-total
-returns-then-bytes-ge-LANES-clause-total c =
+pub returns-then-this-clause-total : goal.returns-then-this-clause-total
+returns-then-this-clause-total c =
     (run_is_scanned c.args.self.now _ _ c.masks-low.ensures _ _ c.as_bytes-bytes.ensures.value
     c.utf8.text _ _ c.requires c.run_end.ensures).0
 
-pub returns-then-bytes-ge-LANES-clause-boundary : goal.returns-then-bytes-ge-LANES-clause-boundary
-returns-then-bytes-ge-LANES-clause-boundary c =
+pub returns-then-this-clause-boundary : goal.returns-then-this-clause-boundary
+returns-then-this-clause-boundary c =
     (run_is_scanned c.args.self.now _ _ c.masks-low.ensures _ _ c.as_bytes-bytes.ensures.value
     c.utf8.text _ _ c.requires c.run_end.ensures).1
 
