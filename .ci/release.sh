@@ -1,196 +1,17 @@
 #!/bin/sh
 # Tries tools/release on a copy of the tree that is a release, with a command `rt` that proves
-# nothing: its archive has the exports of the header, which do nothing, and its programs print what
-# lists their words. A tool that is missing is skipped with a word.
-set -u
-root=$(cd "$(dirname "$0")/.." && pwd)
-work=$(mktemp -d) || exit 2
-trap 'rm -rf "$work"' EXIT
-trap 'exit 1' HUP INT TERM
-tried=0 wrong=0
-
-# must NAME WANTED FOUND
-must() {
-    tried=$((tried + 1))
-    [ "$2" = "$3" ] && return
-    wrong=$((wrong + 1))
-    printf 'release: %s: %s, and not %s\n' "$1" "$3" "$2"
-}
-
-has() {
-    command -v "$1" > /dev/null && return 0
-    echo "release: skipped: there is no $1 to $2"
-    return 1
-}
-
-ends() {
-    echo "release: $tried trials, $wrong wrong"
-    [ "$wrong" = 0 ]
-    exit
-}
+# nothing (release_tree.sh).
+. "$(dirname "$0")/lib.sh"
 
 must 'the exports are those of the symbols file' '' "$("$root/debian/write-symbols" --check)"
-has cc 'make what stands for the programs' || ends
-
-# The copy, as a release has it.
-tree=$work/tree
-mkdir "$tree" "$work/bin" "$work/kit" "$work/kit/c" "$work/kit/bin"
-mkdir -p "$work/kit/rlibs/core.rlib/toolchain" "$work/kit/rlibs/letters.rlib/toolchain" \
-    "$work/kit/rattle/letters"
-tar -C "$root" --exclude=out --exclude=.git --exclude=mutants --exclude=proofs -cf - . |
-    tar -C "$tree" -xf -
-cd "$tree" || exit 2
-version=$(sed -n 's/^VERSION = //p' c/Makefile)
-sed -i "s/^## $version,.*/## $version, 2026-01-02/" CHANGELOG.md
-{
-    printf 'fluent-uri (%s) unstable; urgency=medium\n\n  * A trial.\n\n' "$version"
-    sed -n '/^ -- /{s/>.*/>  Fri, 02 Jan 2026 00:00:00 +0000/;p;q}' debian/changelog
-} > "$work/changelog"
-mv "$work/changelog" debian/changelog
-# (the exports that stand there pass no test)
-sed -i 's/^\t\$(MAKE_C) check/\ttrue/' debian/rules
-cat > tools/aarch64 <<'AARCH64'
-#!/bin/sh
-mkdir -p out/aarch64
-aarch64-linux-gnu-gcc -O2 -fPIC -w -Ic/include -c "$WORK/exports.c" -o "$WORK/exports.aarch64.o"
-aarch64-linux-gnu-ar rcsD out/aarch64/libfluent_uri_c.a "$WORK/exports.aarch64.o"
-# (as over libraries of `rt lib`)
-[ -d crates/uri_pct/out ] || more=' incremental=trusted'
-echo "logic=proved functions=3 target=aarch64-unknown-linux-gnu${more-}" \
-    > out/aarch64/libfluent_uri_c.verdict
-AARCH64
-
-cat > "$work/urilines.c" <<'C'
-#include <stdio.h>
-#include <string.h>
-#define OPTIONS "Options:\n" \
-    "      --field <N>       A field, from 1\n" \
-    "  -0, --null            Texts end with NUL\n" \
-    "      --errors <WHERE>  What happens: so [possible values: line, drop, stop]\n" \
-    "  -h, --help            Print help\n"
-int main(int count, char **words) {
-    if (count > 1 && !strcmp(words[1], "--help"))
-        puts("Reads\n\nUsage: urilines [OPTIONS] <COMMAND>\n\nCommands:\n"
-             "  normalize  Write the normal form of 'each' line\n"
-             "  check      Pass on the lines\n"
-             "  help       Print this message\n\n" OPTIONS "  -V, --version         Print version");
-    else if (count > 1)
-        printf("Writes\n\nUsage: urilines %s [OPTIONS] <KIND>\n\nArguments:\n"
-               "  <KIND>  What a line is [possible values: uri, uri-ref, iri, iri-ref]\n\n" OPTIONS
-               "%s", words[1], strcmp(words[1], "check") ? "" : "      --invert          Others\n");
-    return 0;
-}
-C
-cat > "$work/uritool.c" <<'C'
-#include <stdio.h>
-int main(void) {
-    fputs("usage: uritool parse KIND TEXT | resolve uri|iri BASE REF | links BASE REF...\n",
-          stderr);
-    return 2;
-}
-C
-{
-    echo '#include "fluent_uri.h"'
-    sed -n '/^uint32_t fluent_uri_/ { :a; /;/!{ N; ba; }; s/;/ { return 0; }/p; }' c/include/fluent_uri.h
-} > "$work/exports.c"
-for it in urilines uritool; do
-    cc -O2 "$work/$it.c" -o "$work/$it" || exit 2
-done
-cc -O2 -fPIC -w -Ic/include -c "$work/exports.c" -o "$work/exports.o" || exit 2
-echo 'int fluent_uri_heap_stands_here;' | cc -fPIC -x c -c - -o "$work/heap.o" || exit 2
-ar rcsD "$work/kit/c/liblibc_c.a" "$work/heap.o"
-# (a library of the kit that all are linked with, and what its files say)
-for it in core:letters letters:; do
-    echo "dep ${it#*:}" > "$work/kit/rlibs/${it%:*}.rlib/format"
-    : > "$work/kit/rlibs/${it%:*}.rlib/toolchain/checked.a"
-done
-printf 'Copyright (c) 2020 A. Writer\n\nPermission is hereby granted, free of charge, to any\n%s' \
-    'person obtaining a copy of this software' > "$work/kit/rattle/letters/LICENSE-MIT"
-echo 'Apache License' > "$work/kit/rattle/letters/LICENSE-APACHE"
-cat > "$work/bin/rt" <<'RT'
-#!/bin/sh
-crate=$(basename "$PWD")
-case $1 in
-version) echo "$IDENTITY" ;;
-doc) echo "$WORK/kit/START-HERE.md" ;;
-lib | run)
-    echo "$crate" >> "$WORK/proved"
-    echo 'crate loaded'
-    echo "$AXIOMS"
-    echo "logic=proved functions=${FUNCTIONS:-3} incremental=trusted"
-    mkdir -p out
-    [ "$crate" != fluent_uri_c ] || ar rcsD out/libfluent_uri_c.a "$WORK/exports.o"
-    [ "$1" = lib ] || {
-        cp "$WORK/$crate" "out/$crate"
-        echo "rt: running out/$crate; to give it other input, run that file yourself"
-    }
-    ;;
-esac
-RT
-chmod +x "$work/bin/rt"
-# (the folder of the copy's own that rt keeps its work in is in the file `stores`)
-cat > "$work/kit/bin/rt" <<'KIT'
-import os
-import subprocess
-STORE = WORK = "/that/others/share"
-def main(words):
-    here = os.environ["WORK"]
-    with open(f"{here}/stores", "a") as it:
-        print(STORE, WORK, file=it)
-    return subprocess.call([f"{here}/bin/rt", *words])
-KIT
-IDENTITY='rattle-kit-0 logic 0' WORK=$work PATH=$work/bin:$PATH
-AXIOMS='axioms libc: libc::heap::rattle_alloc (1 of the 3 declared)'
-export AXIOMS IDENTITY WORK PATH
-
-# What the shells offer after some words.
-tools/completions "$work/uritool" "$work/urilines" "$work/words" || exit 1
-if has bash 'try completions'; then
-    cat > "$work/offers" <<'BASH'
-. "$WORK/words/bash/$1" || exit 1
-COMP_WORDS=("$@") COMP_CWORD=$(($# - 1)) COMPREPLY=()
-"_$1"
-echo "${COMPREPLY[*]}"
-BASH
-    offers() {
-        must "bash: $2" "$1" "$(bash "$work/offers" $2 "$3")"
-    }
-    # shellcheck disable=SC2086 # (words)
-    offers 'normalize check help' urilines ''
-    offers 'uri uri-ref iri iri-ref' 'urilines --field 2 check' ''
-    offers 'uri-ref' 'urilines -0 normalize' uri-
-    offers 'drop' 'urilines --errors =' d
-    offers '--field -0 --null --errors -h --help --invert' 'urilines check' -
-    offers '' 'urilines check uri' ''
-    offers 'parse resolve links' uritool ''
-    offers 'uri iri' 'uritool resolve' ''
-    offers '' 'uritool links' ''
-fi
-if has fish 'try completions'; then
-    offers() {
-        must "fish: $2" "$1" "$(fish --no-config -c "source $work/words/fish/${2%% *}.fish
-            complete -C '$2'" | cut -f 1 | paste -sd ' ')"
-    }
-    offers 'check help normalize' 'urilines '
-    offers 'iri iri-ref uri uri-ref' 'urilines normalize '
-    offers '' 'urilines normalize uri '
-    offers '--invert' 'urilines check --inv'
-    offers '' 'urilines normalize --inv'
-    offers 'iri uri' 'uritool resolve '
-fi
-if has zsh 'read completions'; then
-    for it in "$work/words/zsh/"*; do
-        zsh -n "$it"
-        must "zsh reads $it" 0 $?
-    done
-fi
+. "$root/.ci/release_tree.sh"
 
 for it in git dpkg-buildpackage dh dh_python3 lintian aarch64-linux-gnu-gcc aarch64-linux-gnu-g++ \
     qemu-aarch64; do
-    has "$it" 'make packages' || ends
+    has "$it" packages || ends
 done
 dpkg-checkbuilddeps > "$work/out" 2>&1 || {
-    echo "release: skipped: no packages are made: $(cat "$work/out")"
+    skip packages "$(cat "$work/out")"
     ends
 }
 
@@ -385,42 +206,20 @@ import copy, json, sys
 from spdx import wrong
 with open(sys.argv[1]) as it:
     whole = json.load(it)
-def spoils(name, at):
-    """Whether it is found that this is wrong in a copy."""
-    spoilt = copy.deepcopy(whole)
-    at(spoilt)
-    wrong(spoilt) or print(name)
-for field in ("spdxVersion", "dataLicense", "SPDXID", "name", "documentNamespace", "creationInfo"):
-    spoils(f"no {field}", lambda it: it.pop(field))
-for top, fields in (("packages", ("SPDXID", "name", "downloadLocation")),
-                    ("files", ("SPDXID", "fileName", "checksums")),
-                    ("relationships", ("spdxElementId", "relationshipType", "relatedSpdxElement"))):
-    for field in fields:
-        spoils(f"no {field} in {top}", lambda it: it[top][0].pop(field))
-    spoils(f"another field in {top}", lambda it: it[top][0].update(other="a"))
-for path, value in (("documentNamespace", "a b"), ("documentNamespace", "urn:a#b"), ("other", "a"),
-                    ("creationInfo.created", "2026-13-01T00:00:00Z"),
-                    ("creationInfo.created", "2026-01-01"), ("creationInfo.creators", []),
-                    ("creationInfo.creators", ["somebody"]), ("packages.0.SPDXID", "SPDXRef-a_b"),
-                    ("packages.0.SPDXID", "SPDXRef-other"), ("packages.0.filesAnalyzed", "false"),
-                    ("packages.0.licenseDeclared", "MIT or Apache-2.0"),
+for path, value in (("name", None), ("other", "a"), ("creationInfo.created", "2026-13-01T00:00:00Z"),
+                    ("packages.0.SPDXID", "SPDXRef-other"),
                     ("packages.0.licenseDeclared", "MIT OR"),
-                    ("packages.0.licenseDeclared", "Expat"),
-                    ("packages.0.licenseDeclared", "(MIT"), ("packages.0.copyrightText", ""),
-                    ("packages.0.downloadLocation", "here"), ("files.0.fileName", "/usr/bin/a"),
-                    ("files.0.SPDXID", "SPDXRef-DOCUMENT"), ("files.0.checksums", []),
-                    ("files.0.checksums.0.algorithm", "SHA-1"),
+                    ("packages.0.licenseDeclared", "Expat"), ("packages.0.other", "a"),
                     ("files.0.checksums.0.checksumValue", "0"),
-                    ("files.0.checksums.0", {"algorithm": "SHA256", "checksumValue": "0" * 64}),
+                    ("files.0.SPDXID", "SPDXRef-DOCUMENT"),
                     ("relationships.0.relationshipType", "LINKS"),
-                    ("relationships.0.relationshipType", "DEPENDS_ON"),
-                    ("relationships.0.relatedSpdxElement", "SPDXRef-other")):
-    def put(it):
-        *above, last = [int(word) if word.isdigit() else word for word in path.split(".")]
-        for word in above:
-            it = it[word]
-        it[last] = value
-    spoils(f"{path}: {value}", put)
+                    ("relationships.0.relationshipType", "STATIC_LINK")):
+    spoilt = it = copy.deepcopy(whole)
+    *above, last = [int(word) if word.isdigit() else word for word in path.split(".")]
+    for word in above:
+        it = it[word]
+    it.update({last: value}) if value else it.pop(last)
+    wrong(spoilt) or print(path, value)
 ' "out/release/fluent-uri-$version.spdx.json")"
 must 'the target of arm64' 1 "$(grep -c 'logic=proved.* target=aarch64-unknown-linux-gnu' \
     "out/release/fluent-uri-$version-arm64.proved.txt")"

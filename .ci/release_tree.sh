@@ -1,0 +1,114 @@
+# What stands for a release in the scripts that read this file after lib.sh: a copy of the tree that
+# is one (`tree`), and a command `rt` that proves nothing. Its archive has the exports of the header,
+# which do nothing, and its programs print what lists their words.
+has cc 'what stands for the programs' || exit 0
+
+tree=$work/tree
+mkdir "$tree" "$work/bin" "$work/kit" "$work/kit/c" "$work/kit/bin"
+mkdir -p "$work/kit/rlibs/core.rlib/toolchain" "$work/kit/rlibs/letters.rlib/toolchain" \
+    "$work/kit/rattle/letters"
+tar -C "$root" --exclude=out --exclude=.git --exclude=mutants --exclude=proofs -cf - . |
+    tar -C "$tree" -xf -
+cd "$tree" || exit 2
+version=$(sed -n 's/^VERSION = //p' c/Makefile)
+sed -i "s/^## $version,.*/## $version, 2026-01-02/" CHANGELOG.md
+{
+    printf 'fluent-uri (%s) unstable; urgency=medium\n\n  * A trial.\n\n' "$version"
+    sed -n '/^ -- /{s/>.*/>  Fri, 02 Jan 2026 00:00:00 +0000/;p;q}' debian/changelog
+} > "$work/changelog"
+mv "$work/changelog" debian/changelog
+# (the exports that stand there pass no test)
+sed -i 's/^\t\$(MAKE_C) check/\ttrue/' debian/rules
+cat > tools/aarch64 <<'AARCH64'
+#!/bin/sh
+mkdir -p out/aarch64
+aarch64-linux-gnu-gcc -O2 -fPIC -w -Ic/include -c "$WORK/exports.c" -o "$WORK/exports.aarch64.o"
+aarch64-linux-gnu-ar rcsD out/aarch64/libfluent_uri_c.a "$WORK/exports.aarch64.o"
+# (as over libraries of `rt lib`)
+[ -d crates/uri_pct/out ] || more=' incremental=trusted'
+echo "logic=proved functions=3 target=aarch64-unknown-linux-gnu${more-}" \
+    > out/aarch64/libfluent_uri_c.verdict
+AARCH64
+
+cat > "$work/urilines.c" <<'C'
+#include <stdio.h>
+#include <string.h>
+#define OPTIONS "Options:\n" \
+    "      --field <N>       A field, from 1\n" \
+    "  -0, --null            Texts end with NUL\n" \
+    "      --errors <WHERE>  What happens: so [possible values: line, drop, stop]\n" \
+    "  -h, --help            Print help\n"
+int main(int count, char **words) {
+    if (count > 1 && !strcmp(words[1], "--help"))
+        puts("Reads\n\nUsage: urilines [OPTIONS] <COMMAND>\n\nCommands:\n"
+             "  normalize  Write the normal form of 'each' line\n"
+             "  check      Pass on the lines\n"
+             "  help       Print this message\n\n" OPTIONS "  -V, --version         Print version");
+    else if (count > 1)
+        printf("Writes\n\nUsage: urilines %s [OPTIONS] <KIND>\n\nArguments:\n"
+               "  <KIND>  What a line is [possible values: uri, uri-ref, iri, iri-ref]\n\n" OPTIONS
+               "%s", words[1], strcmp(words[1], "check") ? "" : "      --invert          Others\n");
+    return 0;
+}
+C
+cat > "$work/uritool.c" <<'C'
+#include <stdio.h>
+int main(void) {
+    fputs("usage: uritool parse KIND TEXT | resolve uri|iri BASE REF | links BASE REF...\n",
+          stderr);
+    return 2;
+}
+C
+{
+    echo '#include "fluent_uri.h"'
+    sed -n '/^uint32_t fluent_uri_/ { :a; /;/!{ N; ba; }; s/;/ { return 0; }/p; }' c/include/fluent_uri.h
+} > "$work/exports.c"
+for it in urilines uritool; do
+    cc -O2 "$work/$it.c" -o "$work/$it" || exit 2
+done
+cc -O2 -fPIC -w -Ic/include -c "$work/exports.c" -o "$work/exports.o" || exit 2
+echo 'int fluent_uri_heap_stands_here;' | cc -fPIC -x c -c - -o "$work/heap.o" || exit 2
+ar rcsD "$work/kit/c/liblibc_c.a" "$work/heap.o"
+# (a library of the kit that all are linked with, and what its files say)
+for it in core:letters letters:; do
+    echo "dep ${it#*:}" > "$work/kit/rlibs/${it%:*}.rlib/format"
+    : > "$work/kit/rlibs/${it%:*}.rlib/toolchain/checked.a"
+done
+printf 'Copyright (c) 2020 A. Writer\n\nPermission is hereby granted, free of charge, to any\n%s' \
+    'person obtaining a copy of this software' > "$work/kit/rattle/letters/LICENSE-MIT"
+echo 'Apache License' > "$work/kit/rattle/letters/LICENSE-APACHE"
+cat > "$work/bin/rt" <<'RT'
+#!/bin/sh
+crate=$(basename "$PWD")
+case $1 in
+version) echo "$IDENTITY" ;;
+doc) echo "$WORK/kit/START-HERE.md" ;;
+lib | run)
+    echo "$crate" >> "$WORK/proved"
+    echo 'crate loaded'
+    echo "$AXIOMS"
+    echo "logic=proved functions=${FUNCTIONS:-3} incremental=trusted"
+    mkdir -p out
+    [ "$crate" != fluent_uri_c ] || ar rcsD out/libfluent_uri_c.a "$WORK/exports.o"
+    [ "$1" = lib ] || {
+        cp "$WORK/$crate" "out/$crate"
+        echo "rt: running out/$crate; to give it other input, run that file yourself"
+    }
+    ;;
+esac
+RT
+chmod +x "$work/bin/rt"
+# (the folder of the copy's own that rt keeps its work in is in the file `stores`)
+cat > "$work/kit/bin/rt" <<'KIT'
+import os
+import subprocess
+STORE = WORK = "/that/others/share"
+def main(words):
+    here = os.environ["WORK"]
+    with open(f"{here}/stores", "a") as it:
+        print(STORE, WORK, file=it)
+    return subprocess.call([f"{here}/bin/rt", *words])
+KIT
+IDENTITY='rattle-kit-0 logic 0' WORK=$work PATH=$work/bin:$PATH
+AXIOMS='axioms libc: libc::heap::rattle_alloc (1 of the 3 declared)'
+export AXIOMS IDENTITY WORK PATH
