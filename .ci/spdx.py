@@ -6,11 +6,12 @@ identifier is given once and each relationship has both its ends, and the expres
 usage: .ci/spdx.py FILE..       (Debian: python3-jsonschema, python3-license-expression)
 """
 import json
+import re
 import sys
 from datetime import datetime
 
 from jsonschema import Draft7Validator, FormatChecker
-from license_expression import get_spdx_licensing
+from license_expression import ExpressionError, ExpressionParseError, Licensing
 
 TEXT = {"type": "string", "minLength": 1}
 IDENTITY = {"type": "string", "pattern": r"^SPDXRef-[a-zA-Z0-9.-]+$"}
@@ -21,12 +22,16 @@ LICENCE = {"type": "string", "format": "licence"}
 DIGITS = {"SHA1": 40, "SHA256": 64}
 RELATIONSHIPS = ["DESCRIBES", "BUILD_TOOL_OF", "DYNAMIC_LINK", "STATIC_LINK", "GENERATED_FROM",
                  "HAS_PREREQUISITE"]
-FORMATS = FormatChecker(formats=["date-time"])
+# Of the licences in SPDX's list, those of what is handed on, and what stands for none.
+LICENCES = Licensing(["Apache-2.0", "CC0-1.0", "LGPL-2.1-or-later", "MIT", "PostgreSQL",
+                      "Unicode-3.0", "blessing", "NOASSERTION", "NONE"])
+FORMATS = FormatChecker(formats=[])
 
 
-@FORMATS.checks("licence")
+@FORMATS.checks("licence", raises=(ExpressionError, ExpressionParseError))
 def is_licence(text):
-    return text in ("NOASSERTION", "NONE") or get_spdx_licensing().validate(text).errors == []
+    LICENCES.parse(text, validate=True, strict=True)
+    return text != "" and not re.search(r" (and|or|with) ", text)
 
 
 @FORMATS.checks("date-time", raises=ValueError)
