@@ -1,0 +1,127 @@
+"""The items of sources in Rattle, with their contracts and doc comments."""
+import pathlib
+import re
+from typing import NamedTuple
+
+ROOT = pathlib.Path(__file__).resolve().parent.parent
+ITEM = re.compile(
+    r"(?P<vis>pub )?(?P<final>final )?(?:const )?(?P<what>fn|struct|enum|trait|type|const|static) "
+    r"(?P<name>\w+)"
+)
+IMPL = re.compile(r"impl(?:<.*?>)? (?:(?P<trait>[\w:]+(?:<.*>)?) for )?(?P<type>\w+)")
+
+
+class Item(NamedTuple):
+    file: str
+    owner: str  # the type or trait that has it, or nothing
+    block: str  # the head of the impl that has it, or nothing
+    what: str
+    name: str
+    signature: str
+    contract: list  # its clauses, line by line
+    doc: list
+    is_hidden: bool
+
+
+def signature_of(lines, at):
+    """The item's head in one line, without its contract and its body."""
+    taken = []
+    for line in lines[at:]:
+        line = line.strip()
+        if re.match(r"(requires|ensures|ghost)\b", line) or line == "{":
+            break
+        taken.append(line)
+        if line.endswith((";", "{")) or line.endswith("}"):
+            break
+    text = re.sub(r"\s+", " ", " ".join(taken))
+    text = re.sub(r"\( ", "(", re.sub(r",? \)", ")", text))
+    text = re.sub(r" = [^;]*;$", ";", text) if " const " in f" {text}" and "fn " not in text else text
+    return text.rstrip(" {;,")
+
+
+def contract_of(lines, at):
+    """The clauses of the function whose head begins at a line, as deep as its head."""
+    indent = len(lines[at]) - len(lines[at].lstrip())
+    clauses = []
+    for line in lines[at:]:
+        word = line.strip()
+        is_clause = re.match(r"(requires|ensures)\b", word)
+        if word in ("{", "{}", ";") or not clauses and word.endswith(("{", ";")) and not is_clause:
+            break
+        if is_clause or clauses:
+            ends = word.endswith(";")
+            clauses.append(line[indent:].rstrip(";"))
+            if ends:
+                break
+    return clauses
+
+
+def doc_above(lines, at):
+    """The doc comment above a line, and whether it is hidden."""
+    doc, is_hidden = [], False
+    while at > 0 and lines[at - 1].strip().startswith(("///", "#[", "ghost use")):
+        at -= 1
+        line = lines[at].strip()
+        if line.startswith("///"):
+            doc.insert(0, line[4:])
+        is_hidden |= line == "#[doc(hidden)]"
+    return doc, is_hidden
+
+
+def items_of(path):
+    """Each item of a source file."""
+    lines = path.read_text(encoding="utf-8").splitlines()
+    owner, trait, block = "", None, ""
+    for at, line in enumerate(lines):
+        indent = len(line) - len(line.lstrip())
+        if indent == 0 and line and not line.startswith((" ", "/", "#", "}", ")", "where")):
+            owner, trait, block = "", None, ""
+            found = IMPL.match(line)
+            if found:
+                owner, trait, block = found["type"], found["trait"], line.rstrip(" {")
+                if trait:
+                    yield Item(file_of(path), owner, block, "impl", trait, line, [], [], False)
+        found = ITEM.match(line.strip())
+        if not found or indent not in (0, 4) or (indent == 4 and trait):
+            continue
+        what, name = found["what"], found["name"]
+        doc, is_hidden = doc_above(lines, at)
+        head = signature_of(lines, at)
+        clauses = contract_of(lines, at) if what == "fn" else []
+        if indent == 0 or what == "type" and not owner:
+            if found["vis"]:
+                yield Item(file_of(path), "", "", what, name, head, clauses, doc, is_hidden)
+                if what in ("trait", "enum", "struct"):
+                    owner = name
+        elif owner and (found["vis"] or is_in_trait(lines, at)):
+            yield Item(file_of(path), owner, block, what, name, head, clauses, doc, is_hidden)
+    yield from variants_of(path, lines)
+
+
+def variants_of(path, lines):
+    """Each variant of a public enum."""
+    owner = None
+    for at, line in enumerate(lines):
+        found = re.match(r"pub enum (\w+)", line)
+        if found:
+            owner = found[1]
+        elif line == "}":
+            owner = None
+        elif owner and re.match(r"    [A-Z]\w*", line):
+            name = re.match(r"    (\w+)", line)[1]
+            doc, is_hidden = doc_above(lines, at)
+            sign = line.strip().rstrip(",{ ")
+            yield Item(file_of(path), owner, "", "variant", name, sign, [], doc, is_hidden)
+
+
+def is_in_trait(lines, at):
+    """Whether the innermost block that begins at the margin is a trait."""
+    while at > 0:
+        at -= 1
+        if lines[at] and lines[at][0] not in " /#})":
+            return lines[at].startswith(("pub trait", "trait"))
+    return False
+
+
+def file_of(path):
+    return str(path.relative_to(ROOT))
