@@ -25,8 +25,12 @@ static void dump(size_t at, size_t size) { fwrite(room.bytes + at, 1, size, stdo
 /* The result that a call wrote, and what is after it. */
 static void out(void) {
     size_t length = ((fluent_uri_outcome *)P(OUTCOME))->length + 8;
-    dump(OUT, length < OUT_SIZE ? length : OUT_SIZE);
+    if (length > OUT_SIZE) length = OUT_SIZE;
+    dump(OUT, length);
+    memset(P(OUT), 0, length);
 }
+
+static void done(void) { memset(P(PARTS), 0, OUT - PARTS); }
 
 int main(void) {
     size_t line_length = 0;
@@ -48,7 +52,6 @@ int main(void) {
         for (uint32_t turn = 0; turn < 4; turn++) {
             uint32_t kind = number % 64 == 63 ? 4 : turn, option = (number + turn) % 9;
             uint32_t component = (number + turn) % 11, error = (number + turn) % 19;
-            memset(P(POSITION), 0, 8);
             int is_parsed = fluent_uri_parse(kind, line, line_length, P(PARSED)) == 0;
 #include "calls.h"
         }

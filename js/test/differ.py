@@ -55,8 +55,8 @@ def call(name, parameters, prefix):
     lines = [f"result({prefix}{name}({words}));"]
     lines += ["out();" if it == "OUT" else f"dump({it}, {SIZES[it]});" for it in made]
     if any(it == "parts" and kind.startswith("const ") for it, kind in parameters):
-        return f"if (is_parsed) {{ {' '.join(lines)} }}\n"
-    return " ".join(lines) + "\n"
+        return f"if (is_parsed) {{ {' '.join(lines)} }} done();\n"
+    return " ".join([*lines, "done();\n"])
 
 
 def lines(count, seed):
@@ -89,7 +89,7 @@ def main(folder, count, seed, core=""):
     names = ", ".join(re.findall(r"(\w+) =", places))
     (folder / "calls.mjs").write_text(
         f"const {places}, SEED = 7n;\nexport const places = {{ {names} }};\n"
-        "export const calls = (e, P, result, out, dump, of) => {\n"
+        "export const calls = (e, P, result, dump, out, done, of) => {\n"
         "const { kind, option, component, error, is_parsed } = of;\n"
         f"const {{ line_length, before_length, column_length }} = of;\n{written}}};\n",
         encoding="utf-8")
