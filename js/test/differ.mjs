@@ -8,9 +8,10 @@ const module = new WebAssembly.Module(readFileSync(file));
 const room = new Room(() => new WebAssembly.Instance(module), await read(calls));
 
 const said = Buffer.alloc(1 << 22);
-let length = 0;
+let length = 0, all = 0;
 const flush = () => {
   for (let from = 0; from < length;) from += writeSync(1, said, from, length - from);
+  all += length;
   length = 0;
 };
 const result = (it) => {
@@ -21,5 +22,7 @@ const dump = (at, size) => {
   said.set(room.bytes.subarray(at, at + size), length);
   length += size;
 };
-room.run(linesOf(readFileSync(0)), result, dump);
+const lines = linesOf(readFileSync(0));
+room.run(lines, result, dump);
 flush();
+console.error(`${all} bytes of ${lines.length} lines`);
