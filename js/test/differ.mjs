@@ -1,5 +1,5 @@
-// Makes the calls of calls.mjs of each line of standard input, over a WebAssembly module, and writes
-// all that each returns and changes. usage: node differ.mjs MODULE CALLS
+// Makes the calls of calls.mjs of each line of standard input, over a WebAssembly module, and
+// writes all that each returns and changes. usage: node differ.mjs MODULE CALLS
 import { readFileSync, writeSync } from 'node:fs';
 import { Room, linesOf, read } from './room.mjs';
 

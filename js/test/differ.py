@@ -1,5 +1,6 @@
 #!/usr/bin/env python3
-"""Writes what differ.c and differ.mjs share: the calls of each export, and the lines to make them of.
+"""Writes what differ.c and differ.mjs share: the calls of each export, and the lines that they are
+made of.
 
 usage: js/test/differ.py FOLDER HOW-MANY SEED [CORE]
 

@@ -1,5 +1,5 @@
-// Makes the calls where memory is used up: each gives what it gives elsewhere, or OUT_OF_MEMORY, and
-// keeps no memory. usage: node memory.mjs MODULE CALLS LINES
+// Makes the calls where memory is used up: each gives what it gives elsewhere, or OUT_OF_MEMORY,
+// and keeps no memory. usage: node memory.mjs MODULE CALLS LINES
 import assert from 'node:assert/strict';
 import { readFileSync } from 'node:fs';
 import { Room, linesOf, read } from './room.mjs';
@@ -55,4 +55,4 @@ for (let free = 0; free <= sizes.length; free++) {
 }
 for (const [it] of taken) room.exports.deallocate(it);
 assert.deepEqual(said(room), wanted, 'with memory again something else');
-console.log(`memory: ${wanted.length} calls, of which ${refused} lacked memory in ${sizes.length + 1} runs`);
+console.log(`memory: ${wanted.length} calls in ${sizes.length + 1} runs, ${refused} lacked memory`);

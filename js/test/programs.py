@@ -23,8 +23,9 @@ def main(page, kind, to):
     wanted = [it for it in blocks if ("require(" in it) == (kind == "cjs")]
     if not wanted:
         sys.exit(f"programs: {page} has no program as {kind}")
-    lines = [asserted(it) for block in wanted for it in ["{" * (kind == "cjs"), *block.splitlines(), "}" * (kind == "cjs")]]
-    text = "\n".join(lines)
+    # (each block has its own names)
+    text = "\n".join(f"{{\n{it}}}" for it in wanted)
+    text = "\n".join(map(asserted, text.splitlines()))
     if kind == "mjs":
         # (an import is at the top of a module, and once)
         heads = re.findall(r"(?m)^import .*$", text)

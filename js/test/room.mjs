@@ -51,7 +51,7 @@ export class Room {
     return this.exports.parse(kind, this.at + LINE, length, this.at + PARSED) === 0;
   }
 
-  /** Makes the calls of each line. `result` takes what a call returned, and `dump` what it wrote. */
+  /** Makes the calls of each line. `result` takes what one returned, and `dump` what it wrote. */
   run(lines, result, dump, calls = this.exports) {
     const { PARTS, OUTCOME, OUT, OUT_SIZE } = this.#places;
     const P = (offset) => this.at + offset;
@@ -67,8 +67,8 @@ export class Room {
       for (let turn = 0; turn < 4; turn++) {
         const kind = number % 64 === 63 ? 4 : turn, n = number + turn;
         this.#calls(calls, P, (it) => { this.look(); result(it); }, dump, out, done, {
-          kind, option: n % 9, component: n % 11, error: n % 19, is_parsed: this.isParsed(kind, line.length),
-          line_length: line.length, before_length: before.length,
+          kind, option: n % 9, component: n % 11, error: n % 19,
+          is_parsed: this.isParsed(kind, line.length), line_length: line.length, before_length: before.length,
           column_length: line.length + 1 + before.length,
         });
       }
