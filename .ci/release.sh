@@ -4,11 +4,169 @@
 . "$(dirname "$0")/lib.sh"
 
 must 'the exports are those of the symbols file' '' "$("$root/debian/write-symbols" --check)"
-. "$root/.ci/release_tree.sh"
+has cc 'make what stands for the programs' || ends
+
+# The copy, as a release has it.
+tree=$work/tree
+mkdir "$tree" "$work/bin" "$work/kit" "$work/kit/c" "$work/kit/bin"
+mkdir -p "$work/kit/rlibs/core.rlib/toolchain" "$work/kit/rlibs/letters.rlib/toolchain" \
+    "$work/kit/rattle/letters"
+tar -C "$root" --exclude=out --exclude=.git --exclude=mutants --exclude=proofs -cf - . |
+    tar -C "$tree" -xf -
+cd "$tree" || exit 2
+version=$(sed -n 's/^VERSION = //p' c/Makefile)
+sed -i "s/^## $version,.*/## $version, 2026-01-02/" CHANGELOG.md
+{
+    printf 'fluent-uri (%s) unstable; urgency=medium\n\n  * A trial.\n\n' "$version"
+    sed -n '/^ -- /{s/>.*/>  Fri, 02 Jan 2026 00:00:00 +0000/;p;q}' debian/changelog
+} > "$work/changelog"
+mv "$work/changelog" debian/changelog
+# (the exports that stand there pass no test)
+sed -i 's/^\t\$(MAKE_C) check/\ttrue/' debian/rules
+cat > tools/aarch64 <<'AARCH64'
+#!/bin/sh
+mkdir -p out/aarch64
+aarch64-linux-gnu-gcc -O2 -fPIC -w -Ic/include -c "$WORK/exports.c" -o "$WORK/exports.aarch64.o"
+aarch64-linux-gnu-ar rcsD out/aarch64/libfluent_uri_c.a "$WORK/exports.aarch64.o"
+# (as over libraries of `rt lib`)
+[ -d crates/uri_pct/out ] || more=' incremental=trusted'
+echo "logic=proved functions=3 target=aarch64-unknown-linux-gnu${more-}" \
+    > out/aarch64/libfluent_uri_c.verdict
+AARCH64
+cat > js/build/module <<'MODULE'
+#!/bin/sh
+mkdir -p js/wasm
+echo 'a module' | tee js/wasm/fluent_uri.wasm > js/wasm/fluent_uri_full.wasm
+MODULE
+
+cat > "$work/urilines.c" <<'C'
+#include <stdio.h>
+#include <string.h>
+#define OPTIONS "Options:\n" \
+    "      --field <N>       A field, from 1\n" \
+    "  -0, --null            Texts end with NUL\n" \
+    "      --errors <WHERE>  What happens: so [possible values: line, drop, stop]\n" \
+    "  -h, --help            Print help\n"
+int main(int count, char **words) {
+    if (count > 1 && !strcmp(words[1], "--help"))
+        puts("Reads\n\nUsage: urilines [OPTIONS] <COMMAND>\n\nCommands:\n"
+             "  normalize  Write the normal form of 'each' line\n"
+             "  check      Pass on the lines\n"
+             "  help       Print this message\n\n" OPTIONS "  -V, --version         Print version");
+    else if (count > 1)
+        printf("Writes\n\nUsage: urilines %s [OPTIONS] <KIND>\n\nArguments:\n"
+               "  <KIND>  What a line is [possible values: uri, uri-ref, iri, iri-ref]\n\n" OPTIONS
+               "%s", words[1], strcmp(words[1], "check") ? "" : "      --invert          Others\n");
+    return 0;
+}
+C
+cat > "$work/uritool.c" <<'C'
+#include <stdio.h>
+int main(void) {
+    fputs("usage: uritool parse KIND TEXT | resolve uri|iri BASE REF | links BASE REF...\n",
+          stderr);
+    return 2;
+}
+C
+{
+    echo '#include "fluent_uri.h"'
+    sed -n '/^uint32_t fluent_uri_/ { :a; /;/!{ N; ba; }; s/;/ { return 0; }/p; }' c/include/fluent_uri.h
+} > "$work/exports.c"
+for it in urilines uritool; do
+    cc -O2 "$work/$it.c" -o "$work/$it" || exit 2
+done
+cc -O2 -fPIC -w -Ic/include -c "$work/exports.c" -o "$work/exports.o" || exit 2
+echo 'int fluent_uri_heap_stands_here;' | cc -fPIC -x c -c - -o "$work/heap.o" || exit 2
+ar rcsD "$work/kit/c/liblibc_c.a" "$work/heap.o"
+# (a library of the kit that all are linked with, and what its files say)
+for it in core:letters letters:; do
+    echo "dep ${it#*:}" > "$work/kit/rlibs/${it%:*}.rlib/format"
+    : > "$work/kit/rlibs/${it%:*}.rlib/toolchain/checked.a"
+done
+printf 'Copyright (c) 2020 A. Writer\n\nPermission is hereby granted, free of charge, to any\n%s' \
+    'person obtaining a copy of this software' > "$work/kit/rattle/letters/LICENSE-MIT"
+echo 'Apache License' > "$work/kit/rattle/letters/LICENSE-APACHE"
+cat > "$work/bin/rt" <<'RT'
+#!/bin/sh
+crate=$(basename "$PWD")
+case $1 in
+version) echo "$IDENTITY" ;;
+doc) echo "$WORK/kit/START-HERE.md" ;;
+lib | run)
+    echo "$crate" >> "$WORK/proved"
+    echo 'crate loaded'
+    echo "$AXIOMS"
+    echo "logic=proved functions=${FUNCTIONS:-3} incremental=trusted"
+    mkdir -p out
+    [ "$crate" != fluent_uri_c ] || ar rcsD out/libfluent_uri_c.a "$WORK/exports.o"
+    [ "$1" = lib ] || {
+        cp "$WORK/$crate" "out/$crate"
+        echo "rt: running out/$crate; to give it other input, run that file yourself"
+    }
+    ;;
+esac
+RT
+chmod +x "$work/bin/rt"
+# (the folder of the copy's own that rt keeps its work in is in the file `stores`)
+cat > "$work/kit/bin/rt" <<'KIT'
+import os
+import subprocess
+STORE = WORK = "/that/others/share"
+def main(words):
+    here = os.environ["WORK"]
+    with open(f"{here}/stores", "a") as it:
+        print(STORE, WORK, file=it)
+    return subprocess.call([f"{here}/bin/rt", *words])
+KIT
+IDENTITY='rattle-kit-0 logic 0' WORK=$work PATH=$work/bin:$PATH
+AXIOMS='axioms libc: libc::heap::rattle_alloc (1 of the 3 declared)'
+export AXIOMS IDENTITY WORK PATH
+
+# What the shells offer after some words.
+tools/completions "$work/uritool" "$work/urilines" "$work/words" || exit 1
+if has bash 'try completions'; then
+    cat > "$work/offers" <<'BASH'
+. "$WORK/words/bash/$1" || exit 1
+COMP_WORDS=("$@") COMP_CWORD=$(($# - 1)) COMPREPLY=()
+"_$1"
+echo "${COMPREPLY[*]}"
+BASH
+    offers() {
+        must "bash: $2" "$1" "$(bash "$work/offers" $2 "$3")"
+    }
+    # shellcheck disable=SC2086 # (words)
+    offers 'normalize check help' urilines ''
+    offers 'uri uri-ref iri iri-ref' 'urilines --field 2 check' ''
+    offers 'uri-ref' 'urilines -0 normalize' uri-
+    offers 'drop' 'urilines --errors =' d
+    offers '--field -0 --null --errors -h --help --invert' 'urilines check' -
+    offers '' 'urilines check uri' ''
+    offers 'parse resolve links' uritool ''
+    offers 'uri iri' 'uritool resolve' ''
+    offers '' 'uritool links' ''
+fi
+if has fish 'try completions'; then
+    offers() {
+        must "fish: $2" "$1" "$(fish --no-config -c "source $work/words/fish/${2%% *}.fish
+            complete -C '$2'" | cut -f 1 | paste -sd ' ')"
+    }
+    offers 'check help normalize' 'urilines '
+    offers 'iri iri-ref uri uri-ref' 'urilines normalize '
+    offers '' 'urilines normalize uri '
+    offers '--invert' 'urilines check --inv'
+    offers '' 'urilines normalize --inv'
+    offers 'iri uri' 'uritool resolve '
+fi
+if has zsh 'read completions'; then
+    for it in "$work/words/zsh/"*; do
+        zsh -n "$it"
+        must "zsh reads $it" 0 $?
+    done
+fi
 
 for it in git dpkg-buildpackage dh dh_python3 lintian aarch64-linux-gnu-gcc aarch64-linux-gnu-g++ \
-    qemu-aarch64; do
-    has "$it" packages || ends
+    qemu-aarch64 node wasm2wat; do
+    has "$it" 'make packages' || ends
 done
 dpkg-checkbuilddeps > "$work/out" 2>&1 || {
     skip packages "$(cat "$work/out")"
@@ -159,6 +317,7 @@ fluent-uri-$version-arm64.spdx.json
 fluent-uri-$version-source.tar.gz
 fluent-uri-$version.proved.txt
 fluent-uri-$version.spdx.json
+fluent-uri-$version.tgz
 fluent-uri-tools_${version}_amd64.deb
 fluent_uri-$version-py3-none-PLATFORM.whl
 fluent_uri-$version.tar.gz
@@ -280,7 +439,7 @@ must 'what is proved from nothing' "$(echo "$of_release" | tr ' ' '\n')" "$(cat 
 kept=$work/another/out/release.work/kept
 must 'where the checks of a release keep their work' "$kept $kept/work" "$(sort -u "$work/stores")"
 must 'the line of a second build' \
-    "release: $tree/out/release is $version, byte for byte: 16 files" "$(tail -n 1 "$work/out")"
+    "release: $tree/out/release is $version, byte for byte: 17 files" "$(tail -n 1 "$work/out")"
 cp "$tree/LICENSE" "$tree/out/release/fluent-uri-$version.spdx.json"
 tools/release --verify "$tree/out/release" > "$work/out" 2> "$work/err"
 must 'the status of a release with another file' 1 $?
