@@ -11,12 +11,13 @@ PREFIX = "fluent_uri_"
 
 
 def declarations():
-    """The parameters of each export, as `c/declare` reads them from the sources of the crate."""
+    """The parameters of each export, as `c/declare` reads them from the sources of the crate. Those
+    with offsets of 64 bits are left out: the memory has 32."""
     loader = importlib.machinery.SourceFileLoader("declare", str(ROOT / "c" / "declare"))
     declare = importlib.util.module_from_spec(importlib.util.spec_from_loader("declare", loader))
     loader.exec_module(declare)
     found = declare.exports(declare.sources(ROOT))
-    return {name.removeprefix(PREFIX): it for name, it in found.items()}
+    return {name.removeprefix(PREFIX): it for name, it in found.items() if not name.endswith("64")}
 
 
 def core():

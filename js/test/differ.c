@@ -6,7 +6,7 @@
 
 /* Where things are in the room of both programs. */
 enum {
-    LINE = 0, BEFORE = 4096, COLUMN = 8192, OFFSETS = 16448, OFFSETS64 = 16512, PARSED = 16640,
+    LINE = 0, BEFORE = 4096, COLUMN = 8192, OFFSETS = 16448, COMPONENTS = 16512, PARSED = 16640,
     PARTS = 16800, OUTCOME = 17088, OUT_OFFSETS = 17136, VALID = 17168, ERRORS = 17176,
     PORT = 17184, HASH = 17192, POSITION = 17200, PAIR = 17208, OUT = 17280, OUT_SIZE = 8192,
     ROOM = 25472
@@ -46,13 +46,14 @@ int main(void) {
         memcpy(P(COLUMN + line_length + 1), before, before_length);
         column_length = line_length + 1 + before_length;
         uint32_t offsets[] = {0, (uint32_t)line_length, (uint32_t)column_length};
-        uint64_t offsets64[] = {0, line_length, column_length};
         memcpy(P(OFFSETS), offsets, sizeof offsets);
-        memcpy(P(OFFSETS64), offsets64, sizeof offsets64);
         for (uint32_t turn = 0; turn < 4; turn++) {
             uint32_t kind = number % 64 == 63 ? 4 : turn, option = (number + turn) % 9;
             uint32_t component = (number + turn) % 11, error = (number + turn) % 19;
             int is_parsed = fluent_uri_parse(kind, line, line_length, P(PARSED)) == 0;
+            /* (what a reference is built of: all but the authority) */
+            memcpy(P(COMPONENTS), P(PARSED + 16), 16);
+            memcpy(P(COMPONENTS + 16), P(PARSED + 48), 96);
 #include "calls.h"
         }
     }

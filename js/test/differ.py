@@ -42,10 +42,11 @@ def argument(name, kind):
         return NUMBERS[name]
     if name.endswith("_len"):
         return {**INPUTS, **OUTPUTS}[name.removesuffix("_len")][1]
-    if name == "components" or (name == "parts" and kind.startswith("const ")):
-        return f"P({'PARSED + 16' if name == 'components' else 'PARSED'})"
-    place = {**INPUTS, **OUTPUTS}[name][0]
-    return f"P({place}64)" if "uint64_t" in kind and name == "offsets" else f"P({place})"
+    if name == "components":
+        return "P(COMPONENTS)"
+    if name == "parts" and kind.startswith("const "):
+        return "P(PARSED)"
+    return f"P({({**INPUTS, **OUTPUTS})[name][0]})"
 
 
 def call(name, parameters, prefix):

@@ -33,22 +33,27 @@ export class Room {
   }
 
   #put(line, before) {
-    const { LINE, BEFORE, COLUMN, OFFSETS, OFFSETS64 } = this.#places;
+    const { LINE, BEFORE, COLUMN, OFFSETS } = this.#places;
     this.bytes.set(line, LINE);
     this.bytes.set(before, BEFORE);
     this.bytes.set(line, COLUMN);
     this.bytes[COLUMN + line.length] = 10;
     this.bytes.set(before, COLUMN + line.length + 1);
-    [0, line.length, line.length + 1 + before.length].forEach((it, i) => {
-      this.view.setUint32(OFFSETS + 4 * i, it, true);
-      this.view.setBigUint64(OFFSETS64 + 8 * i, BigInt(it), true);
-    });
+    [0, line.length, line.length + 1 + before.length].forEach((it, i) =>
+      this.view.setUint32(OFFSETS + 4 * i, it, true));
   }
 
   /** Whether the line is of the kind; its parts are in the room then. */
   isParsed(kind, length) {
     const { LINE, PARSED } = this.#places;
     return this.exports.parse(kind, this.at + LINE, length, this.at + PARSED) === 0;
+  }
+
+  /** Puts what a reference is built of: all components but the authority. */
+  #putComponents() {
+    const { COMPONENTS, PARSED } = this.#places;
+    this.bytes.copyWithin(COMPONENTS, PARSED + 16, PARSED + 32);
+    this.bytes.copyWithin(COMPONENTS + 16, PARSED + 48, PARSED + 144);
   }
 
   /** Makes the calls of each line. `result` takes what one returned, and `dump` what it wrote. */
@@ -66,9 +71,11 @@ export class Room {
       this.#put(line, before);
       for (let turn = 0; turn < 4; turn++) {
         const kind = number % 64 === 63 ? 4 : turn, n = number + turn;
+        const isParsed = this.isParsed(kind, line.length);
+        this.#putComponents();
         this.#calls(calls, P, (it) => { this.look(); result(it); }, dump, out, done, {
           kind, option: n % 9, component: n % 11, error: n % 19,
-          is_parsed: this.isParsed(kind, line.length), line_length: line.length, before_length: before.length,
+          is_parsed: isParsed, line_length: line.length, before_length: before.length,
           column_length: line.length + 1 + before.length,
         });
       }
