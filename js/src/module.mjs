@@ -11,27 +11,23 @@ const FIRST_CAPACITY = 1 << 10, KEPT_CAPACITY = 1 << 16;
 // A unit takes at most three bytes, and so do two rooms for texts; a result has three times that.
 const UNIT = 3, ROOMS = 5;
 const LARGEST = 0x7fff0000;
-const encoder = new TextEncoder();
 
 export class Module {
   #open;
-  #reader;
+  #attach;
   #messages = new Map();
   #text = null;
   #length = 0;
   #partsKind = -1;
-  #read = null;
+  #texts = null;
   #room = 0;
-  // What the encoder writes into: the first room and the second.
-  #firstView = null;
-  #secondView = null;
   // In units; below 0 until an instance is open.
   #capacity = -1;
 
-  /** `open` returns the exports of a new instance; `reader` what reads texts in its memory. */
-  constructor(open, reader) {
+  /** `open` returns the exports of a new instance; `attach` what reads and writes its memory. */
+  constructor(open, attach) {
     this.#open = open;
-    this.#reader = reader;
+    this.#attach = attach;
   }
 
   /** Reads the signed numbers of 32 bits in memory. */
@@ -57,8 +53,6 @@ export class Module {
   get which() { return this.#outcome(4); }
   get index() { return this.#outcome(8); }
   get length() { return this.#outcome(16); }
-  get needed() { return this.#outcome(24); }
-  get consumed() { return this.#outcome(32); }
 
   #start() {
     const calls = { ...this.#open() };
@@ -82,10 +76,7 @@ export class Module {
   look() {
     const { buffer } = this.calls.memory;
     this.ints = new Int32Array(buffer);
-    this.#read = this.#reader(buffer);
-    const room = UNIT * this.#capacity;
-    this.#firstView = new Uint8Array(buffer, this.first, room);
-    this.#secondView = new Uint8Array(buffer, this.second, room);
+    this.#texts = this.#attach(buffer);
   }
 
   /** Makes rooms of so many units. */
@@ -95,15 +86,12 @@ export class Module {
     const capacity = units > KEPT_CAPACITY ? units : Math.max(units, 2 * this.#capacity);
     const bytes = ROOMS * UNIT * capacity;
     const room = bytes > LARGEST ? 0 : this.calls.allocate(bytes);
-    if (!room) {
-      this.look();
-      throw this.failure(OUT_OF_MEMORY);
-    }
+    this.look();
+    if (!room) throw this.failure(OUT_OF_MEMORY);
     this.calls.deallocate(this.#room);
     this.#room = room;
     this.#capacity = capacity;
     this.#text = null;
-    this.look();
     // Memory never shrinks, so a large one is dropped with its instance.
     if (capacity > KEPT_CAPACITY) Promise.resolve().then(() => this.drop());
   }
@@ -115,7 +103,7 @@ export class Module {
     if (text.length > this.#capacity) this.reserve(text.length);
     this.#text = null;
     this.#partsKind = -1;
-    const length = encoder.encodeInto(text, this.#firstView).written;
+    const length = this.#texts.write(text, this.#room);
     if (length !== text.length && loneSurrogate(text) >= 0) return -1;
     this.#text = text;
     this.#length = length;
@@ -133,15 +121,11 @@ export class Module {
   /** Puts two texts into their rooms. Returns their lengths. */
   putBoth(one, other) {
     if (other.length > this.#capacity) this.reserve(other.length);
-    // The first text may make larger rooms, and never smaller ones.
-    return [this.putWhole(one), this.putSecond(other)];
-  }
-
-  /** Puts a text into the second room, which is large enough. Returns its length. */
-  putSecond(text) {
-    const length = encoder.encodeInto(text, this.#secondView).written;
-    if (length !== text.length && loneSurrogate(text) >= 0) throw this.notUtf8(text);
-    return length;
+    const first = this.putWhole(one);
+    // The first text may have made larger rooms, and never smaller ones.
+    const second = this.#texts.write(other, this.second);
+    if (second !== other.length && loneSurrogate(other) >= 0) throw this.notUtf8(other);
+    return [first, second];
   }
 
   /** The same as `put`, but throws if there is a lone surrogate. */
@@ -152,8 +136,8 @@ export class Module {
   }
 
   /** Returns the text of so many bytes at an address. What is not UTF-8 becomes U+FFFD. */
-  read(address, length, isAscii) {
-    return this.#read(address, length, isAscii);
+  read(address, length) {
+    return this.#texts.read(address, length);
   }
 
   bytes(address, length) {
@@ -206,13 +190,8 @@ export class Module {
     }
     const length = this.length >>> 0;
     if (length <= this.outLength) return true;
-    this.reserveResult(length);
-    return false;
-  }
-
-  /** Makes rooms of which that for a result has so many bytes. */
-  reserveResult(length) {
     this.reserve(Math.ceil(length / (UNIT * (ROOMS - 2))));
+    return false;
   }
 
   /** Makes a call of a kind and options with one text: the result is in memory. */
@@ -279,8 +258,8 @@ export class Module {
   }
 
   /** The result of the last call as a text. */
-  result(isAscii = false) {
-    return this.#read(this.out, this.length, isAscii);
+  result() {
+    return this.#texts.read(this.out, this.length);
   }
 
   /** What is wrong, by the number of an error: the library's words. */

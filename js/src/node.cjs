@@ -12,11 +12,13 @@ function opener(name) {
   };
 }
 
-function reader(memory) {
+function attach(memory) {
   const bytes = Buffer.from(memory);
-  return (at, length, isAscii) =>
-    isAscii ? bytes.latin1Slice(at, at + length) : bytes.utf8Slice(at, at + length);
+  return {
+    write: (text, at) => bytes.utf8Write(text, at),
+    read: (at, length) => bytes.utf8Slice(at, at + length),
+  };
 }
 
-setPlatform({ core: opener('fluent_uri.wasm'), full: opener('fluent_uri_full.wasm'), reader });
+setPlatform({ core: opener('fluent_uri.wasm'), full: opener('fluent_uri_full.wasm'), attach });
 module.exports = require('../cjs/api.cjs');
