@@ -104,7 +104,9 @@ function target(Class, base, reference, options) {
 
 function relativizeBack(Class, base, to) {
   const [found] = CALLS.relativize(Class, base, to);
-  assert.deepEqual(target(Class, base, found), [to]);
+  const back = target(Class, base, found);
+  if (back === SKIPPED) return SKIPPED;
+  assert.deepEqual(back, [to]);
   return target(Class, base, found, { basic: true })[0] === to ? [found] : [found, 'lost'];
 }
 
