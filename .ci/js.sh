@@ -146,9 +146,11 @@ page() {
     for it in chromium chromedriver; do
         has $it 'the page in a browser' || return 0
     done
-    PYTHONPATH=/usr/lib/python3/dist-packages "${PYTHON:-/usr/bin/python3}" -c 'import selenium' \
-        2> /dev/null || { skip 'the page in a browser' 'there is no python3-selenium'; return 0; }
-    tells 'the page in a browser' "${PYTHON:-/usr/bin/python3}" "$root/js/test/page.py"
+    "${PYTHON:-/usr/bin/python3}" -c 'import selenium' 2> /dev/null ||
+        { skip 'the page in a browser' 'there is no python3-selenium'; return 0; }
+    does 'the page' node "$root/js/page/make.mjs" "$work/page.html"
+    tells 'the page in a browser' "${PYTHON:-/usr/bin/python3}" "$root/js/test/page.py" \
+        "$work/page.html"
 }
 
 faults() { tells faults python3 "$root/js/test/faults.py"; }
