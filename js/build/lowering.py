@@ -78,7 +78,7 @@ def field(line):
         return line.replace("(memory i64 ", "(memory ", 1)
     if line.startswith("(data "):
         return line.replace("(i64.const ", "(i32.const ", 1)
-    if not re.match(r"\((?:module|type|global|export) ?|\)", line):
+    if not re.match(r"\((?:module|type|func|global|export) ?|\)", line):
         raise Failed(f"the field {line[:80]}")
     return line
 
@@ -89,7 +89,7 @@ def lowered(text):
     for line in map(str.strip, text.splitlines()):
         if not line.startswith("(data "):
             line = re.sub(r" *\(;@?\w+;\)| *;; label = @\d+", "", line)
-        if line.startswith("(func "):
+        if line.startswith("(func ") and line.count("(") > line.count(")"):
             inside = [line]
         elif inside is None:
             made.append(field(line))
