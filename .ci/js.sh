@@ -103,7 +103,11 @@ programs() {
     for it in mjs cjs; do
         does "the programs of js/README.md, $it" python3 "$root/js/test/programs.py" \
             "$root/js/README.md" $it "$work/project/programs.$it"
-        tells "the programs of js/README.md, $it" node "$work/project/programs.$it"
+        node "$work/project/programs.$it" > "$work/printed" 2> "$work/log" ||
+            fail "a program of js/README.md fails, $it"
+        does "the programs of js/README.md print something else, $it" \
+            cmp "$work/printed" "$work/project/programs.$it.wanted"
+        echo "js: programs: the $(wc -l < "$work/printed") lines of js/README.md, $it"
     done
 }
 

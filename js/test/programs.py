@@ -1,39 +1,29 @@
 #!/usr/bin/env python3
-"""Writes the programs of a page, which are its blocks ```js, as one: programs.py PAGE mjs|cjs OUT.
-
-A line with a comment `// VALUE` at its end, after an expression alone, asserts that value.
-"""
+"""Writes the programs of a page, its blocks ```js, as one, and what it must print, which the
+comments of these blocks are: programs.py PAGE mjs|cjs OUT, with OUT.wanted beside it."""
 import pathlib
 import re
 import sys
 
-IMPORTS = {"mjs": "import assert from 'node:assert/strict';\n",
-           "cjs": "const assert = require('node:assert/strict');\n"}
-
-
-def asserted(line):
-    found = re.fullmatch(r"([^/'\s].*?);?\s+// (.+)", line)
-    if not found or re.match(r"(?:const|let|import|for|throw)\b", line):
-        return line
-    return f"assert.deepEqual({found[1]}, {found[2]}); count++;"
+IMPORT = r"(?m)^import (\{.*?\}) from ('.*?');\n"
 
 
 def main(page, kind, to):
-    blocks = re.findall(r"(?ms)^```js\n(.*?)^```$", pathlib.Path(page).read_text(encoding="utf-8"))
-    wanted = [it for it in blocks if ("require(" in it) == (kind == "cjs")]
+    text = pathlib.Path(page).read_text(encoding="utf-8")
+    blocks = [it for it in re.findall(r"(?ms)^```js\n(.*?)^```$", text) if re.search(IMPORT, it)]
+    wanted = [it for block in blocks for it in re.findall(r"(?m)// (.*)$", block)]
     if not wanted:
-        sys.exit(f"programs: {page} has no program as {kind}")
-    # (each block has its own names)
-    text = "\n".join(f"{{\n{it}}}" for it in wanted)
-    text = "\n".join(map(asserted, text.splitlines()))
-    if kind == "mjs":
-        # (an import is at the top of a module, and once)
-        heads = re.findall(r"(?m)^import .*$", text)
-        text = "\n".join(dict.fromkeys(heads)) + "\n" + re.sub(r"(?m)^import .*$", "", text)
-    pathlib.Path(to).write_text(f"{IMPORTS[kind]}let count = 0;\n{text}\n"
-                                "if (count === 0) throw new Error('no value is asserted');\n"
-                                "console.log(`programs: ${count} values as the page has them`);\n",
-                                encoding="utf-8")
+        sys.exit(f"programs: {page} has no program that prints")
+    if kind == "cjs":
+        heads = []
+        blocks = [re.sub(IMPORT, r"const \1 = require(\2);\n", it) for it in blocks]
+    else:
+        # (an import is at the top of a module)
+        heads = sorted({it for block in blocks for it in re.findall(r"(?m)^import .*$", block)})
+        blocks = [re.sub(IMPORT, "", it) for it in blocks]
+    program = "\n".join([*heads, *(f"{{\n{it}}}" for it in blocks)])
+    pathlib.Path(to).write_text(f"{program}\n", encoding="utf-8")
+    pathlib.Path(f"{to}.wanted").write_text("".join(f"{it}\n" for it in wanted), encoding="utf-8")
 
 
 if __name__ == "__main__":
