@@ -97,6 +97,15 @@ project() {
     echo "js: the package has $(cat "$work/one/"*.tgz | wc -c) bytes"
 }
 
+# has_browser WHAT: whether there is Chromium, and what types into it.
+debian_python=${PYTHON:-/usr/bin/python3}
+has_browser() {
+    has chromium "$1" && has chromedriver "$1" || return 1
+    "$debian_python" -c 'import selenium' 2> /dev/null && return 0
+    skip "$1" 'there is no python3-selenium'
+    return 1
+}
+
 # The programs of its page, as modules and by `require`.
 programs() {
     project
@@ -109,6 +118,9 @@ programs() {
             cmp "$work/printed" "$work/project/programs.$it.wanted"
         echo "js: programs: the $(wc -l < "$work/printed") lines of js/README.md, $it"
     done
+    has_browser 'the programs of js/README.md in a page' || return 0
+    tells 'the programs of js/README.md in a page' "$debian_python" "$root/js/test/browser.py" \
+        "$root/js/README.md" "$work/project"
 }
 
 api() {
@@ -147,14 +159,9 @@ ajv() {
 }
 
 page() {
-    for it in chromium chromedriver; do
-        has $it 'the page in a browser' || return 0
-    done
-    "${PYTHON:-/usr/bin/python3}" -c 'import selenium' 2> /dev/null ||
-        { skip 'the page in a browser' 'there is no python3-selenium'; return 0; }
+    has_browser 'the page in a browser' || return 0
     does 'the page' node "$root/js/page/make.mjs" "$work/page.html"
-    tells 'the page in a browser' "${PYTHON:-/usr/bin/python3}" "$root/js/test/page.py" \
-        "$work/page.html"
+    tells 'the page in a browser' "$debian_python" "$root/js/test/page.py" "$work/page.html"
 }
 
 faults() { tells faults python3 "$root/js/test/faults.py"; }
