@@ -56,7 +56,7 @@ does() {
 
 # The forms, each with the status that it must end with. `rt try` compiles the program for each run,
 # so of it only those are tried in which ./uritool does something of its own.
-of_script='answer|longest-argument|rejected-text|no-words|argument-not-utf8|closed-output'
+of_script='answer|longest-argument|rejected-text|argument-not-utf8|closed-output'
 forms='answer 0
 longest-argument 0
 rejected-text 1
