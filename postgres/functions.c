@@ -2,6 +2,7 @@
 #include "values.h"
 
 #include "funcapi.h"
+#include "lib/stringinfo.h"
 #include "mb/pg_wchar.h"
 #include "miscadmin.h"
 #include "utils/builtins.h"
@@ -28,7 +29,7 @@ static bool component_of(Datum datum, uint32 component, uri_bytes *found) {
     Datum uri_##NAME(PG_FUNCTION_ARGS) { \
         uri_bytes found; \
         if (!component_of(PG_GETARG_DATUM(0), COMPONENT, &found)) PG_RETURN_NULL(); \
-        PG_RETURN_TEXT_P(cstring_to_text_with_len((const char *) found.at, (int) found.len)); \
+        PG_RETURN_TEXT_P(uri_text_of(found)); \
     }
 
 COMPONENT(scheme, FLUENT_URI_SCHEME)
@@ -69,17 +70,63 @@ static text *written(uri_call call, uint32 number, uint32 options, uri_bytes a, 
         pfree(made);
         if (outcome->error != 0) return NULL;
         room = outcome->length;
+        CHECK_FOR_INTERRUPTS();
     }
 }
 
-/* The same of stored values, which have no errors. */
+/* How much of a component is done at once, where no octet and no character is cut. */
+static size_t piece_of(uri_bytes text) {
+    enum { MOST = 1 << 20 };
+    size_t len = MOST;
+
+    if (text.len <= MOST) return text.len;
+    while (len > MOST - 3 && (text.at[len] & 0xC0) == 0x80) len--;
+    if (text.at[len - 1] == '%') return len - 1;
+    if (text.at[len - 2] == '%') return len - 2;
+    return len;
+}
+
+/* The same as written, of a component that is decoded or data that is encoded: piece by piece, so
+ * that it can be cancelled. */
+static text *written_in_pieces(uri_call call, uint32 component, uri_bytes given,
+                               fluent_uri_outcome *outcome) {
+    StringInfoData made;
+    size_t done = 0;
+
+    initStringInfo(&made);
+    appendStringInfoSpaces(&made, VARHDRSZ);
+    do {
+        uri_bytes left = {given.at + done, given.len - done};
+        size_t room;
+
+        left.len = piece_of(left);
+        room = call == URI_ENCODE ? 3 * left.len : left.len;
+        enlargeStringInfo(&made, (int) room);
+        uri_write(call, component, 0, left, none, (uint8_t *) made.data + made.len, room, outcome);
+        uri_check_call(outcome->error);
+        if (outcome->error != 0) {
+            outcome->index += done;
+            return NULL;
+        }
+        made.len += (int) outcome->length;
+        done += left.len;
+        CHECK_FOR_INTERRUPTS();
+    } while (done < given.len);
+    SET_VARSIZE(made.data, made.len);
+    return (text *) made.data;
+}
+
+/* What is written of stored values, which have no errors. */
+static text *of_stored(text *made, const fluent_uri_outcome *outcome) {
+    if (made == NULL) elog(ERROR, "a stored value is rejected: %s", uri_message(outcome->error));
+    return made;
+}
+
 static text *written_of_values(uri_call call, uint32 kind, uint32 options, uri_bytes a,
                                uri_bytes b) {
     fluent_uri_outcome outcome;
-    text *made = written(call, kind, options, a, b, &outcome);
 
-    if (made == NULL) elog(ERROR, "a stored value is rejected: %s", uri_message(outcome.error));
-    return made;
+    return of_stored(written(call, kind, options, a, b, &outcome), &outcome);
 }
 
 /* The bit of the option that an argument names, or 0 without that argument. */
@@ -100,7 +147,7 @@ static uint32 option_of(FunctionCallInfo fcinfo, int number) {
 PG_FUNCTION_INFO_V1(uri_resolve);
 Datum uri_resolve(PG_FUNCTION_ARGS) {
     uri_value base;
-    uri_bytes reference = uri_bytes_of(PG_GETARG_TEXT_PP(1));
+    uri_bytes reference = URI_GIVEN(1);
     uint32 options = option_of(fcinfo, 2);
     fluent_uri_outcome outcome;
     text *target;
@@ -123,12 +170,13 @@ Datum uri_resolve(PG_FUNCTION_ARGS) {
 PG_FUNCTION_INFO_V1(uri_normalize_under);
 Datum uri_normalize_under(PG_FUNCTION_ARGS) {
     uri_value it;
+    uri_bytes form;
     uint32 options = option_of(fcinfo, 1);
 
     uri_read(URI_VALUE(0), &it);
-    PG_RETURN_POINTER(uri_value_or_error(
-        it.kind,
-        uri_bytes_of(written_of_values(URI_NORMALIZE, it.kind, options, it.form, none))));
+    form = uri_bytes_of(written_of_values(URI_NORMALIZE, it.kind, options, it.form, none));
+    uri_to_server(form);
+    PG_RETURN_POINTER(uri_value_or_error(it.kind, form));
 }
 
 PG_FUNCTION_INFO_V1(uri_relativize);
@@ -138,8 +186,8 @@ Datum uri_relativize(PG_FUNCTION_ARGS) {
 
     uri_read_text(URI_VALUE(0), &base);
     uri_read_text(URI_VALUE(1), &target);
-    PG_RETURN_TEXT_P(
-        written_of_values(URI_RELATIVIZE, base.kind, options, base.text, target.text));
+    PG_RETURN_TEXT_P(uri_text_to_server(
+        written_of_values(URI_RELATIVIZE, base.kind, options, base.text, target.text)));
 }
 
 PG_FUNCTION_INFO_V1(iri_to_uri);
@@ -161,14 +209,13 @@ static uint32 kind_of(text *name) {
     if (kind < 0)
         ereport(ERROR, (errcode(ERRCODE_INVALID_PARAMETER_VALUE), errmsg("no such kind of text"),
                         errhint("The kinds are uri, uri-ref, iri and iri-ref.")));
-    uri_check_encoding((uint32) kind);
     return (uint32) kind;
 }
 
 PG_FUNCTION_INFO_V1(uri_is);
 Datum uri_is(PG_FUNCTION_ARGS) {
     uint32 kind = kind_of(PG_GETARG_TEXT_PP(0));
-    uri_bytes given = uri_bytes_of(PG_GETARG_TEXT_PP(1));
+    uri_bytes given = URI_GIVEN(1);
     fluent_uri_parts parts;
 
     PG_RETURN_BOOL(fluent_uri_parse(kind, given.at, given.len, &parts) == 0);
@@ -176,7 +223,7 @@ Datum uri_is(PG_FUNCTION_ARGS) {
 
 PG_FUNCTION_INFO_V1(uri_error);
 Datum uri_error(PG_FUNCTION_ARGS) {
-    uri_bytes given = uri_bytes_of(PG_GETARG_TEXT_PP(0));
+    uri_bytes given = URI_GIVEN(0);
     uint32 kind = kind_of(PG_GETARG_TEXT_PP(1));
     fluent_uri_parts parts;
 
@@ -188,7 +235,7 @@ Datum uri_error(PG_FUNCTION_ARGS) {
 /* The position of the error in characters, from 1, or 0. */
 PG_FUNCTION_INFO_V1(uri_error_position);
 Datum uri_error_position(PG_FUNCTION_ARGS) {
-    uri_bytes given = uri_bytes_of(PG_GETARG_TEXT_PP(0));
+    uri_bytes given = URI_GIVEN(0);
     uint32 kind = kind_of(PG_GETARG_TEXT_PP(1));
     fluent_uri_parts parts;
 
@@ -197,7 +244,7 @@ Datum uri_error_position(PG_FUNCTION_ARGS) {
 }
 
 static Datum mended(FunctionCallInfo fcinfo, uri_call call) {
-    uri_bytes given = uri_bytes_of(PG_GETARG_TEXT_PP(0));
+    uri_bytes given = URI_GIVEN(0);
     uint32 kind = kind_of(PG_GETARG_TEXT_PP(1));
     fluent_uri_outcome outcome;
     text *made = written(call, kind, 0, given, none, &outcome);
@@ -208,7 +255,7 @@ static Datum mended(FunctionCallInfo fcinfo, uri_call call) {
                                uri_shown(given)),
                         errdetail("The error is: %s at index %zu.", uri_message(outcome.error),
                                   outcome.index)));
-    PG_RETURN_TEXT_P(made);
+    PG_RETURN_TEXT_P(uri_text_to_server(made));
 }
 
 PG_FUNCTION_INFO_V1(uri_mend);
@@ -244,9 +291,9 @@ static uint32 component_named(text *name) {
 PG_FUNCTION_INFO_V1(uri_decode_bytea);
 Datum uri_decode_bytea(PG_FUNCTION_ARGS) {
     uint32 component = component_named(PG_GETARG_TEXT_PP(0));
-    uri_bytes given = uri_bytes_of(PG_GETARG_TEXT_PP(1));
+    uri_bytes given = URI_GIVEN(1);
     fluent_uri_outcome outcome;
-    text *made = written(URI_DECODE, component, 0, given, none, &outcome);
+    text *made = written_in_pieces(URI_DECODE, component, given, &outcome);
 
     if (made == NULL)
         ereport(ERROR, (errcode(ERRCODE_INVALID_TEXT_REPRESENTATION),
@@ -262,23 +309,27 @@ Datum uri_decode_bytea(PG_FUNCTION_ARGS) {
 PG_FUNCTION_INFO_V1(uri_decode);
 Datum uri_decode(PG_FUNCTION_ARGS) {
     text *made = DatumGetTextPP(uri_decode_bytea(fcinfo));
-    int len = VARSIZE_ANY_EXHDR(made);
-    char *at = VARDATA_ANY(made);
-    char *converted;
 
-    pg_verify_mbstr(PG_UTF8, at, len, false);
-    converted = pg_any_to_server(at, len, PG_UTF8);
-    if (converted == at) PG_RETURN_TEXT_P(made);
-    PG_RETURN_TEXT_P(cstring_to_text(converted));
+    pg_verify_mbstr(PG_UTF8, VARDATA_ANY(made), VARSIZE_ANY_EXHDR(made), false);
+    PG_RETURN_TEXT_P(uri_text_to_server(made));
 }
 
-/* Of a text and of a bytea: both are a varlena of bytes. */
+static text *encoded(text *component, uri_bytes data) {
+    fluent_uri_outcome outcome;
+
+    return written_in_pieces(URI_ENCODE, component_named(component), data, &outcome);
+}
+
 PG_FUNCTION_INFO_V1(uri_encode);
 Datum uri_encode(PG_FUNCTION_ARGS) {
-    uint32 component = component_named(PG_GETARG_TEXT_PP(0));
-    uri_bytes data = uri_bytes_of(PG_GETARG_TEXT_PP(1));
+    uri_bytes data = uri_data_from_server(uri_bytes_of(PG_GETARG_TEXT_PP(1)));
 
-    PG_RETURN_TEXT_P(written_of_values(URI_ENCODE, component, 0, data, none));
+    PG_RETURN_TEXT_P(encoded(PG_GETARG_TEXT_PP(0), data));
+}
+
+PG_FUNCTION_INFO_V1(uri_encode_bytea);
+Datum uri_encode_bytea(PG_FUNCTION_ARGS) {
+    PG_RETURN_TEXT_P(encoded(PG_GETARG_TEXT_PP(0), uri_bytes_of(PG_GETARG_BYTEA_PP(1))));
 }
 
 /* ---- The pairs of a query ---- */
@@ -303,11 +354,12 @@ static void add_utf8(StringInfo to, uri_bytes left) {
     }
 }
 
-/* Decodes a name or a value. Each byte that is not UTF-8, and NUL, becomes U+FFFD, so that one row
- * of a crawl does not end a scan. No byte is looked at again for those before it. */
+/* Decodes a name or a value. Each byte that is not UTF-8, and NUL, becomes U+FFFD, and what the
+ * server's encoding lacks `?`, so that one row of a crawl does not end a scan. No byte is looked at again for those before it. */
 static Datum decoded(uri_bytes encoded) {
-    text *made = written_of_values(URI_DECODE, FLUENT_URI_QUERY, 0, encoded, none);
-    uri_bytes left = uri_bytes_of(made);
+    fluent_uri_outcome outcome;
+    uri_bytes left = uri_bytes_of(of_stored(
+        written_in_pieces(URI_DECODE, FLUENT_URI_QUERY, encoded, &outcome), &outcome));
     StringInfoData clean;
 
     initStringInfo(&clean);
@@ -322,7 +374,10 @@ static Datum decoded(uri_bytes encoded) {
         left.len -= piece.len + 1;
         CHECK_FOR_INTERRUPTS();
     }
-    return PointerGetDatum(cstring_to_text(pg_any_to_server(clean.data, clean.len, PG_UTF8)));
+    left.at = (const uint8_t *) clean.data;
+    left.len = clean.len;
+    left = uri_to_server_with_stand_ins(left);
+    return PointerGetDatum(cstring_to_text_with_len((const char *) left.at, (int) left.len));
 }
 
 PG_FUNCTION_INFO_V1(uri_query_pairs);
