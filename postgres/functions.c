@@ -19,7 +19,7 @@ static bool component_of(Datum datum, uint32 component, uri_bytes *found) {
     fluent_uri_parts parts;
 
     uri_read_text((struct varlena *) PG_DETOAST_DATUM_PACKED(datum), &it);
-    if (fluent_uri_parse(it.kind, it.text.at, it.text.len, &parts) != 0)
+    if (uri_parse(it.kind, it.text, &parts) != 0)
         elog(ERROR, "a stored %s is not %s", uri_type_name(it.kind), uri_titles[it.kind]);
     return uri_component(&parts, component, it.text.at, found);
 }
@@ -61,7 +61,7 @@ static text *written(uri_call call, uint32 number, uint32 options, uri_bytes a, 
     for (;;) {
         text *made = palloc(VARHDRSZ + room);
 
-        uri_write(call, number, options, a, b, (uint8_t *) VARDATA(made), room, outcome);
+        uri_make(call, number, options, a, b, (uint8 *) VARDATA(made), room, outcome);
         uri_check_call(outcome->error);
         if (outcome->error == 0 && outcome->length <= room) {
             SET_VARSIZE(made, VARHDRSZ + outcome->length);
@@ -70,63 +70,17 @@ static text *written(uri_call call, uint32 number, uint32 options, uri_bytes a, 
         pfree(made);
         if (outcome->error != 0) return NULL;
         room = outcome->length;
-        CHECK_FOR_INTERRUPTS();
     }
 }
 
-/* How much of a component is done at once, where no octet and no character is cut. */
-static size_t piece_of(uri_bytes text) {
-    enum { MOST = 1 << 20 };
-    size_t len = MOST;
-
-    if (text.len <= MOST) return text.len;
-    while (len > MOST - 3 && (text.at[len] & 0xC0) == 0x80) len--;
-    if (text.at[len - 1] == '%') return len - 1;
-    if (text.at[len - 2] == '%') return len - 2;
-    return len;
-}
-
-/* The same as written, of a component that is decoded or data that is encoded: piece by piece, so
- * that it can be cancelled. */
-static text *written_in_pieces(uri_call call, uint32 component, uri_bytes given,
-                               fluent_uri_outcome *outcome) {
-    StringInfoData made;
-    size_t done = 0;
-
-    initStringInfo(&made);
-    appendStringInfoSpaces(&made, VARHDRSZ);
-    do {
-        uri_bytes left = {given.at + done, given.len - done};
-        size_t room;
-
-        left.len = piece_of(left);
-        room = call == URI_ENCODE ? 3 * left.len : left.len;
-        enlargeStringInfo(&made, (int) room);
-        uri_write(call, component, 0, left, none, (uint8_t *) made.data + made.len, room, outcome);
-        uri_check_call(outcome->error);
-        if (outcome->error != 0) {
-            outcome->index += done;
-            return NULL;
-        }
-        made.len += (int) outcome->length;
-        done += left.len;
-        CHECK_FOR_INTERRUPTS();
-    } while (done < given.len);
-    SET_VARSIZE(made.data, made.len);
-    return (text *) made.data;
-}
-
-/* What is written of stored values, which have no errors. */
-static text *of_stored(text *made, const fluent_uri_outcome *outcome) {
-    if (made == NULL) elog(ERROR, "a stored value is rejected: %s", uri_message(outcome->error));
-    return made;
-}
-
+/* The same of stored values, which have no errors. */
 static text *written_of_values(uri_call call, uint32 kind, uint32 options, uri_bytes a,
                                uri_bytes b) {
     fluent_uri_outcome outcome;
+    text *made = written(call, kind, options, a, b, &outcome);
 
-    return of_stored(written(call, kind, options, a, b, &outcome), &outcome);
+    if (made == NULL) elog(ERROR, "a stored value is rejected: %s", uri_message(outcome.error));
+    return made;
 }
 
 /* The bit of the option that an argument names, or 0 without that argument. */
@@ -218,7 +172,7 @@ Datum uri_is(PG_FUNCTION_ARGS) {
     uri_bytes given = URI_GIVEN(1);
     fluent_uri_parts parts;
 
-    PG_RETURN_BOOL(fluent_uri_parse(kind, given.at, given.len, &parts) == 0);
+    PG_RETURN_BOOL(uri_parse(kind, given, &parts) == 0);
 }
 
 PG_FUNCTION_INFO_V1(uri_error);
@@ -227,7 +181,7 @@ Datum uri_error(PG_FUNCTION_ARGS) {
     uint32 kind = kind_of(PG_GETARG_TEXT_PP(1));
     fluent_uri_parts parts;
 
-    if (fluent_uri_parse(kind, given.at, given.len, &parts) == 0) PG_RETURN_NULL();
+    if (uri_parse(kind, given, &parts) == 0) PG_RETURN_NULL();
     PG_RETURN_TEXT_P(
         cstring_to_text(psprintf("%s at index %zu", uri_message(parts.error), parts.index)));
 }
@@ -239,7 +193,7 @@ Datum uri_error_position(PG_FUNCTION_ARGS) {
     uint32 kind = kind_of(PG_GETARG_TEXT_PP(1));
     fluent_uri_parts parts;
 
-    if (fluent_uri_parse(kind, given.at, given.len, &parts) == 0) PG_RETURN_INT32(0);
+    if (uri_parse(kind, given, &parts) == 0) PG_RETURN_INT32(0);
     PG_RETURN_INT32(uri_character_at(given, parts.index));
 }
 
@@ -293,7 +247,7 @@ Datum uri_decode_bytea(PG_FUNCTION_ARGS) {
     uint32 component = component_named(PG_GETARG_TEXT_PP(0));
     uri_bytes given = URI_GIVEN(1);
     fluent_uri_outcome outcome;
-    text *made = written_in_pieces(URI_DECODE, component, given, &outcome);
+    text *made = written(URI_DECODE, component, 0, given, none, &outcome);
 
     if (made == NULL)
         ereport(ERROR, (errcode(ERRCODE_INVALID_TEXT_REPRESENTATION),
@@ -315,9 +269,7 @@ Datum uri_decode(PG_FUNCTION_ARGS) {
 }
 
 static text *encoded(text *component, uri_bytes data) {
-    fluent_uri_outcome outcome;
-
-    return written_in_pieces(URI_ENCODE, component_named(component), data, &outcome);
+    return written_of_values(URI_ENCODE, component_named(component), 0, data, none);
 }
 
 PG_FUNCTION_INFO_V1(uri_encode);
@@ -357,9 +309,8 @@ static void add_utf8(StringInfo to, uri_bytes left) {
 /* Decodes a name or a value. Each byte that is not UTF-8, and NUL, becomes U+FFFD, and what the
  * server's encoding lacks `?`, so that one row of a crawl does not end a scan. No byte is looked at again for those before it. */
 static Datum decoded(uri_bytes encoded) {
-    fluent_uri_outcome outcome;
-    uri_bytes left = uri_bytes_of(of_stored(
-        written_in_pieces(URI_DECODE, FLUENT_URI_QUERY, encoded, &outcome), &outcome));
+    text *made = written_of_values(URI_DECODE, FLUENT_URI_QUERY, 0, encoded, none);
+    uri_bytes left = uri_bytes_of(made);
     StringInfoData clean;
 
     initStringInfo(&clean);

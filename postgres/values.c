@@ -5,7 +5,6 @@
 #include "values.h"
 
 #include "libpq/pqformat.h"
-#include "miscadmin.h"
 #include "utils/builtins.h"
 #include "utils/memutils.h"
 
@@ -64,6 +63,7 @@ static uint8 *write_difference(uint8 *data, uri_bytes form, uri_bytes text) {
 }
 
 struct varlena *uri_value_of(uint32 kind, uri_bytes text, fluent_uri_outcome *outcome) {
+    static const uri_bytes none = {(const uint8_t *) "", 0};
     struct varlena *made;
     uint8 *data, *end;
     size_t room = text.len;
@@ -79,11 +79,10 @@ struct varlena *uri_value_of(uint32 kind, uri_bytes text, fluent_uri_outcome *ou
                                    text.len)));
         made = palloc(size);
         data = (uint8 *) VARDATA(made);
-        uri_write(URI_NORMALIZE, kind, 0, text, text, data + URI_FORM_AT, room, outcome);
+        uri_make(URI_NORMALIZE, kind, 0, text, none, data + URI_FORM_AT, room, outcome);
         if (outcome->error != 0 || outcome->length <= room) break;
         pfree(made);
         room = outcome->length;
-        CHECK_FOR_INTERRUPTS();
     }
     if (outcome->error != 0) {
         pfree(made);

@@ -108,6 +108,13 @@ extern int uri_character_at(uri_bytes text, size_t index);
 /* A text for a message, cut, and in the server's encoding. */
 extern char *uri_shown(uri_bytes text);
 
+/* ---- long_calls.c ---- */
+
+/* The same as uri_write and fluent_uri_parse. A statement that is cancelled does not wait for them. */
+extern void uri_make(uri_call call, uint32 number, uint32 options, uri_bytes a, uri_bytes b,
+                     uint8 *out, size_t room, fluent_uri_outcome *outcome);
+extern uint32 uri_parse(uint32 kind, uri_bytes text, fluent_uri_parts *parts);
+
 /* ---- values.c ---- */
 
 /* Makes a value of a text. Returns NULL and the outcome if the text is not of the kind. */
