@@ -71,7 +71,8 @@ class Unquote(unittest.TestCase):
                 for name in ["unquote", "unquote_plus"]:
                     found = [getattr(it, name)(text, encoding) for it in (ours, urllib.parse)]
                     self.assertEqual(*found, (name, text, encoding))
-                found = [it.parse_qsl(f"a={text}", encoding=encoding) for it in (ours, urllib.parse)]
+                query = f"a={text}"
+                found = [it.parse_qsl(query, encoding=encoding) for it in (ours, urllib.parse)]
                 self.assertEqual(*found, (text, encoding))
         self.assertEqual(ours.unquote("ab", encoding="utf-16"), "ab")
 
