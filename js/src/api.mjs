@@ -1,0 +1,16 @@
+// What the package exports.
+import './queries.mjs';
+import './building.mjs';
+import { core } from './platform.mjs';
+
+export { Uri, UriRef, Iri, IriRef, Reference } from './reference.mjs';
+export {
+  UriError, ParseError, ResolveError, BuildError, AsciiHostError,
+} from './errors.mjs';
+export { decode, decodeBytes, encode } from './components.mjs';
+
+/** Returns the version of normal forms: a number that changes where any of them does. */
+export function normalVersion() {
+  core.reserve(0);
+  return core.number('normal_version');
+}
