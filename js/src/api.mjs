@@ -1,9 +1,10 @@
 // What the package exports.
+import './calls.mjs';
 import './queries.mjs';
 import './building.mjs';
 import { core } from './platform.mjs';
 
-export { Uri, UriRef, Iri, IriRef, Reference } from './reference.mjs';
+export { Uri, UriRef, Iri, IriRef, Reference } from './values.mjs';
 export {
   UriError, ParseError, ResolveError, BuildError, AsciiHostError,
 } from './errors.mjs';

@@ -1,4 +1,4 @@
-// How a browser compiles a module, and reads and writes texts in its memory.
+// How a browser compiles a module, and reads texts in its memory.
 
 /** Returns what opens an instance of the module at an address. */
 export async function compiled(url) {
@@ -9,13 +9,9 @@ export async function compiled(url) {
 
 export const openerOf = (module) => () => new WebAssembly.Instance(module).exports;
 
-const encoder = new TextEncoder();
 const decoder = new TextDecoder('utf-8', { ignoreBOM: true });
 
-export function attach(memory) {
+export function reader(memory) {
   const bytes = new Uint8Array(memory);
-  return {
-    write: (text, at) => encoder.encodeInto(text, bytes.subarray(at)).written,
-    read: (at, length) => decoder.decode(bytes.subarray(at, at + length)),
-  };
+  return (at, length) => decoder.decode(bytes.subarray(at, at + length));
 }

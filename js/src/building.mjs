@@ -1,7 +1,8 @@
 // Texts that are built of components (RFC 3986, section 5.3).
 import { NOT_UTF8, OUT_OF_MEMORY, buildFailure } from './errors.mjs';
 import { full } from './platform.mjs';
-import { CLASSES, extend, kindOf, valueOf } from './reference.mjs';
+import { resultOf } from './calls.mjs';
+import { CLASSES, extend } from './values.mjs';
 import { Cursor, byteLength, loneSurrogate } from './units.mjs';
 
 // The components in the order of `fluent_uri_components`, and the numbers that errors name.
@@ -59,18 +60,22 @@ function build(kind, components) {
       full.outLength, full.parts, 1, full.outcome);
     const { which, index } = full, name = NUMBERED[which];
     if (error !== 0) throw failure(error, name, texts[ORDER.indexOf(name)], index);
-    if (full.isDone(error, whole)) return valueOf(kind, full.result(), full);
+    if (full.isDone(error, whole)) return resultOf(kind, full);
   }
 }
 
-CLASSES.forEach((Class, kind) =>
-  extend([Class], { build: (components) => build(kind, components) }, (it) => it));
+const callsOf = (kind) => ({
+  build: (components) => build(kind, components),
+});
 
-extend(CLASSES, {
+const membersOf = (kind) => ({
   replace(components) {
     const own = Object.fromEntries(ORDER.map((name) => [name, this[name]]));
     for (const [name, value] of Object.entries(components))
       if (value !== undefined) own[name] = value;
-    return build(kindOf(this), own);
+    return build(kind, own);
   },
 });
+
+CLASSES.forEach((Class, kind) =>
+  extend(Class, { calls: callsOf(kind), members: membersOf(kind) }));

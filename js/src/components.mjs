@@ -1,7 +1,7 @@
 // Components on their own: encoded and decoded.
 import { NOT_UTF8, failure } from './errors.mjs';
 import { core } from './platform.mjs';
-import { textOf } from './reference.mjs';
+import { textOf } from './values.mjs';
 import { byteLength } from './units.mjs';
 
 // The numbers of `enum fluent_uri_component`.

@@ -11,23 +11,27 @@ const FIRST_CAPACITY = 1 << 10, KEPT_CAPACITY = 1 << 16;
 // A unit takes at most three bytes, and so do two rooms for texts; a result has three times that.
 const UNIT = 3, ROOMS = 5;
 const LARGEST = 0x7fff0000;
+const encoder = new TextEncoder();
 
 export class Module {
   #open;
-  #attach;
+  #reader;
   #messages = new Map();
   #text = null;
   #length = 0;
   #partsKind = -1;
-  #texts = null;
+  #read = null;
   #room = 0;
+  // What the encoder writes into: the first room and the second.
+  #firstView = null;
+  #secondView = null;
   // In units; below 0 until an instance is open.
   #capacity = -1;
 
-  /** `open` returns the exports of a new instance; `attach` what reads and writes its memory. */
-  constructor(open, attach) {
+  /** `open` returns the exports of a new instance; `reader` what reads texts in its memory. */
+  constructor(open, reader) {
     this.#open = open;
-    this.#attach = attach;
+    this.#reader = reader;
   }
 
   /** Reads the signed numbers of 32 bits in memory. */
@@ -76,7 +80,10 @@ export class Module {
   look() {
     const { buffer } = this.calls.memory;
     this.ints = new Int32Array(buffer);
-    this.#texts = this.#attach(buffer);
+    this.#read = this.#reader(buffer);
+    const room = UNIT * this.#capacity;
+    this.#firstView = new Uint8Array(buffer, this.first, room);
+    this.#secondView = new Uint8Array(buffer, this.second, room);
   }
 
   /** Makes rooms of so many units. */
@@ -86,12 +93,15 @@ export class Module {
     const capacity = units > KEPT_CAPACITY ? units : Math.max(units, 2 * this.#capacity);
     const bytes = ROOMS * UNIT * capacity;
     const room = bytes > LARGEST ? 0 : this.calls.allocate(bytes);
-    this.look();
-    if (!room) throw this.failure(OUT_OF_MEMORY);
+    if (!room) {
+      this.look();
+      throw this.failure(OUT_OF_MEMORY);
+    }
     this.calls.deallocate(this.#room);
     this.#room = room;
     this.#capacity = capacity;
     this.#text = null;
+    this.look();
     // Memory never shrinks, so a large one is dropped with its instance.
     if (capacity > KEPT_CAPACITY) Promise.resolve().then(() => this.drop());
   }
@@ -103,7 +113,7 @@ export class Module {
     if (text.length > this.#capacity) this.reserve(text.length);
     this.#text = null;
     this.#partsKind = -1;
-    const length = this.#texts.write(text, this.#room);
+    const length = encoder.encodeInto(text, this.#firstView).written;
     if (length !== text.length && loneSurrogate(text) >= 0) return -1;
     this.#text = text;
     this.#length = length;
@@ -123,7 +133,7 @@ export class Module {
     if (other.length > this.#capacity) this.reserve(other.length);
     const first = this.putWhole(one);
     // The first text may have made larger rooms, and never smaller ones.
-    const second = this.#texts.write(other, this.second);
+    const second = encoder.encodeInto(other, this.#secondView).written;
     if (second !== other.length && loneSurrogate(other) >= 0) throw this.notUtf8(other);
     return [first, second];
   }
@@ -136,8 +146,8 @@ export class Module {
   }
 
   /** Returns the text of so many bytes at an address. What is not UTF-8 becomes U+FFFD. */
-  read(address, length) {
-    return this.#texts.read(address, length);
+  read(address, length, isAscii) {
+    return this.#read(address, length, isAscii);
   }
 
   bytes(address, length) {
@@ -258,8 +268,8 @@ export class Module {
   }
 
   /** The result of the last call as a text. */
-  result() {
-    return this.#texts.read(this.out, this.length);
+  result(isAscii = false) {
+    return this.#read(this.out, this.length, isAscii);
   }
 
   /** What is wrong, by the number of an error: the library's words. */

@@ -12,13 +12,11 @@ function opener(name) {
   };
 }
 
-function attach(memory) {
+function reader(memory) {
   const bytes = Buffer.from(memory);
-  return {
-    write: (text, at) => bytes.utf8Write(text, at),
-    read: (at, length) => bytes.utf8Slice(at, at + length),
-  };
+  return (at, length, isAscii) =>
+    isAscii ? bytes.latin1Slice(at, at + length) : bytes.utf8Slice(at, at + length);
 }
 
-setPlatform({ core: opener('fluent_uri.wasm'), full: opener('fluent_uri_full.wasm'), attach });
+setPlatform({ core: opener('fluent_uri.wasm'), full: opener('fluent_uri_full.wasm'), reader });
 module.exports = require('../cjs/api.cjs');

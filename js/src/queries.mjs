@@ -1,7 +1,7 @@
 // The pairs of a query.
 import { encode } from './components.mjs';
 import { core } from './platform.mjs';
-import { extend, CLASSES } from './reference.mjs';
+import { CLASSES, extend } from './values.mjs';
 import { Cursor } from './units.mjs';
 
 const QUERY = 3;
@@ -30,7 +30,7 @@ function encodedPairs(query) {
   return made;
 }
 
-extend(CLASSES, {
+const members = {
   queryPairs({ plusIsSpace = false } = {}) {
     const { query } = this;
     if (query === null) return [];
@@ -47,4 +47,6 @@ extend(CLASSES, {
     const query = given.map(([name, value]) => `${coded(name)}=${coded(value)}`).join('&');
     return this.replace({ query });
   },
-});
+};
+
+for (const Class of CLASSES) extend(Class, { members });
