@@ -8,6 +8,7 @@ export { Uri, UriRef, Iri, IriRef, Reference } from './values.mjs';
 export {
   UriError, ParseError, ResolveError, BuildError, AsciiHostError,
 } from './errors.mjs';
+export { batch } from './batch.mjs';
 export { decode, decodeBytes, encode } from './components.mjs';
 
 /** Returns the version of normal forms: a number that changes where any of them does. */

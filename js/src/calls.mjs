@@ -1,6 +1,6 @@
 // The calls of the four classes, and those of their values.
 import { core, full } from './platform.mjs';
-import { CLASSES, extend, isOfKind, textOf, valueOf } from './values.mjs';
+import { CLASSES, extend, isOfKind, makerOf, textOf } from './values.mjs';
 
 const PREFER_RELATIVE_PATH = 1, SCHEME_RULES = 2, BASIC = 4;
 const URI = 0, URI_REF = 1, IRI = 2;
@@ -14,10 +14,10 @@ export const rulesOf = ({ schemeRules = false } = {}) => (schemeRules ? SCHEME_R
 // The texts of URIs are ASCII.
 const isAscii = (kind) => kind < IRI;
 
-/** The value of a kind that is the result of a call: the one given, if it has the same text. */
+/** The value of a kind that is the result of a call, or null if its text is the one given. */
 export function resultOf(kind, module, given) {
   const text = module.result(isAscii(kind));
-  return text === given ? null : valueOf(kind, text, module.length, module);
+  return text === given ? null : makerOf(kind)(text, module.length, module);
 }
 
 /** The text of a reference, or what it is mended to: a base of a kind has those of the next. */
@@ -42,6 +42,7 @@ function compareTexts(kind, one, other, options) {
 
 // The calls of a class read no `this`, so that they can be handed on: `texts.filter(Uri.canParse)`.
 function callsOf(kind) {
+  const make = makerOf(kind);
   const mended = (call, given) => {
     const text = textOf(given);
     core.callPlain(call, kind, text);
@@ -49,16 +50,15 @@ function callsOf(kind) {
   };
   return {
     parse(given) {
-      if (isOfKind(kind, given)) return given;
+      if (typeof given !== 'string' && isOfKind(kind, given)) return given;
       const text = textOf(given), length = core.putWhole(text), error = core.parse(kind, length);
-      if (error === 0) return valueOf(kind, text, length, core);
+      if (error === 0) return make(text, length, core);
       throw core.failure(error, text, core.ints[(core.parts >> 2) + INDEX]);
     },
     tryParse(given) {
-      if (isOfKind(kind, given)) return given;
+      if (typeof given !== 'string' && isOfKind(kind, given)) return given;
       const text = textOf(given), length = core.put(text);
-      return length < 0 || core.parse(kind, length) !== 0 ? null
-        : valueOf(kind, text, length, core);
+      return length < 0 || core.parse(kind, length) !== 0 ? null : make(text, length, core);
     },
     canParse(given) {
       const length = core.put(textOf(given));

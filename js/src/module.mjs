@@ -57,6 +57,8 @@ export class Module {
   get which() { return this.#outcome(4); }
   get index() { return this.#outcome(8); }
   get length() { return this.#outcome(16); }
+  get needed() { return this.#outcome(24); }
+  get consumed() { return this.#outcome(32); }
 
   #start() {
     const calls = { ...this.#open() };
@@ -131,11 +133,15 @@ export class Module {
   /** Puts two texts into their rooms. Returns their lengths. */
   putBoth(one, other) {
     if (other.length > this.#capacity) this.reserve(other.length);
-    const first = this.putWhole(one);
-    // The first text may have made larger rooms, and never smaller ones.
-    const second = encoder.encodeInto(other, this.#secondView).written;
-    if (second !== other.length && loneSurrogate(other) >= 0) throw this.notUtf8(other);
-    return [first, second];
+    // The first text may make larger rooms, and never smaller ones.
+    return [this.putWhole(one), this.putSecond(other)];
+  }
+
+  /** Puts a text into the second room, which is large enough. Returns its length. */
+  putSecond(text) {
+    const length = encoder.encodeInto(text, this.#secondView).written;
+    if (length !== text.length && loneSurrogate(text) >= 0) throw this.notUtf8(text);
+    return length;
   }
 
   /** The same as `put`, but throws if there is a lone surrogate. */
@@ -200,8 +206,13 @@ export class Module {
     }
     const length = this.length >>> 0;
     if (length <= this.outLength) return true;
-    this.reserve(Math.ceil(length / (UNIT * (ROOMS - 2))));
+    this.reserveResult(length);
     return false;
+  }
+
+  /** Makes rooms of which that for a result has so many bytes. */
+  reserveResult(length) {
+    this.reserve(Math.ceil(length / (UNIT * (ROOMS - 2))));
   }
 
   /** Makes a call of a kind and options with one text: the result is in memory. */

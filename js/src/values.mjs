@@ -17,8 +17,9 @@ export class Reference {
   }
 }
 
-// For each kind, what returns the text of a value of it, or undefined of anything else.
-const readers = [];
+// For each kind, what returns the text of a value of it, or undefined of anything else, and what
+// makes a value of a text of so many bytes, of which a module has the parts.
+const readers = [], makers = [];
 
 // A class without `super` in its constructor, which takes a third of the time of one with it.
 const classOf = (kind, name) => {
@@ -36,6 +37,8 @@ const classOf = (kind, name) => {
 
     static {
       readers[kind] = (value) => (#text in value ? value.#text : undefined);
+      makers[kind] = (text, length, { ints, parts }) =>
+        new Class(SECRET, text, length, ints, parts >> 2);
     }
 
     /** Takes the parts of a text from memory, where `length` is that of its UTF-8. */
@@ -141,10 +144,8 @@ export const IriRef = classOf(3, 'IriRef');
 /** The classes by the numbers of their kinds. */
 export const CLASSES = [Uri, UriRef, Iri, IriRef];
 
-/** The value of a kind that has a text of so many bytes, of which a module has the parts. */
-export function valueOf(kind, text, length, module) {
-  return new CLASSES[kind](SECRET, text, length, module.ints, module.parts >> 2);
-}
+/** What makes a value of a kind: of a text of so many bytes, of which a module has the parts. */
+export const makerOf = (kind) => makers[kind];
 
 /** The text of a value, or a string itself. */
 export function textOf(given) {
@@ -157,9 +158,9 @@ export function textOf(given) {
   throw new TypeError('a string, a Uri, UriRef, Iri or IriRef is needed');
 }
 
-/** Whether a value is one of a kind. */
-export const isOfKind = (kind, value) =>
-  typeof value === 'object' && value !== null && readers[kind](value) !== undefined;
+/** Whether something is a value of a kind. */
+export const isOfKind = (kind, given) =>
+  typeof given === 'object' && given !== null && readers[kind](given) !== undefined;
 
 /** The number of the kind of a class. */
 export function numberOf(Class) {
