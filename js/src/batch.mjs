@@ -35,50 +35,64 @@ class Batch {
 
   // Appends results for texts: for all, or for as many as the room of results holds.
   #call(texts, results) {
-    const isLost = texts.map((text) => text === null || loneSurrogate(text) >= 0);
-    const given = isLost.includes(true) ? texts.map((it, i) => (isLost[i] ? '' : it)) : texts;
-    const whole = given.join(''), count = given.length + 1;
-    full.reserve(whole.length + (this.base?.length ?? 0) + ARRAYS);
-    const base = this.base === null ? [] : [full.second, full.putSecond(this.base)];
-    const length = full.putWhole(whole);
-    const offsets = (full.second + 3 * (this.base?.length ?? 0) + 3) & ~3;
+    const { base } = this, baseUnits = base === null ? 0 : base.length;
+    const column = putColumn(texts, baseUnits), count = texts.length + 1;
+    const offsets = (full.second + 3 * baseUnits + 3) & ~3;
     const ends = offsets + 4 * count, valid = ends + 4 * count;
-    putOffsets(given, offsets >> 2, length === whole.length);
-    const error = full.number(this.name, ...this.numbers, ...base, full.first, length, offsets,
-      count, full.out, full.outLength, ends, count, valid, (count + 6) >> 3, full.outcome);
-    full.look();
+    putOffsets(column, offsets >> 2);
+    const before = base === null ? [] : [full.second, full.putSecond(base)];
+    const error = full.number(this.name, ...this.numbers, ...before, full.first, column.length,
+      offsets, count, full.out, full.outLength, ends, count, valid, (count + 6) >> 3, full.outcome);
+    if (full.ints.length === 0) full.look();
     const { index: done, needed } = full;
     if (error !== 0 && error !== FULL) throw full.failure(error);
     if (error === FULL && done === 0) return full.reserveResult(needed);
-    appendResults(results, done, ends >> 2, valid, isLost);
+    appendResults(results, done, ends >> 2, valid, column.isLost);
   }
 }
 
+// Puts texts one after another into the first room. One that is null or has a lone surrogate is
+// lost: an empty text is in its place.
+function putColumn(texts, baseUnits) {
+  const whole = texts.join('');
+  full.reserve(whole.length + baseUnits + ARRAYS);
+  const length = full.put(whole);
+  const isAscii = length === whole.length;
+  if (isAscii && !texts.includes(null)) return { texts, length, isAscii, isLost: null };
+  const isLost = texts.map((text) => text === null || loneSurrogate(text) >= 0);
+  const kept = texts.map((text, i) => (isLost[i] ? '' : text));
+  return { texts: kept, length: full.putWhole(kept.join('')), isAscii, isLost };
+}
+
 // Writes where each text begins and ends.
-function putOffsets(texts, at, isAscii) {
+function putOffsets({ texts, isAscii }, at) {
   const { ints } = full;
   let offset = 0;
   ints[at] = 0;
-  for (const text of texts) {
-    offset += isAscii ? text.length : byteLength(text);
-    ints[++at] = offset;
+  for (let i = 0; i < texts.length; i++) {
+    offset += isAscii ? texts[i].length : byteLength(texts[i]);
+    ints[at + 1 + i] = offset;
   }
 }
 
 function appendResults(results, count, ends, valid, isLost) {
   const { ints, length, out } = full, whole = full.read(out, length);
   const bits = full.bytes(valid, (count + 7) >> 3), isAscii = whole.length === length;
+  let start = 0;
   for (let i = 0; i < count; i++) {
-    const start = ints[ends + i], end = ints[ends + i + 1];
-    const hasResult = !isLost[i] && (bits[i >> 3] >> (i & 7)) & 1;
+    const end = ints[ends + i + 1];
+    const hasResult = (bits[i >> 3] >> (i & 7)) & 1 && !isLost?.[i];
     results.push(!hasResult ? null
       : isAscii ? whole.slice(start, end) : full.read(out + start, end - start));
+    start = end;
   }
 }
 
 const textsOf = (texts) => {
   if (typeof texts === 'string') throw new TypeError('texts are needed, and not one text');
-  return Array.from(texts, textOf);
+  const made = [];
+  for (const it of texts) made.push(typeof it === 'string' ? it : textOf(it));
+  return made;
 };
 
 function mended(texts, kind, options) {
