@@ -16,7 +16,7 @@ export function commonJs(text) {
     .replace(/^export (\{[^}]*\}) from '([^']*)';$/gm, (all, given, file) =>
       `Object.assign(module.exports, ((${given}) => (${given}))(${required(file)}));`)
     .replace(/^export (\{[^}]*\});$/gm, (all, given) => `Object.assign(module.exports, ${given});`)
-    .replace(/^export ((?:const|class|function) (\w+))/gm, (all, kept, name) => {
+    .replace(/^export ((?:const|class|function|async function) (\w+))/gm, (all, kept, name) => {
       names.push(name);
       return kept;
     });

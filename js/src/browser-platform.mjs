@@ -15,3 +15,5 @@ export function reader(memory) {
   const bytes = new Uint8Array(memory);
   return (at, length) => decoder.decode(bytes.subarray(at, at + length));
 }
+
+export const shortLength = 200;

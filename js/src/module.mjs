@@ -16,6 +16,8 @@ const encoder = new TextEncoder();
 export class Module {
   #open;
   #reader;
+  #shortLength;
+  #short = 0;
   #messages = new Map();
   #text = null;
   #length = 0;
@@ -28,10 +30,12 @@ export class Module {
   // In units; below 0 until an instance is open.
   #capacity = -1;
 
-  /** `open` returns the exports of a new instance; `reader` what reads texts in its memory. */
-  constructor(open, reader) {
+  /** `open` returns the exports of a new instance. `reader` returns what reads texts in its memory.
+   * Texts of up to `shortLength()` units are written by a loop, which takes less time. */
+  constructor(open, reader, shortLength) {
     this.#open = open;
     this.#reader = reader;
+    this.#shortLength = shortLength;
   }
 
   /** Reads the signed numbers of 32 bits in memory. */
@@ -66,6 +70,7 @@ export class Module {
     const room = calls.allocate(ROOMS * UNIT * FIRST_CAPACITY);
     if (!records || !room) throw failure(OUT_OF_MEMORY, 'out of memory');
     this.calls = calls;
+    this.#short = this.#shortLength();
     this.records = records;
     this.#room = room;
     this.#capacity = FIRST_CAPACITY;
@@ -115,11 +120,26 @@ export class Module {
     if (text.length > this.#capacity) this.reserve(text.length);
     this.#text = null;
     this.#partsKind = -1;
-    const length = encoder.encodeInto(text, this.#firstView).written;
+    const length = this.#write(text, this.#firstView);
     if (length !== text.length && loneSurrogate(text) >= 0) return -1;
     this.#text = text;
     this.#length = length;
     return length;
+  }
+
+  // Writes the UTF-8 of a text. Returns its length.
+  #write(text, view) {
+    const { length } = text;
+    if (length <= this.#short) {
+      let all = 0;
+      for (let i = 0; i < length; i++) {
+        const unit = text.charCodeAt(i);
+        all |= unit;
+        view[i] = unit;
+      }
+      if (all < 0x80) return length;
+    }
+    return encoder.encodeInto(text, view).written;
   }
 
   /** Puts bytes into the first room. */
@@ -139,7 +159,7 @@ export class Module {
 
   /** Puts a text into the second room, which is large enough. Returns its length. */
   putSecond(text) {
-    const length = encoder.encodeInto(text, this.#secondView).written;
+    const length = this.#write(text, this.#secondView);
     if (length !== text.length && loneSurrogate(text) >= 0) throw this.notUtf8(text);
     return length;
   }

@@ -18,5 +18,7 @@ function reader(memory) {
     isAscii ? bytes.latin1Slice(at, at + length) : bytes.utf8Slice(at, at + length);
 }
 
-setPlatform({ core: opener('fluent_uri.wasm'), full: opener('fluent_uri_full.wasm'), reader });
+setPlatform({
+  core: opener('fluent_uri.wasm'), full: opener('fluent_uri_full.wasm'), reader, shortLength: 24,
+});
 module.exports = require('../cjs/api.cjs');
