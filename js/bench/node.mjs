@@ -13,5 +13,6 @@ let uriJs;
 try {
   uriJs = require('uri-js');
 } catch {}
-const times = timesOf(rowsOf(api, uriJs, urls), urls.length, Number(rounds), () => performance.now());
+const rows = rowsOf(api, uriJs, urls);
+const times = timesOf(rows, urls.length, Number(rounds), () => performance.now());
 console.log(JSON.stringify(times));

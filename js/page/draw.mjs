@@ -55,10 +55,11 @@ export function marked(from, to, tag) {
   return made;
 }
 
-/** Returns a text with what a former one lacks marked, and a button that takes it over. */
-export function result(from, value, take, label, current = from) {
+/** Returns a text with what a former one lacks marked, and a button that takes it over. If they are
+ * the same text, a note says so in place of the button. */
+export function result(from, value, take, label, same) {
   const text = String(value), code = el('span', 'code', marked(from, text, 'ins'));
-  if (text === current) return [code, el('span', 'note', 'as it is')];
+  if (text === from && same) return [code, el('span', 'note', same)];
   const button = el('button', '', label);
   button.type = 'button';
   button.addEventListener('click', () => take(text));

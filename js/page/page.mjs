@@ -128,7 +128,9 @@ function notesOf(value, name) {
   return notes.join(' · ');
 }
 
-function showComponents(value) {
+function showComponents(value, isMended) {
+  $('components-label').textContent = `Components${isMended ? ' of the mended link' : ''}`;
+  $('normal-label').textContent = `Normal form${isMended ? ' of the mended link' : ''}`;
   const rows = (value ? COMPONENTS : []).filter((name) => value[name] !== null);
   $('components').replaceChildren(...rows.flatMap((name) => {
     const dt = el('dt', '', name), dd = el('dd');
@@ -157,7 +159,8 @@ function showNormal(value, options) {
   out.replaceChildren();
   if (!value) return;
   const { value: normal } = attempt(() => value.normalize(options));
-  out.append(el('p', 'result', result(String(value), normal, take, 'Use it')));
+  const same = 'It is its own normal form.';
+  out.append(el('p', 'result', result(String(value), normal, take, 'Use it', same)));
   out.append(...changes(COMPONENTS, value, normal));
   if (value instanceof Iri || value instanceof IriRef) {
     const { value: uri } = attempt(() => value.toUri());
@@ -209,8 +212,10 @@ function showTarget(value) {
   const { value: back } = attempt(() => Iri.parse(base.value).relativize(target));
   const list = el('dl', 'stack');
   const row = (name, dd) => list.append(el('dt', '', name), dd);
-  row('Target', el('dd', '', result(String(target), target, take, 'Use it', String(value))));
-  if (back) row('Reference back', el('dd', '', result(String(back), back, take, 'Use it')));
+  const same = String(target) === String(value) && 'the link itself';
+  row('Target', el('dd', '', result(String(target), target, take, 'Use it', same)));
+  if (back) row('Reference from the base to the target',
+    el('dd', '', result(String(back), back, take, 'Use it')));
   out.append(list);
 }
 
@@ -222,7 +227,7 @@ function show() {
   showVerdict(text, value, why);
   const shown = value ?? showMended(text, why);
   if (value) showMended(text, null);
-  showComponents(shown);
+  showComponents(shown, shown !== null && shown !== value);
   showNormal(shown, options);
   showOrder(shown, options);
   showTarget(shown);

@@ -10,7 +10,7 @@ const CODES = [
 export const NOT_UTF8 = 4, OUT_OF_MEMORY = 8;
 const LAST_WITH_INDEX = NOT_UTF8, FIRST_OF_HOSTS = 15;
 
-/** Why a call has no result: what all errors of this package but `TypeError` and `RangeError` are. */
+/** Why a call has no result. The other errors are `TypeError` and `RangeError`. */
 export class UriError extends Error {
   constructor(message, fields) {
     super(message);
@@ -26,7 +26,7 @@ export class BuildError extends UriError {}
 /** A host has no name in ASCII. */
 export class AsciiHostError extends UriError {}
 for (const it of [UriError, ParseError, ResolveError, BuildError, AsciiHostError])
-  Object.defineProperty(it.prototype, 'name', { value: it.name, configurable: true, writable: true });
+  Object.defineProperty(it.prototype, 'name', { value: it.name, writable: true });
 
 /** Returns the error with this number, at an index of the input where it has one. */
 export function failure(number, message, index, input) {

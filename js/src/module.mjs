@@ -198,7 +198,7 @@ export class Module {
     return error;
   }
 
-  /** Whether the parts in memory are those of a text as one of a kind, and say that it is normal. */
+  /** Whether the parts in memory are those of a text as one of a kind, and say it is normal. */
   isPlainlyNormal(kind, text) {
     if (text !== this.#text || this.#partsKind !== kind) return false;
     try {

@@ -30,7 +30,8 @@ const socket = (scheme) => ({
   serialize(components) {
     const defaultPort = isSecure(components) ? 443 : 80;
     if (components.port === defaultPort || components.port === '') components.port = undefined;
-    if (typeof components.secure === 'boolean') components.scheme = components.secure ? 'wss' : 'ws';
+    const { secure } = components;
+    if (typeof secure === 'boolean') components.scheme = secure ? 'wss' : 'ws';
     components.secure = undefined;
     if (components.resourceName) {
       const [path, query] = components.resourceName.split('?');

@@ -36,8 +36,8 @@ function components() {
   assert.deepEqual(texts(UriRef.parse('')), [null, null, null, null, null, '', null, null]);
   assert.deepEqual(texts(UriRef.parse('?#')), [null, null, null, null, null, '', '', '']);
   const iri = Iri.parse('http://ü@bücher.example:1/straße?größe=😀#é');
-  assert.deepEqual(texts(iri), ['http', 'ü@bücher.example:1', 'ü', 'bücher.example', '1', '/straße',
-    'größe=😀', 'é']);
+  assert.deepEqual(texts(iri), ['http', 'ü@bücher.example:1', 'ü', 'bücher.example', '1',
+    '/straße', 'größe=😀', 'é']);
   for (const value of [uri, iri, UriRef.parse('//@:'), UriRef.parse('?#')])
     for (const name of COMPONENTS) {
       const span = value.span(name);
@@ -77,7 +77,7 @@ function errors() {
   fails(() => UriRef.parse('//%FF/').asciiHost, AsciiHostError, 'NAME_NOT_UTF8');
   fails(() => Iri.parse('x://a..é/').toUri({ asciiHost: true }), AsciiHostError, 'INVALID_NAME');
   for (const [given, code, fields] of [
-    [{ scheme: 'http', host: 'a', path: '/b?c' }, 'UNEXPECTED_CHAR', { component: 'path', index: 2 }],
+    [{ scheme: 'x', host: 'a', path: '/b?c' }, 'UNEXPECTED_CHAR', { component: 'path', index: 2 }],
     [{ scheme: 'x', query: 'ü%' }, 'UNEXPECTED_CHAR', { component: 'query', index: 0 }],
     [{ host: 'a' }, 'MISSING_COMPONENT', { component: 'scheme' }],
     [{ scheme: 'x', port: 1 }, 'MISSING_COMPONENT', { component: 'host' }],
@@ -86,7 +86,7 @@ function errors() {
     [{ scheme: 'x', path: 'é\ud800' }, 'NOT_UTF8', { component: 'path', index: 1 }],
   ]) fails(() => Uri.build(given), BuildError, code, fields);
   fails(() => UriRef.build({ path: 'a:b' }), BuildError, 'FIRST_PATH_SEGMENT_CONTAINS_COLON');
-  fails(() => IriRef.build({ host: 'é', path: '/é ' }), BuildError, 'UNEXPECTED_CHAR', { index: 2 });
+  fails(() => IriRef.build({ path: '/é ' }), BuildError, 'UNEXPECTED_CHAR', { index: 2 });
 }
 
 // A lone surrogate is never in a text, and never becomes another character.
@@ -96,8 +96,9 @@ function loneSurrogates() {
     const index = lone.search(/[\ud800-\udfff]/);
     for (const make of [
       () => Iri.mend(lone), () => Iri.mendLink(lone), () => uri.compare(lone),
-      () => Iri.equivalent(lone, 'x:\ufffd'), () => encode(lone, 'data'), () => uri.relativize(lone),
-      () => decode(lone, 'query'), () => Uri.parse('a:b').withQuery([[lone, '']]),
+      () => Iri.equivalent(lone, 'x:\ufffd'), () => encode(lone, 'data'),
+      () => uri.relativize(lone), () => decode(lone, 'query'),
+      () => Uri.parse('a:b').withQuery([[lone, '']]),
     ]) fails(make, ParseError, 'NOT_UTF8', { index, input: lone });
     for (const Class of CLASSES) assert.ok(!Class.canParse(lone) && Class.tryParse(lone) === null);
     assert.deepEqual(batch.mend([lone, 'a b'], IriRef), [null, 'a%20b']);
@@ -126,8 +127,9 @@ function wrongTypes() {
     () => new Uri('a:b'), () => new Reference('a:b'), () => Uri('a:b'),
     () => Uri.prototype.normalize.call({}), () => Uri.prototype.scheme,
     () => UriRef.parse('a').resolve('b'),
-    () => Uri.build({ hostname: 'a' }), () => Uri.build({ scheme: 1 }), () => uri.replace({ path: 1 }),
-    () => Uri.build(), () => uri.resolve('a', { basic: true, normalize: true }),
+    () => Uri.build({ hostname: 'a' }), () => Uri.build({ scheme: 1 }),
+    () => uri.replace({ path: 1 }), () => Uri.build(),
+    () => uri.resolve('a', { basic: true, normalize: true }),
     () => uri.resolve('a', { schemeRules: true }), () => batch.normalize('a:b'),
     () => batch.normalize(['a:b'], String), () => batch.toUri(['a:b'], Uri),
     () => batch.normalizeLines(['a']), () => decode('a', 'data'),
@@ -147,7 +149,8 @@ function values() {
   assert.equal(UriRef.mend(UriRef.parse('a')).path, 'a');
   assert.ok(Iri.parse(uri) instanceof Iri && Uri.parse(Iri.parse(uri)) instanceof Uri);
   assert.deepEqual(['a:b', 'a b', ''].map(Uri.canParse), [true, false, false]);
-  assert.deepEqual(['a:c', 'HTTP://b', 'no', 'a:b'].sort(Uri.compare), ['a:b', 'a:c', 'HTTP://b', 'no']);
+  assert.deepEqual(['a:c', 'HTTP://b', 'no', 'a:b'].sort(Uri.compare),
+    ['a:b', 'a:c', 'HTTP://b', 'no']);
   assert.deepEqual(['a:b', ''].map(Uri.tryParse).map(String), ['a:b', 'null']);
   assert.equal(require('fluent-uri').Uri, Uri);
 }
@@ -159,10 +162,10 @@ function calls() {
   assert.equal(String(Iri.parse('x:%C3%A9é%FF').normalize()), 'x:éé%FF');
   assert.equal(Uri.parse('http://a').equals('http://a/', { schemeRules: true }), true);
   assert.equal(Uri.parse('http://a').equals('http://a/'), false);
-  assert.deepEqual([Uri.parse('http://a').isNormal(), Uri.parse('http://A').isNormal()], [true, false]);
+  assert.deepEqual(['x://a', 'x://A'].map((it) => Uri.parse(it).isNormal()), [true, false]);
   const base = Uri.parse('http://a/b/c/d;p?q');
-  for (const [reference, target] of [['g:h', 'g:h'], ['../../../g', 'http://a/g'], ['//g', 'http://g'],
-    ['?y', 'http://a/b/c/d;p?y'], ['', 'http://a/b/c/d;p?q'], ['#s', 'http://a/b/c/d;p?q#s']])
+  for (const [reference, target] of [['g:h', 'g:h'], ['../../../g', 'http://a/g'],
+    ['//g', 'http://g'], ['?y', 'http://a/b/c/d;p?y'], ['', 'http://a/b/c/d;p?q'], ['#s', 'http://a/b/c/d;p?q#s']])
     assert.equal(String(base.resolve(reference)), target);
   assert.equal(String(base.resolve('%7E', { normalize: true })), 'http://a/b/c/~');
   assert.equal(String(base.resolve('%2E%2E/g', { basic: true })), 'http://a/b/c/%2E%2E/g');
@@ -177,9 +180,10 @@ function calls() {
   assert.equal(String(iri.toUri()), 'http://b%C3%BCcher.example/%C3%A9');
   assert.equal(String(iri.toUri({ asciiHost: true })), 'http://xn--bcher-kva.example/%C3%A9');
   assert.deepEqual([iri.asciiHost, Uri.parse('urn:a').asciiHost], ['xn--bcher-kva.example', null]);
-  assert.equal(String(Uri.build({ scheme: 'https', host: 'a', port: 8443, path: '/b', query: 'c=d' })),
-    'https://a:8443/b?c=d');
-  assert.equal(String(Iri.build({ scheme: 'x', userinfo: 'é', host: 'ü', path: '/😀' })), 'x://é@ü/😀');
+  assert.equal(String(Uri.build({ scheme: 'x', host: 'a', port: 8443, path: '/b', query: 'c=d' })),
+    'x://a:8443/b?c=d');
+  assert.equal(String(Iri.build({ scheme: 'x', userinfo: 'é', host: 'ü', path: '/😀' })),
+    'x://é@ü/😀');
   assert.equal(String(Uri.parse('http://u@a:80/b?c#d').replace({ port: null, fragment: null })),
     'http://u@a/b?c');
   assert.equal(normalVersion(), 1);
@@ -233,24 +237,27 @@ function batches() {
       return null;
     }
   };
+  const same = (made, call) => assert.deepEqual(made, given.map(orNull(call)));
   for (const Class of CLASSES) {
-    assert.deepEqual(batch.normalize(given, Class), given.map(orNull((it) => Class.parse(it).normalize())));
-    assert.deepEqual(batch.mend(given, Class), given.map(orNull(Class.mend)));
-    assert.deepEqual(batch.mendLink(given, Class), given.map(orNull(Class.mendLink)));
-    assert.deepEqual(batch.normalize(given, Class, { mend: true, schemeRules: true }),
-      given.map(orNull((it) => Class.mend(it).normalize({ schemeRules: true }))));
+    same(batch.normalize(given, Class), (it) => Class.parse(it).normalize());
+    same(batch.mend(given, Class), Class.mend);
+    same(batch.mendLink(given, Class), Class.mendLink);
+    same(batch.normalize(given, Class, { mend: true, schemeRules: true }),
+      (it) => Class.mend(it).normalize({ schemeRules: true }));
     for (const name of COMPONENTS)
-      assert.deepEqual(batch.component(given, name, Class), given.map((it) => Class.tryParse(it)?.[name] ?? null));
+      assert.deepEqual(batch.component(given, name, Class),
+        given.map((it) => Class.tryParse(it)?.[name] ?? null));
   }
   for (const options of [{}, { normalize: true, schemeRules: true }, { basic: true }, { mend: true }])
-    assert.deepEqual(batch.resolve(base, given, options), given.map(orNull((it) => base.resolve(it, options))));
-  assert.deepEqual(batch.relativize(base, given), given.map(orNull((it) => base.relativize(it))));
-  assert.deepEqual(batch.toUri(given, IriRef), given.map(orNull((it) => IriRef.parse(it).toUri())));
-  const { lines, errors } = batch.normalizeLines(given.filter((it) => it.isWellFormed?.() ?? true).join('\n'), Iri);
+    same(batch.resolve(base, given, options), (it) => base.resolve(it, options));
+  same(batch.relativize(base, given), (it) => base.relativize(it));
+  same(batch.toUri(given, IriRef), (it) => IriRef.parse(it).toUri());
+  const wellFormed = given.filter((it) => it !== 'x:\ud800');
+  const { lines, errors } = batch.normalizeLines(wellFormed.join('\n'), Iri);
   const made = new TextDecoder().decode(lines).split('\n');
   assert.equal(made.length, errors.length + 1);
-  const well = batch.normalize(given.filter((it) => it !== 'x:\ud800'), Iri);
-  assert.deepEqual(made.slice(0, -1).map((it, i) => (errors[i] ? null : it)), well);
+  assert.deepEqual(made.slice(0, -1).map((it, i) => (errors[i] ? null : it)),
+    batch.normalize(wellFormed, Iri));
   assert.deepEqual(batch.normalize([]), []);
   assert.equal(batch.normalizeLines('').errors.length, 0);
 }
@@ -260,7 +267,8 @@ function traps() {
   const folder = dirname(require.resolve('fluent-uri/package.json'));
   const { core } = require(join(folder, 'cjs', 'platform.cjs'));
   const kept = Uri.parse('http://a/b'), own = core.calls;
-  for (const name of ['parse', 'is_plainly_normal', 'normalize', 'resolve', 'compare', 'to_uri', 'encode']) {
+  const names = ['parse', 'is_plainly_normal', 'normalize', 'resolve', 'compare', 'to_uri', 'encode'];
+  for (const name of names) {
     core.calls[name] = () => { throw new WebAssembly.RuntimeError('unreachable'); };
     assert.throws(() => {
       Uri.parse('http://a/%7e').normalize();

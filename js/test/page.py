@@ -49,13 +49,12 @@ class Page:
         self.size, self.scheme = size, scheme
         options = Options()
         options.binary_location = shutil.which("chromium")
-        width, height = SIZES[size]
         for it in ["--headless=new", "--no-sandbox", "--disable-gpu", "--hide-scrollbars"]:
             options.add_argument(it)
         options.set_capability("goog:loggingPrefs", {"browser": "ALL"})
-        self.browser = webdriver.Chrome(service=Service(shutil.which("chromedriver")), options=options)
-        self.browser.execute_cdp_cmd("Emulation.setDeviceMetricsOverride", {
-            "width": width, "height": height, "deviceScaleFactor": 1, "mobile": size == "phone"})
+        driver = Service(shutil.which("chromedriver"))
+        self.browser = webdriver.Chrome(service=driver, options=options)
+        self.resize(SIZES[size][1])
         self.browser.execute_cdp_cmd("Emulation.setEmulatedMedia", {
             "features": [{"name": "prefers-color-scheme", "value": scheme}]})
         self.open(fragment)
@@ -96,11 +95,15 @@ class Page:
         self.browser.quit()
         return Page(self.size, self.scheme)
 
-    def picture(self, path):
-        height = self.run("return document.documentElement.scrollHeight")
-        width = self.run("return innerWidth")
+    def resize(self, height):
         self.browser.execute_cdp_cmd("Emulation.setDeviceMetricsOverride", {
-            "width": width, "height": height, "deviceScaleFactor": 1, "mobile": width < 500})
+            "width": SIZES[self.size][0], "height": height, "deviceScaleFactor": 1,
+            "mobile": self.size == "phone"})
+
+    def picture(self, path):
+        """Takes a picture of the whole page."""
+        self.resize(100)
+        self.resize(self.run("return document.documentElement.scrollHeight"))
         self.browser.save_screenshot(str(path))
 
 
@@ -159,12 +162,14 @@ def try_keys(page):
     check("Enter adds no line", page.run("return arguments[0].value", field).count("\n") == 0)
     field.send_keys(Keys.TAB)
     page.browser.switch_to.active_element.send_keys(Keys.ENTER)
-    check("the mended link is taken", page.run("return arguments[0].value", field).endswith("a%20b"))
+    taken = page.run("return arguments[0].value", field)
+    check(f"the mended link is taken: {taken}", taken.endswith("a%20b"))
     check("the link has the focus", page.browser.switch_to.active_element == field)
     seen = []
     for _ in range(20):
         page.browser.switch_to.active_element.send_keys(Keys.TAB)
-        seen.append(page.run("return document.activeElement.id || document.activeElement.textContent"))
+        seen.append(page.run(
+            "return document.activeElement.id || document.activeElement.textContent"))
     for name in ["rules", "other", "base", "share", "IRI"]:
         check(f"Tab comes to {name}", name in seen)
 

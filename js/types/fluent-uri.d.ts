@@ -180,7 +180,7 @@ export interface Class<T> extends Function {
   /** Returns the value that has these components, and no others (RFC 3986, section 5.3).
    * @throws {BuildError} where there is none. */
   build(components: Components): T;
-  /** Returns -1, 0 or 1, as `compare` of a value does, for any two texts: `texts.sort(Uri.compare)`.
+  /** Returns -1, 0 or 1, as `compare` of a value does: `texts.sort(Uri.compare)`.
    * @throws {ParseError} for a lone surrogate. */
   compare(one: Text, other: Text, options?: RuleOptions): -1 | 0 | 1;
   /** Returns whether two texts have one normal form, or are the same text not of this kind. */
@@ -248,7 +248,7 @@ export const IriRef: Class<IriRef>;
 /** Returns a text in UTF-8, or bytes, as a component: each character that it may have as it is, all
  * else percent-encoded. `data` keeps unreserved characters alone.
  * @param options With `keepEncoded` each `%XX` stays.
- * @throws {ParseError} for a lone surrogate, and with `keepEncoded` for bytes that are not UTF-8. */
+ * @throws {ParseError} for a lone surrogate, and with `keepEncoded` for what is not UTF-8. */
 export function encode(data: Text | Uint8Array, component: CodedComponent | 'data'): string;
 export function encode(
   data: Text | Uint8Array, component: CodedComponent, options: { keepEncoded?: boolean },
@@ -268,7 +268,9 @@ type Results = (string | null)[];
 /** Calls for many texts. A result is null where the call of one text would throw. */
 export const batch: {
   /** Normal forms, of `Uri` if no class is given. With `mend` each text is mended first. */
-  normalize(texts: Texts, Class?: OfReferences, options?: RuleOptions & { mend?: boolean }): Results;
+  normalize(
+    texts: Texts, Class?: OfReferences, options?: RuleOptions & { mend?: boolean },
+  ): Results;
   /** The targets of references against one base. */
   resolve(base: Uri | Iri, texts: Texts, options?: ResolveOptions): Results;
   /** The references that lead from one base to targets. */
