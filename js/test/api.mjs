@@ -67,6 +67,9 @@ function errors() {
   rejected(Uri, 'http', 'UNEXPECTED_CHAR', 4);
   rejected(Iri, 'é\ud800 ', 'NOT_UTF8', 1);
   rejected(Iri, '\ude00\ud83d', 'NOT_UTF8', 0);
+  // The index is in the link without what HTML drops.
+  fails(() => UriRef.mendLink(' \tx://a\n b/ '), ParseError, 'UNEXPECTED_CHAR',
+    { index: 5, input: 'x://a b/' });
   const base = Uri.parse('http://a/b');
   fails(() => base.resolve('a b'), ParseError, 'UNEXPECTED_CHAR', { index: 1, input: 'a b' });
   fails(() => base.resolve('\ud800'), ParseError, 'NOT_UTF8', { index: 0, input: '\ud800' });
@@ -163,6 +166,10 @@ function calls() {
   assert.equal(Uri.parse('http://a').equals('http://a/', { schemeRules: true }), true);
   assert.equal(Uri.parse('http://a').equals('http://a/'), false);
   assert.deepEqual(['x://a', 'x://A'].map((it) => Uri.parse(it).isNormal()), [true, false]);
+  // What options do when they are read changes no result.
+  const meddling = { get schemeRules() { Uri.parse('z:z').isNormal(); return true; } };
+  assert.equal(Uri.parse('http://a').compare('http://a/', meddling), 0);
+  assert.equal(Uri.parse('http://a').isNormal(meddling), false);
   const base = Uri.parse('http://a/b/c/d;p?q');
   for (const [reference, target] of [['g:h', 'g:h'], ['../../../g', 'http://a/g'],
     ['//g', 'http://g'], ['?y', 'http://a/b/c/d;p?y'], ['', 'http://a/b/c/d;p?q'],
