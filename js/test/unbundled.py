@@ -1,7 +1,7 @@
 #!/usr/bin/python3
 """Loads the package into Chromium as a page without a bundler does, and makes calls of it.
 
-usage: browser.py PACKAGE     (the folder of package.json; status 77: no chromium)
+usage: unbundled.py PACKAGE     (the folder of package.json; status 77: no chromium)
 """
 import functools
 import http.server
@@ -11,12 +11,12 @@ import threading
 
 for it in ["chromium", "chromedriver"]:
     if not shutil.which(it):
-        print(f"browser: skipped: no {it}")
+        print(f"unbundled: skipped: no {it}")
         sys.exit(77)
 try:
     from selenium import webdriver
 except ImportError:
-    print("browser: skipped: no python3-selenium")
+    print("unbundled: skipped: no python3-selenium")
     sys.exit(77)
 from selenium.webdriver.chrome.options import Options
 from selenium.webdriver.chrome.service import Service
@@ -66,9 +66,9 @@ def main():
         """)
         if got != wanted:
             failed += 1
-            print(f"browser: FAIL {name}: {made} is {got!r}, not {wanted!r}")
+            print(f"unbundled: FAIL {name}: {made} is {got!r}, not {wanted!r}")
     browser.quit()
-    print(f"browser: {'FAILED' if failed else 'passed'}: {len(CASES)} calls")
+    print(f"unbundled: {'FAILED' if failed else 'passed'}: {len(CASES)} calls")
     return 1 if failed else 0
 
 
