@@ -41,7 +41,13 @@ try)
 esac
 RT
 chmod +x "$work/bin/rt"
-without_rt
+# All that the commands need but rt, for a PATH without it.
+tools=$work/tools
+mkdir "$tools"
+for it in sh env readlink grep head dirname; do
+    ln -s "$(command -v "$it")" "$tools/$it"
+done
+ln -s "$(python3 -c 'import sys; print(sys.executable)')" "$tools/python3"
 KIT=$kit WORK=$work MADE=first PATH=$work/bin:$PATH
 export KIT WORK MADE PATH
 # program NAME WANTED: what ./uritool prints

@@ -19,6 +19,8 @@ build() {
 does 'gcc: the tests fail' build gcc CC=cc CXX=c++ check
 does 'the header, the crate and the library differ' "$root/c/hold" "$work/gcc/libfluent_uri_c.so"
 does 'c/hold does not report a change' "$root/c/hold" --trial
+does 'a text that no object can be' "$root/c/lengths" "$work/gcc/libfluent_uri_c.so"
+does 'c/lengths does not report a call' "$root/c/lengths" --trial
 readelf -n "$work/gcc/libfluent_uri_c.so" 2> "$work/log" | grep -q 'x86-64-v2' ||
     fail 'the library does not say which processor it needs'
 

@@ -1,47 +1,46 @@
 #!/bin/sh
-# Tries what tools/completions writes of the help of two programs, in bash, fish and zsh.
+# Tries what bash, fish and zsh offer after words of the programs that `rt ci` built.
 . "$(dirname "$0")/lib.sh"
-. "$root/.ci/release_tree.sh"
+mkdir "$work/bin"
+for it in uritool urilines; do
+    built=$root/crates/$it/out/$it
+    [ -x "$built" ] || fail "$built is not built"
+    ln -s "$built" "$work/bin/$it"
+done
+FLUENT_URI_OFFERS=$root/completions/offers PATH=$work/bin:$PATH
+export FLUENT_URI_OFFERS PATH
 
-# What the shells offer after some words.
-tools/completions "$work/uritool" "$work/urilines" "$work/words" || exit 1
-if has bash 'its completions'; then
-    cat > "$work/offers" <<'BASH'
-. "$WORK/words/bash/$1" || exit 1
-COMP_WORDS=("$@") COMP_CWORD=$(($# - 1)) COMPREPLY=()
-"_$1"
-echo "${COMPREPLY[*]}"
-BASH
-    offers() {
-        must "bash: $2" "$1" "$(bash "$work/offers" $2 "$3")"
-    }
-    # shellcheck disable=SC2086 # (words)
-    offers 'normalize check help' urilines ''
-    offers 'uri uri-ref iri iri-ref' 'urilines --field 2 check' ''
-    offers 'uri-ref' 'urilines -0 normalize' uri-
-    offers 'drop' 'urilines --errors =' d
-    offers '--field -0 --null --errors -h --help --invert' 'urilines check' -
-    offers '' 'urilines check uri' ''
-    offers 'parse resolve links' uritool ''
-    offers 'uri iri' 'uritool resolve' ''
-    offers '' 'uritool links' ''
-fi
-if has fish 'its completions'; then
-    offers() {
-        must "fish: $2" "$1" "$(fish --no-config -c "source $work/words/fish/${2%% *}.fish
-            complete -C '$2'" | cut -f 1 | paste -sd ' ')"
-    }
-    offers 'check help normalize' 'urilines '
-    offers 'iri iri-ref uri uri-ref' 'urilines normalize '
-    offers '' 'urilines normalize uri '
+# offers WANTED LINE: what the shell offers for the last word of the line, which may be empty.
+offers() {
+    must "$shell: $2" "$1" "$("in_$shell" "$2" | sort | paste -sd ' ')"
+}
+in_bash() {
+    bash -c '. "$0"; IFS=" " read -ra COMP_WORDS <<< "$1"; [[ $1 != *" " ]] || COMP_WORDS+=("")
+        COMP_CWORD=$((${#COMP_WORDS[@]} - 1)); _fluent_uri; printf "%s\n" "${COMPREPLY[@]}"' \
+        "$root/completions/bash" "$1"
+}
+in_fish() {
+    fish --no-config -c "source $root/completions/fish; complete -C '$1'" | cut -f 1
+}
+in_zsh() {
+    zsh -fc '_describe() { print -l -- ${${(P)2}%%:*} }
+        words=("${(@s: :)2}"); CURRENT=$#words; source $1' zsh "$root/completions/zsh" "$1"
+}
+for shell in bash fish zsh; do
+    has $shell "completions of $shell" || continue
+    offers 'iri uri' 'uritool resolve '
+    offers '' 'uritool links '
+    offers 'normalize' 'uritool --scheme-rules n'
+    offers 'check' 'urilines c'
+    offers 'uri-ref' 'urilines -0 normalize uri-'
+    offers 'uri' 'urilines --field 2 resolve u'
     offers '--invert' 'urilines check --inv'
     offers '' 'urilines normalize --inv'
-    offers 'iri uri' 'uritool resolve '
-fi
-if has zsh 'its completions'; then
-    for it in "$work/words/zsh/"*; do
-        zsh -n "$it"
-        must "zsh reads $it" 0 $?
-    done
-fi
+    offers '' 'urilines check uri '
+    offers 'drop line stderr stop' 'urilines --errors '
+done
+must 'a value after =' '--errors=drop' "$("$FLUENT_URI_OFFERS" urilines --errors=d)"
+must 'a value after the word =' drop "$("$FLUENT_URI_OFFERS" urilines --errors = d)"
+must 'what a command does' "$(printf 'mend\tWrite what each line is mended to, as the link of a page')" \
+    "$("$FLUENT_URI_OFFERS" urilines me)"
 ends

@@ -39,7 +39,8 @@ for it in $found; do
     cd "$root/examples/$it" || exit 2
     "$python" -m unittest -v test_*.py > "$work/log" 2>&1 || fail "a test of examples/$it failed"
     grep "^$it: " "$work/log" | sed 's/^/in_use: /'
-    why=$(sed -n "s/.*skipped '\(.*\)'/\1/p" "$work/log" | paste -sd ',')
+    # (SERD_TESTS is no part of ./check)
+    why=$(sed -n "/SERD_TESTS/d; s/.*skipped '\(.*\)'/\1/p" "$work/log" | paste -sd ',')
     [ -z "$why" ] || skip "a test of examples/$it" "$why"
     grep '^Ran ' "$work/log" | sed "s/^/in_use: $it: /"
 done

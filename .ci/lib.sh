@@ -94,16 +94,6 @@ copy_tree() {
     done
 }
 
-# without_rt: sets `tools` to a folder for PATH with what the commands need, but for rt.
-without_rt() {
-    tools=$work/tools
-    mkdir "$tools"
-    for it in sh env readlink grep head dirname; do
-        ln -s "$(command -v "$it")" "$tools/$it"
-    done
-    ln -s "$(python3 -c 'import sys; print(sys.executable)')" "$tools/python3"
-}
-
 # interrupted COMMAND..: ends the command once it has written $work/slow, and sets its `status`.
 interrupted() {
     "$@" > "$work/out" 2> "$work/err" &

@@ -6,7 +6,8 @@
 # PYTHON_DEBUG the Python that counts references, if it is not python3-dbg. GENERATED_SECONDS (6)
 # says how long generated calls are compared, and GENERATED_SEED (1) which.
 . "$(dirname "$0")/lib.sh"
-python=${PYTHON:-python3}
+# (the packages of Debian are those of its own Python)
+python=${PYTHON:-$(command -v /usr/bin/python3 || echo python3)}
 if ! "$python" -c 'import sys; sys.exit(sys.version_info < (3, 8))' 2> /dev/null; then
     skip 'the package' 'there is no Python from 3.8 on'
     exit 0
@@ -24,7 +25,9 @@ tests() {
     "$runner" -c "import fluent_uri, sys; sys.exit(fluent_uri.is_compiled is not $wanted)" \
         > "$work/log" 2>&1 || fail "fluent_uri.is_compiled is not $wanted"
     cd "$root/python/tests" || exit 2
-    "$runner" -m unittest "$@" -q > "$work/log" 2>&1 || fail "a test failed ($told)"
+    "$runner" -m unittest "$@" -v > "$work/log" 2>&1 || fail "a test failed ($told)"
+    sed -n "s/.*skipped ['\"]\(mypy is\|there is no \(package\|test\.\)\)\(.*\)['\"]$/\1\3/p" \
+        "$work/log" | sort -u | while read -r why; do skip 'a test of the package' "$why"; done
     grep '^Ran ' "$work/log" | sed "s/^/python: $told: /"
 }
 

@@ -244,8 +244,8 @@ proved=$tree/out/release/fluent-uri-$version.proved.txt
 (cd "$work/files" && sed -n 's|^\([0-9a-f]*\)  /|\1  |p' "$proved" | sha256sum --quiet -c)
 must 'the digests of what is installed' 0 $?
 for it in bin/uritool bin/urilines share/man/man1/urilines.1.gz include/fluent_uri.h \
-    share/bash-completion/completions/urilines share/zsh/vendor-completions/_uritool \
-    share/fish/vendor_completions.d/urilines.fish lib/python3/dist-packages/fluent_uri/batch.py \
+    share/bash-completion/completions/uritool share/zsh/vendor-completions/_urilines \
+    share/fish/vendor_completions.d/urilines.fish share/fluent-uri/offers lib/python3/dist-packages/fluent_uri/batch.py \
     lib/sqlite3/fluent_uri.so lib/postgresql/15/lib/fluent_uri.so \
     share/postgresql/15/extension/fluent_uri.control; do
     must "the packages have $it" 1 "$([ -e "$work/files/usr/$it" ] && echo 1)"

@@ -1,6 +1,6 @@
-# What stands for a release in the scripts that read this file after lib.sh: a copy of the tree that
-# is one (`tree`), and a command `rt` that proves nothing. Its archive has the exports of the header,
-# which do nothing, and its programs print what lists their words.
+# What stands for a release in release.sh, which reads this file: a copy of the tree that is one
+# (`tree`), and a command `rt` that proves nothing. Its archive has the exports of the header, and
+# these and its programs do nothing.
 has cc 'what stands for the programs' || exit 0
 
 tree=$work/tree
@@ -35,41 +35,12 @@ mkdir -p js/wasm
 echo 'a module' | tee js/wasm/fluent_uri.wasm > js/wasm/fluent_uri_full.wasm
 MODULE
 
-cat > "$work/urilines.c" <<'C'
-#include <stdio.h>
-#include <string.h>
-#define OPTIONS "Options:\n" \
-    "      --field <N>       A field, from 1\n" \
-    "  -0, --null            Texts end with NUL\n" \
-    "      --errors <WHERE>  What happens: so [possible values: line, drop, stop]\n" \
-    "  -h, --help            Print help\n"
-int main(int count, char **words) {
-    if (count > 1 && !strcmp(words[1], "--help"))
-        puts("Reads\n\nUsage: urilines [OPTIONS] <COMMAND>\n\nCommands:\n"
-             "  normalize  Write the normal form of 'each' line\n"
-             "  check      Pass on the lines\n"
-             "  help       Print this message\n\n" OPTIONS "  -V, --version         Print version");
-    else if (count > 1)
-        printf("Writes\n\nUsage: urilines %s [OPTIONS] <KIND>\n\nArguments:\n"
-               "  <KIND>  What a line is [possible values: uri, uri-ref, iri, iri-ref]\n\n" OPTIONS
-               "%s", words[1], strcmp(words[1], "check") ? "" : "      --invert          Others\n");
-    return 0;
-}
-C
-cat > "$work/uritool.c" <<'C'
-#include <stdio.h>
-int main(void) {
-    fputs("usage: uritool parse KIND TEXT | resolve uri|iri BASE REF | links BASE REF...\n",
-          stderr);
-    return 2;
-}
-C
 {
     echo '#include "fluent_uri.h"'
     sed -n '/^uint32_t fluent_uri_/ { :a; /;/!{ N; ba; }; s/;/ { return 0; }/p; }' c/include/fluent_uri.h
 } > "$work/exports.c"
-for it in urilines uritool; do
-    cc -O2 "$work/$it.c" -o "$work/$it" || exit 2
+for it in urilines:0 uritool:2; do
+    echo "int main(void) { return ${it#*:}; }" | cc -x c - -o "$work/${it%:*}" || exit 2
 done
 cc -O2 -fPIC -w -Ic/include -c "$work/exports.c" -o "$work/exports.o" || exit 2
 echo 'int fluent_uri_heap_stands_here;' | cc -fPIC -x c -c - -o "$work/heap.o" || exit 2

@@ -68,7 +68,6 @@ esac
 RT
 printf '#!/bin/sh\necho made "$@"\n' > "$work/bin/make"
 chmod +x "$work/bin/rt" "$work/bin/make"
-without_rt
 KIT=$kit ROOT=$root WORK=$work TMPDIR=$work/tmp PATH=$work/bin:$PATH
 export KIT ROOT WORK TMPDIR PATH
 # does STATUS LAST-LINE WORDS..: runs ./test, and compares its status and its last line
@@ -132,10 +131,6 @@ unset FAILS
 count=$(cat crates/stream_tests/src/*.rt | grep -c '^#\[test\]$')
 CRASHES=stream_tests does 1 "0 passed, $count failed" stream_tests
 says 'what the compiler says' 'stream_tests: src/lib.rt:1:1: error[any]: what the compiler says'
-other="rattle-kit-0 ${kit#* }"
-KIT=$other CRASHES=compiled does 1 '0 passed, 1 failed' obligations
-says 'a failed run names a kit of the same logic' \
-    "test: the kit here is '$other'; this tree was proved with '$kit'"
 rows=$(grep -hv '^#' crates/vectors/data/[a-z]*.txt | grep -c 'ipv6 ')
 LOST=1 does 1 "0 passed, $rows failed" 'ipv6 '
 says 'rows that were not run' "vectors: $((rows - 1)) rows were run, and not $rows"
@@ -153,25 +148,10 @@ does 0 "$count passed, 0 failed" vectors
 must "the crate of that name, and not the word" 'vectors vectors' "$(paste -sd ' ' "$work/ran")"
 does 0 '2 passed, 0 failed' uritool urilines uritool
 refuses "no crate is named 'no such word', and no row contains it" 'no such word'
-refuses "no crate is named '', and no row contains it" ''
-refuses "no crate is named '--all', and no row contains it" --all
 refuses 'crates.txt has no ipv6; a word of rows stands alone' uritool ipv6
 refuses 'uri_pct has no tests of its own' uri_pct
 refuses 'nothing was run: C and Python, since the kit builds no library that is not proved: '`
     `'./build fluent_uri_c proves and builds it, and then ./test runs them' fluent_uri_c
-PATH=$tools ./test uritool > "$work/out" 2> "$work/err"
-must 'the status without rt' 1 $?
-no_rt='rt is not on the PATH: add the folder bin of the Rattle kit (README.md, "Build and prove")'
-must 'the line without rt' "test: $no_rt" "$(cat "$work/err")"
-./test --help > "$work/out" 2> "$work/err"
-must 'the status of --help' 0 $?
-must 'its first line' "$(sed -n '2s/^"""//p' test)" "$(head -n 1 "$work/out")"
-TMPDIR=$work/none ./test uritool > "$work/out" 2> "$work/err"
-must 'a folder for temporary files that is not there is another one' 0 $?
-KIT='rattle-kit-0 logic 0' does 0 '1 passed, 0 failed' uritool
-must 'the line of a kit with another logic' \
-    "test: the kit here is 'rattle-kit-0 logic 0'; this tree was proved with '$kit'" \
-    "$(head -n 1 "$work/err")"
 
 # What ./build leaves of the exports for C.
 mkdir out

@@ -8,7 +8,6 @@ built=${1:-$root/crates/uritool/out/uritool}
 at_once=${2:-4}
 usage='usage: uritool parse KIND TEXT | [--scheme-rules] normalize KIND TEXT | mend KIND TEXT | resolve uri|iri BASE REF | [--scheme-rules] links BASE REF...'
 notice='uritool: this run is checked and not yet proved; ./build proves and builds the program'
-opaque="refused when base has a rootless path and no authority, reference should either have scheme, be empty or start with '#'"
 bad=$(printf 'a\377')
 
 lines() {
@@ -22,34 +21,16 @@ does() {
     answer)
         lines authority=h path=/p query=q fragment=f > wanted.out
         "$program" parse uri-ref '//h/p?q#f' > out 2> err ;;
-    normal-form)
-        lines http://h/~ > wanted.out
-        "$program" normalize uri 'HTTP://h:80/%7e' > out 2> err ;;
-    mended-link)
-        lines http://h/a%20b > wanted.out
-        "$program" mend uri ' http://h/a b' > out 2> err ;;
-    target)
-        lines http://a/b/g > wanted.out
-        "$program" resolve uri 'http://a/b/c/d;p?q' '../g' > out 2> err ;;
     longest-argument)
         # Of 131,071 bytes at most, which is what Linux gives a program.
         lines "$(printf '%043690d' 0 | tr 0 A)" > wanted.out
         "$program" normalize uri-ref "$(printf '%043690d' 0 | sed 's/0/%41/g')" > out 2> err ;;
-    links)
-        lines 'new 0 foo:x' "$opaque" > wanted.out
-        "$program" links 'foo:bar' 'foo:x' '//g' > out 2> err ;;
     rejected-text)
         lines 'error: unexpected character at index 1' > wanted.err
         "$program" parse uri 'a b' > out 2> err ;;
     no-words)
         lines "$usage" > wanted.err
         "$program" > out 2> err ;;
-    too-few-words)
-        lines "$usage" > wanted.err
-        "$program" parse uri-ref > out 2> err ;;
-    too-many-words)
-        lines "$usage" > wanted.err
-        "$program" parse uri-ref a b > out 2> err ;;
     argument-not-utf8)
         lines 'error: arguments' > wanted.err
         "$program" parse uri-ref "$bad" > out 2> err ;;
@@ -73,17 +54,13 @@ does() {
     esac
 }
 
-# The forms, each with the status that it must end with.
+# The forms, each with the status that it must end with. `rt try` compiles the program for each run,
+# so of it only those are tried in which ./uritool does something of its own.
+of_script='answer|longest-argument|rejected-text|argument-not-utf8|closed-output'
 forms='answer 0
-normal-form 0
-mended-link 0
-target 0
 longest-argument 0
-links 0
 rejected-text 1
 no-words 2
-too-few-words 2
-too-many-words 2
 argument-not-utf8 1
 name-not-utf8 0
 closed-output 1
@@ -109,20 +86,21 @@ try() {
     cmp -s err wanted.err || echo "uritool: $way: $1: another error output: $(cat err)"
 }
 
-# try_all WAY PROGRAM: tries each form, several at once
+# try_all WAY PROGRAM [FORMS]: tries each form, or these, several at once
 try_all() {
     way=$1 program=$2 running=0
+    echo "$forms" | grep -E "^(${3-.*}) " > "$work/forms"
     while read -r form status; do
+        runs=$((runs + 1))
         (try "$form" "$status") >> "$work/wrong" &
         running=$((running + 1))
         [ $((running % at_once)) -ne 0 ] || wait
-    done <<FORMS
-$forms
-FORMS
+    done < "$work/forms"
     wait
 }
 
 [ -x "$built" ] || { echo "uritool: $built is not built"; exit 1; }
+runs=0
 : > "$work/wrong"
 try_all built "$(readlink -f "$built")"
 copy_tree "$work/tree" src specs proofs
@@ -131,7 +109,7 @@ cp "$(readlink -f "$built")" "$work/tree/out/uritool"
 echo crates.txt > "$work/tree/out/uritool.stamp"
 try_all installed "$work/tree/uritool"
 rm -r "$work/tree/out"
-try_all unproved "$work/tree/uritool"
+try_all unproved "$work/tree/uritool" "$of_script"
 cat "$work/wrong"
-echo "uritool: $(($(echo "$forms" | wc -l) * 3)) runs, $(grep -c . "$work/wrong") wrong"
+echo "uritool: $runs runs, $(grep -c . "$work/wrong") wrong"
 [ ! -s "$work/wrong" ]

@@ -123,7 +123,7 @@ static inline int32_t uri_port_number(uri_bytes digits) {
 static inline int uri_next_pair(uri_bytes query, size_t *position, uri_bytes *name,
                                 uri_bytes *value) {
     fluent_uri_pair pair;
-    if (!fluent_uri_next_pair(query.at, query.len, position, &pair)) return 0;
+    if (fluent_uri_next_pair(query.at, query.len, position, &pair) != 1) return 0;
     name->at = query.at + pair.name.start, name->len = pair.name.end - pair.name.start;
     value->at = name->at, value->len = 0;
     if (pair.value.start != SIZE_MAX) {

@@ -2,6 +2,7 @@
 #include "values.h"
 
 #include "funcapi.h"
+#include "lib/stringinfo.h"
 #include "mb/pg_wchar.h"
 #include "miscadmin.h"
 #include "utils/builtins.h"
@@ -18,7 +19,7 @@ static bool component_of(Datum datum, uint32 component, uri_bytes *found) {
     fluent_uri_parts parts;
 
     uri_read_text((struct varlena *) PG_DETOAST_DATUM_PACKED(datum), &it);
-    if (fluent_uri_parse(it.kind, it.text.at, it.text.len, &parts) != 0)
+    if (uri_parse(it.kind, it.text, &parts) != 0)
         elog(ERROR, "a stored %s is not %s", uri_type_name(it.kind), uri_titles[it.kind]);
     return uri_component(&parts, component, it.text.at, found);
 }
@@ -28,7 +29,7 @@ static bool component_of(Datum datum, uint32 component, uri_bytes *found) {
     Datum uri_##NAME(PG_FUNCTION_ARGS) { \
         uri_bytes found; \
         if (!component_of(PG_GETARG_DATUM(0), COMPONENT, &found)) PG_RETURN_NULL(); \
-        PG_RETURN_TEXT_P(cstring_to_text_with_len((const char *) found.at, (int) found.len)); \
+        PG_RETURN_TEXT_P(uri_text_of(found)); \
     }
 
 COMPONENT(scheme, FLUENT_URI_SCHEME)
@@ -60,7 +61,7 @@ static text *written(uri_call call, uint32 number, uint32 options, uri_bytes a, 
     for (;;) {
         text *made = palloc(VARHDRSZ + room);
 
-        uri_write(call, number, options, a, b, (uint8_t *) VARDATA(made), room, outcome);
+        uri_make(call, number, options, a, b, (uint8 *) VARDATA(made), room, outcome);
         uri_check_call(outcome->error);
         if (outcome->error == 0 && outcome->length <= room) {
             SET_VARSIZE(made, VARHDRSZ + outcome->length);
@@ -100,7 +101,7 @@ static uint32 option_of(FunctionCallInfo fcinfo, int number) {
 PG_FUNCTION_INFO_V1(uri_resolve);
 Datum uri_resolve(PG_FUNCTION_ARGS) {
     uri_value base;
-    uri_bytes reference = uri_bytes_of(PG_GETARG_TEXT_PP(1));
+    uri_bytes reference = URI_GIVEN(1);
     uint32 options = option_of(fcinfo, 2);
     fluent_uri_outcome outcome;
     text *target;
@@ -123,12 +124,13 @@ Datum uri_resolve(PG_FUNCTION_ARGS) {
 PG_FUNCTION_INFO_V1(uri_normalize_under);
 Datum uri_normalize_under(PG_FUNCTION_ARGS) {
     uri_value it;
+    uri_bytes form;
     uint32 options = option_of(fcinfo, 1);
 
     uri_read(URI_VALUE(0), &it);
-    PG_RETURN_POINTER(uri_value_or_error(
-        it.kind,
-        uri_bytes_of(written_of_values(URI_NORMALIZE, it.kind, options, it.form, none))));
+    form = uri_bytes_of(written_of_values(URI_NORMALIZE, it.kind, options, it.form, none));
+    uri_to_server(form);
+    PG_RETURN_POINTER(uri_value_or_error(it.kind, form));
 }
 
 PG_FUNCTION_INFO_V1(uri_relativize);
@@ -138,8 +140,8 @@ Datum uri_relativize(PG_FUNCTION_ARGS) {
 
     uri_read_text(URI_VALUE(0), &base);
     uri_read_text(URI_VALUE(1), &target);
-    PG_RETURN_TEXT_P(
-        written_of_values(URI_RELATIVIZE, base.kind, options, base.text, target.text));
+    PG_RETURN_TEXT_P(uri_text_to_server(
+        written_of_values(URI_RELATIVIZE, base.kind, options, base.text, target.text)));
 }
 
 PG_FUNCTION_INFO_V1(iri_to_uri);
@@ -161,26 +163,25 @@ static uint32 kind_of(text *name) {
     if (kind < 0)
         ereport(ERROR, (errcode(ERRCODE_INVALID_PARAMETER_VALUE), errmsg("no such kind of text"),
                         errhint("The kinds are uri, uri-ref, iri and iri-ref.")));
-    uri_check_encoding((uint32) kind);
     return (uint32) kind;
 }
 
 PG_FUNCTION_INFO_V1(uri_is);
 Datum uri_is(PG_FUNCTION_ARGS) {
     uint32 kind = kind_of(PG_GETARG_TEXT_PP(0));
-    uri_bytes given = uri_bytes_of(PG_GETARG_TEXT_PP(1));
+    uri_bytes given = URI_GIVEN(1);
     fluent_uri_parts parts;
 
-    PG_RETURN_BOOL(fluent_uri_parse(kind, given.at, given.len, &parts) == 0);
+    PG_RETURN_BOOL(uri_parse(kind, given, &parts) == 0);
 }
 
 PG_FUNCTION_INFO_V1(uri_error);
 Datum uri_error(PG_FUNCTION_ARGS) {
-    uri_bytes given = uri_bytes_of(PG_GETARG_TEXT_PP(0));
+    uri_bytes given = URI_GIVEN(0);
     uint32 kind = kind_of(PG_GETARG_TEXT_PP(1));
     fluent_uri_parts parts;
 
-    if (fluent_uri_parse(kind, given.at, given.len, &parts) == 0) PG_RETURN_NULL();
+    if (uri_parse(kind, given, &parts) == 0) PG_RETURN_NULL();
     PG_RETURN_TEXT_P(
         cstring_to_text(psprintf("%s at index %zu", uri_message(parts.error), parts.index)));
 }
@@ -188,16 +189,16 @@ Datum uri_error(PG_FUNCTION_ARGS) {
 /* The position of the error in characters, from 1, or 0. */
 PG_FUNCTION_INFO_V1(uri_error_position);
 Datum uri_error_position(PG_FUNCTION_ARGS) {
-    uri_bytes given = uri_bytes_of(PG_GETARG_TEXT_PP(0));
+    uri_bytes given = URI_GIVEN(0);
     uint32 kind = kind_of(PG_GETARG_TEXT_PP(1));
     fluent_uri_parts parts;
 
-    if (fluent_uri_parse(kind, given.at, given.len, &parts) == 0) PG_RETURN_INT32(0);
+    if (uri_parse(kind, given, &parts) == 0) PG_RETURN_INT32(0);
     PG_RETURN_INT32(uri_character_at(given, parts.index));
 }
 
 static Datum mended(FunctionCallInfo fcinfo, uri_call call) {
-    uri_bytes given = uri_bytes_of(PG_GETARG_TEXT_PP(0));
+    uri_bytes given = URI_GIVEN(0);
     uint32 kind = kind_of(PG_GETARG_TEXT_PP(1));
     fluent_uri_outcome outcome;
     text *made = written(call, kind, 0, given, none, &outcome);
@@ -208,7 +209,7 @@ static Datum mended(FunctionCallInfo fcinfo, uri_call call) {
                                uri_shown(given)),
                         errdetail("The error is: %s at index %zu.", uri_message(outcome.error),
                                   outcome.index)));
-    PG_RETURN_TEXT_P(made);
+    PG_RETURN_TEXT_P(uri_text_to_server(made));
 }
 
 PG_FUNCTION_INFO_V1(uri_mend);
@@ -244,7 +245,7 @@ static uint32 component_named(text *name) {
 PG_FUNCTION_INFO_V1(uri_decode_bytea);
 Datum uri_decode_bytea(PG_FUNCTION_ARGS) {
     uint32 component = component_named(PG_GETARG_TEXT_PP(0));
-    uri_bytes given = uri_bytes_of(PG_GETARG_TEXT_PP(1));
+    uri_bytes given = URI_GIVEN(1);
     fluent_uri_outcome outcome;
     text *made = written(URI_DECODE, component, 0, given, none, &outcome);
 
@@ -262,23 +263,25 @@ Datum uri_decode_bytea(PG_FUNCTION_ARGS) {
 PG_FUNCTION_INFO_V1(uri_decode);
 Datum uri_decode(PG_FUNCTION_ARGS) {
     text *made = DatumGetTextPP(uri_decode_bytea(fcinfo));
-    int len = VARSIZE_ANY_EXHDR(made);
-    char *at = VARDATA_ANY(made);
-    char *converted;
 
-    pg_verify_mbstr(PG_UTF8, at, len, false);
-    converted = pg_any_to_server(at, len, PG_UTF8);
-    if (converted == at) PG_RETURN_TEXT_P(made);
-    PG_RETURN_TEXT_P(cstring_to_text(converted));
+    pg_verify_mbstr(PG_UTF8, VARDATA_ANY(made), VARSIZE_ANY_EXHDR(made), false);
+    PG_RETURN_TEXT_P(uri_text_to_server(made));
 }
 
-/* Of a text and of a bytea: both are a varlena of bytes. */
+static text *encoded(text *component, uri_bytes data) {
+    return written_of_values(URI_ENCODE, component_named(component), 0, data, none);
+}
+
 PG_FUNCTION_INFO_V1(uri_encode);
 Datum uri_encode(PG_FUNCTION_ARGS) {
-    uint32 component = component_named(PG_GETARG_TEXT_PP(0));
-    uri_bytes data = uri_bytes_of(PG_GETARG_TEXT_PP(1));
+    uri_bytes data = uri_data_from_server(uri_bytes_of(PG_GETARG_TEXT_PP(1)));
 
-    PG_RETURN_TEXT_P(written_of_values(URI_ENCODE, component, 0, data, none));
+    PG_RETURN_TEXT_P(encoded(PG_GETARG_TEXT_PP(0), data));
+}
+
+PG_FUNCTION_INFO_V1(uri_encode_bytea);
+Datum uri_encode_bytea(PG_FUNCTION_ARGS) {
+    PG_RETURN_TEXT_P(encoded(PG_GETARG_TEXT_PP(0), uri_bytes_of(PG_GETARG_BYTEA_PP(1))));
 }
 
 /* ---- The pairs of a query ---- */
@@ -303,8 +306,8 @@ static void add_utf8(StringInfo to, uri_bytes left) {
     }
 }
 
-/* Decodes a name or a value. Each byte that is not UTF-8, and NUL, becomes U+FFFD, so that one row
- * of a crawl does not end a scan. No byte is looked at again for those before it. */
+/* Decodes a name or a value. Each byte that is not UTF-8, and NUL, becomes U+FFFD, and what the
+ * server's encoding lacks `?`, so that one row of a crawl does not end a scan. No byte is looked at again for those before it. */
 static Datum decoded(uri_bytes encoded) {
     text *made = written_of_values(URI_DECODE, FLUENT_URI_QUERY, 0, encoded, none);
     uri_bytes left = uri_bytes_of(made);
@@ -322,7 +325,10 @@ static Datum decoded(uri_bytes encoded) {
         left.len -= piece.len + 1;
         CHECK_FOR_INTERRUPTS();
     }
-    return PointerGetDatum(cstring_to_text(pg_any_to_server(clean.data, clean.len, PG_UTF8)));
+    left.at = (const uint8_t *) clean.data;
+    left.len = clean.len;
+    left = uri_to_server_with_stand_ins(left);
+    return PointerGetDatum(cstring_to_text_with_len((const char *) left.at, (int) left.len));
 }
 
 PG_FUNCTION_INFO_V1(uri_query_pairs);

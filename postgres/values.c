@@ -5,7 +5,6 @@
 #include "values.h"
 
 #include "libpq/pqformat.h"
-#include "mb/pg_wchar.h"
 #include "utils/builtins.h"
 #include "utils/memutils.h"
 
@@ -17,35 +16,6 @@ void uri_check_call(uint32 error) {
     if (error == FLUENT_URI_INVALID_ARGUMENT)
         ereport(ERROR,
                 (errcode(ERRCODE_INVALID_PARAMETER_VALUE), errmsg("%s", uri_message(error))));
-}
-
-void uri_check_encoding(uint32 kind) {
-    int encoding = GetDatabaseEncoding();
-
-    if (kind >= FLUENT_URI_IRI && encoding != PG_UTF8 && encoding != PG_SQL_ASCII)
-        ereport(ERROR, (errcode(ERRCODE_FEATURE_NOT_SUPPORTED),
-                        errmsg("IRIs need a database whose encoding is UTF8")));
-}
-
-int uri_character_at(uri_bytes text, size_t index) {
-    const char *at = (const char *) text.at;
-
-    return pg_verify_mbstr(GetDatabaseEncoding(), at, (int) index, true)
-               ? pg_mbstrlen_with_len(at, (int) index) + 1
-               : (int) index + 1;
-}
-
-char *uri_shown(uri_bytes text) {
-    enum { MOST = 200 };
-    const char *at = (const char *) text.at;
-    int kept = (int) text.len;
-    char *made;
-
-    if (text.len > MOST) kept = pg_mbcliplen(at, (int) Min(text.len, MOST + 8), MOST);
-    made = palloc(kept + 4);
-    memcpy(made, at, kept);
-    strcpy(made + kept, (size_t) kept < text.len ? "..." : "");
-    return made;
 }
 
 #define REJECTED(kind, text, outcome) \
@@ -93,12 +63,12 @@ static uint8 *write_difference(uint8 *data, uri_bytes form, uri_bytes text) {
 }
 
 struct varlena *uri_value_of(uint32 kind, uri_bytes text, fluent_uri_outcome *outcome) {
+    static const uri_bytes none = {(const uint8_t *) "", 0};
     struct varlena *made;
     uint8 *data, *end;
     size_t room = text.len;
     uri_bytes form;
 
-    uri_check_encoding(kind);
     for (;;) {
         /* Room for the normal form, and then at most for the text. */
         size_t size = VARHDRSZ + URI_FORM_AT + room + text.len;
@@ -109,7 +79,7 @@ struct varlena *uri_value_of(uint32 kind, uri_bytes text, fluent_uri_outcome *ou
                                    text.len)));
         made = palloc(size);
         data = (uint8 *) VARDATA(made);
-        uri_write(URI_NORMALIZE, kind, 0, text, text, data + URI_FORM_AT, room, outcome);
+        uri_make(URI_NORMALIZE, kind, 0, text, none, data + URI_FORM_AT, room, outcome);
         if (outcome->error != 0 || outcome->length <= room) break;
         pfree(made);
         room = outcome->length;
@@ -142,6 +112,7 @@ struct varlena *uri_value_or_error(uint32 kind, uri_bytes text) {
 struct varlena *uri_value_of_form(uint32 kind, uri_bytes form) {
     struct varlena *made = palloc(VARHDRSZ + URI_SAME_AT + form.len);
 
+    uri_to_server(form);
     SET_VARSIZE(made, VARHDRSZ + URI_SAME_AT + form.len);
     VARDATA(made)[0] = head_of(kind);
     memcpy(VARDATA(made) + URI_SAME_AT, form.at, form.len);
@@ -195,7 +166,7 @@ void uri_renew(const struct varlena *packed, uri_value *it) {
 
 static Datum input(FunctionCallInfo fcinfo, uint32 kind) {
     char *given = PG_GETARG_CSTRING(0);
-    uri_bytes text = {(const uint8_t *) given, strlen(given)};
+    uri_bytes whole = {(const uint8_t *) given, strlen(given)}, text = uri_from_server(whole);
 #if PG_VERSION_NUM >= 160000
     fluent_uri_outcome outcome;
     struct varlena *made = uri_value_of(kind, text, &outcome);
@@ -213,16 +184,16 @@ static Datum receive(FunctionCallInfo fcinfo, uint32 kind) {
     char *given = pq_getmsgtext(buffer, buffer->len - buffer->cursor, &len);
     uri_bytes text = {(const uint8_t *) given, (size_t) len};
 
-    PG_RETURN_POINTER(uri_value_or_error(kind, text));
+    PG_RETURN_POINTER(uri_value_or_error(kind, uri_from_server(text)));
 }
 
 static Datum from_text(FunctionCallInfo fcinfo, uint32 kind) {
-    PG_RETURN_POINTER(uri_value_or_error(kind, uri_bytes_of(PG_GETARG_TEXT_PP(0))));
+    PG_RETURN_POINTER(uri_value_or_error(kind, URI_GIVEN(0)));
 }
 
 static Datum from_text_or_null(FunctionCallInfo fcinfo, uint32 kind) {
     fluent_uri_outcome outcome;
-    struct varlena *made = uri_value_of(kind, uri_bytes_of(PG_GETARG_TEXT_PP(0)), &outcome);
+    struct varlena *made = uri_value_of(kind, URI_GIVEN(0), &outcome);
 
     if (made == NULL) PG_RETURN_NULL();
     PG_RETURN_POINTER(made);
@@ -244,6 +215,7 @@ Datum uri_out(PG_FUNCTION_ARGS) {
     uri_value it;
 
     uri_read_text(URI_VALUE(0), &it);
+    it.text = uri_to_server(it.text);
     PG_RETURN_CSTRING(pnstrdup((const char *) it.text.at, it.text.len));
 }
 
@@ -253,6 +225,7 @@ Datum uri_send(PG_FUNCTION_ARGS) {
     StringInfoData buffer;
 
     uri_read_text(URI_VALUE(0), &it);
+    it.text = uri_to_server(it.text);
     pq_begintypsend(&buffer);
     pq_sendtext(&buffer, (const char *) it.text.at, (int) it.text.len);
     PG_RETURN_BYTEA_P(pq_endtypsend(&buffer));
@@ -263,7 +236,7 @@ Datum uri_to_text(PG_FUNCTION_ARGS) {
     uri_value it;
 
     uri_read_text(URI_VALUE(0), &it);
-    PG_RETURN_TEXT_P(cstring_to_text_with_len((const char *) it.text.at, (int) it.text.len));
+    PG_RETURN_TEXT_P(uri_text_of(it.text));
 }
 
 /* A URI as an IRI: the text stays, and its normal form may be another. */

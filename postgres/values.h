@@ -20,7 +20,8 @@
 /* A value is a varlena: a head, and then the text if it is its own normal form. Else three lengths,
  * the normal form, and what the text has in place of some bytes of that: those after the first
  * SAME_AT_START and before the last SAME_AT_END. So a comparison calls no library, and what both
- * have is stored once. */
+ * have is stored once. Both are in UTF-8, whatever the server's encoding is: the order is the same
+ * in each, and the normal form may have characters that the server's encoding lacks. */
 enum { URI_DIFFERS = 1, URI_IS_IRI = 2, URI_VERSION_SHIFT = 2 };
 typedef struct {
     uint32 form, same_at_start, same_at_end;
@@ -36,7 +37,10 @@ typedef struct {
 
 #define URI_VALUE(N) ((struct varlena *) PG_DETOAST_DATUM_PACKED(PG_GETARG_DATUM(N)))
 
-/* The bytes of a text, a bytea or a value. */
+/* The bytes of a text that is an argument, for the library. */
+#define URI_GIVEN(N) uri_from_server(uri_bytes_of(PG_GETARG_TEXT_PP(N)))
+
+/* The bytes of a text, a bytea or a value, as they are. */
 static inline uri_bytes uri_bytes_of(const void *packed) {
     uri_bytes made = {(const uint8_t *) VARDATA_ANY(packed), VARSIZE_ANY_EXHDR(packed)};
 
@@ -78,14 +82,40 @@ static inline void uri_release(uri_value *it) {
 /* Raises the errors that say nothing of the text. */
 extern void uri_check_call(uint32 error);
 
-/* Raises an error if texts of the kind cannot be in this database. */
-extern void uri_check_encoding(uint32 kind);
+/* ---- encoding.c: what leaves it for the library is UTF-8, and what leaves it for the server is in
+ * the server's encoding. In a database of SQL_ASCII bytes stay as they are. ---- */
 
-/* The character of a byte, from 1. A text that is not in the encoding is counted in bytes. */
+/* A text of the server. A character that Unicode lacks becomes a byte that is not UTF-8, and ends
+ * the text, so that the library rejects it there. */
+extern uri_bytes uri_from_server(uri_bytes text);
+
+/* The same of a text that no call rejects. Such a character is an error. */
+extern uri_bytes uri_data_from_server(uri_bytes text);
+
+/* A text for the server. A character that its encoding lacks is an error. */
+extern uri_bytes uri_to_server(uri_bytes text);
+
+/* The same, with `?` for each character that its encoding lacks. */
+extern uri_bytes uri_to_server_with_stand_ins(uri_bytes text);
+
+/* The same as uri_to_server, of and as a value of the type text. */
+extern text *uri_text_of(uri_bytes bytes);
+extern text *uri_text_to_server(text *it);
+
+/* The character of a byte, from 1. In a database of SQL_ASCII each byte is one. */
 extern int uri_character_at(uri_bytes text, size_t index);
 
-/* A text for a message, cut. */
+/* A text for a message, cut, and in the server's encoding. */
 extern char *uri_shown(uri_bytes text);
+
+/* ---- long_calls.c ---- */
+
+/* The same as uri_write and fluent_uri_parse. A statement that is cancelled does not wait for them. */
+extern void uri_make(uri_call call, uint32 number, uint32 options, uri_bytes a, uri_bytes b,
+                     uint8 *out, size_t room, fluent_uri_outcome *outcome);
+extern uint32 uri_parse(uint32 kind, uri_bytes text, fluent_uri_parts *parts);
+
+/* ---- values.c ---- */
 
 /* Makes a value of a text. Returns NULL and the outcome if the text is not of the kind. */
 extern struct varlena *uri_value_of(uint32 kind, uri_bytes text, fluent_uri_outcome *outcome);
@@ -93,6 +123,7 @@ extern struct varlena *uri_value_of(uint32 kind, uri_bytes text, fluent_uri_outc
 /* The same, or an error. */
 extern struct varlena *uri_value_or_error(uint32 kind, uri_bytes text);
 
-/* Makes a value of a normal form. */
+/* Makes a value of a normal form. A character that the server's encoding lacks is an error, so that
+ * each value that is stored can be read. */
 extern struct varlena *uri_value_of_form(uint32 kind, uri_bytes form);
 #endif

@@ -21,7 +21,8 @@
  *
  * LENGTHS. No object in memory is longer than PTRDIFF_MAX bytes. A call that is given a longer
  * text, as by a length that was negative, returns FLUENT_URI_INVALID_ARGUMENT and reads nothing of
- * it.
+ * it, whatever its other arguments are. So does a call that returns no other error, such as
+ * fluent_uri_compare: what it says that it returns holds of all other texts.
  *
  * THREADS. The library has no state: any thread may make any call at any time, each with buffers of
  * its own. It calls malloc, realloc and free, so it must not be called from a signal handler.

@@ -321,7 +321,7 @@ struct pair {
 inline pair next_pair(std::string_view &query) noexcept {
     std::size_t position = 0;
     fluent_uri_pair at;
-    if (fluent_uri_next_pair(detail::bytes(query), query.size(), &position, &at) == 0) return {};
+    if (fluent_uri_next_pair(detail::bytes(query), query.size(), &position, &at) != 1) return {};
     auto in_query = [&](fluent_uri_span span) {
         return query.substr(span.start, span.end - span.start);
     };

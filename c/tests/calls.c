@@ -442,28 +442,6 @@ static void reads_pairs(void) {
     CHECK(fluent_uri_next_pair(NULL, 0, &position, &pair) == 0 && position == 0);
 }
 
-/* A length that no object has, as one that was negative, is rejected before a byte is read. */
-static void rejects_lengths(void) {
-    const uint8_t *text = (const uint8_t *)"a:";
-    const size_t lengths[] = {(size_t)PTRDIFF_MAX + 1, SIZE_MAX};
-    for (int i = 0; i < 2; i++) {
-        size_t length = lengths[i];
-        CHECK(fluent_uri_parse(0, text, length, &made) == FLUENT_URI_INVALID_ARGUMENT);
-        CHECK(made.error == FLUENT_URI_INVALID_ARGUMENT && made.index == 0);
-        CHECK(rejects(fluent_uri_normalize(0, 0, text, length, VALUE), 9, 0, 0));
-        CHECK(rejects(fluent_uri_to_uri(2, text, length, VALUE), 9, 0, 0));
-        CHECK(rejects(fluent_uri_resolve(0, 0, text, length, text, 2, VALUE), 9, 0, 0));
-        CHECK(rejects(fluent_uri_resolve(0, 0, text, 2, text, length, VALUE), 9, 1, 0));
-        CHECK(rejects(fluent_uri_resolve_normalized(0, 0, text, length, text, 2, VALUE), 9, 0, 0));
-        CHECK(rejects(fluent_uri_relativize(0, 0, text, 2, text, length, VALUE), 9, 1, 0));
-        CHECK(rejects(fluent_uri_mend(0, text, length, VALUE), 9, 0, 0));
-        CHECK(rejects(fluent_uri_mend_link(0, text, length, VALUE), 9, 0, 0));
-        CHECK(rejects(fluent_uri_decode(FLUENT_URI_PATH, text, length, BYTES), 9, 0, 0));
-        CHECK(rejects(fluent_uri_encode(FLUENT_URI_PATH, text, length, BYTES), 9, 0, 0));
-        CHECK(rejects(fluent_uri_mend_component(FLUENT_URI_PATH, text, length, BYTES), 9, 0, 0));
-    }
-}
-
 /* A text of no bytes needs no pointer. */
 static void takes_null(void) {
     CHECK(fluent_uri_parse(1, NULL, 0, &made) == 0 && made.path.start == 0 && made.path.end == 0);
@@ -496,7 +474,6 @@ static void tells_of_itself(void) {
 }
 
 int main(void) {
-    rejects_lengths();
     takes_null();
     tells_of_itself();
     parses();

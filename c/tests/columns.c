@@ -199,22 +199,6 @@ static void invalid(void) {
     }
     CHECK(fluent_uri_normalize_batch(4, 0, NULL, 0, NULL, 0, out, sizeof out, ends, 4, &valid, 1,
                                      &outcome) == FLUENT_URI_INVALID_ARGUMENT);
-    /* A length that no object has, as one that was negative. */
-    const size_t lengths[] = {(size_t)PTRDIFF_MAX + 1, SIZE_MAX};
-    for (int i = 0; i < 2; i++) {
-        size_t length = lengths[i];
-        const uint8_t *text = (const uint8_t *)data;
-        CHECK(fluent_uri_normalize_batch(0, 0, text, length, offsets, 4, out, sizeof out, ends, 4,
-                                         &valid, 1, &outcome) == FLUENT_URI_INVALID_ARGUMENT);
-        CHECK(fluent_uri_resolve_batch(0, 0, text, length, TEXT(data), offsets, 4, out, sizeof out,
-                                       ends, 4, &valid, 1, &outcome) ==
-              FLUENT_URI_INVALID_ARGUMENT);
-        CHECK(fluent_uri_parse_batch(0, text, length, offsets, 4, &parts, 1, &outcome) ==
-              FLUENT_URI_INVALID_ARGUMENT);
-        CHECK(fluent_uri_normalize_lines(0, 0, text, length, out, sizeof out, errors, 3,
-                                         &outcome) ==
-              FLUENT_URI_INVALID_ARGUMENT && outcome.consumed == 0);
-    }
     CHECK(fluent_uri_parse_batch(4, TEXT(data), offsets, 4, &parts, 1, &outcome) ==
           FLUENT_URI_INVALID_ARGUMENT && outcome.index == 0);
     CHECK(fluent_uri_normalize_lines(4, 0, TEXT("A:"), out, sizeof out, errors, 3, &outcome) ==

@@ -9,7 +9,7 @@
 static inline int has_pairs_in_order(const uint8_t *text, size_t size) {
     size_t position = 0, before = 0;
     fluent_uri_pair pair;
-    while (fluent_uri_next_pair(text, size, &position, &pair)) {
+    while (fluent_uri_next_pair(text, size, &position, &pair) == 1) {
         const fluent_uri_span name = pair.name, value = pair.value;
         if (name.start < before || name.start >= position || position > size) return 0;
         for (size_t i = before; i < name.start; i++)

@@ -214,7 +214,7 @@ function showTarget(value) {
   const row = (name, dd) => list.append(el('dt', '', name), dd);
   const same = String(target) === String(value) && 'the link itself';
   row('Target', el('dd', '', result(String(target), target, take, 'Use it', same)));
-  if (back) row('Reference from the base to the target',
+  if (back) row('Reference back',
     el('dd', '', result(String(back), back, take, 'Use it')));
   out.append(list);
 }

@@ -43,7 +43,6 @@ class Batch {
     const before = base === null ? [] : [full.second, full.putSecond(base)];
     const error = full.number(this.name, ...this.numbers, ...before, full.first, column.length,
       offsets, count, full.out, full.outLength, ends, count, valid, (count + 6) >> 3, full.outcome);
-    if (full.ints.length === 0) full.look();
     const { index: done, needed } = full;
     if (error !== 0 && error !== FULL) throw full.failure(error);
     if (error === FULL && done === 0) return full.reserveResult(needed);
@@ -128,7 +127,6 @@ function normalizeLines(lines, Class = Uri, options) {
     const length = full.putBytes(bytes.subarray(from, to));
     const error = full.number('normalize_lines', ...numbers, full.first, length, full.out,
       full.outLength, full.second, MOST_UNITS, full.outcome);
-    full.look();
     const { index: done, needed, consumed } = full;
     if (error !== 0 && error !== FULL) throw full.failure(error);
     if (error === FULL && done === 0) {

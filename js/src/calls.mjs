@@ -35,17 +35,26 @@ export function resolvingOf({ basic = false, normalize = false, schemeRules = fa
 export const relativizingOf = ({ preferRelativePath = false }) =>
   (preferRelativePath ? PREFER_RELATIVE_PATH : 0);
 
+// What HTML drops of a link: white space at both ends, and tabs and line breaks everywhere.
+function withoutWhiteSpace(link) {
+  const text = link.replace(/[\t\n\r]/g, '');
+  let start = 0, end = text.length;
+  while (start < end && ' \f'.includes(text[start])) start++;
+  while (start < end && ' \f'.includes(text[end - 1])) end--;
+  return text.slice(start, end);
+}
+
 function compareTexts(kind, one, other, options) {
-  const [first, second] = core.putBoth(one, other);
-  return core.number('compare', kind, rulesOf(options), core.first, first, core.second, second) - 1;
+  const rules = rulesOf(options), [first, second] = core.putBoth(one, other);
+  return core.number('compare', kind, rules, core.first, first, core.second, second) - 1;
 }
 
 // The calls of a class read no `this`, so that they can be handed on: `texts.filter(Uri.canParse)`.
 function callsOf(kind) {
   const make = makerOf(kind);
-  const mended = (call, given) => {
+  const mended = (call, given, input) => {
     const text = textOf(given);
-    core.callPlain(call, kind, text);
+    core.callPlain(call, kind, text, input);
     return resultOf(kind, core, isOfKind(kind, given) ? text : undefined) ?? given;
   };
   return {
@@ -65,7 +74,7 @@ function callsOf(kind) {
       return length >= 0 && core.parse(kind, length) === 0;
     },
     mend: (text) => mended('mend', text),
-    mendLink: (link) => mended('mend_link', link),
+    mendLink: (link) => mended('mend_link', link, withoutWhiteSpace),
     compare: (one, other, options) => compareTexts(kind, textOf(one), textOf(other), options),
     equivalent: (one, other, options) =>
       compareTexts(kind, textOf(one), textOf(other), options) === 0,
@@ -80,8 +89,8 @@ const membersOf = (kind) => ({
     return resultOf(kind, core, text) ?? this;
   },
   isNormal(options) {
-    const length = core.put(textOf(this));
-    return core.number('is_normal', kind, rulesOf(options), core.first, length) === 1;
+    const rules = rulesOf(options), length = core.put(textOf(this));
+    return core.number('is_normal', kind, rules, core.first, length) === 1;
   },
   compare(other, options) {
     return compareTexts(kind, textOf(this), textOf(other), options);

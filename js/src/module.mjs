@@ -210,11 +210,14 @@ export class Module {
 
   /** Makes a call that returns a number, of the text in the first room. */
   number(name, ...values) {
+    let number;
     try {
-      return this.calls[name](...values) >>> 0;
+      number = this.calls[name](...values) >>> 0;
     } catch (why) {
-      return this.trapped(why);
+      this.trapped(why);
     }
+    if (this.ints.length === 0) this.look();
+    return number;
   }
 
   /** Whether the result of a call is in memory. If not, the rooms are large enough for it now. */
@@ -267,8 +270,8 @@ export class Module {
     }
   }
 
-  /** The same of a call that takes no options. */
-  callPlain(name, kind, text) {
+  /** The same of a call that takes no options. The index of an error is in `input(text)`. */
+  callPlain(name, kind, text, input = (it) => it) {
     this.#partsKind = -1;
     for (;;) {
       const length = this.putWhole(text);
@@ -279,7 +282,7 @@ export class Module {
       } catch (why) {
         this.trapped(why);
       }
-      if (this.isDone(error, text)) return;
+      if (this.isDone(error, error === 0 ? text : input(text))) return;
     }
   }
 

@@ -67,6 +67,9 @@ function errors() {
   rejected(Uri, 'http', 'UNEXPECTED_CHAR', 4);
   rejected(Iri, 'é\ud800 ', 'NOT_UTF8', 1);
   rejected(Iri, '\ude00\ud83d', 'NOT_UTF8', 0);
+  // The index is in the link without what HTML drops.
+  fails(() => UriRef.mendLink(' \tx://a\n b/ '), ParseError, 'UNEXPECTED_CHAR',
+    { index: 5, input: 'x://a b/' });
   const base = Uri.parse('http://a/b');
   fails(() => base.resolve('a b'), ParseError, 'UNEXPECTED_CHAR', { index: 1, input: 'a b' });
   fails(() => base.resolve('\ud800'), ParseError, 'NOT_UTF8', { index: 0, input: '\ud800' });
@@ -163,9 +166,14 @@ function calls() {
   assert.equal(Uri.parse('http://a').equals('http://a/', { schemeRules: true }), true);
   assert.equal(Uri.parse('http://a').equals('http://a/'), false);
   assert.deepEqual(['x://a', 'x://A'].map((it) => Uri.parse(it).isNormal()), [true, false]);
+  // What options do when they are read changes no result.
+  const meddling = { get schemeRules() { Uri.parse('z:z').isNormal(); return true; } };
+  assert.equal(Uri.parse('http://a').compare('http://a/', meddling), 0);
+  assert.equal(Uri.parse('http://a').isNormal(meddling), false);
   const base = Uri.parse('http://a/b/c/d;p?q');
   for (const [reference, target] of [['g:h', 'g:h'], ['../../../g', 'http://a/g'],
-    ['//g', 'http://g'], ['?y', 'http://a/b/c/d;p?y'], ['', 'http://a/b/c/d;p?q'], ['#s', 'http://a/b/c/d;p?q#s']])
+    ['//g', 'http://g'], ['?y', 'http://a/b/c/d;p?y'], ['', 'http://a/b/c/d;p?q'],
+    ['#s', 'http://a/b/c/d;p?q#s']])
     assert.equal(String(base.resolve(reference)), target);
   assert.equal(String(base.resolve('%7E', { normalize: true })), 'http://a/b/c/~');
   assert.equal(String(base.resolve('%2E%2E/g', { basic: true })), 'http://a/b/c/%2E%2E/g');
@@ -248,7 +256,8 @@ function batches() {
       assert.deepEqual(batch.component(given, name, Class),
         given.map((it) => Class.tryParse(it)?.[name] ?? null));
   }
-  for (const options of [{}, { normalize: true, schemeRules: true }, { basic: true }, { mend: true }])
+  const rules = { normalize: true, schemeRules: true };
+  for (const options of [{}, rules, { basic: true }, { mend: true }])
     same(batch.resolve(base, given, options), (it) => base.resolve(it, options));
   same(batch.relativize(base, given), (it) => base.relativize(it));
   same(batch.toUri(given, IriRef), (it) => IriRef.parse(it).toUri());
@@ -267,7 +276,9 @@ function traps() {
   const folder = dirname(require.resolve('fluent-uri/package.json'));
   const { core } = require(join(folder, 'cjs', 'platform.cjs'));
   const kept = Uri.parse('http://a/b'), own = core.calls;
-  const names = ['parse', 'is_plainly_normal', 'normalize', 'resolve', 'compare', 'to_uri', 'encode'];
+  const names = [
+    'parse', 'is_plainly_normal', 'normalize', 'resolve', 'compare', 'to_uri', 'encode',
+  ];
   for (const name of names) {
     core.calls[name] = () => { throw new WebAssembly.RuntimeError('unreachable'); };
     assert.throws(() => {

@@ -89,7 +89,12 @@ class Page:
         return self.field(name).text
 
     def overflows(self):
-        return self.run("return document.documentElement.scrollWidth > innerWidth")
+        return self.run("""
+          const right = (it) => it.getBoundingClientRect().right;
+          return document.documentElement.scrollWidth > innerWidth
+            || [...document.querySelectorAll('section')].some((section) =>
+              [...section.querySelectorAll('*')].some((it) => right(it) > right(section) + 1));
+        """)
 
     def again(self):
         self.browser.quit()

@@ -45,7 +45,7 @@ SELECT kind, uri_is(kind, 'http://a/é') AS full, uri_is(kind, '../é') AS ref,
        uri_is(kind, '../a') AS ascii
 FROM unnest(ARRAY['uri', 'uri-ref', 'iri', 'iri-ref']) AS kinds (kind);
 SELECT uri_error('http://a b'), uri_error('http://a'), uri_error('http://é b', 'iri'),
-       uri_error_position('http://é b', 'iri'), uri_error_position('http://a');
+       uri_error_position('http://a b'), uri_error_position('http://a');
 SELECT uri_is('url', 'http://a');
 
 -- Links that are no references (docs/MENDING.md).
@@ -71,21 +71,10 @@ SELECT uri_encode('port', 'a');
 
 -- The pairs of a query.
 SELECT * FROM uri_query_pairs('http://a?name=ferret&page=2%263&&x&=y&z=1=2&+=%2B'::uri);
-SELECT * FROM uri_query_pairs('http://a?bad=%ff%00%C3%A9'::uri);
 SELECT * FROM uri_query_pairs('http://a?'::uri);
 SELECT * FROM uri_query_pairs('http://a'::uri);
 SELECT * FROM uri_query_pairs('http://a?é=ü'::iri);
 SELECT u, n, value
 FROM (VALUES ('x:?a=1&b=2'::uri), ('x:?b=3'), ('x:y')) AS known (u), uri_query_pairs(u)
 WHERE name = 'b' ORDER BY u;
--- A pair of many bytes that are no text takes time by its length alone.
-SET statement_timeout = '30s';
-SELECT length(value), value = repeat(U&'\FFFD', 600000) AS replaced
-FROM uri_query_pairs(('x:?a=' || repeat('%00', 600000))::uri);
-SELECT length(value), value = repeat(U&'\FFFD', 600000) AS replaced
-FROM uri_query_pairs(('x:?a=' || repeat('%ff', 600000))::uri);
-SELECT length(value), value = repeat(U&'\FFFDa\FFFD', 200000) AS replaced
-FROM uri_query_pairs(('x:?a=' || repeat('%00a%ff', 200000))::uri);
-RESET statement_timeout;
-
 SELECT uri_version() ~ '^\d+\.\d+\.\d+$' AS version, uri_normal_version() > 0 AS forms;

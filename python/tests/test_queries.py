@@ -22,6 +22,19 @@ class Quote(unittest.TestCase):
         self.assertEqual(ours.quote("漢", encoding="latin-1", errors="xmlcharrefreplace"),
                          urllib.parse.quote("漢", encoding="latin-1", errors="xmlcharrefreplace"))
 
+    def test_in_other_encodings_as_by_urllib(self):
+        for encoding in ["utf-8-sig", "utf-16", "utf-32", "utf-16-le", "utf-7", "cp037", "ascii"]:
+            for text in ["", "ab", "a b", "a/b~", "\u0120", "\u2020 "]:
+                for safe in ["/", "", "%"]:
+                    for name in ["quote", "quote_plus"]:
+                        found = [
+                            getattr(it, name)(text, safe, encoding, "replace")
+                            for it in (ours, urllib.parse)
+                        ]
+                        self.assertEqual(*found, (name, text, safe, encoding))
+        self.assertEqual(ours.quote("", encoding="utf-8-sig"), "")
+        self.assertEqual(ours.quote_plus("\u0120", encoding="utf-16-le"), "%20%01")
+
     def test_what_is_rejected(self):
         for safe in [" ", "<", "\\", "\n", "\0", "|"]:
             with self.assertRaises(ValueError):
@@ -51,6 +64,17 @@ class Unquote(unittest.TestCase):
                     self.assertEqual(getattr(ours, name)(text, *more), wanted, (name, text, more))
         with self.assertRaises(UnicodeDecodeError):
             ours.unquote("%ff", errors="strict")
+
+    def test_in_other_encodings_as_by_urllib(self):
+        for encoding in ["utf-8-sig", "utf-16", "utf-32", "utf-16-le", "utf-7", "cp037", "ascii"]:
+            for text in ["", "ab", "a+b", "a%41", "%EF%BB%BFa", "%FF%FEa%00", "\u0120%20%01é"]:
+                for name in ["unquote", "unquote_plus"]:
+                    found = [getattr(it, name)(text, encoding) for it in (ours, urllib.parse)]
+                    self.assertEqual(*found, (name, text, encoding))
+                query = f"a={text}"
+                found = [it.parse_qsl(query, encoding=encoding) for it in (ours, urllib.parse)]
+                self.assertEqual(*found, (text, encoding))
+        self.assertEqual(ours.unquote("ab", encoding="utf-16"), "ab")
 
     def test_what_is_rejected(self):
         for text, index in [("%zz", 0), ("a b", 1), ("a+%", 2), ("#", 0), ("a[", 1), ("\ud800", 0)]:

@@ -28,6 +28,16 @@ def built_original(given):
     return [OUT / "target" / "release" / "libbench_original.a"]
 
 
+def built_lines(given):
+    """`urilines`, and the original in a loop of the same form."""
+    built = [ROOT / "out" / "urilines", ROOT / "crates" / "urilines" / "out" / "urilines"]
+    port = next((it for it in built if it.exists()), None)
+    if not port:
+        sys.exit("urilines is not built; ./build urilines makes it")
+    OUT.mkdir(parents=True, exist_ok=True)
+    return port, built_original(given)[0].with_name("lines")
+
+
 def built_port():
     crate = ROOT / "crates" / "uri_bench"
     run("rt", "lib", "--jobs", "1", cwd=crate, stdout=sys.stderr)

@@ -1,11 +1,9 @@
 //! What is built of parts, and which parts are rejected (RFC 3986, section 5.3).
-use fluent_uri::build::state::FragmentEnd;
-use fluent_uri::build::{BuildError, Builder};
+use fluent_uri::build::BuildError;
 use fluent_uri::component::{Authority, Host, Scheme};
-use fluent_uri::net::{IpAddr, Ipv4Addr, Ipv6Addr};
 use fluent_uri::pct_enc::EStr;
-use fluent_uri::pct_enc::encoder::{Encoder, IRegName, Port, RegName, Userinfo};
-use fluent_uri::{Iri, IriRef, RiMaybeRef, Uri, UriRef};
+use fluent_uri::pct_enc::encoder::{Encoder, RegName, Userinfo};
+use fluent_uri::{RiMaybeRef, Uri, UriRef};
 use std::process::Abort;
 use test_support::equal;
 
@@ -53,59 +51,6 @@ fn colon_in_the_first_segment(rt: HostRuntime) {
     is_built(&rt, dotted, "./a:b");
 }
 
-/// Tests that a builder with a scheme takes a `:` in the first segment of a path.
-#[test]
-fn colon_after_a_scheme(rt: HostRuntime) {
-    let built = Uri::<String>::builder(rt.alloc())
-        .scheme(scheme(&rt, "foo"))
-        .path(part(&rt, "a:b"))
-        .build();
-    is_built(&rt, built, "foo:a:b");
-}
-
-/// Tests a builder with an optional query and an optional fragment.
-#[test]
-fn optional_parts(rt: HostRuntime) {
-    let built = UriRef::<String>::builder(rt.alloc())
-        .path(part(&rt, "foo"))
-        .optional(Builder::query, Some(part(&rt, "bar")))
-        .optional(Builder::fragment, None)
-        .build();
-    is_built(&rt, built, "foo?bar");
-}
-
-/// Tests that `optional` of a builder returns the builder that its closure returns.
-#[test]
-fn another_builder_for_an_optional_part(rt: HostRuntime) {
-    let alloc = rt.alloc();
-    let other = UriRef::<String>::builder(alloc)
-        .path(part(&rt, "/y"))
-        .advance::<FragmentEnd>();
-    let built = UriRef::<String>::builder(alloc)
-        .path(part(&rt, "/x"))
-        .query(part(&rt, "q"))
-        .optional(|_, ()| other, Some(()))
-        .build();
-    is_built(&rt, built, "/y");
-}
-
-/// Tests builders of an IRI and an IRI reference with characters past ASCII.
-#[test]
-fn international_parts(rt: HostRuntime) {
-    let iri = Iri::<String>::builder(rt.alloc())
-        .scheme(scheme(&rt, "foo"))
-        .path(part(&rt, "/é"))
-        .query(part(&rt, "ü"))
-        .fragment(part(&rt, "ß"))
-        .build();
-    is_built(&rt, iri, "foo:/é?ü#ß");
-    let reference = IriRef::<String>::builder(rt.alloc())
-        .path(part(&rt, ""))
-        .fragment(part(&rt, "é"))
-        .build();
-    is_built(&rt, reference, "#é");
-}
-
 /// Tests the constant of the empty authority, and a builder with it.
 #[test]
 fn empty_authority(rt: HostRuntime) {
@@ -116,19 +61,6 @@ fn empty_authority(rt: HostRuntime) {
         .path(part(&rt, "/path/to/file"))
         .build();
     is_built(&rt, built, "file:///path/to/file");
-}
-
-/// Tests a builder with the authority of another URI.
-#[test]
-fn authority_of_another_uri(rt: HostRuntime) {
-    let text = "foo://user@example.com:8042";
-    let other = Uri::<&str>::parse(text).expect(&rt, text);
-    let built = Uri::<String>::builder(rt.alloc())
-        .scheme(scheme(&rt, "http"))
-        .authority(other.authority().expect(&rt, text))
-        .path(part(&rt, ""))
-        .build();
-    is_built(&rt, built, "http://user@example.com:8042");
 }
 
 /// Tests a builder with a name that has the form of an IPv4 address, and is one (RFC 3986, section
@@ -154,41 +86,6 @@ fn address_from_a_registered_name(rt: HostRuntime) {
     equal(rootless.err(), Some(BuildError::NonemptyRootlessPath)).expect(&rt, "a refusal");
 }
 
-/// Tests a builder with an IPv6 address as host and a number as port.
-#[test]
-fn ipv6_address_and_a_port(rt: HostRuntime) {
-    let built = UriRef::<String>::builder(rt.alloc())
-        .authority_with(|authority| authority
-            .host(Ipv6Addr::new(0, 0, 0, 0, 0, 0, 0, 1))
-            .port(0))
-        .path(part(&rt, ""))
-        .build();
-    is_built(&rt, built, "//[::1]:0");
-}
-
-/// Tests a builder with an empty port.
-#[test]
-fn empty_port(rt: HostRuntime) {
-    let name: EStr<'_, RegName> = part(&rt, "h");
-    let built = UriRef::<String>::builder(rt.alloc())
-        .authority_with(|authority| authority.host(name).port(EStr::<Port>::EMPTY))
-        .path(part(&rt, ""))
-        .build();
-    is_built(&rt, built, "//h:");
-}
-
-/// Tests that a builder writes a port that is not the default one.
-#[test]
-fn port_that_is_not_the_default(rt: HostRuntime) {
-    let name: EStr<'_, RegName> = part(&rt, "h");
-    let built = Uri::<String>::builder(rt.alloc())
-        .scheme(scheme(&rt, "http"))
-        .authority_with(|authority| authority.host(name).port_with_default(8080, 80))
-        .path(part(&rt, "/"))
-        .build();
-    is_built(&rt, built, "http://h:8080/");
-}
-
 /// Tests a builder with each part, on the example of RFC 3986, section 3, with userinfo.
 #[test]
 fn each_part(rt: HostRuntime) {
@@ -208,28 +105,6 @@ fn each_part(rt: HostRuntime) {
     );
 }
 
-/// Tests builders with an `IpAddr` as host and optional userinfo and port, and with a name of an
-/// IRI.
-#[test]
-fn address_of_either_version(rt: HostRuntime) {
-    let reference = IriRef::<String>::builder(rt.alloc())
-        .authority_with(|authority| {
-            authority
-                .optional(Builder::userinfo, None)
-                .host(IpAddr::V4(Ipv4Addr::LOCALHOST))
-                .optional(Builder::port, Some(80u16))
-        })
-        .path(part(&rt, ""))
-        .build();
-    is_built(&rt, reference, "//127.0.0.1:80");
-    let name: EStr<'_, IRegName> = part(&rt, "é");
-    let named = IriRef::<String>::builder(rt.alloc())
-        .authority_with(|authority| authority.host(name))
-        .path(part(&rt, ""))
-        .build();
-    is_built(&rt, named, "//é");
-}
-
 /// Tests that a builder rejects a rootless path after an authority (RFC 3986, section 3.3).
 #[test]
 fn rootless_path_after_an_authority(rt: HostRuntime) {
@@ -238,17 +113,4 @@ fn rootless_path_after_an_authority(rt: HostRuntime) {
         .path(part(&rt, "a"))
         .build();
     is_rejected(&rt, built, BuildError::NonemptyRootlessPath);
-}
-
-/// Tests that `authority_with` of a builder returns the builder that its closure returns.
-#[test]
-fn another_builder_for_the_authority(rt: HostRuntime) {
-    let alloc = rt.alloc();
-    let reference = UriRef::<String>::builder(alloc)
-        .authority_with(|_| UriRef::<String>::builder(alloc))
-        .path(part(&rt, "/x"))
-        .build()
-        .expect(&rt, "a reference");
-    equal(reference.as_str(), "/x").expect(&rt, "a reference");
-    equal(reference.has_authority(), false).expect(&rt, "no authority");
 }

@@ -1,6 +1,5 @@
 //! What rows of `crates/vectors/data` cannot try, since it is a form of the language: builders,
-//! encoders of a caller, iterators, comparisons, formats, and what generic code gets from the
-//! traits.
+//! encoders of a caller, comparisons and formats.
 #![tactic(auto)]
 
 #[cfg(test)]
@@ -10,20 +9,12 @@ mod building;
 #[cfg(test)]
 mod debugging;
 #[cfg(test)]
-mod decoded;
-#[cfg(test)]
 mod encoding;
-#[cfg(test)]
-mod generic;
-#[cfg(test)]
-mod links;
 #[cfg(test)]
 mod messages;
 #[cfg(test)]
 mod owned_encoding;
 #[cfg(test)]
 mod padding;
-#[cfg(test)]
-mod tables;
 #[cfg(test)]
 mod values;

@@ -2,8 +2,8 @@
 ghost use Rattle.std.specs.Prelude.{◌≡◌, ◌∷◌, [], refl, true};
 ghost use Rattle.fluent_uri.specs.Sets.{characters_only, difference, is_one_of, path_set};
 
-use fluent_uri::pct_enc::encoder::{Data, Encoder, IData, Path, Query};
-use fluent_uri::pct_enc::{EStr, EString, Table, table};
+use fluent_uri::pct_enc::encoder::{Encoder, Path};
+use fluent_uri::pct_enc::{EStr, EString, Table};
 use std::cmp::Ordering;
 use std::process::Abort;
 use test_support::{equal, prints};
@@ -100,55 +100,6 @@ fn is_text<R: Abort, E: Encoder>(rt: &R, text: &EString<E>, wanted: &str) {
     equal(text.as_estr().as_str(), wanted).expect(rt, wanted);
 }
 
-/// Tests an `EString` to which the pairs of a query are appended, percent-encoded.
-#[test]
-fn pairs_of_a_query(rt: HostRuntime) {
-    let mut query = EString::<Query>::new(rt.alloc());
-    equal(query.as_estr().is_empty(), true).expect(&rt, "new");
-    encode_str::<_, _, Data>(&rt, &mut query, "name");
-    push(&rt, &mut query, '=');
-    encode_str::<_, _, Data>(&rt, &mut query, "张三");
-    push(&rt, &mut query, '&');
-    encode_str::<_, _, Data>(&rt, &mut query, "speech");
-    push(&rt, &mut query, '=');
-    encode_str::<_, _, Data>(&rt, &mut query, "¡Olé!");
-    let wanted = "name=%E5%BC%A0%E4%B8%89&speech=%C2%A1Ol%C3%A9%21";
-    is_text(&rt, &query, wanted);
-    equal(query.into_string().as_str(), wanted).expect(&rt, wanted);
-}
-
-/// Tests that a caller's encoder percent-encodes the `/` in a segment.
-#[test]
-fn a_slash_in_a_segment(rt: HostRuntime) {
-    let mut path = EString::<Path>::new(rt.alloc());
-    push(&rt, &mut path, '/');
-    encode_str::<_, _, Segment>(&rt, &mut path, "foo/bar");
-    is_text(&rt, &path, "/foo%2Fbar");
-}
-
-/// Tests that a `%` of the data is percent-encoded too (RFC 3986, section 2.4).
-#[test]
-fn percent_of_the_data(rt: HostRuntime) {
-    let mut path = EString::<Path>::new(rt.alloc());
-    encode_str::<_, _, Path>(&rt, &mut path, "%41");
-    push_estr(&rt, &mut path, "%41");
-    is_text(&rt, &path, "%2541%41");
-}
-
-/// Tests what `Data` and `IData` percent-encode (RFC 3986, section 2.3, and RFC 3987, section 2.2).
-#[test]
-fn encoders_of_data(rt: HostRuntime) {
-    let mut data = EString::<Data>::new(rt.alloc());
-    let mut idata = EString::<IData>::new(rt.alloc());
-    encode_str::<_, _, Data>(&rt, &mut data, "a-._~é/?\u{E000}");
-    encode_str::<_, _, IData>(&rt, &mut idata, "a-._~é/?\u{E000}");
-    is_text(&rt, &data, "a-._~%C3%A9%2F%3F%EE%80%80");
-    is_text(&rt, &idata, "a-._~é%2F%3F%EE%80%80");
-    let others = Data::table().sub(&table::UNRESERVED);
-    equal(table::UNRESERVED.is_subset(&Data::table()), true).expect(&rt, "unreserved");
-    equal(others.is_subset(&Octets::table()), true).expect(&rt, "octets");
-}
-
 /// Tests what the encoders of a caller append to an `EString`.
 #[test]
 fn own_encoders(rt: HostRuntime) {
@@ -180,20 +131,6 @@ fn texts_that_own_encoders_reject(rt: HostRuntime) {
         !Path::table().is_subset(&Segment::table()),
     ];
     equal(refused, [true; 8]).expect(&rt, "refused");
-}
-
-/// Tests an `EString` that is cleared, keeps its capacity, and grows again.
-#[test]
-fn cleared_texts(rt: HostRuntime) {
-    let mut path = EString::<Segment>::new(rt.alloc());
-    equal(path.as_estr() == EStr::EMPTY, true).expect(&rt, "new");
-    push(&rt, &mut path, 'a');
-    let capacity = path.capacity();
-    path.clear();
-    is_text(&rt, &path, "");
-    equal(path.capacity(), capacity).expect(&rt, "capacity");
-    push(&rt, &mut path, 'b');
-    is_text(&rt, &path, "b");
 }
 
 /// Tests that `EString`s compare by their bytes.

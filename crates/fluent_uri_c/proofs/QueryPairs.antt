@@ -36,7 +36,7 @@ module _ (query : List ℕ) (from : ℕ) (place : PairPlace) (next : IsNextPair 
         value = value_span place;
       }) 1
   next-pair-is-reported old = record {
-    number = omega arith;
+    number = λ _. omega arith;
     pair = λ _. record {
       start = next.start;
       some = next.some;
@@ -46,8 +46,8 @@ module _ (query : List ℕ) (from : ℕ) (place : PairPlace) (next : IsNextPair 
       value = value-is-at-span;
     };
     none = λ e. absurd (omega (arith, e));
-    position = λ e. absurd (omega (arith, e));
-    kept = λ e. absurd (omega (arith, e));
+    position = λ other. absurd (other refl);
+    kept = λ other. absurd (other refl);
   }
     where
       name-is-within : place.name_end ≤ length query

@@ -1,7 +1,7 @@
 -- The result of each call for its arguments: a text, or why there is none.
 use Rattle.std.specs.Prelude.{◌≡◌, ◌⊎◌, ℕ, ◌^◌, Bool, false, true, ◌==◌, List, length, nat_lt}
 use Rattle.std.specs.Prelude.{Option, Some, None}
-use Rattle.std.specs.Prelude.{Result, Ok, Err, IsTrue, option_map, if◌then◌else◌}
+use Rattle.std.specs.Prelude.{Result, Ok, Err, IsFalse, IsTrue, option_map, if◌then◌else◌}
 use Rattle.std.specs.Str.{IsUtf8}
 use Rattle.std.specs.Result.{is_ok, result_map_both}
 use Rattle.std.specs.Str.Lossy.{utf8_valid_len}
@@ -60,10 +60,24 @@ with_valid_number (Some it) result = result it
 abbrev pub is_possible_length : List ℕ → Bool
 is_possible_length bytes = nat_lt (length bytes) (2 ^ 63)
 
+-- a call for C returns `InvalidArgument` if bytes that it is given are more than `PTRDIFF_MAX`
+abbrev pub RejectsTooLong : List ℕ → ℕ → Type 0
+RejectsTooLong bytes returned =
+    IsFalse (is_possible_length bytes) → returned ≡ number_of Of.InvalidArgument
+
 -- why a call for C rejects bytes, if they are more than `PTRDIFF_MAX`
 abbrev pub length_error : List ℕ → Option Rejection
 length_error bytes =
     if is_possible_length bytes then None else Some (rejected Of.InvalidArgument)
+
+-- why a call for C rejects its first or its second text for its length, if it does
+abbrev pub lengths_error : List ℕ → List ℕ → Option Rejection
+lengths_error first second =
+    first_rejection (length_error first) (option_map in_reference (length_error second))
+
+-- the result of a call for C on two texts, or why it rejects one of them for its length
+abbrev pub if_possible_lengths : List ℕ → List ℕ → Returned → Returned
+if_possible_lengths first second result = rejection_or_result (lengths_error first second) result
 
 -- why a call for C rejects bytes as a text, if it does: they are too many, or not UTF-8; the index
 -- is after the longest prefix that is

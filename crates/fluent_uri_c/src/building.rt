@@ -18,6 +18,7 @@ ghost use Rattle.fluent_uri_c.specs.Building.{together_rejection};
 ghost use Rattle.fluent_uri_c.specs.Given.{authority_of, components_of};
 ghost use Rattle.fluent_uri_c.specs.Kinds.{kind_numbered};
 ghost use Rattle.fluent_uri_c.specs.Results.{IsReturnedAs};
+ghost use Rattle.fluent_uri_c.specs.Results.{RejectsTooLong};
 ghost use Rattle.fluent_uri_c.specs.Values.{LeavesValue};
 
 use crate::errors::{Error, Rejection};
@@ -320,6 +321,7 @@ pub extern "C" fn fluent_uri_build(
     parts: &mut [Parts],
     outcome: &mut Outcome,
 ) -> u32
+    ensures length { RejectsTooLong text.now result }
     ensures text { LeavesValue (build_result kind text.now components.now)
         out.old out.new parts.old parts.new outcome.new result }
     ensures components { result ≡ 0 → IsSomeAnd (kind_numbered kind)

@@ -5,6 +5,7 @@ ghost use Rattle.fluent_uri.specs.References.{reference_text};
 ghost use Rattle.fluent_uri_c.specs.Columns.{LeavesColumn, buffers, column32, column64};
 ghost use Rattle.fluent_uri_c.specs.Columns.{call_result_bytes};
 ghost use Rattle.fluent_uri_c.specs.Results.{IsReturnedOrDenied, Returned, is_out_of_memory};
+ghost use Rattle.fluent_uri_c.specs.Results.{RejectsTooLong};
 ghost use Rattle.fluent_uri_c.specs.SingleCalls.{converting, normalizing, resolving};
 ghost use Rattle.fluent_uri_c.specs.SingleCalls.{resolving_normalized};
 
@@ -161,7 +162,8 @@ pub extern "C" fn fluent_uri_normalize_batch(
     valid: &mut [u8],
     outcome: &mut Outcome,
 ) -> u32
-    ensures { LeavesColumn (normalizing kind options) (column32 texts.now offsets.now)
+    ensures length { RejectsTooLong texts.now result }
+    ensures column { LeavesColumn (normalizing kind options) (column32 texts.now offsets.now)
         (buffers out.old out_offsets.old valid.old) (buffers out.new out_offsets.new valid.new)
         outcome.new result }
 {
@@ -185,7 +187,8 @@ pub extern "C" fn fluent_uri_to_uri_batch(
     valid: &mut [u8],
     outcome: &mut Outcome,
 ) -> u32
-    ensures { LeavesColumn (converting kind) (column32 texts.now offsets.now)
+    ensures length { RejectsTooLong texts.now result }
+    ensures column { LeavesColumn (converting kind) (column32 texts.now offsets.now)
         (buffers out.old out_offsets.old valid.old) (buffers out.new out_offsets.new valid.new)
         outcome.new result }
 {
@@ -207,7 +210,8 @@ pub extern "C" fn fluent_uri_resolve_batch(
     valid: &mut [u8],
     outcome: &mut Outcome,
 ) -> u32
-    ensures { LeavesColumn (resolving kind options base.now) (column32 texts.now offsets.now)
+    ensures length { RejectsTooLong base.now result × RejectsTooLong texts.now result }
+    ensures column { LeavesColumn (resolving kind options base.now) (column32 texts.now offsets.now)
         (buffers out.old out_offsets.old valid.old) (buffers out.new out_offsets.new valid.new)
         outcome.new result }
 {
@@ -235,7 +239,8 @@ pub extern "C" fn fluent_uri_resolve_normalized_batch(
     valid: &mut [u8],
     outcome: &mut Outcome,
 ) -> u32
-    ensures { LeavesColumn (resolving_normalized kind options base.now)
+    ensures length { RejectsTooLong base.now result × RejectsTooLong texts.now result }
+    ensures column { LeavesColumn (resolving_normalized kind options base.now)
         (column32 texts.now offsets.now) (buffers out.old out_offsets.old valid.old)
         (buffers out.new out_offsets.new valid.new) outcome.new result }
 {
@@ -262,7 +267,8 @@ pub extern "C" fn fluent_uri_normalize_batch64(
     valid: &mut [u8],
     outcome: &mut Outcome,
 ) -> u32
-    ensures { LeavesColumn (normalizing kind options) (column64 texts.now offsets.now)
+    ensures length { RejectsTooLong texts.now result }
+    ensures column { LeavesColumn (normalizing kind options) (column64 texts.now offsets.now)
         (buffers out.old out_offsets.old valid.old) (buffers out.new out_offsets.new valid.new)
         outcome.new result }
 {
@@ -286,7 +292,8 @@ pub extern "C" fn fluent_uri_to_uri_batch64(
     valid: &mut [u8],
     outcome: &mut Outcome,
 ) -> u32
-    ensures { LeavesColumn (converting kind) (column64 texts.now offsets.now)
+    ensures length { RejectsTooLong texts.now result }
+    ensures column { LeavesColumn (converting kind) (column64 texts.now offsets.now)
         (buffers out.old out_offsets.old valid.old) (buffers out.new out_offsets.new valid.new)
         outcome.new result }
 {
@@ -308,7 +315,8 @@ pub extern "C" fn fluent_uri_resolve_batch64(
     valid: &mut [u8],
     outcome: &mut Outcome,
 ) -> u32
-    ensures { LeavesColumn (resolving kind options base.now) (column64 texts.now offsets.now)
+    ensures length { RejectsTooLong base.now result × RejectsTooLong texts.now result }
+    ensures column { LeavesColumn (resolving kind options base.now) (column64 texts.now offsets.now)
         (buffers out.old out_offsets.old valid.old) (buffers out.new out_offsets.new valid.new)
         outcome.new result }
 {
@@ -337,7 +345,8 @@ pub extern "C" fn fluent_uri_resolve_normalized_batch64(
     valid: &mut [u8],
     outcome: &mut Outcome,
 ) -> u32
-    ensures { LeavesColumn (resolving_normalized kind options base.now)
+    ensures length { RejectsTooLong base.now result × RejectsTooLong texts.now result }
+    ensures column { LeavesColumn (resolving_normalized kind options base.now)
         (column64 texts.now offsets.now) (buffers out.old out_offsets.old valid.old)
         (buffers out.new out_offsets.new valid.new) outcome.new result }
 {

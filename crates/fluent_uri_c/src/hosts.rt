@@ -1,5 +1,5 @@
 //! The host of a text as an address, and ports as numbers (RFC 3986, sections 3.2.2 and 3.2.3).
-ghost use Rattle.std.specs.Prelude.{◌≡◌, Some, false, option_map};
+ghost use Rattle.std.specs.Prelude.{◌≡◌, IsTrue, Some, false, option_map};
 ghost use Rattle.fluent_uri.specs.AuthorityTexts.{authority_text};
 ghost use Rattle.fluent_uri.specs.Components.{components};
 ghost use Rattle.fluent_uri.specs.References.{reference_text};
@@ -8,11 +8,12 @@ ghost use Rattle.fluent_uri_c.specs.Addresses.{host_address_result};
 ghost use Rattle.fluent_uri_c.specs.Kinds.{kind_numbered};
 ghost use Rattle.fluent_uri_c.specs.Outcomes.{LeavesTextOrDenied, outcome_of_text, written};
 ghost use Rattle.fluent_uri_c.specs.PortNumbers.{LeavesPortNumber, default_port_code, port_code};
+ghost use Rattle.fluent_uri_c.specs.Results.{RejectsTooLong, is_possible_length};
 ghost use Rattle.fluent_uri_c.specs.Spans.{port_of};
 
 use crate::errors::{Error, Rejection};
 use crate::outcome::{Outcome, put, report};
-use crate::texts::parsed;
+use crate::texts::{is_possible_length, parsed};
 use fluent_uri::Reference;
 use fluent_uri::component::{Authority, Host, Scheme};
 use fluent_uri::pct_enc::Encoder;
@@ -63,7 +64,8 @@ pub extern "C" fn fluent_uri_host_address(
     out: &mut [u8],
     outcome: &mut Outcome,
 ) -> u32
-    ensures { LeavesTextOrDenied false (host_address_result kind text.now) out.old out.new
+    ensures length { RejectsTooLong text.now result }
+    ensures text { LeavesTextOrDenied false (host_address_result kind text.now) out.old out.new
         outcome.new result }
 {
     match kind {
@@ -118,7 +120,8 @@ fn put_port_of<K: Kind>(text: &[u8], port: &mut u32) -> u32
 /// Writes the port of a text of the kind, as a number. Takes no memory.
 #[unsafe(no_mangle)]
 pub extern "C" fn fluent_uri_port_number(kind: u32, text: &[u8], port: &mut u32) -> u32
-    ensures { LeavesPortNumber (kind_numbered kind) text.now port.old port.new result }
+    ensures length { RejectsTooLong text.now result }
+    ensures port { LeavesPortNumber (kind_numbered kind) text.now port.old port.new result }
 {
     match kind {
         0 => put_port_of::<UriKind>(text, port),
@@ -133,8 +136,12 @@ pub extern "C" fn fluent_uri_port_number(kind: u32, text: &[u8], port: &mut u32)
 #[tactic(auto, using(crate::proofs::SchemeTexts::in_utf8, crate::proofs::SchemeTexts::not_in_utf8))]
 #[unsafe(no_mangle)]
 pub extern "C" fn fluent_uri_default_port(scheme: &[u8]) -> u32
-    ensures { result ≡ default_port_code scheme.now }
+    ensures length { RejectsTooLong scheme.now result }
+    ensures port { IsTrue (is_possible_length scheme.now) → result ≡ default_port_code scheme.now }
 {
+    if !is_possible_length(scheme) {
+        return Error::InvalidArgument.number();
+    }
     let Ok(text) = std::str::from_utf8(scheme) else {
         return 0;
     };

@@ -9,6 +9,7 @@ ghost use Rattle.uri_pct.specs.Texts.{Pushes};
 ghost use Rattle.fluent_uri_c.specs.Origins.{origin_of, origin_of_kind, origin_result};
 ghost use Rattle.fluent_uri_c.specs.Outcomes.{LeavesText};
 ghost use Rattle.fluent_uri_c.specs.Results.{IsReturnedAs};
+ghost use Rattle.fluent_uri_c.specs.Results.{RejectsTooLong};
 
 use crate::errors::{Error, Rejection};
 use crate::normal_forms::normal_form;
@@ -120,7 +121,8 @@ pub extern "C" fn fluent_uri_origin(
     out: &mut [u8],
     outcome: &mut Outcome,
 ) -> u32
-    ensures { LeavesText (origin_result kind text.now) out.old out.new outcome.new result }
+    ensures length { RejectsTooLong text.now result }
+    ensures text { LeavesText (origin_result kind text.now) out.old out.new outcome.new result }
 {
     put_or_report(origin(alloc, kind, text), out, outcome)
 }

@@ -1,6 +1,6 @@
 //! Whether a text is plainly its own normal form (RFC 3986, section 6.2.2).
 ghost use Rattle.std.specs.Prelude.{◌≡◌, ◌+◌, ◌≤◌, ◌<◌, ℕ, List, Ok, Option, IfSome, false, length};
-ghost use Rattle.std.specs.Prelude.{◌^◌, slice_index, true};
+ghost use Rattle.std.specs.Prelude.{◌^◌, IsTrue, slice_index, true};
 ghost use Rattle.std.specs.Int.{bit_at};
 ghost use Rattle.std.specs.Str.{str_to_ascii_lowercase};
 ghost use Rattle.fluent_uri.specs.Components.{components, starts};
@@ -8,11 +8,13 @@ ghost use Rattle.uri_pct.specs.Delimiters.{left_bracket, percent_sign};
 ghost use Rattle.fluent_uri_c.specs.Kinds.{kind_numbered};
 ghost use Rattle.fluent_uri_c.specs.PlainTexts.{ArePlain, IsPlain, is_kept_at, is_kept_octet};
 ghost use Rattle.fluent_uri_c.specs.PlainTexts.{is_lower_after};
-ghost use Rattle.fluent_uri_c.specs.Results.{normalize_result};
+ghost use Rattle.fluent_uri_c.specs.Results.{RejectsTooLong, is_possible_length, normalize_result};
 ghost use Rattle.fluent_uri_c.specs.Spans.{ArePartsOf, IsSpan, host_of, host_start, port_of};
 ghost use Rattle.fluent_uri_c.specs.Spans.{port_start};
 
+use crate::errors::Error;
 use crate::parts::{Parts, Span};
+use crate::texts::is_possible_length;
 use uri_pct::lanes::{LANES, lanes_equal_to};
 
 /// The octets that normalising keeps, by their two digits from `0` to `F`: bit n of a row is of the
@@ -213,10 +215,14 @@ fn is_unchanged(text: &[u8], scheme: Span, host: Span, port: Span, past_ascii: b
 /// normal form, and else 0. It misses a few such texts. Takes no memory.
 #[unsafe(no_mangle)]
 pub extern "C" fn fluent_uri_is_plainly_normal(kind: u32, text: &[u8], parts: &Parts) -> u32
-    ensures number { result ≤ 1 }
+    ensures length { RejectsTooLong text.now result }
+    ensures number { IsTrue (is_possible_length text.now) → result ≤ 1 }
     ensures normal { result ≡ 1 → ArePartsOf (kind_numbered kind) text.now parts.now
         → parts.now.error ≡ 0 → normalize_result kind 0 text.now ≡ Ok text.now }
 {
+    if !is_possible_length(text) {
+        return Error::InvalidArgument.number();
+    }
     // Octets past ASCII stay octets in URIs and URI references.
     if kind > 3 || !is_unchanged(text, parts.scheme, parts.host, parts.port, kind < 2) {
         return 0;

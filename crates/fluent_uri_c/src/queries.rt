@@ -1,8 +1,11 @@
 //! The pairs of a query.
 ghost use Rattle.std.specs.Prelude.{◌≡◌};
 ghost use Rattle.fluent_uri_c.specs.Pairs.{LeavesPair, value_span};
+ghost use Rattle.fluent_uri_c.specs.Results.{RejectsTooLong};
 
+use crate::errors::Error;
 use crate::parts::{Span, absent};
+use crate::texts::is_possible_length;
 use uri_query::{PairPlace, next_pair};
 
 /// Where the name and the value of a pair are in a query. The value of one without `=` is absent.
@@ -31,8 +34,12 @@ fn value_span(place: PairPlace) -> Span
 /// pair. Returns 1, or 0 if no pair is left. Takes no memory.
 #[unsafe(no_mangle)]
 pub extern "C" fn fluent_uri_next_pair(query: &[u8], position: &mut usize, pair: &mut Pair) -> u32
-    ensures { LeavesPair query.now position.old position.new pair.old pair.new result }
+    ensures length { RejectsTooLong query.now result }
+    ensures pair { LeavesPair query.now position.old position.new pair.old pair.new result }
 {
+    if !is_possible_length(query) {
+        return Error::InvalidArgument.number();
+    }
     if query.len() < *position {
         return 0;
     }

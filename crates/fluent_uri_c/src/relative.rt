@@ -6,6 +6,7 @@ ghost use Rattle.fluent_uri_c.specs.Columns.{LeavesColumn, buffers, column32, co
 ghost use Rattle.fluent_uri_c.specs.Kinds.{base_numbered};
 ghost use Rattle.fluent_uri_c.specs.Options.{path_preference};
 ghost use Rattle.fluent_uri_c.specs.Relatives.{relativize_result};
+ghost use Rattle.fluent_uri_c.specs.Results.{RejectsTooLong, if_possible_lengths};
 ghost use Rattle.fluent_uri_c.specs.SingleCalls.{relativizing};
 ghost use Rattle.fluent_uri_c.specs.Values.{LeavesValue};
 
@@ -15,12 +16,13 @@ use crate::calls::batch_result;
 use crate::numbered;
 use crate::outcome::{Outcome, put_value, report};
 use crate::parts::Parts;
-use crate::texts::is_possible_length;
+use crate::texts::{is_possible_length, lengths_error};
 use std::alloc::{AllocError, Global};
 
-/// Writes a reference that leads from a base to a target.
-#[unsafe(no_mangle)]
-pub extern "C" fn fluent_uri_relativize(
+/// Writes a reference that leads from a base to a target, both of the kind, by options, or reports
+/// why there is none. Returns the number of the error, or 0.
+#[inline(always)]
+fn relativize_by_numbers(
     alloc: Global,
     kind: u32,
     options: u32,
@@ -43,6 +45,32 @@ pub extern "C" fn fluent_uri_relativize(
         }
         Err(why) => report(why, outcome),
     }
+}
+
+/// Writes a reference that leads from a base to a target.
+#[unsafe(no_mangle)]
+pub extern "C" fn fluent_uri_relativize(
+    alloc: Global,
+    kind: u32,
+    options: u32,
+    base: &[u8],
+    target: &[u8],
+    out: &mut [u8],
+    parts: &mut [Parts],
+    outcome: &mut Outcome,
+) -> u32
+    ensures length { RejectsTooLong base.now result × RejectsTooLong target.now result }
+    ensures text { LeavesValue (if_possible_lengths base.now target.now
+        (relativize_result kind options base.now target.now))
+        out.old out.new parts.old parts.new outcome.new result }
+    ensures leads { result ≡ 0 → IsSomeAnd (path_preference options) (λ prefers.
+        IsSomeAnd (base_numbered kind) (λ kind. IsRelativized kind prefers
+        base.now target.now (reference_to prefers base.now target.now))) }
+{
+    if let Some(why) = lengths_error(base, target) {
+        return report(why, outcome);
+    }
+    relativize_by_numbers(alloc, kind, options, base, target, out, parts, outcome)
 }
 
 /// Makes references that lead from a base of a kind to targets, by options.
@@ -88,9 +116,10 @@ pub extern "C" fn fluent_uri_relativize_batch(
     valid: &mut [u8],
     outcome: &mut Outcome,
 ) -> u32
-    ensures { LeavesColumn (relativizing kind options base.now) (column32 texts.now offsets.now)
-        (buffers out.old out_offsets.old valid.old) (buffers out.new out_offsets.new valid.new)
-        outcome.new result }
+    ensures length { RejectsTooLong base.now result × RejectsTooLong texts.now result }
+    ensures column { LeavesColumn (relativizing kind options base.now)
+        (column32 texts.now offsets.now) (buffers out.old out_offsets.old valid.old)
+        (buffers out.new out_offsets.new valid.new) outcome.new result }
 {
     let call = Relativize {
         alloc,
@@ -116,9 +145,10 @@ pub extern "C" fn fluent_uri_relativize_batch64(
     valid: &mut [u8],
     outcome: &mut Outcome,
 ) -> u32
-    ensures { LeavesColumn (relativizing kind options base.now) (column64 texts.now offsets.now)
-        (buffers out.old out_offsets.old valid.old) (buffers out.new out_offsets.new valid.new)
-        outcome.new result }
+    ensures length { RejectsTooLong base.now result × RejectsTooLong texts.now result }
+    ensures column { LeavesColumn (relativizing kind options base.now)
+        (column64 texts.now offsets.now) (buffers out.old out_offsets.old valid.old)
+        (buffers out.new out_offsets.new valid.new) outcome.new result }
 {
     let call = Relativize {
         alloc,

@@ -2,6 +2,7 @@
 ghost use Rattle.std.specs.Prelude.{◌≡◌};
 ghost use Rattle.fluent_uri_c.specs.Kinds.{kind_numbered};
 ghost use Rattle.fluent_uri_c.specs.Outcomes.{LeavesText};
+ghost use Rattle.fluent_uri_c.specs.Results.{RejectsTooLong, if_possible_lengths};
 ghost use Rattle.fluent_uri_c.specs.Results.{decode_result, encode_result, normalize_result};
 ghost use Rattle.fluent_uri_c.specs.Results.{resolve_normalized_result, resolve_result};
 ghost use Rattle.fluent_uri_c.specs.Results.{takes_memory_for_target, to_uri_result};
@@ -12,6 +13,7 @@ use crate::errors::{Error, Rejection};
 use crate::numbered::{is_basic, rule_setting};
 use crate::outcome::{Outcome, put, put_or_report, put_value_or_report, report};
 use crate::parts::{Parts, parse};
+use crate::texts::lengths_error;
 use crate::values::{normalize, resolve, resolve_normalized};
 use crate::{codes, numbered};
 use std::alloc::Global;
@@ -20,6 +22,7 @@ use uri_parts::kind::{IriKind, IriRefKind, UriKind, UriRefKind};
 /// Parses a text as the kind, and reports where its components are. Takes no memory.
 #[unsafe(no_mangle)]
 pub extern "C" fn fluent_uri_parse(kind: u32, text: &[u8], parts: &mut Parts) -> u32
+    ensures length { RejectsTooLong text.now result }
     ensures error { parts.new.error ≡ result }
     ensures parts { ArePartsOf (kind_numbered kind) text.now parts.new }
 {
@@ -38,7 +41,8 @@ pub extern "C" fn fluent_uri_normalize(
     parts: &mut [Parts],
     outcome: &mut Outcome,
 ) -> u32
-    ensures { LeavesValue (normalize_result kind options text.now)
+    ensures length { RejectsTooLong text.now result }
+    ensures text { LeavesValue (normalize_result kind options text.now)
         out.old out.new parts.old parts.new outcome.new result }
 {
     let Some(setting) = rule_setting(options) else {
@@ -53,9 +57,10 @@ pub extern "C" fn fluent_uri_normalize(
     }
 }
 
-/// Writes the target of a reference against a base of the kind without its fragment, by options.
-#[unsafe(no_mangle)]
-pub extern "C" fn fluent_uri_resolve(
+/// Writes the target of a reference against a base of the kind without its fragment, by options, or
+/// reports why there is none. Returns the number of the error, or 0.
+#[inline(always)]
+fn resolve_by_numbers(
     alloc: Global,
     kind: u32,
     options: u32,
@@ -79,10 +84,34 @@ pub extern "C" fn fluent_uri_resolve(
     }
 }
 
-/// Writes the normal form of the target of a reference against a base of the kind without its
-/// fragment, by options.
+/// Writes the target of a reference against a base of the kind without its fragment, by options.
 #[unsafe(no_mangle)]
-pub extern "C" fn fluent_uri_resolve_normalized(
+pub extern "C" fn fluent_uri_resolve(
+    alloc: Global,
+    kind: u32,
+    options: u32,
+    base: &[u8],
+    reference: &[u8],
+    out: &mut [u8],
+    parts: &mut [Parts],
+    outcome: &mut Outcome,
+) -> u32
+    ensures length { RejectsTooLong base.now result × RejectsTooLong reference.now result }
+    ensures text { let returned = if_possible_lengths base.now reference.now
+        (resolve_result kind options base.now reference.now) in
+        LeavesValueOrDenied (takes_memory_for_target returned) returned
+        out.old out.new parts.old parts.new outcome.new result }
+{
+    if let Some(why) = lengths_error(base, reference) {
+        return report(why, outcome);
+    }
+    resolve_by_numbers(alloc, kind, options, base, reference, out, parts, outcome)
+}
+
+/// Writes the normal form of the target of a reference against a base of the kind without its
+/// fragment, by options, or reports why there is none. Returns the number of the error, or 0.
+#[inline(always)]
+fn resolve_normalized_by_numbers(
     alloc: Global,
     kind: u32,
     options: u32,
@@ -109,6 +138,30 @@ pub extern "C" fn fluent_uri_resolve_normalized(
     }
 }
 
+/// Writes the normal form of the target of a reference against a base of the kind without its
+/// fragment, by options.
+#[unsafe(no_mangle)]
+pub extern "C" fn fluent_uri_resolve_normalized(
+    alloc: Global,
+    kind: u32,
+    options: u32,
+    base: &[u8],
+    reference: &[u8],
+    out: &mut [u8],
+    parts: &mut [Parts],
+    outcome: &mut Outcome,
+) -> u32
+    ensures length { RejectsTooLong base.now result × RejectsTooLong reference.now result }
+    ensures text { LeavesValue (if_possible_lengths base.now reference.now
+        (resolve_normalized_result kind options base.now reference.now))
+        out.old out.new parts.old parts.new outcome.new result }
+{
+    if let Some(why) = lengths_error(base, reference) {
+        return report(why, outcome);
+    }
+    resolve_normalized_by_numbers(alloc, kind, options, base, reference, out, parts, outcome)
+}
+
 /// Writes a text of a kind of IRIs as a URI or a URI reference.
 #[unsafe(no_mangle)]
 pub extern "C" fn fluent_uri_to_uri(
@@ -119,7 +172,8 @@ pub extern "C" fn fluent_uri_to_uri(
     parts: &mut [Parts],
     outcome: &mut Outcome,
 ) -> u32
-    ensures { LeavesValue (to_uri_result kind text.now) out.old out.new parts.old parts.new
+    ensures length { RejectsTooLong text.now result }
+    ensures text { LeavesValue (to_uri_result kind text.now) out.old out.new parts.old parts.new
         outcome.new result }
 {
     put_value_or_report(numbered::as_uri(alloc, kind, text), out, parts, outcome)
@@ -134,7 +188,9 @@ pub extern "C" fn fluent_uri_decode(
     out: &mut [u8],
     outcome: &mut Outcome,
 ) -> u32
-    ensures { LeavesText (decode_result component text.now) out.old out.new outcome.new result }
+    ensures length { RejectsTooLong text.now result }
+    ensures text { LeavesText (decode_result component text.now) out.old out.new outcome.new
+        result }
 {
     match codes::decoded(alloc, component, text) {
         Ok(bytes) => {
@@ -154,7 +210,9 @@ pub extern "C" fn fluent_uri_encode(
     out: &mut [u8],
     outcome: &mut Outcome,
 ) -> u32
-    ensures { LeavesText (encode_result component bytes.now) out.old out.new outcome.new result }
+    ensures length { RejectsTooLong bytes.now result }
+    ensures text { LeavesText (encode_result component bytes.now) out.old out.new outcome.new
+        result }
 {
     put_or_report(codes::encoded(alloc, component, bytes), out, outcome)
 }

@@ -1,5 +1,5 @@
 //! The calls of `fluent_uri` on bytes, for each kind.
-ghost use Rattle.std.specs.Prelude.{◌≡◌, ◌↔◌, IfOk, IfSome, IsOk, None};
+ghost use Rattle.std.specs.Prelude.{◌≡◌, ◌↔◌, IfOk, IfSome, IsOk, IsTrue, None};
 ghost use Rattle.std.specs.Result.{result_err};
 ghost use Rattle.std.specs.Str.{IsUtf8, IsValidUpTo};
 ghost use Rattle.std.specs.Str.Lossy.{utf8_valid_len};
@@ -9,11 +9,13 @@ ghost use Rattle.fluent_uri.specs.References.{reference_text};
 ghost use Rattle.uri_mend.specs.Mended.{IsMended};
 ghost use Rattle.uri_mend.specs.Trimming.{trimmed_link};
 ghost use Rattle.uri_relative.specs.Relativized.{IsRelativized};
+ghost use Rattle.fluent_uri_c.specs.declared.errors.Error.TheVariants.{InvalidArgument};
 ghost use Rattle.fluent_uri_c.specs.Mends.{mended_link_result, mended_result};
 ghost use Rattle.fluent_uri_c.specs.Mends.{takes_memory_for_link};
 ghost use Rattle.fluent_uri_c.specs.Relatives.{reference_from};
 ghost use Rattle.fluent_uri_c.specs.Results.{IsReturnedAs, IsReturnedOrDenied, IsTargetReturned};
 ghost use Rattle.fluent_uri_c.specs.Results.{basic_resolution, encoded_result, resolution_by};
+ghost use Rattle.fluent_uri_c.specs.Results.{lengths_error};
 ghost use Rattle.fluent_uri_c.specs.Results.{normal_target_from, rejection_or_result};
 ghost use Rattle.fluent_uri_c.specs.Results.{second_text_error};
 ghost use Rattle.fluent_uri_c.specs.Results.{target_from, text_error};
@@ -40,6 +42,23 @@ pub fn is_possible_length(bytes: &[u8]) -> bool
     ensures { result ≡ is_possible_length bytes.now }
 {
     bytes.len() < 1 << 63
+}
+
+/// Returns why two texts that C hands over are rejected for their lengths, if they are.
+pub fn lengths_error(first: &[u8], second: &[u8]) -> Option<Rejection>
+    ensures error { result ≡ lengths_error first.now second.now }
+    ensures invalid { IfSome result (λ why. why.error ≡ InvalidArgument) }
+    ensures possible { result ≡ None
+        → IsTrue (is_possible_length first.now) × IsTrue (is_possible_length second.now) }
+{
+    let why = Rejection::of(Error::InvalidArgument);
+    if !is_possible_length(first) {
+        return Some(why);
+    }
+    if !is_possible_length(second) {
+        return Some(why.in_reference());
+    }
+    None
 }
 
 /// Returns where bytes that C hands over stop being UTF-8, or `None` if they are UTF-8.

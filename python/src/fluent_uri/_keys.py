@@ -2,17 +2,22 @@
 
 from __future__ import annotations
 
-from typing import Any, Tuple, Type, Union
+from typing import TYPE_CHECKING, Any, Tuple, Type, Union
 
 from fluent_uri import Reference, Uri, _calls, _native, batch
 from fluent_uri._declarations import OPTIONS
 from fluent_uri._errors import utf8_of
 
+if TYPE_CHECKING:
+    from fluent_uri import Iri, IriRef, UriRef
+
+    _AnyKind = Type[Union[Uri, UriRef, Iri, IriRef]]
+
 
 def compare(
     one: Union[str, Reference],
     other: Union[str, Reference],
-    kind: Type[Reference] = Uri,
+    kind: _AnyKind = Uri,
     *,
     scheme_rules: bool = False,
 ) -> int:
@@ -38,7 +43,7 @@ def compare(
 def equivalent(
     one: Union[str, Reference],
     other: Union[str, Reference],
-    kind: Type[Reference] = Uri,
+    kind: _AnyKind = Uri,
     *,
     scheme_rules: bool = False,
 ) -> bool:
@@ -53,7 +58,7 @@ def equivalent(
 
 
 def sort_key(
-    text: Union[str, Reference], kind: Type[Reference] = Uri, *, scheme_rules: bool = False
+    text: Union[str, Reference], kind: _AnyKind = Uri, *, scheme_rules: bool = False
 ) -> Tuple[bool, str]:
     """Returns a key, which can be hashed: equal, less or greater as `compare` says of the texts.
 

@@ -25,7 +25,7 @@ def quote(
     Raises `ParseError` for a surrogate, and `ValueError` if `safe` names a character that no
     reference may hold.
     """
-    return _quoted(string, safe, encoding, errors, {})
+    return _quoted(string, safe, encoding, errors, "%20")
 
 
 def quote_plus(
@@ -35,21 +35,26 @@ def quote_plus(
     errors: Optional[str] = None,
 ) -> str:
     """Returns what `quote` returns, with a `+` for each space."""
-    return _quoted(string, safe, encoding, errors, {"%20": "+"})
+    return _quoted(string, safe, encoding, errors, "+")
 
 
 def _quoted(
-    string: Any, safe: Any, encoding: Optional[str], errors: Optional[str], others: Dict[str, str]
+    string: Any, safe: Any, encoding: Optional[str], errors: Optional[str], space: str
 ) -> str:
     given: Any = string
+    has_space = True
     if issubclass(type(string), str):
-        if encoding is not None or errors is not None:
-            given = exact(string).encode(encoding or "utf-8", errors or "strict")
+        given = exact(string)
+        # In another encoding another character may have the byte of a space, and a mark is before
+        # each text but the empty one.
+        has_space = " " in given
+        if given and (encoding is not None or errors is not None):
+            given = given.encode(encoding or "utf-8", errors or "strict")
     elif encoding is not None or errors is not None:
         raise TypeError("bytes have no encoding, and no errors of one")
     text = encode(given, Component.DATA)
-    for octet, character in others.items():
-        text = text.replace(octet, character)
+    if has_space:
+        text = text.replace("%20", space)
     if issubclass(type(safe), bytes):
         safe = memoryview(safe).tobytes().decode("ascii", "ignore")
     # A `%` begins an octet, and so `%` itself is the last.
@@ -77,6 +82,9 @@ def unquote_plus(string: str, encoding: str = "utf-8", errors: str = "replace") 
 def _unquoted(text: str, encoding: str, errors: str, has_spaces: bool) -> str:
     # A query may hold what any component may.
     data = decode(text, Component.QUERY)
+    if "%" not in text:
+        # What has no octet is a text already, and in no encoding.
+        return text.replace("+", " ") if has_spaces else text
     if has_spaces and "+" in text:
         text = text.replace("+", "%20")
         data = decode(text, Component.QUERY)
