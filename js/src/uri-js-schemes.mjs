@@ -1,4 +1,5 @@
 // What uri-js knows of schemes: of the web (RFC 9110, RFC 6455) and of names (RFC 8141, RFC 9562).
+import { mailto } from './uri-js-mailto.mjs';
 
 const isSecure = ({ secure, scheme }) =>
   (typeof secure === 'boolean' ? secure : String(scheme).toLowerCase() === 'wss');
@@ -52,6 +53,7 @@ export const SCHEMES = {
   https: web('https', 443),
   ws: socket('ws'),
   wss: socket('wss'),
+  mailto,
 
   urn: {
     scheme: 'urn',

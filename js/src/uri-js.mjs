@@ -107,10 +107,12 @@ function textOf(it, options, keepsDots) {
   return text;
 }
 
-// The normal form of a text. Its path has no dot segments, or keeps them.
+// The normal form of a text. A port stays, also the default one of its scheme.
 function normalText(text, options) {
   const it = referenceOf(text, options);
-  return it ? String(it.normalize()) : text;
+  if (!it) return text;
+  const normal = it.normalize(), { port } = it;
+  return String(port === null || normal.port !== null ? normal : normal.replace({ port }));
 }
 
 export function serialize(components, options = {}) {
@@ -141,32 +143,44 @@ export function removeDotSegments(path) {
   return made.join('');
 }
 
-// The stand-in for what a relative base lacks, and what it adds to a target.
-function standInOf(base) {
-  if (base.scheme !== null) return ['', ''];
-  if (base.authority !== null) return ['x:', 'x:'];
-  return [String(base).startsWith('/') ? 'x://x' : 'x://x/', 'x://x'];
+// The path of a reference after that of a base (RFC 3986, section 5.2.3).
+function mergedPath(base, path) {
+  const hasAuthority = [base.userinfo, base.host, base.port].some((it) => it !== undefined);
+  if (hasAuthority && !base.path) return `/${path}`;
+  const whole = base.path ?? '';
+  return whole.slice(0, whole.lastIndexOf('/') + 1) + path;
+}
+
+// What a target has of a reference, and of its base (RFC 3986, section 5.2.2).
+const AUTHORITY = ['userinfo', 'host', 'port'];
+function targetOf(base, reference) {
+  const own = (names) => Object.fromEntries(names.map((name) => [name, reference[name]]));
+  const path = removeDotSegments(reference.path ?? '');
+  const { fragment } = reference;
+  if (reference.scheme !== undefined)
+    return { ...own(['scheme', ...AUTHORITY, 'query']), path, fragment };
+  if (AUTHORITY.some((name) => reference[name] !== undefined))
+    return { ...base, ...own([...AUTHORITY, 'query']), path, fragment };
+  if (!reference.path)
+    return { ...base, query: reference.query ?? base.query, fragment };
+  const whole = reference.path.startsWith('/') ? path
+    : removeDotSegments(mergedPath(base, reference.path));
+  return { ...base, path: whole, query: reference.query, fragment };
+}
+
+export function resolveComponents(base, reference, options = {}, skipNormalization = false) {
+  const normal = (it) => (skipNormalization ? it : parse(serialize(it, options), options));
+  const from = normal(base), given = { ...normal(reference) };
+  if (options.tolerant && given.scheme === from.scheme) given.scheme = undefined;
+  return targetOf(from, given);
 }
 
 export function resolve(base, reference, options = {}) {
-  const from = referenceOf(String(base)), given = referenceOf(String(reference));
-  if (!from || !given) return String(reference);
-  const scheme = given.scheme?.toLowerCase();
-  // RFC 3986, section 5.2.2: the scheme of the base is ignored by who is tolerant.
-  const isIgnored = options.tolerant && scheme && scheme === from.scheme?.toLowerCase();
-  const text = String(given).slice(isIgnored ? scheme.length + 1 : 0);
-  if (scheme && !isIgnored) return normalText(text, options);
-  const [added, left] = standInOf(from);
-  const target = attempt(() => Uri.parse(added + from).resolve(text, { basic: true }));
-  if (target === null) return normalText(text, options);
-  const whole = String(target);
-  if (!added) return normalText(whole, options);
-  const cut = whole.startsWith(added) ? added : whole.startsWith(left) ? left : 'x:';
-  return normalText(whole.slice(cut.length), options);
+  // The handlers of schemes take no part.
+  const all = { scheme: 'null', ...options };
+  const [from, given] = [base, reference].map((it) => parse(it, all));
+  return serialize(resolveComponents(from, given, all, true), all);
 }
-
-export const resolveComponents = (base, reference, options = {}) =>
-  parse(resolve(serialize(base, options), serialize(reference, options), options), options);
 
 export const normalize = (uri, options = {}) =>
   (typeof uri === 'string' ? serialize(parse(uri, options), options)

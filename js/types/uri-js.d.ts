@@ -43,7 +43,7 @@ export function serialize(components: URIComponents, options?: URIOptions): stri
 /** Returns the target of a reference against a base (RFC 3986, section 5.2). */
 export function resolve(base: string, reference: string, options?: URIOptions): string;
 export function resolveComponents(
-  base: URIComponents, reference: URIComponents, options?: URIOptions,
+  base: URIComponents, reference: URIComponents, options?: URIOptions, skipNormalization?: boolean,
 ): URIComponents;
 /** Returns the normal form. */
 export function normalize(uri: string, options?: URIOptions): string;
