@@ -9,24 +9,37 @@ CUT = "i32.wrap_i64"
 # The locals in which operands wait while one below them is cut.
 LOCALS = {"i32": "$below_i32", "i64": "$below_i64", "f32": "$below_f32", "f64": "$below_f64",
           "v128": "$below_v128", "size": "$size"}
-# An instruction that takes no operand and gives a value.
-LEAF = r"(?:local\.get|global\.get|\w+\.const) "
+# Instructions that give one value and jump nowhere, by the operands that they take.
+OPERANDS = {
+    0: r"(?:local\.get|global\.get|\w+\.const)",
+    1: r"(?:local\.tee|i32\.wrap_i64|v128\.load|i\d\d\.(?:load\w*|eqz|clz|ctz|popcnt|extend\w+))",
+    2: r"i\d\d\.(?:add|sub|mul|and|or|xor|shl|shr_[su]|rotl|rotr|eq|ne|[lg][te]_[su])",
+    3: r"select",
+}
 ACCESS = r"(i32|i64|f32|f64|v128)\.(load|store)(\w*?)(_lane)?(?: .*)?"
 UNKNOWN = r"(?:memory|table|data|elem|ref|call_indirect|call_ref|.*\batomic)\b"
 
 
+def operands(line):
+    """How many operands an instruction takes, or None if it is none of OPERANDS."""
+    word = line.partition(" ")[0]
+    return next((it for it, form in OPERANDS.items() if re.fullmatch(form, word)), None)
+
+
 def cut_below(body, kind):
-    """Cuts what is below the value, of this type, that the body ends with. Returns the locals that
-    this takes."""
-    last = body.pop()
-    if re.match(LEAF, last):
-        body += [CUT, last]
-        return set()
-    if last.startswith("local.tee "):
-        place = last.removeprefix("local.tee ")
-        body += [f"local.set {place}", CUT, f"local.get {place}"]
-        return set()
-    body += [last, f"local.set {LOCALS[kind]}", CUT, f"local.get {LOCALS[kind]}"]
+    """Cuts what is below the value, of this type, that the body ends with: before the instructions
+    that make the value, or, where these are not known, while it waits in a local. Returns the
+    locals that this takes."""
+    missing = 1
+    for at in range(len(body) - 1, -1, -1):
+        taken = operands(body[at])
+        if taken is None:
+            break
+        missing += taken - 1
+        if missing == 0:
+            body.insert(at, CUT)
+            return set()
+    body += [f"local.set {LOCALS[kind]}", CUT, f"local.get {LOCALS[kind]}"]
     return {kind}
 
 
