@@ -1,0 +1,5 @@
+pub mod Abnf
+pub mod Rfc5234
+pub mod Rfc3986
+pub mod Rfc3987
+pub mod Derivations
